@@ -1,0 +1,4 @@
+//! Octets, rows of octets, symbols and the refusals of all calls.
+#![tactic(auto)]
+
+pub mod error;
