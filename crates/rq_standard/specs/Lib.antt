@@ -1,0 +1,2 @@
+pub mod Octets
+pub mod OctetLaws

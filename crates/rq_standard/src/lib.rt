@@ -1,0 +1,4 @@
+//! RFC 6330 as definitions: the laws about them, each the contract of a function that does nothing.
+#![tactic(auto)]
+
+pub mod octets;
