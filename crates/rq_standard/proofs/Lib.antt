@@ -4,3 +4,7 @@ pub mod Products
 pub mod PartSums
 pub mod PacketBytes
 pub mod HeaderBytes
+pub mod Firsts
+pub mod PlainCut
+pub mod OneBlock
+pub mod Standing

@@ -5,3 +5,6 @@ pub mod Packet
 pub mod Configuration
 pub mod Cutting
 pub mod Received
+pub mod Held
+pub mod Standing
+pub mod Streams
