@@ -1,3 +1,4 @@
 pub mod Computed
 pub mod Powers
 pub mod Products
+pub mod RowLaws

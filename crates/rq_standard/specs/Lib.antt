@@ -1,2 +1,3 @@
 pub mod Octets
 pub mod OctetLaws
+pub mod Rows

@@ -1,0 +1,5 @@
+//! The table of systematic indices and parameters, and the random generator.
+#![tactic(auto)]
+
+mod checks;
+pub mod systematic_constants;
