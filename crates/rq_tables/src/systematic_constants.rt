@@ -168,6 +168,15 @@ impl SystematicTable {
     }
 }
 
+impl Clone for SystematicTable {
+    ghost is_clone = { λ table copy. copy ≡ table };
+
+    fn clone(&self) -> Result<SystematicTable, AllocError> {
+        let rows = Vec::from_slice(*self.rows.allocator(), &self.rows)?;
+        Ok(SystematicTable { rows })
+    }
+}
+
 // Tests rows that are to follow the built-in ones.
 fn check_rows(rows: &[(u32, u32, u32, u32, u32)]) -> Result<(), Error>
     ensures { result ≡ wanted_rows rows.now }
@@ -192,3 +201,6 @@ fn push_rows(rows: &mut Vec<Row>, numbers: &[(u32, u32, u32, u32, u32)]) -> Resu
     }
     Ok(())
 }
+
+#[cfg(test)]
+mod tests;
