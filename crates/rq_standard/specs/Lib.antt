@@ -1,3 +1,4 @@
 pub mod Octets
 pub mod OctetLaws
 pub mod Rows
+pub mod Rand

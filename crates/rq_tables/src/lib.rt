@@ -2,4 +2,5 @@
 #![tactic(auto)]
 
 mod checks;
+pub mod rng;
 pub mod systematic_constants;
