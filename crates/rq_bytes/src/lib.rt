@@ -2,3 +2,5 @@
 #![tactic(auto)]
 
 pub mod error;
+mod logarithms;
+pub mod octet;
