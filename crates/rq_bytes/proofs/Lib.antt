@@ -1,1 +1,6 @@
+pub mod BitLanes
+pub mod Doubling
+pub mod PlaneFacts
+pub mod Steps
 pub mod TableFacts
+pub mod ZipUpto

@@ -4,3 +4,5 @@
 pub mod error;
 mod logarithms;
 pub mod octet;
+pub mod octets;
+mod products;

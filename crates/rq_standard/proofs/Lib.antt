@@ -1,3 +1,4 @@
 pub mod Computed
+pub mod Packed
 pub mod Powers
 pub mod Products

@@ -1,2 +1,4 @@
 pub mod Octets
 pub mod OctetLaws
+pub mod PackedBits
+pub mod Rows
