@@ -41,6 +41,12 @@ pub record ArePlaces (n bound : ℕ) (places : ℕ → ℕ) : Type 0 where
   pub below : (i : ℕ) → i < n → places i < bound
   pub apart : (i j : ℕ) → i < n → j < n → places i ≡ places j → i ≡ j
 
+-- on n + 1 chosen columns all rows are zero but n chosen ones
+pub record IsFewOn (height width n : ℕ) (a : ℕ → ℕ → ℕ) (rows columns : ℕ → ℕ) : Type 0 where
+  pub rows_below : (p : ℕ) → p < n → rows p < height
+  pub columns_are : ArePlaces (suc n) width columns
+  pub zeros : (i : ℕ) → i < height → ((p : ℕ) → p < n → rows p ≢ i) → (j : ℕ) → j < suc n → a i (columns j) ≡ 0
+
 -- each row of the old system stands somewhere in the new one
 abbrev pub RowsStandIn : ℕ → ℕ → (ℕ → ℕ → ℕ) → ℕ → (ℕ → ℕ → ℕ) → Type 0
 RowsStandIn width old_height old new_height new = (i : ℕ) → i < old_height → (j : ℕ) × (j < new_height) × ((k : ℕ) → k < width → new j k ≡ old i k)

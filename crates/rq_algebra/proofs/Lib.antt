@@ -1,0 +1,4 @@
+pub mod Changes
+pub mod FewEquations
+pub mod Solutions
+pub mod Sums
