@@ -1,4 +1,6 @@
 pub mod Changes
 pub mod FewEquations
+pub mod Placewise
+pub mod Runs
 pub mod Solutions
 pub mod Sums
