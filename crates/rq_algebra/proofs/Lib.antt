@@ -1,6 +1,7 @@
 pub mod Changes
 pub mod FewEquations
 pub mod Parity
+pub mod Pivots
 pub mod Placewise
 pub mod Runs
 pub mod Solutions
