@@ -1,0 +1,9 @@
+pub mod Elimination
+pub mod Field
+pub mod FromLaws
+pub mod Meaning
+pub mod Operations
+pub mod Parities
+pub mod Steps
+pub mod Symbols
+pub mod Systems
