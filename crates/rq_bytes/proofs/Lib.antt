@@ -1,5 +1,6 @@
 pub mod BitLanes
 pub mod Doubling
+pub mod Halves
 pub mod PlaneFacts
 pub mod Steps
 pub mod TableFacts

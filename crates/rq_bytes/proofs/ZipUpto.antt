@@ -14,7 +14,7 @@ length-zip_upto f (suc i) [] ys = refl
 length-zip_upto f (suc i) (x ∷ xs) [] = refl
 length-zip_upto f (suc i) (x ∷ xs) (y ∷ ys) = ap suc (length-zip_upto f i xs ys)
 
-pub zip_upto_all : {A B : Type 0} (f : A → B → A) (i : ℕ) (xs : List A) (ys : List B) → length ys ≡ length xs → i ≡ length xs → zip_upto f i xs ys ≡ zip2 f xs ys
+pub zip_upto_all : {A B : Type 0} (f : A → B → A) (i : ℕ) (xs : List A) (ys : List B) → length xs ≤ length ys → i ≡ length xs → zip_upto f i xs ys ≡ zip2 f xs ys
 zip_upto_all f zero [] ys e all = refl
 zip_upto_all f zero (x ∷ xs) ys e all = absurd (omega arith)
 zip_upto_all f (suc i) [] ys e all = refl
@@ -59,7 +59,7 @@ zip2-map_right f g (x ∷ xs) (y ∷ ys) = ap (λ zs. f x (g y) ∷ zs) (zip2-ma
 -- ---- the same of a list that a loop has so far
 
 pub step_one : {A B : Type 0} (f : A → B → A) (i : ℕ) (now xs : List A) (ys : List B) (c : A) (d : B)
-    → now ≡ zip_upto f i xs ys → i < length xs → length ys ≡ length xs
+    → now ≡ zip_upto f i xs ys → i < length xs → length xs ≤ length ys
     → set now i (f (get_or now i c) (get_or ys i d)) ≡ zip_upto f (i + 1) xs ys
 step_one f i now xs ys c d is lt long =
     ap (λ zs. set zs i (f (get_or zs i c) (get_or ys i d))) is
@@ -67,14 +67,14 @@ step_one f i now xs ys c d is lt long =
     ∙ ap (λ k. zip_upto f k xs ys) (sym (add-one i))
 
 pub step_store : {A B : Type 0} (f : A → B → A) (n i j : ℕ) (now xs : List A) (ys : List B)
-    → now ≡ zip_upto f i xs ys → i + n ≤ length xs → length ys ≡ length xs → j ≡ i + n
+    → now ≡ zip_upto f i xs ys → i + n ≤ length xs → length xs ≤ length ys → j ≡ i + n
     → put_chunk i now (zip2 f (chunk i n now) (chunk i n ys)) ≡ zip_upto f j xs ys
 step_store f n i j now xs ys is le long e =
     ap (λ zs. put_chunk i zs (zip2 f (chunk i n zs) (chunk i n ys))) is
     ∙ zip_upto_chunk f n i j xs ys le (omega arith) e
 
 pub at_end : {A B : Type 0} (f : A → B → A) (i : ℕ) (now xs : List A) (ys : List B)
-    → now ≡ zip_upto f i xs ys → length ys ≡ length xs → i ≡ length xs → now ≡ zip2 f xs ys
+    → now ≡ zip_upto f i xs ys → length xs ≤ length ys → i ≡ length xs → now ≡ zip2 f xs ys
 at_end f i now xs ys is long all = is ∙ zip_upto_all f i xs ys long all
 
 -- a list's own elements, each made by g

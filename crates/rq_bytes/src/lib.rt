@@ -2,7 +2,9 @@
 #![tactic(auto)]
 
 pub mod error;
+pub mod gf2;
 mod logarithms;
 pub mod octet;
 pub mod octets;
 mod products;
+pub mod util;

@@ -6,11 +6,11 @@ use Rattle.rq_bytes.proofs.octets.add_assign.Goals as goal
 pub loop-block-preserved : goal.loop-block-preserved
 loop-block-preserved c =
     let b = c.loop-block.block in
-    step_store bit_xor 32 (32 * b) (32 * (b + 1)) c.loop-block.octets c.args.octets.now c.args.other.now c.loop-block.invariant (omega arith) c.requires (omega arith)
+    step_store bit_xor 32 (32 * b) (32 * (b + 1)) c.loop-block.octets c.args.octets.now c.args.other.now c.loop-block.invariant (omega arith) (omega arith) (omega arith)
 
 pub loop-i-preserved : goal.loop-i-preserved
 loop-i-preserved c =
-    step_one bit_xor c.loop-i.i c.loop-i.octets c.args.octets.now c.args.other.now 0 0 c.loop-i.invariant (omega arith) c.requires
+    step_one bit_xor c.loop-i.i c.loop-i.octets c.args.octets.now c.args.other.now 0 0 c.loop-i.invariant (omega arith) (omega arith)
 
 pub returns : goal.returns
-returns c = at_end bit_xor c.loop-i.i c.loop-i.octets c.args.octets.now c.args.other.now c.loop-i.invariant c.requires (omega arith)
+returns c = at_end bit_xor c.loop-i.i c.loop-i.octets c.args.octets.now c.args.other.now c.loop-i.invariant (omega arith) (omega arith)

@@ -20,14 +20,14 @@ loop-block-preserved c =
     let other = c.args.other.now in
     ap (λ t. put_chunk at now (zip2 bit_xor (chunk at 32 now) t)) c.lane_products-multiple.ensures
     ∙ ap (put_chunk at now) (zip2-map_right bit_xor (octet_mul s) (chunk at 32 now) (chunk at 32 other))
-    ∙ step_store f 32 at (32 * (b + 1)) now c.args.octets.now other c.loop-block.invariant (omega arith) c.requires (omega arith)
+    ∙ step_store f 32 at (32 * (b + 1)) now c.args.octets.now other c.loop-block.invariant (omega arith) (omega arith) (omega arith)
 
 pub loop-i-preserved : goal.loop-i-preserved
 loop-i-preserved c =
     let f = λ (x y : ℕ). bit_xor x (octet_mul c.byte-scalar.result y) in
     let i = c.loop-i.i in
     ap (λ p. set c.loop-i.octets i (bit_xor (get_or c.loop-i.octets i 0) p)) c.product.ensures
-    ∙ step_one f i c.loop-i.octets c.args.octets.now c.args.other.now 0 0 c.loop-i.invariant (omega arith) c.requires
+    ∙ step_one f i c.loop-i.octets c.args.octets.now c.args.other.now 0 0 c.loop-i.invariant (omega arith) (omega arith)
 
 pub returns : goal.returns
 returns c =
@@ -35,6 +35,6 @@ returns c =
     let f = λ (x y : ℕ). bit_xor x (octet_mul s y) in
     let old = c.args.octets.now in
     let other = c.args.other.now in
-    at_end f c.loop-i.i c.loop-i.octets old other c.loop-i.invariant c.requires (omega arith)
+    at_end f c.loop-i.i c.loop-i.octets old other c.loop-i.invariant (omega arith) (omega arith)
     ∙ sym (zip2-map_right bit_xor (octet_mul s) old other)
     ∙ ap (λ (a : ℕ). row_sum old (row_multiple a other)) c.byte-scalar.ensures

@@ -33,7 +33,7 @@ loop-i-preserved c =
     ∙ ap (octet_mul s)
     (first_bit words c.args.other.now c.other.inside.length c.padding_bits-padding.result (length c.args.octets.now) i c.index.result.now is
     c.loop-i-test.true (get_or_read words 0 c.index.result.now (omega (arith, c.other.inside.elements.ok.0, c.other.invariant, length-packed words c.args.other.now c.other.inside.length c.padding_bits-padding.result (length c.args.octets.now) is)) c.index.ensures 0)))
-    ∙ step_one f i c.loop-i.octets c.args.octets.now c.args.other.now 0 0 c.loop-i.invariant (omega arith) c.requires
+    ∙ step_one f i c.loop-i.octets c.args.octets.now c.args.other.now 0 0 c.loop-i.invariant (omega arith) (omega arith)
 
 pub index-requires-in-loop-block : goal.index-requires-in-loop-block
 index-requires-in-loop-block c =
@@ -66,7 +66,7 @@ loop-block-preserved c =
     (get_or_read words ((c.padding_bits-padding.result + at) / 64) c.index-in-loop-block.result.now
     (omega (arith, c.other.inside.elements.ok.0, c.other.invariant, length-packed words c.args.other.now c.other.inside.length c.padding_bits-padding.result (length c.args.octets.now) is)) c.index-in-loop-block.ensures 0))
     ∙ ap (put_chunk at now) (zip2-map_right bit_xor (octet_mul s) (chunk at 64 now) (chunk at 64 other))
-    ∙ step_store f 64 at (length old % 64 + 64 * (b + 1)) now old other c.loop-block.invariant (omega arith) c.requires (omega arith)
+    ∙ step_store f 64 at (length old % 64 + 64 * (b + 1)) now old other c.loop-block.invariant (omega arith) (omega arith) (omega arith)
 
 pub returns : goal.returns
 returns c =
@@ -74,6 +74,6 @@ returns c =
     let f = λ (x y : ℕ). bit_xor x (octet_mul s y) in
     let old = c.args.octets.now in
     let other = c.args.other.now in
-    at_end f (length old % 64 + 64 * c.loop-block.block) c.loop-block.octets old other c.loop-block.invariant c.requires (omega arith)
+    at_end f (length old % 64 + 64 * c.loop-block.block) c.loop-block.octets old other c.loop-block.invariant (omega arith) (omega arith)
     ∙ sym (zip2-map_right bit_xor (octet_mul s) old other)
     ∙ ap (λ (a : ℕ). row_sum old (row_multiple a other)) c.byte-scalar.ensures

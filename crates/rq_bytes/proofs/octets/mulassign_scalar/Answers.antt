@@ -20,19 +20,19 @@ loop-block-preserved c =
     let few = length-chunk at 32 now (omega (arith, c.loop-block.auto.octets)) in
     ap (put_chunk at now)
     (c.lane_products-multiple.ensures ∙ sym (zip2-left g (chunk at 32 now) (chunk at 32 old) (length-chunk at 32 old (omega arith) ∙ sym few)))
-    ∙ step_store f 32 at (32 * (b + 1)) now old old c.loop-block.invariant (omega arith) refl (omega arith)
+    ∙ step_store f 32 at (32 * (b + 1)) now old old c.loop-block.invariant (omega arith) (omega arith) (omega arith)
 
 pub loop-i-preserved : goal.loop-i-preserved
 loop-i-preserved c =
     let f = λ (x y : ℕ). octet_mul c.byte-scalar.result x in
     let i = c.loop-i.i in
     ap (set c.loop-i.octets i) c.product.ensures
-    ∙ step_one f i c.loop-i.octets c.args.octets.now c.args.octets.now 0 0 c.loop-i.invariant (omega arith) refl
+    ∙ step_one f i c.loop-i.octets c.args.octets.now c.args.octets.now 0 0 c.loop-i.invariant (omega arith) (omega arith)
 
 pub returns : goal.returns
 returns c =
     let g = octet_mul c.byte-scalar.result in
     let old = c.args.octets.now in
-    at_end (λ (x y : ℕ). g x) c.loop-i.i c.loop-i.octets old old c.loop-i.invariant refl (omega arith)
+    at_end (λ (x y : ℕ). g x) c.loop-i.i c.loop-i.octets old old c.loop-i.invariant (omega arith) (omega arith)
     ∙ zip2-left g old old refl
     ∙ ap (λ (a : ℕ). row_multiple a old) c.byte-scalar.ensures
