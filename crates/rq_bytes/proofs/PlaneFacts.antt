@@ -9,7 +9,7 @@ use Rattle.std.specs.Int.Bits.{bit_xor}
 use lib.Bits.{bit_and}
 use lib.Lanes.{zip2, sel_l}
 use Rattle.rq_standard.specs.Octets.{octet_mul, octet_times, octet_double}
-use Rattle.rq_standard.proofs.Products.{if_set}
+use Rattle.rq_standard.specs.OctetProducts.{if_set}
 use Rattle.rq_bytes.proofs.Steps.{step, end}
 
 -- the two tests of a bit are one

@@ -3,7 +3,7 @@ use Rattle.std.proofs.Common.{◌≡◌, ℕ, suc, ◌+◌, ◌-◌, ◌/◌, �
 use Rattle.std.proofs.lemmas.Bool.{cond-true, cond-false, eq-eqb, ne_eqb}
 use Rattle.std.specs.Int.Bits.{bit_xor, xor_assoc, xor_zero_r}
 use Rattle.rq_standard.specs.Octets.{octet_double, octet_times, octet_mul}
-use Rattle.rq_standard.proofs.Products.{if_set, times-double_left}
+use Rattle.rq_standard.specs.OctetProducts.{if_set, times-double_left}
 
 one_bit : (n term rest : ℕ) → term < 256 → octet_times (suc n) term rest ≡ bit_xor (if_set rest term) (octet_times n (octet_double term) (rest / 2))
 unfolding octet_times

@@ -1,4 +1,2 @@
-pub mod Computed
 pub mod Packed
 pub mod Powers
-pub mod Products

@@ -1,6 +1,6 @@
 use Rattle.std.proofs.Common.{◌≡◌, ◌/◌, ◌%◌, ◌^◌, ap, sym, ◌∙◌, arith}
 use Rattle.rq_standard.specs.Octets.{octet_mul}
-use Rattle.rq_standard.proofs.Products.{mul-one, mul-zero}
+use Rattle.rq_standard.specs.OctetProducts.{mul-one, mul-zero}
 use Rattle.rq_bytes.proofs.products.bit_product.Goals as goal
 
 pub returns-then-word-bit-eq1 : goal.returns-then-word-bit-eq1

@@ -1,7 +1,7 @@
 use Rattle.std.proofs.Common.{◌≡◌, ◌+◌, ◌-◌, ◌/◌, ◌^◌, ap, ◌∙◌, refl, arith}
 use Rattle.std.specs.Int.Bits.{bit_xor}
 use Rattle.rq_standard.specs.Octets.{octet_mul, octet_times}
-use Rattle.rq_standard.proofs.Products.{if_set}
+use Rattle.rq_standard.specs.OctetProducts.{if_set}
 use Rattle.rq_bytes.proofs.PlaneFacts.{add_plane}
 use Rattle.rq_bytes.proofs.Steps.{start, end, set_term, unset_term}
 use Rattle.rq_bytes.proofs.products.product.Goals as goal

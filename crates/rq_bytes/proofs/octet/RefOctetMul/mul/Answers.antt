@@ -1,6 +1,6 @@
 use Rattle.std.proofs.Common.{ap, sym, ◌∙◌}
 use Rattle.rq_standard.specs.Octets.{octet_mul}
-use Rattle.rq_standard.proofs.Products.{zero-mul, mul-zero}
+use Rattle.rq_standard.specs.OctetProducts.{zero-mul, mul-zero}
 use Rattle.rq_standard.proofs.Powers.{mul_by_powers}
 use Rattle.rq_bytes.proofs.octet.RefOctetMul.mul.Goals as goal
 use Rattle.rq_bytes.proofs.octet.RefOctetMul.mul.Goals.{then-self-eq0-via-then-self-eq0, then-self-eq0-via-else-self-eq0+then-other-eq0}
