@@ -1,5 +1,7 @@
 pub mod Changes
 pub mod FewEquations
+pub mod Found
+pub mod Meanings
 pub mod Parity
 pub mod Pivots
 pub mod Placewise

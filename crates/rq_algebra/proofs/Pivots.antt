@@ -1,4 +1,4 @@
--- The column from pivots in any rows and columns, and what it says of symbols.
+-- The column from pivots in any rows and columns.
 use Rattle.std.proofs.Common.{◌≡◌, ◌≢◌, ℕ, zero, suc, ◌<◌, List, [], ◌∷◌, ◌++◌, Option, Some, None, All, cond, eqb, map, length, replicate, get_or, sym, ap, ◌∙◌, refl, subst, arith, inl, inr, Bool, true, false}
 use Rattle.std.proofs.lemmas.Bool.{eq-eqb, ne_eqb}
 use Rattle.std.proofs.lemmas.List.{length-map, get_or-replicate}
@@ -15,7 +15,7 @@ use Rattle.rq_algebra.proofs.Changes.{find_place, without, without_onto}
 use Rattle.rq_algebra.proofs.FewEquations.{few_rows}
 use Rattle.rq_algebra.proofs.Solutions.{solves_same}
 use Rattle.rq_algebra.proofs.Runs.{run_push, last_order, AreAllowed-push, zero_values, follows_unordered}
-use Rattle.rq_algebra.proofs.Placewise.{place, place_linear, read-run_linear, zeros_stay}
+use Rattle.rq_algebra.proofs.Placewise.{place, place_linear, at-zeros, zeros_stay}
 use Rattle.rq_algebra.proofs.SymbolColumns.{symbol_elements, same_symbol, run_keeps_symbols}
 
 -- n places below n are all of them: else n unknowns in fewer equations, each of which is one unknown, would not all be 0
@@ -94,11 +94,7 @@ null_back F height width original a operations follows n = record {
   nonzero = n.nonzero;
   solves =
       let zeros : List ℕ = replicate height 0 in
-      solves_same F height width original original n.column (at zeros) (λ _. 0) (λ i k l m. refl) (λ i l. get_or-replicate {A = ℕ} height i 0 0 l)
+      solves_same F height width original original n.column (at zeros) (λ _. 0) (λ i k l m. refl) (λ i l. at-zeros height i)
       ((follows.keeps zeros (zero_values F height width)).same.back n.column
-      (solves_same F height width a a n.column (λ _. 0) (at (run (plain F) operations (unordered zeros)).values) (λ i k l m. refl) (λ i l. sym (zeros_stay F operations (unordered zeros) (zero_at height) i)) n.solves));
-} where
-  zero_at : (n i : ℕ) → at (replicate n 0) i ≡ 0
-  zero_at zero i = refl
-  zero_at (suc n) zero = refl
-  zero_at (suc n) (suc i) = zero_at n i
+      (solves_same F height width a a n.column (λ _. 0) (at (run (plain F) operations (unordered zeros)).values) (λ i k l m. refl) (λ i l. sym (zeros_stay F operations (unordered zeros) (at-zeros height) i)) n.solves));
+}
