@@ -4,6 +4,7 @@ pub mod Found
 pub mod Meanings
 pub mod Parity
 pub mod Pivots
+pub mod Places
 pub mod Placewise
 pub mod Runs
 pub mod Solutions

@@ -12,33 +12,11 @@ use Rattle.rq_algebra.specs.Elimination.{IsValues, found_by, FindsColumn, HasPiv
 use Rattle.rq_algebra.specs.Meaning.{Follows}
 use Rattle.rq_algebra.proofs.Sums.{dot_same, dot_one}
 use Rattle.rq_algebra.proofs.Changes.{find_place, without, without_onto}
-use Rattle.rq_algebra.proofs.FewEquations.{few_rows}
+use Rattle.rq_algebra.proofs.FewEquations.{all_places}
 use Rattle.rq_algebra.proofs.Solutions.{solves_same}
 use Rattle.rq_algebra.proofs.Runs.{run_push, last_order, AreAllowed-push, zero_values, follows_unordered}
 use Rattle.rq_algebra.proofs.Placewise.{place, place_linear, at-zeros, zeros_stay}
 use Rattle.rq_algebra.proofs.SymbolColumns.{symbol_elements, same_symbol, run_keeps_symbols}
-
--- n places below n are all of them: else n unknowns in fewer equations, each of which is one unknown, would not all be 0
-pub all_places : (F : Field) (n : ℕ) (places : ℕ → ℕ) → ArePlaces n n places → (i : ℕ) → i < n → (j : ℕ) × (j < n) × (places j ≡ i)
-all_places F zero places are i l = absurd (omega arith)
-all_places F (suc h) places are i l = elim (find_place (suc h) places i) [
-  | inl q ↦ q
-  | inr free ↦
-      let a : ℕ → ℕ → ℕ = λ r k. cond (eqb (places k) (without i h r)) 1 0 in
-      let one : (r k : ℕ) → places k ≡ without i h r → a r k ≡ 1 = λ r k e. rw (eq-eqb (places k) (without i h r) e) in
-      let off : (r k : ℕ) → places k ≢ without i h r → a r k ≡ 0 = λ r k d. rw (ne_eqb (places k) (without i h r) d) in
-      let n : HasNullColumn F h (suc h) a = few_rows F (suc h) h a (omega arith) (λ r k m o. small (eqb (places k) (without i h r))) in
-      let m = without_onto i h (places n.place) l (are.below n.place n.in_width) (free n.place n.in_width) in
-      absurd (n.nonzero (cc (
-        n.solves.at m.0 m.1,
-        dot_one F (suc h) (a m.0) n.column n.place n.in_width (λ k o d. off m.0 k (λ e. d (are.apart k n.place o n.in_width (e ∙ m.2)))),
-        one m.0 n.place (sym m.2),
-        F.one_mul (n.column n.place) (n.is_column n.place n.in_width),
-      )))
-] where
-  small : (b : Bool) → cond b 1 0 < F.size
-  small true = F.one_below
-  small false = omega (arith, F.one_below)
 
 -- what is read after an order has been set
 pub found-reorder : {X : Type 0} (S : Space X) (operations : List Operation) (order : List ℕ) (values : List X) (k : ℕ) → found_by S (operations ++ Reorder order ∷ []) values k ≡ get_or (run S operations (unordered values)).values (get_or order k 0) S.zero

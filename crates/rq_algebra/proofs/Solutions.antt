@@ -2,34 +2,10 @@
 use Rattle.std.proofs.Common.{◌≡◌, ◌≢◌, ℕ, ◌<◌, ◌≤◌, sym, ap, ◌∙◌, refl, arith, inl, inr}
 use Rattle.std.proofs.lemmas.Bool.{cases_eq, eq-eqb, ne_eqb}
 use Rattle.rq_algebra.specs.Field.{Field}
-use Rattle.rq_algebra.specs.Systems.{dot, Solves, IsColumn, IsDetermined, HasNullColumn, RowsStandIn}
-use Rattle.rq_algebra.specs.Steps.{exchange}
+use Rattle.rq_algebra.specs.Systems.{dot, Solves, IsColumn, IsDetermined, HasNullColumn, ArePlaces, RowsStandIn}
 use Rattle.rq_algebra.specs.Steps.{AddsRow, ScalesRow, AddsValue, ScalesValue, SameSolutions}
 use Rattle.rq_algebra.proofs.Sums.{add_again, dot_same, dot_fma, dot_mul_row, dot_below_size, dot_one, undo_mul, dot_add_column}
-
-pub exchange_left : (p q i : ℕ) → i ≡ p → exchange p q i ≡ q
-unfolding exchange
-exchange_left p q i e = rw (eq-eqb i p e)
-
-pub exchange_right : (p q i : ℕ) → i ≡ q → exchange p q i ≡ p
-unfolding exchange
-exchange_right p q i e = elim (cases_eq i p) [ inl f ↦ rw (eq-eqb i p f) (sym e ∙ f) | inr d ↦ rw (ne_eqb i p d, eq-eqb i q e) ]
-
-pub exchange_other : (p q i : ℕ) → i ≢ p → i ≢ q → exchange p q i ≡ i
-unfolding exchange
-exchange_other p q i d e = rw (ne_eqb i p d, ne_eqb i q e)
-
-pub exchange_below : (p q n : ℕ) → p < n → q < n → (i : ℕ) → i < n → exchange p q i < n
-exchange_below p q n l m i o = elim (cases_eq i p) [
-  | inl e ↦ rw (exchange_left p q i e) m
-  | inr d ↦ elim (cases_eq i q) [ inl e ↦ rw (exchange_right p q i e) l | inr f ↦ rw (exchange_other p q i d f) o ]
-]
-
-pub exchange_twice : (p q i : ℕ) → exchange p q (exchange p q i) ≡ i
-exchange_twice p q i = elim (cases_eq i p) [
-  | inl e ↦ rw (exchange_left p q i e) (exchange_right p q q refl ∙ sym e)
-  | inr d ↦ elim (cases_eq i q) [ inl e ↦ rw (exchange_right p q i e) (exchange_left p q p refl ∙ sym e) | inr f ↦ rw (exchange_other p q i d f) (exchange_other p q i d f) ]
-]
+use Rattle.rq_algebra.proofs.FewEquations.{all_places, dot_places}
 
 module _ (F : Field) (height width : ℕ) where
   -- the values of a row, where the rows agree
@@ -94,16 +70,16 @@ module _ (F : Field) (height width : ℕ) where
       };
     }
 
-  -- rows in another order: `to` and `from` undo one another below the height
-  pub reorder_keeps : (to from : ℕ → ℕ) → ((i : ℕ) → i < height → to i < height) → ((i : ℕ) → i < height → from i < height) → ((i : ℕ) → i < height → to (from i) ≡ i) → (a : ℕ → ℕ → ℕ) (v : ℕ → ℕ) → SameSolutions F height width a v (λ i. a (to i)) (λ i. v (to i))
-  reorder_keeps to from to_below from_below undoes a v = record {
-    onward = λ x s. record { at = λ i l. s.at (to i) (to_below i l) };
-    back = λ x s. record { at = λ i l. rw (undoes i l) at (s.at (from i) (from_below i l)) };
+  -- rows in another order
+  pub reorder_keeps : (to : ℕ → ℕ) → ArePlaces height height to → (a : ℕ → ℕ → ℕ) (v : ℕ → ℕ) → SameSolutions F height width a v (λ i. a (to i)) (λ i. v (to i))
+  reorder_keeps to are a v = record {
+    onward = λ x s. record { at = λ i l. s.at (to i) (are.below i l) };
+    back = λ x s. record { at = λ i l. let q = all_places F height to are i l in rw q.2 at (s.at q.0 q.1) };
   }
 
-  -- two rows exchanged
-  pub exchange_keeps : (p q : ℕ) → p < height → q < height → (a : ℕ → ℕ → ℕ) (v : ℕ → ℕ) → SameSolutions F height width a v (λ i. a (exchange p q i)) (λ i. v (exchange p q i))
-  exchange_keeps p q l m a v = reorder_keeps (exchange p q) (exchange p q) (exchange_below p q height l m) (exchange_below p q height l m) (λ i n. exchange_twice p q i) a v
+  -- columns in another order
+  pub columns_reordered : (to : ℕ → ℕ) → ArePlaces width width to → (a : ℕ → ℕ → ℕ) (x v : ℕ → ℕ) → Solves F height width a x v → Solves F height width (λ i k. a i (to k)) (λ k. x (to k)) v
+  columns_reordered to are a x v s = record { at = λ i l. dot_places F width (a i) x to are ∙ s.at i l }
 
 -- a determined system stays determined where each of its rows stands in the new one: rows added, repeated or in another order
 pub determined_stays : (F : Field) (width old_height new_height : ℕ) (old new : ℕ → ℕ → ℕ) → RowsStandIn width old_height old new_height new → IsDetermined F old_height width old → IsDetermined F new_height width new
