@@ -2,8 +2,11 @@ pub mod Elimination
 pub mod Field
 pub mod FromLaws
 pub mod Meaning
+pub mod OperationLaws
 pub mod Operations
 pub mod Parities
 pub mod Steps
+pub mod SymbolLaws
 pub mod Symbols
+pub mod SystemLaws
 pub mod Systems
