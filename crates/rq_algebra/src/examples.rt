@@ -1,0 +1,1 @@
+//! What the definitions mean, in small systems that the checker computes.
