@@ -1,11 +1,11 @@
 -- What operations that find the column say of the rows, and of symbols.
-use Rattle.std.proofs.Common.{◌≡◌, ℕ, ◌<◌, List, [], ◌∷◌, ◌++◌, Option, None, map, length, replicate, get_or, sym, ap, ◌∙◌, refl, subst, arith}
+use Rattle.std.proofs.Common.{◌≡◌, ℕ, ◌<◌, List, [], None, map, replicate, get_or, sym, ap, ◌∙◌, refl, subst, arith}
 use Rattle.std.proofs.lemmas.List.{length-map}
 use Rattle.std.proofs.lemmas.List.Elements.{All-get_or}
 use Rattle.std.proofs.Math.ListN.{get_or-map}
 use Rattle.rq_algebra.specs.Field.{Field}
-use Rattle.rq_algebra.specs.Systems.{IsDetermined, Solves, at}
-use Rattle.rq_algebra.specs.Operations.{Operation, Reorder, run, plain, unordered, AreAllowed}
+use Rattle.rq_algebra.specs.Systems.{IsDetermined, at}
+use Rattle.rq_algebra.specs.Operations.{Operation, run, plain, unordered, AreAllowed}
 use Rattle.rq_algebra.specs.Symbols.{symbols, IsSymbolColumn, AreSymbols, symbol_at, slice_at, SolvesSymbols}
 use Rattle.rq_algebra.specs.Elimination.{IsValues, found_by, FindsColumn}
 use Rattle.rq_algebra.proofs.Sums.{dot_same}
@@ -48,9 +48,9 @@ module _ (F : Field) (height width : ℕ) (rows : ℕ → ℕ → ℕ) (operatio
     -- a column of symbols that solves the rows is what the operations make of the values
     pub found_only : (column : ℕ → List ℕ) → IsSymbolColumn F size width column → SolvesSymbols F height width rows column (symbol_at values) → (k : ℕ) → k < width → column k ≡ found_by (symbols F) operations values k
     found_only column is s k l = same_symbol F size (column k) (found_by (symbols F) operations values k) (is k l) (found_are_symbols k l) (λ p.
-      finds.only (map (place p) values) (are_values p) (slice_at p column) (λ j m. symbol_elements F size (column j) (is j m) p)
-      (solves_same F height width rows rows _ _ _ (λ i j m n. refl) (λ i m. sym (values_at p i)) (s.at_place p)) k l
-      ∙ sym (placewise p k))
+        finds.only (map (place p) values) (are_values p) (slice_at p column) (λ j m. symbol_elements F size (column j) (is j m) p)
+        (solves_same F height width rows rows _ _ _ (λ i j m n. refl) (λ i m. sym (values_at p i)) (s.at_place p)) k l
+        ∙ sym (placewise p k))
 
     -- where there are as many rows as columns, what they make of the values solves the rows
     pub found_solves : height ≡ width → SolvesSymbols F height width rows (found_by (symbols F) operations values) (symbol_at values)

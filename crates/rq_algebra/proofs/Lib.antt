@@ -7,6 +7,7 @@ pub mod Pivots
 pub mod Places
 pub mod Placewise
 pub mod Runs
+pub mod SmallCases
 pub mod Solutions
 pub mod Sums
 pub mod SymbolColumns

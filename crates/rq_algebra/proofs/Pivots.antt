@@ -1,22 +1,16 @@
 -- The column from pivots in any rows and columns.
-use Rattle.std.proofs.Common.{◌≡◌, ◌≢◌, ℕ, zero, suc, ◌<◌, List, [], ◌∷◌, ◌++◌, Option, Some, None, All, cond, eqb, map, length, replicate, get_or, sym, ap, ◌∙◌, refl, subst, arith, inl, inr, Bool, true, false}
-use Rattle.std.proofs.lemmas.Bool.{eq-eqb, ne_eqb}
-use Rattle.std.proofs.lemmas.List.{length-map, get_or-replicate}
-use Rattle.std.proofs.lemmas.List.Elements.{All-get_or, All-from_get_or, All-head}
-use Rattle.std.proofs.Math.ListN.{get_or-map}
+use Rattle.std.proofs.Common.{◌≡◌, ℕ, ◌<◌, List, [], ◌∷◌, ◌++◌, Option, None, replicate, get_or, sym, ap, ◌∙◌, refl, arith}
+use Rattle.std.proofs.lemmas.List.Elements.{All-from_get_or}
 use Rattle.rq_algebra.specs.Field.{Field}
-use Rattle.rq_algebra.specs.Systems.{dot, IsColumn, IsDetermined, HasNullColumn, Solves, ArePlaces, at}
-use Rattle.rq_algebra.specs.Operations.{Operation, Reorder, Space, Store, step, run, plain, unordered, read, IsAllowed, AreAllowed, IsOrder, order_after}
-use Rattle.rq_algebra.specs.Symbols.{symbols, IsSymbol, IsSymbolColumn, AreSymbols, symbol_at, slice_at, SolvesSymbols}
-use Rattle.rq_algebra.specs.Elimination.{IsValues, found_by, FindsColumn, HasPivots, ReadsPivots}
+use Rattle.rq_algebra.specs.Systems.{dot, IsColumn, HasNullColumn, at}
+use Rattle.rq_algebra.specs.Operations.{Operation, Reorder, Space, Store, step, run, plain, unordered, read, AreAllowed, IsOrder, order_after}
+use Rattle.rq_algebra.specs.Elimination.{found_by, FindsColumn, HasPivots, ReadsPivots}
 use Rattle.rq_algebra.specs.Meaning.{Follows}
-use Rattle.rq_algebra.proofs.Sums.{dot_same, dot_one}
-use Rattle.rq_algebra.proofs.Changes.{find_place, without, without_onto}
+use Rattle.rq_algebra.proofs.Sums.{dot_one}
 use Rattle.rq_algebra.proofs.FewEquations.{all_places}
 use Rattle.rq_algebra.proofs.Solutions.{solves_same}
-use Rattle.rq_algebra.proofs.Runs.{run_push, last_order, AreAllowed-push, zero_values, follows_unordered}
-use Rattle.rq_algebra.proofs.Placewise.{place, place_linear, at-zeros, zeros_stay}
-use Rattle.rq_algebra.proofs.SymbolColumns.{symbol_elements, same_symbol, run_keeps_symbols}
+use Rattle.rq_algebra.proofs.Runs.{run_push, AreAllowed-push, zero_values}
+use Rattle.rq_algebra.proofs.Placewise.{at-zeros, zeros_stay}
 
 -- what is read after an order has been set
 pub found-reorder : {X : Type 0} (S : Space X) (operations : List Operation) (order : List ℕ) (values : List X) (k : ℕ) → found_by S (operations ++ Reorder order ∷ []) values k ≡ get_or (run S operations (unordered values)).values (get_or order k 0) S.zero

@@ -1,5 +1,5 @@
 -- Operations commute with linear maps: on symbols they are, at each place, the operations on elements, and they keep zeros.
-use Rattle.std.proofs.Common.{◌≡◌, ℕ, zero, suc, List, [], ◌∷◌, map, length, replicate, get_or, set, sym, ap, ◌∙◌, refl, ◌<◌, arith}
+use Rattle.std.proofs.Common.{◌≡◌, ℕ, zero, suc, List, [], ◌∷◌, map, replicate, get_or, set, sym, ap, ◌∙◌, refl}
 use Rattle.std.proofs.lemmas.List.{map-set, length-map, ext_get_or}
 use Rattle.std.proofs.Math.ListN.{get_or-map}
 use Rattle.rq_algebra.specs.Field.{Field}

@@ -1,12 +1,12 @@
 -- Elementary operations keep the solutions of a system.
-use Rattle.std.proofs.Common.{◌≡◌, ◌≢◌, ℕ, ◌+◌, ◌-◌, ◌<◌, List, length, get_or, sym, ap, ◌∙◌, refl, arith, inl, inr}
+use Rattle.std.proofs.Common.{◌≡◌, ◌≢◌, ℕ, ◌+◌, ◌-◌, ◌<◌, List, length, sym, ap, ◌∙◌, refl, arith, inl, inr}
 use Rattle.std.proofs.lemmas.Bool.{cases_eq, cases_lt, lt-ltb, le-ltb}
 use Rattle.std.proofs.lemmas.Grind.{get_or_default_zero}
 use Rattle.std.proofs.lemmas.List.Elements.{Contains-get_or}
 use Rattle.rq_algebra.specs.Field.{Field}
 use Rattle.rq_algebra.specs.Systems.{dot, Solves, IsColumn, IsDetermined, HasNullColumn, ArePlaces, RowsStandIn, at, stacked, rows_of, IdsStandIn}
 use Rattle.rq_algebra.specs.Steps.{AddsRow, ScalesRow, AddsValue, ScalesValue, SameSolutions}
-use Rattle.rq_algebra.proofs.Sums.{add_again, dot_same, dot_fma, dot_mul_row, dot_below_size, dot_one, undo_mul, dot_add_column}
+use Rattle.rq_algebra.proofs.Sums.{add_again, dot_same, dot_fma, dot_mul_row, dot_below_size, undo_mul, dot_add_column}
 use Rattle.rq_algebra.proofs.FewEquations.{all_places, dot_places}
 
 module _ (F : Field) (height width : ℕ) where
@@ -114,8 +114,11 @@ ids_stand width height above row old new ids i l = elim (cases_lt i height) [
       let e : height + j ≡ i = omega arith in
       let o : j < length old = omega arith in
       let q = ids (at old j) (Contains-get_or old j 0 o) in
-      let same : at new q.0 ≡ at old j = sym (get_or_default_zero new q.0 (at old j) q.1) ∙ q.2 in
-      (height + q.0, (omega (arith, q.1)), λ k n.
-        stacked_below height above (rows_of row new) q.0 k ∙ ap (λ (x : ℕ). row x k) same
-        ∙ sym (stacked_below height above (rows_of row old) j k) ∙ ap (λ (r : ℕ). stacked height above (rows_of row old) r k) e)
+      let same : at new q.0 ≡ at old j = sym (get_or_default_zero new q.0 (at old j) q.1) ∙ q.2 in (
+        height + q.0,
+        (omega (arith, q.1)),
+        λ k n.
+            stacked_below height above (rows_of row new) q.0 k ∙ ap (λ (x : ℕ). row x k) same
+            ∙ sym (stacked_below height above (rows_of row old) j k) ∙ ap (λ (r : ℕ). stacked height above (rows_of row old) r k) e,
+      )
 ]

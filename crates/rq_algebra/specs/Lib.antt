@@ -1,4 +1,5 @@
 pub mod Elimination
+pub mod Examples
 pub mod Field
 pub mod FromLaws
 pub mod Meaning
@@ -10,3 +11,4 @@ pub mod SymbolLaws
 pub mod Symbols
 pub mod SystemLaws
 pub mod Systems
+pub mod Two

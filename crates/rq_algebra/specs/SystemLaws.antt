@@ -1,5 +1,5 @@
 -- The laws of linear systems, as statements: functions of `systems` have them as contracts.
-use Rattle.std.specs.Prelude.{◌≡◌, ◌≢◌, ℕ, suc, ◌+◌, ◌<◌, List, length}
+use Rattle.std.specs.Prelude.{◌≡◌, ◌≢◌, ℕ, ◌+◌, ◌<◌, List, length}
 use Rattle.rq_algebra.specs.Field.{Field}
 use Rattle.rq_algebra.specs.Systems.{sum_below, dot, Solves, IsColumn, IsDetermined, HasNullColumn, HasElements, ArePlaces, IsFewOn, RowsStandIn, stacked, rows_of, IdsStandIn}
 use Rattle.rq_algebra.specs.Steps.{AddsRow, ScalesRow, AddsValue, ScalesValue, exchange, SameSolutions}
