@@ -1,14 +1,11 @@
 -- A system with fewer rows than unknowns has a null column, and so has one that is zero but in few rows on some of the columns.
-use Rattle.std.proofs.Common.{◌≡◌, ◌≢◌, ℕ, zero, suc, ◌<◌, sym, ap, ◌∙◌, refl, arith, inl, inr}
-use Rattle.std.proofs.lemmas.Bool.{cases_eq}
+use Rattle.std.proofs.Common.{◌≡◌, ◌≢◌, ℕ, zero, suc, ◌<◌, Bool, true, false, cond, eqb, sym, ap, ◌∙◌, refl, arith, inl, inr}
+use Rattle.std.proofs.lemmas.Bool.{cases_eq, eq-eqb, ne_eqb}
 use Rattle.rq_algebra.specs.Field.{Field}
-use Rattle.rq_algebra.specs.Systems.{sum_below, dot, HasNullColumn, HasElements, ArePlaces, IsFewOn}
-use Rattle.rq_algebra.proofs.Sums.{sum_same, sum_zero, sum_add, sum_one, add_zero, mul_zero, zero_mul, redo_mul, dot_same, dot_fma, dot-suc, dot_zero, dot_below_size}
+use Rattle.rq_algebra.specs.Systems.{dot, HasNullColumn, HasElements, ArePlaces, IsFewOn}
+use Rattle.rq_algebra.proofs.Sums.{sum_same, mul_zero, zero_mul, redo_mul, dot_same, dot_fma, dot-suc, dot_zero, dot_one, dot_below_size}
 use Rattle.rq_algebra.proofs.Changes.{find_place, find_nonzero, with_at, with_at_same, with_at_other, without, without_below, without_onto}
-
--- all places but the last
-fewer_places : (n bound : ℕ) (places : ℕ → ℕ) → ArePlaces (suc n) bound places → ArePlaces n bound places
-fewer_places n bound places are = record { below = λ i l. are.below i (omega arith); apart = λ i j l m e. are.apart i j (omega arith) (omega arith) e }
+use Rattle.rq_algebra.proofs.Places.{sum_places, spread, spread_at, spread_off}
 
 module _ (F : Field) where
   -- row i with column n cleared by row p
@@ -72,51 +69,6 @@ module _ (F : Field) where
             (λ i k l m. unfold cleared in F.add_below _ _ (elements (without q.0 h i) k (without_below q.0 h i l) (omega arith)) (F.mul_below _ _)))
       ]
 
-  -- one term taken out of a sum
-  pub sum_but : (n : ℕ) (f : ℕ → ℕ) (p : ℕ) → p < n → sum_below F n f ≡ F.add (sum_below F n (with_at f p 0)) (f p)
-  sum_but n f p l =
-      let only : ℕ → ℕ = with_at (λ _. 0) p (f p) in
-      sum_same F n f (λ k. F.add (with_at f p 0 k) (only k)) (λ k m. elim (cases_eq k p) [
-        | inl e ↦ cc (with_at_same f p 0 k e, with_at_same {X = ℕ} (λ _. 0) p (f p) k e, F.zero_add (f p), ap f e)
-        | inr d ↦ cc (with_at_other f p 0 k d, with_at_other {X = ℕ} (λ _. 0) p (f p) k d, add_zero F (f k))
-      ])
-      ∙ sum_add F n (with_at f p 0) only
-      ∙ ap (λ (y : ℕ). F.add (sum_below F n (with_at f p 0)) y) (sum_one F n only p l (λ k m d. with_at_other {X = ℕ} (λ _. 0) p (f p) k d) ∙ with_at_same {X = ℕ} (λ _. 0) p (f p) p refl)
-
-  -- a sum whose other terms are 0 is the sum over the places
-  pub sum_places : (n width : ℕ) (f : ℕ → ℕ) (places : ℕ → ℕ) → ArePlaces n width places → ((k : ℕ) → k < width → ((j : ℕ) → j < n → places j ≢ k) → f k ≡ 0) → sum_below F width f ≡ sum_below F n (λ j. f (places j))
-  unfolding sum_below
-  sum_places zero width f places are zeros = sum_zero F width f (λ k l. zeros k l (λ j m. absurd (omega arith)))
-  sum_places (suc n) width f places are zeros =
-      let p : ℕ = places n in
-      sum_but width f p (are.below n (omega arith))
-      ∙ ap (λ (s : ℕ). F.add s (f p)) (
-      sum_places n width (with_at f p 0) places (fewer_places n width places are)
-      (λ k l free. elim (cases_eq k p) [
-        | inl e ↦ with_at_same f p 0 k e
-        | inr d ↦ with_at_other f p 0 k d ∙ zeros k l (λ j m e. elim (cases_eq j n) [ inl q ↦ d (sym e ∙ ap places q) | inr q ↦ free j (omega arith) e ])
-      ])
-      ∙ sum_same F n (λ j. with_at f p 0 (places j)) (λ j. f (places j)) (λ j l. with_at_other f p 0 (places j) (λ e. let z : j ≡ n = are.apart j n (omega arith) (omega arith) e in omega (arith, z))))
-
-  -- the column that has y's entries at the places, and 0 elsewhere
-  pub spread : ℕ → (ℕ → ℕ) → (ℕ → ℕ) → ℕ → ℕ
-  spread zero places y k = 0
-  spread (suc n) places y k = with_at (spread n places y) (places n) (y n) k
-
-  pub spread_at : (n width : ℕ) (places y : ℕ → ℕ) → ArePlaces n width places → (j : ℕ) → j < n → spread n places y (places j) ≡ y j
-  unfolding spread
-  spread_at zero width places y are j l = absurd (omega arith)
-  spread_at (suc n) width places y are j l = elim (cases_eq j n) [
-    | inl e ↦ with_at_same (spread n places y) (places n) (y n) (places j) (ap places e) ∙ ap y (sym e)
-    | inr d ↦ with_at_other (spread n places y) (places n) (y n) (places j) (λ e. d (are.apart j n (omega arith) (omega arith) e))
-        ∙ spread_at n width places y (fewer_places n width places are) j (omega arith)
-  ]
-
-  pub spread_off : (n : ℕ) (places y : ℕ → ℕ) (k : ℕ) → ((j : ℕ) → j < n → places j ≢ k) → spread n places y k ≡ 0
-  unfolding spread
-  spread_off zero places y k free = refl
-  spread_off (suc n) places y k free = with_at_other (spread n places y) (places n) (y n) k (λ e. free n (omega arith) (sym e)) ∙ spread_off n places y k (λ j l. free j (omega arith))
-
   -- on n + 1 of the columns only n of the rows are not zero: then a null column stands there
   pub null_of_few : (height width n : ℕ) (a : ℕ → ℕ → ℕ) (rows columns : ℕ → ℕ) → HasElements F height width a → IsFewOn height width n a rows columns → HasNullColumn F height width a
   unfolding dot
@@ -125,7 +77,7 @@ module _ (F : Field) where
       let null : HasNullColumn F n (suc n) (λ p j. a (rows p) (columns j)) = few_rows (suc n) n (λ p j. a (rows p) (columns j)) (omega arith) (λ p j l m. elements (rows p) (columns j) (few.rows_below p l) (are.below j m)) in
       let x : ℕ → ℕ = spread (suc n) columns null.column in
       let says : (i : ℕ) → i < height → dot F width (a i) x ≡ dot F (suc n) (λ j. a i (columns j)) null.column = (λ (i : ℕ) (l : i < height).
-      sum_places (suc n) width (λ k. F.mul (a i k) (x k)) columns are (λ k m free. cc (spread_off (suc n) columns null.column k free, mul_zero F (a i k)))
+      sum_places F (suc n) width (λ k. F.mul (a i k) (x k)) columns are (λ k m free. cc (spread_off (suc n) columns null.column k free, mul_zero F (a i k)))
       ∙ sum_same F (suc n) (λ j. F.mul (a i (columns j)) (x (columns j))) (λ j. F.mul (a i (columns j)) (null.column j)) (λ j m. ap (λ (y : ℕ). F.mul (a i (columns j)) y) (spread_at (suc n) width columns null.column are j m))) in
       record {
         column = x;
@@ -143,3 +95,30 @@ module _ (F : Field) where
           ];
         };
       }
+
+-- n places below n are all of them: else n unknowns in fewer equations, each of which is one unknown, would not all be 0
+pub all_places : (F : Field) (n : ℕ) (places : ℕ → ℕ) → ArePlaces n n places → (i : ℕ) → i < n → (j : ℕ) × (j < n) × (places j ≡ i)
+all_places F zero places are i l = absurd (omega arith)
+all_places F (suc h) places are i l = elim (find_place (suc h) places i) [
+  | inl q ↦ q
+  | inr free ↦
+      let a : ℕ → ℕ → ℕ = λ r k. cond (eqb (places k) (without i h r)) 1 0 in
+      let one : (r k : ℕ) → places k ≡ without i h r → a r k ≡ 1 = λ r k e. rw (eq-eqb (places k) (without i h r) e) in
+      let off : (r k : ℕ) → places k ≢ without i h r → a r k ≡ 0 = λ r k d. rw (ne_eqb (places k) (without i h r) d) in
+      let n : HasNullColumn F h (suc h) a = few_rows F (suc h) h a (omega arith) (λ r k m o. small (eqb (places k) (without i h r))) in
+      let m = without_onto i h (places n.place) l (are.below n.place n.in_width) (free n.place n.in_width) in
+      absurd (n.nonzero (cc (
+        n.solves.at m.0 m.1,
+        dot_one F (suc h) (a m.0) n.column n.place n.in_width (λ k o d. off m.0 k (λ e. d (are.apart k n.place o n.in_width (e ∙ m.2)))),
+        one m.0 n.place (sym m.2),
+        F.one_mul (n.column n.place) (n.is_column n.place n.in_width),
+      )))
+] where
+  small : (b : Bool) → cond b 1 0 < F.size
+  small true = F.one_below
+  small false = omega (arith, F.one_below)
+
+-- the terms of a sum in another order
+pub dot_places : (F : Field) (width : ℕ) (row column places : ℕ → ℕ) → ArePlaces width width places → dot F width (λ k. row (places k)) (λ k. column (places k)) ≡ dot F width row column
+unfolding dot
+dot_places F width row column places are = sym (sum_places F width width (λ k. F.mul (row k) (column k)) places are (λ k l free. let q = all_places F width places are k l in absurd (free q.0 q.1 q.2)))

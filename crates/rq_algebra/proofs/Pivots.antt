@@ -1,44 +1,16 @@
--- The column from pivots in any rows and columns, and what it says of symbols.
-use Rattle.std.proofs.Common.{◌≡◌, ◌≢◌, ℕ, zero, suc, ◌<◌, List, [], ◌∷◌, ◌++◌, Option, Some, None, All, cond, eqb, map, length, replicate, get_or, sym, ap, ◌∙◌, refl, subst, arith, inl, inr, Bool, true, false}
-use Rattle.std.proofs.lemmas.Bool.{eq-eqb, ne_eqb}
-use Rattle.std.proofs.lemmas.List.{length-map, get_or-replicate}
-use Rattle.std.proofs.lemmas.List.Elements.{All-get_or, All-from_get_or, All-head}
-use Rattle.std.proofs.Math.ListN.{get_or-map}
+-- The column from pivots in any rows and columns.
+use Rattle.std.proofs.Common.{◌≡◌, ℕ, ◌<◌, List, [], ◌∷◌, ◌++◌, Option, None, replicate, get_or, sym, ap, ◌∙◌, refl, arith}
+use Rattle.std.proofs.lemmas.List.Elements.{All-from_get_or}
 use Rattle.rq_algebra.specs.Field.{Field}
-use Rattle.rq_algebra.specs.Systems.{dot, IsColumn, IsDetermined, HasNullColumn, Solves, ArePlaces, at}
-use Rattle.rq_algebra.specs.Operations.{Operation, Reorder, Space, Store, step, run, plain, unordered, read, IsAllowed, AreAllowed, IsOrder, order_after}
-use Rattle.rq_algebra.specs.Symbols.{symbols, IsSymbol, IsSymbolColumn, AreSymbols, symbol_at, slice_at, SolvesSymbols}
-use Rattle.rq_algebra.specs.Elimination.{IsValues, found_by, FindsColumn, HasPivots, ReadsPivots}
+use Rattle.rq_algebra.specs.Systems.{dot, IsColumn, HasNullColumn, at}
+use Rattle.rq_algebra.specs.Operations.{Operation, Reorder, Space, Store, step, run, plain, unordered, read, AreAllowed, IsOrder, order_after}
+use Rattle.rq_algebra.specs.Elimination.{found_by, FindsColumn, HasPivots, ReadsPivots}
 use Rattle.rq_algebra.specs.Meaning.{Follows}
-use Rattle.rq_algebra.proofs.Sums.{dot_same, dot_one}
-use Rattle.rq_algebra.proofs.Changes.{find_place, without, without_onto}
-use Rattle.rq_algebra.proofs.FewEquations.{few_rows}
+use Rattle.rq_algebra.proofs.Sums.{dot_one}
+use Rattle.rq_algebra.proofs.FewEquations.{all_places}
 use Rattle.rq_algebra.proofs.Solutions.{solves_same}
-use Rattle.rq_algebra.proofs.Runs.{run_push, last_order, AreAllowed-push, zero_values, follows_unordered}
-use Rattle.rq_algebra.proofs.Placewise.{place, place_linear, read-run_linear, zeros_stay}
-use Rattle.rq_algebra.proofs.SymbolColumns.{symbol_elements, same_symbol, run_keeps_symbols}
-
--- n places below n are all of them: else n unknowns in fewer equations, each of which is one unknown, would not all be 0
-pub all_places : (F : Field) (n : ℕ) (places : ℕ → ℕ) → ArePlaces n n places → (i : ℕ) → i < n → (j : ℕ) × (j < n) × (places j ≡ i)
-all_places F zero places are i l = absurd (omega arith)
-all_places F (suc h) places are i l = elim (find_place (suc h) places i) [
-  | inl q ↦ q
-  | inr free ↦
-      let a : ℕ → ℕ → ℕ = λ r k. cond (eqb (places k) (without i h r)) 1 0 in
-      let one : (r k : ℕ) → places k ≡ without i h r → a r k ≡ 1 = λ r k e. rw (eq-eqb (places k) (without i h r) e) in
-      let off : (r k : ℕ) → places k ≢ without i h r → a r k ≡ 0 = λ r k d. rw (ne_eqb (places k) (without i h r) d) in
-      let n : HasNullColumn F h (suc h) a = few_rows F (suc h) h a (omega arith) (λ r k m o. small (eqb (places k) (without i h r))) in
-      let m = without_onto i h (places n.place) l (are.below n.place n.in_width) (free n.place n.in_width) in
-      absurd (n.nonzero (cc (
-        n.solves.at m.0 m.1,
-        dot_one F (suc h) (a m.0) n.column n.place n.in_width (λ k o d. off m.0 k (λ e. d (are.apart k n.place o n.in_width (e ∙ m.2)))),
-        one m.0 n.place (sym m.2),
-        F.one_mul (n.column n.place) (n.is_column n.place n.in_width),
-      )))
-] where
-  small : (b : Bool) → cond b 1 0 < F.size
-  small true = F.one_below
-  small false = omega (arith, F.one_below)
+use Rattle.rq_algebra.proofs.Runs.{run_push, AreAllowed-push, zero_values}
+use Rattle.rq_algebra.proofs.Placewise.{at-zeros, zeros_stay}
 
 -- what is read after an order has been set
 pub found-reorder : {X : Type 0} (S : Space X) (operations : List Operation) (order : List ℕ) (values : List X) (k : ℕ) → found_by S (operations ++ Reorder order ∷ []) values k ≡ get_or (run S operations (unordered values)).values (get_or order k 0) S.zero
@@ -94,11 +66,7 @@ null_back F height width original a operations follows n = record {
   nonzero = n.nonzero;
   solves =
       let zeros : List ℕ = replicate height 0 in
-      solves_same F height width original original n.column (at zeros) (λ _. 0) (λ i k l m. refl) (λ i l. get_or-replicate {A = ℕ} height i 0 0 l)
+      solves_same F height width original original n.column (at zeros) (λ _. 0) (λ i k l m. refl) (λ i l. at-zeros height i)
       ((follows.keeps zeros (zero_values F height width)).same.back n.column
-      (solves_same F height width a a n.column (λ _. 0) (at (run (plain F) operations (unordered zeros)).values) (λ i k l m. refl) (λ i l. sym (zeros_stay F operations (unordered zeros) (zero_at height) i)) n.solves));
-} where
-  zero_at : (n i : ℕ) → at (replicate n 0) i ≡ 0
-  zero_at zero i = refl
-  zero_at (suc n) zero = refl
-  zero_at (suc n) (suc i) = zero_at n i
+      (solves_same F height width a a n.column (λ _. 0) (at (run (plain F) operations (unordered zeros)).values) (λ i k l m. refl) (λ i l. sym (zeros_stay F operations (unordered zeros) (at-zeros height) i)) n.solves));
+}

@@ -1,5 +1,5 @@
 -- Operations commute with linear maps: on symbols they are, at each place, the operations on elements, and they keep zeros.
-use Rattle.std.proofs.Common.{◌≡◌, ℕ, zero, suc, List, [], ◌∷◌, map, length, get_or, set, sym, ap, ◌∙◌, refl, ◌<◌, arith}
+use Rattle.std.proofs.Common.{◌≡◌, ℕ, zero, suc, List, [], ◌∷◌, map, replicate, get_or, set, sym, ap, ◌∙◌, refl}
 use Rattle.std.proofs.lemmas.List.{map-set, length-map, ext_get_or}
 use Rattle.std.proofs.Math.ListN.{get_or-map}
 use Rattle.rq_algebra.specs.Field.{Field}
@@ -61,6 +61,11 @@ unfolding nothing
 nothing_at [] i = refl
 nothing_at (x ∷ xs) zero = refl
 nothing_at (x ∷ xs) (suc i) = nothing_at xs i
+
+pub at-zeros : (n i : ℕ) → at (replicate n 0) i ≡ 0
+at-zeros zero i = refl
+at-zeros (suc n) zero = refl
+at-zeros (suc n) (suc i) = at-zeros n i
 
 module _ (F : Field) where
   pub add_symbols_at : (p : ℕ) (xs ys : List ℕ) → get_or (add_symbols F xs ys) p 0 ≡ F.add (get_or xs p 0) (get_or ys p 0)

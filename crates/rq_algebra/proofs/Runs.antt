@@ -1,7 +1,7 @@
 -- One more operation: what it asks, and that it does to the values what was done to the rows.
-use Rattle.std.proofs.Common.{◌≡◌, ◌≢◌, ℕ, ◌<◌, List, [], ◌∷◌, ◌++◌, Option, Some, None, fold, get_or, set, sym, ap, ◌∙◌, refl, subst, arith, inl, inr, replicate}
+use Rattle.std.proofs.Common.{◌≡◌, ◌≢◌, ℕ, ◌<◌, List, [], ◌∷◌, ◌++◌, Option, None, get_or, set, sym, ap, ◌∙◌, refl, subst, arith, inl, inr, replicate}
 use Rattle.std.proofs.lemmas.Bool.{cases_eq}
-use Rattle.std.proofs.lemmas.List.{get_or-set_same, get_or-set_other, length-set, get_or-replicate, length-replicate}
+use Rattle.std.proofs.lemmas.List.{get_or-set_same, get_or-set_other, length-set, length-replicate}
 use Rattle.std.proofs.lemmas.List.Sums.{fold_push}
 use Rattle.rq_algebra.specs.Field.{Field}
 use Rattle.rq_algebra.specs.Systems.{at}
@@ -9,6 +9,7 @@ use Rattle.rq_algebra.specs.Steps.{AddsRow, ScalesRow}
 use Rattle.rq_algebra.specs.Operations.{Operation, AddAssign, MulAssign, Fma, Reorder, Space, Store, step, run, plain, unordered, IsAllowed, AreAllowed, order_after}
 use Rattle.rq_algebra.specs.Elimination.{IsValues}
 use Rattle.rq_algebra.specs.Meaning.{KeepsSolutions, Follows}
+use Rattle.rq_algebra.proofs.Placewise.{at-zeros}
 use Rattle.rq_algebra.proofs.Solutions.{SameSolutions-refl, SameSolutions-trans, adds_keeps, scales_keeps}
 
 pub run_push : {X : Type 0} (S : Space X) (operations : List Operation) (operation : Operation) (s : Store X) → run S (operations ++ operation ∷ []) s ≡ step S (run S operations s) operation
@@ -42,7 +43,7 @@ module _ (F : Field) (height width : ℕ) where
   follows_none rows = record { allowed = tt; keeps = λ v e. record { values = e; order = refl; same = SameSolutions-refl F height width rows (at v) } }
 
   pub zero_values : IsValues F height (replicate height 0)
-  zero_values = record { count = length-replicate height 0; elements = λ i l. rw (get_or-replicate {A = ℕ} height i 0 0 l) (omega (arith, F.one_below)) }
+  zero_values = record { count = length-replicate height 0; elements = λ i l. rw (at-zeros height i) (omega (arith, F.one_below)) }
 
   -- operations that follow rows set no order
   pub follows_unordered : (original rows : ℕ → ℕ → ℕ) (operations : List Operation) → Follows F height width original rows operations → last_order None operations ≡ None

@@ -1,35 +1,13 @@
 -- Elementary operations keep the solutions of a system.
-use Rattle.std.proofs.Common.{◌≡◌, ◌≢◌, ℕ, ◌<◌, ◌≤◌, sym, ap, ◌∙◌, refl, arith, inl, inr}
-use Rattle.std.proofs.lemmas.Bool.{cases_eq, eq-eqb, ne_eqb}
+use Rattle.std.proofs.Common.{◌≡◌, ◌≢◌, ℕ, ◌+◌, ◌-◌, ◌<◌, List, length, sym, ap, ◌∙◌, refl, arith, inl, inr}
+use Rattle.std.proofs.lemmas.Bool.{cases_eq, cases_lt, lt-ltb, le-ltb}
+use Rattle.std.proofs.lemmas.Grind.{get_or_default_zero}
+use Rattle.std.proofs.lemmas.List.Elements.{Contains-get_or}
 use Rattle.rq_algebra.specs.Field.{Field}
-use Rattle.rq_algebra.specs.Systems.{dot, Solves, IsColumn, IsDetermined, HasNullColumn, RowsStandIn}
-use Rattle.rq_algebra.specs.Steps.{exchange}
+use Rattle.rq_algebra.specs.Systems.{dot, Solves, IsColumn, IsDetermined, HasNullColumn, ArePlaces, RowsStandIn, at, stacked, rows_of, IdsStandIn}
 use Rattle.rq_algebra.specs.Steps.{AddsRow, ScalesRow, AddsValue, ScalesValue, SameSolutions}
-use Rattle.rq_algebra.proofs.Sums.{add_again, dot_same, dot_fma, dot_mul_row, dot_below_size, dot_one, undo_mul, dot_add_column}
-
-pub exchange_left : (p q i : ℕ) → i ≡ p → exchange p q i ≡ q
-unfolding exchange
-exchange_left p q i e = rw (eq-eqb i p e)
-
-pub exchange_right : (p q i : ℕ) → i ≡ q → exchange p q i ≡ p
-unfolding exchange
-exchange_right p q i e = elim (cases_eq i p) [ inl f ↦ rw (eq-eqb i p f) (sym e ∙ f) | inr d ↦ rw (ne_eqb i p d, eq-eqb i q e) ]
-
-pub exchange_other : (p q i : ℕ) → i ≢ p → i ≢ q → exchange p q i ≡ i
-unfolding exchange
-exchange_other p q i d e = rw (ne_eqb i p d, ne_eqb i q e)
-
-pub exchange_below : (p q n : ℕ) → p < n → q < n → (i : ℕ) → i < n → exchange p q i < n
-exchange_below p q n l m i o = elim (cases_eq i p) [
-  | inl e ↦ rw (exchange_left p q i e) m
-  | inr d ↦ elim (cases_eq i q) [ inl e ↦ rw (exchange_right p q i e) l | inr f ↦ rw (exchange_other p q i d f) o ]
-]
-
-pub exchange_twice : (p q i : ℕ) → exchange p q (exchange p q i) ≡ i
-exchange_twice p q i = elim (cases_eq i p) [
-  | inl e ↦ rw (exchange_left p q i e) (exchange_right p q q refl ∙ sym e)
-  | inr d ↦ elim (cases_eq i q) [ inl e ↦ rw (exchange_right p q i e) (exchange_left p q p refl ∙ sym e) | inr f ↦ rw (exchange_other p q i d f) (exchange_other p q i d f) ]
-]
+use Rattle.rq_algebra.proofs.Sums.{add_again, dot_same, dot_fma, dot_mul_row, dot_below_size, undo_mul, dot_add_column}
+use Rattle.rq_algebra.proofs.FewEquations.{all_places, dot_places}
 
 module _ (F : Field) (height width : ℕ) where
   -- the values of a row, where the rows agree
@@ -94,16 +72,16 @@ module _ (F : Field) (height width : ℕ) where
       };
     }
 
-  -- rows in another order: `to` and `from` undo one another below the height
-  pub reorder_keeps : (to from : ℕ → ℕ) → ((i : ℕ) → i < height → to i < height) → ((i : ℕ) → i < height → from i < height) → ((i : ℕ) → i < height → to (from i) ≡ i) → (a : ℕ → ℕ → ℕ) (v : ℕ → ℕ) → SameSolutions F height width a v (λ i. a (to i)) (λ i. v (to i))
-  reorder_keeps to from to_below from_below undoes a v = record {
-    onward = λ x s. record { at = λ i l. s.at (to i) (to_below i l) };
-    back = λ x s. record { at = λ i l. rw (undoes i l) at (s.at (from i) (from_below i l)) };
+  -- rows in another order
+  pub reorder_keeps : (to : ℕ → ℕ) → ArePlaces height height to → (a : ℕ → ℕ → ℕ) (v : ℕ → ℕ) → SameSolutions F height width a v (λ i. a (to i)) (λ i. v (to i))
+  reorder_keeps to are a v = record {
+    onward = λ x s. record { at = λ i l. s.at (to i) (are.below i l) };
+    back = λ x s. record { at = λ i l. let q = all_places F height to are i l in rw q.2 at (s.at q.0 q.1) };
   }
 
-  -- two rows exchanged
-  pub exchange_keeps : (p q : ℕ) → p < height → q < height → (a : ℕ → ℕ → ℕ) (v : ℕ → ℕ) → SameSolutions F height width a v (λ i. a (exchange p q i)) (λ i. v (exchange p q i))
-  exchange_keeps p q l m a v = reorder_keeps (exchange p q) (exchange p q) (exchange_below p q height l m) (exchange_below p q height l m) (λ i n. exchange_twice p q i) a v
+  -- columns in another order
+  pub columns_reordered : (to : ℕ → ℕ) → ArePlaces width width to → (a : ℕ → ℕ → ℕ) (x v : ℕ → ℕ) → Solves F height width a x v → Solves F height width (λ i k. a i (to k)) (λ k. x (to k)) v
+  columns_reordered to are a x v s = record { at = λ i l. dot_places F width (a i) x to are ∙ s.at i l }
 
 -- a determined system stays determined where each of its rows stands in the new one: rows added, repeated or in another order
 pub determined_stays : (F : Field) (width old_height new_height : ℕ) (old new : ℕ → ℕ → ℕ) → RowsStandIn width old_height old new_height new → IsDetermined F old_height width old → IsDetermined F new_height width new
@@ -119,3 +97,28 @@ pub determined_unique : (F : Field) (height width : ℕ) (a : ℕ → ℕ → �
 determined_unique F height width a x y v determined ex ey sx sy k l =
     let e : F.add (x k) (y k) ≡ 0 = determined (λ j. F.add (x j) (y j)) (λ j m. F.add_below (x j) (y j) (ex j m) (ey j m)) record { at = λ i m. cc (dot_add_column F width (a i) x y, sx.at i m, sy.at i m, F.add_self (v i)) } k l in
     cc (e, add_again F (x k) (y k), F.zero_add (y k))
+
+module _ (height : ℕ) (above below : ℕ → ℕ → ℕ) where
+  pub stacked_above : (i k : ℕ) → i < height → stacked height above below i k ≡ above i k
+  stacked_above i k l = rw (lt-ltb i height l)
+
+  pub stacked_below : (i k : ℕ) → stacked height above below (height + i) k ≡ below i k
+  stacked_below i k = let e : (height + i) - height ≡ i = omega arith in rw (le-ltb (height + i) height (omega arith), e)
+
+-- the equations of the old ids are among those of the new ones
+pub ids_stand : (width height : ℕ) (above row : ℕ → ℕ → ℕ) (old new : List ℕ) → IdsStandIn old new → RowsStandIn width (height + length old) (stacked height above (rows_of row old)) (height + length new) (stacked height above (rows_of row new))
+ids_stand width height above row old new ids i l = elim (cases_lt i height) [
+  | inl m ↦ (i, (omega arith), λ k n. stacked_above height above (rows_of row new) i k m ∙ sym (stacked_above height above (rows_of row old) i k m))
+  | inr m ↦
+      let j : ℕ = i - height in
+      let e : height + j ≡ i = omega arith in
+      let o : j < length old = omega arith in
+      let q = ids (at old j) (Contains-get_or old j 0 o) in
+      let same : at new q.0 ≡ at old j = sym (get_or_default_zero new q.0 (at old j) q.1) ∙ q.2 in (
+        height + q.0,
+        (omega (arith, q.1)),
+        λ k n.
+            stacked_below height above (rows_of row new) q.0 k ∙ ap (λ (x : ℕ). row x k) same
+            ∙ sym (stacked_below height above (rows_of row old) j k) ∙ ap (λ (r : ℕ). stacked height above (rows_of row old) r k) e,
+      )
+]

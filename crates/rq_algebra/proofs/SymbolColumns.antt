@@ -1,12 +1,12 @@
 -- Symbols keep their size under operations, and columns of symbols are taken place by place.
-use Rattle.std.proofs.Common.{◌≡◌, ◌≢◌, ℕ, zero, suc, ◌<◌, ◌≤◌, ◌⊎◌, List, [], ◌∷◌, All, map, length, get_or, set, sym, ap, ◌∙◌, refl, arith, inl, inr}
+use Rattle.std.proofs.Common.{◌≡◌, ℕ, zero, suc, ◌<◌, ◌⊎◌, List, [], ◌∷◌, All, map, length, get_or, set, sym, ap, ◌∙◌, refl, arith, inl, inr}
 use Rattle.std.proofs.lemmas.Bool.{cases_eq, cases_lt}
 use Rattle.std.proofs.lemmas.List.{length-map, length-set, get_or-set_same, get_or-set_other, get_or_past, ext_get_or}
 use Rattle.std.proofs.lemmas.List.Elements.{All-get_or, All-from_get_or, All-head, All-tail}
 use Rattle.rq_algebra.specs.Field.{Field}
-use Rattle.rq_algebra.specs.Systems.{at, IsColumn, IsDetermined, Solves, dot}
-use Rattle.rq_algebra.specs.Operations.{Operation, AddAssign, MulAssign, Fma, Reorder, Store, step, run, read, meant_at, plain}
-use Rattle.rq_algebra.specs.Symbols.{add_symbols, symbols, IsSymbol, IsSymbolColumn, AreSymbols, symbol_at, slice_at, SolvesSymbols}
+use Rattle.rq_algebra.specs.Systems.{at, IsDetermined, dot}
+use Rattle.rq_algebra.specs.Operations.{Operation, AddAssign, MulAssign, Fma, Reorder, Store, step, run, meant_at, plain}
+use Rattle.rq_algebra.specs.Symbols.{add_symbols, symbols, IsSymbol, IsSymbolColumn, AreSymbols, slice_at, SolvesSymbols}
 use Rattle.rq_algebra.specs.Parities.{sum_listed, parity}
 use Rattle.rq_algebra.proofs.Placewise.{place, place_linear, add_symbols_at, scale_at, sum_listed-linear}
 use Rattle.rq_algebra.proofs.Parity.{sum_listed_is}
@@ -63,8 +63,8 @@ module _ (F : Field) (size : ℕ) where
   -- a determined system has at most one solution in symbols
   pub symbols_unique : (height width : ℕ) (rows : ℕ → ℕ → ℕ) (x y values : ℕ → List ℕ) → IsDetermined F height width rows → IsSymbolColumn F size width x → IsSymbolColumn F size width y → SolvesSymbols F height width rows x values → SolvesSymbols F height width rows y values → (k : ℕ) → k < width → x k ≡ y k
   symbols_unique height width rows x y values determined are_x are_y solves_x solves_y k l = same_symbol (x k) (y k) (are_x k l) (are_y k l) (λ p.
-    determined_unique F height width rows (slice_at p x) (slice_at p y) (slice_at p values) determined
-    (λ j m. symbol_elements (x j) (are_x j m) p) (λ j m. symbol_elements (y j) (are_y j m) p) (solves_x.at_place p) (solves_y.at_place p) k l)
+      determined_unique F height width rows (slice_at p x) (slice_at p y) (slice_at p values) determined
+      (λ j m. symbol_elements (x j) (are_x j m) p) (λ j m. symbol_elements (y j) (are_y j m) p) (solves_x.at_place p) (solves_y.at_place p) k l)
 
   module _ (count : ℕ) where
     symbols_set : (xs : List (List ℕ)) (i : ℕ) (x : List ℕ) → (i < count → IsSymbol F size x) → AreSymbols F size count xs → AreSymbols F size count (set xs i x)

@@ -2,7 +2,7 @@
 use Rattle.std.specs.Prelude.{◌≡◌, ℕ, ◌<◌, List, [], ◌∷◌, map, length, All, slice_index_or}
 use Rattle.rq_algebra.specs.Field.{Field}
 use Rattle.rq_algebra.specs.Systems.{Solves, at}
-use Rattle.rq_algebra.specs.Operations.{Space}
+use Rattle.rq_algebra.specs.Operations.{Space, Store}
 
 -- the sum of two symbols, place by place; a missing place is read as zero
 unfoldable pub add_symbols : Field → List ℕ → List ℕ → List ℕ
@@ -39,3 +39,7 @@ slice_at place column k = at (column k) place
 -- at each place of the symbols, the column solves the rows
 pub record SolvesSymbols (F : Field) (height width : ℕ) (rows : ℕ → ℕ → ℕ) (column values : ℕ → List ℕ) : Type 0 where
   pub at_place : (p : ℕ) → Solves F height width rows (slice_at p column) (slice_at p values)
+
+-- a store of what each symbol has at one place
+abbrev pub store_at : ℕ → Store (List ℕ) → Store ℕ
+store_at place s = record { values = map (λ xs. at xs place) s.values; order = s.order }

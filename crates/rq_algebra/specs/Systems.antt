@@ -1,5 +1,5 @@
 -- Systems of linear equations. A row, a column and a list of values are functions of the place, a system one of the row and the place.
-use Rattle.std.specs.Prelude.{◌≡◌, ◌≢◌, ℕ, zero, suc, ◌-◌, ◌<◌, cond, nat_lt, List, slice_index}
+use Rattle.std.specs.Prelude.{◌≡◌, ◌≢◌, ℕ, zero, suc, ◌-◌, ◌<◌, Contains, cond, nat_lt, List, slice_index}
 use Rattle.rq_algebra.specs.Field.{Field}
 
 -- f 0 + .. + f (n - 1)
@@ -62,3 +62,7 @@ stacked height above below i k = cond (nat_lt i height) (above i k) (below (i - 
 -- one row for each id of a list
 abbrev pub rows_of : (ℕ → ℕ → ℕ) → List ℕ → ℕ → ℕ → ℕ
 rows_of row ids i k = row (at ids i) k
+
+-- each id of the old list is in the new one, in whatever order and however often
+abbrev pub IdsStandIn : List ℕ → List ℕ → Type 0
+IdsStandIn old new = (id : ℕ) → Contains old id → Contains new id
