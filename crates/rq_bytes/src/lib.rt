@@ -7,4 +7,5 @@ mod logarithms;
 pub mod octet;
 pub mod octets;
 mod products;
+pub mod symbol;
 pub mod util;

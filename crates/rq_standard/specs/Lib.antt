@@ -5,3 +5,4 @@ pub mod OctetProducts
 pub mod Octets
 pub mod PackedBits
 pub mod Rows
+pub mod SymbolRows
