@@ -1,4 +1,10 @@
-pub mod Octets
+pub mod OctetFacts
+pub mod OctetField
 pub mod OctetLaws
-pub mod Rows
+pub mod OctetProducts
+pub mod Octets
+pub mod PackedBits
 pub mod Rand
+pub mod Rows
+pub mod SymbolRows
+pub mod TableRows

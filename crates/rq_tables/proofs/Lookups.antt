@@ -7,7 +7,7 @@ use Rattle.std.specs.Option.{option_copied}
 use Rattle.std.specs.Slice.{IsItemAt}
 use Rattle.rq_standard.specs.declared.row.Row.{Row}
 use Rattle.rq_standard.specs.declared.numbers.TheConstants.{SYSTEMATIC_INDICES_AND_PARAMETERS}
-use Rattle.rq_standard.specs.Rows.{Numbers, row_at, rows_from, row_of, greatest_size, first_failing_check, first_failure, first_refused, built_in_rows}
+use Rattle.rq_standard.specs.TableRows.{Numbers, row_at, rows_from, row_of, greatest_size, first_failing_check, first_failure, first_refused, built_in_rows}
 
 -- what `get` lends, copied, is the item at the place
 pub copied-get : {X : Type 0} (xs : List X) (i : ℕ) (lent : Option (Bor X)) → IsItemAt xs i lent → option_copied lent ≡ slice_get xs i

@@ -4,7 +4,7 @@ use Rattle.rq_bytes.specs.declared.error.Error.{Error}
 use Rattle.rq_bytes.specs.declared.error.Error.TheVariants.{RowRefused, TooManySymbols}
 use Rattle.rq_bytes.specs.Refusals.{and_then}
 use Rattle.rq_standard.specs.declared.row.Row.{Row}
-use Rattle.rq_standard.specs.Rows.{Numbers, built_in_rows, rows_from, first_refused, extended_size}
+use Rattle.rq_standard.specs.TableRows.{Numbers, built_in_rows, rows_from, first_refused, extended_size}
 
 abbrev pub size_or_refusal : Option ℕ → Result ℕ Error
 size_or_refusal None = Err TooManySymbols

@@ -1,6 +1,6 @@
 //! The seven checks of a row, in 64 bits, so that no number that is handed in wraps.
 ghost use Rattle.std.specs.Prelude.{◌≡◌, ◌<◌, ◌^◌, slice_get};
-ghost use Rattle.rq_standard.specs.Rows.{row_at, intermediate_symbols, has_size, fits_ldpc, fits_hdpc, fits_pi, first_failing_check};
+ghost use Rattle.rq_standard.specs.TableRows.{row_at, intermediate_symbols, has_size, fits_ldpc, fits_hdpc, fits_pi, first_failing_check};
 
 use rq_standard::numbers::P1_TABLE;
 use rq_standard::row::Row;
@@ -22,7 +22,7 @@ pub(crate) fn row_at(place: usize, numbers: &(u32, u32, u32, u32, u32)) -> Row
 }
 
 // The first of the checks that a row fails at a place of a table.
-#[tactic(auto, unfolding(rq_standard::specs::Rows::first_failing_check))]
+#[tactic(auto, unfolding(rq_standard::specs::TableRows::first_failing_check))]
 pub(crate) fn first_failing_check(place: usize, row: &Row) -> Option<u8>
     ensures { result ≡ first_failing_check place row.now }
 {

@@ -1,5 +1,5 @@
 use Rattle.std.proofs.Common.{◌≡◌, ℕ, ◌+◌, ◌∙◌, sym, ap, Option, Some, None, drop, refl}
-use Rattle.rq_standard.specs.Rows.{first_refused, first_failure}
+use Rattle.rq_standard.specs.TableRows.{first_refused, first_failure}
 use Rattle.rq_tables.proofs.Lookups.{check_step, first_refused-end}
 use Rattle.rq_tables.proofs.systematic_constants.check_rows.Goals as goal
 

@@ -1,5 +1,5 @@
 use Rattle.std.proofs.Common.{◌≡◌, drop}
-use Rattle.rq_standard.specs.Rows.{first_refused}
+use Rattle.rq_standard.specs.TableRows.{first_refused}
 use Rattle.rq_tables.proofs.systematic_constants.check_rows.Given as goal
 
 abbrev pub invariant-loop-place : goal.invariant-loop-place

@@ -1,5 +1,5 @@
 use Rattle.std.proofs.Common.{◌≡◌, drop}
-use Rattle.rq_standard.specs.Rows.{first_size}
+use Rattle.rq_standard.specs.TableRows.{first_size}
 use Rattle.rq_tables.proofs.systematic_constants.first_size.Given as goal
 
 abbrev pub invariant-loop-size : goal.invariant-loop-size

@@ -1,5 +1,5 @@
 use Rattle.std.proofs.Common.{◌∙◌, ℕ, sym, ap, get_or, vec_len, arith}
-use Rattle.rq_standard.specs.Rows.{row_at}
+use Rattle.rq_standard.specs.TableRows.{row_at}
 use Rattle.rq_tables.proofs.Lookups.{rows_from_push, rows_from_end}
 use Rattle.rq_tables.proofs.systematic_constants.push_rows.Goals as goal
 

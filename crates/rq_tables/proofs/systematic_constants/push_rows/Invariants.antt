@@ -1,5 +1,5 @@
 use Rattle.std.proofs.Common.{◌≡◌, ◌+◌, ◌++◌, drop, vec_len}
-use Rattle.rq_standard.specs.Rows.{rows_from}
+use Rattle.rq_standard.specs.TableRows.{rows_from}
 use Rattle.rq_tables.proofs.systematic_constants.push_rows.Given as goal
 
 abbrev pub invariant-loop-numbers_of_row : goal.invariant-loop-numbers_of_row

@@ -1,5 +1,5 @@
 use Rattle.std.proofs.Common.{◌≡◌, sym, ap, subst, Ok, vec_len}
-use Rattle.rq_standard.specs.Rows.{IsTable, built_in_rows}
+use Rattle.rq_standard.specs.TableRows.{IsTable, built_in_rows}
 use Rattle.rq_standard.proofs.RowLaws.{built_in_table}
 use Rattle.rq_tables.proofs.Lookups.{made_built_in}
 use Rattle.rq_tables.proofs.systematic_constants.SystematicTable.built_in.Goals as goal

@@ -1,5 +1,5 @@
 use Rattle.std.proofs.Common.{◌∙◌, sym, ap}
-use Rattle.rq_standard.specs.Rows.{greatest_size}
+use Rattle.rq_standard.specs.TableRows.{greatest_size}
 use Rattle.rq_tables.proofs.Lookups.{greatest_some, greatest_none}
 use Rattle.rq_tables.proofs.systematic_constants.SystematicTable.greatest.Goals as goal
 

@@ -1,6 +1,6 @@
 use Rattle.std.proofs.Common.{◌<◌, ◌∙◌, sym, ap, subst, refl, arith, length, List}
 use Rattle.rq_standard.specs.declared.row.Row.{Row}
-use Rattle.rq_standard.specs.Rows.{row_of, IsChecked, IsTable}
+use Rattle.rq_standard.specs.TableRows.{row_of, IsChecked, IsTable}
 use Rattle.rq_standard.proofs.RowLaws.{table_length, row_checked}
 use Rattle.rq_tables.proofs.Lookups.{row_here, row_later, greatest-drop}
 use Rattle.rq_tables.proofs.systematic_constants.SystematicTable.row.Goals as goal

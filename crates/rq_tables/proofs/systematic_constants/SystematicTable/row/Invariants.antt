@@ -1,5 +1,5 @@
 use Rattle.std.proofs.Common.{◌≡◌, ◌≤◌, ◌<◌, drop, length}
-use Rattle.rq_standard.specs.Rows.{row_of, greatest_size}
+use Rattle.rq_standard.specs.TableRows.{row_of, greatest_size}
 use Rattle.rq_tables.proofs.systematic_constants.SystematicTable.row.Given as goal
 
 abbrev pub invariant-loop-row : goal.invariant-loop-row
