@@ -1,8 +1,7 @@
+pub mod HeaderBytes
 pub mod Packed
+pub mod PacketBytes
+pub mod PartSums
 pub mod Powers
-<<<<<<< HEAD
-pub mod Products
 pub mod RowLaws
-=======
 pub mod RowSymbols
->>>>>>> bytes

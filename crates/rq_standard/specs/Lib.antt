@@ -1,10 +1,15 @@
+pub mod Configuration
+pub mod Cutting
 pub mod OctetFacts
 pub mod OctetField
 pub mod OctetLaws
 pub mod OctetProducts
 pub mod Octets
 pub mod PackedBits
+pub mod Packet
+pub mod Partition
 pub mod Rand
+pub mod Received
 pub mod Rows
 pub mod SymbolRows
 pub mod TableRows

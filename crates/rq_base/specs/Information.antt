@@ -1,0 +1,12 @@
+-- What a configuration shows.
+use Rattle.rq_standard.specs.Configuration.{Configuration}
+use Rattle.rq_base.specs.declared.base.information.ObjectTransmissionInformation.TheInside.{Inside}
+
+abbrev pub information_view : Inside → Configuration
+information_view i = record {
+  transfer_length = i.transfer_length;
+  symbol_size = i.symbol_size;
+  source_blocks = i.num_source_blocks;
+  sub_blocks = i.num_sub_blocks;
+  alignment = i.symbol_alignment;
+}

@@ -1,0 +1,2 @@
+pub mod Information
+pub mod Refused

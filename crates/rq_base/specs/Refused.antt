@@ -1,0 +1,33 @@
+-- What is refused of packets and configurations, in the order of the tests.
+use Rattle.std.specs.Prelude.{ℕ, ◌^◌, ◌%◌, List, length, Result, Ok, Err, if◌then◌else◌, ◌==◌, ◌&&◌, not, nat_lt}
+use Rattle.rq_bytes.specs.declared.error.Error.{Error}
+use Rattle.rq_bytes.specs.declared.error.Error.TheVariants.{TransferTooLong, AlignmentZero, Misaligned, TooManySymbols, SymbolSizeZero, SourceBlocksZero, BlockOverTable, EsiTooLarge, PacketTooShort}
+use Rattle.rq_standard.specs.Packet.{SymbolId, Packet, packet_of_bytes}
+use Rattle.rq_standard.specs.Configuration.{Configuration, largest_block}
+
+-- an id, unless its encoding symbol id needs more than 24 bits
+abbrev pub new_id : ℕ → ℕ → Result SymbolId Error
+new_id b e = if nat_lt e (2 ^ 24) then Ok (record { block = b; esi = e }) else Err EsiTooLarge
+
+-- a packet, unless its id isn't whole
+abbrev pub read_packet : List ℕ → Result Packet Error
+read_packet bytes = if nat_lt (length bytes) 4 then Err PacketTooShort else Ok (packet_of_bytes bytes)
+
+-- a configuration, whatever the table
+abbrev pub new_configuration : Configuration → Result Configuration Error
+new_configuration c =
+    if nat_lt 942574504275 c.transfer_length then Err TransferTooLong
+    else if c.alignment == 0 then Err AlignmentZero
+    else if not (c.symbol_size % c.alignment == 0) then Err Misaligned
+    else if not (c.symbol_size == 0) && not (c.source_blocks == 0) && nat_lt 56403 (largest_block c) then Err TooManySymbols
+    else Ok c
+
+-- whether coders take a configuration, over a table whose greatest row has this many symbols
+abbrev pub checked_configuration : ℕ → Configuration → Result (Unit {0}) Error
+checked_configuration greatest c =
+    if c.symbol_size == 0 then Err SymbolSizeZero
+    else if c.alignment == 0 then Err AlignmentZero
+    else if not (c.symbol_size % c.alignment == 0) then Err Misaligned
+    else if c.source_blocks == 0 then Err SourceBlocksZero
+    else if nat_lt greatest (largest_block c) then Err BlockOverTable
+    else Ok tt

@@ -1,0 +1,8 @@
+//! Packets, configurations and how objects are cut.
+mod cutting;
+mod information;
+mod packet;
+
+pub use cutting::partition;
+pub use information::ObjectTransmissionInformation;
+pub use packet::{EncodingPacket, PayloadId};

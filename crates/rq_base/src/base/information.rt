@@ -1,0 +1,170 @@
+//! The object transmission information (RFC 6330, 3.3.2 and 3.3.3).
+ghost use Rattle.std.specs.Prelude.{◌≡◌, Result, Ok, slice_index};
+ghost use Rattle.rq_standard.specs.Configuration.{Configuration, IsConfiguration, header_bytes, configuration_of_bytes};
+
+use rq_bytes::error::Error;
+use std::marker::Model;
+
+/// The greatest transfer length, in bytes: 65535 bytes in each of 56403 symbols of 255 blocks.
+const MAX_TRANSFER_LENGTH: u64 = 942574504275;
+
+/// The greatest number of source symbols in a block, of any table.
+const MAX_SOURCE_SYMBOLS_PER_BLOCK: u64 = 56403;
+
+/// What encoder and decoder both know of an object: its length and how it is cut.
+#[derive(Clone, Copy, Debug, PartialEq, Eq, PartialOrd, Ord, Hash)]
+pub struct ObjectTransmissionInformation {
+    transfer_length: u64,
+    symbol_size: u16,
+    num_source_blocks: u8,
+    num_sub_blocks: u16,
+    symbol_alignment: u8,
+}
+
+impl Model for ObjectTransmissionInformation {
+    ghost use Rattle.rq_standard.specs.Configuration.{Configuration, IsConfiguration};
+
+    ghost Value = { Configuration };
+
+    ghost use Rattle.rq_base.specs.Information.{information_view};
+
+    ghost view = { information_view };
+
+    ghost invariant = { λ i. IsConfiguration (information_view i) };
+
+    ghost inverse = { λ c. record {
+        transfer_length = c.transfer_length;
+        symbol_size = c.symbol_size;
+        num_source_blocks = c.source_blocks;
+        num_sub_blocks = c.sub_blocks;
+        symbol_alignment = c.alignment;
+    } };
+}
+
+impl ObjectTransmissionInformation {
+    ghost use Rattle.rq_base.specs.Refused.{new_configuration};
+
+    /// A configuration: the transfer length in bytes, the symbol size in bytes, the number of source blocks, the number of
+    /// sub-blocks (0 is read as 1) and the symbol alignment in bytes.
+    ///
+    /// Refuses, in this order, [`Error::TransferTooLong`] above 942574504275 bytes, [`Error::AlignmentZero`],
+    /// [`Error::Misaligned`] where the alignment doesn't divide the symbol size, and [`Error::TooManySymbols`] where a
+    /// block would have more than 56403 source symbols.
+    pub fn new(
+        transfer_length: u64,
+        symbol_size: u16,
+        source_blocks: u8,
+        sub_blocks: u16,
+        alignment: u8,
+    ) -> Result<ObjectTransmissionInformation, Error>
+        ensures { result ≡ new_configuration (record {
+            transfer_length = transfer_length;
+            symbol_size = symbol_size;
+            source_blocks = source_blocks;
+            sub_blocks = sub_blocks;
+            alignment = alignment;
+        }) }
+    {
+        if transfer_length > MAX_TRANSFER_LENGTH {
+            return Err(Error::TransferTooLong);
+        }
+        if alignment == 0 {
+            return Err(Error::AlignmentZero);
+        }
+        if symbol_size % u16::from(alignment) != 0 {
+            return Err(Error::Misaligned);
+        }
+        if symbol_size != 0 && source_blocks != 0 {
+            let symbols = transfer_length.div_ceil(u64::from(symbol_size));
+            if symbols.div_ceil(u64::from(source_blocks)) > MAX_SOURCE_SYMBOLS_PER_BLOCK {
+                return Err(Error::TooManySymbols);
+            }
+        }
+        Ok(ObjectTransmissionInformation {
+            transfer_length,
+            symbol_size,
+            num_source_blocks: source_blocks,
+            num_sub_blocks: sub_blocks,
+            symbol_alignment: alignment,
+        })
+    }
+
+    /// The configuration that twelve bytes spell, most significant byte first: five of transfer length, a reserved one that
+    /// is ignored, two of symbol size, one of source blocks, two of sub-blocks, one of alignment.
+    #[tactic(auto, unfolding(rq_standard::specs::Configuration::configuration_of_bytes))]
+    pub fn deserialize(data: &[u8; 12]) -> ObjectTransmissionInformation
+        ensures { result ≡ configuration_of_bytes data.now }
+    {
+        ObjectTransmissionInformation {
+            transfer_length: u64::from_be_bytes([
+                0, 0, 0, data[0], data[1], data[2], data[3], data[4],
+            ]),
+            symbol_size: u16::from_be_bytes([data[6], data[7]]),
+            num_source_blocks: data[8],
+            num_sub_blocks: u16::from_be_bytes([data[9], data[10]]),
+            symbol_alignment: data[11],
+        }
+    }
+
+    /// The twelve bytes that spell the configuration; the reserved one is 0.
+    #[tactic(auto, unfolding(rq_standard::specs::Configuration::header_bytes))]
+    pub fn serialize(&self) -> [u8; 12]
+        ensures value { result ≡ header_bytes self.now }
+        ensures read { configuration_of_bytes result ≡ self.now }
+        ensures reserved { slice_index result 5 ≡ 0 }
+    {
+        let length = self.transfer_length.to_be_bytes();
+        let size = self.symbol_size.to_be_bytes();
+        let sub_blocks = self.num_sub_blocks.to_be_bytes();
+        [
+            length[3],
+            length[4],
+            length[5],
+            length[6],
+            length[7],
+            0,
+            size[0],
+            size[1],
+            self.num_source_blocks,
+            sub_blocks[0],
+            sub_blocks[1],
+            self.symbol_alignment,
+        ]
+    }
+
+    /// The length of the object, in bytes.
+    pub fn transfer_length(&self) -> u64
+        ensures value { result ≡ self.now.transfer_length }
+        ensures fits { IsConfiguration self.now }
+    {
+        self.transfer_length
+    }
+
+    /// The size of a symbol, in bytes.
+    pub fn symbol_size(&self) -> u16
+        ensures { result ≡ self.now.symbol_size }
+    {
+        self.symbol_size
+    }
+
+    /// The number of source blocks.
+    pub fn source_blocks(&self) -> u8
+        ensures { result ≡ self.now.source_blocks }
+    {
+        self.num_source_blocks
+    }
+
+    /// The number of sub-blocks in each source block; 0 is read as 1.
+    pub fn sub_blocks(&self) -> u16
+        ensures { result ≡ self.now.sub_blocks }
+    {
+        self.num_sub_blocks
+    }
+
+    /// The symbol alignment, in bytes.
+    pub fn symbol_alignment(&self) -> u8
+        ensures { result ≡ self.now.alignment }
+    {
+        self.symbol_alignment
+    }
+}

@@ -1,0 +1,4 @@
+//! Packets, configurations and the formulas of RFC 6330 that coders share.
+#![tactic(auto)]
+
+pub mod base;
