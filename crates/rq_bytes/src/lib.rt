@@ -2,3 +2,10 @@
 #![tactic(auto)]
 
 pub mod error;
+pub mod gf2;
+mod logarithms;
+pub mod octet;
+pub mod octets;
+mod products;
+pub mod symbol;
+pub mod util;

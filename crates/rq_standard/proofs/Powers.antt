@@ -1,8 +1,8 @@
 -- The powers of alpha, and quotients.
 use Rattle.std.proofs.Common.{◌≡◌, ℕ, zero, suc, ◌+◌, ◌-◌, ◌<◌, ◌≤◌, refl, sym, ap, ◌∙◌, arith}
 use Rattle.rq_standard.specs.Octets.{octet_double, octet_mul, octet_power, octet_inverse, octet_div}
-use Rattle.rq_standard.proofs.Computed.{double-lt, one-mul, mul-inverse}
-use Rattle.rq_standard.proofs.Products.{mul-double_left, mul-one, mul-assoc, zero-mul}
+use Rattle.rq_standard.specs.OctetFacts.{double-lt, one-mul, mul-inverse}
+use Rattle.rq_standard.specs.OctetProducts.{mul-double_left, mul-one, mul-assoc, zero-mul}
 
 pub power-lt : (n : ℕ) → octet_power n < 256
 unfolding octet_power

@@ -1,5 +1,6 @@
 //! The laws of the octets.
 ghost use Rattle.rq_standard.specs.OctetLaws.{SumsAreAGroup, ProductsAreARing, HasInverses, PowersAdd};
+ghost use Rattle.rq_standard.specs.SymbolRows.{SymbolsAreRows};
 
 /// The sums of octets are a group in which each octet is its own opposite.
 pub fn sums()
@@ -15,4 +16,9 @@ pub fn products()
 /// The powers of alpha.
 pub fn powers()
     ensures { PowersAdd }
+{}
+
+/// Symbols of octets have the sums and multiples of rows of octets.
+pub fn rows()
+    ensures { SymbolsAreRows }
 {}

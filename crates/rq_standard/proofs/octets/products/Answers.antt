@@ -1,6 +1,6 @@
-use Rattle.rq_standard.proofs.Computed.{one-mul, mul-inverse, inverse-lt}
+use Rattle.rq_standard.specs.OctetFacts.{one-mul, mul-inverse, inverse-lt}
 use Rattle.rq_standard.proofs.Powers.{div_from_mul}
-use Rattle.rq_standard.proofs.Products.{mul-lt, mul-comm, mul-assoc, mul-xor_right, mul-zero, no_zero_divisor}
+use Rattle.rq_standard.specs.OctetProducts.{mul-lt, mul-comm, mul-assoc, mul-xor_right, mul-zero, no_zero_divisor}
 use Rattle.rq_standard.proofs.octets.products.Goals as goal
 
 pub returns-clause-ring : goal.returns-clause-ring

@@ -1,6 +1,6 @@
 use Rattle.std.proofs.lemmas.Nat.{xor_comm}
 use Rattle.std.specs.Int.Bits.{xor_assoc, xor_self, xor_zero_r}
-use Rattle.rq_standard.proofs.Products.{xor-octet}
+use Rattle.rq_standard.specs.OctetProducts.{xor-octet}
 use Rattle.rq_standard.proofs.octets.sums.Goals as goal
 
 pub returns : goal.returns

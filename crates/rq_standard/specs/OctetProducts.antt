@@ -1,10 +1,10 @@
--- The laws of the field of octets.
+-- The laws of products of octets. They stand here since the field of octets holds its laws.
 use Rattle.std.proofs.Common.{◌≡◌, ℕ, zero, suc, ◌/◌, ◌%◌, ◌<◌, ◌^◌, Bool, true, false, cond, eqb, refl, sym, ap, ◌∙◌, arith}
 use Rattle.std.proofs.Math.Nat.{pow-suc}
 use Rattle.std.proofs.lemmas.Nat.{xor_comm, xor_lt}
 use Rattle.std.specs.Int.Bits.{bit_xor, xor_assoc, xor_zero_r}
 use Rattle.rq_standard.specs.Octets.{octet_double, octet_times, octet_mul, octet_inverse}
-use Rattle.rq_standard.proofs.Computed.{double-lt, double-xor, one-mul, by_halves, mul-inverse}
+use Rattle.rq_standard.specs.OctetFacts.{double-lt, double-xor, one-mul, by_halves, mul-inverse}
 
 pub double-zero : octet_double 0 ≡ 0
 unfolding octet_double

@@ -1,4 +1,4 @@
--- Facts about every octet, or every two octets, that the check computes.
+-- Facts about every octet, or every two octets, that the check computes. They stand here since the field of octets holds its laws.
 use Rattle.std.proofs.Common.{◌≡◌, ℕ, zero, suc, ◌/◌, ◌%◌, ◌<◌, Bool, true, cond, eqb, ltb, refl, ◌&&◌, ◌||◌, arith, ⊎_elim, subst, sym}
 use Rattle.std.proofs.lemmas.Bool.{agree_below, agree_below_at, and_parts, eqb-true, ltb-true, cases_eq, or_cases}
 use Rattle.std.specs.Int.Bits.{bit_xor}

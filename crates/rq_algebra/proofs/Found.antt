@@ -1,0 +1,61 @@
+-- What operations that find the column say of the rows, and of symbols.
+use Rattle.std.proofs.Common.{◌≡◌, ℕ, ◌<◌, List, [], None, map, replicate, get_or, sym, ap, ◌∙◌, refl, subst, arith}
+use Rattle.std.proofs.lemmas.List.{length-map}
+use Rattle.std.proofs.lemmas.List.Elements.{All-get_or}
+use Rattle.std.proofs.Math.ListN.{get_or-map}
+use Rattle.rq_algebra.specs.Field.{Field}
+use Rattle.rq_algebra.specs.Systems.{IsDetermined, at}
+use Rattle.rq_algebra.specs.Operations.{Operation, run, plain, unordered, AreAllowed}
+use Rattle.rq_algebra.specs.Symbols.{symbols, IsSymbolColumn, AreSymbols, symbol_at, slice_at, SolvesSymbols}
+use Rattle.rq_algebra.specs.Elimination.{IsValues, found_by, FindsColumn}
+use Rattle.rq_algebra.proofs.Sums.{dot_same}
+use Rattle.rq_algebra.proofs.Solutions.{solves_same}
+use Rattle.rq_algebra.proofs.Runs.{zero_values}
+use Rattle.rq_algebra.proofs.Placewise.{place, place_linear, read-run_linear, at-zeros, zeros_stay}
+use Rattle.rq_algebra.proofs.Pivots.{found-reorder, allowed_order}
+use Rattle.rq_algebra.proofs.SymbolColumns.{symbol_elements, same_symbol, run_keeps_symbols}
+
+module _ (F : Field) (height width : ℕ) (rows : ℕ → ℕ → ℕ) (operations : List Operation) (finds : FindsColumn F height width rows operations) where
+  -- the rows determine the column
+  pub finds_determined : IsDetermined F height width rows
+  finds_determined column elements s k l =
+      finds.only (replicate height 0) (zero_values F height width) column elements
+      (solves_same F height width rows rows column (λ _. 0) (at (replicate height 0)) (λ i j m n. refl) (λ i m. sym (at-zeros height i)) s) k l
+      ∙ zeros_stay F operations (unordered (replicate height 0)) (at-zeros height) _
+
+  -- each entry of the order that stands last is a row
+  order_below : (k : ℕ) → k < width → get_or finds.order k 0 < height
+  order_below k l = All-get_or (λ i. i < height) finds.order k 0 (omega (arith, finds.count)) (allowed_order height None finds.before finds.order (subst (λ (all : List Operation). AreAllowed height None all) finds.ends finds.allowed))
+
+  module _ (size : ℕ) (values : List (List ℕ)) (are : AreSymbols F size height values) where
+    -- what the operations make of the symbols has at each place what they make of the elements there
+    placewise : (p k : ℕ) → at (found_by (symbols F) operations values k) p ≡ found_by (plain F) operations (map (place p) values) k
+    placewise p k = read-run_linear (symbols F) (plain F) (place p) (place_linear F p) operations (unordered values) k
+
+    values_at : (p i : ℕ) → at (map (place p) values) i ≡ slice_at p (symbol_at values) i
+    values_at p i = get_or-map (place p) values i []
+
+    are_values : (p : ℕ) → IsValues F height (map (place p) values)
+    are_values p = record { count = length-map values (place p) ∙ are.count_is; elements = λ i l. rw (values_at p i) (symbol_elements F size (symbol_at values i) (are.each i l) p) }
+
+    -- it is a column of symbols
+    pub found_are_symbols : IsSymbolColumn F size width (found_by (symbols F) operations values)
+    found_are_symbols k l =
+        let e : found_by (symbols F) operations values k ≡ symbol_at (run (symbols F) finds.before (unordered values)).values (get_or finds.order k 0) =
+        ap (λ (all : List Operation). found_by (symbols F) all values k) finds.ends ∙ found-reorder (symbols F) finds.before finds.order values k in
+        rw e ((run_keeps_symbols F size height finds.before (unordered values) are).each (get_or finds.order k 0) (order_below k l))
+
+    -- a column of symbols that solves the rows is what the operations make of the values
+    pub found_only : (column : ℕ → List ℕ) → IsSymbolColumn F size width column → SolvesSymbols F height width rows column (symbol_at values) → (k : ℕ) → k < width → column k ≡ found_by (symbols F) operations values k
+    found_only column is s k l = same_symbol F size (column k) (found_by (symbols F) operations values k) (is k l) (found_are_symbols k l) (λ p.
+        finds.only (map (place p) values) (are_values p) (slice_at p column) (λ j m. symbol_elements F size (column j) (is j m) p)
+        (solves_same F height width rows rows _ _ _ (λ i j m n. refl) (λ i m. sym (values_at p i)) (s.at_place p)) k l
+        ∙ sym (placewise p k))
+
+    -- where there are as many rows as columns, what they make of the values solves the rows
+    pub found_solves : height ≡ width → SolvesSymbols F height width rows (found_by (symbols F) operations values) (symbol_at values)
+    found_solves square = record {
+      at_place = λ p. record {
+        at = λ i l. dot_same F width (rows i) (rows i) _ _ (λ j m. refl) (λ k m. placewise p k) ∙ (finds.solves square (map (place p) values) (are_values p)).at i l ∙ values_at p i;
+      };
+    }

@@ -1,0 +1,13 @@
+pub mod Changes
+pub mod FewEquations
+pub mod Found
+pub mod Meanings
+pub mod Parity
+pub mod Pivots
+pub mod Places
+pub mod Placewise
+pub mod Runs
+pub mod SmallCases
+pub mod Solutions
+pub mod Sums
+pub mod SymbolColumns

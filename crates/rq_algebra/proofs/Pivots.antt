@@ -1,0 +1,72 @@
+-- The column from pivots in any rows and columns.
+use Rattle.std.proofs.Common.{◌≡◌, ℕ, ◌<◌, List, [], ◌∷◌, ◌++◌, Option, None, replicate, get_or, sym, ap, ◌∙◌, refl, arith}
+use Rattle.std.proofs.lemmas.List.Elements.{All-from_get_or}
+use Rattle.rq_algebra.specs.Field.{Field}
+use Rattle.rq_algebra.specs.Systems.{dot, IsColumn, HasNullColumn, at}
+use Rattle.rq_algebra.specs.Operations.{Operation, Reorder, Space, Store, step, run, plain, unordered, read, AreAllowed, IsOrder, order_after}
+use Rattle.rq_algebra.specs.Elimination.{found_by, FindsColumn, HasPivots, ReadsPivots}
+use Rattle.rq_algebra.specs.Meaning.{Follows}
+use Rattle.rq_algebra.proofs.Sums.{dot_one}
+use Rattle.rq_algebra.proofs.FewEquations.{all_places}
+use Rattle.rq_algebra.proofs.Solutions.{solves_same}
+use Rattle.rq_algebra.proofs.Runs.{run_push, AreAllowed-push, zero_values}
+use Rattle.rq_algebra.proofs.Placewise.{at-zeros, zeros_stay}
+
+-- what is read after an order has been set
+pub found-reorder : {X : Type 0} (S : Space X) (operations : List Operation) (order : List ℕ) (values : List X) (k : ℕ) → found_by S (operations ++ Reorder order ∷ []) values k ≡ get_or (run S operations (unordered values)).values (get_or order k 0) S.zero
+unfolding step
+found-reorder S operations order values k = ap (λ (t : Store _). read S t k) (run_push S operations (Reorder order) (unordered values))
+
+-- an order that stands last is one of so many values
+pub allowed_order : (n : ℕ) (before : Option (List ℕ)) (operations : List Operation) (order : List ℕ) → AreAllowed n before (operations ++ Reorder order ∷ []) → IsOrder n order
+allowed_order n before [] order all = all.0
+allowed_order n before (first ∷ operations) order all = allowed_order n (order_after before first) operations order all.1
+
+module _ (F : Field) (height width : ℕ) (original a : ℕ → ℕ → ℕ) (operations : List Operation) (follows : Follows F height width original a operations) (rows columns : ℕ → ℕ) (pivots : HasPivots F height width a rows columns) (order : List ℕ) (reads : ReadsPivots width rows columns order) where
+  pivot_says : (x : ℕ → ℕ) → IsColumn F width x → (p : ℕ) → p < width → dot F width (a (rows p)) x ≡ x (columns p)
+  pivot_says x elements p l = cc (dot_one F width (a (rows p)) x (columns p) (pivots.in_columns.below p l) (λ k m d. pivots.zeros p k l m d), pivots.ones p l, F.one_mul (x (columns p)) (elements (columns p) (pivots.in_columns.below p l)))
+
+  -- what is read for a column is the value of its pivot's row
+  found_at : (v : List ℕ) → (p : ℕ) → p < width → found_by (plain F) (operations ++ Reorder order ∷ []) v (columns p) ≡ at (run (plain F) operations (unordered v)).values (rows p)
+  found_at v p l = found-reorder (plain F) operations order v (columns p) ∙ ap (λ (i : ℕ). at (run (plain F) operations (unordered v)).values i) (reads.reads p l)
+
+  is_order : IsOrder height order
+  is_order = All-from_get_or (λ i. i < height) order 0 (λ k l.
+      let q = all_places F width columns pivots.in_columns k (omega (arith, reads.count)) in
+      rw (← q.2, reads.reads q.0 q.1) (pivots.in_rows.below q.0 q.1))
+
+  pub finds_by_pivots : FindsColumn F height width original (operations ++ Reorder order ∷ [])
+  finds_by_pivots = record {
+    allowed = AreAllowed-push height None operations (Reorder order) follows.allowed is_order;
+    order = order;
+    before = operations;
+    ends = refl;
+    count = reads.count;
+    only = λ v e x elements s k l.
+        let q = all_places F width columns pivots.in_columns k l in
+        rw (← q.2) (sym (pivot_says x elements q.0 q.1) ∙ ((follows.keeps v e).same.onward x s).at (rows q.0) (pivots.in_rows.below q.0 q.1) ∙ sym (found_at v q.0 q.1));
+    solves = λ square v e. (follows.keeps v e).same.back _ record {
+      at = λ i l.
+          let column : ℕ → ℕ = found_by (plain F) (operations ++ Reorder order ∷ []) v in
+          let elements : IsColumn F width column = (λ (k : ℕ) (n : k < width).
+          let q = all_places F width columns pivots.in_columns k n in
+          rw (← q.2, found_at v q.0 q.1) ((follows.keeps v e).values.elements (rows q.0) (pivots.in_rows.below q.0 q.1))) in
+          let q = all_places F width rows (rw square at pivots.in_rows) i (rw square at l) in
+          rw (← q.2) (pivot_says column elements q.0 q.1 ∙ found_at v q.0 q.1);
+    };
+  }
+
+-- operations that follow rows take a null column back to the original ones
+pub null_back : (F : Field) (height width : ℕ) (original a : ℕ → ℕ → ℕ) (operations : List Operation) → Follows F height width original a operations → HasNullColumn F height width a → HasNullColumn F height width original
+null_back F height width original a operations follows n = record {
+  column = n.column;
+  is_column = n.is_column;
+  place = n.place;
+  in_width = n.in_width;
+  nonzero = n.nonzero;
+  solves =
+      let zeros : List ℕ = replicate height 0 in
+      solves_same F height width original original n.column (at zeros) (λ _. 0) (λ i k l m. refl) (λ i l. at-zeros height i)
+      ((follows.keeps zeros (zero_values F height width)).same.back n.column
+      (solves_same F height width a a n.column (λ _. 0) (at (run (plain F) operations (unordered zeros)).values) (λ i k l m. refl) (λ i l. sym (zeros_stay F operations (unordered zeros) (at-zeros height) i)) n.solves));
+}

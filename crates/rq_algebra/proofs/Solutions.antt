@@ -1,0 +1,124 @@
+-- Elementary operations keep the solutions of a system.
+use Rattle.std.proofs.Common.{◌≡◌, ◌≢◌, ℕ, ◌+◌, ◌-◌, ◌<◌, List, length, sym, ap, ◌∙◌, refl, arith, inl, inr}
+use Rattle.std.proofs.lemmas.Bool.{cases_eq, cases_lt, lt-ltb, le-ltb}
+use Rattle.std.proofs.lemmas.Grind.{get_or_default_zero}
+use Rattle.std.proofs.lemmas.List.Elements.{Contains-get_or}
+use Rattle.rq_algebra.specs.Field.{Field}
+use Rattle.rq_algebra.specs.Systems.{dot, Solves, IsColumn, IsDetermined, HasNullColumn, ArePlaces, RowsStandIn, at, stacked, rows_of, IdsStandIn}
+use Rattle.rq_algebra.specs.Steps.{AddsRow, ScalesRow, AddsValue, ScalesValue, SameSolutions}
+use Rattle.rq_algebra.proofs.Sums.{add_again, dot_same, dot_fma, dot_mul_row, dot_below_size, undo_mul, dot_add_column}
+use Rattle.rq_algebra.proofs.FewEquations.{all_places, dot_places}
+
+module _ (F : Field) (height width : ℕ) where
+  -- the values of a row, where the rows agree
+  pub solves_same : (a b : ℕ → ℕ → ℕ) (x v w : ℕ → ℕ) → ((i k : ℕ) → i < height → k < width → a i k ≡ b i k) → ((i : ℕ) → i < height → v i ≡ w i) → Solves F height width a x v → Solves F height width b x w
+  solves_same a b x v w rows values s = record { at = λ i l. dot_same F width (b i) (a i) x x (λ k m. sym (rows i k l m)) (λ k m. refl) ∙ s.at i l ∙ values i l }
+
+  pub SameSolutions-refl : (a : ℕ → ℕ → ℕ) (v : ℕ → ℕ) → SameSolutions F height width a v a v
+  SameSolutions-refl a v = record { onward = λ x s. s; back = λ x s. s }
+
+  pub SameSolutions-trans : {a b c : ℕ → ℕ → ℕ} {u v w : ℕ → ℕ} → SameSolutions F height width a u b v → SameSolutions F height width b v c w → SameSolutions F height width a u c w
+  SameSolutions-trans f g = record { onward = λ x s. g.onward x (f.onward x s); back = λ x s. f.back x (g.back x s) }
+
+  -- adding a multiple of another row
+  module _ (dest src c : ℕ) (apart : src ≢ dest) (in_dest : dest < height) (in_src : src < height) where
+    pub AddsRow-back : (a b : ℕ → ℕ → ℕ) → AddsRow F height width dest src c a b → AddsRow F height width dest src c b a
+    AddsRow-back a b s = record {
+      at_dest = λ k l. cc (add_again F (a dest k) (F.mul c (a src k)), s.at_dest k l, s.elsewhere src k in_src l apart);
+      elsewhere = λ i k l m d. sym (s.elsewhere i k l m d);
+    }
+
+    pub AddsValue-back : (v w : ℕ → ℕ) → AddsValue F height dest src c v w → AddsValue F height dest src c w v
+    AddsValue-back v w s = record {
+      at_dest = cc (add_again F (v dest) (F.mul c (v src)), s.at_dest, s.elsewhere src in_src apart);
+      elsewhere = λ i l d. sym (s.elsewhere i l d);
+    }
+
+    pub adds_onward : (a b : ℕ → ℕ → ℕ) (v w : ℕ → ℕ) → AddsRow F height width dest src c a b → AddsValue F height dest src c v w → (x : ℕ → ℕ) → Solves F height width a x v → Solves F height width b x w
+    adds_onward a b v w rows values x s = record {
+      at = λ i l. elim (cases_eq i dest) [
+        | inl e ↦ ap (λ (j : ℕ). dot F width (b j) x) e
+            ∙ dot_same F width (b dest) (λ k. F.add (a dest k) (F.mul c (a src k))) x x rows.at_dest (λ k m. refl)
+            ∙ dot_fma F width c (a dest) (a src) x
+            ∙ cc (s.at dest in_dest, s.at src in_src, values.at_dest, e)
+        | inr d ↦ dot_same F width (b i) (a i) x x (λ k m. rows.elsewhere i k l m d) (λ k m. refl) ∙ s.at i l ∙ sym (values.elsewhere i l d)
+      ];
+    }
+
+    pub adds_keeps : (a b : ℕ → ℕ → ℕ) (v w : ℕ → ℕ) → AddsRow F height width dest src c a b → AddsValue F height dest src c v w → SameSolutions F height width a v b w
+    adds_keeps a b v w rows values = record {
+      onward = adds_onward a b v w rows values;
+      back = adds_onward b a w v (AddsRow-back a b rows) (AddsValue-back v w values);
+    }
+
+  -- multiplying a row by a nonzero element
+  module _ (dest c : ℕ) (in_dest : dest < height) (is_element : c < F.size) (nonzero : c ≢ 0) where
+    dot_scaled : (a b : ℕ → ℕ → ℕ) → ScalesRow F height width dest c a b → (x : ℕ → ℕ) → dot F width (b dest) x ≡ F.mul c (dot F width (a dest) x)
+    dot_scaled a b rows x = dot_same F width (b dest) (λ k. F.mul c (a dest k)) x x rows.at_dest (λ k m. refl) ∙ dot_mul_row F width c (a dest) x
+
+    pub scales_keeps : (a b : ℕ → ℕ → ℕ) (v w : ℕ → ℕ) → IsColumn F height v → ScalesRow F height width dest c a b → ScalesValue F height dest c v w → SameSolutions F height width a v b w
+    scales_keeps a b v w elements rows values = record {
+      onward = λ x s. record {
+        at = λ i l. elim (cases_eq i dest) [
+          | inl e ↦ cc (dot_scaled a b rows x, s.at dest in_dest, values.at_dest, e)
+          | inr d ↦ dot_same F width (b i) (a i) x x (λ k m. rows.elsewhere i k l m d) (λ k m. refl) ∙ s.at i l ∙ sym (values.elsewhere i l d)
+        ];
+      };
+      back = λ x s. record {
+        at = λ i l. elim (cases_eq i dest) [
+          | inl e ↦ cc (e, dot_scaled a b rows x, s.at dest in_dest, values.at_dest, undo_mul F c (dot F width (a dest) x) is_element nonzero (dot_below_size F width (a dest) x), undo_mul F c (v dest) is_element nonzero (elements dest in_dest))
+          | inr d ↦ dot_same F width (a i) (b i) x x (λ k m. sym (rows.elsewhere i k l m d)) (λ k m. refl) ∙ s.at i l ∙ values.elsewhere i l d
+        ];
+      };
+    }
+
+  -- rows in another order
+  pub reorder_keeps : (to : ℕ → ℕ) → ArePlaces height height to → (a : ℕ → ℕ → ℕ) (v : ℕ → ℕ) → SameSolutions F height width a v (λ i. a (to i)) (λ i. v (to i))
+  reorder_keeps to are a v = record {
+    onward = λ x s. record { at = λ i l. s.at (to i) (are.below i l) };
+    back = λ x s. record { at = λ i l. let q = all_places F height to are i l in rw q.2 at (s.at q.0 q.1) };
+  }
+
+  -- columns in another order
+  pub columns_reordered : (to : ℕ → ℕ) → ArePlaces width width to → (a : ℕ → ℕ → ℕ) (x v : ℕ → ℕ) → Solves F height width a x v → Solves F height width (λ i k. a i (to k)) (λ k. x (to k)) v
+  columns_reordered to are a x v s = record { at = λ i l. dot_places F width (a i) x to are ∙ s.at i l }
+
+-- a determined system stays determined where each of its rows stands in the new one: rows added, repeated or in another order
+pub determined_stays : (F : Field) (width old_height new_height : ℕ) (old new : ℕ → ℕ → ℕ) → RowsStandIn width old_height old new_height new → IsDetermined F old_height width old → IsDetermined F new_height width new
+determined_stays F width old_height new_height old new stand determined x elements s =
+    determined x elements record { at = λ i l. let m = stand i l in dot_same F width (old i) (new m.0) x x (λ k n. sym (m.2 k n)) (λ k n. refl) ∙ s.at m.0 m.1 }
+
+-- a null column refutes it
+pub null_not_determined : (F : Field) (height width : ℕ) (a : ℕ → ℕ → ℕ) → HasNullColumn F height width a → IsDetermined F height width a → ⊥
+null_not_determined F height width a n determined = n.nonzero (determined n.column n.is_column n.solves n.place n.in_width)
+
+-- a solution of a determined system is the only one
+pub determined_unique : (F : Field) (height width : ℕ) (a : ℕ → ℕ → ℕ) (x y v : ℕ → ℕ) → IsDetermined F height width a → IsColumn F width x → IsColumn F width y → Solves F height width a x v → Solves F height width a y v → (k : ℕ) → k < width → x k ≡ y k
+determined_unique F height width a x y v determined ex ey sx sy k l =
+    let e : F.add (x k) (y k) ≡ 0 = determined (λ j. F.add (x j) (y j)) (λ j m. F.add_below (x j) (y j) (ex j m) (ey j m)) record { at = λ i m. cc (dot_add_column F width (a i) x y, sx.at i m, sy.at i m, F.add_self (v i)) } k l in
+    cc (e, add_again F (x k) (y k), F.zero_add (y k))
+
+module _ (height : ℕ) (above below : ℕ → ℕ → ℕ) where
+  pub stacked_above : (i k : ℕ) → i < height → stacked height above below i k ≡ above i k
+  stacked_above i k l = rw (lt-ltb i height l)
+
+  pub stacked_below : (i k : ℕ) → stacked height above below (height + i) k ≡ below i k
+  stacked_below i k = let e : (height + i) - height ≡ i = omega arith in rw (le-ltb (height + i) height (omega arith), e)
+
+-- the equations of the old ids are among those of the new ones
+pub ids_stand : (width height : ℕ) (above row : ℕ → ℕ → ℕ) (old new : List ℕ) → IdsStandIn old new → RowsStandIn width (height + length old) (stacked height above (rows_of row old)) (height + length new) (stacked height above (rows_of row new))
+ids_stand width height above row old new ids i l = elim (cases_lt i height) [
+  | inl m ↦ (i, (omega arith), λ k n. stacked_above height above (rows_of row new) i k m ∙ sym (stacked_above height above (rows_of row old) i k m))
+  | inr m ↦
+      let j : ℕ = i - height in
+      let e : height + j ≡ i = omega arith in
+      let o : j < length old = omega arith in
+      let q = ids (at old j) (Contains-get_or old j 0 o) in
+      let same : at new q.0 ≡ at old j = sym (get_or_default_zero new q.0 (at old j) q.1) ∙ q.2 in (
+        height + q.0,
+        (omega (arith, q.1)),
+        λ k n.
+            stacked_below height above (rows_of row new) q.0 k ∙ ap (λ (x : ℕ). row x k) same
+            ∙ sym (stacked_below height above (rows_of row old) j k) ∙ ap (λ (r : ℕ). stacked height above (rows_of row old) r k) e,
+      )
+]

@@ -1,0 +1,8 @@
+use Rattle.std.proofs.Common.{refl}
+use Rattle.rq_algebra.specs.Operations.{step, run}
+use Rattle.rq_algebra.specs.Symbols.{add_symbols}
+use Rattle.rq_algebra.proofs.examples.runs.Goals as goal
+
+pub returns : goal.returns
+unfolding run step add_symbols
+returns c = record { run = refl; through = refl; replaced = refl; symbols = refl }

@@ -1,0 +1,5 @@
+use Rattle.rq_algebra.proofs.SymbolColumns.{symbols_unique}
+use Rattle.rq_algebra.proofs.symbols.determined.Goals as goal
+
+pub returns : goal.returns
+returns c = λ F height width size. symbols_unique F size height width

@@ -1,0 +1,9 @@
+use Rattle.rq_algebra.proofs.Found.{found_are_symbols, found_only, found_solves}
+use Rattle.rq_algebra.proofs.symbols.found.Goals as goal
+
+pub returns : goal.returns
+returns c = record {
+  symbols = λ F height width size rows operations values finds are. found_are_symbols F height width rows operations finds size values are;
+  only = λ F height width size rows operations values column finds are. found_only F height width rows operations finds size values are column;
+  solves = λ F height width size rows operations values finds are. found_solves F height width rows operations finds size values are;
+}

@@ -1,0 +1,14 @@
+pub mod Elimination
+pub mod Examples
+pub mod Field
+pub mod FromLaws
+pub mod Meaning
+pub mod OperationLaws
+pub mod Operations
+pub mod Parities
+pub mod Steps
+pub mod SymbolLaws
+pub mod Symbols
+pub mod SystemLaws
+pub mod Systems
+pub mod Two

@@ -1,0 +1,36 @@
+-- What an elimination keeps while it works.
+use Rattle.std.specs.Prelude.{◌≡◌, ℕ, ◌<◌, List, None}
+use Rattle.rq_algebra.specs.Field.{Field}
+use Rattle.rq_algebra.specs.Systems.{at}
+use Rattle.rq_algebra.specs.Steps.{SameSolutions}
+use Rattle.rq_algebra.specs.Operations.{Operation, Store, AreAllowed, unordered, plain, run}
+use Rattle.rq_algebra.specs.Elimination.{IsValues}
+
+-- the store's values make of the rows the system that v makes of the original ones
+pub record KeepsSolutions (F : Field) (height width : ℕ) (original rows : ℕ → ℕ → ℕ) (v : List ℕ) (s : Store ℕ) : Type 0 where
+  pub values : IsValues F height s.values
+  pub order : s.order ≡ None
+  pub same : SameSolutions F height width original (at v) rows (at s.values)
+
+-- for all values, after the operations the rows say of a column what the original rows said
+pub record Follows (F : Field) (height width : ℕ) (original rows : ℕ → ℕ → ℕ) (operations : List Operation) : Type 0 where
+  pub allowed : AreAllowed height None operations
+  pub keeps : (v : List ℕ) → IsValues F height v → KeepsSolutions F height width original rows v (run (plain F) operations (unordered v))
+
+-- the operations that were added did to values what was done to the rows, whatever rows were the original ones
+abbrev pub Extends : Field → ℕ → ℕ → (ℕ → ℕ → ℕ) → List Operation → (ℕ → ℕ → ℕ) → List Operation → Type 0
+Extends F height width old_rows old_operations new_rows new_operations =
+    (original : ℕ → ℕ → ℕ) → Follows F height width original old_rows old_operations → Follows F height width original new_rows new_operations
+
+-- A matrix may be stored with its rows and columns in other places, and with stale entries where it is read no more. So what it means is
+-- a matrix of its own, whose rows are numbered as the values and whose columns as the unknowns: stored row r is value `values r`, stored
+-- column k is unknown `unknowns k`, and where the region has (r, k) the stored entry is the meant one.
+pub record Shows (height width : ℕ) (values unknowns : ℕ → ℕ) (region : ℕ → ℕ → Type 0) (stored meant : ℕ → ℕ → ℕ) : Type 0 where
+  pub at : (r k : ℕ) → r < height → k < width → region r k → stored r k ≡ meant (values r) (unknowns k)
+
+-- the invariant of an elimination with such a store. `Outside` says what is meant elsewhere, such as a 0 below a pivot
+pub record IsMeant (F : Field) (height width : ℕ) (values unknowns : ℕ → ℕ) (region : ℕ → ℕ → Type 0) (Outside : (ℕ → ℕ → ℕ) → Type 0) (original stored : ℕ → ℕ → ℕ) (operations : List Operation) : Type 0 where
+  pub meant : ℕ → ℕ → ℕ
+  pub follows : Follows F height width original meant operations
+  pub shows : Shows height width values unknowns region stored meant
+  pub outside : Outside meant

@@ -1,0 +1,51 @@
+-- The laws of recorded operations, as statements: functions of `operations` have them as contracts.
+use Rattle.std.specs.Prelude.{◌≡◌, ◌≢◌, ℕ, ◌<◌, List, [], ◌∷◌, ◌++◌}
+use Rattle.rq_algebra.specs.Field.{Field}
+use Rattle.rq_algebra.specs.Systems.{IsDetermined, HasNullColumn, at}
+use Rattle.rq_algebra.specs.Steps.{AddsRow, ScalesRow}
+use Rattle.rq_algebra.specs.Operations.{Operation, AddAssign, MulAssign, Fma, Reorder, Store, run, plain}
+use Rattle.rq_algebra.specs.Elimination.{FindsColumn, HasPivots, ReadsPivots}
+use Rattle.rq_algebra.specs.Meaning.{Follows, Extends}
+
+abbrev pub NothingFollows : Type 0
+NothingFollows = (F : Field) (height width : ℕ) (rows : ℕ → ℕ → ℕ) → Follows F height width rows rows []
+
+abbrev pub AddAssignExtends : Type 0
+AddAssignExtends =
+    (F : Field) (height width dest src : ℕ) (a b : ℕ → ℕ → ℕ) (operations : List Operation)
+    → src ≢ dest → dest < height → src < height → AddsRow F height width dest src 1 a b
+    → Extends F height width a operations b (operations ++ AddAssign dest src ∷ [])
+
+abbrev pub FmaExtends : Type 0
+FmaExtends =
+    (F : Field) (height width dest src scalar : ℕ) (a b : ℕ → ℕ → ℕ) (operations : List Operation)
+    → src ≢ dest → dest < height → src < height → AddsRow F height width dest src scalar a b
+    → Extends F height width a operations b (operations ++ Fma dest src scalar ∷ [])
+
+abbrev pub MulAssignExtends : Type 0
+MulAssignExtends =
+    (F : Field) (height width dest scalar : ℕ) (a b : ℕ → ℕ → ℕ) (operations : List Operation)
+    → dest < height → scalar < F.size → scalar ≢ 0 → ScalesRow F height width dest scalar a b
+    → Extends F height width a operations b (operations ++ MulAssign dest scalar ∷ [])
+
+-- a null column of the rows that follow is one of the original rows
+abbrev pub NullColumnGoesBack : Type 0
+NullColumnGoesBack =
+    (F : Field) (height width : ℕ) (original rows : ℕ → ℕ → ℕ) (operations : List Operation)
+    → Follows F height width original rows operations → HasNullColumn F height width rows → HasNullColumn F height width original
+
+abbrev pub PivotsFindColumn : Type 0
+PivotsFindColumn =
+    (F : Field) (height width : ℕ) (original a : ℕ → ℕ → ℕ) (operations : List Operation) (rows columns : ℕ → ℕ) (order : List ℕ)
+    → Follows F height width original a operations → HasPivots F height width a rows columns → ReadsPivots width rows columns order
+    → FindsColumn F height width original (operations ++ Reorder order ∷ [])
+
+abbrev pub FoundIsDetermined : Type 0
+FoundIsDetermined =
+    (F : Field) (height width : ℕ) (rows : ℕ → ℕ → ℕ) (operations : List Operation)
+    → FindsColumn F height width rows operations → IsDetermined F height width rows
+
+abbrev pub OperationsKeepZeros : Type 0
+OperationsKeepZeros =
+    (F : Field) (operations : List Operation) (s : Store ℕ)
+    → ((i : ℕ) → at s.values i ≡ 0) → (i : ℕ) → at (run (plain F) operations s).values i ≡ 0

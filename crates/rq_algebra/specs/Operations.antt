@@ -1,0 +1,85 @@
+-- Recorded operations, and what they make of values, whatever the values are: elements of the field, or symbols.
+--
+-- Places are read through the order that is set: place i means value order[i]. `Reorder` sets an order in place of the one before and
+-- moves no value. Where none is set, place i means value i.
+use Rattle.std.specs.Prelude.{◌≢◌, ℕ, ◌<◌, List, [], ◌∷◌, map, fold, length, All, Option, Some, None, ⊤, slice_index_or, slice_index, slice_set}
+use Rattle.rq_algebra.specs.Field.{Field}
+
+pub data Operation : Type 0 where
+  AddAssign : (dest src : ℕ) → Operation
+  MulAssign : (dest scalar : ℕ) → Operation
+  Fma : (dest src scalar : ℕ) → Operation
+  Reorder : (order : List ℕ) → Operation
+
+-- what values are made of
+pub record Space (X : Type 0) : Type 0 where
+  pub zero : X
+  pub add : X → X → X
+  pub scale : ℕ → X → X
+
+-- the field's elements as values
+abbrev pub plain : Field → Space ℕ
+plain F = record { zero = 0; add = F.add; scale = F.mul }
+
+-- values, and the order in which they are read, where one is set
+pub record Store (X : Type 0) : Type 0 where
+  pub values : List X
+  pub order : Option (List ℕ)
+
+-- values with no order set
+abbrev pub unordered : {X : Type 0} → List X → Store X
+unordered values = record { values = values; order = None }
+
+-- the value that a place means
+abbrev pub meant_at : Option (List ℕ) → ℕ → ℕ
+meant_at None i = i
+meant_at (Some order) i = slice_index order i
+
+abbrev pub read : {X : Type 0} → Space X → Store X → ℕ → X
+read S s i = slice_index_or s.values (meant_at s.order i) S.zero
+
+abbrev pub write : {X : Type 0} → Store X → ℕ → X → Store X
+write s i x = record s { values = slice_set s.values (meant_at s.order i) x }
+
+unfoldable pub step : {X : Type 0} → Space X → Store X → Operation → Store X
+step S s (AddAssign dest src) = write s dest (S.add (read S s dest) (read S s src))
+step S s (MulAssign dest scalar) = write s dest (S.scale scalar (read S s dest))
+step S s (Fma dest src scalar) = write s dest (S.add (read S s dest) (S.scale scalar (read S s src)))
+step S s (Reorder order) = record s { order = Some order }
+
+-- all of them, first to last
+unfoldable pub run : {X : Type 0} → Space X → List Operation → Store X → Store X
+run S operations s = fold (step S) s operations
+
+-- the values as they are read
+abbrev pub values_in : {X : Type 0} → Space X → List X → Option (List ℕ) → List X
+values_in S values None = values
+values_in S values (Some order) = map (λ i. slice_index_or values i S.zero) order
+
+-- whether a place of n values is defined
+abbrev pub IsPlace : ℕ → Option (List ℕ) → ℕ → Type 0
+IsPlace n None i = i < n
+IsPlace n (Some order) i = i < length order
+
+-- the entries of an order are among n values
+abbrev pub IsOrder : ℕ → List ℕ → Type 0
+IsOrder n order = All (λ i. i < n) order
+
+-- what an operation asks of n values in their order: places that are defined, and dest and src mean two values
+abbrev pub IsAllowed : ℕ → Option (List ℕ) → Operation → Type 0
+IsAllowed n order (AddAssign dest src) = IsPlace n order dest × IsPlace n order src × (meant_at order src ≢ meant_at order dest)
+IsAllowed n order (MulAssign dest scalar) = IsPlace n order dest
+IsAllowed n order (Fma dest src scalar) = IsPlace n order dest × IsPlace n order src × (meant_at order src ≢ meant_at order dest)
+IsAllowed n order (Reorder new) = IsOrder n new
+
+-- the order that is set after an operation
+abbrev pub order_after : Option (List ℕ) → Operation → Option (List ℕ)
+order_after order (AddAssign dest src) = order
+order_after order (MulAssign dest scalar) = order
+order_after order (Fma dest src scalar) = order
+order_after order (Reorder new) = Some new
+
+-- the same of all of them, first to last
+abbrev pub AreAllowed : ℕ → Option (List ℕ) → List Operation → Type 0
+AreAllowed n order [] = ⊤
+AreAllowed n order (operation ∷ operations) = IsAllowed n order operation × AreAllowed n (order_after order operation) operations

@@ -1,0 +1,68 @@
+-- The laws of symbols and of listed places, as statements: functions of `symbols` have them as contracts.
+use Rattle.std.specs.Prelude.{◌≡◌, ℕ, ◌<◌, List, ◌∷◌, All}
+use Rattle.rq_algebra.specs.Field.{Field}
+use Rattle.rq_algebra.specs.Systems.{dot, IsColumn, IsDetermined, at}
+use Rattle.rq_algebra.specs.Operations.{Operation, Store, read, run, plain}
+use Rattle.rq_algebra.specs.Symbols.{symbols, IsSymbol, IsSymbolColumn, AreSymbols, symbol_at, slice_at, store_at, SolvesSymbols}
+use Rattle.rq_algebra.specs.Parities.{sum_listed, parity}
+use Rattle.rq_algebra.specs.Elimination.{found_by, FindsColumn}
+
+-- at each place, operations on symbols are the operations on the elements there
+abbrev pub OperationsActPlacewise : Type 0
+OperationsActPlacewise =
+    (F : Field) (operations : List Operation) (s : Store (List ℕ)) (i place : ℕ)
+    → at (read (symbols F) (run (symbols F) operations s) i) place ≡ read (plain F) (run (plain F) operations (store_at place s)) i
+
+abbrev pub OperationsKeepSymbols : Type 0
+OperationsKeepSymbols =
+    (F : Field) (size count : ℕ) (operations : List Operation) (s : Store (List ℕ))
+    → AreSymbols F size count s.values → AreSymbols F size count (run (symbols F) operations s).values
+
+abbrev pub FoundAreSymbols : Type 0
+FoundAreSymbols =
+    (F : Field) (height width size : ℕ) (rows : ℕ → ℕ → ℕ) (operations : List Operation) (values : List (List ℕ))
+    → FindsColumn F height width rows operations → AreSymbols F size height values
+    → IsSymbolColumn F size width (found_by (symbols F) operations values)
+
+-- a column of symbols that solves the rows is what the operations make of the values
+abbrev pub OnlyFoundSolves : Type 0
+OnlyFoundSolves =
+    (F : Field) (height width size : ℕ) (rows : ℕ → ℕ → ℕ) (operations : List Operation) (values : List (List ℕ)) (column : ℕ → List ℕ)
+    → FindsColumn F height width rows operations → AreSymbols F size height values
+    → IsSymbolColumn F size width column → SolvesSymbols F height width rows column (symbol_at values)
+    → (k : ℕ) → k < width → column k ≡ found_by (symbols F) operations values k
+
+-- where there are as many equations as unknowns, what the operations make of any values solves them
+abbrev pub FoundSolves : Type 0
+FoundSolves =
+    (F : Field) (height width size : ℕ) (rows : ℕ → ℕ → ℕ) (operations : List Operation) (values : List (List ℕ))
+    → FindsColumn F height width rows operations → AreSymbols F size height values
+    → height ≡ width → SolvesSymbols F height width rows (found_by (symbols F) operations values) (symbol_at values)
+
+abbrev pub DeterminedHasOneSolutionInSymbols : Type 0
+DeterminedHasOneSolutionInSymbols =
+    (F : Field) (height width size : ℕ) (rows : ℕ → ℕ → ℕ) (x y values : ℕ → List ℕ)
+    → IsDetermined F height width rows → IsSymbolColumn F size width x → IsSymbolColumn F size width y
+    → SolvesSymbols F height width rows x values → SolvesSymbols F height width rows y values
+    → (k : ℕ) → k < width → x k ≡ y k
+
+-- the sum at listed places is the dot with their parities
+abbrev pub SumIsDotOfParities : Type 0
+SumIsDotOfParities =
+    (F : Field) (width : ℕ) (places : List ℕ) (column : ℕ → ℕ)
+    → All (λ k. k < width) places → IsColumn F width column
+    → sum_listed (plain F) places column ≡ dot F width (parity places) column
+
+-- the same of symbols, at each place
+abbrev pub SymbolSumIsDotOfParities : Type 0
+SymbolSumIsDotOfParities =
+    (F : Field) (width size : ℕ) (places : List ℕ) (column : ℕ → List ℕ) (place : ℕ)
+    → All (λ k. k < width) places → IsSymbolColumn F size width column
+    → at (sum_listed (symbols F) places column) place ≡ dot F width (parity places) (slice_at place column)
+
+-- the sum of symbols, of one at least, is a symbol of their size
+abbrev pub SumIsSymbol : Type 0
+SumIsSymbol =
+    (F : Field) (width size first : ℕ) (places : List ℕ) (column : ℕ → List ℕ)
+    → All (λ k. k < width) (first ∷ places) → IsSymbolColumn F size width column
+    → IsSymbol F size (sum_listed (symbols F) (first ∷ places) column)

@@ -1,0 +1,68 @@
+-- Systems of linear equations. A row, a column and a list of values are functions of the place, a system one of the row and the place.
+use Rattle.std.specs.Prelude.{◌≡◌, ◌≢◌, ℕ, zero, suc, ◌-◌, ◌<◌, Contains, cond, nat_lt, List, slice_index}
+use Rattle.rq_algebra.specs.Field.{Field}
+
+-- f 0 + .. + f (n - 1)
+unfoldable pub sum_below : Field → ℕ → (ℕ → ℕ) → ℕ
+sum_below F zero f = 0
+sum_below F (suc n) f = F.add (sum_below F n f) (f n)
+
+-- the sum of the products of a row's coefficients and a column's entries
+unfoldable pub dot : Field → ℕ → (ℕ → ℕ) → (ℕ → ℕ) → ℕ
+dot F width row column = sum_below F width (λ k. F.mul (row k) (column k))
+
+-- row by row, the dot is the value
+pub record Solves (F : Field) (height width : ℕ) (rows : ℕ → ℕ → ℕ) (column values : ℕ → ℕ) : Type 0 where
+  pub at : (i : ℕ) → i < height → dot F width (rows i) column ≡ values i
+
+-- the first n entries are elements of the field
+abbrev pub IsColumn : Field → ℕ → (ℕ → ℕ) → Type 0
+IsColumn F n column = (k : ℕ) → k < n → column k < F.size
+
+-- only the zero column solves the rows with all values zero
+abbrev pub IsDetermined : Field → ℕ → ℕ → (ℕ → ℕ → ℕ) → Type 0
+IsDetermined F height width rows = (column : ℕ → ℕ) → IsColumn F width column → Solves F height width rows column (λ _. 0) → (k : ℕ) → k < width → column k ≡ 0
+
+-- a column that is not zero solves the rows with all values zero
+pub record HasNullColumn (F : Field) (height width : ℕ) (rows : ℕ → ℕ → ℕ) : Type 0 where
+  pub column : ℕ → ℕ
+  pub is_column : IsColumn F width column
+  pub place : ℕ
+  pub in_width : place < width
+  pub nonzero : column place ≢ 0
+  pub solves : Solves F height width rows column (λ _. 0)
+
+-- the entries of a system are elements of the field
+abbrev pub HasElements : Field → ℕ → ℕ → (ℕ → ℕ → ℕ) → Type 0
+HasElements F height width rows = (i k : ℕ) → i < height → k < width → rows i k < F.size
+
+-- each of the first n places is below the bound, and no two of them are one
+pub record ArePlaces (n bound : ℕ) (places : ℕ → ℕ) : Type 0 where
+  pub below : (i : ℕ) → i < n → places i < bound
+  pub apart : (i j : ℕ) → i < n → j < n → places i ≡ places j → i ≡ j
+
+-- on n + 1 chosen columns all rows are zero but n chosen ones
+pub record IsFewOn (height width n : ℕ) (a : ℕ → ℕ → ℕ) (rows columns : ℕ → ℕ) : Type 0 where
+  pub rows_below : (p : ℕ) → p < n → rows p < height
+  pub columns_are : ArePlaces (suc n) width columns
+  pub zeros : (i : ℕ) → i < height → ((p : ℕ) → p < n → rows p ≢ i) → (j : ℕ) → j < suc n → a i (columns j) ≡ 0
+
+-- each row of the old system stands somewhere in the new one
+abbrev pub RowsStandIn : ℕ → ℕ → (ℕ → ℕ → ℕ) → ℕ → (ℕ → ℕ → ℕ) → Type 0
+RowsStandIn width old_height old new_height new = (i : ℕ) → i < old_height → (j : ℕ) × (j < new_height) × ((k : ℕ) → k < width → new j k ≡ old i k)
+
+-- a list as a function of the place, zero past its end
+abbrev pub at : List ℕ → ℕ → ℕ
+at xs k = slice_index xs k
+
+-- the first `height` rows are those of one system, and then come those of another
+abbrev pub stacked : ℕ → (ℕ → ℕ → ℕ) → (ℕ → ℕ → ℕ) → ℕ → ℕ → ℕ
+stacked height above below i k = cond (nat_lt i height) (above i k) (below (i - height) k)
+
+-- one row for each id of a list
+abbrev pub rows_of : (ℕ → ℕ → ℕ) → List ℕ → ℕ → ℕ → ℕ
+rows_of row ids i k = row (at ids i) k
+
+-- each id of the old list is in the new one, in whatever order and however often
+abbrev pub IdsStandIn : List ℕ → List ℕ → Type 0
+IdsStandIn old new = (id : ℕ) → Contains old id → Contains new id

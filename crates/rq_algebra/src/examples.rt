@@ -1,0 +1,32 @@
+//! What the definitions mean, and why the laws have their premises, in small systems over the field of two elements.
+ghost use Rattle.rq_algebra.specs.Examples.{TriangleIsSolved, TriangleIsDetermined, RepeatedHasNullColumn, RepeatedIsNotDetermined, OperationsRun, PlacesAreReadThroughTheOrder, OrdersAreReplaced, SymbolsAreAdded, RepeatsCancel, AddingNeedsTwoRows, ScalingNeedsNonzero, OneEquationIsTooFew, FoundNeedsAsManyEquations, SumNeedsPlacesAndElements};
+
+/// Two equations that are determined, and two that are not.
+pub fn equations()
+    ensures solved { TriangleIsSolved }
+    ensures determined { TriangleIsDetermined }
+    ensures null_column { RepeatedHasNullColumn }
+    ensures not_determined { RepeatedIsNotDetermined }
+{}
+
+/// Operations and reading orders.
+pub fn runs()
+    ensures run { OperationsRun }
+    ensures through { PlacesAreReadThroughTheOrder }
+    ensures replaced { OrdersAreReplaced }
+    ensures symbols { SymbolsAreAdded }
+{}
+
+/// An equation whose places repeat.
+pub fn repeats()
+    ensures { RepeatsCancel }
+{}
+
+/// What goes wrong without a premise of a law.
+pub fn premises()
+    ensures two_rows { AddingNeedsTwoRows }
+    ensures nonzero { ScalingNeedsNonzero }
+    ensures few { OneEquationIsTooFew }
+    ensures square { FoundNeedsAsManyEquations }
+    ensures listed { SumNeedsPlacesAndElements }
+{}

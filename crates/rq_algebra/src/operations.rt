@@ -1,0 +1,22 @@
+//! The laws of recorded operations.
+ghost use Rattle.rq_algebra.specs.OperationLaws.{NothingFollows, AddAssignExtends, FmaExtends, MulAssignExtends, NullColumnGoesBack, PivotsFindColumn, FoundIsDetermined, OperationsKeepZeros};
+
+/// An operation that does to the values what was done to the rows keeps what the rows say of a column.
+pub fn following()
+    ensures nothing { NothingFollows }
+    ensures add_assign { AddAssignExtends }
+    ensures fma { FmaExtends }
+    ensures mul_assign { MulAssignExtends }
+    ensures back { NullColumnGoesBack }
+{}
+
+/// Pivots in any rows and columns, and an order that maps each column to its pivot's row, find the column.
+pub fn pivots()
+    ensures find { PivotsFindColumn }
+    ensures determine { FoundIsDetermined }
+{}
+
+/// Operations make zeros of zeros.
+pub fn zeros()
+    ensures { OperationsKeepZeros }
+{}

@@ -1,0 +1,27 @@
+//! The laws of symbols, and of equations as lists of places.
+ghost use Rattle.rq_algebra.specs.SymbolLaws.{OperationsActPlacewise, OperationsKeepSymbols, FoundAreSymbols, OnlyFoundSolves, FoundSolves, DeterminedHasOneSolutionInSymbols, SumIsDotOfParities, SymbolSumIsDotOfParities, SumIsSymbol};
+
+/// Operations on symbols are, at each place of a symbol, operations on elements.
+pub fn operations()
+    ensures placewise { OperationsActPlacewise }
+    ensures symbols { OperationsKeepSymbols }
+{}
+
+/// Operations that find the column find it in symbols.
+pub fn found()
+    ensures symbols { FoundAreSymbols }
+    ensures only { OnlyFoundSolves }
+    ensures solves { FoundSolves }
+{}
+
+/// A determined system has at most one solution in symbols.
+pub fn determined()
+    ensures { DeterminedHasOneSolutionInSymbols }
+{}
+
+/// An equation as a list of places that may repeat is the equation of the parities.
+pub fn listed_places()
+    ensures elements { SumIsDotOfParities }
+    ensures symbols { SymbolSumIsDotOfParities }
+    ensures size { SumIsSymbol }
+{}

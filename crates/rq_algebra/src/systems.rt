@@ -1,0 +1,32 @@
+//! The laws of linear systems.
+ghost use Rattle.rq_algebra.specs.SystemLaws.{SumIsLinear, DotIsLinearInRow, DotIsLinearInColumn, AddingKeepsSolutions, ScalingKeepsSolutions, RowOrderKeepsSolutions, ColumnOrderKeepsSolutions, ExchangeIsAnOrder, DeterminedStays, DeterminedByIds, DeterminedHasOneSolution, NullColumnRefutesDetermined, FewEquationsHaveNullColumn, FewOnColumnsHaveNullColumn};
+
+/// Sums and products are linear.
+pub fn linear()
+    ensures sum { SumIsLinear }
+    ensures in_row { DotIsLinearInRow }
+    ensures in_column { DotIsLinearInColumn }
+{}
+
+/// Elementary operations keep the solutions.
+pub fn elementary_operations()
+    ensures adding { AddingKeepsSolutions }
+    ensures scaling { ScalingKeepsSolutions }
+    ensures row_order { RowOrderKeepsSolutions }
+    ensures column_order { ColumnOrderKeepsSolutions }
+    ensures exchange { ExchangeIsAnOrder }
+{}
+
+/// A determined system stays determined when equations are added, repeated or reordered, and has at most one solution.
+pub fn determined()
+    ensures stays { DeterminedStays }
+    ensures by_ids { DeterminedByIds }
+    ensures one_solution { DeterminedHasOneSolution }
+    ensures refuted { NullColumnRefutesDetermined }
+{}
+
+/// Fewer equations than unknowns never determine.
+pub fn few_equations()
+    ensures of_all { FewEquationsHaveNullColumn }
+    ensures on_columns { FewOnColumnsHaveNullColumn }
+{}

@@ -1,0 +1,160 @@
+-- The bits of a word as lanes.
+use Rattle.std.proofs.Common.{w64, zero, suc, ◌++◌, ◌≡◌, ℕ, ◌+◌, ◌*◌, ◌/◌, ◌%◌, ◌^◌, ◌<◌, ◌≤◌, true, false, cond, eqb, List, length, get_or, map, replicate, refl, sym, ap, ◌∙◌, arith, ⊎_elim}
+use Rattle.std.proofs.lemmas.Bool.{agree_below, agree_below_at, eqb-true, cases_eq, cond-true, cond-false, eq-eqb, ne_eqb}
+use Rattle.std.proofs.lemmas.List.{ext_get_or, get_or-map, length-map}
+use Rattle.std.proofs.lemmas.List.FromFn.{length-map-range_with_len, get_or-map-range_with_len}
+use Rattle.std.proofs.lemmas.Nat.{shr_split, shr-shr, pow_pos}
+use Rattle.std.proofs.lemmas.Nat.Bits.{bit_at_cat_low, and_pow, bit_at-lt}
+use Rattle.std.proofs.lemmas.Simd.{length-chunk, get_or-chunk, length-zip2, get_or-zip2, length-sel_l, get_or-sel_l, get_or-replicate}
+use Rattle.std.specs.List.{range_with_len}
+use Rattle.std.specs.Int.{bit_at, to_le_bytes}
+use lib.Bits.{bit_and}
+use lib.Lanes.{zip2, chunk, sel_l, pick_l}
+use Rattle.rq_standard.specs.Octets.{octet_mul}
+use Rattle.rq_standard.specs.PackedBits.{padding_of, packed_bits}
+use Rattle.rq_standard.proofs.Packed.{length-packed_bits, get_or-packed_bits}
+use Rattle.rq_standard.specs.OctetProducts.{mul-one, mul-zero}
+use Rattle.rq_bytes.specs.declared.products.TheConstants.{BITS, PLACES}
+
+-- a bit of a run of bits
+field_bit : (n s w k : ℕ) → k < w → bit_at (n / 2 ^ s % 2 ^ w) k ≡ bit_at n (s + k)
+field_bit n s w k lt =
+    let m = n / 2 ^ s in
+    sym (bit_at_cat_low (m / 2 ^ w) w (m % 2 ^ w) k lt)
+    ∙ ap (λ x. bit_at x k) (shr_split m w)
+    ∙ ap (λ x. x % 2) (shr-shr n s k)
+
+-- a row of n elements, packed in these words
+pub record IsPacked (words : List ℕ) (len : ℕ) (row : List ℕ) (padding n : ℕ) : Type 0 where
+  pub view : packed_bits words len ≡ row
+  pub long : length row ≡ n
+  pub before : padding ≡ padding_of (length row)
+
+pub length-packed : (words row : List ℕ) (len padding n : ℕ) → IsPacked words len row padding n → len ≡ n
+length-packed words row len padding n is = sym (length-packed_bits words len) ∙ ap length is.view ∙ is.long
+
+packed_at : (words row : List ℕ) (len padding n i : ℕ) → IsPacked words len row padding n → i < n
+    → bit_at (get_or words ((padding + i) / 64) 0) ((padding + i) % 64) ≡ get_or row i 0
+packed_at words row len padding n i is lt =
+    let len_is = length-packed words row len padding n is in
+    ap (λ p. bit_at (get_or words ((p + i) / 64) 0) ((p + i) % 64)) (is.before ∙ ap padding_of (is.long ∙ sym len_is))
+    ∙ sym (get_or-packed_bits words len i (omega arith))
+    ∙ ap (λ xs. get_or xs i 0) is.view
+
+-- an element in the first word, where that is not whole
+pub first_bit : (words row : List ℕ) (len padding n i word : ℕ) → IsPacked words len row padding n → i < n % 64 → word ≡ get_or words 0 0
+    → bit_at word (padding + i) ≡ get_or row i 0
+first_bit words row len padding n i word is lt e =
+    let bound = is.before in
+    let long = is.long in
+    let first : 0 ≡ (padding + i) / 64 = omega arith in
+    let place : padding + i ≡ (padding + i) % 64 = omega arith in
+    ap (λ w. bit_at w (padding + i)) (e ∙ ap (λ k. get_or words k 0) first)
+    ∙ ap (bit_at (get_or words ((padding + i) / 64) 0)) place
+    ∙ packed_at words row len padding n i is (omega arith)
+
+-- the elements in a whole word
+pub word_bits : (s : ℕ) (words row : List ℕ) (len padding n at word : ℕ) → IsPacked words len row padding n → at + 64 ≤ n → at % 64 ≡ n % 64
+    → word ≡ get_or words ((padding + at) / 64) 0
+    → map (λ i. octet_mul s (bit_at word i)) (range_with_len 0 64) ≡ map (octet_mul s) (chunk at 64 row)
+word_bits s words row len padding n at word is le aligned e =
+    let bound = is.before in
+    let long = is.long in
+    let few = length-chunk at 64 row (omega arith) in
+    let count = length-map-range_with_len (λ i. octet_mul s (bit_at word i)) 0 64 in
+    ext_get_or 0 (map (λ i. octet_mul s (bit_at word i)) (range_with_len 0 64)) (map (octet_mul s) (chunk at 64 row))
+    (count ∙ sym (length-map (chunk at 64 row) (octet_mul s) ∙ few))
+    (λ k under.
+    let lt : k < 64 = omega arith in
+    let which : (padding + at) / 64 ≡ (padding + (at + k)) / 64 = omega arith in
+    let place : k ≡ (padding + (at + k)) % 64 = omega arith in
+    get_or-map-range_with_len (λ i. octet_mul s (bit_at word i)) 0 64 k k 0 lt (omega arith)
+    ∙ ap (octet_mul s) (
+    ap (λ w. bit_at w k) (e ∙ ap (λ j. get_or words j 0) which)
+    ∙ ap (bit_at (get_or words ((padding + (at + k)) / 64) 0)) place
+    ∙ packed_at words row len padding n (at + k) is (omega arith)
+    ∙ sym (get_or-chunk at 64 row k 0 lt))
+    ∙ sym (get_or-map (octet_mul s) (chunk at 64 row) k 0 0 (omega arith)))
+
+-- ---- lanes of bits
+
+bit_test : (scalar b p : ℕ) → scalar < 256 → b < 2 → 0 < p → cond (eqb (b * p) p) scalar 0 ≡ octet_mul scalar b
+bit_test scalar b p hs hb hp =
+    ⊎_elim
+    (λ (is : b ≡ 0).
+    ap (λ x. cond (eqb (x * p) p) scalar 0) is
+    ∙ cond-false (eqb (0 * p) p) scalar 0 (ne_eqb (0 * p) p (λ e. omega arith))
+    ∙ sym (ap (octet_mul scalar) is ∙ mul-zero scalar))
+    (λ (ne : b ≡ 0 → ⊥).
+    let is : b ≡ 1 = omega arith in
+    ap (λ x. cond (eqb (x * p) p) scalar 0) is
+    ∙ cond-true (eqb (1 * p) p) scalar 0 (eq-eqb (1 * p) p (omega arith))
+    ∙ sym (ap (octet_mul scalar) is ∙ mul-one scalar hs))
+    (cases_eq b 0)
+
+masks : agree_below (λ i. eqb (get_or BITS i 0) (2 ^ (i % 8))) (λ _. true) 64 ≡ true
+masks = refl
+
+mask_at : (i : ℕ) → i < 64 → get_or BITS i 0 ≡ 2 ^ (i % 8)
+mask_at i lt = eqb-true _ _ (agree_below_at (λ k. eqb (get_or BITS k 0) (2 ^ (k % 8))) (λ _. true) 64 i masks lt)
+
+places : agree_below (λ i. eqb (256 ^ (i / 8)) (2 ^ (8 * (i / 8)))) (λ _. true) 64 ≡ true
+places = refl
+
+place_at : (i : ℕ) → i < 64 → 256 ^ (i / 8) ≡ 2 ^ (8 * (i / 8))
+place_at i lt = eqb-true _ _ (agree_below_at (λ k. eqb (256 ^ (k / 8)) (2 ^ (8 * (k / 8)))) (λ _. true) 64 i places lt)
+
+byte_bit : (word i : ℕ) → i < 64 → bit_at (word / 256 ^ (i / 8) % 256) (i % 8) ≡ bit_at word i
+byte_bit word i lt =
+    ap (λ p. bit_at (word / p % 256) (i % 8)) (place_at i lt)
+    ∙ field_bit word (8 * (i / 8)) 8 (i % 8) (omega arith)
+    ∙ ap (bit_at word) (let same : 8 * (i / 8) + i % 8 ≡ i = omega arith in same)
+
+pub masked : (scalar word : ℕ) (v : List ℕ) → scalar < 256 → length v ≡ 64
+    → ((i : ℕ) → i < 64 → get_or v i 0 ≡ word / 256 ^ (i / 8) % 256)
+    → sel_l (zip2 eqb (zip2 bit_and v BITS) BITS) (replicate 64 scalar) (replicate 64 0)
+    ≡ map (λ i. octet_mul scalar (bit_at word i)) (range_with_len 0 64)
+masked scalar word v hs long each =
+    let met = zip2 bit_and v BITS in
+    let long_met : length met ≡ 64 = length-zip2 bit_and v BITS long ∙ long in
+    let tests = zip2 eqb met BITS in
+    let long_tests : length tests ≡ 64 = length-zip2 eqb met BITS long_met ∙ long_met in
+    ext_get_or 0 (sel_l tests (replicate 64 scalar) (replicate 64 0)) (map (λ i. octet_mul scalar (bit_at word i)) (range_with_len 0 64))
+    (length-sel_l tests (replicate 64 scalar) (replicate 64 0) long_tests long_tests ∙ long_tests)
+    (λ i under.
+    let lt : i < 64 = omega (arith, length-sel_l tests (replicate 64 scalar) (replicate 64 0) long_tests long_tests) in
+    let k = i % 8 in
+    let x = word / 256 ^ (i / 8) % 256 in
+    get_or-sel_l tests (replicate 64 scalar) (replicate 64 0) i 0 (omega arith) lt lt
+    ∙ ap (λ t. cond t (get_or (replicate 64 scalar) i 0) (get_or (replicate 64 0) i 0)) (get_or-zip2 eqb met BITS i 0 0 false (omega arith) lt)
+    ∙ ap (λ m. cond (eqb m (get_or BITS i 0)) (get_or (replicate 64 scalar) i 0) (get_or (replicate 64 0) i 0)) (get_or-zip2 bit_and v BITS i 0 0 0 (omega arith) lt)
+    ∙ ap (λ y. cond (eqb (bit_and y (get_or BITS i 0)) (get_or BITS i 0)) (get_or (replicate 64 scalar) i 0) (get_or (replicate 64 0) i 0)) (each i lt)
+    ∙ ap (λ p. cond (eqb (bit_and x p) p) (get_or (replicate 64 scalar) i 0) (get_or (replicate 64 0) i 0)) (mask_at i lt)
+    ∙ ap (λ m. cond (eqb m (2 ^ k)) (get_or (replicate 64 scalar) i 0) (get_or (replicate 64 0) i 0)) (and_pow x k)
+    ∙ ap (λ s. cond (eqb (bit_at x k * 2 ^ k) (2 ^ k)) s (get_or (replicate 64 0) i 0)) (get_or-replicate 64 i scalar 0 lt)
+    ∙ ap (cond (eqb (bit_at x k * 2 ^ k) (2 ^ k)) scalar) (get_or-replicate 64 i 0 0 lt)
+    ∙ bit_test scalar (bit_at x k) (2 ^ k) hs (bit_at-lt x k) (pow_pos k)
+    ∙ ap (octet_mul scalar) (byte_bit word i lt)
+    ∙ sym (get_or-map-range_with_len (λ j. octet_mul scalar (bit_at word j)) 0 64 i i 0 lt (omega arith)))
+
+-- ---- the bytes of a word, each at eight places
+
+bytes_at : (n j : ℕ) → j < 8 → get_or (to_le_bytes w64 n ++ to_le_bytes w64 n) j 0 ≡ n / 256 ^ j % 256
+bytes_at n zero lt = ap (λ m. m % 256) (let whole : n ≡ n / 1 = omega arith in whole)
+bytes_at n (suc zero) lt = refl
+bytes_at n (suc (suc zero)) lt = refl
+bytes_at n (suc (suc (suc zero))) lt = refl
+bytes_at n (suc (suc (suc (suc zero)))) lt = refl
+bytes_at n (suc (suc (suc (suc (suc zero))))) lt = refl
+bytes_at n (suc (suc (suc (suc (suc (suc zero)))))) lt = refl
+bytes_at n (suc (suc (suc (suc (suc (suc (suc zero))))))) lt = refl
+bytes_at n (suc (suc (suc (suc (suc (suc (suc (suc j)))))))) lt = absurd (omega arith)
+
+byte_places : agree_below (λ i. eqb (get_or PLACES i 0) (i / 8)) (λ _. true) 64 ≡ true
+byte_places = refl
+
+pub repeated_at : (n i : ℕ) → i < 64 → get_or (pick_l 0 (to_le_bytes w64 n ++ to_le_bytes w64 n) PLACES) i 0 ≡ n / 256 ^ (i / 8) % 256
+repeated_at n i lt =
+    get_or-map (λ k. get_or (to_le_bytes w64 n ++ to_le_bytes w64 n) k 0) PLACES i 0 0 lt
+    ∙ ap (λ k. get_or (to_le_bytes w64 n ++ to_le_bytes w64 n) k 0) (eqb-true _ _ (agree_below_at (λ k. eqb (get_or PLACES k 0) (k / 8)) (λ _. true) 64 i byte_places lt))
+    ∙ bytes_at n (i / 8) (omega arith)

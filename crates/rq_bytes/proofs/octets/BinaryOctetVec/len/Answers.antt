@@ -1,0 +1,6 @@
+use Rattle.std.proofs.Common.{length, ap, sym, ◌∙◌}
+use Rattle.rq_standard.proofs.Packed.{length-packed_bits}
+use Rattle.rq_bytes.proofs.octets.BinaryOctetVec.len.Goals as goal
+
+pub returns : goal.returns
+returns c = sym (length-packed_bits c.self.inside.elements.items c.self.inside.length) ∙ ap length c.self.view_is

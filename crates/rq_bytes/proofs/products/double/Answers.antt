@@ -1,0 +1,15 @@
+use Rattle.std.proofs.Common.{ltb, sym, ◌∙◌, ◌*◌, ◌%◌}
+use Rattle.std.proofs.lemmas.Bool.{cond-true, cond-false, lt-ltb, le-ltb}
+use Rattle.std.specs.Int.Bits.{bit_xor}
+use Rattle.rq_bytes.proofs.Doubling.{double_is}
+use Rattle.rq_bytes.proofs.products.double.Goals as goal
+
+pub returns-then-a-lt128 : goal.returns-then-a-lt128
+returns-then-a-lt128 c =
+    let a = c.args.a in
+    sym (cond-true (ltb a 128) (a * 2 % 256) (bit_xor (a * 2 % 256) 29) (lt-ltb a 128 c.if-a-lt128.true)) ∙ double_is a c.ranges.a.fits
+
+pub returns-else-a-lt128 : goal.returns-else-a-lt128
+returns-else-a-lt128 c =
+    let a = c.args.a in
+    sym (cond-false (ltb a 128) (a * 2 % 256) (bit_xor (a * 2 % 256) 29) (le-ltb a 128 c.if-a-lt128.false)) ∙ double_is a c.ranges.a.fits

@@ -1,0 +1,135 @@
+//! Rows of octets and packed rows of bits.
+ghost use Rattle.std.specs.Prelude.{◌≡◌, ◌+◌, ◌*◌, ◌^◌, ◌<◌, length, vec_len};
+ghost use Rattle.rq_standard.specs.PackedBits.{padding_of, packed_bits};
+ghost use Rattle.rq_standard.specs.Rows.{row_sum, row_multiple};
+
+use crate::octet::Octet;
+use crate::products::{bit_product, bit_products, lane_products, product};
+use std::marker::Model;
+use std::simd::prelude::*;
+
+const LANES: usize = 32;
+
+const WORD_BITS: usize = 64;
+
+/// A row of octets each of which is 0 or 1, packed in words. Contracts see it as the list of these octets.
+#[derive(Drop)]
+pub struct BinaryOctetVec {
+    elements: Vec<u64>,
+    length: usize,
+}
+
+impl Model for BinaryOctetVec {
+    ghost use Rattle.std.specs.Prelude.{◌≡◌, ◌+◌, ◌*◌, List, ℕ, vec_len};
+
+    ghost Value = { List ℕ };
+
+    ghost use Rattle.rq_standard.specs.PackedBits.{padding_of, packed_bits};
+
+    ghost view = { λ v. packed_bits v.elements.items v.length };
+
+    ghost invariant = { λ v. padding_of v.length + v.length ≡ 64 * vec_len v.elements };
+}
+
+impl BinaryOctetVec {
+    /// A row of `length` elements in as many words as it needs: element i stands at bit `padding_bits` + i, counted
+    /// from the lowest bit of the first word. The bits below are ignored.
+    pub fn new(elements: Vec<u64>, length: usize) -> Self
+        requires { padding_of length + length ≡ 64 * vec_len elements }
+        ensures { result ≡ packed_bits elements.items length }
+    {
+        BinaryOctetVec { elements, length }
+    }
+
+    /// The number of elements.
+    pub fn len(&self) -> usize
+        ensures { result ≡ length self.now }
+    {
+        self.length
+    }
+
+    /// The number of bits of the first word that stand before the first element.
+    pub fn padding_bits(&self) -> usize
+        ensures { result ≡ padding_of (length self.now) }
+    {
+        (WORD_BITS - self.length % WORD_BITS) % WORD_BITS
+    }
+
+    /// The word in which one bit alone is set.
+    pub fn select_mask(bit: usize) -> u64
+        requires { bit < 64 }
+        ensures { result ≡ 2 ^ bit }
+    {
+        1 << bit
+    }
+}
+
+/// Adds a row to a row of the same length.
+pub fn add_assign(octets: &mut [u8], other: &[u8])
+    requires { length other.now ≡ length octets.old }
+    ensures { octets.new ≡ row_sum octets.old other.now }
+{
+    let blocks = octets.len() / LANES;
+    for block in 0..blocks {
+        let at = LANES * block;
+        let sum = u8x32::from_slice(&octets[at..]) ^ u8x32::from_slice(&other[at..]);
+        sum.copy_to_slice(&mut octets[at..]);
+    }
+    for i in LANES * blocks..octets.len() {
+        octets[i] ^= other[i];
+    }
+}
+
+/// Multiplies a row by an octet.
+pub fn mulassign_scalar(octets: &mut [u8], scalar: &Octet)
+    ensures { octets.new ≡ row_multiple scalar.now octets.old }
+{
+    let scalar = scalar.byte();
+    let blocks = octets.len() / LANES;
+    for block in 0..blocks {
+        let at = LANES * block;
+        let multiple = lane_products(scalar, u8x32::from_slice(&octets[at..]));
+        multiple.copy_to_slice(&mut octets[at..]);
+    }
+    for i in LANES * blocks..octets.len() {
+        octets[i] = product(scalar, octets[i]);
+    }
+}
+
+/// Adds a multiple of a row to a row of the same length.
+pub fn fused_addassign_mul_scalar(octets: &mut [u8], other: &[u8], scalar: &Octet)
+    requires { length other.now ≡ length octets.old }
+    ensures { octets.new ≡ row_sum octets.old (row_multiple scalar.now other.now) }
+{
+    let scalar = scalar.byte();
+    let blocks = octets.len() / LANES;
+    for block in 0..blocks {
+        let at = LANES * block;
+        let multiple = lane_products(scalar, u8x32::from_slice(&other[at..]));
+        let sum = u8x32::from_slice(&octets[at..]) ^ multiple;
+        sum.copy_to_slice(&mut octets[at..]);
+    }
+    for i in LANES * blocks..octets.len() {
+        octets[i] ^= product(scalar, other[i]);
+    }
+}
+
+/// Adds a multiple of a packed row to a row of the same length.
+pub fn fused_addassign_mul_scalar_binary(octets: &mut [u8], other: &BinaryOctetVec, scalar: &Octet)
+    requires { length other.now ≡ length octets.old }
+    ensures { octets.new ≡ row_sum octets.old (row_multiple scalar.now other.now) }
+{
+    let scalar = scalar.byte();
+    let padding = other.padding_bits();
+    // The first word may be begun; each later one is whole.
+    let begun = octets.len() % WORD_BITS;
+    for i in 0..begun {
+        octets[i] ^= bit_product(scalar, other.elements[0], padding + i);
+    }
+    for block in 0..octets.len() / WORD_BITS {
+        let at = begun + WORD_BITS * block;
+        let multiple = bit_products(scalar, other.elements[(padding + at) / WORD_BITS]);
+        let sum = u8x64::from_slice(&octets[at..]) ^ multiple;
+        sum.copy_to_slice(&mut octets[at..]);
+    }
+}

@@ -1,0 +1,51 @@
+//! Two places of a list at once, and a rounded quotient.
+ghost use Rattle.std.specs.Prelude.{◌≡◌, ◌≢◌, ◌⊎◌, ◌+◌, ◌-◌, ◌/◌, ◌<◌, ◌≤◌, ◌++◌, length, take, drop, slice_get, slice_set, slice_index_or};
+ghost use Rattle.rq_bytes.specs.Ranges.{range_of};
+ghost use Rattle.std.specs.Borrow.{sem, LendsBoth, Array};
+
+/// Lends the elements at two places for writing.
+pub fn get_both_indices<T>(vector: &mut [T], i: usize, j: usize) -> (&mut T, &mut T)
+    requires two { i ≢ j }
+    requires first { i < length vector.old }
+    requires second { j < length vector.old }
+    ensures* writes_back { sem 𝓛 (LendsBoth (Array T.row 0) T.row T.row vector.entry result (λ x y. slice_set (slice_set vector.old i x) j y)) }
+    ensures first { result.0.now ≡ slice_index_or vector.old i result.0.now }
+    ensures second { result.1.now ≡ slice_index_or vector.old j result.1.now }
+{
+    if i < j {
+        let (front, back) = vector.split_at_mut(j);
+        (&mut front[i], &mut back[0])
+    } else {
+        let (front, back) = vector.split_at_mut(i);
+        (&mut back[0], &mut front[j])
+    }
+}
+
+/// Lends the `len` elements from each of two places on for writing. The two ranges have no place in common.
+pub fn get_both_ranges<T>(vector: &mut [T], i: usize, j: usize, len: usize) -> (&mut [T], &mut [T])
+    requires apart { (i + len ≤ j) ⊎ (j + len ≤ i) }
+    requires first { i + len ≤ length vector.old }
+    requires second { j + len ≤ length vector.old }
+    ensures first { result.0.now ≡ range_of vector.old i len }
+    ensures second { result.1.now ≡ range_of vector.old j len }
+{
+    if i < j {
+        let (front, back) = vector.split_at_mut(j);
+        (&mut front[i..i + len], &mut back[..len])
+    } else {
+        let (front, back) = vector.split_at_mut(i);
+        (&mut back[..len], &mut front[j..j + len])
+    }
+}
+
+/// The quotient, rounded up.
+pub fn int_div_ceil(dividend: u64, divisor: u64) -> u64
+    requires { 0 < divisor }
+    ensures { result ≡ (dividend + divisor - 1) / divisor }
+{
+    if dividend % divisor == 0 {
+        dividend / divisor
+    } else {
+        dividend / divisor + 1
+    }
+}

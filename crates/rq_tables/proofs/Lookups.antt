@@ -1,0 +1,99 @@
+-- Reading the tables place by place.
+use Rattle.std.proofs.Common.{◌≡◌, ℕ, suc, ◌+◌, ◌-◌, ◌<◌, ◌≤◌, cond, leb, List, [], ◌∷◌, length, get_or, drop, ◌++◌, append_assoc, append-nil, Option, None, Some, Bor, refl, arith, ap, subst, sym, ◌∙◌, slice_get, drop-cons, length-drop}
+use Rattle.std.proofs.Math.ListN.{drop_of_length-le}
+use Rattle.std.proofs.lemmas.Bool.{le-leb, lt-leb}
+use Rattle.std.proofs.lemmas.Option.{slice_get_read, slice_get_past}
+use Rattle.std.specs.Option.{option_copied}
+use Rattle.std.specs.Slice.{IsItemAt}
+use Rattle.rq_standard.specs.declared.row.Row.{Row}
+use Rattle.rq_standard.specs.declared.numbers.TheConstants.{SYSTEMATIC_INDICES_AND_PARAMETERS}
+use Rattle.rq_standard.specs.TableRows.{Numbers, row_at, rows_from, row_of, greatest_size, first_failing_check, first_failure, first_refused, built_in_rows}
+
+-- what `get` lends, copied, is the item at the place
+pub copied-get : {X : Type 0} (xs : List X) (i : ℕ) (lent : Option (Bor X)) → IsItemAt xs i lent → option_copied lent ≡ slice_get xs i
+copied-get xs i None is = sym (slice_get_past xs i is.3)
+copied-get xs i (Some x) is = sym (slice_get_read xs (length xs) i x.now refl is.3.0 is.1)
+
+-- ---- the first row of a table that holds a block
+
+row_of-drop : (rows : List Row) (k i : ℕ) (d : Row) → i < length rows → row_of (drop i rows) k ≡ cond (leb k (get_or rows i d).source_symbols) (get_or rows i d) (row_of (drop (suc i) rows) k)
+unfolding row_of
+row_of-drop rows k i d lt = rw (drop-cons rows i d lt)
+
+pub row_here : (rows : List Row) (k i : ℕ) (d : Row) → i < length rows → k ≤ (get_or rows i d).source_symbols → row_of (drop i rows) k ≡ get_or rows i d
+row_here rows k i d lt le = row_of-drop rows k i d lt ∙ rw (le-leb k (get_or rows i d).source_symbols le)
+
+pub row_later : (rows : List Row) (k i : ℕ) (d : Row) → i < length rows → (get_or rows i d).source_symbols < k → row_of (drop i rows) k ≡ row_of (drop (i + 1) rows) k
+row_later rows k i d lt below =
+    row_of-drop rows k i d lt ∙ rw (lt-leb k (get_or rows i d).source_symbols below) (ap (λ (n : ℕ). row_of (drop n rows) k) (let same : suc i ≡ i + 1 = omega arith in same))
+
+greatest_later : (row : Row) (rest : List Row) (k : ℕ) → row.source_symbols < k → k ≤ greatest_size (row ∷ rest) → (k ≤ greatest_size rest) × (0 < length rest)
+unfolding greatest_size
+greatest_later row [] k below le = absurd (omega arith)
+greatest_later row (next ∷ rest) k below le = (le, omega arith)
+
+-- where the row at a place does not hold the block, a later one does
+pub greatest-drop : (rows : List Row) (k i : ℕ) (d : Row) → i < length rows → (get_or rows i d).source_symbols < k → k ≤ greatest_size (drop i rows) → (k ≤ greatest_size (drop (i + 1) rows)) × (i + 1 < length rows)
+greatest-drop rows k i d lt below le =
+    let later = greatest_later (get_or rows i d) (drop (suc i) rows) k below (rw (drop-cons rows i d lt) at le) in (
+      subst (λ (n : ℕ). k ≤ greatest_size (drop n rows)) (let same : suc i ≡ i + 1 = omega arith in same) later.0,
+      omega (arith, later.1, length-drop (suc i) rows),
+    )
+
+pub greatest_some : (rows : List Row) (row : Row) → slice_get rows (length rows - 1) ≡ Some row → row.source_symbols ≡ greatest_size rows
+unfolding greatest_size
+greatest_some [] row is = absurd (cc)
+greatest_some (only ∷ []) row is = let same : only ≡ row = cc in ap (λ (r : Row). r.source_symbols) (sym same)
+greatest_some (first ∷ next ∷ rest) row is =
+    greatest_some (next ∷ rest) row
+    (subst (λ (n : ℕ). slice_get (first ∷ next ∷ rest) n ≡ Some row) (let same : suc (suc (length rest)) - 1 ≡ suc (suc (length rest) - 1) = omega arith in same) is)
+
+pub greatest_none : (rows : List Row) → slice_get rows (length rows - 1) ≡ None → 0 ≡ greatest_size rows
+unfolding greatest_size
+greatest_none [] is = refl
+greatest_none (only ∷ []) is = absurd (cc)
+greatest_none (first ∷ next ∷ rest) is =
+    greatest_none (next ∷ rest)
+    (subst (λ (n : ℕ). slice_get (first ∷ next ∷ rest) n ≡ None) (let same : suc (suc (length rest)) - 1 ≡ suc (suc (length rest) - 1) = omega arith in same) is)
+
+-- ---- the first refused row
+
+pub first_refused-drop : (rows : List Numbers) (place : ℕ) (d : Numbers) → place < length rows →
+    first_refused place (drop place rows) ≡ first_failure (first_failing_check (74 + place) (row_at (74 + place) (get_or rows place d))) place (first_refused (place + 1) (drop (place + 1) rows))
+unfolding first_refused
+first_refused-drop rows place d lt =
+    rw (drop-cons rows place d lt)
+    (ap (λ (n : ℕ). first_failure (first_failing_check (74 + place) (row_at (74 + place) (get_or rows place d))) place (first_refused (place + 1) (drop n rows))) (let same : suc place ≡ place + 1 = omega arith in same))
+
+pub first_refused-end : (rows : List Numbers) (place : ℕ) → length rows ≤ place → first_refused place (drop place rows) ≡ None
+unfolding first_refused
+first_refused-end rows place le = rw (drop_of_length-le rows le)
+
+-- a failing check found at a place of the rows that are tested
+pub check_step : (rows : List Numbers) (place : ℕ) (d : Numbers) (row : Row) (failing : Option ℕ) → place < length rows → row ≡ row_at (74 + place) (get_or rows place d) → failing ≡ first_failing_check (74 + place) row →
+    first_refused place (drop place rows) ≡ first_failure failing place (first_refused (place + 1) (drop (place + 1) rows))
+check_step rows place d row failing lt row_is failing_is =
+    first_refused-drop rows place d lt
+    ∙ ap (λ (o : Option ℕ). first_failure o place (first_refused (place + 1) (drop (place + 1) rows))) (sym (failing_is ∙ ap (λ (r : Row). first_failing_check (74 + place) r) row_is))
+
+-- ---- rows made one by one
+
+-- the rows made and those to come stay the same when one is made
+pub rows_from_push : (made : List Row) (place : ℕ) (numbers : List Numbers) (i : ℕ) (d : Numbers) (row : Row) → i < length numbers → row ≡ row_at place (get_or numbers i d) →
+    (made ++ row ∷ []) ++ rows_from (place + 1) (drop (i + 1) numbers) ≡ made ++ rows_from place (drop i numbers)
+unfolding rows_from
+rows_from_push made place numbers i d row lt row_is =
+    append_assoc made (row ∷ []) (rows_from (place + 1) (drop (i + 1) numbers))
+    ∙ ap (λ (rows : List Row). made ++ rows)
+    (ap (λ (r : Row). r ∷ rows_from (place + 1) (drop (i + 1) numbers)) row_is
+    ∙ ap (λ (n : ℕ). row_at place (get_or numbers i d) ∷ rows_from (place + 1) (drop n numbers)) (let same : i + 1 ≡ suc i = omega arith in same)
+    ∙ ap (λ (rest : List Numbers). rows_from place rest) (sym (drop-cons numbers i d lt)))
+
+pub rows_from_end : (made : List Row) (place : ℕ) (numbers : List Numbers) (i : ℕ) → length numbers ≤ i → made ++ rows_from place (drop i numbers) ≡ made
+unfolding rows_from
+rows_from_end made place numbers i le = rw (drop_of_length-le numbers le) (append-nil made)
+
+pub made_built_in : (start made : List Row) (n : ℕ) → start ≡ [] → n ≡ 0 → made ≡ start ++ rows_from n SYSTEMATIC_INDICES_AND_PARAMETERS → made ≡ built_in_rows
+unfolding built_in_rows
+made_built_in start made n empty none is =
+    is ∙ ap (λ (rows : List Row). rows ++ rows_from n SYSTEMATIC_INDICES_AND_PARAMETERS) empty ∙ ap (λ (k : ℕ). rows_from k SYSTEMATIC_INDICES_AND_PARAMETERS) none

@@ -1,0 +1,6 @@
+//! The table of systematic indices and parameters, and the random generator.
+#![tactic(auto)]
+
+mod checks;
+pub mod rng;
+pub mod systematic_constants;

@@ -1,0 +1,33 @@
+//! The random generator (RFC 6330, section 5.3.5.1).
+ghost use Rattle.std.specs.Prelude.{◌≡◌, ◌<◌};
+ghost use Rattle.rq_standard.specs.Rand.{rand, entry_of};
+
+use rq_standard::numbers::{V0, V1, V2, V3};
+
+/// Rand[y, i, m]: a number below `modulus` that depends on `y` and `i` alone otherwise. Sums wrap, as the standard's do.
+pub fn rand(y: u32, i: u32, modulus: u32) -> u32
+    requires { 0 < modulus }
+    ensures value { result ≡ rand y i modulus }
+    ensures below { result < modulus }
+{
+    let mixed = entry(&V0, y, i) ^ entry(&V1, y >> 8, i) ^ entry(&V2, y >> 16, i) ^ entry(&V3, y >> 24, i);
+    mixed % modulus
+}
+
+// The entry of a table that `y` and `i` choose.
+fn entry(table: &[u32; 256], y: u32, i: u32) -> u32
+    ensures { result ≡ entry_of table.now y i }
+{
+    table[(y.wrapping_add(i) % 256) as usize]
+}
+
+#[cfg(test)]
+mod tests {
+    use super::rand;
+
+    #[test]
+    fn numbers(rt: HostRuntime) {
+        assert_eq!(rt; rand(0, 0, 1048576), 145433);
+        assert_eq!(rt; rand(4294967295, 1, 1048576), 145433);
+    }
+}
