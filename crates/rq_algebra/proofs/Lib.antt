@@ -9,5 +9,6 @@ pub mod Placewise
 pub mod Runs
 pub mod SmallCases
 pub mod Solutions
+pub mod Stacks
 pub mod Sums
 pub mod SymbolColumns

@@ -97,25 +97,3 @@ pub determined_unique : (F : Field) (height width : ℕ) (a : ℕ → ℕ → �
 determined_unique F height width a x y v determined ex ey sx sy k l =
     let e : F.add (x k) (y k) ≡ 0 = determined (λ j. F.add (x j) (y j)) (λ j m. F.add_below (x j) (y j) (ex j m) (ey j m)) record { at = λ i m. cc (dot_add_column F width (a i) x y, sx.at i m, sy.at i m, F.add_self (v i)) } k l in
     cc (e, add_again F (x k) (y k), F.zero_add (y k))
-
-module _ {X : Type 0} (height : ℕ) (above below : ℕ → X) where
-  pub stacked_above : (i : ℕ) → i < height → stacked height above below i ≡ above i
-  stacked_above i l = rw (lt-ltb i height l)
-
-  pub stacked_below : (i : ℕ) → stacked height above below (height + i) ≡ below i
-  stacked_below i = let e : (height + i) - height ≡ i = omega arith in rw (le-ltb (height + i) height (omega arith), e)
-
--- the equations of the old ids are among those of the new ones
-pub ids_stand : (width height : ℕ) (above row : ℕ → ℕ → ℕ) (old new : List ℕ) → IdsStandIn old new → RowsStandIn width (height + length old) (stacked height above (rows_of row old)) (height + length new) (stacked height above (rows_of row new))
-ids_stand width height above row old new ids i l = elim (cases_lt i height) [
-  | inl m ↦ (i, (omega arith), λ k n. ap (λ (r : ℕ → ℕ). r k) (stacked_above height above (rows_of row new) i m ∙ sym (stacked_above height above (rows_of row old) i m)))
-  | inr m ↦
-      let j : ℕ = i - height in
-      let e : height + j ≡ i = omega arith in
-      let o : j < length old = omega arith in
-      let q = ids (at old j) (Contains-get_or old j 0 o) in
-      let same : at new q.0 ≡ at old j = sym (get_or_default_zero new q.0 (at old j) q.1) ∙ q.2 in
-      (height + q.0, (omega (arith, q.1)), λ k n. ap (λ (r : ℕ → ℕ). r k) (
-        stacked_below height above (rows_of row new) q.0 ∙ ap row same
-        ∙ sym (stacked_below height above (rows_of row old) j) ∙ ap (stacked height above (rows_of row old)) e))
-]
