@@ -6,6 +6,7 @@ pub mod Parity
 pub mod Pivots
 pub mod Places
 pub mod Placewise
+pub mod Reduction
 pub mod Runs
 pub mod SmallCases
 pub mod Solutions

@@ -1,5 +1,5 @@
 -- Systems that stand one below the other.
-use Rattle.std.proofs.Common.{◌≡◌, ◌≢◌, ℕ, ◌+◌, ◌-◌, ◌<◌, List, length, get_or, sym, ap, ◌∙◌, refl, arith, inl, inr}
+use Rattle.std.proofs.Common.{◌≡◌, ℕ, ◌+◌, ◌-◌, ◌<◌, List, length, sym, ap, ◌∙◌, refl, arith, inl, inr}
 use Rattle.std.proofs.lemmas.Bool.{cases_lt, lt-ltb, le-ltb}
 use Rattle.std.proofs.lemmas.Grind.{get_or_default_zero}
 use Rattle.std.proofs.lemmas.List.Elements.{Contains-get_or}
@@ -24,10 +24,13 @@ ids_stand width height above row old new ids i l = elim (cases_lt i height) [
       let e : height + j ≡ i = omega arith in
       let o : j < length old = omega arith in
       let q = ids (at old j) (Contains-get_or old j 0 o) in
-      let same : at new q.0 ≡ at old j = sym (get_or_default_zero new q.0 (at old j) q.1) ∙ q.2 in
-      (height + q.0, (omega (arith, q.1)), λ k n. ap (λ (r : ℕ → ℕ). r k) (
-        stacked_below height above (rows_of row new) q.0 ∙ ap row same
-        ∙ sym (stacked_below height above (rows_of row old) j) ∙ ap (stacked height above (rows_of row old)) e))
+      let same : at new q.0 ≡ at old j = sym (get_or_default_zero new q.0 (at old j) q.1) ∙ q.2 in (
+        height + q.0,
+        (omega (arith, q.1)),
+        λ k n. ap (λ (r : ℕ → ℕ). r k) (
+            stacked_below height above (rows_of row new) q.0 ∙ ap row same
+            ∙ sym (stacked_below height above (rows_of row old) j) ∙ ap (stacked height above (rows_of row old)) e),
+      )
 ]
 
 -- a column solves both systems where it solves the one of both
@@ -67,7 +70,7 @@ module _ (F : Field) (height more width : ℕ) (above below : ℕ → ℕ → �
   pub solves_symbols_stacked : SolvesSymbols F height width above column u → SolvesSymbols F more width below column v → SolvesSymbols F (height + more) width (stacked height above below) column (stacked height u v)
   solves_symbols_stacked first second = record {
     at_place = λ p. solves_same F (height + more) width (stacked height above below) (stacked height above below) _ _ _ (λ i k l m. refl) (λ i l. sym (slice-stacked p i)) (
-    solves_stacked F height more width above below (slice_at p column) (slice_at p u) (slice_at p v) (first.at_place p) (second.at_place p));
+        solves_stacked F height more width above below (slice_at p column) (slice_at p u) (slice_at p v) (first.at_place p) (second.at_place p));
   }
 
   slices_solve : SolvesSymbols F (height + more) width (stacked height above below) column (stacked height u v) → (p : ℕ) → Solves F (height + more) width (stacked height above below) (slice_at p column) (stacked height (slice_at p u) (slice_at p v))
