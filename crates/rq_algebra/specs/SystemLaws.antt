@@ -1,5 +1,5 @@
 -- The laws of linear systems, as statements: functions of `systems` have them as contracts.
-use Rattle.std.specs.Prelude.{◌≡◌, ◌≢◌, ℕ, ◌+◌, ◌<◌, List, length}
+use Rattle.std.specs.Prelude.{◌≡◌, ◌≢◌, ℕ, ◌+◌, ◌<◌, ◌↔◌, List, length}
 use Rattle.rq_algebra.specs.Field.{Field}
 use Rattle.rq_algebra.specs.Systems.{sum_below, dot, Solves, IsColumn, IsDetermined, HasNullColumn, HasElements, ArePlaces, IsFewOn, RowsStandIn, stacked, rows_of, IdsStandIn}
 use Rattle.rq_algebra.specs.Steps.{AddsRow, ScalesRow, AddsValue, ScalesValue, exchange, SameSolutions}
@@ -87,3 +87,10 @@ abbrev pub FewOnColumnsHaveNullColumn : Type 0
 FewOnColumnsHaveNullColumn =
     (F : Field) (height width n : ℕ) (a : ℕ → ℕ → ℕ) (rows columns : ℕ → ℕ)
     → HasElements F height width a → IsFewOn height width n a rows columns → HasNullColumn F height width a
+
+-- a column solves two systems that are stacked where it solves both
+abbrev pub StackedIsBoth : Type 0
+StackedIsBoth =
+    (F : Field) (height more width : ℕ) (above below : ℕ → ℕ → ℕ) (column u v : ℕ → ℕ)
+    → Solves F (height + more) width (stacked height above below) column (stacked height u v)
+    ↔ (Solves F height width above column u × Solves F more width below column v)

@@ -1,5 +1,5 @@
 //! The laws of linear systems.
-ghost use Rattle.rq_algebra.specs.SystemLaws.{SumIsLinear, DotIsLinearInRow, DotIsLinearInColumn, AddingKeepsSolutions, ScalingKeepsSolutions, RowOrderKeepsSolutions, ColumnOrderKeepsSolutions, ExchangeIsAnOrder, DeterminedStays, DeterminedByIds, DeterminedHasOneSolution, NullColumnRefutesDetermined, FewEquationsHaveNullColumn, FewOnColumnsHaveNullColumn};
+ghost use Rattle.rq_algebra.specs.SystemLaws.{SumIsLinear, DotIsLinearInRow, DotIsLinearInColumn, AddingKeepsSolutions, ScalingKeepsSolutions, RowOrderKeepsSolutions, ColumnOrderKeepsSolutions, ExchangeIsAnOrder, DeterminedStays, DeterminedByIds, DeterminedHasOneSolution, NullColumnRefutesDetermined, StackedIsBoth, FewEquationsHaveNullColumn, FewOnColumnsHaveNullColumn};
 
 /// Sums and products are linear.
 pub fn linear()
@@ -29,4 +29,9 @@ pub fn determined()
 pub fn few_equations()
     ensures of_all { FewEquationsHaveNullColumn }
     ensures on_columns { FewOnColumnsHaveNullColumn }
+{}
+
+/// A column solves two systems that stand one below the other where it solves both.
+pub fn stacked()
+    ensures { StackedIsBoth }
 {}

@@ -1,4 +1,5 @@
-use Rattle.rq_algebra.proofs.Solutions.{determined_stays, ids_stand, determined_unique, null_not_determined}
+use Rattle.rq_algebra.proofs.Solutions.{determined_stays, determined_unique, null_not_determined}
+use Rattle.rq_algebra.proofs.Stacks.{ids_stand}
 use Rattle.rq_algebra.proofs.systems.determined.Goals as goal
 
 pub returns : goal.returns
