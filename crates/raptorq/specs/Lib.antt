@@ -1,2 +1,5 @@
-pub mod Missing
 pub mod Blocks
+pub mod Missing
+pub mod OneBlock
+pub mod Refused
+pub mod Objects

@@ -9,3 +9,4 @@ pub mod Powers
 pub mod RowLaws
 pub mod RowSymbols
 pub mod Standing
+pub mod OneAnswer
