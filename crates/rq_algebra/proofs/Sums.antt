@@ -149,5 +149,5 @@ module _ (F : Field) where
       sum_same n _ _ (λ k l. F.mul_comm (sum_below F m (λ i. F.mul (r i) (a i k))) (x k) ∙ sym (sum_mul m (x k) (λ i. F.mul (r i) (a i k))))
       ∙ sym (sum_sum m n (λ i k. F.mul (x k) (F.mul (r i) (a i k))))
       ∙ sum_same m _ _ (λ i l.
-        sum_same n _ _ (λ k o. cc (F.mul_comm (x k) (F.mul (r i) (a i k)), F.mul_assoc (r i) (a i k) (x k)))
-        ∙ sum_mul n (r i) (λ k. F.mul (a i k) (x k)))
+      sum_same n _ _ (λ k o. cc (F.mul_comm (x k) (F.mul (r i) (a i k)), F.mul_assoc (r i) (a i k) (x k)))
+      ∙ sum_mul n (r i) (λ k. F.mul (a i k) (x k)))
