@@ -51,6 +51,10 @@ pub record IsFewOn (height width n : ℕ) (a : ℕ → ℕ → ℕ) (rows column
 abbrev pub RowsStandIn : ℕ → ℕ → (ℕ → ℕ → ℕ) → ℕ → (ℕ → ℕ → ℕ) → Type 0
 RowsStandIn width old_height old new_height new = (i : ℕ) → i < old_height → (j : ℕ) × (j < new_height) × ((k : ℕ) → k < width → new j k ≡ old i k)
 
+-- the same with the values of the rows
+abbrev pub EquationsStandIn : ℕ → ℕ → (ℕ → ℕ → ℕ) → (ℕ → ℕ) → ℕ → (ℕ → ℕ → ℕ) → (ℕ → ℕ) → Type 0
+EquationsStandIn width old_height old v new_height new w = (i : ℕ) → i < old_height → (j : ℕ) × (j < new_height) × ((k : ℕ) → k < width → new j k ≡ old i k) × (w j ≡ v i)
+
 -- a list as a function of the place, zero past its end
 abbrev pub at : List ℕ → ℕ → ℕ
 at xs k = slice_index xs k
