@@ -2,7 +2,8 @@
 use Rattle.std.proofs.Common.{◌≡◌, ◌≢◌, ℕ, ◌<◌, refl, sym, ap, ◌∙◌, inl, inr}
 use Rattle.std.proofs.lemmas.Bool.{cases_eq}
 use Rattle.rq_algebra.specs.Field.{Field}
-use Rattle.rq_algebra.specs.Systems.{HasElements, ArePlaces}
+use Rattle.rq_algebra.specs.Arrangements.{ArePlaces}
+use Rattle.rq_algebra.specs.Systems.{HasElements}
 use Rattle.rq_algebra.specs.Steps.{AddsRow, ScalesRow}
 use Rattle.rq_algebra.specs.Meaning.{Shows}
 use Rattle.rq_algebra.proofs.Changes.{with_at, with_at_same, with_at_other}

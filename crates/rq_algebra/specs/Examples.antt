@@ -1,7 +1,8 @@
 -- Small systems over the field of two elements, which show what the definitions mean, and why the laws have their premises.
 use Rattle.std.specs.Prelude.{◌≡◌, ◌≢◌, ℕ, ◌<◌, List, [], ◌∷◌, map, Some, None}
+use Rattle.rq_algebra.specs.Arrangements.{exchange}
 use Rattle.rq_algebra.specs.Systems.{dot, Solves, IsDetermined, HasNullColumn, at, stacked, rows_of}
-use Rattle.rq_algebra.specs.Steps.{AddsRow, AddsValue, ScalesRow, ScalesValue, SameSolutions, exchange}
+use Rattle.rq_algebra.specs.Steps.{AddsRow, AddsValue, ScalesRow, ScalesValue, SameSolutions}
 use Rattle.rq_algebra.specs.Operations.{Operation, AddAssign, MulAssign, Fma, Reorder, Space, plain, unordered, run, values_in, IsAllowed}
 use Rattle.rq_algebra.specs.Symbols.{symbols, symbol_at}
 use Rattle.rq_algebra.specs.Parities.{sum_listed, parity}

@@ -1,5 +1,5 @@
 use Rattle.std.proofs.Common.{◌≡◌, ◌≢◌, ℕ, [], ◌∷◌, refl, arith}
-use Rattle.rq_algebra.specs.Steps.{exchange}
+use Rattle.rq_algebra.specs.Arrangements.{exchange}
 use Rattle.rq_algebra.specs.Examples.{rows, turned}
 use Rattle.rq_algebra.specs.Two.{two}
 use Rattle.rq_algebra.proofs.Places.{exchange_are}
