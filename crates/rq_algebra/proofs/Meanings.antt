@@ -5,9 +5,9 @@ use Rattle.rq_algebra.specs.Field.{Field}
 use Rattle.rq_algebra.specs.Arrangements.{ArePlaces}
 use Rattle.rq_algebra.specs.Systems.{HasElements}
 use Rattle.rq_algebra.specs.Steps.{AddsRow, ScalesRow}
-use Rattle.rq_algebra.specs.Operations.{Operation, MulAssign, Fma}
+use Rattle.rq_algebra.specs.Operations.{Operation, AddAssign, MulAssign, Fma}
 use Rattle.rq_algebra.specs.Meaning.{Shows, IsMeant}
-use Rattle.rq_algebra.proofs.Runs.{follows_none, follows_fma, follows_scale}
+use Rattle.rq_algebra.proofs.Runs.{follows_none, follows_add, follows_fma, follows_scale}
 use Rattle.rq_algebra.proofs.Changes.{with_at, with_at_same, with_at_other}
 
 module _ (F : Field) (height width : ℕ) (a : ℕ → ℕ → ℕ) (dest scalar : ℕ) where
@@ -154,14 +154,14 @@ module _ (F : Field) (height width : ℕ) (values unknowns : ℕ → ℕ) (regio
     outside = outside is.meant is.outside;
   }
 
-  module _ (dest scalar : ℕ) (rows_are : ArePlaces height height values) (columns_are : ArePlaces width width unknowns) (in_dest : dest < height)
+  module _ (dest : ℕ) (rows_are : ArePlaces height height values) (columns_are : ArePlaces width width unknowns) (in_dest : dest < height)
       (others : (r k : ℕ) → r < height → k < width → r ≢ dest → new_region r k → region r k × (new_stored r k ≡ stored r k)) where
-    -- stored row src is added to stored row dest, and so is value `values src` to value `values dest`
-    pub meant_fma : (src : ℕ) → src ≢ dest → src < height
+    -- a multiple of stored row src is added to stored row dest, and so is value `values src` to value `values dest`
+    pub meant_fma : (src scalar : ℕ) → src ≢ dest → src < height
         → ((k : ℕ) → k < width → new_region dest k → region dest k × region src k × (new_stored dest k ≡ F.add (stored dest k) (F.mul scalar (stored src k))))
         → ((a b : ℕ → ℕ → ℕ) → HasElements F height width a → Shows height width values unknowns region stored a → AddsRow F height width (values dest) (values src) scalar a b → Outside a → NewOutside b)
         → IsMeant F height width values unknowns new_region NewOutside original new_stored (operations ++ Fma (values dest) (values src) scalar ∷ [])
-    meant_fma src apart in_src at_dest outside =
+    meant_fma src scalar apart in_src at_dest outside =
         let b : ℕ → ℕ → ℕ = added_row F height width is.meant (values dest) scalar (values src) in
         let adds : AddsRow F height width (values dest) (values src) scalar is.meant b = added_row_adds F height width is.meant (values dest) scalar (values src) in
         record {
@@ -172,12 +172,31 @@ module _ (F : Field) (height width : ℕ) (values unknowns : ℕ → ℕ) (regio
           outside = outside is.meant b is.elements is.shows adds is.outside;
         }
 
+    -- the same of the row itself, as rows of bits are added
+    pub meant_add : (src : ℕ) → src ≢ dest → src < height
+        → ((k : ℕ) → k < width → new_region dest k → region dest k × region src k × (new_stored dest k ≡ F.add (stored dest k) (stored src k)))
+        → ((a b : ℕ → ℕ → ℕ) → HasElements F height width a → Shows height width values unknowns region stored a → AddsRow F height width (values dest) (values src) 1 a b → Outside a → NewOutside b)
+        → IsMeant F height width values unknowns new_region NewOutside original new_stored (operations ++ AddAssign (values dest) (values src) ∷ [])
+    meant_add src apart in_src at_dest outside =
+        let b : ℕ → ℕ → ℕ = added_row F height width is.meant (values dest) 1 (values src) in
+        let adds : AddsRow F height width (values dest) (values src) 1 is.meant b = added_row_adds F height width is.meant (values dest) 1 (values src) in
+        record {
+          meant = b;
+          follows = follows_add F height width original is.meant b operations (values dest) (values src) (λ e. apart (rows_are.apart src dest in_src in_dest e)) (rows_are.below dest in_dest) (rows_are.below src in_src) adds is.follows;
+          elements = adds_elements F height width (values dest) 1 is.meant b is.elements (values src) (rows_are.below dest in_dest) adds;
+          shows = shows_adds height width values unknowns region stored is.meant is.shows new_region new_stored F dest 1 rows_are columns_are in_dest b others src in_src (λ k l i.
+              let w = at_dest k l i in
+              let small : stored src k < F.size = rw (is.shows.at src k in_src l w.1) (is.elements (values src) (unknowns k) (rows_are.below src in_src) (columns_are.below k l)) in
+              (w.0, w.1, w.2 ∙ ap (F.add (stored dest k)) (sym (F.one_mul (stored src k) small)))) adds;
+          outside = outside is.meant b is.elements is.shows adds is.outside;
+        }
+
     -- stored row dest is multiplied, and so is value `values dest`
-    pub meant_scale : scalar < F.size → scalar ≢ 0
+    pub meant_scale : (scalar : ℕ) → scalar < F.size → scalar ≢ 0
         → ((k : ℕ) → k < width → new_region dest k → region dest k × (new_stored dest k ≡ F.mul scalar (stored dest k)))
         → ((a b : ℕ → ℕ → ℕ) → HasElements F height width a → Shows height width values unknowns region stored a → ScalesRow F height width (values dest) scalar a b → Outside a → NewOutside b)
         → IsMeant F height width values unknowns new_region NewOutside original new_stored (operations ++ MulAssign (values dest) scalar ∷ [])
-    meant_scale is_element nonzero at_dest outside =
+    meant_scale scalar is_element nonzero at_dest outside =
         let b : ℕ → ℕ → ℕ = scaled_row F height width is.meant (values dest) scalar in
         let scales : ScalesRow F height width (values dest) scalar is.meant b = scaled_row_scales F height width is.meant (values dest) scalar in
         record {

@@ -48,7 +48,7 @@ PlacesAreExchanged = map (exchange 0 2) (0 ∷ 1 ∷ 2 ∷ 3 ∷ []) ≡ 2 ∷ 1
 abbrev pub reading : {X : Type 0} → Space X → List Operation → List X → List X
 reading S operations values = let s = run S operations (unordered values) in values_in S s.values s.order
 
--- three operations and a reading order: (1, 1, 0) becomes (1, 0, 1), is read as (0, 1, 1)
+-- three operations and a reading order: (1, 1, 0) becomes (1, 0, 1), which is read as (0, 1, 1)
 abbrev pub OperationsRun : Type 0
 OperationsRun = reading (plain two) (AddAssign 1 0 ∷ Fma 2 0 1 ∷ MulAssign 2 1 ∷ Reorder (1 ∷ 2 ∷ 0 ∷ []) ∷ []) (1 ∷ 1 ∷ 0 ∷ []) ≡ 0 ∷ 1 ∷ 1 ∷ []
 
