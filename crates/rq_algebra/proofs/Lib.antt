@@ -13,3 +13,4 @@ pub mod Solutions
 pub mod Stacks
 pub mod Sums
 pub mod SymbolColumns
+pub mod SymbolSums

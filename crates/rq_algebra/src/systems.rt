@@ -1,11 +1,12 @@
 //! The laws of linear systems.
-ghost use Rattle.rq_algebra.specs.SystemLaws.{SumIsLinear, DotIsLinearInRow, DotIsLinearInColumn, AddingKeepsSolutions, ScalingKeepsSolutions, RowOrderKeepsSolutions, ColumnOrderKeepsSolutions, ExchangeIsAnOrder, DeterminedStays, DeterminedByIds, DeterminedHasOneSolution, NullColumnRefutesDetermined, StackedIsBoth, FewEquationsHaveNullColumn, FewOnColumnsHaveNullColumn};
+ghost use Rattle.rq_algebra.specs.SystemLaws.{SumIsLinear, DotIsLinearInRow, DotIsLinearInColumn, ProductActsInTurn, AddingKeepsSolutions, ScalingKeepsSolutions, RowOrderKeepsSolutions, ColumnOrderKeepsSolutions, ExchangeIsAnOrder, DeterminedStays, DeterminedByIds, NewSolvesOld, DeterminedHasOneSolution, NullColumnRefutesDetermined, StackedIsBoth, FewEquationsHaveNullColumn, FewOnColumnsHaveNullColumn};
 
 /// Sums and products are linear.
 pub fn linear()
     ensures sum { SumIsLinear }
     ensures in_row { DotIsLinearInRow }
     ensures in_column { DotIsLinearInColumn }
+    ensures product { ProductActsInTurn }
 {}
 
 /// Elementary operations keep the solutions.
@@ -21,6 +22,7 @@ pub fn elementary_operations()
 pub fn determined()
     ensures stays { DeterminedStays }
     ensures by_ids { DeterminedByIds }
+    ensures solves_old { NewSolvesOld }
     ensures one_solution { DeterminedHasOneSolution }
     ensures refuted { NullColumnRefutesDetermined }
 {}
