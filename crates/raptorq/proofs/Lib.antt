@@ -4,3 +4,4 @@ pub mod Answered
 pub mod Refusals
 pub mod News
 pub mod Lists
+pub mod Encodes

@@ -1,5 +1,5 @@
 -- A list of an object's packets, taken one by one.
-use Rattle.std.proofs.Common.{◌≡◌, ℕ, ◌<◌, List, [], ◌∷◌, ◌++◌, length, Result, Ok, Err, refl, sym, ap, ◌∙◌, subst, arith, append_assoc, append-nil, eq-eqb}
+use Rattle.std.proofs.Common.{◌≡◌, ℕ, ◌<◌, List, [], ◌∷◌, ◌++◌, length, Result, Ok, Err, Option, refl, sym, ap, ◌∙◌, subst, arith, append_assoc, append-nil, eq-eqb}
 use Rattle.std.specs.List.{AllByRecursion}
 use Rattle.std.proofs.lemmas.Bool.{lt-ltb}
 use Rattle.std.proofs.lemmas.List.FromFn.{length-map-range_with_len}
@@ -42,8 +42,10 @@ pub next_whole : (all done rest left : List Packet) (p : Packet) → all ≡ don
 next_whole all done rest left p whole is = whole ∙ ap (λ l. done ++ l) is ∙ sym (append_assoc done (p ∷ []) left)
 
 -- the answer after the whole list
-pub answer_all : (c : Configuration) (object : List ℕ) (all done rest : List Packet) (s : State) → s.configuration ≡ c → c.source_blocks ≡ 1 → 0 < c.symbol_size → all ≡ done ++ rest → rest ≡ [] → Stands HasSourceSymbols IsSourcePacket object done s → IsObjectAnswer HasSourceSymbols c object all (result_of s)
-answer_all c object all done rest s same one pos whole none st =
-    let is : done ≡ all = sym (whole ∙ ap (λ l. done ++ l) none ∙ append-nil done) in
+pub answer_all : (c : Configuration) (object : List ℕ) (all done rest : List Packet) (s : State) (r : Option (List ℕ)) → s.configuration ≡ c → c.source_blocks ≡ 1 → 0 < c.symbol_size → all ≡ done ++ rest → rest ≡ [] → Stands HasSourceSymbols IsSourcePacket object done s → r ≡ result_of s
+    → IsObjectAnswer HasSourceSymbols c object all r
+answer_all c object all done rest s r same one pos whole none st is =
+    let all_done : done ≡ all = sym (whole ∙ ap (λ l. done ++ l) none ∙ append-nil done) in
     let here = result_of-one object done s (ap (λ k. k.source_blocks) same ∙ one) (subst (λ n. 0 < n) (sym (ap (λ k. k.symbol_size) same)) pos) st in
-    subst (λ k. IsObjectAnswer HasSourceSymbols k object all (result_of s)) same (subst (λ ps. IsObjectAnswer HasSourceSymbols s.configuration object ps (result_of s)) is here)
+    let there : IsObjectAnswer HasSourceSymbols s.configuration object all r = subst (λ ps. IsObjectAnswer HasSourceSymbols s.configuration object ps r) all_done (subst (IsObjectAnswer HasSourceSymbols s.configuration object done) (sym is) here) in
+    subst (λ k. IsObjectAnswer HasSourceSymbols k object all r) same there

@@ -3,3 +3,4 @@ pub mod Missing
 pub mod OneBlock
 pub mod Refused
 pub mod Objects
+pub mod Encoded

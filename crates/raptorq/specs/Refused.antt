@@ -1,7 +1,9 @@
 -- What coders refuse, in the order of the tests.
 use Rattle.std.specs.Prelude.{ℕ, ◌%◌, length, Result, Ok, Err, if◌then◌else◌, ◌==◌, not, nat_lt}
 use Rattle.rq_bytes.specs.declared.error.Error.{Error}
-use Rattle.rq_bytes.specs.declared.error.Error.TheVariants.{SymbolSizeZero, AlignmentZero, Misaligned, BlockOverTable, UnknownBlock, WrongPayloadSize, WrongDataLength, EsiTooLarge}
+use Rattle.rq_bytes.specs.declared.error.Error.TheVariants.{SymbolSizeZero, AlignmentZero, Misaligned, BlockOverTable, UnknownBlock, WrongPayloadSize, WrongDataLength}
+use Rattle.rq_bytes.specs.Refusals.{and_then}
+use Rattle.rq_base.specs.Refused.{checked_configuration}
 use Rattle.rq_standard.specs.Packet.{Packet}
 use Rattle.rq_standard.specs.Configuration.{Configuration}
 use Rattle.rq_standard.specs.Held.{Held}
@@ -28,3 +30,8 @@ packet_refusal c p =
     if not (nat_lt p.id.block c.source_blocks) then Err UnknownBlock
     else if not (length p.payload == c.symbol_size) then Err WrongPayloadSize
     else Ok tt
+
+-- whether the encoder of an object of this length is made
+abbrev pub new_encoder : ℕ → Configuration → ℕ → Result (Unit {0}) Error
+new_encoder greatest c length_of_data =
+    and_then (checked_configuration greatest c) (λ _. if length_of_data == c.transfer_length then Ok tt else Err WrongDataLength)

@@ -1,6 +1,6 @@
 //! The object transmission information (RFC 6330, 3.3.2 and 3.3.3).
-ghost use Rattle.std.specs.Prelude.{◌≡◌, Result, Ok, OnOk, slice_index};
-ghost use Rattle.rq_standard.specs.Configuration.{Configuration, IsConfiguration, IsAccepted, header_bytes, configuration_of_bytes};
+ghost use Rattle.std.specs.Prelude.{◌≡◌, ◌<◌, Result, Ok, OnOk, slice_index};
+ghost use Rattle.rq_standard.specs.Configuration.{Configuration, IsConfiguration, IsAccepted, largest_block, header_bytes, configuration_of_bytes};
 ghost use Rattle.rq_standard.specs.TableRows.{greatest_size};
 
 use rq_bytes::error::Error;
@@ -96,6 +96,7 @@ impl ObjectTransmissionInformation {
     pub fn check(&self, table: &SystematicTable) -> Result<(), Error>
         ensures refused { result ≡ checked_configuration (greatest_size table.now) self.now }
         ensures accepted { OnOk result (IsAccepted (greatest_size table.now) self.now) }
+        ensures few { OnOk result (largest_block self.now < 65536) }
     {
         if self.symbol_size == 0 {
             return Err(Error::SymbolSizeZero);
