@@ -1,3 +1,4 @@
 pub mod Error
 pub mod Ranges
 pub mod Refusals
+pub mod Slab

@@ -8,4 +8,5 @@ pub mod octet;
 pub mod octets;
 mod products;
 pub mod symbol;
+pub mod symbol_slab;
 pub mod util;

@@ -1,9 +1,9 @@
-use Rattle.std.proofs.Common.{ℕ, ◌≡◌, ◌+◌, ◌*◌, length, map, refl, sym, ap, ◌∙◌, arith, set, get_or}
+use Rattle.std.proofs.Common.{ℕ, ◌+◌, ◌*◌, refl, sym, ap, ◌∙◌, arith, set}
 use Rattle.std.proofs.lemmas.Simd.{length-chunk}
-use lib.Lanes.{zip2, chunk, put_chunk}
+use lib.Lanes.{chunk, put_chunk}
 use Rattle.rq_standard.specs.Octets.{octet_mul}
 use Rattle.rq_standard.specs.Rows.{row_multiple}
-use Rattle.rq_bytes.proofs.ZipUpto.{length-zip_upto, step_one, step_store, at_end, zip2-left}
+use Rattle.rq_bytes.proofs.ZipUpto.{step_one, step_store, at_end, zip2-left}
 use Rattle.rq_bytes.proofs.octets.mulassign_scalar.Goals as goal
 
 pub lane_products-multiple-requires : goal.lane_products-multiple-requires
