@@ -2,3 +2,4 @@ pub mod Error
 pub mod Ranges
 pub mod Refusals
 pub mod Slab
+pub mod SymbolOps

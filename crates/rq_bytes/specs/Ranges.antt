@@ -13,3 +13,8 @@ with_range xs i ys = take i xs ++ (ys ++ drop (i + length ys) xs)
 abbrev pub cut : {X : Type 0} → ℕ → ℕ → List X → List (List X)
 cut zero size xs = []
 cut (suc count) size xs = take size xs ∷ cut count size (drop size xs)
+
+-- the pieces joined again
+abbrev pub joined : {X : Type 0} → List (List X) → List X
+joined [] = []
+joined (xs ∷ rest) = xs ++ joined rest

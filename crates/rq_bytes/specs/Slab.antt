@@ -36,3 +36,10 @@ symbol_in slab i = read (symbols octets) (store_of slab) i
 -- the symbols at the defined places, as they are read
 abbrev pub symbols_in : Slab → List (List ℕ)
 symbols_in slab = values_in (symbols octets) slab.values slab.order
+
+-- whether two slabs have as many symbols of one size, one order, and the same octets
+abbrev pub same_slab : Slab → Slab → Bool
+same_slab =
+    eq_of_both (on (λ s. s.symbol_size) ◌==◌)
+    (eq_of_both (on (λ s. length s.values) ◌==◌)
+    (eq_of_both (on (λ s. s.order) (option_eq (pointwise ◌==◌))) (on (λ s. joined s.values) (pointwise ◌==◌))))

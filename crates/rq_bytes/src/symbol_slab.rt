@@ -1,16 +1,19 @@
 //! Symbols of one size in one buffer.
-ghost use Rattle.std.specs.Prelude.{◌≡◌, ◌≢◌, ◌⊎◌, ◌+◌, ◌*◌, ◌/◌, ◌^◌, ◌<◌, ◌≤◌, length, map, replicate, All, Ok, slice_index_or};
+ghost use Rattle.std.specs.Prelude.{◌≡◌, ◌≢◌, ◌⊎◌, ◌+◌, ◌*◌, ◌/◌, ◌^◌, ◌<◌, ◌≤◌, length, map, replicate, All, Ok, None};
+ghost use Rattle.std.proofs.Common.{rules};
+ghost use Rattle.std.specs.Cmp.Rules.{comparing};
 ghost use Rattle.rq_algebra.specs.Operations.{AddAssign, MulAssign, Fma, Reorder, IsOrder, meant_at};
 ghost use Rattle.rq_standard.specs.Rows.{row_sum, row_multiple};
 ghost use Rattle.rq_bytes.specs.Ranges.{range_of, with_range, cut};
 ghost use Rattle.rq_bytes.specs.Refusals.{IsAnswer};
-ghost use Rattle.rq_bytes.specs.Slab.{slab_of, after, HasPlace, Allows, symbol_in, symbols_in};
+ghost use Rattle.rq_bytes.specs.Slab.{slab_of, after, HasPlace, Allows, symbol_in, symbols_in, same_slab};
 
 use crate::error::Error;
 use crate::octet::Octet;
 use crate::octets;
-use crate::symbol::Symbol;
-use std::alloc::Global;
+use crate::symbol::{Symbol, zeros};
+use crate::util::get_both_ranges;
+use std::alloc::{AllocError, Global};
 use std::marker::Model;
 
 /// Symbols of one size in one buffer. An order may be set, and place i then means the symbol at the order's i-th entry.
@@ -44,7 +47,7 @@ impl SymbolSlab {
         ensures { IsAnswer (λ slab. slab) result (Ok (slab_of symbol_size (replicate count (replicate symbol_size 0)))) }
     {
         Ok(SymbolSlab {
-            data: vec![in alloc; 0; count * symbol_size]?,
+            data: zeros(alloc, count * symbol_size)?,
             symbol_size,
             count,
             order: None,
@@ -104,7 +107,7 @@ impl SymbolSlab {
         ensures { result.now ≡ symbol_in self.now i }
     {
         let start = self.start_of(i);
-        &self.data[start..start + self.symbol_size]
+        range(self.data.as_slice(), start, self.symbol_size)
     }
 
     /// Adds a symbol to another one.
@@ -115,7 +118,8 @@ impl SymbolSlab {
         let size = self.symbol_size;
         let dest_start = self.start_of(dest);
         let src_start = self.start_of(src);
-        add_range(self.data.as_mut_slice(), dest_start, src_start, size);
+        let bytes = self.data.as_mut_slice();
+        add_range(bytes, dest_start, src_start, size);
     }
 
     /// Multiplies a symbol by an octet.
@@ -123,9 +127,10 @@ impl SymbolSlab {
         requires { Allows self.old (MulAssign dest scalar.now) }
         ensures { self.new ≡ after (MulAssign dest scalar.now) self.old }
     {
+        let size = self.symbol_size;
         let start = self.start_of(dest);
-        let end = start + self.symbol_size;
-        octets::mulassign_scalar(&mut self.data[start..end], scalar);
+        let bytes = self.data.as_mut_slice();
+        multiply_range(bytes, start, size, scalar);
     }
 
     /// Adds a multiple of a symbol to another one.
@@ -136,13 +141,8 @@ impl SymbolSlab {
         let size = self.symbol_size;
         let dest_start = self.start_of(dest);
         let src_start = self.start_of(src);
-        add_range_multiple(
-            self.data.as_mut_slice(),
-            dest_start,
-            src_start,
-            size,
-            scalar,
-        );
+        let bytes = self.data.as_mut_slice();
+        add_range_multiple(bytes, dest_start, src_start, size, scalar);
     }
 
     /// Sets the order in which places are read, in place of the one before. No symbol moves.
@@ -153,17 +153,78 @@ impl SymbolSlab {
         self.order = Some(order);
     }
 
+    /// The octets of the symbol that a place means, for writing.
+    pub fn get_mut(&mut self, i: usize) -> &mut [u8]
+        requires { HasPlace self.old i }
+        ensures { result.now ≡ symbol_in self.old i }
+    {
+        let size = self.symbol_size;
+        let start = self.start_of(i);
+        range_mut(self.data.as_mut_slice(), start, size)
+    }
+
+    /// The octets of the symbols that two places mean, the first for writing.
+    pub fn get_pair_mut(&mut self, dest: usize, src: usize) -> (&mut [u8], &[u8])
+        requires { Allows self.old (AddAssign dest src) }
+        ensures dest { result.0.now ≡ symbol_in self.old dest }
+        ensures src { result.1.now ≡ symbol_in self.old src }
+    {
+        let size = self.symbol_size;
+        let dest_start = self.start_of(dest);
+        let src_start = self.start_of(src);
+        let bytes = self.data.as_mut_slice();
+        let (dest, src) = get_both_ranges(bytes, dest_start, src_start, size);
+        (dest, src)
+    }
+
+    /// Copies whole symbols into the places from `start` on, where no order is set.
+    pub fn copy_block_from(&mut self, start: usize, source: &[u8])
+        requires no_order { self.old.order ≡ None }
+        requires whole { length source.now ≡ length source.now / self.old.symbol_size * self.old.symbol_size }
+        requires fits { start + length source.now / self.old.symbol_size ≤ length self.old.values }
+        ensures { self.new ≡ record self.old { values = with_range self.old.values start (cut (length source.now / self.old.symbol_size) self.old.symbol_size source.now) } }
+    {
+        let start = start * self.symbol_size;
+        let bytes = self.data.as_mut_slice();
+        write_range(bytes, start, source);
+    }
+
+    /// A slab of the symbols that these places mean, one after another.
+    pub fn gather(&self, places: &[usize]) -> Result<Self, Error>
+        requires { All (HasPlace self.now) places.now }
+        ensures { IsAnswer (λ slab. slab) result (Ok (slab_of self.now.symbol_size (map (symbol_in self.now) places.now))) }
+    {
+        let mut data = Vec::new(*self.data.allocator());
+        for place in places {
+            data.extend_from_slice(self.get(*place))?;
+        }
+        Ok(SymbolSlab {
+            data,
+            symbol_size: self.symbol_size,
+            count: places.len(),
+            order: None,
+        })
+    }
+
     /// Where the symbol that a place means begins in the buffer.
     fn start_of(&self, i: usize) -> usize
         requires { HasPlace self.now i }
         ensures start { result ≡ meant_at self.now.order i * self.now.symbol_size }
-        ensures within { result + self.now.symbol_size ≤ length self.now.values * self.now.symbol_size }
+        ensures below { meant_at self.now.order i < length self.now.values }
     {
-        let place = match &self.order {
+        self.meant(i) * self.symbol_size
+    }
+
+    /// Which symbol a place means.
+    fn meant(&self, i: usize) -> usize
+        requires { HasPlace self.now i }
+        ensures is { result ≡ meant_at self.now.order i }
+        ensures below { result < length self.now.values }
+    {
+        match &self.order {
             None => i,
             Some(order) => order[i],
-        };
-        place * self.symbol_size
+        }
     }
 
     /// The number of defined places.
@@ -175,6 +236,69 @@ impl SymbolSlab {
             Some(order) => order.len(),
         }
     }
+}
+
+impl PartialEq for SymbolSlab {
+    ghost eq = { same_slab };
+
+    ghost laws = { Prim.search (comparing, rules) };
+
+    fn eq(&self, other: &SymbolSlab) -> bool {
+        self.symbol_size == other.symbol_size
+            && self.count == other.count
+            && self.order == other.order
+            && self.data == other.data
+    }
+}
+
+impl Eq for SymbolSlab {
+    ghost laws = { Prim.search (comparing, rules) };
+}
+
+impl Clone for SymbolSlab {
+    ghost is_clone = { λ a b. b ≡ a };
+
+    fn clone(&self) -> Result<Self, AllocError> {
+        Ok(SymbolSlab {
+            data: self.data.clone()?,
+            symbol_size: self.symbol_size,
+            count: self.count,
+            order: self.order.clone()?,
+        })
+    }
+}
+
+/// The octets of a range.
+fn range(bytes: &[u8], start: usize, len: usize) -> &[u8]
+    requires { start + len ≤ length bytes.now }
+    ensures { result.now ≡ range_of bytes.now start len }
+{
+    &bytes[start..start + len]
+}
+
+/// The octets of a range, for writing.
+fn range_mut(bytes: &mut [u8], start: usize, len: usize) -> &mut [u8]
+    requires { start + len ≤ length bytes.old }
+    ensures { result.now ≡ range_of bytes.old start len }
+{
+    &mut bytes[start..start + len]
+}
+
+/// Writes octets from a place on.
+fn write_range(bytes: &mut [u8], start: usize, source: &[u8])
+    requires { start + length source.now ≤ length bytes.old }
+    ensures { bytes.new ≡ with_range bytes.old start source.now }
+{
+    bytes[start..start + source.len()].copy_from_slice(source);
+}
+
+/// Multiplies a range by an octet.
+fn multiply_range(bytes: &mut [u8], start: usize, len: usize, scalar: &Octet)
+    requires { start + len ≤ length bytes.old }
+    ensures octet { scalar.now < 256 }
+    ensures multiplied { bytes.new ≡ with_range bytes.old start (row_multiple scalar.now (range_of bytes.old start len)) }
+{
+    octets::mulassign_scalar(&mut bytes[start..start + len], scalar);
 }
 
 /// Adds a range to another one, with no octet in common.
@@ -198,7 +322,8 @@ fn add_range_multiple(bytes: &mut [u8], dest: usize, src: usize, len: usize, sca
     requires apart { (dest + len ≤ src) ⊎ (src + len ≤ dest) }
     requires dest_within { dest + len ≤ length bytes.old }
     requires src_within { src + len ≤ length bytes.old }
-    ensures { bytes.new ≡ with_range bytes.old dest (row_sum (range_of bytes.old dest len) (row_multiple scalar.now (range_of bytes.old src len))) }
+    ensures octet { scalar.now < 256 }
+    ensures sum { bytes.new ≡ with_range bytes.old dest (row_sum (range_of bytes.old dest len) (row_multiple scalar.now (range_of bytes.old src len))) }
 {
     if dest < src {
         let (front, back) = bytes.split_at_mut(src);

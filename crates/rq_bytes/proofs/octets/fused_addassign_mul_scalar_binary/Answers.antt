@@ -68,8 +68,8 @@ loop-block-preserved c =
     ∙ ap (put_chunk at now) (zip2-map_right bit_xor (octet_mul s) (chunk at 64 now) (chunk at 64 other))
     ∙ step_store f 64 at (length old % 64 + 64 * (b + 1)) now old other c.loop-block.invariant (omega arith) (omega arith) (omega arith)
 
-pub returns : goal.returns
-returns c =
+pub returns-clause-sum : goal.returns-clause-sum
+returns-clause-sum c =
     let s = c.byte-scalar.result in
     let f = λ (x y : ℕ). bit_xor x (octet_mul s y) in
     let old = c.args.octets.now in

@@ -29,8 +29,8 @@ loop-i-preserved c =
     ap (set c.loop-i.octets i) c.product.ensures
     ∙ step_one f i c.loop-i.octets c.args.octets.now c.args.octets.now 0 0 c.loop-i.invariant (omega arith) (omega arith)
 
-pub returns : goal.returns
-returns c =
+pub returns-clause-multiple : goal.returns-clause-multiple
+returns-clause-multiple c =
     let g = octet_mul c.byte-scalar.result in
     let old = c.args.octets.now in
     at_end (λ (x y : ℕ). g x) c.loop-i.i c.loop-i.octets old old c.loop-i.invariant (omega arith) (omega arith)
