@@ -1,3 +1,5 @@
 pub mod Error
 pub mod Ranges
 pub mod Refusals
+pub mod Slab
+pub mod SymbolOps
