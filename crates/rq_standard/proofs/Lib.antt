@@ -5,3 +5,4 @@ pub mod PartSums
 pub mod Powers
 pub mod RowLaws
 pub mod RowSymbols
+pub mod TupleLaws

@@ -13,3 +13,4 @@ pub mod Received
 pub mod Rows
 pub mod SymbolRows
 pub mod TableRows
+pub mod Tuple
