@@ -5,15 +5,16 @@ use Rattle.std.proofs.lemmas.List.Elements.{All-get_or}
 use Rattle.std.proofs.Math.ListN.{get_or-map}
 use Rattle.rq_algebra.specs.Field.{Field}
 use Rattle.rq_algebra.specs.Systems.{IsDetermined, at}
-use Rattle.rq_algebra.specs.Operations.{Operation, run, plain, unordered, AreAllowed}
+use Rattle.rq_algebra.specs.Operations.{Operation, Reorder, run, plain, unordered, AreAllowed}
 use Rattle.rq_algebra.specs.Symbols.{symbols, IsSymbolColumn, AreSymbols, symbol_at, slice_at, SolvesSymbols}
 use Rattle.rq_algebra.specs.Elimination.{IsValues, found_by, FindsColumn}
 use Rattle.rq_algebra.proofs.Sums.{dot_same}
 use Rattle.rq_algebra.proofs.Solutions.{solves_same}
-use Rattle.rq_algebra.proofs.Runs.{zero_values}
+use Rattle.rq_algebra.proofs.Runs.{zero_values, AreAllowed-middle}
 use Rattle.rq_algebra.proofs.Placewise.{place, place_linear, read-run_linear, at-zeros, zeros_stay}
-use Rattle.rq_algebra.proofs.Pivots.{found-reorder, allowed_order}
-use Rattle.rq_algebra.proofs.SymbolColumns.{symbol_elements, same_symbol, run_keeps_symbols}
+use Rattle.rq_algebra.proofs.Pivots.{found-reorder}
+use Rattle.rq_algebra.proofs.SymbolColumns.{run_keeps_symbols}
+use Rattle.rq_algebra.proofs.SymbolSums.{symbol_elements, same_symbol}
 
 module _ (F : Field) (height width : ℕ) (rows : ℕ → ℕ → ℕ) (operations : List Operation) (finds : FindsColumn F height width rows operations) where
   -- the rows determine the column
@@ -25,7 +26,7 @@ module _ (F : Field) (height width : ℕ) (rows : ℕ → ℕ → ℕ) (operatio
 
   -- each entry of the order that stands last is a row
   order_below : (k : ℕ) → k < width → get_or finds.order k 0 < height
-  order_below k l = All-get_or (λ i. i < height) finds.order k 0 (omega (arith, finds.count)) (allowed_order height None finds.before finds.order (subst (λ (all : List Operation). AreAllowed height None all) finds.ends finds.allowed))
+  order_below k l = All-get_or (λ i. i < height) finds.order k 0 (omega (arith, finds.count)) (AreAllowed-middle height None finds.before (Reorder finds.order) [] (subst (λ (all : List Operation). AreAllowed height None all) finds.ends finds.allowed))
 
   module _ (size : ℕ) (values : List (List ℕ)) (are : AreSymbols F size height values) where
     -- what the operations make of the symbols has at each place what they make of the elements there

@@ -6,8 +6,11 @@ pub mod Parity
 pub mod Pivots
 pub mod Places
 pub mod Placewise
+pub mod Reduction
 pub mod Runs
 pub mod SmallCases
 pub mod Solutions
+pub mod Stacks
 pub mod Sums
 pub mod SymbolColumns
+pub mod SymbolSums

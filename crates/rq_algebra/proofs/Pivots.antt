@@ -1,9 +1,9 @@
 -- The column from pivots in any rows and columns.
-use Rattle.std.proofs.Common.{◌≡◌, ℕ, ◌<◌, List, [], ◌∷◌, ◌++◌, Option, None, replicate, get_or, sym, ap, ◌∙◌, refl, arith}
+use Rattle.std.proofs.Common.{◌≡◌, ℕ, ◌<◌, List, [], ◌∷◌, ◌++◌, None, replicate, get_or, sym, ap, ◌∙◌, refl, arith}
 use Rattle.std.proofs.lemmas.List.Elements.{All-from_get_or}
 use Rattle.rq_algebra.specs.Field.{Field}
 use Rattle.rq_algebra.specs.Systems.{dot, IsColumn, HasNullColumn, at}
-use Rattle.rq_algebra.specs.Operations.{Operation, Reorder, Space, Store, step, run, plain, unordered, read, AreAllowed, IsOrder, order_after}
+use Rattle.rq_algebra.specs.Operations.{Operation, Reorder, Space, Store, step, run, plain, unordered, read, IsOrder}
 use Rattle.rq_algebra.specs.Elimination.{found_by, FindsColumn, HasPivots, ReadsPivots}
 use Rattle.rq_algebra.specs.Meaning.{Follows}
 use Rattle.rq_algebra.proofs.Sums.{dot_one}
@@ -16,11 +16,6 @@ use Rattle.rq_algebra.proofs.Placewise.{at-zeros, zeros_stay}
 pub found-reorder : {X : Type 0} (S : Space X) (operations : List Operation) (order : List ℕ) (values : List X) (k : ℕ) → found_by S (operations ++ Reorder order ∷ []) values k ≡ get_or (run S operations (unordered values)).values (get_or order k 0) S.zero
 unfolding step
 found-reorder S operations order values k = ap (λ (t : Store _). read S t k) (run_push S operations (Reorder order) (unordered values))
-
--- an order that stands last is one of so many values
-pub allowed_order : (n : ℕ) (before : Option (List ℕ)) (operations : List Operation) (order : List ℕ) → AreAllowed n before (operations ++ Reorder order ∷ []) → IsOrder n order
-allowed_order n before [] order all = all.0
-allowed_order n before (first ∷ operations) order all = allowed_order n (order_after before first) operations order all.1
 
 module _ (F : Field) (height width : ℕ) (original a : ℕ → ℕ → ℕ) (operations : List Operation) (follows : Follows F height width original a operations) (rows columns : ℕ → ℕ) (pivots : HasPivots F height width a rows columns) (order : List ℕ) (reads : ReadsPivots width rows columns order) where
   pivot_says : (x : ℕ → ℕ) → IsColumn F width x → (p : ℕ) → p < width → dot F width (a (rows p)) x ≡ x (columns p)

@@ -16,6 +16,11 @@ pub run_push : {X : Type 0} (S : Space X) (operations : List Operation) (operati
 unfolding run
 run_push S operations operation s = fold_push (step S) s operations operation
 
+pub run-append : {X : Type 0} (S : Space X) (first second : List Operation) (s : Store X) → run S (first ++ second) s ≡ run S second (run S first s)
+unfolding run
+run-append S [] second s = refl
+run-append S (operation ∷ first) second s = unfold run in run-append S first second (step S s operation)
+
 -- the order that is set after all of them
 abbrev pub last_order : Option (List ℕ) → List Operation → Option (List ℕ)
 last_order order [] = order
@@ -36,6 +41,11 @@ order-run S (operation ∷ operations) s = unfold run in order-run S operations 
 pub AreAllowed-push : (n : ℕ) (order : Option (List ℕ)) (operations : List Operation) (operation : Operation) → AreAllowed n order operations → IsAllowed n (last_order order operations) operation → AreAllowed n order (operations ++ operation ∷ [])
 AreAllowed-push n order [] operation all one = (one, tt)
 AreAllowed-push n order (first ∷ operations) operation all one = (all.0, AreAllowed-push n (order_after order first) operations operation all.1 one)
+
+-- what an operation asks where it stands among others
+pub AreAllowed-middle : (n : ℕ) (order : Option (List ℕ)) (before : List Operation) (operation : Operation) (after : List Operation) → AreAllowed n order (before ++ operation ∷ after) → IsAllowed n (last_order order before) operation
+AreAllowed-middle n order [] operation after all = all.0
+AreAllowed-middle n order (first ∷ before) operation after all = AreAllowed-middle n (order_after order first) before operation after all.1
 
 module _ (F : Field) (height width : ℕ) where
   pub follows_none : (rows : ℕ → ℕ → ℕ) → Follows F height width rows rows []

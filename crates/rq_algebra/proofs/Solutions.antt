@@ -1,10 +1,8 @@
 -- Elementary operations keep the solutions of a system.
-use Rattle.std.proofs.Common.{◌≡◌, ◌≢◌, ℕ, ◌+◌, ◌-◌, ◌<◌, List, length, sym, ap, ◌∙◌, refl, arith, inl, inr}
-use Rattle.std.proofs.lemmas.Bool.{cases_eq, cases_lt, lt-ltb, le-ltb}
-use Rattle.std.proofs.lemmas.Grind.{get_or_default_zero}
-use Rattle.std.proofs.lemmas.List.Elements.{Contains-get_or}
+use Rattle.std.proofs.Common.{◌≡◌, ◌≢◌, ℕ, ◌<◌, sym, ap, ◌∙◌, refl, inl, inr}
+use Rattle.std.proofs.lemmas.Bool.{cases_eq}
 use Rattle.rq_algebra.specs.Field.{Field}
-use Rattle.rq_algebra.specs.Systems.{dot, Solves, IsColumn, IsDetermined, HasNullColumn, ArePlaces, RowsStandIn, at, stacked, rows_of, IdsStandIn}
+use Rattle.rq_algebra.specs.Systems.{dot, Solves, IsColumn, IsDetermined, HasNullColumn, ArePlaces, RowsStandIn, EquationsStandIn}
 use Rattle.rq_algebra.specs.Steps.{AddsRow, ScalesRow, AddsValue, ScalesValue, SameSolutions}
 use Rattle.rq_algebra.proofs.Sums.{add_again, dot_same, dot_fma, dot_mul_row, dot_below_size, undo_mul, dot_add_column}
 use Rattle.rq_algebra.proofs.FewEquations.{all_places, dot_places}
@@ -83,10 +81,14 @@ module _ (F : Field) (height width : ℕ) where
   pub columns_reordered : (to : ℕ → ℕ) → ArePlaces width width to → (a : ℕ → ℕ → ℕ) (x v : ℕ → ℕ) → Solves F height width a x v → Solves F height width (λ i k. a i (to k)) (λ k. x (to k)) v
   columns_reordered to are a x v s = record { at = λ i l. dot_places F width (a i) x to are ∙ s.at i l }
 
+-- a solution stays one of equations among those that it solves
+pub solves_standing : (F : Field) (width old_height new_height : ℕ) (old new : ℕ → ℕ → ℕ) (x v w : ℕ → ℕ) → EquationsStandIn width old_height old v new_height new w → Solves F new_height width new x w → Solves F old_height width old x v
+solves_standing F width old_height new_height old new x v w stand s = record { at = λ i l. let m = stand i l in dot_same F width (old i) (new m.0) x x (λ k n. sym (m.2 k n)) (λ k n. refl) ∙ s.at m.0 m.1 ∙ m.3 }
+
 -- a determined system stays determined where each of its rows stands in the new one: rows added, repeated or in another order
 pub determined_stays : (F : Field) (width old_height new_height : ℕ) (old new : ℕ → ℕ → ℕ) → RowsStandIn width old_height old new_height new → IsDetermined F old_height width old → IsDetermined F new_height width new
 determined_stays F width old_height new_height old new stand determined x elements s =
-    determined x elements record { at = λ i l. let m = stand i l in dot_same F width (old i) (new m.0) x x (λ k n. sym (m.2 k n)) (λ k n. refl) ∙ s.at m.0 m.1 }
+    determined x elements (solves_standing F width old_height new_height old new x (λ _. 0) (λ _. 0) (λ i l. let m = stand i l in (m.0, m.1, m.2, refl)) s)
 
 -- a null column refutes it
 pub null_not_determined : (F : Field) (height width : ℕ) (a : ℕ → ℕ → ℕ) → HasNullColumn F height width a → IsDetermined F height width a → ⊥
@@ -97,28 +99,3 @@ pub determined_unique : (F : Field) (height width : ℕ) (a : ℕ → ℕ → �
 determined_unique F height width a x y v determined ex ey sx sy k l =
     let e : F.add (x k) (y k) ≡ 0 = determined (λ j. F.add (x j) (y j)) (λ j m. F.add_below (x j) (y j) (ex j m) (ey j m)) record { at = λ i m. cc (dot_add_column F width (a i) x y, sx.at i m, sy.at i m, F.add_self (v i)) } k l in
     cc (e, add_again F (x k) (y k), F.zero_add (y k))
-
-module _ (height : ℕ) (above below : ℕ → ℕ → ℕ) where
-  pub stacked_above : (i k : ℕ) → i < height → stacked height above below i k ≡ above i k
-  stacked_above i k l = rw (lt-ltb i height l)
-
-  pub stacked_below : (i k : ℕ) → stacked height above below (height + i) k ≡ below i k
-  stacked_below i k = let e : (height + i) - height ≡ i = omega arith in rw (le-ltb (height + i) height (omega arith), e)
-
--- the equations of the old ids are among those of the new ones
-pub ids_stand : (width height : ℕ) (above row : ℕ → ℕ → ℕ) (old new : List ℕ) → IdsStandIn old new → RowsStandIn width (height + length old) (stacked height above (rows_of row old)) (height + length new) (stacked height above (rows_of row new))
-ids_stand width height above row old new ids i l = elim (cases_lt i height) [
-  | inl m ↦ (i, (omega arith), λ k n. stacked_above height above (rows_of row new) i k m ∙ sym (stacked_above height above (rows_of row old) i k m))
-  | inr m ↦
-      let j : ℕ = i - height in
-      let e : height + j ≡ i = omega arith in
-      let o : j < length old = omega arith in
-      let q = ids (at old j) (Contains-get_or old j 0 o) in
-      let same : at new q.0 ≡ at old j = sym (get_or_default_zero new q.0 (at old j) q.1) ∙ q.2 in (
-        height + q.0,
-        (omega (arith, q.1)),
-        λ k n.
-            stacked_below height above (rows_of row new) q.0 k ∙ ap (λ (x : ℕ). row x k) same
-            ∙ sym (stacked_below height above (rows_of row old) j k) ∙ ap (λ (r : ℕ). stacked height above (rows_of row old) r k) e,
-      )
-]

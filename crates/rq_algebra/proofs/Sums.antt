@@ -1,5 +1,5 @@
 -- Sums and dots are linear.
-use Rattle.std.proofs.Common.{◌≡◌, ◌≢◌, ℕ, zero, suc, ◌<◌, sym, ap, ◌∙◌, refl, arith, inl, inr}
+use Rattle.std.proofs.Common.{◌≡◌, ◌≢◌, ℕ, zero, suc, ◌+◌, ◌<◌, add-zero, add-suc, sym, ap, ◌∙◌, refl, arith, inl, inr}
 use Rattle.std.proofs.lemmas.Bool.{cases_eq}
 use Rattle.rq_algebra.specs.Field.{Field}
 use Rattle.rq_algebra.specs.Systems.{sum_below, dot}
@@ -125,3 +125,29 @@ module _ (F : Field) where
 
   pub inverse_nonzero : (x : ℕ) → x < F.size → x ≢ 0 → F.inverse x ≢ 0
   inverse_nonzero x l d e = let z : ◌≡◌ {A = ℕ} 0 1 = cc (F.inverse_mul x l d, e, zero_mul x) in omega (arith, z)
+
+  -- a sum in two parts
+  pub sum_split : (m n : ℕ) (f : ℕ → ℕ) → sum_below F (m + n) f ≡ F.add (sum_below F m f) (sum_below F n (λ k. f (m + k)))
+  unfolding sum_below
+  sum_split m zero f = rw (add-zero m) (sym (add_zero (sum_below F m f)))
+  sum_split m (suc n) f = rw (add-suc m n) (ap (λ (s : ℕ). F.add s (f (m + n))) (sum_split m n f) ∙ F.add_assoc (sum_below F m f) (sum_below F n (λ k. f (m + k))) (f (m + n)))
+
+  pub dot_split : (m n : ℕ) (r x : ℕ → ℕ) → dot F (m + n) r x ≡ F.add (dot F m r x) (dot F n (λ k. r (m + k)) (λ k. x (m + k)))
+  unfolding dot
+  dot_split m n r x = sum_split m n (λ k. F.mul (r k) (x k))
+
+  -- sums of sums, in either order
+  pub sum_sum : (m n : ℕ) (f : ℕ → ℕ → ℕ) → sum_below F m (λ i. sum_below F n (λ k. f i k)) ≡ sum_below F n (λ k. sum_below F m (λ i. f i k))
+  unfolding sum_below
+  sum_sum zero n f = sym (sum_zero n (λ k. 0) (λ k l. refl))
+  sum_sum (suc m) n f = ap (λ (s : ℕ). F.add s (sum_below F n (λ k. f m k))) (sum_sum m n f) ∙ sym (sum_add n (λ k. sum_below F m (λ i. f i k)) (λ k. f m k))
+
+  -- a row times a matrix, times a column, is the row times the matrix times the column
+  pub dot_product : (m n : ℕ) (r : ℕ → ℕ) (a : ℕ → ℕ → ℕ) (x : ℕ → ℕ) → dot F n (λ k. dot F m r (λ i. a i k)) x ≡ dot F m r (λ i. dot F n (a i) x)
+  unfolding dot
+  dot_product m n r a x =
+      sum_same n _ _ (λ k l. F.mul_comm (sum_below F m (λ i. F.mul (r i) (a i k))) (x k) ∙ sym (sum_mul m (x k) (λ i. F.mul (r i) (a i k))))
+      ∙ sym (sum_sum m n (λ i k. F.mul (x k) (F.mul (r i) (a i k))))
+      ∙ sum_same m _ _ (λ i l.
+      sum_same n _ _ (λ k o. cc (F.mul_comm (x k) (F.mul (r i) (a i k)), F.mul_assoc (r i) (a i k) (x k)))
+      ∙ sum_mul n (r i) (λ k. F.mul (a i k) (x k)))

@@ -1,11 +1,12 @@
 -- Small systems over the field of two elements, which show what the definitions mean, and why the laws have their premises.
-use Rattle.std.specs.Prelude.{◌≡◌, ◌≢◌, ℕ, List, [], ◌∷◌}
-use Rattle.rq_algebra.specs.Systems.{dot, Solves, IsDetermined, HasNullColumn, at}
-use Rattle.rq_algebra.specs.Steps.{AddsRow, AddsValue, ScalesRow, ScalesValue, SameSolutions}
-use Rattle.rq_algebra.specs.Operations.{Operation, AddAssign, MulAssign, Fma, Reorder, Space, plain, unordered, run, values_in}
+use Rattle.std.specs.Prelude.{◌≡◌, ◌≢◌, ℕ, ◌<◌, List, [], ◌∷◌, map, Some, None}
+use Rattle.rq_algebra.specs.Systems.{dot, Solves, IsDetermined, HasNullColumn, at, stacked, rows_of}
+use Rattle.rq_algebra.specs.Steps.{AddsRow, AddsValue, ScalesRow, ScalesValue, SameSolutions, exchange}
+use Rattle.rq_algebra.specs.Operations.{Operation, AddAssign, MulAssign, Fma, Reorder, Space, plain, unordered, run, values_in, IsAllowed}
 use Rattle.rq_algebra.specs.Symbols.{symbols, symbol_at}
 use Rattle.rq_algebra.specs.Parities.{sum_listed, parity}
 use Rattle.rq_algebra.specs.Elimination.{FindsColumn, found_by}
+use Rattle.rq_algebra.specs.Meaning.{Shows}
 use Rattle.rq_algebra.specs.Two.{two}
 
 -- a system as a list of rows
@@ -34,6 +35,14 @@ RepeatedHasNullColumn = HasNullColumn two 2 2 repeated
 abbrev pub RepeatedIsNotDetermined : Type 0
 RepeatedIsNotDetermined = ¬ IsDetermined two 2 2 repeated
 
+-- rows that stand one below the other, and one row for each id
+abbrev pub RowsStack : Type 0
+RowsStack = (stacked 1 triangle (rows_of triangle (0 ∷ 1 ∷ [])) 0 1 ≡ 1) × (stacked 1 triangle (rows_of triangle (0 ∷ 1 ∷ [])) 2 0 ≡ 0)
+
+-- places 0 and 2 exchanged
+abbrev pub PlacesAreExchanged : Type 0
+PlacesAreExchanged = map (exchange 0 2) (0 ∷ 1 ∷ 2 ∷ 3 ∷ []) ≡ 2 ∷ 1 ∷ 0 ∷ 3 ∷ []
+
 -- what is read after operations on some values
 abbrev pub reading : {X : Type 0} → Space X → List Operation → List X → List X
 reading S operations values = let s = run S operations (unordered values) in values_in S s.values s.order
@@ -50,6 +59,10 @@ PlacesAreReadThroughTheOrder = reading (plain two) (Reorder (1 ∷ 0 ∷ []) ∷
 abbrev pub OrdersAreReplaced : Type 0
 OrdersAreReplaced = reading (plain two) (Reorder (1 ∷ 0 ∷ []) ∷ Reorder (0 ∷ 1 ∷ []) ∷ []) (1 ∷ 0 ∷ []) ≡ 1 ∷ 0 ∷ []
 
+-- where two places mean one value, neither may be added to the other
+abbrev pub OneValueIsNotAdded : Type 0
+OneValueIsNotAdded = IsAllowed 2 None (AddAssign 0 1) × (¬ IsAllowed 2 (Some (0 ∷ 0 ∷ [])) (AddAssign 0 1))
+
 -- a place that is missing in one of two symbols is read as zero
 abbrev pub SymbolsAreAdded : Type 0
 SymbolsAreAdded = reading (symbols two) (AddAssign 0 1 ∷ []) ((1 ∷ 1 ∷ []) ∷ (1 ∷ []) ∷ []) ≡ (0 ∷ 1 ∷ []) ∷ (1 ∷ []) ∷ []
@@ -57,6 +70,18 @@ SymbolsAreAdded = reading (symbols two) (AddAssign 0 1 ∷ []) ((1 ∷ 1 ∷ [])
 -- a place that is listed twice cancels
 abbrev pub RepeatsCancel : Type 0
 RepeatsCancel = (sum_listed (plain two) (1 ∷ 2 ∷ 1 ∷ []) (at (0 ∷ 1 ∷ 1 ∷ [])) ≡ 1) × (parity (1 ∷ 2 ∷ 1 ∷ []) 1 ≡ 0) × (parity (1 ∷ 2 ∷ 1 ∷ []) 2 ≡ 1)
+
+-- x1 and x0 + x1
+abbrev pub turned : ℕ → ℕ → ℕ
+turned = rows ((0 ∷ 1 ∷ []) ∷ (1 ∷ 1 ∷ []) ∷ [])
+
+-- x1 is in value 0, and x0 in value 1 once value 0 has been added to it
+abbrev pub TurnedIsFound : Type 0
+TurnedIsFound = FindsColumn two 2 2 turned (AddAssign 1 0 ∷ Reorder (1 ∷ 0 ∷ []) ∷ [])
+
+-- a matrix that is stored with its rows exchanged, and whose column 0 is stale
+abbrev pub TriangleIsShown : Type 0
+TriangleIsShown = Shows 2 2 (exchange 0 1) (λ k. k) (λ r k. 0 < k) (rows ((7 ∷ 1 ∷ []) ∷ (7 ∷ 1 ∷ []) ∷ [])) triangle
 
 -- one equation, x0, and one without an unknown
 abbrev pub single : ℕ → ℕ → ℕ

@@ -1,7 +1,7 @@
 -- The laws of symbols and of listed places, as statements: functions of `symbols` have them as contracts.
-use Rattle.std.specs.Prelude.{◌≡◌, ℕ, ◌<◌, List, ◌∷◌, All}
+use Rattle.std.specs.Prelude.{◌≡◌, ℕ, ◌+◌, ◌<◌, ◌↔◌, List, ◌∷◌, All}
 use Rattle.rq_algebra.specs.Field.{Field}
-use Rattle.rq_algebra.specs.Systems.{dot, IsColumn, IsDetermined, at}
+use Rattle.rq_algebra.specs.Systems.{dot, IsColumn, IsDetermined, at, stacked}
 use Rattle.rq_algebra.specs.Operations.{Operation, Store, read, run, plain}
 use Rattle.rq_algebra.specs.Symbols.{symbols, IsSymbol, IsSymbolColumn, AreSymbols, symbol_at, slice_at, store_at, SolvesSymbols}
 use Rattle.rq_algebra.specs.Parities.{sum_listed, parity}
@@ -45,6 +45,13 @@ DeterminedHasOneSolutionInSymbols =
     → IsDetermined F height width rows → IsSymbolColumn F size width x → IsSymbolColumn F size width y
     → SolvesSymbols F height width rows x values → SolvesSymbols F height width rows y values
     → (k : ℕ) → k < width → x k ≡ y k
+
+-- a column of symbols solves two systems that are stacked where it solves both
+abbrev pub StackedIsBothInSymbols : Type 0
+StackedIsBothInSymbols =
+    (F : Field) (height more width : ℕ) (above below : ℕ → ℕ → ℕ) (column u v : ℕ → List ℕ)
+    → SolvesSymbols F (height + more) width (stacked height above below) column (stacked height u v)
+    ↔ (SolvesSymbols F height width above column u × SolvesSymbols F more width below column v)
 
 -- the sum at listed places is the dot with their parities
 abbrev pub SumIsDotOfParities : Type 0

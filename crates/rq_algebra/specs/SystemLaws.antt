@@ -1,7 +1,7 @@
 -- The laws of linear systems, as statements: functions of `systems` have them as contracts.
-use Rattle.std.specs.Prelude.{◌≡◌, ◌≢◌, ℕ, ◌+◌, ◌<◌, List, length}
+use Rattle.std.specs.Prelude.{◌≡◌, ◌≢◌, ℕ, ◌+◌, ◌<◌, ◌↔◌, List, length}
 use Rattle.rq_algebra.specs.Field.{Field}
-use Rattle.rq_algebra.specs.Systems.{sum_below, dot, Solves, IsColumn, IsDetermined, HasNullColumn, HasElements, ArePlaces, IsFewOn, RowsStandIn, stacked, rows_of, IdsStandIn}
+use Rattle.rq_algebra.specs.Systems.{sum_below, dot, Solves, IsColumn, IsDetermined, HasNullColumn, HasElements, ArePlaces, IsFewOn, RowsStandIn, EquationsStandIn, stacked, rows_of, IdsStandIn}
 use Rattle.rq_algebra.specs.Steps.{AddsRow, ScalesRow, AddsValue, ScalesValue, exchange, SameSolutions}
 
 abbrev pub SumIsLinear : Type 0
@@ -21,6 +21,12 @@ DotIsLinearInColumn =
     (F : Field) (width c : ℕ) (row x y : ℕ → ℕ)
     → (dot F width row (λ k. F.add (x k) (y k)) ≡ F.add (dot F width row x) (dot F width row y))
     × (dot F width row (λ k. F.mul c (x k)) ≡ F.mul c (dot F width row x))
+
+-- a row times a matrix, times a column, is the row times what the matrix makes of the column
+abbrev pub ProductActsInTurn : Type 0
+ProductActsInTurn =
+    (F : Field) (height width : ℕ) (row : ℕ → ℕ) (a : ℕ → ℕ → ℕ) (column : ℕ → ℕ)
+    → dot F width (λ k. dot F height row (λ i. a i k)) column ≡ dot F height row (λ i. dot F width (a i) column)
 
 -- a multiple of another row is added, to the rows and to the values
 abbrev pub AddingKeepsSolutions : Type 0
@@ -60,6 +66,12 @@ DeterminedStays =
     (F : Field) (width old_height new_height : ℕ) (old new : ℕ → ℕ → ℕ)
     → RowsStandIn width old_height old new_height new → IsDetermined F old_height width old → IsDetermined F new_height width new
 
+-- a column that solves the new equations solves the old ones, where these stand in the new ones with their values
+abbrev pub NewSolvesOld : Type 0
+NewSolvesOld =
+    (F : Field) (width old_height new_height : ℕ) (old new : ℕ → ℕ → ℕ) (column v w : ℕ → ℕ)
+    → EquationsStandIn width old_height old v new_height new w → Solves F new_height width new column w → Solves F old_height width old column v
+
 -- the same of the ids that have one equation each, below some equations that stay
 abbrev pub DeterminedByIds : Type 0
 DeterminedByIds =
@@ -87,3 +99,10 @@ abbrev pub FewOnColumnsHaveNullColumn : Type 0
 FewOnColumnsHaveNullColumn =
     (F : Field) (height width n : ℕ) (a : ℕ → ℕ → ℕ) (rows columns : ℕ → ℕ)
     → HasElements F height width a → IsFewOn height width n a rows columns → HasNullColumn F height width a
+
+-- a column solves two systems that are stacked where it solves both
+abbrev pub StackedIsBoth : Type 0
+StackedIsBoth =
+    (F : Field) (height more width : ℕ) (above below : ℕ → ℕ → ℕ) (column u v : ℕ → ℕ)
+    → Solves F (height + more) width (stacked height above below) column (stacked height u v)
+    ↔ (Solves F height width above column u × Solves F more width below column v)

@@ -51,17 +51,21 @@ pub record IsFewOn (height width n : ℕ) (a : ℕ → ℕ → ℕ) (rows column
 abbrev pub RowsStandIn : ℕ → ℕ → (ℕ → ℕ → ℕ) → ℕ → (ℕ → ℕ → ℕ) → Type 0
 RowsStandIn width old_height old new_height new = (i : ℕ) → i < old_height → (j : ℕ) × (j < new_height) × ((k : ℕ) → k < width → new j k ≡ old i k)
 
+-- the same with the values of the rows
+abbrev pub EquationsStandIn : ℕ → ℕ → (ℕ → ℕ → ℕ) → (ℕ → ℕ) → ℕ → (ℕ → ℕ → ℕ) → (ℕ → ℕ) → Type 0
+EquationsStandIn width old_height old v new_height new w = (i : ℕ) → i < old_height → (j : ℕ) × (j < new_height) × ((k : ℕ) → k < width → new j k ≡ old i k) × (w j ≡ v i)
+
 -- a list as a function of the place, zero past its end
 abbrev pub at : List ℕ → ℕ → ℕ
 at xs k = slice_index xs k
 
--- the first `height` rows are those of one system, and then come those of another
-abbrev pub stacked : ℕ → (ℕ → ℕ → ℕ) → (ℕ → ℕ → ℕ) → ℕ → ℕ → ℕ
-stacked height above below i k = cond (nat_lt i height) (above i k) (below (i - height) k)
+-- the first `height` entries are those of one function, and then come those of another: rows below rows, or values below values
+abbrev pub stacked : {X : Type 0} → ℕ → (ℕ → X) → (ℕ → X) → ℕ → X
+stacked height above below i = cond (nat_lt i height) (above i) (below (i - height))
 
 -- one row for each id of a list
 abbrev pub rows_of : (ℕ → ℕ → ℕ) → List ℕ → ℕ → ℕ → ℕ
-rows_of row ids i k = row (at ids i) k
+rows_of row ids i = row (at ids i)
 
 -- each id of the old list is in the new one, in whatever order and however often
 abbrev pub IdsStandIn : List ℕ → List ℕ → Type 0

@@ -1,5 +1,5 @@
 //! What the definitions mean, and why the laws have their premises, in small systems over the field of two elements.
-ghost use Rattle.rq_algebra.specs.Examples.{TriangleIsSolved, TriangleIsDetermined, RepeatedHasNullColumn, RepeatedIsNotDetermined, OperationsRun, PlacesAreReadThroughTheOrder, OrdersAreReplaced, SymbolsAreAdded, RepeatsCancel, AddingNeedsTwoRows, ScalingNeedsNonzero, OneEquationIsTooFew, FoundNeedsAsManyEquations, SumNeedsPlacesAndElements};
+ghost use Rattle.rq_algebra.specs.Examples.{TriangleIsSolved, TriangleIsDetermined, RepeatedHasNullColumn, RepeatedIsNotDetermined, RowsStack, PlacesAreExchanged, OperationsRun, PlacesAreReadThroughTheOrder, OrdersAreReplaced, SymbolsAreAdded, OneValueIsNotAdded, RepeatsCancel, TurnedIsFound, TriangleIsShown, AddingNeedsTwoRows, ScalingNeedsNonzero, OneEquationIsTooFew, FoundNeedsAsManyEquations, SumNeedsPlacesAndElements};
 
 /// Two equations that are determined, and two that are not.
 pub fn equations()
@@ -9,17 +9,30 @@ pub fn equations()
     ensures not_determined { RepeatedIsNotDetermined }
 {}
 
+/// Rows and places that are put together anew.
+pub fn places()
+    ensures stacked { RowsStack }
+    ensures exchanged { PlacesAreExchanged }
+{}
+
 /// Operations and reading orders.
 pub fn runs()
     ensures run { OperationsRun }
     ensures through { PlacesAreReadThroughTheOrder }
     ensures replaced { OrdersAreReplaced }
     ensures symbols { SymbolsAreAdded }
+    ensures allowed { OneValueIsNotAdded }
 {}
 
 /// An equation whose places repeat.
 pub fn repeats()
     ensures { RepeatsCancel }
+{}
+
+/// What an elimination finds, and what its matrix means on the way.
+pub fn elimination()
+    ensures found { TurnedIsFound }
+    ensures shown { TriangleIsShown }
 {}
 
 /// What goes wrong without a premise of a law.

@@ -1,5 +1,5 @@
 //! The laws of symbols, and of equations as lists of places.
-ghost use Rattle.rq_algebra.specs.SymbolLaws.{OperationsActPlacewise, OperationsKeepSymbols, FoundAreSymbols, OnlyFoundSolves, FoundSolves, DeterminedHasOneSolutionInSymbols, SumIsDotOfParities, SymbolSumIsDotOfParities, SumIsSymbol};
+ghost use Rattle.rq_algebra.specs.SymbolLaws.{OperationsActPlacewise, OperationsKeepSymbols, FoundAreSymbols, OnlyFoundSolves, FoundSolves, DeterminedHasOneSolutionInSymbols, StackedIsBothInSymbols, SumIsDotOfParities, SymbolSumIsDotOfParities, SumIsSymbol};
 
 /// Operations on symbols are, at each place of a symbol, operations on elements.
 pub fn operations()
@@ -24,4 +24,9 @@ pub fn listed_places()
     ensures elements { SumIsDotOfParities }
     ensures symbols { SymbolSumIsDotOfParities }
     ensures size { SumIsSymbol }
+{}
+
+/// A column of symbols solves two systems that stand one below the other where it solves both.
+pub fn stacked()
+    ensures { StackedIsBothInSymbols }
 {}

@@ -1,11 +1,12 @@
 //! The laws of linear systems.
-ghost use Rattle.rq_algebra.specs.SystemLaws.{SumIsLinear, DotIsLinearInRow, DotIsLinearInColumn, AddingKeepsSolutions, ScalingKeepsSolutions, RowOrderKeepsSolutions, ColumnOrderKeepsSolutions, ExchangeIsAnOrder, DeterminedStays, DeterminedByIds, DeterminedHasOneSolution, NullColumnRefutesDetermined, FewEquationsHaveNullColumn, FewOnColumnsHaveNullColumn};
+ghost use Rattle.rq_algebra.specs.SystemLaws.{SumIsLinear, DotIsLinearInRow, DotIsLinearInColumn, ProductActsInTurn, AddingKeepsSolutions, ScalingKeepsSolutions, RowOrderKeepsSolutions, ColumnOrderKeepsSolutions, ExchangeIsAnOrder, DeterminedStays, DeterminedByIds, NewSolvesOld, DeterminedHasOneSolution, NullColumnRefutesDetermined, StackedIsBoth, FewEquationsHaveNullColumn, FewOnColumnsHaveNullColumn};
 
 /// Sums and products are linear.
 pub fn linear()
     ensures sum { SumIsLinear }
     ensures in_row { DotIsLinearInRow }
     ensures in_column { DotIsLinearInColumn }
+    ensures product { ProductActsInTurn }
 {}
 
 /// Elementary operations keep the solutions.
@@ -21,6 +22,7 @@ pub fn elementary_operations()
 pub fn determined()
     ensures stays { DeterminedStays }
     ensures by_ids { DeterminedByIds }
+    ensures solves_old { NewSolvesOld }
     ensures one_solution { DeterminedHasOneSolution }
     ensures refuted { NullColumnRefutesDetermined }
 {}
@@ -29,4 +31,9 @@ pub fn determined()
 pub fn few_equations()
     ensures of_all { FewEquationsHaveNullColumn }
     ensures on_columns { FewOnColumnsHaveNullColumn }
+{}
+
+/// A column solves two systems that stand one below the other where it solves both.
+pub fn stacked()
+    ensures { StackedIsBoth }
 {}

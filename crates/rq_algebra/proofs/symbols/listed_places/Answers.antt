@@ -1,5 +1,5 @@
 use Rattle.rq_algebra.proofs.Parity.{sum_listed_is}
-use Rattle.rq_algebra.proofs.SymbolColumns.{sum_symbols_is, sum_is_symbol}
+use Rattle.rq_algebra.proofs.SymbolSums.{sum_symbols_is, sum_is_symbol}
 use Rattle.rq_algebra.proofs.symbols.listed_places.Goals as goal
 
 pub returns : goal.returns
