@@ -1,5 +1,6 @@
 pub mod Configuration
 pub mod Cutting
+pub mod Equations
 pub mod OctetFacts
 pub mod OctetField
 pub mod OctetLaws
