@@ -1,8 +1,12 @@
+pub mod Firsts
 pub mod HeaderBytes
+pub mod OneBlock
 pub mod Packed
 pub mod PacketBytes
 pub mod PartSums
+pub mod PlainCut
 pub mod Powers
 pub mod RowLaws
 pub mod RowSymbols
 pub mod TupleLaws
+pub mod Standing

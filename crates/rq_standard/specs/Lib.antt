@@ -1,6 +1,7 @@
 pub mod Configuration
 pub mod Cutting
 pub mod Equations
+pub mod Held
 pub mod OctetFacts
 pub mod OctetField
 pub mod OctetLaws
@@ -12,6 +13,8 @@ pub mod Partition
 pub mod Rand
 pub mod Received
 pub mod Rows
+pub mod Standing
+pub mod Streams
 pub mod SymbolRows
 pub mod TableRows
 pub mod Tuple

@@ -1,19 +1,22 @@
 -- What a list of packets says of a block: of each encoding symbol id the first payload counts.
-use Rattle.std.specs.Prelude.{◌≡◌, ℕ, ◌<◌, Bool, true, List, [], ◌∷◌, Option, is_some, if◌then◌else◌, ◌==◌}
-use Rattle.std.specs.Ordering.{nat_cmp}
-use Rattle.std.specs.FinMap.{find}
+use Rattle.std.specs.Prelude.{◌≡◌, ℕ, ◌<◌, Bool, true, List, [], ◌∷◌, Option, Some, None, is_some, if◌then◌else◌, ◌==◌, ◌&&◌}
 use Rattle.rq_standard.specs.Packet.{Packet}
 use Rattle.rq_standard.specs.Configuration.{Configuration}
 use Rattle.rq_standard.specs.Cutting.{block_symbols, source_symbol}
 
--- the packets of a block, as pairs of id and payload, in order
-abbrev pub received_of : ℕ → List Packet → List (ℕ × List ℕ)
-received_of b [] = []
-received_of b (p ∷ packets) = if p.id.block == b then (p.id.esi, p.payload) ∷ received_of b packets else received_of b packets
+-- the earlier of two payloads
+abbrev pub or_later : Option (List ℕ) → Option (List ℕ) → Option (List ℕ)
+or_later None later = later
+or_later (Some payload) later = Some payload
+
+-- what a packet carries for an id of a block
+abbrev pub payload_for : ℕ → Packet → ℕ → Option (List ℕ)
+payload_for b p e = if p.id.block == b && p.id.esi == e then Some p.payload else None
 
 -- the first payload of an id
 abbrev pub first_payload : ℕ → List Packet → ℕ → Option (List ℕ)
-first_payload b packets e = find nat_cmp e (received_of b packets)
+first_payload b [] e = None
+first_payload b (p ∷ packets) e = or_later (payload_for b p e) (first_payload b packets e)
 
 -- which ids came
 abbrev pub has_id : ℕ → List Packet → ℕ → Bool

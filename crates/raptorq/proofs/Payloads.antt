@@ -1,0 +1,74 @@
+-- The payloads that a map holds, after one more.
+use Rattle.std.proofs.Common.{◌≡◌, ◌≢◌, ℕ, ◌<◌, Bool, true, false, cond, eqb, List, [], length, Option, Some, None, Ordering, refl, sym, ap, ◌∙◌, subst, ◌⊎◌, inl, inr, vec_items, arith}
+use Rattle.std.specs.Prelude.{is_some, option_map}
+use Rattle.std.specs.Option.{ForSome}
+use Rattle.std.specs.declared.vec.Vec.{Vec}
+use Rattle.std.specs.declared.alloc.Global.{Global}
+use Rattle.std.specs.declared.cmp.Ordering.TheVariants.{Less, Equal, Greater}
+use Rattle.std.specs.Ordering.{nat_cmp, is_eq}
+use Rattle.std.specs.Cmp.{nat_cmp_is}
+use Rattle.std.specs.BTreeMap.{BTreeMap, get, Updates}
+use Rattle.std.specs.Map.{lookup}
+use Rattle.std.proofs.lemmas.Bool.{cases_eq, cases_lt, eq-eqb, ne_eqb, eqb-true}
+use Rattle.rq_standard.specs.Received.{or_later}
+use Rattle.raptorq.specs.Missing.{payload_of, has_payload}
+
+-- the keys' order finds the key that is equal
+pub is_eq-nat_cmp : (k q : ℕ) → is_eq (nat_cmp k q) ≡ eqb k q
+is_eq-nat_cmp k q =
+    elim (cases_lt k q) [
+      | inl less ↦ ap is_eq (sym (nat_cmp_is k q Less less)) ∙ sym (ne_eqb k q (λ e. absurd (omega arith)))
+      | inr above ↦ elim (cases_eq k q) [
+        | inl same ↦ ap is_eq (sym (nat_cmp_is k q Equal same)) ∙ sym (eq-eqb k q same)
+        | inr apart ↦ ap is_eq (sym (nat_cmp_is k q Greater (omega arith))) ∙ sym (ne_eqb k q apart)
+      ]
+    ]
+
+-- a payload of an id that is held changes nothing
+kept_by : (o r : Option (List ℕ)) (b : Bool) (x : List ℕ) → (b ≡ true → is_some o ≡ true) → o ≡ or_later o (cond b (Some x) None)
+kept_by (Some y) r b x has = refl
+kept_by None r false x has = refl
+kept_by None r true x has = absurd (cc (has refl))
+
+pub or_later-again : (f : ℕ → Option (List ℕ)) (k : ℕ) (x : List ℕ) → is_some (f k) ≡ true → (e : ℕ) → f e ≡ or_later (f e) (cond (eqb k e) (Some x) None)
+or_later-again f k x has e = kept_by (f e) (f k) (eqb k e) x (λ t. ap (λ n. is_some (f n)) (sym (eqb-true k e t)) ∙ has)
+
+-- a payload of a new id
+new_by : (o : Option (List ℕ)) (b : Bool) (x : List ℕ) → (b ≡ true → is_some o ≡ false) → cond b (Some x) o ≡ or_later o (cond b (Some x) None)
+new_by None false x none = refl
+new_by None true x none = refl
+new_by (Some y) false x none = refl
+new_by (Some y) true x none = absurd (cc (none refl))
+
+mapped : (b : Bool) (v : Vec ℕ Global) (o : Option (Vec ℕ Global)) → option_map vec_items (cond b (Some v) o) ≡ cond b (Some (vec_items v)) (option_map vec_items o)
+mapped true v o = refl
+mapped false v o = refl
+
+pub payload_of-put : (m n : BTreeMap ℕ (Vec ℕ Global)) (k : ℕ) (v : Vec ℕ Global) → Updates nat_cmp m n k (Some v) → has_payload m k ≡ false → (e : ℕ) → payload_of n e ≡ or_later (payload_of m e) (cond (eqb k e) (Some (vec_items v)) None)
+payload_of-put m n k v up none e =
+    ap (option_map vec_items) (up.0 e) ∙ mapped (is_eq (nat_cmp k e)) v (get nat_cmp m e) ∙ ap (λ b. cond b (Some (vec_items v)) (payload_of m e)) (is_eq-nat_cmp k e)
+    ∙ new_by (payload_of m e) (eqb k e) (vec_items v) (λ t. ap (λ q. is_some (payload_of m q)) (sym (eqb-true k e t)) ∙ none)
+
+pub payload_of-same : (m n : BTreeMap ℕ (Vec ℕ Global)) → n.entries ≡ m.entries → (e : ℕ) → payload_of n e ≡ payload_of m e
+payload_of-same m n same e = ap (λ es. option_map vec_items (lookup (λ q. is_eq (nat_cmp e q)) es)) same
+
+is_some-mapped : (o : Option (Vec ℕ Global)) → is_some (option_map vec_items o) ≡ is_some o
+is_some-mapped None = refl
+is_some-mapped (Some v) = refl
+
+-- whether there is a payload is whether there is an entry
+pub has_payload-entry : (m : BTreeMap ℕ (Vec ℕ Global)) (e : ℕ) → has_payload m e ≡ is_some (get nat_cmp m e)
+has_payload-entry m e = is_some-mapped (get nat_cmp m e)
+
+sized_by : (o : Option (List ℕ)) (b : Bool) (x y : List ℕ) (size : ℕ) → ForSome o (λ payload. length payload ≡ size) → length x ≡ size → or_later o (cond b (Some x) None) ≡ Some y → length y ≡ size
+sized_by (Some z) b x y size all here is = all y is
+sized_by None true x y size all here is = let same : x ≡ y = cc in ap length (sym same) ∙ here
+sized_by None false x y size all here is = absurd (cc is)
+
+-- all payloads keep their size
+pub sized-more : (f g : ℕ → Option (List ℕ)) (k : ℕ) (x : List ℕ) (size : ℕ) → ((e : ℕ) → ForSome (f e) (λ payload. length payload ≡ size)) → length x ≡ size → ((e : ℕ) → g e ≡ or_later (f e) (cond (eqb k e) (Some x) None))
+    → (e : ℕ) → ForSome (g e) (λ payload. length payload ≡ size)
+sized-more f g k x size all here grown e y is = sized_by (f e) (eqb k e) x y size (all e) here (sym (grown e) ∙ is)
+
+some_is : (o : Option (Vec ℕ Global)) (w : Vec ℕ Global) → o ≡ Some w → option_map vec_items o ≡ Some (vec_items w)
+some_is o w e = ap (option_map vec_items) e

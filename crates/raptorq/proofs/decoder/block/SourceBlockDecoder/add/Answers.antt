@@ -1,0 +1,23 @@
+use Rattle.std.proofs.Common.{◌≡◌, length, sym, ap, ◌∙◌, arith}
+use Rattle.std.specs.Prelude.{is_some}
+use Rattle.raptorq.specs.Missing.{payload_of}
+use Rattle.raptorq.proofs.Payloads.{sized-more}
+use Rattle.raptorq.proofs.MissingCounts.{missing_count-same, missing_count-step, missing-after}
+use Rattle.raptorq.proofs.decoder.block.SourceBlockDecoder.add.Goals as goal
+
+pub invariant_of-self : goal.invariant_of-self
+invariant_of-self c = record {
+  sized = λ e x is. c.args.self.now.sized e x (sym (c.in_err-kept.ensures.err e) ∙ is);
+  counted = c.args.self.now.counted ∙ missing_count-same c.args.self.now.symbols _ _ (λ e below. sym (ap is_some (c.in_err-kept.ensures.err e)));
+}
+
+pub overflow_sub-self : goal.overflow_sub-self
+overflow_sub-self c = (missing-after c.args.self.now.missing _ _ c.from.result _ c.args.self.now.counted c.from.ensures (missing_count-step c.args.self.now.symbols c.encoding_symbol_id-esi.result (payload_of c.args.self.now.received) (payload_of c.keep_first.new.received) c.in_ok-kept.kept c.split-id.result.1.items c.in_ok-kept.ensures.kept c.in_ok-kept.ensures.ok)).0
+
+pub invariant_of-self-2 : goal.invariant_of-self-2
+invariant_of-self-2 c =
+    let long : length c.split-id.result.1.items ≡ c.args.self.now.config.symbol_size = ap length (c.split-id.ensures.payload ∙ sym c.data.ensures) ∙ c.if-data-symbol_size.false ∙ c.symbol_size.ensures.value in
+    record {
+      sized = sized-more (payload_of c.args.self.now.received) (payload_of c.keep_first.new.received) c.encoding_symbol_id-esi.result c.split-id.result.1.items c.args.self.now.config.symbol_size c.args.self.now.sized long c.in_ok-kept.ensures.ok;
+      counted = (missing-after c.args.self.now.missing _ _ c.from.result _ c.args.self.now.counted c.from.ensures (missing_count-step c.args.self.now.symbols c.encoding_symbol_id-esi.result (payload_of c.args.self.now.received) (payload_of c.keep_first.new.received) c.in_ok-kept.kept c.split-id.result.1.items c.in_ok-kept.ensures.kept c.in_ok-kept.ensures.ok)).1;
+    }

@@ -1,0 +1,4 @@
+//! Decoders: packets in, blocks and objects out.
+mod block;
+
+pub use block::SourceBlockDecoder;

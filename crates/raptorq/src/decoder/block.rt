@@ -1,0 +1,113 @@
+//! The decoder of one source block.
+ghost use Rattle.std.specs.Prelude.{◌≡◌, ◌≢◌, ℕ, ◌+◌, ◌*◌, ◌<◌, ◌≤◌, List, length, Result, Ok, Err, Some, None, IfOk, IfErr, OnOk, OnErr, IsSome, not, if◌then◌else◌, ◌==◌, option_map, vec_items};
+ghost use Rattle.std.specs.Option.{ForSome};
+ghost use Rattle.rq_bytes.specs.Refusals.{IsAnswer};
+ghost use Rattle.rq_standard.specs.Received.{or_later};
+ghost use Rattle.rq_standard.proofs.PlainCut.{plain_symbol};
+ghost use Rattle.raptorq.specs.Missing.{payload_of, has_payload, missing_count};
+
+use rq_base::base::{EncodingPacket, ObjectTransmissionInformation};
+use rq_bytes::error::Error;
+use std::alloc::{AllocError, Global};
+use std::collections::BTreeMap;
+
+/// Puts the symbols of one source block together again.
+#[derive(Debug, PartialEq, Eq, Drop)]
+pub struct SourceBlockDecoder {
+    config: ObjectTransmissionInformation,
+    number: u8,
+    symbols: u32,
+    received: BTreeMap<u32, Vec<u8>>,
+    missing: u32,
+    alloc: Global,
+    pub ghost sized: { (e : ℕ) → ForSome (payload_of received e) (λ payload. length payload ≡ config.symbol_size) },
+    pub ghost counted: { missing ≡ missing_count symbols (has_payload received) },
+}
+
+// Keeps a payload, unless one of its id is there. Answers whether it was kept.
+fn keep_first(
+    received: &mut BTreeMap<u32, Vec<u8>>,
+    esi: u32,
+    payload: Vec<u8>,
+) -> Result<bool, AllocError>
+    ensures kept { IfOk result (λ kept. has_payload received.old esi ≡ not kept) }
+    ensures ok { OnOk result ((e : ℕ) → payload_of received.new e ≡ or_later (payload_of received.old e) (if esi == e then Some payload.items else None)) }
+    ensures err { OnErr result ((e : ℕ) → payload_of received.new e ≡ payload_of received.old e) }
+{
+    if received.contains_key(&esi) {
+        return Ok(false);
+    }
+    let _previous = received.insert(esi, payload)?;
+    Ok(true)
+}
+
+// The symbols one after another, where each of them came.
+fn join(
+    alloc: Global,
+    symbols: u32,
+    size: usize,
+    received: &BTreeMap<u32, Vec<u8>>,
+) -> Result<Vec<u8>, AllocError>
+    requires fits { size < 65536 }
+    requires all { (e : ℕ) → e < symbols → IsSome (payload_of received.now e) }
+    requires sized { (e : ℕ) → ForSome (payload_of received.now e) (λ payload. length payload ≡ size) }
+    ensures long { IfOk result (λ block. length block.items ≡ symbols * size) }
+    ensures each { IfOk result (λ block. (e : ℕ) → e < symbols → payload_of received.now e ≡ Some (plain_symbol size block.items e)) }
+{
+    let mut block = Vec::with_capacity(alloc, symbols as usize * size)?;
+    for e in 0..symbols {
+        let Some(symbol) = received.get(&e) else {
+            unreachable!()
+        };
+        block.extend_from_slice(symbol.as_slice())?;
+    }
+    Ok(block)
+}
+
+impl SourceBlockDecoder {
+    ghost use Rattle.rq_standard.specs.Held.{Held, recorded, IsBlockAnswer};
+    ghost use Rattle.rq_standard.specs.Received.{HasSourceSymbols};
+    ghost use Rattle.rq_standard.proofs.PlainCut.{HasOneSubBlock};
+    ghost use Rattle.raptorq.specs.Blocks.{held_of, block_refusal};
+
+    /// The size of a symbol, in bytes.
+    pub(crate) fn symbol_size(&self) -> usize
+        ensures value { result ≡ (held_of self.now).configuration.symbol_size }
+        ensures below { result < 65536 }
+    {
+        usize::from(self.config.symbol_size())
+    }
+
+    /// Tests a packet and records its payload, unless one of its id came before.
+    pub(crate) fn add(&mut self, packet: EncodingPacket) -> Result<(), Error>
+        ensures refused { IsAnswer (λ x. x) result (block_refusal (held_of self.old) packet) }
+        ensures ok { OnOk result (held_of self.new ≡ recorded (held_of self.old) packet.id.esi packet.payload) }
+        ensures err { OnErr result (held_of self.new ≡ held_of self.old) }
+    {
+        if packet.payload_id().source_block_number() != self.number {
+            return Err(Error::UnknownBlock);
+        }
+        if packet.data().len() != self.symbol_size() {
+            return Err(Error::WrongPayloadSize);
+        }
+        let (id, payload) = packet.split();
+        let esi = id.encoding_symbol_id();
+        let is_source = esi < self.symbols;
+        let kept = keep_first(&mut self.received, esi, payload)?;
+        self.missing -= u32::from(kept & is_source);
+        Ok(())
+    }
+
+    /// The block, where all its source symbols came.
+    pub(crate) fn answer(&self) -> Result<Option<Vec<u8>>, Error>
+        requires { HasOneSubBlock (held_of self.now).configuration }
+        ensures block { IfOk result (λ r. IsBlockAnswer HasSourceSymbols (held_of self.now) (option_map vec_items r)) }
+        ensures memory { IfErr result (λ e. e ≡ Error.OutOfMemory) }
+    {
+        if self.missing > 0 {
+            return Ok(None);
+        }
+        let block = join(self.alloc, self.symbols, self.symbol_size(), &self.received)?;
+        Ok(Some(block))
+    }
+}
