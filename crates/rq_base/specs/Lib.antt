@@ -1,2 +1,3 @@
 pub mod Information
 pub mod Refused
+pub mod Defaults

@@ -1,5 +1,6 @@
 pub mod Firsts
 pub mod HeaderBytes
+pub mod LeastNumbers
 pub mod OneBlock
 pub mod Packed
 pub mod PacketBytes
@@ -8,5 +9,5 @@ pub mod PlainCut
 pub mod Powers
 pub mod RowLaws
 pub mod RowSymbols
-pub mod TupleLaws
 pub mod Standing
+pub mod TupleLaws

@@ -9,6 +9,7 @@ pub mod OctetProducts
 pub mod Octets
 pub mod PackedBits
 pub mod Packet
+pub mod Parameters
 pub mod Partition
 pub mod Rand
 pub mod Received

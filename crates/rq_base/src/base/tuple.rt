@@ -32,7 +32,12 @@ pub fn intermediate_tuple(
     let d = deg(rand(y, 0, 1 << 20), lt_symbols);
     let a = 1 + rand(y, 1, lt_symbols - 1);
     let b = rand(y, 2, lt_symbols);
-    let d1 = 2 + if d < 4 { rand(internal_symbol_id, 3, 2) } else { 0 };
+    let d1 = 2
+        + if d < 4 {
+            rand(internal_symbol_id, 3, 2)
+        } else {
+            0
+        };
     let a1 = 1 + rand(internal_symbol_id, 4, p1 - 1);
     let b1 = rand(internal_symbol_id, 5, p1);
     (d, a, b, d1, a1, b1)
@@ -54,7 +59,11 @@ fn multiplier(systematic_index: u32) -> u32
     ensures bound { result < 2 ^ 21 }
 {
     let multiplier = 53591 + 997 * systematic_index;
-    if multiplier % 2 == 0 { multiplier + 1 } else { multiplier }
+    if multiplier % 2 == 0 {
+        multiplier + 1
+    } else {
+        multiplier
+    }
 }
 
 // The place of the first number above `v`, or the length.

@@ -11,8 +11,9 @@ degree_is c = c.deg-d.ensures.value ∙ ap (λ (v : ℕ). degree v c.args.lt_sym
 extra_is : (c : goal.After-rand-b1) → c.if-d-lt4.d1 ≡ cond (ltb c.deg-d.result 4) (rand c.args.internal_symbol_id 3 2) 0
 extra_is c =
     elim c.if-d-lt4.branch [
-      then-d-lt4 w ↦ rw (lt-ltb c.deg-d.result 4 w.if-d-lt4.true) (w.d1-is ∙ w.rand-then-d-lt4.ensures.value)
-    | else-d-lt4 w ↦ rw (le-ltb c.deg-d.result 4 w.if-d-lt4.false) w.d1-is ]
+      | then-d-lt4 w ↦ rw (lt-ltb c.deg-d.result 4 w.if-d-lt4.true) (w.d1-is ∙ w.rand-then-d-lt4.ensures.value)
+      | else-d-lt4 w ↦ rw (le-ltb c.deg-d.result 4 w.if-d-lt4.false) w.d1-is
+    ]
 
 pub returns-clause-value : goal.returns-clause-value
 unfolding tuple_of
