@@ -1,1 +1,2 @@
-
+pub mod DefaultParameters
+pub mod WalkLaws

@@ -1,2 +1,5 @@
 pub mod Information
 pub mod Refused
+pub mod Defaults
+pub mod Walks
+pub mod Calls

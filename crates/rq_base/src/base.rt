@@ -2,7 +2,9 @@
 mod cutting;
 mod information;
 mod packet;
+mod tuple;
 
 pub use cutting::partition;
 pub use information::ObjectTransmissionInformation;
 pub use packet::{EncodingPacket, PayloadId};
+pub use tuple::{deg, intermediate_tuple};

@@ -2,3 +2,5 @@
 #![tactic(auto)]
 
 pub mod base;
+pub mod constraint_matrix;
+pub mod places;

@@ -1,5 +1,7 @@
 pub mod Firsts
 pub mod HeaderBytes
+pub mod LeastNumbers
+pub mod OneAnswer
 pub mod OneBlock
 pub mod Packed
 pub mod PacketBytes
@@ -9,4 +11,4 @@ pub mod Powers
 pub mod RowLaws
 pub mod RowSymbols
 pub mod Standing
-pub mod OneAnswer
+pub mod TupleLaws

@@ -1,5 +1,6 @@
 pub mod Configuration
 pub mod Cutting
+pub mod Equations
 pub mod Held
 pub mod OctetFacts
 pub mod OctetField
@@ -8,6 +9,7 @@ pub mod OctetProducts
 pub mod Octets
 pub mod PackedBits
 pub mod Packet
+pub mod Parameters
 pub mod Partition
 pub mod Rand
 pub mod Received
@@ -16,3 +18,4 @@ pub mod Standing
 pub mod Streams
 pub mod SymbolRows
 pub mod TableRows
+pub mod Tuple

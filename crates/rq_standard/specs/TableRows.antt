@@ -127,7 +127,8 @@ greatest_size [] = 0
 greatest_size (row ∷ []) = row.source_symbols
 greatest_size (row ∷ rows) = greatest_size rows
 
-abbrev no_row : Row
+-- what stands where there is no row
+abbrev pub no_row : Row
 no_row = record { source_symbols = 0; systematic_index = 0; ldpc_symbols = 0; hdpc_symbols = 0; lt_symbols = 0; p1 = 0 }
 
 -- the row of a block of k symbols: the first whose size is at least k

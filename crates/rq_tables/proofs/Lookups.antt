@@ -1,5 +1,5 @@
 -- Reading the tables place by place.
-use Rattle.std.proofs.Common.{◌≡◌, ℕ, suc, ◌+◌, ◌-◌, ◌<◌, ◌≤◌, cond, leb, List, [], ◌∷◌, length, get_or, drop, ◌++◌, append_assoc, append-nil, Option, None, Some, Bor, refl, arith, ap, subst, sym, ◌∙◌, slice_get, drop-cons, length-drop}
+use Rattle.std.proofs.Common.{◌≡◌, ℕ, suc, ◌+◌, ◌-◌, ◌<◌, ◌≤◌, cond, leb, max, add-one, List, [], ◌∷◌, length, get_or, drop, ◌++◌, append_assoc, append-nil, Option, None, Some, Bor, refl, arith, ap, subst, sym, ◌∙◌, slice_get, drop-cons, length-drop}
 use Rattle.std.proofs.Math.ListN.{drop_of_length-le}
 use Rattle.std.proofs.lemmas.Bool.{le-leb, lt-leb}
 use Rattle.std.proofs.lemmas.Option.{slice_get_read, slice_get_past}
@@ -7,6 +7,7 @@ use Rattle.std.specs.Option.{option_copied}
 use Rattle.std.specs.Slice.{IsItemAt}
 use Rattle.rq_standard.specs.declared.row.Row.{Row}
 use Rattle.rq_standard.specs.declared.numbers.TheConstants.{SYSTEMATIC_INDICES_AND_PARAMETERS}
+use Rattle.rq_standard.specs.Parameters.{greatest_within}
 use Rattle.rq_standard.specs.TableRows.{Numbers, row_at, rows_from, row_of, greatest_size, first_failing_check, first_failure, first_refused, built_in_rows}
 
 -- what `get` lends, copied, is the item at the place
@@ -97,3 +98,28 @@ pub made_built_in : (start made : List Row) (n : ℕ) → start ≡ [] → n ≡
 unfolding built_in_rows
 made_built_in start made n empty none is =
     is ∙ ap (λ (rows : List Row). rows ++ rows_from n SYSTEMATIC_INDICES_AND_PARAMETERS) empty ∙ ap (λ (k : ℕ). rows_from k SYSTEMATIC_INDICES_AND_PARAMETERS) none
+
+-- ---- the greatest size within a limit
+
+within-drop : (limit : ℕ) (rows : List Row) (i : ℕ) (d : Row) → i < length rows →
+    greatest_within limit (drop i rows) ≡ cond (leb (get_or rows i d).source_symbols limit) (max (get_or rows i d).source_symbols (greatest_within limit (drop (i + 1) rows))) (greatest_within limit (drop (i + 1) rows))
+unfolding greatest_within
+within-drop limit rows i d lt = rw (drop-cons rows i d lt, add-one i) refl
+
+-- a row within the limit
+pub within_taken : (limit greatest now : ℕ) (rows : List Row) (i : ℕ) (d : Row) → i < length rows → (get_or rows i d).source_symbols ≤ limit → now ≡ max greatest (get_or rows i d).source_symbols →
+    max now (greatest_within limit (drop (i + 1) rows)) ≡ max greatest (greatest_within limit (drop i rows))
+within_taken limit greatest now rows i d lt le is =
+    let size = (get_or rows i d).source_symbols in
+    let here : greatest_within limit (drop i rows) ≡ max size (greatest_within limit (drop (i + 1) rows)) = within-drop limit rows i d lt ∙ rw (le-leb size limit le) refl in
+    omega (arith, here, is)
+
+-- a row past the limit
+pub within_left : (limit greatest : ℕ) (rows : List Row) (i : ℕ) (d : Row) → i < length rows → limit < (get_or rows i d).source_symbols →
+    max greatest (greatest_within limit (drop (i + 1) rows)) ≡ max greatest (greatest_within limit (drop i rows))
+within_left limit greatest rows i d lt below =
+    ap (λ (n : ℕ). max greatest n) (sym (within-drop limit rows i d lt ∙ rw (lt-leb (get_or rows i d).source_symbols limit below) refl))
+
+pub within_end : (limit greatest : ℕ) (rows : List Row) (i : ℕ) → length rows ≤ i → max greatest (greatest_within limit (drop i rows)) ≡ greatest
+unfolding greatest_within
+within_end limit greatest rows i le = rw (drop_of_length-le rows le) (omega arith)

@@ -3,6 +3,7 @@ ghost use Rattle.std.specs.Prelude.{◌≡◌, ◌≤◌, ◌<◌, ◌+◌, ◌^
 ghost use Rattle.rq_bytes.specs.Refusals.{IsAnswer};
 ghost use Rattle.rq_standard.specs.declared.row.Row.{Row};
 ghost use Rattle.rq_standard.specs.TableRows.{IsTable, IsChecked, greatest_size, row_of, rows_from, built_in_rows, first_size, intermediate_symbols, pi_symbols};
+ghost use Rattle.rq_standard.specs.Parameters.{greatest_within};
 ghost use Rattle.rq_tables.specs.Tables.{wanted_size, wanted_table, wanted_rows};
 
 use crate::checks::{first_failing_check, row_at};
@@ -92,6 +93,19 @@ impl SystematicTable {
             Some(row) => row.source_symbols,
             None => 0,
         }
+    }
+
+    /// The greatest number of source symbols of a block that is at most `limit`, or 0 where no row is that small.
+    pub fn greatest_within(&self, limit: u64) -> u32
+        ensures { result ≡ greatest_within limit self.now }
+    {
+        let mut greatest: u32 = 0;
+        for row in &self.rows {
+            if u64::from(row.source_symbols) <= limit {
+                greatest = greatest.max(row.source_symbols);
+            }
+        }
+        greatest
     }
 
     /// The row of a block of `source_symbols` symbols: the first whose size is at least that. A block of no symbols has the row of 10.

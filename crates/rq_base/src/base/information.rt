@@ -7,6 +7,8 @@ use rq_bytes::error::Error;
 use rq_tables::systematic_constants::{MAX_SOURCE_SYMBOLS_PER_BLOCK, SystematicTable};
 use std::marker::Model;
 
+mod parameters;
+
 /// The greatest transfer length, in bytes: 65535 bytes in each of 56403 symbols of 255 blocks.
 const MAX_TRANSFER_LENGTH: u64 = 942574504275;
 
@@ -32,11 +34,11 @@ impl Model for ObjectTransmissionInformation {
     ghost invariant = { λ i. IsConfiguration (information_view i) };
 
     ghost inverse = { λ c. record {
-        transfer_length = c.transfer_length;
-        symbol_size = c.symbol_size;
-        num_source_blocks = c.source_blocks;
-        num_sub_blocks = c.sub_blocks;
-        symbol_alignment = c.alignment;
+      transfer_length = c.transfer_length;
+      symbol_size = c.symbol_size;
+      num_source_blocks = c.source_blocks;
+      num_sub_blocks = c.sub_blocks;
+      symbol_alignment = c.alignment;
     } };
 }
 
@@ -57,11 +59,11 @@ impl ObjectTransmissionInformation {
         alignment: u8,
     ) -> Result<ObjectTransmissionInformation, Error>
         ensures { result ≡ new_configuration (record {
-            transfer_length = transfer_length;
-            symbol_size = symbol_size;
-            source_blocks = source_blocks;
-            sub_blocks = sub_blocks;
-            alignment = alignment;
+          transfer_length = transfer_length;
+          symbol_size = symbol_size;
+          source_blocks = source_blocks;
+          sub_blocks = sub_blocks;
+          alignment = alignment;
         }) }
     {
         if transfer_length > MAX_TRANSFER_LENGTH {

@@ -63,8 +63,8 @@ impl PayloadId {
         ensures value { result ≡ id_bytes self.now }
         ensures read { id_of_bytes result ≡ self.now }
     {
-        (u32::from(self.source_block_number) * ENCODING_SYMBOL_IDS + self.encoding_symbol_id)
-            .to_be_bytes()
+        (u32::from(self.source_block_number) * ENCODING_SYMBOL_IDS
+            + self.encoding_symbol_id).to_be_bytes()
     }
 
     /// The number of the source block, from 0.

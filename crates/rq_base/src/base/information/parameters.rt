@@ -1,0 +1,195 @@
+//! How an object is cut by default (RFC 6330, section 4.3).
+ghost use Rattle.std.specs.Prelude.{◌≡◌, ◌<◌, ◌≤◌, IfOk};
+ghost use Rattle.rq_standard.specs.Parameters.{alignment_for, symbol_size_for, most_sub_blocks, fitting_block, is_fitting, first_from, blocks_for, symbols_for, IsLeast};
+
+use super::{MAX_TRANSFER_LENGTH, ObjectTransmissionInformation};
+use rq_bytes::error::Error;
+use rq_tables::systematic_constants::SystematicTable;
+
+/// The memory that a decoder is taken to have, in bytes.
+const DECODER_MEMORY: u64 = 10485760;
+
+impl ObjectTransmissionInformation {
+    ghost use Rattle.std.specs.Int.{div_ceil};
+    ghost use Rattle.rq_base.specs.Defaults.{wanted_parameters};
+
+    /// A configuration for an object of `transfer_length` bytes in packets of at most `max_packet_size` bytes of payload, for decoders with 10 MiB of memory.
+    ///
+    /// Refuses what [`Self::generate_encoding_parameters`] does.
+    pub fn with_defaults(
+        table: &SystematicTable,
+        transfer_length: u64,
+        max_packet_size: u16,
+    ) -> Result<ObjectTransmissionInformation, Error>
+        ensures { result ≡ wanted_parameters table.now transfer_length max_packet_size 10485760 }
+    {
+        Self::generate_encoding_parameters(table, transfer_length, max_packet_size, DECODER_MEMORY)
+    }
+
+    /// A configuration for an object of `transfer_length` bytes in packets of at most `max_packet_size` bytes of payload, each of whose sub-blocks fits `decoder_memory_requirement` bytes. There are as few source blocks as that allows, and then as few sub-blocks.
+    ///
+    /// Refuses, in this order, [`Error::PacketSizeZero`], [`Error::TransferLengthZero`], [`Error::TransferTooLong`] above 942574504275 bytes, [`Error::MemoryRequirementTooSmall`] where no row of the table fits, and [`Error::TooManyBlocks`] where more than 255 source blocks are needed.
+    pub fn generate_encoding_parameters(
+        table: &SystematicTable,
+        transfer_length: u64,
+        max_packet_size: u16,
+        decoder_memory_requirement: u64,
+    ) -> Result<ObjectTransmissionInformation, Error>
+        ensures value { result ≡ wanted_parameters table.now transfer_length max_packet_size decoder_memory_requirement }
+        ensures least { IfOk result (λ c. IsLeast (is_fitting table.now max_packet_size decoder_memory_requirement (div_ceil (symbols_for transfer_length max_packet_size) c.source_blocks)) c.sub_blocks) }
+    {
+        if max_packet_size == 0 {
+            return Err(Error::PacketSizeZero);
+        }
+        if transfer_length == 0 {
+            return Err(Error::TransferLengthZero);
+        }
+        if transfer_length > MAX_TRANSFER_LENGTH {
+            return Err(Error::TransferTooLong);
+        }
+        let most = most_sub_blocks(max_packet_size);
+        let greatest = fitting_block(table, max_packet_size, decoder_memory_requirement, most);
+        if greatest == 0 {
+            return Err(Error::MemoryRequirementTooSmall);
+        }
+        let symbol_size = symbol_size(max_packet_size);
+        let symbols = transfer_length.div_ceil(u64::from(symbol_size));
+        let blocks = symbols.div_ceil(u64::from(greatest));
+        if blocks > 255 {
+            return Err(Error::TooManyBlocks);
+        }
+        let largest = symbols.div_ceil(blocks);
+        Ok(ObjectTransmissionInformation {
+            transfer_length,
+            symbol_size,
+            num_source_blocks: blocks as u8,
+            num_sub_blocks: least_sub_blocks(
+                table,
+                max_packet_size,
+                decoder_memory_requirement,
+                largest,
+            ),
+            symbol_alignment: alignment(max_packet_size),
+        })
+    }
+}
+
+// Al, in bytes.
+fn alignment(packet_size: u16) -> u8
+    ensures value { result ≡ alignment_for packet_size }
+    ensures positive { 0 < result }
+    ensures small { result ≤ 8 }
+{
+    if packet_size >= 64 { 8 } else { 1 }
+}
+
+// T, in bytes.
+fn symbol_size(packet_size: u16) -> u16
+    requires { 0 < packet_size }
+    ensures value { result ≡ symbol_size_for packet_size }
+    ensures positive { 0 < result }
+    ensures aligned { alignment_for packet_size ≤ result }
+{
+    packet_size - packet_size % u16::from(alignment(packet_size))
+}
+
+// The greatest number of sub-blocks.
+fn most_sub_blocks(packet_size: u16) -> u16
+    requires { 0 < packet_size }
+    ensures value { result ≡ most_sub_blocks packet_size }
+    ensures positive { 0 < result }
+    ensures small { result < 1024 }
+{
+    if packet_size >= 64 {
+        symbol_size(packet_size) / 64
+    } else {
+        symbol_size(packet_size)
+    }
+}
+
+// The greatest size of a block whose sub-blocks fit the memory, where there are so many of them; 0 where no row fits.
+fn fitting_block(table: &SystematicTable, packet_size: u16, memory: u64, sub_blocks: u16) -> u32
+    requires size { 0 < packet_size }
+    requires some { 0 < sub_blocks }
+    ensures { result ≡ fitting_block table.now packet_size memory sub_blocks }
+{
+    let alignment = u64::from(alignment(packet_size));
+    let units = u64::from(symbol_size(packet_size)).div_ceil(alignment * u64::from(sub_blocks));
+    table.greatest_within(memory / (alignment * units))
+}
+
+// The least number of sub-blocks with which a block of so many symbols fits the memory, or one more than the greatest number of them.
+fn least_sub_blocks(table: &SystematicTable, packet_size: u16, memory: u64, symbols: u64) -> u16
+    requires { 0 < packet_size }
+    ensures { result ≡ first_from (is_fitting table.now packet_size memory symbols) 1 (most_sub_blocks packet_size) }
+{
+    let end = most_sub_blocks(packet_size) + 1;
+    for sub_blocks in 1..end {
+        if symbols <= u64::from(fitting_block(table, packet_size, memory, sub_blocks)) {
+            return sub_blocks;
+        }
+    }
+    end
+}
+
+#[cfg(test)]
+mod tests {
+    use crate::base::ObjectTransmissionInformation;
+    use rq_bytes::error::Error;
+    use rq_tables::systematic_constants::SystematicTable;
+    use std::test::Fail;
+
+    // Symbol size, source blocks, sub-blocks and alignment of a configuration.
+    fn cut(
+        configuration: Result<ObjectTransmissionInformation, Error>,
+    ) -> Result<(u16, u8, u16, u8), Error> {
+        let c = configuration?;
+        Ok((
+            c.symbol_size(),
+            c.source_blocks(),
+            c.sub_blocks(),
+            c.symbol_alignment(),
+        ))
+    }
+
+    #[test]
+    fn parameters(rt: HostRuntime) -> Result<(), Fail> {
+        let table = SystematicTable::built_in(rt.alloc())?;
+        let cases = [
+            ((10000, 1400, 10485760), Ok((1400, 1, 1, 8))),
+            ((10000, 500, 5000), Ok((496, 1, 3, 8))),
+            ((400, 500, 1000), Ok((496, 1, 6, 8))),
+            ((400, 500, 719), Err(Error::MemoryRequirementTooSmall)),
+            ((10000, 64, 640), Ok((64, 16, 1, 8))),
+            ((10000, 64, 64), Err(Error::MemoryRequirementTooSmall)),
+            ((10000, 63, 64), Ok((63, 3, 63, 1))),
+            ((0, 0, 1), Err(Error::PacketSizeZero)),
+            ((942574504276, 1, 10485760), Err(Error::TransferTooLong)),
+        ];
+        for ((length, size, memory), wanted) in cases {
+            let made = ObjectTransmissionInformation::generate_encoding_parameters(
+                &table, length, size, memory,
+            );
+            assert_eq!(rt; cut(made), wanted);
+        }
+        Ok(())
+    }
+
+    #[test]
+    fn defaults(rt: HostRuntime) -> Result<(), Fail> {
+        let table = SystematicTable::built_in(rt.alloc())?;
+        let cases = [
+            ((126735, 1), Ok((1, 255, 1, 1))),
+            ((126736, 1), Err(Error::TooManyBlocks)),
+            ((1, 0), Err(Error::PacketSizeZero)),
+            ((0, 1), Err(Error::TransferLengthZero)),
+        ];
+        for ((length, size), wanted) in cases {
+            assert_eq!(rt;
+                cut(ObjectTransmissionInformation::with_defaults(&table, length, size)),
+                wanted
+            );
+        }
+        Ok(())
+    }
+}

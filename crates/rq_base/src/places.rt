@@ -1,0 +1,106 @@
+//! The places of an internal symbol id, one after another (RFC 6330, section 5.3.5.3).
+ghost use Rattle.std.specs.Prelude.{◌≡◌, ℕ, ◌+◌, ◌*◌, ◌%◌, ◌<◌, ◌≤◌, List, [], ◌∷◌, MatchOption};
+ghost use Rattle.rq_standard.specs.Tuple.{IsTuple, places_of};
+ghost use Rattle.rq_base.specs.Walks.{next_below};
+
+use std::marker::Model;
+
+/// The places that are left of the walk of a tuple. Contracts see it as their list.
+#[derive(Drop)]
+pub struct Places {
+    lt_symbols: u32,
+    lt_step: u32,
+    lt_place: u32,
+    lt_left: u32,
+    pi_symbols: u32,
+    p1: u32,
+    pi_step: u32,
+    pi_value: u32,
+    pi_left: u32,
+}
+
+impl Model for Places {
+    ghost use Rattle.std.specs.Prelude.{ℕ, List};
+    ghost use Rattle.rq_base.specs.Walks.{places_left, IsWalk};
+
+    ghost Value = { List ℕ };
+
+    ghost view = { places_left };
+
+    ghost invariant = { IsWalk };
+}
+
+impl Places {
+    /// The walk of a tuple (d, a, b, d1, a1, b1), over a row of the table with W `lt_symbols`, P `pi_symbols` and P1 `p1`.
+    pub fn new(
+        source_tuple: (u32, u32, u32, u32, u32, u32),
+        lt_symbols: u32,
+        pi_symbols: u32,
+        p1: u32,
+    ) -> Places
+        requires tuple { IsTuple lt_symbols p1 source_tuple }
+        requires some_pi { 3 ≤ pi_symbols }
+        requires p1_above { pi_symbols ≤ p1 }
+        requires p1_near { p1 ≤ 2 * pi_symbols }
+        ensures { result ≡ places_of lt_symbols pi_symbols p1 source_tuple }
+    {
+        let (lt_left, lt_step, lt_place, pi_left, pi_step, pi_value) = source_tuple;
+        Places {
+            lt_symbols,
+            lt_step,
+            lt_place,
+            lt_left,
+            pi_symbols,
+            p1,
+            pi_step,
+            pi_value,
+            pi_left,
+        }
+    }
+
+    /// The next place, if one is left.
+    pub fn next_place(&mut self) -> Option<usize>
+        ensures { MatchOption result ((self.old ≡ []) × (self.new ≡ [])) (λ place. self.old ≡ place ∷ self.new) }
+    {
+        if self.lt_left > 0 {
+            let place = self.lt_place;
+            self.lt_left -= 1;
+            self.lt_place = sum_modulo(place, self.lt_step, self.lt_symbols);
+            return Some(place as usize);
+        }
+        if self.pi_left == 0 {
+            return None;
+        }
+        let value = next_below(self.pi_value, self.pi_step, self.pi_symbols, self.p1);
+        self.pi_left -= 1;
+        self.pi_value = sum_modulo(value, self.pi_step, self.p1);
+        Some(self.lt_symbols as usize + value as usize)
+    }
+}
+
+// The sum of two numbers below the modulus, modulo it.
+fn sum_modulo(x: u32, y: u32, modulus: u32) -> u32
+    requires x { x < modulus }
+    requires y { y < modulus }
+    ensures value { result ≡ (x + y) % modulus }
+    ensures below { result < modulus }
+{
+    if x < modulus - y { x + y } else { x - (modulus - y) }
+}
+
+// The first value below P that the walk from a value on reaches. It gets there, since P is at least half of the modulus P1.
+fn next_below(value: u32, step: u32, pi_symbols: u32, p1: u32) -> u32
+    requires value { value < p1 }
+    requires some_step { 1 ≤ step }
+    requires step { step < p1 }
+    requires p1_above { pi_symbols ≤ p1 }
+    requires p1_near { p1 ≤ 2 * pi_symbols }
+    ensures value { result ≡ next_below pi_symbols p1 step p1 value }
+    ensures below { result < pi_symbols }
+{
+    let mut value = value;
+    while value >= pi_symbols {
+        value = sum_modulo(value, step, p1);
+    }
+    value
+}
