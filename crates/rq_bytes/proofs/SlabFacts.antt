@@ -69,7 +69,6 @@ module _ {bytes : List ℕ} {count size : ℕ} {order : Option (List ℕ)} {slab
   pub within : (p : ℕ) → p < length slab.values → p * slab.symbol_size + size ≤ length bytes
   within p lt = let count_is_there = count_is in omega (arith, piece_within p count size (omega arith), is.long, ap (λ s. p * s) size_is)
 
-
   pub within_slice : (p a : ℕ) (now : List ℕ) → p < length slab.values → a ≡ p * slab.symbol_size → now ≡ bytes → a + size ≤ length now
   within_slice p a now lt e same = omega (arith, within p lt, ap length same)
 
