@@ -1,6 +1,6 @@
 -- A slab's buffer and the symbols that callers see.
-use Rattle.std.proofs.Common.{◌≡◌, ◌≢◌, ◌⊎◌, inl, inr, ⊎_elim, Fits, w8, map, Global, ℕ, ◌+◌, ◌*◌, ◌<◌, ◌≤◌, List, [], Vec, length, drop, set, get_or, Option, None, Some, refl, sym, ap, ◌∙◌, arith, subst}
-use Rattle.std.specs.Prelude.{All}
+use Rattle.std.proofs.Common.{◌&&◌, ◌≡◌, ◌≢◌, ◌⊎◌, inl, inr, ⊎_elim, Fits, w8, map, Global, ℕ, ◌+◌, ◌*◌, ◌<◌, ◌≤◌, List, [], Vec, length, drop, set, get_or, Option, None, Some, refl, sym, ap, ◌∙◌, arith, subst}
+use Rattle.std.specs.Prelude.{◌==◌, All}
 use Rattle.std.proofs.lemmas.Grind.{get_or_default_zero}
 use Rattle.std.proofs.lemmas.List.{length-take-le, length-drop, length-map, get_or-map, get_or_read}
 use Rattle.std.proofs.lemmas.List.Elements.{All-take, All-drop}
@@ -13,12 +13,13 @@ use Rattle.rq_algebra.specs.Symbols.{add_symbols, symbols}
 use Rattle.rq_standard.specs.OctetField.{octets}
 use Rattle.rq_standard.specs.Rows.{row_sum, row_multiple}
 use Rattle.rq_standard.proofs.RowSymbols.{add_symbols-rows, scale-rows}
-use Rattle.rq_bytes.specs.Ranges.{range_of, with_range, cut}
-use Rattle.rq_bytes.specs.Slab.{Slab, after, symbol_in, symbols_in, HasPlace}
+use Rattle.rq_bytes.specs.Ranges.{range_of, with_range, cut, joined}
+use Rattle.rq_bytes.specs.Slab.{Slab, after, symbol_in, symbols_in, same_slab, HasPlace}
 use Rattle.rq_bytes.specs.contracts.symbol_slab.SymbolSlab.{the_view, the_invariant}
 use Rattle.rq_bytes.specs.declared.symbol_slab.SymbolSlab.TheInside.{Inside}
-use Rattle.std.specs.Option.{option_map, ForSome}
-use Rattle.rq_bytes.proofs.Cuts.{length-cut, get_or-cut, cut-with_range, cut-with_ranges, piece_within, pieces_apart}
+use Rattle.std.specs.Option.{option_map, option_eq, ForSome}
+use Rattle.std.specs.Cmp.Lexicographic.{pointwise}
+use Rattle.rq_bytes.proofs.Cuts.{joined-cut, length-cut, get_or-cut, cut-with_range, cut-with_ranges, piece_within, pieces_apart}
 
 -- the buffer `bytes` of `count` symbols of `size` octets, and what callers see of it
 pub record Holds (bytes : List ℕ) (count size : ℕ) (order : Option (List ℕ)) (slab : Slab) : Type 0 where
@@ -67,7 +68,6 @@ module _ {bytes : List ℕ} {count size : ℕ} {order : Option (List ℕ)} {slab
   -- where a symbol stands
   pub within : (p : ℕ) → p < length slab.values → p * slab.symbol_size + size ≤ length bytes
   within p lt = let count_is_there = count_is in omega (arith, piece_within p count size (omega arith), is.long, ap (λ s. p * s) size_is)
-
 
   pub within_slice : (p a : ℕ) (now : List ℕ) → p < length slab.values → a ≡ p * slab.symbol_size → now ≡ bytes → a + size ≤ length now
   within_slice p a now lt e same = omega (arith, within p lt, ap length same)
@@ -187,3 +187,30 @@ pub get_or-values_in : (values : List (List ℕ)) (order : Option (List ℕ)) (i
     → get_or (values_in (symbols octets) values order) i [] ≡ get_or values (meant_at order i) []
 get_or-values_in values None i lt = refl
 get_or-values_in values (Some o) i lt = get_or-map (λ k. get_or values k []) o i 0 [] (omega (arith, length-map o (λ k. get_or values k [])))
+
+same_order : {Z : Type 0} (a b : Option (Vec ℕ Z))
+    → option_eq (pointwise ◌==◌) (option_map (λ o. o.items) a) (option_map (λ o. o.items) b) ≡ option_eq (λ x y. pointwise ◌==◌ x.items y.items) a b
+same_order None None = refl
+same_order None (Some y) = refl
+same_order (Some x) None = refl
+same_order (Some x) (Some y) = refl
+
+-- what `==` of two slabs compares
+pub compared : (a b : Inside) (left right : Slab) → the_view a ≡ left → the_invariant a → the_view b ≡ right → the_invariant b
+    → same_slab left right
+    ≡ (a.symbol_size == b.symbol_size && (a.count == b.count && (option_eq (λ x y. pointwise ◌==◌ x.items y.items) a.order b.order && pointwise ◌==◌ a.«data».items b.«data».items)))
+compared a b left right av ai bv bi =
+    let octets_a = joined-cut a.count a.symbol_size a.«data».items (sym a.«data».ok.0 ∙ ai.0) in
+    let octets_b = joined-cut b.count b.symbol_size b.«data».items (sym b.«data».ok.0 ∙ bi.0) in
+    let sizes = a.symbol_size == b.symbol_size in
+    let counts = a.count == b.count in
+    let E = option_eq (pointwise ◌==◌) (option_map (λ o. o.items) a.order) (option_map (λ o. o.items) b.order) in
+    ap (λ (v : Slab). same_slab v right) (sym av)
+    ∙ ap (λ (v : Slab). same_slab (the_view a) v) (sym bv)
+    ∙ ap (λ n. sizes && (n == length (cut b.count b.symbol_size b.«data».items) && (E && pointwise ◌==◌ (joined (cut a.count a.symbol_size a.«data».items)) (joined (cut b.count b.symbol_size b.«data».items)))))
+    (length-cut a.count a.symbol_size a.«data».items)
+    ∙ ap (λ n. sizes && (a.count == n && (E && pointwise ◌==◌ (joined (cut a.count a.symbol_size a.«data».items)) (joined (cut b.count b.symbol_size b.«data».items)))))
+    (length-cut b.count b.symbol_size b.«data».items)
+    ∙ ap (λ xs. sizes && (counts && (E && pointwise ◌==◌ xs (joined (cut b.count b.symbol_size b.«data».items))))) octets_a
+    ∙ ap (λ ys. sizes && (counts && (E && pointwise ◌==◌ a.«data».items ys))) octets_b
+    ∙ ap (λ e. sizes && (counts && (e && pointwise ◌==◌ a.«data».items b.«data».items))) (same_order a.order b.order)

@@ -3,3 +3,4 @@ pub mod Ranges
 pub mod Refusals
 pub mod Slab
 pub mod SymbolOps
+pub mod Tables

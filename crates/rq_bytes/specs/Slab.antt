@@ -1,8 +1,12 @@
 -- What callers see of a slab.
-use Rattle.std.specs.Prelude.{ℕ, List, map, length, Option, None, slice_index_or}
+use Rattle.std.specs.Prelude.{ℕ, Bool, List, length, Option, None, ◌==◌}
+use Rattle.std.specs.Cmp.Lexicographic.{pointwise}
+use Rattle.std.specs.Option.{option_eq}
+use Rattle.std.specs.Ordering.{eq_of_both, on}
 use Rattle.rq_algebra.specs.Operations.{Operation, Store, step, read, values_in, IsPlace, IsAllowed}
 use Rattle.rq_algebra.specs.Symbols.{symbols}
 use Rattle.rq_standard.specs.OctetField.{octets}
+use Rattle.rq_bytes.specs.Ranges.{joined}
 
 -- its symbols, the size of each, and the order in which places are read, where one is set
 pub record Slab : Type 0 where

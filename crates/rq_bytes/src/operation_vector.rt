@@ -12,9 +12,15 @@ use crate::symbol_slab::SymbolSlab;
 #[derive(Clone, Debug, PartialEq, Eq, PartialOrd, Ord, Hash, Drop)]
 pub enum SymbolOps {
     /// Adds the symbol at `src` to the one at `dest`.
-    AddAssign { dest: usize, src: usize },
+    AddAssign {
+        dest: usize,
+        src: usize,
+    },
     /// Multiplies the symbol at `dest` by an octet.
-    MulAssign { dest: usize, scalar: Octet },
+    MulAssign {
+        dest: usize,
+        scalar: Octet,
+    },
     /// Adds a multiple of the symbol at `src` to the one at `dest`.
     FMA {
         dest: usize,
@@ -22,7 +28,9 @@ pub enum SymbolOps {
         scalar: Octet,
     },
     /// Sets the order in which places are read.
-    Reorder { order: Vec<usize> },
+    Reorder {
+        order: Vec<usize>,
+    },
 }
 
 /// Performs an operation on the symbols of a slab. `Reorder` alone takes memory, for a copy of its order.

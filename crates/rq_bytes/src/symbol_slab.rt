@@ -241,18 +241,24 @@ impl SymbolSlab {
 impl PartialEq for SymbolSlab {
     ghost eq = { same_slab };
 
-    ghost laws = { Prim.search (comparing, rules) };
+    ghost laws = { Prim.search (comparing, rules) depth 12 };
 
     fn eq(&self, other: &SymbolSlab) -> bool {
-        self.symbol_size == other.symbol_size
-            && self.count == other.count
-            && self.order == other.order
-            && self.data == other.data
+        if self.symbol_size != other.symbol_size {
+            return false;
+        }
+        if self.count != other.count {
+            return false;
+        }
+        if self.order != other.order {
+            return false;
+        }
+        self.data == other.data
     }
 }
 
 impl Eq for SymbolSlab {
-    ghost laws = { Prim.search (comparing, rules) };
+    ghost laws = { Prim.search (comparing, rules) depth 12 };
 }
 
 impl Clone for SymbolSlab {

@@ -17,7 +17,12 @@ write_range-requires c =
     let is = holds c.self.inside slab c.self.view_is c.self.invariant in
     let k = length c.args.source.now / slab.symbol_size in
     omega (
-    arith, block_within is c.args.start k c.requires.fits, c.requires.whole, ap (λ s. c.args.start * s) (size_is is), ap length c.as_mut_slice-bytes.ensures.value)
+      arith,
+      block_within is c.args.start k c.requires.fits,
+      c.requires.whole,
+      ap (λ s. c.args.start * s) (size_is is),
+      ap length c.as_mut_slice-bytes.ensures.value,
+    )
 
 pub returns : goal.returns
 returns c =

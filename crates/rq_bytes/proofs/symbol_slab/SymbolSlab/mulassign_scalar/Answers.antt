@@ -20,5 +20,4 @@ returns c =
     let buffer = c.self.inside.«data» in
     multiple_written (holds c.self.inside slab c.self.view_is c.self.invariant) (meant_at slab.order c.args.dest) d.result c.args.scalar.now
     c.as_mut_slice-bytes.result.now new (with_items buffer new).items d.ensures.below d.ensures.start c.multiply_range.ensures.octet
-   
     c.as_mut_slice-bytes.ensures.value (with_items_is buffer new (c.multiply_range.auto.bytes ∙ c.as_mut_slice-bytes.ensures.len)) c.multiply_range.ensures.multiplied

@@ -6,10 +6,12 @@ use Rattle.rq_bytes.proofs.symbol_slab.SymbolSlab.set_reorder.Goals as goal
 
 pub invariant_of-self : goal.invariant_of-self
 invariant_of-self c =
-    let is = holds c.self.inside c.args.self.now c.self.view_is c.self.invariant in
-    (c.self.invariant.0, λ x e.
-    let same = ap (λ o. unwrap_or o c.args.order) e in
-    subst (λ o. IsOrder c.self.inside.count o.items) same (subst (λ n. IsOrder n c.args.order.items) (sym (count_is is)) c.requires))
+    let is = holds c.self.inside c.args.self.now c.self.view_is c.self.invariant in (
+      c.self.invariant.0,
+      λ x e.
+          let same = ap (λ o. unwrap_or o c.args.order) e in
+          subst (λ o. IsOrder c.self.inside.count o.items) same (subst (λ n. IsOrder n c.args.order.items) (sym (count_is is)) c.requires),
+    )
 
 pub returns : goal.returns
 unfolding step
