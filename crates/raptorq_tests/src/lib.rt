@@ -1,0 +1,7 @@
+//! Tests that cross the crates: worked examples of the codec's calls.
+#![tactic(auto)]
+
+#[cfg(test)]
+mod decoding;
+#[cfg(test)]
+mod packets;
