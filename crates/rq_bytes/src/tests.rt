@@ -1,5 +1,5 @@
 //! Worked rows, and each public call once.
-ghost use Rattle.std.specs.Prelude.{◌≡◌, ◌+◌, ◌/◌, ◌<◌, IfOk, vec_len};
+ghost use Rattle.std.specs.Prelude.{◌≡◌, ◌+◌, ◌/◌, ◌<◌, None, length, IfOk, vec_len};
 
 use crate::error::Error;
 use crate::gf2::add_assign_binary;
@@ -180,4 +180,76 @@ fn symbols_are_rows(rt: HostRuntime) -> Result<(), Fail> {
     let bytes = Symbol::zero(rt.alloc(), 3)?.into_bytes();
     assert_eq!(rt; bytes.as_slice(), [0, 0, 0].as_slice());
     Ok(())
+}
+
+/// The symbols [0], [1], [2].
+fn three(alloc: Global) -> Result<SymbolSlab, Error>
+    ensures { IfOk result (λ slab. (slab.order ≡ None) × (length slab.values ≡ 3) × (slab.symbol_size ≡ 1)) }
+{
+    let mut slab = SymbolSlab::with_zeros(alloc, 3, 1)?;
+    slab.copy_block_from(1, &[1, 2]);
+    Ok(slab)
+}
+
+fn assert_symbols(rt: &impl Abort, slab: SymbolSlab, expected: &[u8]) -> Result<(), Error> {
+    let symbols = slab.into_symbols()?;
+    assert_eq!(rt; symbols.len(), expected.len());
+    for i in 0..symbols.len() {
+        assert_eq!(rt; symbols[i].as_bytes(), [expected[i]].as_slice(), "at {i}");
+    }
+    Ok(())
+}
+
+#[test]
+fn an_order_moves_no_symbol(rt: HostRuntime) -> Result<(), Error> {
+    let mut slab = three(rt.alloc())?;
+    assert_eq!(rt; slab.get(1), [1].as_slice());
+    slab.set_reorder([2, 0, 1].to_vec(rt.alloc())?);
+    assert_eq!(rt; slab.len(), 3);
+    assert_eq!(rt; slab.symbol_size(), 1);
+    slab.set_reorder([1, 2].to_vec(rt.alloc())?);
+    assert_symbols(&rt, slab, &[1, 2])?;
+    let mut slab = three(rt.alloc())?;
+    slab.set_reorder([2, 0, 1].to_vec(rt.alloc())?);
+    assert_symbols(&rt, slab, &[2, 0, 1])
+}
+
+#[test]
+fn operations_are_performed(rt: HostRuntime) -> Result<(), Error> {
+    let mut slab = three(rt.alloc())?;
+    assert!(rt; slab == slab.clone()?);
+    let scalar = Octet::new(3);
+    let op = SymbolOps::FMA {
+        dest: 1,
+        src: 2,
+        scalar,
+    };
+    perform_op(&op, &mut slab)?;
+    assert_symbols(&rt, slab, &[0, 7, 2])?;
+    let mut slab = three(rt.alloc())?;
+    perform_op(&SymbolOps::AddAssign { dest: 1, src: 2 }, &mut slab)?;
+    assert_symbols(&rt, slab, &[0, 3, 2])?;
+    let mut slab = three(rt.alloc())?;
+    let scalar = Octet::new(128);
+    perform_op(&SymbolOps::MulAssign { dest: 2, scalar }, &mut slab)?;
+    assert_symbols(&rt, slab, &[0, 1, 29])?;
+    let mut slab = three(rt.alloc())?;
+    let order = [2, 0].to_vec(rt.alloc())?;
+    perform_op(&SymbolOps::Reorder { order }, &mut slab)?;
+    assert_symbols(&rt, slab, &[2, 0])
+}
+
+#[test]
+fn symbols_go_in_and_out(rt: HostRuntime) -> Result<(), Error> {
+    let mut slab = three(rt.alloc())?;
+    assert_symbols(&rt, slab.gather(&[2, 0])?, &[2, 0])?;
+    slab.get_mut(0).copy_from_slice(&[9]);
+    assert_symbols(&rt, slab, &[9, 1, 2])?;
+    let mut slab = three(rt.alloc())?;
+    let (dest, src) = slab.get_pair_mut(1, 2);
+    dest.copy_from_slice(src);
+    assert_symbols(&rt, slab, &[0, 2, 2])?;
+    let mut symbols = Vec::new(rt.alloc());
+    symbols.push(Symbol::new([3].to_vec(rt.alloc())?))?;
+    assert_symbols(&rt, SymbolSlab::from_symbols(rt.alloc(), symbols, 1)?, &[3])
 }
