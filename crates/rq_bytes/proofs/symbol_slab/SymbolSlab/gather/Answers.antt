@@ -20,13 +20,13 @@ loop-place-preserved c =
     let lt : i < length symbols = omega (arith, length-map places (symbol_in slab)) in
     let has = c.requires i 0 (omega arith) in
     let long : length bytes ≡ s =
-    ap length c.get.ensures ∙ length-range_at is _ (meant_below c.self.inside slab c.self.view_is c.self.invariant place has) ∙ size_is is
+    ap length c.get.ensures.symbol ∙ length-range_at is _ (meant_below c.self.inside slab c.self.view_is c.self.invariant place has) ∙ size_is is
     in (
       ap (cut (i + 1) s) c.in_ok-extend_from_slice.ensures.items
           ∙ ap (λ k. cut k s (old.items ++ bytes)) (add-one i)
           ∙ cut-append i s old.items bytes (sym old.ok.0 ∙ c.loop-place.invariant.1) long
           ∙ ap (λ (xs : List (List ℕ)). xs ++ bytes ∷ []) c.loop-place.invariant.0
-          ∙ ap (λ (x : List ℕ). take i symbols ++ x ∷ []) (c.get.ensures ∙ sym (get_or-map (symbol_in slab) places i 0 [] (omega arith)))
+          ∙ ap (λ (x : List ℕ). take i symbols ++ x ∷ []) (c.get.ensures.symbol ∙ sym (get_or-map (symbol_in slab) places i 0 [] (omega arith)))
           ∙ sym (take_more symbols i [] lt),
       c.in_ok-extend_from_slice.ensures.len ∙ omega (arith, long, c.loop-place.invariant.1),
     )
