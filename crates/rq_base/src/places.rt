@@ -85,7 +85,11 @@ fn sum_modulo(x: u32, y: u32, modulus: u32) -> u32
     ensures value { result ≡ (x + y) % modulus }
     ensures below { result < modulus }
 {
-    if x < modulus - y { x + y } else { x - (modulus - y) }
+    if x < modulus - y {
+        x + y
+    } else {
+        x - (modulus - y)
+    }
 }
 
 // The first value below P that the walk from a value on reaches. It gets there, since P is at least half of the modulus P1.
