@@ -1,8 +1,12 @@
 //! The places of an internal symbol id, one after another (RFC 6330, section 5.3.5.3).
-ghost use Rattle.std.specs.Prelude.{◌≡◌, ℕ, ◌+◌, ◌*◌, ◌%◌, ◌<◌, ◌≤◌, List, [], ◌∷◌, MatchOption};
+ghost use Rattle.std.specs.Prelude.{◌≡◌, ℕ, ◌+◌, ◌*◌, ◌%◌, ◌<◌, ◌≤◌, List, [], ◌∷◌, All, MatchOption};
+ghost use Rattle.rq_standard.specs.TableRows.{IsChecked, intermediate_symbols};
+ghost use Rattle.rq_standard.specs.Equations.{row_places};
 ghost use Rattle.rq_standard.specs.Tuple.{IsTuple, places_of};
 ghost use Rattle.rq_base.specs.Walks.{next_below};
 
+use crate::base::intermediate_tuple;
+use rq_standard::row::Row;
 use std::marker::Model;
 
 /// The places that are left of the walk of a tuple. Contracts see it as their list.
@@ -56,6 +60,23 @@ impl Places {
             pi_value,
             pi_left,
         }
+    }
+
+    /// The places of an internal symbol id, over a row of a table.
+    pub fn of_id(row: &Row, internal_symbol_id: u32) -> Places
+        requires { IsChecked row.now }
+        ensures value { result ≡ row_places row.now internal_symbol_id }
+        ensures below { All (λ place. place < intermediate_symbols row.now) result }
+    {
+        let pi_symbols =
+            row.source_symbols + row.ldpc_symbols + row.hdpc_symbols - row.lt_symbols;
+        let tuple = intermediate_tuple(
+            internal_symbol_id,
+            row.lt_symbols,
+            row.systematic_index,
+            row.p1,
+        );
+        Places::new(tuple, row.lt_symbols, pi_symbols, row.p1)
     }
 
     /// The next place, if one is left.

@@ -102,3 +102,14 @@ row_places_below row x checked =
     let sum : w + pi_symbols row ≡ intermediate_symbols row = omega (arith, checked.three_pi) in
     All-weaker (λ place. place < w + pi_symbols row) (λ place. place < intermediate_symbols row) (λ place lt. omega (arith, sum)) (row_places row x)
     (places_below w (pi_symbols row) row.p1 (tuple_of w row.systematic_index row.p1 x) (omega (arith, checked.some_lone)))
+
+-- a checked row has three LDPC symbols and a lone LT symbol at least
+pub enough_lt : (row : Row) → IsChecked row → 4 ≤ row.lt_symbols
+enough_lt row checked =
+    ⊎_elim
+    (λ (few : row.ldpc_symbols < 3).
+    let one : row.ldpc_symbols ≡ 1 = omega (arith, checked.odd) in
+    let none : row.lt_symbols - 1 ≤ 0 = rw one at checked.few_lone in
+    absurd (omega (arith, none, one, checked.some_lone)))
+    (λ (enough : 3 ≤ row.ldpc_symbols). omega (arith, checked.some_lone))
+    (cases_lt row.ldpc_symbols 3)
