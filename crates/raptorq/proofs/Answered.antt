@@ -1,10 +1,10 @@
 -- What a decoder of a block answers.
 use Rattle.std.proofs.Common.{◌≡◌, ℕ, ◌*◌, ◌<◌, Bool, true, List, length, Option, Some, None, refl, sym, ap, ◌∙◌, subst, arith}
 use Rattle.std.specs.Prelude.{is_some, IsSome, IfSome}
-use Rattle.rq_standard.specs.Cutting.{symbol_of_block}
+use Rattle.rq_standard.specs.Cutting.{symbol_of_block, HasOneSubBlock}
 use Rattle.rq_standard.specs.Received.{HasSourceSymbols}
 use Rattle.rq_standard.specs.Held.{Held, holds, IsBlockAnswer}
-use Rattle.rq_standard.proofs.PlainCut.{HasOneSubBlock, plain_symbol, symbol_of_block-plain}
+use Rattle.rq_standard.proofs.PlainCut.{plain_symbol, symbol_of_block-plain}
 use Rattle.raptorq.specs.Missing.{missing_count}
 use Rattle.raptorq.proofs.MissingCounts.{missing_count-zero, missing_count-none}
 

@@ -70,5 +70,6 @@ pub sized-more : (f g : ℕ → Option (List ℕ)) (k : ℕ) (x : List ℕ) (siz
     → (e : ℕ) → ForSome (g e) (λ payload. length payload ≡ size)
 sized-more f g k x size all here grown e y is = sized_by (f e) (eqb k e) x y size (all e) here (sym (grown e) ∙ is)
 
-some_is : (o : Option (Vec ℕ Global)) (w : Vec ℕ Global) → o ≡ Some w → option_map vec_items o ≡ Some (vec_items w)
-some_is o w e = ap (option_map vec_items) e
+-- an empty map holds nothing
+pub payload_of-empty : (m : BTreeMap ℕ (Vec ℕ Global)) → m.entries ≡ [] → (e : ℕ) → payload_of m e ≡ None
+payload_of-empty m none e = ap (λ es. option_map vec_items (lookup (λ q. is_eq (nat_cmp e q)) es)) none

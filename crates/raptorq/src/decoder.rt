@@ -1,4 +1,6 @@
 //! Decoders: packets in, blocks and objects out.
 mod block;
+mod object;
 
 pub use block::SourceBlockDecoder;
+pub use object::{Decoder, decode_all};

@@ -2,8 +2,8 @@
 use Rattle.std.proofs.Common.{◌≡◌, ◌≢◌, ℕ, zero, suc, ◌<◌, sym, ap, ◌∙◌, refl, arith, inl, inr}
 use Rattle.std.proofs.lemmas.Bool.{cases_eq, eq-eqb, ne_eqb}
 use Rattle.rq_algebra.specs.Field.{Field}
-use Rattle.rq_algebra.specs.Systems.{sum_below, ArePlaces}
-use Rattle.rq_algebra.specs.Steps.{exchange}
+use Rattle.rq_algebra.specs.Arrangements.{ArePlaces, exchange}
+use Rattle.rq_algebra.specs.Systems.{sum_below}
 use Rattle.rq_algebra.proofs.Sums.{sum_same, sum_zero, sum_add, sum_one, add_zero}
 use Rattle.rq_algebra.proofs.Changes.{with_at, with_at_same, with_at_other}
 

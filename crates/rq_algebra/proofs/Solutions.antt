@@ -1,8 +1,9 @@
 -- Elementary operations keep the solutions of a system.
-use Rattle.std.proofs.Common.{◌≡◌, ◌≢◌, ℕ, ◌<◌, sym, ap, ◌∙◌, refl, inl, inr}
+use Rattle.std.proofs.Common.{◌≡◌, ◌≢◌, ◌↔◌, ℕ, ◌<◌, sym, ap, ◌∙◌, refl, inl, inr}
 use Rattle.std.proofs.lemmas.Bool.{cases_eq}
 use Rattle.rq_algebra.specs.Field.{Field}
-use Rattle.rq_algebra.specs.Systems.{dot, Solves, IsColumn, IsDetermined, HasNullColumn, ArePlaces, RowsStandIn, EquationsStandIn}
+use Rattle.rq_algebra.specs.Arrangements.{ArePlaces, EquationsStandIn, RowsStandIn}
+use Rattle.rq_algebra.specs.Systems.{dot, Solves, IsColumn, IsDetermined, HasNullColumn}
 use Rattle.rq_algebra.specs.Steps.{AddsRow, ScalesRow, AddsValue, ScalesValue, SameSolutions}
 use Rattle.rq_algebra.proofs.Sums.{add_again, dot_same, dot_fma, dot_mul_row, dot_below_size, undo_mul, dot_add_column}
 use Rattle.rq_algebra.proofs.FewEquations.{all_places, dot_places}
@@ -78,8 +79,11 @@ module _ (F : Field) (height width : ℕ) where
   }
 
   -- columns in another order
-  pub columns_reordered : (to : ℕ → ℕ) → ArePlaces width width to → (a : ℕ → ℕ → ℕ) (x v : ℕ → ℕ) → Solves F height width a x v → Solves F height width (λ i k. a i (to k)) (λ k. x (to k)) v
-  columns_reordered to are a x v s = record { at = λ i l. dot_places F width (a i) x to are ∙ s.at i l }
+  pub columns_reordered : (to : ℕ → ℕ) → ArePlaces width width to → (a : ℕ → ℕ → ℕ) (x v : ℕ → ℕ) → Solves F height width a x v ↔ Solves F height width (λ i k. a i (to k)) (λ k. x (to k)) v
+  columns_reordered to are a x v = (
+    λ s. record { at = λ i l. dot_places F width (a i) x to are ∙ s.at i l },
+    λ s. record { at = λ i l. sym (dot_places F width (a i) x to are) ∙ s.at i l },
+  )
 
 -- a solution stays one of equations among those that it solves
 pub solves_standing : (F : Field) (width old_height new_height : ℕ) (old new : ℕ → ℕ → ℕ) (x v w : ℕ → ℕ) → EquationsStandIn width old_height old v new_height new w → Solves F new_height width new x w → Solves F old_height width old x v

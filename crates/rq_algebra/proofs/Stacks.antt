@@ -4,7 +4,8 @@ use Rattle.std.proofs.lemmas.Bool.{cases_lt, lt-ltb, le-ltb}
 use Rattle.std.proofs.lemmas.Grind.{get_or_default_zero}
 use Rattle.std.proofs.lemmas.List.Elements.{Contains-get_or}
 use Rattle.rq_algebra.specs.Field.{Field}
-use Rattle.rq_algebra.specs.Systems.{dot, Solves, RowsStandIn, at, stacked, rows_of, IdsStandIn}
+use Rattle.rq_algebra.specs.Arrangements.{IdsStandIn, RowsStandIn}
+use Rattle.rq_algebra.specs.Systems.{dot, Solves, at, stacked, rows_of}
 use Rattle.rq_algebra.specs.Symbols.{slice_at, SolvesSymbols}
 use Rattle.rq_algebra.proofs.Solutions.{solves_same}
 

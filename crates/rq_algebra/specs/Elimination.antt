@@ -1,7 +1,8 @@
 -- What an elimination ends with: operations that find the column.
-use Rattle.std.specs.Prelude.{◌≡◌, ◌≢◌, ℕ, ◌<◌, ◌≤◌, List, [], ◌∷◌, ◌++◌, length, None, slice_index}
+use Rattle.std.specs.Prelude.{◌≡◌, ◌≢◌, ℕ, ◌<◌, List, [], ◌∷◌, ◌++◌, length, None, slice_index}
 use Rattle.rq_algebra.specs.Field.{Field}
-use Rattle.rq_algebra.specs.Systems.{Solves, IsColumn, ArePlaces, at}
+use Rattle.rq_algebra.specs.Arrangements.{ArePlaces}
+use Rattle.rq_algebra.specs.Systems.{Solves, IsColumn, at}
 use Rattle.rq_algebra.specs.Operations.{Operation, Space, Reorder, AreAllowed, unordered, plain, read, run}
 
 -- as many elements as the system has rows
@@ -37,14 +38,3 @@ pub record HasPivots (F : Field) (height width : ℕ) (a : ℕ → ℕ → ℕ) 
 pub record ReadsPivots (width : ℕ) (rows columns : ℕ → ℕ) (order : List ℕ) : Type 0 where
   pub count : length order ≡ width
   pub reads : (p : ℕ) → p < width → slice_index order (columns p) ≡ rows p
-
--- Of the rows `rows 0` to `rows (count - 1)`, row `rows p` has a 1 in column `columns p`, for p < done, and the others have 0 there.
-pub record HasFirstPivots (count done : ℕ) (a : ℕ → ℕ → ℕ) (rows columns : ℕ → ℕ) : Type 0 where
-  pub ones : (p : ℕ) → p < done → a (rows p) (columns p) ≡ 1
-  pub zeros : (i p : ℕ) → i < count → p < done → i ≢ p → a (rows i) (columns p) ≡ 0
-
--- Of these rows the first n, but for row `rows pivot`, have had a multiple of it added: what they had in the column times the row.
-pub record ClearsColumn (F : Field) (count width pivot column n : ℕ) (rows : ℕ → ℕ) (old new : ℕ → ℕ → ℕ) : Type 0 where
-  pub kept : (k : ℕ) → k < width → new (rows pivot) k ≡ old (rows pivot) k
-  pub cleared : (i k : ℕ) → i < n → k < width → i ≢ pivot → new (rows i) k ≡ F.add (old (rows i) k) (F.mul (old (rows i) column) (old (rows pivot) k))
-  pub rest : (i k : ℕ) → n ≤ i → i < count → k < width → new (rows i) k ≡ old (rows i) k

@@ -1,7 +1,8 @@
 -- Small systems over the field of two elements, which show what the definitions mean, and why the laws have their premises.
 use Rattle.std.specs.Prelude.{◌≡◌, ◌≢◌, ℕ, ◌<◌, List, [], ◌∷◌, map, Some, None}
+use Rattle.rq_algebra.specs.Arrangements.{exchange}
 use Rattle.rq_algebra.specs.Systems.{dot, Solves, IsDetermined, HasNullColumn, at, stacked, rows_of}
-use Rattle.rq_algebra.specs.Steps.{AddsRow, AddsValue, ScalesRow, ScalesValue, SameSolutions, exchange}
+use Rattle.rq_algebra.specs.Steps.{AddsRow, AddsValue, ScalesRow, ScalesValue, SameSolutions}
 use Rattle.rq_algebra.specs.Operations.{Operation, AddAssign, MulAssign, Fma, Reorder, Space, plain, unordered, run, values_in, IsAllowed}
 use Rattle.rq_algebra.specs.Symbols.{symbols, symbol_at}
 use Rattle.rq_algebra.specs.Parities.{sum_listed, parity}
@@ -47,7 +48,7 @@ PlacesAreExchanged = map (exchange 0 2) (0 ∷ 1 ∷ 2 ∷ 3 ∷ []) ≡ 2 ∷ 1
 abbrev pub reading : {X : Type 0} → Space X → List Operation → List X → List X
 reading S operations values = let s = run S operations (unordered values) in values_in S s.values s.order
 
--- three operations and a reading order: (1, 1, 0) becomes (1, 0, 1), is read as (0, 1, 1)
+-- three operations and a reading order: (1, 1, 0) becomes (1, 0, 1), which is read as (0, 1, 1)
 abbrev pub OperationsRun : Type 0
 OperationsRun = reading (plain two) (AddAssign 1 0 ∷ Fma 2 0 1 ∷ MulAssign 2 1 ∷ Reorder (1 ∷ 2 ∷ 0 ∷ []) ∷ []) (1 ∷ 1 ∷ 0 ∷ []) ≡ 0 ∷ 1 ∷ 1 ∷ []
 

@@ -1,3 +1,4 @@
+pub mod Arrangements
 pub mod Elimination
 pub mod Examples
 pub mod Field

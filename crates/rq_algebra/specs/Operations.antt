@@ -5,6 +5,7 @@
 use Rattle.std.specs.Prelude.{◌≢◌, ℕ, ◌<◌, List, [], ◌∷◌, map, fold, length, All, Option, Some, None, ⊤, slice_index_or, slice_index, slice_set}
 use Rattle.rq_algebra.specs.Field.{Field}
 
+-- add a value to another, multiply one, add a multiple of one to another, set the order
 pub data Operation : Type 0 where
   AddAssign : (dest src : ℕ) → Operation
   MulAssign : (dest scalar : ℕ) → Operation

@@ -1,5 +1,5 @@
 -- Elementary operations on the rows of a system and on its values, entry by entry, so that any store of a matrix can state them.
-use Rattle.std.specs.Prelude.{◌≡◌, ◌≢◌, ℕ, ◌<◌, cond, ◌==◌}
+use Rattle.std.specs.Prelude.{◌≡◌, ◌≢◌, ℕ, ◌<◌}
 use Rattle.rq_algebra.specs.Field.{Field}
 use Rattle.rq_algebra.specs.Systems.{Solves}
 
@@ -22,10 +22,6 @@ pub record AddsValue (F : Field) (height dest src scalar : ℕ) (old new : ℕ �
 pub record ScalesValue (F : Field) (height dest scalar : ℕ) (old new : ℕ → ℕ) : Type 0 where
   pub at_dest : new dest ≡ F.mul scalar (old dest)
   pub elsewhere : (i : ℕ) → i < height → i ≢ dest → new i ≡ old i
-
--- the place that an exchange of p and q reads
-unfoldable pub exchange : ℕ → ℕ → ℕ → ℕ
-exchange p q i = cond (i == p) q (cond (i == q) p i)
 
 -- two systems, with their values, that the same columns solve
 pub record SameSolutions (F : Field) (height width : ℕ) (old : ℕ → ℕ → ℕ) (old_values : ℕ → ℕ) (new : ℕ → ℕ → ℕ) (new_values : ℕ → ℕ) : Type 0 where

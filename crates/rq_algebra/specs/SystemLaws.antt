@@ -1,8 +1,9 @@
 -- The laws of linear systems, as statements: functions of `systems` have them as contracts.
 use Rattle.std.specs.Prelude.{◌≡◌, ◌≢◌, ℕ, ◌+◌, ◌<◌, ◌↔◌, List, length}
 use Rattle.rq_algebra.specs.Field.{Field}
-use Rattle.rq_algebra.specs.Systems.{sum_below, dot, Solves, IsColumn, IsDetermined, HasNullColumn, HasElements, ArePlaces, IsFewOn, RowsStandIn, EquationsStandIn, stacked, rows_of, IdsStandIn}
-use Rattle.rq_algebra.specs.Steps.{AddsRow, ScalesRow, AddsValue, ScalesValue, exchange, SameSolutions}
+use Rattle.rq_algebra.specs.Arrangements.{ArePlaces, EquationsStandIn, IdsStandIn, IsFewOn, RowsStandIn, exchange}
+use Rattle.rq_algebra.specs.Systems.{sum_below, dot, Solves, IsColumn, IsDetermined, HasNullColumn, HasElements, stacked, rows_of}
+use Rattle.rq_algebra.specs.Steps.{AddsRow, ScalesRow, AddsValue, ScalesValue, SameSolutions}
 
 abbrev pub SumIsLinear : Type 0
 SumIsLinear =
@@ -54,7 +55,7 @@ RowOrderKeepsSolutions =
 abbrev pub ColumnOrderKeepsSolutions : Type 0
 ColumnOrderKeepsSolutions =
     (F : Field) (height width : ℕ) (to : ℕ → ℕ) (a : ℕ → ℕ → ℕ) (x v : ℕ → ℕ)
-    → ArePlaces width width to → Solves F height width a x v → Solves F height width (λ i k. a i (to k)) (λ k. x (to k)) v
+    → ArePlaces width width to → Solves F height width a x v ↔ Solves F height width (λ i k. a i (to k)) (λ k. x (to k)) v
 
 -- an exchange of two places is such an order
 abbrev pub ExchangeIsAnOrder : Type 0
@@ -66,18 +67,18 @@ DeterminedStays =
     (F : Field) (width old_height new_height : ℕ) (old new : ℕ → ℕ → ℕ)
     → RowsStandIn width old_height old new_height new → IsDetermined F old_height width old → IsDetermined F new_height width new
 
--- a column that solves the new equations solves the old ones, where these stand in the new ones with their values
-abbrev pub NewSolvesOld : Type 0
-NewSolvesOld =
-    (F : Field) (width old_height new_height : ℕ) (old new : ℕ → ℕ → ℕ) (column v w : ℕ → ℕ)
-    → EquationsStandIn width old_height old v new_height new w → Solves F new_height width new column w → Solves F old_height width old column v
-
 -- the same of the ids that have one equation each, below some equations that stay
 abbrev pub DeterminedByIds : Type 0
 DeterminedByIds =
     (F : Field) (width height : ℕ) (above row : ℕ → ℕ → ℕ) (old new : List ℕ)
     → IdsStandIn old new → IsDetermined F (height + length old) width (stacked height above (rows_of row old))
     → IsDetermined F (height + length new) width (stacked height above (rows_of row new))
+
+-- a column that solves the new equations solves the old ones, where these stand in the new ones with their values
+abbrev pub NewSolvesOld : Type 0
+NewSolvesOld =
+    (F : Field) (width old_height new_height : ℕ) (old new : ℕ → ℕ → ℕ) (column v w : ℕ → ℕ)
+    → EquationsStandIn width old_height old v new_height new w → Solves F new_height width new column w → Solves F old_height width old column v
 
 abbrev pub DeterminedHasOneSolution : Type 0
 DeterminedHasOneSolution =

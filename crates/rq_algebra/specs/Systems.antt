@@ -1,5 +1,5 @@
 -- Systems of linear equations. A row, a column and a list of values are functions of the place, a system one of the row and the place.
-use Rattle.std.specs.Prelude.{◌≡◌, ◌≢◌, ℕ, zero, suc, ◌-◌, ◌<◌, Contains, cond, nat_lt, List, slice_index}
+use Rattle.std.specs.Prelude.{◌≡◌, ◌≢◌, ℕ, zero, suc, ◌-◌, ◌<◌, cond, nat_lt, List, slice_index}
 use Rattle.rq_algebra.specs.Field.{Field}
 
 -- f 0 + .. + f (n - 1)
@@ -36,25 +36,6 @@ pub record HasNullColumn (F : Field) (height width : ℕ) (rows : ℕ → ℕ �
 abbrev pub HasElements : Field → ℕ → ℕ → (ℕ → ℕ → ℕ) → Type 0
 HasElements F height width rows = (i k : ℕ) → i < height → k < width → rows i k < F.size
 
--- each of the first n places is below the bound, and no two of them are one
-pub record ArePlaces (n bound : ℕ) (places : ℕ → ℕ) : Type 0 where
-  pub below : (i : ℕ) → i < n → places i < bound
-  pub apart : (i j : ℕ) → i < n → j < n → places i ≡ places j → i ≡ j
-
--- on n + 1 chosen columns all rows are zero but n chosen ones
-pub record IsFewOn (height width n : ℕ) (a : ℕ → ℕ → ℕ) (rows columns : ℕ → ℕ) : Type 0 where
-  pub rows_below : (p : ℕ) → p < n → rows p < height
-  pub columns_are : ArePlaces (suc n) width columns
-  pub zeros : (i : ℕ) → i < height → ((p : ℕ) → p < n → rows p ≢ i) → (j : ℕ) → j < suc n → a i (columns j) ≡ 0
-
--- each row of the old system stands somewhere in the new one
-abbrev pub RowsStandIn : ℕ → ℕ → (ℕ → ℕ → ℕ) → ℕ → (ℕ → ℕ → ℕ) → Type 0
-RowsStandIn width old_height old new_height new = (i : ℕ) → i < old_height → (j : ℕ) × (j < new_height) × ((k : ℕ) → k < width → new j k ≡ old i k)
-
--- the same with the values of the rows
-abbrev pub EquationsStandIn : ℕ → ℕ → (ℕ → ℕ → ℕ) → (ℕ → ℕ) → ℕ → (ℕ → ℕ → ℕ) → (ℕ → ℕ) → Type 0
-EquationsStandIn width old_height old v new_height new w = (i : ℕ) → i < old_height → (j : ℕ) × (j < new_height) × ((k : ℕ) → k < width → new j k ≡ old i k) × (w j ≡ v i)
-
 -- a list as a function of the place, zero past its end
 abbrev pub at : List ℕ → ℕ → ℕ
 at xs k = slice_index xs k
@@ -66,7 +47,3 @@ stacked height above below i = cond (nat_lt i height) (above i) (below (i - heig
 -- one row for each id of a list
 abbrev pub rows_of : (ℕ → ℕ → ℕ) → List ℕ → ℕ → ℕ → ℕ
 rows_of row ids i = row (at ids i)
-
--- each id of the old list is in the new one, in whatever order and however often
-abbrev pub IdsStandIn : List ℕ → List ℕ → Type 0
-IdsStandIn old new = (id : ℕ) → Contains old id → Contains new id

@@ -1,7 +1,9 @@
 pub mod BitLanes
+pub mod Cuts
 pub mod Doubling
 pub mod Halves
 pub mod PlaneFacts
+pub mod SlabFacts
 pub mod Steps
 pub mod TableFacts
 pub mod ZipUpto

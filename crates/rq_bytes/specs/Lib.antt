@@ -1,3 +1,6 @@
 pub mod Error
 pub mod Ranges
 pub mod Refusals
+pub mod Slab
+pub mod SymbolOps
+pub mod Tables

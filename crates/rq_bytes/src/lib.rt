@@ -6,6 +6,8 @@ pub mod gf2;
 mod logarithms;
 pub mod octet;
 pub mod octets;
+pub mod operation_vector;
 mod products;
 pub mod symbol;
+pub mod symbol_slab;
 pub mod util;

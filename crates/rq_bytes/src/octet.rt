@@ -1,9 +1,11 @@
 //! The field of 256 elements.
-ghost use Rattle.std.specs.Prelude.{◌≡◌, ◌≢◌, ℕ, ◌<◌};
+ghost use Rattle.std.specs.Prelude.{◌≡◌, ◌≢◌, ℕ, ◌*◌, ◌%◌, ◌<◌, ◌≤◌, length, slice_index, EachIndex};
+ghost use Rattle.rq_bytes.specs.Tables.{IsTable};
 ghost use Rattle.std.specs.Int.Bits.{bit_xor};
 ghost use Rattle.rq_standard.specs.Octets.{octet_mul, octet_div, octet_power};
 
 use crate::logarithms::{logarithm, power};
+use crate::products::product;
 use std::marker::Model;
 use std::ops::{Add, AddAssign, Div, Mul, Sub};
 
@@ -172,5 +174,44 @@ impl Div<&Octet> for &Octet {
         Octet {
             value: power(exponent),
         }
+    }
+}
+
+/// Fills a table with the products of all octets: row i has i times j at place j.
+pub fn octet_mul_table(table: &mut [[u8; 256]; 256])
+    ensures { IsTable 256 256 octet_mul table.new }
+{
+    for i in 0..256usize {
+        fill_row(&mut table[i], i as u8, 256, 1);
+    }
+}
+
+/// Fills a table with the products of all octets and the upper half bytes: row i has i times 16 * (j mod 16) at place j.
+pub fn octet_mul_hi_bits(table: &mut [[u8; 32]; 256])
+    ensures { IsTable 256 32 (λ i j. octet_mul i (j % 16 * 16)) table.new }
+{
+    for i in 0..256usize {
+        fill_row(&mut table[i], i as u8, 16, 16);
+    }
+}
+
+/// Fills a table with the products of all octets and the lower half bytes: row i has i times (j mod 16) at place j.
+pub fn octet_mul_low_bits(table: &mut [[u8; 32]; 256])
+    ensures { IsTable 256 32 (λ i j. octet_mul i (j % 16)) table.new }
+{
+    for i in 0..256usize {
+        fill_row(&mut table[i], i as u8, 16, 1);
+    }
+}
+
+/// Fills a row with the products of an octet and `step` times the places modulo `modulus`.
+fn fill_row(row: &mut [u8], scalar: u8, modulus: usize, step: usize)
+    requires some { 0 < modulus }
+    requires octets { modulus * step ≤ 256 }
+    ensures len { length row.new ≡ length row.old }
+    ensures each { EachIndex row.new (λ j. slice_index row.new j ≡ octet_mul scalar (j % modulus * step)) }
+{
+    for j in 0..row.len() {
+        row[j] = product(scalar, (j % modulus * step) as u8);
     }
 }

@@ -82,7 +82,8 @@ pub fn add_assign(octets: &mut [u8], other: &[u8])
 
 /// Multiplies a row by an octet.
 pub fn mulassign_scalar(octets: &mut [u8], scalar: &Octet)
-    ensures { octets.new ≡ row_multiple scalar.now octets.old }
+    ensures octet { scalar.now < 256 }
+    ensures multiple { octets.new ≡ row_multiple scalar.now octets.old }
 {
     let scalar = scalar.byte();
     let blocks = octets.len() / LANES;
@@ -99,7 +100,8 @@ pub fn mulassign_scalar(octets: &mut [u8], scalar: &Octet)
 /// Adds a multiple of a row to a row of the same length.
 pub fn fused_addassign_mul_scalar(octets: &mut [u8], other: &[u8], scalar: &Octet)
     requires { length other.now ≡ length octets.old }
-    ensures { octets.new ≡ row_sum octets.old (row_multiple scalar.now other.now) }
+    ensures octet { scalar.now < 256 }
+    ensures sum { octets.new ≡ row_sum octets.old (row_multiple scalar.now other.now) }
 {
     let scalar = scalar.byte();
     let blocks = octets.len() / LANES;
@@ -117,7 +119,8 @@ pub fn fused_addassign_mul_scalar(octets: &mut [u8], other: &[u8], scalar: &Octe
 /// Adds a multiple of a packed row to a row of the same length.
 pub fn fused_addassign_mul_scalar_binary(octets: &mut [u8], other: &BinaryOctetVec, scalar: &Octet)
     requires { length other.now ≡ length octets.old }
-    ensures { octets.new ≡ row_sum octets.old (row_multiple scalar.now other.now) }
+    ensures octet { scalar.now < 256 }
+    ensures sum { octets.new ≡ row_sum octets.old (row_multiple scalar.now other.now) }
 {
     let scalar = scalar.byte();
     let padding = other.padding_bits();

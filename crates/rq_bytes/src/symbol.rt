@@ -1,5 +1,5 @@
 //! Symbols.
-ghost use Rattle.std.specs.Prelude.{◌≡◌, ℕ, ◌==◌, length, replicate, Ok};
+ghost use Rattle.std.specs.Prelude.{◌≡◌, ℕ, ◌==◌, length, replicate, Ok, IfOk};
 ghost use Rattle.std.proofs.Common.{rules};
 ghost use Rattle.std.specs.Cmp.{partial_order_from_own_ties};
 ghost use Rattle.std.specs.Cmp.Lexicographic.{pointwise, slice_cmp};
@@ -45,7 +45,7 @@ impl Symbol {
         ensures { IsAnswer (λ symbol. symbol) result (Ok (replicate size 0)) }
     {
         Ok(Symbol {
-            value: vec![in alloc; 0; size]?,
+            value: zeros(alloc, size)?,
         })
     }
 
@@ -160,4 +160,11 @@ impl Hash for Symbol {
     fn hash<H: Hasher>(&self, state: &mut H) {
         self.value.hash(state);
     }
+}
+
+/// So many zeros.
+pub(crate) fn zeros(alloc: Global, len: usize) -> Result<Vec<u8>, AllocError>
+    ensures { IfOk result (λ v. v.items ≡ replicate len 0) }
+{
+    vec![in alloc; 0; len]
 }

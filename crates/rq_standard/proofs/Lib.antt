@@ -1,6 +1,7 @@
 pub mod Firsts
 pub mod HeaderBytes
 pub mod LeastNumbers
+pub mod OneAnswer
 pub mod OneBlock
 pub mod Packed
 pub mod PacketBytes

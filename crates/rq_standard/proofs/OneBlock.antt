@@ -70,3 +70,13 @@ block_bytes-one c object h l pos =
 
 pub take-block_bytes-one : (c : Configuration) (object : List ℕ) → c.source_blocks ≡ 1 → length object ≡ c.transfer_length → 0 < c.symbol_size → take c.transfer_length (block_bytes c object 0) ≡ object
 take-block_bytes-one c object h l pos = ap (take c.transfer_length) (block_bytes-one c object h l pos) ∙ take_at object (replicate (total_symbols c * c.symbol_size - c.transfer_length) 0) c.transfer_length l
+
+div_ceil-positive : (n size : ℕ) → 0 < size → 0 < n → 0 < div_ceil n size
+div_ceil-positive n size pos some = by_cases (div_ceil n size) refl where
+  by_cases : (k : ℕ) → k ≡ div_ceil n size → 0 < k
+  by_cases zero e = absurd (omega (arith, div_ceil_covers n size pos, ap (λ m. m * size) e))
+  by_cases (suc k) e = omega arith
+
+-- an object that isn't empty has symbols
+pub block_symbols-positive : (c : Configuration) → c.source_blocks ≡ 1 → 0 < c.symbol_size → 0 < c.transfer_length → 0 < block_symbols c 0
+block_symbols-positive c h pos some = subst (λ n. 0 < n) (sym (block_symbols-one c h)) (div_ceil-positive c.transfer_length c.symbol_size pos some)

@@ -9,7 +9,7 @@ use Rattle.std.proofs.lemmas.Bool.{le-ltb}
 use Rattle.std.proofs.lemmas.List.{take-append-drop, drop-drop, length-take-le, nil_from_length, take_at, drop-append-le, take-append-le, drop_at, take_all, get_or-take, get_or-drop, get_or_past, ext_get_or}
 use Rattle.std.proofs.lemmas.List.FromFn.{length-map-range_with_len, get_or-map-range_with_len}
 use Rattle.rq_standard.specs.Configuration.{Configuration, total_symbols}
-use Rattle.rq_standard.specs.Cutting.{block_symbols, symbols_before, sub_block_count, sub_block_parts, larger_bytes, sub_block_size, sub_block_start, place_in_block, block_bytes, symbol_of_block, source_symbol}
+use Rattle.rq_standard.specs.Cutting.{block_symbols, symbols_before, sub_block_count, sub_block_parts, larger_bytes, sub_block_size, sub_block_start, place_in_block, block_bytes, symbol_of_block, HasOneSubBlock}
 
 -- the n bytes from a place on, as a list made from a function of the place
 pub map-range_is_take : (xs : List ℕ) (f : ℕ → ℕ) (a n : ℕ) → a + n ≤ length xs → ((i : ℕ) → i < n → f i ≡ get_or xs (a + i) 0) → map f (range_with_len 0 n) ≡ take n (drop a xs)
@@ -67,12 +67,6 @@ same_plain_symbols size (suc k) xs ys l m each =
     let rest : drop size xs ≡ drop size ys = same_plain_symbols size k (drop size xs) (drop size ys) (omega (arith, length-drop size xs)) (omega (arith, length-drop size ys))
     (λ e h. plain_symbol-drop size xs e ∙ each (e + 1) (omega arith) ∙ sym (plain_symbol-drop size ys e)) in
     sym (take-append-drop size xs) ∙ ap (λ a. a ++ drop size xs) first ∙ ap (λ b. take size ys ++ b) rest ∙ take-append-drop size ys
-
--- a configuration whose blocks have one sub-block
-pub record HasOneSubBlock (c : Configuration) : Type 0 where
-  pub one : c.sub_blocks ≤ 1
-  pub aligned : c.symbol_size % c.alignment ≡ 0
-  pub alignment_positive : 0 < c.alignment
 
 one_sub_block : (n : ℕ) → n ≤ 1 → sub_block_count n ≡ 1
 unfolding sub_block_count

@@ -201,3 +201,9 @@ sizes_below = refl
 pub extended_size_found : (k : ℕ) → IsSome (extended_size k) ↔ (k ≤ 56403)
 unfolding extended_size
 extended_size_found k = (λ some. first_size_below k 56403 P1_TABLE sizes_below some, λ le. first_size_found k P1_TABLE le (lit< tt))
+
+-- no block has many symbols
+pub greatest_below : (rows : List Row) → IsTable rows → greatest_size rows < 65536
+greatest_below rows table =
+    let h = row_checked rows (greatest_size rows) table (omega arith) in
+    omega (arith, h.0.few_columns, h.1)

@@ -5,12 +5,12 @@ use Rattle.std.specs.List.{AllByRecursion}
 use Rattle.std.proofs.lemmas.Bool.{cases_eq}
 use Rattle.rq_standard.specs.Packet.{Packet}
 use Rattle.rq_standard.specs.Configuration.{Configuration}
-use Rattle.rq_standard.specs.Cutting.{block_symbols, block_bytes, symbol_of_block}
+use Rattle.rq_standard.specs.Cutting.{block_symbols, block_bytes, symbol_of_block, HasOneSubBlock}
 use Rattle.rq_standard.specs.Received.{or_later, first_payload, has_id, HasSourceSymbols, IsSourcePacket}
 use Rattle.rq_standard.specs.Held.{Held, holds, recorded, IsBlockAnswer}
 use Rattle.rq_standard.specs.Standing.{State, IsHeldOf, AddsOpen, Adds, BlockStands, Stands}
 use Rattle.rq_standard.proofs.Firsts.{first_payload-here, first_payload-elsewhere, first_payload-source, has_id-push}
-use Rattle.rq_standard.proofs.PlainCut.{HasOneSubBlock, length-block_bytes, same_symbols}
+use Rattle.rq_standard.proofs.PlainCut.{length-block_bytes, same_symbols}
 
 -- what is held of a block that is being received
 abbrev pub HoldsFirsts : ℕ → List Packet → Held → Type 0
@@ -110,3 +110,13 @@ stands_more object packets p old new one st pk add =
             (other_step (block_bytes c object b) b packets p (old.held b) (old.answer b) ne (st.block b below)))
       ];
     })
+
+-- before any packet
+pub stands_none : (object : List ℕ) (c : Configuration) (held : ℕ → Held) → length object ≡ c.transfer_length → ((b : ℕ) → b < c.source_blocks → IsHeldOf c b (held b)) → ((b e : ℕ) → (held b).received e ≡ None) → ((b : ℕ) → b < c.source_blocks → 0 < block_symbols c b)
+    → Stands HasSourceSymbols IsSourcePacket object [] (record { configuration = c; held = held; answer = λ _. None })
+stands_none object c held long shape none some = record {
+  long = long;
+  honest = tt;
+  shape = shape;
+  block = λ b below. (none b, λ all. let first : 0 < (held b).symbols = subst (λ n. 0 < n) (sym (shape b below).symbols) (some b below) in cc (all.each 0 first));
+}

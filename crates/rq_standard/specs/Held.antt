@@ -11,6 +11,10 @@ pub record Held : Type 0 where
   pub symbols : ℕ
   pub received : ℕ → Option (List ℕ)
 
+-- nothing is held yet
+abbrev pub nothing_held : Configuration → ℕ → ℕ → Held
+nothing_held c number symbols = record { configuration = c; number = number; symbols = symbols; received = λ _. None }
+
 -- which ids are held
 abbrev pub holds : Held → ℕ → Bool
 holds h e = is_some (h.received e)

@@ -1,7 +1,7 @@
 -- The laws of products of octets. They stand here since the field of octets holds its laws.
-use Rattle.std.proofs.Common.{◌≡◌, ℕ, zero, suc, ◌/◌, ◌%◌, ◌<◌, ◌^◌, Bool, true, false, cond, eqb, refl, sym, ap, ◌∙◌, arith}
+use Rattle.std.proofs.Common.{◌≡◌, ℕ, zero, suc, ◌+◌, add-one, ◌/◌, ◌%◌, ◌<◌, ◌^◌, Bool, true, false, cond, eqb, refl, sym, ap, ◌∙◌, arith}
 use Rattle.std.proofs.Math.Nat.{pow-suc}
-use Rattle.std.proofs.lemmas.Nat.{xor_comm, xor_lt}
+use Rattle.std.proofs.lemmas.Nat.{xor_comm, xor_lt, mod-pow-add, field_of}
 use Rattle.std.specs.Int.Bits.{bit_xor, xor_assoc, xor_zero_r}
 use Rattle.rq_standard.specs.Octets.{octet_double, octet_times, octet_mul, octet_inverse}
 use Rattle.rq_standard.specs.OctetFacts.{double-lt, double-xor, one-mul, by_halves, mul-inverse}
@@ -161,3 +161,20 @@ pub no_zero_divisor : (a b : ℕ) → a < 256 → b < 256 → octet_mul a b ≡ 
 no_zero_divisor a b ha hb e ne =
     sym (mul-one a ha) ∙ ap (octet_mul a) (sym (mul-inverse b hb ne)) ∙ sym (mul-assoc a b (octet_inverse b) ha hb)
     ∙ ap (λ x. octet_mul x (octet_inverse b)) e ∙ zero-mul (octet_inverse b)
+
+-- ---- the right factor counts by its low bits alone
+
+times-low : (n a b : ℕ) → octet_times n a (b % 2 ^ n) ≡ octet_times n a b
+unfolding octet_times
+times-low zero a b = refl
+times-low (suc n) a b =
+    let low = b % 2 ^ (n + 1) in
+    let bit : low % 2 ≡ b % 2 = omega (arith, mod-pow-add b n 1) in
+    ap (λ k. bit_xor (if_set (b % 2 ^ k) a) (octet_double (octet_times n a (b % 2 ^ k / 2)))) (sym (add-one n))
+    ∙ ap (λ t. bit_xor (cond (eqb t 1) a 0) (octet_double (octet_times n a (low / 2)))) bit
+    ∙ ap (λ h. bit_xor (if_set b a) (octet_double (octet_times n a h))) (field_of b n 1)
+    ∙ ap (λ x. bit_xor (if_set b a) (octet_double x)) (times-low n a (b / 2))
+
+pub mul-low : (a b : ℕ) → octet_mul a (b % 256) ≡ octet_mul a b
+unfolding octet_mul
+mul-low a b = times-low 8 a b

@@ -11,9 +11,13 @@ frames_of packets = flat_map packet_bytes packets
 abbrev pub stream_of : Configuration → List Packet → List ℕ
 stream_of c packets = header_bytes c ++ frames_of packets
 
+-- the packet of source symbol e of a block
+abbrev pub source_packet : Configuration → List ℕ → ℕ → ℕ → Packet
+source_packet c object b e = record { id = record { block = b; esi = e }; payload = source_symbol c object b e }
+
 -- the source packets of a block, in the order of their ids
 unfoldable pub block_packets : Configuration → List ℕ → ℕ → List Packet
-block_packets c object b = map (λ e. record { id = record { block = b; esi = e }; payload = source_symbol c object b e }) (range_with_len 0 (block_symbols c b))
+block_packets c object b = map (source_packet c object b) (range_with_len 0 (block_symbols c b))
 
 -- the source packets of an object, block by block
 unfoldable pub source_packets : Configuration → List ℕ → List Packet

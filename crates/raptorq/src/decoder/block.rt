@@ -2,12 +2,14 @@
 ghost use Rattle.std.specs.Prelude.{◌≡◌, ◌≢◌, ℕ, ◌+◌, ◌*◌, ◌<◌, ◌≤◌, List, length, Result, Ok, Err, Some, None, IfOk, IfErr, OnOk, OnErr, IsSome, not, if◌then◌else◌, ◌==◌, option_map, vec_items};
 ghost use Rattle.std.specs.Option.{ForSome};
 ghost use Rattle.rq_bytes.specs.Refusals.{IsAnswer};
+ghost use Rattle.rq_standard.specs.Cutting.{HasOneSubBlock};
 ghost use Rattle.rq_standard.specs.Received.{or_later};
 ghost use Rattle.rq_standard.proofs.PlainCut.{plain_symbol};
 ghost use Rattle.raptorq.specs.Missing.{payload_of, has_payload, missing_count};
 
 use rq_base::base::{EncodingPacket, ObjectTransmissionInformation};
 use rq_bytes::error::Error;
+use rq_tables::systematic_constants::SystematicTable;
 use std::alloc::{AllocError, Global};
 use std::collections::BTreeMap;
 
@@ -21,6 +23,7 @@ pub struct SourceBlockDecoder {
     missing: u32,
     alloc: Global,
     pub ghost sized: { (e : ℕ) → ForSome (payload_of received e) (λ payload. length payload ≡ config.symbol_size) },
+    pub ghost plain: { HasOneSubBlock config },
     pub ghost counted: { missing ≡ missing_count symbols (has_payload received) },
 }
 
@@ -65,10 +68,53 @@ fn join(
 }
 
 impl SourceBlockDecoder {
-    ghost use Rattle.rq_standard.specs.Held.{Held, recorded, IsBlockAnswer};
+    ghost use Rattle.std.specs.Int.{div_ceil};
+    ghost use Rattle.rq_standard.specs.Held.{Held, nothing_held, recorded, IsBlockAnswer};
     ghost use Rattle.rq_standard.specs.Received.{HasSourceSymbols};
-    ghost use Rattle.rq_standard.proofs.PlainCut.{HasOneSubBlock};
-    ghost use Rattle.raptorq.specs.Blocks.{held_of, block_refusal};
+    ghost use Rattle.rq_standard.specs.TableRows.{greatest_size};
+    ghost use Rattle.raptorq.specs.OneBlock.{IsOneBlock};
+    ghost use Rattle.raptorq.specs.Refused.{checked_block, block_refusal};
+    ghost use Rattle.raptorq.specs.Blocks.{held_of};
+
+    /// The decoder of the source block with this number, of this length in bytes, that holds nothing yet. It has as many source
+    /// symbols as cover the length.
+    ///
+    /// Refuses, in this order, [`Error::SymbolSizeZero`], [`Error::AlignmentZero`], [`Error::Misaligned`] where the alignment
+    /// doesn't divide the symbol size, and [`Error::BlockOverTable`] where the block would have more source symbols than the
+    /// table's greatest row.
+    pub fn new(
+        alloc: Global,
+        table: &SystematicTable,
+        number: u8,
+        config: &ObjectTransmissionInformation,
+        block_length: u64,
+    ) -> Result<SourceBlockDecoder, Error>
+        requires { IsOneBlock config.now }
+        ensures refused { IsAnswer (λ _. tt) result (checked_block (greatest_size table.now) config.now (div_ceil block_length config.now.symbol_size)) }
+        ensures empty { IfOk result (λ d. held_of d ≡ nothing_held config.now number (div_ceil block_length config.now.symbol_size)) }
+    {
+        if config.symbol_size() == 0 {
+            return Err(Error::SymbolSizeZero);
+        }
+        if config.symbol_alignment() == 0 {
+            return Err(Error::AlignmentZero);
+        }
+        if config.symbol_size() % u16::from(config.symbol_alignment()) != 0 {
+            return Err(Error::Misaligned);
+        }
+        let symbols = block_length.div_ceil(u64::from(config.symbol_size()));
+        if symbols > u64::from(table.greatest()) {
+            return Err(Error::BlockOverTable);
+        }
+        Ok(SourceBlockDecoder {
+            config: *config,
+            number,
+            symbols: symbols as u32,
+            received: BTreeMap::new(alloc),
+            missing: symbols as u32,
+            alloc,
+        })
+    }
 
     /// The size of a symbol, in bytes.
     pub(crate) fn symbol_size(&self) -> usize
@@ -100,7 +146,6 @@ impl SourceBlockDecoder {
 
     /// The block, where all its source symbols came.
     pub(crate) fn answer(&self) -> Result<Option<Vec<u8>>, Error>
-        requires { HasOneSubBlock (held_of self.now).configuration }
         ensures block { IfOk result (λ r. IsBlockAnswer HasSourceSymbols (held_of self.now) (option_map vec_items r)) }
         ensures memory { IfErr result (λ e. e ≡ Error.OutOfMemory) }
     {

@@ -1,17 +1,16 @@
 //! The object transmission information (RFC 6330, 3.3.2 and 3.3.3).
-ghost use Rattle.std.specs.Prelude.{◌≡◌, Result, Ok, slice_index};
-ghost use Rattle.rq_standard.specs.Configuration.{Configuration, IsConfiguration, header_bytes, configuration_of_bytes};
+ghost use Rattle.std.specs.Prelude.{◌≡◌, ◌<◌, Result, Ok, OnOk, slice_index};
+ghost use Rattle.rq_standard.specs.Configuration.{Configuration, IsConfiguration, IsAccepted, largest_block, header_bytes, configuration_of_bytes};
+ghost use Rattle.rq_standard.specs.TableRows.{greatest_size};
 
 use rq_bytes::error::Error;
+use rq_tables::systematic_constants::{MAX_SOURCE_SYMBOLS_PER_BLOCK, SystematicTable};
 use std::marker::Model;
 
 mod parameters;
 
 /// The greatest transfer length, in bytes: 65535 bytes in each of 56403 symbols of 255 blocks.
 const MAX_TRANSFER_LENGTH: u64 = 942574504275;
-
-/// The greatest number of source symbols in a block, of any table.
-const MAX_SOURCE_SYMBOLS_PER_BLOCK: u64 = 56403;
 
 /// What encoder and decoder both know of an object: its length and how it is cut.
 #[derive(Clone, Copy, Debug, PartialEq, Eq, PartialOrd, Ord, Hash)]
@@ -44,7 +43,7 @@ impl Model for ObjectTransmissionInformation {
 }
 
 impl ObjectTransmissionInformation {
-    ghost use Rattle.rq_base.specs.Refused.{new_configuration};
+    ghost use Rattle.rq_base.specs.Refused.{new_configuration, checked_configuration};
 
     /// A configuration: the transfer length in bytes, the symbol size in bytes, the number of source blocks, the number of
     /// sub-blocks (0 is read as 1) and the symbol alignment in bytes.
@@ -78,7 +77,7 @@ impl ObjectTransmissionInformation {
         }
         if symbol_size != 0 && source_blocks != 0 {
             let symbols = transfer_length.div_ceil(u64::from(symbol_size));
-            if symbols.div_ceil(u64::from(source_blocks)) > MAX_SOURCE_SYMBOLS_PER_BLOCK {
+            if symbols.div_ceil(u64::from(source_blocks)) > u64::from(MAX_SOURCE_SYMBOLS_PER_BLOCK) {
                 return Err(Error::TooManySymbols);
             }
         }
@@ -89,6 +88,35 @@ impl ObjectTransmissionInformation {
             num_sub_blocks: sub_blocks,
             symbol_alignment: alignment,
         })
+    }
+
+    /// Tests that coders can take the configuration over a table.
+    ///
+    /// Refuses, in this order, [`Error::SymbolSizeZero`], [`Error::AlignmentZero`], [`Error::Misaligned`] where the alignment
+    /// doesn't divide the symbol size, [`Error::SourceBlocksZero`], and [`Error::BlockOverTable`] where a block would have more
+    /// source symbols than the table's greatest row.
+    pub fn check(&self, table: &SystematicTable) -> Result<(), Error>
+        ensures refused { result ≡ checked_configuration (greatest_size table.now) self.now }
+        ensures accepted { OnOk result (IsAccepted (greatest_size table.now) self.now) }
+        ensures few { OnOk result (largest_block self.now < 65536) }
+    {
+        if self.symbol_size == 0 {
+            return Err(Error::SymbolSizeZero);
+        }
+        if self.symbol_alignment == 0 {
+            return Err(Error::AlignmentZero);
+        }
+        if self.symbol_size % u16::from(self.symbol_alignment) != 0 {
+            return Err(Error::Misaligned);
+        }
+        if self.num_source_blocks == 0 {
+            return Err(Error::SourceBlocksZero);
+        }
+        let symbols = self.transfer_length.div_ceil(u64::from(self.symbol_size));
+        if symbols.div_ceil(u64::from(self.num_source_blocks)) > u64::from(table.greatest()) {
+            return Err(Error::BlockOverTable);
+        }
+        Ok(())
     }
 
     /// The configuration that twelve bytes spell, most significant byte first: five of transfer length, a reserved one that

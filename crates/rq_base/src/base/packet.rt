@@ -4,6 +4,7 @@ ghost use Rattle.rq_bytes.specs.Refusals.{IsAnswer};
 ghost use Rattle.rq_standard.specs.Packet.{SymbolId, Packet, id_bytes, id_of_bytes, packet_bytes, packet_of_bytes};
 
 use rq_bytes::error::Error;
+use rq_bytes::symbol::Symbol;
 use std::alloc::Global;
 use std::marker::Model;
 
@@ -84,10 +85,10 @@ impl PayloadId {
 }
 
 /// A packet: an id, and the encoding symbol that it names.
-#[derive(Debug, Drop)]
+#[derive(Clone, Debug, PartialEq, Eq, PartialOrd, Ord, Hash, Drop)]
 pub struct EncodingPacket {
     payload_id: PayloadId,
-    payload: Vec<u8>,
+    payload: Symbol,
 }
 
 impl Model for EncodingPacket {
@@ -95,7 +96,9 @@ impl Model for EncodingPacket {
 
     ghost Value = { Packet };
 
-    ghost view = { λ p. record { id = p.payload_id; payload = p.payload.items } };
+    ghost view = { λ p. record { id = p.payload_id; payload = p.payload } };
+
+    ghost inverse = { λ p. record { payload_id = p.id; payload = p.payload } };
 }
 
 impl EncodingPacket {
@@ -108,7 +111,7 @@ impl EncodingPacket {
     {
         EncodingPacket {
             payload_id,
-            payload,
+            payload: Symbol::new(payload),
         }
     }
 
@@ -124,7 +127,7 @@ impl EncodingPacket {
         let (id, payload) = data.split_at(4);
         Ok(EncodingPacket {
             payload_id: PayloadId::deserialize(&[id[0], id[1], id[2], id[3]]),
-            payload: Vec::from_slice(alloc, payload)?,
+            payload: Symbol::new(Vec::from_slice(alloc, payload)?),
         })
     }
 
@@ -135,7 +138,7 @@ impl EncodingPacket {
     {
         let mut bytes = Vec::with_capacity(alloc, self.payload.len())?;
         bytes.extend_from_slice(&self.payload_id.serialize())?;
-        bytes.extend_from_slice(self.payload.as_slice())?;
+        bytes.extend_from_slice(self.payload.as_bytes())?;
         Ok(bytes)
     }
 
@@ -150,7 +153,7 @@ impl EncodingPacket {
     pub fn data(&self) -> &[u8]
         ensures { result.now ≡ self.now.payload }
     {
-        self.payload.as_slice()
+        self.payload.as_bytes()
     }
 
     /// The packet's id and its encoding symbol.
@@ -162,6 +165,6 @@ impl EncodingPacket {
             payload_id,
             payload,
         } = self;
-        (payload_id, payload)
+        (payload_id, payload.into_bytes())
     }
 }

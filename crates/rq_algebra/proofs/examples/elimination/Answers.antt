@@ -1,5 +1,6 @@
+-- A small elimination: one row is added to the other, and the order turns them round.
 use Rattle.std.proofs.Common.{◌≡◌, ◌≢◌, ℕ, [], ◌∷◌, refl, arith}
-use Rattle.rq_algebra.specs.Steps.{exchange}
+use Rattle.rq_algebra.specs.Arrangements.{exchange}
 use Rattle.rq_algebra.specs.Examples.{rows, turned}
 use Rattle.rq_algebra.specs.Two.{two}
 use Rattle.rq_algebra.proofs.Places.{exchange_are}

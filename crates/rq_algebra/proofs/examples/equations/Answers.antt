@@ -1,3 +1,4 @@
+-- Two small systems, worked out.
 use Rattle.std.proofs.Common.{◌≡◌, refl, arith}
 use Rattle.rq_algebra.specs.Field.{Field}
 use Rattle.rq_algebra.specs.Systems.{sum_below, dot, IsDetermined}

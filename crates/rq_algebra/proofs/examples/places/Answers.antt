@@ -1,5 +1,6 @@
+-- Rows and places, computed.
 use Rattle.std.proofs.Common.{refl}
-use Rattle.rq_algebra.specs.Steps.{exchange}
+use Rattle.rq_algebra.specs.Arrangements.{exchange}
 use Rattle.rq_algebra.proofs.examples.places.Goals as goal
 
 pub returns : goal.returns

@@ -1,3 +1,4 @@
+-- Small systems in which a law fails for want of a premise.
 use Rattle.std.proofs.Common.{◌≡◌, ℕ, ◌<◌, [], ◌∷◌, refl, arith}
 use Rattle.rq_algebra.specs.Systems.{sum_below, dot, Solves, at}
 use Rattle.rq_algebra.specs.Steps.{SameSolutions}

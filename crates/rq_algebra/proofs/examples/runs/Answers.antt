@@ -1,3 +1,4 @@
+-- Operations, computed.
 use Rattle.std.proofs.Common.{refl, arith}
 use Rattle.rq_algebra.specs.Operations.{step, run}
 use Rattle.rq_algebra.specs.Symbols.{add_symbols}

@@ -1,3 +1,4 @@
+-- Pivots find the column, and so determine it.
 use Rattle.rq_algebra.proofs.Pivots.{finds_by_pivots}
 use Rattle.rq_algebra.proofs.Found.{finds_determined}
 use Rattle.rq_algebra.proofs.operations.pivots.Goals as goal

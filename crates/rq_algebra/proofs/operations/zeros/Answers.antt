@@ -1,3 +1,4 @@
+-- Zeros stay.
 use Rattle.rq_algebra.proofs.Placewise.{zeros_stay}
 use Rattle.rq_algebra.proofs.operations.zeros.Goals as goal
 

@@ -1,3 +1,4 @@
+-- One solution in symbols.
 use Rattle.rq_algebra.proofs.SymbolColumns.{symbols_unique}
 use Rattle.rq_algebra.proofs.symbols.determined.Goals as goal
 

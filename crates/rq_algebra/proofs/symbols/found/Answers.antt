@@ -1,3 +1,4 @@
+-- What is found in symbols.
 use Rattle.rq_algebra.proofs.Found.{found_are_symbols, found_only, found_solves}
 use Rattle.rq_algebra.proofs.symbols.found.Goals as goal
 

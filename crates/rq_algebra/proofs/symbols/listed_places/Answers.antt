@@ -1,3 +1,4 @@
+-- Listed places are their parities.
 use Rattle.rq_algebra.proofs.Parity.{sum_listed_is}
 use Rattle.rq_algebra.proofs.SymbolSums.{sum_symbols_is, sum_is_symbol}
 use Rattle.rq_algebra.proofs.symbols.listed_places.Goals as goal

@@ -1,3 +1,4 @@
+-- Operations on symbols, place by place.
 use Rattle.rq_algebra.specs.Operations.{plain}
 use Rattle.rq_algebra.specs.Symbols.{symbols}
 use Rattle.rq_algebra.proofs.Placewise.{place, place_linear, read-run_linear}

@@ -1,3 +1,4 @@
+-- Stacked systems are solved together, in symbols.
 use Rattle.rq_algebra.proofs.Stacks.{solves_symbols_stacked, solves_symbols_above, solves_symbols_below}
 use Rattle.rq_algebra.proofs.symbols.stacked.Goals as goal
 

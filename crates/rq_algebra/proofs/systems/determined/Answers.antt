@@ -1,3 +1,4 @@
+-- What determined systems keep.
 use Rattle.rq_algebra.proofs.Solutions.{determined_stays, solves_standing, determined_unique, null_not_determined}
 use Rattle.rq_algebra.proofs.Stacks.{ids_stand}
 use Rattle.rq_algebra.proofs.systems.determined.Goals as goal

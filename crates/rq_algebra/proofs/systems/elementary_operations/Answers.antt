@@ -1,3 +1,4 @@
+-- Elementary operations keep the solutions.
 use Rattle.rq_algebra.proofs.Places.{exchange_are}
 use Rattle.rq_algebra.proofs.Solutions.{adds_keeps, scales_keeps, reorder_keeps, columns_reordered}
 use Rattle.rq_algebra.proofs.systems.elementary_operations.Goals as goal

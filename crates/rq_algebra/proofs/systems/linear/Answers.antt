@@ -1,3 +1,4 @@
+-- Sums and products are linear, by the lemmas on sums.
 use Rattle.rq_algebra.proofs.Sums.{sum_add, sum_mul, dot_add_row, dot_mul_row, dot_add_column, dot_mul_column, dot_product}
 use Rattle.rq_algebra.proofs.systems.linear.Goals as goal
 

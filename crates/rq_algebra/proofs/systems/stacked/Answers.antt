@@ -1,3 +1,4 @@
+-- Stacked systems are solved together.
 use Rattle.rq_algebra.proofs.Stacks.{solves_stacked, solves_above, solves_below}
 use Rattle.rq_algebra.proofs.systems.stacked.Goals as goal
 

@@ -29,8 +29,8 @@ loop-i-preserved c =
     ap (λ p. set c.loop-i.octets i (bit_xor (get_or c.loop-i.octets i 0) p)) c.product.ensures
     ∙ step_one f i c.loop-i.octets c.args.octets.now c.args.other.now 0 0 c.loop-i.invariant (omega arith) (omega arith)
 
-pub returns : goal.returns
-returns c =
+pub returns-clause-sum : goal.returns-clause-sum
+returns-clause-sum c =
     let s = c.byte-scalar.result in
     let f = λ (x y : ℕ). bit_xor x (octet_mul s y) in
     let old = c.args.octets.now in

@@ -1,4 +1,4 @@
-use Rattle.std.proofs.Common.{◌≡◌, ℕ, ◌+◌, ◌*◌, ◌/◌, ◌%◌, length, vec_len, get_or, set, sym, ap, ◌∙◌, arith}
+use Rattle.std.proofs.Common.{ℕ, ◌+◌, ◌*◌, ◌/◌, ◌%◌, length, get_or, set, sym, ap, ◌∙◌, arith}
 use Rattle.std.proofs.lemmas.List.{get_or_read}
 use Rattle.std.specs.Int.Bits.{bit_xor}
 use lib.Lanes.{zip2, chunk, put_chunk}
@@ -68,8 +68,8 @@ loop-block-preserved c =
     ∙ ap (put_chunk at now) (zip2-map_right bit_xor (octet_mul s) (chunk at 64 now) (chunk at 64 other))
     ∙ step_store f 64 at (length old % 64 + 64 * (b + 1)) now old other c.loop-block.invariant (omega arith) (omega arith) (omega arith)
 
-pub returns : goal.returns
-returns c =
+pub returns-clause-sum : goal.returns-clause-sum
+returns-clause-sum c =
     let s = c.byte-scalar.result in
     let f = λ (x y : ℕ). bit_xor x (octet_mul s y) in
     let old = c.args.octets.now in

@@ -1,9 +1,9 @@
-use Rattle.std.proofs.Common.{ℕ, ◌≡◌, ◌+◌, ◌*◌, length, map, refl, sym, ap, ◌∙◌, arith, set, get_or}
+use Rattle.std.proofs.Common.{ℕ, ◌+◌, ◌*◌, refl, sym, ap, ◌∙◌, arith, set}
 use Rattle.std.proofs.lemmas.Simd.{length-chunk}
-use lib.Lanes.{zip2, chunk, put_chunk}
+use lib.Lanes.{chunk, put_chunk}
 use Rattle.rq_standard.specs.Octets.{octet_mul}
 use Rattle.rq_standard.specs.Rows.{row_multiple}
-use Rattle.rq_bytes.proofs.ZipUpto.{length-zip_upto, step_one, step_store, at_end, zip2-left}
+use Rattle.rq_bytes.proofs.ZipUpto.{step_one, step_store, at_end, zip2-left}
 use Rattle.rq_bytes.proofs.octets.mulassign_scalar.Goals as goal
 
 pub lane_products-multiple-requires : goal.lane_products-multiple-requires
@@ -29,8 +29,8 @@ loop-i-preserved c =
     ap (set c.loop-i.octets i) c.product.ensures
     ∙ step_one f i c.loop-i.octets c.args.octets.now c.args.octets.now 0 0 c.loop-i.invariant (omega arith) (omega arith)
 
-pub returns : goal.returns
-returns c =
+pub returns-clause-multiple : goal.returns-clause-multiple
+returns-clause-multiple c =
     let g = octet_mul c.byte-scalar.result in
     let old = c.args.octets.now in
     at_end (λ (x y : ℕ). g x) c.loop-i.i c.loop-i.octets old old c.loop-i.invariant (omega arith) (omega arith)

@@ -8,6 +8,7 @@ use Rattle.raptorq.proofs.decoder.block.SourceBlockDecoder.add.Goals as goal
 pub invariant_of-self : goal.invariant_of-self
 invariant_of-self c = record {
   sized = λ e x is. c.args.self.now.sized e x (sym (c.in_err-kept.ensures.err e) ∙ is);
+  plain = c.args.self.now.plain;
   counted = c.args.self.now.counted ∙ missing_count-same c.args.self.now.symbols _ _ (λ e below. sym (ap is_some (c.in_err-kept.ensures.err e)));
 }
 
@@ -19,5 +20,6 @@ invariant_of-self-2 c =
     let long : length c.split-id.result.1.items ≡ c.args.self.now.config.symbol_size = ap length (c.split-id.ensures.payload ∙ sym c.data.ensures) ∙ c.if-data-symbol_size.false ∙ c.symbol_size.ensures.value in
     record {
       sized = sized-more (payload_of c.args.self.now.received) (payload_of c.keep_first.new.received) c.encoding_symbol_id-esi.result c.split-id.result.1.items c.args.self.now.config.symbol_size c.args.self.now.sized long c.in_ok-kept.ensures.ok;
+      plain = c.args.self.now.plain;
       counted = (missing-after c.args.self.now.missing _ _ c.from.result _ c.args.self.now.counted c.from.ensures (missing_count-step c.args.self.now.symbols c.encoding_symbol_id-esi.result (payload_of c.args.self.now.received) (payload_of c.keep_first.new.received) c.in_ok-kept.kept c.split-id.result.1.items c.in_ok-kept.ensures.kept c.in_ok-kept.ensures.ok)).1;
     }

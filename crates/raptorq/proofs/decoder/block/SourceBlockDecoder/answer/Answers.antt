@@ -15,4 +15,4 @@ pub join-requires-clause-sized : goal.join-requires-clause-sized
 join-requires-clause-sized c = λ e x is. c.args.self.now.sized e x is ∙ sym c.symbol_size.ensures.value
 
 pub returns-clause-block : goal.returns-clause-block
-returns-clause-block c = answer-some (held_of c.args.self.now) c.args.self.now.missing c.symbol_size.result c.in_ok-block.block.items c.requires c.args.self.now.counted (omega arith) c.symbol_size.ensures.value c.in_ok-block.ensures.long c.in_ok-block.ensures.each
+returns-clause-block c = answer-some (held_of c.args.self.now) c.args.self.now.missing c.symbol_size.result c.in_ok-block.block.items c.args.self.now.plain c.args.self.now.counted (omega arith) c.symbol_size.ensures.value c.in_ok-block.ensures.long c.in_ok-block.ensures.each

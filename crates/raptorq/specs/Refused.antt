@@ -1,0 +1,37 @@
+-- What coders refuse, in the order of the tests.
+use Rattle.std.specs.Prelude.{ℕ, ◌%◌, length, Result, Ok, Err, if◌then◌else◌, ◌==◌, not, nat_lt}
+use Rattle.rq_bytes.specs.declared.error.Error.{Error}
+use Rattle.rq_bytes.specs.declared.error.Error.TheVariants.{SymbolSizeZero, AlignmentZero, Misaligned, BlockOverTable, UnknownBlock, WrongPayloadSize, WrongDataLength}
+use Rattle.rq_bytes.specs.Refusals.{and_then}
+use Rattle.rq_base.specs.Refused.{checked_configuration}
+use Rattle.rq_standard.specs.Packet.{Packet}
+use Rattle.rq_standard.specs.Configuration.{Configuration}
+use Rattle.rq_standard.specs.Held.{Held}
+
+-- whether the decoder of a block of this many symbols is made
+abbrev pub checked_block : ℕ → Configuration → ℕ → Result (Unit {0}) Error
+checked_block greatest c symbols =
+    if c.symbol_size == 0 then Err SymbolSizeZero
+    else if c.alignment == 0 then Err AlignmentZero
+    else if not (c.symbol_size % c.alignment == 0) then Err Misaligned
+    else if nat_lt greatest symbols then Err BlockOverTable
+    else Ok tt
+
+-- whether the decoder of a block takes a packet: the block's number comes first
+abbrev pub block_refusal : Held → Packet → Result (Unit {0}) Error
+block_refusal h p =
+    if not (p.id.block == h.number) then Err UnknownBlock
+    else if not (length p.payload == h.configuration.symbol_size) then Err WrongPayloadSize
+    else Ok tt
+
+-- whether the decoder of an object takes a packet
+abbrev pub packet_refusal : Configuration → Packet → Result (Unit {0}) Error
+packet_refusal c p =
+    if not (nat_lt p.id.block c.source_blocks) then Err UnknownBlock
+    else if not (length p.payload == c.symbol_size) then Err WrongPayloadSize
+    else Ok tt
+
+-- whether the encoder of an object of this length is made
+abbrev pub new_encoder : ℕ → Configuration → ℕ → Result (Unit {0}) Error
+new_encoder greatest c length_of_data =
+    and_then (checked_configuration greatest c) (λ _. if length_of_data == c.transfer_length then Ok tt else Err WrongDataLength)

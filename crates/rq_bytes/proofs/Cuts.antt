@@ -1,0 +1,156 @@
+-- A list cut into pieces of one size.
+use Rattle.std.proofs.Common.{◌≡◌, ℕ, zero, suc, ◌+◌, ◌-◌, ◌*◌, ◌<◌, ◌≤◌, ◌⊎◌, inl, inr, ⊎_elim, List, [], ◌∷◌, ◌++◌, length, take, drop, get_or, set, replicate, refl, sym, ap, ◌∙◌, arith, length-append}
+use Rattle.std.proofs.Math.Nat.{mul-le-mul_right}
+use Rattle.std.proofs.lemmas.Bool.{cases_lt}
+use Rattle.std.proofs.Math.Seq.{take-append_seam, drop-append_seam, drop-append-add, take-append-add}
+use Rattle.std.proofs.lemmas.List.{take-append-drop, take-replicate, drop-replicate, take_all, length-take-le, length-drop, append_assoc}
+use Rattle.rq_bytes.specs.Ranges.{range_of, with_range, cut, joined}
+
+pub length-cut : {X : Type 0} (n s : ℕ) (xs : List X) → length (cut n s xs) ≡ n
+length-cut zero s xs = refl
+length-cut (suc n) s xs = ap suc (length-cut n s (drop s xs))
+
+-- the first piece, and the pieces of the rest
+cut-append_one : {X : Type 0} (n s : ℕ) (first rest : List X) → length first ≡ s → cut (suc n) s (first ++ rest) ≡ first ∷ cut n s rest
+cut-append_one n s first rest e =
+    ap (λ k. take k (first ++ rest) ∷ cut n s (drop s (first ++ rest))) (sym e)
+    ∙ ap (λ k. take (length first) (first ++ rest) ∷ cut n s (drop k (first ++ rest))) (sym e)
+    ∙ ap (λ ys. ys ∷ cut n s (drop (length first) (first ++ rest))) (take-append_seam first rest)
+    ∙ ap (λ ys. first ∷ cut n s ys) (drop-append_seam first rest)
+
+with_range-append : {X : Type 0} (first rest : List X) (s i : ℕ) (ys : List X) → length first ≡ s → with_range (first ++ rest) (s + i) ys ≡ first ++ with_range rest i ys
+with_range-append first rest s i ys e =
+    ap (λ k. take (k + i) (first ++ rest) ++ (ys ++ drop (k + i + length ys) (first ++ rest))) (sym e)
+    ∙ ap (λ zs. zs ++ (ys ++ drop (length first + i + length ys) (first ++ rest))) (take-append-add first rest i)
+    ∙ ap (λ k. (first ++ take i rest) ++ (ys ++ drop k (first ++ rest))) (omega arith)
+    ∙ ap (λ zs. (first ++ take i rest) ++ (ys ++ zs)) (drop-append-add first rest (i + length ys))
+    ∙ append_assoc first (take i rest) (ys ++ drop (i + length ys) rest)
+
+-- one piece
+pub get_or-cut : {X : Type 0} (n s p : ℕ) (xs : List X) → p < n → length xs ≡ n * s → get_or (cut n s xs) p [] ≡ range_of xs (p * s) s
+get_or-cut zero s p xs lt long = absurd (omega arith)
+get_or-cut (suc n) s zero xs lt long = ap (λ k. range_of xs k s) (let none : 0 ≡ 0 * s = omega arith in none)
+get_or-cut (suc n) s (suc p) xs lt long =
+    let first = take s xs in
+    let rest = drop s xs in
+    let few : length first ≡ s = length-take-le s xs (omega arith) in
+    let left : length rest ≡ n * s = length-drop s xs ∙ omega arith in
+    get_or-cut n s p rest (omega arith) left
+    ∙ sym (
+    ap (λ zs. range_of zs (suc p * s) s) (sym (take-append-drop s xs))
+    ∙ ap (λ k. range_of (first ++ rest) k s) (let split : suc p * s ≡ length first + p * s = omega arith in split)
+    ∙ ap (take s) (drop-append-add first rest (p * s)))
+
+-- another piece in its place
+pub cut-with_range : {X : Type 0} (n s p : ℕ) (xs ys : List X) → p < n → length ys ≡ s → length xs ≡ n * s → cut n s (with_range xs (p * s) ys) ≡ set (cut n s xs) p ys
+cut-with_range zero s p xs ys lt size long = absurd (omega arith)
+cut-with_range (suc n) s zero xs ys lt size long =
+    ap (λ k. cut (suc n) s (with_range xs k ys)) (let none : 0 * s ≡ 0 = omega arith in none)
+    ∙ cut-append_one n s ys (drop (0 + length ys) xs) size
+    ∙ ap (λ k. ys ∷ cut n s (drop k xs)) (let same : 0 + length ys ≡ s = omega arith in same)
+cut-with_range (suc n) s (suc p) xs ys lt size long =
+    let first = take s xs in
+    let rest = drop s xs in
+    let few : length first ≡ s = length-take-le s xs (omega arith) in
+    let left : length rest ≡ n * s = length-drop s xs ∙ omega arith in
+    ap (λ zs. cut (suc n) s (with_range zs (suc p * s) ys)) (sym (take-append-drop s xs))
+    ∙ ap (λ k. cut (suc n) s (with_range (first ++ rest) k ys)) (let split : suc p * s ≡ s + p * s = omega arith in split)
+    ∙ ap (cut (suc n) s) (with_range-append first rest s (p * s) ys few)
+    ∙ cut-append_one n s first (with_range rest (p * s) ys) few
+    ∙ ap (λ zs. first ∷ zs) (cut-with_range n s p rest ys (omega arith) size left)
+
+pub cut-replicate : {X : Type 0} (n s : ℕ) (x : X) → cut n s (replicate (n * s) x) ≡ replicate n (replicate s x)
+cut-replicate zero s x = refl
+cut-replicate (suc n) s x =
+    ap (λ ys. ys ∷ cut n s (drop s (replicate (suc n * s) x))) (take-replicate s (suc n * s) x (omega arith))
+    ∙ ap (λ ys. replicate s x ∷ cut n s ys) (drop-replicate s (suc n * s) x ∙ ap (λ k. replicate k x) (let left : suc n * s - s ≡ n * s = omega arith in left))
+    ∙ ap (λ zs. replicate s x ∷ zs) (cut-replicate n s x)
+
+-- one more piece at the end
+pub cut-append : {X : Type 0} (n s : ℕ) (xs ys : List X) → length xs ≡ n * s → length ys ≡ s → cut (suc n) s (xs ++ ys) ≡ cut n s xs ++ ys ∷ []
+cut-append zero s [] ys long size = ap (λ zs. zs ∷ []) (take_all s ys (omega arith))
+cut-append zero s (x ∷ xs) ys long size = absurd (omega arith)
+cut-append (suc n) s xs ys long size =
+    let first = take s xs in
+    let rest = drop s xs in
+    let few : length first ≡ s = length-take-le s xs (omega arith) in
+    let left : length rest ≡ n * s = length-drop s xs ∙ omega arith in
+    ap (λ zs. cut (suc (suc n)) s (zs ++ ys)) (sym (take-append-drop s xs))
+    ∙ ap (cut (suc (suc n)) s) (append_assoc first rest ys)
+    ∙ cut-append_one (suc n) s first (rest ++ ys) few
+    ∙ ap (λ zs. first ∷ zs) (cut-append n s rest ys left size)
+
+pub piece_within : (p n s : ℕ) → p < n → p * s + s ≤ n * s
+piece_within p n s lt = let more : suc p ≤ n = omega arith in omega (arith, mul-le-mul_right s more)
+
+-- two pieces have nothing in common
+pub pieces_apart : (p q s : ℕ) → (q ≡ p → ⊥) → (p * s + s ≤ q * s) ⊎ (q * s + s ≤ p * s)
+pieces_apart p q s ne =
+    ⊎_elim
+    (λ (lt : p < q). inl (piece_within p q s lt))
+    (λ (le : q ≤ p). inr (piece_within q p s (omega arith)))
+    (cases_lt p q)
+
+-- ---- several pieces
+
+cut-join : {X : Type 0} (k m s : ℕ) (ys zs : List X) → length ys ≡ k * s → cut (k + m) s (ys ++ zs) ≡ cut k s ys ++ cut m s zs
+cut-join zero m s [] zs long = ap (λ n. cut n s zs) (omega arith)
+cut-join zero m s (y ∷ ys) zs long = absurd (omega arith)
+cut-join (suc k) m s ys zs long =
+    let first = take s ys in
+    let rest = drop s ys in
+    let few : length first ≡ s = length-take-le s ys (omega arith) in
+    let left : length rest ≡ k * s = length-drop s ys ∙ omega arith in
+    ap (λ n. cut n s (ys ++ zs)) (let same : suc k + m ≡ suc (k + m) = omega arith in same)
+    ∙ ap (λ xs. cut (suc (k + m)) s (xs ++ zs)) (sym (take-append-drop s ys))
+    ∙ ap (cut (suc (k + m)) s) (append_assoc first rest zs)
+    ∙ cut-append_one (k + m) s first (rest ++ zs) few
+    ∙ ap (λ xs. first ∷ xs) (cut-join k m s rest zs left)
+
+drop-cut : {X : Type 0} (k n s : ℕ) (xs : List X) → k ≤ n → length xs ≡ n * s → drop k (cut n s xs) ≡ cut (n - k) s (drop (k * s) xs)
+drop-cut zero n s xs le long =
+    ap (λ m. cut m s xs) (let same : n ≡ n - 0 = omega arith in same)
+    ∙ ap (λ i. cut (n - 0) s (drop i xs)) (let none : 0 ≡ 0 * s = omega arith in none)
+drop-cut (suc k) zero s xs le long = absurd (omega arith)
+drop-cut (suc k) (suc n) s xs le long =
+    let first = take s xs in
+    let rest = drop s xs in
+    let few : length first ≡ s = length-take-le s xs (omega arith) in
+    let left : length rest ≡ n * s = length-drop s xs ∙ omega arith in
+    drop-cut k n s rest (omega arith) left
+    ∙ ap (λ m. cut m s (drop (k * s) rest)) (let same : n - k ≡ suc n - suc k = omega arith in same)
+    ∙ ap (cut (suc n - suc k) s) (sym (
+    ap (drop (suc k * s)) (sym (take-append-drop s xs))
+    ∙ ap (λ i. drop i (first ++ rest)) (let split : suc k * s ≡ length first + k * s = omega arith in split)
+    ∙ drop-append-add first rest (k * s)))
+
+-- other pieces in the place of some
+pub cut-with_ranges : {X : Type 0} (n s p k : ℕ) (xs ys : List X) → p + k ≤ n → length ys ≡ k * s → length xs ≡ n * s
+    → cut n s (with_range xs (p * s) ys) ≡ with_range (cut n s xs) p (cut k s ys)
+cut-with_ranges n s zero k xs ys le size long =
+    ap (λ i. cut n s (with_range xs i ys)) (let none : 0 * s ≡ 0 = omega arith in none)
+    ∙ ap (λ m. cut m s (ys ++ drop (0 + length ys) xs)) (let split : n ≡ k + (n - k) = omega arith in split)
+    ∙ cut-join k (n - k) s ys (drop (0 + length ys) xs) size
+    ∙ ap (λ i. cut k s ys ++ cut (n - k) s (drop i xs)) (let same : 0 + length ys ≡ k * s = omega arith in same)
+    ∙ ap (λ zs. cut k s ys ++ zs) (sym (drop-cut k n s xs (omega arith) long))
+    ∙ ap (λ i. cut k s ys ++ drop i (cut n s xs)) (let same : k ≡ 0 + length (cut k s ys) = omega (arith, length-cut k s ys) in same)
+cut-with_ranges zero s (suc p) k xs ys le size long = absurd (omega arith)
+cut-with_ranges (suc n) s (suc p) k xs ys le size long =
+    let first = take s xs in
+    let rest = drop s xs in
+    let zs = cut k s ys in
+    let few : length first ≡ s = length-take-le s xs (omega arith) in
+    let left : length rest ≡ n * s = length-drop s xs ∙ omega arith in
+    ap (λ ws. cut (suc n) s (with_range ws (suc p * s) ys)) (sym (take-append-drop s xs))
+    ∙ ap (λ i. cut (suc n) s (with_range (first ++ rest) i ys)) (let split : suc p * s ≡ s + p * s = omega arith in split)
+    ∙ ap (cut (suc n) s) (with_range-append first rest s (p * s) ys few)
+    ∙ cut-append_one n s first (with_range rest (p * s) ys) few
+    ∙ ap (λ ws. first ∷ ws) (cut-with_ranges n s p k rest ys (omega arith) size left)
+    ∙ ap (λ i. (first ∷ take p (cut n s rest)) ++ (zs ++ drop i (first ∷ cut n s rest)))
+    (let same : suc (p + length zs) ≡ suc p + length zs = omega arith in same)
+
+pub joined-cut : {X : Type 0} (n s : ℕ) (xs : List X) → length xs ≡ n * s → joined (cut n s xs) ≡ xs
+joined-cut zero s [] long = refl
+joined-cut zero s (x ∷ xs) long = absurd (omega arith)
+joined-cut (suc n) s xs long =
+    ap (λ ys. take s xs ++ ys) (joined-cut n s (drop s xs) (length-drop s xs ∙ omega arith)) ∙ take-append-drop s xs

@@ -1,0 +1,216 @@
+-- A slab's buffer and the symbols that callers see.
+use Rattle.std.proofs.Common.{◌&&◌, ◌≡◌, ◌≢◌, ◌⊎◌, inl, inr, ⊎_elim, Fits, w8, map, Global, ℕ, ◌+◌, ◌*◌, ◌<◌, ◌≤◌, List, [], Vec, length, drop, set, get_or, Option, None, Some, refl, sym, ap, ◌∙◌, arith, subst}
+use Rattle.std.specs.Prelude.{◌==◌, All}
+use Rattle.std.proofs.lemmas.Grind.{get_or_default_zero}
+use Rattle.std.proofs.lemmas.List.{length-take-le, length-drop, length-map, get_or-map, get_or_read}
+use Rattle.std.proofs.lemmas.List.Elements.{All-take, All-drop}
+use Rattle.std.proofs.Math.Nat.{mul-le-mul_right}
+use Rattle.std.proofs.lemmas.Simd.{length-zip2}
+use Rattle.std.specs.Int.Bits.{bit_xor}
+use Rattle.rq_standard.specs.Octets.{octet_mul}
+use Rattle.rq_algebra.specs.Operations.{Operation, AddAssign, MulAssign, Fma, Reorder, step, read, values_in, meant_at, IsPlace, IsOrder}
+use Rattle.rq_algebra.specs.Symbols.{add_symbols, symbols}
+use Rattle.rq_standard.specs.OctetField.{octets}
+use Rattle.rq_standard.specs.Rows.{row_sum, row_multiple}
+use Rattle.rq_standard.proofs.RowSymbols.{add_symbols-rows, scale-rows}
+use Rattle.rq_bytes.specs.Ranges.{range_of, with_range, cut, joined}
+use Rattle.rq_bytes.specs.Slab.{Slab, after, symbol_in, symbols_in, same_slab, HasPlace}
+use Rattle.rq_bytes.specs.contracts.symbol_slab.SymbolSlab.{the_view, the_invariant}
+use Rattle.rq_bytes.specs.declared.symbol_slab.SymbolSlab.TheInside.{Inside}
+use Rattle.std.specs.Option.{option_map, option_eq, ForSome}
+use Rattle.std.specs.Cmp.Lexicographic.{pointwise}
+use Rattle.rq_bytes.proofs.Cuts.{joined-cut, length-cut, get_or-cut, cut-with_range, cut-with_ranges, piece_within, pieces_apart}
+
+-- the buffer `bytes` of `count` symbols of `size` octets, and what callers see of it
+pub record Holds (bytes : List ℕ) (count size : ℕ) (order : Option (List ℕ)) (slab : Slab) : Type 0 where
+  pub view : ◌≡◌ {A = Slab} (record { values = cut count size bytes; symbol_size = size; order = order }) slab
+  pub long : length bytes ≡ count * size
+
+pub holds : (inside : Inside) (slab : Slab) → the_view inside ≡ slab → the_invariant inside
+    → Holds inside.data.items inside.count inside.symbol_size (option_map (λ o. o.items) inside.order) slab
+holds inside slab view invariant = record { view = view; long = sym inside.data.ok.0 ∙ invariant.0 }
+
+module _ {bytes : List ℕ} {count size : ℕ} {order : Option (List ℕ)} {slab : Slab} (is : Holds bytes count size order slab) where
+  pub count_is : count ≡ length slab.values
+  count_is = sym (length-cut count size bytes) ∙ ap (λ (v : Slab). length v.values) is.view
+
+  pub size_is : size ≡ slab.symbol_size
+  size_is = ap (λ (v : Slab). v.symbol_size) is.view
+
+  pub order_is : order ≡ slab.order
+  order_is = ap (λ (v : Slab). v.order) is.view
+
+  -- the octets of one symbol
+  pub range_at : (p : ℕ) → p < length slab.values → range_of bytes (p * slab.symbol_size) size ≡ get_or slab.values p []
+  range_at p lt =
+      let count_is_there = count_is in
+      ap (λ s. range_of bytes (p * s) size) (sym size_is)
+      ∙ sym (get_or-cut count size p bytes (omega arith) is.long)
+      ∙ ap (λ (v : Slab). get_or v.values p []) is.view
+
+  pub length-range_at : (p : ℕ) → p < length slab.values → length (get_or slab.values p []) ≡ size
+  length-range_at p lt =
+      let count_is_there = count_is in
+      ap length (sym (range_at p lt))
+      ∙ length-take-le size (drop (p * slab.symbol_size) bytes) (omega (arith, length-drop (p * slab.symbol_size) bytes, piece_within p count size (omega arith), is.long, ap (λ s. p * s) size_is))
+
+  -- other octets for one symbol
+  pub write_at : (p : ℕ) (ys new : List ℕ) → p < length slab.values → length ys ≡ size → new ≡ with_range bytes (p * slab.symbol_size) ys
+      → ◌≡◌ {A = Slab} (record { values = cut count size new; symbol_size = size; order = order }) (record slab { values = set slab.values p ys })
+  write_at p ys new lt long e =
+      let count_is_there = count_is in
+      ap (λ (v : List (List ℕ)). record { values = v; symbol_size = size; order = order }) (
+      ap (cut count size) (e ∙ ap (λ s. with_range bytes (p * s) ys) (sym size_is))
+      ∙ cut-with_range count size p bytes ys (omega arith) long is.long
+      ∙ ap (λ (v : Slab). set v.values p ys) is.view)
+      ∙ ap (λ (v : Slab). record v { values = set slab.values p ys }) is.view
+
+  -- where a symbol stands
+  pub within : (p : ℕ) → p < length slab.values → p * slab.symbol_size + size ≤ length bytes
+  within p lt = let count_is_there = count_is in omega (arith, piece_within p count size (omega arith), is.long, ap (λ s. p * s) size_is)
+
+  pub within_slice : (p a : ℕ) (now : List ℕ) → p < length slab.values → a ≡ p * slab.symbol_size → now ≡ bytes → a + size ≤ length now
+  within_slice p a now lt e same = omega (arith, within p lt, ap length same)
+
+  pub apart : (p q a b : ℕ) → (q ≡ p → ⊥) → a ≡ p * slab.symbol_size → b ≡ q * slab.symbol_size → (a + size ≤ b) ⊎ (b + size ≤ a)
+  apart p q a b ne e f =
+      let s = size_is in
+      ⊎_elim
+      (λ (l : p * slab.symbol_size + slab.symbol_size ≤ q * slab.symbol_size). inl (omega arith))
+      (λ (l : q * slab.symbol_size + slab.symbol_size ≤ p * slab.symbol_size). inr (omega arith))
+      (pieces_apart p q slab.symbol_size ne)
+
+  -- what callers see after a write of one symbol's octets
+  written : (p a : ℕ) (old new items ys zs : List ℕ) → p < length slab.values → a ≡ p * slab.symbol_size → old ≡ bytes
+      → items ≡ new → new ≡ with_range old a ys → length ys ≡ size → ys ≡ zs
+      → ◌≡◌ {A = Slab} (record { values = cut count size items; symbol_size = size; order = order }) (record slab { values = set slab.values p zs })
+  written p a old new items ys zs lt e same kept is_new long meant =
+      write_at p ys items lt long (kept ∙ is_new ∙ ap (λ xs. with_range xs a ys) same ∙ ap (λ k. with_range bytes k ys) e)
+      ∙ ap (λ (xs : List ℕ). record slab { values = set slab.values p xs }) meant
+
+  pub range_in : (p a : ℕ) (old : List ℕ) → p < length slab.values → a ≡ p * slab.symbol_size → old ≡ bytes → range_of old a size ≡ get_or slab.values p []
+  range_in p a old lt e same = ap (λ xs. range_of xs a size) same ∙ ap (λ k. range_of bytes k size) e ∙ range_at p lt
+
+  pub sum_written : (p q a b : ℕ) (old new items : List ℕ) → p < length slab.values → q < length slab.values → a ≡ p * slab.symbol_size → b ≡ q * slab.symbol_size
+      → old ≡ bytes → items ≡ new → new ≡ with_range old a (row_sum (range_of old a size) (range_of old b size))
+      → ◌≡◌ {A = Slab} (record { values = cut count size items; symbol_size = size; order = order })
+      (record slab { values = set slab.values p (add_symbols octets (get_or slab.values p []) (get_or slab.values q [])) })
+  sum_written p q a b old new items lp lq e f same kept is_new =
+      let x = get_or slab.values p [] in
+      let y = get_or slab.values q [] in
+      let long = length-range_at q lq ∙ sym (length-range_at p lp) in
+      let sums = ap (λ (xs : List ℕ). row_sum xs (range_of old b size)) (range_in p a old lp e same) ∙ ap (row_sum x) (range_in q b old lq f same) in
+      written p a old new items (row_sum x y) (add_symbols octets x y) lp e same kept (is_new ∙ ap (with_range old a) sums)
+      (length-zip2 bit_xor x y (sym long) ∙ length-range_at p lp) (sym (add_symbols-rows x y long))
+
+  pub multiple_written : (p a c : ℕ) (old new items : List ℕ) → p < length slab.values → a ≡ p * slab.symbol_size → c < 256
+      → old ≡ bytes → items ≡ new → new ≡ with_range old a (row_multiple c (range_of old a size))
+      → ◌≡◌ {A = Slab} (record { values = cut count size items; symbol_size = size; order = order })
+      (record slab { values = set slab.values p (map (octets.mul c) (get_or slab.values p [])) })
+  multiple_written p a c old new items lp e octet same kept is_new =
+      let x = get_or slab.values p [] in
+      written p a old new items (row_multiple c x) (map (octets.mul c) x) lp e same kept (is_new ∙ ap (λ xs. with_range old a (row_multiple c xs)) (range_in p a old lp e same))
+      (length-map x (octet_mul c) ∙ length-range_at p lp) (sym (scale-rows c x octet))
+
+  pub fma_written : (p q a b c : ℕ) (old new items : List ℕ) → p < length slab.values → q < length slab.values → a ≡ p * slab.symbol_size → b ≡ q * slab.symbol_size
+      → c < 256 → old ≡ bytes → items ≡ new → new ≡ with_range old a (row_sum (range_of old a size) (row_multiple c (range_of old b size)))
+      → ◌≡◌ {A = Slab} (record { values = cut count size items; symbol_size = size; order = order })
+      (record slab { values = set slab.values p (add_symbols octets (get_or slab.values p []) (map (octets.mul c) (get_or slab.values q []))) })
+  fma_written p q a b c old new items lp lq e f octet same kept is_new =
+      let x = get_or slab.values p [] in
+      let y = get_or slab.values q [] in
+      let scaled = length-map y (octet_mul c) in
+      let long = scaled ∙ length-range_at q lq ∙ sym (length-range_at p lp) in
+      let sums =
+      ap (λ (xs : List ℕ). row_sum xs (row_multiple c (range_of old b size))) (range_in p a old lp e same) ∙ ap (λ xs. row_sum x (row_multiple c xs)) (range_in q b old lq f same)
+      in
+      written p a old new items (row_sum x (row_multiple c y)) (add_symbols octets x (map (octets.mul c) y)) lp e same kept (is_new ∙ ap (with_range old a) sums)
+      (length-zip2 bit_xor x (row_multiple c y) (sym long) ∙ length-range_at p lp)
+      (sym (ap (add_symbols octets x) (scale-rows c y octet) ∙ add_symbols-rows x (row_multiple c y) long))
+
+  -- what callers see after a write of several symbols' octets
+  pub block_written : (start k a : ℕ) (old new items source : List ℕ) → start + k ≤ length slab.values → a ≡ start * slab.symbol_size → length source ≡ k * slab.symbol_size
+      → old ≡ bytes → items ≡ new → new ≡ with_range old a source
+      → ◌≡◌ {A = Slab} (record { values = cut count size items; symbol_size = size; order = order })
+      (record slab { values = with_range slab.values start (cut k slab.symbol_size source) })
+  block_written start k a old new items source fits e whole same kept is_new =
+      let count_is_there = count_is in
+      ap (λ (v : List (List ℕ)). record { values = v; symbol_size = size; order = order }) (
+      ap (cut count size) (kept ∙ is_new ∙ ap (λ xs. with_range xs a source) same ∙ ap (λ i. with_range bytes i source) (e ∙ ap (λ s. start * s) (sym size_is)))
+      ∙ cut-with_ranges count size start k bytes source (omega arith) (whole ∙ ap (λ s. k * s) (sym size_is)) is.long
+      ∙ ap (λ (v : Slab). with_range v.values start (cut k size source)) is.view
+      ∙ ap (λ s. with_range slab.values start (cut k s source)) size_is)
+      ∙ ap (λ (v : Slab). record v { values = with_range slab.values start (cut k slab.symbol_size source) }) is.view
+
+  pub block_within : (start k : ℕ) → start + k ≤ length slab.values → start * slab.symbol_size + k * slab.symbol_size ≤ length bytes
+  block_within start k fits =
+      let count_is_there = count_is in
+      let enough : start + k ≤ count = omega arith in
+      omega (arith, mul-le-mul_right size enough, is.long, ap (λ s. start * s) size_is, ap (λ s. k * s) size_is)
+
+below_in : {Z : Type 0} (order : Option (Vec ℕ Z)) (count i : ℕ) → ForSome order (λ o. IsOrder count o.items)
+    → IsPlace count (option_map (λ o. o.items) order) i → meant_at (option_map (λ o. o.items) order) i < count
+below_in None count i entries place = place
+below_in (Some o) count i entries place = entries o refl i 0 place
+
+-- a defined place means one of the symbols
+pub meant_below : (inside : Inside) (slab : Slab) → the_view inside ≡ slab → the_invariant inside → (i : ℕ) → HasPlace slab i → meant_at slab.order i < length slab.values
+meant_below inside slab view invariant i =
+    let order = option_map (λ o. o.items) inside.order in
+    let long = length-cut inside.count inside.symbol_size inside.data.items in
+    subst (λ (v : Slab). HasPlace v i → meant_at v.order i < length v.values) view
+    (λ place. subst (λ n. meant_at order i < n) (sym long) (below_in inside.order inside.count i invariant.1 (subst (λ n. IsPlace n order i) long place)))
+
+-- the entry of an order that is read
+pub entry_below : (inside : Inside) (slab : Slab) → the_view inside ≡ slab → the_invariant inside → (order : Vec ℕ Global) (x i : ℕ)
+    → ◌≡◌ {A = Option (Vec ℕ Global)} inside.order (Some order) → HasPlace slab i → x ≡ get_or order.items i x → x < length slab.values
+entry_below inside slab view invariant order x i some place e =
+    let is = holds inside slab view invariant in
+    let set : ◌≡◌ {A = Option (List ℕ)} slab.order (Some order.items) = sym (order_is is) ∙ ap (option_map (λ o. o.items)) some in
+    let lt = subst (λ o. IsPlace (length slab.values) o i) set place in
+    subst (λ n. n < length slab.values) (ap (λ o. meant_at o i) set ∙ sym (get_or_read order.items i x lt e 0)) (meant_below inside slab view invariant i place)
+
+-- how many places are defined where no order is set
+pub all_places : (inside : Inside) (slab : Slab) → the_view inside ≡ slab → the_invariant inside → ◌≡◌ {A = Option (Vec ℕ Global)} inside.order None
+    → inside.count ≡ length (symbols_in slab)
+all_places inside slab view invariant none =
+    let is = holds inside slab view invariant in
+    let unset : ◌≡◌ {A = Option (List ℕ)} slab.order None = sym (order_is is) ∙ ap (option_map (λ o. o.items)) none in
+    count_is is ∙ ap (λ o. length (values_in (symbols octets) slab.values o)) (sym unset)
+
+-- the symbols at the defined places, one by one
+pub defined : (values : List (List ℕ)) (order : Option (List ℕ)) (i : ℕ) → i < length (values_in (symbols octets) values order) → IsPlace (length values) order i
+defined values None i lt = lt
+defined values (Some o) i lt = omega (arith, length-map o (λ k. get_or values k []))
+
+pub get_or-values_in : (values : List (List ℕ)) (order : Option (List ℕ)) (i : ℕ) → i < length (values_in (symbols octets) values order)
+    → get_or (values_in (symbols octets) values order) i [] ≡ get_or values (meant_at order i) []
+get_or-values_in values None i lt = refl
+get_or-values_in values (Some o) i lt = get_or-map (λ k. get_or values k []) o i 0 [] (omega (arith, length-map o (λ k. get_or values k [])))
+
+same_order : {Z : Type 0} (a b : Option (Vec ℕ Z))
+    → option_eq (pointwise ◌==◌) (option_map (λ o. o.items) a) (option_map (λ o. o.items) b) ≡ option_eq (λ x y. pointwise ◌==◌ x.items y.items) a b
+same_order None None = refl
+same_order None (Some y) = refl
+same_order (Some x) None = refl
+same_order (Some x) (Some y) = refl
+
+-- what `==` of two slabs compares
+pub compared : (a b : Inside) (left right : Slab) → the_view a ≡ left → the_invariant a → the_view b ≡ right → the_invariant b
+    → same_slab left right
+    ≡ (a.symbol_size == b.symbol_size && (a.count == b.count && (option_eq (λ x y. pointwise ◌==◌ x.items y.items) a.order b.order && pointwise ◌==◌ a.«data».items b.«data».items)))
+compared a b left right av ai bv bi =
+    let octets_a = joined-cut a.count a.symbol_size a.«data».items (sym a.«data».ok.0 ∙ ai.0) in
+    let octets_b = joined-cut b.count b.symbol_size b.«data».items (sym b.«data».ok.0 ∙ bi.0) in
+    let sizes = a.symbol_size == b.symbol_size in
+    let counts = a.count == b.count in
+    let E = option_eq (pointwise ◌==◌) (option_map (λ o. o.items) a.order) (option_map (λ o. o.items) b.order) in
+    ap (λ (v : Slab). same_slab v right) (sym av)
+    ∙ ap (λ (v : Slab). same_slab (the_view a) v) (sym bv)
+    ∙ ap (λ n. sizes && (n == length (cut b.count b.symbol_size b.«data».items) && (E && pointwise ◌==◌ (joined (cut a.count a.symbol_size a.«data».items)) (joined (cut b.count b.symbol_size b.«data».items)))))
+    (length-cut a.count a.symbol_size a.«data».items)
+    ∙ ap (λ n. sizes && (a.count == n && (E && pointwise ◌==◌ (joined (cut a.count a.symbol_size a.«data».items)) (joined (cut b.count b.symbol_size b.«data».items)))))
+    (length-cut b.count b.symbol_size b.«data».items)
+    ∙ ap (λ xs. sizes && (counts && (E && pointwise ◌==◌ xs (joined (cut b.count b.symbol_size b.«data».items))))) octets_a
+    ∙ ap (λ ys. sizes && (counts && (E && pointwise ◌==◌ a.«data».items ys))) octets_b
+    ∙ ap (λ e. sizes && (counts && (e && pointwise ◌==◌ a.«data».items b.«data».items))) (same_order a.order b.order)

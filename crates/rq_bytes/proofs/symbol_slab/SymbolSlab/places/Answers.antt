@@ -1,0 +1,5 @@
+use Rattle.rq_bytes.proofs.SlabFacts.{all_places}
+use Rattle.rq_bytes.proofs.symbol_slab.SymbolSlab.places.Goals as goal
+
+pub returns-in-None : goal.returns-in-None
+returns-in-None c = all_places c.self.inside c.args.self.now c.self.view_is c.self.invariant c.in-None.is

@@ -1,0 +1,18 @@
+use Rattle.std.proofs.Common.{Option, Some, length, sym, ap, subst, unwrap_or}
+use Rattle.rq_algebra.specs.Operations.{step, IsOrder}
+use Rattle.rq_bytes.specs.Slab.{Slab}
+use Rattle.rq_bytes.proofs.SlabFacts.{holds, count_is}
+use Rattle.rq_bytes.proofs.symbol_slab.SymbolSlab.set_reorder.Goals as goal
+
+pub invariant_of-self : goal.invariant_of-self
+invariant_of-self c =
+    let is = holds c.self.inside c.args.self.now c.self.view_is c.self.invariant in (
+      c.self.invariant.0,
+      λ x e.
+          let same = ap (λ o. unwrap_or o c.args.order) e in
+          subst (λ o. IsOrder c.self.inside.count o.items) same (subst (λ n. IsOrder n c.args.order.items) (sym (count_is is)) c.requires),
+    )
+
+pub returns : goal.returns
+unfolding step
+returns c = ap (λ (v : Slab). record v { order = Some c.args.order.items }) c.self.view_is

@@ -1,0 +1,11 @@
+use Rattle.std.proofs.Common.{◌*◌, List, ℕ, None, replicate, ap, sym, ◌∙◌, Ok}
+use Rattle.rq_bytes.specs.Ranges.{cut}
+use Rattle.rq_bytes.specs.Slab.{slab_of}
+use Rattle.rq_bytes.proofs.Cuts.{cut-replicate}
+use Rattle.rq_bytes.proofs.symbol_slab.SymbolSlab.with_zeros.Goals as goal
+
+pub returns : goal.returns
+returns c =
+    let n = c.args.count in
+    let s = c.args.symbol_size in
+    ap (λ (values : List (List ℕ)). Ok (slab_of s values)) (sym (ap (cut n s) c.in_ok-zeros.ensures ∙ cut-replicate n s 0))

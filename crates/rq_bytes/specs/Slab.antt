@@ -1,0 +1,49 @@
+-- What callers see of a slab.
+use Rattle.std.specs.Prelude.{ℕ, Bool, List, length, Option, None, ◌==◌}
+use Rattle.std.specs.Cmp.Lexicographic.{pointwise}
+use Rattle.std.specs.Option.{option_eq}
+use Rattle.std.specs.Ordering.{eq_of_both, on}
+use Rattle.rq_algebra.specs.Operations.{Operation, Store, step, read, values_in, IsPlace, IsAllowed}
+use Rattle.rq_algebra.specs.Symbols.{symbols}
+use Rattle.rq_standard.specs.OctetField.{octets}
+use Rattle.rq_bytes.specs.Ranges.{joined}
+
+-- its symbols, the size of each, and the order in which places are read, where one is set
+pub record Slab : Type 0 where
+  pub values : List (List ℕ)
+  pub symbol_size : ℕ
+  pub order : Option (List ℕ)
+
+abbrev pub store_of : Slab → Store (List ℕ)
+store_of slab = record { values = slab.values; order = slab.order }
+
+-- with no order set
+abbrev pub slab_of : ℕ → List (List ℕ) → Slab
+slab_of size values = record { values = values; symbol_size = size; order = None }
+
+-- a slab after an operation
+abbrev pub after : Operation → Slab → Slab
+after operation slab = let s = step (symbols octets) (store_of slab) operation in record slab { values = s.values; order = s.order }
+
+-- whether a place is defined
+abbrev pub HasPlace : Slab → ℕ → Type 0
+HasPlace slab i = IsPlace (length slab.values) slab.order i
+
+-- what an operation asks of a slab
+abbrev pub Allows : Slab → Operation → Type 0
+Allows slab operation = IsAllowed (length slab.values) slab.order operation
+
+-- the symbol that a place means
+abbrev pub symbol_in : Slab → ℕ → List ℕ
+symbol_in slab i = read (symbols octets) (store_of slab) i
+
+-- the symbols at the defined places, as they are read
+abbrev pub symbols_in : Slab → List (List ℕ)
+symbols_in slab = values_in (symbols octets) slab.values slab.order
+
+-- whether two slabs have as many symbols of one size, one order, and the same octets
+abbrev pub same_slab : Slab → Slab → Bool
+same_slab =
+    eq_of_both (on (λ s. s.symbol_size) ◌==◌)
+    (eq_of_both (on (λ s. length s.values) ◌==◌)
+    (eq_of_both (on (λ s. s.order) (option_eq (pointwise ◌==◌))) (on (λ s. joined s.values) (pointwise ◌==◌))))

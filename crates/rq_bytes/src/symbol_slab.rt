@@ -1,0 +1,341 @@
+//! Symbols of one size in one buffer.
+ghost use Rattle.std.specs.Prelude.{◌≡◌, ◌≢◌, ◌⊎◌, ◌+◌, ◌*◌, ◌/◌, ◌^◌, ◌<◌, ◌≤◌, length, map, replicate, All, Ok, None};
+ghost use Rattle.std.proofs.Common.{rules};
+ghost use Rattle.std.specs.Cmp.Rules.{comparing};
+ghost use Rattle.rq_algebra.specs.Operations.{AddAssign, MulAssign, Fma, Reorder, IsOrder, meant_at};
+ghost use Rattle.rq_standard.specs.Rows.{row_sum, row_multiple};
+ghost use Rattle.rq_bytes.specs.Ranges.{range_of, with_range, cut};
+ghost use Rattle.rq_bytes.specs.Refusals.{IsAnswer};
+ghost use Rattle.rq_bytes.specs.Slab.{slab_of, after, HasPlace, Allows, symbol_in, symbols_in, same_slab};
+
+use crate::error::Error;
+use crate::octet::Octet;
+use crate::octets;
+use crate::symbol::{Symbol, zeros};
+use crate::util::get_both_ranges;
+use std::alloc::{AllocError, Global};
+use std::marker::Model;
+
+/// Symbols of one size in one buffer. An order may be set, and place i then means the symbol at the order's i-th entry.
+/// Contracts see the symbols, their size and the order.
+#[derive(Debug, Drop)]
+pub struct SymbolSlab {
+    data: Vec<u8>,
+    symbol_size: usize,
+    count: usize,
+    order: Option<Vec<usize>>,
+}
+
+impl Model for SymbolSlab {
+    ghost use Rattle.std.specs.Prelude.{◌≡◌, ◌*◌, vec_len};
+    ghost use Rattle.std.specs.Option.{option_map, ForSome};
+    ghost use Rattle.rq_algebra.specs.Operations.{IsOrder};
+    ghost use Rattle.rq_bytes.specs.Ranges.{cut};
+    ghost use Rattle.rq_bytes.specs.Slab.{Slab};
+
+    ghost Value = { Slab };
+
+    ghost view = { λ s. record { values = cut s.count s.symbol_size s.data.items; symbol_size = s.symbol_size; order = option_map (λ o. o.items) s.order } };
+
+    ghost invariant = { λ s. (vec_len s.data ≡ s.count * s.symbol_size) × ForSome s.order (λ o. IsOrder s.count o.items) };
+}
+
+impl SymbolSlab {
+    /// So many symbols of zeros.
+    pub fn with_zeros(alloc: Global, count: usize, symbol_size: usize) -> Result<Self, Error>
+        requires { count * symbol_size < 2 ^ 64 }
+        ensures { IsAnswer (λ slab. slab) result (Ok (slab_of symbol_size (replicate count (replicate symbol_size 0)))) }
+    {
+        Ok(SymbolSlab {
+            data: zeros(alloc, count * symbol_size)?,
+            symbol_size,
+            count,
+            order: None,
+        })
+    }
+
+    /// These symbols, each of that size.
+    pub fn from_symbols(
+        alloc: Global,
+        symbols: Vec<Symbol>,
+        symbol_size: usize,
+    ) -> Result<Self, Error>
+        requires { All (λ symbol. length symbol ≡ symbol_size) symbols.items }
+        ensures { IsAnswer (λ slab. slab) result (Ok (slab_of symbol_size symbols.items)) }
+    {
+        let mut data = Vec::new(alloc);
+        for symbol in &symbols {
+            data.extend_from_slice(symbol.as_bytes())?;
+        }
+        Ok(SymbolSlab {
+            data,
+            symbol_size,
+            count: symbols.len(),
+            order: None,
+        })
+    }
+
+    /// The symbols at the defined places, as they are read.
+    pub fn into_symbols(self) -> Result<Vec<Symbol>, Error>
+        ensures { IsAnswer (λ symbols. symbols.items) result (Ok (symbols_in self)) }
+    {
+        let alloc = *self.data.allocator();
+        let mut symbols = Vec::new(alloc);
+        for i in 0..self.places() {
+            symbols.push(Symbol::new(Vec::from_slice(alloc, self.get(i))?))?;
+        }
+        Ok(symbols)
+    }
+
+    /// The number of symbols, whatever the order.
+    pub fn len(&self) -> usize
+        ensures { result ≡ length self.now.values }
+    {
+        self.count
+    }
+
+    /// The octets of each symbol.
+    pub fn symbol_size(&self) -> usize
+        ensures { result ≡ self.now.symbol_size }
+    {
+        self.symbol_size
+    }
+
+    /// The octets of the symbol that a place means.
+    pub fn get(&self, i: usize) -> &[u8]
+        requires { HasPlace self.now i }
+        ensures { result.now ≡ symbol_in self.now i }
+    {
+        let start = self.start_of(i);
+        range(self.data.as_slice(), start, self.symbol_size)
+    }
+
+    /// Adds a symbol to another one.
+    pub fn add_assign(&mut self, dest: usize, src: usize)
+        requires { Allows self.old (AddAssign dest src) }
+        ensures { self.new ≡ after (AddAssign dest src) self.old }
+    {
+        let size = self.symbol_size;
+        let dest_start = self.start_of(dest);
+        let src_start = self.start_of(src);
+        let bytes = self.data.as_mut_slice();
+        add_range(bytes, dest_start, src_start, size);
+    }
+
+    /// Multiplies a symbol by an octet.
+    pub fn mulassign_scalar(&mut self, dest: usize, scalar: &Octet)
+        requires { Allows self.old (MulAssign dest scalar.now) }
+        ensures { self.new ≡ after (MulAssign dest scalar.now) self.old }
+    {
+        let size = self.symbol_size;
+        let start = self.start_of(dest);
+        let bytes = self.data.as_mut_slice();
+        multiply_range(bytes, start, size, scalar);
+    }
+
+    /// Adds a multiple of a symbol to another one.
+    pub fn fma(&mut self, dest: usize, src: usize, scalar: &Octet)
+        requires { Allows self.old (Fma dest src scalar.now) }
+        ensures { self.new ≡ after (Fma dest src scalar.now) self.old }
+    {
+        let size = self.symbol_size;
+        let dest_start = self.start_of(dest);
+        let src_start = self.start_of(src);
+        let bytes = self.data.as_mut_slice();
+        add_range_multiple(bytes, dest_start, src_start, size, scalar);
+    }
+
+    /// Sets the order in which places are read, in place of the one before. No symbol moves.
+    pub fn set_reorder(&mut self, order: Vec<usize>)
+        requires { Allows self.old (Reorder order.items) }
+        ensures { self.new ≡ after (Reorder order.items) self.old }
+    {
+        self.order = Some(order);
+    }
+
+    /// The octets of the symbol that a place means, for writing.
+    pub fn get_mut(&mut self, i: usize) -> &mut [u8]
+        requires { HasPlace self.old i }
+        ensures { result.now ≡ symbol_in self.old i }
+    {
+        let size = self.symbol_size;
+        let start = self.start_of(i);
+        range_mut(self.data.as_mut_slice(), start, size)
+    }
+
+    /// The octets of the symbols that two places mean, the first for writing.
+    pub fn get_pair_mut(&mut self, dest: usize, src: usize) -> (&mut [u8], &[u8])
+        requires { Allows self.old (AddAssign dest src) }
+        ensures dest { result.0.now ≡ symbol_in self.old dest }
+        ensures src { result.1.now ≡ symbol_in self.old src }
+    {
+        let size = self.symbol_size;
+        let dest_start = self.start_of(dest);
+        let src_start = self.start_of(src);
+        let bytes = self.data.as_mut_slice();
+        let (dest, src) = get_both_ranges(bytes, dest_start, src_start, size);
+        (dest, src)
+    }
+
+    /// Copies whole symbols into the places from `start` on, where no order is set.
+    pub fn copy_block_from(&mut self, start: usize, source: &[u8])
+        requires no_order { self.old.order ≡ None }
+        requires whole { length source.now ≡ length source.now / self.old.symbol_size * self.old.symbol_size }
+        requires fits { start + length source.now / self.old.symbol_size ≤ length self.old.values }
+        ensures { self.new ≡ record self.old { values = with_range self.old.values start (cut (length source.now / self.old.symbol_size) self.old.symbol_size source.now) } }
+    {
+        let start = start * self.symbol_size;
+        let bytes = self.data.as_mut_slice();
+        write_range(bytes, start, source);
+    }
+
+    /// A slab of the symbols that these places mean, one after another.
+    pub fn gather(&self, places: &[usize]) -> Result<Self, Error>
+        requires { All (HasPlace self.now) places.now }
+        ensures { IsAnswer (λ slab. slab) result (Ok (slab_of self.now.symbol_size (map (symbol_in self.now) places.now))) }
+    {
+        let mut data = Vec::new(*self.data.allocator());
+        for place in places {
+            data.extend_from_slice(self.get(*place))?;
+        }
+        Ok(SymbolSlab {
+            data,
+            symbol_size: self.symbol_size,
+            count: places.len(),
+            order: None,
+        })
+    }
+
+    /// Where the symbol that a place means begins in the buffer.
+    fn start_of(&self, i: usize) -> usize
+        requires { HasPlace self.now i }
+        ensures start { result ≡ meant_at self.now.order i * self.now.symbol_size }
+        ensures below { meant_at self.now.order i < length self.now.values }
+    {
+        self.meant(i) * self.symbol_size
+    }
+
+    /// Which symbol a place means.
+    fn meant(&self, i: usize) -> usize
+        requires { HasPlace self.now i }
+        ensures is { result ≡ meant_at self.now.order i }
+        ensures below { result < length self.now.values }
+    {
+        match &self.order {
+            None => i,
+            Some(order) => order[i],
+        }
+    }
+
+    /// The number of defined places.
+    fn places(&self) -> usize
+        ensures { result ≡ length (symbols_in self.now) }
+    {
+        match &self.order {
+            None => self.count,
+            Some(order) => order.len(),
+        }
+    }
+}
+
+impl PartialEq for SymbolSlab {
+    ghost eq = { same_slab };
+
+    ghost laws = { Prim.search (comparing, rules) depth 12 };
+
+    fn eq(&self, other: &SymbolSlab) -> bool {
+        if self.symbol_size != other.symbol_size {
+            return false;
+        }
+        if self.count != other.count {
+            return false;
+        }
+        if self.order != other.order {
+            return false;
+        }
+        self.data == other.data
+    }
+}
+
+impl Eq for SymbolSlab {
+    ghost laws = { Prim.search (comparing, rules) depth 12 };
+}
+
+impl Clone for SymbolSlab {
+    ghost is_clone = { λ a b. b ≡ a };
+
+    fn clone(&self) -> Result<Self, AllocError> {
+        Ok(SymbolSlab {
+            data: self.data.clone()?,
+            symbol_size: self.symbol_size,
+            count: self.count,
+            order: self.order.clone()?,
+        })
+    }
+}
+
+/// The octets of a range.
+fn range(bytes: &[u8], start: usize, len: usize) -> &[u8]
+    requires { start + len ≤ length bytes.now }
+    ensures { result.now ≡ range_of bytes.now start len }
+{
+    &bytes[start..start + len]
+}
+
+/// The octets of a range, for writing.
+fn range_mut(bytes: &mut [u8], start: usize, len: usize) -> &mut [u8]
+    requires { start + len ≤ length bytes.old }
+    ensures { result.now ≡ range_of bytes.old start len }
+{
+    &mut bytes[start..start + len]
+}
+
+/// Writes octets from a place on.
+fn write_range(bytes: &mut [u8], start: usize, source: &[u8])
+    requires { start + length source.now ≤ length bytes.old }
+    ensures { bytes.new ≡ with_range bytes.old start source.now }
+{
+    bytes[start..start + source.len()].copy_from_slice(source);
+}
+
+/// Multiplies a range by an octet.
+fn multiply_range(bytes: &mut [u8], start: usize, len: usize, scalar: &Octet)
+    requires { start + len ≤ length bytes.old }
+    ensures octet { scalar.now < 256 }
+    ensures multiplied { bytes.new ≡ with_range bytes.old start (row_multiple scalar.now (range_of bytes.old start len)) }
+{
+    octets::mulassign_scalar(&mut bytes[start..start + len], scalar);
+}
+
+/// Adds a range to another one, with no octet in common.
+fn add_range(bytes: &mut [u8], dest: usize, src: usize, len: usize)
+    requires apart { (dest + len ≤ src) ⊎ (src + len ≤ dest) }
+    requires dest_within { dest + len ≤ length bytes.old }
+    requires src_within { src + len ≤ length bytes.old }
+    ensures { bytes.new ≡ with_range bytes.old dest (row_sum (range_of bytes.old dest len) (range_of bytes.old src len)) }
+{
+    if dest < src {
+        let (front, back) = bytes.split_at_mut(src);
+        octets::add_assign(&mut front[dest..dest + len], &back[..len]);
+    } else {
+        let (front, back) = bytes.split_at_mut(dest);
+        octets::add_assign(&mut back[..len], &front[src..src + len]);
+    }
+}
+
+/// Adds a multiple of a range to another one, with no octet in common.
+fn add_range_multiple(bytes: &mut [u8], dest: usize, src: usize, len: usize, scalar: &Octet)
+    requires apart { (dest + len ≤ src) ⊎ (src + len ≤ dest) }
+    requires dest_within { dest + len ≤ length bytes.old }
+    requires src_within { src + len ≤ length bytes.old }
+    ensures octet { scalar.now < 256 }
+    ensures sum { bytes.new ≡ with_range bytes.old dest (row_sum (range_of bytes.old dest len) (row_multiple scalar.now (range_of bytes.old src len))) }
+{
+    if dest < src {
+        let (front, back) = bytes.split_at_mut(src);
+        octets::fused_addassign_mul_scalar(&mut front[dest..dest + len], &back[..len], scalar);
+    } else {
+        let (front, back) = bytes.split_at_mut(dest);
+        octets::fused_addassign_mul_scalar(&mut back[..len], &front[src..src + len], scalar);
+    }
+}
