@@ -68,8 +68,7 @@ impl Places {
         ensures value { result ≡ row_places row.now internal_symbol_id }
         ensures below { All (λ place. place < intermediate_symbols row.now) result }
     {
-        let pi_symbols =
-            row.source_symbols + row.ldpc_symbols + row.hdpc_symbols - row.lt_symbols;
+        let pi_symbols = row.source_symbols + row.ldpc_symbols + row.hdpc_symbols - row.lt_symbols;
         let tuple = intermediate_tuple(
             internal_symbol_id,
             row.lt_symbols,
@@ -129,3 +128,6 @@ fn next_below(value: u32, step: u32, pi_symbols: u32, p1: u32) -> u32
     }
     value
 }
+
+#[cfg(test)]
+mod tests;
