@@ -176,3 +176,20 @@ impl SourceBlockDecoder {
         Ok(Some(block))
     }
 }
+
+impl Clone for SourceBlockDecoder {
+    ghost use Rattle.raptorq.specs.Blocks.{held_of};
+
+    ghost is_clone = { λ a b. held_of b ≡ held_of a };
+
+    fn clone(&self) -> Result<SourceBlockDecoder, AllocError> {
+        Ok(SourceBlockDecoder {
+            config: self.config,
+            number: self.number,
+            symbols: self.symbols,
+            received: self.received.clone()?,
+            missing: self.missing,
+            alloc: self.alloc,
+        })
+    }
+}
