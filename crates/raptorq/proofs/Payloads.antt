@@ -85,7 +85,7 @@ same_option D same (Some v) None h = absurd h
 pub payload_of-clone : (C : ℕ → ℕ → Type 0) (D : Vec ℕ Global → Vec ℕ Global → Type 0) (m n : BTreeMap ℕ (Vec ℕ Global)) → ((x y : ℕ) → C x y → y ≡ x) → ((v w : Vec ℕ Global) → D v w → vec_items w ≡ vec_items v) → AllZip (λ p q. C p.0 q.0 × D p.1 q.1) m.entries n.entries → (e : ℕ) → payload_of n e ≡ payload_of m e
 payload_of-clone C D m n keys values clones e = same_option D values (get nat_cmp m e) (get nat_cmp n e) (lookup_clone C D (λ q. is_eq (nat_cmp e q)) (λ x y c. ap (λ k. is_eq (nat_cmp e k)) (keys x y c)) m.entries n.entries clones)
 
-same_items : (xs ys : List ℕ) → AllZip (λ x y. y ≡ x) xs ys → ys ≡ xs
+pub same_items : (xs ys : List ℕ) → AllZip (λ x y. y ≡ x) xs ys → ys ≡ xs
 same_items [] [] h = refl
 same_items [] (y ∷ ys) h = absurd h
 same_items (x ∷ xs) [] h = absurd h
@@ -94,3 +94,16 @@ same_items (x ∷ xs) (y ∷ ys) h = λ i. h.0 i ∷ same_items xs ys h.1 i
 -- a clone of a map of bytes holds the same payloads
 pub payload_of-cloned : (m n : BTreeMap ℕ (Vec ℕ Global)) → AllZip (λ p q. (q.0 ≡ p.0) × (AllZip (λ x y. y ≡ x) (vec_items p.1) (vec_items q.1) × (vec_len q.1 ≡ vec_len p.1))) m.entries n.entries → (e : ℕ) → payload_of n e ≡ payload_of m e
 payload_of-cloned m n clones = payload_of-clone (λ x y. y ≡ x) (λ v w. AllZip (λ x y. y ≡ x) (vec_items v) (vec_items w) × (vec_len w ≡ vec_len v)) m n (λ x y h. h) (λ v w h. same_items (vec_items v) (vec_items w) h.0) clones
+
+-- an answer and its clone
+abbrev pub AreClones : Option (Vec ℕ Global) → Option (Vec ℕ Global) → Type 0
+AreClones None None = Unit {0}
+AreClones None (Some w) = ⊥
+AreClones (Some v) None = ⊥
+AreClones (Some v) (Some w) = AllZip (λ x y. y ≡ x) (vec_items v) (vec_items w) × (vec_len w ≡ vec_len v)
+
+pub same_answer : (o r : Option (Vec ℕ Global)) → AreClones o r → option_map vec_items r ≡ option_map vec_items o
+same_answer None None h = refl
+same_answer None (Some w) h = absurd h
+same_answer (Some v) None h = absurd h
+same_answer (Some v) (Some w) h = ap (λ xs. Some xs) (same_items (vec_items v) (vec_items w) h.0)
