@@ -5,3 +5,5 @@
 mod decoding;
 #[cfg(test)]
 mod packets;
+#[cfg(test)]
+mod records;

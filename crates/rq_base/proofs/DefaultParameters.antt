@@ -1,9 +1,7 @@
 -- Where no test of the parameters refuses.
-use Rattle.std.proofs.Common.{◌≡◌, ℕ, ◌≤◌, ◌<◌, ◌∙◌, List, Result, Ok, refl}
+use Rattle.std.proofs.Common.{◌≡◌, ℕ, ◌≤◌, List, Ok, refl}
 use Rattle.std.proofs.lemmas.Bool.{ne_eqb, le-ltb}
-use Rattle.rq_bytes.specs.declared.error.Error.{Error}
 use Rattle.rq_standard.specs.declared.row.Row.{Row}
-use Rattle.rq_standard.specs.Configuration.{Configuration}
 use Rattle.rq_standard.specs.Parameters.{fitting_block, most_sub_blocks, blocks_for, parameters_for}
 use Rattle.rq_base.specs.Defaults.{wanted_parameters}
 

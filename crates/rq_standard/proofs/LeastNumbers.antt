@@ -35,10 +35,11 @@ first_found test start (suc more) witness from before passes =
       from = omega (arith, rest.from);
       passes = rest.passes;
       first = λ m l r.
-        ⊎_elim
-        (λ (e : m ≡ start). rw e later)
-        (λ (d : m ≡ start → ⊥). rest.first m (omega (arith, d)) r)
-        (cases_eq m start) }))
+          ⊎_elim
+          (λ (e : m ≡ start). rw e later)
+          (λ (d : m ≡ start → ⊥). rest.first m (omega (arith, d)) r)
+          (cases_eq m start);
+    }))
     (cases_Bool (test start))
 
 -- a product that is at least a positive number has a positive factor

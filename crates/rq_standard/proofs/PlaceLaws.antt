@@ -66,12 +66,13 @@ ldpc_places row i checked lt =
     let below : a < s = step-lt row i checked lt in
     let first : (i + a) % s ≡ (x + a) % s = sym (mod-add-mod i s a) in
     let second : (i + 2 * a) % s ≡ ((x + a) % s + a) % s =
-      ap (λ (n : ℕ). n % s) (let same : i + 2 * a ≡ i + a + a = omega arith in same) ∙ sym (mod-add-mod (i + a) s a) ∙ ap (λ (n : ℕ). (n + a) % s) first in
+    ap (λ (n : ℕ). n % s) (let same : i + 2 * a ≡ i + a + a = omega arith in same) ∙ sym (mod-add-mod (i + a) s a) ∙ ap (λ (n : ℕ). (n + a) % s) first in
     let y = (x + a) % s in
-    let hy : y < s = omega arith in
-    (λ e. one_step s x a hx (omega arith) below (e ∙ first),
-    λ e. one_step s y a hy (omega arith) below (sym first ∙ e ∙ second),
-    λ e. two_steps s x a hx (omega arith) below checked.odd (e ∙ second))
+    let hy : y < s = omega arith in (
+      λ e. one_step s x a hx (omega arith) below (e ∙ first),
+      λ e. one_step s y a hy (omega arith) below (sym first ∙ e ∙ second),
+      λ e. two_steps s x a hx (omega arith) below checked.odd (e ∙ second),
+    )
 
 -- ---- places lie below L
 

@@ -57,4 +57,5 @@ between v lt =
       one = omega (arith, not_none);
       last = omega (arith, not_all);
       from = reached_before v DEGREE_STARTS (d - 1) (omega (arith, not_none));
-      below = above_there v DEGREE_STARTS (let less : d < 31 = omega (arith, not_all) in less) }
+      below = above_there v DEGREE_STARTS (let less : d < 31 = omega (arith, not_all) in less);
+    }

@@ -10,7 +10,10 @@ pub fn rand(y: u32, i: u32, modulus: u32) -> u32
     ensures value { result ≡ rand y i modulus }
     ensures below { result < modulus }
 {
-    let mixed = entry(&V0, y, i) ^ entry(&V1, y >> 8, i) ^ entry(&V2, y >> 16, i) ^ entry(&V3, y >> 24, i);
+    let mixed = entry(&V0, y, i)
+        ^ entry(&V1, y >> 8, i)
+        ^ entry(&V2, y >> 16, i)
+        ^ entry(&V3, y >> 24, i);
     mixed % modulus
 }
 

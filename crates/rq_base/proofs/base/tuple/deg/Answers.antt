@@ -1,4 +1,4 @@
-use Rattle.std.proofs.Common.{ℕ, ◌-◌, ap, min, refl, ◌∙◌}
+use Rattle.std.proofs.Common.{ℕ, ◌-◌, ap, min, ◌∙◌}
 use Rattle.rq_standard.specs.Tuple.{degree, first_above}
 use Rattle.rq_standard.specs.declared.numbers.TheConstants.{DEGREE_STARTS}
 use Rattle.rq_standard.proofs.TupleLaws.{between}

@@ -1,4 +1,4 @@
-use Rattle.std.proofs.Common.{◌≡◌, ℕ, ◌+◌, ◌∙◌, sym, ap, subst, List, drop, max}
+use Rattle.std.proofs.Common.{◌∙◌, sym, ap, List}
 use Rattle.rq_standard.specs.declared.row.Row.{Row}
 use Rattle.rq_standard.specs.Parameters.{greatest_within}
 use Rattle.rq_standard.specs.TableRows.{no_row}
@@ -11,10 +11,11 @@ loop-row-preserved c =
     let rows = c.deref-row-items.result.now in
     let at = c.loop-row.row-index in
     elim c.if-from-limit.branch [
-      then-from-limit w ↦
-      within_taken c.args.limit c.loop-row.greatest c.if-from-limit.greatest rows at no_row c.loop-row-test.true (rw c.from.ensures at w.if-from-limit.true) (w.greatest-is ∙ w.max-greatest.ensures) ∙ c.loop-row.invariant
-    | else-from-limit w ↦
-      rw w.greatest-is (within_left c.args.limit c.loop-row.greatest rows at no_row c.loop-row-test.true (rw c.from.ensures at w.if-from-limit.false) ∙ c.loop-row.invariant) ]
+      | then-from-limit w ↦
+          within_taken c.args.limit c.loop-row.greatest c.if-from-limit.greatest rows at no_row c.loop-row-test.true (rw c.from.ensures at w.if-from-limit.true) (w.greatest-is ∙ w.max-greatest.ensures) ∙ c.loop-row.invariant
+      | else-from-limit w ↦
+          rw w.greatest-is (within_left c.args.limit c.loop-row.greatest rows at no_row c.loop-row-test.true (rw c.from.ensures at w.if-from-limit.false) ∙ c.loop-row.invariant)
+    ]
 
 pub returns : goal.returns
 returns c =

@@ -1,6 +1,6 @@
-use Rattle.std.proofs.Common.{◌≡◌, ℕ, ◌<◌, ◌≤◌, ◌∙◌, sym, ap, subst, refl, arith}
+use Rattle.std.proofs.Common.{◌≡◌, ℕ, ◌<◌, ◌≤◌, ◌∙◌, ap, subst, refl, arith}
 use Rattle.std.specs.Int.{div_ceil}
-use Rattle.rq_standard.specs.Parameters.{IsLeast, is_fitting, first_from, fitting_block, most_sub_blocks, symbol_size_for, symbols_for, blocks_for, sub_blocks_for, alignment_for}
+use Rattle.rq_standard.specs.Parameters.{is_fitting, first_from, fitting_block, most_sub_blocks, symbol_size_for, symbols_for, blocks_for, sub_blocks_for}
 use Rattle.rq_standard.proofs.LeastNumbers.{least_sub_blocks, ceil_some}
 use Rattle.rq_base.proofs.DefaultParameters.{not_refused}
 use Rattle.rq_base.proofs.base.information.ObjectTransmissionInformation.generate_encoding_parameters.Goals as goal
