@@ -1,5 +1,4 @@
 use Rattle.std.proofs.Common.{length, ◌∙◌, ap}
-use Rattle.rq_bytes.specs.Ranges.{range_of}
 use Rattle.rq_bytes.proofs.SlabFacts.{holds, range_in, size_is, length-range_at, within_slice}
 use Rattle.rq_bytes.proofs.symbol_slab.SymbolSlab.get.Goals as goal
 

@@ -1,4 +1,4 @@
-use Rattle.std.proofs.Common.{length, ◌≡◌, ◌≢◌, refl, sym, subst, ◌∙◌, ap}
+use Rattle.std.proofs.Common.{length, ◌≢◌, refl, sym, subst, ◌∙◌, ap}
 use Rattle.rq_algebra.specs.Operations.{meant_at}
 use Rattle.rq_bytes.specs.Slab.{Slab, symbol_in}
 use Rattle.rq_bytes.specs.contracts.symbol_slab.SymbolSlab.{the_view}
