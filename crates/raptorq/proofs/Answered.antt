@@ -1,5 +1,5 @@
 -- What a decoder of a block answers.
-use Rattle.std.proofs.Common.{◌≡◌, ℕ, ◌*◌, ◌<◌, Bool, true, List, length, Option, Some, None, refl, sym, ap, ◌∙◌, subst, arith}
+use Rattle.std.proofs.Common.{◌≡◌, ℕ, ◌*◌, ◌<◌, true, List, length, Option, Some, None, refl, sym, ap, ◌∙◌, subst, arith}
 use Rattle.std.specs.Prelude.{is_some, IsSome, IfSome}
 use Rattle.rq_standard.specs.Cutting.{symbol_of_block, HasOneSubBlock}
 use Rattle.rq_standard.specs.Received.{HasSourceSymbols}

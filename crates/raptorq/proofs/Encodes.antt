@@ -1,5 +1,5 @@
 -- An object of one block and its source packets.
-use Rattle.std.proofs.Common.{◌≡◌, ℕ, ◌+◌, ◌-◌, ◌*◌, ◌/◌, ◌<◌, ◌≤◌, ◌^◌, List, [], ◌∷◌, ◌++◌, length, take, drop, map, replicate, Result, Ok, Err, refl, sym, ap, ◌∙◌, subst, arith, append-nil}
+use Rattle.std.proofs.Common.{◌≡◌, ℕ, ◌+◌, ◌-◌, ◌*◌, ◌<◌, ◌≤◌, ◌^◌, List, [], ◌∷◌, ◌++◌, length, take, drop, map, replicate, Result, Ok, Err, refl, sym, ap, ◌∙◌, arith, append-nil}
 use Rattle.std.specs.Int.{div_ceil}
 use Rattle.std.specs.List.{range_with_len, flat_map}
 use Rattle.std.proofs.lemmas.Bool.{lt-ltb}
@@ -12,7 +12,7 @@ use Rattle.rq_standard.specs.Configuration.{Configuration, total_symbols, larges
 use Rattle.rq_standard.specs.Cutting.{HasOneSubBlock, block_symbols, block_bytes, source_symbol}
 use Rattle.rq_standard.specs.Streams.{source_packet, block_packets, source_packets}
 use Rattle.rq_standard.proofs.PlainCut.{plain_symbol, symbol_of_block-plain, length-block_bytes}
-use Rattle.rq_standard.proofs.OneBlock.{padded, div_ceil_covers, block_symbols-one, block_bytes-one, take-block_bytes-one}
+use Rattle.rq_standard.proofs.OneBlock.{div_ceil_covers, block_symbols-one, block_bytes-one}
 use Rattle.rq_base.specs.Refused.{new_id}
 use Rattle.raptorq.specs.OneBlock.{IsOneBlock}
 

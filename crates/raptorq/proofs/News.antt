@@ -1,5 +1,5 @@
 -- A decoder that is new.
-use Rattle.std.proofs.Common.{◌≡◌, ℕ, ◌<◌, List, [], length, Option, None, refl, sym, ap, ◌∙◌, subst, arith}
+use Rattle.std.proofs.Common.{◌≡◌, ℕ, ◌<◌, List, [], length, None, refl, sym, ap, ◌∙◌, subst, arith}
 use Rattle.std.specs.Int.{div_ceil}
 use Rattle.rq_standard.specs.Configuration.{Configuration, IsAccepted}
 use Rattle.rq_standard.specs.Cutting.{block_symbols}

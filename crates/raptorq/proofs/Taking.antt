@@ -1,13 +1,11 @@
 -- Packets that a block's decoder takes one after another.
-use Rattle.std.proofs.Common.{◌≡◌, ℕ, Bool, cond, eqb, List, [], ◌∷◌, ◌++◌, length, Option, Some, Result, Ok, Err, refl, sym, ap, ◌∙◌, subst, append-nil}
+use Rattle.std.proofs.Common.{◌≡◌, ℕ, eqb, List, [], ◌∷◌, ◌++◌, length, Option, Some, Result, Ok, Err, refl, sym, ap, ◌∙◌, subst, append-nil}
 use Rattle.std.specs.Iterator.{Yields}
-use Rattle.std.specs.Prelude.{fold, option_map, IfOk, IfErr}
-use Rattle.std.specs.List.{AllByRecursion}
+use Rattle.std.specs.Prelude.{option_map, IfOk, IfErr}
 use Rattle.rq_bytes.specs.declared.error.Error.{Error}
 use Rattle.rq_bytes.specs.declared.error.Error.TheVariants.{OutOfMemory}
 use Rattle.rq_bytes.specs.Refusals.{IsRefusal}
 use Rattle.rq_standard.specs.Packet.{Packet}
-use Rattle.rq_standard.specs.Configuration.{Configuration}
 use Rattle.rq_standard.specs.Received.{HasSourceSymbols}
 use Rattle.rq_standard.specs.Held.{Held, recorded, IsBlockAnswer}
 use Rattle.rq_standard.proofs.Standing.{push-all}

@@ -1,5 +1,5 @@
 -- What the decoder of an object shows.
-use Rattle.std.specs.Prelude.{ℕ, option_map, vec_items}
+use Rattle.std.specs.Prelude.{option_map, vec_items}
 use Rattle.rq_standard.specs.Standing.{State}
 use Rattle.raptorq.specs.declared.decoder.object.Decoder.{Decoder}
 use Rattle.raptorq.specs.Blocks.{held_of}

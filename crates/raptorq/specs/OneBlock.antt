@@ -1,5 +1,5 @@
 -- What coders take until they take several blocks.
-use Rattle.std.specs.Prelude.{◌≡◌, ℕ, ◌<◌, ◌≤◌}
+use Rattle.std.specs.Prelude.{◌≡◌, ◌<◌, ◌≤◌}
 use Rattle.rq_standard.specs.Configuration.{Configuration}
 
 -- one source block, at most one sub-block, and at least one byte

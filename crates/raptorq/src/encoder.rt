@@ -51,7 +51,9 @@ impl Encoder {
         if data.len() as u64 != config.transfer_length() {
             return Err(Error::WrongDataLength);
         }
-        let symbols = config.transfer_length().div_ceil(u64::from(config.symbol_size()));
+        let symbols = config
+            .transfer_length()
+            .div_ceil(u64::from(config.symbol_size()));
         let block = padded(alloc, &config, data)?;
         Ok(Encoder {
             config,

@@ -9,10 +9,7 @@ pub use decoder::{Decoder, SourceBlockDecoder};
 pub use encoder::Encoder;
 pub use one_block::is_one_block;
 pub use rq_base::base;
-pub use rq_base::base::{
-    EncodingPacket, ObjectTransmissionInformation, PayloadId, partition,
-};
+pub use rq_base::base::{EncodingPacket, ObjectTransmissionInformation, PayloadId, partition};
 pub use rq_bytes::error;
-pub use rq_tables::rng;
-pub use rq_tables::systematic_constants;
 pub use rq_tables::systematic_constants::extended_source_block_symbols;
+pub use rq_tables::{rng, systematic_constants};

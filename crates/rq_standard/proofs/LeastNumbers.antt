@@ -1,5 +1,5 @@
 -- The least number that passes a test.
-use Rattle.std.proofs.Common.{◌≡◌, ℕ, zero, suc, ◌+◌, ◌-◌, ◌*◌, ◌/◌, ◌%◌, ◌≤◌, ◌<◌, min, Bool, true, false, cond, leb, refl, sym, ap, subst, ◌∙◌, arith, ⊎_elim, List}
+use Rattle.std.proofs.Common.{◌≡◌, ℕ, zero, suc, ◌+◌, ◌-◌, ◌*◌, ◌≤◌, ◌<◌, Bool, true, false, cond, leb, refl, sym, ap, ◌∙◌, arith, ⊎_elim, List}
 use Rattle.std.proofs.lemmas.Bool.{cases_Bool, cases_eq, le-leb}
 use Rattle.std.proofs.lemmas.Grind.{div_ceil_times}
 use Rattle.std.proofs.Math.Nat.{lt_of_mul-lt-mul_right}

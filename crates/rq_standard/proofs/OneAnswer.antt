@@ -1,10 +1,10 @@
 -- What a decoder of an object of one block answers.
-use Rattle.std.proofs.Common.{◌≡◌, ℕ, ◌<◌, List, [], ◌++◌, take, Option, Some, None, refl, sym, ap, ◌∙◌, subst, arith}
-use Rattle.std.specs.Prelude.{option_map, IsSome}
+use Rattle.std.proofs.Common.{◌≡◌, ℕ, ◌<◌, List, [], ◌++◌, take, Option, Some, None, sym, ap, ◌∙◌, subst, arith}
+use Rattle.std.specs.Prelude.{option_map}
 use Rattle.rq_standard.specs.Packet.{Packet}
 use Rattle.rq_standard.specs.Configuration.{Configuration}
 use Rattle.rq_standard.specs.Cutting.{block_symbols, block_bytes}
-use Rattle.rq_standard.specs.Received.{has_id, HasSourceSymbols, IsSourcePacket, IsAnswerable}
+use Rattle.rq_standard.specs.Received.{has_id, HasSourceSymbols, IsSourcePacket}
 use Rattle.rq_standard.specs.Held.{Held}
 use Rattle.rq_standard.specs.Standing.{State, IsHeldOf, BlockStands, Stands, joined, result_of, IsObjectAnswer}
 use Rattle.rq_standard.proofs.OneBlock.{take-block_bytes-one}

@@ -1,15 +1,13 @@
 -- Symbols one after another in a block: the cut of a block with one sub-block.
-use Rattle.std.proofs.Common.{◌≡◌, ℕ, zero, suc, ◌+◌, ◌-◌, ◌*◌, ◌/◌, ◌%◌, ◌<◌, ◌≤◌, min, List, [], ◌∷◌, ◌++◌, length, take, drop, get_or, map, replicate, Option, Some, arith, refl, sym, ap, ◌∙◌, subst, length-append, length-drop, ◌⊎◌, inl, inr, cond, ltb}
-use Rattle.std.specs.Prelude.{IfSome, ◌≢◌}
+use Rattle.std.proofs.Common.{◌≡◌, ℕ, zero, suc, ◌+◌, ◌-◌, ◌*◌, ◌/◌, ◌%◌, ◌<◌, ◌≤◌, List, ◌++◌, length, take, drop, get_or, map, Option, Some, arith, refl, sym, ap, ◌∙◌, subst, length-append, length-drop, cond, ltb}
 use Rattle.std.specs.List.{range_with_len}
-use Rattle.std.specs.Int.{div_ceil}
 use borrow.Author.Count.{below_more}
 use Rattle.std.proofs.Math.Nat.{mul-le-mul_right, div-eq_of_lt}
 use Rattle.std.proofs.lemmas.Bool.{le-ltb}
-use Rattle.std.proofs.lemmas.List.{take-append-drop, drop-drop, length-take-le, nil_from_length, take_at, drop-append-le, take-append-le, drop_at, take_all, get_or-take, get_or-drop, get_or_past, ext_get_or}
+use Rattle.std.proofs.lemmas.List.{take-append-drop, drop-drop, length-take-le, nil_from_length, drop-append-le, take-append-le, drop_at, take_all, get_or-take, get_or-drop, ext_get_or}
 use Rattle.std.proofs.lemmas.List.FromFn.{length-map-range_with_len, get_or-map-range_with_len}
-use Rattle.rq_standard.specs.Configuration.{Configuration, total_symbols}
-use Rattle.rq_standard.specs.Cutting.{block_symbols, symbols_before, sub_block_count, sub_block_parts, larger_bytes, sub_block_size, sub_block_start, place_in_block, block_bytes, symbol_of_block, HasOneSubBlock}
+use Rattle.rq_standard.specs.Configuration.{Configuration}
+use Rattle.rq_standard.specs.Cutting.{block_symbols, sub_block_count, sub_block_parts, larger_bytes, sub_block_size, sub_block_start, place_in_block, block_bytes, symbol_of_block, HasOneSubBlock}
 
 -- the n bytes from a place on, as a list made from a function of the place
 pub map-range_is_take : (xs : List ℕ) (f : ℕ → ℕ) (a n : ℕ) → a + n ≤ length xs → ((i : ℕ) → i < n → f i ≡ get_or xs (a + i) 0) → map f (range_with_len 0 n) ≡ take n (drop a xs)

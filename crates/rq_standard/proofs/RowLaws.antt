@@ -1,5 +1,5 @@
 -- What the checks give: the built-in rows pass them, and a look-up in a checked table answers a checked row.
-use Rattle.std.proofs.Common.{◌≡◌, ℕ, zero, suc, ◌+◌, ◌≤◌, ◌<◌, Bool, true, false, cond, not, eqb, ltb, leb, min, ◌&&◌, List, [], ◌∷◌, ◌++◌, length, take, Option, None, Some, refl, sym, ap, subst, ◌∙◌, arith, inl, inr, ⊎_elim, slice_get, is_none, IsSome, ◌↔◌, lit<}
+use Rattle.std.proofs.Common.{◌≡◌, ℕ, zero, suc, ◌+◌, ◌≤◌, ◌<◌, Bool, true, false, cond, not, leb, min, ◌&&◌, List, [], ◌∷◌, ◌++◌, length, take, Option, None, Some, refl, ap, subst, ◌∙◌, arith, ⊎_elim, slice_get, is_none, IsSome, ◌↔◌, lit<}
 use Rattle.std.specs.List.{list_all}
 use Rattle.std.proofs.lemmas.Bool.{and_parts, eqb-true, ltb-true, leb-true, le-leb, cases_Bool}
 use Rattle.std.proofs.lemmas.List.{length-take, take-append-le}

@@ -1,13 +1,13 @@
 -- A decoder that stands for a list of source packets stands, after one packet more, for the longer list. Its blocks have one sub-block.
-use Rattle.std.proofs.Common.{◌≡◌, ◌≢◌, ℕ, ◌+◌, ◌*◌, ◌<◌, ◌≤◌, Bool, true, cond, eqb, get_or, List, [], ◌∷◌, ◌++◌, length, take, Option, Some, None, refl, sym, ap, ◌∙◌, subst, arith, ◌⊎◌, inl, inr}
+use Rattle.std.proofs.Common.{◌≡◌, ◌≢◌, ℕ, ◌*◌, ◌<◌, Bool, true, cond, eqb, List, [], ◌∷◌, ◌++◌, length, Option, Some, None, refl, sym, ap, ◌∙◌, subst, inl, inr}
 use Rattle.std.specs.Prelude.{is_some, MatchOption, IfSome}
 use Rattle.std.specs.List.{AllByRecursion}
 use Rattle.std.proofs.lemmas.Bool.{cases_eq}
 use Rattle.rq_standard.specs.Packet.{Packet}
 use Rattle.rq_standard.specs.Configuration.{Configuration}
 use Rattle.rq_standard.specs.Cutting.{block_symbols, block_bytes, symbol_of_block, HasOneSubBlock}
-use Rattle.rq_standard.specs.Received.{or_later, first_payload, has_id, HasSourceSymbols, IsSourcePacket}
-use Rattle.rq_standard.specs.Held.{Held, holds, recorded, IsBlockAnswer}
+use Rattle.rq_standard.specs.Received.{or_later, first_payload, HasSourceSymbols, IsSourcePacket}
+use Rattle.rq_standard.specs.Held.{Held, IsBlockAnswer}
 use Rattle.rq_standard.specs.Standing.{State, IsHeldOf, AddsOpen, Adds, BlockStands, Stands}
 use Rattle.rq_standard.proofs.Firsts.{first_payload-here, first_payload-elsewhere, first_payload-source, has_id-push}
 use Rattle.rq_standard.proofs.PlainCut.{length-block_bytes, same_symbols}
@@ -92,7 +92,7 @@ stands_more object packets p old new one st pk add =
     let honest : AllByRecursion (IsSourcePacket c object) (packets ++ p ∷ []) = push-all (IsSourcePacket c object) packets p st.honest pk in
     let shape_here : IsHeldOf c here (new.held here) = shape_step c here p (old.held here) (new.held here) (old.answer here) (new.answer here) (st.shape here pk.block) add.here in
     let block_here : BlockStands HasSourceSymbols (block_bytes c object here) here (packets ++ p ∷ []) (new.held here) (new.answer here) =
-        own_step c object packets p here (old.held here) (new.held here) (old.answer here) (new.answer here) one honest (st.shape here pk.block) shape_here refl (st.block here pk.block) add.here in
+    own_step c object packets p here (old.held here) (new.held here) (old.answer here) (new.answer here) one honest (st.shape here pk.block) shape_here refl (st.block here pk.block) add.here in
     let after : State = record { configuration = c; held = new.held; answer = new.answer } in
     let is : after ≡ new = λ i. record { configuration = sym add.configuration i; held = new.held; answer = new.answer } in
     subst (Stands HasSourceSymbols IsSourcePacket object (packets ++ p ∷ [])) is (record {

@@ -1,8 +1,8 @@
 -- The degree of a number below 2^20, and the ranges of a tuple.
-use Rattle.std.proofs.Common.{◌≡◌, ℕ, zero, suc, ◌+◌, ◌-◌, ◌%◌, ◌^◌, ◌≤◌, ◌<◌, min, Bool, true, false, cond, ltb, List, [], ◌∷◌, length, get_or, refl, sym, ap, subst, arith, ⊎_elim, inl, inr, ◌⊎◌}
+use Rattle.std.proofs.Common.{◌≡◌, ℕ, zero, suc, ◌+◌, ◌-◌, ◌^◌, ◌≤◌, ◌<◌, true, false, ltb, List, [], ◌∷◌, length, get_or, refl, subst, arith, ⊎_elim, inl, inr, ◌⊎◌}
 use Rattle.std.proofs.lemmas.Bool.{cases_Bool, ltb-true, ltb-false}
 use Rattle.rq_standard.specs.declared.numbers.TheConstants.{DEGREE_STARTS}
-use Rattle.rq_standard.specs.Tuple.{first_above, degree, IsBetween, IsTuple, tuple_of}
+use Rattle.rq_standard.specs.Tuple.{first_above, IsBetween}
 
 -- either the first number is above v, or the others decide
 first_above_cases : (v start : ℕ) (starts : List ℕ) → ((v < start) × (first_above v (start ∷ starts) ≡ 0)) ⊎ ((start ≤ v) × (first_above v (start ∷ starts) ≡ 1 + first_above v starts))

@@ -1,5 +1,5 @@
 -- What both sides know of an object: the object transmission information (RFC 6330, 3.3.2 and 3.3.3).
-use Rattle.std.specs.Prelude.{◌≡◌, ℕ, zero, suc, ◌+◌, ◌*◌, ◌/◌, ◌%◌, ◌^◌, ◌<◌, ◌≤◌, List, [], ◌∷◌, ◌++◌, take, drop, slice_index}
+use Rattle.std.specs.Prelude.{◌≡◌, ℕ, ◌%◌, ◌^◌, ◌<◌, ◌≤◌, List, [], ◌∷◌, ◌++◌, take, drop, slice_index}
 use Rattle.std.specs.Int.{w16, w64, to_be_bytes, from_be_bytes, div_ceil}
 
 pub record Configuration : Type 0 where

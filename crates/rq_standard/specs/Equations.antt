@@ -1,5 +1,5 @@
 -- The equations that decide the intermediate symbols of a block (RFC 6330, sections 5.3.3.3, 5.3.3.4 and 5.3.5.3), over a row of the table.
-use Rattle.std.specs.Prelude.{◌≡◌, ℕ, ◌+◌, ◌-◌, ◌*◌, ◌/◌, ◌%◌, ◌<◌, ◌≤◌, Bool, true, false, ◌||◌, if◌then◌else◌, ◌==◌, nat_lt, nat_le, List, length, replicate, slice_index_or}
+use Rattle.std.specs.Prelude.{◌≡◌, ℕ, ◌+◌, ◌-◌, ◌*◌, ◌/◌, ◌%◌, Bool, true, false, ◌||◌, if◌then◌else◌, ◌==◌, nat_lt, nat_le, List, length, replicate, slice_index_or}
 use Rattle.std.specs.List.{range_with_len}
 use Rattle.rq_algebra.specs.Systems.{sum_below, IsDetermined, stacked, rows_of}
 use Rattle.rq_algebra.specs.Parities.{sum_listed, parity}

@@ -1,5 +1,5 @@
 -- Packets and their bytes (RFC 6330, 3.2 and 4.4.2). A number is written with its most significant byte first.
-use Rattle.std.specs.Prelude.{◌≡◌, ℕ, ◌+◌, ◌*◌, ◌/◌, ◌%◌, ◌^◌, ◌<◌, List, ◌++◌, take, drop, length}
+use Rattle.std.specs.Prelude.{ℕ, ◌+◌, ◌*◌, ◌/◌, ◌%◌, ◌^◌, ◌<◌, List, ◌++◌, take, drop}
 use Rattle.std.specs.Int.{w32, to_be_bytes, from_be_bytes}
 
 -- which symbol of which source block a packet carries

@@ -1,6 +1,6 @@
 -- An object on a stream: the twelve bytes of its configuration, then a frame for each packet.
-use Rattle.std.specs.Prelude.{◌≡◌, ℕ, List, ◌++◌, ◌∷◌, flat_map, map, length}
-use Rattle.std.specs.List.{range_with_len, AllByRecursion}
+use Rattle.std.specs.Prelude.{ℕ, List, ◌++◌, flat_map, map}
+use Rattle.std.specs.List.{range_with_len}
 use Rattle.rq_standard.specs.Packet.{Packet, packet_bytes}
 use Rattle.rq_standard.specs.Configuration.{Configuration, header_bytes}
 use Rattle.rq_standard.specs.Cutting.{block_symbols, source_symbol}

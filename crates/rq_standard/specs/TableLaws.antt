@@ -1,7 +1,7 @@
 -- What the checks of a row give, as statements: functions of `tables` have them as contracts.
-use Rattle.std.specs.Prelude.{◌≡◌, ◌≢◌, ℕ, ◌+◌, ◌*◌, ◌%◌, ◌<◌, ◌≤◌, List, All, Some}
+use Rattle.std.specs.Prelude.{◌≢◌, ℕ, ◌+◌, ◌*◌, ◌%◌, ◌<◌, ◌≤◌, List, All}
 use Rattle.rq_standard.specs.declared.row.Row.{Row}
-use Rattle.rq_standard.specs.TableRows.{IsChecked, IsTable, lone_lt_symbols, intermediate_symbols, greatest_size, row_of, extended_size}
+use Rattle.rq_standard.specs.TableRows.{IsChecked, IsTable, lone_lt_symbols, intermediate_symbols, greatest_size, row_of}
 use Rattle.rq_standard.specs.Equations.{ldpc_step, row_places}
 
 -- a block that the greatest size holds has a checked row that is large enough

@@ -1,5 +1,5 @@
 -- The degree, the tuple and the places of an internal symbol id (RFC 6330, sections 5.3.5.2 to 5.3.5.4).
-use Rattle.std.specs.Prelude.{◌≡◌, ℕ, ◌+◌, ◌-◌, ◌*◌, ◌%◌, ◌^◌, ◌<◌, ◌≤◌, min, ◌++◌, if◌then◌else◌, ◌==◌, nat_lt, List, [], ◌∷◌, map, filter, take, slice_index}
+use Rattle.std.specs.Prelude.{ℕ, ◌+◌, ◌-◌, ◌*◌, ◌%◌, ◌^◌, ◌<◌, ◌≤◌, min, ◌++◌, if◌then◌else◌, ◌==◌, nat_lt, List, [], ◌∷◌, map, filter, take, slice_index}
 use Rattle.std.specs.List.{range_with_len}
 use Rattle.rq_standard.specs.declared.numbers.TheConstants.{DEGREE_STARTS}
 use Rattle.rq_standard.specs.Rand.{rand}

@@ -1,4 +1,4 @@
-use Rattle.std.proofs.Common.{◌≡◌, Ok, ap, ◌∙◌, sym, arith}
+use Rattle.std.proofs.Common.{Ok, ap, ◌∙◌, sym, arith}
 use Rattle.raptorq.specs.Encoded.{encoded_of}
 use Rattle.raptorq.proofs.Encodes.{new_id-is, packets-more, packets-all}
 use Rattle.raptorq.proofs.encoder.Encoder.get_encoded_packets.Goals as goal

@@ -1,5 +1,4 @@
-use Rattle.std.proofs.Common.{◌≡◌, sym, ap, ◌∙◌, subst, take, length}
-use Rattle.rq_standard.specs.Cutting.{block_bytes}
+use Rattle.std.proofs.Common.{◌≡◌, take}
 use Rattle.raptorq.proofs.Payloads.{same_items}
 use Rattle.raptorq.proofs.encoder.EncoderClone.clone.Goals as goal
 

@@ -1,4 +1,4 @@
-use Rattle.std.proofs.Common.{sym, ap, ◌∙◌, arith, Some, vec_items, subst, ◌≡◌}
+use Rattle.std.proofs.Common.{sym, ◌∙◌, arith}
 use Rattle.raptorq.specs.Missing.{payload_of}
 use Rattle.raptorq.specs.Blocks.{held_of}
 use Rattle.raptorq.proofs.Answered.{answer-none, answer-some, some_by}

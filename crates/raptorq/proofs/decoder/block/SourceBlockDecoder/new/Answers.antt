@@ -1,4 +1,4 @@
-use Rattle.std.proofs.Common.{◌≡◌, ℕ, ◌%◌, ◌<◌, List, Option, Some, None, sym, ap, ◌∙◌, arith, subst}
+use Rattle.std.proofs.Common.{◌%◌, sym, ap, ◌∙◌, arith}
 use Rattle.std.specs.Prelude.{is_some}
 use Rattle.raptorq.proofs.Payloads.{payload_of-empty}
 use Rattle.raptorq.proofs.MissingCounts.{missing_count-all}

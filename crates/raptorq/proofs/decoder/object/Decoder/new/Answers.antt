@@ -1,4 +1,3 @@
-use Rattle.std.proofs.Common.{arith}
 use Rattle.rq_standard.specs.TableRows.{greatest_size}
 use Rattle.raptorq.specs.Blocks.{held_of}
 use Rattle.raptorq.proofs.News.{shape_new, stands_new}

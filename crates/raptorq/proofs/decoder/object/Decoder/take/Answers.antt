@@ -1,4 +1,4 @@
-use Rattle.std.proofs.Common.{sym, subst, ap, vec_items}
+use Rattle.std.proofs.Common.{subst, ap, vec_items}
 use Rattle.std.specs.Prelude.{option_map}
 use Rattle.std.proofs.lemmas.Result.{err_from_is_err_and}
 use Rattle.rq_bytes.specs.Refusals.{IsRefusal}

@@ -1,4 +1,4 @@
-use Rattle.std.proofs.Common.{◌≡◌, sym, ap, ◌∙◌, subst}
+use Rattle.std.proofs.Common.{sym, subst}
 use Rattle.rq_standard.specs.Standing.{IsHeldOf}
 use Rattle.raptorq.proofs.Payloads.{same_answer}
 use Rattle.raptorq.proofs.decoder.object.DecoderClone.clone.Goals as goal

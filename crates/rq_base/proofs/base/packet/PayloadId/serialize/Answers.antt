@@ -1,4 +1,4 @@
-use Rattle.std.proofs.Common.{ap, ◌∙◌, subst}
+use Rattle.std.proofs.Common.{ap, ◌∙◌}
 use Rattle.rq_standard.specs.Packet.{id_bytes, id_of_bytes}
 use Rattle.rq_standard.proofs.PacketBytes.{id_of_bytes-id_bytes}
 use Rattle.rq_base.proofs.base.packet.PayloadId.serialize.Goals as goal
