@@ -1,3 +1,4 @@
+-- What the check leaves to show of `gf2::add_assign_binary`.
 use Rattle.std.proofs.Common.{arith}
 use Rattle.std.specs.Int.Bits.{bit_xor}
 use Rattle.rq_bytes.proofs.ZipUpto.{step_one, at_end}

@@ -1,3 +1,4 @@
+-- What the loops keep in `gf2::add_assign_binary`.
 use Rattle.std.proofs.Common.{◌≡◌}
 use Rattle.std.specs.Int.Bits.{bit_xor}
 use Rattle.rq_bytes.proofs.ZipUpto.{zip_upto}

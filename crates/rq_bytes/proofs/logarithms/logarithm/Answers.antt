@@ -1,3 +1,4 @@
+-- What the check leaves to show of `logarithms::logarithm`.
 use Rattle.rq_bytes.proofs.TableFacts.{log_at}
 use Rattle.rq_bytes.proofs.logarithms.logarithm.Goals as goal
 

@@ -1,3 +1,4 @@
+-- What the check leaves to show of `logarithms::power`.
 use Rattle.rq_bytes.proofs.TableFacts.{exp_at}
 use Rattle.rq_bytes.proofs.logarithms.power.Goals as goal
 

@@ -1,3 +1,4 @@
+-- What the loops keep in `octet::fill_row`.
 use Rattle.std.proofs.Common.{◌≡◌, ℕ, ◌<◌, ◌*◌, ◌%◌, get_or}
 use Rattle.rq_standard.specs.Octets.{octet_mul}
 use Rattle.rq_bytes.proofs.octet.fill_row.Given as goal

@@ -1,3 +1,4 @@
+-- What the loops keep in `octet::octet_mul_low_bits`.
 use Rattle.std.proofs.Common.{◌≡◌, ℕ, ◌<◌, ◌%◌, [], get_or}
 use Rattle.rq_standard.specs.Octets.{octet_mul}
 use Rattle.rq_bytes.proofs.octet.octet_mul_low_bits.Given as goal

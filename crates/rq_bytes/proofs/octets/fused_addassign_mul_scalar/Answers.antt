@@ -1,3 +1,4 @@
+-- What the check leaves to show of `octets::fused_addassign_mul_scalar`.
 use Rattle.std.proofs.Common.{ℕ, ◌+◌, ◌*◌, ap, sym, ◌∙◌, arith, set, get_or}
 use Rattle.std.proofs.lemmas.Simd.{length-chunk}
 use Rattle.std.specs.Int.Bits.{bit_xor}

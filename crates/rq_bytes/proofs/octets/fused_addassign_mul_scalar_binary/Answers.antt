@@ -1,3 +1,4 @@
+-- What the check leaves to show of `octets::fused_addassign_mul_scalar_binary`.
 use Rattle.std.proofs.Common.{ℕ, ◌+◌, ◌*◌, ◌/◌, ◌%◌, length, get_or, set, sym, ap, ◌∙◌, arith}
 use Rattle.std.proofs.lemmas.List.{get_or_read}
 use Rattle.std.specs.Int.Bits.{bit_xor}

@@ -1,3 +1,4 @@
+-- What the loops keep in `octets::fused_addassign_mul_scalar_binary`.
 use Rattle.std.proofs.Common.{◌≡◌, ◌+◌, ◌*◌}
 use Rattle.std.specs.Int.Bits.{bit_xor}
 use Rattle.rq_standard.specs.Octets.{octet_mul}

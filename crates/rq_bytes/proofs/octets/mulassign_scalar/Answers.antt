@@ -1,3 +1,4 @@
+-- What the check leaves to show of `octets::mulassign_scalar`.
 use Rattle.std.proofs.Common.{ℕ, ◌+◌, ◌*◌, refl, sym, ap, ◌∙◌, arith, set}
 use Rattle.std.proofs.lemmas.Simd.{length-chunk}
 use lib.Lanes.{chunk, put_chunk}

@@ -1,3 +1,4 @@
+-- What the loops keep in `octets::mulassign_scalar`.
 use Rattle.std.proofs.Common.{◌≡◌, ◌*◌}
 use Rattle.rq_standard.specs.Octets.{octet_mul}
 use Rattle.rq_bytes.proofs.ZipUpto.{zip_upto}

@@ -1,3 +1,4 @@
+-- What the check leaves to show of `products::bit_product`.
 use Rattle.std.proofs.Common.{◌≡◌, ◌/◌, ◌%◌, ◌^◌, ap, sym, ◌∙◌, arith}
 use Rattle.rq_standard.specs.Octets.{octet_mul}
 use Rattle.rq_standard.specs.OctetProducts.{mul-one, mul-zero}

@@ -1,3 +1,4 @@
+-- What the check leaves to show of `products::bytes_repeated`.
 use Rattle.std.proofs.Common.{ℕ, ◌++◌, List, get_or, ap, ◌∙◌}
 use lib.Lanes.{pick_l}
 use Rattle.rq_bytes.specs.declared.products.TheConstants.{PLACES}

@@ -1,3 +1,4 @@
+-- What the check leaves to show of `products::double`.
 use Rattle.std.proofs.Common.{ltb, sym, ◌∙◌, ◌*◌, ◌%◌}
 use Rattle.std.proofs.lemmas.Bool.{cond-true, cond-false, lt-ltb, le-ltb}
 use Rattle.std.specs.Int.Bits.{bit_xor}

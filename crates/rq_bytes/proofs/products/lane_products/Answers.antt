@@ -1,3 +1,4 @@
+-- What the check leaves to show of `products::lane_products`.
 use Rattle.std.proofs.Common.{◌≡◌, ◌+◌, ◌-◌, ◌/◌, ◌^◌, ap, sym, ◌∙◌, refl, get_or, arith}
 use Rattle.std.proofs.lemmas.Simd.{length-zip2, get_or-zip2, get_or-replicate}
 use Rattle.std.specs.Int.Bits.{bit_xor}

@@ -1,3 +1,4 @@
+-- What the check leaves to show of `products::plane`.
 use Rattle.std.proofs.Common.{◌*◌, ◌%◌, ◌^◌, ap, ◌∙◌, eqb, length, get_or, replicate, List, Bool, w8}
 use Rattle.std.proofs.lemmas.Nat.{one_shl}
 use Rattle.std.proofs.lemmas.Simd.{tops_compared}

@@ -1,3 +1,4 @@
+-- What the check leaves to show of `products::product`.
 use Rattle.std.proofs.Common.{◌≡◌, ◌+◌, ◌-◌, ◌/◌, ◌^◌, ap, ◌∙◌, refl, arith}
 use Rattle.std.specs.Int.Bits.{bit_xor}
 use Rattle.rq_standard.specs.Octets.{octet_mul, octet_times}

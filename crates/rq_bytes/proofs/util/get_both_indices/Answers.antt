@@ -1,3 +1,4 @@
+-- What the check leaves to show of `util::get_both_indices`.
 use Rattle.std.proofs.Common.{◌<◌, sym, ◌∙◌, refl, arith}
 use Rattle.std.proofs.lemmas.List.{set_comm}
 use Rattle.rq_bytes.proofs.Halves.{get_or-front, get_or-back, set_both}

@@ -1,3 +1,4 @@
+-- What the check leaves to show of `octets::powers`.
 use Rattle.rq_standard.proofs.Powers.{power-lt, mul-power, power_of_order}
 use Rattle.rq_standard.proofs.octets.powers.Goals as goal
 

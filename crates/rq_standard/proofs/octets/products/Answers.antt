@@ -1,3 +1,4 @@
+-- What the check leaves to show of `octets::products`.
 use Rattle.rq_standard.specs.OctetFacts.{one-mul, mul-inverse, inverse-lt}
 use Rattle.rq_standard.proofs.Powers.{div_from_mul}
 use Rattle.rq_standard.specs.OctetProducts.{mul-lt, mul-comm, mul-assoc, mul-xor_right, mul-zero, no_zero_divisor}

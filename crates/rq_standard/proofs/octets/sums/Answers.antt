@@ -1,3 +1,4 @@
+-- What the check leaves to show of `octets::sums`.
 use Rattle.std.proofs.lemmas.Nat.{xor_comm}
 use Rattle.std.specs.Int.Bits.{xor_assoc, xor_self, xor_zero_r}
 use Rattle.rq_standard.specs.OctetProducts.{xor-octet}

@@ -1,3 +1,4 @@
+-- What the check leaves to show of `octet::RefOctetDiv::div`.
 use Rattle.std.proofs.Common.{◌<◌, ap, sym, ◌∙◌, arith, subst}
 use Rattle.rq_standard.specs.Octets.{octet_div}
 use Rattle.rq_standard.proofs.Powers.{power-lt, zero-div, div_by_powers}

@@ -1,3 +1,4 @@
+-- What the check leaves to show of `octet::RefOctetMul::mul`.
 use Rattle.std.proofs.Common.{ap, sym, ◌∙◌}
 use Rattle.rq_standard.specs.Octets.{octet_mul}
 use Rattle.rq_standard.specs.OctetProducts.{zero-mul, mul-zero}

@@ -1,3 +1,4 @@
+-- What the check leaves to show of `octets::BinaryOctetVec::new`.
 use Rattle.rq_standard.proofs.Packed.{length-packed_bits}
 use Rattle.rq_bytes.proofs.octets.BinaryOctetVec.new.Goals as goal
 

@@ -1,3 +1,4 @@
+-- What the check leaves to show of `octets::BinaryOctetVec::padding_bits`.
 use Rattle.std.proofs.Common.{length, ap, sym, ◌∙◌}
 use Rattle.rq_standard.specs.PackedBits.{padding_of}
 use Rattle.rq_standard.proofs.Packed.{length-packed_bits}

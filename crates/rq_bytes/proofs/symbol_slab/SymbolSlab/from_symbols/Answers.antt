@@ -1,3 +1,4 @@
+-- What the check leaves to show of `symbol_slab::SymbolSlab::from_symbols`.
 use Rattle.std.proofs.Common.{◌≡◌, ◌+◌, ◌++◌, [], ◌∷◌, List, ℕ, get_or, length, take, ap, sym, ◌∙◌, arith, add-one}
 use Rattle.std.proofs.lemmas.List.{take_more, get_or_read}
 use Rattle.rq_bytes.specs.Ranges.{cut}

@@ -1,3 +1,4 @@
+-- What the loops keep in `symbol_slab::SymbolSlab::from_symbols`.
 use Rattle.std.proofs.Common.{◌≡◌, ◌*◌, take, vec_len}
 use Rattle.rq_bytes.specs.Ranges.{cut}
 use Rattle.rq_bytes.proofs.symbol_slab.SymbolSlab.from_symbols.Given as goal

@@ -1,3 +1,4 @@
+-- What the loops keep in `symbol_slab::SymbolSlab::gather`.
 use Rattle.std.proofs.Common.{◌≡◌, ◌*◌, map, take, vec_len}
 use Rattle.rq_bytes.specs.Ranges.{cut}
 use Rattle.rq_bytes.specs.Slab.{symbol_in}

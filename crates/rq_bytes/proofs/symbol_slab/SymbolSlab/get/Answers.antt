@@ -1,3 +1,4 @@
+-- What the check leaves to show of `symbol_slab::SymbolSlab::get`.
 use Rattle.std.proofs.Common.{length, ◌∙◌, ap}
 use Rattle.rq_bytes.proofs.SlabFacts.{holds, range_in, size_is, length-range_at, within_slice}
 use Rattle.rq_bytes.proofs.symbol_slab.SymbolSlab.get.Goals as goal

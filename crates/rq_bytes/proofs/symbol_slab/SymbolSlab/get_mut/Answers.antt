@@ -1,3 +1,4 @@
+-- What the check leaves to show of `symbol_slab::SymbolSlab::get_mut`.
 use Rattle.std.proofs.Common.{length, refl, ◌∙◌, ap}
 use Rattle.rq_algebra.specs.Operations.{meant_at}
 use Rattle.rq_bytes.specs.Slab.{Slab, symbol_in}

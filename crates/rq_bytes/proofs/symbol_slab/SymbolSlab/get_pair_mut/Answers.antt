@@ -1,3 +1,4 @@
+-- What the check leaves to show of `symbol_slab::SymbolSlab::get_pair_mut`.
 use Rattle.std.proofs.Common.{length, ◌≢◌, refl, sym, subst, ◌∙◌, ap}
 use Rattle.rq_algebra.specs.Operations.{meant_at}
 use Rattle.rq_bytes.specs.Slab.{Slab, symbol_in}

@@ -1,3 +1,4 @@
+-- What the check leaves to show of `symbol_slab::SymbolSlab::into_symbols`.
 use Rattle.std.proofs.Common.{◌<◌, ◌++◌, [], ◌∷◌, List, ℕ, length, take, ap, sym, ◌∙◌, arith}
 use Rattle.std.proofs.lemmas.List.{take_more}
 use Rattle.rq_bytes.specs.Slab.{symbols_in}

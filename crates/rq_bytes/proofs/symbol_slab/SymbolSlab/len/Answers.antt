@@ -1,3 +1,4 @@
+-- What the check leaves to show of `symbol_slab::SymbolSlab::len`.
 use Rattle.rq_bytes.proofs.SlabFacts.{holds, count_is}
 use Rattle.rq_bytes.proofs.symbol_slab.SymbolSlab.len.Goals as goal
 

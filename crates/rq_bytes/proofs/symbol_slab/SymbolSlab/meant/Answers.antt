@@ -1,3 +1,4 @@
+-- What the check leaves to show of `symbol_slab::SymbolSlab::meant`.
 use Rattle.rq_bytes.proofs.SlabFacts.{entry_below}
 use Rattle.rq_bytes.proofs.symbol_slab.SymbolSlab.meant.Goals as goal
 

@@ -1,3 +1,4 @@
+-- What the check leaves to show of `symbol_slab::SymbolSlab::places`.
 use Rattle.rq_bytes.proofs.SlabFacts.{all_places}
 use Rattle.rq_bytes.proofs.symbol_slab.SymbolSlab.places.Goals as goal
 

@@ -1,3 +1,4 @@
+-- What the check leaves to show of `symbol_slab::SymbolSlab::set_reorder`.
 use Rattle.std.proofs.Common.{Some, sym, ap, subst, unwrap_or}
 use Rattle.rq_algebra.specs.Operations.{step, IsOrder}
 use Rattle.rq_bytes.specs.Slab.{Slab}

@@ -1,3 +1,4 @@
+-- What the check leaves to show of `symbol_slab::SymbolSlab::start_of`.
 use Rattle.std.proofs.Common.{◌*◌, arith, ap}
 use Rattle.rq_bytes.proofs.SlabFacts.{holds, size_is, within}
 use Rattle.rq_bytes.proofs.symbol_slab.SymbolSlab.start_of.Goals as goal

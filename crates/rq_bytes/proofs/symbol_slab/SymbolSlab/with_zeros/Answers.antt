@@ -1,3 +1,4 @@
+-- What the check leaves to show of `symbol_slab::SymbolSlab::with_zeros`.
 use Rattle.std.proofs.Common.{List, ℕ, ap, sym, ◌∙◌, Ok}
 use Rattle.rq_bytes.specs.Ranges.{cut}
 use Rattle.rq_bytes.specs.Slab.{slab_of}

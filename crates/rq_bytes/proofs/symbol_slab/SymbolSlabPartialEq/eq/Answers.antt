@@ -1,3 +1,4 @@
+-- What the check leaves to show of `symbol_slab::SymbolSlabPartialEq::eq`.
 use Rattle.std.proofs.Common.{◌≡◌, Bool, true, false, not, ◌&&◌, refl, ap, sym, ◌∙◌}
 use Rattle.std.specs.Prelude.{◌==◌}
 use Rattle.std.specs.Option.{option_eq}
