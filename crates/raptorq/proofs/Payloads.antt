@@ -1,6 +1,8 @@
 -- The payloads that a map holds, after one more.
-use Rattle.std.proofs.Common.{◌≡◌, ◌≢◌, ℕ, ◌<◌, Bool, true, false, cond, eqb, List, [], length, Option, Some, None, Ordering, refl, sym, ap, ◌∙◌, subst, ◌⊎◌, inl, inr, vec_items, arith}
-use Rattle.std.specs.Prelude.{is_some, option_map}
+use Rattle.std.proofs.Common.{◌≡◌, ◌≢◌, ℕ, ◌<◌, Bool, true, false, cond, eqb, List, [], ◌∷◌, length, Option, Some, None, Ordering, refl, sym, ap, ◌∙◌, subst, ◌⊎◌, inl, inr, vec_items, vec_len, arith}
+use Rattle.std.specs.Prelude.{is_some, option_map, MatchOption, IsSomeAnd}
+use Rattle.std.specs.List.{AllZip}
+use Rattle.std.proofs.lemmas.Map.Entries.{lookup_clone}
 use Rattle.std.specs.Option.{ForSome}
 use Rattle.std.specs.declared.vec.Vec.{Vec}
 use Rattle.std.specs.declared.alloc.Global.{Global}
@@ -73,3 +75,35 @@ sized-more f g k x size all here grown e y is = sized_by (f e) (eqb k e) x y siz
 -- an empty map holds nothing
 pub payload_of-empty : (m : BTreeMap ℕ (Vec ℕ Global)) → m.entries ≡ [] → (e : ℕ) → payload_of m e ≡ None
 payload_of-empty m none e = ap (λ es. option_map vec_items (lookup (λ q. is_eq (nat_cmp e q)) es)) none
+
+same_option : (D : Vec ℕ Global → Vec ℕ Global → Type 0) → ((v w : Vec ℕ Global) → D v w → vec_items w ≡ vec_items v) → (o r : Option (Vec ℕ Global)) → MatchOption o (r ≡ None) (λ v. IsSomeAnd r (D v)) → option_map vec_items r ≡ option_map vec_items o
+same_option D same None r h = ap (option_map vec_items) h
+same_option D same (Some v) (Some w) h = ap (λ xs. Some xs) (same v w h)
+same_option D same (Some v) None h = absurd h
+
+-- a clone of the map holds the same payloads
+pub payload_of-clone : (C : ℕ → ℕ → Type 0) (D : Vec ℕ Global → Vec ℕ Global → Type 0) (m n : BTreeMap ℕ (Vec ℕ Global)) → ((x y : ℕ) → C x y → y ≡ x) → ((v w : Vec ℕ Global) → D v w → vec_items w ≡ vec_items v) → AllZip (λ p q. C p.0 q.0 × D p.1 q.1) m.entries n.entries → (e : ℕ) → payload_of n e ≡ payload_of m e
+payload_of-clone C D m n keys values clones e = same_option D values (get nat_cmp m e) (get nat_cmp n e) (lookup_clone C D (λ q. is_eq (nat_cmp e q)) (λ x y c. ap (λ k. is_eq (nat_cmp e k)) (keys x y c)) m.entries n.entries clones)
+
+pub same_items : (xs ys : List ℕ) → AllZip (λ x y. y ≡ x) xs ys → ys ≡ xs
+same_items [] [] h = refl
+same_items [] (y ∷ ys) h = absurd h
+same_items (x ∷ xs) [] h = absurd h
+same_items (x ∷ xs) (y ∷ ys) h = λ i. h.0 i ∷ same_items xs ys h.1 i
+
+-- a clone of a map of bytes holds the same payloads
+pub payload_of-cloned : (m n : BTreeMap ℕ (Vec ℕ Global)) → AllZip (λ p q. (q.0 ≡ p.0) × (AllZip (λ x y. y ≡ x) (vec_items p.1) (vec_items q.1) × (vec_len q.1 ≡ vec_len p.1))) m.entries n.entries → (e : ℕ) → payload_of n e ≡ payload_of m e
+payload_of-cloned m n clones = payload_of-clone (λ x y. y ≡ x) (λ v w. AllZip (λ x y. y ≡ x) (vec_items v) (vec_items w) × (vec_len w ≡ vec_len v)) m n (λ x y h. h) (λ v w h. same_items (vec_items v) (vec_items w) h.0) clones
+
+-- an answer and its clone
+abbrev pub AreClones : Option (Vec ℕ Global) → Option (Vec ℕ Global) → Type 0
+AreClones None None = Unit {0}
+AreClones None (Some w) = ⊥
+AreClones (Some v) None = ⊥
+AreClones (Some v) (Some w) = AllZip (λ x y. y ≡ x) (vec_items v) (vec_items w) × (vec_len w ≡ vec_len v)
+
+pub same_answer : (o r : Option (Vec ℕ Global)) → AreClones o r → option_map vec_items r ≡ option_map vec_items o
+same_answer None None h = refl
+same_answer None (Some w) h = absurd h
+same_answer (Some v) None h = absurd h
+same_answer (Some v) (Some w) h = ap (λ xs. Some xs) (same_items (vec_items v) (vec_items w) h.0)

@@ -95,6 +95,21 @@ impl Encoder {
     }
 }
 
+impl Clone for Encoder {
+    ghost use Rattle.raptorq.specs.Encoded.{encoded_of};
+
+    ghost is_clone = { λ a b. encoded_of b ≡ encoded_of a };
+
+    fn clone(&self) -> Result<Encoder, AllocError> {
+        Ok(Encoder {
+            config: self.config,
+            symbols: self.symbols,
+            block: self.block.clone()?,
+            alloc: self.alloc,
+        })
+    }
+}
+
 // The object and the zeros behind it, up to whole symbols.
 fn padded(
     alloc: Global,

@@ -1,5 +1,9 @@
-//! Tests that cross crates.
+//! Tests that cross the crates: worked examples of the codec's calls.
 #![tactic(auto)]
 
+#[cfg(test)]
+mod decoding;
+#[cfg(test)]
+mod packets;
 #[cfg(test)]
 mod records;

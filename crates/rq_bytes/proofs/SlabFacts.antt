@@ -1,20 +1,18 @@
 -- A slab's buffer and the symbols that callers see.
-use Rattle.std.proofs.Common.{◌&&◌, ◌≡◌, ◌≢◌, ◌⊎◌, inl, inr, ⊎_elim, Fits, w8, map, Global, ℕ, ◌+◌, ◌*◌, ◌<◌, ◌≤◌, List, [], Vec, length, drop, set, get_or, Option, None, Some, refl, sym, ap, ◌∙◌, arith, subst}
-use Rattle.std.specs.Prelude.{◌==◌, All}
-use Rattle.std.proofs.lemmas.Grind.{get_or_default_zero}
+use Rattle.std.proofs.Common.{length-set, ◌&&◌, ◌≡◌, ◌⊎◌, inl, inr, ⊎_elim, map, Global, ℕ, ◌+◌, ◌*◌, ◌<◌, ◌≤◌, List, [], Vec, length, drop, set, get_or, Option, None, Some, refl, sym, ap, ◌∙◌, arith, subst}
+use Rattle.std.specs.Prelude.{◌==◌}
 use Rattle.std.proofs.lemmas.List.{length-take-le, length-drop, length-map, get_or-map, get_or_read}
-use Rattle.std.proofs.lemmas.List.Elements.{All-take, All-drop}
 use Rattle.std.proofs.Math.Nat.{mul-le-mul_right}
 use Rattle.std.proofs.lemmas.Simd.{length-zip2}
 use Rattle.std.specs.Int.Bits.{bit_xor}
 use Rattle.rq_standard.specs.Octets.{octet_mul}
-use Rattle.rq_algebra.specs.Operations.{Operation, AddAssign, MulAssign, Fma, Reorder, step, read, values_in, meant_at, IsPlace, IsOrder}
+use Rattle.rq_algebra.specs.Operations.{Operation, AddAssign, MulAssign, Fma, Reorder, step, values_in, meant_at, order_after, IsPlace, IsOrder}
 use Rattle.rq_algebra.specs.Symbols.{add_symbols, symbols}
 use Rattle.rq_standard.specs.OctetField.{octets}
 use Rattle.rq_standard.specs.Rows.{row_sum, row_multiple}
 use Rattle.rq_standard.proofs.RowSymbols.{add_symbols-rows, scale-rows}
 use Rattle.rq_bytes.specs.Ranges.{range_of, with_range, cut, joined}
-use Rattle.rq_bytes.specs.Slab.{Slab, after, symbol_in, symbols_in, same_slab, HasPlace}
+use Rattle.rq_bytes.specs.Slab.{Slab, after, symbols_in, same_slab, HasPlace}
 use Rattle.rq_bytes.specs.contracts.symbol_slab.SymbolSlab.{the_view, the_invariant}
 use Rattle.rq_bytes.specs.declared.symbol_slab.SymbolSlab.TheInside.{Inside}
 use Rattle.std.specs.Option.{option_map, option_eq, ForSome}
@@ -214,3 +212,19 @@ compared a b left right av ai bv bi =
     ∙ ap (λ xs. sizes && (counts && (E && pointwise ◌==◌ xs (joined (cut b.count b.symbol_size b.«data».items))))) octets_a
     ∙ ap (λ ys. sizes && (counts && (E && pointwise ◌==◌ a.«data».items ys))) octets_b
     ∙ ap (λ e. sizes && (counts && (e && pointwise ◌==◌ a.«data».items b.«data».items))) (same_order a.order b.order)
+
+-- ---- what an operation keeps and sets
+
+pub length-after : (operation : Operation) (slab : Slab) → length (after operation slab).values ≡ length slab.values
+unfolding step
+length-after (AddAssign dest src) slab = length-set slab.values (meant_at slab.order dest) _
+length-after (MulAssign dest scalar) slab = length-set slab.values (meant_at slab.order dest) _
+length-after (Fma dest src scalar) slab = length-set slab.values (meant_at slab.order dest) _
+length-after (Reorder order) slab = refl
+
+pub order-after : (operation : Operation) (slab : Slab) → (after operation slab).order ≡ order_after slab.order operation
+unfolding step
+order-after (AddAssign dest src) slab = refl
+order-after (MulAssign dest scalar) slab = refl
+order-after (Fma dest src scalar) slab = refl
+order-after (Reorder order) slab = refl

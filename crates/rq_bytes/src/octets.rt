@@ -32,13 +32,17 @@ impl Model for BinaryOctetVec {
 }
 
 impl BinaryOctetVec {
-    /// A row of `length` elements in as many words as it needs: element i stands at bit `padding_bits` + i, counted
+    /// A row of `len` elements in as many words as it needs: element i stands at bit `padding_bits` + i, counted
     /// from the lowest bit of the first word. The bits below are ignored.
-    pub fn new(elements: Vec<u64>, length: usize) -> Self
-        requires { padding_of length + length ≡ 64 * vec_len elements }
-        ensures { result ≡ packed_bits elements.items length }
+    pub fn new(elements: Vec<u64>, len: usize) -> Self
+        requires { padding_of len + len ≡ 64 * vec_len elements }
+        ensures bits { result ≡ packed_bits elements.items len }
+        ensures len { length result ≡ len }
     {
-        BinaryOctetVec { elements, length }
+        BinaryOctetVec {
+            elements,
+            length: len,
+        }
     }
 
     /// The number of elements.

@@ -104,7 +104,8 @@ impl SymbolSlab {
     /// The octets of the symbol that a place means.
     pub fn get(&self, i: usize) -> &[u8]
         requires { HasPlace self.now i }
-        ensures { result.now ≡ symbol_in self.now i }
+        ensures symbol { result.now ≡ symbol_in self.now i }
+        ensures len { length result.now ≡ self.now.symbol_size }
     {
         let start = self.start_of(i);
         range(self.data.as_slice(), start, self.symbol_size)
@@ -156,7 +157,8 @@ impl SymbolSlab {
     /// The octets of the symbol that a place means, for writing.
     pub fn get_mut(&mut self, i: usize) -> &mut [u8]
         requires { HasPlace self.old i }
-        ensures { result.now ≡ symbol_in self.old i }
+        ensures symbol { result.now ≡ symbol_in self.old i }
+        ensures len { length result.now ≡ self.old.symbol_size }
     {
         let size = self.symbol_size;
         let start = self.start_of(i);
@@ -168,6 +170,8 @@ impl SymbolSlab {
         requires { Allows self.old (AddAssign dest src) }
         ensures dest { result.0.now ≡ symbol_in self.old dest }
         ensures src { result.1.now ≡ symbol_in self.old src }
+        ensures dest_len { length result.0.now ≡ self.old.symbol_size }
+        ensures src_len { length result.1.now ≡ self.old.symbol_size }
     {
         let size = self.symbol_size;
         let dest_start = self.start_of(dest);

@@ -17,7 +17,7 @@ use crate::decoder::block::SourceBlockDecoder;
 use rq_base::base::{EncodingPacket, ObjectTransmissionInformation};
 use rq_bytes::error::Error;
 use rq_tables::systematic_constants::SystematicTable;
-use std::alloc::Global;
+use std::alloc::{AllocError, Global};
 
 /// Puts an object together again from its packets.
 #[derive(Debug, PartialEq, Eq, Drop)]
@@ -128,6 +128,21 @@ impl Decoder {
     {
         self.add_new_packet(packet)?;
         self.get_result()
+    }
+}
+
+impl Clone for Decoder {
+    ghost use Rattle.raptorq.specs.Objects.{state_of};
+
+    ghost is_clone = { λ a b. state_of b ≡ state_of a };
+
+    fn clone(&self) -> Result<Decoder, AllocError> {
+        Ok(Decoder {
+            config: self.config,
+            block: self.block.clone()?,
+            answer: self.answer.clone()?,
+            alloc: self.alloc,
+        })
     }
 }
 

@@ -1,4 +1,4 @@
-use Rattle.std.proofs.Common.{◌≡◌, ℕ, ◌<◌, ◌*◌, ◌%◌, [], length, get_or}
+use Rattle.std.proofs.Common.{◌≡◌, ℕ, ◌<◌, ◌%◌, [], get_or}
 use Rattle.rq_standard.specs.Octets.{octet_mul}
 use Rattle.rq_bytes.proofs.octet.octet_mul_low_bits.Given as goal
 

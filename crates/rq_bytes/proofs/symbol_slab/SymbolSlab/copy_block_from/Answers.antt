@@ -1,4 +1,4 @@
-use Rattle.std.proofs.Common.{◌*◌, ◌/◌, length, refl, ap, sym, ◌∙◌, arith}
+use Rattle.std.proofs.Common.{◌*◌, ◌/◌, length, ap, ◌∙◌, arith}
 use Rattle.std.proofs.lemmas.List.{with_items_is}
 use Rattle.std.specs.Vec.{with_items}
 use Rattle.rq_bytes.proofs.SlabFacts.{holds, size_is, block_within, block_written}

@@ -1,8 +1,8 @@
-use Rattle.std.proofs.Common.{◌≡◌, ◌≢◌, refl, sym, subst, ◌∙◌, ap}
+use Rattle.std.proofs.Common.{length, ◌≢◌, refl, sym, subst, ◌∙◌, ap}
 use Rattle.rq_algebra.specs.Operations.{meant_at}
 use Rattle.rq_bytes.specs.Slab.{Slab, symbol_in}
 use Rattle.rq_bytes.specs.contracts.symbol_slab.SymbolSlab.{the_view}
-use Rattle.rq_bytes.proofs.SlabFacts.{holds, apart, range_in, within_slice}
+use Rattle.rq_bytes.proofs.SlabFacts.{holds, apart, range_in, length-range_at, within_slice}
 use Rattle.rq_bytes.proofs.symbol_slab.SymbolSlab.get_pair_mut.Goals as goal
 
 pub get_both_ranges-dest-requires-clause-apart : goal.get_both_ranges-dest-requires-clause-apart
@@ -33,13 +33,12 @@ returns c =
     let s = c.start_of-src_start in
     let bytes = c.as_mut_slice-bytes.result.now in
     let same = c.as_mut_slice-bytes.ensures.value in
+    let size = ap (λ (v : Slab). v.symbol_size) c.self.view_is in
+    let dest_is = c.get_both_ranges-dest.ensures.first ∙ range_in is (meant_at slab.order c.args.dest) d.result bytes d.ensures.below d.ensures.start same in
+    let src_is = c.get_both_ranges-dest.ensures.second ∙ range_in is (meant_at slab.order c.args.src) s.result bytes s.ensures.below s.ensures.start same in
     record {
-      dest =
-          c.get_both_ranges-dest.ensures.first
-          ∙ range_in is (meant_at slab.order c.args.dest) d.result bytes d.ensures.below d.ensures.start same
-          ∙ ap (λ (v : Slab). symbol_in v c.args.dest) c.self.view_is;
-      src =
-          c.get_both_ranges-dest.ensures.second
-          ∙ range_in is (meant_at slab.order c.args.src) s.result bytes s.ensures.below s.ensures.start same
-          ∙ ap (λ (v : Slab). symbol_in v c.args.src) c.self.view_is;
+      dest_len = ap length dest_is ∙ length-range_at is (meant_at slab.order c.args.dest) d.ensures.below ∙ size;
+      src_len = ap length src_is ∙ length-range_at is (meant_at slab.order c.args.src) s.ensures.below ∙ size;
+      dest = dest_is ∙ ap (λ (v : Slab). symbol_in v c.args.dest) c.self.view_is;
+      src = src_is ∙ ap (λ (v : Slab). symbol_in v c.args.src) c.self.view_is;
     }

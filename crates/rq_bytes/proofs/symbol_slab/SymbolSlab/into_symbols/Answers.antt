@@ -1,4 +1,4 @@
-use Rattle.std.proofs.Common.{◌≡◌, ◌+◌, ◌<◌, ◌++◌, [], ◌∷◌, List, ℕ, length, take, ap, sym, ◌∙◌, arith}
+use Rattle.std.proofs.Common.{◌<◌, ◌++◌, [], ◌∷◌, List, ℕ, length, take, ap, sym, ◌∙◌, arith}
 use Rattle.std.proofs.lemmas.List.{take_more}
 use Rattle.rq_bytes.specs.Slab.{symbols_in}
 use Rattle.rq_bytes.proofs.SlabFacts.{get_or-values_in}
@@ -12,5 +12,5 @@ loop-i-preserved c =
     c.in_ok-push.ensures.items
     ∙ ap (λ (xs : List (List ℕ)). xs ++ c.new.result ∷ []) c.loop-i.invariant
     ∙ ap (λ (x : List ℕ). take i (symbols_in slab) ++ x ∷ [])
-    (c.new.ensures ∙ c.in_ok-from_slice.ensures.items ∙ c.get.ensures ∙ sym (get_or-values_in slab.values slab.order i lt))
+    (c.new.ensures ∙ c.in_ok-from_slice.ensures.items ∙ c.get.ensures.symbol ∙ sym (get_or-values_in slab.values slab.order i lt))
     ∙ sym (take_more (symbols_in slab) i [] lt)

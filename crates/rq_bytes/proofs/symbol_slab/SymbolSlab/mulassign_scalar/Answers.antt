@@ -1,5 +1,4 @@
-use Rattle.std.specs.Prelude.{All}
-use Rattle.std.proofs.Common.{List, ℕ, ◌<◌, subst, ◌∙◌}
+use Rattle.std.proofs.Common.{◌∙◌}
 use Rattle.std.proofs.lemmas.List.{with_items_is}
 use Rattle.std.specs.Vec.{with_items}
 use Rattle.rq_algebra.specs.Operations.{step, meant_at}

@@ -1,4 +1,4 @@
-use Rattle.std.proofs.Common.{Option, Some, length, sym, ap, subst, unwrap_or}
+use Rattle.std.proofs.Common.{Some, sym, ap, subst, unwrap_or}
 use Rattle.rq_algebra.specs.Operations.{step, IsOrder}
 use Rattle.rq_bytes.specs.Slab.{Slab}
 use Rattle.rq_bytes.proofs.SlabFacts.{holds, count_is}

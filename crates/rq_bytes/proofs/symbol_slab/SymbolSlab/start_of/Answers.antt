@@ -1,6 +1,5 @@
 use Rattle.std.proofs.Common.{◌*◌, arith, ap}
-use Rattle.rq_bytes.proofs.Cuts.{piece_within}
-use Rattle.rq_bytes.proofs.SlabFacts.{holds, count_is, size_is, within}
+use Rattle.rq_bytes.proofs.SlabFacts.{holds, size_is, within}
 use Rattle.rq_bytes.proofs.symbol_slab.SymbolSlab.start_of.Goals as goal
 
 pub overflow_mul-result : goal.overflow_mul-result

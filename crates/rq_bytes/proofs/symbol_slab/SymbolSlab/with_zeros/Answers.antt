@@ -1,4 +1,4 @@
-use Rattle.std.proofs.Common.{◌*◌, List, ℕ, None, replicate, ap, sym, ◌∙◌, Ok}
+use Rattle.std.proofs.Common.{List, ℕ, ap, sym, ◌∙◌, Ok}
 use Rattle.rq_bytes.specs.Ranges.{cut}
 use Rattle.rq_bytes.specs.Slab.{slab_of}
 use Rattle.rq_bytes.proofs.Cuts.{cut-replicate}

@@ -1,0 +1,22 @@
+use Rattle.std.proofs.Common.{◌≡◌, ℕ, sym, ap, ◌∙◌}
+use Rattle.std.specs.Prelude.{is_some}
+use Rattle.raptorq.specs.Missing.{payload_of}
+use Rattle.raptorq.proofs.Payloads.{payload_of-cloned}
+use Rattle.raptorq.proofs.MissingCounts.{missing_count-same}
+use Rattle.raptorq.proofs.decoder.block.SourceBlockDecoderClone.clone.Goals as goal
+
+pub invariant_of-result : goal.invariant_of-result
+invariant_of-result c =
+    let d = c.args.self.now in
+    let same : (e : ℕ) → payload_of c.in_ok-clone.field-0 e ≡ payload_of d.received e = payload_of-cloned d.received c.in_ok-clone.field-0 c.in_ok-clone.ensures.cases in
+    record {
+      sized = λ e x is. d.sized e x (sym (same e) ∙ is);
+      plain = d.plain;
+      counted = d.counted ∙ missing_count-same d.symbols _ _ (λ e below. sym (ap is_some (same e)));
+    }
+
+pub returns : goal.returns
+returns c =
+    let d = c.args.self.now in
+    let same : (e : ℕ) → payload_of c.in_ok-clone.field-0 e ≡ payload_of d.received e = payload_of-cloned d.received c.in_ok-clone.field-0 c.in_ok-clone.ensures.cases in
+    record { cases = λ i. record { configuration = d.config; number = d.number; symbols = d.symbols; received = λ e. same e i } }

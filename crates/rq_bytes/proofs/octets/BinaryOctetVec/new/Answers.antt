@@ -1,0 +1,5 @@
+use Rattle.rq_standard.proofs.Packed.{length-packed_bits}
+use Rattle.rq_bytes.proofs.octets.BinaryOctetVec.new.Goals as goal
+
+pub returns-clause-len : goal.returns-clause-len
+returns-clause-len c = length-packed_bits c.args.elements.items c.args.len
