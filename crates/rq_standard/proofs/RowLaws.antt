@@ -4,7 +4,7 @@ use Rattle.std.specs.List.{list_all}
 use Rattle.std.proofs.lemmas.Bool.{and_parts, eqb-true, ltb-true, leb-true, le-leb, cases_Bool}
 use Rattle.std.proofs.lemmas.List.{length-take, take-append-le}
 use Rattle.rq_standard.specs.declared.row.Row.{Row}
-use Rattle.rq_standard.specs.declared.numbers.TheConstants.{P1_TABLE}
+use Rattle.rq_standard.specs.declared.sizes.TheConstants.{P1_TABLE}
 use Rattle.rq_standard.specs.TableRows.{first_failing_check, has_size, is_odd, fits_ldpc, fits_hdpc, fits_pi, fits_columns, fits_index, IsChecked, Numbers, row_at, rows_from, first_failure, first_refused, built_in_rows, IsTable, greatest_size, row_of, first_size, extended_size}
 
 -- ---- the checks

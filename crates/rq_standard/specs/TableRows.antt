@@ -1,7 +1,8 @@
 -- The table of systematic indices and parameters (RFC 6330, section 5.6): a row's sizes, the checks that a row passes, and the tables that may be used.
 use Rattle.std.specs.Prelude.{◌≡◌, ℕ, ◌+◌, ◌-◌, ◌*◌, ◌%◌, ◌<◌, ◌≤◌, min, Bool, false, not, ◌&&◌, if◌then◌else◌, ◌==◌, nat_lt, nat_le, List, [], ◌∷◌, slice_get, Option, None, Some, take}
 use Rattle.rq_standard.specs.declared.row.Row.{Row}
-use Rattle.rq_standard.specs.declared.numbers.TheConstants.{SYSTEMATIC_INDICES_AND_PARAMETERS, P1_TABLE}
+use Rattle.rq_standard.specs.declared.numbers.TheConstants.{SYSTEMATIC_INDICES_AND_PARAMETERS}
+use Rattle.rq_standard.specs.declared.sizes.TheConstants.{P1_TABLE}
 
 -- ---- sizes
 

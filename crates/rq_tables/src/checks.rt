@@ -2,8 +2,8 @@
 ghost use Rattle.std.specs.Prelude.{◌≡◌, ◌<◌, ◌^◌, slice_get};
 ghost use Rattle.rq_standard.specs.TableRows.{row_at, intermediate_symbols, has_size, fits_ldpc, fits_hdpc, fits_pi, first_failing_check};
 
-use rq_standard::numbers::P1_TABLE;
 use rq_standard::row::Row;
+use rq_standard::sizes::P1_TABLE;
 
 // The row that numbers make at a place of a table, which decides its P1.
 pub(crate) fn row_at(place: usize, numbers: &(u32, u32, u32, u32, u32)) -> Row

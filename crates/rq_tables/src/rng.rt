@@ -2,7 +2,7 @@
 ghost use Rattle.std.specs.Prelude.{◌≡◌, ◌<◌};
 ghost use Rattle.rq_standard.specs.Rand.{rand, entry_of};
 
-use rq_standard::numbers::{V0, V1, V2, V3};
+use rq_standard::mixing::{V0, V1, V2, V3};
 
 /// Rand[y, i, m]: a number below `modulus` that depends on `y` and `i` alone otherwise. Sums wrap, as the standard's do.
 pub fn rand(y: u32, i: u32, modulus: u32) -> u32
