@@ -1,0 +1,3 @@
+pub mod Bytes
+pub mod Cutting
+pub mod Refusing

@@ -1,0 +1,4 @@
+pub mod Counts
+pub mod Ends
+pub mod Frames
+pub mod Received
