@@ -2,8 +2,9 @@
 use Rattle.std.proofs.Common.{◌≡◌, ℕ, zero, suc, ◌+◌, ◌-◌, ◌*◌, ◌/◌, ◌%◌, ◌<◌, ◌≤◌, min, List, [], ◌∷◌, ◌++◌, length, take, drop, map, arith, refl, sym, ap, ◌∙◌, subst, ◌⊎◌, inl, inr, append-nil, length-append}
 use Rattle.std.specs.List.{range_with_len, AllByRecursion}
 use Rattle.std.specs.Int.{div_ceil}
+use Rattle.std.proofs.lemmas.Bool.{cases_lt}
 use Rattle.std.proofs.Math.Nat.{add-div_right, add-mod_right, div-eq_of_lt, mod-eq_of_lt, zero-div, zero-mod, zero-mul}
-use Rattle.std.proofs.lemmas.List.{take_at, drop_at, take_all}
+use Rattle.std.proofs.lemmas.List.{take_at, drop_at, take_all, drop_all, drop-drop}
 use Rattle.rq_standard.specs.Packet.{Packet, packet_bytes}
 use Rattle.rq_standard.specs.Streams.{frames_of}
 use Rattle.rq_streams.specs.Frames.{frames_in}
@@ -12,14 +13,27 @@ use Rattle.rq_streams.specs.Frames.{frames_in}
 cut_at : (size : ℕ) (frame rest : List ℕ) → length frame ≡ min size (length (frame ++ rest)) → (take size (frame ++ rest) ≡ frame) × (drop size (frame ++ rest) ≡ rest)
 cut_at size frame [] long =
     let short : length frame ≤ size = omega (arith, long) in
-    (ap (take size) (append-nil frame) ∙ take_all size frame short, ap (drop size) (append-nil frame) ∙ ?)
+    (ap (take size) (append-nil frame) ∙ take_all size frame short, ap (drop size) (append-nil frame) ∙ drop_all size frame short)
 cut_at size frame (y ∷ rest) long =
     let is : length frame ≡ size = omega (arith, long, length-append frame (y ∷ rest)) in
     (take_at frame (y ∷ rest) size is, drop_at frame (y ∷ rest) size is)
 
 -- one part less
 fewer : (n size : ℕ) → 0 < size → 0 < n → div_ceil n size ≡ suc (div_ceil (n - size) size)
-fewer n size positive some = ?
+fewer n size positive some = elim (cases_lt n size) [
+  | inl less ↦
+      let none : n - size ≡ 0 = omega arith in
+      let left : (n - size) / size ≡ 0 = ap (λ m. m / size) none ∙ zero-div size in
+      let over : (n - size) % size ≡ 0 = ap (λ m. m % size) none ∙ zero-mod size in
+      ap (λ q. q + min 1 (n % size)) (div-eq_of_lt less) ∙ ap (λ r. 0 + min 1 r) (mod-eq_of_lt less)
+      ∙ (let one : 0 + min 1 n ≡ suc (0 + min 1 0) = omega arith in one)
+      ∙ sym (ap (λ q. suc (q + min 1 ((n - size) % size))) left ∙ ap (λ r. suc (0 + min 1 r)) over)
+  | inr more ↦
+      let whole : n ≡ (n - size) + size = omega arith in
+      let parts : n / size ≡ (n - size) / size + 1 = ap (λ m. m / size) whole ∙ add-div_right (n - size) positive in
+      let over : n % size ≡ (n - size) % size = ap (λ m. m % size) whole ∙ add-mod_right (n - size) size in
+      ap (λ q. q + min 1 (n % size)) parts ∙ ap (λ r. (n - size) / size + 1 + min 1 r) over ∙ omega arith
+]
 
 shift : (f : ℕ → List ℕ) (a n : ℕ) → map f (range_with_len (a + 1) n) ≡ map (λ i. f (i + 1)) (range_with_len a n)
 shift f a zero = refl
@@ -29,7 +43,9 @@ same_map : (f g : ℕ → List ℕ) (xs : List ℕ) → ((i : ℕ) → f i ≡ g
 same_map f g xs e = λ i. map (λ x. e x i) xs
 
 drop_more : (size i : ℕ) (bytes : List ℕ) → drop ((i + 1) * size) bytes ≡ drop (i * size) (drop size bytes)
-drop_more size i bytes = ?
+drop_more size i bytes =
+    let longer : (i + 1) * size ≡ size + i * size = omega arith in
+    ap (λ m. drop m bytes) longer ∙ sym (drop-drop (i * size) size bytes)
 
 abbrev part : ℕ → List ℕ → ℕ → List ℕ
 part size bytes i = take size (drop (i * size) bytes)

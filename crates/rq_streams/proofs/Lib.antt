@@ -1,3 +1,5 @@
 pub mod Bytes
 pub mod Cutting
 pub mod Refusing
+pub mod Taking
+pub mod Streaming

@@ -4,9 +4,9 @@ ghost use Rattle.std.specs.Io.KnownBytes.{Keeps};
 ghost use Rattle.std.specs.List.{AllByRecursion};
 ghost use Rattle.rq_bytes.specs.Refusals.{Answers};
 ghost use Rattle.rq_standard.specs.Packet.{Packet, packet_of_bytes};
-ghost use Rattle.rq_standard.specs.Configuration.{Configuration};
+ghost use Rattle.rq_standard.specs.Configuration.{Configuration, largest_block};
 ghost use Rattle.rq_standard.specs.Received.{HasSourceSymbols, IsSourcePacket};
-ghost use Rattle.rq_standard.specs.Standing.{Stands};
+ghost use Rattle.rq_standard.specs.Standing.{Stands, IsObjectAnswer};
 ghost use Rattle.rq_standard.specs.Streams.{frames_of};
 ghost use Rattle.rq_standard.specs.TableRows.{greatest_size};
 ghost use Rattle.rq_base.specs.Refused.{checked_configuration};
@@ -33,6 +33,7 @@ fn received_configuration(
     ensures value { result ≡ received_configuration (greatest_size table.now) bytes.now }
     ensures long { OnOk result (12 ≤ length bytes.now) }
     ensures accepted { IfOk result (λ c. checked_configuration (greatest_size table.now) c ≡ Ok tt) }
+    ensures few { IfOk result (λ c. largest_block c < 65536) }
     ensures one { IfOk result IsOneBlock }
 {
     let Some(header) = bytes.first_chunk::<12>() else {
@@ -95,8 +96,10 @@ fn received_object(
     bytes: &[u8],
 ) -> Result<Option<Vec<u8>>, Error>
     ensures refused { AfterRefusal (receive_refusal (greatest_size table.now) bytes.now) (Answers (option_map vec_items) result) }
-    ensures stream { (c : Configuration) (object : List ℕ) (packets : List Packet) → IsStreamOf (greatest_size table.now) c object packets bytes.now
-        → Wants c object packets (Answers (option_map vec_items) result) }
+    ensures answer { IfOk result (λ r. (c : Configuration) (object : List ℕ) (packets : List Packet) → IsStreamOf (greatest_size table.now) c object packets bytes.now
+        → IsObjectAnswer HasSourceSymbols c object packets (option_map vec_items r)) }
+    ensures memory { IfErr result (λ e. (c : Configuration) (object : List ℕ) (packets : List Packet) → IsStreamOf (greatest_size table.now) c object packets bytes.now
+        → e ≡ Error.OutOfMemory) }
 {
     let config = received_configuration(table, bytes)?;
     let mut decoder = Decoder::new(alloc, table, config)?;
