@@ -1,2 +1,3 @@
 pub mod DefaultParameters
 pub mod WalkLaws
+pub mod CallLaws

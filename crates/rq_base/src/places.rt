@@ -1,8 +1,12 @@
 //! The places of an internal symbol id, one after another (RFC 6330, section 5.3.5.3).
-ghost use Rattle.std.specs.Prelude.{◌≡◌, ℕ, ◌+◌, ◌*◌, ◌%◌, ◌<◌, ◌≤◌, List, [], ◌∷◌, MatchOption};
+ghost use Rattle.std.specs.Prelude.{◌≡◌, ℕ, ◌+◌, ◌*◌, ◌%◌, ◌<◌, ◌≤◌, List, [], ◌∷◌, All, MatchOption};
+ghost use Rattle.rq_standard.specs.TableRows.{IsChecked, intermediate_symbols};
+ghost use Rattle.rq_standard.specs.Equations.{row_places};
 ghost use Rattle.rq_standard.specs.Tuple.{IsTuple, places_of};
 ghost use Rattle.rq_base.specs.Walks.{next_below};
 
+use crate::base::intermediate_tuple;
+use rq_standard::row::Row;
 use std::marker::Model;
 
 /// The places that are left of the walk of a tuple. Contracts see it as their list.
@@ -58,6 +62,22 @@ impl Places {
         }
     }
 
+    /// The places of an internal symbol id, over a row of a table.
+    pub fn of_id(row: &Row, internal_symbol_id: u32) -> Places
+        requires { IsChecked row.now }
+        ensures value { result ≡ row_places row.now internal_symbol_id }
+        ensures below { All (λ place. place < intermediate_symbols row.now) result }
+    {
+        let pi_symbols = row.source_symbols + row.ldpc_symbols + row.hdpc_symbols - row.lt_symbols;
+        let tuple = intermediate_tuple(
+            internal_symbol_id,
+            row.lt_symbols,
+            row.systematic_index,
+            row.p1,
+        );
+        Places::new(tuple, row.lt_symbols, pi_symbols, row.p1)
+    }
+
     /// The next place, if one is left.
     pub fn next_place(&mut self) -> Option<usize>
         ensures { MatchOption result ((self.old ≡ []) × (self.new ≡ [])) (λ place. self.old ≡ place ∷ self.new) }
@@ -85,7 +105,11 @@ fn sum_modulo(x: u32, y: u32, modulus: u32) -> u32
     ensures value { result ≡ (x + y) % modulus }
     ensures below { result < modulus }
 {
-    if x < modulus - y { x + y } else { x - (modulus - y) }
+    if x < modulus - y {
+        x + y
+    } else {
+        x - (modulus - y)
+    }
 }
 
 // The first value below P that the walk from a value on reaches. It gets there, since P is at least half of the modulus P1.
@@ -104,3 +128,6 @@ fn next_below(value: u32, step: u32, pi_symbols: u32, p1: u32) -> u32
     }
     value
 }
+
+#[cfg(test)]
+mod tests;

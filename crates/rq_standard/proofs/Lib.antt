@@ -6,6 +6,7 @@ pub mod OneBlock
 pub mod Packed
 pub mod PacketBytes
 pub mod PartSums
+pub mod PlaceLaws
 pub mod PlainCut
 pub mod Powers
 pub mod RowLaws

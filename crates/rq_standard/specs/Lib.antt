@@ -17,5 +17,6 @@ pub mod Rows
 pub mod Standing
 pub mod Streams
 pub mod SymbolRows
+pub mod TableLaws
 pub mod TableRows
 pub mod Tuple

@@ -4,3 +4,4 @@
 pub mod numbers;
 pub mod octets;
 pub mod row;
+pub mod tables;

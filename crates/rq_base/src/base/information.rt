@@ -77,7 +77,9 @@ impl ObjectTransmissionInformation {
         }
         if symbol_size != 0 && source_blocks != 0 {
             let symbols = transfer_length.div_ceil(u64::from(symbol_size));
-            if symbols.div_ceil(u64::from(source_blocks)) > u64::from(MAX_SOURCE_SYMBOLS_PER_BLOCK) {
+            if symbols.div_ceil(u64::from(source_blocks))
+                > u64::from(MAX_SOURCE_SYMBOLS_PER_BLOCK)
+            {
                 return Err(Error::TooManySymbols);
             }
         }

@@ -9,7 +9,8 @@ loop-value-preserved c =
     let step = next_step c.args.pi_symbols c.args.p1 c.args.step c.loop-value.value ends c.loop-value.invariant.within c.loop-value-test.true in
     record {
       within = c.sum_modulo-value.ensures.below;
-      same = ap (λ (y : ℕ). next_below c.args.pi_symbols c.args.p1 c.args.step c.args.p1 y) c.sum_modulo-value.ensures.value ∙ step ∙ c.loop-value.invariant.same }
+      same = ap (λ (y : ℕ). next_below c.args.pi_symbols c.args.p1 c.args.step c.args.p1 y) c.sum_modulo-value.ensures.value ∙ step ∙ c.loop-value.invariant.same;
+    }
 
 pub returns-clause-value : goal.returns-clause-value
 returns-clause-value c = sym (next_here c.args.pi_symbols c.args.p1 c.args.step c.args.p1 c.loop-value.value c.loop-value-test.false) ∙ c.loop-value.invariant.same

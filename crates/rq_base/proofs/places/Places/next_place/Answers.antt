@@ -15,8 +15,8 @@ pub returns-then-self-eq0 : goal.returns-then-self-eq0
 returns-then-self-eq0 c =
     let s = c.self.inside in
     let none : c.args.self.now ≡ [] =
-      sym c.self.view_is
-      ∙ rw (walk-none s.lt_symbols s.lt_step s.lt_place s.lt_left (omega arith), walk_below-none s.pi_symbols s.p1 s.pi_step s.pi_value s.pi_left c.if-self-eq0.true) refl in
+    sym c.self.view_is
+    ∙ rw (walk-none s.lt_symbols s.lt_step s.lt_place s.lt_left (omega arith), walk_below-none s.pi_symbols s.p1 s.pi_step s.pi_value s.pi_left c.if-self-eq0.true) refl in
     (none, none)
 
 pub returns : goal.returns
