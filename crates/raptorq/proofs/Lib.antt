@@ -5,3 +5,4 @@ pub mod Refusals
 pub mod News
 pub mod Lists
 pub mod Encodes
+pub mod Taking

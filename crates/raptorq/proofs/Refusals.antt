@@ -10,7 +10,7 @@ use Rattle.rq_standard.specs.Held.{Held}
 use Rattle.rq_standard.specs.Standing.{IsHeldOf}
 use Rattle.raptorq.specs.Refused.{block_refusal, packet_refusal}
 
-abbrev refused_by : Bool → Bool → Result (Unit {0}) Error
+abbrev pub refused_by : Bool → Bool → Result (Unit {0}) Error
 refused_by b s = cond (not b) (Err UnknownBlock) (cond (not s) (Err WrongPayloadSize) (Ok tt))
 
 first_only : (b : ℕ) → eqb b 0 ≡ ltb b 1

@@ -4,3 +4,4 @@ pub mod OneBlock
 pub mod Refused
 pub mod Objects
 pub mod Encoded
+pub mod Decoding

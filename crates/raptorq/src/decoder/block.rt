@@ -75,6 +75,8 @@ impl SourceBlockDecoder {
     ghost use Rattle.raptorq.specs.OneBlock.{IsOneBlock};
     ghost use Rattle.raptorq.specs.Refused.{checked_block, block_refusal};
     ghost use Rattle.raptorq.specs.Blocks.{held_of};
+    ghost use Rattle.raptorq.specs.Decoding.{DecodesFrom, shown};
+    ghost use Rattle.std.specs.Iterator.{IsFinite};
 
     /// The decoder of the source block with this number, of this length in bytes, that holds nothing yet. It has as many source
     /// symbols as cover the length.
@@ -122,6 +124,24 @@ impl SourceBlockDecoder {
         ensures below { result < 65536 }
     {
         usize::from(self.config.symbol_size())
+    }
+
+    /// Takes packets until one is refused, and answers the block where it is determined.
+    ///
+    /// Refuses, in this order, [`Error::UnknownBlock`] where a packet is of another block, and [`Error::WrongPayloadSize`] where its
+    /// payload hasn't the size of a symbol. The packets before it stay recorded, and the rest isn't taken. The first payload of an
+    /// encoding symbol id is kept.
+    pub fn decode<I: IntoIterator<Item = EncodingPacket>>(
+        &mut self,
+        packets: I,
+    ) -> Result<Option<Vec<u8>>, Error>
+        requires { (it : I.IntoIter) → I.into_iter_gives packets it → I.IntoIter.can_next it × IsFinite (I.IntoIter.remaining it) }
+        ensures { DecodesFrom I.into_iter_gives I.IntoIter.next_gives packets (held_of self.old) (shown vec_items result) (held_of self.new) }
+    {
+        for packet in packets {
+            self.add(packet)?;
+        }
+        self.answer()
     }
 
     /// Tests a packet and records its payload, unless one of its id came before.

@@ -1,0 +1,55 @@
+-- Packets that a block's decoder takes one after another.
+use Rattle.std.proofs.Common.{◌≡◌, ℕ, Bool, cond, eqb, List, [], ◌∷◌, ◌++◌, length, Option, Some, Result, Ok, Err, refl, sym, ap, ◌∙◌, subst, append-nil}
+use Rattle.std.specs.Iterator.{Yields}
+use Rattle.std.specs.Prelude.{fold, option_map, IfOk, IfErr}
+use Rattle.std.specs.List.{AllByRecursion}
+use Rattle.rq_bytes.specs.declared.error.Error.{Error}
+use Rattle.rq_bytes.specs.declared.error.Error.TheVariants.{OutOfMemory}
+use Rattle.rq_bytes.specs.Refusals.{IsRefusal}
+use Rattle.rq_standard.specs.Packet.{Packet}
+use Rattle.rq_standard.specs.Configuration.{Configuration}
+use Rattle.rq_standard.specs.Received.{HasSourceSymbols}
+use Rattle.rq_standard.specs.Held.{Held, recorded, IsBlockAnswer}
+use Rattle.rq_standard.proofs.Standing.{push-all}
+use Rattle.raptorq.specs.Refused.{block_refusal}
+use Rattle.raptorq.specs.Decoding.{all_recorded, AreTaken, Decodes, shown}
+use Rattle.raptorq.proofs.Refusals.{refused_by}
+
+number_kept : (h : Held) (packets : List Packet) → (all_recorded h packets).number ≡ h.number
+number_kept h [] = refl
+number_kept h (p ∷ packets) = number_kept (recorded h p.id.esi p.payload) packets
+
+configuration_kept : (h : Held) (packets : List Packet) → (all_recorded h packets).configuration ≡ h.configuration
+configuration_kept h [] = refl
+configuration_kept h (p ∷ packets) = configuration_kept (recorded h p.id.esi p.payload) packets
+
+-- what is refused stays the same
+pub refusal_kept : (h g : Held) (packets : List Packet) (p : Packet) → g ≡ all_recorded h packets → block_refusal g p ≡ block_refusal h p
+refusal_kept h g packets p is =
+    ap (λ k. block_refusal k p) is ∙ ap (λ n. refused_by (eqb p.id.block n) (eqb (length p.payload) (all_recorded h packets).configuration.symbol_size)) (number_kept h packets)
+    ∙ ap (λ c. refused_by (eqb p.id.block h.number) (eqb (length p.payload) c.symbol_size)) (configuration_kept h packets)
+
+all_recorded-push : (h : Held) (packets : List Packet) (p : Packet) → all_recorded h (packets ++ p ∷ []) ≡ recorded (all_recorded h packets) p.id.esi p.payload
+all_recorded-push h [] p = refl
+all_recorded-push h (x ∷ packets) p = all_recorded-push (recorded h x.id.esi x.payload) packets p
+
+-- one packet more
+pub taken-more : (h g : Held) (packets : List Packet) (p : Packet) → AreTaken h packets → g ≡ all_recorded h packets → block_refusal g p ≡ Ok tt → AreTaken h (packets ++ p ∷ [])
+taken-more h g packets p taken is passed = push-all (λ q. block_refusal h q ≡ Ok tt) packets p taken (sym (refusal_kept h g packets p is) ∙ passed)
+
+pub recorded-more : (h g new : Held) (packets : List Packet) (p : Packet) → g ≡ all_recorded h packets → new ≡ recorded g p.id.esi p.payload → new ≡ all_recorded h (packets ++ p ∷ [])
+recorded-more h g new packets p is one = one ∙ ap (λ k. recorded k p.id.esi p.payload) is ∙ sym (all_recorded-push h packets p)
+
+-- the packet that stops the call
+pub stopped : (h g new : Held) (packets : List Packet) (p : Packet) (e : Error) → AreTaken h packets → g ≡ all_recorded h packets → new ≡ g → IsRefusal e (block_refusal g p) → Decodes h (packets ++ p ∷ []) (Err e) new
+stopped h g new packets p e taken is same refused = (packets, p ∷ [], refl, taken, same ∙ is, (refl, subst (IsRefusal e) (refusal_kept h g packets p is) refused))
+
+-- the answer, or want of memory for it
+pub answered : {V : Type 0} (f : V → List ℕ) (h g : Held) (packets : List Packet) (r : Result (Option V) Error) → AreTaken h packets → g ≡ all_recorded h packets → IfOk r (λ a. IsBlockAnswer HasSourceSymbols g (option_map f a)) → IfErr r (λ e. e ≡ OutOfMemory) → Decodes h packets (shown f r) g
+answered f h g packets (Ok a) taken is ok err = (taken, is, ok)
+answered f h g packets (Err e) taken is ok err = (packets, [], sym (append-nil packets), taken, is, err)
+
+-- an iterator's next item, after those that it gave
+pub Yields-push : {S : Type 0} (steps : S → Option Packet → S → Type 0) (s : S) (packets : List Packet) (t : S) (p : Packet) (u : S) → Yields steps s packets t → steps t (Some p) u → Yields steps s (packets ++ p ∷ []) u
+Yields-push steps s [] t p u gave next = (u, subst (λ k. steps k (Some p) u) (sym gave) next, refl)
+Yields-push steps s (x ∷ packets) t p u gave next = (gave.0, gave.1, Yields-push steps gave.0 packets t p u gave.2 next)
