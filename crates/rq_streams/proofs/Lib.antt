@@ -3,3 +3,4 @@ pub mod Cutting
 pub mod Refusing
 pub mod Taking
 pub mod Streaming
+pub mod Sending

@@ -20,7 +20,8 @@ use Rattle.rq_base.specs.Refused.{checked_configuration, read_packet}
 use Rattle.raptorq.specs.OneBlock.{IsOneBlock}
 use Rattle.raptorq.proofs.Lists.{packet_refusal-source}
 use Rattle.rq_streams.specs.Frames.{frame_size, frames_in, frame_refusal, first_refusal, frames_refusal}
-use Rattle.rq_streams.specs.Received.{one_block_refusal, taken_refusal, taken_configuration, received_configuration, FillsFrame, IsStreamOf, Wants}
+use Rattle.rq_streams.specs.Limits.{one_block_refusal}
+use Rattle.rq_streams.specs.Received.{taken_refusal, taken_configuration, received_configuration, FillsFrame, IsStreamOf, Wants}
 use Rattle.rq_streams.specs.Ends.{Wanted}
 use Rattle.rq_streams.proofs.Cutting.{frames_in-frames_of}
 use Rattle.rq_streams.proofs.Refusing.{frame_refusal-whole, first_refusal-next}

@@ -1,8 +1,8 @@
 -- What a receiver refuses of any bytes, and what it answers over a stream of an object's packets.
-use Rattle.std.specs.Prelude.{◌≡◌, ℕ, List, length, take, drop, Result, Ok, Err, Some, None, if◌then◌else◌, ◌==◌, ◌&&◌, not, nat_lt, nat_le}
+use Rattle.std.specs.Prelude.{◌≡◌, ℕ, List, length, take, drop, Result, Ok, Err, Some, None, if◌then◌else◌, nat_lt}
 use Rattle.std.specs.List.{AllByRecursion}
 use Rattle.rq_bytes.specs.declared.error.Error.{Error}
-use Rattle.rq_bytes.specs.declared.error.Error.TheVariants.{HeaderTooShort, BlockOverTable}
+use Rattle.rq_bytes.specs.declared.error.Error.TheVariants.{HeaderTooShort}
 use Rattle.rq_bytes.specs.Refusals.{and_then}
 use Rattle.rq_standard.specs.Packet.{Packet, IsSymbolId}
 use Rattle.rq_standard.specs.Configuration.{Configuration, IsConfiguration, IsAccepted, configuration_of_bytes}
@@ -12,10 +12,7 @@ use Rattle.rq_base.specs.Refused.{checked_configuration}
 use Rattle.raptorq.specs.OneBlock.{IsOneBlock}
 use Rattle.rq_streams.specs.Ends.{Wanted}
 use Rattle.rq_streams.specs.Frames.{frames_refusal}
-
--- the test of what coders take until they take several blocks
-abbrev pub one_block_refusal : Configuration → Result (Unit {0}) Error
-one_block_refusal c = if c.source_blocks == 1 && nat_le c.sub_blocks 1 && nat_lt 0 c.transfer_length then Ok tt else Err BlockOverTable
+use Rattle.rq_streams.specs.Limits.{one_block_refusal}
 
 -- what is refused of a configuration, over a table whose greatest row has this many symbols
 abbrev pub taken_refusal : ℕ → Configuration → Result (Unit {0}) Error

@@ -18,10 +18,11 @@ ghost use Rattle.rq_streams.specs.Frames.{frame_size, frame_refusal, frames_refu
 ghost use Rattle.rq_streams.specs.Received.{received_configuration, receive_refusal, FillsFrame, IsStreamOf, Wants};
 
 use crate::counted::Counted;
+use crate::limits::check_one_block;
 use crate::run::{Outcome, Stop, finish, read_all};
 use raptorq::error::Error;
 use raptorq::systematic_constants::SystematicTable;
-use raptorq::{Decoder, EncodingPacket, ObjectTransmissionInformation, is_one_block};
+use raptorq::{Decoder, EncodingPacket, ObjectTransmissionInformation};
 use std::alloc::Global;
 use std::io::{Read, Write};
 
@@ -41,9 +42,7 @@ fn received_configuration(
     };
     let config = ObjectTransmissionInformation::deserialize(header);
     config.check(table)?;
-    if !is_one_block(&config) {
-        return Err(Error::BlockOverTable);
-    }
+    check_one_block(&config)?;
     Ok(config)
 }
 

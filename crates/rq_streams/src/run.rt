@@ -30,6 +30,14 @@ pub enum Stop {
     Refused(Error),
 }
 
+impl From<Error> for Stop {
+    ghost from_gives = { λ e s. s ≡ Refused e };
+
+    fn from(refusal: Error) -> Stop {
+        Stop::Refused(refusal)
+    }
+}
+
 impl From<AllocError> for Stop {
     ghost from_gives = { λ _ s. s ≡ Refused OutOfMemory };
 
