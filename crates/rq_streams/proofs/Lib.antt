@@ -4,3 +4,4 @@ pub mod Refusing
 pub mod Taking
 pub mod Streaming
 pub mod Sending
+pub mod Wording
