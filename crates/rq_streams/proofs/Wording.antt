@@ -28,12 +28,12 @@ asks_send words s r size repair is n m Receive = (λ e. absurd (cc e), λ e. abs
 asks_send words s r size repair is n m (Send a b) = (
   λ e. let x : size ≡ a = cc in let y : repair ≡ b = cc in (s, r, is, subst (IsNumber 16 s) x n, subst (IsNumber 32 r) y m),
   λ (t, u, e, k, l).
-    let same : codes "send" ∷ s ∷ r ∷ [] ≡ codes "send" ∷ t ∷ u ∷ [] = sym is ∙ e in
-    let x : s ≡ t = cc in
-    let y : r ≡ u = cc in
-    let first = same_number 16 s t size a n k x in
-    let second = same_number 32 r u repair b m l y in
-    λ i. wanted_job (Send (first i) (second i)),
+      let same : codes "send" ∷ s ∷ r ∷ [] ≡ codes "send" ∷ t ∷ u ∷ [] = sym is ∙ e in
+      let x : s ≡ t = cc in
+      let y : r ≡ u = cc in
+      let first = same_number 16 s t size a n k x in
+      let second = same_number 32 r u repair b m l y in
+      λ i. wanted_job (Send (first i) (second i)),
 )
 
 -- what `parse` read

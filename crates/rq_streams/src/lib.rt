@@ -17,3 +17,6 @@ pub use receive::run_receive;
 pub use run::{Outcome, Stop};
 pub use send::run_send;
 pub use words::job;
+
+#[cfg(test)]
+mod tests;

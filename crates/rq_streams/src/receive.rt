@@ -47,12 +47,7 @@ fn received_configuration(
 }
 
 // A frame into the decoder.
-fn take_frame(
-    alloc: Global,
-    decoder: &mut Decoder,
-    size: usize,
-    frame: &[u8],
-) -> Result<(), Error>
+fn take_frame(alloc: Global, decoder: &mut Decoder, size: usize, frame: &[u8]) -> Result<(), Error>
     requires { size ≡ frame_size (state_of decoder.old).configuration }
     ensures refused { Answers (λ x. x) result (frame_refusal (state_of decoder.old).configuration frame.now) }
     ensures configuration { (state_of decoder.new).configuration ≡ (state_of decoder.old).configuration }

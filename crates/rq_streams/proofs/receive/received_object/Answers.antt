@@ -57,11 +57,11 @@ returns-clause-answer c =
     let rest = take (length bytes - 12) (drop 12 bytes) in
     IfOk-weaker c.get_result.result _ _
     (λ r is k object packets s.
-        let same = same_configuration greatest k c.in_ok-config.config object packets bytes s c.in_ok-config.ensures.value in
-        let here = c.in_ok-decoder.ensures.configuration ∙ same in
-        let few : largest_block k < 65536 = subst (λ d. largest_block d < 65536) same c.in_ok-config.ensures.few in
-        let fill : AllByRecursion (FillsFrame c.in_ok-decoder.decoder.config object) packets = subst (λ d. AllByRecursion (FillsFrame d object) packets) (sym here) (stream_fills greatest k object packets bytes s few) in
-        let start = c.in_ok-decoder.ensures.stands object (s.long ∙ ap (λ d. d.transfer_length) (sym same)) in
-        let end = c.in_ok-take_frames.ensures.stands object packets start fill (take_rest bytes 12 ∙ stream_frames greatest k object packets bytes s) in
-        answer_all k object packets packets [] (state_of c.take_frames.new.decoder) _ (c.in_ok-take_frames.ensures.configuration ∙ here) s.one.one_block s.accepted.size_positive (sym (append-nil packets)) refl end is)
+    let same = same_configuration greatest k c.in_ok-config.config object packets bytes s c.in_ok-config.ensures.value in
+    let here = c.in_ok-decoder.ensures.configuration ∙ same in
+    let few : largest_block k < 65536 = subst (λ d. largest_block d < 65536) same c.in_ok-config.ensures.few in
+    let fill : AllByRecursion (FillsFrame c.in_ok-decoder.decoder.config object) packets = subst (λ d. AllByRecursion (FillsFrame d object) packets) (sym here) (stream_fills greatest k object packets bytes s few) in
+    let start = c.in_ok-decoder.ensures.stands object (s.long ∙ ap (λ d. d.transfer_length) (sym same)) in
+    let end = c.in_ok-take_frames.ensures.stands object packets start fill (take_rest bytes 12 ∙ stream_frames greatest k object packets bytes s) in
+    answer_all k object packets packets [] (state_of c.take_frames.new.decoder) _ (c.in_ok-take_frames.ensures.configuration ∙ here) s.one.one_block s.accepted.size_positive (sym (append-nil packets)) refl end is)
     c.get_result.ensures.value

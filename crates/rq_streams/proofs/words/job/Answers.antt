@@ -18,8 +18,8 @@ returns-in_ok-repair-in-len3 c =
     let repair = c.as_str-in-len3-2.result.now in
     let word : string_bytes c.word-item-then-words-lt4.result ≡ codes "send" = sym c.as_str-then-words-lt4.ensures.value ∙ text_is c.eq-then-words-lt4.result c.as_str-then-words-lt4.result.now (codes "send") c.eq-then-words-lt4.ensures c.if-eq-2.true in
     let spelled : map string_bytes words ≡ codes "send" ∷ size ∷ repair ∷ [] =
-        three_words words c.word-item-then-words-lt4.result c.size-item.result c.repair-item.result long c.word-item-then-words-lt4.is c.size-item.is c.repair-item.is
-        ∙ (λ i. word i ∷ sym c.as_str-in-len3.ensures.value i ∷ sym c.as_str-in-len3-2.ensures.value i ∷ []) in
+    three_words words c.word-item-then-words-lt4.result c.size-item.result c.repair-item.result long c.word-item-then-words-lt4.is c.size-item.is c.repair-item.is
+    ∙ (λ i. word i ∷ sym c.as_str-in-len3.ensures.value i ∷ sym c.as_str-in-len3-2.ensures.value i ∷ []) in
     asks_send (map string_bytes words) size repair c.in_ok-size-in-len3.size c.in_ok-repair-in-len3.repair spelled
     (number_by 16 size c.parse.result c.in_ok-size-in-len3.size c.parse.ensures.value.0 c.in_ok-size-in-len3.ensures.value)
     (number_by 32 repair c.parse-in-len3.result c.in_ok-repair-in-len3.repair c.parse-in-len3.ensures.value.0 c.in_ok-repair-in-len3.ensures.value)
