@@ -2,9 +2,9 @@
 //! standard input, or `rq receive`, with the stream there; the other one comes on standard output.
 #![tactic(auto)]
 
-use rq_streams::{Counted, Job, Outcome, Stop, job, report, run_receive, run_send};
 use raptorq::error::Error;
 use raptorq::systematic_constants::SystematicTable;
+use rq_streams::{Counted, Job, Outcome, Stop, job, report, run_receive, run_send};
 use std::env;
 use std::io::ErrorKind;
 use std::process::ExitCode;
@@ -21,8 +21,8 @@ fn main(rt: HostRuntime) -> ExitCode {
 // The job that the program's words ask for. Words that are no text ask for none.
 fn asked(rt: &HostRuntime) -> Result<Option<Job>, Error> {
     match env::args(rt) {
-        Ok(mut words) => {
-            let _program = words.next();
+        Ok(words) => {
+            let words: Vec<String> = words.skip(1).collect(rt.alloc())?;
             Ok(job(words.as_slice()))
         }
         Err(error) if error.kind() == ErrorKind::OutOfMemory => Err(Error::OutOfMemory),
