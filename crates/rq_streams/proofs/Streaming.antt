@@ -1,17 +1,17 @@
 -- Of a stream of an object's packets nothing is refused.
-use Rattle.std.proofs.Common.{◌≡◌, ℕ, zero, suc, ◌+◌, ◌/◌, ◌%◌, ◌^◌, ◌<◌, ◌≤◌, min, Bool, true, false, cond, ltb, leb, eqb, List, [], ◌∷◌, ◌++◌, length, take, drop, map, Result, Ok, Err, Option, Some, None, refl, sym, ap, ◌∙◌, subst, arith, ◌⊎◌, inl, inr, eq-eqb, length-append}
-use Rattle.std.specs.Prelude.{option_map, IsSome, IfOk, IfErr, not, ◌&&◌}
+use Rattle.std.proofs.Common.{◌≡◌, ℕ, ◌+◌, ◌%◌, ◌<◌, ◌≤◌, false, cond, ltb, eqb, List, [], ◌∷◌, length, take, drop, map, Result, Ok, Err, Option, Some, None, refl, sym, ap, ◌∙◌, arith, inl, eq-eqb, length-append}
+use Rattle.std.specs.Prelude.{option_map, IsSome, IfOk, IfErr}
 use Rattle.std.specs.Int.{div_ceil}
 use Rattle.std.specs.List.{AllByRecursion}
 use Rattle.std.proofs.lemmas.Bool.{lt-ltb, le-ltb, ne_eqb, le-leb}
 use Rattle.std.proofs.lemmas.List.{take_at, drop_at}
 use Rattle.rq_bytes.specs.declared.error.Error.{Error}
 use Rattle.rq_bytes.specs.declared.error.Error.TheVariants.{OutOfMemory, HeaderTooShort, PacketTooShort}
-use Rattle.rq_bytes.specs.Refusals.{Answers, and_then}
-use Rattle.rq_standard.specs.Packet.{Packet, IsSymbolId, packet_bytes, packet_of_bytes}
+use Rattle.rq_bytes.specs.Refusals.{Answers}
+use Rattle.rq_standard.specs.Packet.{Packet, packet_bytes, packet_of_bytes}
 use Rattle.rq_standard.specs.Configuration.{Configuration, IsConfiguration, IsAccepted, largest_block, total_symbols, header_bytes, configuration_of_bytes}
 use Rattle.rq_standard.specs.Cutting.{block_symbols}
-use Rattle.rq_standard.specs.Received.{HasSourceSymbols, IsSourcePacket, IsAnswerable}
+use Rattle.rq_standard.specs.Received.{HasSourceSymbols, IsSourcePacket}
 use Rattle.rq_standard.specs.Standing.{IsObjectAnswer}
 use Rattle.rq_standard.specs.Streams.{frames_of}
 use Rattle.rq_standard.proofs.HeaderBytes.{configuration_of_bytes-header_bytes}
@@ -19,9 +19,9 @@ use Rattle.rq_standard.proofs.OneBlock.{block_symbols-one}
 use Rattle.rq_base.specs.Refused.{checked_configuration, read_packet}
 use Rattle.raptorq.specs.OneBlock.{IsOneBlock}
 use Rattle.raptorq.proofs.Lists.{packet_refusal-source}
-use Rattle.rq_streams.specs.Frames.{frame_size, frames_in, frame_refusal, first_refusal, frames_refusal}
+use Rattle.rq_streams.specs.Frames.{frame_size, frame_refusal, first_refusal, frames_refusal}
 use Rattle.rq_streams.specs.Limits.{one_block_refusal}
-use Rattle.rq_streams.specs.Received.{taken_refusal, taken_configuration, received_configuration, FillsFrame, IsStreamOf, Wants}
+use Rattle.rq_streams.specs.Received.{taken_configuration, received_configuration, FillsFrame, IsStreamOf, Wants}
 use Rattle.rq_streams.specs.Ends.{Wanted}
 use Rattle.rq_streams.proofs.Cutting.{frames_in-frames_of}
 use Rattle.rq_streams.proofs.Refusing.{frame_refusal-whole, first_refusal-next}

@@ -1,8 +1,8 @@
 -- An object's packets, taken frame by frame.
-use Rattle.std.proofs.Common.{◌≡◌, ℕ, suc, ◌+◌, ◌<◌, List, [], ◌∷◌, ◌++◌, length, map, refl, sym, ap, ◌∙◌, subst, arith, append_assoc, append-nil, length-append}
+use Rattle.std.proofs.Common.{◌≡◌, ℕ, List, [], ◌∷◌, ◌++◌, length, map, refl, sym, ap, ◌∙◌, subst, arith, append_assoc, append-nil, length-append}
 use Rattle.std.specs.List.{AllByRecursion}
 use Rattle.std.proofs.lemmas.List.FromFn.{length-map-range_with_len}
-use Rattle.rq_standard.specs.Packet.{Packet, id_bytes, id_of_bytes, packet_bytes, packet_of_bytes}
+use Rattle.rq_standard.specs.Packet.{Packet, id_bytes, packet_bytes, packet_of_bytes}
 use Rattle.rq_standard.specs.Configuration.{Configuration}
 use Rattle.rq_standard.specs.Received.{HasSourceSymbols, IsSourcePacket}
 use Rattle.rq_standard.specs.Standing.{State, Stands}

@@ -1,5 +1,5 @@
 -- What words ask for.
-use Rattle.std.proofs.Common.{◌≡◌, ℕ, zero, suc, ◌+◌, ◌^◌, ◌<◌, List, [], ◌∷◌, length, map, get_or, Option, Some, None, Result, Ok, Err, refl, sym, ap, ◌∙◌, subst, arith, Global, Bool, true}
+use Rattle.std.proofs.Common.{◌≡◌, ℕ, ◌^◌, ◌<◌, List, [], ◌∷◌, length, map, get_or, Option, Some, Result, Ok, Err, refl, sym, ap, ◌∙◌, subst, arith, Global, Bool, true}
 use Rattle.std.specs.Prelude.{codes, string_bytes}
 use Rattle.std.specs.declared.string.String.{String}
 use Rattle.std.specs.Result.{result_ok}

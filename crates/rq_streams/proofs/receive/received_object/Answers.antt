@@ -1,4 +1,4 @@
-use Rattle.std.proofs.Common.{◌≡◌, ◌-◌, ◌<◌, ◌⊎◌, [], take, drop, length, Ok, Err, sym, ap, ◌∙◌, subst, refl, append-nil, vec_items, ℕ, Global}
+use Rattle.std.proofs.Common.{◌≡◌, ◌-◌, ◌<◌, ◌⊎◌, [], take, drop, length, Err, sym, ap, ◌∙◌, subst, refl, append-nil, vec_items, ℕ, Global}
 use Rattle.std.specs.List.{AllByRecursion}
 use Rattle.std.proofs.lemmas.List.{take_rest}
 use Rattle.std.proofs.lemmas.Result.{IfOk-weaker, err_from_is_err_and}

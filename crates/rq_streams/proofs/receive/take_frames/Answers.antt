@@ -1,4 +1,4 @@
-use Rattle.std.proofs.Common.{◌≡◌, ◌+◌, ◌∷◌, [], min, length, Ok, Err, sym, ap, ◌∙◌, subst, arith, refl, ◌⊎◌}
+use Rattle.std.proofs.Common.{◌≡◌, ◌+◌, ◌∷◌, min, length, Ok, Err, sym, ap, ◌∙◌, subst, arith, refl, ◌⊎◌}
 use Rattle.std.specs.Slice.Iter.{chunks_size, chunks_rest}
 use Rattle.std.proofs.lemmas.Result.{err_from_is_err_and}
 use Rattle.rq_bytes.specs.declared.error.Error.TheVariants.{OutOfMemory}

@@ -1,9 +1,8 @@
-use Rattle.std.proofs.Common.{◌≡◌, ◌∷◌, ◌++◌, [], ap, ◌∙◌, sym, arith, append-nil, rules}
+use Rattle.std.proofs.Common.{◌≡◌, ◌∷◌, ap, ◌∙◌, sym, arith, append-nil, rules}
 use Rattle.std.specs.Vec.Iter.{into_iter_items}
 use Rattle.std.proofs.lemmas.List.{nil_from_length}
 use Rattle.raptorq.proofs.Lists.{next_whole}
 use Rattle.rq_standard.specs.Configuration.{header_bytes}
-use Rattle.rq_standard.specs.Streams.{stream_of}
 use Rattle.rq_streams.proofs.Sending.{made, stream_of-push, all_made}
 use Rattle.rq_streams.proofs.send.stream.Goals as goal
 

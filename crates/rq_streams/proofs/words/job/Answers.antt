@@ -1,4 +1,4 @@
-use Rattle.std.proofs.Common.{◌≡◌, ◌∷◌, [], List, ℕ, length, ap, sym, ◌∙◌, arith, map}
+use Rattle.std.proofs.Common.{◌≡◌, ◌∷◌, [], length, ap, sym, ◌∙◌, arith, map}
 use Rattle.std.specs.Prelude.{codes, string_bytes}
 use Rattle.rq_streams.proofs.Wording.{asks_receive, asks_send, number_by, one_word, three_words, text_is}
 use Rattle.rq_streams.proofs.words.job.Goals as goal
