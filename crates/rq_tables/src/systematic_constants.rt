@@ -8,11 +8,9 @@ ghost use Rattle.rq_tables.specs.Tables.{wanted_size, wanted_table, wanted_rows}
 
 use crate::checks::{first_failing_check, row_at};
 use rq_bytes::error::Error;
-pub use rq_standard::numbers::{
-    MAX_SOURCE_SYMBOLS_PER_BLOCK, SYSTEMATIC_INDICES_AND_PARAMETERS,
-};
-pub use rq_standard::sizes::P1_TABLE;
+pub use rq_standard::numbers::{MAX_SOURCE_SYMBOLS_PER_BLOCK, SYSTEMATIC_INDICES_AND_PARAMETERS};
 use rq_standard::row::Row;
+pub use rq_standard::sizes::P1_TABLE;
 use std::alloc::{AllocError, Global};
 use std::marker::Model;
 

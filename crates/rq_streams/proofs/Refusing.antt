@@ -1,0 +1,89 @@
+-- Refusals in their order.
+use Rattle.std.proofs.Common.{◌≡◌, ℕ, ◌<◌, ◌≤◌, Bool, true, false, cond, ltb, List, ◌∷◌, length, drop, Option, Some, None, Result, Ok, Err, refl, sym, ap, ◌∙◌, subst, ◌⊎◌, inl, inr}
+use Rattle.std.specs.Prelude.{option_map, IfErr, IfSome}
+use Rattle.std.proofs.KnownBytes.{Keeps-refl}
+use Rattle.std.proofs.lemmas.Bool.{lt-ltb, le-ltb}
+use Rattle.rq_bytes.specs.declared.error.Error.{Error}
+use Rattle.rq_bytes.specs.declared.error.Error.TheVariants.{OutOfMemory, PacketTooShort, WrongPayloadSize}
+use Rattle.rq_bytes.specs.Refusals.{IsAnswer, Answers, and_then}
+use Rattle.rq_standard.specs.Packet.{Packet, packet_of_bytes}
+use Rattle.rq_standard.specs.Configuration.{Configuration}
+use Rattle.rq_base.specs.Refused.{read_packet}
+use Rattle.raptorq.specs.Refused.{packet_refusal}
+use Rattle.rq_streams.specs.declared.run.Stop.{Stop}
+use Rattle.rq_streams.specs.declared.run.Stop.TheVariants.{Fault, Refused}
+use Rattle.rq_streams.specs.Ends.{Ends, AfterRefusal}
+use Rattle.rq_streams.specs.Frames.{frame_size, frame_refusal, first_refusal, frames_refusal}
+use Rattle.rq_streams.specs.Received.{received_configuration, receive_refusal}
+
+pub answers_of : {X Y : Type 0} (view : X → Y) (r : Result X Error) (wanted : Result Y Error) → IsAnswer view r wanted → Answers view r wanted
+answers_of view (Ok x) wanted h = h
+answers_of view (Err e) (Ok y) h = inl h
+answers_of view (Err e) (Err w) h = inr (ap (λ v. Err v) (sym h))
+
+read_by : (b : Bool) (q p : Packet) → cond b (Err PacketTooShort) (Ok q) ≡ Ok p → (b ≡ false) × (q ≡ p)
+read_by true q p h = absurd (cc h)
+read_by false q p h = (refl, cc)
+
+-- what is read of a frame
+pub read_is : (frame : List ℕ) (p : Packet) → read_packet frame ≡ Ok p → (ltb (length frame) 4 ≡ false) × (packet_of_bytes frame ≡ p)
+read_is frame p h = read_by (ltb (length frame) 4) (packet_of_bytes frame) p h
+
+abbrev refused_by : Bool → Bool → Result (Unit {0}) Error → Result (Unit {0}) Error
+refused_by a b r = cond a (Err PacketTooShort) (cond b (Err WrongPayloadSize) r)
+
+-- of a frame with an id that isn't whole
+pub frame_refusal-short : (c : Configuration) (size : ℕ) (frame : List ℕ) (p : Packet) → read_packet frame ≡ Ok p → size ≡ frame_size c → length frame < size → frame_refusal c frame ≡ Err WrongPayloadSize
+frame_refusal-short c size frame p read is short =
+    let r = packet_refusal c (packet_of_bytes frame) in
+    ap (λ a. refused_by a (ltb (length frame) (frame_size c)) r) (read_is frame p read).0
+    ∙ ap (λ b. refused_by false b r) (lt-ltb (length frame) (frame_size c) (subst (λ n. length frame < n) is short))
+
+-- of a whole frame
+pub frame_refusal-whole : (c : Configuration) (size : ℕ) (frame : List ℕ) (p : Packet) → read_packet frame ≡ Ok p → size ≡ frame_size c → size ≤ length frame → frame_refusal c frame ≡ packet_refusal c p
+frame_refusal-whole c size frame p read is whole =
+    let r = packet_refusal c (packet_of_bytes frame) in
+    ap (λ a. refused_by a (ltb (length frame) (frame_size c)) r) (read_is frame p read).0
+    ∙ ap (λ b. refused_by false b r) (le-ltb (length frame) (frame_size c) (subst (λ n. n ≤ length frame) is whole))
+    ∙ ap (packet_refusal c) (read_is frame p read).1
+
+-- a frame that is taken leaves the refusal to those behind it
+pub first_refusal-next : (c : Configuration) (frame : List ℕ) (frames : List (List ℕ)) (x : Unit {0}) → frame_refusal c frame ≡ Ok x → first_refusal c (frame ∷ frames) ≡ first_refusal c frames
+first_refusal-next c frame frames x taken = ap (λ r. and_then r (λ _. first_refusal c frames)) taken
+
+-- one that isn't ends them
+pub first_refusal-here : (c : Configuration) (frame : List ℕ) (frames : List (List ℕ)) (e : Error) → (e ≡ OutOfMemory) ⊎ (frame_refusal c frame ≡ Err e) → (e ≡ OutOfMemory) ⊎ (first_refusal c (frame ∷ frames) ≡ Err e)
+first_refusal-here c frame frames e (inl h) = inl h
+first_refusal-here c frame frames e (inr h) = inr (ap (λ r. and_then r (λ _. first_refusal c frames)) h)
+
+-- the refusal of a stream whose configuration is taken
+pub receive_refusal-taken : (greatest : ℕ) (c d : Configuration) (bytes rest : List ℕ) → Ok c ≡ received_configuration greatest bytes → d ≡ c → rest ≡ drop 12 bytes → receive_refusal greatest bytes ≡ frames_refusal d rest
+receive_refusal-taken greatest c d bytes rest taken same behind =
+    ap (λ r. and_then r (λ k. frames_refusal k (drop 12 bytes))) (sym taken) ∙ ap (λ k. frames_refusal k (drop 12 bytes)) (sym same) ∙ ap (frames_refusal d) (sym behind)
+
+-- a refusal comes before any answer
+pub refused_after : {V : Type 0} (f : V → List ℕ) (refusal : Result (Unit {0}) Error) (e : Error) → (e ≡ OutOfMemory) ⊎ (refusal ≡ Err e) → AfterRefusal refusal (Answers (option_map f) (Err e))
+refused_after f refusal e (inl h) = (None, inl h)
+refused_after f refusal e (inr h) = (None, inr (ap (λ r. and_then r (λ _. Ok None)) h))
+
+-- and where there is none
+pub answered_after : {V : Type 0} (f : V → List ℕ) (refusal : Result (Unit {0}) Error) (r : Result (Option V) Error) → refusal ≡ Ok tt → IfErr r (λ e. e ≡ OutOfMemory) → AfterRefusal refusal (Answers (option_map f) r)
+answered_after f refusal (Ok o) accepted memory = (option_map f o, ap (λ r. and_then r (λ _. Ok (option_map f o))) accepted)
+answered_after f refusal (Err e) accepted memory = (None, inl memory)
+
+pub memory_only : (refusal : Result (Unit {0}) Error) (e : Error) → refusal ≡ Ok tt → (e ≡ OutOfMemory) ⊎ (refusal ≡ Err e) → e ≡ OutOfMemory
+memory_only refusal e accepted (inl h) = h
+memory_only refusal e accepted (inr h) = absurd (let no : Ok tt ≡ Err e = sym accepted ∙ h in cc no)
+
+-- what a failed read leaves
+pub stopped_after : (refusal : Result (Unit {0}) Error) (stop : Stop) (old : Option (List ℕ)) → (stop ≡ Fault) ⊎ (stop ≡ Refused OutOfMemory) → AfterRefusal refusal (Ends (Err stop) old old)
+stopped_after refusal stop old (inl h) = (None, subst (λ s. Ends (Err s) old old (and_then refusal (λ _. Ok None))) (sym h) (inl (Keeps-refl old)))
+stopped_after refusal stop old (inr h) = (None, subst (λ s. Ends (Err s) old old (and_then refusal (λ _. Ok None))) (sym h) (inl refl, Keeps-refl old))
+
+pub if_some_all : (o : Option (List ℕ)) (P : List ℕ → Type 0) → ((xs : List ℕ) → P xs) → IfSome o P
+if_some_all None P h = tt
+if_some_all (Some xs) P h = h xs
+
+pub if_some_more : (o : Option (List ℕ)) (P Q : List ℕ → Type 0) → ((xs : List ℕ) → P xs → Q xs) → IfSome o P → IfSome o Q
+if_some_more None P Q more h = tt
+if_some_more (Some xs) P Q more h = more xs h

@@ -1,0 +1,67 @@
+use Rattle.std.proofs.Common.{◌≡◌, ◌-◌, ◌<◌, ◌⊎◌, [], take, drop, length, Err, sym, ap, ◌∙◌, subst, refl, append-nil, vec_items, ℕ, Global}
+use Rattle.std.specs.List.{AllByRecursion}
+use Rattle.std.proofs.lemmas.List.{take_rest}
+use Rattle.std.proofs.lemmas.Result.{IfOk-weaker, err_from_is_err_and}
+use Rattle.rq_bytes.specs.declared.error.Error.TheVariants.{OutOfMemory}
+use Rattle.rq_standard.specs.Configuration.{largest_block}
+use Rattle.rq_standard.specs.Streams.{frames_of}
+use Rattle.rq_standard.specs.TableRows.{greatest_size}
+use Rattle.raptorq.specs.Objects.{state_of}
+use Rattle.raptorq.proofs.Lists.{answer_all}
+use Rattle.rq_streams.specs.Frames.{frames_refusal}
+use Rattle.rq_streams.specs.Received.{FillsFrame, receive_refusal}
+use Rattle.rq_streams.proofs.Refusing.{receive_refusal-taken, refused_after, answered_after, memory_only}
+use Rattle.rq_streams.proofs.Streaming.{stream_configuration, stream_frames, stream_fills, frames_unrefused, same_configuration}
+use Rattle.rq_streams.proofs.receive.received_object.Goals as goal
+
+pub returns-in_err-config-clause-memory : goal.returns-in_err-config-clause-memory
+returns-in_err-config-clause-memory c =
+    let p = err_from_is_err_and c.from_residual.result c.from_residual.ensures.1 in
+    rw p.1 (λ k object packets s. absurd (cc (c.in_err-config.ensures.value ∙ stream_configuration (greatest_size c.args.table.now) k object packets c.args.bytes.now s)))
+
+pub returns-in_err-take_frames-clause-refused : goal.returns-in_err-take_frames-clause-refused
+returns-in_err-take_frames-clause-refused c =
+    let bytes = c.args.bytes.now in
+    let e = c.in_err-take_frames.field-0.0 in
+    let rest = take (length bytes - 12) (drop 12 bytes) in
+    let is = receive_refusal-taken (greatest_size c.args.table.now) c.in_ok-config.config c.in_ok-decoder.decoder.config bytes rest c.in_ok-config.ensures.value c.in_ok-decoder.ensures.configuration (take_rest bytes 12) in
+    let p = err_from_is_err_and c.from_residual-in_err-take_frames.result c.from_residual-in_err-take_frames.ensures.1 in
+    rw (p.1, p.2) (refused_after (vec_items {X = ℕ} {Z = Global}) (receive_refusal (greatest_size c.args.table.now) bytes) e (subst (λ r. (e ≡ OutOfMemory) ⊎ (r ≡ Err e)) (sym is) c.in_err-take_frames.ensures.refused))
+
+pub returns-in_err-take_frames-clause-memory : goal.returns-in_err-take_frames-clause-memory
+returns-in_err-take_frames-clause-memory c =
+    let greatest = greatest_size c.args.table.now in
+    let bytes = c.args.bytes.now in
+    let e = c.in_err-take_frames.field-0.0 in
+    let rest = take (length bytes - 12) (drop 12 bytes) in
+    let p = err_from_is_err_and c.from_residual-in_err-take_frames.result c.from_residual-in_err-take_frames.ensures.1 in
+    rw (p.1, p.2) (λ k object packets s.
+    let same = same_configuration greatest k c.in_ok-config.config object packets bytes s c.in_ok-config.ensures.value in
+    let few : largest_block k < 65536 = subst (λ d. largest_block d < 65536) same c.in_ok-config.ensures.few in
+    let behind : rest ≡ frames_of packets = take_rest bytes 12 ∙ stream_frames greatest k object packets bytes s in
+    memory_only (frames_refusal c.in_ok-decoder.decoder.config rest) e
+    (ap (λ d. frames_refusal d rest) (c.in_ok-decoder.ensures.configuration ∙ same) ∙ ap (frames_refusal k) behind ∙ frames_unrefused k object packets (stream_fills greatest k object packets bytes s few))
+    c.in_err-take_frames.ensures.refused)
+
+pub returns-clause-refused : goal.returns-clause-refused
+returns-clause-refused c =
+    let bytes = c.args.bytes.now in
+    let rest = take (length bytes - 12) (drop 12 bytes) in
+    let is = receive_refusal-taken (greatest_size c.args.table.now) c.in_ok-config.config c.in_ok-decoder.decoder.config bytes rest c.in_ok-config.ensures.value c.in_ok-decoder.ensures.configuration (take_rest bytes 12) in
+    answered_after (vec_items {X = ℕ} {Z = Global}) (receive_refusal (greatest_size c.args.table.now) bytes) c.get_result.result (is ∙ c.in_ok-take_frames.ensures.refused) c.get_result.ensures.memory
+
+pub returns-clause-answer : goal.returns-clause-answer
+returns-clause-answer c =
+    let greatest = greatest_size c.args.table.now in
+    let bytes = c.args.bytes.now in
+    let rest = take (length bytes - 12) (drop 12 bytes) in
+    IfOk-weaker c.get_result.result _ _
+    (λ r is k object packets s.
+    let same = same_configuration greatest k c.in_ok-config.config object packets bytes s c.in_ok-config.ensures.value in
+    let here = c.in_ok-decoder.ensures.configuration ∙ same in
+    let few : largest_block k < 65536 = subst (λ d. largest_block d < 65536) same c.in_ok-config.ensures.few in
+    let fill : AllByRecursion (FillsFrame c.in_ok-decoder.decoder.config object) packets = subst (λ d. AllByRecursion (FillsFrame d object) packets) (sym here) (stream_fills greatest k object packets bytes s few) in
+    let start = c.in_ok-decoder.ensures.stands object (s.long ∙ ap (λ d. d.transfer_length) (sym same)) in
+    let end = c.in_ok-take_frames.ensures.stands object packets start fill (take_rest bytes 12 ∙ stream_frames greatest k object packets bytes s) in
+    answer_all k object packets packets [] (state_of c.take_frames.new.decoder) _ (c.in_ok-take_frames.ensures.configuration ∙ here) s.one.one_block s.accepted.size_positive (sym (append-nil packets)) refl end is)
+    c.get_result.ensures.value

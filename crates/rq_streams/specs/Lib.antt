@@ -1,0 +1,7 @@
+pub mod Asked
+pub mod Counts
+pub mod Ends
+pub mod Frames
+pub mod Limits
+pub mod Received
+pub mod Sent

@@ -1,0 +1,51 @@
+-- What a receiver refuses of any bytes, and what it answers over a stream of an object's packets.
+use Rattle.std.specs.Prelude.{◌≡◌, ℕ, List, length, take, drop, Result, Ok, Err, Some, None, if◌then◌else◌, nat_lt}
+use Rattle.std.specs.List.{AllByRecursion}
+use Rattle.rq_bytes.specs.declared.error.Error.{Error}
+use Rattle.rq_bytes.specs.declared.error.Error.TheVariants.{HeaderTooShort}
+use Rattle.rq_bytes.specs.Refusals.{and_then}
+use Rattle.rq_standard.specs.Packet.{Packet, IsSymbolId}
+use Rattle.rq_standard.specs.Configuration.{Configuration, IsConfiguration, IsAccepted, configuration_of_bytes}
+use Rattle.rq_standard.specs.Received.{HasSourceSymbols, IsSourcePacket, IsAnswerable}
+use Rattle.rq_standard.specs.Streams.{stream_of}
+use Rattle.rq_base.specs.Refused.{checked_configuration}
+use Rattle.raptorq.specs.OneBlock.{IsOneBlock}
+use Rattle.rq_streams.specs.Ends.{Wanted}
+use Rattle.rq_streams.specs.Frames.{frames_refusal}
+use Rattle.rq_streams.specs.Limits.{one_block_refusal}
+
+-- what is refused of a configuration, over a table whose greatest row has this many symbols
+abbrev pub taken_refusal : ℕ → Configuration → Result (Unit {0}) Error
+taken_refusal greatest c = and_then (checked_configuration greatest c) (λ _. one_block_refusal c)
+
+abbrev pub taken_configuration : ℕ → Configuration → Result Configuration Error
+taken_configuration greatest c = and_then (taken_refusal greatest c) (λ _. Ok c)
+
+-- the configuration in a stream's header, unless it is refused
+abbrev pub received_configuration : ℕ → List ℕ → Result Configuration Error
+received_configuration greatest bytes =
+    if nat_lt (length bytes) 12 then Err HeaderTooShort
+    else taken_configuration greatest (configuration_of_bytes (take 12 bytes))
+
+-- The first refusal of a stream: of its header, of its configuration, of its frames.
+abbrev pub receive_refusal : ℕ → List ℕ → Result (Unit {0}) Error
+receive_refusal greatest bytes = and_then (received_configuration greatest bytes) (λ c. frames_refusal c (drop 12 bytes))
+
+-- a source packet of the object whose id fits its bytes, so that it fills a frame
+pub record FillsFrame (c : Configuration) (object : List ℕ) (p : Packet) : Type 0 where
+  pub source : IsSourcePacket c object p
+  pub id : IsSymbolId p.id
+
+-- the bytes are a stream of packets of the object, in a configuration that coders take
+pub record IsStreamOf (greatest : ℕ) (c : Configuration) (object : List ℕ) (packets : List Packet) (bytes : List ℕ) : Type 0 where
+  pub fits : IsConfiguration c
+  pub accepted : IsAccepted greatest c
+  pub one : IsOneBlock c
+  pub long : length object ≡ c.transfer_length
+  pub honest : AllByRecursion (IsSourcePacket c object) packets
+  pub spelled : bytes ≡ stream_of c packets
+
+-- P of the object where the packets determine it, and of no output where they don't
+pub record Wants (c : Configuration) (object : List ℕ) (packets : List Packet) (P : Wanted → Type 0) : Type 0 where
+  pub determined : IsAnswerable HasSourceSymbols c packets → P (Ok (Some object))
+  pub undetermined : (IsAnswerable HasSourceSymbols c packets → ⊥) → P (Ok None)

@@ -1,0 +1,22 @@
+//! Objects on streams: an object in and its packets out, packets in and their object out.
+#![tactic(auto)]
+
+mod counted;
+mod ending;
+mod jobs;
+mod limits;
+mod receive;
+mod run;
+mod send;
+mod words;
+
+pub use counted::Counted;
+pub use ending::report;
+pub use jobs::Job;
+pub use receive::run_receive;
+pub use run::{Outcome, Stop};
+pub use send::run_send;
+pub use words::job;
+
+#[cfg(test)]
+mod tests;

@@ -1,0 +1,144 @@
+//! A stream in, its object out.
+ghost use Rattle.std.specs.Prelude.{◌≡◌, ℕ, ◌+◌, ◌^◌, ◌-◌, ◌<◌, ◌≤◌, ◌⊎◌, ◌↔◌, List, [], ◌∷◌, ◌++◌, drop, length, Result, Ok, Err, OnOk, IfOk, IfErr, IfSome, option_map, vec_items};
+ghost use Rattle.std.specs.Io.KnownBytes.{Keeps};
+ghost use Rattle.std.specs.List.{AllByRecursion};
+ghost use Rattle.rq_bytes.specs.Refusals.{Answers};
+ghost use Rattle.rq_standard.specs.Packet.{Packet, packet_of_bytes};
+ghost use Rattle.rq_standard.specs.Configuration.{Configuration, largest_block};
+ghost use Rattle.rq_standard.specs.Received.{HasSourceSymbols, IsSourcePacket};
+ghost use Rattle.rq_standard.specs.Standing.{Stands, IsObjectAnswer};
+ghost use Rattle.rq_standard.specs.Streams.{frames_of};
+ghost use Rattle.rq_standard.specs.TableRows.{greatest_size};
+ghost use Rattle.rq_base.specs.Refused.{checked_configuration};
+ghost use Rattle.raptorq.specs.Objects.{state_of};
+ghost use Rattle.raptorq.specs.OneBlock.{IsOneBlock};
+ghost use Rattle.rq_streams.specs.Counts.{failed_count, counted_inner};
+ghost use Rattle.rq_streams.specs.Ends.{Ends, AfterRefusal, failed_calls};
+ghost use Rattle.rq_streams.specs.Frames.{frame_size, frame_refusal, frames_refusal};
+ghost use Rattle.rq_streams.specs.Received.{received_configuration, receive_refusal, FillsFrame, IsStreamOf, Wants};
+
+use crate::counted::Counted;
+use crate::limits::check_one_block;
+use crate::run::{Outcome, Stop, finish, read_all};
+use raptorq::error::Error;
+use raptorq::systematic_constants::SystematicTable;
+use raptorq::{Decoder, EncodingPacket, ObjectTransmissionInformation};
+use std::alloc::Global;
+use std::io::{Read, Write};
+
+// The configuration in a stream's header, where coders take it.
+fn received_configuration(
+    table: &SystematicTable,
+    bytes: &[u8],
+) -> Result<ObjectTransmissionInformation, Error>
+    ensures value { result ≡ received_configuration (greatest_size table.now) bytes.now }
+    ensures long { OnOk result (12 ≤ length bytes.now) }
+    ensures accepted { IfOk result (λ c. checked_configuration (greatest_size table.now) c ≡ Ok tt) }
+    ensures few { IfOk result (λ c. largest_block c < 65536) }
+    ensures one { IfOk result IsOneBlock }
+{
+    let Some(header) = bytes.first_chunk::<12>() else {
+        return Err(Error::HeaderTooShort);
+    };
+    let config = ObjectTransmissionInformation::deserialize(header);
+    config.check(table)?;
+    check_one_block(&config)?;
+    Ok(config)
+}
+
+// A frame into the decoder.
+fn take_frame(alloc: Global, decoder: &mut Decoder, size: usize, frame: &[u8]) -> Result<(), Error>
+    requires { size ≡ frame_size (state_of decoder.old).configuration }
+    ensures refused { Answers (λ x. x) result (frame_refusal (state_of decoder.old).configuration frame.now) }
+    ensures configuration { (state_of decoder.new).configuration ≡ (state_of decoder.old).configuration }
+    ensures stands { OnOk result ((object : List ℕ) (packets : List Packet) → Stands HasSourceSymbols IsSourcePacket object packets (state_of decoder.old)
+        → IsSourcePacket (state_of decoder.old).configuration object (packet_of_bytes frame.now)
+        → Stands HasSourceSymbols IsSourcePacket object (packets ++ packet_of_bytes frame.now ∷ []) (state_of decoder.new)) }
+{
+    let packet = EncodingPacket::deserialize(alloc, frame)?;
+    if frame.len() < size {
+        return Err(Error::WrongPayloadSize);
+    }
+    decoder.add_new_packet(packet)
+}
+
+// The frames into the decoder, in order. The first refusal ends it.
+fn take_frames(
+    alloc: Global,
+    decoder: &mut Decoder,
+    symbol_size: u16,
+    frames: &[u8],
+) -> Result<(), Error>
+    requires { symbol_size ≡ (state_of decoder.old).configuration.symbol_size }
+    ensures refused { Answers (λ x. x) result (frames_refusal (state_of decoder.old).configuration frames.now) }
+    ensures configuration { (state_of decoder.new).configuration ≡ (state_of decoder.old).configuration }
+    ensures stands { OnOk result ((object : List ℕ) (packets : List Packet) → Stands HasSourceSymbols IsSourcePacket object [] (state_of decoder.old)
+        → AllByRecursion (FillsFrame (state_of decoder.old).configuration object) packets → frames.now ≡ frames_of packets
+        → Stands HasSourceSymbols IsSourcePacket object packets (state_of decoder.new)) }
+{
+    let size = 4 + usize::from(symbol_size);
+    for frame in frames.chunks(size) {
+        take_frame(alloc, decoder, size, frame)?;
+    }
+    Ok(())
+}
+
+// The object of a stream, where its packets determine it.
+fn received_object(
+    alloc: Global,
+    table: &SystematicTable,
+    bytes: &[u8],
+) -> Result<Option<Vec<u8>>, Error>
+    ensures refused { AfterRefusal (receive_refusal (greatest_size table.now) bytes.now) (Answers (option_map vec_items) result) }
+    ensures answer { IfOk result (λ r. (c : Configuration) (object : List ℕ) (packets : List Packet) → IsStreamOf (greatest_size table.now) c object packets bytes.now
+        → IsObjectAnswer HasSourceSymbols c object packets (option_map vec_items r)) }
+    ensures memory { IfErr result (λ e. (c : Configuration) (object : List ℕ) (packets : List Packet) → IsStreamOf (greatest_size table.now) c object packets bytes.now
+        → e ≡ Error.OutOfMemory) }
+{
+    let config = received_configuration(table, bytes)?;
+    let mut decoder = Decoder::new(alloc, table, config)?;
+    take_frames(alloc, &mut decoder, config.symbol_size(), &bytes[12..])?;
+    decoder.get_result()
+}
+
+/// Reads a stream and writes its object: the 12 bytes of a configuration, and then frames of a payload id and a symbol.
+///
+/// Over a stream of an object's source packets, any number of times and in any order, the object is written exactly where each
+/// of its source symbols is among them, and else nothing. So it is for a stream of [`run_send`](crate::run_send) from which
+/// frames were removed, or in which they were repeated or moved.
+///
+/// Refuses, in this order, [`Error::HeaderTooShort`] below 12 bytes, what [`ObjectTransmissionInformation::check`] refuses,
+/// [`Error::BlockOverTable`] for a configuration that isn't of one block, and then the first refusal in the order of the frames:
+/// [`Error::PacketTooShort`] of a last one below 4 bytes, [`Error::WrongPayloadSize`] of another one that isn't whole, and
+/// [`Error::UnknownBlock`]. [`Error::OutOfMemory`] may come before any of them.
+pub fn run_receive<R: Read, W: Write>(
+    alloc: Global,
+    table: &SystematicTable,
+    reader: &mut Counted<R>,
+    writer: &mut Counted<W>,
+) -> Result<Outcome, Stop>
+    requires reads { failed_count reader.old < 2 ^ 64 - 1 }
+    requires writes { failed_count writer.old < 2 ^ 64 - 1 }
+
+    // The first failed call ends the run, and nothing else is a fault.
+    ensures counts { failed_count reader.new + failed_count writer.new
+        ≡ failed_count reader.old + failed_count writer.old + failed_calls result }
+    ensures fault { (result ≡ Err Stop.Fault) ↔ ((failed_count reader.old < failed_count reader.new)
+        ⊎ (failed_count writer.old < failed_count writer.new)) }
+    ensures unread { failed_count reader.old < failed_count reader.new
+        → Keeps (W.contents (counted_inner writer.old)) (W.contents (counted_inner writer.new)) }
+
+    // Whatever is read, what is refused is its first refusal, and then nothing is written.
+    ensures refused { IfSome (R.remaining (counted_inner reader.old)) (λ input. AfterRefusal (receive_refusal (greatest_size table.now) input)
+        (Ends result (W.contents (counted_inner writer.old)) (W.contents (counted_inner writer.new)))) }
+
+    // Of a stream of an object's packets the object, exactly where they determine it.
+    ensures ends { IfSome (R.remaining (counted_inner reader.old)) (λ input. (c : Configuration) (object : List ℕ) (packets : List Packet)
+        → IsStreamOf (greatest_size table.now) c object packets input
+        → Wants c object packets (Ends result (W.contents (counted_inner writer.old)) (W.contents (counted_inner writer.new)))) }
+{
+    match read_all(alloc, reader) {
+        Ok(bytes) => finish(writer, received_object(alloc, table, bytes.as_slice())),
+        Err(stop) => Err(stop),
+    }
+}

@@ -1,0 +1,119 @@
+//! How a run reads its input and writes what it made.
+ghost use Rattle.std.specs.Prelude.{◌≡◌, ◌+◌, ◌^◌, ◌-◌, ◌<◌, ◌≤◌, ◌⊎◌, ℕ, length, take, OnOk, OnErr, IfOk, IfErr, IfSome, Ok, Err, Some, None, option_map, vec_items};
+ghost use Rattle.std.specs.Io.KnownBytes.{Keeps, Appends, Consumes};
+ghost use Rattle.rq_bytes.specs.declared.error.Error.TheVariants.{OutOfMemory};
+ghost use Rattle.rq_bytes.specs.Refusals.{Answers};
+ghost use Rattle.rq_streams.specs.declared.run.Stop.TheVariants.{Fault, Refused};
+ghost use Rattle.rq_streams.specs.Counts.{failed_count, counted_inner};
+ghost use Rattle.rq_streams.specs.Ends.{Ends, Wanted, failed_calls};
+
+use crate::counted::Counted;
+use raptorq::error::Error;
+use std::alloc::{AllocError, Global};
+use std::io::{Read, Write};
+
+/// What a run did that nothing stopped.
+#[derive(Clone, Copy, Debug, PartialEq, Eq)]
+pub enum Outcome {
+    /// The output is written.
+    Written,
+    /// The packets do not determine the object, and nothing is written.
+    Incomplete,
+}
+
+/// What stopped a run.
+#[derive(Clone, Copy, Debug, PartialEq, Eq)]
+pub enum Stop {
+    /// Reading or writing failed. A beginning of the output may be written.
+    Fault,
+    /// The input is refused, or memory is. Nothing is written.
+    Refused(Error),
+}
+
+impl From<Error> for Stop {
+    ghost from_gives = { λ e s. s ≡ Refused e };
+
+    fn from(refusal: Error) -> Stop {
+        Stop::Refused(refusal)
+    }
+}
+
+impl From<AllocError> for Stop {
+    ghost from_gives = { λ _ s. s ≡ Refused OutOfMemory };
+
+    fn from(_refused: AllocError) -> Stop {
+        Stop::Refused(Error::OutOfMemory)
+    }
+}
+
+/// How many bytes are read at once.
+const CHUNK: usize = 4096;
+
+/// All that is left to read. The first failed call ends it with a fault.
+pub(crate) fn read_all<R: Read>(alloc: Global, reader: &mut Counted<R>) -> Result<Vec<u8>, Stop>
+    requires { failed_count reader.old < 2 ^ 64 - 1 }
+    ensures bytes { IfOk result (λ v. IfSome (R.remaining (counted_inner reader.old)) (λ input. v.items ≡ input)) }
+    ensures counts { failed_count reader.new ≡ failed_count reader.old + failed_calls result }
+    ensures err { IfErr result (λ stop. (stop ≡ Stop.Fault) ⊎ (stop ≡ Stop.Refused Error.OutOfMemory)) }
+{
+    let mut bytes = Vec::new(alloc);
+    let mut chunk = [0u8; CHUNK];
+    'reading: loop {
+        match reader.read(&mut chunk) {
+            Ok(n) => {
+                if n == 0 {
+                    return Ok(bytes);
+                }
+                bytes.extend_from_slice(&chunk[..n])?;
+            }
+            Err(_) => return Err(Stop::Fault),
+        }
+    }
+}
+
+// Writes the bytes and flushes once. The first failed call ends it with a fault.
+fn write_out<W: Write>(writer: &mut Counted<W>, bytes: &[u8]) -> Result<(), Stop>
+    requires { failed_count writer.old < 2 ^ 64 - 1 }
+    ensures bytes { OnOk result (Appends (W.contents (counted_inner writer.old)) (W.contents (counted_inner writer.new)) bytes.now) }
+    ensures counts { failed_count writer.new ≡ failed_count writer.old + failed_calls result }
+    ensures err { IfErr result (λ stop. stop ≡ Stop.Fault) }
+    ensures beginning { OnErr result ((n : ℕ)
+        × Appends (W.contents (counted_inner writer.old)) (W.contents (counted_inner writer.new)) (take n bytes.now)) }
+{
+    let mut at = 0;
+    'writing: while at < bytes.len() {
+        match writer.write(&bytes[at..]) {
+            Ok(n) => {
+                if n == 0 {
+                    return Err(Stop::Fault);
+                }
+                at += n;
+            }
+            Err(_) => return Err(Stop::Fault),
+        }
+    }
+    match writer.flush() {
+        Ok(()) => Ok(()),
+        Err(_) => Err(Stop::Fault),
+    }
+}
+
+/// Writes what was made, or answers why nothing was.
+pub(crate) fn finish<W: Write>(
+    writer: &mut Counted<W>,
+    made: Result<Option<Vec<u8>>, Error>,
+) -> Result<Outcome, Stop>
+    requires { failed_count writer.old < 2 ^ 64 - 1 }
+    ensures counts { failed_count writer.new ≡ failed_count writer.old + failed_calls result }
+    ensures ends { (wanted : Wanted) → Answers (option_map vec_items) made wanted
+        → Ends result (W.contents (counted_inner writer.old)) (W.contents (counted_inner writer.new)) wanted }
+{
+    match made {
+        Err(e) => Err(Stop::Refused(e)),
+        Ok(None) => Ok(Outcome::Incomplete),
+        Ok(Some(bytes)) => match write_out(writer, bytes.as_slice()) {
+            Ok(()) => Ok(Outcome::Written),
+            Err(stop) => Err(stop),
+        },
+    }
+}

@@ -1,0 +1,88 @@
+//! An object in, its stream out.
+ghost use Rattle.std.specs.Prelude.{◌≡◌, ◌+◌, ◌^◌, ◌-◌, ◌<◌, ◌⊎◌, ◌↔◌, Result, Ok, Err, IfSome, option_map, vec_items};
+ghost use Rattle.std.specs.Io.KnownBytes.{Keeps};
+ghost use Rattle.rq_bytes.specs.Refusals.{IsAnswer, Answers};
+ghost use Rattle.rq_standard.specs.Streams.{stream_of};
+ghost use Rattle.rq_streams.specs.Counts.{failed_count, counted_inner};
+ghost use Rattle.rq_streams.specs.Ends.{Ends, failed_calls};
+ghost use Rattle.rq_streams.specs.Sent.{sent};
+
+use crate::counted::Counted;
+use crate::limits::{check_one_block, check_repair};
+use crate::run::{Outcome, Stop, finish, read_all};
+use raptorq::error::Error;
+use raptorq::systematic_constants::SystematicTable;
+use raptorq::{Encoder, EncodingPacket, ObjectTransmissionInformation};
+use std::alloc::Global;
+use std::io::{Read, Write};
+
+// The bytes of a stream: of its configuration, and then of its packets.
+fn stream(
+    alloc: Global,
+    config: &ObjectTransmissionInformation,
+    packets: Vec<EncodingPacket>,
+) -> Result<Vec<u8>, Error>
+    ensures { IsAnswer vec_items result (Ok (stream_of config.now packets.items)) }
+{
+    let mut bytes = Vec::from_slice(alloc, &config.serialize())?;
+    for packet in packets {
+        bytes.extend_from_slice(packet.serialize(alloc)?.as_slice())?;
+    }
+    Ok(bytes)
+}
+
+// The stream of an object.
+fn sent_stream(
+    alloc: Global,
+    table: &SystematicTable,
+    object: &[u8],
+    packet_size: u16,
+    repair: u32,
+) -> Result<Option<Vec<u8>>, Error>
+    ensures { Answers (option_map vec_items) result (sent table.now packet_size repair object.now) }
+{
+    let length = object.len() as u64;
+    let config = ObjectTransmissionInformation::with_defaults(table, length, packet_size)?;
+    check_one_block(&config)?;
+    let encoder = Encoder::new(alloc, table, object, config)?;
+    check_repair(repair)?;
+    let packets = encoder.get_encoded_packets(repair)?;
+    Ok(Some(stream(alloc, &config, packets)?))
+}
+
+/// Reads an object and writes its stream: the 12 bytes of its default configuration for packets of at most `packet_size` bytes
+/// of payload, and then its source packets, each with its payload id of 4 bytes, in order.
+///
+/// Refuses, in this order, what [`ObjectTransmissionInformation::with_defaults`] refuses, [`Error::BlockOverTable`] for an object
+/// that isn't of one block, what [`Encoder::new`] refuses, and [`Error::EsiTooLarge`] for any repair packets, which are to come.
+/// [`Error::OutOfMemory`] may come before any of them.
+pub fn run_send<R: Read, W: Write>(
+    alloc: Global,
+    table: &SystematicTable,
+    reader: &mut Counted<R>,
+    writer: &mut Counted<W>,
+    packet_size: u16,
+    repair: u32,
+) -> Result<Outcome, Stop>
+    requires reads { failed_count reader.old < 2 ^ 64 - 1 }
+    requires writes { failed_count writer.old < 2 ^ 64 - 1 }
+
+    // The first failed call ends the run, and nothing else is a fault.
+    ensures counts { failed_count reader.new + failed_count writer.new
+        ≡ failed_count reader.old + failed_count writer.old + failed_calls result }
+    ensures fault { (result ≡ Err Stop.Fault) ↔ ((failed_count reader.old < failed_count reader.new)
+        ⊎ (failed_count writer.old < failed_count writer.new)) }
+    ensures unread { failed_count reader.old < failed_count reader.new
+        → Keeps (W.contents (counted_inner writer.old)) (W.contents (counted_inner writer.new)) }
+
+    ensures ends { IfSome (R.remaining (counted_inner reader.old)) (λ input.
+        Ends result (W.contents (counted_inner writer.old)) (W.contents (counted_inner writer.new)) (sent table.now packet_size repair input)) }
+{
+    match read_all(alloc, reader) {
+        Ok(bytes) => {
+            let made = sent_stream(alloc, table, bytes.as_slice(), packet_size, repair);
+            finish(writer, made)
+        }
+        Err(stop) => Err(stop),
+    }
+}
