@@ -35,26 +35,26 @@ impl Encoder {
 
     /// The encoder of an object, in bytes.
     ///
-    /// Refuses what [`ObjectTransmissionInformation::check`] refuses, and then [`Error::WrongDataLength`] where the object
-    /// hasn't the configuration's length.
+    /// Refuses what [`ObjectTransmissionInformation::check`] refuses, and then
+    /// [`Error::WrongDataLength`] where the object hasn't the configuration's length.
     pub fn new(
         alloc: Global,
         table: &SystematicTable,
-        data: &[u8],
+        object: &[u8],
         config: ObjectTransmissionInformation,
     ) -> Result<Encoder, Error>
         requires { IsOneBlock config }
-        ensures refused { IsAnswer (λ _. tt) result (new_encoder (greatest_size table.now) config (length data.now)) }
-        ensures encoded { IfOk result (λ e. encoded_of e ≡ record { configuration = config; object = data.now }) }
+        ensures refused { IsAnswer (λ _. tt) result (new_encoder (greatest_size table.now) config (length object.now)) }
+        ensures encoded { IfOk result (λ e. encoded_of e ≡ record { configuration = config; object = object.now }) }
     {
         config.check(table)?;
-        if data.len() as u64 != config.transfer_length() {
+        if object.len() as u64 != config.transfer_length() {
             return Err(Error::WrongDataLength);
         }
         let symbols = config
             .transfer_length()
             .div_ceil(u64::from(config.symbol_size()));
-        let block = padded(alloc, &config, data)?;
+        let block = padded(alloc, &config, object)?;
         Ok(Encoder {
             config,
             symbols: symbols as u32,
@@ -70,7 +70,8 @@ impl Encoder {
         self.config
     }
 
-    /// The source packets of each source block, in the order of their encoding symbol ids (RFC 6330, 4.4.2).
+    /// The source packets of each source block, in the order of their encoding symbol ids (RFC
+    /// 6330, 4.4.2).
     pub fn get_encoded_packets(
         &self,
         repair_packets_per_block: u32,
@@ -116,19 +117,19 @@ impl Clone for Encoder {
 fn padded(
     alloc: Global,
     config: &ObjectTransmissionInformation,
-    data: &[u8],
+    object: &[u8],
 ) -> Result<Vec<u8>, Error>
     requires one_block { IsOneBlock config.now }
     requires positive { 0 < config.now.symbol_size }
     requires few { total_symbols config.now ≤ 65535 }
-    requires long { length data.now ≡ config.now.transfer_length }
-    ensures block { IfOk result (λ v. v.items ≡ block_bytes config.now data.now 0) }
+    requires long { length object.now ≡ config.now.transfer_length }
+    ensures block { IfOk result (λ v. v.items ≡ block_bytes config.now object.now 0) }
     ensures memory { IfErr result (λ e. e ≡ Error.OutOfMemory) }
 {
     let size = u64::from(config.symbol_size());
     let whole = config.transfer_length().div_ceil(size) * size;
     let mut block = Vec::with_capacity(alloc, whole as usize)?;
-    block.extend_from_slice(data)?;
+    block.extend_from_slice(object)?;
     block.resize(whole as usize, 0)?;
     Ok(block)
 }

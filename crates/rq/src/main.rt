@@ -1,5 +1,6 @@
-//! The program `rq`: an object as a stream of RaptorQ packets, and back. It is called as `rq send SIZE REPAIR`, with the object on
-//! standard input, or `rq receive`, with the stream there; the other one comes on standard output.
+//! The program `rq`: an object as a stream of RaptorQ packets, and back. It is called as `rq send
+//! SIZE REPAIR`, with the object on standard input, or `rq receive`, with the stream there; the
+//! other one comes on standard output.
 #![tactic(auto)]
 
 use raptorq::error::Error;

@@ -1,4 +1,5 @@
-//! What the definitions mean, and why the laws have their premises, in small systems over the field of two elements.
+//! What the definitions mean, and why the laws have their premises, in small systems over the field
+//! of two elements.
 ghost use Rattle.rq_algebra.specs.Examples.{TriangleIsSolved, TriangleIsDetermined, RepeatedHasNullColumn, RepeatedIsNotDetermined, RowsStack, PlacesAreExchanged, OperationsRun, PlacesAreReadThroughTheOrder, OrdersAreReplaced, SymbolsAreAdded, OneValueIsNotAdded, RepeatsCancel, TurnedIsFound, TriangleIsShown, AddingNeedsTwoRows, ScalingNeedsNonzero, OneEquationIsTooFew, FoundNeedsAsManyEquations, SumNeedsPlacesAndElements};
 
 /// Two equations that are determined, and two that are not.

@@ -1,7 +1,8 @@
 //! The laws of recorded operations.
 ghost use Rattle.rq_algebra.specs.OperationLaws.{NothingFollows, AddAssignExtends, FmaExtends, MulAssignExtends, NullColumnGoesBack, PivotsFindColumn, FoundIsDetermined, OperationsKeepZeros};
 
-/// An operation that does to the values what was done to the rows keeps what the rows say of a column.
+/// An operation that does to the values what was done to the rows keeps what the rows say of a
+/// column.
 pub fn following()
     ensures nothing { NothingFollows }
     ensures add_assign { AddAssignExtends }
@@ -10,7 +11,8 @@ pub fn following()
     ensures back { NullColumnGoesBack }
 {}
 
-/// Pivots in any rows and columns, and an order that maps each column to its pivot's row, find the column.
+/// Pivots in any rows and columns, and an order that maps each column to its pivot's row, find the
+/// column.
 pub fn pivots()
     ensures find { PivotsFindColumn }
     ensures determine { FoundIsDetermined }

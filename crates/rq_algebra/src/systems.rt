@@ -18,7 +18,8 @@ pub fn elementary_operations()
     ensures exchange { ExchangeIsAnOrder }
 {}
 
-/// A determined system stays determined when equations are added, repeated or reordered, and has at most one solution.
+/// A determined system stays determined when equations are added, repeated or reordered, and has at
+/// most one solution.
 pub fn determined()
     ensures stays { DeterminedStays }
     ensures by_ids { DeterminedByIds }

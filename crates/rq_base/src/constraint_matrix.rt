@@ -6,7 +6,9 @@ ghost use Rattle.rq_base.specs.Calls.{CallableAlong};
 
 use crate::places::Places;
 
-/// Calls `f` with each place of a tuple (d, a, b, d1, a1, b1) in order, over a row of the table with W `lt_symbols`, P `pi_symbols` and P1 `p1`: the places of the intermediate symbols whose sum is the encoding symbol. A place may come twice; it then cancels in the sum.
+/// Calls `f` with each place of a tuple (d, a, b, d1, a1, b1) in order, over a row of the table
+/// with W `lt_symbols`, P `pi_symbols` and P1 `p1`: the places of the intermediate symbols whose
+/// sum is the encoding symbol. A place may come twice; it then cancels in the sum.
 pub fn enc_indices<F: FnMut(usize)>(
     source_tuple: (u32, u32, u32, u32, u32, u32),
     lt_symbols: u32,

@@ -35,7 +35,8 @@ impl Model for Places {
 }
 
 impl Places {
-    /// The walk of a tuple (d, a, b, d1, a1, b1), over a row of the table with W `lt_symbols`, P `pi_symbols` and P1 `p1`.
+    /// The walk of a tuple (d, a, b, d1, a1, b1), over a row of the table with W `lt_symbols`, P
+    /// `pi_symbols` and P1 `p1`.
     pub fn new(
         source_tuple: (u32, u32, u32, u32, u32, u32),
         lt_symbols: u32,
@@ -112,7 +113,8 @@ fn sum_modulo(x: u32, y: u32, modulus: u32) -> u32
     }
 }
 
-// The first value below P that the walk from a value on reaches. It gets there, since P is at least half of the modulus P1.
+// The first value below P that the walk from a value on reaches. It gets there, since P is at least
+// half of the modulus P1.
 fn next_below(value: u32, step: u32, pi_symbols: u32, p1: u32) -> u32
     requires value { value < p1 }
     requires some_step { 1 ≤ step }

@@ -62,7 +62,8 @@ pub enum Error {
     /// The object would need more than 255 source blocks.
     #[error("TooManyBlocks")]
     TooManyBlocks,
-    /// A row that was handed in for the table fails a check: the row's place, from 0, and the number of its first failing check, from 1.
+    /// A row that was handed in for the table fails a check: the row's place, from 0, and the
+    /// number of its first failing check, from 1.
     #[error("RowRefused")]
     RowRefused { place: usize, check: u8 },
     /// The solver has run already.

@@ -9,8 +9,9 @@ use crate::products::product;
 use std::marker::Model;
 use std::ops::{Add, AddAssign, Div, Mul, Sub};
 
-/// An element of the field of 256 elements: a polynomial of degree below 8 over two elements, taken modulo
-/// x^8 + x^4 + x^3 + x^2 + 1 (RFC 6330, section 5.7). Contracts see it as a number below 256.
+/// An element of the field of 256 elements: a polynomial of degree below 8 over two elements, taken
+/// modulo x^8 + x^4 + x^3 + x^2 + 1 (RFC 6330, section 5.7). Contracts see it as a number below
+/// 256.
 #[derive(Clone, Debug, PartialEq, Eq, PartialOrd, Ord, Hash, Drop)]
 pub struct Octet {
     value: u8,
@@ -186,7 +187,8 @@ pub fn octet_mul_table(table: &mut [[u8; 256]; 256])
     }
 }
 
-/// Fills a table with the products of all octets and the upper half bytes: row i has i times 16 * (j mod 16) at place j.
+/// Fills a table with the products of all octets and the upper half bytes: row i has i times 16 *
+/// (j mod 16) at place j.
 pub fn octet_mul_hi_bits(table: &mut [[u8; 32]; 256])
     ensures { IsTable 256 32 (λ i j. octet_mul i (j % 16 * 16)) table.new }
 {
@@ -195,7 +197,8 @@ pub fn octet_mul_hi_bits(table: &mut [[u8; 32]; 256])
     }
 }
 
-/// Fills a table with the products of all octets and the lower half bytes: row i has i times (j mod 16) at place j.
+/// Fills a table with the products of all octets and the lower half bytes: row i has i times (j mod
+/// 16) at place j.
 pub fn octet_mul_low_bits(table: &mut [[u8; 32]; 256])
     ensures { IsTable 256 32 (λ i j. octet_mul i (j % 16)) table.new }
 {

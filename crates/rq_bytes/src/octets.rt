@@ -12,7 +12,8 @@ const LANES: usize = 32;
 
 const WORD_BITS: usize = 64;
 
-/// A row of octets each of which is 0 or 1, packed in words. Contracts see it as the list of these octets.
+/// A row of octets each of which is 0 or 1, packed in words. Contracts see it as the list of these
+/// octets.
 #[derive(Drop)]
 pub struct BinaryOctetVec {
     elements: Vec<u64>,
@@ -32,8 +33,8 @@ impl Model for BinaryOctetVec {
 }
 
 impl BinaryOctetVec {
-    /// A row of `len` elements in as many words as it needs: element i stands at bit `padding_bits` + i, counted
-    /// from the lowest bit of the first word. The bits below are ignored.
+    /// A row of `len` elements in as many words as it needs: element i stands at bit `padding_bits`
+    /// + i, counted from the lowest bit of the first word. The bits below are ignored.
     pub fn new(elements: Vec<u64>, len: usize) -> Self
         requires { padding_of len + len ≡ 64 * vec_len elements }
         ensures bits { result ≡ packed_bits elements.items len }

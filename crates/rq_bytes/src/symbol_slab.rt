@@ -16,8 +16,8 @@ use crate::util::get_both_ranges;
 use std::alloc::{AllocError, Global};
 use std::marker::Model;
 
-/// Symbols of one size in one buffer. An order may be set, and place i then means the symbol at the order's i-th entry.
-/// Contracts see the symbols, their size and the order.
+/// Symbols of one size in one buffer. An order may be set, and place i then means the symbol at the
+/// order's i-th entry. Contracts see the symbols, their size and the order.
 #[derive(Debug, Drop)]
 pub struct SymbolSlab {
     data: Vec<u8>,

@@ -21,7 +21,8 @@ pub fn get_both_indices<T>(vector: &mut [T], i: usize, j: usize) -> (&mut T, &mu
     }
 }
 
-/// Lends the `len` elements from each of two places on for writing. The two ranges have no place in common.
+/// Lends the `len` elements from each of two places on for writing. The two ranges have no place in
+/// common.
 pub fn get_both_ranges<T>(vector: &mut [T], i: usize, j: usize, len: usize) -> (&mut [T], &mut [T])
     requires apart { (i + len ≤ j) ⊎ (j + len ≤ i) }
     requires first { i + len ≤ length vector.old }

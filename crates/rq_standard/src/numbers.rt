@@ -1,6 +1,8 @@
-//! Numbers of RFC 6330: the built-in rows of its table, the greatest size of a block, and the degrees.
+//! Numbers of RFC 6330: the built-in rows of its table, the greatest size of a block, and the
+//! degrees.
 
-/// The rows of the table that are built in, as (K', J, S, H, W): the first 74 rows of section 5.6, in their order.
+/// The rows of the table that are built in, as (K', J, S, H, W): the first 74 rows of section 5.6,
+/// in their order.
 pub const SYSTEMATIC_INDICES_AND_PARAMETERS: [(u32, u32, u32, u32, u32); 74] = [
     (10, 254, 7, 10, 17),
     (12, 630, 7, 10, 19),
@@ -81,7 +83,8 @@ pub const SYSTEMATIC_INDICES_AND_PARAMETERS: [(u32, u32, u32, u32, u32); 74] = [
 /// The greatest size of a source block, in symbols.
 pub const MAX_SOURCE_SYMBOLS_PER_BLOCK: u32 = 56403;
 
-/// The degree d of a tuple is the one for which v lies from entry d-1 on and below entry d (section 5.3.5.2).
+/// The degree d of a tuple is the one for which v lies from entry d-1 on and below entry d (section
+/// 5.3.5.2).
 pub const DEGREE_STARTS: [u32; 31] = [
     0, 5243, 529531, 704294, 791675, 844104, 879057, 904023, 922747, 937311, 948962, 958494,
     966438, 973160, 978921, 983914, 988283, 992138, 995565, 998631, 1001391, 1003887, 1006157,

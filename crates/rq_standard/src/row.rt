@@ -1,6 +1,7 @@
 //! A row of the table of systematic indices and parameters.
 
-/// A row of the table of section 5.6 of RFC 6330: the numbers of a source block of `source_symbols` symbols, padding included.
+/// A row of the table of section 5.6 of RFC 6330: the numbers of a source block of `source_symbols`
+/// symbols, padding included.
 #[derive(Clone, Copy, Debug, PartialEq, Eq)]
 pub struct Row {
     /// K': the number of source symbols, padding included.

@@ -8,7 +8,8 @@ pub fn rows()
     ensures look_ups { LookUpsAreChecked }
 {}
 
-/// In a checked row, an LT symbol has three different LDPC equations, and each place of an internal symbol id is below L.
+/// In a checked row, an LT symbol has three different LDPC equations, and each place of an internal
+/// symbol id is below L.
 pub fn places()
     ensures ldpc { LdpcPlacesAreThree }
     ensures below { PlacesAreBelow }

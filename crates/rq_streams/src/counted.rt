@@ -6,8 +6,8 @@ ghost use Rattle.std.specs.Io.KnownBytes.{Keeps, ReadConsumes, WriteAppends};
 use std::io;
 use std::io::{Read, Write};
 
-/// A reader or a writer, and how many of its calls failed. A call that was interrupted has failed, and so has a write that took
-/// none of some bytes.
+/// A reader or a writer, and how many of its calls failed. A call that was interrupted has failed,
+/// and so has a write that took none of some bytes.
 #[derive(Drop)]
 pub struct Counted<T> {
     inner: T,

@@ -6,8 +6,8 @@ ghost use Rattle.rq_streams.specs.Asked.{status_of};
 use crate::run::{Outcome, Stop};
 use std::io::Write;
 
-/// Writes the line that says how a run ended, where there is one, and answers the program's status. `None` is for words that
-/// ask for no job. A failed write is ignored.
+/// Writes the line that says how a run ended, where there is one, and answers the program's status.
+/// `None` is for words that ask for no job. A failed write is ignored.
 pub fn report<W: Write>(ended: Option<&Result<Outcome, Stop>>, out: &mut W) -> u8
     ensures { result ≡ status_of (option_copied ended.entry) }
 {

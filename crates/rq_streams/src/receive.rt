@@ -101,16 +101,20 @@ fn received_object(
     decoder.get_result()
 }
 
-/// Reads a stream and writes its object: the 12 bytes of a configuration, and then frames of a payload id and a symbol.
+/// Reads a stream and writes its object: the 12 bytes of a configuration, and then frames of a
+/// payload id and a symbol.
 ///
-/// Over a stream of an object's source packets, any number of times and in any order, the object is written exactly where each
-/// of its source symbols is among them, and else nothing. So it is for a stream of [`run_send`](crate::run_send) from which
-/// frames were removed, or in which they were repeated or moved.
+/// Over a stream of an object's source packets, any number of times and in any order, the object is
+/// written exactly where each of its source symbols is among them, and else nothing. So it is for a
+/// stream of [`run_send`](crate::run_send) from which frames were removed, or in which they were
+/// repeated or moved.
 ///
-/// Refuses, in this order, [`Error::HeaderTooShort`] below 12 bytes, what [`ObjectTransmissionInformation::check`] refuses,
-/// [`Error::BlockOverTable`] for a configuration that isn't of one block, and then the first refusal in the order of the frames:
-/// [`Error::PacketTooShort`] of a last one below 4 bytes, [`Error::WrongPayloadSize`] of another one that isn't whole, and
-/// [`Error::UnknownBlock`]. [`Error::OutOfMemory`] may come before any of them.
+/// Refuses, in this order, [`Error::HeaderTooShort`] below 12 bytes, what
+/// [`ObjectTransmissionInformation::check`] refuses, [`Error::BlockOverTable`] for a configuration
+/// that isn't of one block, and then the first refusal in the order of the frames:
+/// [`Error::PacketTooShort`] of a last one below 4 bytes, [`Error::WrongPayloadSize`] of another
+/// one that isn't whole, and [`Error::UnknownBlock`]. [`Error::OutOfMemory`] may come before any of
+/// them.
 pub fn run_receive<R: Read, W: Write>(
     alloc: Global,
     table: &SystematicTable,

@@ -50,12 +50,14 @@ fn sent_stream(
     Ok(Some(stream(alloc, &config, packets)?))
 }
 
-/// Reads an object and writes its stream: the 12 bytes of its default configuration for packets of at most `packet_size` bytes
-/// of payload, and then its source packets, each with its payload id of 4 bytes, in order.
+/// Reads an object and writes its stream: the 12 bytes of its default configuration for packets of
+/// at most `packet_size` bytes of payload, and then its source packets, each with its payload id of
+/// 4 bytes, in order.
 ///
-/// Refuses, in this order, what [`ObjectTransmissionInformation::with_defaults`] refuses, [`Error::BlockOverTable`] for an object
-/// that isn't of one block, what [`Encoder::new`] refuses, and [`Error::EsiTooLarge`] for any repair packets, which are to come.
-/// [`Error::OutOfMemory`] may come before any of them.
+/// Refuses, in this order, what [`ObjectTransmissionInformation::with_defaults`] refuses,
+/// [`Error::BlockOverTable`] for an object that isn't of one block, what [`Encoder::new`] refuses,
+/// and [`Error::EsiTooLarge`] for any repair packets, which are to come. [`Error::OutOfMemory`] may
+/// come before any of them.
 pub fn run_send<R: Read, W: Write>(
     alloc: Global,
     table: &SystematicTable,

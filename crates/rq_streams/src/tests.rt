@@ -168,7 +168,8 @@ fn receives(rt: HostRuntime) -> Result<(), Fail> {
 
 #[test]
 fn faults(rt: HostRuntime) -> Result<(), Fail> {
-    // Whether the first read is interrupted, how many bytes are taken, whether the flush passes, and what is written.
+    // Whether the first read is interrupted, how many bytes are taken, whether the flush passes,
+    // and what is written.
     let cases: [(bool, usize, bool, &[u8]); 4] = [
         (true, 32, true, &[]),
         (false, 0, true, &[]),

@@ -5,7 +5,8 @@ ghost use Rattle.rq_streams.specs.Asked.{AsksFor};
 
 use crate::jobs::Job;
 
-/// The job that the words after the program's name ask for: `send SIZE REPAIR`, of a u16 and a u32, or `receive`.
+/// The job that the words after the program's name ask for: `send SIZE REPAIR`, of a u16 and a u32,
+/// or `receive`.
 pub fn job(words: &[String]) -> Option<Job>
     ensures { (wanted : Job) → (result ≡ Some wanted) ↔ AsksFor wanted (map string_bytes words.now) }
 {

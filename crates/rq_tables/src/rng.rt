@@ -4,7 +4,8 @@ ghost use Rattle.rq_standard.specs.Rand.{rand, entry_of};
 
 use rq_standard::mixing::{V0, V1, V2, V3};
 
-/// Rand[y, i, m]: a number below `modulus` that depends on `y` and `i` alone otherwise. Sums wrap, as the standard's do.
+/// Rand[y, i, m]: a number below `modulus` that depends on `y` and `i` alone otherwise. Sums wrap,
+/// as the standard's do.
 pub fn rand(y: u32, i: u32, modulus: u32) -> u32
     requires { 0 < modulus }
     ensures value { result ≡ rand y i modulus }

@@ -14,7 +14,8 @@ pub use rq_standard::sizes::P1_TABLE;
 use std::alloc::{AllocError, Global};
 use std::marker::Model;
 
-/// The least size of a source block, in symbols, that holds `source_symbols` symbols: the number K' of its source and padding symbols.
+/// The least size of a source block, in symbols, that holds `source_symbols` symbols: the number K'
+/// of its source and padding symbols.
 ///
 /// Refuses `TooManySymbols` past 56403 symbols.
 pub fn extended_source_block_symbols(source_symbols: u32) -> Result<u32, Error>
@@ -35,7 +36,8 @@ fn first_size(least: u32, sizes: &[(u32, u32)]) -> Option<u32>
     None
 }
 
-/// A table of rows that pass the seven checks of a row, the 74 built-in ones first. Contracts see it as the list of its rows.
+/// A table of rows that pass the seven checks of a row, the 74 built-in ones first. Contracts see
+/// it as the list of its rows.
 #[derive(Debug, Drop)]
 pub struct SystematicTable {
     rows: Vec<Row>,
@@ -61,8 +63,10 @@ impl SystematicTable {
 
     /// The table of the built-in rows and further ones, handed in as (K', J, S, H, W).
     ///
-    /// Refuses `RowRefused` with the place, from 0, of the first row that fails a check, and the number of its first failing check:
-    /// 1. K' is the size in `P1_TABLE` that follows the size of the row before; P1 is the one beside it.
+    /// Refuses `RowRefused` with the place, from 0, of the first row that fails a check, and the
+    /// number of its first failing check:
+    /// 1. K' is the size in `P1_TABLE` that follows the size of the row before; P1 is the one
+    ///    beside it.
     /// 2. S is odd.
     /// 3. B = W - S is at least 1, at most S*(S-1) and at most K'.
     /// 4. H is at least 2, at most K' and at most 255.
@@ -94,7 +98,8 @@ impl SystematicTable {
         }
     }
 
-    /// The greatest number of source symbols of a block that is at most `limit`, or 0 where no row is that small.
+    /// The greatest number of source symbols of a block that is at most `limit`, or 0 where no row
+    /// is that small.
     pub fn greatest_within(&self, limit: u64) -> u32
         ensures { result ≡ greatest_within limit self.now }
     {
@@ -107,7 +112,8 @@ impl SystematicTable {
         greatest
     }
 
-    /// The row of a block of `source_symbols` symbols: the first whose size is at least that. A block of no symbols has the row of 10.
+    /// The row of a block of `source_symbols` symbols: the first whose size is at least that. A
+    /// block of no symbols has the row of 10.
     pub fn row(&self, source_symbols: u32) -> Row
         requires { source_symbols ≤ greatest_size self.now }
         ensures row { result ≡ row_of self.now source_symbols }

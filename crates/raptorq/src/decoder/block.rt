@@ -78,12 +78,13 @@ impl SourceBlockDecoder {
     ghost use Rattle.raptorq.specs.Decoding.{DecodesFrom, shown};
     ghost use Rattle.std.specs.Iterator.{IsFinite};
 
-    /// The decoder of the source block with this number, of this length in bytes, that holds nothing yet. It has as many source
-    /// symbols as cover the length.
+    /// The decoder of the source block with this number, of this length in bytes, that holds
+    /// nothing yet. It has as many source symbols as cover the length.
     ///
-    /// Refuses, in this order, [`Error::SymbolSizeZero`], [`Error::AlignmentZero`], [`Error::Misaligned`] where the alignment
-    /// doesn't divide the symbol size, and [`Error::BlockOverTable`] where the block would have more source symbols than the
-    /// table's greatest row.
+    /// Refuses, in this order, [`Error::SymbolSizeZero`], [`Error::AlignmentZero`],
+    /// [`Error::Misaligned`] where the alignment doesn't divide the symbol size, and
+    /// [`Error::BlockOverTable`] where the block would have more source symbols than the table's
+    /// greatest row.
     pub fn new(
         alloc: Global,
         table: &SystematicTable,
@@ -128,9 +129,10 @@ impl SourceBlockDecoder {
 
     /// Takes packets until one is refused, and answers the block where it is determined.
     ///
-    /// Refuses, in this order, [`Error::UnknownBlock`] where a packet is of another block, and [`Error::WrongPayloadSize`] where its
-    /// payload hasn't the size of a symbol. The packets before it stay recorded, and the rest isn't taken. The first payload of an
-    /// encoding symbol id is kept.
+    /// Refuses, in this order, [`Error::UnknownBlock`] where a packet is of another block, and
+    /// [`Error::WrongPayloadSize`] where its payload hasn't the size of a symbol. The packets
+    /// before it stay recorded, and the rest isn't taken. The first payload of an encoding symbol
+    /// id is kept.
     pub fn decode<I: IntoIterator<Item = EncodingPacket>>(
         &mut self,
         packets: I,

@@ -82,8 +82,8 @@ impl Decoder {
 
     /// Takes a packet, and answers its block where that is determined.
     ///
-    /// Refuses, in this order, [`Error::UnknownBlock`] where the packet's block is none of the object's, and
-    /// [`Error::WrongPayloadSize`] where its payload hasn't the size of a symbol.
+    /// Refuses, in this order, [`Error::UnknownBlock`] where the packet's block is none of the
+    /// object's, and [`Error::WrongPayloadSize`] where its payload hasn't the size of a symbol.
     pub fn add_new_packet(&mut self, packet: EncodingPacket) -> Result<(), Error>
         ensures refused { IsAnswer (λ x. x) result (packet_refusal (state_of self.old).configuration packet) }
         ensures unchanged { IfErr result (λ e. e ≢ Error.OutOfMemory → state_of self.new ≡ state_of self.old) }
@@ -148,7 +148,8 @@ impl Clone for Decoder {
 
 /// What a decoder answers after a list of packets.
 ///
-/// Refuses what [`Decoder::new`] refuses, and then as [`Decoder::decode`] does, the first refused packet deciding.
+/// Refuses what [`Decoder::new`] refuses, and then as [`Decoder::decode`] does, the first refused
+/// packet deciding.
 pub fn decode_all(
     alloc: Global,
     table: &SystematicTable,
@@ -161,7 +162,8 @@ pub fn decode_all(
     ensures refused { IfErr result (λ e. (object : List ℕ) → length object ≡ config.transfer_length → AllByRecursion (IsSourcePacket config object) packets.items
         → IsRefusal e (checked_configuration (greatest_size table.now) config)) }
 
-    // Over packets of an object, any number of times and in any order, the object exactly where each source symbol is among them.
+    // Over packets of an object, any number of times and in any order, the object exactly where
+    // each source symbol is among them.
     ensures headline { IfOk result (λ r. (object : List ℕ) → length object ≡ config.transfer_length → AllByRecursion (IsSourcePacket config object) packets.items
         → IsObjectAnswer HasSourceSymbols config object packets.items (option_map vec_items r)) }
 {

@@ -2,8 +2,8 @@
 ghost use Rattle.std.specs.Prelude.{◌≡◌, ◌+◌, ◌*◌, ◌<◌, ◌≤◌};
 ghost use Rattle.rq_standard.specs.Partition.{parts_of};
 
-/// Cuts `i` things into `j` parts (RFC 6330, 4.4.1.2): answers the size of the larger parts, the size of the smaller
-/// ones, how many larger ones there are and how many smaller ones.
+/// Cuts `i` things into `j` parts (RFC 6330, 4.4.1.2): answers the size of the larger parts, the
+/// size of the smaller ones, how many larger ones there are and how many smaller ones.
 pub fn partition(i: u32, j: u32) -> (u32, u32, u32, u32)
     requires { 0 < j }
     ensures value { let p = parts_of i j in result ≡ (p.larger, p.smaller, p.larger_count, p.smaller_count) }

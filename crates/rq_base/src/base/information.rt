@@ -45,12 +45,13 @@ impl Model for ObjectTransmissionInformation {
 impl ObjectTransmissionInformation {
     ghost use Rattle.rq_base.specs.Refused.{new_configuration, checked_configuration};
 
-    /// A configuration: the transfer length in bytes, the symbol size in bytes, the number of source blocks, the number of
-    /// sub-blocks (0 is read as 1) and the symbol alignment in bytes.
+    /// A configuration: the transfer length in bytes, the symbol size in bytes, the number of
+    /// source blocks, the number of sub-blocks (0 is read as 1) and the symbol alignment in bytes.
     ///
-    /// Refuses, in this order, [`Error::TransferTooLong`] above 942574504275 bytes, [`Error::AlignmentZero`],
-    /// [`Error::Misaligned`] where the alignment doesn't divide the symbol size, and [`Error::TooManySymbols`] where a
-    /// block would have more than 56403 source symbols.
+    /// Refuses, in this order, [`Error::TransferTooLong`] above 942574504275 bytes,
+    /// [`Error::AlignmentZero`], [`Error::Misaligned`] where the alignment doesn't divide the
+    /// symbol size, and [`Error::TooManySymbols`] where a block would have more than 56403 source
+    /// symbols.
     pub fn new(
         transfer_length: u64,
         symbol_size: u16,
@@ -94,8 +95,9 @@ impl ObjectTransmissionInformation {
 
     /// Tests that coders can take the configuration over a table.
     ///
-    /// Refuses, in this order, [`Error::SymbolSizeZero`], [`Error::AlignmentZero`], [`Error::Misaligned`] where the alignment
-    /// doesn't divide the symbol size, [`Error::SourceBlocksZero`], and [`Error::BlockOverTable`] where a block would have more
+    /// Refuses, in this order, [`Error::SymbolSizeZero`], [`Error::AlignmentZero`],
+    /// [`Error::Misaligned`] where the alignment doesn't divide the symbol size,
+    /// [`Error::SourceBlocksZero`], and [`Error::BlockOverTable`] where a block would have more
     /// source symbols than the table's greatest row.
     pub fn check(&self, table: &SystematicTable) -> Result<(), Error>
         ensures refused { result ≡ checked_configuration (greatest_size table.now) self.now }
@@ -121,20 +123,21 @@ impl ObjectTransmissionInformation {
         Ok(())
     }
 
-    /// The configuration that twelve bytes spell, most significant byte first: five of transfer length, a reserved one that
-    /// is ignored, two of symbol size, one of source blocks, two of sub-blocks, one of alignment.
+    /// The configuration that twelve bytes spell, most significant byte first: five of transfer
+    /// length, a reserved one that is ignored, two of symbol size, one of source blocks, two of
+    /// sub-blocks, one of alignment.
     #[tactic(auto, unfolding(rq_standard::specs::Configuration::configuration_of_bytes))]
-    pub fn deserialize(data: &[u8; 12]) -> ObjectTransmissionInformation
-        ensures { result ≡ configuration_of_bytes data.now }
+    pub fn deserialize(bytes: &[u8; 12]) -> ObjectTransmissionInformation
+        ensures { result ≡ configuration_of_bytes bytes.now }
     {
         ObjectTransmissionInformation {
             transfer_length: u64::from_be_bytes([
-                0, 0, 0, data[0], data[1], data[2], data[3], data[4],
+                0, 0, 0, bytes[0], bytes[1], bytes[2], bytes[3], bytes[4],
             ]),
-            symbol_size: u16::from_be_bytes([data[6], data[7]]),
-            num_source_blocks: data[8],
-            num_sub_blocks: u16::from_be_bytes([data[9], data[10]]),
-            symbol_alignment: data[11],
+            symbol_size: u16::from_be_bytes([bytes[6], bytes[7]]),
+            num_source_blocks: bytes[8],
+            num_sub_blocks: u16::from_be_bytes([bytes[9], bytes[10]]),
+            symbol_alignment: bytes[11],
         }
     }
 

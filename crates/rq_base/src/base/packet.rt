@@ -33,8 +33,8 @@ impl Model for PayloadId {
 impl PayloadId {
     ghost use Rattle.rq_base.specs.Refused.{new_id};
 
-    /// An id of a block number and an encoding symbol id. Refuses [`Error::EsiTooLarge`] where the encoding symbol id
-    /// doesn't fit 24 bits.
+    /// An id of a block number and an encoding symbol id. Refuses [`Error::EsiTooLarge`] where the
+    /// encoding symbol id doesn't fit 24 bits.
     pub fn new(source_block_number: u8, encoding_symbol_id: u32) -> Result<PayloadId, Error>
         ensures { result ≡ new_id source_block_number encoding_symbol_id }
     {
@@ -47,12 +47,13 @@ impl PayloadId {
         })
     }
 
-    /// The id that four bytes spell: a byte of block number, three of encoding symbol id, most significant first.
-    pub fn deserialize(data: &[u8; 4]) -> PayloadId
-        ensures value { result ≡ id_of_bytes data.now }
-        ensures written { id_bytes result ≡ data.now }
+    /// The id that four bytes spell: a byte of block number, three of encoding symbol id, most
+    /// significant first.
+    pub fn deserialize(bytes: &[u8; 4]) -> PayloadId
+        ensures value { result ≡ id_of_bytes bytes.now }
+        ensures written { id_bytes result ≡ bytes.now }
     {
-        let number = u32::from_be_bytes(*data);
+        let number = u32::from_be_bytes(*bytes);
         PayloadId {
             source_block_number: (number / ENCODING_SYMBOL_IDS) as u8,
             encoding_symbol_id: number % ENCODING_SYMBOL_IDS,
@@ -115,16 +116,16 @@ impl EncodingPacket {
         }
     }
 
-    /// The packet that bytes spell: four of id, the rest its payload. Refuses [`Error::PacketTooShort`] below four
-    /// bytes.
+    /// The packet that bytes spell: four of id, the rest its payload. Refuses
+    /// [`Error::PacketTooShort`] below four bytes.
     #[tactic(auto, unfolding(rq_standard::specs::Packet::id_of_bytes, rq_standard::specs::Packet::packet_of_bytes))]
-    pub fn deserialize(alloc: Global, data: &[u8]) -> Result<EncodingPacket, Error>
-        ensures { IsAnswer (λ p. p) result (read_packet data.now) }
+    pub fn deserialize(alloc: Global, bytes: &[u8]) -> Result<EncodingPacket, Error>
+        ensures { IsAnswer (λ p. p) result (read_packet bytes.now) }
     {
-        if data.len() < 4 {
+        if bytes.len() < 4 {
             return Err(Error::PacketTooShort);
         }
-        let (id, payload) = data.split_at(4);
+        let (id, payload) = bytes.split_at(4);
         Ok(EncodingPacket {
             payload_id: PayloadId::deserialize(&[id[0], id[1], id[2], id[3]]),
             payload: Symbol::new(Vec::from_slice(alloc, payload)?),

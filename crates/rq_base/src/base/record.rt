@@ -27,7 +27,8 @@ impl PayloadIdRecord {
         }
     }
 
-    /// The id that the record spells. Refuses [`Error::EsiTooLarge`] where the encoding symbol id doesn't fit 24 bits.
+    /// The id that the record spells. Refuses [`Error::EsiTooLarge`] where the encoding symbol id
+    /// doesn't fit 24 bits.
     pub fn into_value(self) -> Result<PayloadId, Error>
         ensures { result ≡ new_id self.source_block_number self.encoding_symbol_id }
     {
@@ -56,7 +57,8 @@ impl EncodingPacketRecord {
         })
     }
 
-    /// The packet that the record spells. Refuses [`Error::EsiTooLarge`] where the encoding symbol id doesn't fit 24 bits.
+    /// The packet that the record spells. Refuses [`Error::EsiTooLarge`] where the encoding symbol
+    /// id doesn't fit 24 bits.
     pub fn into_value(self) -> Result<EncodingPacket, Error>
         ensures { result ≡ and_then (new_id self.payload_id.source_block_number self.payload_id.encoding_symbol_id) (λ i. Ok (record { id = i; payload = self.payload.items })) }
     {
@@ -96,7 +98,8 @@ impl ObjectTransmissionInformationRecord {
         }
     }
 
-    /// The configuration that the record spells. Refuses what [`ObjectTransmissionInformation::new`] does.
+    /// The configuration that the record spells. Refuses what
+    /// [`ObjectTransmissionInformation::new`] does.
     pub fn into_value(self) -> Result<ObjectTransmissionInformation, Error>
         ensures { result ≡ new_configuration (record {
           transfer_length = self.transfer_length;

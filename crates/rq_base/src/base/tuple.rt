@@ -15,7 +15,8 @@ pub fn deg(v: u32, lt_symbols: u32) -> u32
     first_above(v, &DEGREE_STARTS).min(lt_symbols - 2)
 }
 
-/// The tuple (d, a, b, d1, a1, b1) of an internal symbol id, over a row of the table with W `lt_symbols`, J `systematic_index` and P1 `p1`.
+/// The tuple (d, a, b, d1, a1, b1) of an internal symbol id, over a row of the table with W
+/// `lt_symbols`, J `systematic_index` and P1 `p1`.
 pub fn intermediate_tuple(
     internal_symbol_id: u32,
     lt_symbols: u32,

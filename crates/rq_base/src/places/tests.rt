@@ -1,7 +1,8 @@
 //! The random generator and the places, against the Rust crate `raptorq` 2.0.1.
 //!
-//! A script asked that crate for each number below, took the numbers of a line one after another into a digest that starts at 0 by
-//! `digest * 1099511628211 + number + 1` modulo 2^64, and wrote the digests here.
+//! A script asked that crate for each number below, took the numbers of a line one after another
+//! into a digest that starts at 0 by `digest * 1099511628211 + number + 1` modulo 2^64, and wrote
+//! the digests here.
 ghost use Rattle.std.specs.Prelude.{◌≤◌};
 
 use super::Places;

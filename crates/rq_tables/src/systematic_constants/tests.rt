@@ -81,7 +81,8 @@ fn look_ups(rt: HostRuntime) -> Result<(), Fail> {
     Ok(())
 }
 
-// The rows of section 5.6 after the built-in ones. A script took them from the list in the Rust crate `raptorq` 2.0.1, entries 74 to 476 in its order.
+// The rows of section 5.6 after the built-in ones. A script took them from the list in the Rust
+// crate `raptorq` 2.0.1, entries 74 to 476 in its order.
 const FURTHER_ROWS: [(u32, u32, u32, u32, u32); 403] = [
     (511, 800, 37, 10, 523),
     (526, 923, 41, 10, 541),

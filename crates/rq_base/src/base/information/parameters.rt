@@ -13,7 +13,8 @@ impl ObjectTransmissionInformation {
     ghost use Rattle.std.specs.Int.{div_ceil};
     ghost use Rattle.rq_base.specs.Defaults.{wanted_parameters};
 
-    /// A configuration for an object of `transfer_length` bytes in packets of at most `max_packet_size` bytes of payload, for decoders with 10 MiB of memory.
+    /// A configuration for an object of `transfer_length` bytes in packets of at most
+    /// `max_packet_size` bytes of payload, for decoders with 10 MiB of memory.
     ///
     /// Refuses what [`Self::generate_encoding_parameters`] does.
     pub fn with_defaults(
@@ -26,9 +27,15 @@ impl ObjectTransmissionInformation {
         Self::generate_encoding_parameters(table, transfer_length, max_packet_size, DECODER_MEMORY)
     }
 
-    /// A configuration for an object of `transfer_length` bytes in packets of at most `max_packet_size` bytes of payload, each of whose sub-blocks fits `decoder_memory_requirement` bytes. There are as few source blocks as that allows, and then as few sub-blocks.
+    /// A configuration for an object of `transfer_length` bytes in packets of at most
+    /// `max_packet_size` bytes of payload, each of whose sub-blocks fits
+    /// `decoder_memory_requirement` bytes. There are as few source blocks as that allows, and then
+    /// as few sub-blocks.
     ///
-    /// Refuses, in this order, [`Error::PacketSizeZero`], [`Error::TransferLengthZero`], [`Error::TransferTooLong`] above 942574504275 bytes, [`Error::MemoryRequirementTooSmall`] where no row of the table fits, and [`Error::TooManyBlocks`] where more than 255 source blocks are needed.
+    /// Refuses, in this order, [`Error::PacketSizeZero`], [`Error::TransferLengthZero`],
+    /// [`Error::TransferTooLong`] above 942574504275 bytes, [`Error::MemoryRequirementTooSmall`]
+    /// where no row of the table fits, and [`Error::TooManyBlocks`] where more than 255 source
+    /// blocks are needed.
     pub fn generate_encoding_parameters(
         table: &SystematicTable,
         transfer_length: u64,
@@ -107,7 +114,8 @@ fn most_sub_blocks(packet_size: u16) -> u16
     }
 }
 
-// The greatest size of a block whose sub-blocks fit the memory, where there are so many of them; 0 where no row fits.
+// The greatest size of a block whose sub-blocks fit the memory, where there are so many of them; 0
+// where no row fits.
 fn fitting_block(table: &SystematicTable, packet_size: u16, memory: u64, sub_blocks: u16) -> u32
     requires size { 0 < packet_size }
     requires some { 0 < sub_blocks }
@@ -118,7 +126,8 @@ fn fitting_block(table: &SystematicTable, packet_size: u16, memory: u64, sub_blo
     table.greatest_within(memory / (alignment * units))
 }
 
-// The least number of sub-blocks with which a block of so many symbols fits the memory, or one more than the greatest number of them.
+// The least number of sub-blocks with which a block of so many symbols fits the memory, or one more
+// than the greatest number of them.
 fn least_sub_blocks(table: &SystematicTable, packet_size: u16, memory: u64, symbols: u64) -> u16
     requires { 0 < packet_size }
     ensures { result ≡ first_from (is_fitting table.now packet_size memory symbols) 1 (most_sub_blocks packet_size) }

@@ -8,4 +8,4 @@ unfolding id_of_bytes
 returns-clause-value c = ap (λ n. record { block = n / 16777216; esi = n % 16777216 }) c.from_be_bytes-number.ensures
 
 pub returns-clause-written : goal.returns-clause-written
-returns-clause-written c = ap id_bytes (returns-clause-value c) ∙ id_bytes-id_of_bytes c.args.data.now c.told-data c.fits-data
+returns-clause-written c = ap id_bytes (returns-clause-value c) ∙ id_bytes-id_of_bytes c.args.bytes.now c.told-bytes c.fits-bytes
