@@ -4,6 +4,8 @@
 #[cfg(test)]
 mod decoding;
 #[cfg(test)]
+mod memory;
+#[cfg(test)]
 mod packets;
 #[cfg(test)]
 mod records;

@@ -5,3 +5,4 @@ pub mod Taking
 pub mod Streaming
 pub mod Sending
 pub mod Wording
+pub mod SentLaws

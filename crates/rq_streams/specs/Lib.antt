@@ -5,3 +5,4 @@ pub mod Frames
 pub mod Limits
 pub mod Received
 pub mod Sent
+pub mod SentStreams

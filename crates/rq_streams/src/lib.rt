@@ -4,6 +4,7 @@
 mod counted;
 mod ending;
 mod jobs;
+pub mod laws;
 mod limits;
 mod receive;
 mod run;
