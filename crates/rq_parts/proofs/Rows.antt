@@ -76,10 +76,11 @@ module _ {X : Type 0} (f : X → X) (start n : ℕ) (xs : List X) (from : start 
   unfolding begun
   length-mapped_until = length-append begun (drop n xs) ∙ omega (arith, length-begun, length-drop n xs)
 
+pub take_whole : {X : Type 0} (n : ℕ) (xs : List X) → length xs ≤ n → take n xs ≡ xs
+take_whole n xs le = sym (append-nil (take n xs)) ∙ ap (λ l. take n xs ++ l) (sym (drop_of_length-le xs le)) ∙ take-append-drop n xs
+
 pub mapped_until-end : {X : Type 0} (f : X → X) (start n : ℕ) (xs : List X) → length xs ≤ n → mapped_until f start n xs ≡ take start xs ++ map f (drop start xs)
 mapped_until-end f start n xs le =
-    let rest = drop_of_length-le xs le in
-    let whole : take n xs ≡ xs = sym (append-nil (take n xs)) ∙ ap (λ l. take n xs ++ l) (sym rest) ∙ take-append-drop n xs in
-    ap (λ l. (take start (take n xs) ++ map f (drop start (take n xs))) ++ l) rest
+    ap (λ l. (take start (take n xs) ++ map f (drop start (take n xs))) ++ l) (drop_of_length-le xs le)
     ∙ append-nil (take start (take n xs) ++ map f (drop start (take n xs)))
-    ∙ ap (λ l. take start l ++ map f (drop start l)) whole
+    ∙ ap (λ l. take start l ++ map f (drop start l)) (take_whole n xs le)

@@ -1,6 +1,7 @@
-//! The matrix of octets, maps, iterators and the graph of columns.
+//! The matrix of octets, and maps kept in arrays.
 #![tactic(auto)]
 
+pub mod arraymap;
 pub mod octet_matrix;
 #[cfg(test)]
 mod tests;
