@@ -1,5 +1,5 @@
 -- What the check leaves to show of `arraymap::U32VecMap::new`.
-use Rattle.std.proofs.Common.{◌≡◌, ℕ, ◌-◌, List, get_or, ap, ◌∙◌}
+use Rattle.std.proofs.Common.{ℕ, ◌-◌, List, get_or, ap, ◌∙◌}
 use Rattle.rq_parts.proofs.Zeros.{zeros_everywhere}
 use Rattle.rq_parts.proofs.arraymap.U32VecMap.new.Goals as goal
 
