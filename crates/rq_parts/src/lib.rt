@@ -1,0 +1,7 @@
+//! The matrix of octets, and maps kept in arrays.
+#![tactic(auto)]
+
+pub mod arraymap;
+pub mod octet_matrix;
+#[cfg(test)]
+mod tests;

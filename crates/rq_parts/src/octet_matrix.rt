@@ -1,0 +1,244 @@
+//! A dense matrix of octets.
+ghost use Rattle.std.specs.Prelude.{◌≡◌, ◌≢◌, ℕ, ◌+◌, ◌<◌, ◌≤◌, All, length, map, replicate, slice_index, slice_index_or, slice_set, IfOk, Ok, []};
+ghost use Rattle.std.specs.List.{swap};
+ghost use Rattle.rq_standard.specs.Rows.{row_sum, row_multiple};
+ghost use Rattle.rq_bytes.specs.Ranges.{range_of, with_range};
+ghost use Rattle.rq_bytes.specs.Refusals.{IsAnswer};
+ghost use Rattle.rq_parts.specs.OctetTable.{row_at, with_row, columns_swapped};
+
+use rq_bytes::error::Error;
+use rq_bytes::octet::Octet;
+use rq_bytes::octets;
+use rq_bytes::octets::BinaryOctetVec;
+use std::alloc::{AllocError, Global};
+use std::marker::Model;
+
+/// A matrix of octets, each of which is stored. Contracts see its width and its rows.
+#[derive(Debug, Drop)]
+pub struct DenseOctetMatrix {
+    width: usize,
+    elements: Vec<Row>,
+}
+
+impl Model for DenseOctetMatrix {
+    ghost use Rattle.std.specs.Prelude.{◌≡◌, All, length};
+    ghost use Rattle.rq_parts.specs.OctetTable.{OctetTable};
+
+    ghost Value = { OctetTable };
+
+    ghost view = { λ m. record { width = m.width; rows = m.elements.items } };
+
+    ghost invariant = { λ m. All (λ row. length row ≡ m.width) m.elements.items };
+}
+
+impl DenseOctetMatrix {
+    /// A matrix of zeros with so many rows and columns. The last argument, how many columns are dense, does nothing
+    /// here: all are.
+    pub fn new(alloc: Global, height: usize, width: usize, _: usize) -> Result<Self, Error>
+        ensures { IsAnswer (λ matrix. matrix) result (Ok (record { width = width; rows = replicate height (replicate width 0) })) }
+    {
+        let mut elements = Vec::with_capacity(alloc, height)?;
+        for _ in 0..height {
+            elements.push(Row::zero(alloc, width)?)?;
+        }
+        Ok(DenseOctetMatrix { width, elements })
+    }
+
+    /// Adds to a row, from a column on, a multiple of a packed row that ends within it.
+    pub fn fma_sub_row(
+        &mut self,
+        row: usize,
+        start_col: usize,
+        scalar: &Octet,
+        other: &BinaryOctetVec,
+    )
+        requires row { row < length self.old.rows }
+        requires fits { start_col + length other.now ≤ self.old.width }
+        ensures { let octets = row_at self.old row in self.new ≡ with_row self.old row (with_range octets start_col (row_sum (range_of octets start_col (length other.now)) (row_multiple scalar.now other.now))) }
+    {
+        self.elements[row].add_bits(start_col, scalar, other);
+    }
+
+    /// Sets the octet in row i and column j.
+    pub fn set(&mut self, i: usize, j: usize, value: Octet)
+        requires row { i < length self.old.rows }
+        requires column { j < self.old.width }
+        ensures { self.new ≡ with_row self.old i (slice_set (row_at self.old i) j value) }
+    {
+        self.elements[i].set(j, value);
+    }
+
+    /// The number of rows.
+    pub fn height(&self) -> usize
+        ensures { result ≡ length self.now.rows }
+    {
+        self.elements.len()
+    }
+
+    /// Multiplies a row by an octet.
+    pub fn mul_assign_row(&mut self, row: usize, value: &Octet)
+        requires { row < length self.old.rows }
+        ensures { self.new ≡ with_row self.old row (row_multiple value.now (row_at self.old row)) }
+    {
+        self.elements[row].multiply(value);
+    }
+
+    /// The octet in row i and column j.
+    pub fn get(&self, i: usize, j: usize) -> Octet
+        requires row { i < length self.now.rows }
+        requires column { j < self.now.width }
+        ensures { result ≡ slice_index (row_at self.now i) j }
+    {
+        self.elements[i].get(j)
+    }
+
+    /// Exchanges two rows, and moves no octet.
+    pub fn swap_rows(&mut self, i: usize, j: usize)
+        requires first { i < length self.old.rows }
+        requires second { j < length self.old.rows }
+        ensures { self.new ≡ record self.old { rows = swap self.old.rows i j } }
+    {
+        self.elements.swap(i, j);
+    }
+
+    /// Exchanges two columns in the rows from `start_row_hint` on; the rows above stay.
+    pub fn swap_columns(&mut self, i: usize, j: usize, start_row_hint: usize)
+        requires first { i < self.old.width }
+        requires second { j < self.old.width }
+        ensures { self.new ≡ record self.old { rows = columns_swapped start_row_hint i j self.old.rows } }
+    {
+        for row in start_row_hint..self.elements.len() {
+            self.elements[row].swap(i, j);
+        }
+    }
+
+    /// Adds a multiple of a row to another one.
+    pub fn fma_rows(&mut self, dest: usize, multiplicand: usize, scalar: &Octet)
+        requires two { dest ≢ multiplicand }
+        requires dest { dest < length self.old.rows }
+        requires multiplicand { multiplicand < length self.old.rows }
+        ensures { self.new ≡ with_row self.old dest (row_sum (row_at self.old dest) (row_multiple scalar.now (row_at self.old multiplicand))) }
+    {
+        add_row_multiple(self.elements.as_mut_slice(), dest, multiplicand, scalar);
+    }
+}
+
+impl Clone for DenseOctetMatrix {
+    ghost is_clone = { λ a b. b ≡ a };
+
+    fn clone(&self) -> Result<Self, AllocError> {
+        Ok(DenseOctetMatrix {
+            width: self.width,
+            elements: self.elements.clone()?,
+        })
+    }
+}
+
+/// The octets of one row. Contracts see their list.
+#[derive(Debug, Drop)]
+struct Row {
+    octets: Vec<u8>,
+}
+
+impl Model for Row {
+    ghost use Rattle.std.specs.Prelude.{List, ℕ};
+
+    ghost Value = { List ℕ };
+
+    ghost view = { λ row. row.octets.items };
+}
+
+impl Row {
+    /// A row of so many zeros.
+    fn zero(alloc: Global, width: usize) -> Result<Self, AllocError>
+        ensures { IfOk result (λ row. row ≡ replicate width 0) }
+    {
+        Ok(Row {
+            octets: vec![in alloc; 0; width]?,
+        })
+    }
+
+    /// Adds a multiple of a packed row from a column on.
+    fn add_bits(&mut self, start: usize, scalar: &Octet, other: &BinaryOctetVec)
+        requires { start + length other.now ≤ length self.old }
+        ensures sum { self.new ≡ with_range self.old start (row_sum (range_of self.old start (length other.now)) (row_multiple scalar.now other.now)) }
+        ensures len { length self.new ≡ length self.old }
+    {
+        let octets = self.octets.as_mut_slice();
+        let end = start + other.len();
+        octets::fused_addassign_mul_scalar_binary(&mut octets[start..end], other, scalar);
+    }
+
+    /// Multiplies the row by an octet.
+    fn multiply(&mut self, scalar: &Octet)
+        ensures { self.new ≡ row_multiple scalar.now self.old }
+    {
+        octets::mulassign_scalar(self.octets.as_mut_slice(), scalar);
+    }
+
+    /// Adds a multiple of a row of the same length.
+    fn add_multiple(&mut self, other: &Row, scalar: &Octet)
+        requires { length other.now ≡ length self.old }
+        ensures { self.new ≡ row_sum self.old (row_multiple scalar.now other.now) }
+    {
+        octets::fused_addassign_mul_scalar(
+            self.octets.as_mut_slice(),
+            other.octets.as_slice(),
+            scalar,
+        );
+    }
+
+    /// Sets the octet in column j.
+    fn set(&mut self, j: usize, value: Octet)
+        requires { j < length self.old }
+        ensures { self.new ≡ slice_set self.old j value }
+    {
+        self.octets[j] = value.byte();
+    }
+
+    /// The octet in column j.
+    fn get(&self, j: usize) -> Octet
+        requires { j < length self.now }
+        ensures { result ≡ slice_index self.now j }
+    {
+        Octet::new(self.octets[j])
+    }
+
+    /// Exchanges two octets.
+    fn swap(&mut self, i: usize, j: usize)
+        requires first { i < length self.old }
+        requires second { j < length self.old }
+        ensures swapped { self.new ≡ swap self.old i j }
+        ensures len { length self.new ≡ length self.old }
+    {
+        self.octets.swap(i, j);
+    }
+}
+
+impl Clone for Row {
+    ghost is_clone = { λ a b. b ≡ a };
+
+    fn clone(&self) -> Result<Self, AllocError> {
+        Ok(Row {
+            octets: self.octets.clone()?,
+        })
+    }
+}
+
+/// Adds a multiple of a row to another one.
+fn add_row_multiple(rows: &mut [Row], dest: usize, src: usize, scalar: &Octet)
+    requires two { dest ≢ src }
+    requires dest { dest < length rows.old }
+    requires src { src < length rows.old }
+    requires fits { length (slice_index_or rows.old src []) ≡ length (slice_index_or rows.old dest []) }
+    ensures sum { rows.new ≡ slice_set rows.old dest (row_sum (slice_index_or rows.old dest []) (row_multiple scalar.now (slice_index_or rows.old src []))) }
+    ensures widths { (n : ℕ) → All (λ row. length row ≡ n) rows.old → All (λ row. length row ≡ n) rows.new }
+{
+    if dest < src {
+        let (front, back) = rows.split_at_mut(src);
+        front[dest].add_multiple(&back[0], scalar);
+    } else {
+        let (front, back) = rows.split_at_mut(dest);
+        back[0].add_multiple(&front[src], scalar);
+    }
+}
