@@ -10,7 +10,8 @@ use std::alloc::Global;
 use std::marker::Model;
 use std::ops::Range;
 
-/// A number for each key of a range. Contracts see the first key and the numbers in the order of the keys.
+/// A number for each key of a range. Contracts see the first key and the numbers in the order of
+/// the keys.
 #[derive(Debug, Drop)]
 pub struct U16ArrayMap {
     offset: usize,
@@ -93,7 +94,8 @@ impl U16ArrayMap {
     }
 }
 
-/// A number for each key from a first one on. Contracts see the first key and the numbers, which are 0 from some key on.
+/// A number for each key from a first one on. Contracts see the first key and the numbers, which
+/// are 0 from some key on.
 #[derive(Debug, Drop)]
 pub struct U32VecMap {
     offset: usize,

@@ -32,8 +32,8 @@ impl Model for DenseOctetMatrix {
 }
 
 impl DenseOctetMatrix {
-    /// A matrix of zeros with so many rows and columns. The last argument, how many columns are dense, does nothing
-    /// here: all are.
+    /// A matrix of zeros with so many rows and columns. The last argument, how many columns are
+    /// dense, does nothing here: all are.
     pub fn new(alloc: Global, height: usize, width: usize, _: usize) -> Result<Self, Error>
         ensures { IsAnswer (λ matrix. matrix) result (Ok (record { width = width; rows = replicate height (replicate width 0) })) }
     {

@@ -85,14 +85,16 @@ fits_by table n s c small h one =
     let long : n ≤ 942574504275 = ltb-false 942574504275 n t.2 in
     let length_is : c.transfer_length ≡ n = sym (ap (λ k. k.transfer_length) same) in
     let size_is : c.symbol_size ≡ symbol_size_for s = sym (ap (λ k. k.symbol_size) same) in
-    let alignment_is : c.alignment ≡ alignment_for s = sym (ap (λ k. k.alignment) same) in
-    (record {
-      length_fits = omega arith;
-      size_fits = omega arith;
-      blocks_fit = omega (arith, one.one_block);
-      sub_blocks_fit = omega (arith, one.one_sub_block);
-      alignment_fits = subst (λ a. a < 2 ^ 8) (sym alignment_is) (small_alignment (leb 64 s));
-    }, length_is)
+    let alignment_is : c.alignment ≡ alignment_for s = sym (ap (λ k. k.alignment) same) in (
+      record {
+        length_fits = omega arith;
+        size_fits = omega arith;
+        blocks_fit = omega (arith, one.one_block);
+        sub_blocks_fit = omega (arith, one.one_sub_block);
+        alignment_fits = subst (λ a. a < 2 ^ 8) (sym alignment_is) (small_alignment (leb 64 s));
+      },
+      length_is,
+    )
 
 -- each source packet is one of the object's
 source_by : (c : Configuration) (object : List ℕ) → IsOneBlock c → All (IsSourcePacket c object) (source_packets c object)
