@@ -1,4 +1,6 @@
+pub mod BitTable
 pub mod Configuration
+pub mod ConstraintMatrix
 pub mod Cutting
 pub mod Equations
 pub mod Held
