@@ -1,39 +1,98 @@
 -- What a decoder of a block answers.
-use Rattle.std.proofs.Common.{◌≡◌, ℕ, ◌*◌, ◌<◌, true, List, length, Option, Some, None, refl, sym, ap, ◌∙◌, subst, arith}
-use Rattle.std.specs.Prelude.{is_some, IsSome, IfSome}
+use Rattle.std.proofs.Common.{◌≡◌, ℕ, ◌*◌, ◌<◌, ◌≤◌, true, List, length, Option, Some, None, refl, sym, ap, ◌∙◌, subst, arith, inl, inr}
+use Rattle.std.specs.Prelude.{is_some, IsSome, IfSome, unwrap_or}
+use Rattle.std.specs.Option.{ForSome}
+use Rattle.rq_bytes.specs.Slab.{Slab, symbol_in}
 use Rattle.rq_standard.specs.Cutting.{symbol_of_block, HasOneSubBlock}
-use Rattle.rq_standard.specs.Received.{HasSourceSymbols}
-use Rattle.rq_standard.specs.Held.{Held, holds, IsBlockAnswer}
+use Rattle.rq_standard.specs.TableRows.{IsChecked}
+use Rattle.rq_standard.specs.Equations.{tuple_sum, internal_id}
+use Rattle.rq_standard.specs.Held.{Held, holds, SolvesHeld, AreHeldDetermining, IsBlockWith, IsBlockAnswer}
+use Rattle.rq_standard.proofs.Columns.{sum_symbol, sum_same}
 use Rattle.rq_standard.proofs.PlainCut.{plain_symbol, symbol_of_block-plain}
+use Rattle.raptorq.specs.Known.{IsHeldSolution, rebuilt_symbol}
 use Rattle.raptorq.specs.Missing.{missing_count}
+use Rattle.raptorq.proofs.HeldEquations.{internal_below, came_sum}
 use Rattle.raptorq.proofs.MissingCounts.{missing_count-zero, missing_count-none}
 
 pub some_by : (o : Option (List ℕ)) → is_some o ≡ true → IsSome o
 some_by None h = absurd (cc h)
 some_by (Some x) h = refl
 
--- something is missing
-pub answer-none : (h : Held) (missing : ℕ) → missing ≡ missing_count h.symbols (holds h) → 0 < missing → IsBlockAnswer HasSourceSymbols h None
-answer-none h missing counted some = record {
-  some = λ s. absurd (cc s);
-  none = λ all. absurd (omega (arith, counted, missing_count-none h.symbols (holds h) all.each));
-  block = tt;
-}
+if_some : (o : Option (List ℕ)) (x y : List ℕ) → o ≡ Some x → x ≡ y → IfSome o (λ payload. payload ≡ y)
+if_some o x y is same = subst (λ r. IfSome r (λ payload. payload ≡ y)) (sym is) same
 
-if_some : (o : Option (List ℕ)) (x : List ℕ) → o ≡ Some x → (y : List ℕ) → x ≡ y → IfSome o (λ payload. payload ≡ y)
-if_some o x is y same = subst (λ r. IfSome r (λ payload. payload ≡ y)) (sym is) same
+-- a source symbol that came is the sum of any column that solves what is held
+came_source : (h : Held) (column : ℕ → List ℕ) (e : ℕ) (x : List ℕ) → SolvesHeld h column → e < h.symbols → h.received e ≡ Some x → x ≡ tuple_sum h.row column e
+came_source h column e x z below is = came_sum (h.received e) x (tuple_sum h.row column (internal_id h.row h.symbols e)) is (z.received e) ∙ ap (tuple_sum h.row column) (internal_below h.row h.symbols e below)
+
+-- ---- from all source symbols
+
+pub block_of_all : (h : Held) (size : ℕ) (block : List ℕ) → HasOneSubBlock h.configuration → size ≡ h.configuration.symbol_size → length block ≡ h.symbols * size → ((e : ℕ) → e < h.symbols → h.received e ≡ Some (plain_symbol size block e)) → IsBlockWith h block
+block_of_all h size block one is long each =
+    let l : length block ≡ h.symbols * h.configuration.symbol_size = long ∙ ap (λ s. h.symbols * s) is in
+    let cut : (e : ℕ) → e < h.symbols → plain_symbol size block e ≡ symbol_of_block h.configuration h.symbols block e = λ e below. ap (λ s. plain_symbol s block e) is ∙ sym (symbol_of_block-plain h.configuration h.symbols block e one l below) in
+    record {
+      long = l;
+      each = λ e below. if_some (h.received e) (plain_symbol size block e) (symbol_of_block h.configuration h.symbols block e) (each e below) (cut e below);
+      solved = λ d column z e below. sym (cut e below) ∙ came_source h column e (plain_symbol size block e) z below (each e below);
+    }
 
 -- nothing is missing
-pub answer-some : (h : Held) (missing size : ℕ) (block : List ℕ) → HasOneSubBlock h.configuration → missing ≡ missing_count h.symbols (holds h) → missing ≡ 0 → size ≡ h.configuration.symbol_size → length block ≡ h.symbols * size
-    → ((e : ℕ) → e < h.symbols → h.received e ≡ Some (plain_symbol size block e)) → IsBlockAnswer HasSourceSymbols h (Some block)
-answer-some h missing size block one counted none is long each =
-    let l : length block ≡ h.symbols * h.configuration.symbol_size = long ∙ ap (λ s. h.symbols * s) is in
+pub answer-all : (h : Held) (missing size : ℕ) (block : List ℕ) → HasOneSubBlock h.configuration → missing ≡ missing_count h.symbols (holds h) → missing ≡ 0 → size ≡ h.configuration.symbol_size → length block ≡ h.symbols * size
+    → ((e : ℕ) → e < h.symbols → h.received e ≡ Some (plain_symbol size block e)) → IsBlockAnswer h (Some block)
+answer-all h missing size block one counted none is long each = record {
+  some = λ _. inl (record { each = missing_count-zero h.symbols (holds h) (sym counted ∙ none) });
+  none = λ _. refl;
+  block = block_of_all h size block one is long each;
+}
+
+-- ---- from the intermediate symbols
+
+rebuilt_is : (o : Option (List ℕ)) (sum x : List ℕ) → o ≡ Some x → unwrap_or o sum ≡ x
+rebuilt_is o sum x is = ap (λ r. unwrap_or r sum) is
+
+rebuilt_length : (o : Option (List ℕ)) (sum : List ℕ) (size : ℕ) → ForSome o (λ payload. length payload ≡ size) → length sum ≡ size → length (unwrap_or o sum) ≡ size
+rebuilt_length None sum size sized long = long
+rebuilt_length (Some x) sum size sized long = sized x refl
+
+pub length-rebuilt : (h : Held) (slab : Slab) (e : ℕ) → IsChecked h.row → ((k : ℕ) → ForSome (h.received k) (λ payload. length payload ≡ h.configuration.symbol_size)) → IsHeldSolution h slab → length (rebuilt_symbol h slab e) ≡ h.configuration.symbol_size
+length-rebuilt h slab e checked sized s = rebuilt_length (h.received e) (tuple_sum h.row (symbol_in slab) e) h.configuration.symbol_size (sized e) (sum_symbol h.row h.configuration.symbol_size e (symbol_in slab) checked s.symbols).size_is
+
+each_by : (o : Option (List ℕ)) (sum y : List ℕ) → unwrap_or o sum ≡ y → IfSome o (λ payload. payload ≡ y)
+each_by None sum y is = tt
+each_by (Some x) sum y is = is
+
+solved_by : (o : Option (List ℕ)) (sum other : List ℕ) → ((x : List ℕ) → o ≡ Some x → x ≡ other) → sum ≡ other → unwrap_or o sum ≡ other
+solved_by None sum other came same = same
+solved_by (Some x) sum other came same = came x refl
+
+payload_from : (x y : List ℕ) → Some x ≡ Some y → x ≡ y
+payload_from x y e = cc
+
+pub rebuilt_block : (h : Held) (slab : Slab) (block : List ℕ) (n : ℕ) → HasOneSubBlock h.configuration → IsChecked h.row → h.symbols ≤ h.row.source_symbols → IsHeldSolution h slab → n ≡ h.symbols → length block ≡ n * h.configuration.symbol_size
+    → ((k : ℕ) → k < n → Some (rebuilt_symbol h slab k) ≡ Some (plain_symbol h.configuration.symbol_size block k)) → IsBlockWith h block
+rebuilt_block h slab block n one checked fits s all long each =
+    let l : length block ≡ h.symbols * h.configuration.symbol_size = long ∙ ap (λ m. m * h.configuration.symbol_size) all in
+    let cut : (e : ℕ) → e < h.symbols → rebuilt_symbol h slab e ≡ symbol_of_block h.configuration h.symbols block e =
+    λ e below. payload_from (rebuilt_symbol h slab e) (plain_symbol h.configuration.symbol_size block e) (each e (omega (arith, all))) ∙ sym (symbol_of_block-plain h.configuration h.symbols block e one l below) in
     record {
-      some = λ _. record { each = missing_count-zero h.symbols (holds h) (sym counted ∙ none) };
-      none = λ _. refl;
-      block = record {
-        long = l;
-        each = λ e below. if_some (h.received e) (plain_symbol size block e) (each e below) (symbol_of_block h.configuration h.symbols block e)
-            (ap (λ s. plain_symbol s block e) is ∙ sym (symbol_of_block-plain h.configuration h.symbols block e one l below));
-      };
+      long = l;
+      each = λ e below. each_by (h.received e) (tuple_sum h.row (symbol_in slab) e) (symbol_of_block h.configuration h.symbols block e) (cut e below);
+      solved = λ d column z e below. sym (cut e below)
+          ∙ solved_by (h.received e) (tuple_sum h.row (symbol_in slab) e) (tuple_sum h.row column e) (λ x is. came_source h column e x z below is) (sum_same h.row e (symbol_in slab) column checked (λ k lt. sym (s.only column z k lt)));
     }
+
+-- the block is determined
+pub answer-rebuilt : (h : Held) (slab : Slab) (block : List ℕ) → IsHeldSolution h slab → IsBlockWith h block → IsBlockAnswer h (Some block)
+answer-rebuilt h slab block s is = record { some = λ _. inr s.determined; none = λ _. refl; block = is }
+
+-- something is missing, and what came determines nothing
+pub answer-none : (h : Held) (missing : ℕ) → missing ≡ missing_count h.symbols (holds h) → 0 < missing → (AreHeldDetermining h → ⊥) → IsBlockAnswer h None
+answer-none h missing counted some undetermined = record {
+  some = λ s. absurd (cc s);
+  none = λ can. absurd (elim can [
+    | inl all ↦ omega (arith, counted, missing_count-none h.symbols (holds h) all.each)
+    | inr d ↦ undetermined d
+  ]);
+  block = tt;
+}

@@ -1,5 +1,5 @@
 -- The payloads that a map holds, after one more.
-use Rattle.std.proofs.Common.{◌≡◌, ℕ, Bool, true, false, cond, eqb, List, [], ◌∷◌, length, Option, Some, None, refl, sym, ap, ◌∙◌, inl, inr, vec_items, vec_len, arith}
+use Rattle.std.proofs.Common.{◌≡◌, ℕ, ◌<◌, Bool, true, false, cond, eqb, List, [], ◌∷◌, length, Option, Some, None, refl, sym, ap, ◌∙◌, subst, inl, inr, vec_items, vec_len, arith}
 use Rattle.std.specs.Prelude.{is_some, option_map, MatchOption, IsSomeAnd}
 use Rattle.std.specs.List.{AllZip}
 use Rattle.std.proofs.lemmas.Map.Entries.{lookup_clone}
@@ -107,3 +107,12 @@ same_answer None None h = refl
 same_answer None (Some w) h = absurd h
 same_answer (Some v) None h = absurd h
 same_answer (Some v) (Some w) h = ap (λ xs. Some xs) (same_items (vec_items v) (vec_items w) h.0)
+
+few_by : (o : Option (List ℕ)) (b : Bool) (x : List ℕ) (k e n : ℕ) → (is_some o ≡ true → e < n) → k < n → (b ≡ true → k ≡ e) → is_some (or_later o (cond b (Some x) None)) ≡ true → e < n
+few_by (Some y) b x k e n few below here came = few refl
+few_by None true x k e n few below here came = subst (λ m. m < n) (here refl) below
+few_by None false x k e n few below here came = absurd (cc came)
+
+-- all ids stay small
+pub few-more : (f g : ℕ → Option (List ℕ)) (k : ℕ) (x : List ℕ) (n : ℕ) → ((e : ℕ) → is_some (f e) ≡ true → e < n) → k < n → ((e : ℕ) → g e ≡ or_later (f e) (cond (eqb k e) (Some x) None)) → (e : ℕ) → is_some (g e) ≡ true → e < n
+few-more f g k x n few below grown e came = few_by (f e) (eqb k e) x k e n (few e) below (eqb-true k e) (sym (ap is_some (grown e)) ∙ came)

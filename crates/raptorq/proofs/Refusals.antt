@@ -7,7 +7,6 @@ use Rattle.rq_bytes.specs.declared.error.Error.TheVariants.{UnknownBlock, WrongP
 use Rattle.rq_standard.specs.Packet.{Packet}
 use Rattle.rq_standard.specs.Configuration.{Configuration}
 use Rattle.rq_standard.specs.Held.{Held}
-use Rattle.rq_standard.specs.Standing.{IsHeldOf}
 use Rattle.raptorq.specs.Refused.{block_refusal, packet_refusal}
 
 abbrev pub refused_by : Bool → Bool → Result (Unit {0}) Error
@@ -17,10 +16,10 @@ first_only : (b : ℕ) → eqb b 0 ≡ ltb b 1
 first_only zero = sym (lt-ltb 0 1 (omega arith))
 first_only (suc b) = ne_eqb (suc b) 0 (λ e. absurd (omega arith)) ∙ sym (le-ltb (suc b) 1 (omega arith))
 
-pub block_refusal-one : (c : Configuration) (h : Held) (p : Packet) → IsHeldOf c 0 h → c.source_blocks ≡ 1 → block_refusal h p ≡ packet_refusal c p
-block_refusal-one c h p shape one =
+pub block_refusal-one : (c : Configuration) (h : Held) (p : Packet) → h.configuration ≡ c → h.number ≡ 0 → c.source_blocks ≡ 1 → block_refusal h p ≡ packet_refusal c p
+block_refusal-one c h p same first one =
     let s = length p.payload in
-    ap (λ n. refused_by (eqb p.id.block n) (eqb s h.configuration.symbol_size)) shape.number
-    ∙ ap (λ k. refused_by (eqb p.id.block 0) (eqb s k.symbol_size)) shape.configuration
+    ap (λ n. refused_by (eqb p.id.block n) (eqb s h.configuration.symbol_size)) first
+    ∙ ap (λ k. refused_by (eqb p.id.block 0) (eqb s k.symbol_size)) same
     ∙ ap (λ b. refused_by b (eqb s c.symbol_size)) (first_only p.id.block)
     ∙ ap (λ n. refused_by (ltb p.id.block n) (eqb s c.symbol_size)) (sym one)

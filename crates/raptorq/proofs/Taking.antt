@@ -6,7 +6,6 @@ use Rattle.rq_bytes.specs.declared.error.Error.{Error}
 use Rattle.rq_bytes.specs.declared.error.Error.TheVariants.{OutOfMemory}
 use Rattle.rq_bytes.specs.Refusals.{IsRefusal}
 use Rattle.rq_standard.specs.Packet.{Packet}
-use Rattle.rq_standard.specs.Received.{HasSourceSymbols}
 use Rattle.rq_standard.specs.Held.{Held, recorded, IsBlockAnswer}
 use Rattle.rq_standard.proofs.Standing.{push-all}
 use Rattle.raptorq.specs.Refused.{block_refusal}
@@ -43,7 +42,7 @@ pub stopped : (h g new : Held) (packets : List Packet) (p : Packet) (e : Error) 
 stopped h g new packets p e taken is same refused = (packets, p ∷ [], refl, taken, same ∙ is, (refl, subst (IsRefusal e) (refusal_kept h g packets p is) refused))
 
 -- the answer, or want of memory for it
-pub answered : {V : Type 0} (f : V → List ℕ) (h g : Held) (packets : List Packet) (r : Result (Option V) Error) → AreTaken h packets → g ≡ all_recorded h packets → IfOk r (λ a. IsBlockAnswer HasSourceSymbols g (option_map f a)) → IfErr r (λ e. e ≡ OutOfMemory) → Decodes h packets (shown f r) g
+pub answered : {V : Type 0} (f : V → List ℕ) (h g : Held) (packets : List Packet) (r : Result (Option V) Error) → AreTaken h packets → g ≡ all_recorded h packets → IfOk r (λ a. IsBlockAnswer g (option_map f a)) → IfErr r (λ e. e ≡ OutOfMemory) → Decodes h packets (shown f r) g
 answered f h g packets (Ok a) taken is ok err = (taken, is, ok)
 answered f h g packets (Err e) taken is ok err = (packets, [], sym (append-nil packets), taken, is, err)
 

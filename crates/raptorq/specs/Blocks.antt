@@ -5,4 +5,4 @@ use Rattle.raptorq.specs.Missing.{payload_of}
 
 -- what it holds
 abbrev pub held_of : SourceBlockDecoder → Held
-held_of d = record { configuration = d.config; number = d.number; symbols = d.symbols; received = payload_of d.received }
+held_of d = record { configuration = d.config; number = d.number; row = d.row; symbols = d.symbols; received = payload_of d.received }

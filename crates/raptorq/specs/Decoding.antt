@@ -6,7 +6,6 @@ use Rattle.rq_bytes.specs.declared.error.Error.{Error}
 use Rattle.rq_bytes.specs.declared.error.Error.TheVariants.{OutOfMemory}
 use Rattle.rq_bytes.specs.Refusals.{IsRefusal}
 use Rattle.rq_standard.specs.Packet.{Packet}
-use Rattle.rq_standard.specs.Received.{HasSourceSymbols}
 use Rattle.rq_standard.specs.Held.{Held, recorded, IsBlockAnswer}
 use Rattle.raptorq.specs.Refused.{block_refusal}
 
@@ -30,7 +29,7 @@ StopsAt h (p ∷ rest) e = (rest ≡ []) × IsRefusal e (block_refusal h p)
 
 -- The packets that came are recorded and the block is answered where it is determined; or those before the one that stopped the call are recorded.
 abbrev pub Decodes : Held → List Packet → Result (Option (List ℕ)) Error → Held → Type 0
-Decodes old packets (Ok answer) new = AreTaken old packets × (new ≡ all_recorded old packets) × IsBlockAnswer HasSourceSymbols new answer
+Decodes old packets (Ok answer) new = AreTaken old packets × (new ≡ all_recorded old packets) × IsBlockAnswer new answer
 Decodes old packets (Err e) new = (front : List Packet) × (rest : List Packet) × (packets ≡ front ++ rest) × AreTaken old front × (new ≡ all_recorded old front) × StopsAt old rest e
 
 -- The packets are those that an iterator gave, and all of them where the call isn't stopped.

@@ -1,7 +1,10 @@
+pub mod BlockEncoded
 pub mod Blocks
+pub mod Decoding
+pub mod Encoded
+pub mod Known
 pub mod Missing
+pub mod Objects
 pub mod OneBlock
 pub mod Refused
-pub mod Objects
-pub mod Encoded
-pub mod Decoding
+pub mod Solving

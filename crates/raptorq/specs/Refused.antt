@@ -1,8 +1,11 @@
 -- What coders refuse, in the order of the tests.
-use Rattle.std.specs.Prelude.{ℕ, ◌%◌, length, Result, Ok, Err, if◌then◌else◌, ◌==◌, not, nat_lt}
+use Rattle.std.specs.Prelude.{◌≡◌, ◌⊎◌, ℕ, ◌%◌, List, length, Result, Ok, Err, if◌then◌else◌, ◌==◌, not, nat_lt}
 use Rattle.rq_bytes.specs.declared.error.Error.{Error}
-use Rattle.rq_bytes.specs.declared.error.Error.TheVariants.{SymbolSizeZero, AlignmentZero, Misaligned, BlockOverTable, UnknownBlock, WrongPayloadSize, WrongDataLength}
-use Rattle.rq_bytes.specs.Refusals.{and_then}
+use Rattle.rq_bytes.specs.declared.error.Error.TheVariants.{SymbolSizeZero, AlignmentZero, Misaligned, BlockOverTable, UnknownBlock, WrongPayloadSize, WrongDataLength, Singular}
+use Rattle.rq_bytes.specs.Refusals.{IsRefusal, and_then}
+use Rattle.rq_standard.specs.declared.row.Row.{Row}
+use Rattle.rq_standard.specs.TableRows.{greatest_size}
+use Rattle.rq_standard.specs.Encoded.{HasNonsingularRows}
 use Rattle.rq_base.specs.Refused.{checked_configuration}
 use Rattle.rq_standard.specs.Packet.{Packet}
 use Rattle.rq_standard.specs.Configuration.{Configuration}
@@ -35,3 +38,9 @@ packet_refusal c p =
 abbrev pub new_encoder : ℕ → Configuration → ℕ → Result (Unit {0}) Error
 new_encoder greatest c length_of_data =
     and_then (checked_configuration greatest c) (λ _. if length_of_data == c.transfer_length then Ok tt else Err WrongDataLength)
+
+-- what it is refused for: first these, and then a singular row
+abbrev pub RefusesEncoder : List Row → Configuration → ℕ → Error → Type 0
+RefusesEncoder table c length_of_data e =
+    let wanted = new_encoder (greatest_size table) c length_of_data in
+    IsRefusal e wanted ⊎ ((wanted ≡ Ok tt) × (e ≡ Singular) × ¬ HasNonsingularRows table c)

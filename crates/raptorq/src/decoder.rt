@@ -1,5 +1,6 @@
 //! Decoders: packets in, blocks and objects out.
 mod block;
+mod known;
 mod object;
 
 pub use block::SourceBlockDecoder;

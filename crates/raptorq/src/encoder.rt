@@ -1,15 +1,21 @@
 //! Encoders: an object in, its packets out.
-ghost use Rattle.std.specs.Prelude.{◌≡◌, ℕ, ◌+◌, ◌*◌, ◌<◌, ◌≤◌, List, length, take, Result, Ok, Err, IfOk, IfErr, OnOk};
+ghost use Rattle.std.specs.Prelude.{◌≡◌, ℕ, ◌+◌, ◌*◌, ◌/◌, ◌<◌, ◌≤◌, ◌⊎◌, List, length, map, Result, Ok, Err, IfOk, IfErr, OnOk};
 ghost use Rattle.std.specs.Int.{div_ceil};
-ghost use Rattle.rq_bytes.specs.Refusals.{IsAnswer};
+ghost use Rattle.std.specs.List.{range_with_len};
+ghost use Rattle.rq_bytes.specs.Refusals.{IsAnswer, IsRefusal};
 ghost use Rattle.rq_standard.specs.Configuration.{total_symbols};
-ghost use Rattle.rq_standard.specs.Cutting.{HasOneSubBlock, block_symbols, block_bytes, source_symbol};
-ghost use Rattle.rq_standard.specs.Streams.{source_packets};
+ghost use Rattle.rq_standard.specs.Cutting.{HasOneSubBlock, block_symbols, block_bytes, symbol_of_block};
+ghost use Rattle.rq_standard.specs.Encoded.{block_source};
 ghost use Rattle.rq_standard.specs.TableRows.{greatest_size};
+ghost use Rattle.raptorq.specs.BlockEncoded.{block_encoded_of};
 ghost use Rattle.raptorq.specs.OneBlock.{IsOneBlock};
 
-use rq_base::base::{EncodingPacket, ObjectTransmissionInformation, PayloadId};
+mod block;
+
+pub use block::SourceBlockEncoder;
+use rq_base::base::{EncodingPacket, ObjectTransmissionInformation};
 use rq_bytes::error::Error;
+use rq_bytes::symbol::Symbol;
 use rq_tables::systematic_constants::SystematicTable;
 use std::alloc::{AllocError, Global};
 
@@ -17,26 +23,24 @@ use std::alloc::{AllocError, Global};
 #[derive(Debug, PartialEq, Eq, Drop)]
 pub struct Encoder {
     config: ObjectTransmissionInformation,
-    symbols: u32,
-    block: Vec<u8>,
-    alloc: Global,
+    block: SourceBlockEncoder,
     pub ghost one_block: { IsOneBlock config },
-    pub ghost positive: { 0 < config.symbol_size },
-    pub ghost plain: { HasOneSubBlock config },
-    pub ghost few: { symbols ≤ 65535 },
-    pub ghost counted: { symbols ≡ block_symbols config 0 },
-    pub ghost long: { config.transfer_length ≤ length block.items },
-    pub ghost cut: { block.items ≡ block_bytes config (take config.transfer_length block.items) 0 },
+    pub ghost number: { (block_encoded_of block).number ≡ 0 },
+    pub ghost size: { (block_encoded_of block).size ≡ config.symbol_size },
+    pub ghost counted: { length (block_encoded_of block).source ≡ block_symbols config 0 },
 }
 
 impl Encoder {
-    ghost use Rattle.raptorq.specs.Encoded.{encoded_of};
-    ghost use Rattle.raptorq.specs.Refused.{new_encoder};
+    ghost use Rattle.rq_standard.specs.declared.row.Row.{Row};
+    ghost use Rattle.rq_standard.specs.Encoded.{HasNonsingularRows, AreEncoded};
+    ghost use Rattle.raptorq.specs.Encoded.{encoded_of, IsEncoderOf, packets_refusal};
+    ghost use Rattle.raptorq.specs.Refused.{new_encoder, RefusesEncoder};
 
     /// The encoder of an object, in bytes.
     ///
-    /// Refuses what [`ObjectTransmissionInformation::check`] refuses, and then
-    /// [`Error::WrongDataLength`] where the object hasn't the configuration's length.
+    /// Refuses what [`ObjectTransmissionInformation::check`] refuses, then
+    /// [`Error::WrongDataLength`] where the object hasn't the configuration's length, and then
+    /// [`Error::Singular`] where a block's row of the table decides no intermediate symbols.
     pub fn new(
         alloc: Global,
         table: &SystematicTable,
@@ -44,23 +48,22 @@ impl Encoder {
         config: ObjectTransmissionInformation,
     ) -> Result<Encoder, Error>
         requires { IsOneBlock config }
-        ensures refused { IsAnswer (λ _. tt) result (new_encoder (greatest_size table.now) config (length object.now)) }
-        ensures encoded { IfOk result (λ e. encoded_of e ≡ record { configuration = config; object = object.now }) }
+        ensures refused { IfErr result (RefusesEncoder table.now config (length object.now)) }
+        ensures taken { OnOk result (new_encoder (greatest_size table.now) config (length object.now) ≡ Ok tt) }
+        ensures nonsingular { OnOk result (HasNonsingularRows table.now config) }
+        ensures configuration { IfOk result (λ e. (encoded_of e).configuration ≡ config) }
+        ensures encoder { IfOk result (λ e. IsEncoderOf table.now object.now (encoded_of e)) }
     {
         config.check(table)?;
         if object.len() as u64 != config.transfer_length() {
             return Err(Error::WrongDataLength);
         }
-        let symbols = config
-            .transfer_length()
-            .div_ceil(u64::from(config.symbol_size()));
         let block = padded(alloc, &config, object)?;
-        Ok(Encoder {
-            config,
-            symbols: symbols as u32,
-            block,
-            alloc,
-        })
+        let source = source_symbols(alloc, &config, block.as_slice())?;
+        let row = table.row(source.len() as u32);
+        let size = usize::from(config.symbol_size());
+        let block = SourceBlockEncoder::solved(alloc, 0, row, size, source)?;
+        Ok(Encoder { config, block })
     }
 
     /// The configuration that a decoder needs.
@@ -70,31 +73,23 @@ impl Encoder {
         self.config
     }
 
-    /// The source packets of each source block, in the order of their encoding symbol ids (RFC
-    /// 6330, 4.4.2).
+    /// The packets of each source block in the order of their encoding symbol ids: those of its
+    /// source symbols, and then of so many repair symbols (RFC 6330, 4.4.2 and 5.3).
+    ///
+    /// Refuses [`Error::EsiTooLarge`] where a block has no ids for so many, which end at 2^24.
     pub fn get_encoded_packets(
         &self,
         repair_packets_per_block: u32,
     ) -> Result<Vec<EncodingPacket>, Error>
-        requires { repair_packets_per_block ≡ 0 }
-        ensures packets { IsAnswer (λ v. v.items) result (let e = encoded_of self.now in Ok (source_packets e.configuration e.object)) }
+        ensures refused { IsAnswer (λ _. tt) result (packets_refusal (encoded_of self.now).configuration repair_packets_per_block) }
+        ensures packets { IfOk result (λ v. (table : List Row) (object : List ℕ) → IsEncoderOf table object (encoded_of self.now)
+            → AreEncoded table (encoded_of self.now).configuration object repair_packets_per_block v.items) }
     {
-        let mut packets = Vec::with_capacity(self.alloc, self.symbols as usize)?;
-        for esi in 0..self.symbols {
-            let symbol = self.source_symbol(esi)?;
-            packets.push(EncodingPacket::new(PayloadId::new(0, esi)?, symbol))?;
+        let end = u64::from(self.block.symbols()) + u64::from(repair_packets_per_block);
+        if end > 1 << 24 {
+            return Err(Error::EsiTooLarge);
         }
-        Ok(packets)
-    }
-
-    // A copy of a source symbol.
-    fn source_symbol(&self, esi: u32) -> Result<Vec<u8>, AllocError>
-        requires { esi < block_symbols (encoded_of self.now).configuration 0 }
-        ensures { IfOk result (λ v. v.items ≡ source_symbol (encoded_of self.now).configuration (encoded_of self.now).object 0 esi) }
-    {
-        let size = usize::from(self.config.symbol_size());
-        let start = esi as usize * size;
-        Vec::from_slice(self.alloc, &self.block[start..start + size])
+        self.block.packets(0, end as u32)
     }
 }
 
@@ -106,11 +101,30 @@ impl Clone for Encoder {
     fn clone(&self) -> Result<Encoder, AllocError> {
         Ok(Encoder {
             config: self.config,
-            symbols: self.symbols,
             block: self.block.clone()?,
-            alloc: self.alloc,
         })
     }
+}
+
+// The symbols of a block, which stand in it one after another.
+fn source_symbols(
+    alloc: Global,
+    config: &ObjectTransmissionInformation,
+    block: &[u8],
+) -> Result<Vec<Symbol>, AllocError>
+    requires plain { HasOneSubBlock config.now }
+    requires positive { 0 < config.now.symbol_size }
+    requires whole { length block.now ≡ length block.now / config.now.symbol_size * config.now.symbol_size }
+    ensures { let count = length block.now / config.now.symbol_size in IfOk result (λ v. v.items ≡ map (symbol_of_block config.now count block.now) (range_with_len 0 count)) }
+{
+    let size = usize::from(config.symbol_size());
+    let count = block.len() / size;
+    let mut symbols = Vec::with_capacity(alloc, count)?;
+    for e in 0..count {
+        let start = e * size;
+        symbols.push(Symbol::new(Vec::from_slice(alloc, &block[start..start + size])?))?;
+    }
+    Ok(symbols)
 }
 
 // The object and the zeros behind it, up to whole symbols.

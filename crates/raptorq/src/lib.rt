@@ -3,10 +3,13 @@
 
 pub mod decoder;
 pub mod encoder;
+mod ids;
 mod one_block;
+mod solving;
+mod sums;
 
 pub use decoder::{Decoder, SourceBlockDecoder};
-pub use encoder::Encoder;
+pub use encoder::{Encoder, SourceBlockEncoder};
 pub use one_block::is_one_block;
 pub use rq_base::base;
 pub use rq_base::base::{EncodingPacket, ObjectTransmissionInformation, PayloadId, partition};

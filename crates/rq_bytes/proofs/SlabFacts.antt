@@ -1,5 +1,5 @@
 -- A slab's buffer and the symbols that callers see.
-use Rattle.std.proofs.Common.{length-set, ◌&&◌, ◌≡◌, ◌⊎◌, inl, inr, ⊎_elim, map, Global, ℕ, ◌+◌, ◌*◌, ◌<◌, ◌≤◌, List, [], Vec, length, drop, set, get_or, Option, None, Some, refl, sym, ap, ◌∙◌, arith, subst}
+use Rattle.std.proofs.Common.{length-set, ◌&&◌, ◌≡◌, ◌⊎◌, inl, inr, ⊎_elim, map, Global, ℕ, ◌+◌, ◌*◌, ◌<◌, ◌≤◌, List, [], Vec, length, drop, set, get_or, All, Option, None, Some, refl, sym, ap, ◌∙◌, arith, subst}
 use Rattle.std.specs.Prelude.{◌==◌}
 use Rattle.std.proofs.lemmas.List.{length-take-le, length-drop, length-map, get_or-map, get_or_read}
 use Rattle.std.proofs.Math.Nat.{mul-le-mul_right}
@@ -7,7 +7,8 @@ use Rattle.std.proofs.lemmas.Simd.{length-zip2}
 use Rattle.std.specs.Int.Bits.{bit_xor}
 use Rattle.rq_standard.specs.Octets.{octet_mul}
 use Rattle.rq_algebra.specs.Operations.{Operation, AddAssign, MulAssign, Fma, Reorder, step, values_in, meant_at, order_after, IsPlace, IsOrder}
-use Rattle.rq_algebra.specs.Symbols.{add_symbols, symbols}
+use Rattle.rq_algebra.specs.Symbols.{add_symbols, symbols, AreSymbols}
+use Rattle.std.proofs.lemmas.List.Elements.{All-take, All-drop}
 use Rattle.rq_standard.specs.OctetField.{octets}
 use Rattle.rq_standard.specs.Rows.{row_sum, row_multiple}
 use Rattle.rq_standard.proofs.RowSymbols.{add_symbols-rows, scale-rows}
@@ -51,6 +52,18 @@ module _ {bytes : List ℕ} {count size : ℕ} {order : Option (List ℕ)} {slab
       let count_is_there = count_is in
       ap length (sym (range_at p lt))
       ∙ length-take-le size (drop (p * slab.symbol_size) bytes) (omega (arith, length-drop (p * slab.symbol_size) bytes, piece_within p count size (omega arith), is.long, ap (λ s. p * s) size_is))
+
+  -- the values are symbols
+  pub are_symbols : All (λ x. x < 256) bytes → AreSymbols octets slab.symbol_size count slab.values
+  are_symbols below = record {
+    count_is = sym count_is;
+    each = λ k lt.
+        let here : k < length slab.values = omega (arith, count_is) in
+        record {
+          size_is = length-range_at k here ∙ size_is;
+          elements = subst (All (λ x. x < 256)) (range_at k here) (All-take (λ x. x < 256) size (drop (k * slab.symbol_size) bytes) (All-drop (λ x. x < 256) (k * slab.symbol_size) bytes below));
+        };
+  }
 
   -- other octets for one symbol
   pub write_at : (p : ℕ) (ys new : List ℕ) → p < length slab.values → length ys ≡ size → new ≡ with_range bytes (p * slab.symbol_size) ys

@@ -1,5 +1,5 @@
 //! Rows of octets and packed rows of bits.
-ghost use Rattle.std.specs.Prelude.{◌≡◌, ◌+◌, ◌*◌, ◌^◌, ◌<◌, length, vec_len};
+ghost use Rattle.std.specs.Prelude.{◌≡◌, ◌+◌, ◌*◌, ◌^◌, ◌<◌, All, length, vec_len};
 ghost use Rattle.rq_standard.specs.PackedBits.{padding_of, packed_bits};
 ghost use Rattle.rq_standard.specs.Rows.{row_sum, row_multiple};
 
@@ -68,6 +68,11 @@ impl BinaryOctetVec {
         1 << bit
     }
 }
+
+/// Each octet is below 256: a fact for proofs. It reads nothing.
+pub fn are_octets(octets: &[u8])
+    ensures { All (λ x. x < 256) octets.now }
+{}
 
 /// Adds a row to a row of the same length.
 pub fn add_assign(octets: &mut [u8], other: &[u8])

@@ -3,6 +3,8 @@ ghost use Rattle.std.specs.Prelude.{◌≡◌, ◌≢◌, ◌⊎◌, ◌+◌, �
 ghost use Rattle.std.proofs.Common.{rules};
 ghost use Rattle.std.specs.Cmp.Rules.{comparing};
 ghost use Rattle.rq_algebra.specs.Operations.{AddAssign, MulAssign, Fma, Reorder, IsOrder, meant_at};
+ghost use Rattle.rq_algebra.specs.Symbols.{AreSymbols};
+ghost use Rattle.rq_standard.specs.OctetField.{octets};
 ghost use Rattle.rq_standard.specs.Rows.{row_sum, row_multiple};
 ghost use Rattle.rq_bytes.specs.Ranges.{range_of, with_range, cut};
 ghost use Rattle.rq_bytes.specs.Refusals.{IsAnswer};
@@ -89,8 +91,10 @@ impl SymbolSlab {
 
     /// The number of symbols, whatever the order.
     pub fn len(&self) -> usize
-        ensures { result ≡ length self.now.values }
+        ensures count { result ≡ length self.now.values }
+        ensures symbols { AreSymbols octets self.now.symbol_size result self.now.values }
     {
+        octets::are_octets(self.data.as_slice());
         self.count
     }
 

@@ -4,9 +4,7 @@ use Rattle.std.specs.Prelude.{is_some, ◌&&◌}
 use Rattle.std.specs.List.{AllByRecursion}
 use Rattle.std.proofs.lemmas.Bool.{eqb-true, eq-eqb, ne_eqb}
 use Rattle.rq_standard.specs.Packet.{Packet}
-use Rattle.rq_standard.specs.Configuration.{Configuration}
-use Rattle.rq_standard.specs.Cutting.{source_symbol}
-use Rattle.rq_standard.specs.Received.{or_later, payload_for, first_payload, has_id, IsSourcePacket}
+use Rattle.rq_standard.specs.Received.{or_later, payload_for, first_payload, has_id}
 
 or_later-assoc : (a b c : Option (List ℕ)) → or_later (or_later a b) c ≡ or_later a (or_later b c)
 or_later-assoc None b c = refl
@@ -45,11 +43,11 @@ from_packet true true y x o e = inl (refl, refl, same y x e) where
 from_packet true false y x o e = inr e
 from_packet false t y x o e = inr e
 
--- what the packets of an object carry
-pub first_payload-source : (c : Configuration) (object : List ℕ) (packets : List Packet) (b e : ℕ) (x : List ℕ) → AllByRecursion (IsSourcePacket c object) packets → first_payload b packets e ≡ Some x → x ≡ source_symbol c object b e
-first_payload-source c object [] b e x h is = absurd (cc is)
-first_payload-source c object (p ∷ packets) b e x h is =
+-- a payload that counts is that of a packet of the list
+pub first_payload-packet : (P : Packet → Type 0) (packets : List Packet) (b e : ℕ) (x : List ℕ) → AllByRecursion P packets → first_payload b packets e ≡ Some x → (p : Packet) × P p × (p.id.block ≡ b) × (p.id.esi ≡ e) × (p.payload ≡ x)
+first_payload-packet P [] b e x h is = absurd (cc is)
+first_payload-packet P (p ∷ packets) b e x h is =
     elim (from_packet (eqb p.id.block b) (eqb p.id.esi e) p.payload x (first_payload b packets e) is) [
-      | inl w ↦ sym w.2 ∙ h.0.payload ∙ ap (λ n. source_symbol c object n p.id.esi) (eqb-true p.id.block b w.0) ∙ ap (source_symbol c object b) (eqb-true p.id.esi e w.1)
-      | inr w ↦ first_payload-source c object packets b e x h.1 w
+      | inl w ↦ (p, h.0, eqb-true p.id.block b w.0, eqb-true p.id.esi e w.1, w.2)
+      | inr w ↦ first_payload-packet P packets b e x h.1 w
     ]

@@ -1,5 +1,7 @@
+pub mod Columns
 pub mod Firsts
 pub mod HeaderBytes
+pub mod Known
 pub mod LeastNumbers
 pub mod OneAnswer
 pub mod OneBlock

@@ -1,19 +1,26 @@
 -- What a decoder holds of a block, and what it answers.
-use Rattle.std.specs.Prelude.{◌≡◌, ℕ, ◌*◌, ◌<◌, Bool, List, length, Option, Some, None, IfSome, IsSome, is_some, if◌then◌else◌, ◌==◌}
+use Rattle.std.specs.Prelude.{◌≡◌, ℕ, ◌+◌, ◌*◌, ◌<◌, ◌≤◌, Bool, List, length, Option, Some, None, IfSome, IsSome, is_some, if◌then◌else◌, ◌==◌, ◌⊎◌}
+use Rattle.rq_algebra.specs.Symbols.{IsSymbolColumn, SolvesSymbols}
+use Rattle.rq_standard.specs.declared.row.Row.{Row}
+use Rattle.rq_standard.specs.OctetField.{octets}
+use Rattle.rq_standard.specs.TableRows.{intermediate_symbols}
 use Rattle.rq_standard.specs.Configuration.{Configuration}
 use Rattle.rq_standard.specs.Cutting.{symbol_of_block}
-use Rattle.rq_standard.specs.Received.{or_later}
+use Rattle.rq_standard.specs.Equations.{fixed_equations, tuple_sum, zero_symbol, internal_id}
+use Rattle.rq_standard.specs.Received.{or_later, HasSourceSymbols}
+use Rattle.rq_standard.specs.Determined.{DetermineBlock}
 
--- of a block with this number and this many source symbols, the payload that counts for each encoding symbol id
+-- of a block with this number and this many source symbols, over a row of the table, the payload that counts for each encoding symbol id
 pub record Held : Type 0 where
   pub configuration : Configuration
   pub number : ℕ
+  pub row : Row
   pub symbols : ℕ
   pub received : ℕ → Option (List ℕ)
 
 -- nothing is held yet
-abbrev pub nothing_held : Configuration → ℕ → ℕ → Held
-nothing_held c number symbols = record { configuration = c; number = number; symbols = symbols; received = λ _. None }
+abbrev pub nothing_held : Configuration → ℕ → Row → ℕ → Held
+nothing_held c number row symbols = record { configuration = c; number = number; row = row; symbols = symbols; received = λ _. None }
 
 -- which ids are held
 abbrev pub holds : Held → ℕ → Bool
@@ -23,13 +30,31 @@ holds h e = is_some (h.received e)
 abbrev pub recorded : Held → ℕ → List ℕ → Held
 recorded h esi payload = record h { received = λ e. or_later (h.received e) (if esi == e then Some payload else None) }
 
--- a block whose source symbols are those that are held
+-- a column of symbols that solves all that is held of a block: its LDPC and HDPC equations, its padding and what came
+pub record SolvesHeld (h : Held) (column : ℕ → List ℕ) : Type 0 where
+  pub symbols : IsSymbolColumn octets h.configuration.symbol_size (intermediate_symbols h.row) column
+  pub fixed : SolvesSymbols octets (h.row.ldpc_symbols + h.row.hdpc_symbols) (intermediate_symbols h.row) (fixed_equations h.row) column (λ _. zero_symbol h.configuration.symbol_size)
+  pub padding : (x : ℕ) → h.symbols ≤ x → x < h.row.source_symbols → tuple_sum h.row column x ≡ zero_symbol h.configuration.symbol_size
+  pub received : (e : ℕ) → IfSome (h.received e) (λ payload. payload ≡ tuple_sum h.row column (internal_id h.row h.symbols e))
+
+-- the ids that are held determine the block
+abbrev pub AreHeldDetermining : Held → Type 0
+AreHeldDetermining h = DetermineBlock h.row h.symbols (holds h)
+
+-- what a decoder needs for its answer: all source symbols, or ids that determine the block
+abbrev pub CanAnswer : Held → Type 0
+CanAnswer h = HasSourceSymbols h.symbols (holds h) ⊎ AreHeldDetermining h
+
+-- a block of the held length
 pub record IsBlockWith (h : Held) (block : List ℕ) : Type 0 where
   pub long : length block ≡ h.symbols * h.configuration.symbol_size
+  -- the source symbols that are held are those of the block
   pub each : (e : ℕ) → e < h.symbols → IfSome (h.received e) (λ payload. payload ≡ symbol_of_block h.configuration h.symbols block e)
+  -- where the ids determine it and a column solves all that is held, it is that column's block
+  pub solved : AreHeldDetermining h → (column : ℕ → List ℕ) → SolvesHeld h column → (e : ℕ) → e < h.symbols → symbol_of_block h.configuration h.symbols block e ≡ tuple_sum h.row column e
 
--- What is answered: a block exactly where the ids that are held determine it, in the given sense.
-pub record IsBlockAnswer (Determines : ℕ → (ℕ → Bool) → Type 0) (h : Held) (answer : Option (List ℕ)) : Type 0 where
-  pub some : IsSome answer → Determines h.symbols (holds h)
-  pub none : Determines h.symbols (holds h) → IsSome answer
+-- what is answered
+pub record IsBlockAnswer (h : Held) (answer : Option (List ℕ)) : Type 0 where
+  pub some : IsSome answer → CanAnswer h
+  pub none : CanAnswer h → IsSome answer
   pub block : IfSome answer (IsBlockWith h)

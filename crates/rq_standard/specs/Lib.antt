@@ -2,8 +2,11 @@ pub mod BitTable
 pub mod Configuration
 pub mod ConstraintMatrix
 pub mod Cutting
+pub mod Determined
+pub mod Encoded
 pub mod Equations
 pub mod Held
+pub mod IdLists
 pub mod OctetFacts
 pub mod OctetField
 pub mod OctetLaws

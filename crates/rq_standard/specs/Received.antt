@@ -1,8 +1,6 @@
 -- What a list of packets says of a block: of each encoding symbol id the first payload counts.
 use Rattle.std.specs.Prelude.{◌≡◌, ℕ, ◌<◌, Bool, true, List, [], ◌∷◌, Option, Some, None, is_some, if◌then◌else◌, ◌==◌, ◌&&◌}
 use Rattle.rq_standard.specs.Packet.{Packet}
-use Rattle.rq_standard.specs.Configuration.{Configuration}
-use Rattle.rq_standard.specs.Cutting.{block_symbols, source_symbol}
 
 -- the earlier of two payloads
 abbrev pub or_later : Option (List ℕ) → Option (List ℕ) → Option (List ℕ)
@@ -25,13 +23,3 @@ has_id b packets e = is_some (first_payload b packets e)
 -- each of the k source symbols is among the ids
 pub record HasSourceSymbols (k : ℕ) (has : ℕ → Bool) : Type 0 where
   pub each : (e : ℕ) → e < k → has e ≡ true
-
--- a source packet of an object
-pub record IsSourcePacket (c : Configuration) (object : List ℕ) (p : Packet) : Type 0 where
-  pub block : p.id.block < c.source_blocks
-  pub esi : p.id.esi < block_symbols c p.id.block
-  pub payload : p.payload ≡ source_symbol c object p.id.block p.id.esi
-
--- in each block the ids that came determine it, in the given sense: a block of k symbols by a set of ids
-abbrev pub IsAnswerable : (ℕ → (ℕ → Bool) → Type 0) → Configuration → List Packet → Type 0
-IsAnswerable Determines c packets = (b : ℕ) → b < c.source_blocks → Determines (block_symbols c b) (has_id b packets)

@@ -1,14 +1,20 @@
 //! The decoder of one source block.
-ghost use Rattle.std.specs.Prelude.{◌≡◌, ◌≢◌, ℕ, ◌+◌, ◌*◌, ◌<◌, ◌≤◌, List, length, Result, Ok, Err, Some, None, IfOk, IfErr, OnOk, OnErr, IsSome, not, if◌then◌else◌, ◌==◌, option_map, vec_items};
+ghost use Rattle.std.specs.Prelude.{◌≡◌, ◌≢◌, ℕ, ◌+◌, ◌*◌, ◌^◌, ◌<◌, ◌≤◌, true, ◌++◌, List, length, Result, Ok, Err, Some, None, IfOk, IfErr, OnOk, OnErr, IsSome, not, if◌then◌else◌, ◌==◌, option_map, vec_items};
 ghost use Rattle.std.specs.Option.{ForSome};
 ghost use Rattle.rq_bytes.specs.Refusals.{IsAnswer};
 ghost use Rattle.rq_standard.specs.Cutting.{HasOneSubBlock};
 ghost use Rattle.rq_standard.specs.Received.{or_later};
+ghost use Rattle.rq_standard.specs.TableRows.{IsChecked};
 ghost use Rattle.rq_standard.proofs.PlainCut.{plain_symbol};
 ghost use Rattle.raptorq.specs.Missing.{payload_of, has_payload, missing_count};
 
+use crate::decoder::known::known_equations;
+use crate::solving::solve;
+use crate::sums::encoding_symbol;
 use rq_base::base::{EncodingPacket, ObjectTransmissionInformation};
 use rq_bytes::error::Error;
+use rq_bytes::symbol_slab::SymbolSlab;
+use rq_standard::row::Row;
 use rq_tables::systematic_constants::SystematicTable;
 use std::alloc::{AllocError, Global};
 use std::collections::BTreeMap;
@@ -18,12 +24,17 @@ use std::collections::BTreeMap;
 pub struct SourceBlockDecoder {
     config: ObjectTransmissionInformation,
     number: u8,
+    row: Row,
     symbols: u32,
     received: BTreeMap<u32, Vec<u8>>,
     missing: u32,
     alloc: Global,
     pub ghost sized: { (e : ℕ) → ForSome (payload_of received e) (λ payload. length payload ≡ config.symbol_size) },
     pub ghost plain: { HasOneSubBlock config },
+    pub ghost positive: { 0 < config.symbol_size },
+    pub ghost checked: { IsChecked row },
+    pub ghost fits: { symbols ≤ row.source_symbols },
+    pub ghost few: { (e : ℕ) → has_payload received e ≡ true → e < 2 ^ 24 },
     pub ghost counted: { missing ≡ missing_count symbols (has_payload received) },
 }
 
@@ -69,9 +80,9 @@ fn join(
 
 impl SourceBlockDecoder {
     ghost use Rattle.std.specs.Int.{div_ceil};
-    ghost use Rattle.rq_standard.specs.Held.{Held, nothing_held, recorded, IsBlockAnswer};
-    ghost use Rattle.rq_standard.specs.Received.{HasSourceSymbols};
-    ghost use Rattle.rq_standard.specs.TableRows.{greatest_size};
+    ghost use Rattle.rq_standard.specs.Held.{Held, nothing_held, recorded, IsBlockWith, IsBlockAnswer};
+    ghost use Rattle.rq_standard.specs.TableRows.{greatest_size, row_of};
+    ghost use Rattle.raptorq.specs.Known.{SolvesBlock, IsHeldSolution, rebuilt_symbol};
     ghost use Rattle.raptorq.specs.OneBlock.{IsOneBlock};
     ghost use Rattle.raptorq.specs.Refused.{checked_block, block_refusal};
     ghost use Rattle.raptorq.specs.Blocks.{held_of};
@@ -94,7 +105,8 @@ impl SourceBlockDecoder {
     ) -> Result<SourceBlockDecoder, Error>
         requires { IsOneBlock config.now }
         ensures refused { IsAnswer (λ _. tt) result (checked_block (greatest_size table.now) config.now (div_ceil block_length config.now.symbol_size)) }
-        ensures empty { IfOk result (λ d. held_of d ≡ nothing_held config.now number (div_ceil block_length config.now.symbol_size)) }
+        ensures empty { IfOk result (λ d. let symbols = div_ceil block_length config.now.symbol_size in held_of d ≡ nothing_held config.now number (row_of table.now symbols) symbols) }
+        ensures row { IfOk result (λ d. IsChecked (held_of d).row × ((held_of d).symbols ≤ (held_of d).row.source_symbols)) }
     {
         if config.symbol_size() == 0 {
             return Err(Error::SymbolSizeZero);
@@ -109,12 +121,14 @@ impl SourceBlockDecoder {
         if symbols > u64::from(table.greatest()) {
             return Err(Error::BlockOverTable);
         }
+        let symbols = symbols as u32;
         Ok(SourceBlockDecoder {
             config: *config,
             number,
-            symbols: symbols as u32,
+            row: table.row(symbols),
+            symbols,
             received: BTreeMap::new(alloc),
-            missing: symbols as u32,
+            missing: symbols,
             alloc,
         })
     }
@@ -166,16 +180,66 @@ impl SourceBlockDecoder {
         Ok(())
     }
 
-    /// The block, where all its source symbols came.
+    /// The block, where all its source symbols came or what came determines it. Nothing that is
+    /// held changes.
     pub(crate) fn answer(&self) -> Result<Option<Vec<u8>>, Error>
-        ensures block { IfOk result (λ r. IsBlockAnswer HasSourceSymbols (held_of self.now) (option_map vec_items r)) }
+        ensures block { IfOk result (λ r. IsBlockAnswer (held_of self.now) (option_map vec_items r)) }
         ensures memory { IfErr result (λ e. e ≡ Error.OutOfMemory) }
     {
-        if self.missing > 0 {
+        if self.missing == 0 {
+            let block = join(self.alloc, self.symbols, self.symbol_size(), &self.received)?;
+            return Ok(Some(block));
+        }
+        match self.solve()? {
+            Some(intermediate) => Ok(Some(self.rebuild(&intermediate)?)),
+            None => Ok(None),
+        }
+    }
+
+    // The intermediate symbols, where what came determines them.
+    fn solve(&self) -> Result<Option<SymbolSlab>, Error>
+        ensures solved { IfOk result (λ r. SolvesBlock (held_of self.now) r) }
+        ensures memory { IfErr result (λ e. e ≡ Error.OutOfMemory) }
+    {
+        let row = &self.row;
+        let size = self.symbol_size();
+        let known = (row.source_symbols - self.symbols) as usize + self.received.len();
+        if known < row.source_symbols as usize {
             return Ok(None);
         }
-        let block = join(self.alloc, self.symbols, self.symbol_size(), &self.received)?;
-        Ok(Some(block))
+        let (ids, values) = known_equations(self.alloc, row, self.symbols, size, &self.received)?;
+        solve(self.alloc, row, ids.as_slice(), values)
+    }
+
+    // The block, from the source symbols that came and the intermediate symbols.
+    fn rebuild(&self, intermediate: &SymbolSlab) -> Result<Vec<u8>, AllocError>
+        requires { IsHeldSolution (held_of self.now) intermediate.now }
+        ensures { IfOk result (λ block. IsBlockWith (held_of self.now) block.items) }
+    {
+        let whole = self.symbols as usize * self.symbol_size();
+        let mut block = Vec::with_capacity(self.alloc, whole)?;
+        for e in 0..self.symbols {
+            self.push_symbol(intermediate, e, &mut block)?;
+        }
+        Ok(block)
+    }
+
+    // A source symbol behind those before it: the one that came, or a sum of intermediate symbols.
+    fn push_symbol(
+        &self,
+        intermediate: &SymbolSlab,
+        e: u32,
+        block: &mut Vec<u8>,
+    ) -> Result<(), AllocError>
+        requires solution { IsHeldSolution (held_of self.now) intermediate.now }
+        requires source { e < (held_of self.now).symbols }
+        ensures { OnOk result (block.new.items ≡ block.old.items ++ rebuilt_symbol (held_of self.now) intermediate.now e) }
+    {
+        if let Some(symbol) = self.received.get(&e) {
+            return block.extend_from_slice(symbol.as_slice());
+        }
+        let symbol = encoding_symbol(self.alloc, &self.row, intermediate, e)?;
+        block.extend_from_slice(symbol.as_slice())
     }
 }
 
@@ -188,6 +252,7 @@ impl Clone for SourceBlockDecoder {
         Ok(SourceBlockDecoder {
             config: self.config,
             number: self.number,
+            row: self.row,
             symbols: self.symbols,
             received: self.received.clone()?,
             missing: self.missing,

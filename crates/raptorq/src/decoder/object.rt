@@ -6,8 +6,8 @@ ghost use Rattle.rq_bytes.specs.Refusals.{IsAnswer, IsRefusal};
 ghost use Rattle.rq_standard.specs.Configuration.{IsAccepted};
 ghost use Rattle.rq_standard.specs.Cutting.{HasOneSubBlock};
 ghost use Rattle.rq_standard.specs.Packet.{Packet};
-ghost use Rattle.rq_standard.specs.Received.{HasSourceSymbols, IsSourcePacket};
-ghost use Rattle.rq_standard.specs.Standing.{IsHeldOf, IsObjectAnswer};
+ghost use Rattle.rq_standard.specs.Encoded.{IsPacketOf, HasNonsingularRows};
+ghost use Rattle.rq_standard.specs.Standing.{IsObjectAnswer};
 ghost use Rattle.rq_standard.specs.TableRows.{greatest_size};
 ghost use Rattle.rq_base.specs.Refused.{checked_configuration};
 ghost use Rattle.raptorq.specs.Blocks.{held_of};
@@ -28,11 +28,12 @@ pub struct Decoder {
     alloc: Global,
     pub ghost one_block: { IsOneBlock config },
     pub ghost plain: { HasOneSubBlock config },
-    pub ghost shape: { IsHeldOf config 0 (held_of block) },
+    pub ghost same: { (held_of block).configuration ≡ config },
+    pub ghost first: { (held_of block).number ≡ 0 },
 }
 
 impl Decoder {
-    ghost use Rattle.rq_standard.specs.Standing.{State, Adds, Stands, result_of};
+    ghost use Rattle.rq_standard.specs.Standing.{State, Adds, Stands, StandsForMore, result_of};
     ghost use Rattle.raptorq.specs.Refused.{packet_refusal};
     ghost use Rattle.raptorq.specs.Objects.{state_of};
 
@@ -48,7 +49,7 @@ impl Decoder {
         ensures refused { IsAnswer (λ _. tt) result (checked_configuration (greatest_size table.now) config) }
         ensures configuration { IfOk result (λ d. (state_of d).configuration ≡ config) }
         ensures accepted { OnOk result (IsAccepted (greatest_size table.now) config) }
-        ensures stands { IfOk result (λ d. (object : List ℕ) → length object ≡ config.transfer_length → Stands HasSourceSymbols IsSourcePacket object [] (state_of d)) }
+        ensures stands { IfOk result (λ d. (object : List ℕ) → length object ≡ config.transfer_length → Stands table.now object [] (state_of d)) }
     {
         config.check(table)?;
         let block = SourceBlockDecoder::new(alloc, table, 0, &config, config.transfer_length())?;
@@ -64,7 +65,7 @@ impl Decoder {
     fn take(&mut self, packet: EncodingPacket) -> Result<(), Error>
         ensures refused { IsAnswer (λ x. x) result (packet_refusal (state_of self.old).configuration packet) }
         ensures unchanged { IfErr result (λ e. e ≢ Error.OutOfMemory → state_of self.new ≡ state_of self.old) }
-        ensures adds { OnOk result (Adds HasSourceSymbols (state_of self.old) packet (state_of self.new)) }
+        ensures adds { OnOk result (Adds (state_of self.old) packet (state_of self.new)) }
         ensures configuration { (state_of self.new).configuration ≡ (state_of self.old).configuration }
     {
         if packet.payload_id().source_block_number() >= self.config.source_blocks() {
@@ -87,12 +88,11 @@ impl Decoder {
     pub fn add_new_packet(&mut self, packet: EncodingPacket) -> Result<(), Error>
         ensures refused { IsAnswer (λ x. x) result (packet_refusal (state_of self.old).configuration packet) }
         ensures unchanged { IfErr result (λ e. e ≢ Error.OutOfMemory → state_of self.new ≡ state_of self.old) }
-        ensures adds { OnOk result (Adds HasSourceSymbols (state_of self.old) packet (state_of self.new)) }
+        ensures adds { OnOk result (Adds (state_of self.old) packet (state_of self.new)) }
         ensures configuration { (state_of self.new).configuration ≡ (state_of self.old).configuration }
 
         // From a decoder that stands for a list, one that stands for the longer list.
-        ensures stands { OnOk result ((object : List ℕ) (packets : List Packet) → Stands HasSourceSymbols IsSourcePacket object packets (state_of self.old)
-            → IsSourcePacket (state_of self.old).configuration object packet → Stands HasSourceSymbols IsSourcePacket object (packets ++ packet ∷ []) (state_of self.new)) }
+        ensures stands { OnOk result (StandsForMore (state_of self.old) packet (state_of self.new)) }
     {
         self.take(packet)
     }
@@ -118,13 +118,12 @@ impl Decoder {
         ensures refused { IfErr result (λ e. IsRefusal e (packet_refusal (state_of self.old).configuration packet)) }
         ensures accepted { OnOk result (packet_refusal (state_of self.old).configuration packet ≡ Ok tt) }
         ensures unchanged { IfErr result (λ e. e ≢ Error.OutOfMemory → state_of self.new ≡ state_of self.old) }
-        ensures adds { OnOk result (Adds HasSourceSymbols (state_of self.old) packet (state_of self.new)) }
+        ensures adds { OnOk result (Adds (state_of self.old) packet (state_of self.new)) }
         ensures value { IfOk result (λ r. option_map vec_items r ≡ result_of (state_of self.new)) }
         ensures configuration { (state_of self.new).configuration ≡ (state_of self.old).configuration }
 
         // From a decoder that stands for a list, one that stands for the longer list.
-        ensures stands { OnOk result ((object : List ℕ) (packets : List Packet) → Stands HasSourceSymbols IsSourcePacket object packets (state_of self.old)
-            → IsSourcePacket (state_of self.old).configuration object packet → Stands HasSourceSymbols IsSourcePacket object (packets ++ packet ∷ []) (state_of self.new)) }
+        ensures stands { OnOk result (StandsForMore (state_of self.old) packet (state_of self.new)) }
     {
         self.add_new_packet(packet)?;
         self.get_result()
@@ -159,13 +158,13 @@ pub fn decode_all(
     requires { IsOneBlock config }
 
     // Over packets of an object nothing is refused but the configuration, and memory.
-    ensures refused { IfErr result (λ e. (object : List ℕ) → length object ≡ config.transfer_length → AllByRecursion (IsSourcePacket config object) packets.items
-        → IsRefusal e (checked_configuration (greatest_size table.now) config)) }
+    ensures refused { IfErr result (λ e. (object : List ℕ) → length object ≡ config.transfer_length → HasNonsingularRows table.now config
+        → AllByRecursion (IsPacketOf table.now config object) packets.items → IsRefusal e (checked_configuration (greatest_size table.now) config)) }
 
     // Over packets of an object, any number of times and in any order, the object exactly where
-    // each source symbol is among them.
-    ensures headline { IfOk result (λ r. (object : List ℕ) → length object ≡ config.transfer_length → AllByRecursion (IsSourcePacket config object) packets.items
-        → IsObjectAnswer HasSourceSymbols config object packets.items (option_map vec_items r)) }
+    // they determine each block.
+    ensures headline { IfOk result (λ r. (object : List ℕ) → length object ≡ config.transfer_length → HasNonsingularRows table.now config
+        → AllByRecursion (IsPacketOf table.now config object) packets.items → IsObjectAnswer table.now config object packets.items (option_map vec_items r)) }
 {
     let mut decoder = Decoder::new(alloc, table, config)?;
     for packet in packets {

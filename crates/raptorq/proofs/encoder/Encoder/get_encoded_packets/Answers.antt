@@ -1,13 +1,15 @@
-use Rattle.std.proofs.Common.{Ok, ap, ◌∙◌, sym, arith}
-use Rattle.raptorq.specs.Encoded.{encoded_of}
-use Rattle.raptorq.proofs.Encodes.{new_id-is, packets-more, packets-all}
+use Rattle.std.proofs.Common.{◌≡◌, ◌+◌, ◌-◌, length, sym, ap, ◌∙◌, arith}
+use Rattle.std.proofs.lemmas.Result.{IfOk-weaker}
+use Rattle.rq_standard.specs.Cutting.{block_symbols}
+use Rattle.raptorq.specs.BlockEncoded.{block_encoded_of}
+use Rattle.raptorq.proofs.Encodes.{block_encodes}
 use Rattle.raptorq.proofs.encoder.Encoder.get_encoded_packets.Goals as goal
 
-pub loop-esi-preserved : goal.loop-esi-preserved
-loop-esi-preserved c =
-    let e = encoded_of c.args.self.now in
-    packets-more e.configuration e.object c.loop-esi.packets.items c.push.new.self.items c.loop-esi.esi c.new-in-loop-esi.result
-    (c.new-in-loop-esi.ensures.id ∙ new_id-is 0 c.loop-esi.esi c.in_ok-new.field-0 (omega arith) (sym c.in_ok-new.ensures)) (c.new-in-loop-esi.ensures.payload ∙ c.in_ok-symbol.ensures) c.loop-esi.invariant c.in_ok-push.ensures.items
-
-pub returns : goal.returns
-returns c = let e = encoded_of c.args.self.now in record { packets = ap (λ ps. Ok ps) (sym (packets-all e.configuration e.object c.loop-esi.packets.items c.loop-esi.esi c.args.self.now.one_block.one_block (omega (arith, c.args.self.now.counted)) c.loop-esi.invariant)) }
+pub returns-clause-packets : goal.returns-clause-packets
+returns-clause-packets c =
+    let e = c.args.self.now in
+    let b = block_encoded_of e.block in
+    let first = e.one_block.one_block in
+    IfOk-weaker c.packets.result _ _
+    (λ v are table object is. block_encodes table object e.config b first e.number e.size (is.row 0 (omega (arith, first))) (is.source 0 (omega (arith, first))) c.args.repair_packets_per_block _ v.items (omega (arith, c.from.ensures, c.symbols.ensures, e.counted, c.from-2.ensures)) are)
+    c.packets.ensures.packets

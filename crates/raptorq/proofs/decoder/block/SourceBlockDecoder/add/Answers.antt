@@ -1,7 +1,7 @@
-use Rattle.std.proofs.Common.{◌≡◌, length, sym, ap, ◌∙◌}
+use Rattle.std.proofs.Common.{◌≡◌, ◌^◌, length, sym, ap, ◌∙◌}
 use Rattle.std.specs.Prelude.{is_some}
 use Rattle.raptorq.specs.Missing.{payload_of}
-use Rattle.raptorq.proofs.Payloads.{sized-more}
+use Rattle.raptorq.proofs.Payloads.{sized-more, few-more}
 use Rattle.raptorq.proofs.MissingCounts.{missing_count-same, missing_count-step, missing-after}
 use Rattle.raptorq.proofs.decoder.block.SourceBlockDecoder.add.Goals as goal
 
@@ -9,6 +9,10 @@ pub invariant_of-self : goal.invariant_of-self
 invariant_of-self c = record {
   sized = λ e x is. c.args.self.now.sized e x (sym (c.in_err-kept.ensures.err e) ∙ is);
   plain = c.args.self.now.plain;
+  positive = c.args.self.now.positive;
+  checked = c.args.self.now.checked;
+  fits = c.args.self.now.fits;
+  few = λ e came. c.args.self.now.few e (sym (ap is_some (c.in_err-kept.ensures.err e)) ∙ came);
   counted = c.args.self.now.counted ∙ missing_count-same c.args.self.now.symbols _ _ (λ e below. sym (ap is_some (c.in_err-kept.ensures.err e)));
 }
 
@@ -21,5 +25,9 @@ invariant_of-self-2 c =
     record {
       sized = sized-more (payload_of c.args.self.now.received) (payload_of c.keep_first.new.received) c.encoding_symbol_id-esi.result c.split-id.result.1.items c.args.self.now.config.symbol_size c.args.self.now.sized long c.in_ok-kept.ensures.ok;
       plain = c.args.self.now.plain;
+      positive = c.args.self.now.positive;
+      checked = c.args.self.now.checked;
+      fits = c.args.self.now.fits;
+      few = few-more (payload_of c.args.self.now.received) (payload_of c.keep_first.new.received) c.encoding_symbol_id-esi.result c.split-id.result.1.items (2 ^ 24) c.args.self.now.few c.encoding_symbol_id-esi.ensures.below c.in_ok-kept.ensures.ok;
       counted = (missing-after c.args.self.now.missing _ _ c.from.result _ c.args.self.now.counted c.from.ensures (missing_count-step c.args.self.now.symbols c.encoding_symbol_id-esi.result (payload_of c.args.self.now.received) (payload_of c.keep_first.new.received) c.in_ok-kept.kept c.split-id.result.1.items c.in_ok-kept.ensures.kept c.in_ok-kept.ensures.ok)).1;
     }

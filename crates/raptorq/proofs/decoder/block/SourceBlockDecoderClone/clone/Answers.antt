@@ -12,6 +12,10 @@ invariant_of-result c =
     record {
       sized = λ e x is. d.sized e x (sym (same e) ∙ is);
       plain = d.plain;
+      positive = d.positive;
+      checked = d.checked;
+      fits = d.fits;
+      few = λ e came. d.few e (sym (ap is_some (same e)) ∙ came);
       counted = d.counted ∙ missing_count-same d.symbols _ _ (λ e below. sym (ap is_some (same e)));
     }
 
@@ -19,4 +23,4 @@ pub returns : goal.returns
 returns c =
     let d = c.args.self.now in
     let same : (e : ℕ) → payload_of c.in_ok-clone.field-0 e ≡ payload_of d.received e = payload_of-cloned d.received c.in_ok-clone.field-0 c.in_ok-clone.ensures.cases in
-    record { cases = λ i. record { configuration = d.config; number = d.number; symbols = d.symbols; received = λ e. same e i } }
+    record { cases = λ i. record { configuration = d.config; number = d.number; row = d.row; symbols = d.symbols; received = λ e. same e i } }

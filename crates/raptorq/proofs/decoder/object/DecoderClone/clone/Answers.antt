@@ -1,12 +1,11 @@
-use Rattle.std.proofs.Common.{sym, subst}
-use Rattle.rq_standard.specs.Standing.{IsHeldOf}
+use Rattle.std.proofs.Common.{ap, ◌∙◌}
 use Rattle.raptorq.proofs.Payloads.{same_answer}
 use Rattle.raptorq.proofs.decoder.object.DecoderClone.clone.Goals as goal
 
 pub invariant_of-result : goal.invariant_of-result
 invariant_of-result c =
     let d = c.args.self.now in
-    record { one_block = d.one_block; plain = d.plain; shape = subst (IsHeldOf d.config 0) (sym c.in_ok-clone.ensures.cases) d.shape }
+    record { one_block = d.one_block; plain = d.plain; same = ap (λ h. h.configuration) c.in_ok-clone.ensures.cases ∙ d.same; first = ap (λ h. h.number) c.in_ok-clone.ensures.cases ∙ d.first }
 
 pub returns : goal.returns
 returns c =

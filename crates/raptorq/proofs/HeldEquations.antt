@@ -1,0 +1,222 @@
+-- What is held of a block as equations: a list of ids that has the known ones, and their values.
+use Rattle.std.proofs.Common.{◌≡◌, ℕ, zero, suc, ◌+◌, ◌-◌, ◌<◌, ◌≤◌, Bool, true, false, cond, eqb, ltb, List, [], ◌∷◌, ◌++◌, length, map, get_or, replicate, Option, Some, None, Vec, Global, refl, sym, ap, ◌∙◌, subst, arith, inl, inr, ◌⊎◌, vec_items}
+use Rattle.std.specs.Prelude.{is_some, option_map, IfSome}
+use Rattle.std.specs.List.{slice_get, range_with_len}
+use Rattle.std.specs.Ordering.{nat_cmp, is_eq}
+use Rattle.std.specs.Map.{lookup}
+use Rattle.std.specs.BTreeMap.{BTreeMap, get, is_at, IsOrdered}
+use Rattle.std.proofs.lemmas.Bool.{cases_lt, lt-ltb, le-ltb, eqb-true}
+use Rattle.std.proofs.lemmas.List.{get_or_append_left, get_or-append_right, get_or-map, get_or-replicate, length-map, length-replicate}
+use Rattle.std.proofs.lemmas.List.FromFn.{length-range_with_len}
+use Rattle.std.proofs.lemmas.Option.{slice_get_within, slice_get_cases}
+use Rattle.std.proofs.lemmas.Map.Entries.{place_from_lookup}
+use Rattle.rq_algebra.specs.Systems.{dot, at, stacked, rows_of}
+use Rattle.rq_algebra.specs.Symbols.{SolvesSymbols, symbol_at, slice_at}
+use Rattle.rq_algebra.proofs.Stacks.{stacked_above, stacked_below}
+use Rattle.rq_standard.specs.declared.row.Row.{Row}
+use Rattle.rq_standard.specs.OctetField.{octets}
+use Rattle.rq_standard.specs.TableRows.{intermediate_symbols, IsChecked}
+use Rattle.rq_standard.specs.Equations.{fixed_equations, symbol_coefficient, equations, equation_count, zero_symbol, internal_id, tuple_sum, AreDetermining}
+use Rattle.rq_standard.specs.IdLists.{IsListOf}
+use Rattle.rq_standard.specs.Determined.{known_ids, DetermineBlock}
+use Rattle.rq_standard.specs.Held.{Held, holds, SolvesHeld, AreHeldDetermining}
+use Rattle.rq_standard.proofs.Known.{known_source, known_padding, known_repair, range_at, determined_by, determined_list, block_same, few_not_determining}
+use Rattle.rq_standard.proofs.Columns.{sum_at}
+use Rattle.raptorq.specs.Known.{known_list, known_values, IsHeldSolution, SolvesBlock}
+use Rattle.raptorq.specs.Solving.{IsSolution, Solves}
+use Rattle.rq_bytes.specs.Slab.{Slab, slab_of}
+use Rattle.raptorq.specs.Missing.{payload_of, has_payload}
+use Rattle.raptorq.proofs.Listing.{entry_payload, length-known_list, length-known_values}
+use Rattle.raptorq.proofs.Payloads.{is_eq-nat_cmp}
+
+abbrev Payloads : Type 0
+Payloads = BTreeMap ℕ (Vec ℕ Global)
+
+-- ---- internal ids
+
+pub internal_below : (row : Row) (k e : ℕ) → e < k → internal_id row k e ≡ e
+internal_below row k e below = ap (λ b. cond b e (e + row.source_symbols - k)) (lt-ltb e k below)
+
+internal_above : (row : Row) (k e : ℕ) → k ≤ e → internal_id row k e ≡ e + row.source_symbols - k
+internal_above row k e above = ap (λ b. cond b e (e + row.source_symbols - k)) (le-ltb e k above)
+
+-- the internal id of an encoding symbol id is known where that came
+known_internal : (row : Row) (k e : ℕ) (has : ℕ → Bool) → k ≤ row.source_symbols → known_ids row k has (internal_id row k e) ≡ has e
+known_internal row k e has fits = elim (cases_lt e k) [
+  | inl below ↦ ap (known_ids row k has) (internal_below row k e below) ∙ known_source row k e has below
+  | inr above ↦
+      let back : e + row.source_symbols - k + k - row.source_symbols ≡ e = omega arith in
+      ap (known_ids row k has) (internal_above row k e above) ∙ known_repair row k (e + row.source_symbols - k) has (omega arith) (omega arith) ∙ ap has back
+]
+
+some_value : (o : Option (Vec ℕ Global)) → is_some (option_map vec_items o) ≡ true → (v : Vec ℕ Global) × (o ≡ Some v)
+some_value None h = absurd (cc h)
+some_value (Some v) h = (v, refl)
+
+read_at : {X : Type 0} → (xs : List X) (i : ℕ) (x : X) → slice_get xs i ≡ Some x → get_or xs i x ≡ x
+read_at [] i x h = refl
+read_at (y ∷ xs) zero x h = same y x h where
+  same : {X : Type 0} → (y x : X) → Some y ≡ Some x → y ≡ x
+  same y x h = cc
+read_at (y ∷ xs) (suc i) x h = read_at xs i x h
+
+pub came_sum : (o : Option (List ℕ)) (x y : List ℕ) → o ≡ Some x → IfSome o (λ payload. payload ≡ y) → x ≡ y
+came_sum o x y is h = subst (λ r. IfSome r (λ payload. payload ≡ y)) is h
+
+-- ---- what stands at a place
+
+-- padding, or a payload that came
+pub record IsPadding (row : Row) (k size j : ℕ) (x : ℕ) (value : List ℕ) : Type 0 where
+  pub from : k ≤ x
+  pub below : x < row.source_symbols
+  pub is_zero : value ≡ zero_symbol size
+
+pub record IsPayload (row : Row) (k : ℕ) (m : Payloads) (x : ℕ) (value : List ℕ) : Type 0 where
+  pub esi : ℕ
+  pub came : payload_of m esi ≡ Some value
+  pub id : x ≡ internal_id row k esi
+
+module _ (row : Row) (k size : ℕ) (m : Payloads) (fits : k ≤ row.source_symbols) (ordered : IsOrdered nat_cmp m) where
+  -- the ids and the values of the symbol equations, one by one
+  known_at : (j : ℕ) → j < length (known_list row k m.entries)
+      → IsPadding row k size j (at (known_list row k m.entries) j) (symbol_at (known_values row k size m.entries) (row.ldpc_symbols + row.hdpc_symbols + j)) ⊎ IsPayload row k m (at (known_list row k m.entries) j) (symbol_at (known_values row k size m.entries) (row.ldpc_symbols + row.hdpc_symbols + j))
+  known_at j below =
+      let f : ℕ = row.ldpc_symbols + row.hdpc_symbols in
+      let pad : ℕ = row.source_symbols - k in
+      let ids : List ℕ = range_with_len k pad in
+      let zeros : List (List ℕ) = replicate (f + pad) (zero_symbol size) in
+      let named : List ℕ = map (λ e. internal_id row k e.0) m.entries in
+      let values : List (List ℕ) = map (λ e. e.1.items) m.entries in
+      elim (cases_lt j pad) [
+        | inl lt ↦
+            let id : at (known_list row k m.entries) j ≡ k + j = get_or_append_left ids named 0 j (omega (arith, length-range_with_len k pad)) ∙ range_at k pad j lt in
+            inl (record {
+              from = omega (arith, id);
+              below = omega (arith, id);
+              is_zero = get_or_append_left zeros values [] (f + j) (omega (arith, length-replicate (f + pad) (zero_symbol size))) ∙ get_or-replicate (f + pad) (f + j) (zero_symbol size) [] (omega arith);
+            })
+        | inr past ↦ elim (slice_get_cases m.entries (j - pad)).1 [
+          | inl q ↦ inr (record {
+            esi = q.0.0;
+            came = entry_payload m (j - pad) q.0.0 q.0.1 ordered q.2 ∙ ap (λ v. Some v) (sym (
+                get_or-append_right zeros values (f + pad) (f + j) [] (length-replicate (f + pad) (zero_symbol size)) (omega arith)
+                ∙ ap (λ n. get_or values n []) (let e : f + j - (f + pad) ≡ j - pad = omega arith in e)
+                ∙ get_or-map (λ e. e.1.items) m.entries (j - pad) q.0 [] q.1 ∙ ap (λ e. e.1.items) q.3));
+            id = get_or-append_right ids named pad j 0 (length-range_with_len k pad) past ∙ get_or-map (λ e. internal_id row k e.0) m.entries (j - pad) q.0 0 q.1 ∙ ap (λ e. internal_id row k e.0) q.3;
+          })
+          | inr q ↦ absurd (omega (arith, length-known_list row k m.entries, q.0))
+        ]
+      ]
+
+  -- an id that came has a place
+  place_came : (e : ℕ) → has_payload m e ≡ true → (j : ℕ) × (j < length (known_list row k m.entries)) × (at (known_list row k m.entries) j ≡ internal_id row k e)
+  place_came e came =
+      let pad : ℕ = row.source_symbols - k in
+      let some = some_value (get nat_cmp m e) came in
+      let q = place_from_lookup (is_at (nat_cmp e)) m.entries some.0 some.1 in
+      let key : e ≡ q.1 = eqb-true e q.1 (sym (is_eq-nat_cmp e q.1) ∙ q.3) in
+      let within : q.0 < length m.entries = slice_get_within m.entries q.0 (q.1, some.0) q.2 in (
+        pad + q.0,
+        (omega (arith, length-known_list row k m.entries, within)),
+        get_or-append_right (range_with_len k pad) (map (λ x. internal_id row k x.0) m.entries) pad (pad + q.0) 0 (length-range_with_len k pad) (omega arith)
+            ∙ ap (λ n. get_or (map (λ x. internal_id row k x.0) m.entries) n 0) (let z : pad + q.0 - pad ≡ q.0 = omega arith in z)
+            ∙ get_or-map (λ x. internal_id row k x.0) m.entries q.0 (q.1, some.0) 0 within
+            ∙ ap (λ x. internal_id row k x.0) (read_at m.entries q.0 (q.1, some.0) q.2) ∙ ap (internal_id row k) (sym key),
+      )
+
+  -- the ids are the known ones
+  pub known_listed : IsListOf (known_ids row k (has_payload m)) (known_list row k m.entries)
+  known_listed = record {
+    listed = λ j below. elim (known_at j below) [
+      | inl p ↦ known_padding row k (at (known_list row k m.entries) j) (has_payload m) p.from p.below
+      | inr p ↦ ap (known_ids row k (has_payload m)) p.id ∙ known_internal row k p.esi (has_payload m) fits ∙ ap is_some p.came
+    ];
+    place = λ x known. elim (cases_lt x k) [
+      | inl below ↦
+          let q = place_came x (sym (known_source row k x (has_payload m) below) ∙ known) in
+          (q.0, q.1, q.2 ∙ internal_below row k x below)
+      | inr above ↦ elim (cases_lt x row.source_symbols) [
+        | inl below ↦ (
+          x - k,
+          (omega (arith, length-known_list row k m.entries)),
+          get_or_append_left (range_with_len k (row.source_symbols - k)) (map (λ e. internal_id row k e.0) m.entries) 0 (x - k) (omega (arith, length-range_with_len k (row.source_symbols - k)))
+              ∙ range_at k (row.source_symbols - k) (x - k) (omega arith) ∙ omega arith,
+        )
+        | inr past ↦
+            let q = place_came (x + k - row.source_symbols) (sym (known_repair row k x (has_payload m) above past) ∙ known) in
+            (q.0, q.1, q.2 ∙ internal_above row k (x + k - row.source_symbols) (omega arith) ∙ omega arith)
+      ]
+    ];
+  }
+
+  -- fewer ids than K' determine nothing
+  pub few_held : (row.source_symbols - k) + length m.entries < row.source_symbols → DetermineBlock row k (has_payload m) → ⊥
+  few_held few d =
+      let ids = known_list row k m.entries in
+      few_not_determining row ids (omega (arith, length-known_list row k m.entries)) (determined_list row (known_ids row k (has_payload m)) ids known_listed d)
+
+  pub count_held : length (known_values row k size m.entries) ≡ equation_count row (known_list row k m.entries)
+  count_held = omega (arith, length-known_values row k size m.entries, length-known_list row k m.entries)
+
+-- ---- of a block
+
+module _ (h : Held) (m : Payloads) (fits : h.symbols ≤ h.row.source_symbols) (ordered : IsOrdered nat_cmp m) (checked : IsChecked h.row) (same : (e : ℕ) → h.received e ≡ payload_of m e) where
+  -- a column that solves what is held solves the equations with their values
+  values_solved : (column : ℕ → List ℕ) → SolvesHeld h column
+      → SolvesSymbols octets (equation_count h.row (known_list h.row h.symbols m.entries)) (intermediate_symbols h.row) (equations h.row (known_list h.row h.symbols m.entries)) column (symbol_at (known_values h.row h.symbols h.configuration.symbol_size m.entries))
+  values_solved column z =
+      let row = h.row in
+      let k = h.symbols in
+      let size = h.configuration.symbol_size in
+      let f : ℕ = row.ldpc_symbols + row.hdpc_symbols in
+      let ids = known_list row k m.entries in
+      let values = known_values row k size m.entries in
+      record {
+        at_place = λ p. record {
+          at = λ i below. elim (cases_lt i f) [
+            | inl lt ↦
+                ap (λ (r : ℕ → ℕ). dot octets (intermediate_symbols row) r (slice_at p column)) (stacked_above f (fixed_equations row) (rows_of (symbol_coefficient row) ids) i lt)
+                ∙ (z.fixed.at_place p).at i lt
+                ∙ ap (λ xs. at xs p) (sym (
+                get_or_append_left (replicate (f + (row.source_symbols - k)) (zero_symbol size)) (map (λ e. e.1.items) m.entries) [] i (omega (arith, length-replicate (f + (row.source_symbols - k)) (zero_symbol size)))
+                ∙ get_or-replicate (f + (row.source_symbols - k)) i (zero_symbol size) [] (omega arith)))
+            | inr past ↦
+                let j : ℕ = i - f in
+                let e : f + j ≡ i = omega arith in
+                rw (← e) (
+                ap (λ (r : ℕ → ℕ). dot octets (intermediate_symbols row) r (slice_at p column)) (stacked_below f (fixed_equations row) (rows_of (symbol_coefficient row) ids) j)
+                ∙ sym (sum_at row size (at ids j) column checked z.symbols p)
+                ∙ ap (λ xs. at xs p) (elim (known_at row k size m fits ordered j (omega arith)) [
+                  | inl q ↦ z.padding (at ids j) q.from q.below ∙ sym q.is_zero
+                  | inr q ↦ ap (tuple_sum row column) q.id ∙ sym (came_sum (h.received q.esi) (symbol_at values (f + j)) (tuple_sum row column (internal_id row k q.esi)) (same q.esi ∙ q.came) (z.received q.esi))
+                ]))
+          ];
+        };
+      }
+
+  -- what a solver finds of them
+  pub held_solution : (slab : Slab) → IsSolution h.row (known_list h.row h.symbols m.entries) h.configuration.symbol_size (known_values h.row h.symbols h.configuration.symbol_size m.entries) slab → IsHeldSolution h slab
+  held_solution slab s =
+      let has : (e : ℕ) → holds h e ≡ has_payload m e = λ e. ap is_some (same e) in
+      record {
+        determined = block_same h.row h.symbols (has_payload m) (holds h) (λ e. sym (has e)) (determined_by h.row (known_ids h.row h.symbols (has_payload m)) (known_list h.row h.symbols m.entries) (known_listed h.row h.symbols h.configuration.symbol_size m fits ordered).listed s.determined);
+        places = s.places;
+        size_is = s.size_is;
+        symbols = s.symbols;
+        only = λ column z. s.only column z.symbols (values_solved column z);
+      }
+
+  -- where it finds nothing, the ids don't determine the block
+  pub not_held : (AreDetermining h.row (known_list h.row h.symbols m.entries) → ⊥) → AreHeldDetermining h → ⊥
+  not_held none d = none (determined_list h.row (known_ids h.row h.symbols (has_payload m)) (known_list h.row h.symbols m.entries) (known_listed h.row h.symbols h.configuration.symbol_size m fits ordered) (block_same h.row h.symbols (holds h) (has_payload m) (λ e. ap is_some (same e)) d))
+
+  pub too_few : (h.row.source_symbols - h.symbols) + length m.entries < h.row.source_symbols → AreHeldDetermining h → ⊥
+  too_few few d = few_held h.row h.symbols h.configuration.symbol_size m fits ordered few (block_same h.row h.symbols (holds h) (has_payload m) (λ e. ap is_some (same e)) d)
+
+  -- an answer of a solver over them
+  pub solves_block : (size : ℕ) (ids : List ℕ) (given : Slab) (answer : Option Slab) → size ≡ h.configuration.symbol_size → ids ≡ known_list h.row h.symbols m.entries → given ≡ slab_of size (known_values h.row h.symbols size m.entries)
+      → Solves h.row ids given.symbol_size given.values answer → SolvesBlock h answer
+  solves_block size ids given None is listed values none = not_held (subst (λ l. AreDetermining h.row l → ⊥) listed none)
+  solves_block size ids given (Some slab) is listed values some =
+      held_solution slab (subst (λ n. IsSolution h.row (known_list h.row h.symbols m.entries) n (known_values h.row h.symbols n m.entries) slab) is
+      (subst (λ l. IsSolution h.row l size (known_values h.row h.symbols size m.entries) slab) listed (subst (λ (g : Slab). IsSolution h.row ids g.symbol_size g.values slab) values some)))

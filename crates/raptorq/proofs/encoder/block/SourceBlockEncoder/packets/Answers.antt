@@ -1,0 +1,20 @@
+use Rattle.std.proofs.Common.{◌≡◌, ◌-◌, ◌∙◌, sym, subst, arith}
+use Rattle.rq_standard.specs.Equations.{IsEncodingSymbol}
+use Rattle.raptorq.specs.BlockEncoded.{block_encoded_of, AreBlockPackets}
+use Rattle.raptorq.proofs.Encodes.{new_id-is, block_packets-none, block_packets-more}
+use Rattle.raptorq.proofs.encoder.block.SourceBlockEncoder.packets.Goals as goal
+
+pub loop-esi-init : goal.loop-esi-init
+loop-esi-init c = block_packets-none (block_encoded_of c.args.self.now) c.args.start c.in_ok-packets.packets.items c.in_ok-packets.ensures.items
+
+pub loop-esi-preserved : goal.loop-esi-preserved
+loop-esi-preserved c =
+    let b = block_encoded_of c.args.self.now in
+    block_packets-more b c.args.start c.loop-esi.esi c.loop-esi.packets.items c.push.new.self.items c.new-in-loop-esi.result c.loop-esi.auto.esi (omega (arith, c.requires.ids)) c.loop-esi.invariant
+    (c.new-in-loop-esi.ensures.id ∙ new_id-is b.number c.loop-esi.esi c.in_ok-new.field-0 (omega (arith, c.requires.ids)) (sym c.in_ok-new.ensures))
+    (subst (λ ys. IsEncodingSymbol b.row b.size b.source c.loop-esi.esi ys) (sym c.new-in-loop-esi.ensures.payload) c.in_ok-payload.ensures) c.in_ok-push.ensures.items
+
+pub returns-clause-packets : goal.returns-clause-packets
+returns-clause-packets c =
+    let count : c.loop-esi.esi - c.args.start ≡ c.args.end - c.args.start = omega (arith, c.loop-esi.auto.esi-end c.requires.order) in
+    subst (λ n. AreBlockPackets (block_encoded_of c.args.self.now) c.args.start n c.loop-esi.packets.items) count c.loop-esi.invariant

@@ -1,0 +1,28 @@
+-- What the encoder of a block shows.
+use Rattle.std.specs.Prelude.{◌≡◌, ℕ, ◌<◌, ◌^◌, List, map}
+use Rattle.std.specs.List.{range_with_len, AllByRecursion}
+use Rattle.rq_standard.specs.declared.row.Row.{Row}
+use Rattle.rq_standard.specs.Packet.{SymbolId, Packet}
+use Rattle.rq_standard.specs.Equations.{IsEncodingSymbol}
+use Rattle.raptorq.specs.declared.encoder.block.SourceBlockEncoder.{SourceBlockEncoder}
+
+-- the number of a block, its row, and its source symbols with their size
+pub record BlockEncoded : Type 0 where
+  pub number : ℕ
+  pub row : Row
+  pub size : ℕ
+  pub source : List (List ℕ)
+
+abbrev pub block_encoded_of : SourceBlockEncoder → BlockEncoded
+block_encoded_of b = record { number = b.number; row = b.row; size = b.intermediate.symbol_size; source = b.source.items }
+
+-- a packet of the block
+pub record IsBlockPacket (b : BlockEncoded) (p : Packet) : Type 0 where
+  pub number : p.id.block ≡ b.number
+  pub esi : p.id.esi < 2 ^ 24
+  pub symbol : IsEncodingSymbol b.row b.size b.source p.id.esi p.payload
+
+-- the packets of a block with n encoding symbol ids from one on
+pub record AreBlockPackets (b : BlockEncoded) (start n : ℕ) (packets : List Packet) : Type 0 where
+  pub ids : map (λ p. p.id) packets ≡ map (λ e. record { block = b.number; esi = e }) (range_with_len start n)
+  pub each : AllByRecursion (IsBlockPacket b) packets

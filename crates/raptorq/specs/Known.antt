@@ -1,0 +1,36 @@
+-- The equations that the decoder of a block knows, as a list of internal symbol ids with a value for each equation.
+use Rattle.std.specs.Prelude.{◌≡◌, ℕ, ◌+◌, ◌-◌, ◌<◌, ◌≤◌, List, ◌++◌, length, map, replicate, Option, MatchOption, unwrap_or}
+use Rattle.std.specs.List.{range_with_len}
+use Rattle.std.specs.declared.vec.Vec.{Vec}
+use Rattle.std.specs.declared.alloc.Global.{Global}
+use Rattle.rq_algebra.specs.Symbols.{IsSymbolColumn, SolvesSymbols, symbol_at}
+use Rattle.rq_bytes.specs.Slab.{Slab, symbol_in, symbols_in}
+use Rattle.rq_standard.specs.declared.row.Row.{Row}
+use Rattle.rq_standard.specs.OctetField.{octets}
+use Rattle.rq_standard.specs.TableRows.{intermediate_symbols}
+use Rattle.rq_standard.specs.Equations.{zero_symbol, internal_id, tuple_sum}
+use Rattle.rq_standard.specs.Held.{Held, SolvesHeld, AreHeldDetermining}
+
+-- padding comes first, then what came in the order of its encoding symbol ids
+abbrev pub known_list : Row → ℕ → List (ℕ × Vec ℕ Global) → List ℕ
+known_list row k entries = range_with_len k (row.source_symbols - k) ++ map (λ e. internal_id row k e.0) entries
+
+-- zeros for the LDPC and HDPC equations and for the padding, and the payloads
+abbrev pub known_values : Row → ℕ → ℕ → List (ℕ × Vec ℕ Global) → List (List ℕ)
+known_values row k size entries = replicate (row.ldpc_symbols + row.hdpc_symbols + (row.source_symbols - k)) (zero_symbol size) ++ map (λ e. e.1.items) entries
+
+-- the intermediate symbols of what is held
+pub record IsHeldSolution (h : Held) (slab : Slab) : Type 0 where
+  pub determined : AreHeldDetermining h
+  pub places : intermediate_symbols h.row ≤ length (symbols_in slab)
+  pub size_is : slab.symbol_size ≡ h.configuration.symbol_size
+  pub symbols : IsSymbolColumn octets h.configuration.symbol_size (intermediate_symbols h.row) (symbol_in slab)
+  pub only : (column : ℕ → List ℕ) → SolvesHeld h column → (k : ℕ) → k < intermediate_symbols h.row → column k ≡ symbol_in slab k
+
+-- they are found exactly where the ids determine them
+abbrev pub SolvesBlock : Held → Option Slab → Type 0
+SolvesBlock h answer = MatchOption answer (AreHeldDetermining h → ⊥) (IsHeldSolution h)
+
+-- a source symbol, from what came or from the intermediate symbols
+abbrev pub rebuilt_symbol : Held → Slab → ℕ → List ℕ
+rebuilt_symbol h slab e = unwrap_or (h.received e) (tuple_sum h.row (symbol_in slab) e)

@@ -1,0 +1,117 @@
+-- The intermediate symbols of a block, and the sums at places of ids.
+use Rattle.std.proofs.Common.{◌≡◌, ℕ, zero, suc, ◌+◌, ◌-◌, ◌*◌, ◌%◌, ◌^◌, ◌<◌, ◌≤◌, min, List, [], ◌∷◌, ◌++◌, All, length, map, get_or, replicate, Option, Some, None, refl, sym, ap, ◌∙◌, subst, arith, inl, inr}
+use Rattle.std.specs.Prelude.{IfSome}
+use Rattle.std.specs.List.{range_with_len}
+use Rattle.std.proofs.lemmas.Bool.{cases_lt, lt-ltb, le-ltb}
+use Rattle.std.proofs.lemmas.List.{get_or_past, ext_get_or, length-append, length-replicate}
+use Rattle.std.proofs.lemmas.List.Elements.{All-head, All-tail, All-replicate}
+use Rattle.std.proofs.lemmas.List.FromFn.{length-range_with_len, length-map-range_with_len}
+use Rattle.rq_algebra.specs.Systems.{dot, at, stacked, rows_of}
+use Rattle.rq_algebra.specs.Symbols.{symbols, IsSymbol, IsSymbolColumn, SolvesSymbols, slice_at}
+use Rattle.rq_algebra.specs.Parities.{sum_listed, parity}
+use Rattle.rq_algebra.proofs.Stacks.{stacked_above, stacked_below, solves_symbols_above, solves_symbols_below}
+use Rattle.rq_algebra.proofs.SymbolColumns.{symbols_unique}
+use Rattle.rq_algebra.proofs.SymbolSums.{sum_symbols_is, sum_is_symbol}
+use Rattle.rq_standard.specs.declared.row.Row.{Row}
+use Rattle.rq_standard.specs.OctetField.{octets}
+use Rattle.rq_standard.specs.TableRows.{intermediate_symbols, pi_symbols, IsChecked}
+use Rattle.rq_standard.specs.Tuple.{Tuple, degree, seed_of, tuple_of, lt_places, pi_places, places_of}
+use Rattle.rq_standard.specs.Rand.{rand}
+use Rattle.rq_standard.specs.Equations.{fixed_equations, symbol_coefficient, equations, equation_count, equation_values, zero_symbol, row_places, tuple_sum, internal_id, IsNonsingular, source_ids, IsIntermediateColumn, IsEncodingSymbol}
+use Rattle.rq_standard.specs.Held.{Held, SolvesHeld}
+use Rattle.rq_standard.proofs.PlaceLaws.{row_places_below, enough_lt}
+use Rattle.rq_standard.proofs.TupleLaws.{between}
+use Rattle.rq_standard.proofs.Known.{range_at}
+
+-- ---- an id has a place at least
+
+rand-lt : (y i m : ℕ) → 0 < m → rand y i m < m
+unfolding rand
+rand-lt y i m some = omega arith
+
+some_of_long : {X : Type 0} → (xs : List X) → 1 ≤ length xs → (x : X) × (rest : List X) × (xs ≡ x ∷ rest)
+some_of_long [] h = absurd (omega arith)
+some_of_long (x ∷ xs) h = (x, xs, refl)
+
+length-places : (w p p1 : ℕ) (t : Tuple) → 1 ≤ t.0 → 1 ≤ length (places_of w p p1 t)
+unfolding places_of
+length-places w p p1 t some = omega (arith, length-append (lt_places w t) (pi_places w p p1 t), length-map-range_with_len (λ j. (t.2 + t.1 * j) % w) 0 t.0)
+
+tuple_some : (row : Row) (x : ℕ) → IsChecked row → 1 ≤ (tuple_of row.lt_symbols row.systematic_index row.p1 x).0
+unfolding tuple_of degree
+tuple_some row x checked =
+    let v = rand (seed_of row.systematic_index x) 0 (2 ^ 20) in
+    omega (arith, (between v (rand-lt (seed_of row.systematic_index x) 0 (2 ^ 20) (omega arith))).one, enough_lt row checked)
+
+-- the sum at an id's places is a symbol
+pub sum_symbol : (row : Row) (size x : ℕ) (column : ℕ → List ℕ) → IsChecked row → IsSymbolColumn octets size (intermediate_symbols row) column → IsSymbol octets size (tuple_sum row column x)
+sum_symbol row size x column checked are =
+    let q = some_of_long (row_places row x) (length-places row.lt_symbols (pi_symbols row) row.p1 (tuple_of row.lt_symbols row.systematic_index row.p1 x) (tuple_some row x checked)) in
+    let below : All (λ place. place < intermediate_symbols row) (q.0 ∷ q.1) = subst (λ ps. All (λ place. place < intermediate_symbols row) ps) q.2 (row_places_below row x checked) in
+    subst (λ ps. IsSymbol octets size (sum_listed (symbols octets) ps column)) (sym q.2) (sum_is_symbol octets size (intermediate_symbols row) q.0 q.1 column below are)
+
+-- and at each place of a symbol the equation of the parities
+pub sum_at : (row : Row) (size x : ℕ) (column : ℕ → List ℕ) → IsChecked row → IsSymbolColumn octets size (intermediate_symbols row) column → (p : ℕ) → at (tuple_sum row column x) p ≡ dot octets (intermediate_symbols row) (symbol_coefficient row x) (slice_at p column)
+sum_at row size x column checked are p = sum_symbols_is octets size (intermediate_symbols row) (row_places row x) column (row_places_below row x checked) are p
+
+-- columns that are the same below L have the same sums
+listed_same : (width : ℕ) (places : List ℕ) (x y : ℕ → List ℕ) → All (λ k. k < width) places → ((k : ℕ) → k < width → x k ≡ y k) → sum_listed (symbols octets) places x ≡ sum_listed (symbols octets) places y
+unfolding sum_listed
+listed_same width [] x y below same = refl
+listed_same width (k ∷ places) x y below same =
+    ap (λ s. (symbols octets).add s (sum_listed (symbols octets) places x)) (same k (All-head (λ j. j < width) k places below))
+    ∙ ap ((symbols octets).add (y k)) (listed_same width places x y (All-tail (λ j. j < width) k places below) same)
+
+pub sum_same : (row : Row) (i : ℕ) (x y : ℕ → List ℕ) → IsChecked row → ((k : ℕ) → k < intermediate_symbols row → x k ≡ y k) → tuple_sum row x i ≡ tuple_sum row y i
+sum_same row i x y checked same = listed_same (intermediate_symbols row) (row_places row i) x y (row_places_below row i checked) same
+
+-- ---- the symbol equations of a list of ids
+
+-- a column that solves the equations of ids has their values as sums
+pub solved_sum : (row : Row) (size j : ℕ) (ids : List ℕ) (carried : List (List ℕ)) (column : ℕ → List ℕ) → IsChecked row → IsSymbolColumn octets size (intermediate_symbols row) column
+    → SolvesSymbols octets (equation_count row ids) (intermediate_symbols row) (equations row ids) column (equation_values row size carried) → j < length ids → length (get_or carried j (zero_symbol size)) ≡ size
+    → tuple_sum row column (at ids j) ≡ get_or carried j (zero_symbol size)
+solved_sum row size j ids carried column checked are solves below long =
+    let f : ℕ = row.ldpc_symbols + row.hdpc_symbols in
+    let own = solves_symbols_below octets f (length ids) (intermediate_symbols row) (fixed_equations row) (rows_of (symbol_coefficient row) ids) column (λ _. zero_symbol size) (λ i. get_or carried i (zero_symbol size)) solves in
+    ext_get_or 0 (tuple_sum row column (at ids j)) (get_or carried j (zero_symbol size)) ((sum_symbol row size (at ids j) column checked are).size_is ∙ sym long)
+    (λ p _. sum_at row size (at ids j) column checked are p ∙ (own.at_place p).at j below)
+
+-- ---- the intermediate symbols
+
+-- of each id below K' they sum to the source symbol, or to zeros
+pub source_sum : (row : Row) (size x : ℕ) (source : List (List ℕ)) (column : ℕ → List ℕ) → IsChecked row → IsIntermediateColumn row size source column → ((e : ℕ) → length (get_or source e (zero_symbol size)) ≡ size) → x < row.source_symbols
+    → tuple_sum row column x ≡ get_or source x (zero_symbol size)
+source_sum row size x source column checked is are below =
+    let at_x : at (source_ids row) x ≡ x = range_at 0 row.source_symbols x below ∙ omega arith in
+    subst (λ n. tuple_sum row column n ≡ get_or source x (zero_symbol size)) at_x
+    (solved_sum row size x (source_ids row) source column checked is.symbols is.solves (omega (arith, length-range_with_len 0 row.source_symbols)) (are x))
+
+-- they are the only ones
+pub one_column : (row : Row) (size : ℕ) (source : List (List ℕ)) (x y : ℕ → List ℕ) → IsNonsingular row → IsIntermediateColumn row size source x → IsIntermediateColumn row size source y → (k : ℕ) → k < intermediate_symbols row → x k ≡ y k
+one_column row size source x y nonsingular is_x is_y =
+    symbols_unique octets size (equation_count row (source_ids row)) (intermediate_symbols row) (equations row (source_ids row)) x y (equation_values row size source) nonsingular is_x.symbols is_y.symbols is_x.solves is_y.solves
+
+-- so each encoding symbol is a sum of any intermediate symbols of its block
+pub encoding_sum : (row : Row) (size esi : ℕ) (source : List (List ℕ)) (column : ℕ → List ℕ) (payload : List ℕ) → IsChecked row → IsNonsingular row → IsIntermediateColumn row size source column → IsEncodingSymbol row size source esi payload
+    → payload ≡ tuple_sum row column (internal_id row (length source) esi)
+encoding_sum row size esi source column payload checked nonsingular is symbol =
+    symbol.is_sum ∙ sum_same row (internal_id row (length source) esi) symbol.column column checked (one_column row size source symbol.column column nonsingular symbol.is_column is)
+
+pub if_some-weaker : {X : Type 0} (o : Option X) (P Q : X → Type 0) → ((x : X) → P x → Q x) → IfSome o P → IfSome o Q
+if_some-weaker None P Q weaker h = tt
+if_some-weaker (Some x) P Q weaker h = weaker x h
+
+-- what is held of a block whose symbols are those of a source is solved by the source's intermediate symbols
+pub solves_held : (h : Held) (source : List (List ℕ)) (column : ℕ → List ℕ) → IsChecked h.row → IsNonsingular h.row → length source ≡ h.symbols → ((e : ℕ) → length (get_or source e (zero_symbol h.configuration.symbol_size)) ≡ h.configuration.symbol_size)
+    → IsIntermediateColumn h.row h.configuration.symbol_size source column → ((e : ℕ) → IfSome (h.received e) (λ payload. IsEncodingSymbol h.row h.configuration.symbol_size source e payload)) → SolvesHeld h column
+solves_held h source column checked nonsingular long are is honest =
+    let row = h.row in
+    let size = h.configuration.symbol_size in
+    let f : ℕ = row.ldpc_symbols + row.hdpc_symbols in
+    record {
+      symbols = is.symbols;
+      fixed = solves_symbols_above octets f (length (source_ids row)) (intermediate_symbols row) (fixed_equations row) (rows_of (symbol_coefficient row) (source_ids row)) column (λ _. zero_symbol size) (λ i. get_or source i (zero_symbol size)) is.solves;
+      padding = λ x from below. source_sum row size x source column checked is are below ∙ get_or_past source x (zero_symbol size) (omega arith);
+      received = λ e. if_some-weaker (h.received e) _ _ (λ payload symbol. encoding_sum row size e source column payload checked nonsingular is symbol ∙ ap (λ k. tuple_sum row column (internal_id row k e)) long) (honest e);
+    }

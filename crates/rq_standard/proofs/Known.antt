@@ -1,0 +1,185 @@
+-- What is determined, by known ids and by a list of them.
+use Rattle.std.proofs.Common.{◌≡◌, ℕ, zero, suc, ◌+◌, ◌-◌, ◌<◌, ◌≤◌, Bool, true, false, cond, ltb, eqb, ◌%◌, List, length, refl, sym, ap, ◌∙◌, subst, arith, inl, inr}
+use Rattle.std.specs.Prelude.{◌||◌}
+use Rattle.std.specs.List.{range_with_len}
+use Rattle.std.proofs.lemmas.Bool.{cases_lt, lt-ltb, le-ltb}
+use Rattle.std.proofs.lemmas.List.FromFn.{length-range_with_len, get_or-range_with_len}
+use Rattle.rq_algebra.specs.Systems.{sum_below, dot, Solves, IsDetermined, HasElements, at, stacked, rows_of}
+use Rattle.rq_algebra.specs.Parities.{parity}
+use Rattle.rq_algebra.proofs.Stacks.{stacked_above, stacked_below}
+use Rattle.rq_algebra.proofs.FewEquations.{few_rows}
+use Rattle.rq_algebra.proofs.Solutions.{null_not_determined}
+use Rattle.rq_algebra.proofs.Sums.{sum_below_size}
+use Rattle.rq_standard.specs.declared.row.Row.{Row}
+use Rattle.rq_standard.specs.OctetField.{octets}
+use Rattle.rq_standard.specs.TableRows.{intermediate_symbols, lone_lt_symbols, pi_symbols}
+use Rattle.rq_standard.specs.Equations.{fixed_equations, symbol_coefficient, equations, equation_count, ldpc_coefficient, hdpc_coefficient, before_hdpc, mt, gamma, is_ldpc_place, row_places, one_if, AreDetermining, IsNonsingular, source_ids}
+use Rattle.rq_standard.specs.IdLists.{IsListOf}
+use Rattle.rq_standard.specs.Determined.{SolvesZeros, AreDetermined, known_ids, DetermineBlock}
+use Rattle.rq_standard.specs.Received.{HasSourceSymbols}
+
+module _ (row : Row) (known : ℕ → Bool) (ids : List ℕ) (column : ℕ → ℕ) where
+  -- a column that solves what is known solves the equations of known ids
+  pub to_list : ((j : ℕ) → j < length ids → known (at ids j) ≡ true) → SolvesZeros row known column → Solves octets (equation_count row ids) (intermediate_symbols row) (equations row ids) column (λ _. 0)
+  to_list listed z =
+      let f : ℕ = row.ldpc_symbols + row.hdpc_symbols in
+      record {
+        at = λ i below. elim (cases_lt i f) [
+          | inl lt ↦ ap (λ (r : ℕ → ℕ). dot octets (intermediate_symbols row) r column) (stacked_above f (fixed_equations row) (rows_of (symbol_coefficient row) ids) i lt) ∙ z.fixed.at i lt
+          | inr past ↦
+              let j : ℕ = i - f in
+              let e : f + j ≡ i = omega arith in
+              rw (← e) (ap (λ (r : ℕ → ℕ). dot octets (intermediate_symbols row) r column) (stacked_below f (fixed_equations row) (rows_of (symbol_coefficient row) ids) j) ∙ z.each (at ids j) (listed j (omega arith)))
+        ];
+      }
+
+  -- and a column that solves the equations of all known ids solves what is known
+  pub from_list : IsListOf known ids → Solves octets (equation_count row ids) (intermediate_symbols row) (equations row ids) column (λ _. 0) → SolvesZeros row known column
+  from_list list s =
+      let f : ℕ = row.ldpc_symbols + row.hdpc_symbols in
+      record {
+        fixed = record { at = λ i lt. ap (λ (r : ℕ → ℕ). dot octets (intermediate_symbols row) r column) (sym (stacked_above f (fixed_equations row) (rows_of (symbol_coefficient row) ids) i lt)) ∙ s.at i (omega arith) };
+        each = λ x is.
+            let q = list.place x is in
+            ap (λ (r : ℕ → ℕ). dot octets (intermediate_symbols row) r column) (ap (symbol_coefficient row) (sym q.2) ∙ sym (stacked_below f (fixed_equations row) (rows_of (symbol_coefficient row) ids) q.0))
+            ∙ s.at (f + q.0) (omega (arith, q.1));
+      }
+
+-- ids that are known and determine
+pub determined_by : (row : Row) (known : ℕ → Bool) (ids : List ℕ) → ((j : ℕ) → j < length ids → known (at ids j) ≡ true) → AreDetermining row ids → AreDetermined row known
+determined_by row known ids listed d column is z = d column is (to_list row known ids column listed z)
+
+-- a list of all known ids determines where they do
+pub determined_list : (row : Row) (known : ℕ → Bool) (ids : List ℕ) → IsListOf known ids → AreDetermined row known → AreDetermining row ids
+determined_list row known ids list d column is s = d column is (from_list row known ids column list s)
+
+-- more known ids determine too
+pub determined_more : (row : Row) (known more : ℕ → Bool) → ((x : ℕ) → known x ≡ true → more x ≡ true) → AreDetermined row known → AreDetermined row more
+determined_more row known more within d column is z = d column is (record { fixed = z.fixed; each = λ x k. z.each x (within x k) })
+
+-- ---- the ids of a block
+
+by_cases : (row : Row) (k x : ℕ) (has : ℕ → Bool) (b : Bool) → (x < k → has x ≡ b) → (k ≤ x → x < row.source_symbols → true ≡ b) → (k ≤ x → row.source_symbols ≤ x → has (x + k - row.source_symbols) ≡ b) → known_ids row k has x ≡ b
+by_cases row k x has b source padding repair = elim (cases_lt x k) [
+  | inl lt ↦ ap (λ c. cond c (has x) (cond (ltb x row.source_symbols) true (has (x + k - row.source_symbols)))) (lt-ltb x k lt) ∙ source lt
+  | inr ge ↦ ap (λ c. cond c (has x) (cond (ltb x row.source_symbols) true (has (x + k - row.source_symbols)))) (le-ltb x k ge)
+      ∙ elim (cases_lt x row.source_symbols) [
+        | inl lt ↦ ap (λ c. cond c true (has (x + k - row.source_symbols))) (lt-ltb x row.source_symbols lt) ∙ padding ge lt
+        | inr past ↦ ap (λ c. cond c true (has (x + k - row.source_symbols))) (le-ltb x row.source_symbols past) ∙ repair ge past
+      ]
+]
+
+pub known_source : (row : Row) (k x : ℕ) (has : ℕ → Bool) → x < k → known_ids row k has x ≡ has x
+known_source row k x has lt = by_cases row k x has (has x) (λ _. refl) (λ ge _. absurd (omega arith)) (λ ge _. absurd (omega arith))
+
+pub known_padding : (row : Row) (k x : ℕ) (has : ℕ → Bool) → k ≤ x → x < row.source_symbols → known_ids row k has x ≡ true
+known_padding row k x has ge lt = by_cases row k x has true (λ l. absurd (omega arith)) (λ _ _. refl) (λ _ past. absurd (omega arith))
+
+pub known_repair : (row : Row) (k x : ℕ) (has : ℕ → Bool) → k ≤ x → row.source_symbols ≤ x → known_ids row k has x ≡ has (x + k - row.source_symbols)
+known_repair row k x has ge past = by_cases row k x has _ (λ l. absurd (omega arith)) (λ _ l. absurd (omega arith)) (λ _ _. refl)
+
+known_within : (row : Row) (k : ℕ) (f g : ℕ → Bool) → ((e : ℕ) → f e ≡ true → g e ≡ true) → (x : ℕ) → known_ids row k f x ≡ true → known_ids row k g x ≡ true
+known_within row k f g within x h = elim (cases_lt x k) [
+  | inl lt ↦ known_source row k x g lt ∙ within x (sym (known_source row k x f lt) ∙ h)
+  | inr ge ↦ elim (cases_lt x row.source_symbols) [
+    | inl lt ↦ known_padding row k x g ge lt
+    | inr past ↦ known_repair row k x g ge past ∙ within (x + k - row.source_symbols) (sym (known_repair row k x f ge past) ∙ h)
+  ]
+]
+
+-- a block that is determined stays so when more ids come
+pub block_more : (row : Row) (k : ℕ) (f g : ℕ → Bool) → ((e : ℕ) → f e ≡ true → g e ≡ true) → DetermineBlock row k f → DetermineBlock row k g
+block_more row k f g within = determined_more row (known_ids row k f) (known_ids row k g) (known_within row k f g within)
+
+-- the ids alone matter
+pub block_same : (row : Row) (k : ℕ) (f g : ℕ → Bool) → ((e : ℕ) → f e ≡ g e) → DetermineBlock row k f → DetermineBlock row k g
+block_same row k f g same = block_more row k f g (λ e h. sym (same e) ∙ h)
+
+pub range_at : (a n i : ℕ) → i < n → at (range_with_len a n) i ≡ a + i
+range_at a n i lt = get_or-range_with_len a n i 0 lt
+
+-- over a row that isn't singular the source symbols determine a block
+pub block_of_source : (row : Row) (k : ℕ) (has : ℕ → Bool) → IsNonsingular row → HasSourceSymbols k has → DetermineBlock row k has
+block_of_source row k has nonsingular all =
+    determined_by row (known_ids row k has) (source_ids row) (λ j below.
+    let lt : j < row.source_symbols = omega (arith, length-range_with_len 0 row.source_symbols) in
+    let is : at (source_ids row) j ≡ j = range_at 0 row.source_symbols j lt ∙ omega arith in
+    ap (known_ids row k has) is ∙ elim (cases_lt j k) [
+      | inl l ↦ known_source row k j has l ∙ all.each j l
+      | inr ge ↦ known_padding row k j has ge lt
+    ]) nonsingular
+
+-- ---- few ids
+
+one_if-below : (b : Bool) → one_if b < 256
+one_if-below true = omega arith
+one_if-below false = omega arith
+
+cond_below : (b : Bool) (x y : ℕ) → x < 256 → y < 256 → cond b x y < 256
+cond_below true x y h l = h
+cond_below false x y h l = l
+
+ldpc_below : (row : Row) (m k : ℕ) → ldpc_coefficient row m k < 256
+unfolding ldpc_coefficient
+ldpc_below row m k =
+    let lone = is_ldpc_place row m k in
+    let own = eqb k (lone_lt_symbols row + m) in
+    let two = eqb k (row.lt_symbols + m % pi_symbols row) || eqb k (row.lt_symbols + (m + 1) % pi_symbols row) in
+    cond_below (ltb k (lone_lt_symbols row)) (one_if lone) (cond (ltb k row.lt_symbols) (one_if own) (one_if two)) (one_if-below lone) (cond_below (ltb k row.lt_symbols) (one_if own) (one_if two) (one_if-below own) (one_if-below two))
+
+hdpc_below : (row : Row) (i k : ℕ) → hdpc_coefficient row i k < 256
+unfolding hdpc_coefficient
+hdpc_below row i k =
+    let own = eqb k (before_hdpc row + i) in
+    let product : ℕ → ℕ = λ j. octets.mul (mt row i j) (gamma j k) in
+    cond_below (ltb k (before_hdpc row)) (sum_below octets (before_hdpc row) product) (one_if own) (sum_below_size octets (before_hdpc row) product (λ j l. octets.mul_below (mt row i j) (gamma j k))) (one_if-below own)
+
+parity_below : (places : List ℕ) (k : ℕ) → parity places k < 256
+unfolding parity
+parity_below places k = omega arith
+
+equations_below : (row : Row) (ids : List ℕ) (i k : ℕ) → equations row ids i k < 256
+equations_below row ids i k =
+    let f : ℕ = row.ldpc_symbols + row.hdpc_symbols in
+    elim (cases_lt i f) [
+      | inl lt ↦ elim (cases_lt i row.ldpc_symbols) [
+        | inl l ↦ subst (λ (r : ℕ → ℕ). r k < 256) (sym (stacked_above f (fixed_equations row) (rows_of (symbol_coefficient row) ids) i lt ∙ stacked_above row.ldpc_symbols (ldpc_coefficient row) (hdpc_coefficient row) i l)) (ldpc_below row i k)
+        | inr g ↦
+            let j : ℕ = i - row.ldpc_symbols in
+            let e : row.ldpc_symbols + j ≡ i = omega arith in
+            subst (λ (r : ℕ → ℕ). r k < 256) (sym (stacked_above f (fixed_equations row) (rows_of (symbol_coefficient row) ids) i lt ∙ ap (fixed_equations row) (sym e) ∙ stacked_below row.ldpc_symbols (ldpc_coefficient row) (hdpc_coefficient row) j)) (hdpc_below row j k)
+      ]
+      | inr past ↦
+          let j : ℕ = i - f in
+          let e : f + j ≡ i = omega arith in
+          subst (λ (r : ℕ → ℕ). r k < 256) (sym (ap (equations row ids) (sym e) ∙ stacked_below f (fixed_equations row) (rows_of (symbol_coefficient row) ids) j)) (parity_below (row_places row (at ids j)) k)
+    ]
+
+-- fewer equations than intermediate symbols determine nothing
+pub few_not_determining : (row : Row) (ids : List ℕ) → equation_count row ids < intermediate_symbols row → AreDetermining row ids → ⊥
+few_not_determining row ids few d =
+    null_not_determined octets (equation_count row ids) (intermediate_symbols row) (equations row ids)
+    (few_rows octets (intermediate_symbols row) (equation_count row ids) (equations row ids) few (λ i k _ _. equations_below row ids i k)) d
+
+-- before any symbol came
+padding_list : (row : Row) (k : ℕ) → k ≤ row.source_symbols → IsListOf (known_ids row k (λ _. false)) (range_with_len k (row.source_symbols - k))
+padding_list row k fits =
+    let n : ℕ = row.source_symbols - k in
+    let ids : List ℕ = range_with_len k n in
+    record {
+      listed = λ j below.
+          let lt : j < n = omega (arith, length-range_with_len k n) in
+          ap (known_ids row k (λ _. false)) (range_at k n j lt) ∙ known_padding row k (k + j) (λ _. false) (omega arith) (omega arith);
+      place = λ x known. elim (cases_lt x k) [
+        | inl lt ↦ absurd (cc (sym (known_source row k x (λ _. false) lt) ∙ known))
+        | inr ge ↦ elim (cases_lt x row.source_symbols) [
+          | inl lt ↦ (x - k, (omega (arith, length-range_with_len k n)), range_at k n (x - k) (omega arith) ∙ omega arith)
+          | inr past ↦ absurd (cc (sym (known_repair row k x (λ _. false) ge past) ∙ known))
+        ]
+      ];
+    }
+
+pub none_determined : (row : Row) (k : ℕ) → 0 < k → k ≤ row.source_symbols → DetermineBlock row k (λ _. false) → ⊥
+none_determined row k some fits d =
+    let ids : List ℕ = range_with_len k (row.source_symbols - k) in
+    few_not_determining row ids (omega (arith, length-range_with_len k (row.source_symbols - k))) (determined_list row (known_ids row k (λ _. false)) ids (padding_list row k fits) d)
