@@ -1,0 +1,2 @@
+//! The solver of a block's equations.
+mod elimination;
