@@ -1,3 +1,6 @@
 pub mod Entries
+pub mod Performed
+pub mod Results
 pub mod RowStepLaws
 pub mod Turns
+pub mod Writes

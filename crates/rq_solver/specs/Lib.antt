@@ -1,1 +1,3 @@
+pub mod Replay
 pub mod RowSteps
+pub mod RowWrites

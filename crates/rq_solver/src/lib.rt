@@ -2,3 +2,4 @@
 #![tactic(auto)]
 
 pub mod pi_solver;
+pub mod replay;

@@ -1,2 +1,3 @@
 //! The solver of a block's equations.
 mod elimination;
+mod rows;
