@@ -1,4 +1,5 @@
 pub mod Entries
+pub mod Outcomes
 pub mod Performed
 pub mod Results
 pub mod RowStepLaws

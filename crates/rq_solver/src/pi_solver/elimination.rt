@@ -1,6 +1,8 @@
 //! Gauss-Jordan elimination over a matrix of octets, recorded for the symbols.
-ghost use Rattle.std.specs.Prelude.{◌≡◌, ◌≢◌, ℕ, ◌+◌, ◌^◌, ◌<◌, ◌≤◌, ◌∷◌, [], ◌==◌, if◌then◌else◌, length, IfSome, IfNone, OnOk, IfOk, IfErr, MatchBool, IsPermutation};
-ghost use Rattle.rq_algebra.specs.Systems.{at};
+ghost use Rattle.std.specs.Prelude.{◌≡◌, ◌≢◌, ℕ, ◌+◌, ◌^◌, ◌<◌, ◌≤◌, ◌∷◌, [], ◌==◌, if◌then◌else◌, length, IfSome, IfNone, OnOk, IfOk, IfErr, MatchBool, MatchOption, IsPermutation, map};
+ghost use Rattle.std.specs.List.{range_with_len};
+ghost use Rattle.rq_algebra.specs.Systems.{at, HasNullColumn};
+ghost use Rattle.rq_algebra.specs.Elimination.{FindsColumn};
 ghost use Rattle.rq_algebra.specs.Steps.{AddsRow, ScalesRow};
 ghost use Rattle.rq_algebra.specs.Operations.{AddAssign, Fma};
 ghost use Rattle.rq_algebra.specs.Meaning.{ClearsColumn};
@@ -13,6 +15,40 @@ use rq_bytes::error::Error;
 use rq_bytes::octet::Octet;
 use rq_bytes::operation_vector::SymbolOps;
 use rq_parts::octet_matrix::DenseOctetMatrix;
+use std::alloc::{AllocError, Global};
+
+/// Finds the operations that take values of the rows to the column that solves the rows with them.
+/// `None` where the rows don't determine a column.
+pub(super) fn operations_of_rows(
+    alloc: Global,
+    mut matrix: DenseOctetMatrix,
+    width: usize,
+) -> Result<Option<Vec<SymbolOps>>, Error>
+    requires width { matrix.width ≡ width }
+    requires octets { HasOctets matrix }
+    ensures found { IfOk result (λ answer. MatchOption answer (HasNullColumn octets (length matrix.rows) width (entry_of matrix)) (λ ops. FindsColumn octets (length matrix.rows) width (entry_of matrix) (map operation_of ops.items))) }
+    ensures err { IfErr result (λ e. e ≡ OutOfMemory) }
+{
+    let mut rows = numbers_below(alloc, matrix.height())?;
+    let mut operations = Vec::new(alloc);
+    if !eliminate(&mut matrix, &mut operations, rows.as_mut_slice(), 0, width)? {
+        return Ok(None);
+    }
+    rows.truncate(width);
+    operations.push(SymbolOps::Reorder { order: rows })?;
+    Ok(Some(operations))
+}
+
+/// The numbers below n.
+fn numbers_below(alloc: Global, n: usize) -> Result<Vec<usize>, AllocError>
+    ensures { IfOk result (λ numbers. numbers.items ≡ range_with_len 0 n) }
+{
+    let mut numbers = Vec::with_capacity(alloc, n)?;
+    for i in 0..n {
+        numbers.push(i)?;
+    }
+    Ok(numbers)
+}
 
 /// Gives each of `count` columns from `first_column` on a pivot: a row with 1 there, where the
 /// others have 0. Works on the listed rows alone, and whole rows are added. The list is put in the
@@ -28,7 +64,8 @@ pub(super) fn eliminate(
     requires columns { first_column + count ≤ matrix.old.width }
     requires fits { first_column + count < 2 ^ 64 }
     requires octets { HasOctets matrix.old }
-    ensures rows { IsPermutation rows.old rows.new }
+    ensures permuted { IsPermutation rows.old rows.new }
+    ensures rows { OnOk result (AreRows rows.new matrix.old) }
     ensures steps { OnOk result (RecordsSteps rows.old matrix.old matrix.new operations.old.items operations.new.items) }
     ensures pivots { IfOk result (λ found. MatchBool found (IsReduced rows.new first_column count matrix.new) (IsStuck rows.new first_column count matrix.new)) }
     ensures err { IfErr result (λ e. e ≡ OutOfMemory) }

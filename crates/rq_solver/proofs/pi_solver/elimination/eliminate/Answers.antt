@@ -16,8 +16,8 @@ loop-done-init c = record {
   reduced = reduced_none _ _ _;
 }
 
-pub returns-in_err-scale_row-clause-rows : goal.returns-in_err-scale_row-clause-rows
-returns-in_err-scale_row-clause-rows c = IsPermutation-trans _ _ _ c.loop-done.invariant.rows c.swap.ensures.permutation
+pub returns-in_err-scale_row-clause-permuted : goal.returns-in_err-scale_row-clause-permuted
+returns-in_err-scale_row-clause-permuted c = IsPermutation-trans _ _ _ c.loop-done.invariant.rows c.swap.ensures.permutation
 
 pub clear_column-requires-clause-rows : goal.clear_column-requires-clause-rows
 clear_column-requires-clause-rows c =
@@ -25,8 +25,8 @@ clear_column-requires-clause-rows c =
     rw c.in_ok-scale_row.ensures.steps.height
     (swapped_rows rows c.swap.new.self c.loop-done.done c.in-Some.pivot c.swap.ensures.by_index c.swap.ensures.len (omega (arith, c.in-Some.ensures.found)) c.in-Some.ensures.found.1 c.loop-done.matrix c.loop-done.invariant.are_rows)
 
-pub returns-in_err-clear_column-clause-rows : goal.returns-in_err-clear_column-clause-rows
-returns-in_err-clear_column-clause-rows c = IsPermutation-trans _ _ _ c.loop-done.invariant.rows c.swap.ensures.permutation
+pub returns-in_err-clear_column-clause-permuted : goal.returns-in_err-clear_column-clause-permuted
+returns-in_err-clear_column-clause-permuted c = IsPermutation-trans _ _ _ c.loop-done.invariant.rows c.swap.ensures.permutation
 
 pub loop-done-preserved : goal.loop-done-preserved
 loop-done-preserved c =
