@@ -1,12 +1,12 @@
 -- What an elimination that has ended says of the rows that it began with.
-use Rattle.std.proofs.Common.{◌≡◌, ◌≢◌, ℕ, suc, ◌+◌, ◌<◌, ◌≤◌, List, [], ◌∷◌, ◌++◌, All, map, length, take, refl, sym, ap, ◌∙◌, arith}
+use Rattle.std.proofs.Common.{◌≡◌, ℕ, suc, ◌+◌, ◌<◌, ◌≤◌, List, [], ◌∷◌, ◌++◌, All, map, length, take, sym, ap, ◌∙◌, arith}
 use Rattle.std.specs.List.{range_with_len}
 use Rattle.std.proofs.lemmas.List.{length-take-le, get_or-take}
 use Rattle.std.proofs.lemmas.List.FromFn.{length-range_with_len, get_or-range_with_len}
 use Rattle.std.proofs.lemmas.List.Elements.{All-from_get_or}
 use Rattle.rq_algebra.specs.Arrangements.{ArePlaces}
 use Rattle.rq_algebra.specs.Systems.{HasElements, HasNullColumn, at}
-use Rattle.rq_algebra.specs.Operations.{Operation, Reorder}
+use Rattle.rq_algebra.specs.Operations.{Reorder}
 use Rattle.rq_algebra.specs.Elimination.{FindsColumn, ReadsPivots}
 use Rattle.rq_algebra.specs.Meaning.{Follows, HasFirstPivots}
 use Rattle.rq_algebra.proofs.Pivots.{finds_by_pivots, null_back}

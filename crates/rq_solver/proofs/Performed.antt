@@ -1,10 +1,10 @@
 -- A slab after one operation more.
-use Rattle.std.proofs.Common.{◌≡◌, ℕ, suc, ◌+◌, ◌<◌, List, [], ◌∷◌, ◌++◌, map, length, take, drop, get_or, Option, refl, sym, ap, ◌∙◌, subst, arith}
+use Rattle.std.proofs.Common.{◌≡◌, ℕ, suc, ◌+◌, ◌<◌, List, [], ◌∷◌, ◌++◌, map, length, take, drop, get_or, refl, sym, ap, ◌∙◌, subst, arith}
 use Rattle.std.proofs.lemmas.List.{length-set, take_more, map-append, take-append-drop}
 use Rattle.std.proofs.Math.Seq.{drop-cons}
-use Rattle.rq_algebra.specs.Operations.{Operation, AddAssign, MulAssign, Fma, Reorder, Store, step, run, meant_at, AreAllowed, IsAllowed}
+use Rattle.rq_algebra.specs.Operations.{Operation, AddAssign, MulAssign, Fma, Reorder, Store, step, run, meant_at, AreAllowed}
 use Rattle.rq_algebra.specs.Symbols.{symbols}
-use Rattle.rq_algebra.proofs.Runs.{run_push, order-run, last_order, AreAllowed-middle}
+use Rattle.rq_algebra.proofs.Runs.{run_push, order-run, AreAllowed-middle}
 use Rattle.rq_standard.specs.OctetField.{octets}
 use Rattle.rq_bytes.specs.Slab.{Slab, store_of, after, Allows}
 use Rattle.rq_bytes.specs.SymbolOps.{operation_of, IsReorder}

@@ -1,5 +1,5 @@
 -- Rows of a matrix of octets that are written place by place.
-use Rattle.std.specs.Prelude.{◌≡◌, ◌≢◌, ℕ, ◌<◌, ◌≤◌, ◌⊎◌, List, length}
+use Rattle.std.specs.Prelude.{◌≡◌, ◌≢◌, ℕ, ◌<◌, ◌≤◌, ◌⊎◌, length}
 use Rattle.rq_parts.specs.OctetTable.{OctetTable}
 use Rattle.rq_solver.specs.RowSteps.{entry_of, HasOctets}
 

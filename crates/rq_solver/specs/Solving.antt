@@ -1,5 +1,6 @@
 -- What a solver is handed, and what it answers.
-use Rattle.std.specs.Prelude.{◌≡◌, ℕ, ◌+◌, ◌<◌, ◌≤◌, false, List, Option, None, Some, length}
+use Rattle.std.specs.Prelude.{◌≡◌, ℕ, ◌+◌, ◌<◌, ◌≤◌, false, List, Option, None, Some, Vec, length, map}
+use Rattle.std.specs.Global.{Global}
 use Rattle.rq_algebra.specs.Systems.{HasNullColumn}
 use Rattle.rq_algebra.specs.Operations.{Operation}
 use Rattle.rq_algebra.specs.Elimination.{FindsColumn, found_by}
@@ -10,6 +11,8 @@ use Rattle.rq_standard.specs.ConstraintMatrix.{with_octet_rows}
 use Rattle.rq_standard.specs.OctetField.{octets}
 use Rattle.rq_standard.specs.TableRows.{intermediate_symbols}
 use Rattle.rq_bytes.specs.Slab.{Slab, HasPlace, symbol_in}
+use Rattle.rq_bytes.specs.SymbolOps.{operation_of}
+use Rattle.rq_bytes.specs.declared.operation_vector.SymbolOps.{SymbolOps}
 use Rattle.rq_parts.specs.OctetTable.{OctetTable}
 use Rattle.rq_solver.specs.Replay.{after_all}
 use Rattle.rq_solver.specs.RowSteps.{entry_of}
@@ -56,3 +59,8 @@ pub record IsSolution (height width : ℕ) (rows : ℕ → ℕ → ℕ) (handed 
   -- where there are as many rows as columns, what the operations make of any symbols solves the rows
   pub solves : height ≡ width → (size : ℕ) (values : List (List ℕ)) → AreSymbols octets size height values
       → SolvesSymbols octets height width rows (found_by (symbols octets) operations values) (symbol_at values)
+
+-- the answer for a solver that was handed these symbols: the solution, or else the rows don't determine it
+abbrev pub IsOutcome : Solver → Slab → Option (Slab × Vec SymbolOps Global) → Type 0
+IsOutcome solver handed None = HasNullColumn octets solver.height solver.width solver.rows
+IsOutcome solver handed (Some found) = IsSolution solver.height solver.width solver.rows handed found.0 (map operation_of found.1.items)

@@ -1,8 +1,8 @@
 -- What the check leaves to show of `replay::replay`.
-use Rattle.std.proofs.Common.{◌≡◌, map, length, take, OnErr, sym, ap, ◌∙◌, arith, subst, rules}
+use Rattle.std.proofs.Common.{map, sym, ap, ◌∙◌}
 use Rattle.rq_bytes.specs.SymbolOps.{operation_of}
 use Rattle.rq_bytes.specs.Slab.{Slab, after}
-use Rattle.rq_solver.specs.Replay.{after_all, StopsAtReorder}
+use Rattle.rq_solver.specs.Replay.{StopsAtReorder}
 use Rattle.rq_solver.proofs.Performed.{after_all-none, next_allowed, after_all-next, stops_here, reorder_order}
 use Rattle.rq_solver.proofs.Results.{on_err}
 use Rattle.rq_solver.proofs.replay.replay.Goals as goal

@@ -1,5 +1,5 @@
 -- What the check leaves to show of `pi_solver::rows::copy_leading_bits`.
-use Rattle.std.proofs.Common.{◌≡◌, ℕ, ◌<◌, ◌≤◌, ◌++◌, ◌∷◌, [], List, length, refl, sym, subst, ◌∙◌, arith, append_assoc}
+use Rattle.std.proofs.Common.{◌≡◌, ℕ, ◌<◌, ◌≤◌, ◌++◌, ◌∷◌, [], sym, subst, arith, append_assoc}
 use Rattle.rq_standard.specs.BitTableSteps.{AreOnesOf, ones_at}
 use Rattle.rq_standard.specs.BitTableLaws.{is_next_pair}
 use Rattle.rq_solver.proofs.Writes.{sets_entry, writes_again}
