@@ -1,9 +1,9 @@
 -- What a solver answers, from operations that find the column.
-use Rattle.std.proofs.Common.{◌≡◌, ℕ, List, Option, None, Some, IfSome, IfOk, Result, Vec, Global, length, refl, sym, ap, ◌∙◌, subst, arith}
+use Rattle.std.proofs.Common.{◌≡◌, ◌<◌, ℕ, List, Option, None, Some, IfSome, IfOk, Result, Vec, Global, length, refl, sym, ap, ◌∙◌, subst, arith}
 use Rattle.rq_algebra.specs.Field.{Field}
 use Rattle.rq_algebra.specs.Systems.{HasNullColumn, at}
-use Rattle.rq_algebra.specs.Operations.{Operation, Reorder, Store, step, run, unordered}
-use Rattle.rq_algebra.specs.Elimination.{FindsColumn}
+use Rattle.rq_algebra.specs.Operations.{Operation, Reorder, Store, step, run, read, unordered}
+use Rattle.rq_algebra.specs.Elimination.{FindsColumn, found_by}
 use Rattle.rq_algebra.specs.Symbols.{symbols}
 use Rattle.rq_algebra.proofs.Solutions.{solves_same}
 use Rattle.rq_algebra.proofs.Runs.{run_push}
@@ -11,7 +11,7 @@ use Rattle.rq_algebra.proofs.Found.{found_only, found_solves}
 use Rattle.rq_standard.specs.OctetField.{octets}
 use Rattle.rq_bytes.specs.declared.error.Error.{Error}
 use Rattle.rq_bytes.specs.declared.operation_vector.SymbolOps.{SymbolOps}
-use Rattle.rq_bytes.specs.Slab.{Slab, store_of}
+use Rattle.rq_bytes.specs.Slab.{Slab, store_of, symbol_in, HasPlace}
 use Rattle.rq_parts.specs.OctetTable.{OctetTable}
 use Rattle.rq_solver.specs.Replay.{after_all}
 use Rattle.rq_solver.specs.RowSteps.{entry_of}
@@ -50,26 +50,32 @@ module _ (height width : ℕ) (rows : ℕ → ℕ → ℕ) (table : OctetTable) 
   pub null_in_rows : HasNullColumn octets (length table.rows) width (entry_of table) → HasNullColumn octets height width rows
   null_in_rows null = null_same octets height width (entry_of table) rows holds.written (rw holds.height_is at null)
 
--- the operations end with an order of as many places as there are columns
-order-found : (height width : ℕ) (rows : ℕ → ℕ → ℕ) (operations : List Operation) (finds : FindsColumn octets height width rows operations) (s : Store (List ℕ)) → (run (symbols octets) operations s).order ≡ Some finds.order
-unfolding step
-order-found height width rows operations finds s =
-    ap (λ (l : List Operation). (run (symbols octets) l s).order) finds.ends
-    ∙ ap (λ (t : Store (List ℕ)). t.order) (run_push (symbols octets) finds.before (Reorder finds.order) s)
-
-pub is_solution : (height width : ℕ) (rows : ℕ → ℕ → ℕ) (handed slab : Slab) (operations : List Operation) → FindsColumn octets height width rows operations → handed.order ≡ None → slab ≡ after_all operations handed → IsSolution height width rows handed slab operations
-is_solution height width rows handed slab operations finds unordered_is made =
+-- what is read in a slab after operations, where no order was set before
+pub symbol_in-after_all : (operations : List Operation) (handed : Slab) (k : ℕ) → handed.order ≡ None → symbol_in (after_all operations handed) k ≡ found_by (symbols octets) operations handed.values k
+symbol_in-after_all operations handed k unordered_is =
     let start : store_of handed ≡ unordered handed.values = ap (λ (o : Option (List ℕ)). let t : Store (List ℕ) = record { values = handed.values; order = o } in t) unordered_is in
-    record {
-      finds = finds;
-      made = made;
-      places = λ k l.
-          let order : slab.order ≡ Some finds.order = ap (λ (s : Slab). s.order) made ∙ order-found height width rows operations finds (store_of handed) in
-          rw order (omega (arith, finds.count));
-      reads = λ k. rw (made, start);
-      only = λ size values column are is solves. found_only octets height width rows operations finds size values are column is solves;
-      solves = λ square size values are. found_solves octets height width rows operations finds size values are square;
-    }
+    ap (λ (s : Store (List ℕ)). read (symbols octets) (run (symbols octets) operations s) k) start
+
+module _ (height width : ℕ) (rows : ℕ → ℕ → ℕ) (operations : List Operation) (finds : FindsColumn octets height width rows operations) (handed : Slab) where
+  -- operations that find the column end with an order of as many places as there are columns
+  order-found : (after_all operations handed).order ≡ Some finds.order
+  unfolding step
+  order-found =
+      ap (λ (l : List Operation). (run (symbols octets) l (store_of handed)).order) finds.ends
+      ∙ ap (λ (t : Store (List ℕ)). t.order) (run_push (symbols octets) finds.before (Reorder finds.order) (store_of handed))
+
+  pub found_places : (k : ℕ) → k < width → HasPlace (after_all operations handed) k
+  found_places k l = rw order-found (omega (arith, finds.count))
+
+  pub is_solution : (slab : Slab) → handed.order ≡ None → slab ≡ after_all operations handed → IsSolution height width rows handed slab operations
+  is_solution slab unordered_is made = record {
+    finds = finds;
+    made = made;
+    places = λ k l. rw made (found_places k l);
+    reads = λ k. rw made (symbol_in-after_all operations handed k unordered_is);
+    only = λ size values column are is solves. found_only octets height width rows operations finds size values are column is solves;
+    solves = λ square size values are. found_solves octets height width rows operations finds size values are square;
+  }
 
 -- a fact of the value that an option has
 pub if_some : {X : Type 0} (o : Option X) (x : X) (P : X → Type 0) → o ≡ Some x → P x → IfSome o P

@@ -3,3 +3,5 @@
 
 pub mod pi_solver;
 pub mod replay;
+#[cfg(test)]
+mod tests;

@@ -25,7 +25,7 @@ returns-clause-solved g c =
     let operations = map operation_of c.in-Some-2.operations.items in
     let finds = rw c.width.ensures.width at (rw c.in-Some-2.is at c.in_ok-operations.ensures.found) in
     if_some solver.symbols handed _ (sym c.in-Some.ensures.value)
-    (is_solution content.height content.width rows handed c.replay.new.symbols operations
+    (is_solution content.height content.width rows operations
     (finds_in_rows content.height content.width rows c.in_ok-rows.rows c.in_ok-rows.ensures.rows operations finds)
-    (solver.unordered handed (sym c.in-Some.ensures.value))
+    handed c.replay.new.symbols (solver.unordered handed (sym c.in-Some.ensures.value))
     (c.in_ok-replay.ensures.ok ∙ ap (λ (l : List SymbolOps). after_all (map operation_of l) handed) c.as_slice.ensures.value))
