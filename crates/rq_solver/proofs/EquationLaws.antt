@@ -1,8 +1,8 @@
 -- The rows that a solver is handed are the equations of the standard.
-use Rattle.std.proofs.Common.{◌≡◌, ℕ, ◌+◌, ◌-◌, ◌<◌, ◌≤◌, List, Option, None, Some, Vec, Global, length, sym, ap, ◌∙◌, arith, inl, inr}
+use Rattle.std.proofs.Common.{◌≡◌, ℕ, ◌+◌, ◌-◌, ◌<◌, List, length, sym, ap, ◌∙◌, arith, inl, inr}
 use Rattle.std.proofs.lemmas.Bool.{cases_lt}
 use Rattle.rq_algebra.specs.Operations.{Operation}
-use Rattle.rq_algebra.specs.Systems.{at, stacked, rows_of, HasNullColumn}
+use Rattle.rq_algebra.specs.Systems.{stacked, rows_of, HasNullColumn}
 use Rattle.rq_algebra.proofs.Stacks.{stacked_above, stacked_below}
 use Rattle.rq_standard.specs.declared.row.Row.{Row}
 use Rattle.rq_standard.specs.BitTable.{BitTable}
@@ -11,10 +11,9 @@ use Rattle.rq_standard.specs.Equations.{ldpc_coefficient, hdpc_coefficient, symb
 use Rattle.rq_standard.specs.OctetField.{octets}
 use Rattle.rq_standard.specs.TableRows.{intermediate_symbols}
 use Rattle.rq_bytes.specs.Slab.{Slab}
-use Rattle.rq_bytes.specs.declared.operation_vector.SymbolOps.{SymbolOps}
 use Rattle.rq_parts.specs.OctetTable.{OctetTable}
 use Rattle.rq_solver.specs.RowSteps.{entry_of}
-use Rattle.rq_solver.specs.Solving.{Solver, solver_of, IsOutcome, IsSolution, AreEquations}
+use Rattle.rq_solver.specs.Solving.{IsSolution, AreEquations}
 use Rattle.rq_solver.proofs.RowStepLaws.{SameEntries}
 use Rattle.rq_solver.proofs.SolutionLaws.{finds_same, null_same, is_solution}
 

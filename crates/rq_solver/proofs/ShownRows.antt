@@ -1,6 +1,6 @@
 -- Where only some columns of some rows of a matrix mean something, as where entries are stale, steps among these rows do to what they mean
 -- what they do to the rows: stored row i is value `values i`, and stored column k is unknown `unknowns k`.
-use Rattle.std.proofs.Common.{◌≡◌, ◌≢◌, ℕ, List, [], ◌∷◌, All, Contains, map, sym, ap, ◌∙◌, refl, inl, inr}
+use Rattle.std.proofs.Common.{◌≡◌, ℕ, List, [], ◌∷◌, All, Contains, map, sym, ap, ◌∙◌, inl, inr}
 use Rattle.std.proofs.lemmas.Bool.{cases_eq}
 use Rattle.std.proofs.lemmas.List.Elements.{All-head, All-tail}
 use Rattle.rq_algebra.specs.Field.{Field}
