@@ -1,4 +1,6 @@
 pub mod BitTable
+pub mod BitTableLaws
+pub mod BitTableSteps
 pub mod Configuration
 pub mod ConstraintMatrix
 pub mod Cutting

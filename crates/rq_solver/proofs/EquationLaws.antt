@@ -1,0 +1,78 @@
+-- The rows that a solver is handed are the equations of the standard.
+use Rattle.std.proofs.Common.{◌≡◌, ℕ, ◌+◌, ◌-◌, ◌<◌, List, length, sym, ap, ◌∙◌, arith, inl, inr}
+use Rattle.std.proofs.lemmas.Bool.{cases_lt}
+use Rattle.rq_algebra.specs.Operations.{Operation}
+use Rattle.rq_algebra.specs.Systems.{stacked, rows_of, HasNullColumn}
+use Rattle.rq_algebra.proofs.Stacks.{stacked_above, stacked_below}
+use Rattle.rq_standard.specs.declared.row.Row.{Row}
+use Rattle.rq_standard.specs.BitTable.{BitTable}
+use Rattle.rq_standard.specs.ConstraintMatrix.{with_octet_rows, IsBinaryPart, AreHdpcRows}
+use Rattle.rq_standard.specs.Equations.{ldpc_coefficient, hdpc_coefficient, symbol_coefficient, fixed_equations, equations, equation_count}
+use Rattle.rq_standard.specs.OctetField.{octets}
+use Rattle.rq_standard.specs.TableRows.{intermediate_symbols}
+use Rattle.rq_bytes.specs.Slab.{Slab}
+use Rattle.rq_parts.specs.OctetTable.{OctetTable}
+use Rattle.rq_solver.specs.RowSteps.{entry_of}
+use Rattle.rq_solver.specs.Solving.{IsSolution, AreEquations}
+use Rattle.rq_solver.proofs.RowStepLaws.{SameEntries}
+use Rattle.rq_solver.proofs.SolutionLaws.{finds_same, null_same, is_solution}
+
+module _ (row : Row) (ids : List ℕ) (bits : BitTable) (hdpc : OctetTable) (part : IsBinaryPart row ids bits) (are_hdpc : AreHdpcRows row (entry_of hdpc)) where
+  handed_rows : ℕ → ℕ → ℕ
+  handed_rows = with_octet_rows row.ldpc_symbols row.hdpc_symbols bits.bit (entry_of hdpc)
+
+  below_ldpc : ℕ → ℕ → ℕ
+  below_ldpc = stacked row.hdpc_symbols (entry_of hdpc) (λ i. bits.bit (row.ldpc_symbols + row.hdpc_symbols + i))
+
+  ldpc_same : (i k : ℕ) → i < row.ldpc_symbols → k < intermediate_symbols row → handed_rows i k ≡ equations row ids i k
+  unfolding handed_rows below_ldpc
+  ldpc_same i k l m =
+      ap (λ (r : ℕ → ℕ). r k) (stacked_above row.ldpc_symbols bits.bit below_ldpc i l)
+      ∙ part.ldpc i k l m
+      ∙ ap (λ (r : ℕ → ℕ). r k) (sym (stacked_above (row.ldpc_symbols + row.hdpc_symbols) (fixed_equations row) (rows_of (symbol_coefficient row) ids) i (omega arith) ∙ stacked_above row.ldpc_symbols (ldpc_coefficient row) (hdpc_coefficient row) i l))
+
+  hdpc_same : (j k : ℕ) → j < row.hdpc_symbols → k < intermediate_symbols row → handed_rows (row.ldpc_symbols + j) k ≡ equations row ids (row.ldpc_symbols + j) k
+  unfolding handed_rows below_ldpc
+  hdpc_same j k l m =
+      ap (λ (r : ℕ → ℕ). r k) (stacked_below row.ldpc_symbols bits.bit below_ldpc j ∙ stacked_above row.hdpc_symbols (entry_of hdpc) (λ i. bits.bit (row.ldpc_symbols + row.hdpc_symbols + i)) j l)
+      ∙ are_hdpc j k l m
+      ∙ ap (λ (r : ℕ → ℕ). r k) (sym (stacked_above (row.ldpc_symbols + row.hdpc_symbols) (fixed_equations row) (rows_of (symbol_coefficient row) ids) (row.ldpc_symbols + j) (omega arith) ∙ stacked_below row.ldpc_symbols (ldpc_coefficient row) (hdpc_coefficient row) j))
+
+  symbol_same : (j k : ℕ) → j < length ids → k < intermediate_symbols row → handed_rows (row.ldpc_symbols + row.hdpc_symbols + j) k ≡ equations row ids (row.ldpc_symbols + row.hdpc_symbols + j) k
+  unfolding handed_rows below_ldpc
+  symbol_same j k l m =
+      let place : row.ldpc_symbols + row.hdpc_symbols + j ≡ row.ldpc_symbols + (row.hdpc_symbols + j) = omega arith in
+      ap (λ (i : ℕ). with_octet_rows row.ldpc_symbols row.hdpc_symbols bits.bit (entry_of hdpc) i k) place
+      ∙ ap (λ (r : ℕ → ℕ). r k) (stacked_below row.ldpc_symbols bits.bit below_ldpc (row.hdpc_symbols + j) ∙ stacked_below row.hdpc_symbols (entry_of hdpc) (λ i. bits.bit (row.ldpc_symbols + row.hdpc_symbols + i)) j)
+      ∙ part.symbols j k l m
+      ∙ ap (λ (r : ℕ → ℕ). r k) (sym (stacked_below (row.ldpc_symbols + row.hdpc_symbols) (fixed_equations row) (rows_of (symbol_coefficient row) ids) j))
+
+  pub equations_same : SameEntries (equation_count row ids) (intermediate_symbols row) (with_octet_rows row.ldpc_symbols row.hdpc_symbols bits.bit (entry_of hdpc)) (equations row ids)
+  unfolding handed_rows
+  equations_same i k l m = elim (cases_lt i row.ldpc_symbols) [
+    | inl first ↦ ldpc_same i k first m
+    | inr after ↦
+        let j : ℕ = i - row.ldpc_symbols in
+        let is : row.ldpc_symbols + j ≡ i = omega arith in
+        elim (cases_lt j row.hdpc_symbols) [
+          | inl second ↦ rw (sym is) (hdpc_same j k second m)
+          | inr later ↦
+              let n : ℕ = j - row.hdpc_symbols in
+              let there : row.ldpc_symbols + row.hdpc_symbols + n ≡ i = omega arith in
+              rw (sym there) (symbol_same n k (omega arith) m)
+        ]
+  ]
+
+  module _ (handed : Slab) (are : AreEquations row bits hdpc handed) where
+    count : length handed.values ≡ equation_count row ids
+    count = sym are.height ∙ part.height
+
+    -- the outcome speaks of the equations of the ids
+    pub solution_of_equations : (slab : Slab) (operations : List Operation) → IsSolution (length handed.values) (intermediate_symbols row) (with_octet_rows row.ldpc_symbols row.hdpc_symbols bits.bit (entry_of hdpc)) handed slab operations
+        → IsSolution (equation_count row ids) (intermediate_symbols row) (equations row ids) handed slab operations
+    solution_of_equations slab operations solution =
+        let solved = rw count at solution in
+        is_solution (equation_count row ids) (intermediate_symbols row) (equations row ids) operations (finds_same octets (equation_count row ids) (intermediate_symbols row) _ (equations row ids) equations_same operations solved.finds) handed slab are.order solved.made
+
+    pub null_of_equations : HasNullColumn octets (length handed.values) (intermediate_symbols row) (with_octet_rows row.ldpc_symbols row.hdpc_symbols bits.bit (entry_of hdpc)) → HasNullColumn octets (equation_count row ids) (intermediate_symbols row) (equations row ids)
+    null_of_equations null = null_same octets (equation_count row ids) (intermediate_symbols row) _ (equations row ids) equations_same (rw count at null)

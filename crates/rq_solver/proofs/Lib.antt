@@ -1,0 +1,10 @@
+pub mod Entries
+pub mod EquationLaws
+pub mod Outcomes
+pub mod Performed
+pub mod Results
+pub mod RowStepLaws
+pub mod ShownRows
+pub mod SolutionLaws
+pub mod Turns
+pub mod Writes

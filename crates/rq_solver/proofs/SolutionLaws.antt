@@ -1,0 +1,88 @@
+-- What a solver answers, from operations that find the column.
+use Rattle.std.proofs.Common.{◌≡◌, ◌<◌, ℕ, List, Option, None, Some, IfSome, IfOk, Result, Vec, Global, length, refl, sym, ap, ◌∙◌, subst, arith}
+use Rattle.rq_algebra.specs.Field.{Field}
+use Rattle.rq_algebra.specs.Systems.{HasNullColumn, at}
+use Rattle.rq_algebra.specs.Operations.{Operation, Reorder, Store, step, run, read, unordered}
+use Rattle.rq_algebra.specs.Elimination.{FindsColumn, found_by}
+use Rattle.rq_algebra.specs.Symbols.{symbols}
+use Rattle.rq_algebra.proofs.Solutions.{solves_same}
+use Rattle.rq_algebra.proofs.Runs.{run_push}
+use Rattle.rq_algebra.proofs.Found.{found_only, found_solves}
+use Rattle.rq_standard.specs.OctetField.{octets}
+use Rattle.rq_bytes.specs.declared.error.Error.{Error}
+use Rattle.rq_bytes.specs.declared.operation_vector.SymbolOps.{SymbolOps}
+use Rattle.rq_bytes.specs.Slab.{Slab, store_of, symbol_in, HasPlace}
+use Rattle.rq_parts.specs.OctetTable.{OctetTable}
+use Rattle.rq_solver.specs.Replay.{after_all}
+use Rattle.rq_solver.specs.RowSteps.{entry_of}
+use Rattle.rq_solver.specs.RowWrites.{HoldsRows}
+use Rattle.rq_solver.specs.Solving.{IsSolution, IsOutcome, Solver}
+use Rattle.rq_solver.proofs.RowStepLaws.{SameEntries}
+
+-- systems with the same entries have the same solutions
+module _ (F : Field) (height width : ℕ) (a b : ℕ → ℕ → ℕ) (same : SameEntries height width a b) where
+  pub finds_same : (operations : List Operation) → FindsColumn F height width a operations → FindsColumn F height width b operations
+  finds_same operations finds = record {
+    allowed = finds.allowed;
+    order = finds.order;
+    before = finds.before;
+    ends = finds.ends;
+    count = finds.count;
+    only = λ v e x is s. finds.only v e x is (solves_same F height width b a x (at v) (at v) (λ i k l m. sym (same i k l m)) (λ i l. refl) s);
+    solves = λ square v e. solves_same F height width a b _ (at v) (at v) same (λ i l. refl) (finds.solves square v e);
+  }
+
+  pub null_same : HasNullColumn F height width a → HasNullColumn F height width b
+  null_same null = record {
+    column = null.column;
+    is_column = null.is_column;
+    place = null.place;
+    in_width = null.in_width;
+    nonzero = null.nonzero;
+    solves = solves_same F height width a b null.column (λ _. 0) (λ _. 0) same (λ i l. refl) null.solves;
+  }
+
+-- a table that holds the rows stands for them
+module _ (height width : ℕ) (rows : ℕ → ℕ → ℕ) (table : OctetTable) (holds : HoldsRows height width height rows table) where
+  pub finds_in_rows : (operations : List Operation) → FindsColumn octets (length table.rows) width (entry_of table) operations → FindsColumn octets height width rows operations
+  finds_in_rows operations finds = finds_same octets height width (entry_of table) rows holds.written operations (rw holds.height_is at finds)
+
+  pub null_in_rows : HasNullColumn octets (length table.rows) width (entry_of table) → HasNullColumn octets height width rows
+  null_in_rows null = null_same octets height width (entry_of table) rows holds.written (rw holds.height_is at null)
+
+-- what is read in a slab after operations, where no order was set before
+pub symbol_in-after_all : (operations : List Operation) (handed : Slab) (k : ℕ) → handed.order ≡ None → symbol_in (after_all operations handed) k ≡ found_by (symbols octets) operations handed.values k
+symbol_in-after_all operations handed k unordered_is =
+    let start : store_of handed ≡ unordered handed.values = ap (λ (o : Option (List ℕ)). let t : Store (List ℕ) = record { values = handed.values; order = o } in t) unordered_is in
+    ap (λ (s : Store (List ℕ)). read (symbols octets) (run (symbols octets) operations s) k) start
+
+module _ (height width : ℕ) (rows : ℕ → ℕ → ℕ) (operations : List Operation) (finds : FindsColumn octets height width rows operations) (handed : Slab) where
+  -- operations that find the column end with an order of as many places as there are columns
+  order-found : (after_all operations handed).order ≡ Some finds.order
+  unfolding step
+  order-found =
+      ap (λ (l : List Operation). (run (symbols octets) l (store_of handed)).order) finds.ends
+      ∙ ap (λ (t : Store (List ℕ)). t.order) (run_push (symbols octets) finds.before (Reorder finds.order) (store_of handed))
+
+  pub found_places : (k : ℕ) → k < width → HasPlace (after_all operations handed) k
+  found_places k l = rw order-found (omega (arith, finds.count))
+
+  pub is_solution : (slab : Slab) → handed.order ≡ None → slab ≡ after_all operations handed → IsSolution height width rows handed slab operations
+  is_solution slab unordered_is made = record {
+    finds = finds;
+    made = made;
+    places = λ k l. rw made (found_places k l);
+    reads = λ k. rw made (symbol_in-after_all operations handed k unordered_is);
+    only = λ size values column are is solves. found_only octets height width rows operations finds size values are column is solves;
+    solves = λ square size values are. found_solves octets height width rows operations finds size values are square;
+  }
+
+-- a fact of the value that an option has
+pub if_some : {X : Type 0} (o : Option X) (x : X) (P : X → Type 0) → o ≡ Some x → P x → IfSome o P
+if_some o x P e p = rw e p
+
+-- the outcome of a solver that stands for these equations and has not run
+pub outcome_of : (s t : Solver) (handed : Slab) (r : Result (Option (Slab × Vec SymbolOps Global)) Error) → s ≡ t → t.symbols ≡ Some handed → IfSome s.symbols (λ h. IfOk r (IsOutcome s h)) → IfOk r (IsOutcome t handed)
+outcome_of s t handed r same symbols_are solved =
+    let is = subst (λ (u : Solver). IfSome u.symbols (λ h. IfOk r (IsOutcome u h))) same solved in
+    subst (λ (o : Option Slab). IfSome o (λ h. IfOk r (IsOutcome t h))) symbols_are is

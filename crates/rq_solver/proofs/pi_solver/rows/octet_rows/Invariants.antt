@@ -1,0 +1,11 @@
+-- What the loops keep in `pi_solver::rows::octet_rows`.
+use Rattle.std.proofs.Common.{length}
+use Rattle.rq_standard.specs.ConstraintMatrix.{with_octet_rows}
+use Rattle.rq_solver.specs.RowSteps.{entry_of}
+use Rattle.rq_solver.specs.RowWrites.{HoldsRows}
+use Rattle.rq_solver.proofs.pi_solver.rows.octet_rows.Given as goal
+
+abbrev pub invariant-loop-row : goal.invariant-loop-row
+invariant-loop-row g l =
+    let content = g.T.BinaryMatrix.content l.bits in
+    HoldsRows content.height content.width l.row (with_octet_rows l.first_hdpc (length l.hdpc.rows) content.bit (entry_of l.hdpc)) l.rows

@@ -1,0 +1,5 @@
+pub mod Replay
+pub mod RowSteps
+pub mod RowWrites
+pub mod SolverState
+pub mod Solving

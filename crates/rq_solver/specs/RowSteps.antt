@@ -1,0 +1,65 @@
+-- Operations done to the rows of a matrix, as they are recorded for the values.
+use Rattle.std.specs.Prelude.{◌≡◌, ◌≢◌, ℕ, ◌+◌, ◌<◌, ◌≤◌, List, [], ◌∷◌, ◌++◌, All, Contains, map, length}
+use Rattle.rq_algebra.specs.Field.{Field}
+use Rattle.rq_algebra.specs.Arrangements.{ArePlaces}
+use Rattle.rq_algebra.specs.Systems.{at, HasElements}
+use Rattle.rq_algebra.specs.Operations.{Operation, AddAssign, MulAssign, Fma, Reorder}
+use Rattle.rq_algebra.specs.Meaning.{HasFirstPivots}
+use Rattle.rq_algebra.proofs.Changes.{with_at}
+use Rattle.rq_standard.specs.OctetField.{octets}
+use Rattle.rq_bytes.specs.SymbolOps.{operation_of}
+use Rattle.rq_bytes.specs.declared.operation_vector.SymbolOps.{SymbolOps}
+use Rattle.rq_parts.specs.OctetTable.{OctetTable, row_at}
+
+-- the octet in row i and column k
+abbrev pub entry_of : OctetTable → ℕ → ℕ → ℕ
+entry_of table i k = at (row_at table i) k
+
+-- its rows are octets, as many as it is wide
+pub record HasOctets (table : OctetTable) : Type 0 where
+  pub widths : All (λ row. length row ≡ table.width) table.rows
+  pub elements : HasElements octets (length table.rows) table.width (entry_of table)
+
+-- rows of a table, no two of them the same
+abbrev pub AreRows : List ℕ → OctetTable → Type 0
+AreRows rows table = ArePlaces (length rows) (length table.rows) (at rows)
+
+-- the rows after an operation, which does to them what it does to the values
+unfoldable pub row_step : Field → Operation → (ℕ → ℕ → ℕ) → ℕ → ℕ → ℕ
+row_step F (AddAssign dest src) a = with_at a dest (λ k. F.add (a dest k) (a src k))
+row_step F (MulAssign dest scalar) a = with_at a dest (λ k. F.mul scalar (a dest k))
+row_step F (Fma dest src scalar) a = with_at a dest (λ k. F.add (a dest k) (F.mul scalar (a src k)))
+row_step F (Reorder order) a = a
+
+-- the same of all of them, first to last
+unfoldable pub rows_after : Field → List Operation → (ℕ → ℕ → ℕ) → ℕ → ℕ → ℕ
+rows_after F [] a = a
+rows_after F (operation ∷ operations) a = rows_after F operations (row_step F operation a)
+
+-- an elementary operation on rows of which a list has each
+abbrev pub IsStepAmong : Field → List ℕ → Operation → Type 0
+IsStepAmong F rows (AddAssign dest src) = Contains rows dest × Contains rows src × (src ≢ dest)
+IsStepAmong F rows (MulAssign dest scalar) = Contains rows dest × (scalar < F.size) × (scalar ≢ 0)
+IsStepAmong F rows (Fma dest src scalar) = Contains rows dest × Contains rows src × (src ≢ dest)
+IsStepAmong F rows (Reorder order) = ⊥
+
+-- what was done to a matrix was recorded, and was done among these rows of it
+pub record RecordsSteps (rows : List ℕ) (old new : OctetTable) (before after : List SymbolOps) : Type 0 where
+  pub steps : List Operation
+  pub recorded : map operation_of after ≡ map operation_of before ++ steps
+  pub among : All (IsStepAmong octets rows) steps
+  pub width : new.width ≡ old.width
+  pub height : length new.rows ≡ length old.rows
+  pub entries : (i k : ℕ) → i < length old.rows → k < old.width → entry_of new i k ≡ rows_after octets steps (entry_of old) i k
+
+-- the first rows have pivots in columns `first`, `first + 1`, .., and the others of these rows have 0 there
+pub record IsReduced (rows : List ℕ) (first done : ℕ) (table : OctetTable) : Type 0 where
+  pub fits : done ≤ length rows
+  pub pivots : HasFirstPivots (length rows) done (entry_of table) (at rows) (λ p. first + p)
+
+-- after some pivots the rows that are left have 0 in the next column
+pub record IsStuck (rows : List ℕ) (first count : ℕ) (table : OctetTable) : Type 0 where
+  pub done : ℕ
+  pub below : done < count
+  pub reduced : IsReduced rows first done table
+  pub empty : (i : ℕ) → done ≤ i → i < length rows → entry_of table (at rows i) (first + done) ≡ 0

@@ -1,0 +1,17 @@
+-- What a solver is for its callers.
+use Rattle.std.specs.Prelude.{length}
+use Rattle.std.specs.declared.clone.Clone as clone
+use Rattle.rq_standard.specs.ConstraintMatrix.{with_octet_rows}
+use Rattle.rq_matrix.specs.declared.matrix.BinaryMatrix as matrix
+use Rattle.rq_solver.specs.RowSteps.{entry_of}
+use Rattle.rq_solver.specs.Solving.{Solver}
+use Rattle.rq_solver.specs.declared.pi_solver.IntermediateSymbolDecoder.{IntermediateSymbolDecoder}
+
+-- its equations, and its symbols until it has run
+abbrev pub state_of : {T : Type 0} {bits : matrix.Ghosts T} {clones : clone.Ghosts T} → IntermediateSymbolDecoder T bits clones → Solver
+state_of {T} {bits} {clones} solver = record {
+  height = (bits.content solver.matrix).height;
+  width = (bits.content solver.matrix).width;
+  rows = with_octet_rows solver.first_hdpc (length solver.hdpc.rows) (bits.content solver.matrix).bit (entry_of solver.hdpc);
+  symbols = solver.symbols;
+}

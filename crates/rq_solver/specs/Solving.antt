@@ -1,0 +1,66 @@
+-- What a solver is handed, and what it answers.
+use Rattle.std.specs.Prelude.{◌≡◌, ℕ, ◌+◌, ◌<◌, ◌≤◌, false, List, Option, None, Some, Vec, length, map}
+use Rattle.std.specs.Global.{Global}
+use Rattle.rq_algebra.specs.Systems.{HasNullColumn}
+use Rattle.rq_algebra.specs.Operations.{Operation}
+use Rattle.rq_algebra.specs.Elimination.{FindsColumn, found_by}
+use Rattle.rq_algebra.specs.Symbols.{symbols, AreSymbols, IsSymbolColumn, SolvesSymbols, symbol_at}
+use Rattle.rq_standard.specs.declared.row.Row.{Row}
+use Rattle.rq_standard.specs.BitTable.{BitTable}
+use Rattle.rq_standard.specs.ConstraintMatrix.{with_octet_rows}
+use Rattle.rq_standard.specs.OctetField.{octets}
+use Rattle.rq_standard.specs.TableRows.{intermediate_symbols}
+use Rattle.rq_bytes.specs.Slab.{Slab, HasPlace, symbol_in}
+use Rattle.rq_bytes.specs.SymbolOps.{operation_of}
+use Rattle.rq_bytes.specs.declared.operation_vector.SymbolOps.{SymbolOps}
+use Rattle.rq_parts.specs.OctetTable.{OctetTable}
+use Rattle.rq_solver.specs.Replay.{after_all}
+use Rattle.rq_solver.specs.RowSteps.{entry_of}
+
+-- the equations of a block of that row of the table: a matrix of bits, in which the HDPC rows are zeros, the HDPC rows as octets, and a
+-- symbol for each equation
+pub record AreEquations (row : Row) (bits : BitTable) (hdpc : OctetTable) (handed : Slab) : Type 0 where
+  pub width : bits.width ≡ intermediate_symbols row
+  pub boundary : bits.boundary ≡ row.lt_symbols
+  pub indexed : bits.indexed ≡ false
+  pub height : bits.height ≡ length handed.values
+  pub enough : intermediate_symbols row ≤ length handed.values
+  pub order : handed.order ≡ None
+  pub hdpc_height : length hdpc.rows ≡ row.hdpc_symbols
+  pub hdpc_width : hdpc.width ≡ intermediate_symbols row
+  pub zeros : (i k : ℕ) → i < row.hdpc_symbols → k < intermediate_symbols row → bits.bit (row.ldpc_symbols + i) k ≡ 0
+
+-- a solver's equations, and its symbols until it has run
+pub record Solver : Type 0 where
+  pub height : ℕ
+  pub width : ℕ
+  pub rows : ℕ → ℕ → ℕ
+  pub symbols : Option Slab
+
+-- a solver that has not run
+abbrev pub solver_of : Row → BitTable → OctetTable → Slab → Solver
+solver_of row bits hdpc handed = record {
+  height = length handed.values;
+  width = intermediate_symbols row;
+  rows = with_octet_rows row.ldpc_symbols row.hdpc_symbols bits.bit (entry_of hdpc);
+  symbols = Some handed;
+}
+
+-- the slab has the symbols that solve the rows, and the operations find them from any symbols
+pub record IsSolution (height width : ℕ) (rows : ℕ → ℕ → ℕ) (handed slab : Slab) (operations : List Operation) : Type 0 where
+  pub finds : FindsColumn octets height width rows operations
+  -- the slab is what the operations make of the one handed in, and is read at as many places as there are columns
+  pub made : slab ≡ after_all operations handed
+  pub places : (k : ℕ) → k < width → HasPlace slab k
+  pub reads : (k : ℕ) → symbol_in slab k ≡ found_by (symbols octets) operations handed.values k
+  -- whatever their size: a column of symbols that solves the rows is what the operations make of their values
+  pub only : (size : ℕ) (values : List (List ℕ)) (column : ℕ → List ℕ) → AreSymbols octets size height values → IsSymbolColumn octets size width column
+      → SolvesSymbols octets height width rows column (symbol_at values) → (k : ℕ) → k < width → column k ≡ found_by (symbols octets) operations values k
+  -- where there are as many rows as columns, what the operations make of any symbols solves the rows
+  pub solves : height ≡ width → (size : ℕ) (values : List (List ℕ)) → AreSymbols octets size height values
+      → SolvesSymbols octets height width rows (found_by (symbols octets) operations values) (symbol_at values)
+
+-- the answer for a solver that was handed these symbols: the solution, or else the rows don't determine it
+abbrev pub IsOutcome : Solver → Slab → Option (Slab × Vec SymbolOps Global) → Type 0
+IsOutcome solver handed None = HasNullColumn octets solver.height solver.width solver.rows
+IsOutcome solver handed (Some found) = IsSolution solver.height solver.width solver.rows handed found.0 (map operation_of found.1.items)

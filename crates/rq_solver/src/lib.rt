@@ -1,0 +1,7 @@
+//! The solver: a block's intermediate symbols from its equations.
+#![tactic(auto)]
+
+pub mod pi_solver;
+pub mod replay;
+#[cfg(test)]
+mod tests;

@@ -1,0 +1,117 @@
+//! The solver of a block's equations.
+ghost use Rattle.std.specs.Prelude.{◌≡◌, ◌≤◌, None, length, OnSome, IfSome, IfNone, IfOk, IfErr, Err};
+ghost use Rattle.std.specs.Option.{ForSome};
+ghost use Rattle.rq_standard.specs.TableRows.{greatest_size, row_of};
+ghost use Rattle.rq_bytes.specs.declared.error.Error.TheVariants.{AlreadyExecuted, OutOfMemory};
+ghost use Rattle.rq_solver.specs.Solving.{AreEquations, solver_of, IsOutcome};
+
+mod elimination;
+mod rows;
+
+use crate::replay::replay;
+use elimination::operations_of_rows;
+use rows::octet_rows;
+use rq_bytes::error::Error;
+use rq_bytes::operation_vector::SymbolOps;
+use rq_bytes::symbol_slab::SymbolSlab;
+use rq_matrix::matrix::BinaryMatrix;
+use rq_parts::octet_matrix::DenseOctetMatrix;
+use rq_tables::systematic_constants::SystematicTable;
+use std::alloc::Global;
+
+/// Solves the equations of a block for its intermediate symbols (RFC 6330, section 5.4.2.1), once.
+/// Contracts see the equations, and the symbols until it has run.
+#[derive(Drop)]
+pub struct IntermediateSymbolDecoder<T: BinaryMatrix> {
+    alloc: Global,
+    matrix: T,
+    hdpc: DenseOctetMatrix,
+    first_hdpc: usize,
+    boundary: usize,
+    symbols: Option<SymbolSlab>,
+    pub ghost dense_columns: { boundary ≡ (T.content matrix).boundary },
+    pub ghost octet_columns: { hdpc.width ≡ (T.content matrix).width },
+    pub ghost unordered: { ForSome symbols (λ slab. slab.order ≡ None) },
+    pub ghost counted: { ForSome symbols (λ slab. length slab.values ≡ (T.content matrix).height) },
+}
+
+impl<T: BinaryMatrix> IntermediateSymbolDecoder<T> {
+    ghost use Rattle.rq_solver.specs.SolverState.{state_of};
+
+    /// A solver of the equations of a block with so many source symbols: a matrix of bits, the HDPC
+    /// rows, and a symbol for each equation.
+    pub fn new(
+        alloc: Global,
+        table: &SystematicTable,
+        matrix: T,
+        hdpc: DenseOctetMatrix,
+        symbols: SymbolSlab,
+        num_source_symbols: u32,
+    ) -> Self
+        requires known { num_source_symbols ≤ greatest_size table.now }
+        requires equations { AreEquations (row_of table.now num_source_symbols) (T.content matrix) hdpc symbols }
+        ensures { state_of result ≡ solver_of (row_of table.now num_source_symbols) (T.content matrix) hdpc symbols }
+    {
+        IntermediateSymbolDecoder {
+            alloc,
+            matrix,
+            hdpc,
+            first_hdpc: table.num_ldpc_symbols(num_source_symbols) as usize,
+            boundary: table.num_lt_symbols(num_source_symbols) as usize,
+            symbols: Some(symbols),
+        }
+    }
+
+    /// Solves the equations: the slab with the intermediate symbols, and the operations that made
+    /// it, which find the solution of the same equations with other symbols too. `None` where the
+    /// equations don't determine the symbols.
+    ///
+    /// Refuses `AlreadyExecuted` in each call after the first, whatever that answered.
+    pub fn execute(&mut self) -> Result<Option<(SymbolSlab, Vec<SymbolOps>)>, Error>
+        ensures solved { IfSome (state_of self.old).symbols (λ handed. IfOk result (IsOutcome (state_of self.old) handed)) }
+        ensures memory { OnSome (state_of self.old).symbols (IfErr result (λ e. e ≡ OutOfMemory)) }
+        ensures once { IfNone (state_of self.old).symbols (result ≡ Err AlreadyExecuted) }
+        ensures spent { state_of self.new ≡ record (state_of self.old) { symbols = None } }
+    {
+        let Some(mut symbols) = self.symbols.take() else {
+            return Err(Error::AlreadyExecuted);
+        };
+        let rows = octet_rows(
+            self.alloc,
+            &self.matrix,
+            self.boundary,
+            &self.hdpc,
+            self.first_hdpc,
+        )?;
+        let Some(operations) = operations_of_rows(self.alloc, rows, self.matrix.width())? else {
+            return Ok(None);
+        };
+        replay(operations.as_slice(), &mut symbols)?;
+        Ok(Some((symbols, operations)))
+    }
+}
+
+/// Solves the equations of a block with so many source symbols, as a solver's `new` and `execute`
+/// do.
+pub fn fused_inverse_mul_symbols<T: BinaryMatrix>(
+    alloc: Global,
+    table: &SystematicTable,
+    matrix: T,
+    hdpc: DenseOctetMatrix,
+    symbols: SymbolSlab,
+    num_source_symbols: u32,
+) -> Result<Option<(SymbolSlab, Vec<SymbolOps>)>, Error>
+    requires known { num_source_symbols ≤ greatest_size table.now }
+    requires equations { AreEquations (row_of table.now num_source_symbols) (T.content matrix) hdpc symbols }
+    ensures solved { IfOk result (IsOutcome (solver_of (row_of table.now num_source_symbols) (T.content matrix) hdpc symbols) symbols) }
+    ensures memory { IfErr result (λ e. e ≡ OutOfMemory) }
+{
+    IntermediateSymbolDecoder::new(
+        alloc,
+        table,
+        matrix,
+        hdpc,
+        symbols,
+        num_source_symbols,
+    ).execute()
+}

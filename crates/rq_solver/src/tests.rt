@@ -1,0 +1,143 @@
+//! Tests of the solver and of replay.
+ghost use Rattle.std.specs.Prelude.{◌≡◌, ℕ, ◌+◌, ◌≤◌, ◌<◌, false, length, IfOk};
+ghost use Rattle.rq_standard.specs.TableRows.{IsChecked, greatest_size, intermediate_symbols};
+
+use crate::pi_solver::{IntermediateSymbolDecoder, fused_inverse_mul_symbols};
+use crate::replay::replay;
+use rq_bytes::error::Error;
+use rq_bytes::octet::Octet;
+use rq_bytes::operation_vector::SymbolOps;
+use rq_bytes::symbol_slab::SymbolSlab;
+use rq_matrix::matrix::{BinaryMatrix, DenseBinaryMatrix};
+use rq_parts::octet_matrix::DenseOctetMatrix;
+use rq_standard::row::Row;
+use rq_tables::systematic_constants::SystematicTable;
+use std::alloc::Global;
+use std::process::Abort;
+
+/// The number of equations and columns of a square system over a row.
+fn width_of(row: &Row) -> usize
+    requires { IsChecked row.now }
+    ensures width { result ≡ intermediate_symbols row.now }
+    ensures fits { result < 65536 }
+{
+    (row.source_symbols + row.ldpc_symbols + row.hdpc_symbols) as usize
+}
+
+/// Bits of zeros.
+fn zero_bits<T: BinaryMatrix>(alloc: Global, row: &Row) -> Result<T, Error>
+    requires { IsChecked row.now }
+    ensures height { IfOk result (λ bits. (T.content bits).height ≡ intermediate_symbols row.now) }
+    ensures width { IfOk result (λ bits. (T.content bits).width ≡ intermediate_symbols row.now) }
+    ensures boundary { IfOk result (λ bits. (T.content bits).boundary ≡ row.now.lt_symbols) }
+    ensures indexed { IfOk result (λ bits. (T.content bits).indexed ≡ false) }
+    ensures zeros { IfOk result (λ bits. (i k : ℕ) → i < intermediate_symbols row.now → k < intermediate_symbols row.now → (T.content bits).bit i k ≡ 0) }
+{
+    let width = width_of(row);
+    T::new(alloc, width, width, width - row.lt_symbols as usize)
+}
+
+/// Bits with ones from the upper right to the lower left, but none in the HDPC rows.
+fn mirrored_bits<T: BinaryMatrix>(alloc: Global, row: &Row) -> Result<T, Error>
+    requires { IsChecked row.now }
+    ensures height { IfOk result (λ bits. (T.content bits).height ≡ intermediate_symbols row.now) }
+    ensures width { IfOk result (λ bits. (T.content bits).width ≡ intermediate_symbols row.now) }
+    ensures boundary { IfOk result (λ bits. (T.content bits).boundary ≡ row.now.lt_symbols) }
+    ensures indexed { IfOk result (λ bits. (T.content bits).indexed ≡ false) }
+    ensures zeros { IfOk result (λ bits. (i k : ℕ) → i < row.now.hdpc_symbols → k < intermediate_symbols row.now → (T.content bits).bit (row.now.ldpc_symbols + i) k ≡ 0) }
+{
+    let mut bits: T = zero_bits(alloc, row)?;
+    let width = width_of(row);
+    let first = row.ldpc_symbols as usize;
+    let after = first + row.hdpc_symbols as usize;
+    for i in 0..width {
+        if i < first || i >= after {
+            bits.set(i, width - 1 - i, Octet::one())?;
+        }
+    }
+    Ok(bits)
+}
+
+/// HDPC rows with twos on the same line, and a 1 first.
+fn mirrored_octets(alloc: Global, row: &Row) -> Result<DenseOctetMatrix, Error>
+    requires { IsChecked row.now }
+    ensures height { IfOk result (λ octets. length octets.rows ≡ row.now.hdpc_symbols) }
+    ensures width { IfOk result (λ octets. octets.width ≡ intermediate_symbols row.now) }
+{
+    let width = width_of(row);
+    let first = row.ldpc_symbols as usize;
+    let mut octets = DenseOctetMatrix::new(alloc, row.hdpc_symbols as usize, width, 0)?;
+    octets.set(0, 0, Octet::one());
+    for i in 0..row.hdpc_symbols as usize {
+        octets.set(i, width - 1 - first - i, Octet::new(2));
+    }
+    Ok(octets)
+}
+
+#[test]
+fn equations_are_solved(rt: HostRuntime) -> Result<(), Error> {
+    let table = SystematicTable::built_in(rt.alloc())?;
+    assert!(rt; 10 <= table.greatest());
+    let row = table.row(10);
+    let bits: DenseBinaryMatrix = mirrored_bits(rt.alloc(), &row)?;
+    let hdpc = mirrored_octets(rt.alloc(), &row)?;
+    assert_eq!(rt; width_of(&row), 27);
+    let mut symbols = SymbolSlab::with_zeros(rt.alloc(), 27, 1)?;
+    let values = [
+        1, 2, 3, 4, 5, 6, 7, 8, 9, 10, 11, 12, 13, 14, 15, 16, 17, 18, 19, 20, 21, 22, 23, 24, 25,
+        26, 27,
+    ];
+    symbols.copy_block_from(0, &values);
+    let solved = fused_inverse_mul_symbols(rt.alloc(), &table, bits, hdpc, symbols, 10)?;
+    let (slab, _) = solved.expect(&rt, "the equations have one solution");
+    let expected = [
+        27, 26, 25, 24, 23, 22, 21, 20, 19, 18, 134, 8, 137, 7, 136, 6, 139, 5, 138, 135, 7, 6, 5,
+        4, 3, 2, 1,
+    ];
+    let found = slab.into_symbols()?;
+    assert_eq!(rt; found.len(), expected.len());
+    for k in 0..found.len() {
+        assert_eq!(rt; found[k].as_bytes(), [expected[k]].as_slice(), "at {k}");
+    }
+    Ok(())
+}
+
+#[test]
+fn a_solver_runs_once(rt: HostRuntime) -> Result<(), Error> {
+    let table = SystematicTable::built_in(rt.alloc())?;
+    assert!(rt; 10 <= table.greatest());
+    let row = table.row(10);
+    let bits: DenseBinaryMatrix = zero_bits(rt.alloc(), &row)?;
+    let hdpc = mirrored_octets(rt.alloc(), &row)?;
+    let symbols = SymbolSlab::with_zeros(rt.alloc(), width_of(&row), 1)?;
+    let mut solver = IntermediateSymbolDecoder::new(rt.alloc(), &table, bits, hdpc, symbols, 10);
+    assert!(rt; solver.execute()?.is_none());
+    assert!(rt; matches!(solver.execute(), Err(Error::AlreadyExecuted)));
+    Ok(())
+}
+
+#[test]
+fn operations_are_replayed(rt: HostRuntime) -> Result<(), Error> {
+    let mut slab = SymbolSlab::with_zeros(rt.alloc(), 2, 2)?;
+    slab.copy_block_from(0, &[1, 2, 3, 4]);
+    let mut ops = Vec::new(rt.alloc());
+    ops.push(SymbolOps::AddAssign { dest: 0, src: 1 })?;
+    ops.push(SymbolOps::MulAssign {
+        dest: 1,
+        scalar: Octet::new(2),
+    })?;
+    ops.push(SymbolOps::FMA {
+        dest: 0,
+        src: 1,
+        scalar: Octet::new(3),
+    })?;
+    ops.push(SymbolOps::Reorder {
+        order: [1, 0].to_vec(rt.alloc())?,
+    })?;
+    replay(ops.as_slice(), &mut slab)?;
+    let symbols = slab.into_symbols()?;
+    assert_eq!(rt; symbols.len(), 2);
+    assert_eq!(rt; symbols[0].as_bytes(), [6, 8].as_slice());
+    assert_eq!(rt; symbols[1].as_bytes(), [8, 30].as_slice());
+    Ok(())
+}
