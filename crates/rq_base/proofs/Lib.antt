@@ -1,3 +1,5 @@
+pub mod HdpcSteps
+pub mod OctetEntries
 pub mod DefaultParameters
 pub mod WalkLaws
 pub mod CallLaws

@@ -4,6 +4,8 @@ ghost use Rattle.std.specs.List.{FoldsTo};
 ghost use Rattle.rq_standard.specs.Tuple.{IsTuple, places_of};
 ghost use Rattle.rq_base.specs.Calls.{CallableAlong};
 
+pub mod hdpc;
+
 use crate::places::Places;
 
 /// Calls `f` with each place of a tuple (d, a, b, d1, a1, b1) in order, over a row of the table

@@ -1,4 +1,5 @@
 pub mod Firsts
+pub mod HdpcLaws
 pub mod HeaderBytes
 pub mod LeastNumbers
 pub mod OneAnswer

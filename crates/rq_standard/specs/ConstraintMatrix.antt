@@ -1,5 +1,5 @@
 -- The equations of a block as a solver is handed them: a matrix of bits, and beside it one of octets for the HDPC equations.
-use Rattle.std.specs.Prelude.{◌≡◌, ℕ, ◌+◌, ◌-◌, ◌<◌, cond, nat_lt, false, List, length}
+use Rattle.std.specs.Prelude.{◌≡◌, ℕ, ◌+◌, ◌<◌, false, List, length}
 use Rattle.rq_algebra.specs.Systems.{at, stacked}
 use Rattle.rq_standard.specs.declared.row.Row.{Row}
 use Rattle.rq_standard.specs.BitTable.{BitTable}
