@@ -1,2 +1,4 @@
+pub mod BitPairs
 pub mod Numbers
 pub mod OctetTable
+pub mod PairsLeft

@@ -1,0 +1,4 @@
+//! Matrices of bits.
+#![tactic(auto)]
+
+pub mod matrix;

@@ -1,0 +1,12 @@
+-- The columns of a row of bits, each with its bit.
+use Rattle.std.specs.Prelude.{ℕ, zero, suc, ◌==◌, List, [], ◌∷◌, filter}
+use Rattle.rq_standard.specs.PackedBits.{packed_bit}
+
+-- so many columns from a first one on, with the bits of packed words from one of them on
+unfoldable pub bit_pairs : List ℕ → ℕ → ℕ → ℕ → List (ℕ × ℕ)
+bit_pairs words bit column zero = []
+bit_pairs words bit column (suc count) = (column, packed_bit words bit) ∷ bit_pairs words (suc bit) (suc column) count
+
+-- those whose bit is one
+abbrev pub ones_among : List (ℕ × ℕ) → List (ℕ × ℕ)
+ones_among pairs = filter (λ p. p.1 == 1) pairs

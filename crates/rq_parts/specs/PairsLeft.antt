@@ -1,0 +1,20 @@
+-- What an iterator over a row has left.
+use Rattle.std.specs.Prelude.{ℕ, ◌+◌, ◌-◌, ◌*◌, ◌<◌, ◌≤◌, List, length}
+use Rattle.rq_parts.specs.BitPairs.{bit_pairs}
+use Rattle.rq_parts.specs.declared.iterators.DenseBits.TheInside.{Inside}
+use Rattle.rq_parts.specs.declared.iterators.Left.{Left}
+use Rattle.rq_parts.specs.declared.iterators.Left.TheVariants.{Columns}
+
+-- the columns that are left, with the bits from the present one on
+abbrev pub bits_left : Inside → List (ℕ × ℕ)
+bits_left b = bit_pairs b.words.now (64 * b.word + b.bit) b.column (b.end - b.column)
+
+-- each of these bits is one of the words'
+pub record IsWithinWords (b : Inside) : Type 0 where
+  pub range : b.column ≤ b.end
+  pub bit_below : b.bit < 64
+  pub within : 64 * b.word + b.bit + (b.end - b.column) ≤ 64 * length b.words.now
+
+-- the columns that are left
+abbrev pub pairs_left : Left → List (ℕ × ℕ)
+pairs_left (Columns bits) = bits
