@@ -1,3 +1,4 @@
+pub mod BinaryRows
 pub mod HdpcPart
 pub mod Information
 pub mod Refused

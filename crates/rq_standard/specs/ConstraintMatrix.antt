@@ -20,6 +20,15 @@ pub record IsBinaryPart (row : Row) (ids : List ℕ) (m : BitTable) : Type 0 whe
   pub zeros : (i k : ℕ) → i < row.hdpc_symbols → k < intermediate_symbols row → m.bit (row.ldpc_symbols + i) k ≡ 0
   pub symbols : (i k : ℕ) → i < length ids → k < intermediate_symbols row → m.bit (row.ldpc_symbols + row.hdpc_symbols + i) k ≡ symbol_coefficient row (at ids i) k
 
+-- the same without rows for the HDPC equations: LDPC rows, and a row for each id
+pub record IsBinaryPartWithoutHdpc (row : Row) (ids : List ℕ) (m : BitTable) : Type 0 where
+  pub height : m.height ≡ row.ldpc_symbols + length ids
+  pub width : m.width ≡ intermediate_symbols row
+  pub boundary : m.boundary ≡ row.lt_symbols
+  pub indexed : m.indexed ≡ false
+  pub ldpc : (i k : ℕ) → i < row.ldpc_symbols → k < intermediate_symbols row → m.bit i k ≡ ldpc_coefficient row i k
+  pub symbols : (i k : ℕ) → i < length ids → k < intermediate_symbols row → m.bit (row.ldpc_symbols + i) k ≡ symbol_coefficient row (at ids i) k
+
 -- the HDPC rows
 abbrev pub AreHdpcRows : Row → (ℕ → ℕ → ℕ) → Type 0
 AreHdpcRows row entry = (i k : ℕ) → i < row.hdpc_symbols → k < intermediate_symbols row → entry i k ≡ hdpc_coefficient row i k
