@@ -1,5 +1,5 @@
 -- What callers see of a change of a matrix of bits, and of what is read from it.
-use Rattle.std.specs.Prelude.{◌≡◌, ◌≢◌, ℕ, zero, suc, ◌+◌, ◌-◌, ◌<◌, ◌≤◌, ◌⊎◌, ◌==◌, ◌&&◌, if◌then◌else◌, min, Bool, true, false, List, All, count_by, length, slice_index}
+use Rattle.std.specs.Prelude.{◌≡◌, ◌≢◌, ℕ, zero, suc, ◌+◌, ◌-◌, ◌<◌, ◌≤◌, ◌⊎◌, ◌==◌, ◌&&◌, if◌then◌else◌, min, Bool, false, List, All, count_by, length, slice_index}
 use Rattle.std.specs.Int.Bits.{bit_xor}
 use Rattle.rq_standard.specs.BitTable.{BitTable}
 
@@ -25,10 +25,14 @@ pub record IsPlaceAndBit (bit : ℕ → ℕ) (start end : ℕ) (pair : ℕ × �
   pub below : pair.0 < end
   pub octet : pair.1 ≡ bit pair.0
 
+-- how often a place comes with a one
+abbrev pub ones_at : ℕ → List (ℕ × ℕ) → ℕ
+ones_at k pairs = count_by (λ pair. (pair.0 == k) && (pair.1 == 1)) pairs
+
 -- Pairs of a place of that range and its bit, in any order: each place that has a one occurs once; those that have a zero may occur.
 pub record AreOnesOf (bit : ℕ → ℕ) (start end : ℕ) (pairs : List (ℕ × ℕ)) : Type 0 where
   pub within : All (IsPlaceAndBit bit start end) pairs
-  pub once : (k : ℕ) → start ≤ k → k < end → count_by (λ pair. (pair.0 == k) && (pair.1 == 1)) pairs ≡ bit k
+  pub once : (k : ℕ) → start ≤ k → k < end → ones_at k pairs ≡ bit k
 
 -- the bits from `start` on and before `end`, in order
 pub record AreBitsOf (bit : ℕ → ℕ) (start end : ℕ) (octets : List ℕ) : Type 0 where

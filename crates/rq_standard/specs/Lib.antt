@@ -1,4 +1,5 @@
 pub mod BitTable
+pub mod BitTableLaws
 pub mod BitTableSteps
 pub mod Configuration
 pub mod ConstraintMatrix
