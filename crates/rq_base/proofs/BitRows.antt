@@ -1,5 +1,5 @@
 -- The rows of bits as single bits are set.
-use Rattle.std.proofs.Common.{◌≡◌, ◌≢◌, ℕ, ◌+◌, ◌-◌, ◌*◌, ◌/◌, ◌%◌, ◌<◌, ◌≤◌, ◌⊎◌, Bool, true, false, cond, eqb, ltb, ◌&&◌, ◌||◌, refl, sym, ap, ◌∙◌, subst, arith, inl, inr}
+use Rattle.std.proofs.Common.{◌≡◌, ◌≢◌, ℕ, ◌+◌, ◌*◌, ◌%◌, ◌<◌, ◌≤◌, Bool, true, false, cond, eqb, ◌&&◌, ◌||◌, refl, sym, ap, ◌∙◌, arith, inl, inr}
 use Rattle.std.proofs.lemmas.Bool.{cases_eq, cases_lt, eq-eqb, ne_eqb, lt-ltb, le-ltb}
 use Rattle.rq_standard.specs.declared.row.Row.{Row}
 use Rattle.rq_standard.specs.BitTable.{BitTable}
@@ -27,14 +27,14 @@ one_set : {old new : BitTable} {i j octet : ℕ} → SetsBit old i j octet new �
 one_set {old} {new} {i} {j} {octet} s one = record {
   shape = s.shape;
   bits = λ a k ha hk. elim (cases_eq a i) [
-      | inl row ↦ elim (cases_eq k j) [
-        | inl column ↦
-        ap (λ n. new.bit n k) row ∙ ap (new.bit i) column ∙ s.here ∙ ap bit_of one ∙ sym (ap (λ b. cond (b && eqb k j) 1 (old.bit a k)) (eq-eqb a i row) ∙ ap (λ b. cond b 1 (old.bit a k)) (eq-eqb k j column))
-        | inr other ↦
-        ap (λ n. new.bit n k) row ∙ s.other_columns k hk other ∙ ap (λ n. old.bit n k) (sym row) ∙ sym (ap (λ b. cond (b && eqb k j) 1 (old.bit a k)) (eq-eqb a i row) ∙ ap (λ b. cond b 1 (old.bit a k)) (ne_eqb k j other))
-      ]
-      | inr other ↦ s.other_rows a k ha hk other ∙ sym (ap (λ b. cond (b && eqb k j) 1 (old.bit a k)) (ne_eqb a i other))
-    ];
+    | inl row ↦ elim (cases_eq k j) [
+      | inl column ↦
+          ap (λ n. new.bit n k) row ∙ ap (new.bit i) column ∙ s.here ∙ ap bit_of one ∙ sym (ap (λ b. cond (b && eqb k j) 1 (old.bit a k)) (eq-eqb a i row) ∙ ap (λ b. cond b 1 (old.bit a k)) (eq-eqb k j column))
+      | inr other ↦
+          ap (λ n. new.bit n k) row ∙ s.other_columns k hk other ∙ ap (λ n. old.bit n k) (sym row) ∙ sym (ap (λ b. cond (b && eqb k j) 1 (old.bit a k)) (eq-eqb a i row) ∙ ap (λ b. cond b 1 (old.bit a k)) (ne_eqb k j other))
+    ]
+    | inr other ↦ s.other_rows a k ha hk other ∙ sym (ap (λ b. cond (b && eqb k j) 1 (old.bit a k)) (ne_eqb a i other))
+  ];
 }
 
 pub record SetsThree (old new : BitTable) (i i' i'' j j' j'' : ℕ) : Type 0 where
@@ -116,13 +116,13 @@ lone_more {row} {rows} {column} {old} {new} checked room lt lone three =
     record {
       shape = rows_stay lone.shape three.shape;
       done = λ i k hi hk. elim (cases_eq k column) [
-          | inl here ↦
-          three.bits i k (omega (arith, lone.shape.height)) (omega (arith, lone.shape.width))
-          ∙ ap (λ e. cond (eqb i z && e) 1 (cond (eqb i y && e) 1 (cond (eqb i x && e) 1 (old.bit i k)))) (eq-eqb k column here)
-          ∙ three_here (eqb i x) (eqb i y) (eqb i z) (old.bit i k) (lone.right i k hi (omega arith) (omega arith))
-          ∙ ap (λ n. one_if (is_ldpc_place row i n)) (sym here)
-          | inr other ↦ elsewhere i k (omega arith) (omega arith) other ∙ lone.done i k hi (omega arith)
-        ];
+        | inl here ↦
+            three.bits i k (omega (arith, lone.shape.height)) (omega (arith, lone.shape.width))
+            ∙ ap (λ e. cond (eqb i z && e) 1 (cond (eqb i y && e) 1 (cond (eqb i x && e) 1 (old.bit i k)))) (eq-eqb k column here)
+            ∙ three_here (eqb i x) (eqb i y) (eqb i z) (old.bit i k) (lone.right i k hi (omega arith) (omega arith))
+            ∙ ap (λ n. one_if (is_ldpc_place row i n)) (sym here)
+        | inr other ↦ elsewhere i k (omega arith) (omega arith) other ∙ lone.done i k hi (omega arith)
+      ];
       right = λ i k hi low hk. elsewhere i k (omega arith) hk (λ e. omega arith) ∙ lone.right i k hi (omega arith) hk;
       below = λ i k low hi hk. under i k low (omega (arith, lone.shape.height, three.shape.height)) hk ∙ lone.below i k low (omega (arith, three.shape.height)) hk;
     }
@@ -159,7 +159,6 @@ coefficient-right row checked i ldpc k low =
       | inr le ↦ rw (le-ltb k w le, ne_eqb k (lone_lt_symbols row + i) (λ e. omega (arith, checked.some_lone))) refl
     ])
 
-
 pub ldpc_more :
     {row : Row} {rows i : ℕ} {old new : BitTable} → IsChecked row → row.ldpc_symbols ≤ rows → i < row.ldpc_symbols → HasLdpcRows row rows i old
     → SetsThree old new i i i (lone_lt_symbols row + i) (row.lt_symbols + i % pi_symbols row) (row.lt_symbols + (i + 1) % pi_symbols row)
@@ -178,15 +177,15 @@ ldpc_more {row} {rows} {i} {old} {new} checked room lt before three =
     record {
       shape = rows_stay before.shape three.shape;
       whole = λ a k ha hk. elim (cases_eq a i) [
-          | inl same ↦
-          ap (λ n. new.bit n k) same ∙ here k hk
-          ∙ elim (cases_lt k (lone_lt_symbols row)) [
-            | inl low ↦ left_of k low ∙ before.left i k (omega arith) lt low ∙ sym (coefficient-left row i k low)
-            | inr high ↦ three_in_row (eqb k own) (eqb k first) (eqb k second) (old.bit i k) (before.right i k (omega arith) lt high hk) ∙ coefficient-right row checked i lt k high
-          ]
-          ∙ ap (λ n. ldpc_coefficient row n k) (sym same)
-          | inr other ↦ there a k (omega arith) hk other ∙ before.whole a k (omega arith) hk
-        ];
+        | inl same ↦
+            ap (λ n. new.bit n k) same ∙ here k hk
+            ∙ elim (cases_lt k (lone_lt_symbols row)) [
+              | inl low ↦ left_of k low ∙ before.left i k (omega arith) lt low ∙ sym (coefficient-left row i k low)
+              | inr high ↦ three_in_row (eqb k own) (eqb k first) (eqb k second) (old.bit i k) (before.right i k (omega arith) lt high hk) ∙ coefficient-right row checked i lt k high
+            ]
+            ∙ ap (λ n. ldpc_coefficient row n k) (sym same)
+        | inr other ↦ there a k (omega arith) hk other ∙ before.whole a k (omega arith) hk
+      ];
       left = λ a k low ha hk. there a k (omega arith) (omega (arith, checked.three_pi)) (λ e. omega arith) ∙ before.left a k (omega arith) ha hk;
       right = λ a k low ha from hk. there a k (omega arith) hk (λ e. omega arith) ∙ before.right a k (omega arith) ha from hk;
       below = λ a k low ha hk. there a k (omega (arith, before.shape.height, three.shape.height)) hk (λ e. omega arith) ∙ before.below a k low (omega (arith, three.shape.height)) hk;

@@ -1,6 +1,6 @@
 -- A row of bits that is flipped at one place after another.
-use Rattle.std.proofs.Common.{◌≡◌, ◌≢◌, ℕ, ◌+◌, ◌%◌, ◌<◌, ◌≤◌, ◌⊎◌, List, [], ◌∷◌, length, All, cond, eqb, refl, sym, ap, ◌∙◌, subst, arith, inl, inr}
-use Rattle.std.proofs.lemmas.Bool.{cases_eq, eq-eqb, ne_eqb}
+use Rattle.std.proofs.Common.{◌≡◌, ◌≢◌, ℕ, ◌+◌, ◌%◌, ◌<◌, ◌≤◌, ◌⊎◌, List, [], ◌∷◌, length, All, refl, sym, ap, ◌∙◌, subst, arith, inl, inr}
+use Rattle.std.proofs.lemmas.Bool.{cases_eq}
 use Rattle.std.proofs.lemmas.List.Elements.{All-head, All-tail}
 use Rattle.std.specs.Int.Bits.{bit_xor}
 use Rattle.rq_algebra.specs.Parities.{parity}
@@ -11,7 +11,7 @@ use Rattle.rq_standard.specs.BitTable.{BitTable}
 use Rattle.rq_standard.specs.BitTableSteps.{HasSameShape, SetsBit, bit_of}
 use Rattle.rq_standard.specs.TableRows.{intermediate_symbols}
 use Rattle.rq_standard.specs.Equations.{row_places, symbol_coefficient}
-use Rattle.rq_base.specs.BinaryRows.{HasRows, HasLdpcRows, HasSymbolRows, FillsRow}
+use Rattle.rq_base.specs.BinaryRows.{HasLdpcRows, HasSymbolRows, FillsRow}
 use Rattle.rq_base.proofs.BitRows.{same_shape, rows_stay}
 
 -- what is left to flip of the places of a row
@@ -37,21 +37,21 @@ flips_all m i places zeros below = record {
 -- the other bit
 flip_cases : (b : ℕ) → b < 2 → ((b ≡ 0) × (bit_of (bit_xor b 1) ≡ 1)) ⊎ ((b ≡ 1) × (bit_of (bit_xor b 1) ≡ 0))
 flip_cases b lt = elim (cases_eq b 0) [
-    | inl e ↦ inl (e, ap (λ n. bit_of (bit_xor n 1)) e)
-    | inr d ↦ let one : b ≡ 1 = omega arith in inr (one, ap (λ n. bit_of (bit_xor n 1)) one)
-  ]
+  | inl e ↦ inl (e, ap (λ n. bit_of (bit_xor n 1)) e)
+  | inr d ↦ let one : b ≡ 1 = omega arith in inr (one, ap (λ n. bit_of (bit_xor n 1)) one)
+]
 
 flip_parity : (b c p q u : ℕ) → b < 2 → c ≡ bit_of (bit_xor b 1) → u ≡ 1 → p ≡ (u + q) % 2 → (c + q) % 2 ≡ (b + p) % 2
 flip_parity b c p q u lt e one f = elim (flip_cases b lt) [
-    | inl zero ↦ omega (arith, zero.0, zero.1)
-    | inr set ↦ omega (arith, set.0, set.1)
-  ]
+  | inl zero ↦ omega (arith, zero.0, zero.1)
+  | inr set ↦ omega (arith, set.0, set.1)
+]
 
 flip_small : (b c : ℕ) → b < 2 → c ≡ bit_of (bit_xor b 1) → c < 2
 flip_small b c lt e = elim (flip_cases b lt) [
-    | inl zero ↦ omega (arith, zero.1)
-    | inr set ↦ omega (arith, set.1)
-  ]
+  | inl zero ↦ omega (arith, zero.1)
+  | inr set ↦ omega (arith, set.1)
+]
 
 pub flips_more :
     {old middle new : BitTable} {i place octet one : ℕ} {places left rest : List ℕ} → i < old.height → IsFlipping old i places left middle → left ≡ place ∷ rest
@@ -68,22 +68,22 @@ flips_more {old} {middle} {new} {i} {place} {octet} {one} {places} {left} {rest}
     record {
       shape = same_shape flipping.shape set.shape;
       small = λ k hk. elim (cases_eq k place) [
-          | inl same ↦ subst (λ n. n < 2) (sym (ap (new.bit i) same)) (flip_small (middle.bit i place) (new.bit i place) (flipping.small place wide) flipped)
-          | inr other ↦ subst (λ n. n < 2) (sym (there k hk other)) (flipping.small k hk)
-        ];
+        | inl same ↦ subst (λ n. n < 2) (sym (ap (new.bit i) same)) (flip_small (middle.bit i place) (new.bit i place) (flipping.small place wide) flipped)
+        | inr other ↦ subst (λ n. n < 2) (sym (there k hk other)) (flipping.small k hk)
+      ];
       parity = λ k hk. elim (cases_eq k place) [
-          | inl same ↦
-          flip_parity (middle.bit i k) (new.bit i k) (parity left k) (parity rest k) (unit place k) (flipping.small k hk)
-          (ap (new.bit i) same ∙ flipped ∙ ap (λ n. bit_of (bit_xor (middle.bit i n) 1)) (sym same)) (unit_same place k (sym same)) (more k)
-          ∙ flipping.parity k hk
-          | inr other ↦
-          let zero = unit_other place k (λ s. other (sym s)) in
-          let left_is = more k in
-          let same = there k hk other in
-          let small = small_parity rest k in
-          let keeps : (new.bit i k + parity rest k) % 2 ≡ (middle.bit i k + parity left k) % 2 = omega arith in
-          keeps ∙ flipping.parity k hk
-        ];
+        | inl same ↦
+            flip_parity (middle.bit i k) (new.bit i k) (parity left k) (parity rest k) (unit place k) (flipping.small k hk)
+            (ap (new.bit i) same ∙ flipped ∙ ap (λ n. bit_of (bit_xor (middle.bit i n) 1)) (sym same)) (unit_same place k (sym same)) (more k)
+            ∙ flipping.parity k hk
+        | inr other ↦
+            let zero = unit_other place k (λ s. other (sym s)) in
+            let left_is = more k in
+            let same = there k hk other in
+            let small = small_parity rest k in
+            let keeps : (new.bit i k + parity rest k) % 2 ≡ (middle.bit i k + parity left k) % 2 = omega arith in
+            keeps ∙ flipping.parity k hk
+      ];
       other_rows = λ a k ha hk d. set.other_rows a k (omega arith) (omega arith) d ∙ flipping.other_rows a k ha hk d;
       below = All-tail (λ p. p < old.width) place rest below;
     }
@@ -123,10 +123,10 @@ symbols_more {row} {first} {i} {ids} {places} {old} {new} after lt rows fills is
       ldpc = λ a k ha hk. there a k (omega arith) hk (λ e. omega arith) ∙ rows.ldpc a k ha hk;
       zeros = λ a k low ha hk. there a k (omega arith) hk (λ e. omega arith) ∙ rows.zeros a k low ha hk;
       symbols = λ a k ha hk. elim (cases_eq a i) [
-          | inl same ↦
-          ap (λ n. new.bit (first + n) k) same ∙ fills.here k (omega arith) ∙ ap (λ l. parity l k) is ∙ ap (λ n. symbol_coefficient row (at ids n) k) (sym same)
-          | inr other ↦ there (first + a) k (omega arith) hk (λ e. omega arith) ∙ rows.symbols a k (omega arith) hk
-        ];
+        | inl same ↦
+            ap (λ n. new.bit (first + n) k) same ∙ fills.here k (omega arith) ∙ ap (λ l. parity l k) is ∙ ap (λ n. symbol_coefficient row (at ids n) k) (sym same)
+        | inr other ↦ there (first + a) k (omega arith) hk (λ e. omega arith) ∙ rows.symbols a k (omega arith) hk
+      ];
       rest = λ a k low ha hk.
           let same_height = fills.shape.height in
           there a k (omega arith) hk (λ e. omega arith) ∙ rows.rest a k (omega arith) (omega arith) hk;

@@ -1,5 +1,5 @@
 -- The rows of bits on the way to the matrix of a block.
-use Rattle.std.specs.Prelude.{◌≡◌, ◌≢◌, ℕ, ◌+◌, ◌<◌, ◌≤◌, ◌⊎◌, false, List, length}
+use Rattle.std.specs.Prelude.{◌≡◌, ◌≢◌, ℕ, ◌+◌, ◌<◌, ◌≤◌, false, List, length}
 use Rattle.rq_algebra.specs.Systems.{at}
 use Rattle.rq_algebra.specs.Parities.{parity}
 use Rattle.rq_standard.specs.declared.row.Row.{Row}
