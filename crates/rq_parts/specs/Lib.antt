@@ -1,3 +1,5 @@
+pub mod Graphs
+pub mod Lists
 pub mod BitPairs
 pub mod Numbers
 pub mod OctetTable
