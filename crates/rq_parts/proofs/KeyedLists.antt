@@ -39,9 +39,9 @@ start-le : {pairs : List (ℕ × ℕ)} {key next a b : ℕ} → key ≤ next →
 start-le {pairs} {key} {next} {a} {b} le low high =
     elim (cases_lt b a) [
       | inl lt ↦
-      let below = low.before b lt in
-      let from = high.after b (omega arith) (omega (arith, low.within)) in
-      absurd (omega arith)
+          let below = low.before b lt in
+          let from = high.after b (omega arith) (omega (arith, low.within)) in
+          absurd (omega arith)
       | inr ok ↦ ok
     ]
 

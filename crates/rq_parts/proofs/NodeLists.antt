@@ -31,9 +31,9 @@ distinct_known {numbers} {distinct} {i} x before is there =
     record {
       ascending = before.ascending;
       known = λ k lt. elim (cases_eq k i) [
-          | inl e ↦ subst (Contains distinct) (there.1 ∙ is ∙ ap (λ n. get_or numbers n 0) (sym e)) found
-          | inr d ↦ before.known k (omega arith)
-        ];
+        | inl e ↦ subst (Contains distinct) (there.1 ∙ is ∙ ap (λ n. get_or numbers n 0) (sym e)) found
+        | inr d ↦ before.known k (omega arith)
+      ];
       from = before.from;
       last = λ some. (omega arith, there.1 ∙ is ∙ ap (λ n. get_or numbers n 0) (sym same));
     }
@@ -51,30 +51,30 @@ distinct_more {numbers} {distinct} {i} x rise lt before is not_last =
     let same : i + 1 - 1 ≡ i = omega arith in
     record {
       ascending = λ k hk. elim (cases_eq (k + 1) n) [
-          | inl e ↦
-          let some : 0 < n = omega arith in
-          let l = before.last some in
-          let low : get_or numbers (i - 1) 0 ≤ get_or numbers i 0 = rise (i - 1) i 0 (omega arith) lt in
-          let at_end : k ≡ n - 1 = omega arith in
-          let here : get_or distinct k 0 ≡ get_or numbers (i - 1) 0 = ap (λ m. get_or distinct m 0) at_end ∙ l.1 in
-          let other : get_or distinct k 0 ≢ x = λ s. not_last (some, ap (λ m. get_or distinct m 0) (sym at_end) ∙ s) in
-          let first = left k (omega arith) in
-          let second : get_or (distinct ++ x ∷ []) (k + 1) 0 ≡ x = ap (λ m. get_or (distinct ++ x ∷ []) m 0) e ∙ own in
-          omega (arith, first, second, here, other, low, is)
-          | inr d ↦
-          let first = left k (omega (arith, long)) in
-          let second = left (k + 1) (omega (arith, long)) in
-          let old = before.ascending k (omega (arith, long)) in
-          omega (arith, first, second, old)
-        ];
+        | inl e ↦
+            let some : 0 < n = omega arith in
+            let l = before.last some in
+            let low : get_or numbers (i - 1) 0 ≤ get_or numbers i 0 = rise (i - 1) i 0 (omega arith) lt in
+            let at_end : k ≡ n - 1 = omega arith in
+            let here : get_or distinct k 0 ≡ get_or numbers (i - 1) 0 = ap (λ m. get_or distinct m 0) at_end ∙ l.1 in
+            let other : get_or distinct k 0 ≢ x = λ s. not_last (some, ap (λ m. get_or distinct m 0) (sym at_end) ∙ s) in
+            let first = left k (omega arith) in
+            let second : get_or (distinct ++ x ∷ []) (k + 1) 0 ≡ x = ap (λ m. get_or (distinct ++ x ∷ []) m 0) e ∙ own in
+            omega (arith, first, second, here, other, low, is)
+        | inr d ↦
+            let first = left k (omega (arith, long)) in
+            let second = left (k + 1) (omega (arith, long)) in
+            let old = before.ascending k (omega (arith, long)) in
+            omega (arith, first, second, old)
+      ];
       known = λ k hk. elim (cases_eq k i) [
-          | inl e ↦ subst (Contains (distinct ++ x ∷ [])) (is ∙ ap (λ m. get_or numbers m 0) (sym e)) (Contains-push distinct x)
-          | inr d ↦ Contains-append_left distinct (x ∷ []) (get_or numbers k 0) (before.known k (omega arith))
-        ];
+        | inl e ↦ subst (Contains (distinct ++ x ∷ [])) (is ∙ ap (λ m. get_or numbers m 0) (sym e)) (Contains-push distinct x)
+        | inr d ↦ Contains-append_left distinct (x ∷ []) (get_or numbers k 0) (before.known k (omega arith))
+      ];
       from = λ m found. elim (Contains-push_cases distinct x m found) [
-          | inl old ↦ before.from m old
-          | inr e ↦ subst (Contains numbers) (sym is ∙ e) (Contains-get_or numbers i 0 lt)
-        ];
+        | inl old ↦ before.from m old
+        | inr e ↦ subst (Contains numbers) (sym is ∙ e) (Contains-get_or numbers i 0 lt)
+      ];
       last = λ some. (omega arith, ap (λ m. get_or (distinct ++ x ∷ []) m 0) (let end : length (distinct ++ x ∷ []) - 1 ≡ n = omega (arith, long) in end) ∙ own ∙ is ∙ ap (λ m. get_or numbers m 0) (sym same));
     }
 

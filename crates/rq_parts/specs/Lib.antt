@@ -1,3 +1,4 @@
+pub mod Components
 pub mod Graphs
 pub mod Lists
 pub mod BitPairs

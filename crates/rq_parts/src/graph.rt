@@ -7,6 +7,9 @@ ghost use Rattle.rq_bytes.specs.declared.error.Error.TheVariants.{OutOfMemory};
 ghost use Rattle.rq_parts.specs.Lists.{values_of, IsStart};
 ghost use Rattle.rq_parts.specs.Graphs.{nodes_of};
 
+mod components;
+
+pub use components::ConnectedComponentGraph;
 use rq_bytes::error::Error;
 use std::alloc::Global;
 use std::marker::Model;

@@ -23,12 +23,12 @@ loop-end-preserved c =
     let rise = firsts_rise ends (subst (IsNonDecreasingBy first) (sym c.as_slice-end-items.ensures.value) (c.self.invariant built)) in
     elim c.if-not-is_last.branch [
       | then-not-is_last+in_ok-push w ↦
-      subst (AreDistinctOf (nodes_of ends) (i + 1)) (sym (ap (λ (v : Vec ℕ Global). v.items) w.nodes-is ∙ w.in_ok-push.ensures.items))
-      (distinct_more x rise (omega (arith, length-map ends first)) c.loop-end.invariant is
-      (λ there. let yes : c.is_last.result ≡ true = c.is_last.ensures.1 (subst (λ l. Ends l x) (sym c.as_slice.ensures.value) there) in let no = w.if-not-is_last.true in absurd (cc)))
+          subst (AreDistinctOf (nodes_of ends) (i + 1)) (sym (ap (λ (v : Vec ℕ Global). v.items) w.nodes-is ∙ w.in_ok-push.ensures.items))
+          (distinct_more x rise (omega (arith, length-map ends first)) c.loop-end.invariant is
+          (λ there. let yes : c.is_last.result ≡ true = c.is_last.ensures.1 (subst (λ l. Ends l x) (sym c.as_slice.ensures.value) there) in let no = w.if-not-is_last.true in absurd (cc)))
       | else-not-is_last w ↦
-      subst (λ (v : Vec ℕ Global). AreDistinctOf (nodes_of ends) (i + 1) v.items) (sym w.nodes-is)
-      (distinct_known x c.loop-end.invariant is (subst (λ l. Ends l x) c.as_slice.ensures.value (c.is_last.ensures.0 w.if-not-is_last.false)))
+          subst (λ (v : Vec ℕ Global). AreDistinctOf (nodes_of ends) (i + 1) v.items) (sym w.nodes-is)
+          (distinct_known x c.loop-end.invariant is (subst (λ l. Ends l x) c.as_slice.ensures.value (c.is_last.ensures.0 w.if-not-is_last.false)))
     ]
 
 pub returns-clause-all : goal.returns-clause-all
