@@ -1,4 +1,5 @@
 //! Matrices of bits.
 #![tactic(auto)]
 
+mod bit_row;
 pub mod matrix;

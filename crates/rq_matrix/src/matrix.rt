@@ -1,15 +1,19 @@
 //! Matrices of bits, and the dense one.
-ghost use Rattle.std.specs.Prelude.{◌≡◌, ◌≢◌, ◌+◌, ◌^◌, ◌<◌, ◌≤◌, ◌⊎◌, true, false, IfOk, IfErr, OnOk, OnErr};
+ghost use Rattle.std.specs.Prelude.{◌≡◌, ◌≢◌, ℕ, ◌+◌, ◌*◌, ◌^◌, ◌<◌, ◌≤◌, ◌⊎◌, All, length, [], map, replicate, slice_index_or, slice_set, take, true, false, IfOk, IfErr, OnOk, OnErr};
 ghost use Rattle.std.specs.List.Sorted.{IsStrictlyIncreasing};
 ghost use Rattle.rq_bytes.specs.declared.error.Error.TheVariants.{OutOfMemory};
+ghost use Rattle.rq_standard.specs.Rows.{row_sum};
+ghost use Rattle.rq_matrix.specs.BitRows.{word_count, AreSwappedFrom};
 ghost use Rattle.rq_standard.specs.BitTable.{BitTable, IsBitTable};
 ghost use Rattle.rq_standard.specs.BitTableSteps.{ones_between, ArePlacesOfOnes, AreOnesOf, AreBitsOf, CanSet, CanAdd, IsUnchanged, IsZeroTable, SetsBit, SwapsRows, SwapsColumns, SetsIndexed, SetsBoundary, AddsRow, KeepsLeading};
 
+use crate::bit_row::BitRow;
 use rq_bytes::error::Error;
 use rq_bytes::octet::Octet;
 use rq_bytes::octets::BinaryOctetVec;
+use rq_bytes::util::get_both_indices;
 use rq_parts::iterators::OctetIter;
-use std::alloc::Global;
+use std::alloc::{AllocError, Global};
 
 /// A matrix of bits. Its last columns, those from the boundary on, are dense, and its columns before
 /// may be indexed, which some calls ask for and others forbid. A matrix keeps the allocator that
@@ -190,4 +194,223 @@ pub trait BinaryMatrix: Clone {
     ghost is_table: { (matrix : Self) → IsBitTable (content matrix) };
 
     ghost clone_is_same: { (old new : Self) → Self.is_clone old new → IsUnchanged (content old) (content new) };
+}
+
+/// A matrix of bits each of which is stored, 64 to a word.
+#[derive(Debug, PartialEq, Eq, Drop)]
+pub struct DenseBinaryMatrix {
+    width: usize,
+    boundary: usize,
+    indexed: bool,
+    rows: Vec<BitRow>,
+    ghost height_fits: { length rows.items < 2 ^ 31 },
+    ghost width_fits: { width < 65536 },
+    ghost within: { boundary ≤ width },
+    ghost full: { All (λ row. length row ≡ word_count width) rows.items },
+}
+
+impl DenseBinaryMatrix {
+    /// The word in which one bit alone is set.
+    pub fn select_mask(bit: usize) -> u64
+        requires { bit < 64 }
+        ensures { result ≡ 2 ^ bit }
+    {
+        1 << bit
+    }
+}
+
+impl Clone for DenseBinaryMatrix {
+    ghost use Rattle.rq_matrix.specs.DenseBits.{IsCopy};
+
+    ghost is_clone = { IsCopy };
+
+    fn clone(&self) -> Result<Self, AllocError> {
+        Ok(DenseBinaryMatrix {
+            width: self.width,
+            boundary: self.boundary,
+            indexed: self.indexed,
+            rows: self.rows.clone()?,
+        })
+    }
+}
+
+impl BinaryMatrix for DenseBinaryMatrix {
+    ghost use Rattle.rq_matrix.specs.DenseBits.{content_of, is_table_of, copy_is_same};
+
+    ghost content = { content_of };
+
+    ghost is_table = { is_table_of };
+
+    ghost clone_is_same = { copy_is_same };
+
+    fn new(
+        alloc: Global,
+        height: usize,
+        width: usize,
+        trailing_dense_column_hint: usize,
+    ) -> Result<Self, Error> {
+        Ok(DenseBinaryMatrix {
+            width,
+            boundary: width - trailing_dense_column_hint,
+            indexed: false,
+            rows: zero_rows(alloc, height, width)?,
+        })
+    }
+
+    fn set(&mut self, i: usize, j: usize, value: Octet) -> Result<(), Error> {
+        self.rows[i].set(j, value != Octet::zero());
+        Ok(())
+    }
+
+    fn height(&self) -> usize {
+        self.rows.len()
+    }
+
+    fn width(&self) -> usize {
+        self.width
+    }
+
+    fn count_ones(&self, row: usize, start_col: usize, end_col: usize) -> usize {
+        self.rows[row].count_ones(start_col, end_col)
+    }
+
+    fn get_row_iter(&self, row: usize, start_col: usize, end_col: usize) -> OctetIter<'_> {
+        self.rows[row].ones(start_col, end_col)
+    }
+
+    fn get_ones_in_column(
+        &self,
+        col: usize,
+        start_row: usize,
+        end_row: usize,
+    ) -> Result<Vec<u32>, Error> {
+        let mut rows = Vec::new(*self.rows.allocator());
+        self.get_ones_in_column_into(col, start_row, end_row, &mut rows)?;
+        Ok(rows)
+    }
+
+    fn get_ones_in_column_into(
+        &self,
+        col: usize,
+        start_row: usize,
+        end_row: usize,
+        out: &mut Vec<u32>,
+    ) -> Result<(), Error> {
+        out.reserve(end_row - start_row)?;
+        out.clear();
+        for row in start_row..end_row {
+            if self.get(row, col) == Octet::one() {
+                out.push_reserved(row as u32);
+            }
+        }
+        Ok(())
+    }
+
+    fn get_sub_row_as_octets(&self, row: usize, start_col: usize) -> Result<BinaryOctetVec, Error> {
+        self.rows[row].part(start_col, self.width)
+    }
+
+    fn query_non_zero_columns(&self, row: usize, start_col: usize) -> Result<Vec<usize>, Error> {
+        let mut columns = Vec::new(*self.rows.allocator());
+        self.query_non_zero_columns_into(row, start_col, &mut columns)?;
+        Ok(columns)
+    }
+
+    fn query_non_zero_columns_into(
+        &self,
+        row: usize,
+        start_col: usize,
+        out: &mut Vec<usize>,
+    ) -> Result<(), Error> {
+        out.reserve(self.width - start_col)?;
+        out.clear();
+        for (column, _) in self.rows[row].ones(start_col, self.width) {
+            out.push_reserved(column);
+        }
+        Ok(())
+    }
+
+    fn get(&self, i: usize, j: usize) -> Octet {
+        self.rows[i].get(j)
+    }
+
+    fn swap_rows(&mut self, i: usize, j: usize) {
+        self.rows.swap(i, j);
+    }
+
+    fn swap_columns(&mut self, i: usize, j: usize, start_row_hint: usize) {
+        swap_columns_from(self.rows.as_mut_slice(), i, j, start_row_hint);
+    }
+
+    fn enable_column_access_acceleration(&mut self) -> Result<(), Error> {
+        self.indexed = true;
+        Ok(())
+    }
+
+    fn disable_column_access_acceleration(&mut self) {
+        self.indexed = false;
+    }
+
+    fn hint_column_dense_and_frozen(&mut self, i: usize) -> Result<(), Error> {
+        self.boundary = i;
+        Ok(())
+    }
+
+    fn add_assign_rows(&mut self, dest: usize, src: usize, _: usize) -> Result<(), Error> {
+        add_row(self.rows.as_mut_slice(), dest, src);
+        Ok(())
+    }
+
+    fn resize(&mut self, new_height: usize, new_width: usize) -> Result<(), Error> {
+        self.rows.truncate(new_height);
+        truncate_rows(self.rows.as_mut_slice(), new_width);
+        self.width = new_width;
+        self.boundary = self.boundary.min(new_width);
+        Ok(())
+    }
+}
+
+/// So many rows of zeros.
+fn zero_rows(alloc: Global, height: usize, width: usize) -> Result<Vec<BitRow>, AllocError>
+    requires { width < 65536 }
+    ensures { IfOk result (λ rows. rows.items ≡ replicate height (replicate (word_count width) 0)) }
+{
+    let mut rows = Vec::with_capacity(alloc, height)?;
+    for _ in 0..height {
+        rows.push(BitRow::zero(alloc, width)?)?;
+    }
+    Ok(rows)
+}
+
+/// Exchanges two columns in the rows from one on.
+fn swap_columns_from(rows: &mut [BitRow], i: usize, j: usize, start: usize)
+    requires first { All (λ row. i < 64 * length row) rows.old }
+    requires second { All (λ row. j < 64 * length row) rows.old }
+    ensures { AreSwappedFrom i j start (length rows.old) rows.old rows.new }
+{
+    for row in start..rows.len() {
+        rows[row].swap(i, j);
+    }
+}
+
+/// Adds a row to another one.
+fn add_row(rows: &mut [BitRow], dest: usize, src: usize)
+    requires two { dest ≢ src }
+    requires dest { dest < length rows.old }
+    requires src { src < length rows.old }
+    requires fits { length (slice_index_or rows.old src []) ≡ length (slice_index_or rows.old dest []) }
+    ensures { rows.new ≡ slice_set rows.old dest (row_sum (slice_index_or rows.old dest []) (slice_index_or rows.old src [])) }
+{
+    let (to, from) = get_both_indices(rows, dest, src);
+    to.add(from);
+}
+
+/// Drops the words of each row that so many columns don't need.
+fn truncate_rows(rows: &mut [BitRow], width: usize)
+    requires { width < 65536 }
+    ensures { rows.new ≡ map (λ row. take (word_count width) row) rows.old }
+{
+    for row in 0..rows.len() {
+        rows[row].truncate(width);
+    }
 }

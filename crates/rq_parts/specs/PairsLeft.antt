@@ -1,9 +1,9 @@
 -- What an iterator over a row has left.
 use Rattle.std.specs.Prelude.{ℕ, ◌+◌, ◌-◌, ◌*◌, ◌<◌, ◌≤◌, List, length}
-use Rattle.rq_parts.specs.BitPairs.{bit_pairs}
+use Rattle.rq_parts.specs.BitPairs.{bit_pairs, ones_among}
 use Rattle.rq_parts.specs.declared.iterators.DenseBits.TheInside.{Inside}
 use Rattle.rq_parts.specs.declared.iterators.Left.{Left}
-use Rattle.rq_parts.specs.declared.iterators.Left.TheVariants.{Columns}
+use Rattle.rq_parts.specs.declared.iterators.Left.TheVariants.{Columns, Ones}
 
 -- the columns that are left, with the bits from the present one on
 abbrev pub bits_left : Inside → List (ℕ × ℕ)
@@ -15,6 +15,7 @@ pub record IsWithinWords (b : Inside) : Type 0 where
   pub bit_below : b.bit < 64
   pub within : 64 * b.word + b.bit + (b.end - b.column) ≤ 64 * length b.words.now
 
--- the columns that are left
+-- the columns that are left, or those of them that have a one
 abbrev pub pairs_left : Left → List (ℕ × ℕ)
 pairs_left (Columns bits) = bits
+pairs_left (Ones bits) = ones_among bits

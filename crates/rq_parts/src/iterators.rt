@@ -1,10 +1,15 @@
 //! Iterators over the octets of a row.
-ghost use Rattle.std.specs.Prelude.{◌≡◌, ℕ, ◌+◌, ◌-◌, ◌*◌, ◌<◌, ◌≤◌, [], ◌∷◌, length, MatchOption};
+ghost use Rattle.std.specs.Prelude.{◌≡◌, ℕ, ◌+◌, ◌-◌, ◌*◌, ◌<◌, ◌≤◌, [], ◌∷◌, length, MatchOption, IfOk, IfErr};
+ghost use Rattle.std.specs.Int.{bit_at};
 ghost use Rattle.std.specs.Iterator.{YieldsFirst, item_count};
-ghost use Rattle.rq_parts.specs.BitPairs.{bit_pairs, ones_among};
+ghost use Rattle.rq_bytes.specs.declared.error.Error.TheVariants.{OutOfMemory};
+ghost use Rattle.rq_parts.specs.BitPairs.{bit_pairs, ones_among, BeginsWithOne};
 
+use rq_bytes::error::Error;
 use rq_bytes::octet::Octet;
+use std::alloc::Global;
 use std::marker::Model;
+use std::vec::IntoIter;
 
 const WORD_BITS: usize = 64;
 
@@ -25,10 +30,11 @@ impl<'a> Model for OctetIter<'a> {
     ghost view = { λ s. pairs_left s.left };
 }
 
-/// The columns that are left, each with its bit.
+/// The columns that are left, each with its bit, or those that have a one.
 #[derive(Debug, Drop)]
 enum Left<'a> {
     Columns(DenseBits<'a>),
+    Ones(DenseBits<'a>),
 }
 
 impl<'a> OctetIter<'a> {
@@ -49,6 +55,50 @@ impl<'a> OctetIter<'a> {
             left: Left::Columns(DenseBits::new(start_col, end_col, start_bit, elements)),
         }
     }
+
+    /// The columns from `start_col` on and before `end_col` that have a one, in a row whose column k
+    /// is bit k mod 64 of word k / 64.
+    pub fn new_dense_ones(start_col: usize, end_col: usize, elements: &'a [u64]) -> OctetIter<'a>
+        requires range { start_col ≤ end_col }
+        requires words { end_col ≤ 64 * length elements.now }
+        ensures { result ≡ ones_among (bit_pairs elements.now start_col start_col (end_col - start_col)) }
+    {
+        OctetIter {
+            left: Left::Ones(DenseBits {
+                column: start_col,
+                end: end_col,
+                words: elements,
+                word: start_col / WORD_BITS,
+                bit: start_col % WORD_BITS,
+            }),
+        }
+    }
+
+    /// The pairs that are left, in memory of their own.
+    pub fn clone(&self, alloc: Global) -> Result<ClonedOctetIter, Error>
+        ensures ok { IfOk result (λ pairs. pairs ≡ self.now) }
+        ensures err { IfErr result (λ e. e ≡ OutOfMemory) }
+    {
+        let mut pairs = Vec::new(alloc);
+        for pair in self.again() {
+            pairs.push(pair)?;
+        }
+        Ok(ClonedOctetIter {
+            pairs: pairs.into_iter(),
+        })
+    }
+
+    /// The same pairs once more.
+    fn again(&self) -> OctetIter<'a>
+        ensures { result ≡ self.now }
+    {
+        OctetIter {
+            left: match &self.left {
+                Left::Columns(bits) => Left::Columns(bits.again()),
+                Left::Ones(bits) => Left::Ones(bits.again()),
+            },
+        }
+    }
 }
 
 impl Iterator for OctetIter<'_> {
@@ -61,7 +111,35 @@ impl Iterator for OctetIter<'_> {
     fn next(&mut self) -> Option<(usize, Octet)> {
         match &mut self.left {
             Left::Columns(bits) => bits.next_column(),
+            Left::Ones(bits) => bits.next_one(),
         }
+    }
+}
+
+/// Pairs of a column and the octet in it. Contracts see the list of those that are left.
+#[derive(Debug, Drop)]
+pub struct ClonedOctetIter {
+    pairs: IntoIter<(usize, Octet)>,
+}
+
+impl Model for ClonedOctetIter {
+    ghost use Rattle.std.specs.Prelude.{ℕ, List};
+    ghost use Rattle.std.specs.Vec.Iter.{into_iter_items};
+
+    ghost Value = { List (ℕ × ℕ) };
+
+    ghost view = { λ s. into_iter_items s.pairs };
+}
+
+impl Iterator for ClonedOctetIter {
+    type Item = (usize, Octet);
+
+    ghost next_gives = { YieldsFirst (λ s. s) };
+
+    ghost remaining = { item_count (λ s. s) };
+
+    fn next(&mut self) -> Option<(usize, Octet)> {
+        self.pairs.next()
     }
 }
 
@@ -122,4 +200,56 @@ impl<'a> DenseBits<'a> {
         }
         Some((column, octet))
     }
+
+    /// The next column that has a one.
+    fn next_one(&mut self) -> Option<(usize, Octet)>
+        ensures { MatchOption result ((ones_among self.old ≡ []) × (ones_among self.new ≡ [])) (λ p. ones_among self.old ≡ p ∷ ones_among self.new) }
+    {
+        self.skip_zeros();
+        self.next_column()
+    }
+
+    /// Passes over the columns before the next one that has a one.
+    fn skip_zeros(&mut self)
+        ensures ones { ones_among self.new ≡ ones_among self.old }
+        ensures first { BeginsWithOne self.new }
+    {
+        while self.column < self.end {
+            let zeros = zeros_in_word(self.words[self.word], self.bit);
+            if zeros == 0 {
+                return;
+            }
+            let count = zeros.min(self.end - self.column);
+            self.column += count;
+            self.bit += count;
+            if self.bit == WORD_BITS {
+                self.word += 1;
+                self.bit = 0;
+            }
+        }
+    }
+
+    /// The same columns once more.
+    fn again(&self) -> DenseBits<'a>
+        ensures { result ≡ self.now }
+    {
+        DenseBits {
+            column: self.column,
+            end: self.end,
+            words: self.words,
+            word: self.word,
+            bit: self.bit,
+        }
+    }
+}
+
+/// The number of zeros from a bit of a word on and before the next one, or before the word's end.
+fn zeros_in_word(word: u64, bit: usize) -> usize
+    requires { bit < 64 }
+    ensures within { bit + result ≤ 64 }
+    ensures zeros { (k : ℕ) → k < result → bit_at word (bit + k) ≡ 0 }
+    ensures one { bit + result < 64 → bit_at word (bit + result) ≡ 1 }
+{
+    let zeros = (word >> bit).trailing_zeros() as usize;
+    zeros.min(WORD_BITS - bit)
 }

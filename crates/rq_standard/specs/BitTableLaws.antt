@@ -8,16 +8,16 @@ use Rattle.std.proofs.lemmas.List.{length-append}
 use Rattle.rq_standard.specs.BitTableSteps.{ones_at, AreOnesOf, IsPlaceAndBit}
 
 -- whether a pair is a one at place k, as a number
-abbrev is_one_at : ℕ → ℕ × ℕ → ℕ
+abbrev pub is_one_at : ℕ → ℕ × ℕ → ℕ
 is_one_at k pair = cond ((pair.0 == k) && (pair.1 == 1)) 1 0
 
-is_one_at-other : (k : ℕ) (pair : ℕ × ℕ) → pair.0 ≢ k → is_one_at k pair ≡ 0
+pub is_one_at-other : (k : ℕ) (pair : ℕ × ℕ) → pair.0 ≢ k → is_one_at k pair ≡ 0
 is_one_at-other k pair other = elim (eqb_tells pair.0 k) [ inl e ↦ absurd (other e.1) | inr e ↦ ap (λ b. cond (b && (pair.1 == 1)) 1 0) e.0 ]
 
-is_one_at-one : (k : ℕ) (pair : ℕ × ℕ) → pair.0 ≡ k → pair.1 ≡ 1 → is_one_at k pair ≡ 1
+pub is_one_at-one : (k : ℕ) (pair : ℕ × ℕ) → pair.0 ≡ k → pair.1 ≡ 1 → is_one_at k pair ≡ 1
 is_one_at-one k pair same one = ap (λ b. cond (b && (pair.1 == 1)) 1 0) (eq-eqb pair.0 k same) ∙ ap (λ b. cond b 1 0) (eq-eqb pair.1 1 one)
 
-is_one_at-zero : (k : ℕ) (pair : ℕ × ℕ) → pair.1 ≢ 1 → is_one_at k pair ≡ 0
+pub is_one_at-zero : (k : ℕ) (pair : ℕ × ℕ) → pair.1 ≢ 1 → is_one_at k pair ≡ 0
 is_one_at-zero k pair other =
     elim (eqb_tells pair.0 k) [
       | inl e ↦ ap (λ b. cond (b && (pair.1 == 1)) 1 0) e.0 ∙ elim (eqb_tells pair.1 1) [ inl f ↦ absurd (other f.1) | inr f ↦ ap (λ b. cond b 1 0) f.0 ]
@@ -36,6 +36,9 @@ ones_at-split k taken rest pair =
     ap (ones_at k) (sym (append_assoc taken (pair ∷ []) rest))
     ∙ sum_by-append (is_one_at k) (taken ++ pair ∷ []) rest
     ∙ ap (λ n. n + ones_at k rest) (ones_at-append k taken pair)
+
+pub ones_at-cons : (k : ℕ) (pair : ℕ × ℕ) (rest : List (ℕ × ℕ)) → ones_at k (pair ∷ rest) ≡ is_one_at k pair + ones_at k rest
+ones_at-cons k pair rest = ones_at-split k [] rest pair ∙ ap (λ n. n + ones_at k rest) (zero-add (is_one_at k pair))
 
 -- What a pair changes, whatever comes after it: at its place its octet is now how often the place has come with a one.
 pub record IsNextPair (bit : ℕ → ℕ) (start end : ℕ) (taken : List (ℕ × ℕ)) (pair : ℕ × ℕ) : Type 0 where

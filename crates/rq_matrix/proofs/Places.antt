@@ -1,0 +1,49 @@
+-- Places of ones, found one after another.
+use Rattle.std.proofs.Common.{◌≡◌, ◌≢◌, ℕ, zero, suc, ◌+◌, ◌<◌, ◌≤◌, Bool, true, false, cond, List, [], ◌∷◌, ◌++◌, length, get_or, refl, sym, ap, subst, ◌∙◌, arith, inl, inr, zero-add, add-zero}
+use Rattle.std.specs.Prelude.{◌==◌, count_by}
+use Rattle.std.specs.List.{All}
+use Rattle.std.proofs.lemmas.List.Elements.{All-cons, All-append}
+use Rattle.std.proofs.lemmas.List.Sums.{sum_by-cons, sum_by-append}
+use Rattle.std.proofs.lemmas.Bool.Decides.{eqb_tells}
+use Rattle.rq_standard.specs.BitTableSteps.{ArePlacesOfOnes}
+
+-- a place that none of a list is
+count-above : (k : ℕ) (places : List ℕ) → All (λ place. place < k) places → count_by (λ place. place == k) places ≡ 0
+count-above k [] all = refl
+count-above k (place ∷ places) all =
+    let below : place < k = all 0 place (omega arith) in
+    let rest = count-above k places (λ i d lt. all (suc i) d (omega arith)) in
+    let head : cond (place == k) 1 0 ≡ 0 = elim (eqb_tells place k) [ inl e ↦ (let same = e.1 in absurd (omega arith)) | inr e ↦ ap (λ b. cond b 1 0) e.0 ] in
+    sum_by-cons (λ p. cond (p == k) 1 0) place places ∙ ap (λ n. n + count_by (λ p. p == k) places) head ∙ zero-add (count_by (λ p. p == k) places) ∙ rest
+
+count-push : (k place : ℕ) (places : List ℕ) → count_by (λ p. p == k) (places ++ place ∷ []) ≡ count_by (λ p. p == k) places + cond (place == k) 1 0
+count-push k place places = sum_by-append (λ p. cond (p == k) 1 0) places (place ∷ []) ∙ ap (λ n. count_by (λ p. p == k) places + n) (zero-add (cond (place == k) 1 0))
+
+-- the next place has a zero
+pub places-skip : (bit : ℕ → ℕ) (start next : ℕ) (places : List ℕ) → ArePlacesOfOnes bit start next places → bit next ≡ 0 → ArePlacesOfOnes bit start (next + 1) places
+places-skip bit start next places found none = record {
+  within = λ i d lt. let old = found.within i d lt in (old.0, (let below = old.1 in omega arith));
+  once = λ k from below.
+      elim (eqb_tells k next) [
+        | inl e ↦ ap (λ n. count_by (λ place. place == n) places) e.1 ∙ count-above next places (λ i d lt. (found.within i d lt).1) ∙ sym none ∙ ap bit (sym e.1)
+        | inr e ↦ found.once k from (let other = e.1 in omega arith)
+      ];
+}
+
+-- the next place has a one
+pub places-push : (bit : ℕ → ℕ) (start next : ℕ) (places : List ℕ) → start ≤ next → ArePlacesOfOnes bit start next places → bit next ≡ 1 → ArePlacesOfOnes bit start (next + 1) (places ++ next ∷ [])
+places-push bit start next places from found one = record {
+  within = All-append (λ k. (start ≤ k) × (k < next + 1)) places (next ∷ []) (λ i d lt. let old = found.within i d lt in (old.0, (let below = old.1 in omega arith)))
+      (All-cons (λ k. (start ≤ k) × (k < next + 1)) next [] (from, omega arith) (λ i d lt. absurd (omega arith)));
+  once = λ k lower below.
+      count-push k next places
+      ∙ elim (eqb_tells next k) [
+        | inl e ↦
+            let none : count_by (λ place. place == k) places ≡ 0 = ap (λ n. count_by (λ place. place == n) places) (sym e.1) ∙ count-above next places (λ i d lt. (found.within i d lt).1) in
+            ap (λ n. n + cond (next == k) 1 0) none ∙ ap (λ b. 0 + cond b 1 0) e.0 ∙ sym one ∙ ap bit e.1
+        | inr e ↦ ap (λ b. count_by (λ place. place == k) places + cond b 1 0) e.0 ∙ add-zero (count_by (λ place. place == k) places) ∙ found.once k lower (let other = e.1 in omega arith)
+      ];
+}
+
+pub places-none : (bit : ℕ → ℕ) (start : ℕ) → ArePlacesOfOnes bit start start []
+places-none bit start = record { within = λ i d lt. absurd (omega arith); once = λ k from below. absurd (omega arith) }

@@ -1,0 +1,21 @@
+-- What the check leaves to show of `bit_row::BitRow::part`.
+use Rattle.std.proofs.Common.{◌≡◌, ℕ, ◌+◌, ◌-◌, ◌<◌, List, length, get_or, ap, sym, ◌∙◌, arith}
+use Rattle.rq_standard.specs.PackedBits.{packed_bit, packed_bits, padding_of}
+use Rattle.rq_standard.proofs.Packed.{length-packed_bits, get_or-packed_bits}
+use Rattle.rq_matrix.proofs.bit_row.BitRow.part.Goals as goal
+
+pub returns-clause-ok : goal.returns-clause-ok
+returns-clause-ok c =
+    let len = c.args.end - c.args.start in
+    let part = c.loop-k.part in
+    record {
+      len = c.new.ensures.len;
+      octet = λ k from below.
+          let inside : k - c.args.start < len = omega arith in
+          let place : c.args.start + (k - c.args.start) ≡ k = omega arith in
+          ap (λ (l : List ℕ). get_or l (k - c.args.start) 0) c.new.ensures.bits
+          ∙ get_or-packed_bits c.into_words.result.items len (k - c.args.start) inside
+          ∙ ap (λ (l : List ℕ). packed_bit l (padding_of len + (k - c.args.start))) c.into_words.ensures
+          ∙ c.loop-k.invariant.copied (k - c.args.start) (omega arith)
+          ∙ ap (packed_bit c.args.self.now) place;
+    }

@@ -1,0 +1,61 @@
+-- What the check leaves to show of `matrix::DenseBinaryMatrix::resize`.
+use Rattle.std.proofs.Common.{◌≡◌, ◌≤◌, ◌<◌, ◌^◌, ◌/◌, ℕ, List, [], length, map, take, get_or, sym, subst, ap, ◌∙◌, arith, refl}
+use Rattle.std.specs.List.{All}
+use Rattle.std.proofs.lemmas.List.{with_items_is, get_or-take, get_or-map, length-map, length-take-le}
+use Rattle.std.proofs.lemmas.List.Elements.{All-map}
+use Rattle.rq_standard.specs.PackedBits.{packed_bit}
+use Rattle.rq_matrix.specs.BitRows.{bit_in, word_count}
+use Rattle.rq_matrix.proofs.RowLaws.{packed_bit-take, word_inside, word_count-le}
+use Rattle.rq_matrix.proofs.matrix.DenseBinaryMatrixBinaryMatrix.resize.Goals as goal
+
+-- the first rows, each with the words that so many columns need
+abbrev leading : List (List ℕ) → ℕ → ℕ → List (List ℕ)
+leading rows height width = map (λ row. take (word_count width) row) (take height rows)
+
+length-leading : (rows : List (List ℕ)) (height width : ℕ) → height ≤ length rows → length (leading rows height width) ≡ height
+length-leading rows height width le = length-map (take height rows) (λ row. take (word_count width) row) ∙ length-take-le height rows le
+
+leading-full : (rows : List (List ℕ)) (height width old : ℕ) → height ≤ length rows → width ≤ old → All (λ row. length row ≡ word_count old) rows → All (λ row. length row ≡ word_count width) (leading rows height width)
+leading-full rows height width old le narrow full =
+    All-map (λ row. length row ≡ word_count width) (λ row. take (word_count width) row) (take height rows) (λ i d lt.
+    let many = length-take-le height rows le in
+    let row = ap length (get_or-take height rows i d (omega arith)) ∙ full i d (omega arith) in
+    length-take-le (word_count width) (get_or (take height rows) i d) (omega (arith, row, word_count-le width old narrow)))
+
+leading-bit : (rows : List (List ℕ)) (height width i k : ℕ) → height ≤ length rows → i < height → k < width → bit_in (leading rows height width) i k ≡ bit_in rows i k
+leading-bit rows height width i k le row column =
+    let many = length-take-le height rows le in
+    ap (λ r. packed_bit r k) (get_or-map (λ row. take (word_count width) row) (take height rows) i [] [] (omega arith))
+    ∙ packed_bit-take (get_or (take height rows) i []) (word_count width) k (word_inside width k column)
+    ∙ ap (λ r. packed_bit r k) (get_or-take height rows i [] row)
+
+pub invariant_of-self : goal.invariant_of-self
+invariant_of-self c =
+    let old = c.args.self.now in
+    let rows = old.rows.items in
+    let height = c.args.new_height in
+    let width = c.args.new_width in
+    let items = with_items_is c.truncate.new.self c.truncate_rows.new.rows (c.truncate_rows.auto.rows ∙ c.as_mut_slice.ensures.len)
+    ∙ c.truncate_rows.ensures ∙ ap (map (λ row. take (word_count width) row)) (c.as_mut_slice.ensures.value ∙ c.truncate.ensures.items) in
+    record {
+      height_fits = subst (λ (l : List (List ℕ)). length l < 2 ^ 31) (sym items) (omega (arith, length-leading rows height width c.requires.height, old.height_fits, c.requires.height));
+      width_fits = omega (arith, old.width_fits, c.requires.width);
+      within = omega (arith, c.min-self.ensures);
+      full = subst (All (λ row. length row ≡ word_count width)) (sym items) (leading-full rows height width old.width c.requires.height c.requires.width old.full);
+    }
+
+pub returns-clause-ok : goal.returns-clause-ok
+returns-clause-ok c =
+    let old = c.args.self.now in
+    let rows = old.rows.items in
+    let height = c.args.new_height in
+    let width = c.args.new_width in
+    let items = with_items_is c.truncate.new.self c.truncate_rows.new.rows (c.truncate_rows.auto.rows ∙ c.as_mut_slice.ensures.len)
+    ∙ c.truncate_rows.ensures ∙ ap (map (λ row. take (word_count width) row)) (c.as_mut_slice.ensures.value ∙ c.truncate.ensures.items) in
+    record {
+      height = ap length items ∙ length-leading rows height width c.requires.height;
+      width = refl;
+      boundary = c.min-self.ensures;
+      indexed = refl;
+      bits = λ i k row column. ap (λ (l : List (List ℕ)). bit_in l i k) items ∙ leading-bit rows height width i k c.requires.height row column;
+    }

@@ -1,0 +1,56 @@
+-- What the check leaves to show of `matrix::swap_columns_from`.
+use Rattle.std.proofs.Common.{◌≡◌, ◌≢◌, ◌+◌, ◌<◌, ◌≤◌, ℕ, List, [], length, set, get_or, sym, subst, ap, ◌∙◌, arith, inl, inr, length-set, get_or-set_same, get_or-set_other}
+use Rattle.std.proofs.lemmas.List.{get_or_default}
+use Rattle.std.proofs.Math.ListN.{get_or-eq_default}
+use Rattle.std.proofs.lemmas.Bool.Decides.{eqb_tells}
+use Rattle.rq_standard.specs.PackedBits.{packed_bit}
+use Rattle.rq_standard.specs.BitTableSteps.{SwapsPlaces}
+use Rattle.rq_matrix.specs.BitRows.{AreSwappedFrom}
+use Rattle.rq_matrix.proofs.matrix.swap_columns_from.Goals as goal
+
+-- one more row has the two columns exchanged
+more : (i j start n : ℕ) (old items : List (List ℕ)) (row : List ℕ) → start ≤ n → n < length items → AreSwappedFrom i j start n old items → length row ≡ length (get_or items n [])
+    → ((width : ℕ) → SwapsPlaces width (packed_bit (get_or items n [])) i j (packed_bit row)) → AreSwappedFrom i j start (n + 1) old (set items n row)
+more i j start n old items row from below kept long swapped =
+    let here = get_or-set_same items n row [] below in
+    let other = λ (a : ℕ) (ne : a ≢ n). get_or-set_other items n a row [] ne in
+    let was = kept.after n (omega arith) in
+    record {
+      count = length-set items n row ∙ kept.count;
+      lengths = λ a. elim (eqb_tells a n) [
+        | inl e ↦ subst (λ b. length (get_or (set items n row) b []) ≡ length (get_or old b [])) (sym e.1) (ap length here ∙ long ∙ kept.lengths n)
+        | inr e ↦ ap length (other a e.1) ∙ kept.lengths a
+      ];
+      swapped = λ a width lower upper. elim (eqb_tells a n) [
+        | inl e ↦ subst (λ b. SwapsPlaces width (packed_bit (get_or old b [])) i j (packed_bit (get_or (set items n row) b []))) (sym e.1)
+            (subst (λ l. SwapsPlaces width (packed_bit (get_or old n [])) i j (packed_bit l)) (sym here) (subst (λ l. SwapsPlaces width (packed_bit l) i j (packed_bit row)) was (swapped width)))
+        | inr e ↦ subst (λ l. SwapsPlaces width (packed_bit (get_or old a [])) i j (packed_bit l)) (sym (other a e.1)) (kept.swapped a width lower (let ne = e.1 in omega arith))
+      ];
+      above = λ a lower. other a (λ e. let f = e in absurd (omega arith)) ∙ kept.above a lower;
+      after = λ a upper. other a (λ e. let f = e in absurd (omega arith)) ∙ kept.after a (omega arith);
+    }
+
+pub loop-row-preserved : goal.loop-row-preserved
+loop-row-preserved c =
+    let items = c.loop-row.rows in
+    let n = c.loop-row.row in
+    let below : n < length items = omega (arith, c.loop-row.auto.rows, c.loop-row-test.true) in
+    let read = get_or_default items n c.index-rows-row.result [] below in
+    let swap = c.swap.ensures in
+    more c.args.i c.args.j c.args.start n c.args.rows.now items c.swap.new.self c.loop-row.auto.row below c.loop-row.invariant (swap.len ∙ ap length read)
+    (λ width. record {
+      first = swap.first ∙ ap (λ l. packed_bit l c.args.j) read;
+      second = swap.second ∙ ap (λ l. packed_bit l c.args.i) read;
+      elsewhere = λ k _ other other'. swap.elsewhere k other other' ∙ ap (λ l. packed_bit l k) read;
+    })
+
+pub returns : goal.returns
+returns c =
+    let kept = c.loop-row.invariant in
+    record {
+      count = kept.count;
+      lengths = kept.lengths;
+      swapped = λ a width lower upper. kept.swapped a width lower (let done = c.loop-row-test.false in omega arith);
+      above = kept.above;
+      after = λ a upper. get_or-eq_default c.loop-row.rows [] (omega (arith, c.loop-row.auto.rows)) ∙ sym (get_or-eq_default c.args.rows.now [] upper);
+    }

@@ -1,0 +1,26 @@
+-- Rows of bits, 64 to a word, the bit in column k at place k mod 64 of word k / 64.
+use Rattle.std.specs.Prelude.{◌≡◌, ◌≢◌, ℕ, ◌+◌, ◌/◌, ◌<◌, ◌≤◌, List, [], length, slice_index_or}
+use Rattle.std.specs.Int.{bit_at}
+use Rattle.rq_standard.specs.PackedBits.{packed_bit}
+use Rattle.rq_standard.specs.BitTableSteps.{SwapsPlaces}
+
+-- how many words a row of so many columns has
+abbrev pub word_count : ℕ → ℕ
+word_count width = (width + 63) / 64
+
+-- a word that has one bit set anew
+pub record IsWordWith (old bit value new : ℕ) : Type 0 where
+  pub here : bit_at new bit ≡ value
+  pub elsewhere : (i : ℕ) → i < 64 → i ≢ bit → bit_at new i ≡ bit_at old i
+
+-- the bit in row i and column k
+abbrev pub bit_in : List (List ℕ) → ℕ → ℕ → ℕ
+bit_in rows i k = packed_bit (slice_index_or rows i []) k
+
+-- in the rows from `start` on and before `end`, the bits in columns i and j are exchanged, and the others are as they were
+pub record AreSwappedFrom (i j start end : ℕ) (old new : List (List ℕ)) : Type 0 where
+  pub count : length new ≡ length old
+  pub lengths : (a : ℕ) → length (slice_index_or new a []) ≡ length (slice_index_or old a [])
+  pub swapped : (a width : ℕ) → start ≤ a → a < end → SwapsPlaces width (packed_bit (slice_index_or old a [])) i j (packed_bit (slice_index_or new a []))
+  pub above : (a : ℕ) → a < start → slice_index_or new a [] ≡ slice_index_or old a []
+  pub after : (a : ℕ) → end ≤ a → slice_index_or new a [] ≡ slice_index_or old a []

@@ -1,0 +1,2 @@
+pub mod BitRows
+pub mod DenseBits

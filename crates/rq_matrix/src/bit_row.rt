@@ -1,0 +1,197 @@
+//! A row of bits, 64 to a word.
+ghost use Rattle.std.specs.Prelude.{◌≡◌, ◌≢◌, ℕ, ◌+◌, ◌-◌, ◌*◌, ◌/◌, ◌^◌, ◌<◌, ◌≤◌, ◌==◌, length, replicate, take, if◌then◌else◌, IfOk, IfErr};
+ghost use Rattle.std.proofs.Common.{rules};
+ghost use Rattle.std.specs.Cmp.Lexicographic.{pointwise};
+ghost use Rattle.std.specs.Cmp.Rules.{comparing};
+ghost use Rattle.std.specs.Int.{bit_at};
+ghost use Rattle.rq_bytes.specs.declared.error.Error.TheVariants.{OutOfMemory};
+ghost use Rattle.rq_standard.specs.BitTableSteps.{ones_below, ones_between, AreBitsOf};
+ghost use Rattle.rq_standard.specs.PackedBits.{packed_bit};
+ghost use Rattle.rq_standard.specs.Rows.{row_sum};
+ghost use Rattle.rq_parts.specs.BitPairs.{bit_pairs, ones_among};
+ghost use Rattle.rq_matrix.specs.BitRows.{word_count, IsWordWith};
+
+use rq_bytes::error::Error;
+use rq_bytes::gf2::add_assign_binary;
+use rq_bytes::octet::Octet;
+use rq_bytes::octets::BinaryOctetVec;
+use rq_parts::iterators::OctetIter;
+use std::alloc::{AllocError, Global};
+use std::marker::Model;
+
+const WORD_BITS: usize = 64;
+
+/// The bits of a row, that in column k at place k mod 64 of word k / 64. Contracts see the words.
+#[derive(Debug, Drop)]
+pub(crate) struct BitRow {
+    words: Vec<u64>,
+}
+
+impl Model for BitRow {
+    ghost use Rattle.std.specs.Prelude.{List, ℕ};
+
+    ghost Value = { List ℕ };
+
+    ghost view = { λ row. row.words.items };
+}
+
+impl Clone for BitRow {
+    ghost is_clone = { λ a b. b ≡ a };
+
+    fn clone(&self) -> Result<Self, AllocError> {
+        Ok(BitRow {
+            words: self.words.clone()?,
+        })
+    }
+}
+
+impl PartialEq for BitRow {
+    ghost eq = { pointwise ◌==◌ };
+
+    ghost laws = { Prim.search (comparing, rules) };
+
+    fn eq(&self, other: &BitRow) -> bool {
+        self.words == other.words
+    }
+}
+
+impl Eq for BitRow {
+    ghost laws = { Prim.search (comparing, rules) };
+}
+
+impl BitRow {
+    /// A row of zeros.
+    pub(crate) fn zero(alloc: Global, width: usize) -> Result<Self, AllocError>
+        requires { width < 65536 }
+        ensures { IfOk result (λ row. row ≡ replicate (word_count width) 0) }
+    {
+        Ok(BitRow {
+            words: vec![in alloc; 0; (width + WORD_BITS - 1) / WORD_BITS]?,
+        })
+    }
+
+    /// The bit in a column.
+    pub(crate) fn get(&self, column: usize) -> Octet
+        requires { column < 64 * length self.now }
+        ensures { result ≡ packed_bit self.now column }
+    {
+        let word = self.words[column / WORD_BITS];
+        Octet::new(((word >> (column % WORD_BITS)) % 2) as u8)
+    }
+
+    /// Sets the bit in a column.
+    pub(crate) fn set(&mut self, column: usize, one: bool)
+        requires { column < 64 * length self.old }
+        ensures len { length self.new ≡ length self.old }
+        ensures here { packed_bit self.new column ≡ (if one then 1 else 0) }
+        ensures elsewhere { (k : ℕ) → k ≢ column → packed_bit self.new k ≡ packed_bit self.old k }
+    {
+        let word = self.words[column / WORD_BITS];
+        self.words[column / WORD_BITS] = word_with(word, column % WORD_BITS, one);
+    }
+
+    /// Exchanges the bits in two columns.
+    pub(crate) fn swap(&mut self, i: usize, j: usize)
+        requires first { i < 64 * length self.old }
+        requires second { j < 64 * length self.old }
+        ensures len { length self.new ≡ length self.old }
+        ensures first { packed_bit self.new i ≡ packed_bit self.old j }
+        ensures second { packed_bit self.new j ≡ packed_bit self.old i }
+        ensures elsewhere { (k : ℕ) → k ≢ i → k ≢ j → packed_bit self.new k ≡ packed_bit self.old k }
+    {
+        let first = self.get(i);
+        let second = self.get(j);
+        self.set(i, second == Octet::one());
+        self.set(j, first == Octet::one());
+    }
+
+    /// The number of ones in the columns from `start` on and before `end`.
+    pub(crate) fn count_ones(&self, start: usize, end: usize) -> usize
+        requires range { start ≤ end }
+        requires within { end ≤ 64 * length self.now }
+        ensures { result ≡ ones_between (packed_bit self.now) start end }
+    {
+        let mut ones = 0;
+        let mut column = start;
+        while column < end {
+            let bit = column % WORD_BITS;
+            let count = (WORD_BITS - bit).min(end - column);
+            ones += ones_in_word(self.words[column / WORD_BITS], bit, count);
+            column += count;
+        }
+        ones
+    }
+
+    /// The ones in the columns from `start` on and before `end`.
+    pub(crate) fn ones(&self, start: usize, end: usize) -> OctetIter<'_>
+        requires range { start ≤ end }
+        requires within { end ≤ 64 * length self.now }
+        ensures { result ≡ ones_among (bit_pairs self.now start start (end - start)) }
+    {
+        OctetIter::new_dense_ones(start, end, self.words.as_slice())
+    }
+
+    /// The bits in the columns from `start` on and before `end`.
+    pub(crate) fn part(&self, start: usize, end: usize) -> Result<BinaryOctetVec, Error>
+        requires range { start ≤ end }
+        requires within { end ≤ 64 * length self.now }
+        requires width { end < 65536 }
+        ensures ok { IfOk result (λ octets. AreBitsOf (packed_bit self.now) start end octets) }
+        ensures err { IfErr result (λ e. e ≡ OutOfMemory) }
+    {
+        let len = end - start;
+        let mut part = BitRow::zero(*self.words.allocator(), len)?;
+        let padding = (WORD_BITS - len % WORD_BITS) % WORD_BITS;
+        for k in 0..len {
+            part.set(padding + k, self.get(start + k) == Octet::one());
+        }
+        Ok(BinaryOctetVec::new(part.into_words(), len))
+    }
+
+    /// The words.
+    fn into_words(self) -> Vec<u64>
+        ensures { result.items ≡ self }
+    {
+        self.words
+    }
+
+    /// Adds a row of the same length.
+    pub(crate) fn add(&mut self, other: &BitRow)
+        requires { length other.now ≡ length self.old }
+        ensures sum { self.new ≡ row_sum self.old other.now }
+        ensures len { length self.new ≡ length self.old }
+    {
+        add_assign_binary(self.words.as_mut_slice(), other.words.as_slice());
+    }
+
+    /// Drops the words that so many columns don't need.
+    pub(crate) fn truncate(&mut self, width: usize)
+        requires { width < 65536 }
+        ensures { self.new ≡ take (word_count width) self.old }
+    {
+        self.words.truncate((width + WORD_BITS - 1) / WORD_BITS);
+    }
+}
+
+/// A word with one bit set anew.
+fn word_with(word: u64, bit: usize, one: bool) -> u64
+    requires { bit < 64 }
+    ensures { IsWordWith word bit (if one then 1 else 0) result }
+{
+    if one {
+        word | 1 << bit
+    } else {
+        word & !(1 << bit)
+    }
+}
+
+/// The number of ones among so many bits of a word from one on.
+fn ones_in_word(word: u64, bit: usize, count: usize) -> usize
+    requires some { 0 < count }
+    requires within { bit + count ≤ 64 }
+    ensures ones { result ≡ ones_below (λ k. bit_at word (bit + k)) count }
+    ensures few { result ≤ count }
+{
+    let bits = (word >> bit) & (u64::MAX >> (WORD_BITS - count));
+    bits.count_ones() as usize
+}
