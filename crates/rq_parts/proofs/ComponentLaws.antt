@@ -1,8 +1,7 @@
 -- The fields of a graph of components as they change.
-use Rattle.std.proofs.Common.{◌≡◌, ℕ, ◌+◌, ◌<◌, ◌≤◌, List, length, set, ap, ◌∙◌, subst, sym, arith}
-use Rattle.std.specs.List.{All, swap}
+use Rattle.std.proofs.Common.{◌≡◌, ℕ, ◌≤◌, length, set, ap, ◌∙◌, arith}
+use Rattle.std.specs.List.{All}
 use Rattle.std.proofs.lemmas.List.{length-set}
-use Rattle.std.proofs.lemmas.List.Elements.{All-set}
 use Rattle.rq_parts.specs.Numbers.{Numbers}
 use Rattle.rq_parts.specs.Components.{AreComponents}
 use Rattle.rq_parts.specs.declared.graph.components.ConnectedComponentGraph.TheInside.{Inside}

@@ -1,5 +1,5 @@
 -- What callers see of graphs.
-use Rattle.std.specs.Prelude.{ℕ, ◌≡◌, ◌+◌, ◌-◌, ◌<◌, ◌≤◌, true, Bool, List, [], ◌∷◌, length, map, slice_index, slice_index_or}
+use Rattle.std.specs.Prelude.{ℕ, ◌≡◌, true, Bool, List, map}
 use Rattle.std.specs.List.Sorted.{IsNonDecreasingBy}
 use Rattle.rq_parts.specs.declared.graph.UndirectedGraph.TheInside.{Inside}
 

@@ -1,5 +1,5 @@
 -- What callers see of a map from keys to lists of values, and of the pairs that become one.
-use Rattle.std.specs.Prelude.{ℕ, suc, ◌≡◌, ◌+◌, ◌-◌, ◌<◌, ◌≤◌, ◌==◌, List, length, filter, map, slice_index, slice_index_or, slice_range}
+use Rattle.std.specs.Prelude.{ℕ, ◌≡◌, ◌+◌, ◌-◌, ◌<◌, ◌≤◌, ◌==◌, List, length, filter, map, slice_index, slice_index_or, slice_range}
 use Rattle.std.specs.List.{range_with_len}
 
 -- the number of keys, and pairs of a key and a value in the order in which they were added

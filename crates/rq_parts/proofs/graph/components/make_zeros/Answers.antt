@@ -1,5 +1,4 @@
-use Rattle.std.proofs.Common.{◌≡◌, ◌+◌, ◌-◌, ◌<◌, ℕ, length, get_or, set, replicate, ap, sym, ◌∙◌, subst, arith}
-use Rattle.std.proofs.lemmas.List.{length-set}
+use Rattle.std.proofs.Common.{◌-◌, get_or, replicate, ap, sym, ◌∙◌, arith}
 use Rattle.rq_parts.specs.Numbers.{Numbers}
 use Rattle.rq_parts.proofs.ComponentLaws.{set_keeps}
 use Rattle.rq_parts.proofs.Zeros.{all_zero, zeros_more}

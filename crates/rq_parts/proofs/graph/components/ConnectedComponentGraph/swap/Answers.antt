@@ -1,5 +1,5 @@
-use Rattle.std.proofs.Common.{◌≡◌, ◌-◌, ◌<◌, ◌≤◌, ℕ, length, ap, subst, sym, arith, ◌∙◌}
-use Rattle.std.specs.List.{All, swap}
+use Rattle.std.proofs.Common.{◌-◌, ◌≤◌, ℕ, length, ap, subst, sym, arith, ◌∙◌}
+use Rattle.std.specs.List.{All}
 use Rattle.std.proofs.lemmas.List.Edits.{length-swap}
 use Rattle.rq_parts.specs.Numbers.{Numbers}
 use Rattle.rq_parts.specs.Components.{Components}
