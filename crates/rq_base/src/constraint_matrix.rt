@@ -88,19 +88,4 @@ pub fn generate_constraint_matrix_no_hdpc<T: BinaryMatrix>(
 }
 
 #[cfg(test)]
-mod tests {
-    use super::enc_indices;
-
-    #[test]
-    fn places_of_the_first_id(rt: HostRuntime) {
-        let mut digits: u64 = 0;
-        enc_indices(
-            (2, 4, 9, 2, 5, 1),
-            17,
-            10,
-            11,
-            |place| digits = digits.wrapping_mul(100).wrapping_add(place as u64),
-        );
-        assert_eq!(rt; digits, 9131823);
-    }
-}
+mod tests;
