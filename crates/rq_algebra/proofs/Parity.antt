@@ -14,11 +14,11 @@ use Rattle.rq_algebra.proofs.Sums.{add_zero, zero_mul, sum_same, sum_add, dot_ze
 pub unit : ℕ → ℕ → ℕ
 unit p k = cond (eqb p k) 1 0
 
-unit_same : (p k : ℕ) → p ≡ k → unit p k ≡ 1
+pub unit_same : (p k : ℕ) → p ≡ k → unit p k ≡ 1
 unfolding unit
 unit_same p k e = rw (eq-eqb p k e)
 
-unit_other : (p k : ℕ) → p ≢ k → unit p k ≡ 0
+pub unit_other : (p k : ℕ) → p ≢ k → unit p k ≡ 0
 unfolding unit
 unit_other p k d = rw (ne_eqb p k d)
 

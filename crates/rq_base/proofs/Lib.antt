@@ -1,3 +1,7 @@
+pub mod FlippedRows
+pub mod BitRows
+pub mod HdpcSteps
+pub mod OctetEntries
 pub mod DefaultParameters
 pub mod WalkLaws
 pub mod CallLaws

@@ -1,3 +1,5 @@
+pub mod BinaryRows
+pub mod HdpcPart
 pub mod Information
 pub mod Refused
 pub mod Defaults

@@ -1,10 +1,26 @@
-//! The places of encoding symbols in the equations of a block (RFC 6330, section 5.3.5.3).
-ghost use Rattle.std.specs.Prelude.{◌*◌, ◌≤◌};
+//! The equations of a block as matrices, and the places of encoding symbols in them (RFC 6330,
+//! sections 5.3.3.3 and 5.3.5.3).
+ghost use Rattle.std.specs.Prelude.{◌≡◌, ◌+◌, ◌*◌, ◌^◌, ◌<◌, ◌≤◌, length, IfOk, IfErr};
 ghost use Rattle.std.specs.List.{FoldsTo};
 ghost use Rattle.rq_standard.specs.Tuple.{IsTuple, places_of};
+ghost use Rattle.rq_bytes.specs.declared.error.Error.TheVariants.{OutOfMemory};
+ghost use Rattle.rq_standard.specs.TableRows.{greatest_size, row_of, intermediate_symbols};
+ghost use Rattle.rq_standard.specs.Equations.{equation_count};
+ghost use Rattle.rq_standard.specs.ConstraintMatrix.{IsBinaryPart, IsBinaryPartWithoutHdpc};
 ghost use Rattle.rq_base.specs.Calls.{CallableAlong};
+ghost use Rattle.rq_base.specs.HdpcPart.{IsHdpcPart};
+
+mod binary;
+pub mod hdpc;
 
 use crate::places::Places;
+use binary::binary_rows;
+use hdpc::generate_hdpc_rows;
+use rq_bytes::error::Error;
+use rq_matrix::matrix::BinaryMatrix;
+use rq_parts::octet_matrix::DenseOctetMatrix;
+use rq_tables::systematic_constants::SystematicTable;
+use std::alloc::Global;
 
 /// Calls `f` with each place of a tuple (d, a, b, d1, a1, b1) in order, over a row of the table
 /// with W `lt_symbols`, P `pi_symbols` and P1 `p1`: the places of the intermediate symbols whose
@@ -29,20 +45,47 @@ pub fn enc_indices<F: FnMut(usize)>(
     }
 }
 
-#[cfg(test)]
-mod tests {
-    use super::enc_indices;
-
-    #[test]
-    fn places_of_the_first_id(rt: HostRuntime) {
-        let mut digits: u64 = 0;
-        enc_indices(
-            (2, 4, 9, 2, 5, 1),
-            17,
-            10,
-            11,
-            |place| digits = digits.wrapping_mul(100).wrapping_add(place as u64),
-        );
-        assert_eq!(rt; digits, 9131823);
-    }
+/// The matrix of the equations of a block of `source_block_symbols` symbols, over a table: the S
+/// LDPC rows, H rows of zeros, and a row for each internal symbol id; and beside it the H rows of
+/// octets of the HDPC equations.
+pub fn generate_constraint_matrix<T: BinaryMatrix>(
+    alloc: Global,
+    table: &SystematicTable,
+    source_block_symbols: u32,
+    encoded_symbol_indices: &[u32],
+) -> Result<(T, DenseOctetMatrix), Error>
+    requires block { source_block_symbols ≤ greatest_size table.now }
+    requires enough { intermediate_symbols (row_of table.now source_block_symbols) ≤ equation_count (row_of table.now source_block_symbols) encoded_symbol_indices.now }
+    requires fits { equation_count (row_of table.now source_block_symbols) encoded_symbol_indices.now < 2 ^ 31 }
+    ensures bits { IfOk result (λ parts. IsBinaryPart (row_of table.now source_block_symbols) encoded_symbol_indices.now (T.content parts.0)) }
+    ensures hdpc { IfOk result (λ parts. IsHdpcPart (row_of table.now source_block_symbols) parts.1) }
+    ensures memory { IfErr result (λ e. e ≡ OutOfMemory) }
+{
+    let row = table.row(source_block_symbols);
+    let first_symbol_row = (row.ldpc_symbols + row.hdpc_symbols) as usize;
+    let matrix = binary_rows(alloc, &row, first_symbol_row, encoded_symbol_indices)?;
+    let hdpc_rows = generate_hdpc_rows(alloc, &row)?;
+    Ok((matrix, hdpc_rows))
 }
+
+/// The same without rows for the HDPC equations: the S LDPC rows, and a row for each internal
+/// symbol id.
+pub fn generate_constraint_matrix_no_hdpc<T: BinaryMatrix>(
+    alloc: Global,
+    table: &SystematicTable,
+    source_block_symbols: u32,
+    encoded_symbol_indices: &[u32],
+) -> Result<T, Error>
+    requires block { source_block_symbols ≤ greatest_size table.now }
+    requires enough { let row = row_of table.now source_block_symbols in intermediate_symbols row ≤ row.ldpc_symbols + length encoded_symbol_indices.now }
+    requires fits { (row_of table.now source_block_symbols).ldpc_symbols + length encoded_symbol_indices.now < 2 ^ 31 }
+    ensures bits { IfOk result (λ matrix. IsBinaryPartWithoutHdpc (row_of table.now source_block_symbols) encoded_symbol_indices.now (T.content matrix)) }
+    ensures memory { IfErr result (λ e. e ≡ OutOfMemory) }
+{
+    let row = table.row(source_block_symbols);
+    let first_symbol_row = row.ldpc_symbols as usize;
+    binary_rows(alloc, &row, first_symbol_row, encoded_symbol_indices)
+}
+
+#[cfg(test)]
+mod tests;

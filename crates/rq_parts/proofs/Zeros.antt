@@ -1,5 +1,6 @@
 -- Lists of numbers that go on with zeros.
-use Rattle.std.proofs.Common.{◌≡◌, ℕ, zero, suc, ◌<◌, List, [], ◌∷◌, ◌++◌, length, replicate, get_or, refl, arith}
+use Rattle.std.proofs.Common.{◌≡◌, ℕ, zero, suc, ◌+◌, ◌<◌, List, [], ◌∷◌, ◌++◌, length, replicate, get_or, set, refl, subst, arith}
+use Rattle.std.proofs.lemmas.List.Edits.{fill_by_more}
 
 pub zeros_everywhere : (n k : ℕ) → ◌≡◌ {A = ℕ} (get_or (replicate n 0) k 0) 0
 zeros_everywhere zero k = refl
@@ -15,3 +16,11 @@ pub positive_within : (xs : List ℕ) (k : ℕ) → 0 < get_or xs k 0 → k < le
 positive_within [] k positive = absurd (omega arith)
 positive_within (x ∷ xs) zero positive = omega arith
 positive_within (x ∷ xs) (suc k) positive = let rest = positive_within xs k positive in omega arith
+
+-- a list of zeros
+pub all_zero : (xs : List ℕ) → ((k : ℕ) → k < length xs → get_or xs k 0 ≡ 0) → xs ≡ replicate (length xs) 0
+all_zero [] zeros = refl
+all_zero (x ∷ xs) zeros = cc (zeros zero (omega arith), all_zero xs (λ k lt. zeros (suc k) (omega arith)))
+
+pub zeros_more : (xs : List ℕ) (i j : ℕ) → i ≡ j → i < length xs → ((k : ℕ) → k < i → get_or xs k 0 ≡ 0) → (k : ℕ) → k < i + 1 → get_or (set xs j 0) k 0 ≡ 0
+zeros_more xs i j e lt zeros k below = subst (λ n. get_or (set xs n 0) k 0 ≡ 0) e (fill_by_more (λ _. 0) xs i 0 lt zeros k below)

@@ -1,10 +1,13 @@
-//! Maps from numbers to numbers, kept in arrays.
+//! Maps from numbers to numbers, or to lists of numbers, kept in arrays.
 ghost use Rattle.std.specs.Prelude.{◌≡◌, ℕ, ◌+◌, ◌-◌, ◌^◌, ◌<◌, ◌≤◌, length, replicate, slice_index, slice_set, vec_len, Ok, IfOk, OnOk, IfErr};
 ghost use Rattle.std.specs.List.{swap};
 ghost use Rattle.rq_bytes.specs.Refusals.{IsAnswer};
 ghost use Rattle.rq_bytes.specs.declared.error.Error.TheVariants.{OutOfMemory};
 ghost use Rattle.rq_parts.specs.Numbers.{number_at, HasKey, IsSame, IsWith};
 
+mod lists;
+
+pub use lists::{ImmutableListMap, ImmutableListMapBuilder};
 use rq_bytes::error::Error;
 use std::alloc::Global;
 use std::marker::Model;

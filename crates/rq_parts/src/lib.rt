@@ -1,7 +1,8 @@
-//! Iterators over rows, the matrix of octets, and maps kept in arrays.
+//! Iterators over rows, the matrix of octets, graphs, and maps kept in arrays.
 #![tactic(auto)]
 
 pub mod arraymap;
+pub mod graph;
 pub mod iterators;
 pub mod octet_matrix;
 #[cfg(test)]

@@ -1,5 +1,6 @@
 pub mod Columns
 pub mod Firsts
+pub mod HdpcLaws
 pub mod HeaderBytes
 pub mod Known
 pub mod LeastNumbers

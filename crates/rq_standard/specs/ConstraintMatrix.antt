@@ -1,5 +1,5 @@
 -- The equations of a block as a solver is handed them: a matrix of bits, and beside it one of octets for the HDPC equations.
-use Rattle.std.specs.Prelude.{◌≡◌, ℕ, ◌+◌, ◌-◌, ◌<◌, cond, nat_lt, false, List, length}
+use Rattle.std.specs.Prelude.{◌≡◌, ℕ, ◌+◌, ◌<◌, false, List, length}
 use Rattle.rq_algebra.specs.Systems.{at, stacked}
 use Rattle.rq_standard.specs.declared.row.Row.{Row}
 use Rattle.rq_standard.specs.BitTable.{BitTable}
@@ -19,6 +19,15 @@ pub record IsBinaryPart (row : Row) (ids : List ℕ) (m : BitTable) : Type 0 whe
   pub ldpc : (i k : ℕ) → i < row.ldpc_symbols → k < intermediate_symbols row → m.bit i k ≡ ldpc_coefficient row i k
   pub zeros : (i k : ℕ) → i < row.hdpc_symbols → k < intermediate_symbols row → m.bit (row.ldpc_symbols + i) k ≡ 0
   pub symbols : (i k : ℕ) → i < length ids → k < intermediate_symbols row → m.bit (row.ldpc_symbols + row.hdpc_symbols + i) k ≡ symbol_coefficient row (at ids i) k
+
+-- the same without rows for the HDPC equations: LDPC rows, and a row for each id
+pub record IsBinaryPartWithoutHdpc (row : Row) (ids : List ℕ) (m : BitTable) : Type 0 where
+  pub height : m.height ≡ row.ldpc_symbols + length ids
+  pub width : m.width ≡ intermediate_symbols row
+  pub boundary : m.boundary ≡ row.lt_symbols
+  pub indexed : m.indexed ≡ false
+  pub ldpc : (i k : ℕ) → i < row.ldpc_symbols → k < intermediate_symbols row → m.bit i k ≡ ldpc_coefficient row i k
+  pub symbols : (i k : ℕ) → i < length ids → k < intermediate_symbols row → m.bit (row.ldpc_symbols + i) k ≡ symbol_coefficient row (at ids i) k
 
 -- the HDPC rows
 abbrev pub AreHdpcRows : Row → (ℕ → ℕ → ℕ) → Type 0

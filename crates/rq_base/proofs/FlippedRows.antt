@@ -1,0 +1,133 @@
+-- A row of bits that is flipped at one place after another.
+use Rattle.std.proofs.Common.{◌≡◌, ◌≢◌, ℕ, ◌+◌, ◌%◌, ◌<◌, ◌≤◌, ◌⊎◌, List, [], ◌∷◌, length, All, refl, sym, ap, ◌∙◌, subst, arith, inl, inr}
+use Rattle.std.proofs.lemmas.Bool.{cases_eq}
+use Rattle.std.proofs.lemmas.List.Elements.{All-head, All-tail}
+use Rattle.std.specs.Int.Bits.{bit_xor}
+use Rattle.rq_algebra.specs.Parities.{parity}
+use Rattle.rq_algebra.specs.Systems.{at}
+use Rattle.rq_algebra.proofs.Parity.{unit, unit_same, unit_other, parity-cons, parity_cases}
+use Rattle.rq_standard.specs.declared.row.Row.{Row}
+use Rattle.rq_standard.specs.BitTable.{BitTable}
+use Rattle.rq_standard.specs.BitTableSteps.{HasSameShape, SetsBit, bit_of}
+use Rattle.rq_standard.specs.TableRows.{intermediate_symbols}
+use Rattle.rq_standard.specs.Equations.{row_places, symbol_coefficient}
+use Rattle.rq_base.specs.BinaryRows.{HasLdpcRows, HasSymbolRows, FillsRow}
+use Rattle.rq_base.proofs.BitRows.{same_shape, rows_stay}
+
+-- what is left to flip of the places of a row
+pub record IsFlipping (old : BitTable) (i : ℕ) (places left : List ℕ) (new : BitTable) : Type 0 where
+  pub shape : HasSameShape old new
+  pub small : (k : ℕ) → k < old.width → new.bit i k < 2
+  pub parity : (k : ℕ) → k < old.width → (new.bit i k + parity left k) % 2 ≡ parity places k
+  pub other_rows : (a k : ℕ) → a < old.height → k < old.width → a ≢ i → new.bit a k ≡ old.bit a k
+  pub below : All (λ place. place < old.width) left
+
+small_parity : (places : List ℕ) (k : ℕ) → parity places k < 2
+small_parity places k = elim (parity_cases places k) [ inl e ↦ omega arith | inr e ↦ omega arith ]
+
+pub flips_all : (m : BitTable) (i : ℕ) (places : List ℕ) → ((k : ℕ) → k < m.width → m.bit i k ≡ 0) → All (λ place. place < m.width) places → IsFlipping m i places places m
+flips_all m i places zeros below = record {
+  shape = record { height = refl; width = refl; boundary = refl; indexed = refl };
+  small = λ k hk. let zero = zeros k hk in omega arith;
+  parity = λ k hk. let zero = zeros k hk in let small = small_parity places k in omega arith;
+  other_rows = λ a k ha hk d. refl;
+  below = below;
+}
+
+-- the other bit
+flip_cases : (b : ℕ) → b < 2 → ((b ≡ 0) × (bit_of (bit_xor b 1) ≡ 1)) ⊎ ((b ≡ 1) × (bit_of (bit_xor b 1) ≡ 0))
+flip_cases b lt = elim (cases_eq b 0) [
+  | inl e ↦ inl (e, ap (λ n. bit_of (bit_xor n 1)) e)
+  | inr d ↦ let one : b ≡ 1 = omega arith in inr (one, ap (λ n. bit_of (bit_xor n 1)) one)
+]
+
+flip_parity : (b c p q u : ℕ) → b < 2 → c ≡ bit_of (bit_xor b 1) → u ≡ 1 → p ≡ (u + q) % 2 → (c + q) % 2 ≡ (b + p) % 2
+flip_parity b c p q u lt e one f = elim (flip_cases b lt) [
+  | inl zero ↦ omega (arith, zero.0, zero.1)
+  | inr set ↦ omega (arith, set.0, set.1)
+]
+
+flip_small : (b c : ℕ) → b < 2 → c ≡ bit_of (bit_xor b 1) → c < 2
+flip_small b c lt e = elim (flip_cases b lt) [
+  | inl zero ↦ omega (arith, zero.1)
+  | inr set ↦ omega (arith, set.1)
+]
+
+pub flips_more :
+    {old middle new : BitTable} {i place octet one : ℕ} {places left rest : List ℕ} → i < old.height → IsFlipping old i places left middle → left ≡ place ∷ rest
+    → SetsBit middle i place octet new → octet ≡ bit_xor (middle.bit i place) one → one ≡ 1 → IsFlipping old i places rest new
+flips_more {old} {middle} {new} {i} {place} {octet} {one} {places} {left} {rest} row flipping e set is is_one =
+    let below : All (λ p. p < old.width) (place ∷ rest) = subst (All (λ p. p < old.width)) e flipping.below in
+    let wide : place < old.width = All-head (λ p. p < old.width) place rest below in
+    let tall = flipping.shape.height in
+    let same_width = flipping.shape.width in
+    let flipped : new.bit i place ≡ bit_of (bit_xor (middle.bit i place) 1) =
+    set.here ∙ ap bit_of is ∙ ap (λ n. bit_of (bit_xor (middle.bit i place) n)) is_one in
+    let there : (k : ℕ) → k < old.width → k ≢ place → new.bit i k ≡ middle.bit i k = λ k hk d. set.other_columns k (omega arith) d in
+    let more : (k : ℕ) → parity left k ≡ (unit place k + parity rest k) % 2 = λ k. (ap (λ l. parity l k) e ∙ parity-cons place rest k) in
+    record {
+      shape = same_shape flipping.shape set.shape;
+      small = λ k hk. elim (cases_eq k place) [
+        | inl same ↦ subst (λ n. n < 2) (sym (ap (new.bit i) same)) (flip_small (middle.bit i place) (new.bit i place) (flipping.small place wide) flipped)
+        | inr other ↦ subst (λ n. n < 2) (sym (there k hk other)) (flipping.small k hk)
+      ];
+      parity = λ k hk. elim (cases_eq k place) [
+        | inl same ↦
+            flip_parity (middle.bit i k) (new.bit i k) (parity left k) (parity rest k) (unit place k) (flipping.small k hk)
+            (ap (new.bit i) same ∙ flipped ∙ ap (λ n. bit_of (bit_xor (middle.bit i n) 1)) (sym same)) (unit_same place k (sym same)) (more k)
+            ∙ flipping.parity k hk
+        | inr other ↦
+            let zero = unit_other place k (λ s. other (sym s)) in
+            let left_is = more k in
+            let same = there k hk other in
+            let small = small_parity rest k in
+            let keeps : (new.bit i k + parity rest k) % 2 ≡ (middle.bit i k + parity left k) % 2 = omega arith in
+            keeps ∙ flipping.parity k hk
+      ];
+      other_rows = λ a k ha hk d. set.other_rows a k (omega arith) (omega arith) d ∙ flipping.other_rows a k ha hk d;
+      below = All-tail (λ p. p < old.width) place rest below;
+    }
+
+pub flips_none : {old new : BitTable} {i : ℕ} {places left : List ℕ} → IsFlipping old i places left new → left ≡ [] → FillsRow old i places new
+unfolding parity
+flips_none {old} {new} {i} {places} {left} flipping e = record {
+  shape = flipping.shape;
+  here = λ k hk.
+      let small = flipping.small k hk in
+      let none : parity left k ≡ 0 = ap (λ l. parity l k) e in
+      let whole = flipping.parity k hk in
+      omega arith;
+  other_rows = flipping.other_rows;
+}
+
+-- ---- the rows of the ids
+
+pub symbols_none : {row : Row} {first : ℕ} {ids : List ℕ} {m : BitTable} → row.ldpc_symbols ≤ first → HasLdpcRows row (first + length ids) row.ldpc_symbols m → HasSymbolRows row first ids 0 m
+symbols_none {row} {first} {ids} {m} after rows = record {
+  shape = rows.shape;
+  ldpc = rows.whole;
+  zeros = λ i k low hi hk. rows.below i k low (omega (arith, rows.shape.height)) hk;
+  symbols = λ i k hi hk. absurd (omega arith);
+  rest = λ i k low hi hk. rows.below i k (omega arith) hi hk;
+}
+
+pub symbols_more :
+    {row : Row} {first i : ℕ} {ids places : List ℕ} {old new : BitTable} → row.ldpc_symbols ≤ first → i < length ids → HasSymbolRows row first ids i old
+    → FillsRow old (first + i) places new → places ≡ row_places row (at ids i) → HasSymbolRows row first ids (i + 1) new
+symbols_more {row} {first} {i} {ids} {places} {old} {new} after lt rows fills is =
+    let tall = rows.shape.height in
+    let wide = rows.shape.width in
+    let there : (a k : ℕ) → a < first + length ids → k < intermediate_symbols row → a ≢ first + i → new.bit a k ≡ old.bit a k = λ a k ha hk d. fills.other_rows a k (omega arith) (omega arith) d in
+    record {
+      shape = rows_stay rows.shape fills.shape;
+      ldpc = λ a k ha hk. there a k (omega arith) hk (λ e. omega arith) ∙ rows.ldpc a k ha hk;
+      zeros = λ a k low ha hk. there a k (omega arith) hk (λ e. omega arith) ∙ rows.zeros a k low ha hk;
+      symbols = λ a k ha hk. elim (cases_eq a i) [
+        | inl same ↦
+            ap (λ n. new.bit (first + n) k) same ∙ fills.here k (omega arith) ∙ ap (λ l. parity l k) is ∙ ap (λ n. symbol_coefficient row (at ids n) k) (sym same)
+        | inr other ↦ there (first + a) k (omega arith) hk (λ e. omega arith) ∙ rows.symbols a k (omega arith) hk
+      ];
+      rest = λ a k low ha hk.
+          let same_height = fills.shape.height in
+          there a k (omega arith) hk (λ e. omega arith) ∙ rows.rest a k (omega arith) (omega arith) hk;
+    }

@@ -1,0 +1,84 @@
+-- The HDPC rows column by column.
+use Rattle.std.proofs.Common.{◌≡◌, ℕ, ◌+◌, ◌-◌, ◌%◌, ◌≤◌, ◌<◌, eqb, ◌||◌, set, sym, ap, ◌∙◌, refl, arith, inl, inr}
+use Rattle.std.proofs.lemmas.Bool.{cases_eq, eq-eqb, ne_eqb}
+use Rattle.rq_parts.specs.OctetTable.{OctetTable, row_at, with_row}
+use Rattle.rq_standard.specs.declared.row.Row.{Row}
+use Rattle.rq_standard.specs.Rand.{rand}
+use Rattle.rq_standard.specs.Octets.{octet_power}
+use Rattle.rq_standard.specs.TableRows.{intermediate_symbols}
+use Rattle.rq_standard.specs.Equations.{one_if, before_hdpc, mt, hdpc_coefficient}
+use Rattle.rq_standard.proofs.HdpcLaws.{hdpc-last, hdpc-own}
+use Rattle.rq_base.specs.HdpcPart.{octet_at, HasShape, IsFilledFrom}
+use Rattle.rq_base.proofs.OctetEntries.{sets}
+
+-- a column before the last one of MT has ones in two rows
+pub mt-is : (row : Row) (i j first second : ℕ) → j + 1 < before_hdpc row → first ≡ rand (j + 1) 6 row.hdpc_symbols → second ≡ (first + rand (j + 1) 7 (row.hdpc_symbols - 1) + 1) % row.hdpc_symbols → mt row i j ≡ one_if (eqb i first || eqb i second)
+unfolding mt
+mt-is row i j first second lt e f = rw (ne_eqb j (before_hdpc row - 1) (λ e. omega arith), f, e) refl
+
+-- the column down to row i, and the columns after it
+pub record IsPartlyFilled (row : Row) (column height : ℕ) (table : OctetTable) : Type 0 where
+  pub next : IsFilledFrom row (column + 1) table
+  pub done : (i : ℕ) → i < height → octet_at table i column ≡ hdpc_coefficient row i column
+
+pub filled_more :
+    (row : Row) (old new : OctetTable) (column i value : ℕ) → IsPartlyFilled row column i old → i < row.hdpc_symbols → column + 1 < before_hdpc row
+    → new ≡ with_row old i (set (row_at old i) column value) → value ≡ hdpc_coefficient row i column → IsPartlyFilled row column (i + 1) new
+filled_more row old new column i value filled lt below e is =
+    let wide : column < intermediate_symbols row = omega arith in
+    let s = sets filled.next.shape i column value lt wide new e in
+    record {
+      next = record {
+        shape = s.shape;
+        columns = λ i' k hi hk hl. s.other_column i' k (λ same. omega arith) ∙ filled.next.columns i' k hi hk hl;
+      };
+      done = λ i' hi. elim (cases_eq i' i) [
+        | inl same ↦ ap (λ n. octet_at new n column) same ∙ s.here ∙ is ∙ ap (λ n. hdpc_coefficient row n column) (sym same)
+        | inr other ↦ s.other_row i' column other ∙ filled.done i' (omega arith)
+      ];
+    }
+
+-- and when all rows are done
+pub filled_whole : (row : Row) (column : ℕ) (table : OctetTable) → IsPartlyFilled row column row.hdpc_symbols table → IsFilledFrom row column table
+filled_whole row column table filled = record {
+  shape = filled.next.shape;
+  columns = λ i k hi hk hl. elim (cases_eq k column) [
+    | inl same ↦ ap (octet_at table i) same ∙ filled.done i hi ∙ ap (hdpc_coefficient row i) (sym same)
+    | inr other ↦ filled.next.columns i k hi (omega arith) hl
+  ];
+}
+
+-- ---- the columns from K' + S - 1 on, row by row
+
+pub record AreRowsFilled (row : Row) (height : ℕ) (table : OctetTable) : Type 0 where
+  pub shape : HasShape row.hdpc_symbols (intermediate_symbols row) table
+  pub done : (i k : ℕ) → i < height → before_hdpc row - 1 ≤ k → k < intermediate_symbols row → octet_at table i k ≡ hdpc_coefficient row i k
+  pub rest : (i k : ℕ) → height ≤ i → octet_at table i k ≡ 0
+
+-- a row is filled by two octets
+pub rows_more :
+    (row : Row) (old middle new : OctetTable) (i : ℕ) → AreRowsFilled row i old → i < row.hdpc_symbols → 0 < before_hdpc row
+    → middle ≡ with_row old i (set (row_at old i) (before_hdpc row - 1) (octet_power i))
+    → new ≡ with_row middle i (set (row_at middle i) (before_hdpc row + i) 1) → AreRowsFilled row (i + 1) new
+rows_more row old middle new i filled lt some e f =
+    let n = before_hdpc row in
+    let wide : n - 1 < intermediate_symbols row = omega arith in
+    let one = sets filled.shape i (n - 1) (octet_power i) lt wide middle e in
+    let two = sets one.shape i (n + i) 1 lt (omega arith) new f in
+    let here : (k : ℕ) → n - 1 ≤ k → octet_at new i k ≡ hdpc_coefficient row i k = λ k le.
+    elim (cases_eq k (n - 1)) [
+      | inl same ↦ two.other_column i k (λ other. omega arith) ∙ ap (octet_at middle i) same ∙ one.here ∙ sym (hdpc-last row i some) ∙ ap (hdpc_coefficient row i) (sym same)
+      | inr after ↦ elim (cases_eq k (n + i)) [
+        | inl same ↦ ap (octet_at new i) same ∙ two.here ∙ ap one_if (sym (eq-eqb k (n + i) same)) ∙ sym (hdpc-own row i k (omega arith))
+        | inr other ↦
+            two.other_column i k other ∙ one.other_column i k after ∙ filled.rest i k (omega arith) ∙ ap one_if (sym (ne_eqb k (n + i) other)) ∙ sym (hdpc-own row i k (omega arith))
+      ]
+    ] in
+    record {
+      shape = two.shape;
+      done = λ i' k hi hk hl. elim (cases_eq i' i) [
+        | inl same ↦ ap (λ m. octet_at new m k) same ∙ here k hk ∙ ap (λ m. hdpc_coefficient row m k) (sym same)
+        | inr other ↦ two.other_row i' k other ∙ one.other_row i' k other ∙ filled.done i' k (omega arith) hk hl
+      ];
+      rest = λ i' k hi. two.other_row i' k (λ same. omega arith) ∙ one.other_row i' k (λ same. omega arith) ∙ filled.rest i' k (omega arith);
+    }

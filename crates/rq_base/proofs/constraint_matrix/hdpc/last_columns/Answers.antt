@@ -1,0 +1,13 @@
+use Rattle.std.proofs.Common.{◌+◌, ◌-◌, set, ap, ◌∙◌, arith}
+use Rattle.rq_parts.specs.OctetTable.{row_at, with_row}
+use Rattle.rq_standard.specs.Equations.{before_hdpc}
+use Rattle.rq_base.proofs.HdpcSteps.{rows_more}
+use Rattle.rq_base.proofs.constraint_matrix.hdpc.last_columns.Goals as goal
+
+pub loop-i-preserved : goal.loop-i-preserved
+loop-i-preserved c =
+    let row = c.args.row.now in
+    let i = c.loop-i.i in
+    rows_more row c.loop-i.matrix c.set.new.self c.set-in-loop-i.new.self i c.loop-i.invariant (omega arith) (omega arith)
+    (c.set.ensures ∙ ap (λ v. with_row c.loop-i.matrix i (set (row_at c.loop-i.matrix i) (before_hdpc row - 1) v)) c.alpha.ensures)
+    (c.set-in-loop-i.ensures ∙ ap (λ v. with_row c.set.new.self i (set (row_at c.set.new.self i) (before_hdpc row + i) v)) c.one.ensures)

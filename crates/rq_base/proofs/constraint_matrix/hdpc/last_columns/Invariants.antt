@@ -1,0 +1,5 @@
+use Rattle.rq_base.proofs.HdpcSteps.{AreRowsFilled}
+use Rattle.rq_base.proofs.constraint_matrix.hdpc.last_columns.Given as goal
+
+abbrev pub invariant-loop-i : goal.invariant-loop-i
+invariant-loop-i l = AreRowsFilled l.row l.i l.matrix
