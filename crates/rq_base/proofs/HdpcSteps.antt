@@ -1,14 +1,14 @@
 -- The HDPC rows column by column.
 use Rattle.std.proofs.Common.{◌≡◌, ℕ, ◌+◌, ◌-◌, ◌%◌, ◌≤◌, ◌<◌, eqb, ◌||◌, set, sym, ap, ◌∙◌, refl, arith, inl, inr}
 use Rattle.std.proofs.lemmas.Bool.{cases_eq, eq-eqb, ne_eqb}
-use Rattle.rq_parts.specs.OctetTable.{OctetTable, row_at, with_row}
+use Rattle.rq_parts.specs.OctetTable.{OctetTable, row_at, with_row, entry_of}
 use Rattle.rq_standard.specs.declared.row.Row.{Row}
 use Rattle.rq_standard.specs.Rand.{rand}
 use Rattle.rq_standard.specs.Octets.{octet_power}
 use Rattle.rq_standard.specs.TableRows.{intermediate_symbols}
 use Rattle.rq_standard.specs.Equations.{one_if, before_hdpc, mt, hdpc_coefficient}
 use Rattle.rq_standard.proofs.HdpcLaws.{hdpc-last, hdpc-own}
-use Rattle.rq_base.specs.HdpcPart.{octet_at, HasShape, IsFilledFrom}
+use Rattle.rq_base.specs.HdpcPart.{HasShape, IsFilledFrom}
 use Rattle.rq_base.proofs.OctetEntries.{sets}
 
 -- a column before the last one of MT has ones in two rows
@@ -19,7 +19,7 @@ mt-is row i j first second lt e f = rw (ne_eqb j (before_hdpc row - 1) (λ e. om
 -- the column down to row i, and the columns after it
 pub record IsPartlyFilled (row : Row) (column height : ℕ) (table : OctetTable) : Type 0 where
   pub next : IsFilledFrom row (column + 1) table
-  pub done : (i : ℕ) → i < height → octet_at table i column ≡ hdpc_coefficient row i column
+  pub done : (i : ℕ) → i < height → entry_of table i column ≡ hdpc_coefficient row i column
 
 pub filled_more :
     (row : Row) (old new : OctetTable) (column i value : ℕ) → IsPartlyFilled row column i old → i < row.hdpc_symbols → column + 1 < before_hdpc row
@@ -33,7 +33,7 @@ filled_more row old new column i value filled lt below e is =
         columns = λ i' k hi hk hl. s.other_column i' k (λ same. omega arith) ∙ filled.next.columns i' k hi hk hl;
       };
       done = λ i' hi. elim (cases_eq i' i) [
-        | inl same ↦ ap (λ n. octet_at new n column) same ∙ s.here ∙ is ∙ ap (λ n. hdpc_coefficient row n column) (sym same)
+        | inl same ↦ ap (λ n. entry_of new n column) same ∙ s.here ∙ is ∙ ap (λ n. hdpc_coefficient row n column) (sym same)
         | inr other ↦ s.other_row i' column other ∙ filled.done i' (omega arith)
       ];
     }
@@ -43,7 +43,7 @@ pub filled_whole : (row : Row) (column : ℕ) (table : OctetTable) → IsPartlyF
 filled_whole row column table filled = record {
   shape = filled.next.shape;
   columns = λ i k hi hk hl. elim (cases_eq k column) [
-    | inl same ↦ ap (octet_at table i) same ∙ filled.done i hi ∙ ap (hdpc_coefficient row i) (sym same)
+    | inl same ↦ ap (entry_of table i) same ∙ filled.done i hi ∙ ap (hdpc_coefficient row i) (sym same)
     | inr other ↦ filled.next.columns i k hi (omega arith) hl
   ];
 }
@@ -52,8 +52,8 @@ filled_whole row column table filled = record {
 
 pub record AreRowsFilled (row : Row) (height : ℕ) (table : OctetTable) : Type 0 where
   pub shape : HasShape row.hdpc_symbols (intermediate_symbols row) table
-  pub done : (i k : ℕ) → i < height → before_hdpc row - 1 ≤ k → k < intermediate_symbols row → octet_at table i k ≡ hdpc_coefficient row i k
-  pub rest : (i k : ℕ) → height ≤ i → octet_at table i k ≡ 0
+  pub done : (i k : ℕ) → i < height → before_hdpc row - 1 ≤ k → k < intermediate_symbols row → entry_of table i k ≡ hdpc_coefficient row i k
+  pub rest : (i k : ℕ) → height ≤ i → entry_of table i k ≡ 0
 
 -- a row is filled by two octets
 pub rows_more :
@@ -65,11 +65,11 @@ rows_more row old middle new i filled lt some e f =
     let wide : n - 1 < intermediate_symbols row = omega arith in
     let one = sets filled.shape i (n - 1) (octet_power i) lt wide middle e in
     let two = sets one.shape i (n + i) 1 lt (omega arith) new f in
-    let here : (k : ℕ) → n - 1 ≤ k → octet_at new i k ≡ hdpc_coefficient row i k = λ k le.
+    let here : (k : ℕ) → n - 1 ≤ k → entry_of new i k ≡ hdpc_coefficient row i k = λ k le.
     elim (cases_eq k (n - 1)) [
-      | inl same ↦ two.other_column i k (λ other. omega arith) ∙ ap (octet_at middle i) same ∙ one.here ∙ sym (hdpc-last row i some) ∙ ap (hdpc_coefficient row i) (sym same)
+      | inl same ↦ two.other_column i k (λ other. omega arith) ∙ ap (entry_of middle i) same ∙ one.here ∙ sym (hdpc-last row i some) ∙ ap (hdpc_coefficient row i) (sym same)
       | inr after ↦ elim (cases_eq k (n + i)) [
-        | inl same ↦ ap (octet_at new i) same ∙ two.here ∙ ap one_if (sym (eq-eqb k (n + i) same)) ∙ sym (hdpc-own row i k (omega arith))
+        | inl same ↦ ap (entry_of new i) same ∙ two.here ∙ ap one_if (sym (eq-eqb k (n + i) same)) ∙ sym (hdpc-own row i k (omega arith))
         | inr other ↦
             two.other_column i k other ∙ one.other_column i k after ∙ filled.rest i k (omega arith) ∙ ap one_if (sym (ne_eqb k (n + i) other)) ∙ sym (hdpc-own row i k (omega arith))
       ]
@@ -77,7 +77,7 @@ rows_more row old middle new i filled lt some e f =
     record {
       shape = two.shape;
       done = λ i' k hi hk hl. elim (cases_eq i' i) [
-        | inl same ↦ ap (λ m. octet_at new m k) same ∙ here k hk ∙ ap (λ m. hdpc_coefficient row m k) (sym same)
+        | inl same ↦ ap (λ m. entry_of new m k) same ∙ here k hk ∙ ap (λ m. hdpc_coefficient row m k) (sym same)
         | inr other ↦ two.other_row i' k other ∙ one.other_row i' k other ∙ filled.done i' k (omega arith) hk hl
       ];
       rest = λ i' k hi. two.other_row i' k (λ same. omega arith) ∙ one.other_row i' k (λ same. omega arith) ∙ filled.rest i' k (omega arith);

@@ -2,14 +2,14 @@
 use Rattle.std.proofs.Common.{◌≡◌, ◌≢◌, ℕ, ◌<◌, [], length, set, get_or, sym, ap, ◌∙◌, subst, arith, inl, inr}
 use Rattle.std.proofs.lemmas.Bool.{cases_eq}
 use Rattle.std.proofs.lemmas.List.{get_or-set_same, get_or-set_other, length-set}
-use Rattle.rq_parts.specs.OctetTable.{OctetTable, row_at, with_row}
-use Rattle.rq_base.specs.HdpcPart.{octet_at, HasShape}
+use Rattle.rq_parts.specs.OctetTable.{OctetTable, row_at, with_row, entry_of}
+use Rattle.rq_base.specs.HdpcPart.{HasShape}
 
 pub record Sets (height width : ℕ) (old new : OctetTable) (i j value : ℕ) : Type 0 where
   pub shape : HasShape height width new
-  pub here : octet_at new i j ≡ value
-  pub other_row : (i' k : ℕ) → i' ≢ i → octet_at new i' k ≡ octet_at old i' k
-  pub other_column : (i' k : ℕ) → k ≢ j → octet_at new i' k ≡ octet_at old i' k
+  pub here : entry_of new i j ≡ value
+  pub other_row : (i' k : ℕ) → i' ≢ i → entry_of new i' k ≡ entry_of old i' k
+  pub other_column : (i' k : ℕ) → k ≢ j → entry_of new i' k ≡ entry_of old i' k
 
 module _ {height width : ℕ} {old : OctetTable} (shape : HasShape height width old) (i j value : ℕ) (row : i < height) (column : j < width) where
   written : OctetTable
@@ -40,11 +40,11 @@ module _ {height width : ℕ} {old : OctetTable} (shape : HasShape height width 
     ];
   }
 
-  written_column : (i' k : ℕ) → k ≢ j → octet_at written i' k ≡ octet_at old i' k
+  written_column : (i' k : ℕ) → k ≢ j → entry_of written i' k ≡ entry_of old i' k
   written_column i' k d =
       elim (cases_eq i' i) [
         | inl e ↦
-            ap (λ n. octet_at written n k) e ∙ ap (λ r. get_or r k 0) row_here ∙ get_or-set_other (row_at old i) j k value 0 d ∙ ap (λ n. octet_at old n k) (sym e)
+            ap (λ n. entry_of written n k) e ∙ ap (λ r. get_or r k 0) row_here ∙ get_or-set_other (row_at old i) j k value 0 d ∙ ap (λ n. entry_of old n k) (sym e)
         | inr e ↦ ap (λ r. get_or r k 0) (row_there i' e)
       ]
 

@@ -1,15 +1,11 @@
 -- The matrix of octets of the HDPC equations.
 use Rattle.std.specs.Prelude.{◌≡◌, ℕ, ◌<◌, ◌≤◌, length}
 use Rattle.rq_algebra.specs.Systems.{at}
-use Rattle.rq_parts.specs.OctetTable.{OctetTable, row_at}
+use Rattle.rq_parts.specs.OctetTable.{OctetTable, row_at, entry_of}
 use Rattle.rq_standard.specs.declared.row.Row.{Row}
 use Rattle.rq_standard.specs.TableRows.{intermediate_symbols}
 use Rattle.rq_standard.specs.Equations.{hdpc_coefficient}
 use Rattle.rq_standard.specs.ConstraintMatrix.{AreHdpcRows}
-
--- the octet in row i and column k
-abbrev pub octet_at : OctetTable → ℕ → ℕ → ℕ
-octet_at table i k = at (row_at table i) k
 
 -- so many rows, of so many octets each
 pub record HasShape (height width : ℕ) (table : OctetTable) : Type 0 where
@@ -20,9 +16,9 @@ pub record HasShape (height width : ℕ) (table : OctetTable) : Type 0 where
 -- the HDPC rows, H rows of L octets
 pub record IsHdpcPart (row : Row) (table : OctetTable) : Type 0 where
   pub shape : HasShape row.hdpc_symbols (intermediate_symbols row) table
-  pub rows : AreHdpcRows row (octet_at table)
+  pub rows : AreHdpcRows row (entry_of table)
 
 -- the columns from `start` on are those of the HDPC rows
 pub record IsFilledFrom (row : Row) (start : ℕ) (table : OctetTable) : Type 0 where
   pub shape : HasShape row.hdpc_symbols (intermediate_symbols row) table
-  pub columns : (i k : ℕ) → i < row.hdpc_symbols → start ≤ k → k < intermediate_symbols row → octet_at table i k ≡ hdpc_coefficient row i k
+  pub columns : (i k : ℕ) → i < row.hdpc_symbols → start ≤ k → k < intermediate_symbols row → entry_of table i k ≡ hdpc_coefficient row i k

@@ -4,7 +4,7 @@ ghost use Rattle.std.specs.Prelude.{◌≡◌, ◌+◌, ◌*◌, ◌^◌, ◌<�
 ghost use Rattle.std.specs.List.{FoldsTo};
 ghost use Rattle.rq_standard.specs.Tuple.{IsTuple, places_of};
 ghost use Rattle.rq_bytes.specs.declared.error.Error.TheVariants.{OutOfMemory};
-ghost use Rattle.rq_standard.specs.TableRows.{greatest_size, row_of, intermediate_symbols};
+ghost use Rattle.rq_standard.specs.TableRows.{IsChecked, greatest_size, row_of, intermediate_symbols};
 ghost use Rattle.rq_standard.specs.Equations.{equation_count};
 ghost use Rattle.rq_standard.specs.ConstraintMatrix.{IsBinaryPart, IsBinaryPartWithoutHdpc};
 ghost use Rattle.rq_base.specs.Calls.{CallableAlong};
@@ -19,6 +19,7 @@ use hdpc::generate_hdpc_rows;
 use rq_bytes::error::Error;
 use rq_matrix::matrix::BinaryMatrix;
 use rq_parts::octet_matrix::DenseOctetMatrix;
+use rq_standard::row::Row;
 use rq_tables::systematic_constants::SystematicTable;
 use std::alloc::Global;
 
@@ -62,9 +63,24 @@ pub fn generate_constraint_matrix<T: BinaryMatrix>(
     ensures memory { IfErr result (λ e. e ≡ OutOfMemory) }
 {
     let row = table.row(source_block_symbols);
+    generate_constraint_matrix_of_row(alloc, &row, encoded_symbol_indices)
+}
+
+/// The same over a row of a table.
+pub fn generate_constraint_matrix_of_row<T: BinaryMatrix>(
+    alloc: Global,
+    row: &Row,
+    encoded_symbol_indices: &[u32],
+) -> Result<(T, DenseOctetMatrix), Error>
+    requires checked { IsChecked row.now }
+    requires fits { equation_count row.now encoded_symbol_indices.now < 2 ^ 31 }
+    ensures bits { IfOk result (λ parts. IsBinaryPart row.now encoded_symbol_indices.now (T.content parts.0)) }
+    ensures hdpc { IfOk result (λ parts. IsHdpcPart row.now parts.1) }
+    ensures memory { IfErr result (λ e. e ≡ OutOfMemory) }
+{
     let first_symbol_row = (row.ldpc_symbols + row.hdpc_symbols) as usize;
-    let matrix = binary_rows(alloc, &row, first_symbol_row, encoded_symbol_indices)?;
-    let hdpc_rows = generate_hdpc_rows(alloc, &row)?;
+    let matrix = binary_rows(alloc, row, first_symbol_row, encoded_symbol_indices)?;
+    let hdpc_rows = generate_hdpc_rows(alloc, row)?;
     Ok((matrix, hdpc_rows))
 }
 

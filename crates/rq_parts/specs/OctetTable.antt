@@ -1,5 +1,5 @@
 -- What callers see of a matrix of octets.
-use Rattle.std.specs.Prelude.{ℕ, List, [], map, slice_set, slice_index_or, take, drop, ◌++◌}
+use Rattle.std.specs.Prelude.{ℕ, List, [], map, slice_set, slice_index, slice_index_or, take, drop, ◌++◌}
 use Rattle.std.specs.List.{swap}
 
 -- its rows, and how many octets each has
@@ -9,6 +9,10 @@ pub record OctetTable : Type 0 where
 
 abbrev pub row_at : OctetTable → ℕ → List ℕ
 row_at table i = slice_index_or table.rows i []
+
+-- the octet in row i and column k
+abbrev pub entry_of : OctetTable → ℕ → ℕ → ℕ
+entry_of table i k = slice_index (row_at table i) k
 
 -- another row in the place of row i
 abbrev pub with_row : OctetTable → ℕ → List ℕ → OctetTable

@@ -11,8 +11,7 @@ use Rattle.rq_standard.specs.Equations.{ldpc_coefficient, hdpc_coefficient, symb
 use Rattle.rq_standard.specs.OctetField.{octets}
 use Rattle.rq_standard.specs.TableRows.{intermediate_symbols}
 use Rattle.rq_bytes.specs.Slab.{Slab}
-use Rattle.rq_parts.specs.OctetTable.{OctetTable}
-use Rattle.rq_solver.specs.RowSteps.{entry_of}
+use Rattle.rq_parts.specs.OctetTable.{OctetTable, entry_of}
 use Rattle.rq_solver.specs.Solving.{IsSolution, AreEquations}
 use Rattle.rq_solver.proofs.RowStepLaws.{SameEntries}
 use Rattle.rq_solver.proofs.SolutionLaws.{finds_same, null_same, is_solution}

@@ -15,8 +15,8 @@ use Rattle.rq_algebra.proofs.Runs.{follows_none}
 use Rattle.rq_standard.specs.OctetField.{octets}
 use Rattle.rq_bytes.specs.SymbolOps.{operation_of}
 use Rattle.rq_bytes.specs.declared.operation_vector.SymbolOps.{SymbolOps}
-use Rattle.rq_parts.specs.OctetTable.{OctetTable}
-use Rattle.rq_solver.specs.RowSteps.{entry_of, HasOctets, AreRows, rows_after, RecordsSteps, IsReduced, IsStuck}
+use Rattle.rq_parts.specs.OctetTable.{OctetTable, entry_of}
+use Rattle.rq_solver.specs.RowSteps.{HasOctets, AreRows, rows_after, RecordsSteps, IsReduced, IsStuck}
 use Rattle.rq_solver.proofs.RowStepLaws.{SameEntries, rows_after-elements, follows_steps}
 
 -- all rows, in their order

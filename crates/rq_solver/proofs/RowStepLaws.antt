@@ -14,8 +14,8 @@ use Rattle.rq_algebra.proofs.Runs.{follows_add, follows_fma, follows_scale}
 use Rattle.rq_standard.specs.OctetField.{octets}
 use Rattle.rq_bytes.specs.SymbolOps.{operation_of}
 use Rattle.rq_bytes.specs.declared.operation_vector.SymbolOps.{SymbolOps}
-use Rattle.rq_parts.specs.OctetTable.{OctetTable}
-use Rattle.rq_solver.specs.RowSteps.{entry_of, HasOctets, row_step, rows_after, IsStepAmong, RecordsSteps}
+use Rattle.rq_parts.specs.OctetTable.{OctetTable, entry_of}
+use Rattle.rq_solver.specs.RowSteps.{HasOctets, row_step, rows_after, IsStepAmong, RecordsSteps}
 
 pub rows_after-append : (F : Field) (first second : List Operation) (a : ℕ → ℕ → ℕ) → rows_after F (first ++ second) a ≡ rows_after F second (rows_after F first a)
 unfolding rows_after

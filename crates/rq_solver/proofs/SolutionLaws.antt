@@ -12,9 +12,8 @@ use Rattle.rq_standard.specs.OctetField.{octets}
 use Rattle.rq_bytes.specs.declared.error.Error.{Error}
 use Rattle.rq_bytes.specs.declared.operation_vector.SymbolOps.{SymbolOps}
 use Rattle.rq_bytes.specs.Slab.{Slab, store_of, symbol_in, HasPlace}
-use Rattle.rq_parts.specs.OctetTable.{OctetTable}
+use Rattle.rq_parts.specs.OctetTable.{OctetTable, entry_of}
 use Rattle.rq_solver.specs.Replay.{after_all}
-use Rattle.rq_solver.specs.RowSteps.{entry_of}
 use Rattle.rq_solver.specs.RowWrites.{HoldsRows}
 use Rattle.rq_solver.specs.Solving.{IsSolution, IsOutcome, Solver}
 use Rattle.rq_solver.proofs.RowStepLaws.{SameEntries}

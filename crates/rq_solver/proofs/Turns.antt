@@ -9,8 +9,8 @@ use Rattle.rq_algebra.specs.Meaning.{ClearsColumn}
 use Rattle.rq_algebra.proofs.Places.{exchange_left, exchange_right, exchange_other, exchange_are, same_places, places_of_places}
 use Rattle.rq_algebra.proofs.Reduction.{first_pivots_none, first_pivots_rows, first_pivots_more}
 use Rattle.rq_standard.specs.OctetField.{octets}
-use Rattle.rq_parts.specs.OctetTable.{OctetTable}
-use Rattle.rq_solver.specs.RowSteps.{entry_of, HasOctets, AreRows, IsReduced}
+use Rattle.rq_parts.specs.OctetTable.{OctetTable, entry_of}
+use Rattle.rq_solver.specs.RowSteps.{HasOctets, AreRows, IsReduced}
 
 pub reduced_none : (rows : List ℕ) (first : ℕ) (table : OctetTable) → IsReduced rows first 0 table
 reduced_none rows first table = record { fits = omega arith; pivots = first_pivots_none (length rows) (entry_of table) (at rows) (λ p. first + p) }

@@ -3,9 +3,9 @@ use Rattle.std.specs.Prelude.{length}
 use Rattle.std.specs.declared.clone.Clone as clone
 use Rattle.rq_standard.specs.ConstraintMatrix.{with_octet_rows}
 use Rattle.rq_matrix.specs.declared.matrix.BinaryMatrix as matrix
-use Rattle.rq_solver.specs.RowSteps.{entry_of}
 use Rattle.rq_solver.specs.Solving.{Solver}
 use Rattle.rq_solver.specs.declared.pi_solver.IntermediateSymbolDecoder.{IntermediateSymbolDecoder}
+use Rattle.rq_parts.specs.OctetTable.{entry_of}
 
 -- its equations, and its symbols until it has run
 abbrev pub state_of : {T : Type 0} {bits : matrix.Ghosts T} {clones : clone.Ghosts T} → IntermediateSymbolDecoder T bits clones → Solver

@@ -13,9 +13,8 @@ use Rattle.rq_standard.specs.TableRows.{intermediate_symbols}
 use Rattle.rq_bytes.specs.Slab.{Slab, HasPlace, symbol_in}
 use Rattle.rq_bytes.specs.SymbolOps.{operation_of}
 use Rattle.rq_bytes.specs.declared.operation_vector.SymbolOps.{SymbolOps}
-use Rattle.rq_parts.specs.OctetTable.{OctetTable}
+use Rattle.rq_parts.specs.OctetTable.{OctetTable, entry_of}
 use Rattle.rq_solver.specs.Replay.{after_all}
-use Rattle.rq_solver.specs.RowSteps.{entry_of}
 
 -- the equations of a block of that row of the table: a matrix of bits, in which the HDPC rows are zeros, the HDPC rows as octets, and a
 -- symbol for each equation

@@ -16,6 +16,7 @@ use rq_bytes::operation_vector::SymbolOps;
 use rq_bytes::symbol_slab::SymbolSlab;
 use rq_matrix::matrix::BinaryMatrix;
 use rq_parts::octet_matrix::DenseOctetMatrix;
+use rq_standard::row::Row;
 use rq_tables::systematic_constants::SystematicTable;
 use std::alloc::Global;
 
@@ -52,12 +53,32 @@ impl<T: BinaryMatrix> IntermediateSymbolDecoder<T> {
         requires equations { AreEquations (row_of table.now num_source_symbols) (T.content matrix) hdpc symbols }
         ensures { state_of result ≡ solver_of (row_of table.now num_source_symbols) (T.content matrix) hdpc symbols }
     {
+        IntermediateSymbolDecoder::of_row(
+            alloc,
+            &table.row(num_source_symbols),
+            matrix,
+            hdpc,
+            symbols,
+        )
+    }
+
+    /// The same over a row of a table.
+    pub fn of_row(
+        alloc: Global,
+        row: &Row,
+        matrix: T,
+        hdpc: DenseOctetMatrix,
+        symbols: SymbolSlab,
+    ) -> Self
+        requires { AreEquations row.now (T.content matrix) hdpc symbols }
+        ensures { state_of result ≡ solver_of row.now (T.content matrix) hdpc symbols }
+    {
         IntermediateSymbolDecoder {
             alloc,
             matrix,
             hdpc,
-            first_hdpc: table.num_ldpc_symbols(num_source_symbols) as usize,
-            boundary: table.num_lt_symbols(num_source_symbols) as usize,
+            first_hdpc: row.ldpc_symbols as usize,
+            boundary: row.lt_symbols as usize,
             symbols: Some(symbols),
         }
     }

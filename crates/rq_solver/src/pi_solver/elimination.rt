@@ -9,7 +9,8 @@ ghost use Rattle.rq_algebra.specs.Meaning.{ClearsColumn};
 ghost use Rattle.rq_standard.specs.OctetField.{octets};
 ghost use Rattle.rq_bytes.specs.declared.error.Error.TheVariants.{OutOfMemory};
 ghost use Rattle.rq_bytes.specs.SymbolOps.{operation_of};
-ghost use Rattle.rq_solver.specs.RowSteps.{entry_of, HasOctets, AreRows, RecordsSteps, IsReduced, IsStuck};
+ghost use Rattle.rq_parts.specs.OctetTable.{entry_of};
+ghost use Rattle.rq_solver.specs.RowSteps.{HasOctets, AreRows, RecordsSteps, IsReduced, IsStuck};
 
 use rq_bytes::error::Error;
 use rq_bytes::octet::Octet;

@@ -4,9 +4,9 @@ use Rattle.rq_standard.specs.ConstraintMatrix.{with_octet_rows}
 use Rattle.rq_bytes.specs.declared.operation_vector.SymbolOps.{SymbolOps}
 use Rattle.rq_solver.specs.Replay.{after_all}
 use Rattle.rq_bytes.specs.SymbolOps.{operation_of}
-use Rattle.rq_solver.specs.RowSteps.{entry_of}
 use Rattle.rq_solver.proofs.SolutionLaws.{finds_in_rows, null_in_rows, is_solution, if_some}
 use Rattle.rq_solver.proofs.pi_solver.IntermediateSymbolDecoder.execute.Goals as goal
+use Rattle.rq_parts.specs.OctetTable.{entry_of}
 
 pub returns-in_default-2-clause-solved : goal.returns-in_default-2-clause-solved
 returns-in_default-2-clause-solved g c =

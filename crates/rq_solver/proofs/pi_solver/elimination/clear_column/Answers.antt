@@ -4,10 +4,10 @@ use Rattle.std.proofs.lemmas.List.Elements.{All-from_get_or}
 use Rattle.rq_algebra.specs.Systems.{at}
 use Rattle.rq_algebra.proofs.Reduction.{clears_none, clears_pivot, clears_more}
 use Rattle.rq_standard.specs.OctetField.{octets}
-use Rattle.rq_solver.specs.RowSteps.{entry_of}
 use Rattle.rq_solver.proofs.RowStepLaws.{records_none, records_among, two_among, records_more}
 use Rattle.rq_solver.proofs.pi_solver.elimination.clear_column.Goals as goal
 use Rattle.rq_solver.proofs.pi_solver.elimination.clear_column.Goals.{then-i-pivot+in_ok-clear_entry, else-i-pivot}
+use Rattle.rq_parts.specs.OctetTable.{entry_of}
 
 pub loop-i-init : goal.loop-i-init
 loop-i-init c = record {

@@ -3,8 +3,9 @@ use Rattle.std.proofs.Common.{length}
 use Rattle.rq_algebra.specs.Systems.{at}
 use Rattle.rq_algebra.specs.Meaning.{ClearsColumn}
 use Rattle.rq_standard.specs.OctetField.{octets}
-use Rattle.rq_solver.specs.RowSteps.{entry_of, HasOctets, RecordsSteps}
+use Rattle.rq_solver.specs.RowSteps.{HasOctets, RecordsSteps}
 use Rattle.rq_solver.proofs.pi_solver.elimination.clear_column.Given as goal
+use Rattle.rq_parts.specs.OctetTable.{entry_of}
 
 abbrev pub invariant-loop-i : goal.invariant-loop-i
 invariant-loop-i l = record {

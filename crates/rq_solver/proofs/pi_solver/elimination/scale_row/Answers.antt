@@ -4,8 +4,7 @@ use Rattle.std.proofs.lemmas.List.{length-set}
 use Rattle.std.proofs.lemmas.List.Elements.{Contains-get_or}
 use Rattle.rq_algebra.specs.Steps.{ScalesRow}
 use Rattle.rq_standard.specs.OctetField.{octets}
-use Rattle.rq_parts.specs.OctetTable.{OctetTable}
-use Rattle.rq_solver.specs.RowSteps.{entry_of}
+use Rattle.rq_parts.specs.OctetTable.{OctetTable, entry_of}
 use Rattle.rq_solver.proofs.Entries.{multiplied_row, multiplied_octets, one_scales, one-div, inverse_nonzero}
 use Rattle.rq_solver.proofs.RowStepLaws.{records_none, records_scaling}
 use Rattle.rq_solver.proofs.pi_solver.elimination.scale_row.Goals as goal
