@@ -7,6 +7,7 @@ pub mod Listing
 pub mod Lists
 pub mod MissingCounts
 pub mod News
+pub mod Outcomes
 pub mod Payloads
 pub mod Ranges
 pub mod Refusals

@@ -1,4 +1,4 @@
-use Rattle.std.proofs.Common.{◌≡◌, ◌+◌, ◌-◌, ◌<◌, ◌≤◌, Option, Some, None, length, refl, sym, ap, ◌∙◌, subst, arith}
+use Rattle.std.proofs.Common.{◌≡◌, ◌+◌, ◌-◌, ◌^◌, ◌<◌, ◌≤◌, Option, Some, None, length, refl, sym, ap, ◌∙◌, subst, arith}
 use Rattle.std.proofs.lemmas.Result.{IfOk-weaker}
 use Rattle.rq_bytes.specs.Slab.{Slab, slab_of}
 use Rattle.rq_standard.specs.Equations.{equation_count}
@@ -6,7 +6,7 @@ use Rattle.raptorq.specs.Blocks.{held_of}
 use Rattle.raptorq.specs.Known.{known_list, known_values, SolvesBlock}
 use Rattle.raptorq.specs.Solving.{Solves}
 use Rattle.raptorq.proofs.HeldEquations.{too_few, count_held, solves_block}
-use Rattle.raptorq.proofs.Listing.{length-known_list}
+use Rattle.raptorq.proofs.Listing.{length-known_list, few_entries}
 use Rattle.raptorq.proofs.decoder.block.SourceBlockDecoder.solve.Goals as goal
 
 pub returns-then-known-row-clause-solved : goal.returns-then-known-row-clause-solved
@@ -35,3 +35,10 @@ returns-clause-solved c =
     IfOk-weaker c.solve.result _ _
     (λ r found. solves_block (held_of d) d.received d.fits c.len.ensures.ordered d.checked (λ e. refl) c.symbol_size-size.result c.as_slice.result.now c.in_ok-ids.values r c.symbol_size-size.ensures.value (c.as_slice.ensures.value ∙ c.in_ok-ids.ensures.ids) c.in_ok-ids.ensures.values found)
     c.solve.ensures.solved
+
+pub solve-requires-clause-fits : goal.solve-requires-clause-fits
+solve-requires-clause-fits c =
+    let d = c.args.self.now in
+    let listed = length-known_list d.row d.symbols d.received.entries in
+    let long : length c.as_slice.result.now ≡ length (known_list d.row d.symbols d.received.entries) = ap length (c.as_slice.ensures.value ∙ c.in_ok-ids.ensures.ids) in
+    omega (arith, listed, long, few_entries d.received (2 ^ 24) c.len.ensures.ordered d.few, d.checked.few_columns)

@@ -45,3 +45,9 @@ invariant_of-result c =
       places = s.places;
       solved = source_solved row c.args.size c.args.source.items c.in-Some.intermediate c.requires.few s;
     }
+
+pub solve-requires-clause-fits : goal.solve-requires-clause-fits
+solve-requires-clause-fits c =
+    let row = c.args.row in
+    let ids : c.as_slice-2.result.now ≡ source_ids row = c.as_slice-2.ensures.value ∙ source_ids_are row c.in_ok-ids.ids.items c.in_ok-ids.ensures in
+    omega (arith, ap (equation_count row) ids, count_source row, c.requires.checked.few_columns)

@@ -1,0 +1,66 @@
+-- What a solver's outcome says of a block's equations.
+use Rattle.std.proofs.Common.{◌≡◌, ℕ, zero, suc, ◌<◌, ◌≤◌, List, [], get_or, Option, None, Some, Vec, Global, length, map, refl, sym, ap, ◌∙◌, subst, arith}
+use Rattle.std.proofs.lemmas.List.{length-map}
+use Rattle.rq_algebra.specs.Systems.{HasNullColumn}
+use Rattle.rq_algebra.specs.Operations.{Operation}
+use Rattle.rq_algebra.specs.Symbols.{IsSymbol, AreSymbols, IsSymbolColumn, SolvesSymbols, symbol_at}
+use Rattle.rq_algebra.proofs.Found.{finds_determined, found_are_symbols}
+use Rattle.rq_algebra.proofs.Solutions.{null_not_determined}
+use Rattle.rq_bytes.specs.Slab.{Slab, HasPlace, symbol_in, symbols_in}
+use Rattle.rq_bytes.specs.SymbolOps.{operation_of}
+use Rattle.rq_bytes.specs.declared.operation_vector.SymbolOps.{SymbolOps}
+use Rattle.rq_parts.specs.OctetTable.{OctetTable}
+use Rattle.rq_standard.specs.declared.row.Row.{Row}
+use Rattle.rq_standard.specs.BitTable.{BitTable}
+use Rattle.rq_standard.specs.ConstraintMatrix.{IsBinaryPart}
+use Rattle.rq_standard.specs.OctetField.{octets}
+use Rattle.rq_standard.specs.TableRows.{intermediate_symbols}
+use Rattle.rq_standard.specs.Equations.{equations, equation_count, AreDetermining}
+use Rattle.rq_base.specs.HdpcPart.{IsHdpcPart}
+use Rattle.rq_solver.specs.Solving.{AreEquations, IsOutcome, solver_of}
+use Rattle.rq_solver.specs.Solving as solver
+use Rattle.rq_solver.proofs.EquationLaws.{solution_of_equations, null_of_equations}
+use Rattle.raptorq.specs.Solving.{IsSolution, Solves}
+
+-- the matrices of a block's ids are equations for its values
+pub handed_equations : (row : Row) (ids : List ℕ) (bits : BitTable) (hdpc : OctetTable) (handed : Slab) → IsBinaryPart row ids bits → IsHdpcPart row hdpc → length handed.values ≡ equation_count row ids → intermediate_symbols row ≤ equation_count row ids → handed.order ≡ None
+    → AreEquations row bits hdpc handed
+handed_equations row ids bits hdpc handed part octet_part count enough order = record {
+  width = part.width;
+  boundary = part.boundary;
+  indexed = part.indexed;
+  height = part.height ∙ sym count;
+  enough = omega (arith, count);
+  order = order;
+  hdpc_height = octet_part.shape.tall;
+  hdpc_width = octet_part.shape.wide;
+  zeros = part.zeros;
+}
+
+has_count : (values : List (List ℕ)) (size : ℕ) (order : Option (List ℕ)) (n : ℕ) → HasPlace (record { values = values; symbol_size = size; order = order }) n → suc n ≤ length (symbols_in (record { values = values; symbol_size = size; order = order }))
+has_count values size None n here = here
+has_count values size (Some order) n here = omega (arith, length-map order (λ i. get_or values i []))
+
+-- as many places as can be read
+places_count : (slab : Slab) (n : ℕ) → ((k : ℕ) → k < n → HasPlace slab k) → n ≤ length (symbols_in slab)
+places_count slab zero places = omega arith
+places_count slab (suc n) places = has_count slab.values slab.symbol_size slab.order n (places n (omega arith))
+
+module _ (row : Row) (ids : List ℕ) (bits : BitTable) (hdpc : OctetTable) (handed : Slab) (part : IsBinaryPart row ids bits) (octet_part : IsHdpcPart row hdpc) (are : AreEquations row bits hdpc handed) where
+  -- the solution is the block's
+  pub solution_found : (slab : Slab) (operations : List Operation) → AreSymbols octets handed.symbol_size (equation_count row ids) handed.values
+      → solver.IsSolution (length handed.values) (intermediate_symbols row) (solver_of row bits hdpc handed).rows handed slab operations → IsSolution row ids handed.symbol_size handed.values slab
+  solution_found slab operations symbols_are solution =
+      let s = solution_of_equations row ids bits hdpc part octet_part.rows handed are slab operations solution in
+      record {
+        determined = finds_determined octets (equation_count row ids) (intermediate_symbols row) (equations row ids) operations s.finds;
+        places = places_count slab (intermediate_symbols row) s.places;
+        size_is = ap (λ (g : Slab). g.symbol_size) s.made;
+        symbols = λ k l. subst (IsSymbol octets handed.symbol_size) (sym (s.reads k)) (found_are_symbols octets (equation_count row ids) (intermediate_symbols row) (equations row ids) operations s.finds handed.symbol_size handed.values symbols_are k l);
+        only = λ column is solves k l. s.only handed.symbol_size handed.values column symbols_are is solves k l ∙ sym (s.reads k);
+        solves = λ square. subst (λ (column : ℕ → List ℕ). SolvesSymbols octets (equation_count row ids) (intermediate_symbols row) (equations row ids) column (symbol_at handed.values)) (λ i k. sym (s.reads k) i) (s.solves square handed.symbol_size handed.values symbols_are);
+      }
+
+  -- where there is none, the ids don't determine the block
+  pub nothing_found : HasNullColumn octets (length handed.values) (intermediate_symbols row) (solver_of row bits hdpc handed).rows → AreDetermining row ids → ⊥
+  nothing_found null d = null_not_determined octets (equation_count row ids) (intermediate_symbols row) (equations row ids) (null_of_equations row ids bits hdpc part octet_part.rows handed are null) d
