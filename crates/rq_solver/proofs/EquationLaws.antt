@@ -1,5 +1,5 @@
 -- The rows that a solver is handed are the equations of the standard.
-use Rattle.std.proofs.Common.{◌≡◌, ℕ, ◌+◌, ◌-◌, ◌<◌, List, length, sym, ap, ◌∙◌, arith, inl, inr}
+use Rattle.std.proofs.Common.{None, ◌≤◌, ◌≡◌, ℕ, ◌+◌, ◌-◌, ◌<◌, List, length, sym, ap, ◌∙◌, arith, inl, inr}
 use Rattle.std.proofs.lemmas.Bool.{cases_lt}
 use Rattle.rq_algebra.specs.Operations.{Operation}
 use Rattle.rq_algebra.specs.Systems.{stacked, rows_of, HasNullColumn}
@@ -75,3 +75,18 @@ module _ (row : Row) (ids : List ℕ) (bits : BitTable) (hdpc : OctetTable) (par
 
     pub null_of_equations : HasNullColumn octets (length handed.values) (intermediate_symbols row) (with_octet_rows row.ldpc_symbols row.hdpc_symbols bits.bit (entry_of hdpc)) → HasNullColumn octets (equation_count row ids) (intermediate_symbols row) (equations row ids)
     null_of_equations null = null_same octets (equation_count row ids) (intermediate_symbols row) _ (equations row ids) equations_same (rw count at null)
+
+-- what a solver asks, from what the generator of both matrices says of them
+pub are_equations : (row : Row) (ids : List ℕ) (bits : BitTable) (hdpc : OctetTable) (handed : Slab) → IsBinaryPart row ids bits → length hdpc.rows ≡ row.hdpc_symbols → hdpc.width ≡ intermediate_symbols row
+    → length handed.values ≡ equation_count row ids → handed.order ≡ None → intermediate_symbols row ≤ equation_count row ids → AreEquations row bits hdpc handed
+are_equations row ids bits hdpc handed part rows columns count order enough = record {
+  width = part.width;
+  boundary = part.boundary;
+  indexed = part.indexed;
+  height = part.height ∙ sym count;
+  enough = omega (arith, count, enough);
+  order = order;
+  hdpc_height = rows;
+  hdpc_width = columns;
+  zeros = part.zeros;
+}
