@@ -253,3 +253,6 @@ fn zeros_in_word(word: u64, bit: usize) -> usize
     let zeros = (word >> bit).trailing_zeros() as usize;
     zeros.min(WORD_BITS - bit)
 }
+
+#[cfg(test)]
+mod tests;
