@@ -1,14 +1,13 @@
 -- How many of some places have a one.
-use Rattle.std.proofs.Common.{◌≡◌, ℕ, zero, suc, ◌+◌, ◌-◌, ◌*◌, ◌/◌, ◌%◌, ◌^◌, ◌<◌, ◌≤◌, refl, sym, ap, ◌∙◌, arith, inl, inr, add-zero, add_assoc, add_comm}
+use Rattle.std.proofs.Common.{◌≡◌, ℕ, zero, suc, ◌+◌, ◌-◌, ◌/◌, ◌%◌, ◌^◌, ◌<◌, ◌≤◌, refl, sym, ap, ◌∙◌, arith, add-zero, add_assoc, add_comm}
 use Rattle.std.specs.Prelude.{count_ones, bit_and}
 use Rattle.std.specs.Int.{bit_at}
 use Rattle.std.proofs.Math.Pow.{ones_split, pow_pos}
 use Rattle.std.proofs.lemmas.Nat.{and_mask, mod-pow-add, div-mul-add}
 use Rattle.std.proofs.lemmas.Nat.Bits.{bit_at-lt}
-use Rattle.std.proofs.lemmas.Bool.Decides.{eqb_tells}
 use Rattle.std.proofs.Math.Nat.{mod-lt}
 use lib.Count.{ones_cat, ones-ones}
-use Rattle.rq_standard.specs.BitTableSteps.{ones_below, ones_between}
+use Rattle.rq_standard.specs.BitTableSteps.{ones_below}
 use Rattle.rq_parts.proofs.BitPairs.{bit_at-shifted}
 
 pub ones_below-same : (f g : ℕ → ℕ) (n : ℕ) → ((k : ℕ) → k < n → f k ≡ g k) → ones_below f n ≡ ones_below g n

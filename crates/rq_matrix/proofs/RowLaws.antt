@@ -1,9 +1,9 @@
 -- Rows of words, and the bits in them.
-use Rattle.std.proofs.Common.{◌≡◌, ◌≢◌, ◌+◌, ◌/◌, ◌%◌, ◌<◌, ◌≤◌, ℕ, zero, suc, List, [], length, take, set, get_or, refl, sym, ap, subst, ◌∙◌, arith, inl, inr}
+use Rattle.std.proofs.Common.{◌≡◌, ◌+◌, ◌/◌, ◌%◌, ◌<◌, ◌≤◌, ℕ, zero, suc, List, length, take, get_or, refl, ap, ◌∙◌, arith}
 use Rattle.std.specs.Int.{bit_at}
 use Rattle.std.specs.Int.Bits.{bit_xor}
-use Rattle.std.proofs.lemmas.Nat.Bits.{bit_at_xor, bit_at-lt}
-use Rattle.std.proofs.lemmas.Simd.{get_or-zip2, length-zip2}
+use Rattle.std.proofs.lemmas.Nat.Bits.{bit_at_xor}
+use Rattle.std.proofs.lemmas.Simd.{get_or-zip2}
 use Rattle.std.proofs.lemmas.List.{get_or-take}
 use Rattle.rq_standard.specs.PackedBits.{packed_bit}
 use Rattle.rq_standard.specs.Rows.{row_sum}

@@ -1,11 +1,9 @@
 -- One bit of packed words.
-use Rattle.std.proofs.Common.{◌≡◌, ◌≢◌, ℕ, zero, suc, ◌+◌, ◌-◌, ◌*◌, ◌/◌, ◌%◌, ◌^◌, ◌<◌, ◌≤◌, List, [], ◌∷◌, length, replicate, set, get_or, refl, sym, ap, subst, ◌∙◌, arith, inl, inr, w64, get_or-set_same, get_or-set_other}
+use Rattle.std.proofs.Common.{◌≡◌, ◌≢◌, ℕ, ◌+◌, ◌*◌, ◌/◌, ◌%◌, ◌<◌, List, length, replicate, set, get_or, sym, ap, ◌∙◌, arith, inl, inr, get_or-set_same, get_or-set_other}
 use Rattle.std.specs.Int.{bit_at}
-use Rattle.std.specs.Int.Bits.{bit_xor}
 use Rattle.std.proofs.lemmas.Nat.Bits.{bit_at-lt, bit_at-zero}
 use Rattle.std.proofs.lemmas.Bool.Decides.{eqb_tells}
 use Rattle.rq_standard.specs.PackedBits.{packed_bit}
-use Rattle.rq_standard.specs.Rows.{row_sum}
 use Rattle.rq_matrix.specs.BitRows.{IsWordWith}
 use Rattle.rq_parts.proofs.Zeros.{zeros_everywhere}
 

@@ -3,3 +3,5 @@
 
 mod bit_row;
 pub mod matrix;
+#[cfg(test)]
+mod tests;

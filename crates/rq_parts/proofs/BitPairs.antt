@@ -1,5 +1,5 @@
 -- Bits of packed words, one after another.
-use Rattle.std.proofs.Common.{◌≡◌, ℕ, zero, suc, ◌+◌, ◌-◌, ◌*◌, ◌/◌, ◌%◌, ◌^◌, ◌<◌, ◌≤◌, List, [], ◌∷◌, get_or, min, ap, ◌∙◌, refl, sym, arith, inl, inr, w64, subst, cond, eq-eqb}
+use Rattle.std.proofs.Common.{◌≡◌, ℕ, zero, suc, ◌+◌, ◌-◌, ◌*◌, ◌/◌, ◌%◌, ◌^◌, ◌<◌, ◌≤◌, List, [], ◌∷◌, get_or, min, ap, ◌∙◌, sym, arith, inl, inr, w64, subst, cond, eq-eqb}
 use Rattle.std.proofs.Math.Nat.{div-div-eq-div-mul, div-le_self}
 use Rattle.std.proofs.Math.Pow.{pow-add}
 use Rattle.std.specs.Int.{trailing_zeros}
@@ -92,9 +92,9 @@ ones_among-skip words (suc n) m place column zeros =
     ∙ ap (λ x. ones_among (bit_pairs words (place + suc n) x m)) d
 
 -- some of the zeros that a word goes on with are passed
-pub ones_among-pass : (words : List ℕ) (word bit column end zeros count : ℕ) → ZerosAhead (get_or words word 0) bit zeros → bit + zeros ≤ 64 → count ≤ zeros → column + count ≤ end
+pub ones_among-pass : (words : List ℕ) (word bit column end run count : ℕ) → ZerosAhead (get_or words word 0) bit run → bit + run ≤ 64 → count ≤ run → column + count ≤ end
     → ones_among (bit_pairs words (64 * word + bit) column (end - column)) ≡ ones_among (bit_pairs words (64 * word + bit + count) (column + count) (end - (column + count)))
-ones_among-pass words word bit column end zeros count ahead within few room =
+ones_among-pass words word bit column end run count ahead within few room =
     let split : end - column ≡ count + (end - (column + count)) = omega arith in
     let place = λ (k : ℕ). let e : 64 * word + bit + k ≡ 64 * word + (bit + k) = omega arith in e in
     ap (λ n. ones_among (bit_pairs words (64 * word + bit) column n)) split

@@ -3,6 +3,7 @@ ghost use Rattle.std.specs.Prelude.{◌≡◌, IfOk, length};
 
 use crate::arraymap::{ImmutableListMapBuilder, U16ArrayMap, U32VecMap};
 use crate::graph::{ConnectedComponentGraph, UndirectedGraph};
+use crate::iterators::OctetIter;
 use crate::octet_matrix::DenseOctetMatrix;
 use rq_bytes::octet::Octet;
 use rq_bytes::octets::BinaryOctetVec;
@@ -26,6 +27,19 @@ fn octet_matrix_rows(rt: HostRuntime) -> Result<(), Fail> {
     assert_eq!(rt; exchanged.get(1, 1), Octet::new(29));
     assert_eq!(rt; exchanged.get(0, 2), Octet::new(29));
     assert_eq!(rt; matrix.get(0, 1), Octet::zero());
+    Ok(())
+}
+
+#[test]
+fn columns_with_their_bits(rt: HostRuntime) -> Result<(), Fail> {
+    let mut columns = OctetIter::new_dense_binary(5, 9, 62, &[1 << 63, 2]);
+    assert_eq!(rt; columns.next(), Some((5, Octet::zero())));
+    assert_eq!(rt; columns.next(), Some((6, Octet::one())));
+    let mut copy = columns.clone(rt.alloc())?;
+    assert_eq!(rt; columns.next(), Some((7, Octet::zero())));
+    assert_eq!(rt; copy.next(), Some((7, Octet::zero())));
+    assert_eq!(rt; copy.next(), Some((8, Octet::one())));
+    assert_eq!(rt; copy.next(), None);
     Ok(())
 }
 

@@ -1,5 +1,5 @@
 -- What the check leaves to show of `bit_row::ones_in_word`.
-use Rattle.std.proofs.Common.{◌≡◌, ◌≤◌, ℕ, ◌+◌, ◌-◌, subst, sym, arith}
+use Rattle.std.proofs.Common.{◌≤◌, ℕ, ◌+◌, ◌-◌, subst, sym, arith}
 use Rattle.std.specs.Int.{bit_at}
 use Rattle.std.proofs.lemmas.Nat.Bits.{bit_at-lt}
 use Rattle.rq_matrix.proofs.Ones.{count_ones-part, ones_below-le}

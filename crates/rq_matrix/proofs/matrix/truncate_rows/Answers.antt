@@ -1,7 +1,7 @@
 -- What the check leaves to show of `matrix::truncate_rows`.
-use Rattle.std.proofs.Common.{◌≡◌, ◌<◌, ℕ, List, [], length, take, set, get_or, sym, ap, ◌∙◌, arith}
+use Rattle.std.proofs.Common.{◌<◌, ℕ, List, [], length, take, set, get_or, ap, ◌∙◌, arith}
 use Rattle.std.proofs.lemmas.List.{get_or_default}
-use Rattle.rq_parts.proofs.Rows.{mapped_until-next, mapped_until-more, length-mapped_until}
+use Rattle.rq_parts.proofs.Rows.{mapped_until-next, mapped_until-more}
 use Rattle.rq_matrix.specs.BitRows.{word_count}
 use Rattle.rq_matrix.proofs.matrix.truncate_rows.Goals as goal
 

@@ -1,6 +1,5 @@
 -- What the check leaves to show of `iterators::zeros_in_word`.
-use Rattle.std.proofs.Common.{arith}
-use Rattle.rq_parts.proofs.BitPairs.{ZerosAhead, zeros_ahead}
+use Rattle.rq_parts.proofs.BitPairs.{zeros_ahead}
 use Rattle.rq_parts.proofs.iterators.zeros_in_word.Goals as goal
 
 pub returns-clause-zeros : goal.returns-clause-zeros

@@ -1,5 +1,5 @@
 -- What the loop keeps in `bit_row::BitRow::count_ones`.
-use Rattle.std.proofs.Common.{◌≡◌, ℕ, ◌-◌, ◌≤◌}
+use Rattle.std.proofs.Common.{◌≡◌, ◌-◌, ◌≤◌}
 use Rattle.rq_standard.specs.PackedBits.{packed_bit}
 use Rattle.rq_standard.specs.BitTableSteps.{ones_between}
 use Rattle.rq_matrix.proofs.bit_row.BitRow.count_ones.Given as goal

@@ -1,5 +1,5 @@
 -- What the check leaves to show of `bit_row::BitRow::set`.
-use Rattle.std.proofs.Common.{◌≡◌, ◌*◌, ◌/◌, ◌%◌, ◌<◌, ◌∙◌, List, ℕ, ap, subst, sym, get_or, arith, length, if◌then◌else◌}
+use Rattle.std.proofs.Common.{◌*◌, ◌/◌, ◌%◌, ◌<◌, ◌∙◌, List, ℕ, ap, subst, sym, arith, length, if◌then◌else◌}
 use Rattle.std.proofs.lemmas.List.{get_or_read}
 use Rattle.rq_standard.specs.PackedBits.{packed_bit}
 use Rattle.rq_matrix.specs.BitRows.{IsWordWith}

@@ -1,5 +1,5 @@
 -- What the check leaves to show of `matrix::DenseBinaryMatrix::add_assign_rows`.
-use Rattle.std.proofs.Common.{◌≡◌, ◌≢◌, ◌<◌, ◌^◌, ◌/◌, ℕ, List, [], Vec, Global, length, set, get_or, sym, subst, ap, ◌∙◌, arith, inl, inr, refl, length-set, get_or-set_same, get_or-set_other}
+use Rattle.std.proofs.Common.{◌≡◌, ◌<◌, ◌^◌, ◌/◌, ℕ, List, [], length, set, get_or, sym, subst, ap, ◌∙◌, inr, refl, length-set, get_or-set_same, get_or-set_other}
 use Rattle.std.specs.List.{All}
 use Rattle.std.specs.Int.Bits.{bit_xor}
 use Rattle.std.proofs.lemmas.List.{with_items_is}

@@ -1,5 +1,5 @@
 -- What the check leaves to show of `matrix::DenseBinaryMatrix::get_row_iter`.
-use Rattle.std.proofs.Common.{ℕ, ◌-◌, List, [], get_or, sym, subst, ap, ◌∙◌}
+use Rattle.std.proofs.Common.{◌-◌, [], get_or, sym, subst, ap, ◌∙◌}
 use Rattle.std.proofs.lemmas.List.{get_or_read}
 use Rattle.rq_standard.specs.PackedBits.{packed_bit}
 use Rattle.rq_standard.specs.BitTableSteps.{AreOnesOf}

@@ -1,5 +1,5 @@
 -- What the check leaves to show of `matrix::DenseBinaryMatrix::resize`.
-use Rattle.std.proofs.Common.{◌≡◌, ◌≤◌, ◌<◌, ◌^◌, ◌/◌, ℕ, List, [], length, map, take, get_or, sym, subst, ap, ◌∙◌, arith, refl}
+use Rattle.std.proofs.Common.{◌≡◌, ◌≤◌, ◌<◌, ◌^◌, ℕ, List, [], length, map, take, get_or, sym, subst, ap, ◌∙◌, arith, refl}
 use Rattle.std.specs.List.{All}
 use Rattle.std.proofs.lemmas.List.{with_items_is, get_or-take, get_or-map, length-map, length-take-le}
 use Rattle.std.proofs.lemmas.List.Elements.{All-map}

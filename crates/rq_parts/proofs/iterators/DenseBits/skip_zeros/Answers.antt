@@ -1,5 +1,5 @@
 -- What the check leaves to show of `iterators::DenseBits::skip_zeros`.
-use Rattle.std.proofs.Common.{◌≡◌, ℕ, ◌+◌, ◌-◌, ◌*◌, ◌<◌, ap, sym, subst, ◌∙◌, get_or, arith}
+use Rattle.std.proofs.Common.{◌≡◌, ◌+◌, ◌-◌, ◌*◌, ◌<◌, ap, sym, subst, ◌∙◌, get_or, arith}
 use Rattle.std.specs.Int.{bit_at}
 use Rattle.rq_parts.specs.BitPairs.{bit_pairs, ones_among, BeginsWithOne}
 use Rattle.rq_parts.proofs.BitPairs.{ZerosAhead, bit_pairs-none, ones_among-pass, begins_with_one}

@@ -1,5 +1,5 @@
 -- What the loop keeps in `iterators::DenseBits::skip_zeros`.
-use Rattle.std.proofs.Common.{◌≡◌, ◌-◌, ℕ, List}
+use Rattle.std.proofs.Common.{◌≡◌, ◌-◌}
 use Rattle.rq_parts.specs.BitPairs.{ones_among}
 use Rattle.rq_parts.specs.PairsLeft.{bits_left, IsWithinWords}
 use Rattle.rq_parts.proofs.iterators.DenseBits.skip_zeros.Given as goal
