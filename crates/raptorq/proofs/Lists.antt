@@ -20,13 +20,17 @@ pub all_at : (P : Packet → Type 0) (front rest : List Packet) (p : Packet) →
 all_at P [] rest p h = h.0
 all_at P (x ∷ front) rest p h = all_at P front rest p h.1
 
--- a packet of the object isn't refused
+-- a packet of the object carries a symbol
+pub length-payload : (table : List Row) (c : Configuration) (object : List ℕ) (p : Packet) → IsChecked (block_row table c p.id.block) → IsPacketOf table c object p → length p.payload ≡ c.symbol_size
+length-payload table c object p checked h =
+    let row = block_row table c p.id.block in
+    ap length h.symbol.is_sum ∙ (sum_symbol row c.symbol_size (internal_id row (length (block_source c object p.id.block)) p.id.esi) h.symbol.column checked h.symbol.is_column.symbols).size_is
+
+-- and isn't refused
 pub packet_refusal-packet : (table : List Row) (c : Configuration) (object : List ℕ) (p : Packet) → IsChecked (block_row table c p.id.block) → IsPacketOf table c object p → packet_refusal c p ≡ Ok tt
 packet_refusal-packet table c object p checked h =
-    let row = block_row table c p.id.block in
     let here = lt-ltb p.id.block c.source_blocks h.block in
-    let size = (sum_symbol row c.symbol_size (internal_id row (length (block_source c object p.id.block)) p.id.esi) h.symbol.column checked h.symbol.is_column.symbols).size_is in
-    let long = eq-eqb (length p.payload) c.symbol_size (ap length h.symbol.is_sum ∙ size) in
+    let long = eq-eqb (length p.payload) c.symbol_size (length-payload table c object p checked h) in
     rw (here, long) refl
 
 module _ (table : List Row) where

@@ -10,9 +10,12 @@ use Rattle.rq_standard.specs.Packet.{Packet, packet_of_bytes}
 use Rattle.rq_standard.specs.Configuration.{Configuration}
 use Rattle.rq_base.specs.Refused.{read_packet}
 use Rattle.raptorq.specs.Refused.{packet_refusal}
+use Rattle.raptorq.specs.Decoding.{shown}
+use Rattle.rq_streams.specs.declared.run.Outcome.{Outcome}
+use Rattle.rq_streams.specs.declared.run.Outcome.TheVariants.{Written, Incomplete}
 use Rattle.rq_streams.specs.declared.run.Stop.{Stop}
 use Rattle.rq_streams.specs.declared.run.Stop.TheVariants.{Fault, Refused}
-use Rattle.rq_streams.specs.Ends.{Ends, AfterRefusal}
+use Rattle.rq_streams.specs.Ends.{Wanted, AnswersAs, EndsAs, Ends, AfterRefusal}
 use Rattle.rq_streams.specs.Frames.{frame_size, frame_refusal, first_refusal, frames_refusal}
 use Rattle.rq_streams.specs.Received.{received_configuration, receive_refusal}
 
@@ -20,6 +23,11 @@ pub answers_of : {X Y : Type 0} (view : X → Y) (r : Result X Error) (wanted : 
 answers_of view (Ok x) wanted h = h
 answers_of view (Err e) (Ok y) h = inl h
 answers_of view (Err e) (Err w) h = inr (ap (λ v. Err v) (sym h))
+
+-- an answer is the one thing that is wanted
+pub answers_as : {V : Type 0} (view : V → Option (List ℕ)) (r : Result V Error) (wanted : Wanted) → Answers view r wanted → AnswersAs view r (λ w. wanted ≡ w)
+answers_as view (Ok x) wanted h = h
+answers_as view (Err e) wanted h = h
 
 read_by : (b : Bool) (q p : Packet) → cond b (Err PacketTooShort) (Ok q) ≡ Ok p → (b ≡ false) × (q ≡ p)
 read_by true q p h = absurd (cc h)
@@ -87,3 +95,31 @@ if_some_all (Some xs) P h = h xs
 pub if_some_more : (o : Option (List ℕ)) (P Q : List ℕ → Type 0) → ((xs : List ℕ) → P xs → Q xs) → IfSome o P → IfSome o Q
 if_some_more None P Q more h = tt
 if_some_more (Some xs) P Q more h = more xs h
+
+-- ---- what was made
+
+abbrev refused_with : Error → Wanted
+refused_with e = Err e
+
+refused_same : (d e : Error) → refused_with d ≡ refused_with e → d ≡ e
+refused_same d e is = cc
+
+made_ok : {V : Type 0} (f : V → List ℕ) (r : Result (Option V) Error) (P : Wanted → Type 0) (a : Option (List ℕ)) → AnswersAs (option_map f) r P → shown f r ≡ Ok a → P (Ok a)
+made_ok f (Ok x) P a h is = subst P is h
+made_ok f (Err e) P a h is = absurd (cc is)
+
+made_err : {V : Type 0} (f : V → List ℕ) (r : Result (Option V) Error) (P : Wanted → Type 0) (e : Error) → AnswersAs (option_map f) r P → shown f r ≡ Err e → (e ≡ OutOfMemory) ⊎ P (Err e)
+made_err f (Ok x) P e h is = absurd (cc is)
+made_err f (Err d) P e h is = let same : d ≡ e = refused_same d e is in subst (λ x. (x ≡ OutOfMemory) ⊎ P (Err x)) same h
+
+-- a run that ends with what was made ends with what is wanted
+pub ends_as : {V : Type 0} (f : V → List ℕ) (r : Result (Option V) Error) (P : Wanted → Type 0) (result : Result Outcome Stop) (old new : Option (List ℕ)) → AnswersAs (option_map f) r P → Ends result old new (shown f r) → EndsAs result old new P
+ends_as f r P (Ok Written) old new made ends = (ends.0, made_ok f r P (Some ends.0) made ends.1, ends.2)
+ends_as f r P (Ok Incomplete) old new made ends = (made_ok f r P None made ends.0, ends.1)
+ends_as f r P (Err Fault) old new made (inl kept) = inl kept
+ends_as f r P (Err Fault) old new made (inr begun) = inr (begun.0, begun.1, made_ok f r P (Some begun.0) made begun.2, begun.3)
+ends_as f r P (Err (Refused e)) old new made ends = (elim ends.0 [ inl memory ↦ inl memory | inr is ↦ made_err f r P e made is ], ends.1)
+
+-- the same where a refusal comes first
+pub ends_after : {V : Type 0} (f : V → List ℕ) (r : Result (Option V) Error) (refusal : Result (Unit {0}) Error) (result : Result Outcome Stop) (old new : Option (List ℕ)) → AfterRefusal refusal (Answers (option_map f) r) → Ends result old new (shown f r) → AfterRefusal refusal (Ends result old new)
+ends_after f r refusal result old new made ends = (made.0, ends_as f r (λ w. and_then refusal (λ _. Ok made.0) ≡ w) result old new (answers_as (option_map f) r (and_then refusal (λ _. Ok made.0)) made.1) ends)

@@ -1,29 +1,27 @@
 -- A sender's stream is one that a receiver takes.
-use Rattle.std.proofs.Common.{◌≡◌, ℕ, ◌+◌, ◌-◌, ◌%◌, ◌*◌, ◌<◌, ◌≤◌, ◌^◌, Bool, true, false, cond, eqb, ltb, leb, List, [], ◌∷◌, length, map, Option, Some, Result, Ok, Err, refl, sym, ap, ◌∙◌, subst, arith}
-use Rattle.std.specs.Prelude.{Contains, All, not, ◌&&◌}
-use Rattle.std.specs.List.{AllByRecursion, range_with_len}
+use Rattle.std.proofs.Common.{◌≡◌, ℕ, ◌+◌, ◌-◌, ◌%◌, ◌*◌, ◌<◌, ◌≤◌, ◌^◌, Bool, true, false, cond, eqb, ltb, leb, List, [], ◌∷◌, length, map, Option, Some, Result, Ok, Err, refl, sym, ap, ◌∙◌, subst, arith, inl, inr}
+use Rattle.std.specs.Prelude.{Contains, All, not, ◌&&◌, MatchResult}
+use Rattle.std.specs.List.{AllByRecursion}
 use Rattle.std.proofs.lemmas.Bool.{eqb-true, ltb-true, ltb-false, leb-true}
-use Rattle.std.proofs.lemmas.List.Elements.{All-contains}
-use Rattle.std.proofs.lemmas.List.FromFn.{length-map-range_with_len, get_or-map-range_with_len}
+use Rattle.std.proofs.lemmas.List.Elements.{All-contains, All-from_recursion}
 use Rattle.rq_bytes.specs.declared.error.Error.{Error}
 use Rattle.rq_bytes.specs.declared.error.Error.TheVariants.{PacketSizeZero, TransferLengthZero, TransferTooLong, MemoryRequirementTooSmall, TooManyBlocks, SymbolSizeZero, AlignmentZero, Misaligned, SourceBlocksZero, BlockOverTable}
 use Rattle.rq_bytes.specs.Refusals.{and_then}
 use Rattle.rq_standard.specs.declared.row.Row.{Row}
 use Rattle.rq_standard.specs.Packet.{Packet}
 use Rattle.rq_standard.specs.Configuration.{Configuration, IsConfiguration, IsAccepted, largest_block}
-use Rattle.rq_standard.specs.Cutting.{block_symbols}
 use Rattle.rq_standard.specs.Parameters.{alignment_for, symbol_size_for, fitting_block, most_sub_blocks, blocks_for, parameters_for}
-use Rattle.rq_standard.specs.Received.{IsSourcePacket}
-use Rattle.rq_standard.specs.Streams.{source_packet, source_packets, stream_of}
-use Rattle.rq_standard.specs.TableRows.{greatest_size}
+use Rattle.rq_standard.specs.Encoded.{IsPacketOf, HasNonsingularRows}
+use Rattle.rq_standard.specs.Streams.{stream_of}
+use Rattle.rq_standard.specs.TableRows.{greatest_size, IsTable}
 use Rattle.rq_base.specs.Defaults.{wanted_parameters}
 use Rattle.rq_base.specs.Refused.{checked_configuration}
 use Rattle.raptorq.specs.OneBlock.{IsOneBlock}
 use Rattle.raptorq.specs.Refused.{new_encoder}
-use Rattle.raptorq.proofs.Encodes.{packets-all}
-use Rattle.rq_streams.specs.Limits.{one_block_refusal, repair_refusal}
+use Rattle.raptorq.specs.Encoded.{packets_refusal}
+use Rattle.rq_streams.specs.Limits.{one_block_refusal}
 use Rattle.rq_streams.specs.Received.{IsStreamOf}
-use Rattle.rq_streams.specs.Sent.{sent}
+use Rattle.rq_streams.specs.Sent.{sent_configuration, IsStreamSent, Sends, IsSent}
 use Rattle.rq_streams.specs.SentStreams.{IsSentStream}
 
 -- a chain that is Ok has steps that are
@@ -96,42 +94,68 @@ fits_by table n s c small h one =
       length_is,
     )
 
--- each source packet is one of the object's
-source_by : (c : Configuration) (object : List ℕ) → IsOneBlock c → All (IsSourcePacket c object) (source_packets c object)
-source_by c object one = subst (All (IsSourcePacket c object)) (packets-all c object (map (source_packet c object 0) (range_with_len 0 (block_symbols c 0))) (block_symbols c 0) one.one_block refl refl)
-    (λ k d below. let lt : k < block_symbols c 0 = subst (λ n. k < n) (length-map-range_with_len (source_packet c object 0) 0 (block_symbols c 0)) below in
-    subst (IsSourcePacket c object) (sym (get_or-map-range_with_len (source_packet c object 0) 0 (block_symbols c 0) k k d lt (omega arith)))
-    (record { block = omega (arith, one.one_block); esi = lt; payload = refl }))
-
-honest_by : (c : Configuration) (object : List ℕ) (packets : List Packet) → IsOneBlock c → AllByRecursion (Contains (source_packets c object)) packets → AllByRecursion (IsSourcePacket c object) packets
-honest_by c object [] one h = tt
-honest_by c object (p ∷ packets) one h = (All-contains (IsSourcePacket c object) (source_packets c object) p (source_by c object one) h.0, honest_by c object packets one h.1)
-
 abbrev written : List ℕ → Result (Option (List ℕ)) Error
 written xs = Ok (Some xs)
+
+abbrev configured : Configuration → Result Configuration Error
+configured c = Ok c
+
+same_configuration : (c d : Configuration) → configured c ≡ configured d → c ≡ d
+same_configuration c d h = cc
+
+among : (table : List Row) (c : Configuration) (object : List ℕ) (all some : List Packet) → AllByRecursion (IsPacketOf table c object) all → AllByRecursion (Contains all) some → AllByRecursion (IsPacketOf table c object) some
+among table c object all [] honest h = tt
+among table c object all (p ∷ some) honest h = (All-contains (IsPacketOf table c object) all p (All-from_recursion (IsPacketOf table c object) all honest) h.0, among table c object all some honest h.1)
+
+-- the steps of a configuration that is sent
+sent_steps : (table : List Row) (s : ℕ) (object : List ℕ) (c : Configuration) → sent_configuration table s object ≡ Ok c → (wanted_parameters table (length object) s 10485760 ≡ Ok c) × (one_block_refusal c ≡ Ok tt) × (new_encoder (greatest_size table) c (length object) ≡ Ok tt)
+sent_steps table s object c h =
+    let p = both_ok (wanted_parameters table (length object) s 10485760) _ c h in
+    let q = both_ok (one_block_refusal p.0) _ c p.2 in
+    let e = both_ok (new_encoder (greatest_size table) p.0 (length object)) _ c q.2 in
+    let same : p.0 ≡ c = same_configuration p.0 c e.2 in (
+      p.1 ∙ ap configured same,
+      subst (λ k. one_block_refusal k ≡ Ok tt) same q.1,
+      subst (λ k. new_encoder (greatest_size table) k (length object) ≡ Ok tt) same e.1,
+    )
 
 same_stream : (xs ys : List ℕ) → written xs ≡ written ys → xs ≡ ys
 same_stream xs ys h = cc
 
-pub sent_stream : (table : List Row) (s repair : ℕ) (object stream : List ℕ) → s < 2 ^ 16 → sent table s repair object ≡ Ok (Some stream) → IsSentStream (greatest_size table) object stream
-sent_stream table s repair object stream small h =
-    let p = both_ok (wanted_parameters table (length object) s 10485760) _ (Some stream) h in
-    let c = p.0 in
-    let q = both_ok (one_block_refusal c) _ (Some stream) p.2 in
-    let e = both_ok (new_encoder (greatest_size table) c (length object)) _ (Some stream) q.2 in
-    let k = both_ok (checked_configuration (greatest_size table) c) _ tt e.1 in
-    let r = both_ok (repair_refusal repair) _ (Some stream) e.2 in
-    let one = one_block_by c q.1 in
-    let fits = fits_by table (length object) s c small p.1 one in
+sent_by : (table : List Row) (s repair : ℕ) (object stream : List ℕ) (c : Configuration) → IsTable table → s < 2 ^ 16 → sent_configuration table s object ≡ Ok c → HasNonsingularRows table c → IsStreamSent table c repair object (Ok (Some stream)) → IsSentStream table repair object stream
+sent_by table s repair object stream c checked small configured_by nonsingular sent =
+    let steps = sent_steps table s object c configured_by in
+    let taken = both_ok (checked_configuration (greatest_size table) c) _ tt steps.2 in
+    let one = one_block_by c steps.1 in
+    let fits = fits_by table (length object) s c small steps.0 one in
     record {
       configuration = c;
-      whole = sym (same_stream _ stream r.2);
-      taken = λ packets among. record {
+      packets = sent.packets;
+      encoded = sent.encoded;
+      whole = same_stream stream (stream_of c sent.packets) sent.spelled;
+      taken = λ some of_it. record {
+        checked = checked;
         fits = fits.0;
-        accepted = accepted_by (greatest_size table) c k.1;
+        accepted = accepted_by (greatest_size table) c taken.1;
         one = one;
+        nonsingular = nonsingular;
         long = sym fits.1;
-        honest = honest_by c object packets one among;
+        honest = among table c object sent.packets some sent.encoded.each of_it;
         spelled = refl;
       };
     }
+
+encoded_by : (table : List Row) (c : Configuration) (repair : ℕ) (object stream : List ℕ) (r : Result (Unit {0}) Error) → MatchResult r (λ _. IsStreamSent table c repair object (Ok (Some stream))) (λ e. written stream ≡ Err e) → IsStreamSent table c repair object (Ok (Some stream))
+encoded_by table c repair object stream (Ok x) h = h
+encoded_by table c repair object stream (Err e) h = absurd (cc h)
+
+sends_by : (table : List Row) (s repair : ℕ) (object stream : List ℕ) (c : Configuration) → IsTable table → s < 2 ^ 16 → sent_configuration table s object ≡ Ok c → Sends table c repair object (Ok (Some stream)) → IsSentStream table repair object stream
+sends_by table s repair object stream c checked small is (inl singular) = absurd (cc singular.0)
+sends_by table s repair object stream c checked small is (inr sends) = sent_by table s repair object stream c checked small is sends.0 (encoded_by table c repair object stream (packets_refusal c repair) sends.1)
+
+by_configuration : (table : List Row) (s repair : ℕ) (object stream : List ℕ) (r : Result Configuration Error) → IsTable table → s < 2 ^ 16 → sent_configuration table s object ≡ r → MatchResult r (λ c. Sends table c repair object (Ok (Some stream))) (λ e. written stream ≡ Err e) → IsSentStream table repair object stream
+by_configuration table s repair object stream (Ok c) checked small is h = sends_by table s repair object stream c checked small is h
+by_configuration table s repair object stream (Err e) checked small is h = absurd (cc h)
+
+pub sent_stream : (table : List Row) (s repair : ℕ) (object stream : List ℕ) → IsTable table → s < 2 ^ 16 → IsSent table s repair object (Ok (Some stream)) → IsSentStream table repair object stream
+sent_stream table s repair object stream checked small h = by_configuration table s repair object stream (sent_configuration table s object) checked small refl h

@@ -13,16 +13,21 @@ use Rattle.rq_streams.specs.declared.run.Stop.TheVariants.{Fault, Refused}
 abbrev pub Wanted : Type 0
 Wanted = Result (Option (List ℕ)) Error
 
--- Nothing was written, or a beginning of the bytes that are to be written.
-abbrev pub Begins : Option (List ℕ) → Option (List ℕ) → Wanted → Type 0
-Begins old new wanted = Keeps old new ⊎ ((bytes : List ℕ) × (n : ℕ) × (wanted ≡ Ok (Some bytes)) × Appends old new (take n bytes))
+-- an answer is one that is wanted; want of memory may come before it
+abbrev pub AnswersAs : {V : Type 0} → (V → Option (List ℕ)) → Result V Error → (Wanted → Type 0) → Type 0
+AnswersAs view (Ok x) IsWanted = IsWanted (Ok (view x))
+AnswersAs view (Err e) IsWanted = (e ≡ OutOfMemory) ⊎ IsWanted (Err e)
 
--- What the run answered and wrote is what it is to do, memory aside. A fault leaves a beginning.
+-- What the run answered and wrote is what is wanted, memory aside. A fault leaves a beginning of it.
+abbrev pub EndsAs : Result Outcome Stop → Option (List ℕ) → Option (List ℕ) → (Wanted → Type 0) → Type 0
+EndsAs (Ok Written) old new IsWanted = (bytes : List ℕ) × IsWanted (Ok (Some bytes)) × Appends old new bytes
+EndsAs (Ok Incomplete) old new IsWanted = IsWanted (Ok None) × Keeps old new
+EndsAs (Err Fault) old new IsWanted = Keeps old new ⊎ ((bytes : List ℕ) × (n : ℕ) × IsWanted (Ok (Some bytes)) × Appends old new (take n bytes))
+EndsAs (Err (Refused e)) old new IsWanted = ((e ≡ OutOfMemory) ⊎ IsWanted (Err e)) × Keeps old new
+
+-- the same of what one thing is wanted
 abbrev pub Ends : Result Outcome Stop → Option (List ℕ) → Option (List ℕ) → Wanted → Type 0
-Ends (Ok Written) old new wanted = (bytes : List ℕ) × (wanted ≡ Ok (Some bytes)) × Appends old new bytes
-Ends (Ok Incomplete) old new wanted = (wanted ≡ Ok None) × Keeps old new
-Ends (Err Fault) old new wanted = Begins old new wanted
-Ends (Err (Refused e)) old new wanted = ((e ≡ OutOfMemory) ⊎ (wanted ≡ Err e)) × Keeps old new
+Ends result old new wanted = EndsAs result old new (λ w. wanted ≡ w)
 
 -- P of what is wanted where this refusal comes first and then some answer
 abbrev pub AfterRefusal : Result (Unit {0}) Error → (Wanted → Type 0) → Type 0

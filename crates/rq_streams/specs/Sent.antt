@@ -1,18 +1,39 @@
 -- What a sender writes.
-use Rattle.std.specs.Prelude.{ℕ, List, length, Some, Ok}
+use Rattle.std.specs.Prelude.{◌≡◌, ◌⊎◌, ℕ, List, length, Some, Result, Ok, Err, MatchResult}
+use Rattle.rq_bytes.specs.declared.error.Error.{Error}
+use Rattle.rq_bytes.specs.declared.error.Error.TheVariants.{Singular}
 use Rattle.rq_bytes.specs.Refusals.{and_then}
 use Rattle.rq_standard.specs.declared.row.Row.{Row}
-use Rattle.rq_standard.specs.Streams.{stream_of, source_packets}
+use Rattle.rq_standard.specs.Packet.{Packet}
+use Rattle.rq_standard.specs.Configuration.{Configuration}
+use Rattle.rq_standard.specs.Encoded.{HasNonsingularRows, AreEncoded}
+use Rattle.rq_standard.specs.Streams.{stream_of}
 use Rattle.rq_standard.specs.TableRows.{greatest_size}
 use Rattle.rq_base.specs.Defaults.{wanted_parameters}
+use Rattle.raptorq.specs.Encoded.{packets_refusal}
 use Rattle.raptorq.specs.Refused.{new_encoder}
 use Rattle.rq_streams.specs.Ends.{Wanted}
-use Rattle.rq_streams.specs.Limits.{one_block_refusal, repair_refusal}
+use Rattle.rq_streams.specs.Limits.{one_block_refusal}
 
--- the stream of an object's source packets in its default configuration, unless something refuses it
-abbrev pub sent : List Row → ℕ → ℕ → List ℕ → Wanted
-sent table packet_size repair object =
+-- the default configuration of an object, unless something refuses it
+abbrev pub sent_configuration : List Row → ℕ → List ℕ → Result Configuration Error
+sent_configuration table packet_size object =
     and_then (wanted_parameters table (length object) packet_size 10485760) (λ c.
     and_then (one_block_refusal c) (λ _.
-    and_then (new_encoder (greatest_size table) c (length object)) (λ _.
-    and_then (repair_refusal repair) (λ _. Ok (Some (stream_of c (source_packets c object)))))))
+    and_then (new_encoder (greatest_size table) c (length object)) (λ _. Ok c)))
+
+-- a stream of the object's packets
+pub record IsStreamSent (table : List Row) (c : Configuration) (repair : ℕ) (object : List ℕ) (wanted : Wanted) : Type 0 where
+  pub packets : List Packet
+  pub encoded : AreEncoded table c object repair packets
+  pub spelled : wanted ≡ Ok (Some (stream_of c packets))
+
+-- what is sent in a configuration: a singular row is refused first, and then more packets than there are ids
+abbrev pub Sends : List Row → Configuration → ℕ → List ℕ → Wanted → Type 0
+Sends table c repair object wanted =
+    ((wanted ≡ Err Singular) × ¬ HasNonsingularRows table c)
+    ⊎ (HasNonsingularRows table c × MatchResult (packets_refusal c repair) (λ _. IsStreamSent table c repair object wanted) (λ e. wanted ≡ Err e))
+
+-- the stream of an object's packets in its default configuration, unless something refuses it
+abbrev pub IsSent : List Row → ℕ → ℕ → List ℕ → Wanted → Type 0
+IsSent table packet_size repair object wanted = MatchResult (sent_configuration table packet_size object) (λ c. Sends table c repair object wanted) (λ e. wanted ≡ Err e)

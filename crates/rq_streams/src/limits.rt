@@ -1,7 +1,7 @@
-//! What runs refuse until objects of several blocks and repair packets exist.
+//! What runs refuse until objects of several blocks exist.
 ghost use Rattle.std.specs.Prelude.{◌≡◌, OnOk};
 ghost use Rattle.raptorq.specs.OneBlock.{IsOneBlock};
-ghost use Rattle.rq_streams.specs.Limits.{one_block_refusal, repair_refusal};
+ghost use Rattle.rq_streams.specs.Limits.{one_block_refusal};
 
 use raptorq::error::Error;
 use raptorq::{ObjectTransmissionInformation, is_one_block};
@@ -15,17 +15,5 @@ pub(crate) fn check_one_block(config: &ObjectTransmissionInformation) -> Result<
         Ok(())
     } else {
         Err(Error::BlockOverTable)
-    }
-}
-
-/// Tests that no repair packets are wanted.
-pub(crate) fn check_repair(repair: u32) -> Result<(), Error>
-    ensures refused { result ≡ repair_refusal repair }
-    ensures none { OnOk result (repair ≡ 0) }
-{
-    if repair == 0 {
-        Ok(())
-    } else {
-        Err(Error::EsiTooLarge)
     }
 }

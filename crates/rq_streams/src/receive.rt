@@ -5,8 +5,9 @@ ghost use Rattle.std.specs.List.{AllByRecursion};
 ghost use Rattle.rq_bytes.specs.Refusals.{Answers};
 ghost use Rattle.rq_standard.specs.Packet.{Packet, packet_of_bytes};
 ghost use Rattle.rq_standard.specs.Configuration.{Configuration, largest_block};
-ghost use Rattle.rq_standard.specs.Received.{HasSourceSymbols, IsSourcePacket};
-ghost use Rattle.rq_standard.specs.Standing.{Stands, IsObjectAnswer};
+ghost use Rattle.rq_standard.specs.declared.row.Row.{Row};
+ghost use Rattle.rq_standard.specs.Encoded.{HasNonsingularRows};
+ghost use Rattle.rq_standard.specs.Standing.{Stands, StandsForMore, IsObjectAnswer};
 ghost use Rattle.rq_standard.specs.Streams.{frames_of};
 ghost use Rattle.rq_standard.specs.TableRows.{greatest_size};
 ghost use Rattle.rq_base.specs.Refused.{checked_configuration};
@@ -51,9 +52,7 @@ fn take_frame(alloc: Global, decoder: &mut Decoder, size: usize, frame: &[u8]) -
     requires { size ≡ frame_size (state_of decoder.old).configuration }
     ensures refused { Answers (λ x. x) result (frame_refusal (state_of decoder.old).configuration frame.now) }
     ensures configuration { (state_of decoder.new).configuration ≡ (state_of decoder.old).configuration }
-    ensures stands { OnOk result ((object : List ℕ) (packets : List Packet) → Stands HasSourceSymbols IsSourcePacket object packets (state_of decoder.old)
-        → IsSourcePacket (state_of decoder.old).configuration object (packet_of_bytes frame.now)
-        → Stands HasSourceSymbols IsSourcePacket object (packets ++ packet_of_bytes frame.now ∷ []) (state_of decoder.new)) }
+    ensures stands { OnOk result (StandsForMore (state_of decoder.old) (packet_of_bytes frame.now) (state_of decoder.new)) }
 {
     let packet = EncodingPacket::deserialize(alloc, frame)?;
     if frame.len() < size {
@@ -72,9 +71,9 @@ fn take_frames(
     requires { symbol_size ≡ (state_of decoder.old).configuration.symbol_size }
     ensures refused { Answers (λ x. x) result (frames_refusal (state_of decoder.old).configuration frames.now) }
     ensures configuration { (state_of decoder.new).configuration ≡ (state_of decoder.old).configuration }
-    ensures stands { OnOk result ((object : List ℕ) (packets : List Packet) → Stands HasSourceSymbols IsSourcePacket object [] (state_of decoder.old)
-        → AllByRecursion (FillsFrame (state_of decoder.old).configuration object) packets → frames.now ≡ frames_of packets
-        → Stands HasSourceSymbols IsSourcePacket object packets (state_of decoder.new)) }
+    ensures stands { OnOk result ((table : List Row) (object : List ℕ) (packets : List Packet) → HasNonsingularRows table (state_of decoder.old).configuration
+        → Stands table object [] (state_of decoder.old) → AllByRecursion (FillsFrame table (state_of decoder.old).configuration object) packets → frames.now ≡ frames_of packets
+        → Stands table object packets (state_of decoder.new)) }
 {
     let size = 4 + usize::from(symbol_size);
     for frame in frames.chunks(size) {
@@ -90,9 +89,9 @@ fn received_object(
     bytes: &[u8],
 ) -> Result<Option<Vec<u8>>, Error>
     ensures refused { AfterRefusal (receive_refusal (greatest_size table.now) bytes.now) (Answers (option_map vec_items) result) }
-    ensures answer { IfOk result (λ r. (c : Configuration) (object : List ℕ) (packets : List Packet) → IsStreamOf (greatest_size table.now) c object packets bytes.now
-        → IsObjectAnswer HasSourceSymbols c object packets (option_map vec_items r)) }
-    ensures memory { IfErr result (λ e. (c : Configuration) (object : List ℕ) (packets : List Packet) → IsStreamOf (greatest_size table.now) c object packets bytes.now
+    ensures answer { IfOk result (λ r. (c : Configuration) (object : List ℕ) (packets : List Packet) → IsStreamOf table.now c object packets bytes.now
+        → IsObjectAnswer table.now c object packets (option_map vec_items r)) }
+    ensures memory { IfErr result (λ e. (c : Configuration) (object : List ℕ) (packets : List Packet) → IsStreamOf table.now c object packets bytes.now
         → e ≡ Error.OutOfMemory) }
 {
     let config = received_configuration(table, bytes)?;
@@ -104,10 +103,10 @@ fn received_object(
 /// Reads a stream and writes its object: the 12 bytes of a configuration, and then frames of a
 /// payload id and a symbol.
 ///
-/// Over a stream of an object's source packets, any number of times and in any order, the object is
-/// written exactly where each of its source symbols is among them, and else nothing. So it is for a
-/// stream of [`run_send`](crate::run_send) from which frames were removed, or in which they were
-/// repeated or moved.
+/// Over a stream of an object's packets, any number of times and in any order, the object is written
+/// exactly where they determine it, and else nothing. So it is for a stream of
+/// [`run_send`](crate::run_send) from which frames were removed, or in which they were repeated or
+/// moved.
 ///
 /// Refuses, in this order, [`Error::HeaderTooShort`] below 12 bytes, what
 /// [`ObjectTransmissionInformation::check`] refuses, [`Error::BlockOverTable`] for a configuration
@@ -138,8 +137,8 @@ pub fn run_receive<R: Read, W: Write>(
 
     // Of a stream of an object's packets the object, exactly where they determine it.
     ensures ends { IfSome (R.remaining (counted_inner reader.old)) (λ input. (c : Configuration) (object : List ℕ) (packets : List Packet)
-        → IsStreamOf (greatest_size table.now) c object packets input
-        → Wants c object packets (Ends result (W.contents (counted_inner writer.old)) (W.contents (counted_inner writer.new)))) }
+        → IsStreamOf table.now c object packets input
+        → Wants table.now c object packets (Ends result (W.contents (counted_inner writer.old)) (W.contents (counted_inner writer.new)))) }
 {
     match read_all(alloc, reader) {
         Ok(bytes) => finish(writer, received_object(alloc, table, bytes.as_slice())),

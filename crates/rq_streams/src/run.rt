@@ -1,11 +1,11 @@
 //! How a run reads its input and writes what it made.
-ghost use Rattle.std.specs.Prelude.{◌≡◌, ◌+◌, ◌^◌, ◌-◌, ◌<◌, ◌≤◌, ◌⊎◌, ℕ, length, take, OnOk, OnErr, IfOk, IfErr, IfSome, Ok, Err, Some, None, option_map, vec_items};
+ghost use Rattle.std.specs.Prelude.{◌≡◌, ◌+◌, ◌^◌, ◌-◌, ◌<◌, ◌≤◌, ◌⊎◌, ℕ, length, take, OnOk, OnErr, IfOk, IfErr, IfSome, Ok, Err, Some, None, vec_items};
 ghost use Rattle.std.specs.Io.KnownBytes.{Keeps, Appends, Consumes};
 ghost use Rattle.rq_bytes.specs.declared.error.Error.TheVariants.{OutOfMemory};
-ghost use Rattle.rq_bytes.specs.Refusals.{Answers};
 ghost use Rattle.rq_streams.specs.declared.run.Stop.TheVariants.{Fault, Refused};
 ghost use Rattle.rq_streams.specs.Counts.{failed_count, counted_inner};
-ghost use Rattle.rq_streams.specs.Ends.{Ends, Wanted, failed_calls};
+ghost use Rattle.rq_streams.specs.Ends.{Ends, failed_calls};
+ghost use Rattle.raptorq.specs.Decoding.{shown};
 
 use crate::counted::Counted;
 use raptorq::error::Error;
@@ -105,8 +105,7 @@ pub(crate) fn finish<W: Write>(
 ) -> Result<Outcome, Stop>
     requires { failed_count writer.old < 2 ^ 64 - 1 }
     ensures counts { failed_count writer.new ≡ failed_count writer.old + failed_calls result }
-    ensures ends { (wanted : Wanted) → Answers (option_map vec_items) made wanted
-        → Ends result (W.contents (counted_inner writer.old)) (W.contents (counted_inner writer.new)) wanted }
+    ensures ends { Ends result (W.contents (counted_inner writer.old)) (W.contents (counted_inner writer.new)) (shown vec_items made) }
 {
     match made {
         Err(e) => Err(Stop::Refused(e)),

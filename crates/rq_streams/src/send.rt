@@ -1,14 +1,14 @@
 //! An object in, its stream out.
 ghost use Rattle.std.specs.Prelude.{◌≡◌, ◌+◌, ◌^◌, ◌-◌, ◌<◌, ◌⊎◌, ◌↔◌, Result, Ok, Err, IfSome, option_map, vec_items};
 ghost use Rattle.std.specs.Io.KnownBytes.{Keeps};
-ghost use Rattle.rq_bytes.specs.Refusals.{IsAnswer, Answers};
+ghost use Rattle.rq_bytes.specs.Refusals.{IsAnswer};
 ghost use Rattle.rq_standard.specs.Streams.{stream_of};
 ghost use Rattle.rq_streams.specs.Counts.{failed_count, counted_inner};
-ghost use Rattle.rq_streams.specs.Ends.{Ends, failed_calls};
-ghost use Rattle.rq_streams.specs.Sent.{sent};
+ghost use Rattle.rq_streams.specs.Ends.{AnswersAs, EndsAs, failed_calls};
+ghost use Rattle.rq_streams.specs.Sent.{IsSent};
 
 use crate::counted::Counted;
-use crate::limits::{check_one_block, check_repair};
+use crate::limits::check_one_block;
 use crate::run::{Outcome, Stop, finish, read_all};
 use raptorq::error::Error;
 use raptorq::systematic_constants::SystematicTable;
@@ -39,25 +39,24 @@ fn sent_stream(
     packet_size: u16,
     repair: u32,
 ) -> Result<Option<Vec<u8>>, Error>
-    ensures { Answers (option_map vec_items) result (sent table.now packet_size repair object.now) }
+    ensures { AnswersAs (option_map vec_items) result (IsSent table.now packet_size repair object.now) }
 {
     let length = object.len() as u64;
     let config = ObjectTransmissionInformation::with_defaults(table, length, packet_size)?;
     check_one_block(&config)?;
     let encoder = Encoder::new(alloc, table, object, config)?;
-    check_repair(repair)?;
     let packets = encoder.get_encoded_packets(repair)?;
     Ok(Some(stream(alloc, &config, packets)?))
 }
 
 /// Reads an object and writes its stream: the 12 bytes of its default configuration for packets of
-/// at most `packet_size` bytes of payload, and then its source packets, each with its payload id of
-/// 4 bytes, in order.
+/// at most `packet_size` bytes of payload, and then its packets, `repair` of them a block being
+/// repair packets, each with its payload id of 4 bytes, in order.
 ///
 /// Refuses, in this order, what [`ObjectTransmissionInformation::with_defaults`] refuses,
 /// [`Error::BlockOverTable`] for an object that isn't of one block, what [`Encoder::new`] refuses,
-/// and [`Error::EsiTooLarge`] for any repair packets, which are to come. [`Error::OutOfMemory`] may
-/// come before any of them.
+/// and what [`Encoder::get_encoded_packets`] refuses. [`Error::OutOfMemory`] may come before any of
+/// them.
 pub fn run_send<R: Read, W: Write>(
     alloc: Global,
     table: &SystematicTable,
@@ -78,7 +77,7 @@ pub fn run_send<R: Read, W: Write>(
         → Keeps (W.contents (counted_inner writer.old)) (W.contents (counted_inner writer.new)) }
 
     ensures ends { IfSome (R.remaining (counted_inner reader.old)) (λ input.
-        Ends result (W.contents (counted_inner writer.old)) (W.contents (counted_inner writer.new)) (sent table.now packet_size repair input)) }
+        EndsAs result (W.contents (counted_inner writer.old)) (W.contents (counted_inner writer.new)) (IsSent table.now packet_size repair input)) }
 {
     match read_all(alloc, reader) {
         Ok(bytes) => {

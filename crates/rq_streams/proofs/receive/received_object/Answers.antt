@@ -1,9 +1,9 @@
-use Rattle.std.proofs.Common.{◌≡◌, ◌-◌, ◌<◌, ◌⊎◌, [], take, drop, length, Err, sym, ap, ◌∙◌, subst, refl, append-nil, vec_items, ℕ, Global}
+use Rattle.std.proofs.Common.{◌≡◌, ◌-◌, ◌⊎◌, [], take, drop, length, Err, sym, ap, ◌∙◌, subst, refl, append-nil, vec_items, ℕ, Global}
 use Rattle.std.specs.List.{AllByRecursion}
 use Rattle.std.proofs.lemmas.List.{take_rest}
 use Rattle.std.proofs.lemmas.Result.{IfOk-weaker, err_from_is_err_and}
 use Rattle.rq_bytes.specs.declared.error.Error.TheVariants.{OutOfMemory}
-use Rattle.rq_standard.specs.Configuration.{largest_block}
+use Rattle.rq_standard.specs.Encoded.{HasNonsingularRows}
 use Rattle.rq_standard.specs.Streams.{frames_of}
 use Rattle.rq_standard.specs.TableRows.{greatest_size}
 use Rattle.raptorq.specs.Objects.{state_of}
@@ -17,7 +17,7 @@ use Rattle.rq_streams.proofs.receive.received_object.Goals as goal
 pub returns-in_err-config-clause-memory : goal.returns-in_err-config-clause-memory
 returns-in_err-config-clause-memory c =
     let p = err_from_is_err_and c.from_residual.result c.from_residual.ensures.1 in
-    rw p.1 (λ k object packets s. absurd (cc (c.in_err-config.ensures.value ∙ stream_configuration (greatest_size c.args.table.now) k object packets c.args.bytes.now s)))
+    rw p.1 (λ k object packets s. absurd (cc (c.in_err-config.ensures.value ∙ stream_configuration c.args.table.now k object packets c.args.bytes.now s)))
 
 pub returns-in_err-take_frames-clause-refused : goal.returns-in_err-take_frames-clause-refused
 returns-in_err-take_frames-clause-refused c =
@@ -30,17 +30,16 @@ returns-in_err-take_frames-clause-refused c =
 
 pub returns-in_err-take_frames-clause-memory : goal.returns-in_err-take_frames-clause-memory
 returns-in_err-take_frames-clause-memory c =
-    let greatest = greatest_size c.args.table.now in
+    let table = c.args.table.now in
     let bytes = c.args.bytes.now in
     let e = c.in_err-take_frames.field-0.0 in
     let rest = take (length bytes - 12) (drop 12 bytes) in
     let p = err_from_is_err_and c.from_residual-in_err-take_frames.result c.from_residual-in_err-take_frames.ensures.1 in
     rw (p.1, p.2) (λ k object packets s.
-    let same = same_configuration greatest k c.in_ok-config.config object packets bytes s c.in_ok-config.ensures.value in
-    let few : largest_block k < 65536 = subst (λ d. largest_block d < 65536) same c.in_ok-config.ensures.few in
-    let behind : rest ≡ frames_of packets = take_rest bytes 12 ∙ stream_frames greatest k object packets bytes s in
+    let same = same_configuration table k c.in_ok-config.config object packets bytes s c.in_ok-config.ensures.value in
+    let behind : rest ≡ frames_of packets = take_rest bytes 12 ∙ stream_frames table k object packets bytes s in
     memory_only (frames_refusal c.in_ok-decoder.decoder.config rest) e
-    (ap (λ d. frames_refusal d rest) (c.in_ok-decoder.ensures.configuration ∙ same) ∙ ap (frames_refusal k) behind ∙ frames_unrefused k object packets (stream_fills greatest k object packets bytes s few))
+    (ap (λ d. frames_refusal d rest) (c.in_ok-decoder.ensures.configuration ∙ same) ∙ ap (frames_refusal k) behind ∙ frames_unrefused table k object packets (stream_fills table k object packets bytes s))
     c.in_err-take_frames.ensures.refused)
 
 pub returns-clause-refused : goal.returns-clause-refused
@@ -52,16 +51,15 @@ returns-clause-refused c =
 
 pub returns-clause-answer : goal.returns-clause-answer
 returns-clause-answer c =
-    let greatest = greatest_size c.args.table.now in
+    let table = c.args.table.now in
     let bytes = c.args.bytes.now in
     let rest = take (length bytes - 12) (drop 12 bytes) in
     IfOk-weaker c.get_result.result _ _
     (λ r is k object packets s.
-    let same = same_configuration greatest k c.in_ok-config.config object packets bytes s c.in_ok-config.ensures.value in
+    let same = same_configuration table k c.in_ok-config.config object packets bytes s c.in_ok-config.ensures.value in
     let here = c.in_ok-decoder.ensures.configuration ∙ same in
-    let few : largest_block k < 65536 = subst (λ d. largest_block d < 65536) same c.in_ok-config.ensures.few in
-    let fill : AllByRecursion (FillsFrame c.in_ok-decoder.decoder.config object) packets = subst (λ d. AllByRecursion (FillsFrame d object) packets) (sym here) (stream_fills greatest k object packets bytes s few) in
+    let fill : AllByRecursion (FillsFrame table c.in_ok-decoder.decoder.config object) packets = subst (λ d. AllByRecursion (FillsFrame table d object) packets) (sym here) (stream_fills table k object packets bytes s) in
     let start = c.in_ok-decoder.ensures.stands object (s.long ∙ ap (λ d. d.transfer_length) (sym same)) in
-    let end = c.in_ok-take_frames.ensures.stands object packets start fill (take_rest bytes 12 ∙ stream_frames greatest k object packets bytes s) in
-    answer_all k object packets packets [] (state_of c.take_frames.new.decoder) _ (c.in_ok-take_frames.ensures.configuration ∙ here) s.one.one_block s.accepted.size_positive (sym (append-nil packets)) refl end is)
+    let end = c.in_ok-take_frames.ensures.stands table object packets (subst (HasNonsingularRows table) (sym here) s.nonsingular) start fill (take_rest bytes 12 ∙ stream_frames table k object packets bytes s) in
+    answer_all table k object packets packets [] (state_of c.take_frames.new.decoder) _ (c.in_ok-take_frames.ensures.configuration ∙ here) s.one.one_block s.accepted.size_positive (sym (append-nil packets)) refl end is)
     c.get_result.ensures.value
