@@ -1,6 +1,5 @@
 -- The matrix of octets of the HDPC equations.
 use Rattle.std.specs.Prelude.{◌≡◌, ℕ, ◌<◌, ◌≤◌, length}
-use Rattle.rq_algebra.specs.Systems.{at}
 use Rattle.rq_parts.specs.OctetTable.{OctetTable, row_at, entry_of}
 use Rattle.rq_standard.specs.declared.row.Row.{Row}
 use Rattle.rq_standard.specs.TableRows.{intermediate_symbols}

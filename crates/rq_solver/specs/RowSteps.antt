@@ -9,7 +9,7 @@ use Rattle.rq_algebra.proofs.Changes.{with_at}
 use Rattle.rq_standard.specs.OctetField.{octets}
 use Rattle.rq_bytes.specs.SymbolOps.{operation_of}
 use Rattle.rq_bytes.specs.declared.operation_vector.SymbolOps.{SymbolOps}
-use Rattle.rq_parts.specs.OctetTable.{OctetTable, row_at, entry_of}
+use Rattle.rq_parts.specs.OctetTable.{OctetTable, entry_of}
 
 -- its rows are octets, as many as it is wide
 pub record HasOctets (table : OctetTable) : Type 0 where

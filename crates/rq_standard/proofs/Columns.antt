@@ -1,15 +1,13 @@
 -- The intermediate symbols of a block, and the sums at places of ids.
-use Rattle.std.proofs.Common.{◌≡◌, ℕ, zero, suc, ◌+◌, ◌-◌, ◌*◌, ◌%◌, ◌^◌, ◌<◌, ◌≤◌, min, List, [], ◌∷◌, ◌++◌, All, length, map, get_or, replicate, Option, Some, None, refl, sym, ap, ◌∙◌, subst, arith, inl, inr}
+use Rattle.std.proofs.Common.{◌≡◌, ℕ, ◌+◌, ◌*◌, ◌%◌, ◌^◌, ◌<◌, ◌≤◌, List, [], ◌∷◌, All, length, get_or, Option, Some, None, refl, sym, ap, ◌∙◌, subst, arith}
 use Rattle.std.specs.Prelude.{IfSome}
-use Rattle.std.specs.List.{range_with_len}
-use Rattle.std.proofs.lemmas.Bool.{cases_lt, lt-ltb, le-ltb}
-use Rattle.std.proofs.lemmas.List.{get_or_past, ext_get_or, length-append, length-replicate}
-use Rattle.std.proofs.lemmas.List.Elements.{All-head, All-tail, All-replicate}
+use Rattle.std.proofs.lemmas.List.{get_or_past, ext_get_or, length-append}
+use Rattle.std.proofs.lemmas.List.Elements.{All-head, All-tail}
 use Rattle.std.proofs.lemmas.List.FromFn.{length-range_with_len, length-map-range_with_len}
-use Rattle.rq_algebra.specs.Systems.{dot, at, stacked, rows_of}
+use Rattle.rq_algebra.specs.Systems.{dot, at, rows_of}
 use Rattle.rq_algebra.specs.Symbols.{symbols, IsSymbol, IsSymbolColumn, SolvesSymbols, slice_at}
-use Rattle.rq_algebra.specs.Parities.{sum_listed, parity}
-use Rattle.rq_algebra.proofs.Stacks.{stacked_above, stacked_below, solves_symbols_above, solves_symbols_below}
+use Rattle.rq_algebra.specs.Parities.{sum_listed}
+use Rattle.rq_algebra.proofs.Stacks.{solves_symbols_above, solves_symbols_below}
 use Rattle.rq_algebra.proofs.SymbolColumns.{symbols_unique}
 use Rattle.rq_algebra.proofs.SymbolSums.{sum_symbols_is, sum_is_symbol}
 use Rattle.rq_standard.specs.declared.row.Row.{Row}

@@ -1,10 +1,10 @@
 -- What is determined, by known ids and by a list of them.
-use Rattle.std.proofs.Common.{◌≡◌, ℕ, zero, suc, ◌+◌, ◌-◌, ◌<◌, ◌≤◌, Bool, true, false, cond, ltb, eqb, ◌%◌, List, length, refl, sym, ap, ◌∙◌, subst, arith, inl, inr}
+use Rattle.std.proofs.Common.{◌≡◌, ℕ, ◌+◌, ◌-◌, ◌<◌, ◌≤◌, Bool, true, false, cond, ltb, eqb, ◌%◌, List, length, refl, sym, ap, ◌∙◌, subst, arith, inl, inr}
 use Rattle.std.specs.Prelude.{◌||◌}
 use Rattle.std.specs.List.{range_with_len}
 use Rattle.std.proofs.lemmas.Bool.{cases_lt, lt-ltb, le-ltb}
 use Rattle.std.proofs.lemmas.List.FromFn.{length-range_with_len, get_or-range_with_len}
-use Rattle.rq_algebra.specs.Systems.{sum_below, dot, Solves, IsDetermined, HasElements, at, stacked, rows_of}
+use Rattle.rq_algebra.specs.Systems.{sum_below, dot, Solves, at, rows_of}
 use Rattle.rq_algebra.specs.Parities.{parity}
 use Rattle.rq_algebra.proofs.Stacks.{stacked_above, stacked_below}
 use Rattle.rq_algebra.proofs.FewEquations.{few_rows}

@@ -1,7 +1,7 @@
 -- A decoder that stands for a list of packets stands, after one packet more, for the longer list. Its blocks have one sub-block.
-use Rattle.std.proofs.Common.{◌≡◌, ◌≢◌, ℕ, ◌*◌, ◌<◌, ◌≤◌, Bool, true, false, cond, eqb, List, [], ◌∷◌, ◌++◌, length, map, get_or, Option, Some, None, refl, sym, ap, ◌∙◌, subst, arith, inl, inr}
+use Rattle.std.proofs.Common.{◌≡◌, ◌≢◌, ℕ, ◌<◌, ◌≤◌, cond, eqb, List, [], ◌∷◌, ◌++◌, length, get_or, Option, Some, None, refl, sym, ap, ◌∙◌, subst, arith, inl, inr}
 use Rattle.std.specs.Prelude.{is_some, MatchOption, IfSome}
-use Rattle.std.specs.List.{range_with_len, AllByRecursion}
+use Rattle.std.specs.List.{AllByRecursion}
 use Rattle.std.proofs.lemmas.Bool.{cases_eq, cases_lt}
 use Rattle.std.proofs.lemmas.List.{get_or_past, length-replicate}
 use Rattle.std.proofs.lemmas.List.FromFn.{length-map-range_with_len, get_or-map-range_with_len}
@@ -10,7 +10,7 @@ use Rattle.rq_standard.specs.TableRows.{IsChecked}
 use Rattle.rq_standard.specs.Packet.{Packet}
 use Rattle.rq_standard.specs.Configuration.{Configuration}
 use Rattle.rq_standard.specs.Cutting.{block_symbols, block_bytes, symbol_of_block, source_symbol, HasOneSubBlock}
-use Rattle.rq_standard.specs.Equations.{zero_symbol, tuple_sum, IsNonsingular, IsIntermediateColumn, IsEncodingSymbol}
+use Rattle.rq_standard.specs.Equations.{zero_symbol, IsNonsingular, IsIntermediateColumn, IsEncodingSymbol}
 use Rattle.rq_standard.specs.Received.{or_later, first_payload, has_id}
 use Rattle.rq_standard.specs.Determined.{DetermineBlock}
 use Rattle.rq_standard.specs.Encoded.{block_row, block_source, IsPacketOf, HasNonsingularRows}

@@ -1,5 +1,5 @@
 -- The packets of an object (RFC 6330, sections 4.4.2 and 5.3): source and repair symbols of its blocks, over a table.
-use Rattle.std.specs.Prelude.{◌≡◌, ℕ, ◌+◌, ◌<◌, ◌^◌, List, length, map, flat_map}
+use Rattle.std.specs.Prelude.{◌≡◌, ℕ, ◌+◌, ◌<◌, ◌^◌, List, map, flat_map}
 use Rattle.std.specs.List.{range_with_len, AllByRecursion}
 use Rattle.rq_standard.specs.declared.row.Row.{Row}
 use Rattle.rq_standard.specs.TableRows.{row_of}
