@@ -1,5 +1,5 @@
 -- What the check leaves to show of `symbol_slab::SymbolSlab::get_mut`.
-use Rattle.std.proofs.Common.{length, ◌≡◌, ◌+◌, ◌-◌, refl, ◌∙◌, sym, ap, subst, arith}
+use Rattle.std.proofs.Common.{length, ◌≡◌, ◌+◌, ◌-◌, refl, ◌∙◌, ap, subst, arith}
 use Rattle.rq_algebra.specs.Operations.{meant_at}
 use Rattle.rq_bytes.specs.Ranges.{range_of}
 use Rattle.rq_bytes.specs.Slab.{Slab, symbol_in}
