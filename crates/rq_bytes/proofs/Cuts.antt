@@ -3,7 +3,7 @@ use Rattle.std.proofs.Common.{◌≡◌, ℕ, zero, suc, ◌+◌, ◌-◌, ◌*�
 use Rattle.std.proofs.Math.Nat.{mul-le-mul_right}
 use Rattle.std.proofs.lemmas.Bool.{cases_lt}
 use Rattle.std.proofs.Math.Seq.{take-append_seam, drop-append_seam, drop-append-add, take-append-add}
-use Rattle.std.proofs.lemmas.List.{take-append-drop, take-replicate, drop-replicate, take_all, length-take-le, length-drop, append_assoc}
+use Rattle.std.proofs.lemmas.List.{take-take, drop-take, drop-drop, take-append-le, length-append, take-append-drop, take-replicate, drop-replicate, take_all, length-take-le, length-drop, append_assoc}
 use Rattle.rq_bytes.specs.Ranges.{range_of, with_range, cut, joined}
 
 pub length-cut : {X : Type 0} (n s : ℕ) (xs : List X) → length (cut n s xs) ≡ n
@@ -154,3 +154,27 @@ joined-cut zero s [] long = refl
 joined-cut zero s (x ∷ xs) long = absurd (omega arith)
 joined-cut (suc n) s xs long =
     ap (λ ys. take s xs ++ ys) (joined-cut n s (drop s xs) (length-drop s xs ∙ omega arith)) ∙ take-append-drop s xs
+
+-- ---- a write of any length, in a buffer that keeps its own
+
+-- `ys` over as many elements from i on, cut at `all` elements or filled up from the old ones
+abbrev pub refilled : {X : Type 0} → ℕ → List X → ℕ → List X → List X
+refilled all xs i ys = let zs = take i xs ++ (ys ++ drop (length ys) (drop i xs)) in take all (zs ++ drop (length zs) xs)
+
+-- the pieces end where the list is cut
+cut-take : {X : Type 0} (n s : ℕ) (xs : List X) → cut n s (take (n * s) xs) ≡ cut n s xs
+cut-take zero s xs = refl
+cut-take (suc n) s xs =
+    let more : suc n * s ≡ s + n * s = omega arith in
+    ap (λ k. cut (suc n) s (take k xs)) more
+    ∙ ap (λ ys. ys ∷ cut n s (drop s (take (s + n * s) xs))) (take-take s (s + n * s) xs (omega arith))
+    ∙ ap (λ ys. take s xs ∷ cut n s ys) (drop-take s (n * s) xs)
+    ∙ ap (λ ys. take s xs ∷ ys) (cut-take n s (drop s xs))
+
+pub cut-refilled : {X : Type 0} (n s i : ℕ) (xs ys : List X) → i ≤ length xs → length xs ≡ n * s → cut n s (refilled (n * s) xs i ys) ≡ cut n s (with_range xs i ys)
+cut-refilled n s i xs ys le long =
+    let zs = take i xs ++ (ys ++ drop (length ys) (drop i xs)) in
+    let enough : n * s ≤ length zs = omega (arith, length-append (take i xs) (ys ++ drop (length ys) (drop i xs)), length-append ys (drop (length ys) (drop i xs)), length-take-le i xs le, length-drop (length ys) (drop i xs), length-drop i xs) in
+    ap (cut n s) (take-append-le (n * s) zs (drop (length zs) xs) enough)
+    ∙ cut-take n s zs
+    ∙ ap (λ rest. cut n s (take i xs ++ (ys ++ rest))) (drop-drop (length ys) i xs)

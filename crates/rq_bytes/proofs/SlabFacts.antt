@@ -18,7 +18,7 @@ use Rattle.rq_bytes.specs.contracts.symbol_slab.SymbolSlab.{the_view, the_invari
 use Rattle.rq_bytes.specs.declared.symbol_slab.SymbolSlab.TheInside.{Inside}
 use Rattle.std.specs.Option.{option_map, option_eq, ForSome}
 use Rattle.std.specs.Cmp.Lexicographic.{pointwise}
-use Rattle.rq_bytes.proofs.Cuts.{joined-cut, length-cut, get_or-cut, cut-with_range, cut-with_ranges, piece_within, pieces_apart}
+use Rattle.rq_bytes.proofs.Cuts.{refilled, cut-refilled, joined-cut, length-cut, get_or-cut, cut-with_range, cut-with_ranges, piece_within, pieces_apart}
 
 -- the buffer `bytes` of `count` symbols of `size` octets, and what callers see of it
 pub record Holds (bytes : List ℕ) (count size : ℕ) (order : Option (List ℕ)) (slab : Slab) : Type 0 where
@@ -138,6 +138,37 @@ module _ {bytes : List ℕ} {count size : ℕ} {order : Option (List ℕ)} {slab
       written p a old new items (row_sum x (row_multiple c y)) (add_symbols octets x (map (octets.mul c) y)) lp e same kept (is_new ∙ ap (with_range old a) sums)
       (length-zip2 bit_xor x (row_multiple c y) (sym long) ∙ length-range_at p lp)
       (sym (ap (add_symbols octets x) (scale-rows c y octet) ∙ add_symbols-rows x (row_multiple c y) long))
+
+  -- the buffer again, of what callers see
+  joined_is : joined slab.values ≡ bytes
+  joined_is = sym (ap (λ (v : Slab). joined v.values) is.view) ∙ joined-cut count size bytes is.long
+
+  -- what callers see after a write of any octets from one symbol on, in a buffer that keeps its length
+  pub octets_written : (p a all : ℕ) (ws : List ℕ) → p < length slab.values → a ≡ p * slab.symbol_size → all ≡ length bytes
+      → ◌≡◌ {A = Slab} (record { values = cut count size (refilled all bytes a ws); symbol_size = size; order = order })
+      (record slab { values = cut (length slab.values) slab.symbol_size (with_range (joined slab.values) (p * slab.symbol_size) ws) })
+  octets_written p a all ws lt e whole =
+      ap (λ (v : List (List ℕ)). record { values = v; symbol_size = size; order = order }) (
+      ap (λ n. cut count size (refilled n bytes a ws)) (whole ∙ is.long)
+      ∙ cut-refilled count size a bytes ws (omega (arith, within p lt)) is.long
+      ∙ ap (λ xs. cut count size (with_range xs a ws)) (sym joined_is)
+      ∙ ap (λ k. cut count size (with_range (joined slab.values) k ws)) e
+      ∙ ap (λ n. cut n size (with_range (joined slab.values) (p * slab.symbol_size) ws)) count_is
+      ∙ ap (λ s. cut (length slab.values) s (with_range (joined slab.values) (p * slab.symbol_size) ws)) size_is)
+      ∙ ap (λ (v : Slab). record v { values = cut (length slab.values) slab.symbol_size (with_range (joined slab.values) (p * slab.symbol_size) ws) }) is.view
+
+  -- and where they are as many as a symbol has
+  pub symbol_written : (p : ℕ) (ws : List ℕ) → p < length slab.values → length ws ≡ slab.symbol_size
+      → ◌≡◌ {A = Slab} (record slab { values = cut (length slab.values) slab.symbol_size (with_range (joined slab.values) (p * slab.symbol_size) ws) })
+      (record slab { values = set slab.values p ws })
+  symbol_written p ws lt long =
+      let count_is_there = count_is in
+      ap (λ (v : List (List ℕ)). record slab { values = v }) (
+      ap (λ n. cut n slab.symbol_size (with_range (joined slab.values) (p * slab.symbol_size) ws)) (sym count_is)
+      ∙ ap (λ xs. cut count slab.symbol_size (with_range xs (p * slab.symbol_size) ws)) joined_is
+      ∙ ap (λ s. cut count s (with_range bytes (p * s) ws)) (sym size_is)
+      ∙ cut-with_range count size p bytes ws (omega arith) (long ∙ sym size_is) is.long
+      ∙ ap (λ (v : Slab). set v.values p ws) is.view)
 
   -- what callers see after a write of several symbols' octets
   pub block_written : (start k a : ℕ) (old new items source : List ℕ) → start + k ≤ length slab.values → a ≡ start * slab.symbol_size → length source ≡ k * slab.symbol_size

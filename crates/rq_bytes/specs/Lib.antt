@@ -2,5 +2,6 @@ pub mod Error
 pub mod Ranges
 pub mod Refusals
 pub mod Slab
+pub mod SlabLends
 pub mod SymbolOps
 pub mod Tables

@@ -6,6 +6,7 @@ ghost use Rattle.rq_algebra.specs.Operations.{AddAssign, MulAssign, Fma, Reorder
 ghost use Rattle.rq_algebra.specs.Symbols.{AreSymbols};
 ghost use Rattle.rq_standard.specs.OctetField.{octets};
 ghost use Rattle.rq_standard.specs.Rows.{row_sum, row_multiple};
+ghost use Rattle.std.specs.Borrow.{sem};
 ghost use Rattle.rq_bytes.specs.Ranges.{range_of, with_range, cut};
 ghost use Rattle.rq_bytes.specs.Refusals.{IsAnswer};
 ghost use Rattle.rq_bytes.specs.Slab.{slab_of, after, HasPlace, Allows, symbol_in, symbols_in, same_slab};
@@ -43,6 +44,8 @@ impl Model for SymbolSlab {
 }
 
 impl SymbolSlab {
+    ghost use Rattle.rq_bytes.specs.SlabLends.{LendsSymbol, IsSymbolWrite};
+
     /// So many symbols of zeros.
     pub fn with_zeros(alloc: Global, count: usize, symbol_size: usize) -> Result<Self, Error>
         requires { count * symbol_size < 2 ^ 64 }
@@ -161,12 +164,14 @@ impl SymbolSlab {
     /// The octets of the symbol that a place means, for writing.
     pub fn get_mut(&mut self, i: usize) -> &mut [u8]
         requires { HasPlace self.old i }
+        ensures* writes_back { sem 𝓛 (LendsSymbol self.entry i result) }
+        ensures whole_symbol { IsSymbolWrite self.old i }
         ensures symbol { result.now ≡ symbol_in self.old i }
         ensures len { length result.now ≡ self.old.symbol_size }
     {
         let size = self.symbol_size;
         let start = self.start_of(i);
-        range_mut(self.data.as_mut_slice(), start, size)
+        self.data.slice_mut(start..start + size)
     }
 
     /// The octets of the symbols that two places mean, the first for writing.
@@ -288,14 +293,6 @@ fn range(bytes: &[u8], start: usize, len: usize) -> &[u8]
     ensures { result.now ≡ range_of bytes.now start len }
 {
     &bytes[start..start + len]
-}
-
-/// The octets of a range, for writing.
-fn range_mut(bytes: &mut [u8], start: usize, len: usize) -> &mut [u8]
-    requires { start + len ≤ length bytes.old }
-    ensures { result.now ≡ range_of bytes.old start len }
-{
-    &mut bytes[start..start + len]
 }
 
 /// Writes octets from a place on.

@@ -1,25 +1,43 @@
 -- What the check leaves to show of `symbol_slab::SymbolSlab::get_mut`.
-use Rattle.std.proofs.Common.{length, refl, ◌∙◌, ap}
+use Rattle.std.proofs.Common.{length, ◌≡◌, ◌+◌, ◌-◌, refl, ◌∙◌, ap, subst, arith}
 use Rattle.rq_algebra.specs.Operations.{meant_at}
+use Rattle.rq_bytes.specs.Ranges.{range_of}
 use Rattle.rq_bytes.specs.Slab.{Slab, symbol_in}
+use Rattle.rq_bytes.specs.SlabLends.{with_octets, IsSymbolWrite}
 use Rattle.rq_bytes.specs.contracts.symbol_slab.SymbolSlab.{the_view}
-use Rattle.rq_bytes.proofs.SlabFacts.{holds, range_in, length-range_at, within_slice}
+use Rattle.rq_bytes.proofs.SlabFacts.{holds, range_in, length-range_at, within_slice, octets_written, symbol_written}
 use Rattle.rq_bytes.proofs.symbol_slab.SymbolSlab.get_mut.Goals as goal
 
-pub range_mut-requires : goal.range_mut-requires
-range_mut-requires c =
+pub overflow_add-start : goal.overflow_add-start
+overflow_add-start c =
     let d = c.start_of-start in
     let slab = the_view c.self.inside in
-    within_slice (holds c.self.inside slab refl c.self.invariant) (meant_at slab.order c.args.i) d.result c.as_mut_slice.result.now d.ensures.below d.ensures.start c.as_mut_slice.ensures.value
+    let fits = within_slice (holds c.self.inside slab refl c.self.invariant) (meant_at slab.order c.args.i) d.result c.self.inside.data.items d.ensures.below d.ensures.start refl in
+    record { fits = omega (arith, fits, c.self.inside.data.small, c.self.inside.data.ok) }
+
+pub slice_mut-requires-clause-in_bounds : goal.slice_mut-requires-clause-in_bounds
+slice_mut-requires-clause-in_bounds c =
+    let d = c.start_of-start in
+    let slab = the_view c.self.inside in
+    let fits = within_slice (holds c.self.inside slab refl c.self.invariant) (meant_at slab.order c.args.i) d.result c.self.inside.data.items d.ensures.below d.ensures.start refl in
+    omega (arith, fits, c.self.inside.data.ok)
 
 pub returns : goal.returns
 returns c =
     let d = c.start_of-start in
-    let slab = the_view c.self.inside in
-    let is = holds c.self.inside slab refl c.self.invariant in
+    let inside = c.self.inside in
+    let slab = the_view inside in
+    let is = holds inside slab refl c.self.invariant in
     let at = meant_at slab.order c.args.i in
-    let shown = c.range_mut.ensures ∙ range_in is at d.result c.as_mut_slice.result.now d.ensures.below d.ensures.start c.as_mut_slice.ensures.value in
-    record {
-      symbol = shown ∙ ap (λ (v : Slab). symbol_in v c.args.i) c.self.view_is;
-      len = ap length shown ∙ length-range_at is at d.ensures.below ∙ ap (λ (v : Slab). v.symbol_size) c.self.view_is;
-    }
+    let few : d.result + inside.symbol_size - d.result ≡ inside.symbol_size = omega arith in
+    let shown =
+    c.slice_mut.ensures.value ∙ ap (λ n. range_of inside.data.items d.result n) few ∙ range_in is at d.result inside.data.items d.ensures.below d.ensures.start refl
+    in (
+      (refl, λ w. octets_written is at d.result inside.data.len w d.ensures.below d.ensures.start inside.data.ok.0 ∙ ap (λ (v : Slab). with_octets v c.args.i w) c.self.view_is),
+      record {
+        writes_back = tt;
+        whole_symbol = subst (λ (v : Slab). IsSymbolWrite v c.args.i) c.self.view_is (λ ws long. symbol_written is at ws d.ensures.below long);
+        symbol = shown ∙ ap (λ (v : Slab). symbol_in v c.args.i) c.self.view_is;
+        len = ap length shown ∙ length-range_at is at d.ensures.below ∙ ap (λ (v : Slab). v.symbol_size) c.self.view_is;
+      },
+    )
