@@ -2,10 +2,20 @@
 #![tactic(auto)]
 
 #[cfg(test)]
+mod blocks;
+#[cfg(test)]
+mod coder_memory;
+#[cfg(test)]
 mod decoding;
+#[cfg(test)]
+mod determined;
+#[cfg(test)]
+mod interworking;
 #[cfg(test)]
 mod memory;
 #[cfg(test)]
 mod packets;
 #[cfg(test)]
 mod records;
+#[cfg(test)]
+mod vectors;

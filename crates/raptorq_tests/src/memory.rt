@@ -51,14 +51,14 @@ fn take_all(alloc: Global, blocks: &mut Vec<Vec<u8>>, size: usize) {
 }
 
 // Takes all small blocks that are free.
-fn take_small(alloc: Global, blocks: &mut Vec<Vec<u8>>) {
+pub(crate) fn take_small(alloc: Global, blocks: &mut Vec<Vec<u8>>) {
     for i in 0..600usize {
         take_all(alloc, blocks, 16 * (600 - i) - 8);
     }
 }
 
 // Takes all memory that there is, in ever smaller blocks.
-fn take_memory(alloc: Global, blocks: &mut Vec<Vec<u8>>) {
+pub(crate) fn take_memory(alloc: Global, blocks: &mut Vec<Vec<u8>>) {
     let mut size: usize = 1 << 46;
     for _ in 0..33 {
         take_all(alloc, blocks, size);
@@ -107,14 +107,14 @@ const RESERVE: usize = 9000;
 
 // How often a run was refused memory, wrote its output, and ended otherwise.
 #[derive(Drop)]
-struct Counts {
-    refused: u32,
-    written: u32,
-    others: u32,
+pub(crate) struct Counts {
+    pub(crate) refused: u32,
+    pub(crate) written: u32,
+    pub(crate) others: u32,
 }
 
 impl Counts {
-    fn add(&mut self, ended: Option<bool>) {
+    pub(crate) fn add(&mut self, ended: Option<bool>) {
         match ended {
             Some(true) => self.refused = self.refused.saturating_add(1),
             Some(false) => self.written = self.written.saturating_add(1),

@@ -1,0 +1,48 @@
+//! Worked examples of repair packets, and the rows of the table.
+use raptorq::error::Error;
+use raptorq::systematic_constants::SystematicTable;
+use raptorq::{Encoder, ObjectTransmissionInformation};
+use rq_standard::numbers::SYSTEMATIC_INDICES_AND_PARAMETERS;
+use std::alloc::Global;
+use std::test::Fail;
+
+// The equations of three source symbols have one solution, and that of zeros is zero.
+#[test]
+fn packets_of_zeros(rt: HostRuntime) -> Result<(), Fail> {
+    let alloc = rt.alloc();
+    let table = SystematicTable::built_in(alloc)?;
+    let config = ObjectTransmissionInformation::new(6, 2, 1, 1, 1)?;
+    assert!(rt; raptorq::is_one_block(&config));
+    let encoder = Encoder::new(alloc, &table, &[0; 6], config)?;
+    let packets = encoder.get_encoded_packets(3)?;
+    assert_eq!(rt; packets.len(), 6);
+    for esi in 0..6u32 {
+        let packet = &packets[esi as usize];
+        assert_eq!(rt; packet.payload_id().source_block_number(), 0);
+        assert_eq!(rt; packet.payload_id().encoding_symbol_id(), esi);
+        assert_eq!(rt; packet.data(), [0, 0].as_slice());
+    }
+    let last = encoder.get_encoded_packets(16777214);
+    assert!(rt; last == Err(Error::EsiTooLarge));
+    Ok(())
+}
+
+fn encodes(alloc: Global, table: &SystematicTable, symbols: u32) -> Result<(), Error> {
+    let config = ObjectTransmissionInformation::new(u64::from(symbols), 1, 1, 1, 1)?;
+    if !raptorq::is_one_block(&config) {
+        return Err(Error::TooManyBlocks);
+    }
+    let object = vec![in alloc; 1u8; symbols as usize]?;
+    let _encoder = Encoder::new(alloc, table, object.as_slice(), config)?;
+    Ok(())
+}
+
+#[test]
+fn no_built_in_row_is_singular(rt: HostRuntime) -> Result<(), Fail> {
+    let alloc = rt.alloc();
+    let table = SystematicTable::built_in(alloc)?;
+    for (symbols, _, _, _, _) in SYSTEMATIC_INDICES_AND_PARAMETERS {
+        assert_eq!(rt; encodes(alloc, &table, symbols), Ok(()), "{symbols}");
+    }
+    Ok(())
+}

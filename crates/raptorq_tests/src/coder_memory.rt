@@ -1,0 +1,129 @@
+//! Coders where memory is refused: first all of it, then less and less of it.
+ghost use Rattle.std.specs.Prelude.{IfOk};
+ghost use Rattle.raptorq.specs.OneBlock.{IsOneBlock};
+
+use crate::memory::{Counts, take_memory, take_small};
+use raptorq::error::Error;
+use raptorq::systematic_constants::SystematicTable;
+use raptorq::{Decoder, Encoder, EncodingPacket, ObjectTransmissionInformation};
+use std::alloc::Global;
+use std::test::Fail;
+
+const OBJECT: [u8; 10] = [20, 21, 22, 23, 24, 25, 26, 27, 28, 29];
+
+fn one_block() -> Result<ObjectTransmissionInformation, Error>
+    ensures { IfOk result IsOneBlock }
+{
+    let config = ObjectTransmissionInformation::new(10, 1, 1, 1, 1)?;
+    if !raptorq::is_one_block(&config) {
+        return Err(Error::TooManyBlocks);
+    }
+    Ok(config)
+}
+
+// What the coders answer where there is memory.
+#[derive(Drop)]
+struct Wanted {
+    encoder: Encoder,
+    packets: Vec<EncodingPacket>,
+}
+
+fn ample_answers(alloc: Global, table: &SystematicTable) -> Result<Wanted, Error> {
+    let encoder = Encoder::new(alloc, table, &OBJECT, one_block()?)?;
+    let packets = encoder.get_encoded_packets(2)?;
+    Ok(Wanted { encoder, packets })
+}
+
+// Whether it was refused memory. `None` is for another ending.
+fn encodes(alloc: Global, table: &SystematicTable, wanted: &Wanted) -> Option<bool> {
+    let config = one_block().ok()?;
+    match Encoder::new(alloc, table, &OBJECT, config) {
+        Ok(encoder) if encoder == wanted.encoder => Some(false),
+        Err(Error::OutOfMemory) => Some(true),
+        _ => None,
+    }
+}
+
+fn repairs(wanted: &Wanted) -> Option<bool> {
+    match wanted.encoder.get_encoded_packets(2) {
+        Ok(packets) if packets == wanted.packets => Some(false),
+        Err(Error::OutOfMemory) => Some(true),
+        _ => None,
+    }
+}
+
+// Takes packets up to the first that is refused.
+fn take(decoder: &mut Decoder, packets: &[EncodingPacket]) -> Result<Option<Vec<u8>>, Error> {
+    let mut answer = None;
+    for packet in packets {
+        answer = decoder.decode(packet.clone()?)?;
+    }
+    Ok(answer)
+}
+
+fn is_refused(answer: Result<Option<Vec<u8>>, Error>) -> Option<bool> {
+    match answer {
+        Ok(Some(object)) if object.as_slice() == OBJECT.as_slice() => Some(false),
+        Err(Error::OutOfMemory) => Some(true),
+        _ => None,
+    }
+}
+
+// A decoder of all packets but those of the first two source symbols.
+fn decodes(alloc: Global, table: &SystematicTable, wanted: &Wanted) -> Option<bool> {
+    let config = one_block().ok()?;
+    match Decoder::new(alloc, table, config) {
+        Ok(mut decoder) => is_refused(take(&mut decoder, wanted.packets.get(2..)?)),
+        Err(Error::OutOfMemory) => Some(true),
+        Err(_) => None,
+    }
+}
+
+const RESERVE: usize = 65536;
+
+// One decoder keeps what it took: it gets its last packet again each time.
+#[test]
+fn coders_are_refused_memory_in_turn(rt: HostRuntime) -> Result<(), Fail> {
+    let alloc = rt.alloc();
+    let table = SystematicTable::built_in(alloc)?;
+    let wanted = ample_answers(alloc, &table)?;
+    assert_eq!(rt; wanted.packets.len(), 12);
+    let mut kept = Decoder::new(alloc, &table, one_block()?)?;
+    assert!(rt; take(&mut kept, &wanted.packets[2..11])?.is_none());
+    let mut reserves: Vec<Vec<u8>> = Vec::with_capacity(alloc, 512)?;
+    for _ in 0..512 {
+        reserves.push(Vec::with_capacity(alloc, RESERVE)?)?;
+    }
+    let mut blocks: Vec<Vec<u8>> = Vec::with_capacity(alloc, 1 << 20)?;
+    take_memory(alloc, &mut blocks);
+    let mut counts = Counts {
+        refused: 0,
+        written: 0,
+        others: 0,
+    };
+    let mut budget: usize = 128;
+    for _ in 0..512 {
+        let reserve = reserves.pop();
+        drop(reserve);
+        let filler: Result<Vec<u8>, _> = Vec::with_capacity(alloc, RESERVE.saturating_sub(budget));
+        counts.add(encodes(alloc, &table, &wanted));
+        counts.add(repairs(&wanted));
+        counts.add(decodes(alloc, &table, &wanted));
+        counts.add(is_refused(take(&mut kept, &wanted.packets[11..])));
+        if let Ok(filler) = filler {
+            let _ = blocks.push(filler);
+        }
+        take_small(alloc, &mut blocks);
+        budget = budget.saturating_add(128);
+    }
+    let full = blocks.capacity() == blocks.len();
+    drop(blocks);
+    assert!(rt; !full);
+    assert_eq!(rt; counts.others, 0);
+    assert!(rt; counts.refused > 0, "no coder was refused memory");
+    assert!(rt; counts.written > 0, "no coder came to its end");
+    assert!(rt; encodes(alloc, &table, &wanted) == Some(false));
+    assert!(rt; decodes(alloc, &table, &wanted) == Some(false));
+    assert!(rt; is_refused(take(&mut kept, &wanted.packets[11..])) == Some(false));
+    Ok(())
+}
