@@ -110,7 +110,10 @@ fn sends(rt: HostRuntime) -> Result<(), Fail> {
             &[],
         ),
         (
-            Job::Send { size: 2, repair: 1 },
+            Job::Send {
+                size: 2,
+                repair: 16777215,
+            },
             &OBJECT,
             Err(Stop::Refused(Error::EsiTooLarge)),
             &[],
