@@ -1,11 +1,12 @@
+pub mod BlockCuts
 pub mod Columns
 pub mod Firsts
 pub mod HdpcLaws
 pub mod HeaderBytes
+pub mod Interleaved
 pub mod Known
 pub mod LeastNumbers
-pub mod OneAnswer
-pub mod OneBlock
+pub mod ObjectAnswers
 pub mod Packed
 pub mod PacketBytes
 pub mod PartSums

@@ -30,6 +30,11 @@ pub record IsAccepted (greatest : ℕ) (c : Configuration) : Type 0 where
   pub blocks_positive : 0 < c.source_blocks
   pub in_table : largest_block c ≤ greatest
 
+-- a configuration whose symbols are cut in whole units of the alignment
+pub record IsAligned (c : Configuration) : Type 0 where
+  pub alignment_positive : 0 < c.alignment
+  pub aligned : c.symbol_size % c.alignment ≡ 0
+
 -- numbers that fit the header's bytes
 pub record IsConfiguration (c : Configuration) : Type 0 where
   pub length_fits : c.transfer_length < 2 ^ 40

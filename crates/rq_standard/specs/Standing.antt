@@ -1,5 +1,5 @@
 -- What it means that a decoder of an object stands for a list of packets.
-use Rattle.std.specs.Prelude.{◌≡◌, ℕ, zero, suc, ◌<◌, ◌≤◌, ◌≢◌, List, [], ◌∷◌, ◌++◌, length, take, Option, Some, None, option_map, IsSome, MatchOption}
+use Rattle.std.specs.Prelude.{◌≡◌, ℕ, zero, suc, ◌<◌, ◌≤◌, ◌≢◌, ◌⊎◌, Bool, true, false, List, [], ◌∷◌, ◌++◌, length, take, Option, Some, None, option_map, IsSome, IfSome, MatchOption, if◌then◌else◌, ◌==◌}
 use Rattle.std.specs.List.{AllByRecursion}
 use Rattle.rq_standard.specs.declared.row.Row.{Row}
 use Rattle.rq_standard.specs.TableRows.{IsChecked}
@@ -9,7 +9,7 @@ use Rattle.rq_standard.specs.Cutting.{block_symbols, block_bytes}
 use Rattle.rq_standard.specs.Received.{first_payload, has_id}
 use Rattle.rq_standard.specs.Determined.{DetermineBlock}
 use Rattle.rq_standard.specs.Encoded.{block_row, IsPacketOf, HasNonsingularRows, IsAnswerable}
-use Rattle.rq_standard.specs.Held.{Held, recorded, IsBlockAnswer}
+use Rattle.rq_standard.specs.Held.{Held, nothing_held, recorded, IsBlockAnswer}
 
 -- what a decoder holds of each block, and which blocks it has answered
 pub record State : Type 0 where
@@ -40,28 +40,69 @@ pub record IsHeldOf (table : List Row) (c : Configuration) (b : ℕ) (h : Held) 
   pub checked : IsChecked h.row
   pub fits : h.symbols ≤ h.row.source_symbols
 
+-- what a decoder holds of a block before any packet
+abbrev pub new_held : List Row → Configuration → ℕ → Held
+new_held table c b = nothing_held c b (block_row table c b) (block_symbols c b)
+
+-- a block of no symbols is answered from the start
+abbrev pub new_answer : Configuration → ℕ → Option (List ℕ)
+new_answer c b = if block_symbols c b == 0 then Some [] else None
+
+-- nothing is held of any block of the configuration
+pub record IsNewState (table : List Row) (c : Configuration) (s : State) : Type 0 where
+  pub configuration : s.configuration ≡ c
+  pub held : (b : ℕ) → b < c.source_blocks → s.held b ≡ new_held table c b
+  pub answer : (b : ℕ) → b < c.source_blocks → s.answer b ≡ new_answer c b
+
 -- A packet of a block with no answer is recorded, and the block is answered where that can be.
 pub record AddsOpen (old : Held) (p : Packet) (new : Held) (answer : Option (List ℕ)) : Type 0 where
   pub held : new ≡ recorded old p.id.esi p.payload
   pub answers : IsBlockAnswer new answer
 
--- What a packet that isn't refused does, whoever sent it: an answered block takes nothing more, and other blocks stay.
-pub record Adds (old : State) (p : Packet) (new : State) : Type 0 where
+-- What a packet of a block does to it: an answered block takes nothing more.
+abbrev pub AddsToBlock : Held → Option (List ℕ) → Packet → Held → Option (List ℕ) → Type 0
+AddsToBlock old before p new after = MatchOption before (AddsOpen old p new after) (λ _. (new ≡ old) × (after ≡ before))
+
+-- What it does where memory is refused: the packet is recorded or not, and the block stays without an answer.
+pub record StopsBlock (old : Held) (before : Option (List ℕ)) (p : Packet) (new : Held) (after : Option (List ℕ)) : Type 0 where
+  pub unanswered : before ≡ None
+  pub stays : after ≡ None
+  pub held : (new ≡ old) ⊎ (new ≡ recorded old p.id.esi p.payload)
+
+-- what was there of the other blocks stays
+pub record IsSameElsewhere (old : State) (b : ℕ) (new : State) : Type 0 where
   pub configuration : new.configuration ≡ old.configuration
-  pub here : MatchOption (old.answer p.id.block) (AddsOpen (old.held p.id.block) p (new.held p.id.block) (new.answer p.id.block)) (λ _. (new.held p.id.block ≡ old.held p.id.block) × (new.answer p.id.block ≡ old.answer p.id.block))
-  pub elsewhere : (b : ℕ) → b < old.configuration.source_blocks → b ≢ p.id.block → (new.held b ≡ old.held b) × (new.answer b ≡ old.answer b)
+  pub other : (n : ℕ) → n < old.configuration.source_blocks → n ≢ b → (new.held n ≡ old.held n) × (new.answer n ≡ old.answer n)
 
--- what is held of a block, and its answer, after a list: answered and determined, or holding the first payloads and not determined
-abbrev pub BlockStands : List ℕ → ℕ → List Packet → Held → Option (List ℕ) → Type 0
-BlockStands block b packets h (Some bytes) = (bytes ≡ block) × DetermineBlock h.row h.symbols (has_id b packets)
-BlockStands block b packets h None = ((e : ℕ) → h.received e ≡ first_payload b packets e) × (DetermineBlock h.row h.symbols (has_id b packets) → ⊥)
+-- what a packet that isn't refused does, whoever sent it
+pub record Adds (old : State) (p : Packet) (new : State) : Type 0 where
+  pub here : AddsToBlock (old.held p.id.block) (old.answer p.id.block) p (new.held p.id.block) (new.answer p.id.block)
+  pub elsewhere : IsSameElsewhere old p.id.block new
 
--- the decoder stands for a list of packets of the object
-pub record Stands (table : List Row) (object : List ℕ) (packets : List Packet) (s : State) : Type 0 where
+-- what it does where memory is refused before its block is answered
+pub record Stops (old : State) (p : Packet) (new : State) : Type 0 where
+  pub here : StopsBlock (old.held p.id.block) (old.answer p.id.block) p (new.held p.id.block) (new.answer p.id.block)
+  pub elsewhere : IsSameElsewhere old p.id.block new
+
+-- What is held of a block, and its answer, after a list: answered and determined, or holding the first payloads and not determined. An answer can be late, where memory was refused while it was solved.
+abbrev pub BlockStands : Bool → List ℕ → ℕ → List Packet → Held → Option (List ℕ) → Type 0
+BlockStands late block b packets h (Some bytes) = (bytes ≡ block) × DetermineBlock h.row h.symbols (has_id b packets)
+BlockStands late block b packets h None = ((e : ℕ) → h.received e ≡ first_payload b packets e) × (late ≡ false → DetermineBlock h.row h.symbols (has_id b packets) → ⊥)
+
+-- the decoder stands for a list of packets of the object, but for blocks whose answers are late
+pub record StandsBut (late : ℕ → Bool) (table : List Row) (object : List ℕ) (packets : List Packet) (s : State) : Type 0 where
   pub long : length object ≡ s.configuration.transfer_length
   pub honest : AllByRecursion (IsPacketOf table s.configuration object) packets
   pub shape : (b : ℕ) → b < s.configuration.source_blocks → IsHeldOf table s.configuration b (s.held b)
-  pub block : (b : ℕ) → b < s.configuration.source_blocks → BlockStands (block_bytes s.configuration object b) b packets (s.held b) (s.answer b)
+  pub block : (b : ℕ) → b < s.configuration.source_blocks → BlockStands (late b) (block_bytes s.configuration object b) b packets (s.held b) (s.answer b)
+
+-- the decoder stands for a list of packets of the object
+abbrev pub Stands : List Row → List ℕ → List Packet → State → Type 0
+Stands = StandsBut (λ _. false)
+
+-- with one block more that is late, or one less
+abbrev pub with_late : ℕ → Bool → (ℕ → Bool) → ℕ → Bool
+with_late b now late n = if n == b then now else late n
 
 -- from a decoder that stands for a list, and a packet of the object, one that stands for the longer list
 abbrev pub StandsForMore : State → Packet → State → Type 0
@@ -70,7 +111,28 @@ StandsForMore old p new =
     → HasNonsingularRows table old.configuration → Stands table object packets old → IsPacketOf table old.configuration object p
     → Stands table object (packets ++ p ∷ []) new
 
+-- The same where blocks are late: the packet's own block isn't late any more.
+abbrev pub CatchesUp : State → Packet → State → Type 0
+CatchesUp old p new =
+    (table : List Row) (object : List ℕ) (packets : List Packet) (late : ℕ → Bool)
+    → HasNonsingularRows table old.configuration → StandsBut late table object packets old → IsPacketOf table old.configuration object p
+    → StandsBut (with_late p.id.block false late) table object (packets ++ p ∷ []) new
+
+-- Where memory is refused, one that stands for the list, or for the longer one but for its block's answer.
+abbrev pub FallsBehind : State → Packet → State → Type 0
+FallsBehind old p new =
+    (table : List Row) (object : List ℕ) (packets : List Packet) (late : ℕ → Bool)
+    → StandsBut late table object packets old → IsPacketOf table old.configuration object p
+    → StandsBut late table object packets new ⊎ StandsBut (with_late p.id.block true late) table object (packets ++ p ∷ []) new
+
 -- the object, exactly where the list determines each of its blocks
 pub record IsObjectAnswer (table : List Row) (c : Configuration) (object : List ℕ) (packets : List Packet) (answer : Option (List ℕ)) : Type 0 where
   pub whole : IsAnswerable table c packets → answer ≡ Some object
   pub only : IsSome answer → IsAnswerable table c packets
+
+-- what a decoder that stands for a list answers: the object and nothing else, and that exactly where the list determines it, unless a block is late
+abbrev pub AnswersObject : State → Option (List ℕ) → Type 0
+AnswersObject s answer =
+    (table : List Row) (object : List ℕ) (packets : List Packet) (late : ℕ → Bool)
+    → StandsBut late table object packets s
+    → IfSome answer (λ bytes. bytes ≡ object) × (((b : ℕ) → late b ≡ false) → IsObjectAnswer table s.configuration object packets answer)

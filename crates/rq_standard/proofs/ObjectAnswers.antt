@@ -1,0 +1,84 @@
+-- What a decoder that stands for a list of packets answers.
+use Rattle.std.proofs.Common.{◌≡◌, ℕ, zero, suc, ◌<◌, ◌≤◌, Bool, true, false, List, [], ◌++◌, length, take, Option, Some, None, refl, sym, ap, ◌∙◌, subst, arith, inl, inr}
+use Rattle.std.specs.Prelude.{option_map, IsSome, IfSome}
+use Rattle.std.proofs.lemmas.Bool.{cases_lt}
+use Rattle.rq_standard.specs.declared.row.Row.{Row}
+use Rattle.rq_standard.specs.Packet.{Packet}
+use Rattle.rq_standard.specs.Configuration.{Configuration}
+use Rattle.rq_standard.specs.Cutting.{block_symbols, block_bytes}
+use Rattle.rq_standard.specs.Received.{has_id}
+use Rattle.rq_standard.specs.Determined.{DetermineBlock}
+use Rattle.rq_standard.specs.Encoded.{block_row, IsAnswerable}
+use Rattle.rq_standard.specs.Held.{Held}
+use Rattle.rq_standard.specs.Standing.{State, IsHeldOf, BlockStands, StandsBut, append_both, joined, result_of, IsObjectAnswer, AnswersObject}
+use Rattle.rq_standard.proofs.BlockCuts.{pieces, whole_object}
+
+-- blocks are joined where each has an answer
+joined_some : (f : ℕ → List ℕ) (answer : ℕ → Option (List ℕ)) (n : ℕ) → ((b : ℕ) → b < n → answer b ≡ Some (f b)) → joined n answer ≡ Some (pieces f n)
+joined_some f answer zero each = refl
+joined_some f answer (suc n) each = rw (joined_some f answer n (λ b below. each b (omega arith)), each n (omega arith)) refl
+
+both_some : (x y : Option (List ℕ)) → IsSome (append_both x y) → IsSome x × IsSome y
+both_some None y h = absurd (cc h)
+both_some (Some xs) None h = absurd (cc h)
+both_some (Some xs) (Some ys) h = (refl, refl)
+
+joined_each : (answer : ℕ → Option (List ℕ)) (n : ℕ) → IsSome (joined n answer) → (b : ℕ) → b < n → IsSome (answer b)
+joined_each answer zero h b below = absurd (omega arith)
+joined_each answer (suc n) h b below =
+    let q = both_some (joined n answer) (answer n) h in
+    elim (cases_lt b n) [
+      | inl lt ↦ joined_each answer n q.0 b lt
+      | inr past ↦ let here : n ≡ b = omega arith in subst (λ m. IsSome (answer m)) here q.1
+    ]
+
+some_of : (f : List ℕ → List ℕ) (o : Option (List ℕ)) → IsSome (option_map f o) → IsSome o
+some_of f None h = h
+some_of f (Some xs) h = refl
+
+module _ (table : List Row) (object : List ℕ) (packets : List Packet) (s : State) where
+  -- the ids that came determine a block, by its row and by what is held
+  by_row : (b : ℕ) (h : Held) → IsHeldOf table s.configuration b h → DetermineBlock h.row h.symbols (has_id b packets) → DetermineBlock (block_row table s.configuration b) (block_symbols s.configuration b) (has_id b packets)
+  by_row b h shape d = subst (λ r. DetermineBlock r (block_symbols s.configuration b) (has_id b packets)) shape.row (subst (λ k. DetermineBlock h.row k (has_id b packets)) shape.symbols d)
+
+  by_held : (b : ℕ) (h : Held) → IsHeldOf table s.configuration b h → DetermineBlock (block_row table s.configuration b) (block_symbols s.configuration b) (has_id b packets) → DetermineBlock h.row h.symbols (has_id b packets)
+  by_held b h shape d = subst (λ k. DetermineBlock h.row k (has_id b packets)) (sym shape.symbols) (subst (λ r. DetermineBlock r (block_symbols s.configuration b) (has_id b packets)) (sym shape.row) d)
+
+  -- a block with an answer
+  answered : (late : Bool) (b : ℕ) (h : Held) (a : Option (List ℕ)) → IsHeldOf table s.configuration b h → BlockStands late (block_bytes s.configuration object b) b packets h a → IsSome a
+      → (a ≡ Some (block_bytes s.configuration object b)) × DetermineBlock (block_row table s.configuration b) (block_symbols s.configuration b) (has_id b packets)
+  answered late b h None shape st some = absurd (cc some)
+  answered late b h (Some bytes) shape st some = (ap (λ xs. Some xs) st.0, by_row b h shape st.1)
+
+  -- a block that is determined has an answer, unless it is late
+  has_answer : (b : ℕ) (h : Held) (a : Option (List ℕ)) → IsHeldOf table s.configuration b h → BlockStands false (block_bytes s.configuration object b) b packets h a → DetermineBlock (block_row table s.configuration b) (block_symbols s.configuration b) (has_id b packets) → IsSome a
+  has_answer b h None shape st d = absurd (st.1 refl (by_held b h shape d))
+  has_answer b h (Some bytes) shape st d = refl
+
+  module _ (late : ℕ → Bool) (some : 0 < s.configuration.source_blocks) (pos : 0 < s.configuration.symbol_size) (st : StandsBut late table object packets s) where
+    -- the object, where each block has an answer
+    from_all : ((b : ℕ) → b < s.configuration.source_blocks → IsSome (s.answer b)) → result_of s ≡ Some object
+    from_all each =
+        ap (λ o. option_map (take s.configuration.transfer_length) o) (joined_some (block_bytes s.configuration object) s.answer s.configuration.source_blocks (λ b below. (answered (late b) b (s.held b) (s.answer b) (st.shape b below) (st.block b below) (each b below)).0))
+        ∙ ap (λ xs. Some xs) (whole_object s.configuration object some pos st.long)
+
+    each_of : IsSome (result_of s) → (b : ℕ) → b < s.configuration.source_blocks → IsSome (s.answer b)
+    each_of h = joined_each s.answer s.configuration.source_blocks (some_of (take s.configuration.transfer_length) (joined s.configuration.source_blocks s.answer) h)
+
+    the_object : (r : Option (List ℕ)) → r ≡ result_of s → IfSome r (λ bytes. bytes ≡ object)
+    the_object None is = tt
+    the_object (Some bytes) is = some_is bytes object (is ∙ from_all (each_of (subst IsSome is refl))) where
+      some_is : (x y : List ℕ) → Some x ≡ Some y → x ≡ y
+      some_is x y e = cc e
+
+    exactly : ((b : ℕ) → late b ≡ false) → IsObjectAnswer table s.configuration object packets (result_of s)
+    exactly now = record {
+      whole = λ all. from_all (λ b below. has_answer b (s.held b) (s.answer b) (st.shape b below) (subst (λ l. BlockStands l (block_bytes s.configuration object b) b packets (s.held b) (s.answer b)) (now b) (st.block b below)) (all b below));
+      only = λ h b below. (answered (late b) b (s.held b) (s.answer b) (st.shape b below) (st.block b below) (each_of h b below)).1;
+    }
+
+pub answers_object : (s : State) (r : Option (List ℕ)) → 0 < s.configuration.source_blocks → 0 < s.configuration.symbol_size → r ≡ result_of s → AnswersObject s r
+answers_object s r some pos is table object packets late st = (
+  the_object table object packets s late some pos st r is,
+  λ now. subst (IsObjectAnswer table s.configuration object packets) (sym is) (exactly table object packets s late some pos st now),
+)
