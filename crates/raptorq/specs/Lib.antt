@@ -5,6 +5,6 @@ pub mod Encoded
 pub mod Known
 pub mod Missing
 pub mod Objects
-pub mod OneBlock
+pub mod Offsets
 pub mod Refused
 pub mod Solving

@@ -1,39 +1,104 @@
 //! The decoder of an object.
-ghost use Rattle.std.specs.Prelude.{◌≡◌, ◌≢◌, ℕ, ◌+◌, ◌*◌, ◌<◌, ◌≤◌, List, [], ◌∷◌, ◌++◌, length, Result, Ok, Err, Some, None, IfOk, IfErr, OnOk, OnErr, option_map, vec_items};
+ghost use Rattle.std.specs.Prelude.{◌≡◌, ◌≢◌, ℕ, ◌+◌, ◌*◌, ◌<◌, ◌≤◌, List, [], ◌∷◌, ◌++◌, length, Result, Ok, Err, Some, None, IfOk, IfErr, OnOk, OnErr, ◌⊎◌, All, map, option_map, vec_items};
 ghost use Rattle.std.specs.Int.{div_ceil};
-ghost use Rattle.std.specs.List.{AllByRecursion};
+ghost use Rattle.std.specs.List.{range_with_len, AllByRecursion};
 ghost use Rattle.rq_bytes.specs.Refusals.{IsAnswer, IsRefusal};
-ghost use Rattle.rq_standard.specs.Configuration.{IsAccepted};
-ghost use Rattle.rq_standard.specs.Cutting.{HasOneSubBlock};
+ghost use Rattle.rq_standard.specs.Configuration.{IsAccepted, IsAligned, largest_block};
 ghost use Rattle.rq_standard.specs.Packet.{Packet};
 ghost use Rattle.rq_standard.specs.Encoded.{IsPacketOf, HasNonsingularRows};
 ghost use Rattle.rq_standard.specs.Standing.{IsObjectAnswer};
 ghost use Rattle.rq_standard.specs.TableRows.{greatest_size};
 ghost use Rattle.rq_base.specs.Refused.{checked_configuration};
 ghost use Rattle.raptorq.specs.Blocks.{held_of};
-ghost use Rattle.raptorq.specs.OneBlock.{IsOneBlock};
 
+use crate::blocks::block_symbols;
 use crate::decoder::block::SourceBlockDecoder;
 use rq_base::base::{EncodingPacket, ObjectTransmissionInformation};
 use rq_bytes::error::Error;
 use rq_tables::systematic_constants::SystematicTable;
 use std::alloc::{AllocError, Global};
 
+/// A block of an object: its decoder, and its bytes once they are answered.
+#[derive(Debug, PartialEq, Eq, Drop)]
+struct ObjectBlock {
+    decoder: SourceBlockDecoder,
+    answer: Option<Vec<u8>>,
+}
+
+impl ObjectBlock {
+    ghost use Rattle.rq_standard.specs.Standing.{new_held, new_answer, AddsToBlock, StopsBlock};
+    ghost use Rattle.raptorq.specs.Objects.{answer_of};
+    ghost use Rattle.raptorq.specs.Refused.{block_refusal};
+
+    /// A block that has no packets. It is answered where it has no symbols.
+    fn new(
+        alloc: Global,
+        table: &SystematicTable,
+        config: &ObjectTransmissionInformation,
+        number: u8,
+    ) -> Result<ObjectBlock, Error>
+        requires accepted { IsAccepted (greatest_size table.now) config.now }
+        requires few { largest_block config.now < 65536 }
+        requires number { number < config.now.source_blocks }
+        ensures held { IfOk result (λ b. held_of b.decoder ≡ new_held table.now config.now number) }
+        ensures answer { IfOk result (λ b. answer_of b ≡ new_answer config.now number) }
+        ensures memory { IfErr result (λ e. e ≡ Error.OutOfMemory) }
+    {
+        let symbols = block_symbols(config, number);
+        let length = u64::from(symbols) * u64::from(config.symbol_size());
+        let decoder = SourceBlockDecoder::new(alloc, table, number, config, length)?;
+        let answer = if symbols == 0 {
+            Some(Vec::new(alloc))
+        } else {
+            None
+        };
+        Ok(ObjectBlock { decoder, answer })
+    }
+
+    /// Takes a packet of the block, and answers the block where that is determined. An answered
+    /// block takes nothing more.
+    fn take(&mut self, packet: EncodingPacket) -> Result<(), Error>
+        requires { block_refusal (held_of self.old.decoder) packet ≡ Ok tt }
+        ensures adds { OnOk result (AddsToBlock (held_of self.old.decoder) (answer_of self.old) packet (held_of self.new.decoder) (answer_of self.new)) }
+        ensures stops { OnErr result (StopsBlock (held_of self.old.decoder) (answer_of self.old) packet (held_of self.new.decoder) (answer_of self.new)) }
+        ensures memory { IfErr result (λ e. e ≡ Error.OutOfMemory) }
+    {
+        if self.answer.is_none() {
+            self.decoder.add(packet)?;
+            self.answer = self.decoder.answer()?;
+        }
+        Ok(())
+    }
+}
+
+impl Clone for ObjectBlock {
+    ghost use Rattle.raptorq.specs.Objects.{answer_of};
+
+    ghost is_clone = { λ a b. (held_of b.decoder ≡ held_of a.decoder) × (answer_of b ≡ answer_of a) };
+
+    fn clone(&self) -> Result<ObjectBlock, AllocError> {
+        Ok(ObjectBlock {
+            decoder: self.decoder.clone()?,
+            answer: self.answer.clone()?,
+        })
+    }
+}
+
 /// Puts an object together again from its packets.
 #[derive(Debug, PartialEq, Eq, Drop)]
 pub struct Decoder {
     config: ObjectTransmissionInformation,
-    block: SourceBlockDecoder,
-    answer: Option<Vec<u8>>,
+    blocks: Vec<ObjectBlock>,
     alloc: Global,
-    pub ghost one_block: { IsOneBlock config },
-    pub ghost plain: { HasOneSubBlock config },
-    pub ghost same: { (held_of block).configuration ≡ config },
-    pub ghost first: { (held_of block).number ≡ 0 },
+    pub ghost positive: { 0 < config.symbol_size },
+    pub ghost aligned: { IsAligned config },
+    pub ghost some: { 0 < config.source_blocks },
+    pub ghost numbered: { map (λ b. (held_of b.decoder).number) blocks.items ≡ range_with_len 0 config.source_blocks },
+    pub ghost same: { All (λ b. (held_of b.decoder).configuration ≡ config) blocks.items },
 }
 
 impl Decoder {
-    ghost use Rattle.rq_standard.specs.Standing.{State, Adds, Stands, StandsForMore, result_of};
+    ghost use Rattle.rq_standard.specs.Standing.{State, IsNewState, Adds, Stops, Stands, StandsForMore, CatchesUp, FallsBehind, AnswersObject, result_of};
     ghost use Rattle.raptorq.specs.Refused.{packet_refusal};
     ghost use Rattle.raptorq.specs.Objects.{state_of};
 
@@ -45,18 +110,19 @@ impl Decoder {
         table: &SystematicTable,
         config: ObjectTransmissionInformation,
     ) -> Result<Decoder, Error>
-        requires { IsOneBlock config }
         ensures refused { IsAnswer (λ _. tt) result (checked_configuration (greatest_size table.now) config) }
-        ensures configuration { IfOk result (λ d. (state_of d).configuration ≡ config) }
         ensures accepted { OnOk result (IsAccepted (greatest_size table.now) config) }
-        ensures stands { IfOk result (λ d. (object : List ℕ) → length object ≡ config.transfer_length → Stands table.now object [] (state_of d)) }
+        ensures state { IfOk result (λ d. IsNewState table.now config (state_of d)) }
+        ensures stands { IfOk result (λ d. (object : List ℕ) → length object ≡ config.transfer_length → HasNonsingularRows table.now config → Stands table.now object [] (state_of d)) }
     {
         config.check(table)?;
-        let block = SourceBlockDecoder::new(alloc, table, 0, &config, config.transfer_length())?;
+        let mut blocks = Vec::with_capacity(alloc, usize::from(config.source_blocks()))?;
+        for number in 0..config.source_blocks() {
+            blocks.push(ObjectBlock::new(alloc, table, &config, number)?)?;
+        }
         Ok(Decoder {
             config,
-            block,
-            answer: None,
+            blocks,
             alloc,
         })
     }
@@ -66,64 +132,99 @@ impl Decoder {
         ensures refused { IsAnswer (λ x. x) result (packet_refusal (state_of self.old).configuration packet) }
         ensures unchanged { IfErr result (λ e. e ≢ Error.OutOfMemory → state_of self.new ≡ state_of self.old) }
         ensures adds { OnOk result (Adds (state_of self.old) packet (state_of self.new)) }
+        ensures stops { IfErr result (λ e. e ≡ Error.OutOfMemory → Stops (state_of self.old) packet (state_of self.new)) }
         ensures configuration { (state_of self.new).configuration ≡ (state_of self.old).configuration }
     {
-        if packet.payload_id().source_block_number() >= self.config.source_blocks() {
+        let number = packet.payload_id().source_block_number();
+        if number >= self.config.source_blocks() {
             return Err(Error::UnknownBlock);
         }
         if packet.data().len() != usize::from(self.config.symbol_size()) {
             return Err(Error::WrongPayloadSize);
         }
-        if self.answer.is_none() {
-            self.block.add(packet)?;
-            self.answer = self.block.answer()?;
-        }
-        Ok(())
+        self.blocks[usize::from(number)].take(packet)
     }
 
     /// Takes a packet, and answers its block where that is determined.
     ///
     /// Refuses, in this order, [`Error::UnknownBlock`] where the packet's block is none of the
     /// object's, and [`Error::WrongPayloadSize`] where its payload hasn't the size of a symbol.
+    /// Where memory is refused after the packet was recorded, the next packet of its block tries to
+    /// answer it again.
     pub fn add_new_packet(&mut self, packet: EncodingPacket) -> Result<(), Error>
         ensures refused { IsAnswer (λ x. x) result (packet_refusal (state_of self.old).configuration packet) }
         ensures unchanged { IfErr result (λ e. e ≢ Error.OutOfMemory → state_of self.new ≡ state_of self.old) }
         ensures adds { OnOk result (Adds (state_of self.old) packet (state_of self.new)) }
+        ensures stops { IfErr result (λ e. e ≡ Error.OutOfMemory → Stops (state_of self.old) packet (state_of self.new)) }
         ensures configuration { (state_of self.new).configuration ≡ (state_of self.old).configuration }
 
         // From a decoder that stands for a list, one that stands for the longer list.
         ensures stands { OnOk result (StandsForMore (state_of self.old) packet (state_of self.new)) }
+        ensures catches_up { OnOk result (CatchesUp (state_of self.old) packet (state_of self.new)) }
+        ensures falls_behind { IfErr result (λ e. e ≡ Error.OutOfMemory → FallsBehind (state_of self.old) packet (state_of self.new)) }
     {
         self.take(packet)
+    }
+
+    // Whether each block has an answer.
+    fn is_complete(&self) -> bool
+        ensures { result ≡ is_some (result_of (state_of self.now)) }
+    {
+        for block in &self.blocks {
+            if block.answer.is_none() {
+                return false;
+            }
+        }
+        true
     }
 
     /// The object, where each of its blocks is determined.
     pub fn get_result(&self) -> Result<Option<Vec<u8>>, Error>
         ensures value { IfOk result (λ r. option_map vec_items r ≡ result_of (state_of self.now)) }
+        ensures object { IfOk result (λ r. AnswersObject (state_of self.now) (option_map vec_items r)) }
         ensures memory { IfErr result (λ e. e ≡ Error.OutOfMemory) }
     {
-        match &self.answer {
-            None => Ok(None),
-            Some(block) => {
-                let length = block.len().min(self.config.transfer_length() as usize);
-                Ok(Some(Vec::from_slice(self.alloc, &block[..length])?))
+        if !self.is_complete() {
+            return Ok(None);
+        }
+        Ok(Some(self.join()?))
+    }
+
+    // The blocks one after another, without the zeros behind the object.
+    fn join(&self) -> Result<Vec<u8>, AllocError>
+        requires { IsSome (result_of (state_of self.now)) }
+        ensures { IfOk result (λ v. Some v.items ≡ result_of (state_of self.now)) }
+    {
+        let size = u64::from(self.config.symbol_size());
+        let padded = self.config.transfer_length().div_ceil(size) * size;
+        let mut object = Vec::with_capacity(self.alloc, padded as usize)?;
+        for block in &self.blocks {
+            if let Some(bytes) = &block.answer {
+                object.extend_from_slice(bytes.as_slice())?;
             }
         }
+        object.truncate(self.config.transfer_length() as usize);
+        Ok(object)
     }
 
     /// Takes a packet and answers the object, where each of its blocks is determined.
     ///
-    /// Refuses as [`Decoder::add_new_packet`] does.
+    /// Refuses as [`Decoder::add_new_packet`] does. Where memory is refused for the object, the
+    /// blocks stay answered, and [`Decoder::get_result`] tries again.
     pub fn decode(&mut self, packet: EncodingPacket) -> Result<Option<Vec<u8>>, Error>
         ensures refused { IfErr result (λ e. IsRefusal e (packet_refusal (state_of self.old).configuration packet)) }
         ensures accepted { OnOk result (packet_refusal (state_of self.old).configuration packet ≡ Ok tt) }
         ensures unchanged { IfErr result (λ e. e ≢ Error.OutOfMemory → state_of self.new ≡ state_of self.old) }
         ensures adds { OnOk result (Adds (state_of self.old) packet (state_of self.new)) }
+        ensures stops { IfErr result (λ e. e ≡ Error.OutOfMemory → Stops (state_of self.old) packet (state_of self.new) ⊎ Adds (state_of self.old) packet (state_of self.new)) }
         ensures value { IfOk result (λ r. option_map vec_items r ≡ result_of (state_of self.new)) }
+        ensures object { IfOk result (λ r. AnswersObject (state_of self.new) (option_map vec_items r)) }
         ensures configuration { (state_of self.new).configuration ≡ (state_of self.old).configuration }
 
         // From a decoder that stands for a list, one that stands for the longer list.
         ensures stands { OnOk result (StandsForMore (state_of self.old) packet (state_of self.new)) }
+        ensures catches_up { OnOk result (CatchesUp (state_of self.old) packet (state_of self.new)) }
+        ensures falls_behind { IfErr result (λ e. e ≡ Error.OutOfMemory → FallsBehind (state_of self.old) packet (state_of self.new) ⊎ CatchesUp (state_of self.old) packet (state_of self.new)) }
     {
         self.add_new_packet(packet)?;
         self.get_result()
@@ -138,8 +239,7 @@ impl Clone for Decoder {
     fn clone(&self) -> Result<Decoder, AllocError> {
         Ok(Decoder {
             config: self.config,
-            block: self.block.clone()?,
-            answer: self.answer.clone()?,
+            blocks: self.blocks.clone()?,
             alloc: self.alloc,
         })
     }
@@ -155,8 +255,6 @@ pub fn decode_all(
     config: ObjectTransmissionInformation,
     packets: Vec<EncodingPacket>,
 ) -> Result<Option<Vec<u8>>, Error>
-    requires { IsOneBlock config }
-
     // Over packets of an object nothing is refused but the configuration, and memory.
     ensures refused { IfErr result (λ e. (object : List ℕ) → length object ≡ config.transfer_length → HasNonsingularRows table.now config
         → AllByRecursion (IsPacketOf table.now config object) packets.items → IsRefusal e (checked_configuration (greatest_size table.now) config)) }

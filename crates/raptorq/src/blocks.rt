@@ -1,0 +1,67 @@
+//! How an object is cut into source blocks.
+ghost use Rattle.std.specs.Prelude.{◌≡◌, ◌<◌, OnOk, length};
+ghost use Rattle.rq_bytes.specs.Refusals.{IsAnswer};
+ghost use Rattle.rq_standard.specs.Configuration.{largest_block};
+ghost use Rattle.rq_standard.specs.Cutting.{block_symbols};
+ghost use Rattle.raptorq.specs.Offsets.{checked_offsets};
+
+use rq_base::base::{ObjectTransmissionInformation, partition};
+use rq_bytes::error::Error;
+use rq_tables::systematic_constants::MAX_SOURCE_SYMBOLS_PER_BLOCK;
+use std::alloc::Global;
+
+/// The number of source symbols of a block: the larger blocks come first (RFC 6330, 4.4.1.2).
+pub(crate) fn block_symbols(config: &ObjectTransmissionInformation, number: u8) -> u32
+    requires size { 0 < config.now.symbol_size }
+    requires few { largest_block config.now < 65536 }
+    requires number { number < config.now.source_blocks }
+    ensures { result ≡ block_symbols config.now number }
+{
+    let symbols = config
+        .transfer_length()
+        .div_ceil(u64::from(config.symbol_size()));
+    let (larger, smaller, larger_count, _) =
+        partition(symbols as u32, u32::from(config.source_blocks()));
+    if u32::from(number) < larger_count {
+        larger
+    } else {
+        smaller
+    }
+}
+
+/// Where each source block of an object begins and where it ends, in bytes (RFC 6330, 4.4.1.2).
+/// The last blocks can end past the object, which is filled up with zeros. Of the data nothing is
+/// read.
+///
+/// Refuses, in this order, [`Error::SymbolSizeZero`], [`Error::SourceBlocksZero`], and
+/// [`Error::TooManySymbols`] where a block would have more than 56403 source symbols.
+pub fn calculate_block_offsets(
+    alloc: Global,
+    _data: &[u8],
+    config: &ObjectTransmissionInformation,
+) -> Result<Vec<(usize, usize)>, Error>
+    ensures offsets { IsAnswer (λ v. v.items) result (checked_offsets config.now) }
+    ensures few { OnOk result ((0 < config.now.symbol_size) × (largest_block config.now < 65536)) }
+{
+    if config.symbol_size() == 0 {
+        return Err(Error::SymbolSizeZero);
+    }
+    if config.source_blocks() == 0 {
+        return Err(Error::SourceBlocksZero);
+    }
+    let size = u64::from(config.symbol_size());
+    let symbols = config.transfer_length().div_ceil(size);
+    if symbols.div_ceil(u64::from(config.source_blocks()))
+        > u64::from(MAX_SOURCE_SYMBOLS_PER_BLOCK)
+    {
+        return Err(Error::TooManySymbols);
+    }
+    let mut offsets = Vec::with_capacity(alloc, usize::from(config.source_blocks()))?;
+    let mut start = 0;
+    for number in 0..config.source_blocks() {
+        let end = start + u64::from(block_symbols(config, number)) * size;
+        offsets.push((start as usize, end as usize))?;
+        start = end;
+    }
+    Ok(offsets)
+}
