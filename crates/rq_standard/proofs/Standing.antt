@@ -86,7 +86,7 @@ module _ (table : List Row) (c : Configuration) (object : List ℕ) (packets : L
     answered_at late column (Some bytes) is ans =
         let d = can_answer (ans.some refl) in
         let solves = solves_held (held_at table c b received) (block_source c object b) column checked nonsingular (length-block_source c object b) (source_sized c object b) is (held_symbol honest reads) in (
-          same_symbols c (block_symbols c b) bytes (block_bytes c object b) aligned ans.block.long (length-block_bytes c object b)
+          same_symbols c (block_symbols c b) bytes (block_bytes c object b) aligned.alignment_positive aligned.aligned ans.block.long (length-block_bytes c object b)
               (λ e below. ans.block.solved (held_back d) column solves e below ∙ source_sum (block_row table c b) c.symbol_size e (block_source c object b) column checked is (source_sized c object b) (omega (arith, fits)) ∙ source_at c object b e below),
           d,
         )
