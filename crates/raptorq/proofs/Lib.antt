@@ -6,7 +6,7 @@ pub mod Intermediates
 pub mod Listing
 pub mod Lists
 pub mod MissingCounts
-pub mod News
+pub mod ObjectBlocks
 pub mod Outcomes
 pub mod Payloads
 pub mod Ranges

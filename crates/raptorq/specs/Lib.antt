@@ -6,5 +6,6 @@ pub mod Known
 pub mod Missing
 pub mod Objects
 pub mod Offsets
+pub mod OneBlock
 pub mod Refused
 pub mod Solving

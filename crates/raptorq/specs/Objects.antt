@@ -1,6 +1,6 @@
 -- What the decoder of an object shows.
 use Rattle.std.specs.Prelude.{ℕ, List, Option, None, option_map, map, vec_items, slice_index_or}
-use Rattle.rq_standard.specs.declared.row.Row.{Row}
+use Rattle.rq_standard.specs.TableRows.{no_row}
 use Rattle.rq_standard.specs.Configuration.{Configuration}
 use Rattle.rq_standard.specs.Held.{Held, nothing_held}
 use Rattle.rq_standard.specs.Standing.{State}
@@ -13,9 +13,6 @@ abbrev pub answer_of : ObjectBlock → Option (List ℕ)
 answer_of b = option_map vec_items b.answer
 
 -- of a block that the object hasn't nothing is held
-abbrev pub no_row : Row
-no_row = record { source_symbols = 0; systematic_index = 0; ldpc_symbols = 0; hdpc_symbols = 0; lt_symbols = 0; p1 = 0 }
-
 abbrev pub held_at : Configuration → List ObjectBlock → ℕ → Held
 held_at c blocks n = slice_index_or (map (λ b. held_of b.decoder) blocks) n (nothing_held c n no_row 0)
 

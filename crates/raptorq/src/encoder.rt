@@ -1,21 +1,22 @@
 //! Encoders: an object in, its packets out.
-ghost use Rattle.std.specs.Prelude.{◌≡◌, ℕ, ◌+◌, ◌*◌, ◌/◌, ◌<◌, ◌≤◌, ◌⊎◌, List, length, map, Result, Ok, Err, IfOk, IfErr, OnOk};
-ghost use Rattle.std.specs.Int.{div_ceil};
+ghost use Rattle.std.specs.Prelude.{◌≡◌, ℕ, ◌+◌, ◌*◌, ◌<◌, ◌≤◌, ◌⊎◌, All, List, length, map, slice_range, Result, Ok, Err, IfOk, IfErr, OnOk};
 ghost use Rattle.std.specs.List.{range_with_len};
 ghost use Rattle.rq_bytes.specs.Refusals.{IsAnswer, IsRefusal};
-ghost use Rattle.rq_standard.specs.Configuration.{total_symbols};
-ghost use Rattle.rq_standard.specs.Cutting.{HasOneSubBlock, block_symbols, block_bytes, symbol_of_block};
-ghost use Rattle.rq_standard.specs.Encoded.{block_source};
+ghost use Rattle.rq_standard.specs.Configuration.{IsAccepted, largest_block};
+ghost use Rattle.rq_standard.specs.Cutting.{block_symbols};
+ghost use Rattle.rq_standard.specs.Encoded.{block_row, HasNonsingularRows};
+ghost use Rattle.rq_standard.specs.Equations.{IsNonsingular, IsSingular};
 ghost use Rattle.rq_standard.specs.TableRows.{greatest_size};
-ghost use Rattle.raptorq.specs.BlockEncoded.{block_encoded_of};
-ghost use Rattle.raptorq.specs.OneBlock.{IsOneBlock};
+ghost use Rattle.raptorq.specs.BlockEncoded.{block_encoded_of, new_block_encoded, bytes_of_block};
+ghost use Rattle.raptorq.specs.Offsets.{block_range};
 
 mod block;
 
 pub use block::SourceBlockEncoder;
+use crate::blocks::{block_symbols, calculate_block_offsets};
+use crate::sub_blocks::source_symbols;
 use rq_base::base::{EncodingPacket, ObjectTransmissionInformation};
 use rq_bytes::error::Error;
-use rq_bytes::symbol::Symbol;
 use rq_tables::systematic_constants::SystematicTable;
 use std::alloc::{AllocError, Global};
 
@@ -23,16 +24,19 @@ use std::alloc::{AllocError, Global};
 #[derive(Debug, PartialEq, Eq, Drop)]
 pub struct Encoder {
     config: ObjectTransmissionInformation,
-    block: SourceBlockEncoder,
-    pub ghost one_block: { IsOneBlock config },
-    pub ghost number: { (block_encoded_of block).number ≡ 0 },
-    pub ghost size: { (block_encoded_of block).size ≡ config.symbol_size },
-    pub ghost counted: { length (block_encoded_of block).source ≡ block_symbols config 0 },
+    blocks: Vec<SourceBlockEncoder>,
+    alloc: Global,
+    pub ghost positive: { 0 < config.symbol_size },
+    pub ghost few: { largest_block config < 65536 },
+    pub ghost some: { 0 < config.source_blocks },
+    pub ghost numbered: { map (λ b. (block_encoded_of b).number) blocks.items ≡ range_with_len 0 config.source_blocks },
+    pub ghost counted: { map (λ b. length (block_encoded_of b).source) blocks.items ≡ map (block_symbols config) (range_with_len 0 config.source_blocks) },
+    pub ghost sized: { All (λ b. (block_encoded_of b).size ≡ config.symbol_size) blocks.items },
 }
 
 impl Encoder {
     ghost use Rattle.rq_standard.specs.declared.row.Row.{Row};
-    ghost use Rattle.rq_standard.specs.Encoded.{HasNonsingularRows, AreEncoded};
+    ghost use Rattle.rq_standard.specs.Encoded.{AreEncoded};
     ghost use Rattle.raptorq.specs.Encoded.{encoded_of, IsEncoderOf, packets_refusal};
     ghost use Rattle.raptorq.specs.Refused.{new_encoder, RefusesEncoder};
 
@@ -47,7 +51,6 @@ impl Encoder {
         object: &[u8],
         config: ObjectTransmissionInformation,
     ) -> Result<Encoder, Error>
-        requires { IsOneBlock config }
         ensures refused { IfErr result (RefusesEncoder table.now config (length object.now)) }
         ensures taken { OnOk result (new_encoder (greatest_size table.now) config (length object.now) ≡ Ok tt) }
         ensures nonsingular { OnOk result (HasNonsingularRows table.now config) }
@@ -58,12 +61,12 @@ impl Encoder {
         if object.len() as u64 != config.transfer_length() {
             return Err(Error::WrongDataLength);
         }
-        let block = padded(alloc, &config, object)?;
-        let source = source_symbols(alloc, &config, block.as_slice())?;
-        let row = table.row(source.len() as u32);
-        let size = usize::from(config.symbol_size());
-        let block = SourceBlockEncoder::solved(alloc, 0, row, size, source)?;
-        Ok(Encoder { config, block })
+        let blocks = block_encoders(alloc, table, object, &config)?;
+        Ok(Encoder {
+            config,
+            blocks,
+            alloc,
+        })
     }
 
     /// The configuration that a decoder needs.
@@ -71,6 +74,13 @@ impl Encoder {
         ensures { result ≡ (encoded_of self.now).configuration }
     {
         self.config
+    }
+
+    /// The encoders of the object's source blocks, in the order of their numbers.
+    pub fn get_block_encoders(&self) -> &[SourceBlockEncoder]
+        ensures { map block_encoded_of result.now ≡ map (encoded_of self.now).block (range_with_len 0 (encoded_of self.now).configuration.source_blocks) }
+    {
+        self.blocks.as_slice()
     }
 
     /// The packets of each source block in the order of their encoding symbol ids: those of its
@@ -85,11 +95,16 @@ impl Encoder {
         ensures packets { IfOk result (λ v. (table : List Row) (object : List ℕ) → IsEncoderOf table object (encoded_of self.now)
             → AreEncoded table (encoded_of self.now).configuration object repair_packets_per_block v.items) }
     {
-        let end = u64::from(self.block.symbols()) + u64::from(repair_packets_per_block);
-        if end > 1 << 24 {
+        let largest = u64::from(block_symbols(&self.config, 0));
+        if largest + u64::from(repair_packets_per_block) > 1 << 24 {
             return Err(Error::EsiTooLarge);
         }
-        self.block.packets(0, end as u32)
+        let mut packets = Vec::new(self.alloc);
+        for block in &self.blocks {
+            let end = block.symbols() + repair_packets_per_block;
+            packets.append(&mut block.packets(0, end)?)?;
+        }
+        Ok(packets)
     }
 }
 
@@ -101,49 +116,52 @@ impl Clone for Encoder {
     fn clone(&self) -> Result<Encoder, AllocError> {
         Ok(Encoder {
             config: self.config,
-            block: self.block.clone()?,
+            blocks: self.blocks.clone()?,
+            alloc: self.alloc,
         })
     }
 }
 
-// The symbols of a block, which stand in it one after another.
-fn source_symbols(
+// The encoders of an object's blocks.
+fn block_encoders(
     alloc: Global,
+    table: &SystematicTable,
+    object: &[u8],
     config: &ObjectTransmissionInformation,
-    block: &[u8],
-) -> Result<Vec<Symbol>, AllocError>
-    requires plain { HasOneSubBlock config.now }
-    requires positive { 0 < config.now.symbol_size }
-    requires whole { length block.now ≡ length block.now / config.now.symbol_size * config.now.symbol_size }
-    ensures { let count = length block.now / config.now.symbol_size in IfOk result (λ v. v.items ≡ map (symbol_of_block config.now count block.now) (range_with_len 0 count)) }
+) -> Result<Vec<SourceBlockEncoder>, Error>
+    requires accepted { IsAccepted (greatest_size table.now) config.now }
+    requires few { largest_block config.now < 65536 }
+    ensures encoded { IfOk result (λ v. map block_encoded_of v.items ≡ map (new_block_encoded table.now config.now object.now) (range_with_len 0 config.now.source_blocks)) }
+    ensures nonsingular { OnOk result (HasNonsingularRows table.now config.now) }
+    ensures refused { IfErr result (λ e. (e ≡ Error.OutOfMemory) ⊎ ((e ≡ Error.Singular) × ¬ HasNonsingularRows table.now config.now)) }
 {
-    let size = usize::from(config.symbol_size());
-    let count = block.len() / size;
-    let mut symbols = Vec::with_capacity(alloc, count)?;
-    for e in 0..count {
-        let start = e * size;
-        symbols.push(Symbol::new(Vec::from_slice(alloc, &block[start..start + size])?))?;
+    let offsets = calculate_block_offsets(alloc, object, config)?;
+    let mut blocks = Vec::with_capacity(alloc, usize::from(config.source_blocks()))?;
+    for number in 0..config.source_blocks() {
+        let (start, end) = offsets[usize::from(number)];
+        let bytes = &object[start.min(object.len())..end.min(object.len())];
+        blocks.push(block_encoder(alloc, table, config, number, bytes)?)?;
     }
-    Ok(symbols)
+    Ok(blocks)
 }
 
-// The object and the zeros behind it, up to whole symbols.
-fn padded(
+// The encoder of a block, from the object's bytes in it.
+fn block_encoder(
     alloc: Global,
+    table: &SystematicTable,
     config: &ObjectTransmissionInformation,
-    object: &[u8],
-) -> Result<Vec<u8>, Error>
-    requires one_block { IsOneBlock config.now }
-    requires positive { 0 < config.now.symbol_size }
-    requires few { total_symbols config.now ≤ 65535 }
-    requires long { length object.now ≡ config.now.transfer_length }
-    ensures block { IfOk result (λ v. v.items ≡ block_bytes config.now object.now 0) }
-    ensures memory { IfErr result (λ e. e ≡ Error.OutOfMemory) }
+    number: u8,
+    bytes: &[u8],
+) -> Result<SourceBlockEncoder, Error>
+    requires accepted { IsAccepted (greatest_size table.now) config.now }
+    requires few { largest_block config.now < 65536 }
+    requires number { number < config.now.source_blocks }
+    ensures encoded { IfOk result (λ b. (object : List ℕ) → bytes.now ≡ bytes_of_block config.now object number → block_encoded_of b ≡ new_block_encoded table.now config.now object number) }
+    ensures nonsingular { OnOk result (IsNonsingular (block_row table.now config.now number)) }
+    ensures refused { IfErr result (λ e. (e ≡ Error.OutOfMemory) ⊎ ((e ≡ Error.Singular) × IsSingular (block_row table.now config.now number))) }
 {
-    let size = u64::from(config.symbol_size());
-    let whole = config.transfer_length().div_ceil(size) * size;
-    let mut block = Vec::with_capacity(alloc, whole as usize)?;
-    block.extend_from_slice(object)?;
-    block.resize(whole as usize, 0)?;
-    Ok(block)
+    let symbols = block_symbols(config, number);
+    let source = source_symbols(alloc, config, bytes, symbols)?;
+    let size = usize::from(config.symbol_size());
+    SourceBlockEncoder::solved(alloc, number, table.row(symbols), size, source)
 }

@@ -1,13 +1,16 @@
 //! A RaptorQ erasure codec (RFC 6330): objects in packets, and back.
 #![tactic(auto)]
 
+mod blocks;
 pub mod decoder;
 pub mod encoder;
 mod ids;
 mod one_block;
 mod solving;
+mod sub_blocks;
 mod sums;
 
+pub use blocks::calculate_block_offsets;
 pub use decoder::{Decoder, SourceBlockDecoder};
 pub use encoder::{Encoder, SourceBlockEncoder};
 pub use one_block::is_one_block;

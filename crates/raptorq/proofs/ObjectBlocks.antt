@@ -1,0 +1,134 @@
+-- The blocks of an object in a list, in the order of their numbers.
+use Rattle.std.proofs.Common.{◌≡◌, ◌≢◌, ℕ, zero, suc, ◌+◌, ◌<◌, ◌≤◌, Bool, true, false, List, [], ◌∷◌, ◌++◌, length, get_or, set, take, map, All, Option, Some, None, refl, sym, ap, ◌∙◌, subst, arith, eq-eqb, inl, inr}
+use Rattle.std.specs.Prelude.{is_some, IsSome, option_map, unwrap_or, MatchOption, Ok}
+use Rattle.std.specs.List.{range_with_len}
+use Rattle.std.proofs.lemmas.Bool.{cases_lt}
+use Rattle.std.proofs.Math.Seq.{map-set_same}
+use Rattle.std.proofs.lemmas.List.{length-map, get_or-map, get_or_past, get_or-set_same, get_or-set_other, length-set}
+use Rattle.std.proofs.lemmas.List.Elements.{All-get_or, All-set}
+use Rattle.std.proofs.lemmas.List.FromFn.{length-range_with_len, get_or-range_with_len, get_or-map-range_with_len}
+use Rattle.rq_standard.specs.Packet.{Packet}
+use Rattle.rq_standard.specs.Configuration.{Configuration}
+use Rattle.rq_standard.specs.TableRows.{no_row}
+use Rattle.rq_standard.specs.Held.{Held, recorded, nothing_held}
+use Rattle.rq_standard.specs.Standing.{State, AddsToBlock, StopsBlock, IsSameElsewhere, Adds, Stops, append_both, joined, result_of}
+use Rattle.rq_standard.proofs.BlockCuts.{pieces}
+use Rattle.raptorq.specs.Blocks.{held_of}
+use Rattle.raptorq.specs.Objects.{held_at, answer_at, answer_of}
+use Rattle.raptorq.specs.Refused.{block_refusal}
+use Rattle.raptorq.specs.declared.decoder.object.ObjectBlock.{ObjectBlock}
+
+abbrev pub number_of : ObjectBlock → ℕ
+number_of b = (held_of b.decoder).number
+
+abbrev pub state : Configuration → List ObjectBlock → State
+state c items = record { configuration = c; held = held_at c items; answer = answer_at items }
+
+pub length-blocks : (items : List ObjectBlock) (n : ℕ) → map number_of items ≡ range_with_len 0 n → length items ≡ n
+length-blocks items n numbered = sym (length-map items number_of) ∙ ap length numbered ∙ length-range_with_len 0 n
+
+-- a block stands at its number
+pub number_at : (items : List ObjectBlock) (n i : ℕ) (x : ObjectBlock) → map number_of items ≡ range_with_len 0 n → i < n → x ≡ get_or items i x → number_of x ≡ i
+number_at items n i x numbered below is =
+    let long = length-blocks items n numbered in
+    ap number_of is ∙ sym (get_or-map number_of items i x 0 (omega (arith, long))) ∙ ap (λ l. get_or l i 0) numbered ∙ get_or-range_with_len 0 n i 0 below
+
+-- what is read of it
+pub held_here : (c : Configuration) (items : List ObjectBlock) (i : ℕ) (x : ObjectBlock) → i < length items → x ≡ get_or items i x → held_at c items i ≡ held_of x.decoder
+held_here c items i x below is = get_or-map (λ b. held_of b.decoder) items i x (nothing_held c i no_row 0) below ∙ ap (λ b. held_of b.decoder) (sym is)
+
+pub answer_here : (items : List ObjectBlock) (i : ℕ) (x : ObjectBlock) → i < length items → x ≡ get_or items i x → answer_at items i ≡ answer_of x
+answer_here items i x below is = get_or-map answer_of items i x None below ∙ ap answer_of (sym is)
+
+-- a block that is its configuration's and the packet's refuses no packet with a symbol of the size
+pub block_takes : (c : Configuration) (h : Held) (p : Packet) → h.configuration ≡ c → h.number ≡ p.id.block → length p.payload ≡ c.symbol_size → block_refusal h p ≡ Ok tt
+block_takes c h p same number long = rw (eq-eqb p.id.block h.number (sym number), eq-eqb (length p.payload) h.configuration.symbol_size (long ∙ ap (λ k. k.symbol_size) (sym same))) refl
+
+after : (items : List ObjectBlock) (i : ℕ) (y : ObjectBlock) → i < length items → y ≡ get_or (set items i y) i y
+after items i y below = sym (get_or-set_same items i y y below)
+
+within : (items : List ObjectBlock) (i : ℕ) (y : ObjectBlock) → i < length items → i < length (set items i y)
+within items i y below = omega (arith, length-set items i y)
+
+-- the others stay
+module _ (c : Configuration) (items : List ObjectBlock) (i : ℕ) (x y : ObjectBlock) where
+
+  other_held : (n : ℕ) → n ≢ i → held_at c (set items i y) n ≡ held_at c items n
+  other_held n ne = elim (cases_lt n (length items)) [
+    | inl lt ↦ get_or-map (λ b. held_of b.decoder) (set items i y) n x (nothing_held c n no_row 0) (omega (arith, lt, length-set items i y)) ∙ ap (λ b. held_of b.decoder) (get_or-set_other items i n y x ne) ∙ sym (get_or-map (λ b. held_of b.decoder) items n x (nothing_held c n no_row 0) lt)
+    | inr past ↦ get_or_past (map (λ b. held_of b.decoder) (set items i y)) n (nothing_held c n no_row 0) (omega (arith, past, length-set items i y, length-map (set items i y) (λ b. held_of b.decoder))) ∙ sym (get_or_past (map (λ b. held_of b.decoder) items) n (nothing_held c n no_row 0) (omega (arith, past, length-map items (λ b. held_of b.decoder))))
+  ]
+
+  other_answer : (n : ℕ) → n ≢ i → answer_at (set items i y) n ≡ answer_at items n
+  other_answer n ne = elim (cases_lt n (length items)) [
+    | inl lt ↦ get_or-map answer_of (set items i y) n x None (omega (arith, lt, length-set items i y)) ∙ ap answer_of (get_or-set_other items i n y x ne) ∙ sym (get_or-map answer_of items n x None lt)
+    | inr past ↦ get_or_past (map answer_of (set items i y)) n None (omega (arith, past, length-set items i y, length-map (set items i y) answer_of)) ∙ sym (get_or_past (map answer_of items) n None (omega (arith, past, length-map items answer_of)))
+  ]
+
+  elsewhere : IsSameElsewhere (state c items) i (state c (set items i y))
+  elsewhere = record { configuration = refl; other = λ n below ne. (other_held n ne, other_answer n ne) }
+
+-- the packet's block is written
+module _ (c : Configuration) (items : List ObjectBlock) (p : Packet) (x y : ObjectBlock) (below : p.id.block < length items) (is : x ≡ get_or items p.id.block x) where
+  pub adds_at : AddsToBlock (held_of x.decoder) (answer_of x) p (held_of y.decoder) (answer_of y) → Adds (state c items) p (state c (set items p.id.block y))
+  adds_at add =
+      let i = p.id.block in
+      let new = set items i y in
+      record {
+        here = subst (λ h. AddsToBlock h (answer_at items i) p (held_at c new i) (answer_at new i)) (sym (held_here c items i x below is))
+            (subst (λ a. AddsToBlock (held_of x.decoder) a p (held_at c new i) (answer_at new i)) (sym (answer_here items i x below is))
+            (subst (λ h. AddsToBlock (held_of x.decoder) (answer_of x) p h (answer_at new i)) (sym (held_here c new i y (within items i y below) (after items i y below)))
+            (subst (λ a. AddsToBlock (held_of x.decoder) (answer_of x) p (held_of y.decoder) a) (sym (answer_here new i y (within items i y below) (after items i y below))) add)));
+        elsewhere = elsewhere c items i x y;
+      }
+
+  pub stops_at : StopsBlock (held_of x.decoder) (answer_of x) p (held_of y.decoder) (answer_of y) → Stops (state c items) p (state c (set items p.id.block y))
+  stops_at stop =
+      let i = p.id.block in
+      let new = set items i y in
+      record {
+        here = subst (λ h. StopsBlock h (answer_at items i) p (held_at c new i) (answer_at new i)) (sym (held_here c items i x below is))
+            (subst (λ a. StopsBlock (held_of x.decoder) a p (held_at c new i) (answer_at new i)) (sym (answer_here items i x below is))
+            (subst (λ h. StopsBlock (held_of x.decoder) (answer_of x) p h (answer_at new i)) (sym (held_here c new i y (within items i y below) (after items i y below)))
+            (subst (λ a. StopsBlock (held_of x.decoder) (answer_of x) p (held_of y.decoder) a) (sym (answer_here new i y (within items i y below) (after items i y below))) stop)));
+        elsewhere = elsewhere c items i x y;
+      }
+
+-- ---- all blocks joined
+
+-- blocks are joined where each has an answer
+joined_some : (f : ℕ → List ℕ) (answer : ℕ → Option (List ℕ)) (n : ℕ) → ((b : ℕ) → b < n → answer b ≡ Some (f b)) → joined n answer ≡ Some (pieces f n)
+joined_some f answer zero each = refl
+joined_some f answer (suc n) each = rw (joined_some f answer n (λ b below. each b (omega arith)), each n (omega arith)) refl
+
+both_some : (x y : Option (List ℕ)) → IsSome (append_both x y) → IsSome x × IsSome y
+both_some None y h = absurd (cc h)
+both_some (Some xs) None h = absurd (cc h)
+both_some (Some xs) (Some ys) h = (refl, refl)
+
+joined_each : (answer : ℕ → Option (List ℕ)) (n : ℕ) → IsSome (joined n answer) → (b : ℕ) → b < n → IsSome (answer b)
+joined_each answer zero h b below = absurd (omega arith)
+joined_each answer (suc n) h b below =
+    let q = both_some (joined n answer) (answer n) h in
+    elim (cases_lt b n) [
+      | inl lt ↦ joined_each answer n q.0 b lt
+      | inr past ↦ let here : n ≡ b = omega arith in subst (λ m. IsSome (answer m)) here q.1
+    ]
+
+some_of : (f : List ℕ → List ℕ) (o : Option (List ℕ)) → IsSome (option_map f o) → IsSome o
+some_of f None h = h
+some_of f (Some xs) h = refl
+
+-- a block without an answer
+pub not_complete : (s : State) (b : ℕ) → b < s.configuration.source_blocks → s.answer b ≡ None → is_some (result_of s) ≡ false
+not_complete s b below none = by_cases (is_some (result_of s)) refl where
+  by_cases : (t : Bool) → t ≡ is_some (result_of s) → is_some (result_of s) ≡ false
+  by_cases false e = sym e
+  by_cases true e = absurd (cc (joined_each s.answer s.configuration.source_blocks (some_of (take s.configuration.transfer_length) (joined s.configuration.source_blocks s.answer) (sym e)) b below, none))
+
+unwrapped : (o : Option (List ℕ)) → IsSome o → o ≡ Some (unwrap_or o [])
+unwrapped None h = absurd (cc h)
+unwrapped (Some xs) h = refl
+
+pub complete : (s : State) → ((b : ℕ) → b < s.configuration.source_blocks → IsSome (s.answer b)) → is_some (result_of s) ≡ true
+complete s each = ap (λ o. is_some (option_map (take s.configuration.transfer_length) o)) (joined_some (λ b. unwrap_or (s.answer b) []) s.answer s.configuration.source_blocks (λ b below. unwrapped (s.answer b) (each b below)))
