@@ -2,6 +2,7 @@ pub mod Answered
 pub mod Encodes
 pub mod Filling
 pub mod HeldEquations
+pub mod Interleaving
 pub mod Intermediates
 pub mod Listing
 pub mod Lists
