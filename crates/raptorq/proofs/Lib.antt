@@ -1,4 +1,6 @@
 pub mod Answered
+pub mod BlockParts
+pub mod EncodedBlocks
 pub mod Encodes
 pub mod Filling
 pub mod HeldEquations
@@ -7,6 +9,7 @@ pub mod Intermediates
 pub mod Listing
 pub mod Lists
 pub mod MissingCounts
+pub mod NewBlocks
 pub mod ObjectBlocks
 pub mod Outcomes
 pub mod Payloads

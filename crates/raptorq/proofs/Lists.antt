@@ -1,5 +1,5 @@
 -- A list of an object's packets, taken one by one.
-use Rattle.std.proofs.Common.{◌≡◌, ℕ, ◌<◌, List, [], ◌∷◌, ◌++◌, length, Ok, Option, refl, sym, ap, ◌∙◌, subst, append_assoc, append-nil, eq-eqb}
+use Rattle.std.proofs.Common.{◌≡◌, ℕ, false, ◌<◌, List, [], ◌∷◌, ◌++◌, length, Ok, Option, refl, sym, ap, ◌∙◌, subst, append_assoc, append-nil, eq-eqb}
 use Rattle.std.specs.List.{AllByRecursion}
 use Rattle.std.proofs.lemmas.Bool.{lt-ltb}
 use Rattle.rq_bytes.specs.declared.error.Error.{Error}
@@ -11,9 +11,8 @@ use Rattle.rq_standard.specs.declared.row.Row.{Row}
 use Rattle.rq_standard.specs.TableRows.{IsChecked}
 use Rattle.rq_standard.specs.Equations.{internal_id}
 use Rattle.rq_standard.specs.Encoded.{block_row, block_source, IsPacketOf}
-use Rattle.rq_standard.specs.Standing.{State, Stands, result_of, IsObjectAnswer}
+use Rattle.rq_standard.specs.Standing.{State, Stands, IsObjectAnswer, AnswersObject}
 use Rattle.rq_standard.proofs.Columns.{sum_symbol}
-use Rattle.rq_standard.proofs.OneAnswer.{result_of-one}
 use Rattle.raptorq.specs.Refused.{packet_refusal}
 
 pub all_at : (P : Packet → Type 0) (front rest : List Packet) (p : Packet) → AllByRecursion P (front ++ p ∷ rest) → P p
@@ -51,10 +50,8 @@ pub next_whole : (all done rest left : List Packet) (p : Packet) → all ≡ don
 next_whole all done rest left p whole is = whole ∙ ap (λ l. done ++ l) is ∙ sym (append_assoc done (p ∷ []) left)
 
 -- the answer after the whole list
-pub answer_all : (table : List Row) (c : Configuration) (object : List ℕ) (all done rest : List Packet) (s : State) (r : Option (List ℕ)) → s.configuration ≡ c → c.source_blocks ≡ 1 → 0 < c.symbol_size → all ≡ done ++ rest → rest ≡ [] → Stands table object done s → r ≡ result_of s
-    → IsObjectAnswer table c object all r
-answer_all table c object all done rest s r same one pos whole none st is =
+pub answer_all : (table : List Row) (c : Configuration) (object : List ℕ) (all done rest : List Packet) (s : State) (r : Option (List ℕ)) → s.configuration ≡ c → all ≡ done ++ rest → rest ≡ [] → Stands table object done s → AnswersObject s r → IsObjectAnswer table c object all r
+answer_all table c object all done rest s r same whole none st is =
     let all_done : done ≡ all = sym (whole ∙ ap (λ l. done ++ l) none ∙ append-nil done) in
-    let here = result_of-one table object done s (ap (λ k. k.source_blocks) same ∙ one) (subst (λ n. 0 < n) (sym (ap (λ k. k.symbol_size) same)) pos) st in
-    let there : IsObjectAnswer table s.configuration object all r = subst (λ ps. IsObjectAnswer table s.configuration object ps r) all_done (subst (IsObjectAnswer table s.configuration object done) (sym is) here) in
+    let there : IsObjectAnswer table s.configuration object all r = subst (λ ps. IsObjectAnswer table s.configuration object ps r) all_done ((is table object done (λ _. false) st).1 (λ b. refl)) in
     subst (λ k. IsObjectAnswer table k object all r) same there

@@ -31,7 +31,7 @@ length-blocks items n numbered = sym (length-map items number_of) ∙ ap length 
 pub number_at : (items : List ObjectBlock) (n i : ℕ) (x : ObjectBlock) → map number_of items ≡ range_with_len 0 n → i < n → x ≡ get_or items i x → number_of x ≡ i
 number_at items n i x numbered below is =
     let long = length-blocks items n numbered in
-    ap number_of is ∙ sym (get_or-map number_of items i x 0 (omega (arith, long))) ∙ ap (λ l. get_or l i 0) numbered ∙ get_or-range_with_len 0 n i 0 below
+    ap number_of is ∙ sym (get_or-map number_of items i x 0 (omega (arith, long))) ∙ ap (λ l. get_or l i 0) numbered ∙ get_or-range_with_len 0 n i 0 below ∙ omega arith
 
 -- what is read of it
 pub held_here : (c : Configuration) (items : List ObjectBlock) (i : ℕ) (x : ObjectBlock) → i < length items → x ≡ get_or items i x → held_at c items i ≡ held_of x.decoder

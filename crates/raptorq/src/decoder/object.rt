@@ -26,7 +26,7 @@ struct ObjectBlock {
 }
 
 impl ObjectBlock {
-    ghost use Rattle.rq_standard.specs.Standing.{new_held, new_answer, AddsToBlock, StopsBlock};
+    ghost use Rattle.rq_standard.specs.Standing.{IsHeldOf, new_held, new_answer, AddsToBlock, StopsBlock};
     ghost use Rattle.raptorq.specs.Objects.{answer_of};
     ghost use Rattle.raptorq.specs.Refused.{block_refusal};
 
@@ -42,6 +42,7 @@ impl ObjectBlock {
         requires number { number < config.now.source_blocks }
         ensures held { IfOk result (λ b. held_of b.decoder ≡ new_held table.now config.now number) }
         ensures answer { IfOk result (λ b. answer_of b ≡ new_answer config.now number) }
+        ensures shape { OnOk result (IsHeldOf table.now config.now number (new_held table.now config.now number)) }
         ensures memory { IfErr result (λ e. e ≡ Error.OutOfMemory) }
     {
         let symbols = block_symbols(config, number);
@@ -61,6 +62,8 @@ impl ObjectBlock {
         requires { block_refusal (held_of self.old.decoder) packet ≡ Ok tt }
         ensures adds { OnOk result (AddsToBlock (held_of self.old.decoder) (answer_of self.old) packet (held_of self.new.decoder) (answer_of self.new)) }
         ensures stops { OnErr result (StopsBlock (held_of self.old.decoder) (answer_of self.old) packet (held_of self.new.decoder) (answer_of self.new)) }
+        ensures number { (held_of self.new.decoder).number ≡ (held_of self.old.decoder).number }
+        ensures configuration { (held_of self.new.decoder).configuration ≡ (held_of self.old.decoder).configuration }
         ensures memory { IfErr result (λ e. e ≡ Error.OutOfMemory) }
     {
         if self.answer.is_none() {

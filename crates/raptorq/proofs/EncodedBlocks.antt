@@ -1,0 +1,102 @@
+-- The encoders of an object's blocks.
+use Rattle.std.proofs.Common.{◌≡◌, ℕ, zero, suc, ◌+◌, ◌-◌, ◌*◌, ◌<◌, ◌≤◌, ◌^◌, min, List, [], ◌∷◌, ◌++◌, length, take, drop, get_or, map, Result, Ok, Err, refl, sym, ap, ◌∙◌, subst, arith, ◌⊎◌, inl, inr, eq-eqb, length-append, length-drop}
+use Rattle.std.specs.List.{range_with_len, flat_map, AllByRecursion}
+use Rattle.std.proofs.lemmas.Bool.{cases_lt}
+use Rattle.std.proofs.lemmas.List.{ext_get_or, get_or-take, get_or-drop, get_or_past, length-take-le, take_all, nil_from_length, drop_all, map-append, length-map}
+use Rattle.std.proofs.lemmas.List.FromFn.{length-range_with_len, length-map-range_with_len, get_or-map-range_with_len, map-range_with_len_more}
+use Rattle.rq_bytes.specs.declared.error.Error.{Error}
+use Rattle.rq_bytes.specs.declared.error.Error.TheVariants.{OutOfMemory, Singular}
+use Rattle.rq_bytes.specs.Refusals.{IsRefusal}
+use Rattle.rq_standard.specs.Packet.{SymbolId, Packet}
+use Rattle.rq_standard.specs.Configuration.{Configuration}
+use Rattle.rq_standard.specs.Cutting.{block_symbols, symbols_before, place_in_block, block_bytes, symbol_of_block}
+use Rattle.rq_standard.specs.declared.row.Row.{Row}
+use Rattle.rq_standard.specs.TableRows.{greatest_size}
+use Rattle.rq_standard.specs.Equations.{IsEncodingSymbol, IsNonsingular, IsSingular}
+use Rattle.rq_standard.specs.Encoded.{block_row, block_source, IsPacketOf, HasNonsingularRows, first_ids, packet_ids, AreEncoded}
+use Rattle.rq_standard.proofs.PlainCut.{length-block_bytes}
+use Rattle.rq_base.specs.Refused.{checked_configuration}
+use Rattle.raptorq.specs.Refused.{new_encoder, RefusesEncoder}
+use Rattle.raptorq.specs.BlockEncoded.{BlockEncoded, IsBlockPacket, AreBlockPackets, new_block_encoded, bytes_of_block}
+
+-- ---- the bytes of a block
+
+-- what a list has between two places
+pub clipped : (xs : List ℕ) (from end : ℕ) → from ≤ end → take (min end (length xs) - min from (length xs)) (drop (min from (length xs)) xs) ≡ take (end - from) (drop from xs)
+clipped xs from end order = elim (cases_lt from (length xs)) [
+  | inl lt ↦ elim (cases_lt (length xs) end) [
+    | inl past ↦
+        let a : min from (length xs) ≡ from = omega arith in
+        let b : min end (length xs) ≡ length xs = omega arith in
+        rw (a, b) (take_all (length xs - from) (drop from xs) (omega (arith, length-drop from xs)) ∙ sym (take_all (end - from) (drop from xs) (omega (arith, length-drop from xs))))
+    | inr within ↦
+        let a : min from (length xs) ≡ from = omega arith in
+        let b : min end (length xs) ≡ end = omega arith in
+        rw (a, b) refl
+  ]
+  | inr past ↦
+      let a : min from (length xs) ≡ length xs = omega arith in
+      let b : min end (length xs) ≡ length xs = omega arith in
+      let none : drop from xs ≡ [] = nil_from_length (drop from xs) (omega (arith, length-drop from xs)) in
+      let none_here : drop (length xs) xs ≡ [] = nil_from_length (drop (length xs) xs) (omega (arith, length-drop (length xs) xs)) in
+      rw (a, b, none, none_here) (nil_from_length (take (length xs - length xs) []) (omega (arith, ap length (take_all (length xs - length xs) [] (omega arith)))) ∙ sym (take_all (end - from) [] (omega arith)))
+]
+
+block_byte : (c : Configuration) (object : List ℕ) (b i : ℕ) → get_or (bytes_of_block c object b) i 0 ≡ get_or (block_bytes c object b) i 0
+unfolding block_bytes
+block_byte c object b i =
+    let whole = block_symbols c b * c.symbol_size in
+    let start = symbols_before c b * c.symbol_size in
+    elim (cases_lt i whole) [
+      | inl lt ↦ get_or-take whole (drop start object) i 0 lt ∙ get_or-drop object start i 0 ∙ sym (get_or-map-range_with_len (λ n. get_or object (start + n) 0) 0 whole i i 0 lt (omega arith))
+      | inr past ↦ get_or_past (take whole (drop start object)) i 0 (omega (arith, past, length-take_at_most whole (drop start object))) ∙ sym (get_or_past (block_bytes c object b) i 0 (omega (arith, past, length-block_bytes c object b)))
+    ]
+
+same_symbol : (c : Configuration) (k : ℕ) (xs ys : List ℕ) (e : ℕ) → ((i : ℕ) → get_or xs i 0 ≡ get_or ys i 0) → symbol_of_block c k xs e ≡ symbol_of_block c k ys e
+unfolding symbol_of_block
+same_symbol c k xs ys e same = λ j. map (λ t. same (place_in_block c k e t) j) (range_with_len 0 c.symbol_size)
+
+-- they give its source symbols
+pub source_is : (c : Configuration) (object bytes : List ℕ) (b k : ℕ) (source : List (List ℕ)) → k ≡ block_symbols c b → bytes ≡ bytes_of_block c object b → source ≡ map (symbol_of_block c k bytes) (range_with_len 0 k) → source ≡ block_source c object b
+source_is c object bytes b k source count is so =
+    so ∙ ap (λ xs. map (symbol_of_block c k xs) (range_with_len 0 k)) is ∙ ap (λ n. map (symbol_of_block c n (bytes_of_block c object b)) (range_with_len 0 n)) count
+    ∙ (λ j. map (λ e. same_symbol c (block_symbols c b) (bytes_of_block c object b) (block_bytes c object b) e (block_byte c object b) j) (range_with_len 0 (block_symbols c b)))
+
+-- ---- packets
+
+-- a packet of a block is one of the object's
+module _ (table : List Row) (c : Configuration) (object : List ℕ) (b : ℕ) (below : b < c.source_blocks) where
+  packet_of_block : (p : Packet) → IsBlockPacket (new_block_encoded table c object b) p → IsPacketOf table c object p
+  packet_of_block p is = record {
+    block = subst (λ n. n < c.source_blocks) (sym is.number) below;
+    esi = is.esi;
+    symbol = subst (λ n. IsEncodingSymbol (block_row table c n) c.symbol_size (block_source c object n) p.id.esi p.payload) (sym is.number) is.symbol;
+  }
+
+  pub packets_of_block : (packets : List Packet) → AllByRecursion (IsBlockPacket (new_block_encoded table c object b)) packets → AllByRecursion (IsPacketOf table c object) packets
+  packets_of_block [] all = tt
+  packets_of_block (p ∷ packets) all = (packet_of_block p all.0, packets_of_block packets all.1)
+
+pub both_all : (P : Packet → Type 0) (xs ys : List Packet) → AllByRecursion P xs → AllByRecursion P ys → AllByRecursion P (xs ++ ys)
+both_all P [] ys all more = more
+both_all P (x ∷ xs) ys all more = (all.0, both_all P xs ys all.1 more)
+
+-- the ids of the packets of the first n blocks
+abbrev pub ids_before : Configuration → ℕ → ℕ → List SymbolId
+ids_before c repair n = flat_map (λ b. first_ids (block_symbols c b + repair) b) (range_with_len 0 n)
+
+pub ids_next : (c : Configuration) (repair n : ℕ) → ids_before c repair (n + 1) ≡ ids_before c repair n ++ first_ids (block_symbols c n + repair) n
+ids_next c repair n = ?
+
+-- ---- refusals
+
+pub new_encoder-taken : (greatest : ℕ) (c : Configuration) (n : ℕ) → checked_configuration greatest c ≡ Ok tt → n ≡ c.transfer_length → new_encoder greatest c n ≡ Ok tt
+new_encoder-taken greatest c n checked long = rw (checked, eq-eqb n c.transfer_length long) refl
+
+pub block_singular : (table : List Row) (c : Configuration) (b : ℕ) → b < c.source_blocks → IsSingular (block_row table c b) → ¬ (HasNonsingularRows table c)
+block_singular table c b below singular all = singular (all b below)
+
+-- what it is refused for
+pub refuses_singular : (table : List Row) (c : Configuration) (n : ℕ) (e : Error) → new_encoder (greatest_size table) c n ≡ Ok tt → (e ≡ OutOfMemory) ⊎ ((e ≡ Singular) × ¬ (HasNonsingularRows table c)) → RefusesEncoder table c n e
+refuses_singular table c n e taken (inl memory) = inl (subst (IsRefusal e) (sym taken) memory)
+refuses_singular table c n e taken (inr singular) = inr (taken, singular.0, singular.1)
