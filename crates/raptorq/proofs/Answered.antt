@@ -1,14 +1,13 @@
 -- What a decoder of a block answers.
-use Rattle.std.proofs.Common.{◌≡◌, ℕ, ◌*◌, ◌<◌, ◌≤◌, true, List, length, Option, Some, None, refl, sym, ap, ◌∙◌, subst, arith, inl, inr}
+use Rattle.std.proofs.Common.{◌≡◌, ℕ, ◌*◌, ◌<◌, true, List, length, Option, Some, None, refl, sym, ap, ◌∙◌, subst, arith, inl, inr}
 use Rattle.std.specs.Prelude.{is_some, IsSome, IfSome, unwrap_or}
 use Rattle.std.specs.Option.{ForSome}
 use Rattle.rq_bytes.specs.Slab.{Slab, symbol_in}
-use Rattle.rq_standard.specs.Cutting.{symbol_of_block, plain_symbol, HasOneSubBlock}
+use Rattle.rq_standard.specs.Cutting.{symbol_of_block, plain_symbol}
 use Rattle.rq_standard.specs.TableRows.{IsChecked}
 use Rattle.rq_standard.specs.Equations.{tuple_sum, internal_id}
 use Rattle.rq_standard.specs.Held.{Held, holds, SolvesHeld, AreHeldDetermining, IsBlockWith, IsBlockAnswer}
 use Rattle.rq_standard.proofs.Columns.{sum_symbol, sum_same}
-use Rattle.rq_standard.proofs.PlainCut.{symbol_of_block-plain}
 use Rattle.raptorq.specs.Known.{IsHeldSolution, rebuilt_symbol}
 use Rattle.raptorq.specs.Missing.{missing_count}
 use Rattle.raptorq.proofs.HeldEquations.{internal_below, came_sum}
@@ -27,23 +26,26 @@ came_source h column e x z below is = came_sum (h.received e) x (tuple_sum h.row
 
 -- ---- from all source symbols
 
-pub block_of_all : (h : Held) (size : ℕ) (block : List ℕ) → HasOneSubBlock h.configuration → size ≡ h.configuration.symbol_size → length block ≡ h.symbols * size → ((e : ℕ) → e < h.symbols → h.received e ≡ Some (plain_symbol size block e)) → IsBlockWith h block
-block_of_all h size block one is long each =
-    let l : length block ≡ h.symbols * h.configuration.symbol_size = long ∙ ap (λ s. h.symbols * s) is in
-    let cut : (e : ℕ) → e < h.symbols → plain_symbol size block e ≡ symbol_of_block h.configuration h.symbols block e = λ e below. ap (λ s. plain_symbol s block e) is ∙ sym (symbol_of_block-plain h.configuration h.symbols block e one l below) in
+-- a block cut into symbols that stand elsewhere one after another
+abbrev pub IsCutAs : (h : Held) (plain block : List ℕ) → Type 0
+IsCutAs h plain block = (e : ℕ) → e < h.symbols → symbol_of_block h.configuration h.symbols block e ≡ plain_symbol h.configuration.symbol_size plain e
+
+pub block_of_all : (h : Held) (size : ℕ) (plain block : List ℕ) → IsCutAs h plain block → size ≡ h.configuration.symbol_size → length block ≡ h.symbols * h.configuration.symbol_size → ((e : ℕ) → e < h.symbols → h.received e ≡ Some (plain_symbol size plain e)) → IsBlockWith h block
+block_of_all h size plain block same is long each =
+    let cut : (e : ℕ) → e < h.symbols → plain_symbol size plain e ≡ symbol_of_block h.configuration h.symbols block e = λ e below. ap (λ s. plain_symbol s plain e) is ∙ sym (same e below) in
     record {
-      long = l;
-      each = λ e below. if_some (h.received e) (plain_symbol size block e) (symbol_of_block h.configuration h.symbols block e) (each e below) (cut e below);
-      solved = λ d column z e below. sym (cut e below) ∙ came_source h column e (plain_symbol size block e) z below (each e below);
+      long = long;
+      each = λ e below. if_some (h.received e) (plain_symbol size plain e) (symbol_of_block h.configuration h.symbols block e) (each e below) (cut e below);
+      solved = λ d column z e below. sym (cut e below) ∙ came_source h column e (plain_symbol size plain e) z below (each e below);
     }
 
 -- nothing is missing
-pub answer-all : (h : Held) (missing size : ℕ) (block : List ℕ) → HasOneSubBlock h.configuration → missing ≡ missing_count h.symbols (holds h) → missing ≡ 0 → size ≡ h.configuration.symbol_size → length block ≡ h.symbols * size
-    → ((e : ℕ) → e < h.symbols → h.received e ≡ Some (plain_symbol size block e)) → IsBlockAnswer h (Some block)
-answer-all h missing size block one counted none is long each = record {
+pub answer-all : (h : Held) (missing size : ℕ) (plain block : List ℕ) → IsCutAs h plain block → missing ≡ missing_count h.symbols (holds h) → missing ≡ 0 → size ≡ h.configuration.symbol_size → length block ≡ h.symbols * h.configuration.symbol_size
+    → ((e : ℕ) → e < h.symbols → h.received e ≡ Some (plain_symbol size plain e)) → IsBlockAnswer h (Some block)
+answer-all h missing size plain block same counted none is long each = record {
   some = λ _. inl (record { each = missing_count-zero h.symbols (holds h) (sym counted ∙ none) });
   none = λ _. refl;
-  block = block_of_all h size block one is long each;
+  block = block_of_all h size plain block same is long each;
 }
 
 -- ---- from the intermediate symbols
@@ -69,14 +71,13 @@ solved_by (Some x) sum other came same = came x refl
 payload_from : (x y : List ℕ) → Some x ≡ Some y → x ≡ y
 payload_from x y e = cc
 
-pub rebuilt_block : (h : Held) (slab : Slab) (block : List ℕ) (n : ℕ) → HasOneSubBlock h.configuration → IsChecked h.row → h.symbols ≤ h.row.source_symbols → IsHeldSolution h slab → n ≡ h.symbols → length block ≡ n * h.configuration.symbol_size
-    → ((k : ℕ) → k < n → Some (rebuilt_symbol h slab k) ≡ Some (plain_symbol h.configuration.symbol_size block k)) → IsBlockWith h block
-rebuilt_block h slab block n one checked fits s all long each =
-    let l : length block ≡ h.symbols * h.configuration.symbol_size = long ∙ ap (λ m. m * h.configuration.symbol_size) all in
+pub rebuilt_block : (h : Held) (slab : Slab) (plain block : List ℕ) (n : ℕ) → IsCutAs h plain block → IsChecked h.row → IsHeldSolution h slab → n ≡ h.symbols → length block ≡ h.symbols * h.configuration.symbol_size
+    → ((k : ℕ) → k < n → Some (rebuilt_symbol h slab k) ≡ Some (plain_symbol h.configuration.symbol_size plain k)) → IsBlockWith h block
+rebuilt_block h slab plain block n same checked s all long each =
     let cut : (e : ℕ) → e < h.symbols → rebuilt_symbol h slab e ≡ symbol_of_block h.configuration h.symbols block e =
-    λ e below. payload_from (rebuilt_symbol h slab e) (plain_symbol h.configuration.symbol_size block e) (each e (omega (arith, all))) ∙ sym (symbol_of_block-plain h.configuration h.symbols block e one l below) in
+    λ e below. payload_from (rebuilt_symbol h slab e) (plain_symbol h.configuration.symbol_size plain e) (each e (omega (arith, all))) ∙ sym (same e below) in
     record {
-      long = l;
+      long = long;
       each = λ e below. each_by (h.received e) (tuple_sum h.row (symbol_in slab) e) (symbol_of_block h.configuration h.symbols block e) (cut e below);
       solved = λ d column z e below. sym (cut e below)
           ∙ solved_by (h.received e) (tuple_sum h.row (symbol_in slab) e) (tuple_sum h.row column e) (λ x is. came_source h column e x z below is) (sum_same h.row e (symbol_in slab) column checked (λ k lt. sym (s.only column z k lt)));

@@ -1,14 +1,15 @@
 //! The decoder of one source block.
-ghost use Rattle.std.specs.Prelude.{◌≡◌, ◌≢◌, ℕ, ◌+◌, ◌*◌, ◌^◌, ◌<◌, ◌≤◌, true, ◌++◌, List, length, Result, Ok, Err, Some, None, IfOk, IfErr, OnOk, OnErr, IsSome, not, if◌then◌else◌, ◌==◌, option_map, vec_items};
+ghost use Rattle.std.specs.Prelude.{◌≡◌, ◌≢◌, ℕ, ◌+◌, ◌*◌, ◌%◌, ◌^◌, ◌<◌, ◌≤◌, true, ◌++◌, List, length, Result, Ok, Err, Some, None, IfOk, IfErr, OnOk, OnErr, IsSome, not, if◌then◌else◌, ◌==◌, option_map, vec_items};
 ghost use Rattle.std.specs.Option.{ForSome};
 ghost use Rattle.rq_bytes.specs.Refusals.{IsAnswer};
-ghost use Rattle.rq_standard.specs.Cutting.{HasOneSubBlock, plain_symbol};
+ghost use Rattle.rq_standard.specs.Cutting.{plain_symbol};
 ghost use Rattle.rq_standard.specs.Received.{or_later};
 ghost use Rattle.rq_standard.specs.TableRows.{IsChecked};
 ghost use Rattle.raptorq.specs.Missing.{payload_of, has_payload, missing_count};
 
 use crate::decoder::known::known_equations;
 use crate::solving::solve;
+use crate::sub_blocks::into_sub_blocks;
 use crate::sums::encoding_symbol;
 use rq_base::base::{EncodingPacket, ObjectTransmissionInformation};
 use rq_bytes::error::Error;
@@ -17,6 +18,9 @@ use rq_standard::row::Row;
 use rq_tables::systematic_constants::SystematicTable;
 use std::alloc::{AllocError, Global};
 use std::collections::BTreeMap;
+
+// How many symbols a block has at least where a sparse matrix is used; the Rust crate's number.
+const SPARSE_MATRIX_THRESHOLD: u32 = 250;
 
 /// Puts the symbols of one source block together again.
 #[derive(Debug, PartialEq, Eq, Drop)]
@@ -27,10 +31,12 @@ pub struct SourceBlockDecoder {
     symbols: u32,
     received: BTreeMap<u32, Vec<u8>>,
     missing: u32,
+    sparse_threshold: u32,
     alloc: Global,
     pub ghost sized: { (e : ℕ) → ForSome (payload_of received e) (λ payload. length payload ≡ config.symbol_size) },
-    pub ghost plain: { HasOneSubBlock config },
     pub ghost positive: { 0 < config.symbol_size },
+    pub ghost alignment_positive: { 0 < config.alignment },
+    pub ghost aligned: { config.symbol_size % config.alignment ≡ 0 },
     pub ghost checked: { IsChecked row },
     pub ghost fits: { symbols ≤ row.source_symbols },
     pub ghost few: { (e : ℕ) → has_payload received e ≡ true → e < 2 ^ 24 },
@@ -82,7 +88,6 @@ impl SourceBlockDecoder {
     ghost use Rattle.rq_standard.specs.Held.{Held, nothing_held, recorded, IsBlockWith, IsBlockAnswer};
     ghost use Rattle.rq_standard.specs.TableRows.{greatest_size, row_of};
     ghost use Rattle.raptorq.specs.Known.{SolvesBlock, IsHeldSolution, rebuilt_symbol};
-    ghost use Rattle.raptorq.specs.OneBlock.{IsOneBlock};
     ghost use Rattle.raptorq.specs.Refused.{checked_block, block_refusal};
     ghost use Rattle.raptorq.specs.Blocks.{held_of};
     ghost use Rattle.raptorq.specs.Decoding.{DecodesFrom, shown};
@@ -102,7 +107,6 @@ impl SourceBlockDecoder {
         config: &ObjectTransmissionInformation,
         block_length: u64,
     ) -> Result<SourceBlockDecoder, Error>
-        requires { IsOneBlock config.now }
         ensures refused { IsAnswer (λ _. tt) result (checked_block (greatest_size table.now) config.now (div_ceil block_length config.now.symbol_size)) }
         ensures empty { IfOk result (λ d. let symbols = div_ceil block_length config.now.symbol_size in held_of d ≡ nothing_held config.now number (row_of table.now symbols) symbols) }
         ensures row { IfOk result (λ d. IsChecked (held_of d).row × ((held_of d).symbols ≤ (held_of d).row.source_symbols)) }
@@ -128,8 +132,17 @@ impl SourceBlockDecoder {
             symbols,
             received: BTreeMap::new(alloc),
             missing: symbols,
+            sparse_threshold: SPARSE_MATRIX_THRESHOLD,
             alloc,
         })
+    }
+
+    /// From how many source symbols on a sparse matrix is used. What is held stays. All matrices
+    /// are dense for the time being, whatever is set.
+    pub fn set_sparse_threshold(&mut self, value: u32)
+        ensures { held_of self.new ≡ held_of self.old }
+    {
+        self.sparse_threshold = value;
     }
 
     /// The size of a symbol, in bytes.
@@ -186,7 +199,8 @@ impl SourceBlockDecoder {
         ensures memory { IfErr result (λ e. e ≡ Error.OutOfMemory) }
     {
         if self.missing == 0 {
-            let block = join(self.alloc, self.symbols, self.symbol_size(), &self.received)?;
+            let plain = join(self.alloc, self.symbols, self.symbol_size(), &self.received)?;
+            let block = into_sub_blocks(self.alloc, &self.config, self.symbols, plain)?;
             return Ok(Some(block));
         }
         match self.solve()? {
@@ -202,8 +216,7 @@ impl SourceBlockDecoder {
     {
         let row = &self.row;
         let size = self.symbol_size();
-        let known = (row.source_symbols - self.symbols) as usize + self.received.len();
-        if known < row.source_symbols as usize {
+        if self.received.len() < self.symbols as usize {
             return Ok(None);
         }
         let (ids, values) = known_equations(self.alloc, row, self.symbols, size, &self.received)?;
@@ -216,11 +229,11 @@ impl SourceBlockDecoder {
         ensures { IfOk result (λ block. IsBlockWith (held_of self.now) block.items) }
     {
         let whole = self.symbols as usize * self.symbol_size();
-        let mut block = Vec::with_capacity(self.alloc, whole)?;
+        let mut plain = Vec::with_capacity(self.alloc, whole)?;
         for e in 0..self.symbols {
-            self.push_symbol(intermediate, e, &mut block)?;
+            self.push_symbol(intermediate, e, &mut plain)?;
         }
-        Ok(block)
+        into_sub_blocks(self.alloc, &self.config, self.symbols, plain)
     }
 
     // A source symbol behind those before it: the one that came, or a sum of intermediate symbols.
@@ -228,17 +241,17 @@ impl SourceBlockDecoder {
         &self,
         intermediate: &SymbolSlab,
         e: u32,
-        block: &mut Vec<u8>,
+        plain: &mut Vec<u8>,
     ) -> Result<(), AllocError>
         requires solution { IsHeldSolution (held_of self.now) intermediate.now }
         requires source { e < (held_of self.now).symbols }
-        ensures { OnOk result (block.new.items ≡ block.old.items ++ rebuilt_symbol (held_of self.now) intermediate.now e) }
+        ensures { OnOk result (plain.new.items ≡ plain.old.items ++ rebuilt_symbol (held_of self.now) intermediate.now e) }
     {
         if let Some(symbol) = self.received.get(&e) {
-            return block.extend_from_slice(symbol.as_slice());
+            return plain.extend_from_slice(symbol.as_slice());
         }
         let symbol = encoding_symbol(self.alloc, &self.row, intermediate, e)?;
-        block.extend_from_slice(symbol.as_slice())
+        plain.extend_from_slice(symbol.as_slice())
     }
 }
 
@@ -255,6 +268,7 @@ impl Clone for SourceBlockDecoder {
             symbols: self.symbols,
             received: self.received.clone()?,
             missing: self.missing,
+            sparse_threshold: self.sparse_threshold,
             alloc: self.alloc,
         })
     }

@@ -8,8 +8,9 @@ use Rattle.raptorq.proofs.decoder.block.SourceBlockDecoder.add.Goals as goal
 pub invariant_of-self : goal.invariant_of-self
 invariant_of-self c = record {
   sized = λ e x is. c.args.self.now.sized e x (sym (c.in_err-kept.ensures.err e) ∙ is);
-  plain = c.args.self.now.plain;
   positive = c.args.self.now.positive;
+  alignment_positive = c.args.self.now.alignment_positive;
+  aligned = c.args.self.now.aligned;
   checked = c.args.self.now.checked;
   fits = c.args.self.now.fits;
   few = λ e came. c.args.self.now.few e (sym (ap is_some (c.in_err-kept.ensures.err e)) ∙ came);
@@ -24,8 +25,9 @@ invariant_of-self-2 c =
     let long : length c.split-id.result.1.items ≡ c.args.self.now.config.symbol_size = ap length (c.split-id.ensures.payload ∙ sym c.data.ensures) ∙ c.if-data-symbol_size.false ∙ c.symbol_size.ensures.value in
     record {
       sized = sized-more (payload_of c.args.self.now.received) (payload_of c.keep_first.new.received) c.encoding_symbol_id-esi.result c.split-id.result.1.items c.args.self.now.config.symbol_size c.args.self.now.sized long c.in_ok-kept.ensures.ok;
-      plain = c.args.self.now.plain;
       positive = c.args.self.now.positive;
+      alignment_positive = c.args.self.now.alignment_positive;
+      aligned = c.args.self.now.aligned;
       checked = c.args.self.now.checked;
       fits = c.args.self.now.fits;
       few = few-more (payload_of c.args.self.now.received) (payload_of c.keep_first.new.received) c.encoding_symbol_id-esi.result c.split-id.result.1.items (2 ^ 24) c.args.self.now.few c.encoding_symbol_id-esi.ensures.below c.in_ok-kept.ensures.ok;

@@ -1,15 +1,21 @@
-use Rattle.std.proofs.Common.{◌≡◌, ℕ, Some, refl, sym, ap, ◌∙◌, arith}
+use Rattle.std.proofs.Common.{◌≡◌, Some, refl, arith}
+use Rattle.std.specs.Prelude.{Result, Ok, Err, IfOk}
 use Rattle.rq_standard.proofs.PlainCut.{plain_block-push}
 use Rattle.raptorq.specs.Blocks.{held_of}
 use Rattle.raptorq.specs.Known.{rebuilt_symbol}
 use Rattle.raptorq.proofs.Answered.{length-rebuilt, rebuilt_block}
 use Rattle.raptorq.proofs.decoder.block.SourceBlockDecoder.rebuild.Goals as goal
 
+-- what holds of an answer by two facts of it
+ok_of_both : {X Y : Type 0} (r : Result X Y) (P Q R : X → Type 0) → ((x : X) → P x → Q x → R x) → IfOk r P → IfOk r Q → IfOk r R
+ok_of_both (Ok x) P Q R f p q = f x p q
+ok_of_both (Err e) P Q R f p q = tt
+
 pub loop-e-preserved : goal.loop-e-preserved
 loop-e-preserved c =
     let d = c.args.self.now in
     let kept = c.loop-e.invariant in
-    let h = plain_block-push (λ k. Some (rebuilt_symbol (held_of d) c.args.intermediate.now k)) d.config.symbol_size c.loop-e.e c.loop-e.block.items (rebuilt_symbol (held_of d) c.args.intermediate.now c.loop-e.e) c.push_symbol.new.block.items
+    let h = plain_block-push (λ k. Some (rebuilt_symbol (held_of d) c.args.intermediate.now k)) d.config.symbol_size c.loop-e.e c.loop-e.plain.items (rebuilt_symbol (held_of d) c.args.intermediate.now c.loop-e.e) c.push_symbol.new.plain.items
     c.in_ok-push_symbol.ensures refl (length-rebuilt (held_of d) c.args.intermediate.now c.loop-e.e d.checked d.sized c.requires) kept.long kept.each in
     record { long = h.0; each = h.1 }
 
@@ -17,4 +23,6 @@ pub returns : goal.returns
 returns c =
     let d = c.args.self.now in
     let all : c.loop-e.e ≡ d.symbols = omega arith in
-    rebuilt_block (held_of d) c.args.intermediate.now c.loop-e.block.items c.loop-e.e d.plain d.checked d.fits c.requires all c.loop-e.invariant.long c.loop-e.invariant.each
+    ok_of_both c.into_sub_blocks.result _ _ _
+    (λ block long same. rebuilt_block (held_of d) c.args.intermediate.now c.loop-e.plain.items block.items c.loop-e.e same d.checked c.requires all long c.loop-e.invariant.each)
+    c.into_sub_blocks.ensures.long c.into_sub_blocks.ensures.each

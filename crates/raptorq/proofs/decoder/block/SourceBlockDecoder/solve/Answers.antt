@@ -1,18 +1,17 @@
-use Rattle.std.proofs.Common.{◌≡◌, ◌+◌, ◌-◌, ◌^◌, ◌<◌, ◌≤◌, Option, Some, None, length, refl, sym, ap, ◌∙◌, subst, arith}
+use Rattle.std.proofs.Common.{◌≡◌, ◌^◌, length, refl, sym, ap, ◌∙◌, arith}
 use Rattle.std.proofs.lemmas.Result.{IfOk-weaker}
-use Rattle.rq_bytes.specs.Slab.{Slab, slab_of}
+use Rattle.rq_bytes.specs.Slab.{Slab}
 use Rattle.rq_standard.specs.Equations.{equation_count}
 use Rattle.raptorq.specs.Blocks.{held_of}
-use Rattle.raptorq.specs.Known.{known_list, known_values, SolvesBlock}
-use Rattle.raptorq.specs.Solving.{Solves}
+use Rattle.raptorq.specs.Known.{known_list}
 use Rattle.raptorq.proofs.HeldEquations.{too_few, count_held, solves_block}
 use Rattle.raptorq.proofs.Listing.{length-known_list, few_entries}
 use Rattle.raptorq.proofs.decoder.block.SourceBlockDecoder.solve.Goals as goal
 
-pub returns-then-known-row-clause-solved : goal.returns-then-known-row-clause-solved
-returns-then-known-row-clause-solved c =
+pub returns-then-len-self-clause-solved : goal.returns-then-len-self-clause-solved
+returns-then-len-self-clause-solved c =
     let d = c.args.self.now in
-    too_few (held_of d) d.received d.fits c.len.ensures.ordered d.checked (λ e. refl) (omega (arith, c.len.ensures.len, c.if-known-row.true))
+    too_few (held_of d) d.received d.fits c.len.ensures.ordered d.checked (λ e. refl) (omega (arith, c.len.ensures.len, c.if-len-self.true))
 
 pub known_equations-requires-clause-sized : goal.known_equations-requires-clause-sized
 known_equations-requires-clause-sized c = λ e x is. c.args.self.now.sized e x is ∙ sym c.symbol_size-size.ensures.value
@@ -22,7 +21,7 @@ solve-requires-clause-enough c =
     let d = c.args.self.now in
     let listed = length-known_list d.row d.symbols d.received.entries in
     let long : length c.as_slice.result.now ≡ length (known_list d.row d.symbols d.received.entries) = ap length (c.as_slice.ensures.value ∙ c.in_ok-ids.ensures.ids) in
-    omega (arith, listed, long, c.len.ensures.len, c.if-known-row.false)
+    omega (arith, listed, long, c.len.ensures.len, c.if-len-self.false)
 
 pub solve-requires-clause-count : goal.solve-requires-clause-count
 solve-requires-clause-count c =

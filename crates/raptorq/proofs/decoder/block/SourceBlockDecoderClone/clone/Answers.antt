@@ -11,8 +11,9 @@ invariant_of-result c =
     let same : (e : ℕ) → payload_of c.in_ok-clone.field-0 e ≡ payload_of d.received e = payload_of-cloned d.received c.in_ok-clone.field-0 c.in_ok-clone.ensures.cases in
     record {
       sized = λ e x is. d.sized e x (sym (same e) ∙ is);
-      plain = d.plain;
       positive = d.positive;
+      alignment_positive = d.alignment_positive;
+      aligned = d.aligned;
       checked = d.checked;
       fits = d.fits;
       few = λ e came. d.few e (sym (ap is_some (same e)) ∙ came);
