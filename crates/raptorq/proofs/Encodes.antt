@@ -14,7 +14,6 @@ use Rattle.rq_standard.specs.Packet.{SymbolId, Packet}
 use Rattle.rq_standard.specs.Configuration.{Configuration, total_symbols, largest_block}
 use Rattle.rq_standard.specs.Cutting.{HasOneSubBlock, block_symbols, block_bytes, symbol_of_block, plain_symbol}
 use Rattle.rq_standard.proofs.PlainCut.{symbol_of_block-plain, length-block_bytes}
-use Rattle.rq_standard.proofs.OneBlock.{div_ceil_covers, block_symbols-one, block_bytes-one}
 use Rattle.rq_base.specs.Refused.{new_id, checked_configuration}
 use Rattle.raptorq.specs.Refused.{new_encoder, RefusesEncoder}
 use Rattle.rq_standard.specs.declared.row.Row.{Row}
@@ -22,10 +21,8 @@ use Rattle.rq_standard.specs.TableRows.{IsChecked, row_of, greatest_size}
 use Rattle.rq_standard.specs.Equations.{zero_symbol, tuple_sum, IsIntermediateColumn, IsEncodingSymbol, IsNonsingular, IsSingular}
 use Rattle.rq_standard.specs.Encoded.{block_row, block_source, IsPacketOf, HasNonsingularRows, first_ids, AreEncoded}
 use Rattle.rq_standard.proofs.Columns.{source_sum}
-use Rattle.rq_standard.proofs.OneAnswer.{first_of_one}
 use Rattle.rq_standard.proofs.Standing.{push-all, source_sized}
 use Rattle.raptorq.specs.BlockEncoded.{BlockEncoded, IsBlockPacket, AreBlockPackets}
-use Rattle.raptorq.specs.OneBlock.{IsOneBlock}
 use Rattle.raptorq.proofs.HeldEquations.{internal_below}
 
 -- an id below the number of symbols isn't refused

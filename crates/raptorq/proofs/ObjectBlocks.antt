@@ -1,17 +1,21 @@
 -- The blocks of an object in a list, in the order of their numbers.
 use Rattle.std.proofs.Common.{◌≡◌, ◌≢◌, ℕ, zero, suc, ◌+◌, ◌<◌, ◌≤◌, Bool, true, false, List, [], ◌∷◌, ◌++◌, length, get_or, set, take, map, All, Option, Some, None, refl, sym, ap, ◌∙◌, subst, arith, eq-eqb, inl, inr}
-use Rattle.std.specs.Prelude.{is_some, IsSome, option_map, unwrap_or, MatchOption, Ok}
+use Rattle.std.specs.Prelude.{is_some, IsSome, option_map, unwrap_or, vec_items, MatchOption, Ok}
 use Rattle.std.specs.List.{range_with_len}
 use Rattle.std.proofs.lemmas.Bool.{cases_lt}
 use Rattle.std.proofs.Math.Seq.{map-set_same}
-use Rattle.std.proofs.lemmas.List.{length-map, get_or-map, get_or_past, get_or-set_same, get_or-set_other, length-set}
+use Rattle.std.proofs.lemmas.List.{length-map, get_or-map, get_or_past, get_or-set_same, get_or-set_other, length-set, map_push, map-id}
+use Rattle.std.proofs.lemmas.Simd.{map-map}
 use Rattle.std.proofs.lemmas.List.Elements.{All-get_or, All-set}
-use Rattle.std.proofs.lemmas.List.FromFn.{length-range_with_len, get_or-range_with_len, get_or-map-range_with_len}
+use Rattle.std.proofs.lemmas.List.FromFn.{length-range_with_len, length-map-range_with_len, get_or-range_with_len, get_or-map-range_with_len, map-range_with_len_more}
+use Rattle.std.specs.declared.vec.Vec.{Vec}
+use Rattle.std.specs.declared.alloc.Global.{Global}
+use Rattle.rq_standard.specs.declared.row.Row.{Row}
 use Rattle.rq_standard.specs.Packet.{Packet}
 use Rattle.rq_standard.specs.Configuration.{Configuration}
 use Rattle.rq_standard.specs.TableRows.{no_row}
 use Rattle.rq_standard.specs.Held.{Held, recorded, nothing_held}
-use Rattle.rq_standard.specs.Standing.{State, AddsToBlock, StopsBlock, IsSameElsewhere, Adds, Stops, append_both, joined, result_of}
+use Rattle.rq_standard.specs.Standing.{State, new_held, new_answer, IsNewState, AddsToBlock, StopsBlock, IsSameElsewhere, Adds, Stops, append_both, joined, result_of}
 use Rattle.rq_standard.proofs.BlockCuts.{pieces}
 use Rattle.raptorq.specs.Blocks.{held_of}
 use Rattle.raptorq.specs.Objects.{held_at, answer_at, answer_of}
@@ -132,3 +136,48 @@ unwrapped (Some xs) h = refl
 
 pub complete : (s : State) → ((b : ℕ) → b < s.configuration.source_blocks → IsSome (s.answer b)) → is_some (result_of s) ≡ true
 complete s each = ap (λ o. is_some (option_map (take s.configuration.transfer_length) o)) (joined_some (λ b. unwrap_or (s.answer b) []) s.answer s.configuration.source_blocks (λ b below. unwrapped (s.answer b) (each b below)))
+
+-- one block more
+pub join_next : (items : List ObjectBlock) (n : ℕ) (x : ObjectBlock) (done bytes new : List ℕ) → n < length items → x ≡ get_or items n x → answer_of x ≡ Some bytes → Some done ≡ joined n (answer_at items) → new ≡ done ++ bytes → Some new ≡ joined (n + 1) (answer_at items)
+join_next items n x done bytes new below is some so grown =
+    let next : suc n ≡ n + 1 = omega arith in
+    ap (λ xs. Some xs) grown ∙ ap (λ o. append_both o (Some bytes)) so ∙ ap (append_both (joined n (answer_at items))) (sym some ∙ sym (answer_here items n x below is)) ∙ ap (λ m. joined m (answer_at items)) next
+
+-- where all are answered, each is
+pub join_some : (c : Configuration) (items : List ObjectBlock) (n : ℕ) (x : ObjectBlock) → IsSome (result_of (state c items)) → n < c.source_blocks → n < length items → x ≡ get_or items n x → answer_of x ≡ None → ⊥
+join_some c items n x all below within is none = cc (joined_each (answer_at items) c.source_blocks (some_of (take c.transfer_length) (joined c.source_blocks (answer_at items)) all) n below, answer_here items n x within is, none)
+
+-- ---- before any packet
+
+pub mapped_more : {X Y : Type 0} (f : X → Y) (g : ℕ → Y) (n : ℕ) (xs ys : List X) (x : X) → map f xs ≡ map g (range_with_len 0 n) → f x ≡ g n → ys ≡ xs ++ x ∷ [] → map f ys ≡ map g (range_with_len 0 (n + 1))
+mapped_more f g n xs ys x so here grown = ap (map f) grown ∙ map_push f xs x ∙ ap (λ l. l ++ f x ∷ []) so ∙ ap (λ y. map g (range_with_len 0 n) ++ y ∷ []) here ∙ sym (map-range_with_len_more g 0 n n (omega arith))
+
+module _ (table : List Row) (c : Configuration) (items : List ObjectBlock) (held : map (λ b. held_of b.decoder) items ≡ map (new_held table c) (range_with_len 0 c.source_blocks)) where
+  pub new_numbers : map number_of items ≡ range_with_len 0 c.source_blocks
+  new_numbers = sym (map-map (λ h. h.number) (λ b. held_of b.decoder) items) ∙ ap (map (λ h. h.number)) held ∙ map-map (λ h. h.number) (new_held table c) (range_with_len 0 c.source_blocks) ∙ map-id (range_with_len 0 c.source_blocks)
+
+  pub new_configurations : All (λ b. (held_of b.decoder).configuration ≡ c) items
+  new_configurations i d below =
+      let long : length items ≡ c.source_blocks = sym (length-map items (λ b. held_of b.decoder)) ∙ ap length held ∙ length-map-range_with_len (new_held table c) 0 c.source_blocks in
+      ap (λ h. h.configuration) (sym (get_or-map (λ b. held_of b.decoder) items i d (held_of d.decoder) below) ∙ ap (λ l. get_or l i (held_of d.decoder)) held ∙ get_or-map-range_with_len (new_held table c) 0 c.source_blocks i i (held_of d.decoder) (omega (arith, long)) (omega arith))
+
+  pub new_state : map answer_of items ≡ map (new_answer c) (range_with_len 0 c.source_blocks) → IsNewState table c (state c items)
+  new_state answers = record {
+    configuration = refl;
+    held = λ b below. ap (λ l. get_or l b (nothing_held c b no_row 0)) held ∙ get_or-map-range_with_len (new_held table c) 0 c.source_blocks b b (nothing_held c b no_row 0) below (omega arith);
+    answer = λ b below. ap (λ l. get_or l b None) answers ∙ get_or-map-range_with_len (new_answer c) 0 c.source_blocks b b None below (omega arith);
+  }
+
+-- ---- an answer, seen as a list
+
+pub none_shown : (o : Option (Vec ℕ Global)) → is_some o ≡ false → option_map vec_items o ≡ None
+none_shown None h = refl
+none_shown (Some v) h = absurd (cc h)
+
+pub some_shown : (o : Option (Vec ℕ Global)) → is_some o ≡ true → IsSome (option_map vec_items o)
+some_shown None h = absurd (cc h)
+some_shown (Some v) h = refl
+
+pub none_otherwise : (o : Option (Vec ℕ Global)) → ((v : Vec ℕ Global) → o ≡ Some v → ⊥) → option_map vec_items o ≡ None
+none_otherwise None h = refl
+none_otherwise (Some v) h = absurd (h v refl)

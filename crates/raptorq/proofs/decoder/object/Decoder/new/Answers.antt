@@ -1,0 +1,51 @@
+use Rattle.std.proofs.Common.{◌≡◌, ◌<◌, map, sym, ap, ◌∙◌, subst, arith}
+use Rattle.std.specs.List.{range_with_len}
+use borrow.Author.Count.{below_more}
+use Rattle.rq_standard.specs.Standing.{IsHeldOf, new_held, new_answer}
+use Rattle.rq_standard.proofs.Standing.{stands_new}
+use Rattle.raptorq.specs.Blocks.{held_of}
+use Rattle.raptorq.specs.Objects.{answer_of}
+use Rattle.raptorq.proofs.ObjectBlocks.{state, mapped_more, new_numbers, new_configurations, new_state}
+use Rattle.raptorq.proofs.decoder.object.Decoder.new.Goals as goal
+
+pub loop-number-preserved : goal.loop-number-preserved
+loop-number-preserved c =
+    let table = c.args.table.now in
+    let k = c.args.config in
+    let n = c.loop-number.number in
+    let kept = c.loop-number.invariant in
+    record {
+      held = mapped_more (λ b. held_of b.decoder) (new_held table k) n c.loop-number.blocks.items c.push.new.self.items c.in_ok-new.field-0 kept.held c.in_ok-new.ensures.held c.in_ok-push.ensures.items;
+      answers = mapped_more answer_of (new_answer k) n c.loop-number.blocks.items c.push.new.self.items c.in_ok-new.field-0 kept.answers c.in_ok-new.ensures.answer c.in_ok-push.ensures.items;
+      shape = below_more (λ b. IsHeldOf table k b (new_held table k b)) n kept.shape c.in_ok-new.ensures.shape;
+    }
+
+pub invariant_of-result : goal.invariant_of-result
+invariant_of-result c =
+    let table = c.args.table.now in
+    let k = c.args.config in
+    let all : c.loop-number.number ≡ k.source_blocks = omega (arith, c.loop-number-test.false, c.loop-number.auto.number-end, c.source_blocks-number-end.ensures) in
+    let held = c.loop-number.invariant.held ∙ ap (λ n. map (new_held table k) (range_with_len 0 n)) all in
+    let accepted = c.in_ok-check.ensures.accepted in
+    record {
+      positive = accepted.size_positive;
+      aligned = record { alignment_positive = accepted.alignment_positive; aligned = accepted.aligned };
+      some = accepted.blocks_positive;
+      numbered = new_numbers table k c.loop-number.blocks.items held;
+      same = new_configurations table k c.loop-number.blocks.items held;
+    }
+
+pub returns-clause-state : goal.returns-clause-state
+returns-clause-state c =
+    let table = c.args.table.now in
+    let k = c.args.config in
+    let all : c.loop-number.number ≡ k.source_blocks = omega (arith, c.loop-number-test.false, c.loop-number.auto.number-end, c.source_blocks-number-end.ensures) in
+    new_state table k c.loop-number.blocks.items (c.loop-number.invariant.held ∙ ap (λ n. map (new_held table k) (range_with_len 0 n)) all) (c.loop-number.invariant.answers ∙ ap (λ n. map (new_answer k) (range_with_len 0 n)) all)
+
+pub returns-clause-stands : goal.returns-clause-stands
+returns-clause-stands c =
+    let table = c.args.table.now in
+    let k = c.args.config in
+    let all : c.loop-number.number ≡ k.source_blocks = omega (arith, c.loop-number-test.false, c.loop-number.auto.number-end, c.source_blocks-number-end.ensures) in
+    let new = new_state table k c.loop-number.blocks.items (c.loop-number.invariant.held ∙ ap (λ n. map (new_held table k) (range_with_len 0 n)) all) (c.loop-number.invariant.answers ∙ ap (λ n. map (new_answer k) (range_with_len 0 n)) all) in
+    λ object long nonsingular. stands_new table object k (state k c.loop-number.blocks.items) nonsingular long (λ b below. c.loop-number.invariant.shape b (omega (arith, all))) new
