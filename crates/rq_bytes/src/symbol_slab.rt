@@ -15,7 +15,7 @@ use crate::error::Error;
 use crate::octet::Octet;
 use crate::octets;
 use crate::symbol::{Symbol, zeros};
-use crate::util::get_both_ranges;
+use crate::util::get_range_pair;
 use std::alloc::{AllocError, Global};
 use std::marker::Model;
 
@@ -177,6 +177,8 @@ impl SymbolSlab {
     /// The octets of the symbols that two places mean, the first for writing.
     pub fn get_pair_mut(&mut self, dest: usize, src: usize) -> (&mut [u8], &[u8])
         requires { Allows self.old (AddAssign dest src) }
+        ensures* writes_back { sem 𝓛 (LendsSymbol self.entry dest result.0) }
+        ensures whole_symbol { IsSymbolWrite self.old dest }
         ensures dest { result.0.now ≡ symbol_in self.old dest }
         ensures src { result.1.now ≡ symbol_in self.old src }
         ensures dest_len { length result.0.now ≡ self.old.symbol_size }
@@ -185,9 +187,7 @@ impl SymbolSlab {
         let size = self.symbol_size;
         let dest_start = self.start_of(dest);
         let src_start = self.start_of(src);
-        let bytes = self.data.as_mut_slice();
-        let (dest, src) = get_both_ranges(bytes, dest_start, src_start, size);
-        (dest, src)
+        get_range_pair(&mut self.data, dest_start, src_start, size)
     }
 
     /// Copies whole symbols into the places from `start` on, where no order is set.
