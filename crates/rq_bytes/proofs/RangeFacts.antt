@@ -11,9 +11,9 @@ with_range-middle front mid back i ys at long =
     ap (λ k. with_range (front ++ (mid ++ back)) k ys) (sym at)
     ∙ ap (λ zs. zs ++ (ys ++ drop (length front + length ys) (front ++ (mid ++ back)))) (take-append_seam front (mid ++ back))
     ∙ ap (λ zs. front ++ (ys ++ zs)) (
-      drop-append-add front (mid ++ back) (length ys)
-      ∙ ap (λ k. drop k (mid ++ back)) long
-      ∙ drop-append_seam mid back)
+    drop-append-add front (mid ++ back) (length ys)
+    ∙ ap (λ k. drop k (mid ++ back)) long
+    ∙ drop-append_seam mid back)
 
 -- a list around two ranges of n elements, at `low` and at `high`
 pub record Around {X : Type 0} (xs : List X) (low high n : ℕ) : Type 0 where
@@ -46,11 +46,11 @@ around xs low high n apart within =
       first_long = length-take-le n rest (omega arith);
       second_long = length-take-le n (drop high xs) (omega (arith, length-drop high xs));
       is =
-        sym (
-        ap (λ zs. take low xs ++ (take n rest ++ (take space after ++ zs))) (ap (λ zs. take n zs ++ drop n last) (sym same) ∙ take-append-drop n last)
-        ∙ ap (λ zs. take low xs ++ (take n rest ++ zs)) (take-append-drop space after)
-        ∙ ap (λ zs. take low xs ++ zs) (take-append-drop n rest)
-        ∙ take-append-drop low xs);
+          sym (
+          ap (λ zs. take low xs ++ (take n rest ++ (take space after ++ zs))) (ap (λ zs. take n zs ++ drop n last) (sym same) ∙ take-append-drop n last)
+          ∙ ap (λ zs. take low xs ++ (take n rest ++ zs)) (take-append-drop space after)
+          ∙ ap (λ zs. take low xs ++ zs) (take-append-drop n rest)
+          ∙ take-append-drop low xs);
     }
 
 module _ {X : Type 0} {xs : List X} {low high n : ℕ} (a : Around xs low high n) (us vs : List X) (u : length us ≡ n) (v : length vs ≡ n) where
@@ -111,9 +111,18 @@ module _ {X : Type 0} {xs : List X} {low high n : ℕ} (a : Around xs low high n
       let two = range_of xs high n in
       let x = a.first_long in
       let y = a.second_long in
-      omega (arith, ap length a.is,
-        length-append a.front (us ++ (a.gap ++ (vs ++ a.back))), length-append us (a.gap ++ (vs ++ a.back)), length-append a.gap (vs ++ a.back), length-append vs a.back,
-        length-append a.front (one ++ (a.gap ++ (two ++ a.back))), length-append one (a.gap ++ (two ++ a.back)), length-append a.gap (two ++ a.back), length-append two a.back)
+      omega (
+        arith,
+        ap length a.is,
+        length-append a.front (us ++ (a.gap ++ (vs ++ a.back))),
+        length-append us (a.gap ++ (vs ++ a.back)),
+        length-append a.gap (vs ++ a.back),
+        length-append vs a.back,
+        length-append a.front (one ++ (a.gap ++ (two ++ a.back))),
+        length-append one (a.gap ++ (two ++ a.back)),
+        length-append a.gap (two ++ a.back),
+        length-append two a.back,
+      )
 
 pub length-range : {X : Type 0} (xs : List X) (i n : ℕ) → i + n ≤ length xs → length (range_of xs i n) ≡ n
 length-range xs i n within = length-take-le n (drop i xs) (omega (arith, length-drop i xs))

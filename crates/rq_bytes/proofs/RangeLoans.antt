@@ -158,7 +158,7 @@ module _ {M : Type 1} {𝓤 : Ura M} (𝓛 : Logic 𝓤) (ℓ : Lifetime) (κ : 
         use1 𝓛 (‵ (cells (mem R) one b p) ⊛ ‵ (cells (mem R) two b p') ⊛ raw Rest) out $ split3 ! $
         feq_i ! ℕ (length one) (length one) refl $ fjoin ! $ move ! (1 ∷ []) $ feq_i ! ℕ (length two) (length two) refl $ fjoin ! $ move ! (3 ∷ 4 ∷ 5 ∷ 1 ∷ 0 ∷ 2 ∷ []) $ group ! 6 $
         use1 𝓛 (later (some (λ (γs : GName × GName). (‵ (fobs γs.0 ((coded_list R.coded).code one)) ⊛ ‵ (fbor κ (Body (L (length one)) b p γs.0))) ⊛ (‵ (fobs γs.1 ((coded_list R.coded).code two)) ⊛ ‵ (fbor κ (Body (L (length two)) b p' γs.1)))
-          ⊛ ‵ (flft κ q) ⊛ ‵ (follows_both (Array R 0) (Array R 0) (Array R 0) γ γs.0 γs.1 F))))
+        ⊛ ‵ (flft κ q) ⊛ ‵ (follows_both (Array R 0) (Array R 0) (Array R 0) γ γs.0 γs.1 F))))
         (takes_two 𝓛 (L (length xs)) (L (length one)) (L (length two)) F κ q b o b p b p' γ Rest put ((coded_list R.coded).code xs) ((coded_list R.coded).code xs) one two) $ await ! tt $ pick ! (λ γs. split3 ! $
         use1 𝓛 (‵ ((MutSlice ℓ κ R).own_val (record { ref_ptr = (b, p); ghost_name = γs.0; now = one }) (slice_val (b, p) (length one) ∷ []))) (slice_of 𝓛 R ℓ κ b p γs.0 one r) $ move ! (1 ∷ []) $
         use1 𝓛 (‵ ((MutSlice ℓ κ R).own_val (record { ref_ptr = (b, p'); ghost_name = γs.1; now = two }) (slice_val (b, p') (length two) ∷ []))) (slice_of 𝓛 R ℓ κ b p' γs.1 two r') $ move ! (1 ∷ 0 ∷ []) $ now ! $ show ! (BothLent 𝓛 ℓ κ q b γ R one two p p' F) γs $ done !)

@@ -90,7 +90,7 @@ module _ (X : RattleType) {M : Type 1} {𝓤 : Ura M} (𝓛 : Logic 𝓤) (at_me
 
     walk : Room (R X) (length xs) → i < 2 ^ 64 → j < 2 ^ 64 → n < 2 ^ 64 → (i + n ≤ j) ⊎ (j + n ≤ i) → i + n ≤ length xs → j + n ≤ length xs
         → ent 𝓤 (on_entry 𝓛 (ended X).signature (κ, (κT, tt)) (q, (qT, tt)) (self, (i, (j, (n, tt)))) (mut_slice_vals self, (vint w64 i ∷ [], (vint w64 j ∷ [], (vint w64 n ∷ [], tt)))))
-          (WpFn 𝓤 H C Λ (function X) (slice_val (b, o) (length xs) ∷ vint w64 i ∷ vint w64 j ∷ vint w64 n ∷ []) Post)
+        (WpFn 𝓤 H C Λ (function X) (slice_val (b, o) (length xs) ∷ vint w64 i ∷ vint w64 j ∷ vint w64 n ∷ []) Post)
     walk rm fi fj fn apart i_in j_in =
         let s : ℕ = size (layout X) in
         let p : ℕ = i * s + o in

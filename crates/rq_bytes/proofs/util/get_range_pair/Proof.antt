@@ -135,7 +135,7 @@ get_range_pair_spec 𝓤 𝓛 𝓜 𝓡 wired T B L LB g d dd allocator glue =
     let word : Val = pair_val (slice_val (b, p) n) (slice_val (b, p') n) in
     let ends : (List T.Denot → (Vr E).Denot) → GName → Fml = λ f δ. follows (Vr E) (Array (R E) 0) v.ghost_name δ f in
     let as_written : (ws : List T.Denot) → with_range xs i ws ≡ take i v.now.items ++ (ws ++ drop_list (length ws) (drop_list i v.now.items)) =
-      λ ws. ap (λ l. with_range l i ws) same ∙ ap (λ l. take i v.now.items ++ (ws ++ l)) (sym (drop-drop (length ws) i v.now.items)) in
+    λ ws. ap (λ l. with_range l i ws) same ∙ ap (λ l. take i v.now.items ++ (ws ++ l)) (sym (drop-drop (length ws) i v.now.items)) in
     -- [the slice; the tokens; what follows the Vec; the other arguments]
     sets ! (addr ! (from ! (fld ! refl (hop ! (look_in_at ! 6 (sub ! 0 refl (whole !))) (stop !))))) refl (tt, tt) $
     first ! $ blocks ! $
