@@ -1,7 +1,7 @@
 -- A `&mut [T]` is lent on as two of its ranges, and the slice follows what is written. Assumes `Logic`.
 --     lends_both     both ranges for writing
 --     lends_pair     the first range for writing, and the second for reading
-use mathlib.Core.Path.{◌≡◌, refl, sym, ap, ◌∙◌, subst}
+use mathlib.Core.Path.{◌≡◌, refl, sym, ap, ◌∙◌}
 use mathlib.Core.Logic.{◌⊎◌}
 use Prim.Native.Nat.{ℕ, zero, suc, ◌+◌, ◌*◌, ◌^◌, ◌<◌, ◌≤◌}
 use prog.Memory.{capped}

@@ -1,17 +1,12 @@
 -- A slab's buffer and the symbols that callers see.
-use Rattle.std.proofs.Common.{length-set, ◌&&◌, ◌≡◌, ◌⊎◌, inl, inr, ⊎_elim, map, Global, ℕ, ◌+◌, ◌*◌, ◌<◌, ◌≤◌, List, [], Vec, length, drop, set, get_or, All, Option, None, Some, refl, sym, ap, ◌∙◌, arith, subst}
+use Rattle.std.proofs.Common.{length-set, ◌&&◌, ◌≡◌, ◌⊎◌, inl, inr, ⊎_elim, Global, ℕ, ◌+◌, ◌*◌, ◌<◌, ◌≤◌, List, [], Vec, length, drop, set, get_or, All, Option, None, Some, refl, sym, ap, ◌∙◌, arith, subst}
 use Rattle.std.specs.Prelude.{◌==◌}
 use Rattle.std.proofs.lemmas.List.{length-take-le, length-drop, length-map, get_or-map, get_or_read}
 use Rattle.std.proofs.Math.Nat.{mul-le-mul_right}
-use Rattle.std.proofs.lemmas.Simd.{length-zip2}
-use Rattle.std.specs.Int.Bits.{bit_xor}
-use Rattle.rq_standard.specs.Octets.{octet_mul}
 use Rattle.rq_algebra.specs.Operations.{Operation, AddAssign, MulAssign, Fma, Reorder, step, values_in, meant_at, order_after, IsPlace, IsOrder}
-use Rattle.rq_algebra.specs.Symbols.{add_symbols, symbols, AreSymbols}
+use Rattle.rq_algebra.specs.Symbols.{symbols, AreSymbols}
 use Rattle.std.proofs.lemmas.List.Elements.{All-take, All-drop}
 use Rattle.rq_standard.specs.OctetField.{octets}
-use Rattle.rq_standard.specs.Rows.{row_sum, row_multiple}
-use Rattle.rq_standard.proofs.RowSymbols.{add_symbols-rows, scale-rows}
 use Rattle.rq_bytes.specs.Ranges.{range_of, with_range, cut, joined}
 use Rattle.rq_bytes.specs.Slab.{Slab, after, symbols_in, same_slab, HasPlace}
 use Rattle.rq_bytes.specs.contracts.symbol_slab.SymbolSlab.{the_view, the_invariant}

@@ -14,14 +14,13 @@ use base.Logic.{SProp, ent}
 use base.Fml.{Lft, GName, Share, ftrue, flft}
 use prog.Memory.{Memory, size}
 use prog.Routine.{Routine}
-use prog.Wp.{Env, Calls, Loops, WpFn, Tables}
+use prog.Wp.{Env, Calls, Loops, WpFn}
 use types.Logic.{Logic}
 use contract.BorrowLft.{◌⊑◌}
 use contract.Lifetimes.{AllOutlive}
 use contract.Monad.{Fun, fact}
-use contract.Running.{tables, tables_of}
-use sound.WpLaws.{WpFn-mono}
-use types.Kit.{‵, ◌⊛◌, raw, given, some, later, at_ret, ◌$◌, ◌∵◌, !, qed, by, move, keep, drop, split, split3, join, learn, fsplit, fjoin, rewrite, use2, await, pick, suffices, frame, done}
+use contract.Running.{tables}
+use types.Kit.{‵, ◌⊛◌, raw, some, later, at_ret, ◌$◌, ◌∵◌, !, qed, by, move, keep, drop, split, split3, join, fsplit, fjoin, rewrite, use2, await, pick, suffices, frame, done}
 use types.Part.{whole, sub, agg}
 use types.Run.{stop, fld, hop, from, addr, bin, of_opd, and_then, no_more, size_word, first, blocks, exec, returns, enter}
 use types.ByLocal.{alloc_all, pass_all, free_all, look_at, look_in_at, get, is, sets, sets_last, env}
@@ -30,7 +29,6 @@ use denote.Builtin.{usize}
 use denote.Exit.{yes, no}
 use denote.Follow.{follows_both}
 use denote.Param.{param, layout, layouts}
-use denote.Param.Laws.{Laws}
 use denote.Plain.{uint_vals, uint_Tells}
 use denote.RattleType.{RattleType, owns}
 use denote.Ref.{MutBor}
@@ -38,11 +36,9 @@ use denote.Signature.{plain, mut_slice_of}
 use denote.Slice.{MutSlice, Room, slice_val, mut_slice_vals, mut_slice_Tells}
 use denote.Steps.{nothing, heard}
 use denote.Struct.Tuple.{Tuple}
-use denote.Triple.Clauses.{Clauses, Ended, closing}
+use denote.Triple.Clauses.{Clauses, Ended}
 use denote.Triple.Entry.{on_entry}
-use denote.Triple.Spec.{Meets, triple_of}
-use denote.Triple.Table.{entered}
-use denote.Triple.Walked.{Stays, stay_dropped, walk_of, ends_at, walked, Goes-dropped, Goes-spent_slice, walk_Meets}
+use denote.Triple.Walked.{Stays, stay_dropped, walk_of, ends_at, Goes-dropped, Goes-spent_slice}
 use Rattle.std.proofs.mem.Facts.{says_two}
 use Rattle.std.proofs.raw_atomic.Walks.{proved}
 use Rattle.rq_bytes.specs.Ranges.{range_of, with_range}

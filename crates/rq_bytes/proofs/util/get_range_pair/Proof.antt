@@ -43,7 +43,7 @@ use Rattle.std.proofs.lemmas.List.{drop-drop}
 use Rattle.std.proofs.mem.Facts.{says_two}
 use Rattle.std.proofs.raw_atomic.Walks.{proved}
 use Rattle.std.proofs.VecSteps.El.{El, args, R, Vr}
-use Rattle.std.specs.Vec.{with_items, with_items_from}
+use Rattle.std.specs.Vec.{with_items}
 use Rattle.rq_bytes.specs.Ranges.{range_of, with_range}
 use Rattle.rq_bytes.proofs.RangeFacts.{length-range}
 use Rattle.rq_bytes.proofs.RangeLoans.{uncapped, pair_val, pair_of, lends_pair}
