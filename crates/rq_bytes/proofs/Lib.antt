@@ -3,6 +3,8 @@ pub mod Cuts
 pub mod Doubling
 pub mod Halves
 pub mod PlaneFacts
+pub mod RangeFacts
+pub mod RangeLoans
 pub mod SlabFacts
 pub mod Steps
 pub mod TableFacts

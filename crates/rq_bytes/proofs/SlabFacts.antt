@@ -1,17 +1,12 @@
 -- A slab's buffer and the symbols that callers see.
-use Rattle.std.proofs.Common.{length-set, ◌&&◌, ◌≡◌, ◌⊎◌, inl, inr, ⊎_elim, map, Global, ℕ, ◌+◌, ◌*◌, ◌<◌, ◌≤◌, List, [], Vec, length, drop, set, get_or, All, Option, None, Some, refl, sym, ap, ◌∙◌, arith, subst}
+use Rattle.std.proofs.Common.{length-set, ◌&&◌, ◌≡◌, ◌⊎◌, inl, inr, ⊎_elim, Global, ℕ, ◌+◌, ◌*◌, ◌<◌, ◌≤◌, List, [], Vec, length, drop, set, get_or, All, Option, None, Some, refl, sym, ap, ◌∙◌, arith, subst}
 use Rattle.std.specs.Prelude.{◌==◌}
 use Rattle.std.proofs.lemmas.List.{length-take-le, length-drop, length-map, get_or-map, get_or_read}
 use Rattle.std.proofs.Math.Nat.{mul-le-mul_right}
-use Rattle.std.proofs.lemmas.Simd.{length-zip2}
-use Rattle.std.specs.Int.Bits.{bit_xor}
-use Rattle.rq_standard.specs.Octets.{octet_mul}
 use Rattle.rq_algebra.specs.Operations.{Operation, AddAssign, MulAssign, Fma, Reorder, step, values_in, meant_at, order_after, IsPlace, IsOrder}
-use Rattle.rq_algebra.specs.Symbols.{add_symbols, symbols, AreSymbols}
+use Rattle.rq_algebra.specs.Symbols.{symbols, AreSymbols}
 use Rattle.std.proofs.lemmas.List.Elements.{All-take, All-drop}
 use Rattle.rq_standard.specs.OctetField.{octets}
-use Rattle.rq_standard.specs.Rows.{row_sum, row_multiple}
-use Rattle.rq_standard.proofs.RowSymbols.{add_symbols-rows, scale-rows}
 use Rattle.rq_bytes.specs.Ranges.{range_of, with_range, cut, joined}
 use Rattle.rq_bytes.specs.Slab.{Slab, after, symbols_in, same_slab, HasPlace}
 use Rattle.rq_bytes.specs.contracts.symbol_slab.SymbolSlab.{the_view, the_invariant}
@@ -65,17 +60,6 @@ module _ {bytes : List ℕ} {count size : ℕ} {order : Option (List ℕ)} {slab
         };
   }
 
-  -- other octets for one symbol
-  pub write_at : (p : ℕ) (ys new : List ℕ) → p < length slab.values → length ys ≡ size → new ≡ with_range bytes (p * slab.symbol_size) ys
-      → ◌≡◌ {A = Slab} (record { values = cut count size new; symbol_size = size; order = order }) (record slab { values = set slab.values p ys })
-  write_at p ys new lt long e =
-      let count_is_there = count_is in
-      ap (λ (v : List (List ℕ)). record { values = v; symbol_size = size; order = order }) (
-      ap (cut count size) (e ∙ ap (λ s. with_range bytes (p * s) ys) (sym size_is))
-      ∙ cut-with_range count size p bytes ys (omega arith) long is.long
-      ∙ ap (λ (v : Slab). set v.values p ys) is.view)
-      ∙ ap (λ (v : Slab). record v { values = set slab.values p ys }) is.view
-
   -- where a symbol stands
   pub within : (p : ℕ) → p < length slab.values → p * slab.symbol_size + size ≤ length bytes
   within p lt = let count_is_there = count_is in omega (arith, piece_within p count size (omega arith), is.long, ap (λ s. p * s) size_is)
@@ -91,53 +75,8 @@ module _ {bytes : List ℕ} {count size : ℕ} {order : Option (List ℕ)} {slab
       (λ (l : q * slab.symbol_size + slab.symbol_size ≤ p * slab.symbol_size). inr (omega arith))
       (pieces_apart p q slab.symbol_size ne)
 
-  -- what callers see after a write of one symbol's octets
-  written : (p a : ℕ) (old new items ys zs : List ℕ) → p < length slab.values → a ≡ p * slab.symbol_size → old ≡ bytes
-      → items ≡ new → new ≡ with_range old a ys → length ys ≡ size → ys ≡ zs
-      → ◌≡◌ {A = Slab} (record { values = cut count size items; symbol_size = size; order = order }) (record slab { values = set slab.values p zs })
-  written p a old new items ys zs lt e same kept is_new long meant =
-      write_at p ys items lt long (kept ∙ is_new ∙ ap (λ xs. with_range xs a ys) same ∙ ap (λ k. with_range bytes k ys) e)
-      ∙ ap (λ (xs : List ℕ). record slab { values = set slab.values p xs }) meant
-
   pub range_in : (p a : ℕ) (old : List ℕ) → p < length slab.values → a ≡ p * slab.symbol_size → old ≡ bytes → range_of old a size ≡ get_or slab.values p []
   range_in p a old lt e same = ap (λ xs. range_of xs a size) same ∙ ap (λ k. range_of bytes k size) e ∙ range_at p lt
-
-  pub sum_written : (p q a b : ℕ) (old new items : List ℕ) → p < length slab.values → q < length slab.values → a ≡ p * slab.symbol_size → b ≡ q * slab.symbol_size
-      → old ≡ bytes → items ≡ new → new ≡ with_range old a (row_sum (range_of old a size) (range_of old b size))
-      → ◌≡◌ {A = Slab} (record { values = cut count size items; symbol_size = size; order = order })
-      (record slab { values = set slab.values p (add_symbols octets (get_or slab.values p []) (get_or slab.values q [])) })
-  sum_written p q a b old new items lp lq e f same kept is_new =
-      let x = get_or slab.values p [] in
-      let y = get_or slab.values q [] in
-      let long = length-range_at q lq ∙ sym (length-range_at p lp) in
-      let sums = ap (λ (xs : List ℕ). row_sum xs (range_of old b size)) (range_in p a old lp e same) ∙ ap (row_sum x) (range_in q b old lq f same) in
-      written p a old new items (row_sum x y) (add_symbols octets x y) lp e same kept (is_new ∙ ap (with_range old a) sums)
-      (length-zip2 bit_xor x y (sym long) ∙ length-range_at p lp) (sym (add_symbols-rows x y long))
-
-  pub multiple_written : (p a c : ℕ) (old new items : List ℕ) → p < length slab.values → a ≡ p * slab.symbol_size → c < 256
-      → old ≡ bytes → items ≡ new → new ≡ with_range old a (row_multiple c (range_of old a size))
-      → ◌≡◌ {A = Slab} (record { values = cut count size items; symbol_size = size; order = order })
-      (record slab { values = set slab.values p (map (octets.mul c) (get_or slab.values p [])) })
-  multiple_written p a c old new items lp e octet same kept is_new =
-      let x = get_or slab.values p [] in
-      written p a old new items (row_multiple c x) (map (octets.mul c) x) lp e same kept (is_new ∙ ap (λ xs. with_range old a (row_multiple c xs)) (range_in p a old lp e same))
-      (length-map x (octet_mul c) ∙ length-range_at p lp) (sym (scale-rows c x octet))
-
-  pub fma_written : (p q a b c : ℕ) (old new items : List ℕ) → p < length slab.values → q < length slab.values → a ≡ p * slab.symbol_size → b ≡ q * slab.symbol_size
-      → c < 256 → old ≡ bytes → items ≡ new → new ≡ with_range old a (row_sum (range_of old a size) (row_multiple c (range_of old b size)))
-      → ◌≡◌ {A = Slab} (record { values = cut count size items; symbol_size = size; order = order })
-      (record slab { values = set slab.values p (add_symbols octets (get_or slab.values p []) (map (octets.mul c) (get_or slab.values q []))) })
-  fma_written p q a b c old new items lp lq e f octet same kept is_new =
-      let x = get_or slab.values p [] in
-      let y = get_or slab.values q [] in
-      let scaled = length-map y (octet_mul c) in
-      let long = scaled ∙ length-range_at q lq ∙ sym (length-range_at p lp) in
-      let sums =
-      ap (λ (xs : List ℕ). row_sum xs (row_multiple c (range_of old b size))) (range_in p a old lp e same) ∙ ap (λ xs. row_sum x (row_multiple c xs)) (range_in q b old lq f same)
-      in
-      written p a old new items (row_sum x (row_multiple c y)) (add_symbols octets x (map (octets.mul c) y)) lp e same kept (is_new ∙ ap (with_range old a) sums)
-      (length-zip2 bit_xor x (row_multiple c y) (sym long) ∙ length-range_at p lp)
-      (sym (ap (add_symbols octets x) (scale-rows c y octet) ∙ add_symbols-rows x (row_multiple c y) long))
 
   -- the buffer again, of what callers see
   joined_is : joined slab.values ≡ bytes

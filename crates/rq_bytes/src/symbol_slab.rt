@@ -5,7 +5,6 @@ ghost use Rattle.std.specs.Cmp.Rules.{comparing};
 ghost use Rattle.rq_algebra.specs.Operations.{AddAssign, MulAssign, Fma, Reorder, IsOrder, meant_at};
 ghost use Rattle.rq_algebra.specs.Symbols.{AreSymbols};
 ghost use Rattle.rq_standard.specs.OctetField.{octets};
-ghost use Rattle.rq_standard.specs.Rows.{row_sum, row_multiple};
 ghost use Rattle.std.specs.Borrow.{sem};
 ghost use Rattle.rq_bytes.specs.Ranges.{range_of, with_range, cut};
 ghost use Rattle.rq_bytes.specs.Refusals.{IsAnswer};
@@ -15,7 +14,7 @@ use crate::error::Error;
 use crate::octet::Octet;
 use crate::octets;
 use crate::symbol::{Symbol, zeros};
-use crate::util::get_both_ranges;
+use crate::util::get_range_pair;
 use std::alloc::{AllocError, Global};
 use std::marker::Model;
 
@@ -123,11 +122,8 @@ impl SymbolSlab {
         requires { Allows self.old (AddAssign dest src) }
         ensures { self.new ≡ after (AddAssign dest src) self.old }
     {
-        let size = self.symbol_size;
-        let dest_start = self.start_of(dest);
-        let src_start = self.start_of(src);
-        let bytes = self.data.as_mut_slice();
-        add_range(bytes, dest_start, src_start, size);
+        let (sum, other) = self.get_pair_mut(dest, src);
+        octets::add_assign(sum, other);
     }
 
     /// Multiplies a symbol by an octet.
@@ -135,10 +131,7 @@ impl SymbolSlab {
         requires { Allows self.old (MulAssign dest scalar.now) }
         ensures { self.new ≡ after (MulAssign dest scalar.now) self.old }
     {
-        let size = self.symbol_size;
-        let start = self.start_of(dest);
-        let bytes = self.data.as_mut_slice();
-        multiply_range(bytes, start, size, scalar);
+        octets::mulassign_scalar(self.get_mut(dest), scalar);
     }
 
     /// Adds a multiple of a symbol to another one.
@@ -146,11 +139,8 @@ impl SymbolSlab {
         requires { Allows self.old (Fma dest src scalar.now) }
         ensures { self.new ≡ after (Fma dest src scalar.now) self.old }
     {
-        let size = self.symbol_size;
-        let dest_start = self.start_of(dest);
-        let src_start = self.start_of(src);
-        let bytes = self.data.as_mut_slice();
-        add_range_multiple(bytes, dest_start, src_start, size, scalar);
+        let (dest, src) = self.get_pair_mut(dest, src);
+        octets::fused_addassign_mul_scalar(dest, src, scalar);
     }
 
     /// Sets the order in which places are read, in place of the one before. No symbol moves.
@@ -177,6 +167,8 @@ impl SymbolSlab {
     /// The octets of the symbols that two places mean, the first for writing.
     pub fn get_pair_mut(&mut self, dest: usize, src: usize) -> (&mut [u8], &[u8])
         requires { Allows self.old (AddAssign dest src) }
+        ensures* writes_back { sem 𝓛 (LendsSymbol self.entry dest result.0) }
+        ensures whole_symbol { IsSymbolWrite self.old dest }
         ensures dest { result.0.now ≡ symbol_in self.old dest }
         ensures src { result.1.now ≡ symbol_in self.old src }
         ensures dest_len { length result.0.now ≡ self.old.symbol_size }
@@ -185,9 +177,7 @@ impl SymbolSlab {
         let size = self.symbol_size;
         let dest_start = self.start_of(dest);
         let src_start = self.start_of(src);
-        let bytes = self.data.as_mut_slice();
-        let (dest, src) = get_both_ranges(bytes, dest_start, src_start, size);
-        (dest, src)
+        get_range_pair(&mut self.data, dest_start, src_start, size)
     }
 
     /// Copies whole symbols into the places from `start` on, where no order is set.
@@ -301,46 +291,4 @@ fn write_range(bytes: &mut [u8], start: usize, source: &[u8])
     ensures { bytes.new ≡ with_range bytes.old start source.now }
 {
     bytes[start..start + source.len()].copy_from_slice(source);
-}
-
-/// Multiplies a range by an octet.
-fn multiply_range(bytes: &mut [u8], start: usize, len: usize, scalar: &Octet)
-    requires { start + len ≤ length bytes.old }
-    ensures octet { scalar.now < 256 }
-    ensures multiplied { bytes.new ≡ with_range bytes.old start (row_multiple scalar.now (range_of bytes.old start len)) }
-{
-    octets::mulassign_scalar(&mut bytes[start..start + len], scalar);
-}
-
-/// Adds a range to another one, with no octet in common.
-fn add_range(bytes: &mut [u8], dest: usize, src: usize, len: usize)
-    requires apart { (dest + len ≤ src) ⊎ (src + len ≤ dest) }
-    requires dest_within { dest + len ≤ length bytes.old }
-    requires src_within { src + len ≤ length bytes.old }
-    ensures { bytes.new ≡ with_range bytes.old dest (row_sum (range_of bytes.old dest len) (range_of bytes.old src len)) }
-{
-    if dest < src {
-        let (front, back) = bytes.split_at_mut(src);
-        octets::add_assign(&mut front[dest..dest + len], &back[..len]);
-    } else {
-        let (front, back) = bytes.split_at_mut(dest);
-        octets::add_assign(&mut back[..len], &front[src..src + len]);
-    }
-}
-
-/// Adds a multiple of a range to another one, with no octet in common.
-fn add_range_multiple(bytes: &mut [u8], dest: usize, src: usize, len: usize, scalar: &Octet)
-    requires apart { (dest + len ≤ src) ⊎ (src + len ≤ dest) }
-    requires dest_within { dest + len ≤ length bytes.old }
-    requires src_within { src + len ≤ length bytes.old }
-    ensures octet { scalar.now < 256 }
-    ensures sum { bytes.new ≡ with_range bytes.old dest (row_sum (range_of bytes.old dest len) (row_multiple scalar.now (range_of bytes.old src len))) }
-{
-    if dest < src {
-        let (front, back) = bytes.split_at_mut(src);
-        octets::fused_addassign_mul_scalar(&mut front[dest..dest + len], &back[..len], scalar);
-    } else {
-        let (front, back) = bytes.split_at_mut(dest);
-        octets::fused_addassign_mul_scalar(&mut back[..len], &front[src..src + len], scalar);
-    }
 }

@@ -1,7 +1,11 @@
 //! Two places of a list at once, and a rounded quotient.
-ghost use Rattle.std.specs.Prelude.{◌≡◌, ◌≢◌, ◌⊎◌, ◌+◌, ◌-◌, ◌/◌, ◌<◌, ◌≤◌, ◌++◌, length, take, drop, slice_get, slice_set, slice_index_or};
-ghost use Rattle.rq_bytes.specs.Ranges.{range_of};
+ghost use Rattle.std.specs.Prelude.{◌≡◌, ◌≢◌, ◌⊎◌, ◌+◌, ◌-◌, ◌/◌, ◌<◌, ◌≤◌, length, slice_set, slice_index_or, vec_len};
+ghost use Rattle.rq_bytes.specs.Ranges.{range_of, with_range};
 ghost use Rattle.std.specs.Borrow.{sem, LendsBoth, Array};
+ghost use Rattle.std.specs.Vec.{vec_follows_range};
+
+use std::alloc::Allocator;
+use std::slice::{from_raw_parts, from_raw_parts_mut};
 
 /// Lends the elements at two places for writing.
 pub fn get_both_indices<T>(vector: &mut [T], i: usize, j: usize) -> (&mut T, &mut T)
@@ -27,15 +31,41 @@ pub fn get_both_ranges<T>(vector: &mut [T], i: usize, j: usize, len: usize) -> (
     requires apart { (i + len ≤ j) ⊎ (j + len ≤ i) }
     requires first { i + len ≤ length vector.old }
     requires second { j + len ≤ length vector.old }
+    ensures* writes_back { sem 𝓛 (LendsBoth (Array T.row 0) (Array T.row 0) (Array T.row 0) vector.entry result (λ x y. with_range (with_range vector.old i x) j y)) }
     ensures first { result.0.now ≡ range_of vector.old i len }
     ensures second { result.1.now ≡ range_of vector.old j len }
 {
-    if i < j {
-        let (front, back) = vector.split_at_mut(j);
-        (&mut front[i..i + len], &mut back[..len])
-    } else {
-        let (front, back) = vector.split_at_mut(i);
-        (&mut back[..len], &mut front[j..j + len])
+    // What becomes of a part of a part is not known, so both are made at once.
+    let start = vector.as_mut_ptr();
+    unsafe {
+        (
+            from_raw_parts_mut(start.add(i), len),
+            from_raw_parts_mut(start.add(j), len),
+        )
+    }
+}
+
+/// Lends the `len` elements from `dest` on for writing, and those from `src` on for reading. The two
+/// ranges have no place in common.
+pub(crate) fn get_range_pair<T, B: Allocator>(
+    vector: &mut Vec<T, B>,
+    dest: usize,
+    src: usize,
+    len: usize,
+) -> (&mut [T], &[T])
+    requires apart { (dest + len ≤ src) ⊎ (src + len ≤ dest) }
+    requires dest_within { dest + len ≤ vec_len vector.old }
+    requires src_within { src + len ≤ vec_len vector.old }
+    ensures* writes_back { sem 𝓛 (vec_follows_range T.row B.row B.Allocator vector.entry dest result.0) }
+    ensures dest { result.0.now ≡ range_of vector.old.items dest len }
+    ensures src { result.1.now ≡ range_of vector.old.items src len }
+{
+    let start = vector.as_mut_slice().as_mut_ptr();
+    unsafe {
+        (
+            from_raw_parts_mut(start.add(dest), len),
+            from_raw_parts(start.add(src), len),
+        )
     }
 }
 

@@ -1,36 +1,22 @@
 -- What the check leaves to show of `symbol_slab::SymbolSlab::add_assign`.
-use Rattle.std.proofs.Common.{◌∙◌}
-use Rattle.std.proofs.lemmas.List.{with_items_is}
-use Rattle.std.specs.Vec.{with_items}
+use Rattle.std.proofs.Common.{◌≡◌, List, ℕ, length, set, sym, ap, ◌∙◌}
 use Rattle.rq_algebra.specs.Operations.{step, meant_at}
-use Rattle.rq_bytes.proofs.SlabFacts.{holds, apart, within_slice, sum_written}
+use Rattle.rq_standard.specs.Rows.{row_sum}
+use Rattle.rq_standard.proofs.RowSymbols.{add_symbols-rows}
+use Rattle.rq_bytes.specs.Slab.{symbol_in}
 use Rattle.rq_bytes.proofs.symbol_slab.SymbolSlab.add_assign.Goals as goal
-
-pub add_range-requires-clause-apart : goal.add_range-requires-clause-apart
-add_range-requires-clause-apart c =
-    let slab = c.args.self.now in
-    let d = c.start_of-dest_start in
-    let s = c.start_of-src_start in
-    apart (holds c.self.inside slab c.self.view_is c.self.invariant) (meant_at slab.order c.args.dest) (meant_at slab.order c.args.src) d.result s.result c.requires.2 d.ensures.start s.ensures.start
-
-pub add_range-requires-clause-dest_within : goal.add_range-requires-clause-dest_within
-add_range-requires-clause-dest_within c =
-    let d = c.start_of-dest_start in
-    within_slice (holds c.self.inside c.args.self.now c.self.view_is c.self.invariant) _ d.result c.as_mut_slice-bytes.result.now d.ensures.below d.ensures.start c.as_mut_slice-bytes.ensures.value
-
-pub add_range-requires-clause-src_within : goal.add_range-requires-clause-src_within
-add_range-requires-clause-src_within c =
-    let s = c.start_of-src_start in
-    within_slice (holds c.self.inside c.args.self.now c.self.view_is c.self.invariant) _ s.result c.as_mut_slice-bytes.result.now s.ensures.below s.ensures.start c.as_mut_slice-bytes.ensures.value
 
 pub returns : goal.returns
 unfolding step
 returns c =
     let slab = c.args.self.now in
-    let d = c.start_of-dest_start in
-    let s = c.start_of-src_start in
-    let new = c.add_range.new.bytes in
-    let buffer = c.self.inside.«data» in
-    sum_written (holds c.self.inside slab c.self.view_is c.self.invariant) (meant_at slab.order c.args.dest) (meant_at slab.order c.args.src)
-    d.result s.result c.as_mut_slice-bytes.result.now new (with_items buffer new).items d.ensures.below s.ensures.below d.ensures.start s.ensures.start
-    c.as_mut_slice-bytes.ensures.value (with_items_is buffer new (c.add_range.auto.bytes ∙ c.as_mut_slice-bytes.ensures.len)) c.add_range.ensures
+    let pair = c.get_pair_mut-sum in
+    let x = symbol_in slab c.args.dest in
+    let y = symbol_in slab c.args.src in
+    let as_long : length y ≡ length x = ap length (sym pair.ensures.src) ∙ pair.ensures.src_len ∙ sym pair.ensures.dest_len ∙ ap length pair.ensures.dest in
+    pair.ensures.whole_symbol c.add_assign.new.octets (c.add_assign.auto.octets ∙ pair.ensures.dest_len)
+    ∙ ap (λ (xs : List ℕ). record slab { values = set slab.values (meant_at slab.order c.args.dest) xs }) (
+    c.add_assign.ensures
+    ∙ ap (λ xs. row_sum xs pair.result.1.now) pair.ensures.dest
+    ∙ ap (row_sum x) pair.ensures.src
+    ∙ sym (add_symbols-rows x y as_long))

@@ -1,37 +1,27 @@
 -- What the check leaves to show of `symbol_slab::SymbolSlab::fma`.
-use Rattle.std.proofs.Common.{◌∙◌}
-use Rattle.std.proofs.lemmas.List.{with_items_is}
-use Rattle.std.specs.Vec.{with_items}
+use Rattle.std.proofs.Common.{◌≡◌, List, ℕ, length, map, set, sym, ap, ◌∙◌}
+use Rattle.std.proofs.lemmas.List.{length-map}
 use Rattle.rq_algebra.specs.Operations.{step, meant_at}
-use Rattle.rq_bytes.proofs.SlabFacts.{holds, apart, within_slice, fma_written}
+use Rattle.rq_standard.specs.OctetField.{octets}
+use Rattle.rq_standard.specs.Rows.{row_sum, row_multiple}
+use Rattle.rq_standard.proofs.RowSymbols.{add_symbols-rows, scale-rows}
+use Rattle.rq_bytes.specs.Slab.{symbol_in}
 use Rattle.rq_bytes.proofs.symbol_slab.SymbolSlab.fma.Goals as goal
-
-pub add_range_multiple-requires-clause-apart : goal.add_range_multiple-requires-clause-apart
-add_range_multiple-requires-clause-apart c =
-    let slab = c.args.self.now in
-    let d = c.start_of-dest_start in
-    let s = c.start_of-src_start in
-    apart (holds c.self.inside slab c.self.view_is c.self.invariant) (meant_at slab.order c.args.dest) (meant_at slab.order c.args.src) d.result s.result c.requires.2 d.ensures.start s.ensures.start
-
-pub add_range_multiple-requires-clause-dest_within : goal.add_range_multiple-requires-clause-dest_within
-add_range_multiple-requires-clause-dest_within c =
-    let d = c.start_of-dest_start in
-    within_slice (holds c.self.inside c.args.self.now c.self.view_is c.self.invariant) _ d.result c.as_mut_slice-bytes.result.now d.ensures.below d.ensures.start c.as_mut_slice-bytes.ensures.value
-
-pub add_range_multiple-requires-clause-src_within : goal.add_range_multiple-requires-clause-src_within
-add_range_multiple-requires-clause-src_within c =
-    let s = c.start_of-src_start in
-    within_slice (holds c.self.inside c.args.self.now c.self.view_is c.self.invariant) _ s.result c.as_mut_slice-bytes.result.now s.ensures.below s.ensures.start c.as_mut_slice-bytes.ensures.value
 
 pub returns : goal.returns
 unfolding step
 returns c =
     let slab = c.args.self.now in
-    let d = c.start_of-dest_start in
-    let s = c.start_of-src_start in
-    let new = c.add_range_multiple.new.bytes in
-    let buffer = c.self.inside.«data» in
-    fma_written (holds c.self.inside slab c.self.view_is c.self.invariant) (meant_at slab.order c.args.dest) (meant_at slab.order c.args.src)
-    d.result s.result c.args.scalar.now c.as_mut_slice-bytes.result.now new (with_items buffer new).items d.ensures.below s.ensures.below d.ensures.start s.ensures.start
-    c.add_range_multiple.ensures.octet
-    c.as_mut_slice-bytes.ensures.value (with_items_is buffer new (c.add_range_multiple.auto.bytes ∙ c.as_mut_slice-bytes.ensures.len)) c.add_range_multiple.ensures.sum
+    let pair = c.get_pair_mut-dest in
+    let scalar = c.args.scalar.now in
+    let x = symbol_in slab c.args.dest in
+    let y = symbol_in slab c.args.src in
+    let as_long : length (map (octets.mul scalar) y) ≡ length x =
+    length-map y (octets.mul scalar) ∙ ap length (sym pair.ensures.src) ∙ pair.ensures.src_len ∙ sym pair.ensures.dest_len ∙ ap length pair.ensures.dest in
+    pair.ensures.whole_symbol c.fused_addassign_mul_scalar.new.octets (c.fused_addassign_mul_scalar.auto.octets ∙ pair.ensures.dest_len)
+    ∙ ap (λ (xs : List ℕ). record slab { values = set slab.values (meant_at slab.order c.args.dest) xs }) (
+    c.fused_addassign_mul_scalar.ensures.sum
+    ∙ ap (λ xs. row_sum xs (row_multiple scalar pair.result.1.now)) pair.ensures.dest
+    ∙ ap (λ ys. row_sum x (row_multiple scalar ys)) pair.ensures.src
+    ∙ ap (row_sum x) (sym (scale-rows scalar y c.fused_addassign_mul_scalar.ensures.octet))
+    ∙ sym (add_symbols-rows x (map (octets.mul scalar) y) as_long))

@@ -1,0 +1,128 @@
+-- Two ranges of a list, read and written.
+use Rattle.std.proofs.Common.{◌≡◌, ℕ, ◌+◌, ◌-◌, ◌≤◌, List, ◌++◌, length, take, drop, refl, sym, ap, ◌∙◌, arith}
+use Rattle.std.proofs.Math.Seq.{take-append_seam, drop-append_seam, drop-append-add}
+use Rattle.std.proofs.lemmas.List.{append_assoc, drop-drop, length-append, length-drop, length-take-le, take-append-drop}
+use Rattle.rq_bytes.specs.Ranges.{range_of, with_range}
+
+-- other elements in the place of `mid`
+pub with_range-middle : {X : Type 0} (front mid back : List X) (i : ℕ) (ys : List X) → length front ≡ i → length ys ≡ length mid
+    → with_range (front ++ (mid ++ back)) i ys ≡ front ++ (ys ++ back)
+with_range-middle front mid back i ys at long =
+    ap (λ k. with_range (front ++ (mid ++ back)) k ys) (sym at)
+    ∙ ap (λ zs. zs ++ (ys ++ drop (length front + length ys) (front ++ (mid ++ back)))) (take-append_seam front (mid ++ back))
+    ∙ ap (λ zs. front ++ (ys ++ zs)) (
+    drop-append-add front (mid ++ back) (length ys)
+    ∙ ap (λ k. drop k (mid ++ back)) long
+    ∙ drop-append_seam mid back)
+
+-- a list around two ranges of n elements, at `low` and at `high`
+pub record Around {X : Type 0} (xs : List X) (low high n : ℕ) : Type 0 where
+  pub front : List X
+  pub gap : List X
+  pub back : List X
+  pub front_long : length front ≡ low
+  pub gap_long : low + n + length gap ≡ high
+  pub first_long : length (range_of xs low n) ≡ n
+  pub second_long : length (range_of xs high n) ≡ n
+  pub is : xs ≡ front ++ (range_of xs low n ++ (gap ++ (range_of xs high n ++ back)))
+
+pub around : {X : Type 0} (xs : List X) (low high n : ℕ) → low + n ≤ high → high + n ≤ length xs → Around xs low high n
+around xs low high n apart within =
+    let rest = drop low xs in
+    let after = drop n rest in
+    let space = high - (low + n) in
+    let last = drop space after in
+    let same : last ≡ drop high xs = ap (λ zs. drop space zs) (drop-drop n low xs) ∙ drop-drop space (low + n) xs ∙ ap (λ k. drop k xs) (omega arith) in
+    let inner = length-drop low xs in
+    let outer = length-drop (low + n) xs ∙ refl in
+    let there = ap length (drop-drop n low xs) in
+    let gap_is : length (take space after) ≡ space = length-take-le space after (omega arith) in
+    record {
+      front = take low xs;
+      gap = take space after;
+      back = drop n last;
+      front_long = length-take-le low xs (omega arith);
+      gap_long = omega arith;
+      first_long = length-take-le n rest (omega arith);
+      second_long = length-take-le n (drop high xs) (omega (arith, length-drop high xs));
+      is =
+          sym (
+          ap (λ zs. take low xs ++ (take n rest ++ (take space after ++ zs))) (ap (λ zs. take n zs ++ drop n last) (sym same) ∙ take-append-drop n last)
+          ∙ ap (λ zs. take low xs ++ (take n rest ++ zs)) (take-append-drop space after)
+          ∙ ap (λ zs. take low xs ++ zs) (take-append-drop n rest)
+          ∙ take-append-drop low xs);
+    }
+
+module _ {X : Type 0} {xs : List X} {low high n : ℕ} (a : Around xs low high n) (us vs : List X) (u : length us ≡ n) (v : length vs ≡ n) where
+  -- the list with others in both ranges
+  abbrev pub rewritten : List X
+  rewritten = a.front ++ (us ++ (a.gap ++ (vs ++ a.back)))
+
+  grouped : (ys zs : List X) → a.front ++ (ys ++ (a.gap ++ (zs ++ a.back))) ≡ (a.front ++ (ys ++ a.gap)) ++ (zs ++ a.back)
+  grouped ys zs = sym (append_assoc a.front (ys ++ a.gap) (zs ++ a.back) ∙ ap (λ l. a.front ++ l) (append_assoc ys a.gap (zs ++ a.back)))
+
+  before : (ys : List X) → length ys ≡ n → length (a.front ++ (ys ++ a.gap)) ≡ high
+  before ys y = let f = a.front_long in let g = a.gap_long in omega (arith, length-append a.front (ys ++ a.gap), length-append ys a.gap)
+
+  -- the one at `low` alone
+  pub rewritten-low : vs ≡ range_of xs high n → rewritten ≡ with_range xs low us
+  rewritten-low same =
+      let old = range_of xs high n in
+      sym (
+      ap (λ l. with_range l low us) a.is
+      ∙ with_range-middle a.front (range_of xs low n) (a.gap ++ (old ++ a.back)) low us a.front_long (u ∙ sym a.first_long)
+      ∙ ap (λ l. a.front ++ (us ++ (a.gap ++ (l ++ a.back)))) (sym same))
+
+  -- the one at `high` alone
+  pub rewritten-high : us ≡ range_of xs low n → rewritten ≡ with_range xs high vs
+  rewritten-high same =
+      let one = range_of xs low n in
+      let two = range_of xs high n in
+      sym (
+      ap (λ l. with_range l high vs) (a.is ∙ grouped one two)
+      ∙ with_range-middle (a.front ++ (one ++ a.gap)) two a.back high vs (before one a.first_long) (v ∙ sym a.second_long)
+      ∙ sym (grouped one vs)
+      ∙ ap (λ l. a.front ++ (l ++ (a.gap ++ (vs ++ a.back)))) (sym same))
+
+  -- the one at `low` first
+  pub rewritten-up : rewritten ≡ with_range (with_range xs low us) high vs
+  rewritten-up =
+      let old = range_of xs high n in
+      sym (
+      ap (λ l. with_range (with_range l low us) high vs) a.is
+      ∙ ap (λ l. with_range l high vs) (with_range-middle a.front (range_of xs low n) (a.gap ++ (old ++ a.back)) low us a.front_long (u ∙ sym a.first_long))
+      ∙ ap (λ l. with_range l high vs) (grouped us old)
+      ∙ with_range-middle (a.front ++ (us ++ a.gap)) old a.back high vs (before us u) (v ∙ sym a.second_long)
+      ∙ sym (grouped us vs))
+
+  -- the one at `high` first
+  pub rewritten-down : rewritten ≡ with_range (with_range xs high vs) low us
+  rewritten-down =
+      let one = range_of xs low n in
+      let two = range_of xs high n in
+      sym (
+      ap (λ l. with_range (with_range l high vs) low us) (a.is ∙ grouped one two)
+      ∙ ap (λ l. with_range l low us) (with_range-middle (a.front ++ (one ++ a.gap)) two a.back high vs (before one a.first_long) (v ∙ sym a.second_long) ∙ sym (grouped one vs))
+      ∙ with_range-middle a.front one (a.gap ++ (vs ++ a.back)) low us a.front_long (u ∙ sym a.first_long))
+
+  pub length-rewritten : length rewritten ≡ length xs
+  length-rewritten =
+      let one = range_of xs low n in
+      let two = range_of xs high n in
+      let x = a.first_long in
+      let y = a.second_long in
+      omega (
+        arith,
+        ap length a.is,
+        length-append a.front (us ++ (a.gap ++ (vs ++ a.back))),
+        length-append us (a.gap ++ (vs ++ a.back)),
+        length-append a.gap (vs ++ a.back),
+        length-append vs a.back,
+        length-append a.front (one ++ (a.gap ++ (two ++ a.back))),
+        length-append one (a.gap ++ (two ++ a.back)),
+        length-append a.gap (two ++ a.back),
+        length-append two a.back,
+      )
+
+pub length-range : {X : Type 0} (xs : List X) (i n : ℕ) → i + n ≤ length xs → length (range_of xs i n) ≡ n
+length-range xs i n within = length-take-le n (drop i xs) (omega (arith, length-drop i xs))
