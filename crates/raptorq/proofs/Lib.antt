@@ -9,6 +9,7 @@ pub mod MissingCounts
 pub mod News
 pub mod Outcomes
 pub mod Payloads
+pub mod PlanLaws
 pub mod Ranges
 pub mod Refusals
 pub mod Summing

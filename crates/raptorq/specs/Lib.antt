@@ -1,3 +1,4 @@
+pub mod Allowed
 pub mod BlockEncoded
 pub mod Blocks
 pub mod Decoding
@@ -6,5 +7,7 @@ pub mod Known
 pub mod Missing
 pub mod Objects
 pub mod OneBlock
+pub mod Planned
+pub mod Plans
 pub mod Refused
 pub mod Solving

@@ -4,8 +4,8 @@ ghost use Rattle.rq_bytes.specs.Slab.{slab_of, symbol_in, symbols_in};
 ghost use Rattle.rq_standard.specs.Equations.{IsNonsingular, IsIntermediateColumn, IsEncodingSymbol, zero_symbol};
 ghost use Rattle.rq_standard.specs.TableRows.{IsChecked, intermediate_symbols};
 
-use crate::ids::{internal_symbol_id, padding_ids};
-use crate::solving::solve;
+use crate::encoder::plan::SourceBlockEncodingPlan;
+use crate::ids::internal_symbol_id;
 use crate::sums::encoding_symbol;
 use rq_base::base::{EncodingPacket, PayloadId};
 use rq_bytes::error::Error;
@@ -30,35 +30,9 @@ pub struct SourceBlockEncoder {
     pub ghost solved: { IsIntermediateColumn row intermediate.symbol_size source.items (symbol_in intermediate) },
 }
 
-// The values of the equations that decide a block's intermediate symbols: its source symbols, and
-// zeros for all others.
-fn source_values(
-    alloc: Global,
-    row: &Row,
-    size: usize,
-    source: &[Symbol],
-) -> Result<SymbolSlab, Error>
-    requires checked { IsChecked row.now }
-    requires positive { 0 < size }
-    requires small { size < 65536 }
-    requires few { length source.now ≤ row.now.source_symbols }
-    requires sized { All (λ symbol. length symbol ≡ size) source.now }
-    ensures values { IfOk result (λ slab. slab ≡ slab_of size (replicate (row.now.ldpc_symbols + row.now.hdpc_symbols) (zero_symbol size) ++ (source.now ++ replicate (row.now.source_symbols - length source.now) (zero_symbol size)))) }
-    ensures memory { IfErr result (λ e. e ≡ Error.OutOfMemory) }
-{
-    let fixed = (row.ldpc_symbols + row.hdpc_symbols) as usize;
-    let count = fixed + row.source_symbols as usize;
-    let mut values = SymbolSlab::with_zeros(alloc, count, size)?;
-    let mut place = fixed;
-    for symbol in source {
-        values.copy_block_from(place, symbol.as_bytes());
-        place += 1;
-    }
-    Ok(values)
-}
-
 impl SourceBlockEncoder {
     ghost use Rattle.raptorq.specs.BlockEncoded.{block_encoded_of, IsBlockPacket, AreBlockPackets};
+    ghost use Rattle.raptorq.specs.Plans.{plan_of};
     ghost use Rattle.rq_standard.specs.Equations.{IsSingular};
 
     /// The encoder of a block with these source symbols, over a row of the table. It solves the
@@ -81,11 +55,27 @@ impl SourceBlockEncoder {
         ensures nonsingular { OnOk result (IsNonsingular row) }
         ensures refused { IfErr result (λ e. (e ≡ Error.OutOfMemory) ⊎ ((e ≡ Error.Singular) × IsSingular row)) }
     {
-        let values = source_values(alloc, &row, size, source.as_slice())?;
-        let ids = padding_ids(alloc, &row, 0, row.source_symbols as usize)?;
-        let Some(intermediate) = solve(alloc, &row, ids.as_slice(), values)? else {
-            return Err(Error::Singular);
-        };
+        let plan = SourceBlockEncodingPlan::of_row(alloc, source.len() as u16, row)?;
+        SourceBlockEncoder::planned(alloc, number, size, source, &plan)
+    }
+
+    /// The encoder of a block with these source symbols, by a plan of its row.
+    pub(crate) fn planned(
+        alloc: Global,
+        number: u8,
+        size: usize,
+        source: Vec<Symbol>,
+        plan: &SourceBlockEncodingPlan,
+    ) -> Result<SourceBlockEncoder, Error>
+        requires positive { 0 < size }
+        requires small { size < 65536 }
+        requires few { length source.items ≤ (plan_of plan.now).row.source_symbols }
+        requires sized { All (λ symbol. length symbol ≡ size) source.items }
+        ensures encoded { IfOk result (λ b. block_encoded_of b ≡ record { number = number; row = (plan_of plan.now).row; size = size; source = source.items }) }
+        ensures memory { IfErr result (λ e. e ≡ Error.OutOfMemory) }
+    {
+        let row = plan.row();
+        let intermediate = plan.apply(alloc, size, source.as_slice())?;
         Ok(SourceBlockEncoder {
             number,
             row,
