@@ -1,4 +1,5 @@
 pub mod Answered
+pub mod CacheLaws
 pub mod Encodes
 pub mod Filling
 pub mod HeldEquations

@@ -9,8 +9,9 @@ mod solving;
 mod sums;
 
 pub use decoder::{Decoder, SourceBlockDecoder};
-pub use encoder::{Encoder, SourceBlockEncoder};
-pub use encoder::{SourceBlockEncodingPlan, SourceBlockEncodingPlanCache};
+pub use encoder::{
+    Encoder, SourceBlockEncoder, SourceBlockEncodingPlan, SourceBlockEncodingPlanCache,
+};
 pub use one_block::is_one_block;
 pub use rq_base::base;
 pub use rq_base::base::{EncodingPacket, ObjectTransmissionInformation, PayloadId, partition};

@@ -1,5 +1,6 @@
 //! A cache of plans, which is lent to the encoders of source blocks.
-ghost use Rattle.std.specs.Prelude.{◌≡◌, ◌≤◌, ◌==◌, [], false, length, position, slice_get, IfOk, IfErr, OnOk, OnErr};
+ghost use Rattle.std.specs.Prelude.{◌≡◌, ◌≤◌, ◌<◌, ◌==◌, [], false, drop, if◌then◌else◌, length, nat_lt, position, slice_get, IfOk, IfErr, OnOk, OnErr};
+ghost use Rattle.std.specs.VecDeque.{deque_len, deque_capacity};
 ghost use Rattle.std.specs.Borrow.{sem};
 ghost use Rattle.rq_bytes.specs.Refusals.{IsAnswer};
 ghost use Rattle.raptorq.specs.PlanCache.{holds, cached, used, IsPlanOver};
@@ -100,7 +101,12 @@ impl SourceBlockEncodingPlanCache {
     fn place_of(&self, count: u16) -> Option<usize>
         ensures { result ≡ position (λ n. n == count) self.now.counts }
     {
-        self.plans.iter().position(|plan| plan.source_symbol_count() == count)
+        for place in 0..self.plans.len() {
+            if self.plans[place].source_symbol_count() == count {
+                return Some(place);
+            }
+        }
+        None
     }
 
     // Puts in a new plan as the last one.
@@ -109,9 +115,19 @@ impl SourceBlockEncodingPlanCache {
         requires new { holds self.old.counts (plan_of plan).count ≡ false }
         ensures { self.new ≡ used self.old (plan_of plan).count }
     {
-        if self.plans.len() == CAPACITY {
-            let _oldest = self.plans.pop_front();
-        }
+        make_room(&mut self.plans);
         self.plans.push_back_reserved(plan);
+    }
+}
+
+// Drops the oldest plan where there is no place for one more.
+fn make_room(plans: &mut VecDeque<SourceBlockEncodingPlan>)
+    requires { deque_len plans.old ≤ 64 }
+    ensures items { plans.new.items ≡ (if nat_lt (deque_len plans.old) 64 then plans.old.items else drop 1 plans.old.items) }
+    ensures len { deque_len plans.new < 64 }
+    ensures capacity { deque_capacity plans.new ≡ deque_capacity plans.old }
+{
+    if plans.len() == CAPACITY {
+        plans.pop_front();
     }
 }

@@ -75,7 +75,8 @@ impl SourceBlockEncodingPlan {
         let count = (row.source_symbols + row.ldpc_symbols + row.hdpc_symbols) as usize;
         // The operations are the same whatever the size of the symbols.
         let values = SymbolSlab::with_zeros(alloc, count, 0)?;
-        let Some((_symbols, operations)) = solve_recorded(alloc, &row, ids.as_slice(), values)? else {
+        let Some((_symbols, operations)) = solve_recorded(alloc, &row, ids.as_slice(), values)?
+        else {
             return Err(Error::Singular);
         };
         Ok(SourceBlockEncodingPlan {
