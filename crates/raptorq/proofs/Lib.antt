@@ -3,6 +3,7 @@ pub mod CacheLaws
 pub mod Encodes
 pub mod Filling
 pub mod HeldEquations
+pub mod Interleaving
 pub mod Intermediates
 pub mod Listing
 pub mod Lists

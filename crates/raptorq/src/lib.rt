@@ -6,6 +6,7 @@ pub mod encoder;
 mod ids;
 mod one_block;
 mod solving;
+mod sub_blocks;
 mod sums;
 
 pub use decoder::{Decoder, SourceBlockDecoder};
