@@ -13,7 +13,10 @@ use Rattle.rq_bytes.specs.contracts.operation_vector.SymbolOpsClone.TheImpl.{by_
 use Rattle.rq_standard.specs.declared.row.Row.{Row}
 use Rattle.rq_standard.specs.TableRows.{greatest_size, row_of}
 use Rattle.rq_standard.specs.Equations.{IsSingular}
+use Rattle.rq_standard.specs.Configuration.{Configuration}
+use Rattle.raptorq.specs.BlockData.{RefusesBlock}
 use Rattle.raptorq.specs.Plans.{plan_refusal, RefusesPlan}
+use Rattle.raptorq.specs.Refused.{wanted_count}
 use Rattle.raptorq.proofs.Payloads.{same_items}
 
 -- a function of clones that keeps what it sees of each
@@ -45,3 +48,11 @@ plan_taken table count within = rw (le-ltb (greatest_size table) count within) r
 pub refuses_plan : (table : List Row) (count : ℕ) (row : Row) (e : Error) → plan_refusal table count ≡ Ok tt → row ≡ row_of table count → (e ≡ OutOfMemory) ⊎ ((e ≡ Singular) × IsSingular row) → RefusesPlan table count e
 refuses_plan table count row e taken is (inl memory) = inl (subst (IsRefusal e) (sym taken) memory)
 refuses_plan table count row e taken is (inr singular) = inr (taken, singular.0, subst IsSingular is singular.1)
+
+-- the refusals that are left where the table has a row
+pub plan_refused : (table : List Row) (count : ℕ) (e : Error) → count ≤ greatest_size table → RefusesPlan table count e → (e ≡ OutOfMemory) ⊎ ((e ≡ Singular) × IsSingular (row_of table count))
+plan_refused table count e within (inl refused) = inl (subst (IsRefusal e) (plan_taken table count within) refused)
+plan_refused table count e within (inr singular) = inr (singular.1, singular.2)
+
+pub refuses_block : (table : List Row) (c : Configuration) (bytes count : ℕ) (e : Error) → Ok count ≡ wanted_count (greatest_size table) c bytes → count ≤ greatest_size table → RefusesPlan table count e → RefusesBlock table c bytes e
+refuses_block table c bytes count e is within refused = rw (← is) (plan_refused table count e within refused)

@@ -1,4 +1,5 @@
 pub mod Allowed
+pub mod BlockData
 pub mod BlockEncoded
 pub mod Blocks
 pub mod CacheLends

@@ -1,5 +1,5 @@
 //! A cache of plans, which is lent to the encoders of source blocks.
-ghost use Rattle.std.specs.Prelude.{◌≡◌, ◌≤◌, ◌<◌, ◌==◌, [], false, drop, if◌then◌else◌, length, nat_lt, position, slice_get, IfOk, IfErr, OnOk, OnErr};
+ghost use Rattle.std.specs.Prelude.{◌≡◌, ◌≤◌, ◌<◌, ◌==◌, [], false, drop, if◌then◌else◌, is_some, length, nat_lt, position, slice_get, IfSome, IfOk, IfErr, OnOk, OnErr};
 ghost use Rattle.std.specs.VecDeque.{deque_len, deque_capacity};
 ghost use Rattle.std.specs.Borrow.{sem};
 ghost use Rattle.rq_bytes.specs.Refusals.{IsAnswer};
@@ -82,6 +82,23 @@ impl SourceBlockEncodingPlanCache {
         self.plans.len()
     }
 
+    /// The table of the plans.
+    pub(crate) fn table(&self) -> &SystematicTable
+        ensures { result.now ≡ self.now.table }
+    {
+        &self.table
+    }
+
+    /// The plan of so many source symbols, if it is held.
+    pub(crate) fn get(&self, count: u16) -> Option<&SourceBlockEncodingPlan>
+        ensures held { is_some result ≡ holds self.now.counts count }
+        ensures count { IfSome result (λ p. (plan_of p.now).count ≡ count) }
+        ensures row { IfSome result (λ p. (plan_of p.now).row ≡ row_of self.now.table count) }
+    {
+        let place = self.place_of(count)?;
+        Some(&self.plans[place])
+    }
+
     // Makes the plan of so many source symbols where none is held, and answers its place.
     fn hold(&mut self, count: u16) -> Result<usize, Error>
         ensures used { OnOk result (self.new ≡ used self.old count) }
@@ -109,8 +126,8 @@ impl SourceBlockEncodingPlanCache {
         None
     }
 
-    // Puts in a new plan as the last one.
-    fn put(&mut self, plan: SourceBlockEncodingPlan)
+    /// Puts in a new plan as the last one.
+    pub(crate) fn put(&mut self, plan: SourceBlockEncodingPlan)
         requires over { IsPlanOver self.old.table plan }
         requires new { holds self.old.counts (plan_of plan).count ≡ false }
         ensures { self.new ≡ used self.old (plan_of plan).count }
