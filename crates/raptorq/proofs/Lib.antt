@@ -1,5 +1,6 @@
 pub mod Answered
 pub mod BlockParts
+pub mod CacheLaws
 pub mod EncodedBlocks
 pub mod Encodes
 pub mod Filling
@@ -13,6 +14,7 @@ pub mod NewBlocks
 pub mod ObjectBlocks
 pub mod Outcomes
 pub mod Payloads
+pub mod PlanLaws
 pub mod Ranges
 pub mod Refusals
 pub mod Summing

@@ -11,8 +11,12 @@ ghost use Rattle.raptorq.specs.BlockEncoded.{block_encoded_of, new_block_encoded
 ghost use Rattle.raptorq.specs.Offsets.{block_range};
 
 mod block;
+mod cache;
+mod plan;
 
 pub use block::SourceBlockEncoder;
+pub use cache::SourceBlockEncodingPlanCache;
+pub use plan::SourceBlockEncodingPlan;
 use crate::blocks::{block_symbols, calculate_block_offsets};
 use crate::sub_blocks::source_symbols;
 use rq_base::base::{EncodingPacket, ObjectTransmissionInformation};

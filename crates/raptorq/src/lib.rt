@@ -12,7 +12,9 @@ mod sums;
 
 pub use blocks::calculate_block_offsets;
 pub use decoder::{Decoder, SourceBlockDecoder};
-pub use encoder::{Encoder, SourceBlockEncoder};
+pub use encoder::{
+    Encoder, SourceBlockEncoder, SourceBlockEncodingPlan, SourceBlockEncodingPlanCache,
+};
 pub use one_block::is_one_block;
 pub use rq_base::base;
 pub use rq_base::base::{EncodingPacket, ObjectTransmissionInformation, PayloadId, partition};
