@@ -16,7 +16,7 @@ use Rattle.rq_standard.specs.Configuration.{Configuration}
 use Rattle.rq_standard.specs.TableRows.{no_row}
 use Rattle.rq_standard.specs.Held.{Held, recorded, nothing_held}
 use Rattle.rq_standard.specs.Standing.{State, new_held, new_answer, IsNewState, AddsToBlock, StopsBlock, IsSameElsewhere, Adds, Stops, append_both, joined, result_of}
-use Rattle.rq_standard.proofs.BlockCuts.{pieces}
+use Rattle.rq_standard.proofs.ObjectAnswers.{joined_some, joined_each, some_of}
 use Rattle.raptorq.specs.Blocks.{held_of}
 use Rattle.raptorq.specs.Objects.{held_at, answer_at, answer_of}
 use Rattle.raptorq.specs.Refused.{block_refusal}
@@ -99,29 +99,6 @@ module _ (c : Configuration) (items : List ObjectBlock) (p : Packet) (x y : Obje
       }
 
 -- ---- all blocks joined
-
--- blocks are joined where each has an answer
-joined_some : (f : ℕ → List ℕ) (answer : ℕ → Option (List ℕ)) (n : ℕ) → ((b : ℕ) → b < n → answer b ≡ Some (f b)) → joined n answer ≡ Some (pieces f n)
-joined_some f answer zero each = refl
-joined_some f answer (suc n) each = rw (joined_some f answer n (λ b below. each b (omega arith)), each n (omega arith)) refl
-
-both_some : (x y : Option (List ℕ)) → IsSome (append_both x y) → IsSome x × IsSome y
-both_some None y h = absurd (cc h)
-both_some (Some xs) None h = absurd (cc h)
-both_some (Some xs) (Some ys) h = (refl, refl)
-
-joined_each : (answer : ℕ → Option (List ℕ)) (n : ℕ) → IsSome (joined n answer) → (b : ℕ) → b < n → IsSome (answer b)
-joined_each answer zero h b below = absurd (omega arith)
-joined_each answer (suc n) h b below =
-    let q = both_some (joined n answer) (answer n) h in
-    elim (cases_lt b n) [
-      | inl lt ↦ joined_each answer n q.0 b lt
-      | inr past ↦ let here : n ≡ b = omega arith in subst (λ m. IsSome (answer m)) here q.1
-    ]
-
-some_of : (f : List ℕ → List ℕ) (o : Option (List ℕ)) → IsSome (option_map f o) → IsSome o
-some_of f None h = h
-some_of f (Some xs) h = refl
 
 -- a block without an answer
 pub not_complete : (s : State) (b : ℕ) → b < s.configuration.source_blocks → s.answer b ≡ None → is_some (result_of s) ≡ false

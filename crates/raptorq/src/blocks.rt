@@ -1,14 +1,14 @@
 //! How an object is cut into source blocks.
-ghost use Rattle.std.specs.Prelude.{◌≡◌, ◌<◌, OnOk, length};
+ghost use Rattle.std.specs.Prelude.{◌≡◌, ◌<◌, IfOk};
 ghost use Rattle.rq_bytes.specs.Refusals.{IsAnswer};
 ghost use Rattle.rq_standard.specs.Configuration.{largest_block};
 ghost use Rattle.rq_standard.specs.Cutting.{block_symbols};
-ghost use Rattle.raptorq.specs.Offsets.{checked_offsets};
+ghost use Rattle.raptorq.specs.Offsets.{block_offsets, checked_offsets};
 
 use rq_base::base::{ObjectTransmissionInformation, partition};
 use rq_bytes::error::Error;
 use rq_tables::systematic_constants::MAX_SOURCE_SYMBOLS_PER_BLOCK;
-use std::alloc::Global;
+use std::alloc::{AllocError, Global};
 
 /// The number of source symbols of a block: the larger blocks come first (RFC 6330, 4.4.1.2).
 pub(crate) fn block_symbols(config: &ObjectTransmissionInformation, number: u8) -> u32
@@ -41,7 +41,6 @@ pub fn calculate_block_offsets(
     config: &ObjectTransmissionInformation,
 ) -> Result<Vec<(usize, usize)>, Error>
     ensures offsets { IsAnswer (λ v. v.items) result (checked_offsets config.now) }
-    ensures few { OnOk result ((0 < config.now.symbol_size) × (largest_block config.now < 65536)) }
 {
     if config.symbol_size() == 0 {
         return Err(Error::SymbolSizeZero);
@@ -49,13 +48,27 @@ pub fn calculate_block_offsets(
     if config.source_blocks() == 0 {
         return Err(Error::SourceBlocksZero);
     }
-    let size = u64::from(config.symbol_size());
-    let symbols = config.transfer_length().div_ceil(size);
+    let symbols = config
+        .transfer_length()
+        .div_ceil(u64::from(config.symbol_size()));
     if symbols.div_ceil(u64::from(config.source_blocks()))
         > u64::from(MAX_SOURCE_SYMBOLS_PER_BLOCK)
     {
         return Err(Error::TooManySymbols);
     }
+    Ok(block_offsets(alloc, config)?)
+}
+
+/// Where each source block begins and where it ends, in bytes.
+pub(crate) fn block_offsets(
+    alloc: Global,
+    config: &ObjectTransmissionInformation,
+) -> Result<Vec<(usize, usize)>, AllocError>
+    requires size { 0 < config.now.symbol_size }
+    requires few { largest_block config.now < 65536 }
+    ensures { IfOk result (λ v. v.items ≡ block_offsets config.now) }
+{
+    let size = u64::from(config.symbol_size());
     let mut offsets = Vec::with_capacity(alloc, usize::from(config.source_blocks()))?;
     let mut start = 0;
     for number in 0..config.source_blocks() {

@@ -2,13 +2,15 @@
 ghost use Rattle.std.specs.Prelude.{◌≡◌, ℕ, ◌+◌, ◌*◌, ◌<◌, ◌≤◌, ◌⊎◌, All, List, length, map, slice_range, Result, Ok, Err, IfOk, IfErr, OnOk};
 ghost use Rattle.std.specs.List.{range_with_len};
 ghost use Rattle.rq_bytes.specs.Refusals.{IsAnswer, IsRefusal};
-ghost use Rattle.rq_standard.specs.Configuration.{IsAccepted, largest_block};
+ghost use Rattle.rq_standard.specs.Configuration.{IsAccepted, IsAligned, largest_block};
 ghost use Rattle.rq_standard.specs.Cutting.{block_symbols};
 ghost use Rattle.rq_standard.specs.Encoded.{block_row, HasNonsingularRows};
 ghost use Rattle.rq_standard.specs.Equations.{IsNonsingular, IsSingular};
-ghost use Rattle.rq_standard.specs.TableRows.{greatest_size};
+ghost use Rattle.rq_standard.specs.TableRows.{greatest_size, row_of};
+ghost use Rattle.rq_standard.specs.declared.row.Row.{Row};
+ghost use Rattle.raptorq.specs.Plans.{plan_of};
+ghost use Rattle.raptorq.specs.BlockData.{IsPlanFor};
 ghost use Rattle.raptorq.specs.BlockEncoded.{block_encoded_of, new_block_encoded, bytes_of_block};
-ghost use Rattle.raptorq.specs.Offsets.{block_range};
 
 mod block;
 mod cache;
@@ -17,7 +19,7 @@ mod plan;
 pub use block::SourceBlockEncoder;
 pub use cache::SourceBlockEncodingPlanCache;
 pub use plan::SourceBlockEncodingPlan;
-use crate::blocks::{block_symbols, calculate_block_offsets};
+use crate::blocks::{block_offsets, block_symbols};
 use crate::sub_blocks::source_symbols;
 use rq_base::base::{EncodingPacket, ObjectTransmissionInformation};
 use rq_bytes::error::Error;
@@ -39,7 +41,6 @@ pub struct Encoder {
 }
 
 impl Encoder {
-    ghost use Rattle.rq_standard.specs.declared.row.Row.{Row};
     ghost use Rattle.rq_standard.specs.Encoded.{AreEncoded};
     ghost use Rattle.raptorq.specs.Encoded.{encoded_of, IsEncoderOf, packets_refusal};
     ghost use Rattle.raptorq.specs.Refused.{new_encoder, RefusesEncoder};
@@ -126,7 +127,7 @@ impl Clone for Encoder {
     }
 }
 
-// The encoders of an object's blocks.
+// The encoders of an object's blocks. Blocks of one size share a plan.
 fn block_encoders(
     alloc: Global,
     table: &SystematicTable,
@@ -139,33 +140,54 @@ fn block_encoders(
     ensures nonsingular { OnOk result (HasNonsingularRows table.now config.now) }
     ensures refused { IfErr result (λ e. (e ≡ Error.OutOfMemory) ⊎ ((e ≡ Error.Singular) × ¬ HasNonsingularRows table.now config.now)) }
 {
-    let offsets = calculate_block_offsets(alloc, object, config)?;
-    let mut blocks = Vec::with_capacity(alloc, usize::from(config.source_blocks()))?;
+    let offsets = block_offsets(alloc, config)?;
+    let mut plan = SourceBlockEncodingPlan::generate(alloc, table, block_symbols(config, 0) as u16)?;
+    let mut blocks = Vec::with_capacity(alloc, offsets.len())?;
     for number in 0..config.source_blocks() {
+        plan = plan_for(alloc, table, block_symbols(config, number) as u16, plan)?;
         let (start, end) = offsets[usize::from(number)];
         let bytes = &object[start.min(object.len())..end.min(object.len())];
-        blocks.push(block_encoder(alloc, table, config, number, bytes)?)?;
+        blocks.push(block_encoder(alloc, config, number, bytes, &plan)?)?;
     }
     Ok(blocks)
 }
 
-// The encoder of a block, from the object's bytes in it.
-fn block_encoder(
+// A plan of blocks with so many source symbols: the last one, where it is for as many.
+fn plan_for(
     alloc: Global,
     table: &SystematicTable,
+    count: u16,
+    last: SourceBlockEncodingPlan,
+) -> Result<SourceBlockEncodingPlan, Error>
+    requires count { count ≤ greatest_size table.now }
+    requires last { (plan_of last).row ≡ row_of table.now (plan_of last).count }
+    ensures plan { IfOk result (λ plan. IsPlanFor table.now count (plan_of plan)) }
+    ensures nonsingular { OnOk result (IsNonsingular (row_of table.now count)) }
+    ensures refused { IfErr result (λ e. (e ≡ Error.OutOfMemory) ⊎ ((e ≡ Error.Singular) × IsSingular (row_of table.now count))) }
+{
+    if last.source_symbol_count() == count {
+        return Ok(last);
+    }
+    SourceBlockEncodingPlan::generate(alloc, table, count)
+}
+
+// The encoder of a block, from the object's bytes in it and a plan of its size.
+fn block_encoder(
+    alloc: Global,
     config: &ObjectTransmissionInformation,
     number: u8,
     bytes: &[u8],
+    plan: &SourceBlockEncodingPlan,
 ) -> Result<SourceBlockEncoder, Error>
-    requires accepted { IsAccepted (greatest_size table.now) config.now }
-    requires few { largest_block config.now < 65536 }
-    requires number { number < config.now.source_blocks }
-    ensures encoded { IfOk result (λ b. (object : List ℕ) → bytes.now ≡ bytes_of_block config.now object number → block_encoded_of b ≡ new_block_encoded table.now config.now object number) }
-    ensures nonsingular { OnOk result (IsNonsingular (block_row table.now config.now number)) }
-    ensures refused { IfErr result (λ e. (e ≡ Error.OutOfMemory) ⊎ ((e ≡ Error.Singular) × IsSingular (block_row table.now config.now number))) }
+    requires size { 0 < config.now.symbol_size }
+    requires aligned { IsAligned config.now }
+    requires count { (plan_of plan.now).count ≡ block_symbols config.now number }
+    ensures encoded { IfOk result (λ b. (table : List Row) (object : List ℕ) → (plan_of plan.now).row ≡ block_row table config.now number → bytes.now ≡ bytes_of_block config.now object number
+        → block_encoded_of b ≡ new_block_encoded table config.now object number) }
+    ensures memory { IfErr result (λ e. e ≡ Error.OutOfMemory) }
 {
-    let symbols = block_symbols(config, number);
+    let symbols = u32::from(plan.source_symbol_count());
     let source = source_symbols(alloc, config, bytes, symbols)?;
     let size = usize::from(config.symbol_size());
-    SourceBlockEncoder::solved(alloc, number, table.row(symbols), size, source)
+    SourceBlockEncoder::planned(alloc, number, size, source, plan)
 }

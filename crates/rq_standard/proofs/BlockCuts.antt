@@ -4,26 +4,12 @@ use Rattle.std.specs.Int.{div_ceil}
 use Rattle.std.specs.List.{range_with_len}
 use Rattle.std.proofs.lemmas.Bool.{cases_lt, lt-ltb, le-ltb}
 use Rattle.std.proofs.lemmas.List.{ext_get_or, get_or-take, length-take-le, get_or_append_left, get_or-append_right, nil_from_length}
+use Rattle.std.proofs.lemmas.Grind.{div_ceil_times}
 use Rattle.std.proofs.lemmas.List.FromFn.{length-map-range_with_len, get_or-map-range_with_len}
 use Rattle.rq_standard.specs.Configuration.{Configuration, total_symbols, largest_block}
 use Rattle.rq_standard.specs.Cutting.{block_parts, block_symbols, symbols_before, block_bytes}
 use Rattle.rq_standard.proofs.PartSums.{parts-whole}
 use Rattle.rq_standard.proofs.PlainCut.{length-block_bytes}
-
--- ---- symbols cover the object
-
-covers : (q s r m : ℕ) → r < s → (r ≡ 0) ⊎ (m ≡ 1) → q * s + r ≤ (q + m) * s
-covers q s r m h (inl e) = omega arith
-covers q s r m h (inr e) = rw e (omega arith)
-
-one_more : (r : ℕ) → (r ≡ 0) ⊎ (min 1 r ≡ 1)
-one_more zero = inl refl
-one_more (suc r) = inr (omega arith)
-
-pub div_ceil_covers : (n size : ℕ) → 0 < size → n ≤ div_ceil n size * size
-div_ceil_covers n size h =
-    let c = covers (n / size) size (n % size) (min 1 (n % size)) (omega arith) (one_more (n % size)) in
-    omega arith
 
 -- ---- how many symbols a block has
 
@@ -132,7 +118,7 @@ pub whole_object : (c : Configuration) (object : List ℕ) → 0 < c.source_bloc
 whole_object c object some pos long =
     let n = total_symbols c in
     let all : pieces (block_bytes c object) c.source_blocks ≡ up_to c object n = pieces-up_to c object c.source_blocks (omega arith) ∙ ap (up_to c object) (symbols_before-all c some) in
-    let room : c.transfer_length ≤ n * c.symbol_size = div_ceil_covers c.transfer_length c.symbol_size pos in
+    let room : c.transfer_length ≤ n * c.symbol_size = (div_ceil_times c.transfer_length c.symbol_size pos).0 in
     let size : length (take c.transfer_length (up_to c object n)) ≡ c.transfer_length = length-take-le c.transfer_length (up_to c object n) (omega (arith, length-up_to c object n)) in
     ap (take c.transfer_length) all
     ∙ ext_get_or 0 (take c.transfer_length (up_to c object n)) object (size ∙ sym long)

@@ -14,7 +14,7 @@ use Rattle.rq_standard.specs.Standing.{State, IsHeldOf, BlockStands, StandsBut, 
 use Rattle.rq_standard.proofs.BlockCuts.{pieces, whole_object}
 
 -- blocks are joined where each has an answer
-joined_some : (f : ℕ → List ℕ) (answer : ℕ → Option (List ℕ)) (n : ℕ) → ((b : ℕ) → b < n → answer b ≡ Some (f b)) → joined n answer ≡ Some (pieces f n)
+pub joined_some : (f : ℕ → List ℕ) (answer : ℕ → Option (List ℕ)) (n : ℕ) → ((b : ℕ) → b < n → answer b ≡ Some (f b)) → joined n answer ≡ Some (pieces f n)
 joined_some f answer zero each = refl
 joined_some f answer (suc n) each = rw (joined_some f answer n (λ b below. each b (omega arith)), each n (omega arith)) refl
 
@@ -23,7 +23,7 @@ both_some None y h = absurd (cc h)
 both_some (Some xs) None h = absurd (cc h)
 both_some (Some xs) (Some ys) h = (refl, refl)
 
-joined_each : (answer : ℕ → Option (List ℕ)) (n : ℕ) → IsSome (joined n answer) → (b : ℕ) → b < n → IsSome (answer b)
+pub joined_each : (answer : ℕ → Option (List ℕ)) (n : ℕ) → IsSome (joined n answer) → (b : ℕ) → b < n → IsSome (answer b)
 joined_each answer zero h b below = absurd (omega arith)
 joined_each answer (suc n) h b below =
     let q = both_some (joined n answer) (answer n) h in
@@ -32,7 +32,7 @@ joined_each answer (suc n) h b below =
       | inr past ↦ let here : n ≡ b = omega arith in subst (λ m. IsSome (answer m)) here q.1
     ]
 
-some_of : (f : List ℕ → List ℕ) (o : Option (List ℕ)) → IsSome (option_map f o) → IsSome o
+pub some_of : (f : List ℕ → List ℕ) (o : Option (List ℕ)) → IsSome (option_map f o) → IsSome o
 some_of f None h = h
 some_of f (Some xs) h = refl
 

@@ -2,7 +2,7 @@ use Rattle.std.proofs.Common.{◌≡◌, ◌*◌, ◌≤◌, map}
 use Rattle.std.specs.List.{range_with_len}
 use Rattle.rq_standard.specs.Cutting.{symbols_before}
 use Rattle.raptorq.specs.Offsets.{block_range}
-use Rattle.raptorq.proofs.blocks.calculate_block_offsets.Given as goal
+use Rattle.raptorq.proofs.blocks.block_offsets.Given as goal
 
 -- the blocks so far
 abbrev pub invariant-loop-number : goal.invariant-loop-number
