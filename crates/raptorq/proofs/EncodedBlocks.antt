@@ -1,9 +1,11 @@
 -- The encoders of an object's blocks.
-use Rattle.std.proofs.Common.{◌≡◌, ℕ, zero, suc, ◌+◌, ◌-◌, ◌*◌, ◌<◌, ◌≤◌, ◌^◌, min, List, [], ◌∷◌, ◌++◌, length, take, drop, get_or, map, Result, Ok, Err, refl, sym, ap, ◌∙◌, subst, arith, ◌⊎◌, inl, inr, eq-eqb, length-append, length-drop}
+use Rattle.std.proofs.Common.{◌≡◌, ℕ, zero, suc, ◌+◌, ◌-◌, ◌*◌, ◌<◌, ◌≤◌, ◌^◌, min, List, [], ◌∷◌, ◌++◌, All, length, take, drop, get_or, map, Result, Ok, Err, refl, sym, ap, ◌∙◌, subst, arith, ◌⊎◌, inl, inr, eq-eqb, append-nil, length-drop}
 use Rattle.std.specs.List.{range_with_len, flat_map, AllByRecursion}
 use Rattle.std.proofs.lemmas.Bool.{cases_lt}
-use Rattle.std.proofs.lemmas.List.{ext_get_or, get_or-take, get_or-drop, get_or_past, length-take-le, take_all, nil_from_length, drop_all, map-append, length-map}
-use Rattle.std.proofs.lemmas.List.FromFn.{length-range_with_len, length-map-range_with_len, get_or-map-range_with_len, map-range_with_len_more}
+use Rattle.std.proofs.lemmas.List.{get_or-take, get_or-drop, get_or_past, take_all, nil_from_length, map-append, map-id}
+use Rattle.std.proofs.lemmas.Simd.{map-map}
+use Rattle.std.proofs.lemmas.Grind.{flat_map-append}
+use Rattle.std.proofs.lemmas.List.FromFn.{length-map-range_with_len, get_or-map-range_with_len, map-range_with_len_more}
 use Rattle.rq_bytes.specs.declared.error.Error.{Error}
 use Rattle.rq_bytes.specs.declared.error.Error.TheVariants.{OutOfMemory, Singular}
 use Rattle.rq_bytes.specs.Refusals.{IsRefusal}
@@ -15,6 +17,8 @@ use Rattle.rq_standard.specs.TableRows.{greatest_size}
 use Rattle.rq_standard.specs.Equations.{IsEncodingSymbol, IsNonsingular, IsSingular}
 use Rattle.rq_standard.specs.Encoded.{block_row, block_source, IsPacketOf, HasNonsingularRows, first_ids, packet_ids, AreEncoded}
 use Rattle.rq_standard.proofs.PlainCut.{length-block_bytes}
+use Rattle.rq_standard.proofs.Standing.{length-block_source}
+use Rattle.raptorq.specs.Encoded.{Encoded, IsEncoderOf}
 use Rattle.rq_base.specs.Refused.{checked_configuration}
 use Rattle.raptorq.specs.Refused.{new_encoder, RefusesEncoder}
 use Rattle.raptorq.specs.BlockEncoded.{BlockEncoded, IsBlockPacket, AreBlockPackets, new_block_encoded, bytes_of_block}
@@ -86,7 +90,52 @@ abbrev pub ids_before : Configuration → ℕ → ℕ → List SymbolId
 ids_before c repair n = flat_map (λ b. first_ids (block_symbols c b + repair) b) (range_with_len 0 n)
 
 pub ids_next : (c : Configuration) (repair n : ℕ) → ids_before c repair (n + 1) ≡ ids_before c repair n ++ first_ids (block_symbols c n + repair) n
-ids_next c repair n = ?
+ids_next c repair n =
+    let f : ℕ → List SymbolId = λ b. first_ids (block_symbols c b + repair) b in
+    ap (flat_map f) (range_next n) ∙ flat_map-append f (range_with_len 0 n) (n ∷ []) ∙ ap (λ l. flat_map f (range_with_len 0 n) ++ l) (append-nil (f n)) where
+  range_next : (n : ℕ) → range_with_len 0 (n + 1) ≡ range_with_len 0 n ++ n ∷ []
+  range_next n = sym (map-id (range_with_len 0 (n + 1))) ∙ map-range_with_len_more (λ i. i) 0 n n (omega arith) ∙ ap (λ l. l ++ n ∷ []) (map-id (range_with_len 0 n))
+
+-- the packets of the first n blocks
+pub record AreEncodedSoFar (c : Configuration) (repair n : ℕ) (e : Encoded) (packets : List Packet) : Type 0 where
+  pub ids : map (λ p. p.id) packets ≡ ids_before c repair n
+  pub each : (table : List Row) (object : List ℕ) → IsEncoderOf table object e → AllByRecursion (IsPacketOf table c object) packets
+
+-- those of one block more
+pub encoded_more : (e : Encoded) (repair n end : ℕ) (b : BlockEncoded) (done more new : List Packet) → n < e.configuration.source_blocks → b ≡ e.block n → b.number ≡ n → length b.source ≡ block_symbols e.configuration n → end ≡ length b.source + repair
+    → AreEncodedSoFar e.configuration repair n e done → AreBlockPackets b 0 end more → new ≡ done ++ more → AreEncodedSoFar e.configuration repair (n + 1) e new
+encoded_more e repair n end b done more new below is number count so_many so are grown =
+    let c = e.configuration in
+    subst (AreEncodedSoFar c repair (n + 1) e) (sym grown) (record {
+      ids = map-append (λ (p : Packet). p.id) done more ∙ ap (λ l. l ++ map (λ p. p.id) more) so.ids
+          ∙ ap (λ l. ids_before c repair n ++ l) (are.ids ∙ ap (λ k. first_ids end k) number ∙ ap (λ m. first_ids m n) (so_many ∙ ap (λ m. m + repair) count)) ∙ sym (ids_next c repair n);
+      each = λ table object made. both_all (IsPacketOf table c object) done more (so.each table object made)
+          (packets_of_block table c object n below more (subst (λ k. AllByRecursion (IsBlockPacket k) more) (is ∙ made.block n below) are.each));
+    })
+
+-- those of all blocks
+pub encoded_all : (e : Encoded) (repair n : ℕ) (packets : List Packet) → n ≡ e.configuration.source_blocks → AreEncodedSoFar e.configuration repair n e packets → (table : List Row) (object : List ℕ) → IsEncoderOf table object e → AreEncoded table e.configuration object repair packets
+encoded_all e repair n packets all so table object made = record {
+  ids = so.ids ∙ ap (ids_before e.configuration repair) all;
+  each = so.each table object made;
+}
+
+-- ---- what an encoder is made of
+
+module _ (table : List Row) (c : Configuration) (object : List ℕ) (blocks : List BlockEncoded) (encoded : blocks ≡ map (new_block_encoded table c object) (range_with_len 0 c.source_blocks)) where
+  pub new_numbers : map (λ b. b.number) blocks ≡ range_with_len 0 c.source_blocks
+  new_numbers = ap (map (λ b. b.number)) encoded ∙ map-map (λ b. b.number) (new_block_encoded table c object) (range_with_len 0 c.source_blocks) ∙ map-id (range_with_len 0 c.source_blocks)
+
+  pub new_counts : map (λ b. length b.source) blocks ≡ map (block_symbols c) (range_with_len 0 c.source_blocks)
+  new_counts = ap (map (λ b. length b.source)) encoded ∙ map-map (λ b. length b.source) (new_block_encoded table c object) (range_with_len 0 c.source_blocks) ∙ (λ i. map (λ b. length-block_source c object b i) (range_with_len 0 c.source_blocks))
+
+  pub new_block : (b : ℕ) → b < c.source_blocks → (d : BlockEncoded) → get_or blocks b d ≡ new_block_encoded table c object b
+  new_block b below d = ap (λ l. get_or l b d) encoded ∙ get_or-map-range_with_len (new_block_encoded table c object) 0 c.source_blocks b b d below (omega arith)
+
+  pub new_sizes : All (λ b. b.size ≡ c.symbol_size) blocks
+  new_sizes i d below =
+      let long : length blocks ≡ c.source_blocks = ap length encoded ∙ length-map-range_with_len (new_block_encoded table c object) 0 c.source_blocks in
+      ap (λ b. b.size) (new_block i (omega (arith, long)) d)
 
 -- ---- refusals
 

@@ -14,7 +14,6 @@ use Rattle.rq_base.specs.Defaults.{wanted_parameters}
 use Rattle.raptorq.specs.Encoded.{packets_refusal}
 use Rattle.raptorq.specs.Refused.{new_encoder}
 use Rattle.rq_streams.specs.Ends.{Wanted}
-use Rattle.rq_streams.specs.Limits.{one_block_refusal}
 use Rattle.rq_streams.specs.Sent.{sent_configuration, IsStreamSent, Sends, IsSent}
 
 frames_of-push : (packets : List Packet) (p : Packet) → frames_of (packets ++ p ∷ []) ≡ frames_of packets ++ packet_bytes p
@@ -43,9 +42,9 @@ answered_with bytes = Ok (Some bytes)
 abbrev refused_by : Error → Wanted
 refused_by e = Err e
 
-module _ (table : List Row) (s repair : ℕ) (object : List ℕ) (c : Configuration) (parameters : wanted_parameters table (length object) s 10485760 ≡ Ok c) (one : one_block_refusal c ≡ Ok tt) (taken : new_encoder (greatest_size table) c (length object) ≡ Ok tt) where
+module _ (table : List Row) (s repair : ℕ) (object : List ℕ) (c : Configuration) (parameters : wanted_parameters table (length object) s 10485760 ≡ Ok c) (taken : new_encoder (greatest_size table) c (length object) ≡ Ok tt) where
   configured : sent_configuration table s object ≡ Ok c
-  configured = rw (parameters, one, taken) refl
+  configured = rw (parameters, taken) refl
 
   sent_in : (wanted : Wanted) → Sends table c repair object wanted → IsSent table s repair object wanted
   sent_in wanted sends = subst (λ r. MatchResult r (λ k. Sends table k repair object wanted) (λ e. wanted ≡ Err e)) (sym configured) sends

@@ -1,8 +1,9 @@
 -- A sender's stream is one that a receiver takes.
-use Rattle.std.proofs.Common.{◌≡◌, ℕ, ◌+◌, ◌-◌, ◌%◌, ◌*◌, ◌<◌, ◌≤◌, ◌^◌, Bool, true, false, cond, eqb, ltb, leb, List, [], ◌∷◌, length, map, Option, Some, Result, Ok, Err, refl, sym, ap, ◌∙◌, subst, arith, inl, inr}
+use Rattle.std.proofs.Common.{◌≡◌, ℕ, zero, suc, ◌+◌, ◌-◌, ◌%◌, ◌*◌, ◌/◌, ◌<◌, ◌≤◌, ◌^◌, Bool, true, false, cond, eqb, ltb, leb, List, [], ◌∷◌, length, map, Option, Some, Result, Ok, Err, refl, sym, ap, ◌∙◌, subst, arith, inl, inr}
 use Rattle.std.specs.Prelude.{Contains, All, not, ◌&&◌, MatchResult}
+use Rattle.std.specs.Int.{div_ceil}
 use Rattle.std.specs.List.{AllByRecursion}
-use Rattle.std.proofs.lemmas.Bool.{eqb-true, ltb-true, ltb-false, leb-true}
+use Rattle.std.proofs.lemmas.Bool.{eqb-true, ltb-true, ltb-false, leb-false}
 use Rattle.std.proofs.lemmas.List.Elements.{All-contains, All-from_recursion}
 use Rattle.rq_bytes.specs.declared.error.Error.{Error}
 use Rattle.rq_bytes.specs.declared.error.Error.TheVariants.{PacketSizeZero, TransferLengthZero, TransferTooLong, MemoryRequirementTooSmall, TooManyBlocks, SymbolSizeZero, AlignmentZero, Misaligned, SourceBlocksZero, BlockOverTable}
@@ -10,16 +11,14 @@ use Rattle.rq_bytes.specs.Refusals.{and_then}
 use Rattle.rq_standard.specs.declared.row.Row.{Row}
 use Rattle.rq_standard.specs.Packet.{Packet}
 use Rattle.rq_standard.specs.Configuration.{Configuration, IsConfiguration, IsAccepted, largest_block}
-use Rattle.rq_standard.specs.Parameters.{alignment_for, symbol_size_for, fitting_block, most_sub_blocks, blocks_for, parameters_for}
+use Rattle.rq_standard.specs.Parameters.{alignment_for, symbol_size_for, fitting_block, most_sub_blocks, symbols_for, blocks_for, is_fitting, first_from, sub_blocks_for, parameters_for}
 use Rattle.rq_standard.specs.Encoded.{IsPacketOf, HasNonsingularRows}
 use Rattle.rq_standard.specs.Streams.{stream_of}
 use Rattle.rq_standard.specs.TableRows.{greatest_size, IsTable}
 use Rattle.rq_base.specs.Defaults.{wanted_parameters}
 use Rattle.rq_base.specs.Refused.{checked_configuration}
-use Rattle.raptorq.specs.OneBlock.{IsOneBlock}
 use Rattle.raptorq.specs.Refused.{new_encoder}
 use Rattle.raptorq.specs.Encoded.{packets_refusal}
-use Rattle.rq_streams.specs.Limits.{one_block_refusal}
 use Rattle.rq_streams.specs.Received.{IsStreamOf}
 use Rattle.rq_streams.specs.Sent.{sent_configuration, IsStreamSent, Sends, IsSent}
 use Rattle.rq_streams.specs.SentStreams.{IsSentStream}
@@ -56,27 +55,32 @@ accepted_by greatest c h =
       in_table = ltb-false greatest (largest_block c) t.4;
     }
 
-abbrev passed : Result (Unit {0}) Error
-passed = Ok tt
-
-three_true : (a b d : Bool) (e : Error) → cond (a && b && d) passed (Err e) ≡ passed → (a ≡ true) × (b ≡ true) × (d ≡ true)
-three_true true true true e h = (refl, refl, refl)
-three_true true true false e h = absurd (cc h)
-three_true true false d e h = absurd (cc h)
-three_true false b d e h = absurd (cc h)
-
-one_block_by : (c : Configuration) → one_block_refusal c ≡ Ok tt → IsOneBlock c
-one_block_by c h =
-    let t = three_true (eqb c.source_blocks 1) (leb c.sub_blocks 1) (ltb 0 c.transfer_length) BlockOverTable h in
-    record { one_block = eqb-true c.source_blocks 1 t.0; one_sub_block = leb-true c.sub_blocks 1 t.1; some_bytes = ltb-true 0 c.transfer_length t.2 }
-
 small_alignment : (b : Bool) → cond b 8 1 < 2 ^ 8
 small_alignment true = omega arith
 small_alignment false = omega arith
 
+-- there are few sub-blocks
+first_from-end : (test : ℕ → Bool) (start more : ℕ) → first_from test start more ≤ start + more
+unfolding first_from
+first_from-end test start zero = omega arith
+first_from-end test start (suc more) = by_test (test start) where
+  by_test : (b : Bool) → cond b start (first_from test (start + 1) more) ≤ start + suc more
+  by_test true = omega arith
+  by_test false = omega (arith, first_from-end test (start + 1) more)
+
+most_few : (large : Bool) (s : ℕ) → (large ≡ false → s < 64) → s < 2 ^ 16 → (s - s % cond large 8 1) / (cond large 8 1 * cond large 8 1) + 1 < 2 ^ 16
+most_few true s h small = omega arith
+most_few false s h small = omega (arith, h refl)
+
+few_sub_blocks : (table : List Row) (n s memory : ℕ) → s < 2 ^ 16 → sub_blocks_for table n s memory < 2 ^ 16
+unfolding sub_blocks_for
+few_sub_blocks table n s memory small =
+    let end = first_from-end (is_fitting table s memory (div_ceil (symbols_for n s) (blocks_for table n s memory))) 1 (most_sub_blocks s) in
+    omega (arith, end, most_few (leb 64 s) s (λ e. leb-false 64 s e) small)
+
 -- default parameters fit their bytes
-fits_by : (table : List Row) (n s : ℕ) (c : Configuration) → s < 2 ^ 16 → wanted_parameters table n s 10485760 ≡ Ok c → IsOneBlock c → IsConfiguration c × (c.transfer_length ≡ n)
-fits_by table n s c small h one =
+fits_by : (table : List Row) (n s : ℕ) (c : Configuration) → s < 2 ^ 16 → wanted_parameters table n s 10485760 ≡ Ok c → IsConfiguration c × (c.transfer_length ≡ n)
+fits_by table n s c small h =
     let m : ℕ = 10485760 in
     let t = five_tests (eqb s 0) (eqb n 0) (ltb 942574504275 n) (eqb (fitting_block table s m (most_sub_blocks s)) 0) (ltb 255 (blocks_for table n s m)) PacketSizeZero TransferLengthZero TransferTooLong MemoryRequirementTooSmall TooManyBlocks (parameters_for table n s m) c h in
     let same = t.5 in
@@ -87,8 +91,8 @@ fits_by table n s c small h one =
       record {
         length_fits = omega arith;
         size_fits = omega arith;
-        blocks_fit = omega (arith, one.one_block);
-        sub_blocks_fit = omega (arith, one.one_sub_block);
+        blocks_fit = omega (arith, ap (λ (k : Configuration). k.source_blocks) same, ltb-false 255 (blocks_for table n s m) t.4);
+        sub_blocks_fit = omega (arith, ap (λ (k : Configuration). k.sub_blocks) same, few_sub_blocks table n s m small);
         alignment_fits = subst (λ a. a < 2 ^ 8) (sym alignment_is) (small_alignment (leb 64 s));
       },
       length_is,
@@ -108,14 +112,12 @@ among table c object all [] honest h = tt
 among table c object all (p ∷ some) honest h = (All-contains (IsPacketOf table c object) all p (All-from_recursion (IsPacketOf table c object) all honest) h.0, among table c object all some honest h.1)
 
 -- the steps of a configuration that is sent
-sent_steps : (table : List Row) (s : ℕ) (object : List ℕ) (c : Configuration) → sent_configuration table s object ≡ Ok c → (wanted_parameters table (length object) s 10485760 ≡ Ok c) × (one_block_refusal c ≡ Ok tt) × (new_encoder (greatest_size table) c (length object) ≡ Ok tt)
+sent_steps : (table : List Row) (s : ℕ) (object : List ℕ) (c : Configuration) → sent_configuration table s object ≡ Ok c → (wanted_parameters table (length object) s 10485760 ≡ Ok c) × (new_encoder (greatest_size table) c (length object) ≡ Ok tt)
 sent_steps table s object c h =
     let p = both_ok (wanted_parameters table (length object) s 10485760) _ c h in
-    let q = both_ok (one_block_refusal p.0) _ c p.2 in
-    let e = both_ok (new_encoder (greatest_size table) p.0 (length object)) _ c q.2 in
+    let e = both_ok (new_encoder (greatest_size table) p.0 (length object)) _ c p.2 in
     let same : p.0 ≡ c = same_configuration p.0 c e.2 in (
       p.1 ∙ ap configured same,
-      subst (λ k. one_block_refusal k ≡ Ok tt) same q.1,
       subst (λ k. new_encoder (greatest_size table) k (length object) ≡ Ok tt) same e.1,
     )
 
@@ -125,9 +127,8 @@ same_stream xs ys h = cc
 sent_by : (table : List Row) (s repair : ℕ) (object stream : List ℕ) (c : Configuration) → IsTable table → s < 2 ^ 16 → sent_configuration table s object ≡ Ok c → HasNonsingularRows table c → IsStreamSent table c repair object (Ok (Some stream)) → IsSentStream table repair object stream
 sent_by table s repair object stream c checked small configured_by nonsingular sent =
     let steps = sent_steps table s object c configured_by in
-    let taken = both_ok (checked_configuration (greatest_size table) c) _ tt steps.2 in
-    let one = one_block_by c steps.1 in
-    let fits = fits_by table (length object) s c small steps.0 one in
+    let taken = both_ok (checked_configuration (greatest_size table) c) _ tt steps.1 in
+    let fits = fits_by table (length object) s c small steps.0 in
     record {
       configuration = c;
       packets = sent.packets;
@@ -137,7 +138,6 @@ sent_by table s repair object stream c checked small configured_by nonsingular s
         checked = checked;
         fits = fits.0;
         accepted = accepted_by (greatest_size table) c taken.1;
-        one = one;
         nonsingular = nonsingular;
         long = sym fits.1;
         honest = among table c object sent.packets some sent.encoded.each of_it;

@@ -16,14 +16,11 @@ use Rattle.rq_standard.specs.Encoded.{block_row, IsPacketOf}
 use Rattle.rq_standard.specs.Standing.{IsObjectAnswer}
 use Rattle.rq_standard.specs.Streams.{frames_of}
 use Rattle.rq_standard.proofs.HeaderBytes.{configuration_of_bytes-header_bytes}
-use Rattle.rq_standard.proofs.OneAnswer.{first_of_one}
+use Rattle.rq_standard.proofs.BlockCuts.{block_symbols_few}
 use Rattle.rq_standard.proofs.RowLaws.{row_checked}
 use Rattle.rq_base.specs.Refused.{checked_configuration, read_packet}
-use Rattle.raptorq.specs.OneBlock.{IsOneBlock}
 use Rattle.raptorq.proofs.Lists.{packet_refusal-packet}
-use Rattle.raptorq.proofs.Encodes.{one_block_size}
 use Rattle.rq_streams.specs.Frames.{frame_size, frame_refusal, first_refusal, frames_refusal}
-use Rattle.rq_streams.specs.Limits.{one_block_refusal}
 use Rattle.rq_streams.specs.Received.{taken_configuration, received_configuration, FillsFrame, IsStreamOf, Wants}
 use Rattle.rq_streams.specs.Ends.{Wanted}
 use Rattle.rq_streams.proofs.Cutting.{frames_in-frames_of}
@@ -38,11 +35,8 @@ accepted_unrefused : (greatest : ℕ) (c : Configuration) → IsAccepted greates
 accepted_unrefused greatest c h =
     rw (positive_eqb c.symbol_size h.size_positive, positive_eqb c.alignment h.alignment_positive, eq-eqb (c.symbol_size % c.alignment) 0 h.aligned, positive_eqb c.source_blocks h.blocks_positive, le-ltb greatest (largest_block c) h.in_table) refl
 
-one_unrefused : (c : Configuration) → IsOneBlock c → one_block_refusal c ≡ Ok tt
-one_unrefused c h = rw (eq-eqb c.source_blocks 1 h.one_block, le-leb c.sub_blocks 1 h.one_sub_block, lt-ltb 0 c.transfer_length h.some_bytes) refl
-
-taken_is : (greatest : ℕ) (c : Configuration) → IsAccepted greatest c → IsOneBlock c → taken_configuration greatest c ≡ Ok c
-taken_is greatest c accepted one = rw (accepted_unrefused greatest c accepted, one_unrefused c one) refl
+taken_is : (greatest : ℕ) (c : Configuration) → IsAccepted greatest c → taken_configuration greatest c ≡ Ok c
+taken_is greatest c accepted = rw (accepted_unrefused greatest c accepted) refl
 
 length-header_bytes : (c : Configuration) → length (header_bytes c) ≡ 12
 unfolding header_bytes
@@ -58,32 +52,30 @@ stream_configuration table c object packets bytes s =
     ap (λ b. cond b (Err HeaderTooShort) (taken_configuration greatest (configuration_of_bytes (take 12 bytes)))) enough
     ∙ ap (λ h. taken_configuration greatest (configuration_of_bytes h)) header
     ∙ ap (taken_configuration greatest) (configuration_of_bytes-header_bytes c s.fits)
-    ∙ taken_is greatest c s.accepted s.one
+    ∙ taken_is greatest c s.accepted
 
 -- and then come its frames
 pub stream_frames : (table : List Row) (c : Configuration) (object : List ℕ) (packets : List Packet) (bytes : List ℕ) → IsStreamOf table c object packets bytes → drop 12 bytes ≡ frames_of packets
 stream_frames table c object packets bytes s = ap (drop 12) s.spelled ∙ drop_at (header_bytes c) (frames_of packets) 12 (length-header_bytes c)
 
--- the row of its one block is checked
-one_checked : (table : List Row) (c : Configuration) (b : ℕ) → IsTable table → IsAccepted (greatest_size table) c → IsOneBlock c → b < c.source_blocks → IsChecked (block_row table c b)
-one_checked table c b checked accepted one below =
-    let first : 0 ≡ b = first_of_one b c.source_blocks below one.one_block in
-    subst (λ n. IsChecked (block_row table c n)) first (row_checked table (block_symbols c 0) checked (omega (arith, one_block_size c one.one_block, accepted.in_table))).0
+-- the row of each of its blocks is checked
+block_checked : (table : List Row) (c : Configuration) (b : ℕ) → IsTable table → IsAccepted (greatest_size table) c → b < c.source_blocks → IsChecked (block_row table c b)
+block_checked table c b checked accepted below = (row_checked table (block_symbols c b) checked (omega (arith, block_symbols_few c b below, accepted.in_table))).0
 
-fills : (table : List Row) (c : Configuration) (object : List ℕ) (p : Packet) → IsTable table → IsAccepted (greatest_size table) c → IsOneBlock c → IsPacketOf table c object p → FillsFrame table c object p
-fills table c object p checked accepted one source = record {
+fills : (table : List Row) (c : Configuration) (object : List ℕ) (p : Packet) → IsTable table → IsAccepted (greatest_size table) c → IsConfiguration c → IsPacketOf table c object p → FillsFrame table c object p
+fills table c object p checked accepted fits source = record {
   source = source;
-  id = record { block_fits = omega (arith, source.block, one.one_block); esi_fits = source.esi };
-  row = one_checked table c p.id.block checked accepted one source.block;
+  id = record { block_fits = omega (arith, source.block, fits.blocks_fit); esi_fits = source.esi };
+  row = block_checked table c p.id.block checked accepted source.block;
 }
 
-all_fills : (table : List Row) (c : Configuration) (object : List ℕ) (packets : List Packet) → IsTable table → IsAccepted (greatest_size table) c → IsOneBlock c → AllByRecursion (IsPacketOf table c object) packets → AllByRecursion (FillsFrame table c object) packets
-all_fills table c object [] checked accepted one honest = tt
-all_fills table c object (p ∷ packets) checked accepted one honest = (fills table c object p checked accepted one honest.0, all_fills table c object packets checked accepted one honest.1)
+all_fills : (table : List Row) (c : Configuration) (object : List ℕ) (packets : List Packet) → IsTable table → IsAccepted (greatest_size table) c → IsConfiguration c → AllByRecursion (IsPacketOf table c object) packets → AllByRecursion (FillsFrame table c object) packets
+all_fills table c object [] checked accepted fits honest = tt
+all_fills table c object (p ∷ packets) checked accepted fits honest = (fills table c object p checked accepted fits honest.0, all_fills table c object packets checked accepted fits honest.1)
 
 -- each packet fills its frame
 pub stream_fills : (table : List Row) (c : Configuration) (object : List ℕ) (packets : List Packet) (bytes : List ℕ) → IsStreamOf table c object packets bytes → AllByRecursion (FillsFrame table c object) packets
-stream_fills table c object packets bytes s = all_fills table c object packets s.checked s.accepted s.one s.honest
+stream_fills table c object packets bytes s = all_fills table c object packets s.checked s.accepted s.fits s.honest
 
 frame_unrefused : (table : List Row) (c : Configuration) (object : List ℕ) (p : Packet) → FillsFrame table c object p → frame_refusal c (packet_bytes p) ≡ Ok tt
 frame_unrefused table c object p h =

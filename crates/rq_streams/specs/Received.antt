@@ -11,17 +11,12 @@ use Rattle.rq_standard.specs.TableRows.{IsChecked, IsTable, greatest_size}
 use Rattle.rq_standard.specs.Encoded.{block_row, IsPacketOf, HasNonsingularRows, IsAnswerable}
 use Rattle.rq_standard.specs.Streams.{stream_of}
 use Rattle.rq_base.specs.Refused.{checked_configuration}
-use Rattle.raptorq.specs.OneBlock.{IsOneBlock}
 use Rattle.rq_streams.specs.Ends.{Wanted}
 use Rattle.rq_streams.specs.Frames.{frames_refusal}
-use Rattle.rq_streams.specs.Limits.{one_block_refusal}
 
--- what is refused of a configuration, over a table whose greatest row has this many symbols
-abbrev pub taken_refusal : ℕ → Configuration → Result (Unit {0}) Error
-taken_refusal greatest c = and_then (checked_configuration greatest c) (λ _. one_block_refusal c)
-
+-- a configuration, unless it is refused over a table whose greatest row has this many symbols
 abbrev pub taken_configuration : ℕ → Configuration → Result Configuration Error
-taken_configuration greatest c = and_then (taken_refusal greatest c) (λ _. Ok c)
+taken_configuration greatest c = and_then (checked_configuration greatest c) (λ _. Ok c)
 
 -- the configuration in a stream's header, unless it is refused
 abbrev pub received_configuration : ℕ → List ℕ → Result Configuration Error
@@ -44,7 +39,6 @@ pub record IsStreamOf (table : List Row) (c : Configuration) (object : List ℕ)
   pub checked : IsTable table
   pub fits : IsConfiguration c
   pub accepted : IsAccepted (greatest_size table) c
-  pub one : IsOneBlock c
   pub nonsingular : HasNonsingularRows table c
   pub long : length object ≡ c.transfer_length
   pub honest : AllByRecursion (IsPacketOf table c object) packets

@@ -13,14 +13,12 @@ use Rattle.rq_base.specs.Defaults.{wanted_parameters}
 use Rattle.raptorq.specs.Encoded.{packets_refusal}
 use Rattle.raptorq.specs.Refused.{new_encoder}
 use Rattle.rq_streams.specs.Ends.{Wanted}
-use Rattle.rq_streams.specs.Limits.{one_block_refusal}
 
 -- the default configuration of an object, unless something refuses it
 abbrev pub sent_configuration : List Row → ℕ → List ℕ → Result Configuration Error
 sent_configuration table packet_size object =
     and_then (wanted_parameters table (length object) packet_size 10485760) (λ c.
-    and_then (one_block_refusal c) (λ _.
-    and_then (new_encoder (greatest_size table) c (length object)) (λ _. Ok c)))
+    and_then (new_encoder (greatest_size table) c (length object)) (λ _. Ok c))
 
 -- a stream of the object's packets
 pub record IsStreamSent (table : List Row) (c : Configuration) (repair : ℕ) (object : List ℕ) (wanted : Wanted) : Type 0 where

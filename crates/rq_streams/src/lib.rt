@@ -5,7 +5,6 @@ mod counted;
 mod ending;
 mod jobs;
 pub mod laws;
-mod limits;
 mod receive;
 mod run;
 mod send;

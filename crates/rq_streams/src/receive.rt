@@ -12,14 +12,12 @@ ghost use Rattle.rq_standard.specs.Streams.{frames_of};
 ghost use Rattle.rq_standard.specs.TableRows.{greatest_size};
 ghost use Rattle.rq_base.specs.Refused.{checked_configuration};
 ghost use Rattle.raptorq.specs.Objects.{state_of};
-ghost use Rattle.raptorq.specs.OneBlock.{IsOneBlock};
 ghost use Rattle.rq_streams.specs.Counts.{failed_count, counted_inner};
 ghost use Rattle.rq_streams.specs.Ends.{Ends, AfterRefusal, failed_calls};
 ghost use Rattle.rq_streams.specs.Frames.{frame_size, frame_refusal, frames_refusal};
 ghost use Rattle.rq_streams.specs.Received.{received_configuration, receive_refusal, FillsFrame, IsStreamOf, Wants};
 
 use crate::counted::Counted;
-use crate::limits::check_one_block;
 use crate::run::{Outcome, Stop, finish, read_all};
 use raptorq::error::Error;
 use raptorq::systematic_constants::SystematicTable;
@@ -36,14 +34,12 @@ fn received_configuration(
     ensures long { OnOk result (12 ≤ length bytes.now) }
     ensures accepted { IfOk result (λ c. checked_configuration (greatest_size table.now) c ≡ Ok tt) }
     ensures few { IfOk result (λ c. largest_block c < 65536) }
-    ensures one { IfOk result IsOneBlock }
 {
     let Some(header) = bytes.first_chunk::<12>() else {
         return Err(Error::HeaderTooShort);
     };
     let config = ObjectTransmissionInformation::deserialize(header);
     config.check(table)?;
-    check_one_block(&config)?;
     Ok(config)
 }
 
@@ -109,11 +105,10 @@ fn received_object(
 /// moved.
 ///
 /// Refuses, in this order, [`Error::HeaderTooShort`] below 12 bytes, what
-/// [`ObjectTransmissionInformation::check`] refuses, [`Error::BlockOverTable`] for a configuration
-/// that isn't of one block, and then the first refusal in the order of the frames:
-/// [`Error::PacketTooShort`] of a last one below 4 bytes, [`Error::WrongPayloadSize`] of another
-/// one that isn't whole, and [`Error::UnknownBlock`]. [`Error::OutOfMemory`] may come before any of
-/// them.
+/// [`ObjectTransmissionInformation::check`] refuses, and then the first refusal in the order of the
+/// frames: [`Error::PacketTooShort`] of a last one below 4 bytes, [`Error::WrongPayloadSize`] of
+/// another one that isn't whole, and [`Error::UnknownBlock`]. [`Error::OutOfMemory`] may come before
+/// any of them.
 pub fn run_receive<R: Read, W: Write>(
     alloc: Global,
     table: &SystematicTable,

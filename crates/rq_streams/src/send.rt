@@ -8,7 +8,6 @@ ghost use Rattle.rq_streams.specs.Ends.{AnswersAs, EndsAs, failed_calls};
 ghost use Rattle.rq_streams.specs.Sent.{IsSent};
 
 use crate::counted::Counted;
-use crate::limits::check_one_block;
 use crate::run::{Outcome, Stop, finish, read_all};
 use raptorq::error::Error;
 use raptorq::systematic_constants::SystematicTable;
@@ -43,7 +42,6 @@ fn sent_stream(
 {
     let length = object.len() as u64;
     let config = ObjectTransmissionInformation::with_defaults(table, length, packet_size)?;
-    check_one_block(&config)?;
     let encoder = Encoder::new(alloc, table, object, config)?;
     let packets = encoder.get_encoded_packets(repair)?;
     Ok(Some(stream(alloc, &config, packets)?))
@@ -53,10 +51,9 @@ fn sent_stream(
 /// at most `packet_size` bytes of payload, and then its packets, `repair` of them a block being
 /// repair packets, each with its payload id of 4 bytes, in order.
 ///
-/// Refuses, in this order, what [`ObjectTransmissionInformation::with_defaults`] refuses,
-/// [`Error::BlockOverTable`] for an object that isn't of one block, what [`Encoder::new`] refuses,
-/// and what [`Encoder::get_encoded_packets`] refuses. [`Error::OutOfMemory`] may come before any of
-/// them.
+/// Refuses, in this order, what [`ObjectTransmissionInformation::with_defaults`] refuses, what
+/// [`Encoder::new`] refuses, and what [`Encoder::get_encoded_packets`] refuses.
+/// [`Error::OutOfMemory`] may come before any of them.
 pub fn run_send<R: Read, W: Write>(
     alloc: Global,
     table: &SystematicTable,

@@ -24,7 +24,7 @@ returns-in_err-take_frames-clause-refused c =
     let bytes = c.args.bytes.now in
     let e = c.in_err-take_frames.field-0.0 in
     let rest = take (length bytes - 12) (drop 12 bytes) in
-    let is = receive_refusal-taken (greatest_size c.args.table.now) c.in_ok-config.config c.in_ok-decoder.decoder.config bytes rest c.in_ok-config.ensures.value c.in_ok-decoder.ensures.configuration (take_rest bytes 12) in
+    let is = receive_refusal-taken (greatest_size c.args.table.now) c.in_ok-config.config c.in_ok-decoder.decoder.config bytes rest c.in_ok-config.ensures.value c.in_ok-decoder.ensures.state.configuration (take_rest bytes 12) in
     let p = err_from_is_err_and c.from_residual-in_err-take_frames.result c.from_residual-in_err-take_frames.ensures.1 in
     rw (p.1, p.2) (refused_after (vec_items {X = ℕ} {Z = Global}) (receive_refusal (greatest_size c.args.table.now) bytes) e (subst (λ r. (e ≡ OutOfMemory) ⊎ (r ≡ Err e)) (sym is) c.in_err-take_frames.ensures.refused))
 
@@ -39,14 +39,14 @@ returns-in_err-take_frames-clause-memory c =
     let same = same_configuration table k c.in_ok-config.config object packets bytes s c.in_ok-config.ensures.value in
     let behind : rest ≡ frames_of packets = take_rest bytes 12 ∙ stream_frames table k object packets bytes s in
     memory_only (frames_refusal c.in_ok-decoder.decoder.config rest) e
-    (ap (λ d. frames_refusal d rest) (c.in_ok-decoder.ensures.configuration ∙ same) ∙ ap (frames_refusal k) behind ∙ frames_unrefused table k object packets (stream_fills table k object packets bytes s))
+    (ap (λ d. frames_refusal d rest) (c.in_ok-decoder.ensures.state.configuration ∙ same) ∙ ap (frames_refusal k) behind ∙ frames_unrefused table k object packets (stream_fills table k object packets bytes s))
     c.in_err-take_frames.ensures.refused)
 
 pub returns-clause-refused : goal.returns-clause-refused
 returns-clause-refused c =
     let bytes = c.args.bytes.now in
     let rest = take (length bytes - 12) (drop 12 bytes) in
-    let is = receive_refusal-taken (greatest_size c.args.table.now) c.in_ok-config.config c.in_ok-decoder.decoder.config bytes rest c.in_ok-config.ensures.value c.in_ok-decoder.ensures.configuration (take_rest bytes 12) in
+    let is = receive_refusal-taken (greatest_size c.args.table.now) c.in_ok-config.config c.in_ok-decoder.decoder.config bytes rest c.in_ok-config.ensures.value c.in_ok-decoder.ensures.state.configuration (take_rest bytes 12) in
     answered_after (vec_items {X = ℕ} {Z = Global}) (receive_refusal (greatest_size c.args.table.now) bytes) c.get_result.result (is ∙ c.in_ok-take_frames.ensures.refused) c.get_result.ensures.memory
 
 pub returns-clause-answer : goal.returns-clause-answer
@@ -57,9 +57,9 @@ returns-clause-answer c =
     IfOk-weaker c.get_result.result _ _
     (λ r is k object packets s.
     let same = same_configuration table k c.in_ok-config.config object packets bytes s c.in_ok-config.ensures.value in
-    let here = c.in_ok-decoder.ensures.configuration ∙ same in
+    let here = c.in_ok-decoder.ensures.state.configuration ∙ same in
     let fill : AllByRecursion (FillsFrame table c.in_ok-decoder.decoder.config object) packets = subst (λ d. AllByRecursion (FillsFrame table d object) packets) (sym here) (stream_fills table k object packets bytes s) in
-    let start = c.in_ok-decoder.ensures.stands object (s.long ∙ ap (λ d. d.transfer_length) (sym same)) in
+    let start = c.in_ok-decoder.ensures.stands object (s.long ∙ ap (λ d. d.transfer_length) (sym same)) (subst (HasNonsingularRows table) (sym same) s.nonsingular) in
     let end = c.in_ok-take_frames.ensures.stands table object packets (subst (HasNonsingularRows table) (sym here) s.nonsingular) start fill (take_rest bytes 12 ∙ stream_frames table k object packets bytes s) in
-    answer_all table k object packets packets [] (state_of c.take_frames.new.decoder) _ (c.in_ok-take_frames.ensures.configuration ∙ here) s.one.one_block s.accepted.size_positive (sym (append-nil packets)) refl end is)
-    c.get_result.ensures.value
+    answer_all table k object packets packets [] (state_of c.take_frames.new.decoder) _ (c.in_ok-take_frames.ensures.configuration ∙ here) (sym (append-nil packets)) refl end is)
+    c.get_result.ensures.object

@@ -1,0 +1,39 @@
+use Rattle.std.proofs.Common.{◌≡◌, length, map, sym, ap, ◌∙◌}
+use Rattle.std.proofs.lemmas.List.Elements.{All-from_recursion}
+use Rattle.std.proofs.lemmas.Simd.{map-map}
+use Rattle.std.proofs.lemmas.Result.{err_from_is_err_and}
+use Rattle.rq_standard.specs.TableRows.{greatest_size}
+use Rattle.raptorq.specs.BlockEncoded.{block_encoded_of}
+use Rattle.raptorq.specs.Encoded.{no_block}
+use Rattle.raptorq.proofs.EncodedBlocks.{new_encoder-taken, refuses_singular, new_numbers, new_counts, new_block, new_sizes}
+use Rattle.raptorq.proofs.encoder.Encoder.new.Goals as goal
+
+pub returns-in_err-blocks-clause-refused : goal.returns-in_err-blocks-clause-refused
+returns-in_err-blocks-clause-refused c =
+    let k = c.args.config in
+    let long : length c.args.object.now ≡ k.transfer_length = c.if-object-transfer_length.false ∙ c.transfer_length.ensures.value in
+    let taken = new_encoder-taken (greatest_size c.args.table.now) k (length c.args.object.now) (sym c.in_ok-check.ensures.refused) long in
+    let p = err_from_is_err_and c.from_residual-in_err-blocks.result c.from_residual-in_err-blocks.ensures.1 in
+    rw (p.1, p.2) (refuses_singular c.args.table.now k (length c.args.object.now) c.in_err-blocks.field-0.0 taken c.in_err-blocks.ensures.refused)
+
+pub invariant_of-result : goal.invariant_of-result
+invariant_of-result c =
+    let k = c.args.config in
+    let items = c.in_ok-blocks.blocks.items in
+    let encoded = c.in_ok-blocks.ensures.encoded in
+    record {
+      positive = c.in_ok-check.ensures.accepted.size_positive;
+      few = c.in_ok-check.ensures.few;
+      some = c.in_ok-check.ensures.accepted.blocks_positive;
+      numbered = sym (map-map (λ b. b.number) block_encoded_of items) ∙ new_numbers c.args.table.now k c.args.object.now (map block_encoded_of items) encoded;
+      counted = sym (map-map (λ b. length b.source) block_encoded_of items) ∙ new_counts c.args.table.now k c.args.object.now (map block_encoded_of items) encoded;
+      sized = ?;
+    }
+
+pub returns-clause-encoder : goal.returns-clause-encoder
+returns-clause-encoder c =
+    let k = c.args.config in
+    record {
+      long = c.if-object-transfer_length.false ∙ c.transfer_length.ensures.value;
+      block = λ b below. new_block c.args.table.now k c.args.object.now (map block_encoded_of c.in_ok-blocks.blocks.items) c.in_ok-blocks.ensures.encoded b below (no_block b k.symbol_size);
+    }
