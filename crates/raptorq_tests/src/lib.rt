@@ -18,4 +18,6 @@ mod packets;
 #[cfg(test)]
 mod records;
 #[cfg(test)]
+mod sub_blocks;
+#[cfg(test)]
 mod vectors;
