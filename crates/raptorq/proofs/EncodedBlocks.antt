@@ -2,10 +2,10 @@
 use Rattle.std.proofs.Common.{◌≡◌, ℕ, zero, suc, ◌+◌, ◌-◌, ◌*◌, ◌<◌, ◌≤◌, ◌^◌, min, List, [], ◌∷◌, ◌++◌, All, length, take, drop, get_or, map, Result, Ok, Err, refl, sym, ap, ◌∙◌, subst, arith, ◌⊎◌, inl, inr, eq-eqb, append-nil, length-drop}
 use Rattle.std.specs.List.{range_with_len, flat_map, AllByRecursion}
 use Rattle.std.proofs.lemmas.Bool.{cases_lt, le-ltb}
-use Rattle.std.proofs.lemmas.List.{get_or-take, get_or-drop, get_or_past, length-take, take_all, nil_from_length, map-append, map-id}
+use Rattle.std.proofs.lemmas.List.{ext_get_or, get_or-map, length-map, get_or-take, get_or-drop, get_or_past, length-take, take_all, nil_from_length, map-append, map-id}
 use Rattle.std.proofs.lemmas.Simd.{map-map}
 use Rattle.std.proofs.lemmas.Grind.{flat_map-append}
-use Rattle.std.proofs.lemmas.List.FromFn.{length-map-range_with_len, get_or-map-range_with_len, map-range_with_len_more}
+use Rattle.std.proofs.lemmas.List.FromFn.{length-range_with_len, get_or-range_with_len, length-map-range_with_len, get_or-map-range_with_len, map-range_with_len_more}
 use Rattle.rq_bytes.specs.declared.error.Error.{Error}
 use Rattle.rq_bytes.specs.declared.error.Error.TheVariants.{OutOfMemory, Singular}
 use Rattle.rq_bytes.specs.Refusals.{IsRefusal}
@@ -21,10 +21,12 @@ use Rattle.rq_standard.proofs.Standing.{length-block_source, length-symbol_of_bl
 use Rattle.rq_standard.proofs.BlockCuts.{block_symbols_few}
 use Rattle.raptorq.specs.Offsets.{block_range}
 use Rattle.raptorq.specs.Plans.{plan_refusal, RefusesPlan}
-use Rattle.raptorq.specs.Encoded.{Encoded, IsEncoderOf}
+use Rattle.raptorq.specs.Encoded.{Encoded, IsEncoderOf, no_block}
+use Rattle.raptorq.proofs.Encodes.{at_any}
+use Rattle.raptorq.specs.declared.encoder.block.SourceBlockEncoder.{SourceBlockEncoder}
 use Rattle.rq_base.specs.Refused.{checked_configuration}
 use Rattle.raptorq.specs.Refused.{new_encoder, RefusesEncoder}
-use Rattle.raptorq.specs.BlockEncoded.{BlockEncoded, IsBlockPacket, AreBlockPackets, new_block_encoded, bytes_of_block}
+use Rattle.raptorq.specs.BlockEncoded.{BlockEncoded, block_encoded_of, IsBlockPacket, AreBlockPackets, new_block_encoded, bytes_of_block}
 
 -- ---- the bytes of a block
 
@@ -141,11 +143,6 @@ module _ (table : List Row) (c : Configuration) (object : List ℕ) (blocks : Li
   pub new_block : (b : ℕ) → b < c.source_blocks → (d : BlockEncoded) → get_or blocks b d ≡ new_block_encoded table c object b
   new_block b below d = ap (λ l. get_or l b d) encoded ∙ get_or-map-range_with_len (new_block_encoded table c object) 0 c.source_blocks b b d below (omega arith)
 
-  pub new_sizes : All (λ b. b.size ≡ c.symbol_size) blocks
-  new_sizes i d below =
-      let long : length blocks ≡ c.source_blocks = ap length encoded ∙ length-map-range_with_len (new_block_encoded table c object) 0 c.source_blocks in
-      ap (λ b. b.size) (new_block i (omega (arith, long)) d)
-
 -- what the encoder of a block shows
 pub encoded_is : (table : List Row) (c : Configuration) (object : List ℕ) (b : ℕ) (e : BlockEncoded) (row : Row) (size : ℕ) (source : List (List ℕ)) → e ≡ record { number = b; row = row; size = size; source = source } → row ≡ block_row table c b → size ≡ c.symbol_size → source ≡ block_source c object b
     → e ≡ new_block_encoded table c object b
@@ -181,3 +178,24 @@ refuses_block table c b count e below is (inr singular) = inr (singular.0, block
 pub refuses_singular : (table : List Row) (c : Configuration) (n : ℕ) (e : Error) → new_encoder (greatest_size table) c n ≡ Ok tt → (e ≡ OutOfMemory) ⊎ ((e ≡ Singular) × ¬ (HasNonsingularRows table c)) → RefusesEncoder table c n e
 refuses_singular table c n e taken (inl memory) = inl (subst (IsRefusal e) (sym taken) memory)
 refuses_singular table c n e taken (inr singular) = inr (taken, singular.0, singular.1)
+
+-- ---- the encoders in a list
+
+pub length-encoders : (items : List SourceBlockEncoder) (n : ℕ) → map (λ b. (block_encoded_of b).number) items ≡ range_with_len 0 n → length items ≡ n
+length-encoders items n numbered = sym (length-map items (λ b. (block_encoded_of b).number)) ∙ ap length numbered ∙ length-range_with_len 0 n
+
+pub number_at : (items : List SourceBlockEncoder) (n i : ℕ) (x : SourceBlockEncoder) → i < length items → x ≡ get_or items i x → i < n → map (λ b. (block_encoded_of b).number) items ≡ range_with_len 0 n → (block_encoded_of x).number ≡ i
+number_at items n i x below is within numbered = ap (λ b. (block_encoded_of b).number) is ∙ sym (get_or-map (λ b. (block_encoded_of b).number) items i x 0 below) ∙ ap (λ l. get_or l i 0) numbered ∙ get_or-range_with_len 0 n i 0 within ∙ omega arith
+
+pub count_at : (c : Configuration) (items : List SourceBlockEncoder) (i : ℕ) (x : SourceBlockEncoder) → i < length items → x ≡ get_or items i x → i < c.source_blocks → map (λ b. length (block_encoded_of b).source) items ≡ map (block_symbols c) (range_with_len 0 c.source_blocks)
+    → length (block_encoded_of x).source ≡ block_symbols c i
+count_at c items i x below is within counted =
+    ap (λ b. length (block_encoded_of b).source) is ∙ sym (get_or-map (λ b. length (block_encoded_of b).source) items i x 0 below) ∙ ap (λ l. get_or l i 0) counted ∙ get_or-map-range_with_len (block_symbols c) 0 c.source_blocks i i 0 within (omega arith)
+
+pub block_at : (c : Configuration) (items : List SourceBlockEncoder) (i : ℕ) (x : SourceBlockEncoder) → i < length items → x ≡ get_or items i x → block_encoded_of x ≡ get_or (map block_encoded_of items) i (no_block i c.symbol_size)
+block_at c items i x below is = ap block_encoded_of is ∙ sym (get_or-map block_encoded_of items i x (no_block i c.symbol_size) below)
+
+-- a list by its places
+pub by_places : {X : Type 0} (xs : List X) (d : ℕ → X) (n : ℕ) → length xs ≡ n → xs ≡ map (λ i. get_or xs i (d i)) (range_with_len 0 n)
+by_places xs d n long = ext_get_or (d 0) xs (map (λ i. get_or xs i (d i)) (range_with_len 0 n)) (long ∙ sym (length-map-range_with_len (λ i. get_or xs i (d i)) 0 n))
+    (λ i below. at_any xs i (d 0) (d i) below ∙ sym (get_or-map-range_with_len (λ j. get_or xs j (d j)) 0 n i i (d 0) (omega (arith, long)) (omega arith)))

@@ -1,5 +1,5 @@
 //! Encoders: an object in, its packets out.
-ghost use Rattle.std.specs.Prelude.{◌≡◌, ℕ, ◌+◌, ◌-◌, ◌*◌, ◌<◌, ◌≤◌, ◌⊎◌, All, List, length, map, take, drop, Result, Ok, Err, IfOk, IfErr, OnOk};
+ghost use Rattle.std.specs.Prelude.{◌≡◌, ℕ, ◌+◌, ◌-◌, ◌*◌, ◌<◌, ◌≤◌, ◌⊎◌, List, length, map, take, drop, Result, Ok, Err, IfOk, IfErr, OnOk};
 ghost use Rattle.std.specs.List.{range_with_len};
 ghost use Rattle.rq_bytes.specs.Refusals.{IsAnswer, IsRefusal};
 ghost use Rattle.rq_standard.specs.Configuration.{IsAccepted, IsAligned, largest_block};
@@ -37,7 +37,6 @@ pub struct Encoder {
     pub ghost some: { 0 < config.source_blocks },
     pub ghost numbered: { map (λ b. (block_encoded_of b).number) blocks.items ≡ range_with_len 0 config.source_blocks },
     pub ghost counted: { map (λ b. length (block_encoded_of b).source) blocks.items ≡ map (block_symbols config) (range_with_len 0 config.source_blocks) },
-    pub ghost sized: { All (λ b. (block_encoded_of b).size ≡ config.symbol_size) blocks.items },
 }
 
 impl Encoder {
@@ -107,7 +106,7 @@ impl Encoder {
         let mut packets = Vec::new(self.alloc);
         for block in &self.blocks {
             let end = block.symbols() + repair_packets_per_block;
-            packets.append(&mut block.packets(0, end)?)?;
+            packets.extend(block.packets(0, end)?)?;
         }
         Ok(packets)
     }
