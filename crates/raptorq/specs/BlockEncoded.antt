@@ -2,7 +2,7 @@
 use Rattle.std.specs.Prelude.{◌≡◌, ℕ, ◌<◌, ◌^◌, List, map}
 use Rattle.std.specs.List.{range_with_len, AllByRecursion}
 use Rattle.rq_standard.specs.declared.row.Row.{Row}
-use Rattle.rq_standard.specs.Packet.{SymbolId, Packet}
+use Rattle.rq_standard.specs.Packet.{Packet}
 use Rattle.rq_standard.specs.Equations.{IsEncodingSymbol}
 use Rattle.raptorq.specs.declared.encoder.block.SourceBlockEncoder.{SourceBlockEncoder}
 

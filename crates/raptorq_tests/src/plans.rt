@@ -3,8 +3,10 @@ ghost use Rattle.std.specs.Prelude.{◌<◌, IfOk};
 
 use raptorq::error::Error;
 use raptorq::systematic_constants::SystematicTable;
-use raptorq::{EncodingPacket, ObjectTransmissionInformation, PayloadId};
-use raptorq::{SourceBlockEncoder, SourceBlockEncodingPlan, SourceBlockEncodingPlanCache};
+use raptorq::{
+    EncodingPacket, ObjectTransmissionInformation, PayloadId, SourceBlockEncoder,
+    SourceBlockEncodingPlan, SourceBlockEncodingPlanCache,
+};
 use rq_standard::numbers::SYSTEMATIC_INDICES_AND_PARAMETERS;
 use std::alloc::Global;
 use std::test::Fail;
@@ -25,21 +27,37 @@ fn ids_from(packets: &[EncodingPacket], first: u32) -> bool {
     true
 }
 
-#[test]
-fn packets_of_a_block(rt: HostRuntime) -> Result<(), Fail> {
-    let alloc = rt.alloc();
+// The encoder of a block of three symbols, by a cache of its own.
+fn three_symbols(alloc: Global) -> Result<SourceBlockEncoder, Error> {
     let table = SystematicTable::built_in(alloc)?;
     let mut cache = SourceBlockEncodingPlanCache::new(alloc, &table)?;
     let config = ObjectTransmissionInformation::new(0, 2, 1, 1, 1)?;
-    let encoder = SourceBlockEncoder::new(alloc, 0, &config, &[0, 1, 2, 3, 4, 5], &mut cache)?;
-    let source = encoder.source_packets()?;
+    SourceBlockEncoder::new(alloc, 0, &config, &[0, 1, 2, 3, 4, 5], &mut cache)
+}
+
+#[test]
+fn packets_of_source_symbols(rt: HostRuntime) -> Result<(), Fail> {
+    let alloc = rt.alloc();
+    let source = three_symbols(alloc)?.source_packets()?;
     assert_eq!(rt; source.len(), 3);
     assert!(rt; source[0] == packet(alloc, 0, &[0, 1])?);
     assert!(rt; source[1] == packet(alloc, 1, &[2, 3])?);
     assert!(rt; source[2] == packet(alloc, 2, &[4, 5])?);
+    Ok(())
+}
+
+#[test]
+fn packets_of_repair_symbols(rt: HostRuntime) -> Result<(), Fail> {
+    let encoder = three_symbols(rt.alloc())?;
     let repair = encoder.repair_packets(2, 4)?;
     assert_eq!(rt; repair.len(), 4);
     assert!(rt; ids_from(repair.as_slice(), 5));
+    Ok(())
+}
+
+#[test]
+fn the_last_repair_packet(rt: HostRuntime) -> Result<(), Fail> {
+    let encoder = three_symbols(rt.alloc())?;
     let last = encoder.repair_packets(16777212, 1)?;
     assert_eq!(rt; last.len(), 1);
     assert!(rt; ids_from(last.as_slice(), 16777215));
@@ -54,8 +72,9 @@ fn symbols_of_zeros(rt: HostRuntime) -> Result<(), Fail> {
     let table = SystematicTable::built_in(alloc)?;
     let plan = SourceBlockEncodingPlan::generate(alloc, &table, 3)?;
     let config = ObjectTransmissionInformation::new(6, 2, 1, 1, 1)?;
-    let encoder =
-        SourceBlockEncoder::with_encoding_plan(alloc, 0, &config, &[0; 6], &table, &plan)?;
+    let encoder = SourceBlockEncoder::with_encoding_plan(
+        alloc, 0, &config, &[0; 6], &table, &plan,
+    )?;
     for packet in &encoder.repair_packets(0, 20)? {
         assert_eq!(rt; packet.data(), [0, 0].as_slice());
     }
@@ -72,45 +91,74 @@ fn no_symbols(rt: HostRuntime) -> Result<(), Fail> {
     assert_eq!(rt; encoder.source_packets()?.len(), 0);
     let repair = encoder.repair_packets(0, 2)?;
     assert_eq!(rt; repair.len(), 2);
-    assert!(rt; repair[0] == packet(alloc, 0, &[0, 0])?);
-    assert!(rt; repair[1] == packet(alloc, 1, &[0, 0])?);
+    assert!(rt; ids_from(repair.as_slice(), 0));
+    assert_eq!(rt; repair[0].data(), [0, 0].as_slice());
+    assert_eq!(rt; repair[1].data(), [0, 0].as_slice());
     Ok(())
 }
 
+// Two symbols of 6 bytes, in two sub-blocks.
+const TWO_SYMBOLS: [u8; 12] = [0, 1, 2, 3, 4, 5, 6, 7, 8, 9, 10, 11];
+
+fn two_sub_blocks() -> Result<ObjectTransmissionInformation, Error> {
+    ObjectTransmissionInformation::new(12, 6, 1, 2, 2)
+}
+
 #[test]
-fn a_plan_made_and_one_handed_in(rt: HostRuntime) -> Result<(), Fail> {
+fn symbols_in_two_sub_blocks(rt: HostRuntime) -> Result<(), Fail> {
     let alloc = rt.alloc();
     let table = SystematicTable::built_in(alloc)?;
     let mut cache = SourceBlockEncodingPlanCache::new(alloc, &table)?;
-    let config = ObjectTransmissionInformation::new(12, 6, 1, 2, 2)?;
-    let data = [0, 1, 2, 3, 4, 5, 6, 7, 8, 9, 10, 11];
-    let first = SourceBlockEncoder::new(alloc, 7, &config, &data, &mut cache)?;
-    let again = SourceBlockEncoder::new(alloc, 7, &config, &data, &mut cache)?;
-    let plan = SourceBlockEncodingPlan::generate(alloc, &table, 2)?;
-    let other = SourceBlockEncoder::with_encoding_plan(alloc, 7, &config, &data, &table, &plan)?;
-    assert!(rt; first == again);
-    assert!(rt; first == other);
-    assert!(rt; plan.clone()? == plan);
-    let source = first.source_packets()?;
+    let encoder = SourceBlockEncoder::new(alloc, 7, &two_sub_blocks()?, &TWO_SYMBOLS, &mut cache)?;
+    let source = encoder.source_packets()?;
+    assert_eq!(rt; source.len(), 2);
     assert_eq!(rt; source[0].data(), [0, 1, 2, 3, 8, 9].as_slice());
     assert_eq!(rt; source[1].data(), [4, 5, 6, 7, 10, 11].as_slice());
     Ok(())
 }
 
 #[test]
-fn plans_of_another_count_or_row(rt: HostRuntime) -> Result<(), Fail> {
+fn a_plan_made_held_and_handed_in(rt: HostRuntime) -> Result<(), Fail> {
+    let alloc = rt.alloc();
+    let config = two_sub_blocks()?;
+    let table = SystematicTable::built_in(alloc)?;
+    let mut cache = SourceBlockEncodingPlanCache::new(alloc, &table)?;
+    let made = SourceBlockEncoder::new(alloc, 7, &config, &TWO_SYMBOLS, &mut cache)?;
+    let held = SourceBlockEncoder::new(alloc, 7, &config, &TWO_SYMBOLS, &mut cache)?;
+    assert!(rt; made == held);
+    let plan = SourceBlockEncodingPlan::generate(alloc, &table, 2)?.clone()?;
+    let handed = SourceBlockEncoder::with_encoding_plan(
+        alloc,
+        7,
+        &config,
+        &TWO_SYMBOLS,
+        &table,
+        &plan,
+    )?;
+    assert!(rt; made == handed);
+    Ok(())
+}
+
+#[test]
+fn a_plan_of_another_count(rt: HostRuntime) -> Result<(), Fail> {
     let alloc = rt.alloc();
     let table = SystematicTable::built_in(alloc)?;
     let config = ObjectTransmissionInformation::new(6, 2, 1, 1, 1)?;
     let plan = SourceBlockEncodingPlan::generate(alloc, &table, 2)?;
     let refused = SourceBlockEncoder::with_encoding_plan(alloc, 0, &config, &[0; 6], &table, &plan);
     assert!(rt; refused == Err(Error::PlanMismatch));
+    Ok(())
+}
+
+#[test]
+fn a_plan_of_another_row(rt: HostRuntime) -> Result<(), Fail> {
+    let alloc = rt.alloc();
     let (index, plan) = plan_of_500(alloc)?;
-    let others = SystematicTable::with_rows(alloc, &[(511, index + 1, 37, 10, 523)])?;
-    let data = vec![in alloc; 1u8; 500]?;
-    let bytes = ObjectTransmissionInformation::new(500, 1, 1, 1, 1)?;
-    let refused =
-        SourceBlockEncoder::with_encoding_plan(alloc, 0, &bytes, data.as_slice(), &others, &plan);
+    let table = SystematicTable::with_rows(alloc, &[(511, index + 1, 37, 10, 523)])?;
+    let config = ObjectTransmissionInformation::new(500, 1, 1, 1, 1)?;
+    let refused = SourceBlockEncoder::with_encoding_plan(
+        alloc, 0, &config, &[1; 500], &table, &plan,
+    );
     assert!(rt; refused == Err(Error::PlanMismatch));
     Ok(())
 }
