@@ -42,7 +42,6 @@ impl SourceBlockEncoder {
     ghost use Rattle.raptorq.specs.BlockData.{block_of, IsPlanFor, RefusesBlock, RefusesPlanned};
     ghost use Rattle.raptorq.specs.PlanCache.{used};
     ghost use Rattle.raptorq.specs.Plans.{plan_of};
-    ghost use Rattle.rq_standard.specs.Equations.{IsSingular};
 
     /// The encoder of the source block of these bytes, in as many symbols as they are. Its plan is
     /// the one in the cache, or a new one, which is then put in.
@@ -155,30 +154,6 @@ impl SourceBlockEncoder {
             return Err(Error::EsiTooLarge);
         }
         self.packets(start as u32, end as u32)
-    }
-
-    /// The encoder of a block with these source symbols, over a row of the table. It solves the
-    /// block's equations.
-    ///
-    /// Refuses [`Error::Singular`] where they don't decide the intermediate symbols.
-    pub(crate) fn solved(
-        alloc: Global,
-        number: u8,
-        row: Row,
-        size: usize,
-        source: Vec<Symbol>,
-    ) -> Result<SourceBlockEncoder, Error>
-        requires checked { IsChecked row }
-        requires positive { 0 < size }
-        requires small { size < 65536 }
-        requires few { length source.items ≤ row.source_symbols }
-        requires sized { All (λ symbol. length symbol ≡ size) source.items }
-        ensures encoded { IfOk result (λ b. block_encoded_of b ≡ record { number = number; row = row; size = size; source = source.items }) }
-        ensures nonsingular { OnOk result (IsNonsingular row) }
-        ensures refused { IfErr result (λ e. (e ≡ Error.OutOfMemory) ⊎ ((e ≡ Error.Singular) × IsSingular row)) }
-    {
-        let plan = SourceBlockEncodingPlan::of_row(alloc, source.len() as u16, row)?;
-        SourceBlockEncoder::planned(alloc, number, size, source, &plan)
     }
 
     /// The encoder of a block with these source symbols, by a plan of its row.
