@@ -50,9 +50,6 @@ answer-all h missing size plain block same counted none is long each = record {
 
 -- ---- from the intermediate symbols
 
-rebuilt_is : (o : Option (List ℕ)) (sum x : List ℕ) → o ≡ Some x → unwrap_or o sum ≡ x
-rebuilt_is o sum x is = ap (λ r. unwrap_or r sum) is
-
 rebuilt_length : (o : Option (List ℕ)) (sum : List ℕ) (size : ℕ) → ForSome o (λ payload. length payload ≡ size) → length sum ≡ size → length (unwrap_or o sum) ≡ size
 rebuilt_length None sum size sized long = long
 rebuilt_length (Some x) sum size sized long = sized x refl

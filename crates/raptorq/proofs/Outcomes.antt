@@ -18,23 +18,13 @@ use Rattle.rq_standard.specs.Equations.{equations, equation_count}
 use Rattle.rq_base.specs.HdpcPart.{IsHdpcPart}
 use Rattle.rq_solver.specs.Solving.{AreEquations, IsOutcome, solver_of}
 use Rattle.rq_solver.specs.Solving as solver
-use Rattle.rq_solver.proofs.EquationLaws.{solution_of_equations, null_of_equations}
+use Rattle.rq_solver.proofs.EquationLaws.{are_equations, solution_of_equations, null_of_equations}
 use Rattle.raptorq.specs.Solving.{IsSolution, SolvesByOperations}
 
 -- the matrices of a block's ids are equations for its values
 pub handed_equations : (row : Row) (ids : List ℕ) (bits : BitTable) (hdpc : OctetTable) (handed : Slab) → IsBinaryPart row ids bits → IsHdpcPart row hdpc → length handed.values ≡ equation_count row ids → intermediate_symbols row ≤ equation_count row ids → handed.order ≡ None
     → AreEquations row bits hdpc handed
-handed_equations row ids bits hdpc handed part octet_part count enough order = record {
-  width = part.width;
-  boundary = part.boundary;
-  indexed = part.indexed;
-  height = part.height ∙ sym count;
-  enough = omega (arith, count);
-  order = order;
-  hdpc_height = octet_part.shape.tall;
-  hdpc_width = octet_part.shape.wide;
-  zeros = part.zeros;
-}
+handed_equations row ids bits hdpc handed part octet_part count enough order = are_equations row ids bits hdpc handed part octet_part.shape.tall octet_part.shape.wide count order enough
 
 has_count : (values : List (List ℕ)) (size : ℕ) (order : Option (List ℕ)) (n : ℕ) → HasPlace (record { values = values; symbol_size = size; order = order }) n → suc n ≤ length (symbols_in (record { values = values; symbol_size = size; order = order }))
 has_count values size None n here = here

@@ -16,11 +16,11 @@ mod block;
 mod cache;
 mod plan;
 
+use crate::blocks::{block_offsets, block_symbols};
+use crate::sub_blocks::source_symbols;
 pub use block::SourceBlockEncoder;
 pub use cache::SourceBlockEncodingPlanCache;
 pub use plan::SourceBlockEncodingPlan;
-use crate::blocks::{block_offsets, block_symbols};
-use crate::sub_blocks::source_symbols;
 use rq_base::base::{EncodingPacket, ObjectTransmissionInformation};
 use rq_bytes::error::Error;
 use rq_tables::systematic_constants::SystematicTable;
@@ -140,7 +140,11 @@ fn block_encoders(
     ensures refused { IfErr result (λ e. (e ≡ Error.OutOfMemory) ⊎ ((e ≡ Error.Singular) × ¬ HasNonsingularRows table.now config.now)) }
 {
     let offsets = block_offsets(alloc, config)?;
-    let mut plan = SourceBlockEncodingPlan::generate(alloc, table, block_symbols(config, 0) as u16)?;
+    let mut plan = SourceBlockEncodingPlan::generate(
+        alloc,
+        table,
+        block_symbols(config, 0) as u16,
+    )?;
     let mut blocks = Vec::with_capacity(alloc, offsets.len())?;
     for number in 0..config.source_blocks() {
         plan = plan_for(alloc, table, block_symbols(config, number) as u16, plan)?;

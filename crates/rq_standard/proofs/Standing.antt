@@ -193,9 +193,9 @@ stands_later late more table object packets s fewer st = record {
 pub stands_more : (p : Packet) (old new : State) → IsAligned old.configuration → Adds old p new → StandsForMore old p new
 stands_more p old new aligned add table object packets nonsingular st pk =
     stands_later (with_late p.id.block false (λ _. false)) (λ _. false) table object (packets ++ p ∷ []) new (λ b _. none (eqb b p.id.block)) (catches_up p old new aligned add table object packets (λ _. false) nonsingular st pk) where
-  none : (x : Bool) → cond x false false ≡ false
-  none true = refl
-  none false = refl
+      none : (x : Bool) → cond x false false ≡ false
+      none true = refl
+      none false = refl
 
 -- ---- where memory is refused
 

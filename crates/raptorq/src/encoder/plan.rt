@@ -119,6 +119,7 @@ impl SourceBlockEncodingPlan {
         ensures memory { IfErr result (λ e. e ≡ Error.OutOfMemory) }
     {
         let mut symbols = source_values(alloc, &self.row, size, source)?;
+        // What counts them says that they have one size.
         let _count = symbols.len();
         replay(self.operations.as_slice(), &mut symbols)?;
         Ok(symbols)
