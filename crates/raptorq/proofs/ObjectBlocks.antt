@@ -56,7 +56,6 @@ within items i y below = omega (arith, length-set items i y)
 
 -- the others stay
 module _ (c : Configuration) (items : List ObjectBlock) (i : ℕ) (x y : ObjectBlock) where
-
   other_held : (n : ℕ) → n ≢ i → held_at c (set items i y) n ≡ held_at c items n
   other_held n ne = elim (cases_lt n (length items)) [
     | inl lt ↦ get_or-map (λ b. held_of b.decoder) (set items i y) n x (nothing_held c n no_row 0) (omega (arith, lt, length-set items i y)) ∙ ap (λ b. held_of b.decoder) (get_or-set_other items i n y x ne) ∙ sym (get_or-map (λ b. held_of b.decoder) items n x (nothing_held c n no_row 0) lt)

@@ -20,8 +20,10 @@ pub(crate) fn block_symbols(config: &ObjectTransmissionInformation, number: u8) 
     let symbols = config
         .transfer_length()
         .div_ceil(u64::from(config.symbol_size()));
-    let (larger, smaller, larger_count, _) =
-        partition(symbols as u32, u32::from(config.source_blocks()));
+    let (larger, smaller, larger_count, _) = partition(
+        symbols as u32,
+        u32::from(config.source_blocks()),
+    );
     if u32::from(number) < larger_count {
         larger
     } else {

@@ -37,7 +37,7 @@ loop-block-preserved c =
     let count = count_at s.config items n x below is within s.counted in
     let more = c.in_ok-packets.field-0.items in
     let grown : c.extend.new.self.items ≡ c.loop-block.packets.items ++ more = fact_from_extend (λ p. p) (ok_of c.in_ok-extend.field-0) c.in_ok-extend.ensures.ran (λ it made. YieldsList-from_vec more made.0 (made.1 ∙ c.in_ok-packets.field-0.ok.0))
-        (λ xs are grows. grows.0 ∙ ap (λ l. c.loop-block.packets.items ++ l) (sym (map-id xs) ∙ are)) in
+    (λ xs are grows. grows.0 ∙ ap (λ l. c.loop-block.packets.items ++ l) (sym (map-id xs) ∙ are)) in
     encoded_more (encoded_of s) c.args.repair_packets_per_block n (c.symbols.result + c.args.repair_packets_per_block - 0) (block_encoded_of x) c.loop-block.packets.items more c.extend.new.self.items within
     (block_at s.config items n x below is) (number_at items s.config.source_blocks n x below is within s.numbered) count (omega (arith, c.symbols.ensures)) c.loop-block.invariant c.in_ok-packets.ensures.packets grown
 
