@@ -1,5 +1,6 @@
 pub mod Answered
 pub mod BlockParts
+pub mod Built
 pub mod CacheLaws
 pub mod EncodedBlocks
 pub mod Encodes

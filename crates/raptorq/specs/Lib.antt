@@ -2,6 +2,7 @@ pub mod Allowed
 pub mod BlockData
 pub mod BlockEncoded
 pub mod Blocks
+pub mod Building
 pub mod CacheLends
 pub mod Decoding
 pub mod Encoded

@@ -13,12 +13,14 @@ ghost use Rattle.raptorq.specs.BlockData.{IsPlanFor};
 ghost use Rattle.raptorq.specs.BlockEncoded.{block_encoded_of, new_block_encoded, bytes_of_block};
 
 mod block;
+mod builder;
 mod cache;
 mod plan;
 
 use crate::blocks::{block_offsets, block_symbols};
 use crate::sub_blocks::source_symbols;
 pub use block::SourceBlockEncoder;
+pub use builder::EncoderBuilder;
 pub use cache::SourceBlockEncodingPlanCache;
 pub use plan::SourceBlockEncodingPlan;
 use rq_base::base::{EncodingPacket, ObjectTransmissionInformation};
@@ -41,6 +43,8 @@ pub struct Encoder {
 
 impl Encoder {
     ghost use Rattle.rq_standard.specs.Encoded.{AreEncoded};
+    ghost use Rattle.rq_base.specs.Defaults.{wanted_parameters};
+    ghost use Rattle.raptorq.specs.Building.{default_settings, RefusesBuilding};
     ghost use Rattle.raptorq.specs.Encoded.{encoded_of, IsEncoderOf, packets_refusal};
     ghost use Rattle.raptorq.specs.Refused.{new_encoder, RefusesEncoder};
 
@@ -71,6 +75,32 @@ impl Encoder {
             blocks,
             alloc,
         })
+    }
+
+    /// The encoder of an object, in bytes, in its default configuration for packets of at most
+    /// `maximum_transmission_unit` bytes of payload.
+    ///
+    /// Refuses what [`ObjectTransmissionInformation::with_defaults`] refuses, and then what
+    /// [`Encoder::new`] refuses.
+    pub fn with_defaults(
+        alloc: Global,
+        table: &SystematicTable,
+        object: &[u8],
+        maximum_transmission_unit: u16,
+    ) -> Result<Encoder, Error>
+        ensures refused { IfErr result (RefusesBuilding table.now (record default_settings { packet_size = maximum_transmission_unit }) (length object.now)) }
+        ensures parameters { IfOk result (λ e. wanted_parameters table.now (length object.now) maximum_transmission_unit 10485760 ≡ Ok (encoded_of e).configuration) }
+        ensures taken { IfOk result (λ e. new_encoder (greatest_size table.now) (encoded_of e).configuration (length object.now) ≡ Ok tt) }
+        ensures nonsingular { IfOk result (λ e. HasNonsingularRows table.now (encoded_of e).configuration) }
+        ensures encoder { IfOk result (λ e. IsEncoderOf table.now object.now (encoded_of e)) }
+    {
+        let length = object.len() as u64;
+        let config = ObjectTransmissionInformation::with_defaults(
+            table,
+            length,
+            maximum_transmission_unit,
+        )?;
+        Encoder::new(alloc, table, object, config)
     }
 
     /// The configuration that a decoder needs.

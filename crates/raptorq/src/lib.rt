@@ -12,7 +12,8 @@ mod sums;
 pub use blocks::calculate_block_offsets;
 pub use decoder::{Decoder, SourceBlockDecoder};
 pub use encoder::{
-    Encoder, SourceBlockEncoder, SourceBlockEncodingPlan, SourceBlockEncodingPlanCache,
+    Encoder, EncoderBuilder, SourceBlockEncoder, SourceBlockEncodingPlan,
+    SourceBlockEncodingPlanCache,
 };
 pub use rq_base::base;
 pub use rq_base::base::{EncodingPacket, ObjectTransmissionInformation, PayloadId, partition};

@@ -1,0 +1,19 @@
+-- What an encoder is built from: parameters by RFC 6330, section 4.3.
+use Rattle.std.specs.Prelude.{◌≡◌, ℕ, List, MatchResult}
+use Rattle.rq_bytes.specs.declared.error.Error.{Error}
+use Rattle.rq_standard.specs.declared.row.Row.{Row}
+use Rattle.rq_base.specs.Defaults.{wanted_parameters}
+use Rattle.raptorq.specs.Refused.{RefusesEncoder}
+
+-- the memory of a decoder and the greatest size of a payload, in bytes
+pub record Settings : Type 0 where
+  pub decoder_memory : ℕ
+  pub packet_size : ℕ
+
+-- 10 MiB, and 1024 bytes
+abbrev pub default_settings : Settings
+default_settings = record { decoder_memory = 10485760; packet_size = 1024 }
+
+-- what the encoder of an object of this length is refused for: first its parameters, and then what refuses an encoder in them
+abbrev pub RefusesBuilding : List Row → Settings → ℕ → Error → Type 0
+RefusesBuilding table s length_of_data e = MatchResult (wanted_parameters table length_of_data s.packet_size s.decoder_memory) (λ c. RefusesEncoder table c length_of_data e) (λ wanted. e ≡ wanted)
