@@ -3,12 +3,12 @@ use Rattle.std.proofs.Common.{◌≡◌, ℕ, ◌*◌, ◌<◌, ◌≤◌, true,
 use Rattle.std.specs.Prelude.{is_some, IsSome, IfSome, unwrap_or}
 use Rattle.std.specs.Option.{ForSome}
 use Rattle.rq_bytes.specs.Slab.{Slab, symbol_in}
-use Rattle.rq_standard.specs.Cutting.{symbol_of_block, HasOneSubBlock}
+use Rattle.rq_standard.specs.Cutting.{symbol_of_block, plain_symbol, HasOneSubBlock}
 use Rattle.rq_standard.specs.TableRows.{IsChecked}
 use Rattle.rq_standard.specs.Equations.{tuple_sum, internal_id}
 use Rattle.rq_standard.specs.Held.{Held, holds, SolvesHeld, AreHeldDetermining, IsBlockWith, IsBlockAnswer}
 use Rattle.rq_standard.proofs.Columns.{sum_symbol, sum_same}
-use Rattle.rq_standard.proofs.PlainCut.{plain_symbol, symbol_of_block-plain}
+use Rattle.rq_standard.proofs.PlainCut.{symbol_of_block-plain}
 use Rattle.raptorq.specs.Known.{IsHeldSolution, rebuilt_symbol}
 use Rattle.raptorq.specs.Missing.{missing_count}
 use Rattle.raptorq.proofs.HeldEquations.{internal_below, came_sum}

@@ -12,8 +12,8 @@ use Rattle.rq_bytes.specs.declared.error.Error.TheVariants.{OutOfMemory, Singula
 use Rattle.rq_bytes.specs.Refusals.{IsRefusal}
 use Rattle.rq_standard.specs.Packet.{SymbolId, Packet}
 use Rattle.rq_standard.specs.Configuration.{Configuration, total_symbols, largest_block}
-use Rattle.rq_standard.specs.Cutting.{HasOneSubBlock, block_symbols, block_bytes, symbol_of_block}
-use Rattle.rq_standard.proofs.PlainCut.{plain_symbol, symbol_of_block-plain, length-block_bytes}
+use Rattle.rq_standard.specs.Cutting.{HasOneSubBlock, block_symbols, block_bytes, symbol_of_block, plain_symbol}
+use Rattle.rq_standard.proofs.PlainCut.{symbol_of_block-plain, length-block_bytes}
 use Rattle.rq_standard.proofs.OneBlock.{div_ceil_covers, block_symbols-one, block_bytes-one}
 use Rattle.rq_base.specs.Refused.{new_id, checked_configuration}
 use Rattle.raptorq.specs.Refused.{new_encoder, RefusesEncoder}

@@ -1,24 +1,26 @@
--- The intermediate symbols that a solver finds for a block's source symbols.
-use Rattle.std.proofs.Common.{◌≡◌, ℕ, ◌+◌, ◌-◌, ◌<◌, ◌≤◌, List, [], ◌++◌, length, get_or, replicate, Option, None, Some, refl, sym, ap, ◌∙◌, subst, arith, inl, inr}
+-- The intermediate symbols that operations make of a block's source symbols.
+use Rattle.std.proofs.Common.{◌≡◌, ℕ, ◌+◌, ◌-◌, ◌<◌, ◌≤◌, List, [], ◌++◌, length, get_or, replicate, Option, None, refl, sym, ap, ◌∙◌, subst, arith, inl, inr}
 use Rattle.std.specs.List.{range_with_len}
 use Rattle.std.proofs.lemmas.Bool.{cases_lt}
 use Rattle.std.proofs.lemmas.List.{get_or_append_left, get_or-append_right, get_or-replicate, get_or_past, length-append, length-replicate}
 use Rattle.std.proofs.lemmas.List.FromFn.{length-range_with_len}
+use Rattle.std.proofs.lemmas.List.Elements.{All-from_get_or}
 use Rattle.rq_algebra.specs.Systems.{at}
-use Rattle.rq_algebra.specs.Symbols.{IsSymbolColumn, SolvesSymbols, symbol_at, slice_at}
+use Rattle.rq_algebra.specs.Operations.{Operation, AreAllowed}
+use Rattle.rq_algebra.specs.Elimination.{FindsColumn, found_by}
+use Rattle.rq_algebra.specs.Symbols.{symbols, IsSymbol, AreSymbols, SolvesSymbols, symbol_at, slice_at}
 use Rattle.rq_algebra.proofs.Stacks.{stacked_above, stacked_below}
 use Rattle.rq_algebra.proofs.Solutions.{solves_same}
+use Rattle.rq_algebra.proofs.Found.{finds_determined, found_are_symbols, found_only, found_solves}
 use Rattle.rq_bytes.specs.Slab.{Slab, slab_of, symbol_in}
+use Rattle.rq_solver.proofs.SolutionLaws.{found_places}
 use Rattle.rq_standard.specs.declared.row.Row.{Row}
 use Rattle.rq_standard.specs.OctetField.{octets}
 use Rattle.rq_standard.specs.TableRows.{intermediate_symbols}
-use Rattle.rq_standard.specs.Equations.{equations, equation_count, equation_values, zero_symbol, source_ids, IsIntermediateColumn, AreDetermining, IsSingular}
-use Rattle.raptorq.specs.Solving.{IsSolution, Solves}
+use Rattle.rq_standard.specs.Equations.{equations, equation_count, equation_values, zero_symbol, source_ids, IsIntermediateColumn, IsNonsingular}
+use Rattle.raptorq.specs.Planned.{source_values, planned, IsOnlyIntermediateColumn, IsPlanOf}
 use Rattle.raptorq.proofs.Encodes.{at_any}
-
--- zeros, the source symbols, and zeros
-abbrev pub source_values : Row → ℕ → List (List ℕ) → List (List ℕ)
-source_values row size source = replicate (row.ldpc_symbols + row.hdpc_symbols) (zero_symbol size) ++ (source ++ replicate (row.source_symbols - length source) (zero_symbol size))
+use Rattle.raptorq.proofs.Outcomes.{places_count}
 
 pub length-source_values : (row : Row) (size : ℕ) (source : List (List ℕ)) → length source ≤ row.source_symbols → length (source_values row size source) ≡ equation_count row (source_ids row)
 length-source_values row size source fits =
@@ -28,6 +30,9 @@ length-source_values row size source fits =
 -- there are as many equations as intermediate symbols
 pub count_source : (row : Row) → equation_count row (source_ids row) ≡ intermediate_symbols row
 count_source row = omega (arith, length-range_with_len 0 row.source_symbols)
+
+pub source_ids_are : (row : Row) (ids : List ℕ) → ids ≡ range_with_len 0 (row.source_symbols - 0) → ids ≡ source_ids row
+source_ids_are row ids is = is ∙ ap (range_with_len 0) (let e : row.source_symbols - 0 ≡ row.source_symbols = omega arith in e)
 
 -- past the source symbols there are zeros
 padded_at : (size n j : ℕ) (source : List (List ℕ)) → j < length source + n → get_or (source ++ replicate n (zero_symbol size)) j [] ≡ get_or source j (zero_symbol size)
@@ -53,26 +58,82 @@ values_are row size i source fits below =
           ∙ sym (stacked_below f (λ _. zero_symbol size) (λ k. get_or source k (zero_symbol size)) j) ∙ ap (equation_values row size source) e
     ]
 
--- what is found is the block's intermediate column
-pub source_solved : (row : Row) (size : ℕ) (source : List (List ℕ)) (slab : Slab) → length source ≤ row.source_symbols → IsSolution row (source_ids row) size (source_values row size source) slab → IsIntermediateColumn row slab.symbol_size source (symbol_in slab)
-source_solved row size source slab fits s =
-    let count = equation_count row (source_ids row) in
-    let solves = s.solves (count_source row) in
-    subst (λ n. IsIntermediateColumn row n source (symbol_in slab)) (sym s.size_is) (record {
-      symbols = s.symbols;
-      solves = record {
-        at_place = λ p. solves_same octets count (intermediate_symbols row) (equations row (source_ids row)) (equations row (source_ids row)) (slice_at p (symbol_in slab)) (slice_at p (symbol_at (source_values row size source))) (slice_at p (equation_values row size source))
-            (λ i k l m. refl) (λ i l. ap (λ xs. at xs p) (values_are row size i source fits l)) (solves.at_place p);
-      };
-    })
+-- ---- symbols
 
--- an answer of a solver over these equations
-module _ (row : Row) (size : ℕ) (source : List (List ℕ)) (ids : List ℕ) (given : Slab) (listed : ids ≡ source_ids row) (values : given ≡ slab_of size (source_values row size source)) where
-  pub solution_of : (slab : Slab) → Solves row ids given.symbol_size given.values (Some slab) → IsSolution row (source_ids row) size (source_values row size source) slab
-  solution_of slab some = subst (λ l. IsSolution row l size (source_values row size source) slab) listed (subst (λ (g : Slab). IsSolution row ids g.symbol_size g.values slab) values some)
+zeros_are : (size : ℕ) → IsSymbol octets size (zero_symbol size)
+zeros_are size = record {
+  size_is = length-replicate {A = ℕ} size 0;
+  elements = All-from_get_or (λ x. x < 256) (zero_symbol size) 0 (λ k l. let e : get_or (zero_symbol size) k 0 ≡ 0 = get_or-replicate size k 0 0 (omega (arith, length-replicate {A = ℕ} size 0)) in omega arith);
+}
 
-  pub singular_of : Solves row ids given.symbol_size given.values None → IsSingular row
-  singular_of none = subst (λ l. AreDetermining row l → ⊥) listed none
+module _ (row : Row) (size : ℕ) (source : List (List ℕ)) (fits : length source ≤ row.source_symbols) where
+  value_is : (i : ℕ) → AreSymbols octets size (length source) source → IsSymbol octets size (equation_values row size source i)
+  value_is i are = elim (cases_lt i (row.ldpc_symbols + row.hdpc_symbols)) [
+    | inl lt ↦ subst (IsSymbol octets size) (sym (stacked_above (row.ldpc_symbols + row.hdpc_symbols) (λ _. zero_symbol size) (λ j. get_or source j (zero_symbol size)) i lt)) (zeros_are size)
+    | inr past ↦
+        let f : ℕ = row.ldpc_symbols + row.hdpc_symbols in
+        let j : ℕ = i - f in
+        let e : f + j ≡ i = omega arith in
+        let read : get_or source j (zero_symbol size) ≡ equation_values row size source i = sym (stacked_below f (λ _. zero_symbol size) (λ k. get_or source k (zero_symbol size)) j) ∙ ap (equation_values row size source) e in
+        subst (IsSymbol octets size) read (elim (cases_lt j (length source)) [
+          | inl here ↦ subst (IsSymbol octets size) (at_any source j [] (zero_symbol size) here) (are.each j here)
+          | inr none ↦ subst (IsSymbol octets size) (sym (get_or_past source j (zero_symbol size) none)) (zeros_are size)
+        ])
+  ]
 
-pub source_ids_are : (row : Row) (ids : List ℕ) → ids ≡ range_with_len 0 (row.source_symbols - 0) → ids ≡ source_ids row
-source_ids_are row ids is = is ∙ ap (range_with_len 0) (let e : row.source_symbols - 0 ≡ row.source_symbols = omega arith in e)
+  pub values_are_symbols : AreSymbols octets size (length source) source → AreSymbols octets size (equation_count row (source_ids row)) (source_values row size source)
+  values_are_symbols are = record {
+    count_is = length-source_values row size source fits;
+    each = λ k l. subst (IsSymbol octets size) (sym (values_are row size k source fits l)) (value_is k are);
+  }
+
+  pub source_are_symbols : (n : ℕ) → AreSymbols octets size n (source_values row size source) → AreSymbols octets size (length source) source
+  source_are_symbols n are = record {
+    count_is = refl;
+    each = λ k l.
+        let f : ℕ = row.ldpc_symbols + row.hdpc_symbols in
+        let long = length-source_values row size source fits in
+        let within : f + k < equation_count row (source_ids row) = omega (arith, length-range_with_len 0 row.source_symbols) in
+        let read : symbol_at (source_values row size source) (f + k) ≡ symbol_at source k =
+        values_are row size (f + k) source fits within ∙ stacked_below f (λ _. zero_symbol size) (λ j. get_or source j (zero_symbol size)) k ∙ at_any source k (zero_symbol size) [] l in
+        subst (IsSymbol octets size) read (are.each (f + k) (omega (arith, long, are.count_is)));
+  }
+
+  -- the equations of a block in both forms
+  same_values : (column : ℕ → List ℕ) (v w : ℕ → List ℕ) → ((i : ℕ) → i < equation_count row (source_ids row) → v i ≡ w i) → SolvesSymbols octets (equation_count row (source_ids row)) (intermediate_symbols row) (equations row (source_ids row)) column v
+      → SolvesSymbols octets (equation_count row (source_ids row)) (intermediate_symbols row) (equations row (source_ids row)) column w
+  same_values column v w same solves = record {
+    at_place = λ p. solves_same octets (equation_count row (source_ids row)) (intermediate_symbols row) (equations row (source_ids row)) (equations row (source_ids row)) (slice_at p column) (slice_at p v) (slice_at p w)
+        (λ i k l m. refl) (λ i l. ap (λ xs. at xs p) (same i l)) (solves.at_place p);
+  }
+
+-- ---- plans
+
+module _ (row : Row) (operations : List Operation) (finds : FindsColumn octets (equation_count row (source_ids row)) (intermediate_symbols row) (equations row (source_ids row)) operations) where
+  pub plan_allowed : AreAllowed (intermediate_symbols row) None operations
+  plan_allowed = subst (λ n. AreAllowed n None operations) (count_source row) finds.allowed
+
+  pub plan_nonsingular : IsNonsingular row
+  plan_nonsingular = finds_determined octets (equation_count row (source_ids row)) (intermediate_symbols row) (equations row (source_ids row)) operations finds
+
+  module _ (size : ℕ) (source : List (List ℕ)) (fits : length source ≤ row.source_symbols) (are : AreSymbols octets size (length source) source) where
+    plan_column : IsIntermediateColumn row size source (symbol_in (planned row operations size source))
+    plan_column =
+        let values = values_are_symbols row size source fits are in
+        record {
+          symbols = found_are_symbols octets (equation_count row (source_ids row)) (intermediate_symbols row) (equations row (source_ids row)) operations finds size (source_values row size source) values;
+          solves = same_values row size source fits _ (symbol_at (source_values row size source)) (equation_values row size source) (λ i l. values_are row size i source fits l)
+              (found_solves octets (equation_count row (source_ids row)) (intermediate_symbols row) (equations row (source_ids row)) operations finds size (source_values row size source) values (count_source row));
+        }
+
+    plan_only : (other : ℕ → List ℕ) → IsIntermediateColumn row size source other → (k : ℕ) → k < intermediate_symbols row → other k ≡ symbol_in (planned row operations size source) k
+    plan_only other is = found_only octets (equation_count row (source_ids row)) (intermediate_symbols row) (equations row (source_ids row)) operations finds size (source_values row size source) (values_are_symbols row size source fits are) other is.symbols
+        (same_values row size source fits other (equation_values row size source) (symbol_at (source_values row size source)) (λ i l. sym (values_are row size i source fits l)) is.solves)
+
+  -- operations that find the column of a row's equations are its plan
+  pub plan_is : IsPlanOf row operations
+  plan_is = record {
+    places = λ size source fits. places_count (planned row operations size source) (intermediate_symbols row)
+        (found_places (equation_count row (source_ids row)) (intermediate_symbols row) (equations row (source_ids row)) operations finds (slab_of size (source_values row size source)));
+    column = λ size source fits are. record { is = plan_column size source fits are; only = plan_only size source fits are };
+  }

@@ -1,7 +1,9 @@
 pub mod Answered
+pub mod CacheLaws
 pub mod Encodes
 pub mod Filling
 pub mod HeldEquations
+pub mod Interleaving
 pub mod Intermediates
 pub mod Listing
 pub mod Lists
@@ -9,6 +11,7 @@ pub mod MissingCounts
 pub mod News
 pub mod Outcomes
 pub mod Payloads
+pub mod PlanLaws
 pub mod Ranges
 pub mod Refusals
 pub mod Summing

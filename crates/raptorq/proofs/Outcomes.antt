@@ -20,7 +20,7 @@ use Rattle.rq_base.specs.HdpcPart.{IsHdpcPart}
 use Rattle.rq_solver.specs.Solving.{AreEquations, IsOutcome, solver_of}
 use Rattle.rq_solver.specs.Solving as solver
 use Rattle.rq_solver.proofs.EquationLaws.{solution_of_equations, null_of_equations}
-use Rattle.raptorq.specs.Solving.{IsSolution, Solves}
+use Rattle.raptorq.specs.Solving.{IsSolution, SolvesByOperations}
 
 -- the matrices of a block's ids are equations for its values
 pub handed_equations : (row : Row) (ids : List ℕ) (bits : BitTable) (hdpc : OctetTable) (handed : Slab) → IsBinaryPart row ids bits → IsHdpcPart row hdpc → length handed.values ≡ equation_count row ids → intermediate_symbols row ≤ equation_count row ids → handed.order ≡ None
@@ -42,25 +42,24 @@ has_count values size None n here = here
 has_count values size (Some order) n here = omega (arith, length-map order (λ i. get_or values i []))
 
 -- as many places as can be read
-places_count : (slab : Slab) (n : ℕ) → ((k : ℕ) → k < n → HasPlace slab k) → n ≤ length (symbols_in slab)
+pub places_count : (slab : Slab) (n : ℕ) → ((k : ℕ) → k < n → HasPlace slab k) → n ≤ length (symbols_in slab)
 places_count slab zero places = omega arith
 places_count slab (suc n) places = has_count slab.values slab.symbol_size slab.order n (places n (omega arith))
 
 module _ (row : Row) (ids : List ℕ) (bits : BitTable) (hdpc : OctetTable) (handed : Slab) (part : IsBinaryPart row ids bits) (octet_part : IsHdpcPart row hdpc) (are : AreEquations row bits hdpc handed) where
-  -- the solution is the block's
-  pub solution_found : (slab : Slab) (operations : List Operation) → AreSymbols octets handed.symbol_size (equation_count row ids) handed.values
-      → solver.IsSolution (length handed.values) (intermediate_symbols row) (solver_of row bits hdpc handed).rows handed slab operations → IsSolution row ids handed.symbol_size handed.values slab
-  solution_found slab operations symbols_are solution =
-      let s = solution_of_equations row ids bits hdpc part octet_part.rows handed are slab operations solution in
-      record {
-        determined = finds_determined octets (equation_count row ids) (intermediate_symbols row) (equations row ids) operations s.finds;
-        places = places_count slab (intermediate_symbols row) s.places;
-        size_is = ap (λ (g : Slab). g.symbol_size) s.made;
-        symbols = λ k l. subst (IsSymbol octets handed.symbol_size) (sym (s.reads k)) (found_are_symbols octets (equation_count row ids) (intermediate_symbols row) (equations row ids) operations s.finds handed.symbol_size handed.values symbols_are k l);
-        only = λ column is solves k l. s.only handed.symbol_size handed.values column symbols_are is solves k l ∙ sym (s.reads k);
-        solves = λ square. subst (λ (column : ℕ → List ℕ). SolvesSymbols octets (equation_count row ids) (intermediate_symbols row) (equations row ids) column (symbol_at handed.values)) (λ i k. sym (s.reads k) i) (s.solves square handed.symbol_size handed.values symbols_are);
-      }
+  -- what a solver finds solves the block's equations; where there is nothing, the ids don't determine the block
+  pub recorded_outcome : (answer : Option (Slab × Vec SymbolOps Global)) → IsOutcome (solver_of row bits hdpc handed) handed answer → SolvesByOperations row ids handed answer
+  recorded_outcome None null = λ d. null_not_determined octets (equation_count row ids) (intermediate_symbols row) (equations row ids) (null_of_equations row ids bits hdpc part octet_part.rows handed are null) d
+  recorded_outcome (Some found) solution = solution_of_equations row ids bits hdpc part octet_part.rows handed are found.0 (map operation_of found.1.items) solution
 
-  -- where there is none, the ids don't determine the block
-  pub nothing_found : HasNullColumn octets (length handed.values) (intermediate_symbols row) (solver_of row bits hdpc handed).rows → AreDetermining row ids → ⊥
-  nothing_found null d = null_not_determined octets (equation_count row ids) (intermediate_symbols row) (equations row ids) (null_of_equations row ids bits hdpc part octet_part.rows handed are null) d
+-- the solution is the block's
+pub solution_found : (row : Row) (ids : List ℕ) (handed slab : Slab) (operations : List Operation) → AreSymbols octets handed.symbol_size (equation_count row ids) handed.values
+    → solver.IsSolution (equation_count row ids) (intermediate_symbols row) (equations row ids) handed slab operations → IsSolution row ids handed.symbol_size handed.values slab
+solution_found row ids handed slab operations symbols_are s = record {
+  determined = finds_determined octets (equation_count row ids) (intermediate_symbols row) (equations row ids) operations s.finds;
+  places = places_count slab (intermediate_symbols row) s.places;
+  size_is = ap (λ (g : Slab). g.symbol_size) s.made;
+  symbols = λ k l. subst (IsSymbol octets handed.symbol_size) (sym (s.reads k)) (found_are_symbols octets (equation_count row ids) (intermediate_symbols row) (equations row ids) operations s.finds handed.symbol_size handed.values symbols_are k l);
+  only = λ column is solves k l. s.only handed.symbol_size handed.values column symbols_are is solves k l ∙ sym (s.reads k);
+  solves = λ square. subst (λ (column : ℕ → List ℕ). SolvesSymbols octets (equation_count row ids) (intermediate_symbols row) (equations row ids) column (symbol_at handed.values)) (λ i k. sym (s.reads k) i) (s.solves square handed.symbol_size handed.values symbols_are);
+}

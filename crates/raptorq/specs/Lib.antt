@@ -1,10 +1,16 @@
+pub mod Allowed
+pub mod BlockData
 pub mod BlockEncoded
 pub mod Blocks
+pub mod CacheLends
 pub mod Decoding
 pub mod Encoded
 pub mod Known
 pub mod Missing
 pub mod Objects
 pub mod OneBlock
+pub mod PlanCache
+pub mod Planned
+pub mod Plans
 pub mod Refused
 pub mod Solving

@@ -1,7 +1,7 @@
 -- What coders refuse, in the order of the tests.
-use Rattle.std.specs.Prelude.{◌≡◌, ◌⊎◌, ℕ, ◌%◌, List, length, Result, Ok, Err, if◌then◌else◌, ◌==◌, not, nat_lt}
+use Rattle.std.specs.Prelude.{◌≡◌, ◌⊎◌, ℕ, ◌+◌, ◌/◌, ◌%◌, ◌^◌, List, length, Result, Ok, Err, if◌then◌else◌, ◌==◌, ◌&&◌, not, nat_lt}
 use Rattle.rq_bytes.specs.declared.error.Error.{Error}
-use Rattle.rq_bytes.specs.declared.error.Error.TheVariants.{SymbolSizeZero, AlignmentZero, Misaligned, BlockOverTable, UnknownBlock, WrongPayloadSize, WrongDataLength, Singular}
+use Rattle.rq_bytes.specs.declared.error.Error.TheVariants.{SymbolSizeZero, AlignmentZero, Misaligned, BlockOverTable, UnknownBlock, WrongPayloadSize, WrongDataLength, Singular, EsiTooLarge}
 use Rattle.rq_bytes.specs.Refusals.{IsRefusal, and_then}
 use Rattle.rq_standard.specs.declared.row.Row.{Row}
 use Rattle.rq_standard.specs.TableRows.{greatest_size}
@@ -19,6 +19,16 @@ checked_block greatest c symbols =
     else if not (c.symbol_size % c.alignment == 0) then Err Misaligned
     else if nat_lt greatest symbols then Err BlockOverTable
     else Ok tt
+
+-- how many source symbols so many bytes are, where a table has a row for them
+abbrev pub wanted_count : ℕ → Configuration → ℕ → Result ℕ Error
+wanted_count greatest c bytes =
+    if c.symbol_size == 0 then Err SymbolSizeZero
+    else if c.alignment == 0 then Err AlignmentZero
+    else if not (c.symbol_size % c.alignment == 0) then Err Misaligned
+    else if not (bytes % c.symbol_size == 0) then Err WrongDataLength
+    else if nat_lt greatest (bytes / c.symbol_size) then Err BlockOverTable
+    else Ok (bytes / c.symbol_size)
 
 -- whether the decoder of a block takes a packet: the block's number comes first
 abbrev pub block_refusal : Held → Packet → Result (Unit {0}) Error
@@ -44,3 +54,7 @@ abbrev pub RefusesEncoder : List Row → Configuration → ℕ → Error → Typ
 RefusesEncoder table c length_of_data e =
     let wanted = new_encoder (greatest_size table) c length_of_data in
     IsRefusal e wanted ⊎ ((wanted ≡ Ok tt) × (e ≡ Singular) × ¬ HasNonsingularRows table c)
+
+-- whether n repair packets from one on have ids, in a block of so many source symbols
+abbrev pub repair_refusal : ℕ → ℕ → ℕ → Result (Unit {0}) Error
+repair_refusal count start n = if nat_lt 0 n && nat_lt (2 ^ 24) (count + start + n) then Err EsiTooLarge else Ok tt

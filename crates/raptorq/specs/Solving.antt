@@ -1,11 +1,15 @@
 -- What a solver finds of a block.
-use Rattle.std.specs.Prelude.{◌≡◌, ℕ, ◌<◌, ◌≤◌, List, length, Option, MatchOption}
+use Rattle.std.specs.Prelude.{◌≡◌, ℕ, ◌<◌, ◌≤◌, List, length, map, Option, MatchOption, Vec}
+use Rattle.std.specs.Global.{Global}
 use Rattle.rq_algebra.specs.Symbols.{IsSymbolColumn, SolvesSymbols, symbol_at}
 use Rattle.rq_bytes.specs.Slab.{Slab, symbol_in, symbols_in}
+use Rattle.rq_bytes.specs.SymbolOps.{operation_of}
+use Rattle.rq_bytes.specs.declared.operation_vector.SymbolOps.{SymbolOps}
 use Rattle.rq_standard.specs.declared.row.Row.{Row}
 use Rattle.rq_standard.specs.OctetField.{octets}
 use Rattle.rq_standard.specs.TableRows.{intermediate_symbols}
 use Rattle.rq_standard.specs.Equations.{equations, equation_count, AreDetermining}
+use Rattle.rq_solver.specs.Solving as solver
 
 -- the intermediate symbols in a slab, from the values of the equations
 pub record IsSolution (row : Row) (ids : List ℕ) (size : ℕ) (values : List (List ℕ)) (slab : Slab) : Type 0 where
@@ -22,3 +26,9 @@ pub record IsSolution (row : Row) (ids : List ℕ) (size : ℕ) (values : List (
 -- the intermediate symbols, exactly where the ids determine them
 abbrev pub Solves : Row → List ℕ → ℕ → List (List ℕ) → Option Slab → Type 0
 Solves row ids size values answer = MatchOption answer (AreDetermining row ids → ⊥) (IsSolution row ids size values)
+
+-- the same, with the operations that make them
+abbrev pub SolvesByOperations : Row → List ℕ → Slab → Option (Slab × Vec SymbolOps Global) → Type 0
+SolvesByOperations row ids handed answer =
+    MatchOption answer (AreDetermining row ids → ⊥)
+    (λ found. solver.IsSolution (equation_count row ids) (intermediate_symbols row) (equations row ids) handed found.0 (map operation_of found.1.items))

@@ -11,8 +11,12 @@ ghost use Rattle.raptorq.specs.BlockEncoded.{block_encoded_of};
 ghost use Rattle.raptorq.specs.OneBlock.{IsOneBlock};
 
 mod block;
+mod cache;
+mod plan;
 
 pub use block::SourceBlockEncoder;
+pub use cache::SourceBlockEncodingPlanCache;
+pub use plan::SourceBlockEncodingPlan;
 use rq_base::base::{EncodingPacket, ObjectTransmissionInformation};
 use rq_bytes::error::Error;
 use rq_bytes::symbol::Symbol;

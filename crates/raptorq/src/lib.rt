@@ -6,10 +6,13 @@ pub mod encoder;
 mod ids;
 mod one_block;
 mod solving;
+mod sub_blocks;
 mod sums;
 
 pub use decoder::{Decoder, SourceBlockDecoder};
-pub use encoder::{Encoder, SourceBlockEncoder};
+pub use encoder::{
+    Encoder, SourceBlockEncoder, SourceBlockEncodingPlan, SourceBlockEncodingPlanCache,
+};
 pub use one_block::is_one_block;
 pub use rq_base::base;
 pub use rq_base::base::{EncodingPacket, ObjectTransmissionInformation, PayloadId, partition};

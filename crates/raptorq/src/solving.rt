@@ -3,10 +3,11 @@ ghost use Rattle.std.specs.Prelude.{◌≡◌, ℕ, ◌^◌, ◌<◌, ◌≤◌,
 ghost use Rattle.rq_bytes.specs.Slab.{Slab};
 ghost use Rattle.rq_standard.specs.Equations.{equation_count};
 ghost use Rattle.rq_standard.specs.TableRows.{IsChecked, intermediate_symbols};
-ghost use Rattle.raptorq.specs.Solving.{Solves};
+ghost use Rattle.raptorq.specs.Solving.{Solves, SolvesByOperations};
 
 use rq_base::constraint_matrix::generate_constraint_matrix_of_row;
 use rq_bytes::error::Error;
+use rq_bytes::operation_vector::SymbolOps;
 use rq_bytes::symbol_slab::SymbolSlab;
 use rq_matrix::matrix::DenseBinaryMatrix;
 use rq_solver::pi_solver::IntermediateSymbolDecoder;
@@ -30,11 +31,29 @@ pub(crate) fn solve(
     ensures solved { IfOk result (λ answer. Solves row.now ids.now values.symbol_size values.values answer) }
     ensures memory { IfErr result (λ e. e ≡ Error.OutOfMemory) }
 {
-    let (matrix, hdpc) = generate_constraint_matrix_of_row::<DenseBinaryMatrix>(alloc, row, ids)?;
     let _symbols = values.len();
-    let mut solver = IntermediateSymbolDecoder::of_row(alloc, row, matrix, hdpc, values);
-    match solver.execute()? {
+    match solve_recorded(alloc, row, ids, values)? {
         Some((intermediate, _operations)) => Ok(Some(intermediate)),
         None => Ok(None),
     }
+}
+
+/// The same, with the operations that made them. The values may have any size, 0 too, where the
+/// operations alone are wanted.
+pub(crate) fn solve_recorded(
+    alloc: Global,
+    row: &Row,
+    ids: &[u32],
+    values: SymbolSlab,
+) -> Result<Option<(SymbolSlab, Vec<SymbolOps>)>, Error>
+    requires checked { IsChecked row.now }
+    requires enough { intermediate_symbols row.now ≤ equation_count row.now ids.now }
+    requires fits { equation_count row.now ids.now < 2 ^ 31 }
+    requires count { length values.values ≡ equation_count row.now ids.now }
+    requires no_order { values.order ≡ None }
+    ensures solved { IfOk result (λ answer. SolvesByOperations row.now ids.now values answer) }
+    ensures memory { IfErr result (λ e. e ≡ Error.OutOfMemory) }
+{
+    let (matrix, hdpc) = generate_constraint_matrix_of_row::<DenseBinaryMatrix>(alloc, row, ids)?;
+    IntermediateSymbolDecoder::of_row(alloc, row, matrix, hdpc, values).execute()
 }

@@ -16,6 +16,8 @@ mod memory;
 #[cfg(test)]
 mod packets;
 #[cfg(test)]
+mod plans;
+#[cfg(test)]
 mod records;
 #[cfg(test)]
 mod vectors;

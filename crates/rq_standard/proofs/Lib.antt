@@ -2,6 +2,7 @@ pub mod Columns
 pub mod Firsts
 pub mod HdpcLaws
 pub mod HeaderBytes
+pub mod Interleaved
 pub mod Known
 pub mod LeastNumbers
 pub mod OneAnswer

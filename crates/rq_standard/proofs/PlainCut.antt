@@ -7,7 +7,7 @@ use Rattle.std.proofs.lemmas.Bool.{le-ltb}
 use Rattle.std.proofs.lemmas.List.{take-append-drop, drop-drop, length-take-le, nil_from_length, drop-append-le, take-append-le, drop_at, take_all, get_or-take, get_or-drop, ext_get_or}
 use Rattle.std.proofs.lemmas.List.FromFn.{length-map-range_with_len, get_or-map-range_with_len}
 use Rattle.rq_standard.specs.Configuration.{Configuration}
-use Rattle.rq_standard.specs.Cutting.{block_symbols, sub_block_count, sub_block_parts, larger_bytes, sub_block_size, sub_block_start, place_in_block, block_bytes, symbol_of_block, HasOneSubBlock}
+use Rattle.rq_standard.specs.Cutting.{block_symbols, sub_block_count, sub_block_parts, larger_bytes, sub_block_size, sub_block_start, place_in_block, block_bytes, symbol_of_block, plain_symbol, HasOneSubBlock}
 
 -- the n bytes from a place on, as a list made from a function of the place
 pub map-range_is_take : (xs : List ℕ) (f : ℕ → ℕ) (a n : ℕ) → a + n ≤ length xs → ((i : ℕ) → i < n → f i ≡ get_or xs (a + i) 0) → map f (range_with_len 0 n) ≡ take n (drop a xs)
@@ -16,10 +16,6 @@ map-range_is_take xs f a n h each =
     ext_get_or 0 (map f (range_with_len 0 n)) (take n (drop a xs)) (length-map-range_with_len f 0 n ∙ sym (length-take-le n (drop a xs) room))
     (λ i below. let lt : i < n = subst (λ m. i < m) (length-map-range_with_len f 0 n) below in
     get_or-map-range_with_len f 0 n i i 0 lt (omega arith) ∙ each i lt ∙ sym (get_or-take n (drop a xs) i 0 lt ∙ get_or-drop a xs i 0))
-
--- symbol e of a block in which the symbols stand one after another
-unfoldable pub plain_symbol : ℕ → List ℕ → ℕ → List ℕ
-plain_symbol size block e = take size (drop (e * size) block)
 
 -- a symbol has its size
 pub length-plain_symbol : (size k : ℕ) (xs : List ℕ) (e : ℕ) → length xs ≡ k * size → e < k → length (plain_symbol size xs e) ≡ size

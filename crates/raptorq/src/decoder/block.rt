@@ -2,10 +2,9 @@
 ghost use Rattle.std.specs.Prelude.{◌≡◌, ◌≢◌, ℕ, ◌+◌, ◌*◌, ◌^◌, ◌<◌, ◌≤◌, true, ◌++◌, List, length, Result, Ok, Err, Some, None, IfOk, IfErr, OnOk, OnErr, IsSome, not, if◌then◌else◌, ◌==◌, option_map, vec_items};
 ghost use Rattle.std.specs.Option.{ForSome};
 ghost use Rattle.rq_bytes.specs.Refusals.{IsAnswer};
-ghost use Rattle.rq_standard.specs.Cutting.{HasOneSubBlock};
+ghost use Rattle.rq_standard.specs.Cutting.{HasOneSubBlock, plain_symbol};
 ghost use Rattle.rq_standard.specs.Received.{or_later};
 ghost use Rattle.rq_standard.specs.TableRows.{IsChecked};
-ghost use Rattle.rq_standard.proofs.PlainCut.{plain_symbol};
 ghost use Rattle.raptorq.specs.Missing.{payload_of, has_payload, missing_count};
 
 use crate::decoder::known::known_equations;

@@ -1,17 +1,24 @@
 //! The encoder of one source block.
-ghost use Rattle.std.specs.Prelude.{◌≡◌, ℕ, ◌+◌, ◌-◌, ◌^◌, ◌<◌, ◌≤◌, All, List, length, replicate, ◌++◌, IfOk, IfErr, OnOk, ◌⊎◌};
-ghost use Rattle.rq_bytes.specs.Slab.{slab_of, symbol_in, symbols_in};
-ghost use Rattle.rq_standard.specs.Equations.{IsNonsingular, IsIntermediateColumn, IsEncodingSymbol, zero_symbol};
-ghost use Rattle.rq_standard.specs.TableRows.{IsChecked, intermediate_symbols};
+ghost use Rattle.std.specs.Prelude.{◌≡◌, ◌⊎◌, ℕ, ◌+◌, ◌-◌, ◌/◌, ◌%◌, ◌^◌, ◌<◌, ◌≤◌, All, List, length, map, IfOk, IfErr, OnOk, OnErr};
+ghost use Rattle.std.specs.List.{range_with_len};
+ghost use Rattle.rq_bytes.specs.Refusals.{IsAnswer};
+ghost use Rattle.rq_bytes.specs.Slab.{symbol_in, symbols_in};
+ghost use Rattle.rq_standard.specs.Cutting.{symbol_of_block};
+ghost use Rattle.rq_standard.specs.Equations.{IsNonsingular, IsIntermediateColumn, IsEncodingSymbol};
+ghost use Rattle.rq_standard.specs.TableRows.{IsChecked, greatest_size, intermediate_symbols};
+ghost use Rattle.raptorq.specs.Refused.{wanted_count, repair_refusal};
 
-use crate::ids::{internal_symbol_id, padding_ids};
-use crate::solving::solve;
+use crate::encoder::cache::SourceBlockEncodingPlanCache;
+use crate::encoder::plan::SourceBlockEncodingPlan;
+use crate::ids::internal_symbol_id;
+use crate::sub_blocks::source_symbols;
 use crate::sums::encoding_symbol;
-use rq_base::base::{EncodingPacket, PayloadId};
+use rq_base::base::{EncodingPacket, ObjectTransmissionInformation, PayloadId};
 use rq_bytes::error::Error;
 use rq_bytes::symbol::Symbol;
 use rq_bytes::symbol_slab::SymbolSlab;
 use rq_standard::row::Row;
+use rq_tables::systematic_constants::SystematicTable;
 use std::alloc::{AllocError, Global};
 
 /// Makes the packets of one source block.
@@ -30,36 +37,119 @@ pub struct SourceBlockEncoder {
     pub ghost solved: { IsIntermediateColumn row intermediate.symbol_size source.items (symbol_in intermediate) },
 }
 
-// The values of the equations that decide a block's intermediate symbols: its source symbols, and
-// zeros for all others.
-fn source_values(
-    alloc: Global,
-    row: &Row,
-    size: usize,
-    source: &[Symbol],
-) -> Result<SymbolSlab, Error>
-    requires checked { IsChecked row.now }
-    requires positive { 0 < size }
-    requires small { size < 65536 }
-    requires few { length source.now ≤ row.now.source_symbols }
-    requires sized { All (λ symbol. length symbol ≡ size) source.now }
-    ensures values { IfOk result (λ slab. slab ≡ slab_of size (replicate (row.now.ldpc_symbols + row.now.hdpc_symbols) (zero_symbol size) ++ (source.now ++ replicate (row.now.source_symbols - length source.now) (zero_symbol size)))) }
-    ensures memory { IfErr result (λ e. e ≡ Error.OutOfMemory) }
-{
-    let fixed = (row.ldpc_symbols + row.hdpc_symbols) as usize;
-    let count = fixed + row.source_symbols as usize;
-    let mut values = SymbolSlab::with_zeros(alloc, count, size)?;
-    let mut place = fixed;
-    for symbol in source {
-        values.copy_block_from(place, symbol.as_bytes());
-        place += 1;
-    }
-    Ok(values)
-}
-
 impl SourceBlockEncoder {
     ghost use Rattle.raptorq.specs.BlockEncoded.{block_encoded_of, IsBlockPacket, AreBlockPackets};
+    ghost use Rattle.raptorq.specs.BlockData.{block_of, IsPlanFor, RefusesBlock, RefusesPlanned};
+    ghost use Rattle.raptorq.specs.PlanCache.{used};
+    ghost use Rattle.raptorq.specs.Plans.{plan_of};
     ghost use Rattle.rq_standard.specs.Equations.{IsSingular};
+
+    /// The encoder of the source block of these bytes, in as many symbols as they are. Its plan is
+    /// the one in the cache, or a new one, which is then put in.
+    ///
+    /// Refuses [`Error::SymbolSizeZero`], [`Error::AlignmentZero`] and [`Error::Misaligned`] for the
+    /// configuration, [`Error::WrongDataLength`] where the bytes are no whole symbols,
+    /// [`Error::BlockOverTable`] where the cache's table has no row for so many, and then
+    /// [`Error::Singular`] where that row decides no intermediate symbols. After each the cache is
+    /// as before.
+    pub fn new(
+        alloc: Global,
+        source_block_number: u8,
+        config: &ObjectTransmissionInformation,
+        data: &[u8],
+        cache: &mut SourceBlockEncodingPlanCache,
+    ) -> Result<SourceBlockEncoder, Error>
+        ensures refused { IfErr result (RefusesBlock cache.old.table config.now (length data.now)) }
+        ensures taken { OnOk result (wanted_count (greatest_size cache.old.table) config.now (length data.now) ≡ Ok (length data.now / config.now.symbol_size)) }
+        ensures encoded { IfOk result (λ b. block_encoded_of b ≡ block_of cache.old.table config.now source_block_number data.now) }
+        ensures nonsingular { IfOk result (λ b. IsNonsingular (block_encoded_of b).row) }
+        ensures used { OnOk result (cache.new ≡ used cache.old (length data.now / config.now.symbol_size)) }
+        ensures unchanged { OnErr result (cache.new ≡ cache.old) }
+    {
+        let count = source_symbol_count(config, data, cache.table())?;
+        if let Some(plan) = cache.get(count) {
+            return SourceBlockEncoder::of_data(alloc, source_block_number, config, data, plan);
+        }
+        let plan = SourceBlockEncodingPlan::generate(alloc, cache.table(), count)?;
+        let encoder = SourceBlockEncoder::of_data(alloc, source_block_number, config, data, &plan)?;
+        cache.put(plan);
+        Ok(encoder)
+    }
+
+    /// The same over a table, by a plan of its row for so many source symbols.
+    ///
+    /// Refuses the same but for the last, and then [`Error::PlanMismatch`] where the plan was made
+    /// for another number of source symbols or another row.
+    pub fn with_encoding_plan(
+        alloc: Global,
+        source_block_number: u8,
+        config: &ObjectTransmissionInformation,
+        data: &[u8],
+        table: &SystematicTable,
+        plan: &SourceBlockEncodingPlan,
+    ) -> Result<SourceBlockEncoder, Error>
+        ensures refused { IfErr result (RefusesPlanned table.now config.now (length data.now) (plan_of plan.now)) }
+        ensures taken { OnOk result (wanted_count (greatest_size table.now) config.now (length data.now) ≡ Ok (length data.now / config.now.symbol_size)) }
+        ensures fits { OnOk result (IsPlanFor table.now (length data.now / config.now.symbol_size) (plan_of plan.now)) }
+        ensures encoded { IfOk result (λ b. block_encoded_of b ≡ block_of table.now config.now source_block_number data.now) }
+    {
+        let count = source_symbol_count(config, data, table)?;
+        if plan.source_symbol_count() != count || plan.row() != table.row(u32::from(count)) {
+            return Err(Error::PlanMismatch);
+        }
+        SourceBlockEncoder::of_data(alloc, source_block_number, config, data, plan)
+    }
+
+    // The encoder of whole symbols, by a plan for as many.
+    fn of_data(
+        alloc: Global,
+        number: u8,
+        config: &ObjectTransmissionInformation,
+        data: &[u8],
+        plan: &SourceBlockEncodingPlan,
+    ) -> Result<SourceBlockEncoder, Error>
+        requires positive { 0 < config.now.symbol_size }
+        requires alignment { 0 < config.now.alignment }
+        requires aligned { config.now.symbol_size % config.now.alignment ≡ 0 }
+        ensures encoded { let count = (plan_of plan.now).count in IfOk result (λ b. block_encoded_of b ≡ record { number = number; row = (plan_of plan.now).row; size = config.now.symbol_size; source = map (symbol_of_block config.now count data.now) (range_with_len 0 count) }) }
+        ensures memory { IfErr result (λ e. e ≡ Error.OutOfMemory) }
+    {
+        let count = u32::from(plan.source_symbol_count());
+        let source = source_symbols(alloc, config, data, count)?;
+        let size = usize::from(config.symbol_size());
+        SourceBlockEncoder::planned(alloc, number, size, source, plan)
+    }
+
+    /// The packets of the source symbols.
+    pub fn source_packets(&self) -> Result<Vec<EncodingPacket>, Error>
+        ensures packets { let b = block_encoded_of self.now in IfOk result (λ v. AreBlockPackets b 0 (length b.source) v.items) }
+        ensures memory { IfErr result (λ e. e ≡ Error.OutOfMemory) }
+    {
+        self.packets(0, self.symbols())
+    }
+
+    /// So many packets of repair symbols, from the repair symbol `start_repair_symbol` on, which
+    /// are numbered from 0.
+    ///
+    /// Refuses [`Error::EsiTooLarge`] where there are not so many ids, which end at 2^24.
+    pub fn repair_packets(
+        &self,
+        start_repair_symbol: u32,
+        packets: u32,
+    ) -> Result<Vec<EncodingPacket>, Error>
+        ensures refused { IsAnswer (λ _. tt) result (repair_refusal (length (block_encoded_of self.now).source) start_repair_symbol packets) }
+        ensures packets { let b = block_encoded_of self.now in IfOk result (λ v. AreBlockPackets b (length b.source + start_repair_symbol) packets v.items) }
+    {
+        if packets == 0 {
+            return Ok(Vec::new(self.alloc));
+        }
+        let start = u64::from(self.symbols()) + u64::from(start_repair_symbol);
+        let end = start + u64::from(packets);
+        if end > 1 << 24 {
+            return Err(Error::EsiTooLarge);
+        }
+        self.packets(start as u32, end as u32)
+    }
 
     /// The encoder of a block with these source symbols, over a row of the table. It solves the
     /// block's equations.
@@ -81,11 +171,27 @@ impl SourceBlockEncoder {
         ensures nonsingular { OnOk result (IsNonsingular row) }
         ensures refused { IfErr result (λ e. (e ≡ Error.OutOfMemory) ⊎ ((e ≡ Error.Singular) × IsSingular row)) }
     {
-        let values = source_values(alloc, &row, size, source.as_slice())?;
-        let ids = padding_ids(alloc, &row, 0, row.source_symbols as usize)?;
-        let Some(intermediate) = solve(alloc, &row, ids.as_slice(), values)? else {
-            return Err(Error::Singular);
-        };
+        let plan = SourceBlockEncodingPlan::of_row(alloc, source.len() as u16, row)?;
+        SourceBlockEncoder::planned(alloc, number, size, source, &plan)
+    }
+
+    /// The encoder of a block with these source symbols, by a plan of its row.
+    pub(crate) fn planned(
+        alloc: Global,
+        number: u8,
+        size: usize,
+        source: Vec<Symbol>,
+        plan: &SourceBlockEncodingPlan,
+    ) -> Result<SourceBlockEncoder, Error>
+        requires positive { 0 < size }
+        requires small { size < 65536 }
+        requires few { length source.items ≤ (plan_of plan.now).row.source_symbols }
+        requires sized { All (λ symbol. length symbol ≡ size) source.items }
+        ensures encoded { IfOk result (λ b. block_encoded_of b ≡ record { number = number; row = (plan_of plan.now).row; size = size; source = source.items }) }
+        ensures memory { IfErr result (λ e. e ≡ Error.OutOfMemory) }
+    {
+        let row = plan.row();
+        let intermediate = plan.apply(alloc, size, source.as_slice())?;
         Ok(SourceBlockEncoder {
             number,
             row,
@@ -128,6 +234,39 @@ impl SourceBlockEncoder {
         }
         Ok(packets)
     }
+}
+
+// How many source symbols bytes are, where a table has a row for them.
+fn source_symbol_count(
+    config: &ObjectTransmissionInformation,
+    data: &[u8],
+    table: &SystematicTable,
+) -> Result<u16, Error>
+    ensures wanted { result ≡ wanted_count (greatest_size table.now) config.now (length data.now) }
+    ensures positive { OnOk result (0 < config.now.symbol_size) }
+    ensures alignment { OnOk result (0 < config.now.alignment) }
+    ensures aligned { OnOk result (config.now.symbol_size % config.now.alignment ≡ 0) }
+    ensures count { IfOk result (λ count. count ≡ length data.now / config.now.symbol_size) }
+    ensures few { IfOk result (λ count. count ≤ greatest_size table.now) }
+{
+    if config.symbol_size() == 0 {
+        return Err(Error::SymbolSizeZero);
+    }
+    if config.symbol_alignment() == 0 {
+        return Err(Error::AlignmentZero);
+    }
+    if config.symbol_size() % u16::from(config.symbol_alignment()) != 0 {
+        return Err(Error::Misaligned);
+    }
+    let size = usize::from(config.symbol_size());
+    if data.len() % size != 0 {
+        return Err(Error::WrongDataLength);
+    }
+    let count = data.len() / size;
+    if count > table.greatest() as usize {
+        return Err(Error::BlockOverTable);
+    }
+    Ok(count as u16)
 }
 
 impl Clone for SourceBlockEncoder {

@@ -2,7 +2,7 @@ use Rattle.std.proofs.Common.{◌≡◌, ◌+◌, ◌<◌, ◌≤◌, length, ge
 use Rattle.std.proofs.lemmas.List.Elements.{All-get_or}
 use Rattle.raptorq.proofs.Listing.{slab_answered, whole_piece}
 use Rattle.raptorq.proofs.Filling.{filled_none, filled_more, filled_all, filled_room}
-use Rattle.raptorq.proofs.encoder.block.source_values.Goals as goal
+use Rattle.raptorq.proofs.encoder.plan.source_values.Goals as goal
 
 pub loop-symbol-init : goal.loop-symbol-init
 loop-symbol-init c =

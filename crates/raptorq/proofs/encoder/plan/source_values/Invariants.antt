@@ -1,7 +1,7 @@
 use Rattle.std.proofs.Common.{◌≡◌, ◌+◌}
 use Rattle.rq_bytes.specs.Slab.{slab_of}
 use Rattle.raptorq.proofs.Filling.{filled}
-use Rattle.raptorq.proofs.encoder.block.source_values.Given as goal
+use Rattle.raptorq.proofs.encoder.plan.source_values.Given as goal
 
 -- the symbols so far are filled in
 abbrev pub invariant-loop-symbol : goal.invariant-loop-symbol

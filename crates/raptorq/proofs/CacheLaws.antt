@@ -1,0 +1,88 @@
+-- The counts that a cache of plans holds.
+use Rattle.std.proofs.Common.{◌≡◌, ℕ, suc, ◌+◌, ◌-◌, ◌<◌, ◌≤◌, Bool, true, false, List, [], ◌∷◌, ◌++◌, Option, Some, None, length, drop, get_or, map, cond, refl, sym, ap, ◌∙◌, subst, arith, inl, inr}
+use Rattle.std.specs.Prelude.{is_some, slice_get, position, nat_lt, ◌==◌}
+use Rattle.std.specs.List.{list_any, position_or_len}
+use Rattle.std.proofs.lemmas.Bool.{cases_lt, lt-ltb, le-ltb, eqb-true, eq-eqb, ne_eqb}
+use Rattle.std.proofs.lemmas.List.{length-append, length-map, get_or-append_right}
+use Rattle.std.proofs.lemmas.List.Folds.{list_any_at}
+use Rattle.std.proofs.lemmas.List.Quantifiers.{position-Some}
+use Rattle.std.proofs.lemmas.List.Sums.{position_or_len_is}
+use Rattle.std.proofs.lemmas.Option.{slice_get_read}
+use Rattle.std.proofs.Math.ListN.{get_or-map}
+use Rattle.raptorq.specs.declared.encoder.plan.SourceBlockEncodingPlan.{SourceBlockEncodingPlan}
+use Rattle.raptorq.specs.PlanCache.{holds, cached}
+use Rattle.raptorq.proofs.Encodes.{at_any}
+
+-- ---- whether a count is held
+
+same_lt : (m n : ℕ) → nat_lt (1 + m) (suc n) ≡ nat_lt m n
+same_lt m n = elim (cases_lt m n) [
+  | inl l ↦ lt-ltb (1 + m) (suc n) (omega arith) ∙ sym (lt-ltb m n l)
+  | inr g ↦ le-ltb (1 + m) (suc n) (omega arith) ∙ sym (le-ltb m n g)
+]
+
+module _ (p : ℕ → Bool) where
+  first_step : (x : ℕ) (xs : List ℕ) (b : Bool) → p x ≡ b → nat_lt (position_or_len p xs) (length xs) ≡ list_any p xs → nat_lt (position_or_len p (x ∷ xs)) (length (x ∷ xs)) ≡ list_any p (x ∷ xs)
+  first_step x xs true e so = rw e (lt-ltb 0 (length (x ∷ xs)) (omega arith))
+  first_step x xs false e so = rw e (same_lt (position_or_len p xs) (length xs) ∙ so)
+
+  some_first : (xs : List ℕ) → nat_lt (position_or_len p xs) (length xs) ≡ list_any p xs
+  some_first [] = refl
+  some_first (x ∷ xs) = first_step x xs (p x) refl (some_first xs)
+
+is_some_if : (b : Bool) (n : ℕ) → is_some (cond b (Some n) None) ≡ b
+is_some_if true n = refl
+is_some_if false n = refl
+
+-- a count is held where it has a place
+pub held_by : (counts : List ℕ) (count : ℕ) (place : Option ℕ) → place ≡ position (λ n. n == count) counts → is_some place ≡ holds counts count
+held_by counts count place is = ap is_some is ∙ is_some_if (nat_lt (position_or_len (λ n. n == count) counts) (length counts)) _ ∙ some_first (λ n. n == count) counts
+
+pub place_found : (counts : List ℕ) (count i : ℕ) → position (λ n. n == count) counts ≡ Some i → slice_get counts i ≡ Some count
+place_found counts count i is =
+    let found = position-Some (λ n. n == count) counts i count is in
+    let same : get_or counts i count ≡ count = eqb-true (get_or counts i count) count found.1 in
+    slice_get_read counts (length counts) i count refl found.0 (sym same)
+
+-- the first place of a count, and that it has none
+pub first_place : (counts : List ℕ) (count i : ℕ) → i < length counts → ((k : ℕ) → k < i → get_or counts k 0 ≡ count → ⊥) → get_or counts i 0 ≡ count → Some i ≡ position (λ n. n == count) counts
+first_place counts count i below before here =
+    let at : position_or_len (λ n. n == count) counts ≡ i = position_or_len_is (λ n. n == count) counts i 0 (omega arith) (λ k l. ne_eqb (get_or counts k 0) count (before k l)) (λ l. eq-eqb (get_or counts i 0) count here) in
+    sym (rw (at, lt-ltb i (length counts) below) refl)
+
+pub no_place : (counts : List ℕ) (count : ℕ) → ((k : ℕ) → k < length counts → get_or counts k 0 ≡ count → ⊥) → None ≡ position (λ n. n == count) counts
+no_place counts count none =
+    let at : position_or_len (λ n. n == count) counts ≡ length counts = position_or_len_is (λ n. n == count) counts (length counts) 0 (omega arith) (λ k l. ne_eqb (get_or counts k 0) count (none k l)) (λ l. absurd (omega arith)) in
+    sym (rw (at, le-ltb (length counts) (length counts) (omega arith)) refl)
+
+-- ---- the counts of plans
+
+abbrev pub counts_in : List SourceBlockEncodingPlan → List ℕ
+counts_in plans = map (λ p. p.source_symbol_count) plans
+
+pub count_at : (plans : List SourceBlockEncodingPlan) (i : ℕ) (p : SourceBlockEncodingPlan) → i < length plans → p ≡ get_or plans i p → get_or (counts_in plans) i 0 ≡ p.source_symbol_count
+count_at plans i p below is =
+    at_any (counts_in plans) i 0 p.source_symbol_count (omega (arith, length-map plans (λ (q : SourceBlockEncodingPlan). q.source_symbol_count)))
+    ∙ get_or-map (λ (q : SourceBlockEncodingPlan). q.source_symbol_count) plans i p ∙ ap (λ (q : SourceBlockEncodingPlan). q.source_symbol_count) (sym is)
+
+-- ---- a use of a count
+
+pub cached-held : (counts : List ℕ) (count : ℕ) → holds counts count ≡ true → cached counts count ≡ counts
+cached-held counts count held = rw held refl
+
+pub cached-new : (counts : List ℕ) (count : ℕ) → holds counts count ≡ false → cached counts count ≡ cond (nat_lt (length counts) 64) counts (drop 1 counts) ++ count ∷ []
+cached-new counts count new = rw new (go (nat_lt (length counts) 64))
+  where
+    go : (b : Bool) → cond b (counts ++ count ∷ []) (drop 1 counts ++ count ∷ []) ≡ cond b counts (drop 1 counts) ++ count ∷ []
+    go true = refl
+    go false = refl
+
+-- a new count is the last
+pub new_last : (counts : List ℕ) (count n : ℕ) → holds counts count ≡ false → n ≡ length (cached counts count) → (1 ≤ n) × (slice_get (cached counts count) (n - 1) ≡ Some count)
+new_last counts count n new long =
+    let front = cond (nat_lt (length counts) 64) counts (drop 1 counts) in
+    let is = cached-new counts count new in
+    let count_is : n ≡ length front + 1 = long ∙ ap length is ∙ length-append front (count ∷ []) in
+    let read : count ≡ get_or (front ++ count ∷ []) (n - 1) count =
+    sym (get_or-append_right front (count ∷ []) (length front) (n - 1) count refl (omega arith) ∙ ap (λ i. get_or (count ∷ []) i count) (let z : n - 1 - length front ≡ 0 = omega arith in z)) in
+    (omega arith, slice_get_read (cached counts count) n (n - 1) count long (omega arith) (read ∙ ap (λ xs. get_or xs (n - 1) count) (sym is)))

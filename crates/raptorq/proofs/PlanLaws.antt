@@ -1,0 +1,58 @@
+-- What plans refuse, and that a copy of a plan is one.
+use Rattle.std.proofs.Common.{vec_len, ◌≡◌, ℕ, ◌<◌, ◌≤◌, List, [], ◌∷◌, map, Result, Ok, Err, refl, sym, ap, ◌∙◌, subst, arith, ◌⊎◌, inl, inr}
+use Rattle.std.specs.List.{AllZip}
+use Rattle.std.proofs.lemmas.Bool.{lt-ltb, le-ltb}
+use Rattle.rq_algebra.specs.Operations.{Reorder}
+use Rattle.rq_bytes.specs.declared.error.Error.{Error}
+use Rattle.rq_bytes.specs.declared.error.Error.TheVariants.{OutOfMemory, BlockOverTable, Singular}
+use Rattle.rq_bytes.specs.Refusals.{IsRefusal}
+use Rattle.rq_bytes.specs.SymbolOps.{operation_of}
+use Rattle.rq_bytes.specs.declared.operation_vector.SymbolOps.{SymbolOps}
+use Rattle.rq_bytes.specs.declared.operation_vector.SymbolOps.TheVariants as ops
+use Rattle.rq_bytes.specs.contracts.operation_vector.SymbolOpsClone.TheImpl.{by_variants}
+use Rattle.rq_standard.specs.declared.row.Row.{Row}
+use Rattle.rq_standard.specs.TableRows.{greatest_size, row_of}
+use Rattle.rq_standard.specs.Equations.{IsSingular}
+use Rattle.rq_standard.specs.Configuration.{Configuration}
+use Rattle.raptorq.specs.BlockData.{RefusesBlock}
+use Rattle.raptorq.specs.Plans.{plan_refusal, RefusesPlan}
+use Rattle.raptorq.specs.Refused.{wanted_count}
+use Rattle.raptorq.proofs.Payloads.{same_items}
+
+-- a function of clones that keeps what it sees of each
+pub map-clones : {X Y : Type 0} (C : X → X → Type 0) (f : X → Y) → ((x y : X) → C x y → f y ≡ f x) → (xs ys : List X) → AllZip C xs ys → map f ys ≡ map f xs
+map-clones C f same [] [] all = refl
+map-clones C f same [] (y ∷ ys) all = absurd all
+map-clones C f same (x ∷ xs) [] all = absurd all
+map-clones C f same (x ∷ xs) (y ∷ ys) all = ap (λ z. z ∷ map f ys) (same x y all.0) ∙ ap (λ zs. f x ∷ zs) (map-clones C f same xs ys all.1)
+
+-- a clone of an operation means the same
+same_operation : (a b : SymbolOps) → by_variants a b → operation_of b ≡ operation_of a
+same_operation (ops.AddAssign dest src) (ops.AddAssign dest' src') h = let k : (dest' ≡ dest) × (src' ≡ src) = h in cc
+same_operation (ops.MulAssign dest scalar) (ops.MulAssign dest' scalar') h = let e = h.1 in let k : scalar' ≡ scalar = sym e.3 ∙ e.4 ∙ e.2 in let d : dest' ≡ dest = h.0 in cc
+same_operation (ops.FMA dest src scalar) (ops.FMA dest' src' scalar') h = let e = h.1.1 in let k : scalar' ≡ scalar = sym e.3 ∙ e.4 ∙ e.2 in let d : dest' ≡ dest = h.0 in let t : src' ≡ src = h.1.0 in cc
+same_operation (ops.Reorder order) (ops.Reorder order') h = let k : AllZip (λ x y. y ≡ x) order.items order'.items × (vec_len order' ≡ vec_len order) = h in ap (λ (l : List ℕ). Reorder l) (same_items order.items order'.items k.0)
+same_operation _ _ h = absurd h
+
+pub same_operations : (xs ys : List SymbolOps) → AllZip by_variants xs ys → map operation_of ys ≡ map operation_of xs
+same_operations xs ys all = map-clones by_variants operation_of same_operation xs ys all
+
+-- ---- what is refused
+
+pub plan_over : (table : List Row) (count : ℕ) → greatest_size table < count → plan_refusal table count ≡ Err BlockOverTable
+plan_over table count above = rw (lt-ltb (greatest_size table) count above) refl
+
+pub plan_taken : (table : List Row) (count : ℕ) → count ≤ greatest_size table → plan_refusal table count ≡ Ok tt
+plan_taken table count within = rw (le-ltb (greatest_size table) count within) refl
+
+pub refuses_plan : (table : List Row) (count : ℕ) (row : Row) (e : Error) → plan_refusal table count ≡ Ok tt → row ≡ row_of table count → (e ≡ OutOfMemory) ⊎ ((e ≡ Singular) × IsSingular row) → RefusesPlan table count e
+refuses_plan table count row e taken is (inl memory) = inl (subst (IsRefusal e) (sym taken) memory)
+refuses_plan table count row e taken is (inr singular) = inr (taken, singular.0, subst IsSingular is singular.1)
+
+-- the refusals that are left where the table has a row
+pub plan_refused : (table : List Row) (count : ℕ) (e : Error) → count ≤ greatest_size table → RefusesPlan table count e → (e ≡ OutOfMemory) ⊎ ((e ≡ Singular) × IsSingular (row_of table count))
+plan_refused table count e within (inl refused) = inl (subst (IsRefusal e) (plan_taken table count within) refused)
+plan_refused table count e within (inr singular) = inr (singular.1, singular.2)
+
+pub refuses_block : (table : List Row) (c : Configuration) (bytes count : ℕ) (e : Error) → Ok count ≡ wanted_count (greatest_size table) c bytes → count ≤ greatest_size table → RefusesPlan table count e → RefusesBlock table c bytes e
+refuses_block table c bytes count e is within refused = rw (← is) (plan_refused table count e within refused)

@@ -1,0 +1,22 @@
+use Rattle.std.proofs.Common.{◌≡◌, length, map, sym, ap, ◌∙◌, subst}
+use Rattle.rq_algebra.specs.Operations.{Operation}
+use Rattle.rq_algebra.specs.Symbols.{AreSymbols}
+use Rattle.rq_bytes.specs.Slab.{Slab, slab_of, symbol_in}
+use Rattle.rq_bytes.specs.SymbolOps.{operation_of}
+use Rattle.rq_solver.specs.Replay.{after_all}
+use Rattle.rq_standard.specs.Equations.{IsIntermediateColumn}
+use Rattle.rq_standard.specs.OctetField.{octets}
+use Rattle.raptorq.specs.Planned.{source_values, planned}
+use Rattle.raptorq.proofs.Intermediates.{source_are_symbols}
+use Rattle.raptorq.proofs.encoder.plan.SourceBlockEncodingPlan.apply.Goals as goal
+
+pub returns-clause-column : goal.returns-clause-column
+returns-clause-column c =
+    let plan = c.args.self.now in
+    let source = c.args.source.now in
+    let operations = map operation_of plan.operations.items in
+    let values = c.in_ok-symbols.ensures.values in
+    let are = source_are_symbols plan.row c.args.size source c.requires.few c.len-count.result (subst (λ (s : Slab). AreSymbols octets s.symbol_size c.len-count.result s.values) values c.len-count.ensures.symbols) in
+    let made : c.replay.new.symbols ≡ planned plan.row operations c.args.size source =
+    c.in_ok-replay.ensures.ok ∙ ap (λ ops. after_all (map operation_of ops) c.in_ok-symbols.symbols) c.as_slice.ensures.value ∙ ap (λ (s : Slab). after_all operations s) values in
+    subst (λ (s : Slab). IsIntermediateColumn plan.row c.args.size source (symbol_in s)) (sym made) (plan.finds.column c.args.size source c.requires.few are).is

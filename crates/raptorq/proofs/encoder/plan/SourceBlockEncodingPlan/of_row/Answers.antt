@@ -1,0 +1,54 @@
+use Rattle.std.proofs.Common.{◌≡◌, None, Some, length, map, replicate, refl, sym, ap, ◌∙◌, subst, arith, inr}
+use Rattle.std.proofs.lemmas.List.{length-replicate}
+use Rattle.rq_algebra.specs.Elimination.{FindsColumn}
+use Rattle.rq_bytes.specs.Slab.{Slab, slab_of}
+use Rattle.rq_bytes.specs.SymbolOps.{operation_of}
+use Rattle.rq_standard.specs.OctetField.{octets}
+use Rattle.rq_standard.specs.Equations.{equations, equation_count, source_ids, AreDetermining}
+use Rattle.rq_standard.specs.TableRows.{intermediate_symbols}
+use Rattle.raptorq.specs.Solving.{SolvesByOperations}
+use Rattle.raptorq.proofs.Intermediates.{count_source, source_ids_are, plan_allowed, plan_nonsingular, plan_is}
+use Rattle.raptorq.proofs.Listing.{slab_answered}
+use Rattle.raptorq.proofs.encoder.plan.SourceBlockEncodingPlan.of_row.Goals as goal
+
+pub solve_recorded-requires-clause-enough : goal.solve_recorded-requires-clause-enough
+solve_recorded-requires-clause-enough c =
+    let row = c.args.row in
+    let ids : c.as_slice.result.now ≡ source_ids row = c.as_slice.ensures.value ∙ source_ids_are row c.in_ok-ids.ids.items c.in_ok-ids.ensures in
+    omega (arith, ap (equation_count row) ids, count_source row)
+
+pub solve_recorded-requires-clause-fits : goal.solve_recorded-requires-clause-fits
+solve_recorded-requires-clause-fits c =
+    let row = c.args.row in
+    let ids : c.as_slice.result.now ≡ source_ids row = c.as_slice.ensures.value ∙ source_ids_are row c.in_ok-ids.ids.items c.in_ok-ids.ensures in
+    omega (arith, ap (equation_count row) ids, count_source row, c.requires.checked.few_columns)
+
+pub solve_recorded-requires-clause-count : goal.solve_recorded-requires-clause-count
+solve_recorded-requires-clause-count c =
+    let row = c.args.row in
+    let ids : c.as_slice.result.now ≡ source_ids row = c.as_slice.ensures.value ∙ source_ids_are row c.in_ok-ids.ids.items c.in_ok-ids.ensures in
+    let values = slab_answered _ c.in_ok-values.values c.in_ok-values.ensures in
+    let count : intermediate_symbols row ≡ equation_count row c.as_slice.result.now = sym (ap (equation_count row) ids ∙ count_source row) in
+    ap (λ (s : Slab). length s.values) values ∙ length-replicate (intermediate_symbols row) _ ∙ count
+
+pub returns-in_default-clause-refused : goal.returns-in_default-clause-refused
+returns-in_default-clause-refused c =
+    let row = c.args.row in
+    let ids : c.as_slice.result.now ≡ source_ids row = c.as_slice.ensures.value ∙ source_ids_are row c.in_ok-ids.ids.items c.in_ok-ids.ensures in
+    let none = subst (SolvesByOperations row c.as_slice.result.now c.in_ok-values.values) c.in_default.is c.in_ok-_symbols.ensures.solved in
+    inr (refl, subst (λ l. AreDetermining row l → ⊥) ids none)
+
+pub invariant_of-result : goal.invariant_of-result
+invariant_of-result c =
+    let row = c.args.row in
+    let ids : c.as_slice.result.now ≡ source_ids row = c.as_slice.ensures.value ∙ source_ids_are row c.in_ok-ids.ids.items c.in_ok-ids.ensures in
+    let operations = map operation_of c.in-Some.operations.items in
+    let found = subst (SolvesByOperations row c.as_slice.result.now c.in_ok-values.values) c.in-Some.is c.in_ok-_symbols.ensures.solved in
+    let finds = subst (λ l. FindsColumn octets (equation_count row l) (intermediate_symbols row) (equations row l) operations) ids found.finds in
+    record {
+      checked = c.requires.checked;
+      nonsingular = plan_nonsingular row operations finds;
+      few = c.requires.few;
+      allowed = plan_allowed row operations finds;
+      finds = plan_is row operations finds;
+    }

@@ -1,0 +1,24 @@
+use Rattle.std.proofs.Common.{◌≡◌, List, None, map, ap, sym, subst}
+use Rattle.rq_algebra.specs.Operations.{Operation, AreAllowed}
+use Rattle.rq_standard.specs.TableRows.{intermediate_symbols}
+use Rattle.raptorq.specs.Planned.{IsPlanOf}
+use Rattle.raptorq.specs.Plans.{Plan}
+use Rattle.raptorq.proofs.PlanLaws.{same_operations}
+use Rattle.raptorq.proofs.encoder.plan.SourceBlockEncodingPlanClone.clone.Goals as goal
+
+pub invariant_of-result : goal.invariant_of-result
+invariant_of-result c =
+    let plan = c.args.self.now in
+    let same = same_operations plan.operations.items c.in_ok-clone.field-0.items c.in_ok-clone.ensures.cases.0 in
+    record {
+      checked = plan.checked;
+      nonsingular = plan.nonsingular;
+      few = plan.few;
+      allowed = subst (λ l. AreAllowed (intermediate_symbols plan.row) None l) (sym same) plan.allowed;
+      finds = subst (IsPlanOf plan.row) (sym same) plan.finds;
+    }
+
+pub returns : goal.returns
+returns c =
+    let plan = c.args.self.now in
+    record { cases = ap (λ (l : List Operation). let p : Plan = record { count = plan.source_symbol_count; row = plan.row; operations = l } in p) (same_operations plan.operations.items c.in_ok-clone.field-0.items c.in_ok-clone.ensures.cases.0) }

@@ -1,0 +1,13 @@
+use Rattle.std.proofs.Common.{◌-◌}
+use Rattle.raptorq.proofs.Interleaving.{Reaches, HasParts}
+use Rattle.raptorq.proofs.sub_blocks.into_sub_blocks.Given as goal
+
+-- the sub-blocks before this one
+abbrev pub invariant-loop-start : goal.invariant-loop-start
+invariant-loop-start l = record {
+  at : Reaches l.config l.start;
+  so_far : HasParts l.config l.symbols l.plain.items l.block.items l.start;
+}
+
+abbrev pub decreases-loop-start : goal.decreases-loop-start
+decreases-loop-start l = l.size - l.start

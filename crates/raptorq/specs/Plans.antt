@@ -1,0 +1,30 @@
+-- What a plan shows.
+use Rattle.std.specs.Prelude.{◌≡◌, ◌⊎◌, ℕ, List, map, Result, Ok, Err, if◌then◌else◌, nat_lt}
+use Rattle.rq_algebra.specs.Operations.{Operation}
+use Rattle.rq_bytes.specs.declared.error.Error.{Error}
+use Rattle.rq_bytes.specs.declared.error.Error.TheVariants.{BlockOverTable, Singular}
+use Rattle.rq_bytes.specs.Refusals.{IsRefusal}
+use Rattle.rq_bytes.specs.SymbolOps.{operation_of}
+use Rattle.rq_standard.specs.declared.row.Row.{Row}
+use Rattle.rq_standard.specs.TableRows.{greatest_size, row_of}
+use Rattle.rq_standard.specs.Equations.{IsSingular}
+use Rattle.raptorq.specs.declared.encoder.plan.SourceBlockEncodingPlan.{SourceBlockEncodingPlan}
+
+-- the number of source symbols that it was made for, their row, and its operations
+pub record Plan : Type 0 where
+  pub count : ℕ
+  pub row : Row
+  pub operations : List Operation
+
+abbrev pub plan_of : SourceBlockEncodingPlan → Plan
+plan_of p = record { count = p.source_symbol_count; row = p.row; operations = map operation_of p.operations.items }
+
+-- whether a table has a row for so many symbols
+abbrev pub plan_refusal : List Row → ℕ → Result (Unit {0}) Error
+plan_refusal table count = if nat_lt (greatest_size table) count then Err BlockOverTable else Ok tt
+
+-- what a plan of so many symbols is refused for: first this, and then a singular row
+abbrev pub RefusesPlan : List Row → ℕ → Error → Type 0
+RefusesPlan table count e =
+    let wanted = plan_refusal table count in
+    IsRefusal e wanted ⊎ ((wanted ≡ Ok tt) × (e ≡ Singular) × IsSingular (row_of table count))

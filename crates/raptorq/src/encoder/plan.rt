@@ -1,0 +1,167 @@
+//! Plans: what solves the equations of every block of one size.
+ghost use Rattle.std.specs.Prelude.{◌≡◌, ◌⊎◌, ℕ, ◌^◌, ◌<◌, ◌≤◌, All, List, length, map, None, Ok, ◌+◌, IfOk, IfErr, OnOk};
+ghost use Rattle.rq_algebra.specs.Operations.{AreAllowed};
+ghost use Rattle.rq_bytes.specs.Slab.{slab_of, symbol_in, symbols_in};
+ghost use Rattle.rq_bytes.specs.SymbolOps.{operation_of};
+ghost use Rattle.rq_standard.specs.Equations.{IsNonsingular, IsSingular, IsIntermediateColumn};
+ghost use Rattle.rq_standard.specs.TableRows.{IsChecked, greatest_size, row_of, intermediate_symbols};
+ghost use Rattle.raptorq.specs.Allowed.{AreAllowed-prop};
+ghost use Rattle.raptorq.specs.Planned.{IsPlanOf, source_values};
+
+use crate::ids::padding_ids;
+use crate::solving::solve_recorded;
+use rq_bytes::error::Error;
+use rq_bytes::operation_vector::SymbolOps;
+use rq_bytes::symbol::Symbol;
+use rq_bytes::symbol_slab::SymbolSlab;
+use rq_solver::replay::replay;
+use rq_standard::row::Row;
+use rq_tables::systematic_constants::SystematicTable;
+use std::alloc::{AllocError, Global};
+
+/// The operations that make the intermediate symbols of a source block from its source symbols,
+/// whatever the symbols and their size. Blocks with as many source symbols share one.
+#[derive(Debug, PartialEq, Eq, Drop)]
+pub struct SourceBlockEncodingPlan {
+    operations: Vec<SymbolOps>,
+    source_symbol_count: u16,
+    row: Row,
+    pub ghost checked: { IsChecked row },
+    pub ghost nonsingular: { IsNonsingular row },
+    pub ghost few: { source_symbol_count ≤ row.source_symbols },
+    pub ghost allowed: { AreAllowed (intermediate_symbols row) None (map operation_of operations.items) } by { AreAllowed-prop (intermediate_symbols row) None (map operation_of operations.items) },
+    pub ghost finds: { IsPlanOf row (map operation_of operations.items) },
+}
+
+impl SourceBlockEncodingPlan {
+    ghost use Rattle.raptorq.specs.Plans.{plan_of, plan_refusal, RefusesPlan};
+
+    /// The plan of source blocks with so many source symbols, over their row of the table.
+    ///
+    /// Refuses [`Error::BlockOverTable`] where the table has no row for so many, and then
+    /// [`Error::Singular`] where that row decides no intermediate symbols.
+    pub fn generate(
+        alloc: Global,
+        table: &SystematicTable,
+        source_symbol_count: u16,
+    ) -> Result<Self, Error>
+        ensures refused { IfErr result (RefusesPlan table.now source_symbol_count) }
+        ensures taken { OnOk result (plan_refusal table.now source_symbol_count ≡ Ok tt) }
+        ensures nonsingular { OnOk result (IsNonsingular (row_of table.now source_symbol_count)) }
+        ensures count { IfOk result (λ p. (plan_of p).count ≡ source_symbol_count) }
+        ensures row { IfOk result (λ p. (plan_of p).row ≡ row_of table.now source_symbol_count) }
+        ensures plan { IfOk result (λ p. IsPlanOf (row_of table.now source_symbol_count) (plan_of p).operations) }
+    {
+        let count = u32::from(source_symbol_count);
+        if count > table.greatest() {
+            return Err(Error::BlockOverTable);
+        }
+        SourceBlockEncodingPlan::of_row(alloc, source_symbol_count, table.row(count))
+    }
+
+    /// The plan over a row of a table.
+    ///
+    /// Refuses [`Error::Singular`] where the row decides no intermediate symbols.
+    pub(crate) fn of_row(alloc: Global, source_symbol_count: u16, row: Row) -> Result<Self, Error>
+        requires checked { IsChecked row }
+        requires few { source_symbol_count ≤ row.source_symbols }
+        ensures count { IfOk result (λ p. (plan_of p).count ≡ source_symbol_count) }
+        ensures row { IfOk result (λ p. (plan_of p).row ≡ row) }
+        ensures plan { IfOk result (λ p. IsPlanOf row (plan_of p).operations) }
+        ensures nonsingular { OnOk result (IsNonsingular row) }
+        ensures refused { IfErr result (λ e. (e ≡ Error.OutOfMemory) ⊎ ((e ≡ Error.Singular) × IsSingular row)) }
+    {
+        let ids = padding_ids(alloc, &row, 0, row.source_symbols as usize)?;
+        let count = (row.source_symbols + row.ldpc_symbols + row.hdpc_symbols) as usize;
+        // The operations are the same whatever the size of the symbols.
+        let values = SymbolSlab::with_zeros(alloc, count, 0)?;
+        let Some((_symbols, operations)) = solve_recorded(alloc, &row, ids.as_slice(), values)?
+        else {
+            return Err(Error::Singular);
+        };
+        Ok(SourceBlockEncodingPlan {
+            operations,
+            source_symbol_count,
+            row,
+        })
+    }
+
+    /// The number of source symbols that the plan was made for.
+    pub(crate) fn source_symbol_count(&self) -> u16
+        ensures { result ≡ (plan_of self.now).count }
+    {
+        self.source_symbol_count
+    }
+
+    /// The row that the plan was made for.
+    pub(crate) fn row(&self) -> Row
+        ensures row { result ≡ (plan_of self.now).row }
+        ensures checked { IsChecked result }
+        ensures nonsingular { IsNonsingular result }
+    {
+        self.row
+    }
+
+    /// The intermediate symbols of a block with these source symbols.
+    pub(crate) fn apply(
+        &self,
+        alloc: Global,
+        size: usize,
+        source: &[Symbol],
+    ) -> Result<SymbolSlab, Error>
+        requires positive { 0 < size }
+        requires small { size < 65536 }
+        requires few { length source.now ≤ (plan_of self.now).row.source_symbols }
+        requires sized { All (λ symbol. length symbol ≡ size) source.now }
+        ensures size { IfOk result (λ slab. slab.symbol_size ≡ size) }
+        ensures places { IfOk result (λ slab. intermediate_symbols (plan_of self.now).row ≤ length (symbols_in slab)) }
+        ensures column { IfOk result (λ slab. IsIntermediateColumn (plan_of self.now).row size source.now (symbol_in slab)) }
+        ensures memory { IfErr result (λ e. e ≡ Error.OutOfMemory) }
+    {
+        let mut symbols = source_values(alloc, &self.row, size, source)?;
+        let _count = symbols.len();
+        replay(self.operations.as_slice(), &mut symbols)?;
+        Ok(symbols)
+    }
+}
+
+impl Clone for SourceBlockEncodingPlan {
+    ghost use Rattle.raptorq.specs.Plans.{plan_of};
+
+    ghost is_clone = { λ a b. plan_of b ≡ plan_of a };
+
+    fn clone(&self) -> Result<SourceBlockEncodingPlan, AllocError> {
+        Ok(SourceBlockEncodingPlan {
+            operations: self.operations.clone()?,
+            source_symbol_count: self.source_symbol_count,
+            row: self.row,
+        })
+    }
+}
+
+// The values of the equations that decide a block's intermediate symbols: its source symbols, and
+// zeros for all others.
+fn source_values(
+    alloc: Global,
+    row: &Row,
+    size: usize,
+    source: &[Symbol],
+) -> Result<SymbolSlab, Error>
+    requires checked { IsChecked row.now }
+    requires positive { 0 < size }
+    requires small { size < 65536 }
+    requires few { length source.now ≤ row.now.source_symbols }
+    requires sized { All (λ symbol. length symbol ≡ size) source.now }
+    ensures values { IfOk result (λ slab. slab ≡ slab_of size (source_values row.now size source.now)) }
+    ensures memory { IfErr result (λ e. e ≡ Error.OutOfMemory) }
+{
+    let fixed = (row.ldpc_symbols + row.hdpc_symbols) as usize;
+    let count = fixed + row.source_symbols as usize;
+    let mut values = SymbolSlab::with_zeros(alloc, count, size)?;
+    let mut place = fixed;
+    for symbol in source {
+        values.copy_block_from(place, symbol.as_bytes());
+        place += 1;
+    }
+    Ok(values)
+}

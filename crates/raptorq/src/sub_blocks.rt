@@ -1,0 +1,135 @@
+//! How the bytes of a source block and of its symbols lie in one another (RFC 6330, 4.4.1.2).
+ghost use Rattle.std.specs.Prelude.{◌≡◌, ℕ, ◌+◌, ◌*◌, ◌^◌, ◌%◌, ◌<◌, ◌≤◌, ◌++◌, length, map, slice_index, slice_range, IfOk, OnOk, vec_len};
+ghost use Rattle.std.specs.List.{flat_map, range_with_len};
+ghost use Rattle.rq_standard.specs.Cutting.{sub_block_size, symbol_of_block, plain_symbol};
+
+use rq_base::base::{ObjectTransmissionInformation, partition};
+use rq_bytes::symbol::Symbol;
+use std::alloc::{AllocError, Global};
+
+// The size of the sub-block that has this byte of a symbol, in bytes.
+fn size_at(config: &ObjectTransmissionInformation, byte: usize) -> usize
+    requires { 0 < config.now.alignment }
+    ensures { result ≡ sub_block_size config.now byte }
+{
+    let alignment = u32::from(config.symbol_alignment());
+    let units = u32::from(config.symbol_size()) / alignment;
+    let sub_blocks = u32::from(config.sub_blocks().max(1));
+    let (larger, smaller, larger_count, _) = partition(units, sub_blocks);
+    let larger_bytes = larger * larger_count * alignment;
+    let width = if byte < larger_bytes as usize {
+        larger
+    } else {
+        smaller
+    };
+    (width * alignment) as usize
+}
+
+// Appends the bytes of a block from a place on; past its end they are zeros.
+fn append_padded(
+    symbol: &mut Vec<u8>,
+    block: &[u8],
+    place: usize,
+    width: usize,
+) -> Result<(), AllocError>
+    requires place { place + width < 2 ^ 64 }
+    requires room { vec_len symbol.old + width < 2 ^ 64 }
+    ensures { OnOk result (symbol.new.items ≡ symbol.old.items ++ map (λ i. slice_index block.now (place + i)) (range_with_len 0 width)) }
+{
+    let start = place.min(block.len());
+    let end = (place + width).min(block.len());
+    let whole = symbol.len() + width;
+    symbol.extend_from_slice(&block[start..end])?;
+    symbol.resize(whole, 0)
+}
+
+/// A source symbol of a block of so many. The block may end before its last symbol does: the rest
+/// are zeros.
+pub(crate) fn source_symbol(
+    alloc: Global,
+    config: &ObjectTransmissionInformation,
+    block: &[u8],
+    symbols: u32,
+    e: u32,
+) -> Result<Symbol, AllocError>
+    requires positive { 0 < config.now.alignment }
+    requires aligned { config.now.symbol_size % config.now.alignment ≡ 0 }
+    ensures { IfOk result (λ symbol. symbol ≡ symbol_of_block config.now symbols block.now e) }
+{
+    let size = usize::from(config.symbol_size());
+    let mut symbol = Vec::with_capacity(alloc, size)?;
+    let mut start = 0;
+    while start < size {
+        let width = size_at(config, start);
+        let place = start * symbols as usize + width * e as usize;
+        append_padded(&mut symbol, block, place, width)?;
+        start += width;
+    }
+    Ok(Symbol::new(symbol))
+}
+
+/// The source symbols of a block of so many, which may end before its last symbol does.
+pub(crate) fn source_symbols(
+    alloc: Global,
+    config: &ObjectTransmissionInformation,
+    block: &[u8],
+    symbols: u32,
+) -> Result<Vec<Symbol>, AllocError>
+    requires positive { 0 < config.now.alignment }
+    requires aligned { config.now.symbol_size % config.now.alignment ≡ 0 }
+    ensures { IfOk result (λ v. v.items ≡ map (symbol_of_block config.now symbols block.now) (range_with_len 0 symbols)) }
+{
+    let mut source = Vec::with_capacity(alloc, symbols as usize)?;
+    for e in 0..symbols {
+        source.push(source_symbol(alloc, config, block, symbols, e)?)?;
+    }
+    Ok(source)
+}
+
+// Appends a sub-block: each symbol's bytes from `start` on.
+fn append_sub_block(
+    block: &mut Vec<u8>,
+    plain: &[u8],
+    symbols: u32,
+    size: usize,
+    start: usize,
+    width: usize,
+) -> Result<(), AllocError>
+    requires small { size < 65536 }
+    requires within { start + width ≤ size }
+    requires long { length plain.now ≡ symbols * size }
+    ensures { OnOk result (block.new.items ≡ block.old.items ++ flat_map (λ e. slice_range plain.now (e * size + start) (e * size + start + width)) (range_with_len 0 symbols)) }
+{
+    for e in 0..symbols {
+        let from = e as usize * size + start;
+        block.extend_from_slice(&plain[from..from + width])?;
+    }
+    Ok(())
+}
+
+/// The block that has these symbols, which come one after another.
+pub(crate) fn into_sub_blocks(
+    alloc: Global,
+    config: &ObjectTransmissionInformation,
+    symbols: u32,
+    plain: Vec<u8>,
+) -> Result<Vec<u8>, AllocError>
+    requires positive { 0 < config.now.alignment }
+    requires aligned { config.now.symbol_size % config.now.alignment ≡ 0 }
+    requires long { length plain.items ≡ symbols * config.now.symbol_size }
+    ensures long { IfOk result (λ block. length block.items ≡ symbols * config.now.symbol_size) }
+    ensures each { IfOk result (λ block. (e : ℕ) → e < symbols → symbol_of_block config.now symbols block.items e ≡ plain_symbol config.now.symbol_size plain.items e) }
+{
+    if config.sub_blocks() <= 1 {
+        return Ok(plain);
+    }
+    let size = usize::from(config.symbol_size());
+    let mut block = Vec::with_capacity(alloc, plain.len())?;
+    let mut start = 0;
+    while start < size {
+        let width = size_at(config, start);
+        append_sub_block(&mut block, plain.as_slice(), symbols, size, start, width)?;
+        start += width;
+    }
+    Ok(block)
+}
