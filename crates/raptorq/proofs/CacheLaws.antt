@@ -1,12 +1,10 @@
 -- The counts that a cache of plans holds.
-use Rattle.std.proofs.Common.{◌≡◌, ℕ, suc, ◌+◌, ◌-◌, ◌<◌, ◌≤◌, Bool, true, false, List, [], ◌∷◌, ◌++◌, Option, Some, None, length, drop, get_or, map, cond, refl, sym, ap, ◌∙◌, subst, arith, inl, inr}
+use Rattle.std.proofs.Common.{◌≡◌, ℕ, suc, ◌+◌, ◌-◌, ◌<◌, ◌≤◌, Bool, true, false, List, [], ◌∷◌, ◌++◌, Option, Some, None, length, drop, get_or, map, cond, refl, sym, ap, ◌∙◌, arith, inl, inr}
 use Rattle.std.specs.Prelude.{is_some, slice_get, position, nat_lt, ◌==◌}
 use Rattle.std.specs.List.{list_any, position_or_len}
-use Rattle.std.proofs.lemmas.Bool.{cases_lt, lt-ltb, le-ltb, eqb-true, eq-eqb, ne_eqb}
+use Rattle.std.proofs.lemmas.Bool.{cases_lt, lt-ltb, le-ltb, eqb-true}
 use Rattle.std.proofs.lemmas.List.{length-append, length-map, get_or-append_right}
-use Rattle.std.proofs.lemmas.List.Folds.{list_any_at}
 use Rattle.std.proofs.lemmas.List.Quantifiers.{position-Some}
-use Rattle.std.proofs.lemmas.List.Sums.{position_or_len_is}
 use Rattle.std.proofs.lemmas.Option.{slice_get_read}
 use Rattle.std.proofs.Math.ListN.{get_or-map}
 use Rattle.raptorq.specs.declared.encoder.plan.SourceBlockEncodingPlan.{SourceBlockEncodingPlan}
@@ -43,17 +41,6 @@ place_found counts count i is =
     let found = position-Some (λ n. n == count) counts i count is in
     let same : get_or counts i count ≡ count = eqb-true (get_or counts i count) count found.1 in
     slice_get_read counts (length counts) i count refl found.0 (sym same)
-
--- the first place of a count, and that it has none
-pub first_place : (counts : List ℕ) (count i : ℕ) → i < length counts → ((k : ℕ) → k < i → get_or counts k 0 ≡ count → ⊥) → get_or counts i 0 ≡ count → Some i ≡ position (λ n. n == count) counts
-first_place counts count i below before here =
-    let at : position_or_len (λ n. n == count) counts ≡ i = position_or_len_is (λ n. n == count) counts i 0 (omega arith) (λ k l. ne_eqb (get_or counts k 0) count (before k l)) (λ l. eq-eqb (get_or counts i 0) count here) in
-    sym (rw (at, lt-ltb i (length counts) below) refl)
-
-pub no_place : (counts : List ℕ) (count : ℕ) → ((k : ℕ) → k < length counts → get_or counts k 0 ≡ count → ⊥) → None ≡ position (λ n. n == count) counts
-no_place counts count none =
-    let at : position_or_len (λ n. n == count) counts ≡ length counts = position_or_len_is (λ n. n == count) counts (length counts) 0 (omega arith) (λ k l. ne_eqb (get_or counts k 0) count (none k l)) (λ l. absurd (omega arith)) in
-    sym (rw (at, le-ltb (length counts) (length counts) (omega arith)) refl)
 
 -- ---- the counts of plans
 

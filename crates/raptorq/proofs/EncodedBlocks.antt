@@ -1,27 +1,32 @@
 -- The encoders of an object's blocks.
 use Rattle.std.proofs.Common.{◌≡◌, ℕ, zero, suc, ◌+◌, ◌-◌, ◌*◌, ◌<◌, ◌≤◌, ◌^◌, min, List, [], ◌∷◌, ◌++◌, All, length, take, drop, get_or, map, Result, Ok, Err, refl, sym, ap, ◌∙◌, subst, arith, ◌⊎◌, inl, inr, eq-eqb, append-nil, length-drop}
 use Rattle.std.specs.List.{range_with_len, flat_map, AllByRecursion}
-use Rattle.std.proofs.lemmas.Bool.{cases_lt}
-use Rattle.std.proofs.lemmas.List.{get_or-take, get_or-drop, get_or_past, take_all, nil_from_length, map-append, map-id}
+use Rattle.std.proofs.lemmas.Bool.{cases_lt, le-ltb}
+use Rattle.std.proofs.lemmas.List.{ext_get_or, get_or-map, length-map, get_or-take, get_or-drop, get_or_past, length-take, take_all, nil_from_length, map-append, map-id}
 use Rattle.std.proofs.lemmas.Simd.{map-map}
 use Rattle.std.proofs.lemmas.Grind.{flat_map-append}
-use Rattle.std.proofs.lemmas.List.FromFn.{length-map-range_with_len, get_or-map-range_with_len, map-range_with_len_more}
+use Rattle.std.proofs.lemmas.List.FromFn.{length-range_with_len, get_or-range_with_len, length-map-range_with_len, get_or-map-range_with_len, map-range_with_len_more}
 use Rattle.rq_bytes.specs.declared.error.Error.{Error}
 use Rattle.rq_bytes.specs.declared.error.Error.TheVariants.{OutOfMemory, Singular}
 use Rattle.rq_bytes.specs.Refusals.{IsRefusal}
 use Rattle.rq_standard.specs.Packet.{SymbolId, Packet}
-use Rattle.rq_standard.specs.Configuration.{Configuration}
+use Rattle.rq_standard.specs.Configuration.{Configuration, IsAccepted}
 use Rattle.rq_standard.specs.Cutting.{block_symbols, symbols_before, place_in_block, block_bytes, symbol_of_block}
 use Rattle.rq_standard.specs.declared.row.Row.{Row}
-use Rattle.rq_standard.specs.TableRows.{greatest_size}
+use Rattle.rq_standard.specs.TableRows.{greatest_size, row_of}
 use Rattle.rq_standard.specs.Equations.{IsEncodingSymbol, IsNonsingular, IsSingular}
 use Rattle.rq_standard.specs.Encoded.{block_row, block_source, IsPacketOf, HasNonsingularRows, first_ids, packet_ids, AreEncoded}
 use Rattle.rq_standard.proofs.PlainCut.{length-block_bytes}
-use Rattle.rq_standard.proofs.Standing.{length-block_source}
-use Rattle.raptorq.specs.Encoded.{Encoded, IsEncoderOf}
+use Rattle.rq_standard.proofs.Standing.{length-block_source, length-symbol_of_block}
+use Rattle.rq_standard.proofs.BlockCuts.{block_symbols_few}
+use Rattle.raptorq.specs.Offsets.{block_range}
+use Rattle.raptorq.specs.Plans.{plan_refusal, RefusesPlan}
+use Rattle.raptorq.specs.Encoded.{Encoded, IsEncoderOf, no_block}
+use Rattle.raptorq.proofs.Encodes.{at_any}
+use Rattle.raptorq.specs.declared.encoder.block.SourceBlockEncoder.{SourceBlockEncoder}
 use Rattle.rq_base.specs.Refused.{checked_configuration}
 use Rattle.raptorq.specs.Refused.{new_encoder, RefusesEncoder}
-use Rattle.raptorq.specs.BlockEncoded.{BlockEncoded, IsBlockPacket, AreBlockPackets, new_block_encoded, bytes_of_block}
+use Rattle.raptorq.specs.BlockEncoded.{BlockEncoded, block_encoded_of, IsBlockPacket, AreBlockPackets, new_block_encoded, bytes_of_block}
 
 -- ---- the bytes of a block
 
@@ -43,8 +48,14 @@ clipped xs from end order = elim (cases_lt from (length xs)) [
       let b : min end (length xs) ≡ length xs = omega arith in
       let none : drop from xs ≡ [] = nil_from_length (drop from xs) (omega (arith, length-drop from xs)) in
       let none_here : drop (length xs) xs ≡ [] = nil_from_length (drop (length xs) xs) (omega (arith, length-drop (length xs) xs)) in
-      rw (a, b, none, none_here) (nil_from_length (take (length xs - length xs) []) (omega (arith, ap length (take_all (length xs - length xs) [] (omega arith)))) ∙ sym (take_all (end - from) [] (omega arith)))
+      rw (a, b, none, none_here) (take_all (length xs - length xs) [] (omega arith) ∙ sym (take_all (end - from) [] (omega arith)))
 ]
+
+-- from the block's offsets
+pub bytes_in_range : (c : Configuration) (object bytes : List ℕ) (b from end : ℕ) → from ≡ (block_range c b).0 → end ≡ (block_range c b).1 → bytes ≡ take (end - from) (drop from object) → bytes ≡ bytes_of_block c object b
+bytes_in_range c object bytes b from end first last is =
+    let many : end - from ≡ block_symbols c b * c.symbol_size = omega (arith, first, last) in
+    is ∙ ap (λ n. take n (drop from object)) many ∙ ap (λ s. take (block_symbols c b * c.symbol_size) (drop s object)) first
 
 block_byte : (c : Configuration) (object : List ℕ) (b i : ℕ) → get_or (bytes_of_block c object b) i 0 ≡ get_or (block_bytes c object b) i 0
 unfolding block_bytes
@@ -52,8 +63,8 @@ block_byte c object b i =
     let whole = block_symbols c b * c.symbol_size in
     let start = symbols_before c b * c.symbol_size in
     elim (cases_lt i whole) [
-      | inl lt ↦ get_or-take whole (drop start object) i 0 lt ∙ get_or-drop object start i 0 ∙ sym (get_or-map-range_with_len (λ n. get_or object (start + n) 0) 0 whole i i 0 lt (omega arith))
-      | inr past ↦ get_or_past (take whole (drop start object)) i 0 (omega (arith, past, length-take_at_most whole (drop start object))) ∙ sym (get_or_past (block_bytes c object b) i 0 (omega (arith, past, length-block_bytes c object b)))
+      | inl lt ↦ get_or-take whole (drop start object) i 0 lt ∙ get_or-drop start object i 0 ∙ sym (get_or-map-range_with_len (λ n. get_or object (start + n) 0) 0 whole i i 0 lt (omega arith))
+      | inr past ↦ get_or_past (take whole (drop start object)) i 0 (omega (arith, past, length-take whole (drop start object))) ∙ sym (get_or_past (block_bytes c object b) i 0 (omega (arith, past, length-block_bytes c object b)))
     ]
 
 same_symbol : (c : Configuration) (k : ℕ) (xs ys : List ℕ) (e : ℕ) → ((i : ℕ) → get_or xs i 0 ≡ get_or ys i 0) → symbol_of_block c k xs e ≡ symbol_of_block c k ys e
@@ -132,10 +143,17 @@ module _ (table : List Row) (c : Configuration) (object : List ℕ) (blocks : Li
   pub new_block : (b : ℕ) → b < c.source_blocks → (d : BlockEncoded) → get_or blocks b d ≡ new_block_encoded table c object b
   new_block b below d = ap (λ l. get_or l b d) encoded ∙ get_or-map-range_with_len (new_block_encoded table c object) 0 c.source_blocks b b d below (omega arith)
 
-  pub new_sizes : All (λ b. b.size ≡ c.symbol_size) blocks
-  new_sizes i d below =
-      let long : length blocks ≡ c.source_blocks = ap length encoded ∙ length-map-range_with_len (new_block_encoded table c object) 0 c.source_blocks in
-      ap (λ b. b.size) (new_block i (omega (arith, long)) d)
+-- what the encoder of a block shows
+pub encoded_is : (table : List Row) (c : Configuration) (object : List ℕ) (b : ℕ) (e : BlockEncoded) (row : Row) (size : ℕ) (source : List (List ℕ)) → e ≡ record { number = b; row = row; size = size; source = source } → row ≡ block_row table c b → size ≡ c.symbol_size → source ≡ block_source c object b
+    → e ≡ new_block_encoded table c object b
+encoded_is table c object b e row size source is rows sizes sources = is ∙ (λ i. record { number = b; row = rows i; size = sizes i; source = sources i })
+
+pub length-symbols : (c : Configuration) (k : ℕ) (bytes : List ℕ) (source : List (List ℕ)) → source ≡ map (symbol_of_block c k bytes) (range_with_len 0 k) → length source ≡ k
+length-symbols c k bytes source so = ap length so ∙ length-map-range_with_len (symbol_of_block c k bytes) 0 k
+
+pub symbols_sized : (c : Configuration) (k size : ℕ) (bytes : List ℕ) (source : List (List ℕ)) → size ≡ c.symbol_size → source ≡ map (symbol_of_block c k bytes) (range_with_len 0 k) → All (λ s. length s ≡ size) source
+symbols_sized c k size bytes source same so i d below =
+    ap (λ l. length (get_or l i d)) so ∙ ap length (get_or-map-range_with_len (symbol_of_block c k bytes) 0 k i i d (omega (arith, length-symbols c k bytes source so)) (omega arith)) ∙ length-symbol_of_block c k bytes i ∙ sym same
 
 -- ---- refusals
 
@@ -145,7 +163,39 @@ new_encoder-taken greatest c n checked long = rw (checked, eq-eqb n c.transfer_l
 pub block_singular : (table : List Row) (c : Configuration) (b : ℕ) → b < c.source_blocks → IsSingular (block_row table c b) → ¬ (HasNonsingularRows table c)
 block_singular table c b below singular all = singular (all b below)
 
+-- what a plan of a block's size is refused for
+pub refuses_plan : (table : List Row) (c : Configuration) (b count : ℕ) (e : Error) → IsAccepted (greatest_size table) c → b < c.source_blocks → count ≡ block_symbols c b → RefusesPlan table count e → (e ≡ OutOfMemory) ⊎ ((e ≡ Singular) × ¬ (HasNonsingularRows table c))
+refuses_plan table c b count e accepted below is (inl refused) =
+    let unrefused : plan_refusal table count ≡ Ok tt = rw (le-ltb (greatest_size table) count (omega (arith, is, block_symbols_few c b below, accepted.in_table))) refl in
+    inl (subst (IsRefusal e) unrefused refused)
+refuses_plan table c b count e accepted below is (inr singular) = inr (singular.1, block_singular table c b below (subst (λ k. IsSingular (row_of table k)) is singular.2))
+
+pub refuses_block : (table : List Row) (c : Configuration) (b count : ℕ) (e : Error) → b < c.source_blocks → count ≡ block_symbols c b → (e ≡ OutOfMemory) ⊎ ((e ≡ Singular) × IsSingular (row_of table count)) → (e ≡ OutOfMemory) ⊎ ((e ≡ Singular) × ¬ (HasNonsingularRows table c))
+refuses_block table c b count e below is (inl memory) = inl memory
+refuses_block table c b count e below is (inr singular) = inr (singular.0, block_singular table c b below (subst (λ k. IsSingular (row_of table k)) is singular.1))
+
 -- what it is refused for
 pub refuses_singular : (table : List Row) (c : Configuration) (n : ℕ) (e : Error) → new_encoder (greatest_size table) c n ≡ Ok tt → (e ≡ OutOfMemory) ⊎ ((e ≡ Singular) × ¬ (HasNonsingularRows table c)) → RefusesEncoder table c n e
 refuses_singular table c n e taken (inl memory) = inl (subst (IsRefusal e) (sym taken) memory)
 refuses_singular table c n e taken (inr singular) = inr (taken, singular.0, singular.1)
+
+-- ---- the encoders in a list
+
+pub length-encoders : (items : List SourceBlockEncoder) (n : ℕ) → map (λ b. (block_encoded_of b).number) items ≡ range_with_len 0 n → length items ≡ n
+length-encoders items n numbered = sym (length-map items (λ b. (block_encoded_of b).number)) ∙ ap length numbered ∙ length-range_with_len 0 n
+
+pub number_at : (items : List SourceBlockEncoder) (n i : ℕ) (x : SourceBlockEncoder) → i < length items → x ≡ get_or items i x → i < n → map (λ b. (block_encoded_of b).number) items ≡ range_with_len 0 n → (block_encoded_of x).number ≡ i
+number_at items n i x below is within numbered = ap (λ b. (block_encoded_of b).number) is ∙ sym (get_or-map (λ b. (block_encoded_of b).number) items i x 0 below) ∙ ap (λ l. get_or l i 0) numbered ∙ get_or-range_with_len 0 n i 0 within ∙ omega arith
+
+pub count_at : (c : Configuration) (items : List SourceBlockEncoder) (i : ℕ) (x : SourceBlockEncoder) → i < length items → x ≡ get_or items i x → i < c.source_blocks → map (λ b. length (block_encoded_of b).source) items ≡ map (block_symbols c) (range_with_len 0 c.source_blocks)
+    → length (block_encoded_of x).source ≡ block_symbols c i
+count_at c items i x below is within counted =
+    ap (λ b. length (block_encoded_of b).source) is ∙ sym (get_or-map (λ b. length (block_encoded_of b).source) items i x 0 below) ∙ ap (λ l. get_or l i 0) counted ∙ get_or-map-range_with_len (block_symbols c) 0 c.source_blocks i i 0 within (omega arith)
+
+pub block_at : (c : Configuration) (items : List SourceBlockEncoder) (i : ℕ) (x : SourceBlockEncoder) → i < length items → x ≡ get_or items i x → block_encoded_of x ≡ get_or (map block_encoded_of items) i (no_block i c.symbol_size)
+block_at c items i x below is = ap block_encoded_of is ∙ sym (get_or-map block_encoded_of items i x (no_block i c.symbol_size) below)
+
+-- a list by its places
+pub by_places : {X : Type 0} (xs : List X) (d : ℕ → X) (n : ℕ) → length xs ≡ n → xs ≡ map (λ i. get_or xs i (d i)) (range_with_len 0 n)
+by_places xs d n long = ext_get_or (d 0) xs (map (λ i. get_or xs i (d i)) (range_with_len 0 n)) (long ∙ sym (length-map-range_with_len (λ i. get_or xs i (d i)) 0 n))
+    (λ i below. at_any xs i (d 0) (d i) below ∙ sym (get_or-map-range_with_len (λ j. get_or xs j (d j)) 0 n i i (d 0) (omega (arith, long)) (omega arith)))

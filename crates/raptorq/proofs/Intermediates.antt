@@ -1,5 +1,5 @@
 -- The intermediate symbols that operations make of a block's source symbols.
-use Rattle.std.proofs.Common.{◌≡◌, ℕ, ◌+◌, ◌-◌, ◌<◌, ◌≤◌, List, [], ◌++◌, length, get_or, replicate, Option, None, refl, sym, ap, ◌∙◌, subst, arith, inl, inr}
+use Rattle.std.proofs.Common.{◌≡◌, ℕ, ◌+◌, ◌-◌, ◌<◌, ◌≤◌, List, [], ◌++◌, length, get_or, replicate, None, refl, sym, ap, ◌∙◌, subst, arith, inl, inr}
 use Rattle.std.specs.List.{range_with_len}
 use Rattle.std.proofs.lemmas.Bool.{cases_lt}
 use Rattle.std.proofs.lemmas.List.{get_or_append_left, get_or-append_right, get_or-replicate, get_or_past, length-append, length-replicate}
@@ -7,18 +7,18 @@ use Rattle.std.proofs.lemmas.List.FromFn.{length-range_with_len}
 use Rattle.std.proofs.lemmas.List.Elements.{All-from_get_or}
 use Rattle.rq_algebra.specs.Systems.{at}
 use Rattle.rq_algebra.specs.Operations.{Operation, AreAllowed}
-use Rattle.rq_algebra.specs.Elimination.{FindsColumn, found_by}
-use Rattle.rq_algebra.specs.Symbols.{symbols, IsSymbol, AreSymbols, SolvesSymbols, symbol_at, slice_at}
+use Rattle.rq_algebra.specs.Elimination.{FindsColumn}
+use Rattle.rq_algebra.specs.Symbols.{IsSymbol, AreSymbols, SolvesSymbols, symbol_at, slice_at}
 use Rattle.rq_algebra.proofs.Stacks.{stacked_above, stacked_below}
 use Rattle.rq_algebra.proofs.Solutions.{solves_same}
 use Rattle.rq_algebra.proofs.Found.{finds_determined, found_are_symbols, found_only, found_solves}
-use Rattle.rq_bytes.specs.Slab.{Slab, slab_of, symbol_in}
+use Rattle.rq_bytes.specs.Slab.{slab_of, symbol_in}
 use Rattle.rq_solver.proofs.SolutionLaws.{found_places}
 use Rattle.rq_standard.specs.declared.row.Row.{Row}
 use Rattle.rq_standard.specs.OctetField.{octets}
 use Rattle.rq_standard.specs.TableRows.{intermediate_symbols}
 use Rattle.rq_standard.specs.Equations.{equations, equation_count, equation_values, zero_symbol, source_ids, IsIntermediateColumn, IsNonsingular}
-use Rattle.raptorq.specs.Planned.{source_values, planned, IsOnlyIntermediateColumn, IsPlanOf}
+use Rattle.raptorq.specs.Planned.{source_values, planned, IsPlanOf}
 use Rattle.raptorq.proofs.Encodes.{at_any}
 use Rattle.raptorq.proofs.Outcomes.{places_count}
 

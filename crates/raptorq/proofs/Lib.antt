@@ -16,6 +16,5 @@ pub mod Outcomes
 pub mod Payloads
 pub mod PlanLaws
 pub mod Ranges
-pub mod Refusals
 pub mod Summing
 pub mod Taking

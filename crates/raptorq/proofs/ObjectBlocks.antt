@@ -1,10 +1,10 @@
 -- The blocks of an object in a list, in the order of their numbers.
-use Rattle.std.proofs.Common.{◌≡◌, ◌≢◌, ℕ, zero, suc, ◌+◌, ◌<◌, ◌≤◌, Bool, true, false, List, [], ◌∷◌, ◌++◌, length, get_or, set, take, map, All, Option, Some, None, refl, sym, ap, ◌∙◌, subst, arith, eq-eqb, inl, inr}
+use Rattle.std.proofs.Common.{◌≡◌, ◌≢◌, ℕ, zero, suc, ◌+◌, ◌<◌, ◌≤◌, Bool, true, false, List, [], ◌∷◌, ◌++◌, length, get_or, set, take, drop, map, All, Option, Some, None, refl, sym, ap, ◌∙◌, subst, arith, eq-eqb, inl, inr, append-nil, length-drop}
 use Rattle.std.specs.Prelude.{is_some, IsSome, option_map, unwrap_or, vec_items, MatchOption, Ok}
 use Rattle.std.specs.List.{range_with_len}
 use Rattle.std.proofs.lemmas.Bool.{cases_lt}
 use Rattle.std.proofs.Math.Seq.{map-set_same}
-use Rattle.std.proofs.lemmas.List.{length-map, get_or-map, get_or_past, get_or-set_same, get_or-set_other, length-set, map_push, map-id}
+use Rattle.std.proofs.lemmas.List.{length-map, get_or-map, get_or_past, get_or-set_same, get_or-set_other, length-set, map_push, map-id, nil_from_length, take_all}
 use Rattle.std.proofs.lemmas.Simd.{map-map}
 use Rattle.std.proofs.lemmas.List.Elements.{All-get_or, All-set}
 use Rattle.std.proofs.lemmas.List.FromFn.{length-range_with_len, length-map-range_with_len, get_or-range_with_len, get_or-map-range_with_len, map-range_with_len_more}
@@ -158,3 +158,21 @@ some_shown (Some v) h = refl
 pub none_otherwise : (o : Option (Vec ℕ Global)) → ((v : Vec ℕ Global) → o ≡ Some v → ⊥) → option_map vec_items o ≡ None
 none_otherwise None h = refl
 none_otherwise (Some v) h = absurd (h v refl)
+
+-- ---- blocks that hold what others did
+
+module _ (c : Configuration) (old new : List ObjectBlock) (held : map (λ b. held_of b.decoder) new ≡ map (λ b. held_of b.decoder) old) where
+  pub same_length : length new ≡ length old
+  same_length = sym (length-map new (λ b. held_of b.decoder)) ∙ ap length held ∙ length-map old (λ b. held_of b.decoder)
+
+  pub same_numbers : map number_of new ≡ map number_of old
+  same_numbers = sym (map-map (λ h. h.number) (λ b. held_of b.decoder) new) ∙ ap (map (λ h. h.number)) held ∙ map-map (λ h. h.number) (λ b. held_of b.decoder) old
+
+  pub same_configurations : All (λ b. (held_of b.decoder).configuration ≡ c) old → All (λ b. (held_of b.decoder).configuration ≡ c) new
+  same_configurations all i d below =
+      let within : i < length old = omega (arith, below, same_length) in
+      ap (λ h. h.configuration) (sym (get_or-map (λ b. held_of b.decoder) new i d (held_of d.decoder) below) ∙ ap (λ l. get_or l i (held_of d.decoder)) held ∙ get_or-map (λ b. held_of b.decoder) old i d (held_of d.decoder) within) ∙ all i d within
+
+-- a list written over one of its length
+pub written_over : (n : ℕ) (new old : List ObjectBlock) → length new ≡ n → length old ≡ n → take n (new ++ drop (length new) old) ≡ new
+written_over n new old long was = ap (λ l. take n (new ++ l)) (nil_from_length (drop (length new) old) (omega (arith, length-drop (length new) old))) ∙ ap (take n) (append-nil new) ∙ take_all n new (omega (arith, long))

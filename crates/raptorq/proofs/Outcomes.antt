@@ -1,12 +1,11 @@
 -- What a solver's outcome says of a block's equations.
-use Rattle.std.proofs.Common.{◌≡◌, ℕ, zero, suc, ◌<◌, ◌≤◌, List, [], get_or, Option, None, Some, Vec, Global, length, map, refl, sym, ap, ◌∙◌, subst, arith}
+use Rattle.std.proofs.Common.{◌≡◌, ℕ, zero, suc, ◌<◌, ◌≤◌, List, [], get_or, Option, None, Some, Vec, Global, length, map, sym, ap, ◌∙◌, subst, arith}
 use Rattle.std.proofs.lemmas.List.{length-map}
-use Rattle.rq_algebra.specs.Systems.{HasNullColumn}
 use Rattle.rq_algebra.specs.Operations.{Operation}
-use Rattle.rq_algebra.specs.Symbols.{IsSymbol, AreSymbols, IsSymbolColumn, SolvesSymbols, symbol_at}
+use Rattle.rq_algebra.specs.Symbols.{IsSymbol, AreSymbols, SolvesSymbols, symbol_at}
 use Rattle.rq_algebra.proofs.Found.{finds_determined, found_are_symbols}
 use Rattle.rq_algebra.proofs.Solutions.{null_not_determined}
-use Rattle.rq_bytes.specs.Slab.{Slab, HasPlace, symbol_in, symbols_in}
+use Rattle.rq_bytes.specs.Slab.{Slab, HasPlace, symbols_in}
 use Rattle.rq_bytes.specs.SymbolOps.{operation_of}
 use Rattle.rq_bytes.specs.declared.operation_vector.SymbolOps.{SymbolOps}
 use Rattle.rq_parts.specs.OctetTable.{OctetTable}
@@ -15,7 +14,7 @@ use Rattle.rq_standard.specs.BitTable.{BitTable}
 use Rattle.rq_standard.specs.ConstraintMatrix.{IsBinaryPart}
 use Rattle.rq_standard.specs.OctetField.{octets}
 use Rattle.rq_standard.specs.TableRows.{intermediate_symbols}
-use Rattle.rq_standard.specs.Equations.{equations, equation_count, AreDetermining}
+use Rattle.rq_standard.specs.Equations.{equations, equation_count}
 use Rattle.rq_base.specs.HdpcPart.{IsHdpcPart}
 use Rattle.rq_solver.specs.Solving.{AreEquations, IsOutcome, solver_of}
 use Rattle.rq_solver.specs.Solving as solver

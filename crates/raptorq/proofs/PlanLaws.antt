@@ -1,5 +1,5 @@
 -- What plans refuse, and that a copy of a plan is one.
-use Rattle.std.proofs.Common.{vec_len, ◌≡◌, ℕ, ◌<◌, ◌≤◌, List, [], ◌∷◌, map, Result, Ok, Err, refl, sym, ap, ◌∙◌, subst, arith, ◌⊎◌, inl, inr}
+use Rattle.std.proofs.Common.{vec_len, ◌≡◌, ℕ, ◌<◌, ◌≤◌, List, [], ◌∷◌, map, Ok, Err, refl, sym, ap, ◌∙◌, subst, ◌⊎◌, inl, inr}
 use Rattle.std.specs.List.{AllZip}
 use Rattle.std.proofs.lemmas.Bool.{lt-ltb, le-ltb}
 use Rattle.rq_algebra.specs.Operations.{Reorder}

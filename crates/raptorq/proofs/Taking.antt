@@ -1,16 +1,15 @@
 -- Packets that a block's decoder takes one after another.
-use Rattle.std.proofs.Common.{◌≡◌, ℕ, eqb, List, [], ◌∷◌, ◌++◌, length, Option, Some, Result, Ok, Err, refl, sym, ap, ◌∙◌, subst, append-nil}
+use Rattle.std.proofs.Common.{◌≡◌, ℕ, Bool, cond, eqb, List, [], ◌∷◌, ◌++◌, length, Option, Some, Result, Ok, Err, refl, sym, ap, ◌∙◌, subst, append-nil}
 use Rattle.std.specs.Iterator.{Yields}
-use Rattle.std.specs.Prelude.{option_map, IfOk, IfErr}
+use Rattle.std.specs.Prelude.{not, option_map, IfOk, IfErr}
 use Rattle.rq_bytes.specs.declared.error.Error.{Error}
-use Rattle.rq_bytes.specs.declared.error.Error.TheVariants.{OutOfMemory}
+use Rattle.rq_bytes.specs.declared.error.Error.TheVariants.{OutOfMemory, UnknownBlock, WrongPayloadSize}
 use Rattle.rq_bytes.specs.Refusals.{IsRefusal}
 use Rattle.rq_standard.specs.Packet.{Packet}
 use Rattle.rq_standard.specs.Held.{Held, recorded, IsBlockAnswer}
 use Rattle.rq_standard.proofs.Standing.{push-all}
 use Rattle.raptorq.specs.Refused.{block_refusal}
 use Rattle.raptorq.specs.Decoding.{all_recorded, AreTaken, Decodes, shown}
-use Rattle.raptorq.proofs.Refusals.{refused_by}
 
 number_kept : (h : Held) (packets : List Packet) → (all_recorded h packets).number ≡ h.number
 number_kept h [] = refl
@@ -19,6 +18,9 @@ number_kept h (p ∷ packets) = number_kept (recorded h p.id.esi p.payload) pack
 configuration_kept : (h : Held) (packets : List Packet) → (all_recorded h packets).configuration ≡ h.configuration
 configuration_kept h [] = refl
 configuration_kept h (p ∷ packets) = configuration_kept (recorded h p.id.esi p.payload) packets
+
+abbrev refused_by : Bool → Bool → Result (Unit {0}) Error
+refused_by b s = cond (not b) (Err UnknownBlock) (cond (not s) (Err WrongPayloadSize) (Ok tt))
 
 -- what is refused stays the same
 pub refusal_kept : (h g : Held) (packets : List Packet) (p : Packet) → g ≡ all_recorded h packets → block_refusal g p ≡ block_refusal h p

@@ -1,6 +1,6 @@
 -- That operations are allowed has one proof at most, so a type may keep it.
 use Rattle.std.specs.Prelude.{ℕ, List, [], ◌∷◌, Option, Some, None}
-use Rattle.std.specs.Coded.{×_prop, →_prop, Π_prop, Unit-prop, le_prop}
+use Rattle.std.specs.Coded.{×_prop, Unit-prop, le_prop}
 use Rattle.rq_algebra.specs.Operations.{Operation, AddAssign, MulAssign, Fma, Reorder, IsPlace, IsAllowed, AreAllowed, order_after}
 
 IsPlace-prop : (n : ℕ) (order : Option (List ℕ)) (i : ℕ) → IsProp (IsPlace n order i)

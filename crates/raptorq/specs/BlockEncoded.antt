@@ -5,7 +5,7 @@ use Rattle.rq_standard.specs.declared.row.Row.{Row}
 use Rattle.rq_standard.specs.Configuration.{Configuration}
 use Rattle.rq_standard.specs.Cutting.{block_symbols, symbols_before}
 use Rattle.rq_standard.specs.Encoded.{block_row, block_source}
-use Rattle.rq_standard.specs.Packet.{SymbolId, Packet}
+use Rattle.rq_standard.specs.Packet.{Packet}
 use Rattle.rq_standard.specs.Equations.{IsEncodingSymbol}
 use Rattle.raptorq.specs.declared.encoder.block.SourceBlockEncoder.{SourceBlockEncoder}
 

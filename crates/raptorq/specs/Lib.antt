@@ -9,7 +9,6 @@ pub mod Known
 pub mod Missing
 pub mod Objects
 pub mod Offsets
-pub mod OneBlock
 pub mod PlanCache
 pub mod Planned
 pub mod Plans

@@ -1,5 +1,5 @@
 //! Encoders: an object in, its packets out.
-ghost use Rattle.std.specs.Prelude.{◌≡◌, ℕ, ◌+◌, ◌*◌, ◌<◌, ◌≤◌, ◌⊎◌, All, List, length, map, slice_range, Result, Ok, Err, IfOk, IfErr, OnOk};
+ghost use Rattle.std.specs.Prelude.{◌≡◌, ℕ, ◌+◌, ◌-◌, ◌*◌, ◌<◌, ◌≤◌, ◌⊎◌, List, length, map, take, drop, Result, Ok, Err, IfOk, IfErr, OnOk};
 ghost use Rattle.std.specs.List.{range_with_len};
 ghost use Rattle.rq_bytes.specs.Refusals.{IsAnswer, IsRefusal};
 ghost use Rattle.rq_standard.specs.Configuration.{IsAccepted, IsAligned, largest_block};
@@ -37,7 +37,6 @@ pub struct Encoder {
     pub ghost some: { 0 < config.source_blocks },
     pub ghost numbered: { map (λ b. (block_encoded_of b).number) blocks.items ≡ range_with_len 0 config.source_blocks },
     pub ghost counted: { map (λ b. length (block_encoded_of b).source) blocks.items ≡ map (block_symbols config) (range_with_len 0 config.source_blocks) },
-    pub ghost sized: { All (λ b. (block_encoded_of b).size ≡ config.symbol_size) blocks.items },
 }
 
 impl Encoder {
@@ -107,7 +106,7 @@ impl Encoder {
         let mut packets = Vec::new(self.alloc);
         for block in &self.blocks {
             let end = block.symbols() + repair_packets_per_block;
-            packets.append(&mut block.packets(0, end)?)?;
+            packets.extend(block.packets(0, end)?)?;
         }
         Ok(packets)
     }
@@ -146,10 +145,18 @@ fn block_encoders(
     for number in 0..config.source_blocks() {
         plan = plan_for(alloc, table, block_symbols(config, number) as u16, plan)?;
         let (start, end) = offsets[usize::from(number)];
-        let bytes = &object[start.min(object.len())..end.min(object.len())];
+        let bytes = bytes_between(object, start, end);
         blocks.push(block_encoder(alloc, config, number, bytes, &plan)?)?;
     }
     Ok(blocks)
+}
+
+// The object's bytes between two places, as far as it has them.
+fn bytes_between(object: &[u8], start: usize, end: usize) -> &[u8]
+    requires { start ≤ end }
+    ensures { result.now ≡ take (end - start) (drop start object.now) }
+{
+    &object[start.min(object.len())..end.min(object.len())]
 }
 
 // A plan of blocks with so many source symbols: the last one, where it is for as many.

@@ -5,7 +5,6 @@ mod blocks;
 pub mod decoder;
 pub mod encoder;
 mod ids;
-mod one_block;
 mod solving;
 mod sub_blocks;
 mod sums;
@@ -15,7 +14,6 @@ pub use decoder::{Decoder, SourceBlockDecoder};
 pub use encoder::{
     Encoder, SourceBlockEncoder, SourceBlockEncodingPlan, SourceBlockEncodingPlanCache,
 };
-pub use one_block::is_one_block;
 pub use rq_base::base;
 pub use rq_base::base::{EncodingPacket, ObjectTransmissionInformation, PayloadId, partition};
 pub use rq_bytes::error;

@@ -22,6 +22,8 @@ mod objects;
 #[cfg(test)]
 mod packets;
 #[cfg(test)]
+mod plans;
+#[cfg(test)]
 mod records;
 #[cfg(test)]
 mod several_blocks;

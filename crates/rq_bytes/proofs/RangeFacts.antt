@@ -1,11 +1,11 @@
 -- Two ranges of a list, read and written.
-use Rattle.std.proofs.Common.{◌≡◌, ℕ, ◌+◌, ◌-◌, ◌≤◌, List, ◌++◌, length, take, drop, refl, sym, ap, ◌∙◌, arith}
+use Rattle.std.proofs.Common.{◌≡◌, ℕ, ◌+◌, ◌-◌, ◌≤◌, List, ◌++◌, length, take, drop, sym, ap, ◌∙◌, arith}
 use Rattle.std.proofs.Math.Seq.{take-append_seam, drop-append_seam, drop-append-add}
 use Rattle.std.proofs.lemmas.List.{append_assoc, drop-drop, length-append, length-drop, length-take-le, take-append-drop}
 use Rattle.rq_bytes.specs.Ranges.{range_of, with_range}
 
 -- other elements in the place of `mid`
-pub with_range-middle : {X : Type 0} (front mid back : List X) (i : ℕ) (ys : List X) → length front ≡ i → length ys ≡ length mid
+with_range-middle : {X : Type 0} (front mid back : List X) (i : ℕ) (ys : List X) → length front ≡ i → length ys ≡ length mid
     → with_range (front ++ (mid ++ back)) i ys ≡ front ++ (ys ++ back)
 with_range-middle front mid back i ys at long =
     ap (λ k. with_range (front ++ (mid ++ back)) k ys) (sym at)
@@ -34,7 +34,7 @@ around xs low high n apart within =
     let last = drop space after in
     let same : last ≡ drop high xs = ap (λ zs. drop space zs) (drop-drop n low xs) ∙ drop-drop space (low + n) xs ∙ ap (λ k. drop k xs) (omega arith) in
     let inner = length-drop low xs in
-    let outer = length-drop (low + n) xs ∙ refl in
+    let outer = length-drop (low + n) xs in
     let there = ap length (drop-drop n low xs) in
     let gap_is : length (take space after) ≡ space = length-take-le space after (omega arith) in
     record {
@@ -124,5 +124,6 @@ module _ {X : Type 0} {xs : List X} {low high n : ℕ} (a : Around xs low high n
         length-append two a.back,
       )
 
+-- as many as are asked for, where they are there
 pub length-range : {X : Type 0} (xs : List X) (i n : ℕ) → i + n ≤ length xs → length (range_of xs i n) ≡ n
 length-range xs i n within = length-take-le n (drop i xs) (omega (arith, length-drop i xs))

@@ -7,7 +7,7 @@ use Prim.Native.Nat.{ℕ, zero, suc, ◌+◌, ◌*◌, ◌^◌, ◌<◌, ◌≤�
 use prog.Memory.{capped}
 use prog.Capped.{capped_is}
 use native.Mathlib.Omega.{arith}
-use native.Mathlib.Nat.{add-mul, suc-mul, zero-mul}
+use native.Mathlib.Nat.{add-mul, mul-le-mul_right, suc-mul, zero-mul}
 use mathlib.Core.List.{List, [], ◌∷◌, ◌++◌}
 use lib.ListN.{length}
 use seplogic.Ra.Ura.{Ura}
@@ -46,6 +46,10 @@ use Rattle.rq_bytes.proofs.RangeFacts.{Around, around, rewritten, rewritten-low,
 pub uncapped : (i k : ℕ) → i * k < 2 ^ 64 → i * capped k ≡ i * k
 uncapped zero k h = zero-mul (capped k) ∙ sym (zero-mul k)
 uncapped (suc i) k h = let step = suc-mul i k in ap (λ (j : ℕ). suc i * j) (capped_is k (omega arith))
+
+-- some of the elements take no more bytes than all
+pub fewer_bytes : (k n size : ℕ) → k ≤ n → n * size < 2 ^ 63 → k * size < 2 ^ 63
+fewer_bytes k n size le fit = let less = mul-le-mul_right size le in omega arith
 
 -- a pair is made of its two values
 abbrev pub pair_val : Val → Val → Val

@@ -130,6 +130,14 @@ impl Decoder {
         })
     }
 
+    /// Sets from which number of source symbols on, padding included, a block is to be solved with a
+    /// sparse matrix; 250 at first. What is answered doesn't depend on it.
+    pub fn set_sparse_threshold(&mut self, value: u32)
+        ensures { state_of self.new ≡ state_of self.old }
+    {
+        set_sparse_thresholds(self.blocks.as_mut_slice(), value);
+    }
+
     // Takes a packet, whoever sent it.
     fn take(&mut self, packet: EncodingPacket) -> Result<(), Error>
         ensures refused { IsAnswer (λ x. x) result (packet_refusal (state_of self.old).configuration packet) }
@@ -245,6 +253,16 @@ impl Clone for Decoder {
             blocks: self.blocks.clone()?,
             alloc: self.alloc,
         })
+    }
+}
+
+// Sets the sparse threshold of each block.
+fn set_sparse_thresholds(blocks: &mut [ObjectBlock], value: u32)
+    ensures held { map (λ b. held_of b.decoder) blocks.new ≡ map (λ b. held_of b.decoder) blocks.old }
+    ensures answers { map (λ b. option_map vec_items b.answer) blocks.new ≡ map (λ b. option_map vec_items b.answer) blocks.old }
+{
+    for block in blocks {
+        block.decoder.set_sparse_threshold(value);
     }
 }
 

@@ -1,5 +1,5 @@
 //! A cache of plans, which is lent to the encoders of source blocks.
-ghost use Rattle.std.specs.Prelude.{◌≡◌, ◌≤◌, ◌<◌, ◌==◌, [], false, drop, if◌then◌else◌, is_some, length, nat_lt, position, slice_get, IfSome, IfOk, IfErr, OnOk, OnErr};
+ghost use Rattle.std.specs.Prelude.{◌≡◌, ◌≤◌, ◌<◌, ◌==◌, [], false, drop, if◌then◌else◌, is_some, length, map, nat_lt, position, slice_get, IfSome, IfOk, IfErr, OnOk, OnErr};
 ghost use Rattle.std.specs.VecDeque.{deque_len, deque_capacity};
 ghost use Rattle.std.specs.Borrow.{sem};
 ghost use Rattle.rq_bytes.specs.Refusals.{IsAnswer};
@@ -118,12 +118,7 @@ impl SourceBlockEncodingPlanCache {
     fn place_of(&self, count: u16) -> Option<usize>
         ensures { result ≡ position (λ n. n == count) self.now.counts }
     {
-        for place in 0..self.plans.len() {
-            if self.plans[place].source_symbol_count() == count {
-                return Some(place);
-            }
-        }
-        None
+        place_in(&self.plans, count)
     }
 
     /// Puts in a new plan as the last one.
@@ -135,6 +130,16 @@ impl SourceBlockEncodingPlanCache {
         make_room(&mut self.plans);
         self.plans.push_back_reserved(plan);
     }
+}
+
+// Where the plan of so many source symbols is among plans.
+fn place_in(plans: &VecDeque<SourceBlockEncodingPlan>, count: u16) -> Option<usize>
+    ensures { result ≡ position (λ n. n == count) (map (λ p. p.source_symbol_count) plans.now.items) }
+{
+    plans
+        .iter()
+        .map(|plan| plan.source_symbol_count())
+        .position(|held| held == count)
 }
 
 // Drops the oldest plan where there is no place for one more.

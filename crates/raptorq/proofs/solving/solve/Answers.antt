@@ -1,4 +1,4 @@
-use Rattle.std.proofs.Common.{◌≡◌, map, ◌∙◌, subst}
+use Rattle.std.proofs.Common.{map, ◌∙◌, subst}
 use Rattle.rq_algebra.specs.Symbols.{AreSymbols}
 use Rattle.rq_bytes.specs.SymbolOps.{operation_of}
 use Rattle.rq_standard.specs.OctetField.{octets}

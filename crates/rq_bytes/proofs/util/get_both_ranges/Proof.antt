@@ -3,7 +3,6 @@ use mathlib.Core.Path.{◌≡◌, refl, sym, ap, subst}
 use mathlib.Core.Logic.{◌⊎◌}
 use Prim.Native.Nat.{ℕ, ◌+◌, ◌*◌, ◌^◌, ◌<◌, ◌≤◌}
 use native.Mathlib.Omega.{arith}
-use native.Mathlib.Nat.{mul-le-mul_right}
 use mathlib.Core.List.{List, [], ◌∷◌}
 use lib.ListN.{length}
 use seplogic.Ra.Ura.{Ura}
@@ -43,7 +42,7 @@ use Rattle.std.proofs.mem.Facts.{says_two}
 use Rattle.std.proofs.raw_atomic.Walks.{proved}
 use Rattle.rq_bytes.specs.Ranges.{range_of, with_range}
 use Rattle.rq_bytes.proofs.RangeFacts.{length-range}
-use Rattle.rq_bytes.proofs.RangeLoans.{uncapped, pair_val, pair_of, lends_both}
+use Rattle.rq_bytes.proofs.RangeLoans.{uncapped, fewer_bytes, pair_val, pair_of, lends_both}
 use Rattle.rq_bytes.specs.contracts.util.get_both_ranges as F
 use Rattle.rq_bytes.specs.contracts.util.get_both_ranges.Key.{name as #self}
 use Rattle.rq_bytes.proofs.util.get_both_ranges.Statement.{statement}
@@ -93,13 +92,9 @@ module _ (X : RattleType) {M : Type 1} {𝓤 : Ura M} (𝓛 : Logic 𝓤) (at_me
         let p' : ℕ = j * s + o in
         let one : List X.Denot = range_of xs i n in
         let two : List X.Denot = range_of xs j n in
-        let fit : length xs * s < 2 ^ 63 = rm.1 in
-        let few : i * s ≤ length xs * s = mul-le-mul_right s (omega arith) in
-        let few' : j * s ≤ length xs * s = mul-le-mul_right s (omega arith) in
-        let less : n * s ≤ length xs * s = mul-le-mul_right s (omega arith) in
-        let fs : i * s < 2 ^ 64 = omega arith in
-        let fs' : j * s < 2 ^ 64 = omega arith in
-        let roomy : Room (R X) n = (fn, omega arith) in
+        let fs : i * s < 2 ^ 64 = omega (arith, fewer_bytes i (length xs) s (omega arith) rm.1) in
+        let fs' : j * s < 2 ^ 64 = omega (arith, fewer_bytes j (length xs) s (omega arith) rm.1) in
+        let roomy : Room (R X) n = (fn, fewer_bytes n (length xs) s (omega arith) rm.1) in
         let long : length one ≡ n = length-range xs i n i_in in
         let long' : length two ≡ n = length-range xs j n j_in in
         let first_of : GName → MutBor (List X.Denot) = λ δ. record { ref_ptr = (b, p); ghost_name = δ; now = one } in

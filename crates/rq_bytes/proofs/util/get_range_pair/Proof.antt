@@ -3,7 +3,6 @@ use mathlib.Core.Path.{◌≡◌, refl, sym, ap, subst, ◌∙◌}
 use mathlib.Core.Logic.{◌⊎◌}
 use Prim.Native.Nat.{ℕ, ◌+◌, ◌*◌, ◌^◌, ◌<◌, ◌≤◌}
 use native.Mathlib.Omega.{arith}
-use native.Mathlib.Nat.{mul-le-mul_right}
 use mathlib.Core.List.{List, [], ◌∷◌, ◌++◌}
 use lib.ListN.{length, take, drop as drop_list}
 use mir.Syntax.{Body, Fn, named, w64, seq, assign, place, rv_opd, copy, return}
@@ -46,7 +45,7 @@ use Rattle.std.proofs.VecSteps.El.{El, args, R, Vr}
 use Rattle.std.specs.Vec.{with_items}
 use Rattle.rq_bytes.specs.Ranges.{range_of, with_range}
 use Rattle.rq_bytes.proofs.RangeFacts.{length-range}
-use Rattle.rq_bytes.proofs.RangeLoans.{uncapped, pair_val, pair_of, lends_pair}
+use Rattle.rq_bytes.proofs.RangeLoans.{uncapped, fewer_bytes, pair_val, pair_of, lends_pair}
 use Rattle.std.specs.contracts.vec.Vec.as_mut_slice as slice
 use Rattle.std.proofs.vec.Vec.as_mut_slice.Met.{met}
 use Rattle.rq_bytes.specs.contracts.util.get_range_pair as F
@@ -118,16 +117,12 @@ get_range_pair_spec 𝓤 𝓛 𝓜 𝓡 wired T B L LB g d dd allocator glue =
     let p' : ℕ = j * s + o in
     let one : List T.Denot = range_of xs i n in
     let two : List T.Denot = range_of xs j n in
-    let fit : length xs * s < 2 ^ 63 = told.1.1 in
     let i_there : i + n ≤ length xs = omega arith in
     let j_there : j + n ≤ length xs = omega arith in
-    let few : i * s ≤ length xs * s = mul-le-mul_right s (omega arith) in
-    let few' : j * s ≤ length xs * s = mul-le-mul_right s (omega arith) in
-    let less : n * s ≤ length xs * s = mul-le-mul_right s (omega arith) in
-    let fs : i * s < 2 ^ 64 = omega arith in
-    let fs' : j * s < 2 ^ 64 = omega arith in
+    let fs : i * s < 2 ^ 64 = omega (arith, fewer_bytes i (length xs) s (omega arith) told.1.1) in
+    let fs' : j * s < 2 ^ 64 = omega (arith, fewer_bytes j (length xs) s (omega arith) told.1.1) in
     let fn : n < 2 ^ 64 = are.1.1.1.0.1 in
-    let roomy : Room (R E) n = (fn, omega arith) in
+    let roomy : Room (R E) n = (fn, fewer_bytes n (length xs) s (omega arith) told.1.1) in
     let many : length one ≡ n = length-range xs i n i_there in
     let many' : length two ≡ n = length-range xs j n j_there in
     let first_of : GName → MutBor (List T.Denot) = λ δ. record { ref_ptr = (b, p); ghost_name = δ; now = one } in

@@ -1,11 +1,10 @@
 use Rattle.std.proofs.Common.{◌≡◌, length, map, sym, ap, ◌∙◌}
-use Rattle.std.proofs.lemmas.List.Elements.{All-from_recursion}
 use Rattle.std.proofs.lemmas.Simd.{map-map}
 use Rattle.std.proofs.lemmas.Result.{err_from_is_err_and}
 use Rattle.rq_standard.specs.TableRows.{greatest_size}
 use Rattle.raptorq.specs.BlockEncoded.{block_encoded_of}
 use Rattle.raptorq.specs.Encoded.{no_block}
-use Rattle.raptorq.proofs.EncodedBlocks.{new_encoder-taken, refuses_singular, new_numbers, new_counts, new_block, new_sizes}
+use Rattle.raptorq.proofs.EncodedBlocks.{new_encoder-taken, refuses_singular, new_numbers, new_counts, new_block}
 use Rattle.raptorq.proofs.encoder.Encoder.new.Goals as goal
 
 pub returns-in_err-blocks-clause-refused : goal.returns-in_err-blocks-clause-refused
@@ -27,7 +26,6 @@ invariant_of-result c =
       some = c.in_ok-check.ensures.accepted.blocks_positive;
       numbered = sym (map-map (λ b. b.number) block_encoded_of items) ∙ new_numbers c.args.table.now k c.args.object.now (map block_encoded_of items) encoded;
       counted = sym (map-map (λ b. length b.source) block_encoded_of items) ∙ new_counts c.args.table.now k c.args.object.now (map block_encoded_of items) encoded;
-      sized = ?;
     }
 
 pub returns-clause-encoder : goal.returns-clause-encoder

@@ -1,4 +1,4 @@
-use Rattle.std.proofs.Common.{◌≡◌, ◌≤◌, All, List, ℕ, length, sym, subst, arith}
+use Rattle.std.proofs.Common.{◌≡◌, ◌≤◌, All, List, ℕ, length, sym, subst}
 use Rattle.rq_bytes.specs.Slab.{symbol_in, symbols_in}
 use Rattle.rq_standard.specs.declared.row.Row.{Row}
 use Rattle.rq_standard.specs.Equations.{IsIntermediateColumn}

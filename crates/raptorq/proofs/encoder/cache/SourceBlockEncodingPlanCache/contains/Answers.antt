@@ -1,4 +1,4 @@
-use Rattle.std.proofs.Common.{◌≡◌, ◌∙◌}
+use Rattle.std.proofs.Common.{◌∙◌}
 use Rattle.raptorq.proofs.CacheLaws.{held_by}
 use Rattle.raptorq.proofs.encoder.cache.SourceBlockEncodingPlanCache.contains.Goals as goal
 

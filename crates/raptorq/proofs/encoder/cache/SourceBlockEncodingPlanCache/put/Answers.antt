@@ -1,8 +1,7 @@
-use Rattle.std.proofs.Common.{◌≡◌, ◌∷◌, [], ◌++◌, All, Bool, true, false, cond, drop, ap, ◌∙◌, sym, subst, arith}
+use Rattle.std.proofs.Common.{◌∷◌, [], ◌++◌, All, Bool, true, false, cond, drop, ap, ◌∙◌, sym, subst, arith}
 use Rattle.std.specs.Prelude.{nat_lt}
 use Rattle.std.specs.VecDeque.{deque_len}
 use Rattle.std.proofs.lemmas.List.Elements.{All-push, All-drop}
-use Rattle.rq_standard.specs.declared.row.Row.{Row}
 use Rattle.raptorq.specs.PlanCache.{PlanCache, IsPlanOver}
 use Rattle.raptorq.proofs.encoder.cache.SourceBlockEncodingPlanCache.put.Goals as goal
 

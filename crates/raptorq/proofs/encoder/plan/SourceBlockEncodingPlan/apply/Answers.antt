@@ -1,12 +1,11 @@
-use Rattle.std.proofs.Common.{◌≡◌, length, map, sym, ap, ◌∙◌, subst}
-use Rattle.rq_algebra.specs.Operations.{Operation}
+use Rattle.std.proofs.Common.{◌≡◌, map, sym, ap, ◌∙◌, subst}
 use Rattle.rq_algebra.specs.Symbols.{AreSymbols}
-use Rattle.rq_bytes.specs.Slab.{Slab, slab_of, symbol_in}
+use Rattle.rq_bytes.specs.Slab.{Slab, symbol_in}
 use Rattle.rq_bytes.specs.SymbolOps.{operation_of}
 use Rattle.rq_solver.specs.Replay.{after_all}
 use Rattle.rq_standard.specs.Equations.{IsIntermediateColumn}
 use Rattle.rq_standard.specs.OctetField.{octets}
-use Rattle.raptorq.specs.Planned.{source_values, planned}
+use Rattle.raptorq.specs.Planned.{planned}
 use Rattle.raptorq.proofs.Intermediates.{source_are_symbols}
 use Rattle.raptorq.proofs.encoder.plan.SourceBlockEncodingPlan.apply.Goals as goal
 

@@ -1,7 +1,7 @@
-use Rattle.std.proofs.Common.{◌≡◌, None, Some, length, map, replicate, refl, sym, ap, ◌∙◌, subst, arith, inr}
+use Rattle.std.proofs.Common.{◌≡◌, length, map, refl, sym, ap, ◌∙◌, subst, arith, inr}
 use Rattle.std.proofs.lemmas.List.{length-replicate}
 use Rattle.rq_algebra.specs.Elimination.{FindsColumn}
-use Rattle.rq_bytes.specs.Slab.{Slab, slab_of}
+use Rattle.rq_bytes.specs.Slab.{Slab}
 use Rattle.rq_bytes.specs.SymbolOps.{operation_of}
 use Rattle.rq_standard.specs.OctetField.{octets}
 use Rattle.rq_standard.specs.Equations.{equations, equation_count, source_ids, AreDetermining}

@@ -1,4 +1,4 @@
-use Rattle.std.proofs.Common.{◌≡◌, List, None, map, ap, sym, subst}
+use Rattle.std.proofs.Common.{List, None, ap, sym, subst}
 use Rattle.rq_algebra.specs.Operations.{Operation, AreAllowed}
 use Rattle.rq_standard.specs.TableRows.{intermediate_symbols}
 use Rattle.raptorq.specs.Planned.{IsPlanOf}

@@ -1,0 +1,21 @@
+use Rattle.std.proofs.Common.{◌≡◌, List, All, length, map, take, drop, ◌++◌, sym, ap, ◌∙◌, subst}
+use Rattle.std.specs.List.{range_with_len}
+use Rattle.raptorq.specs.Blocks.{held_of}
+use Rattle.raptorq.specs.declared.decoder.object.ObjectBlock.{ObjectBlock}
+use Rattle.raptorq.proofs.ObjectBlocks.{number_of, same_length, same_numbers, same_configurations, written_over}
+use Rattle.raptorq.proofs.decoder.object.Decoder.set_sparse_threshold.Goals as goal
+
+pub invariant_of-self : goal.invariant_of-self
+invariant_of-self c =
+    let s = c.args.self.now in
+    let items = s.blocks.items in
+    let new = c.set_sparse_thresholds.new.blocks in
+    let held : map (λ b. held_of b.decoder) new ≡ map (λ b. held_of b.decoder) items = c.set_sparse_thresholds.ensures.held ∙ ap (map (λ b. held_of b.decoder)) c.as_mut_slice.ensures.value in
+    let is : take s.blocks.len (new ++ drop (length new) items) ≡ new = written_over s.blocks.len new items (same_length s.config items new held ∙ sym s.blocks.ok.0) (sym s.blocks.ok.0) in
+    record {
+      positive = s.positive;
+      aligned = s.aligned;
+      some = s.some;
+      numbered = ap (map number_of) is ∙ same_numbers s.config items new held ∙ s.numbered;
+      same = subst (All (λ b. (held_of b.decoder).configuration ≡ s.config)) (sym is) (same_configurations s.config items new held s.same);
+    }
