@@ -1,7 +1,4 @@
 //! Coders where memory is refused: first all of it, then less and less of it.
-ghost use Rattle.std.specs.Prelude.{IfOk};
-ghost use Rattle.raptorq.specs.OneBlock.{IsOneBlock};
-
 use crate::memory::{Counts, take_memory, take_small};
 use raptorq::error::Error;
 use raptorq::systematic_constants::SystematicTable;
@@ -11,14 +8,8 @@ use std::test::Fail;
 
 const OBJECT: [u8; 10] = [20, 21, 22, 23, 24, 25, 26, 27, 28, 29];
 
-fn one_block() -> Result<ObjectTransmissionInformation, Error>
-    ensures { IfOk result IsOneBlock }
-{
-    let config = ObjectTransmissionInformation::new(10, 1, 1, 1, 1)?;
-    if !raptorq::is_one_block(&config) {
-        return Err(Error::TooManyBlocks);
-    }
-    Ok(config)
+fn one_block() -> Result<ObjectTransmissionInformation, Error> {
+    ObjectTransmissionInformation::new(10, 1, 1, 1, 1)
 }
 
 // What the coders answer where there is memory.

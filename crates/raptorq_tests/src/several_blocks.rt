@@ -150,3 +150,25 @@ fn clones(rt: HostRuntime) -> Result<(), Fail> {
     assert_eq!(rt; object.as_slice(), [7, 8, 1].as_slice());
     Ok(())
 }
+
+// A threshold that is set between packets changes no answer.
+#[test]
+fn sparse_thresholds(rt: HostRuntime) -> Result<(), Fail> {
+    let alloc = rt.alloc();
+    let table = SystematicTable::built_in(alloc)?;
+    let information = ObjectTransmissionInformation::new(20, 1, 2, 1, 1)?;
+    let object: [u8; 20] = [3, 1, 4, 1, 5, 9, 2, 6, 5, 3, 5, 8, 9, 7, 9, 3, 2, 3, 8, 4];
+    let packets = Encoder::new(alloc, &table, &object, information)?.get_encoded_packets(5)?;
+    let mut decoder = Decoder::new(alloc, &table, information)?;
+    let mut other = Decoder::new(alloc, &table, information)?;
+    let mut last = None;
+    for (place, packet) in packets.into_iter().enumerate() {
+        other.set_sparse_threshold([0, 10, u32::MAX][place % 3]);
+        if place % 5 != 0 {
+            last = decoder.decode(packet.clone()?)?;
+            assert!(rt; other.decode(packet)? == last, "{place}");
+        }
+    }
+    assert_eq!(rt; last.ok_or("no answer")?.as_slice(), object.as_slice());
+    Ok(())
+}
