@@ -3,7 +3,7 @@
 
 // Transfer length, symbol size, source blocks, sub-blocks and alignment, and FNV-1a of the
 // packets of the blocks that have symbols, half as many and four for repair among them.
-pub const OBJECTS: [((u64, u16, u8, u16, u8), u32); 60] = [
+pub const OBJECTS: [((u32, u16, u8, u16, u8), u32); 60] = [
     ((901, 8, 7, 4, 1), 0xea224083),
     ((55, 30, 2, 3, 2), 0x41fbe203),
     ((297, 4, 5, 2, 4), 0xf0303b6c),

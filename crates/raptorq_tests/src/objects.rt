@@ -7,7 +7,7 @@ use std::alloc::Global;
 use std::test::Fail;
 
 // Transfer length, symbol size, source blocks, sub-blocks and alignment.
-type Config = (u64, u16, u8, u16, u8);
+type Config = (u32, u16, u8, u16, u8);
 
 // The next number of a sequence, whose upper byte counts.
 fn next(x: u64) -> u64 {
@@ -15,9 +15,9 @@ fn next(x: u64) -> u64 {
         .wrapping_add(1442695040888963407)
 }
 
-fn object(alloc: Global, length: u64) -> Result<Vec<u8>, Error> {
+fn object(alloc: Global, length: u32) -> Result<Vec<u8>, Error> {
     let mut object = Vec::new(alloc);
-    let mut x = length;
+    let mut x = u64::from(length);
     for _ in 0..length {
         x = next(x);
         object.push((x >> 56) as u8)?;
@@ -27,7 +27,7 @@ fn object(alloc: Global, length: u64) -> Result<Vec<u8>, Error> {
 
 fn information(config: Config) -> Result<ObjectTransmissionInformation, Error> {
     let (length, size, blocks, sub_blocks, alignment) = config;
-    ObjectTransmissionInformation::new(length, size, blocks, sub_blocks, alignment)
+    ObjectTransmissionInformation::new(u64::from(length), size, blocks, sub_blocks, alignment)
 }
 
 // The packets of the blocks that have symbols: the crate makes no others.
@@ -37,12 +37,12 @@ fn packets(
     config: Config,
 ) -> Result<Vec<EncodingPacket>, Error> {
     let (length, size, blocks, _, _) = config;
-    let symbols = length.div_ceil(u64::from(size.max(1)));
-    let largest = symbols.div_ceil(u64::from(blocks.max(1)));
+    let symbols = length.div_ceil(u32::from(size.max(1)));
+    let largest = symbols.div_ceil(u32::from(blocks.max(1)));
     let object = object(alloc, length)?;
     let encoder = Encoder::new(alloc, table, object.as_slice(), information(config)?)?;
-    let mut packets = encoder.get_encoded_packets((largest / 2 + 4) as u32)?;
-    packets.retain(|packet| u64::from(packet.payload_id().source_block_number()) < symbols);
+    let mut packets = encoder.get_encoded_packets(largest / 2 + 4)?;
+    packets.retain(|packet| u32::from(packet.payload_id().source_block_number()) < symbols);
     Ok(packets)
 }
 
