@@ -1,14 +1,13 @@
 -- What a decoder that stands for a list of packets answers.
-use Rattle.std.proofs.Common.{◌≡◌, ℕ, zero, suc, ◌<◌, ◌≤◌, Bool, true, false, List, [], ◌++◌, length, take, Option, Some, None, refl, sym, ap, ◌∙◌, subst, arith, inl, inr}
+use Rattle.std.proofs.Common.{◌≡◌, ℕ, zero, suc, ◌<◌, Bool, false, List, take, Option, Some, None, refl, sym, ap, ◌∙◌, subst, arith, inl, inr}
 use Rattle.std.specs.Prelude.{option_map, IsSome, IfSome}
 use Rattle.std.proofs.lemmas.Bool.{cases_lt}
 use Rattle.rq_standard.specs.declared.row.Row.{Row}
 use Rattle.rq_standard.specs.Packet.{Packet}
-use Rattle.rq_standard.specs.Configuration.{Configuration}
 use Rattle.rq_standard.specs.Cutting.{block_symbols, block_bytes}
 use Rattle.rq_standard.specs.Received.{has_id}
 use Rattle.rq_standard.specs.Determined.{DetermineBlock}
-use Rattle.rq_standard.specs.Encoded.{block_row, IsAnswerable}
+use Rattle.rq_standard.specs.Encoded.{block_row}
 use Rattle.rq_standard.specs.Held.{Held}
 use Rattle.rq_standard.specs.Standing.{State, IsHeldOf, BlockStands, StandsBut, append_both, joined, result_of, IsObjectAnswer, AnswersObject}
 use Rattle.rq_standard.proofs.BlockCuts.{pieces, whole_object}

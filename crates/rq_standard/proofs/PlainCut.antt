@@ -4,7 +4,7 @@ use Rattle.std.specs.List.{range_with_len}
 use borrow.Author.Count.{below_more}
 use Rattle.std.proofs.Math.Nat.{mul-le-mul_right, div-eq_of_lt}
 use Rattle.std.proofs.lemmas.Bool.{le-ltb}
-use Rattle.std.proofs.lemmas.List.{take-append-drop, drop-drop, length-take-le, nil_from_length, drop-append-le, take-append-le, drop_at, take_all, get_or-take, get_or-drop, ext_get_or}
+use Rattle.std.proofs.lemmas.List.{length-take-le, drop-append-le, take-append-le, drop_at, take_all, get_or-take, get_or-drop, ext_get_or}
 use Rattle.std.proofs.lemmas.List.FromFn.{length-map-range_with_len, get_or-map-range_with_len}
 use Rattle.rq_standard.specs.Configuration.{Configuration}
 use Rattle.rq_standard.specs.Cutting.{block_symbols, sub_block_count, sub_block_parts, larger_bytes, sub_block_size, sub_block_start, place_in_block, block_bytes, symbol_of_block, plain_symbol, HasOneSubBlock}
@@ -43,24 +43,6 @@ pub plain_symbols-push : (f : ℕ → Option (List ℕ)) (size e : ℕ) (xs ys :
 plain_symbols-push f size e xs ys h l each last = below_more (λ k. f k ≡ Some (plain_symbol size (xs ++ ys) k)) e
     (λ k below. each k below ∙ ap (λ s. Some s) (sym (plain_symbol-append size k xs ys (let b : k + 1 ≤ e = omega arith in omega (arith, mul-le-mul_right size b)))))
     (last ∙ ap (λ s. Some s) (sym (plain_symbol-last size e xs ys h l)))
-
--- the symbol one further is that of the rest
-plain_symbol-drop : (size : ℕ) (xs : List ℕ) (e : ℕ) → plain_symbol size (drop size xs) e ≡ plain_symbol size xs (e + 1)
-unfolding plain_symbol
-plain_symbol-drop size xs e = ap (take size) (drop-drop (e * size) size xs ∙ ap (λ n. drop n xs) (omega arith))
-
-plain_symbol-zero : (size : ℕ) (xs : List ℕ) → plain_symbol size xs 0 ≡ take size xs
-unfolding plain_symbol
-plain_symbol-zero size xs = let e : 0 * size ≡ 0 = omega arith in ap (λ n. take size (drop n xs)) e
-
--- two blocks with the same symbols are one
-pub same_plain_symbols : (size k : ℕ) (xs ys : List ℕ) → length xs ≡ k * size → length ys ≡ k * size → ((e : ℕ) → e < k → plain_symbol size xs e ≡ plain_symbol size ys e) → xs ≡ ys
-same_plain_symbols size zero xs ys l m each = nil_from_length xs (omega arith) ∙ sym (nil_from_length ys (omega arith))
-same_plain_symbols size (suc k) xs ys l m each =
-    let first : take size xs ≡ take size ys = sym (plain_symbol-zero size xs) ∙ each 0 (omega arith) ∙ plain_symbol-zero size ys in
-    let rest : drop size xs ≡ drop size ys = same_plain_symbols size k (drop size xs) (drop size ys) (omega (arith, length-drop size xs)) (omega (arith, length-drop size ys))
-    (λ e h. plain_symbol-drop size xs e ∙ each (e + 1) (omega arith) ∙ sym (plain_symbol-drop size ys e)) in
-    sym (take-append-drop size xs) ∙ ap (λ a. a ++ drop size xs) first ∙ ap (λ b. take size ys ++ b) rest ∙ take-append-drop size ys
 
 one_sub_block : (n : ℕ) → n ≤ 1 → sub_block_count n ≡ 1
 unfolding sub_block_count
@@ -110,11 +92,6 @@ symbol_of_block-plain c k block e h l below =
 pub length-block_bytes : (c : Configuration) (object : List ℕ) (b : ℕ) → length (block_bytes c object b) ≡ block_symbols c b * c.symbol_size
 unfolding block_bytes
 length-block_bytes c object b = length-map-range_with_len _ 0 (block_symbols c b * c.symbol_size)
-
--- two blocks with the same symbols are one
-pub same_symbols : (c : Configuration) (k : ℕ) (xs ys : List ℕ) → HasOneSubBlock c → length xs ≡ k * c.symbol_size → length ys ≡ k * c.symbol_size → ((e : ℕ) → e < k → symbol_of_block c k xs e ≡ symbol_of_block c k ys e) → xs ≡ ys
-same_symbols c k xs ys h l m each = same_plain_symbols c.symbol_size k xs ys l m
-    (λ e below. sym (symbol_of_block-plain c k xs e h l below) ∙ each e below ∙ symbol_of_block-plain c k ys e h m below)
 
 -- one symbol more, and how long the block is then
 pub plain_block-push : (f : ℕ → Option (List ℕ)) (size e : ℕ) (xs ys zs : List ℕ) → zs ≡ xs ++ ys → f e ≡ Some ys → length ys ≡ size → length xs ≡ e * size → ((k : ℕ) → k < e → f k ≡ Some (plain_symbol size xs k))

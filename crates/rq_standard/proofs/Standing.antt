@@ -1,6 +1,6 @@
 -- A decoder that stands for a list of packets stands, after one packet more, for the longer list.
 use Rattle.std.proofs.Common.{◌≡◌, ◌≢◌, ℕ, ◌<◌, ◌≤◌, cond, eqb, Bool, true, false, List, [], ◌∷◌, ◌++◌, ◌*◌, length, get_or, Option, Some, None, refl, sym, ap, ◌∙◌, subst, arith, inl, inr}
-use Rattle.std.specs.Prelude.{is_some, IfSome, ◌⊎◌}
+use Rattle.std.specs.Prelude.{is_some, IfSome}
 use Rattle.std.specs.List.{AllByRecursion}
 use Rattle.std.proofs.lemmas.Bool.{cases_eq, cases_lt, eq-eqb, ne_eqb}
 use Rattle.std.proofs.lemmas.List.{get_or_past, length-replicate, nil_from_length}
@@ -15,7 +15,7 @@ use Rattle.rq_standard.specs.Received.{or_later, first_payload, has_id}
 use Rattle.rq_standard.specs.Determined.{DetermineBlock}
 use Rattle.rq_standard.specs.Encoded.{block_row, block_source, IsPacketOf, HasNonsingularRows}
 use Rattle.rq_standard.specs.Held.{Held, recorded, CanAnswer, IsBlockAnswer}
-use Rattle.rq_standard.specs.Standing.{State, IsHeldOf, new_held, new_answer, IsNewState, AddsOpen, AddsToBlock, IsSameElsewhere, Adds, StopsBlock, Stops, BlockStands, StandsBut, Stands, with_late, StandsForMore, CatchesUp, FallsBehind}
+use Rattle.rq_standard.specs.Standing.{State, IsHeldOf, new_held, new_answer, IsNewState, AddsToBlock, IsSameElsewhere, Adds, Stops, BlockStands, StandsBut, Stands, with_late, StandsForMore, CatchesUp, FallsBehind}
 use Rattle.rq_standard.proofs.Known.{block_more, block_same, block_of_source, none_determined}
 use Rattle.rq_standard.proofs.Columns.{source_sum, solves_held}
 use Rattle.rq_standard.proofs.Firsts.{first_payload-here, first_payload-elsewhere, first_payload-packet, has_id-push}

@@ -60,13 +60,14 @@ small_alignment true = omega arith
 small_alignment false = omega arith
 
 -- there are few sub-blocks
+either_below : (b : Bool) (x y n : ℕ) → x ≤ n → y ≤ n → cond b x y ≤ n
+either_below true x y n h k = h
+either_below false x y n h k = k
+
 first_from-end : (test : ℕ → Bool) (start more : ℕ) → first_from test start more ≤ start + more
 unfolding first_from
 first_from-end test start zero = omega arith
-first_from-end test start (suc more) = by_test (test start) where
-  by_test : (b : Bool) → cond b start (first_from test (start + 1) more) ≤ start + suc more
-  by_test true = omega arith
-  by_test false = omega (arith, first_from-end test (start + 1) more)
+first_from-end test start (suc more) = either_below (test start) start (first_from test (start + 1) more) (start + suc more) (omega arith) (omega (arith, first_from-end test (start + 1) more))
 
 most_few : (large : Bool) (s : ℕ) → (large ≡ false → s < 64) → s < 2 ^ 16 → (s - s % cond large 8 1) / (cond large 8 1 * cond large 8 1) + 1 < 2 ^ 16
 most_few true s h small = omega arith

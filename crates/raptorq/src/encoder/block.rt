@@ -42,7 +42,6 @@ impl SourceBlockEncoder {
     ghost use Rattle.raptorq.specs.BlockData.{block_of, IsPlanFor, RefusesBlock, RefusesPlanned};
     ghost use Rattle.raptorq.specs.PlanCache.{used};
     ghost use Rattle.raptorq.specs.Plans.{plan_of};
-    ghost use Rattle.rq_standard.specs.Equations.{IsSingular};
 
     /// The encoder of the source block of these bytes, in as many symbols as they are. Its plan is
     /// the one in the cache, or a new one, which is then put in.
@@ -56,22 +55,28 @@ impl SourceBlockEncoder {
         alloc: Global,
         source_block_number: u8,
         config: &ObjectTransmissionInformation,
-        data: &[u8],
+        block: &[u8],
         cache: &mut SourceBlockEncodingPlanCache,
     ) -> Result<SourceBlockEncoder, Error>
-        ensures refused { IfErr result (RefusesBlock cache.old.table config.now (length data.now)) }
-        ensures taken { OnOk result (wanted_count (greatest_size cache.old.table) config.now (length data.now) ≡ Ok (length data.now / config.now.symbol_size)) }
-        ensures encoded { IfOk result (λ b. block_encoded_of b ≡ block_of cache.old.table config.now source_block_number data.now) }
+        ensures refused { IfErr result (RefusesBlock cache.old.table config.now (length block.now)) }
+        ensures taken { OnOk result (wanted_count (greatest_size cache.old.table) config.now (length block.now) ≡ Ok (length block.now / config.now.symbol_size)) }
+        ensures encoded { IfOk result (λ b. block_encoded_of b ≡ block_of cache.old.table config.now source_block_number block.now) }
         ensures nonsingular { IfOk result (λ b. IsNonsingular (block_encoded_of b).row) }
-        ensures used { OnOk result (cache.new ≡ used cache.old (length data.now / config.now.symbol_size)) }
+        ensures used { OnOk result (cache.new ≡ used cache.old (length block.now / config.now.symbol_size)) }
         ensures unchanged { OnErr result (cache.new ≡ cache.old) }
     {
-        let count = source_symbol_count(config, data, cache.table())?;
+        let count = source_symbol_count(config, block, cache.table())?;
         if let Some(plan) = cache.get(count) {
-            return SourceBlockEncoder::of_data(alloc, source_block_number, config, data, plan);
+            return SourceBlockEncoder::of_block(alloc, source_block_number, config, block, plan);
         }
         let plan = SourceBlockEncodingPlan::generate(alloc, cache.table(), count)?;
-        let encoder = SourceBlockEncoder::of_data(alloc, source_block_number, config, data, &plan)?;
+        let encoder = SourceBlockEncoder::of_block(
+            alloc,
+            source_block_number,
+            config,
+            block,
+            &plan,
+        )?;
         cache.put(plan);
         Ok(encoder)
     }
@@ -84,38 +89,38 @@ impl SourceBlockEncoder {
         alloc: Global,
         source_block_number: u8,
         config: &ObjectTransmissionInformation,
-        data: &[u8],
+        block: &[u8],
         table: &SystematicTable,
         plan: &SourceBlockEncodingPlan,
     ) -> Result<SourceBlockEncoder, Error>
-        ensures refused { IfErr result (RefusesPlanned table.now config.now (length data.now) (plan_of plan.now)) }
-        ensures taken { OnOk result (wanted_count (greatest_size table.now) config.now (length data.now) ≡ Ok (length data.now / config.now.symbol_size)) }
-        ensures fits { OnOk result (IsPlanFor table.now (length data.now / config.now.symbol_size) (plan_of plan.now)) }
-        ensures encoded { IfOk result (λ b. block_encoded_of b ≡ block_of table.now config.now source_block_number data.now) }
+        ensures refused { IfErr result (RefusesPlanned table.now config.now (length block.now) (plan_of plan.now)) }
+        ensures taken { OnOk result (wanted_count (greatest_size table.now) config.now (length block.now) ≡ Ok (length block.now / config.now.symbol_size)) }
+        ensures fits { OnOk result (IsPlanFor table.now (length block.now / config.now.symbol_size) (plan_of plan.now)) }
+        ensures encoded { IfOk result (λ b. block_encoded_of b ≡ block_of table.now config.now source_block_number block.now) }
     {
-        let count = source_symbol_count(config, data, table)?;
+        let count = source_symbol_count(config, block, table)?;
         if plan.source_symbol_count() != count || plan.row() != table.row(u32::from(count)) {
             return Err(Error::PlanMismatch);
         }
-        SourceBlockEncoder::of_data(alloc, source_block_number, config, data, plan)
+        SourceBlockEncoder::of_block(alloc, source_block_number, config, block, plan)
     }
 
     // The encoder of whole symbols, by a plan for as many.
-    fn of_data(
+    fn of_block(
         alloc: Global,
         number: u8,
         config: &ObjectTransmissionInformation,
-        data: &[u8],
+        block: &[u8],
         plan: &SourceBlockEncodingPlan,
     ) -> Result<SourceBlockEncoder, Error>
         requires positive { 0 < config.now.symbol_size }
         requires alignment { 0 < config.now.alignment }
         requires aligned { config.now.symbol_size % config.now.alignment ≡ 0 }
-        ensures encoded { let count = (plan_of plan.now).count in IfOk result (λ b. block_encoded_of b ≡ record { number = number; row = (plan_of plan.now).row; size = config.now.symbol_size; source = map (symbol_of_block config.now count data.now) (range_with_len 0 count) }) }
+        ensures encoded { let count = (plan_of plan.now).count in IfOk result (λ b. block_encoded_of b ≡ record { number = number; row = (plan_of plan.now).row; size = config.now.symbol_size; source = map (symbol_of_block config.now count block.now) (range_with_len 0 count) }) }
         ensures memory { IfErr result (λ e. e ≡ Error.OutOfMemory) }
     {
         let count = u32::from(plan.source_symbol_count());
-        let source = source_symbols(alloc, config, data, count)?;
+        let source = source_symbols(alloc, config, block, count)?;
         let size = usize::from(config.symbol_size());
         SourceBlockEncoder::planned(alloc, number, size, source, plan)
     }
@@ -149,30 +154,6 @@ impl SourceBlockEncoder {
             return Err(Error::EsiTooLarge);
         }
         self.packets(start as u32, end as u32)
-    }
-
-    /// The encoder of a block with these source symbols, over a row of the table. It solves the
-    /// block's equations.
-    ///
-    /// Refuses [`Error::Singular`] where they don't decide the intermediate symbols.
-    pub(crate) fn solved(
-        alloc: Global,
-        number: u8,
-        row: Row,
-        size: usize,
-        source: Vec<Symbol>,
-    ) -> Result<SourceBlockEncoder, Error>
-        requires checked { IsChecked row }
-        requires positive { 0 < size }
-        requires small { size < 65536 }
-        requires few { length source.items ≤ row.source_symbols }
-        requires sized { All (λ symbol. length symbol ≡ size) source.items }
-        ensures encoded { IfOk result (λ b. block_encoded_of b ≡ record { number = number; row = row; size = size; source = source.items }) }
-        ensures nonsingular { OnOk result (IsNonsingular row) }
-        ensures refused { IfErr result (λ e. (e ≡ Error.OutOfMemory) ⊎ ((e ≡ Error.Singular) × IsSingular row)) }
-    {
-        let plan = SourceBlockEncodingPlan::of_row(alloc, source.len() as u16, row)?;
-        SourceBlockEncoder::planned(alloc, number, size, source, &plan)
     }
 
     /// The encoder of a block with these source symbols, by a plan of its row.
@@ -239,14 +220,14 @@ impl SourceBlockEncoder {
 // How many source symbols bytes are, where a table has a row for them.
 fn source_symbol_count(
     config: &ObjectTransmissionInformation,
-    data: &[u8],
+    block: &[u8],
     table: &SystematicTable,
 ) -> Result<u16, Error>
-    ensures wanted { result ≡ wanted_count (greatest_size table.now) config.now (length data.now) }
+    ensures wanted { result ≡ wanted_count (greatest_size table.now) config.now (length block.now) }
     ensures positive { OnOk result (0 < config.now.symbol_size) }
     ensures alignment { OnOk result (0 < config.now.alignment) }
     ensures aligned { OnOk result (config.now.symbol_size % config.now.alignment ≡ 0) }
-    ensures count { IfOk result (λ count. count ≡ length data.now / config.now.symbol_size) }
+    ensures count { IfOk result (λ count. count ≡ length block.now / config.now.symbol_size) }
     ensures few { IfOk result (λ count. count ≤ greatest_size table.now) }
 {
     if config.symbol_size() == 0 {
@@ -259,10 +240,10 @@ fn source_symbol_count(
         return Err(Error::Misaligned);
     }
     let size = usize::from(config.symbol_size());
-    if data.len() % size != 0 {
+    if block.len() % size != 0 {
         return Err(Error::WrongDataLength);
     }
-    let count = data.len() / size;
+    let count = block.len() / size;
     if count > table.greatest() as usize {
         return Err(Error::BlockOverTable);
     }

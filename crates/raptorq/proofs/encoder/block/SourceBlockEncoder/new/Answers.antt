@@ -10,7 +10,7 @@ pub returns-in_err-plan-clause-refused : goal.returns-in_err-plan-clause-refused
 returns-in_err-plan-clause-refused c =
     let table = c.args.cache.now.table in
     let config = c.args.config.now in
-    let bytes = length c.args.data.now in
+    let bytes = length c.args.block.now in
     let is : Ok c.in_ok-count.count ≡ wanted_count (greatest_size table) config bytes = c.in_ok-count.ensures.wanted ∙ ap (λ t. wanted_count (greatest_size t) config bytes) c.table.ensures in
     let within : c.in_ok-count.count ≤ greatest_size table = subst (λ t. c.in_ok-count.count ≤ greatest_size t) c.table.ensures c.in_ok-count.ensures.few in
     let refused = subst (λ t. RefusesPlan t c.in_ok-count.count c.in_err-plan.field-0.0) c.table-2.ensures c.in_err-plan.ensures.refused in
