@@ -85,7 +85,10 @@ fn received(
     let mut left = packets;
     let mut received = Vec::new(alloc);
     let mut x = seed;
-    while !left.is_empty() {
+    for _ in 0..left.len() {
+        if left.is_empty() {
+            break;
+        }
         x = next(x);
         let packet = left.swap_remove((x >> 33) as usize % left.len());
         if x >> 56 >= 240 {
