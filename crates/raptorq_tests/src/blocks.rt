@@ -12,7 +12,6 @@ fn packets_of_zeros(rt: HostRuntime) -> Result<(), Fail> {
     let alloc = rt.alloc();
     let table = SystematicTable::built_in(alloc)?;
     let config = ObjectTransmissionInformation::new(6, 2, 1, 1, 1)?;
-    assert!(rt; raptorq::is_one_block(&config));
     let encoder = Encoder::new(alloc, &table, &[0; 6], config)?;
     let packets = encoder.get_encoded_packets(3)?;
     assert_eq!(rt; packets.len(), 6);
@@ -29,9 +28,6 @@ fn packets_of_zeros(rt: HostRuntime) -> Result<(), Fail> {
 
 fn encodes(alloc: Global, table: &SystematicTable, symbols: u32) -> Result<(), Error> {
     let config = ObjectTransmissionInformation::new(u64::from(symbols), 1, 1, 1, 1)?;
-    if !raptorq::is_one_block(&config) {
-        return Err(Error::TooManyBlocks);
-    }
     let object = vec![in alloc; 1u8; symbols as usize]?;
     let _encoder = Encoder::new(alloc, table, object.as_slice(), config)?;
     Ok(())

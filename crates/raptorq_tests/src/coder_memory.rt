@@ -1,7 +1,4 @@
 //! Coders where memory is refused: first all of it, then less and less of it.
-ghost use Rattle.std.specs.Prelude.{IfOk};
-ghost use Rattle.raptorq.specs.OneBlock.{IsOneBlock};
-
 use crate::memory::{Counts, take_memory, take_small};
 use raptorq::error::Error;
 use raptorq::systematic_constants::SystematicTable;
@@ -11,14 +8,8 @@ use std::test::Fail;
 
 const OBJECT: [u8; 10] = [20, 21, 22, 23, 24, 25, 26, 27, 28, 29];
 
-fn one_block() -> Result<ObjectTransmissionInformation, Error>
-    ensures { IfOk result IsOneBlock }
-{
-    let config = ObjectTransmissionInformation::new(10, 1, 1, 1, 1)?;
-    if !raptorq::is_one_block(&config) {
-        return Err(Error::TooManyBlocks);
-    }
-    Ok(config)
+fn one_block() -> Result<ObjectTransmissionInformation, Error> {
+    ObjectTransmissionInformation::new(10, 1, 1, 1, 1)
 }
 
 // What the coders answer where there is memory.
@@ -81,6 +72,17 @@ fn decodes(alloc: Global, table: &SystematicTable, wanted: &Wanted) -> Option<bo
 
 const RESERVE: usize = 65536;
 
+const ROUNDS: usize = 512;
+
+// Blocks of memory to let go, one after another.
+fn reserves(alloc: Global) -> Result<Vec<Vec<u8>>, Error> {
+    let mut reserves: Vec<Vec<u8>> = Vec::with_capacity(alloc, ROUNDS)?;
+    for _ in 0..ROUNDS {
+        reserves.push(Vec::with_capacity(alloc, RESERVE)?)?;
+    }
+    Ok(reserves)
+}
+
 // One decoder keeps what it took: it gets its last packet again each time.
 #[test]
 fn coders_are_refused_memory_in_turn(rt: HostRuntime) -> Result<(), Fail> {
@@ -90,19 +92,12 @@ fn coders_are_refused_memory_in_turn(rt: HostRuntime) -> Result<(), Fail> {
     assert_eq!(rt; wanted.packets.len(), 12);
     let mut kept = Decoder::new(alloc, &table, one_block()?)?;
     assert!(rt; take(&mut kept, &wanted.packets[2..11])?.is_none());
-    let mut reserves: Vec<Vec<u8>> = Vec::with_capacity(alloc, 512)?;
-    for _ in 0..512 {
-        reserves.push(Vec::with_capacity(alloc, RESERVE)?)?;
-    }
+    let mut reserves = reserves(alloc)?;
     let mut blocks: Vec<Vec<u8>> = Vec::with_capacity(alloc, 1 << 20)?;
     take_memory(alloc, &mut blocks);
-    let mut counts = Counts {
-        refused: 0,
-        written: 0,
-        others: 0,
-    };
+    let mut counts = Counts::new();
     let mut budget: usize = 128;
-    for _ in 0..512 {
+    for _ in 0..ROUNDS {
         let reserve = reserves.pop();
         drop(reserve);
         let filler: Result<Vec<u8>, _> = Vec::with_capacity(alloc, RESERVE.saturating_sub(budget));
@@ -119,11 +114,43 @@ fn coders_are_refused_memory_in_turn(rt: HostRuntime) -> Result<(), Fail> {
     let full = blocks.capacity() == blocks.len();
     drop(blocks);
     assert!(rt; !full);
-    assert_eq!(rt; counts.others, 0);
-    assert!(rt; counts.refused > 0, "no coder was refused memory");
-    assert!(rt; counts.written > 0, "no coder came to its end");
+    assert!(rt; counts.are_both(), "not both endings, or another one");
     assert!(rt; encodes(alloc, &table, &wanted) == Some(false));
     assert!(rt; decodes(alloc, &table, &wanted) == Some(false));
     assert!(rt; is_refused(take(&mut kept, &wanted.packets[11..])) == Some(false));
+    Ok(())
+}
+
+// The answer of a decoder to a packet while all memory is taken. None where it may not have been.
+fn answer_without_memory(
+    alloc: Global,
+    decoder: &mut Decoder,
+    packet: EncodingPacket,
+) -> Result<Option<Result<(), Error>>, Error> {
+    let mut blocks: Vec<Vec<u8>> = Vec::with_capacity(alloc, 1 << 20)?;
+    take_memory(alloc, &mut blocks);
+    let answer = decoder.add_new_packet(packet);
+    let full = blocks.capacity() == blocks.len();
+    Ok(if full { None } else { Some(answer) })
+}
+
+// The packet that made its block determined is recorded, though the block couldn't be solved: a
+// repeat of an older one answers it.
+#[test]
+fn a_packet_stays_recorded(rt: HostRuntime) -> Result<(), Fail> {
+    let alloc = rt.alloc();
+    let table = SystematicTable::built_in(alloc)?;
+    let wanted = ample_answers(alloc, &table)?;
+    assert_eq!(rt; wanted.packets.len(), 12);
+    let source = (&wanted.packets[..9], &wanted.packets[9]);
+    let repair = (&wanted.packets[2..11], &wanted.packets[11]);
+    for (taken, last) in [source, repair] {
+        let mut decoder = Decoder::new(alloc, &table, one_block()?)?;
+        assert!(rt; take(&mut decoder, taken)?.is_none());
+        let answer = answer_without_memory(alloc, &mut decoder, last.clone()?)?;
+        assert!(rt; answer == Some(Err(Error::OutOfMemory)));
+        assert!(rt; decoder.get_result()?.is_none());
+        assert!(rt; is_refused(take(&mut decoder, taken)) == Some(false));
+    }
     Ok(())
 }

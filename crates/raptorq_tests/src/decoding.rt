@@ -18,7 +18,6 @@ fn a_decoder_of_ten_symbols(rt: HostRuntime) -> Result<(), Fail> {
     let alloc = rt.alloc();
     let table = SystematicTable::built_in(alloc)?;
     let information = ObjectTransmissionInformation::new(10, 1, 1, 1, 1)?;
-    assert!(rt; raptorq::is_one_block(&information));
     let mut decoder = Decoder::new(alloc, &table, information)?;
     for esi in 0..9u8 {
         let answer = decoder.decode(packet(alloc, 0, u32::from(esi), &[esi + 20])?)?;
@@ -46,7 +45,6 @@ fn an_object_there_and_back(rt: HostRuntime) -> Result<(), Fail> {
     let alloc = rt.alloc();
     let table = SystematicTable::built_in(alloc)?;
     let information = ObjectTransmissionInformation::new(3, 2, 1, 1, 1)?;
-    assert!(rt; raptorq::is_one_block(&information));
     let encoder = Encoder::new(alloc, &table, &[7, 8, 9], information)?;
     assert!(rt; encoder.get_config() == information);
     let packets = encoder.get_encoded_packets(0)?;
@@ -65,7 +63,6 @@ fn a_block_in_two_calls(rt: HostRuntime) -> Result<(), Fail> {
     let alloc = rt.alloc();
     let table = SystematicTable::built_in(alloc)?;
     let information = ObjectTransmissionInformation::new(4, 2, 1, 1, 1)?;
-    assert!(rt; raptorq::is_one_block(&information));
     let mut decoder = SourceBlockDecoder::new(alloc, &table, 0, &information, 4)?;
     let first = packet(alloc, 0, 0, &[7, 8])?;
     let other = packet(alloc, 1, 0, &[0, 0])?;

@@ -186,9 +186,6 @@ fn determine(fixed: &[Equation; 27], start: u32) -> bool {
 // Whether ten packets of zeros are answered, from `start` on.
 fn are_answered(alloc: Global, table: &SystematicTable, start: u32) -> Result<bool, Error> {
     let config = ObjectTransmissionInformation::new(10, 1, 1, 1, 1)?;
-    if !raptorq::is_one_block(&config) {
-        return Err(Error::TooManyBlocks);
-    }
     let mut decoder = Decoder::new(alloc, table, config)?;
     for i in 0..10 {
         let id = PayloadId::new(0, start.saturating_add(i))?;

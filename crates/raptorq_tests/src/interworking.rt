@@ -33,9 +33,6 @@ fn packets(
     repair: u32,
 ) -> Result<Vec<EncodingPacket>, Error> {
     let config = config(symbols)?;
-    if !raptorq::is_one_block(&config) {
-        return Err(Error::TooManyBlocks);
-    }
     let object = object(alloc, symbols)?;
     Encoder::new(alloc, table, object.as_slice(), config)?.get_encoded_packets(repair)
 }
@@ -120,9 +117,6 @@ fn answered(
     packets: Vec<EncodingPacket>,
 ) -> Result<Option<u32>, Error> {
     let config = config(symbols)?;
-    if !raptorq::is_one_block(&config) {
-        return Err(Error::TooManyBlocks);
-    }
     let wanted = object(alloc, symbols)?;
     let mut decoder = Decoder::new(alloc, table, config)?;
     let mut count: u32 = 0;

@@ -6,6 +6,8 @@ mod blocks;
 #[cfg(test)]
 mod coder_memory;
 #[cfg(test)]
+mod cutting;
+#[cfg(test)]
 mod decoding;
 #[cfg(test)]
 mod determined;
@@ -14,11 +16,17 @@ mod interworking;
 #[cfg(test)]
 mod memory;
 #[cfg(test)]
+mod object_vectors;
+#[cfg(test)]
+mod objects;
+#[cfg(test)]
 mod packets;
 #[cfg(test)]
 mod plans;
 #[cfg(test)]
 mod records;
+#[cfg(test)]
+mod several_blocks;
 #[cfg(test)]
 mod sub_blocks;
 #[cfg(test)]

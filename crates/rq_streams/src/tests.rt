@@ -134,9 +134,8 @@ fn receives(rt: HostRuntime) -> Result<(), Fail> {
     let shuffled: [u8; 30] = [
         0, 0, 0, 0, 3, 0, 0, 2, 1, 0, 1, 1, 0, 0, 0, 1, 9, 0, 0, 0, 0, 0, 7, 8, 0, 0, 0, 1, 9, 0,
     ];
-    let two_blocks: [u8; 12] = [0, 0, 0, 0, 3, 0, 0, 2, 2, 0, 1, 1];
     let other_block: [u8; 18] = [0, 0, 0, 0, 3, 0, 0, 2, 1, 0, 1, 1, 1, 0, 0, 0, 7, 8];
-    let cases: [(&[u8], Result<Outcome, Stop>, &[u8]); 9] = [
+    let cases: [(&[u8], Result<Outcome, Stop>, &[u8]); 8] = [
         (&STREAM, Ok(Outcome::Written), &OBJECT),
         (&shuffled, Ok(Outcome::Written), &OBJECT),
         (
@@ -156,8 +155,34 @@ fn receives(rt: HostRuntime) -> Result<(), Fail> {
             &[],
         ),
         (&STREAM[..18], Ok(Outcome::Incomplete), &[]),
-        (&two_blocks, Err(Stop::Refused(Error::BlockOverTable)), &[]),
         (&other_block, Err(Stop::Refused(Error::UnknownBlock)), &[]),
+    ];
+    for (input, wanted, written) in cases {
+        let mut out: Vec<u8> = Vec::new(rt.alloc());
+        let (ended, failed) = run(rt.alloc(), Job::Receive, input, &mut out)?;
+        assert!(rt; ended == wanted, "{input:?}: {ended:?}");
+        assert_eq!(rt; out.as_slice(), written);
+        assert_eq!(rt; failed, 0);
+    }
+    Ok(())
+}
+
+// Objects of two blocks: one in packets, one of no bytes, the longest ones and a longer one.
+#[test]
+fn receives_two_blocks(rt: HostRuntime) -> Result<(), Fail> {
+    let packets: [u8; 30] = [
+        0, 0, 0, 0, 3, 0, 0, 2, 2, 0, 1, 1, 1, 0, 0, 0, 9, 0, 0, 0, 0, 0, 7, 8, 2, 0, 0, 0, 7, 8,
+    ];
+    let empty: [u8; 12] = [0, 0, 0, 0, 0, 0, 0, 2, 2, 0, 1, 1];
+    let longest: [u8; 12] = [0, 0, 0, 3, 226, 0, 0, 1, 2, 0, 1, 1];
+    let longer: [u8; 12] = [0, 0, 0, 3, 227, 0, 0, 1, 2, 0, 1, 1];
+    let cases: [(&[u8], Result<Outcome, Stop>, &[u8]); 6] = [
+        (&packets[..24], Ok(Outcome::Written), &OBJECT),
+        (&packets[..18], Ok(Outcome::Incomplete), &[]),
+        (&packets, Err(Stop::Refused(Error::UnknownBlock)), &[]),
+        (&empty, Ok(Outcome::Written), &[]),
+        (&longest, Ok(Outcome::Incomplete), &[]),
+        (&longer, Err(Stop::Refused(Error::BlockOverTable)), &[]),
     ];
     for (input, wanted, written) in cases {
         let mut out: Vec<u8> = Vec::new(rt.alloc());

@@ -1,0 +1,151 @@
+//! Worked examples of how objects are cut into source blocks, sub-blocks and symbols.
+use raptorq::error::Error;
+use raptorq::systematic_constants::SystematicTable;
+use raptorq::{Encoder, ObjectTransmissionInformation, PayloadId, calculate_block_offsets};
+use std::alloc::Global;
+use std::test::Fail;
+
+// Transfer length, symbol size, source blocks, sub-blocks and alignment.
+type Config = (u64, u16, u8, u16, u8);
+
+fn encoder(alloc: Global, config: Config, object: &[u8]) -> Result<Encoder, Error> {
+    let (length, size, blocks, sub_blocks, alignment) = config;
+    let table = SystematicTable::built_in(alloc)?;
+    let information = ObjectTransmissionInformation::new(
+        length, size, blocks, sub_blocks, alignment,
+    )?;
+    Encoder::new(alloc, &table, object, information)
+}
+
+// The source symbols of objects of the bytes 0, 1, 2 and so on.
+#[test]
+fn source_symbols(rt: HostRuntime) -> Result<(), Fail> {
+    let alloc = rt.alloc();
+    let bytes: [u8; 12] = [0, 1, 2, 3, 4, 5, 6, 7, 8, 9, 10, 11];
+    let cases: [(Config, &[(u8, u32, &[u8])]); 5] = [
+        (
+            (10, 2, 2, 1, 1),
+            &[
+                (0, 0, &[0, 1]),
+                (0, 1, &[2, 3]),
+                (0, 2, &[4, 5]),
+                (1, 0, &[6, 7]),
+                (1, 1, &[8, 9]),
+            ],
+        ),
+        (
+            (12, 6, 1, 2, 2),
+            &[(0, 0, &[0, 1, 2, 3, 8, 9]), (0, 1, &[4, 5, 6, 7, 10, 11])],
+        ),
+        (
+            (12, 6, 1, 0, 2),
+            &[(0, 0, &[0, 1, 2, 3, 4, 5]), (0, 1, &[6, 7, 8, 9, 10, 11])],
+        ),
+        ((4, 2, 1, 3, 1), &[(0, 0, &[0, 2]), (0, 1, &[1, 3])]),
+        ((3, 2, 5, 1, 1), &[(0, 0, &[0, 1]), (1, 0, &[2, 0])]),
+    ];
+    for (config, wanted) in cases {
+        let object = &bytes[..(config.0 as usize).min(12)];
+        let packets = encoder(alloc, config, object)?.get_encoded_packets(0)?;
+        assert_eq!(rt; packets.len(), wanted.len(), "{config:?}");
+        for (packet, (block, esi, payload)) in packets.iter().zip(wanted) {
+            assert!(rt;
+                *packet.payload_id() == PayloadId::new(*block, *esi)?,
+                "{config:?}"
+            );
+            assert_eq!(rt; packet.data(), *payload, "{config:?}");
+        }
+    }
+    Ok(())
+}
+
+// Where the object ends inside its last symbol, that is filled up with zeros.
+#[test]
+fn padding(rt: HostRuntime) -> Result<(), Fail> {
+    let alloc = rt.alloc();
+    let table = SystematicTable::built_in(alloc)?;
+    let information = ObjectTransmissionInformation::with_defaults(&table, 2006, 1024)?;
+    let mut wanted: Vec<u8> = Vec::new(alloc);
+    for i in 0..2006u32 {
+        wanted.push((i % 251) as u8)?;
+    }
+    let encoder = Encoder::new(alloc, &table, wanted.as_slice(), information)?;
+    let mut payloads: Vec<u8> = Vec::new(alloc);
+    for packet in encoder.get_encoded_packets(0)? {
+        payloads.extend_from_slice(packet.data())?;
+    }
+    wanted.resize(2048, 0)?;
+    assert_eq!(rt; payloads, wanted);
+    Ok(())
+}
+
+#[test]
+fn block_encoders(rt: HostRuntime) -> Result<(), Fail> {
+    let alloc = rt.alloc();
+    let object = [7u8; 120];
+    let encoder = encoder(alloc, (120, 10, 10, 0, 2), &object)?;
+    assert_eq!(rt; encoder.get_block_encoders().len(), 10);
+    for (number, block) in encoder.get_block_encoders().iter().enumerate() {
+        let packets = block.source_packets()?;
+        let symbols: usize = if number < 2 { 2 } else { 1 };
+        assert_eq!(rt; packets.len(), symbols, "{number}");
+        assert!(rt; usize::from(packets[0].payload_id().source_block_number()) == number);
+    }
+    Ok(())
+}
+
+#[test]
+fn wrong_lengths(rt: HostRuntime) -> Result<(), Fail> {
+    let object = [7u8; 121];
+    for length in [0, 119, 121] {
+        let refused = encoder(rt.alloc(), (120, 10, 10, 0, 2), &object[..length]);
+        assert!(rt; refused == Err(Error::WrongDataLength), "{length}");
+    }
+    Ok(())
+}
+
+#[test]
+fn offsets(rt: HostRuntime) -> Result<(), Fail> {
+    let cases: [(Config, &[(usize, usize)]); 4] = [
+        ((10, 2, 2, 1, 1), &[(0, 6), (6, 10)]),
+        ((3, 2, 5, 1, 1), &[(0, 2), (2, 4), (4, 4), (4, 4), (4, 4)]),
+        ((0, 2, 2, 1, 1), &[(0, 0), (0, 0)]),
+        ((11, 3, 3, 2, 1), &[(0, 6), (6, 9), (9, 12)]),
+    ];
+    for (config, wanted) in cases {
+        let (length, size, blocks, sub_blocks, alignment) = config;
+        let information = ObjectTransmissionInformation::new(
+            length, size, blocks, sub_blocks, alignment,
+        )?;
+        let offsets = calculate_block_offsets(rt.alloc(), &[], &information)?;
+        assert_eq!(rt; offsets.as_slice(), wanted, "{config:?}");
+    }
+    Ok(())
+}
+
+// Configurations that only bytes can spell: each one removes a cause of the one before it.
+#[test]
+fn refused_offsets(rt: HostRuntime) -> Result<(), Fail> {
+    let cases: [([u8; 12], Error); 4] = [
+        ([1, 0, 0, 0, 0, 0, 0, 0, 0, 0, 0, 0], Error::SymbolSizeZero),
+        (
+            [1, 0, 0, 0, 0, 0, 0, 2, 0, 0, 0, 0],
+            Error::SourceBlocksZero,
+        ),
+        ([1, 0, 0, 0, 0, 0, 0, 2, 1, 0, 0, 0], Error::TooManySymbols),
+        (
+            [0, 0, 0, 220, 84, 0, 0, 1, 1, 0, 0, 0],
+            Error::TooManySymbols,
+        ),
+    ];
+    for (bytes, wanted) in cases {
+        let information = ObjectTransmissionInformation::deserialize(&bytes);
+        let refused = calculate_block_offsets(rt.alloc(), &[], &information);
+        assert!(rt; refused == Err(wanted), "{bytes:?}");
+    }
+    let largest = [0, 0, 0, 220, 83, 0, 0, 1, 1, 0, 0, 0];
+    let information = ObjectTransmissionInformation::deserialize(&largest);
+    let offsets = calculate_block_offsets(rt.alloc(), &[], &information)?;
+    assert_eq!(rt; offsets.as_slice(), [(0, 56403)].as_slice());
+    Ok(())
+}
