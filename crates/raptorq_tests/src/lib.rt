@@ -4,6 +4,8 @@
 #[cfg(test)]
 mod blocks;
 #[cfg(test)]
+mod builder;
+#[cfg(test)]
 mod coder_memory;
 #[cfg(test)]
 mod cutting;
