@@ -1,9 +1,7 @@
-//! Worked examples of repair packets, and the rows of the table.
+//! Worked examples of repair packets.
 use raptorq::error::Error;
 use raptorq::systematic_constants::SystematicTable;
 use raptorq::{Encoder, ObjectTransmissionInformation};
-use rq_standard::numbers::SYSTEMATIC_INDICES_AND_PARAMETERS;
-use std::alloc::Global;
 use std::test::Fail;
 
 // The equations of three source symbols have one solution, and that of zeros is zero.
@@ -23,22 +21,5 @@ fn packets_of_zeros(rt: HostRuntime) -> Result<(), Fail> {
     }
     let last = encoder.get_encoded_packets(16777214);
     assert!(rt; last == Err(Error::EsiTooLarge));
-    Ok(())
-}
-
-fn encodes(alloc: Global, table: &SystematicTable, symbols: u32) -> Result<(), Error> {
-    let config = ObjectTransmissionInformation::new(u64::from(symbols), 1, 1, 1, 1)?;
-    let object = vec![in alloc; 1u8; symbols as usize]?;
-    let _encoder = Encoder::new(alloc, table, object.as_slice(), config)?;
-    Ok(())
-}
-
-#[test]
-fn no_built_in_row_is_singular(rt: HostRuntime) -> Result<(), Fail> {
-    let alloc = rt.alloc();
-    let table = SystematicTable::built_in(alloc)?;
-    for (symbols, _, _, _, _) in SYSTEMATIC_INDICES_AND_PARAMETERS {
-        assert_eq!(rt; encodes(alloc, &table, symbols), Ok(()), "{symbols}");
-    }
     Ok(())
 }
