@@ -1,3 +1,4 @@
+pub mod Peeled
 pub mod Replay
 pub mod RowSteps
 pub mod RowWrites

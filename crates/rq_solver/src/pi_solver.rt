@@ -6,6 +6,7 @@ ghost use Rattle.rq_bytes.specs.declared.error.Error.TheVariants.{AlreadyExecute
 ghost use Rattle.rq_solver.specs.Solving.{AreEquations, solver_of, IsOutcome};
 
 mod elimination;
+mod ones;
 mod rows;
 
 use crate::replay::replay;

@@ -1,0 +1,88 @@
+//! The ones of a matrix of bits, row by row.
+ghost use Rattle.std.specs.Prelude.{◌≡◌, ℕ, ◌<◌, ◌≤◌, length, IfOk, IfErr};
+ghost use Rattle.rq_bytes.specs.declared.error.Error.TheVariants.{OutOfMemory};
+ghost use Rattle.rq_solver.specs.Peeled.{ones_at, AreOnesOfRows};
+
+use rq_bytes::error::Error;
+use rq_matrix::matrix::BinaryMatrix;
+use std::alloc::Global;
+use std::marker::Model;
+
+/// The columns of the ones of each row. Contracts see a list for each row.
+#[derive(Drop)]
+pub(super) struct RowOnes {
+    starts: Vec<usize>,
+    columns: Vec<usize>,
+}
+
+impl Model for RowOnes {
+    ghost use Rattle.std.specs.Prelude.{ℕ, List, length};
+    ghost use Rattle.rq_parts.specs.Lists.{AreStarts, lists_between};
+
+    ghost Value = { List (List ℕ) };
+
+    ghost view = { λ ones. lists_between ones.starts.items ones.columns.items };
+
+    ghost invariant = { λ ones. AreStarts ones.starts.items (length ones.columns.items) };
+}
+
+impl RowOnes {
+    /// The ones of a matrix, of which `boundary` is the first dense column.
+    pub(super) fn of_matrix<T: BinaryMatrix>(
+        alloc: Global,
+        bits: &T,
+        boundary: usize,
+    ) -> Result<RowOnes, Error>
+        requires boundary { boundary ≡ (T.content bits.now).boundary }
+        ensures ones { IfOk result (λ ones. AreOnesOfRows (T.content bits.now).height (T.content bits.now).width (T.content bits.now).bit ones) }
+        ensures err { IfErr result (λ e. e ≡ OutOfMemory) }
+    {
+        let mut starts = Vec::with_capacity(alloc, bits.height() + 1)?;
+        let mut columns = Vec::new(alloc);
+        let mut dense = Vec::new(alloc);
+        for row in 0..bits.height() {
+            starts.push(columns.len())?;
+            push_ones(bits, row, boundary, &mut dense, &mut columns)?;
+        }
+        starts.push(columns.len())?;
+        Ok(RowOnes { starts, columns })
+    }
+
+    /// The number of rows.
+    pub(super) fn height(&self) -> usize
+        ensures { result ≡ length self.now }
+    {
+        self.starts.len() - 1
+    }
+
+    /// The columns of the ones of a row.
+    pub(super) fn row(&self, row: usize) -> &[usize]
+        requires { row < length self.now }
+        ensures { result.now ≡ ones_at self.now row }
+    {
+        let starts = self.starts.as_slice();
+        &self.columns.as_slice()[starts[row]..starts[row + 1]]
+    }
+}
+
+// The columns of the ones of a row behind other columns.
+fn push_ones<T: BinaryMatrix>(
+    bits: &T,
+    row: usize,
+    boundary: usize,
+    dense: &mut Vec<usize>,
+    columns: &mut Vec<usize>,
+) -> Result<(), Error>
+    requires boundary { boundary ≡ (T.content bits.now).boundary }
+    requires row { row < (T.content bits.now).height }
+    ensures err { IfErr result (λ e. e ≡ OutOfMemory) }
+{
+    for (column, octet) in bits.get_row_iter(row, 0, boundary) {
+        if octet.byte() == 1 {
+            columns.push(column)?;
+        }
+    }
+    bits.query_non_zero_columns_into(row, boundary, dense)?;
+    columns.extend_from_slice(dense.as_slice())?;
+    Ok(())
+}
