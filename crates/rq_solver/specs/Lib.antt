@@ -1,3 +1,5 @@
+pub mod Cleared
+pub mod Listing
 pub mod Peeled
 pub mod Replay
 pub mod RowSteps

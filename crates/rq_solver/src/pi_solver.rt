@@ -7,6 +7,8 @@ ghost use Rattle.rq_solver.specs.Solving.{AreEquations, solver_of, IsOutcome};
 
 mod elimination;
 mod ones;
+mod peeled;
+mod peeling;
 mod rows;
 
 use crate::replay::replay;

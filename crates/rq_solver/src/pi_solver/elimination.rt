@@ -66,6 +66,7 @@ pub(super) fn eliminate(
     requires fits { first_column + count < 2 ^ 64 }
     requires octets { HasOctets matrix.old }
     ensures permuted { IsPermutation rows.old rows.new }
+    ensures octets { OnOk result (HasOctets matrix.new) }
     ensures rows { OnOk result (AreRows rows.new matrix.old) }
     ensures steps { OnOk result (RecordsSteps rows.old matrix.old matrix.new operations.old.items operations.new.items) }
     ensures pivots { IfOk result (λ found. MatchBool found (IsReduced rows.new first_column count matrix.new) (IsStuck rows.new first_column count matrix.new)) }
@@ -183,7 +184,7 @@ fn clear_entry(
 }
 
 /// The operation that adds a multiple of a symbol.
-fn addition(dest: usize, src: usize, scalar: Octet) -> SymbolOps
+pub(super) fn addition(dest: usize, src: usize, scalar: Octet) -> SymbolOps
     ensures { operation_of result ≡ (if scalar == 1 then AddAssign dest src else Fma dest src scalar) }
 {
     if scalar.byte() == 1 {

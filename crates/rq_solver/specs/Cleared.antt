@@ -1,0 +1,125 @@
+-- What becomes of rows of which some have pivots while they are still as they were.
+use Rattle.std.specs.Prelude.{◌≡◌, ◌≢◌, ℕ, ◌+◌, ◌<◌, ◌≤◌, ◌==◌, if◌then◌else◌, List, [], ◌∷◌, ◌++◌, All, Contains, count_by, length, map}
+use Rattle.std.specs.List.{range_with_len}
+use Rattle.rq_algebra.specs.Arrangements.{ArePlaces}
+use Rattle.rq_algebra.specs.Systems.{at}
+use Rattle.rq_algebra.specs.Operations.{Operation, AddAssign, Fma}
+use Rattle.rq_standard.specs.ConstraintMatrix.{with_octet_rows}
+use Rattle.rq_standard.specs.OctetField.{octets}
+use Rattle.rq_bytes.specs.SymbolOps.{operation_of}
+use Rattle.rq_bytes.specs.declared.operation_vector.SymbolOps.{SymbolOps}
+use Rattle.rq_parts.specs.OctetTable.{OctetTable, entry_of}
+use Rattle.rq_solver.specs.Peeled.{ones_at, IsPeeled}
+use Rattle.rq_solver.specs.RowSteps.{HasOctets, rows_after, IsStepAmong}
+use Rattle.rq_solver.specs.declared.pi_solver.peeling.Peeling.{Peeling}
+
+-- ---- the rows
+
+-- how often a row of bits has a one in column k
+abbrev pub one_in : List (List ℕ) → ℕ → ℕ → ℕ
+one_in lists i k = count_by (λ column. column == k) (ones_at lists i)
+
+-- the ones of rows stand in columns below the width, and at most once in each
+pub record AreRowsOfBits (width : ℕ) (lists : List (List ℕ)) : Type 0 where
+  pub within : (i : ℕ) → i < length lists → All (λ column. column < width) (ones_at lists i)
+  pub once : (i k : ℕ) → i < length lists → k < width → one_in lists i k ≤ 1
+
+-- pivots among rows of bits
+pub record PeelsRows (lists : List (List ℕ)) (peeling : Peeling) : Type 0 where
+  pub bits : AreRowsOfBits (length peeling.places.items) lists
+  pub peeled : IsPeeled (length peeling.places.items) lists peeling.rows.items peeling.order.items peeling.places.items
+
+-- HDPC rows, which have the places of rows without ones
+pub record AreOctetRows (lists : List (List ℕ)) (first width : ℕ) (hdpc : OctetTable) : Type 0 where
+  pub width_is : hdpc.width ≡ width
+  pub octets : HasOctets hdpc
+  pub within : first + length hdpc.rows ≤ length lists
+  pub empty : (i : ℕ) → i < length hdpc.rows → ones_at lists (first + i) ≡ []
+
+-- the rows of bits, but from row `first` on those of octets
+abbrev pub system_rows : List (List ℕ) → ℕ → OctetTable → ℕ → ℕ → ℕ
+system_rows lists first hdpc = with_octet_rows first (length hdpc.rows) (one_in lists) (entry_of hdpc)
+
+-- all rows below the height, each once, the pivots' rows first
+pub record ListsRows (height : ℕ) (rows listed : List ℕ) : Type 0 where
+  pub are : ArePlaces (length listed) height (at listed)
+  pub few : length rows ≤ length listed
+  pub starts : (p : ℕ) → p < length rows → at listed p ≡ at rows p
+  pub every : (r : ℕ) → r < height → Contains listed r
+
+-- ---- what a row has in the pivots' columns
+
+-- what a row of bits has there
+pub record IsUncleared (lists : List (List ℕ)) (rows order : List ℕ) (m : ℕ → ℕ → ℕ) (r : ℕ) : Type 0 where
+  pub entries : (i : ℕ) → i < length rows → m r (at order i) ≡ one_in lists r (at order i)
+
+-- 1 in the column of the row's own pivot, and 0 in the others
+pub record IsCleared (rows order : List ℕ) (m : ℕ → ℕ → ℕ) (r : ℕ) : Type 0 where
+  pub entries : (i : ℕ) → i < length rows → m r (at order i) ≡ (if at rows i == r then 1 else 0)
+
+-- ---- steps on the rows of a system
+
+-- a multiple of a row is added
+abbrev pub sum_step : ℕ → ℕ → ℕ → Operation
+sum_step dest src scalar = if scalar == 1 then AddAssign dest src else Fma dest src scalar
+
+-- these steps were done to a table, and were recorded
+pub record Performs (steps : List Operation) (old new : OctetTable) (before after : List SymbolOps) : Type 0 where
+  pub recorded : map operation_of after ≡ map operation_of before ++ steps
+  pub among : All (IsStepAmong octets (range_with_len 0 (length old.rows))) steps
+  pub width : new.width ≡ old.width
+  pub height : length new.rows ≡ length old.rows
+  pub entries : (i k : ℕ) → i < length old.rows → k < old.width → entry_of new i k ≡ rows_after octets steps (entry_of old) i k
+  pub octets : HasOctets new
+
+-- A row takes the rows of the other pivots in whose columns it has these ones. What it is in whole is `m`, whatever that is.
+pub record TakesPivots (rows order : List ℕ) (row : ℕ) (columns : List ℕ) (old new : OctetTable) (before after : List SymbolOps) : Type 0 where
+  pub steps : List Operation
+  pub performs : Performs steps old new before after
+  pub idle : columns ≡ [] → steps ≡ []
+  pub elsewhere : (m : ℕ → ℕ → ℕ) (i k : ℕ) → i ≢ row → rows_after octets steps m i k ≡ m i k
+  pub taken : (m : ℕ → ℕ → ℕ) → ((j : ℕ) → j < length rows → Contains columns (at order j) → at rows j ≢ row → IsCleared rows order m (at rows j))
+      → (i : ℕ) → i < length rows → rows_after octets steps m row (at order i) ≡ octets.add (m row (at order i)) (if at rows i == row then 0 else count_by (λ column. column == at order i) columns)
+
+-- the first rows of a list are cleared, and the rest are as they were
+pub record ClearsRows (lists : List (List ℕ)) (rows order listed : List ℕ) (done : ℕ) (old new : OctetTable) (before after : List SymbolOps) : Type 0 where
+  pub steps : List Operation
+  pub performs : Performs steps old new before after
+  pub idle : (m : ℕ → ℕ → ℕ) (i k : ℕ) → ones_at lists i ≡ [] → rows_after octets steps m i k ≡ m i k
+  pub rest : (m : ℕ → ℕ → ℕ) (s k : ℕ) → done ≤ s → s < length listed → rows_after octets steps m (at listed s) k ≡ m (at listed s) k
+  pub cleared : (m : ℕ → ℕ → ℕ) → ((p : ℕ) → p < length rows → IsUncleared lists rows order m (at rows p))
+      → (s : ℕ) → s < done → IsUncleared lists rows order m (at listed s) → IsCleared rows order (rows_after octets steps m) (at listed s)
+
+-- a row of octets gets 0 in the columns of the first pivots
+pub record ClearsOctetRow (rows order : List ℕ) (octet : ℕ → ℕ) (row done : ℕ) (old new : OctetTable) (before after : List SymbolOps) : Type 0 where
+  pub steps : List Operation
+  pub performs : Performs steps old new before after
+  pub elsewhere : (m : ℕ → ℕ → ℕ) (i k : ℕ) → i ≢ row → rows_after octets steps m i k ≡ m i k
+  pub rest : (m : ℕ → ℕ → ℕ) → ((p : ℕ) → p < length rows → IsCleared rows order m (at rows p)) → (p : ℕ) → done ≤ p → p < length rows → rows_after octets steps m row (at order p) ≡ m row (at order p)
+  pub cleared : (m : ℕ → ℕ → ℕ) → ((p : ℕ) → p < length rows → IsCleared rows order m (at rows p)) → ((p : ℕ) → p < length rows → m row (at order p) ≡ octet (at order p))
+      → (p : ℕ) → p < done → rows_after octets steps m row (at order p) ≡ 0
+
+-- the first of the HDPC rows get 0 in the pivots' columns
+pub record ClearsOctets (rows order : List ℕ) (octet : ℕ → ℕ → ℕ) (first done : ℕ) (old new : OctetTable) (before after : List SymbolOps) : Type 0 where
+  pub steps : List Operation
+  pub performs : Performs steps old new before after
+  pub elsewhere : (m : ℕ → ℕ → ℕ) (r k : ℕ) → ((i : ℕ) → i < done → first + i ≢ r) → rows_after octets steps m r k ≡ m r k
+  pub cleared : (m : ℕ → ℕ → ℕ) → ((p : ℕ) → p < length rows → IsCleared rows order m (at rows p)) → (i : ℕ) → i < done
+      → ((p : ℕ) → p < length rows → m (first + i) (at order p) ≡ octet i (at order p)) → (p : ℕ) → p < length rows → rows_after octets steps m (first + i) (at order p) ≡ 0
+
+-- a row gets 0 in the first of the frozen columns, each of which has its pivot in one of the reduced rows
+pub record ClearsTail (reduced : List ℕ) (row frozen done : ℕ) (old new : OctetTable) (before after : List SymbolOps) : Type 0 where
+  pub steps : List Operation
+  pub performs : Performs steps old new before after
+  pub elsewhere : (m : ℕ → ℕ → ℕ) (i k : ℕ) → i ≢ row → rows_after octets steps m i k ≡ m i k
+  pub kept : (m : ℕ → ℕ → ℕ) (k : ℕ) → ((f : ℕ) → f < frozen → m (at reduced f) k ≡ 0) → rows_after octets steps m row k ≡ m row k
+  pub rest : (f : ℕ) → done ≤ f → f < frozen → entry_of new row f ≡ entry_of old row f
+  pub cleared : (f : ℕ) → f < done → entry_of new row f ≡ 0
+
+-- the same of the first of these rows
+pub record ClearsTails (rows reduced : List ℕ) (frozen done : ℕ) (old new : OctetTable) (before after : List SymbolOps) : Type 0 where
+  pub steps : List Operation
+  pub performs : Performs steps old new before after
+  pub elsewhere : (m : ℕ → ℕ → ℕ) (r k : ℕ) → ((p : ℕ) → p < done → at rows p ≢ r) → rows_after octets steps m r k ≡ m r k
+  pub kept : (m : ℕ → ℕ → ℕ) (r k : ℕ) → ((f : ℕ) → f < frozen → m (at reduced f) k ≡ 0) → rows_after octets steps m r k ≡ m r k
+  pub cleared : (p f : ℕ) → p < done → f < frozen → entry_of new (at rows p) f ≡ 0

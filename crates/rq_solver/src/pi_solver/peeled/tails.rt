@@ -1,0 +1,136 @@
+//! The entries of rows in frozen columns.
+ghost use Rattle.std.specs.Prelude.{◌≡◌, ◌≢◌, ℕ, ◌+◌, ◌-◌, ◌<◌, ◌≤◌, All, drop, length, IfOk, OnOk, IfErr};
+ghost use Rattle.rq_algebra.specs.Arrangements.{ArePlaces};
+ghost use Rattle.rq_algebra.specs.Systems.{at};
+ghost use Rattle.rq_bytes.specs.declared.error.Error.TheVariants.{OutOfMemory};
+ghost use Rattle.rq_parts.specs.OctetTable.{entry_of};
+ghost use Rattle.rq_solver.specs.Cleared.{AreOctetRows, AreRowsOfBits, ClearsTail, ClearsTails, PeelsRows, one_in, system_rows};
+ghost use Rattle.rq_solver.specs.Peeled.{IsOrderOf, ones_at};
+ghost use Rattle.rq_solver.specs.RowSteps.{AreRows, HasOctets, IsReduced};
+ghost use Rattle.rq_solver.specs.RowWrites.{HoldsRows, WritesRow};
+
+use super::super::ones::RowOnes;
+use super::super::peeling::Peeling;
+use super::add_row;
+use rq_bytes::error::Error;
+use rq_bytes::octet::Octet;
+use rq_bytes::operation_vector::SymbolOps;
+use rq_parts::octet_matrix::DenseOctetMatrix;
+use std::alloc::Global;
+
+/// The entries of the rows in the frozen columns, in their order.
+pub(super) fn fill_tails(
+    alloc: Global,
+    ones: &RowOnes,
+    hdpc: &DenseOctetMatrix,
+    first_hdpc: usize,
+    frozen: usize,
+    peeling: &Peeling,
+) -> Result<DenseOctetMatrix, Error>
+    requires peeled { PeelsRows ones.now peeling.now }
+    requires hdpc { AreOctetRows ones.now first_hdpc (length peeling.now.places.items) hdpc.now }
+    requires frozen { length peeling.now.rows.items + frozen ≡ length peeling.now.places.items }
+    ensures tails { IfOk result (HoldsRows (length ones.now) frozen (length ones.now) (λ r f. system_rows ones.now first_hdpc hdpc.now r (at peeling.now.order.items (length peeling.now.rows.items + f)))) }
+    ensures err { IfErr result (λ e. e ≡ OutOfMemory) }
+{
+    let mut tails = DenseOctetMatrix::new(alloc, ones.height(), frozen, 0)?;
+    for row in 0..ones.height() {
+        if row >= first_hdpc && row - first_hdpc < hdpc.height() {
+            fill_octets(hdpc, row - first_hdpc, peeling, frozen, row, &mut tails);
+        } else {
+            fill_bits(ones, row, peeling, &mut tails);
+        }
+    }
+    Ok(tails)
+}
+
+/// Sets the entries of a row to those of a row of octets in the frozen columns.
+fn fill_octets(
+    octets: &DenseOctetMatrix,
+    from: usize,
+    peeling: &Peeling,
+    frozen: usize,
+    row: usize,
+    tails: &mut DenseOctetMatrix,
+)
+    requires order { IsOrderOf octets.now.width peeling.now.order.items peeling.now.places.items }
+    requires frozen { length peeling.now.rows.items + frozen ≡ octets.now.width }
+    requires from { from < length octets.now.rows }
+    requires row { row < length tails.old.rows }
+    requires width { tails.old.width ≡ frozen }
+    requires octets { HasOctets tails.old }
+    ensures { WritesRow row 0 frozen (λ f. entry_of octets.now from (at peeling.now.order.items (length peeling.now.rows.items + f))) tails.old tails.new }
+{
+    for f in 0..frozen {
+        let column = peeling.order[peeling.rows.len() + f];
+        tails.set(row, f, Octet::new(octets.get(from, column).byte()));
+    }
+}
+
+/// Sets the ones of a row of zeros that are in frozen columns.
+fn fill_bits(ones: &RowOnes, row: usize, peeling: &Peeling, tails: &mut DenseOctetMatrix)
+    requires peeled { PeelsRows ones.now peeling.now }
+    requires row { row < length ones.now }
+    requires height { length tails.old.rows ≡ length ones.now }
+    requires width { length peeling.now.rows.items + tails.old.width ≡ length peeling.now.places.items }
+    requires octets { HasOctets tails.old }
+    requires zeros { (f : ℕ) → f < tails.old.width → entry_of tails.old row f ≡ 0 }
+    ensures { WritesRow row 0 tails.old.width (λ f. one_in ones.now row (at peeling.now.order.items (length peeling.now.rows.items + f))) tails.old tails.new }
+{
+    let pivots = peeling.rows.len();
+    for column in ones.row(row) {
+        let place = peeling.places[*column];
+        if place >= pivots {
+            tails.set(row, place - pivots, Octet::one());
+        }
+    }
+}
+
+/// Adds to rows multiples of reduced rows, so that they have 0 in the frozen columns.
+pub(super) fn clear_tails(
+    rows: &[usize],
+    reduced: &[usize],
+    frozen: usize,
+    tails: &mut DenseOctetMatrix,
+    operations: &mut Vec<SymbolOps>,
+) -> Result<(), Error>
+    requires rows { AreRows rows.now tails.old }
+    requires reduced_rows { AreRows reduced.now tails.old }
+    requires apart { (p f : ℕ) → p < length rows.now → f < length reduced.now → at rows.now p ≢ at reduced.now f }
+    requires width { tails.old.width ≡ frozen }
+    requires octets { HasOctets tails.old }
+    requires reduced { IsReduced reduced.now 0 frozen tails.old }
+    ensures cleared { OnOk result (ClearsTails rows.now reduced.now frozen (length rows.now) tails.old tails.new operations.old.items operations.new.items) }
+    ensures err { IfErr result (λ e. e ≡ OutOfMemory) }
+{
+    for row in rows {
+        clear_tail(*row, reduced, frozen, tails, operations)?;
+    }
+    Ok(())
+}
+
+/// The same for one row.
+fn clear_tail(
+    row: usize,
+    reduced: &[usize],
+    frozen: usize,
+    tails: &mut DenseOctetMatrix,
+    operations: &mut Vec<SymbolOps>,
+) -> Result<(), Error>
+    requires row { row < length tails.old.rows }
+    requires reduced_rows { AreRows reduced.now tails.old }
+    requires apart { (f : ℕ) → f < length reduced.now → row ≢ at reduced.now f }
+    requires width { tails.old.width ≡ frozen }
+    requires octets { HasOctets tails.old }
+    requires reduced { IsReduced reduced.now 0 frozen tails.old }
+    ensures cleared { OnOk result (ClearsTail reduced.now row frozen frozen tails.old tails.new operations.old.items operations.new.items) }
+    ensures err { IfErr result (λ e. e ≡ OutOfMemory) }
+{
+    for f in 0..frozen {
+        let scalar = tails.get(row, f);
+        if scalar.byte() != 0 {
+            add_row(tails, operations, row, reduced[f], scalar)?;
+        }
+    }
+    Ok(())
+}
