@@ -2,9 +2,12 @@ pub mod Entries
 pub mod EquationLaws
 pub mod Outcomes
 pub mod Performed
+pub mod Performing
+pub mod PivotTurns
 pub mod Results
 pub mod RowStepLaws
 pub mod ShownRows
 pub mod SolutionLaws
+pub mod StepColumns
 pub mod Turns
 pub mod Writes
