@@ -3,6 +3,7 @@ pub mod EquationLaws
 pub mod Outcomes
 pub mod Performed
 pub mod Results
+pub mod RowLists
 pub mod RowStepLaws
 pub mod ShownRows
 pub mod SolutionLaws
