@@ -5,6 +5,7 @@ pub mod Performed
 pub mod Performing
 pub mod PivotTurns
 pub mod Results
+pub mod RowLists
 pub mod RowStepLaws
 pub mod ShownRows
 pub mod SolutionLaws

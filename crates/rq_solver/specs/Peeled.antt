@@ -1,5 +1,5 @@
 -- Columns that have pivots among rows of bits while no row is changed.
-use Rattle.std.specs.Prelude.{◌≡◌, ℕ, ◌<◌, ◌≤◌, List, [], Contains, length, slice_index_or}
+use Rattle.std.specs.Prelude.{◌≡◌, ℕ, ◌<◌, ◌≤◌, List, [], Contains, length, take, drop, slice_index_or}
 use Rattle.rq_algebra.specs.Arrangements.{ArePlaces}
 use Rattle.rq_algebra.specs.Systems.{at}
 use Rattle.rq_standard.specs.BitTableSteps.{ArePlacesOfOnes}
@@ -12,6 +12,11 @@ ones_at lists i = slice_index_or lists i []
 pub record AreOnesOfRows (height width : ℕ) (bit : ℕ → ℕ → ℕ) (lists : List (List ℕ)) : Type 0 where
   pub count : length lists ≡ height
   pub each : (i : ℕ) → i < height → ArePlacesOfOnes (bit i) 0 width (ones_at lists i)
+
+-- behind a list of columns, which stays as it was, those of a row's ones
+pub record AddsOnes (bit : ℕ → ℕ) (width : ℕ) (old new : List ℕ) : Type 0 where
+  pub kept : take (length old) new ≡ old
+  pub ones : ArePlacesOfOnes bit 0 width (drop (length old) new)
 
 -- the columns in an order, and the place of each column in it
 pub record IsOrderOf (width : ℕ) (order places : List ℕ) : Type 0 where

@@ -1,7 +1,7 @@
 //! The ones of a matrix of bits, row by row.
-ghost use Rattle.std.specs.Prelude.{◌≡◌, ℕ, ◌<◌, ◌≤◌, length, IfOk, IfErr};
+ghost use Rattle.std.specs.Prelude.{◌≡◌, ℕ, ◌<◌, ◌≤◌, length, IfOk, OnOk, IfErr, slice_range};
 ghost use Rattle.rq_bytes.specs.declared.error.Error.TheVariants.{OutOfMemory};
-ghost use Rattle.rq_solver.specs.Peeled.{ones_at, AreOnesOfRows};
+ghost use Rattle.rq_solver.specs.Peeled.{ones_at, AreOnesOfRows, AddsOnes};
 
 use rq_bytes::error::Error;
 use rq_matrix::matrix::BinaryMatrix;
@@ -40,11 +40,11 @@ impl RowOnes {
         let mut starts = Vec::with_capacity(alloc, bits.height() + 1)?;
         let mut columns = Vec::new(alloc);
         let mut dense = Vec::new(alloc);
+        starts.push(0)?;
         for row in 0..bits.height() {
-            starts.push(columns.len())?;
             push_ones(bits, row, boundary, &mut dense, &mut columns)?;
+            starts.push(columns.len())?;
         }
-        starts.push(columns.len())?;
         Ok(RowOnes { starts, columns })
     }
 
@@ -61,8 +61,16 @@ impl RowOnes {
         ensures { result.now ≡ ones_at self.now row }
     {
         let starts = self.starts.as_slice();
-        &self.columns.as_slice()[starts[row]..starts[row + 1]]
+        part(self.columns.as_slice(), starts[row], starts[row + 1])
     }
+}
+
+fn part(columns: &[usize], start: usize, end: usize) -> &[usize]
+    requires order { start ≤ end }
+    requires within { end ≤ length columns.now }
+    ensures { result.now ≡ slice_range columns.now start end }
+{
+    &columns[start..end]
 }
 
 // The columns of the ones of a row behind other columns.
@@ -75,6 +83,7 @@ fn push_ones<T: BinaryMatrix>(
 ) -> Result<(), Error>
     requires boundary { boundary ≡ (T.content bits.now).boundary }
     requires row { row < (T.content bits.now).height }
+    ensures ones { OnOk result (AddsOnes ((T.content bits.now).bit row) (T.content bits.now).width columns.old.items columns.new.items) }
     ensures err { IfErr result (λ e. e ≡ OutOfMemory) }
 {
     for (column, octet) in bits.get_row_iter(row, 0, boundary) {

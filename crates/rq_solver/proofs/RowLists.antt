@@ -1,0 +1,175 @@
+-- Lists that follow one another in one list, each the places of a row's ones.
+use Rattle.std.proofs.Common.{refl, ◌≡◌, ◌≢◌, ℕ, suc, ◌+◌, ◌-◌, ◌<◌, ◌≤◌, cond, List, [], ◌∷◌, ◌++◌, All, length, map, filter, take, drop, sym, ap, subst, ◌∙◌, arith, inl, inr, zero-add, add-zero}
+use Rattle.std.specs.Prelude.{◌==◌, count_by, slice_index, slice_range}
+use Rattle.std.proofs.lemmas.Bool.{cases_lt}
+use Rattle.std.proofs.lemmas.Bool.Decides.{eqb_tells}
+use Rattle.std.proofs.lemmas.List.{length-append, length-drop, take-append-le, drop-append-le, take-append-drop, take_rest}
+use Rattle.std.proofs.lemmas.List.Elements.{All-append, All-map, All-filter}
+use Rattle.std.proofs.lemmas.List.Sums.{sum_by-cons, sum_by-append}
+use Rattle.std.proofs.Math.Seq.{take-append_seam, drop-append_seam, get_or-append_seam}
+use Rattle.std.proofs.Math.ListN.{get_or-append}
+use Rattle.rq_standard.specs.BitTableSteps.{ArePlacesOfOnes, AreOnesOf, IsPlaceAndBit}
+use Rattle.rq_standard.specs.BitTableSteps as steps
+use Rattle.rq_standard.specs.BitTableLaws.{is_one_at-one, is_one_at-zero, is_one_at-other, ones_at-cons}
+use Rattle.rq_parts.specs.Lists.{AreStarts, lists_between}
+use Rattle.rq_parts.proofs.KeyedLists.{list_read, length-lists}
+use Rattle.rq_solver.specs.Peeled.{ones_at, AreOnesOfRows, AddsOnes}
+
+-- ---- the places of a row's ones
+
+-- the places that come with a one
+abbrev pub places_among : List (ℕ × ℕ) → List ℕ
+places_among pairs = map (λ pair. pair.0) (filter (λ pair. pair.1 == 1) pairs)
+
+-- how often a place comes among others, and behind others
+count-none : (k : ℕ) (places : List ℕ) → All (λ place. place ≢ k) places → count_by (λ place. place == k) places ≡ 0
+count-none k [] all = refl
+count-none k (place ∷ places) all =
+    let other : place ≢ k = all 0 place (omega arith) in
+    let rest = count-none k places (λ i d lt. all (suc i) d (omega arith)) in
+    let head : cond (place == k) 1 0 ≡ 0 = elim (eqb_tells place k) [ inl e ↦ absurd (other e.1) | inr e ↦ ap (λ b. cond b 1 0) e.0 ] in
+    sum_by-cons (λ p. cond (p == k) 1 0) place places ∙ ap (λ n. n + count_by (λ p. p == k) places) head ∙ zero-add (count_by (λ p. p == k) places) ∙ rest
+
+count-append : (k : ℕ) (xs ys : List ℕ) → count_by (λ place. place == k) (xs ++ ys) ≡ count_by (λ place. place == k) xs + count_by (λ place. place == k) ys
+count-append k xs ys = sum_by-append (λ place. cond (place == k) 1 0) xs ys
+
+-- the place of a pair counts where the pair is a one
+count-places : (k : ℕ) (pairs : List (ℕ × ℕ)) → count_by (λ place. place == k) (places_among pairs) ≡ steps.ones_at k pairs
+count-places k [] = refl
+count-places k (pair ∷ pairs) =
+    let rest = count-places k pairs in
+    let count = λ (places : List ℕ). count_by (λ place. place == k) places in
+    let kept = filter (λ (p : ℕ × ℕ). p.1 == 1) pairs in
+    let place = λ (p : ℕ × ℕ). p.0 in
+    elim (eqb_tells pair.1 1) [
+      | inl e ↦
+          ap (λ b. count (map place (cond b (pair ∷ kept) kept))) e.0
+          ∙ sum_by-cons (λ p. cond (p == k) 1 0) pair.0 (map place kept)
+          ∙ ap (λ n. cond (pair.0 == k) 1 0 + n) rest
+          ∙ ap (λ n. n + steps.ones_at k pairs) (elim (eqb_tells pair.0 k) [
+            | inl f ↦ ap (λ b. cond b 1 0) f.0 ∙ sym (is_one_at-one k pair f.1 e.1)
+            | inr f ↦ ap (λ b. cond b 1 0) f.0 ∙ sym (is_one_at-other k pair f.1)
+          ])
+      | inr e ↦
+          ap (λ b. count (map place (cond b (pair ∷ kept) kept))) e.0
+          ∙ rest ∙ sym (zero-add (steps.ones_at k pairs))
+          ∙ ap (λ n. n + steps.ones_at k pairs) (sym (is_one_at-zero k pair e.1))
+    ] ∙ sym (ones_at-cons k pair pairs)
+
+-- what holds of the place of each pair holds of the places
+All-places : (P : ℕ → Type 0) (pairs : List (ℕ × ℕ)) → All (λ (pair : ℕ × ℕ). P pair.0) pairs → All P (places_among pairs)
+All-places P pairs all = All-map P (λ (pair : ℕ × ℕ). pair.0) (filter (λ (pair : ℕ × ℕ). pair.1 == 1) pairs) (All-filter (λ (pair : ℕ × ℕ). pair.1 == 1) (λ (pair : ℕ × ℕ). P pair.0) pairs all)
+
+pub places_of_pairs : (bit : ℕ → ℕ) (start end : ℕ) (pairs : List (ℕ × ℕ)) → AreOnesOf bit start end pairs → ArePlacesOfOnes bit start end (places_among pairs)
+places_of_pairs bit start end pairs ones = record {
+  within = All-places (λ k. (start ≤ k) × (k < end)) pairs (λ i d lt. ((ones.within i d lt).from, (ones.within i d lt).below));
+  once = λ k from below. count-places k pairs ∙ ones.once k from below;
+}
+
+-- the places of the ones of two parts of a row that meet
+pub places_together : (bit : ℕ → ℕ) (start middle end : ℕ) (xs ys : List ℕ) → start ≤ middle → middle ≤ end → ArePlacesOfOnes bit start middle xs → ArePlacesOfOnes bit middle end ys → ArePlacesOfOnes bit start end (xs ++ ys)
+places_together bit start middle end xs ys low high first second = record {
+  within = All-append (λ k. (start ≤ k) × (k < end)) xs ys
+      (λ i d lt. let here = first.within i d lt in (here.0, (let below = here.1 in omega arith)))
+      (λ i d lt. let here = second.within i d lt in ((let from = here.0 in omega arith), here.1));
+  once = λ k from below.
+      count-append k xs ys
+      ∙ elim (cases_lt k middle) [
+        | inl before ↦ ap (λ n. count_by (λ place. place == k) xs + n) (count-none k ys (λ i d lt e. let here = (second.within i d lt).0 in omega arith)) ∙ add-zero (count_by (λ place. place == k) xs) ∙ first.once k from before
+        | inr after ↦ ap (λ n. n + count_by (λ place. place == k) ys) (count-none k xs (λ i d lt e. let here = (first.within i d lt).1 in omega arith)) ∙ zero-add (count_by (λ place. place == k) ys) ∙ second.once k after below
+      ];
+}
+
+-- the list behind others
+pub adds_ones : (bit : ℕ → ℕ) (width : ℕ) (old places new : List ℕ) → new ≡ old ++ places → ArePlacesOfOnes bit 0 width places → AddsOnes bit width old new
+adds_ones bit width old places new is ones = record {
+  kept = ap (take (length old)) is ∙ take-append_seam old places;
+  ones = subst (ArePlacesOfOnes bit 0 width) (sym (ap (drop (length old)) is ∙ drop-append_seam old places)) ones;
+}
+
+-- ---- one more list
+
+-- the lists between the starts are all of the values
+pub record AreAllBetween (starts values : List ℕ) : Type 0 where
+  pub rise : AreStarts starts (length values)
+  pub last : slice_index starts (length starts - 1) ≡ length values
+
+pub between_none : AreAllBetween (0 ∷ []) []
+between_none = record {
+  rise = record { some = omega arith; rise = λ key lt. absurd (omega arith); within = λ key lt. let first : key ≡ 0 = omega arith in rw first (omega arith) };
+  last = refl;
+}
+
+pub ones_none : (width : ℕ) (bit : ℕ → ℕ → ℕ) → AreOnesOfRows 0 width bit (lists_between (0 ∷ []) [])
+ones_none width bit = record { count = refl; each = λ i lt. absurd (omega arith) }
+
+module _ (old new : List ℕ) (kept : take (length old) new ≡ old) where
+  behind : new ≡ old ++ drop (length old) new
+  behind = sym (take-append-drop (length old) new) ∙ ap (λ l. l ++ drop (length old) new) kept
+
+  longer : length old ≤ length new
+  longer = let both = ap length behind ∙ length-append old (drop (length old) new) in omega arith
+
+  range_kept : (a b : ℕ) → a ≤ b → b ≤ length old → slice_range new a b ≡ slice_range old a b
+  range_kept a b le within =
+      ap (λ l. slice_range l a b) behind
+      ∙ ap (take (b - a)) (drop-append-le a old (drop (length old) new) (omega arith))
+      ∙ take-append-le (b - a) (drop a old) (drop (length old) new) (omega (arith, length-drop a old))
+
+  module _ (starts : List ℕ) (all : AreAllBetween starts old) where
+    start_kept : (key : ℕ) → key < length starts → slice_index (starts ++ length new ∷ []) key ≡ slice_index starts key
+    start_kept key lt = get_or-append starts (length new ∷ []) 0 key lt
+
+    start_new : (key : ℕ) → key ≡ length starts → slice_index (starts ++ length new ∷ []) key ≡ length new
+    start_new key is = ap (slice_index (starts ++ length new ∷ [])) is ∙ get_or-append_seam starts (length new) [] 0
+
+    one_more : length (starts ++ length new ∷ []) ≡ length starts + 1
+    one_more = length-append starts (length new ∷ [])
+
+    start_old : (key : ℕ) → key + 1 ≡ length starts → slice_index starts key ≡ length old
+    start_old key is = let place : key ≡ length starts - 1 = omega arith in ap (slice_index starts) place ∙ all.last
+
+    pub between_next : AreAllBetween (starts ++ length new ∷ []) new
+    between_next = record {
+      rise = record {
+        some = omega (arith, one_more);
+        rise = λ key lt.
+            elim (cases_lt (key + 1) (length starts)) [
+              | inl before ↦ rw (start_kept key (omega arith), start_kept (key + 1) before) (all.rise.rise key before)
+              | inr after ↦
+                  let end : key + 1 ≡ length starts = omega (arith, one_more) in
+                  rw (start_kept key (omega arith), start_new (key + 1) end, start_old key end) longer
+            ];
+        within = λ key lt.
+            elim (cases_lt key (length starts)) [
+              | inl before ↦ rw (start_kept key before) (omega (arith, all.rise.within key before, longer))
+              | inr after ↦ rw (start_new key (omega (arith, one_more))) (omega arith)
+            ];
+      };
+      last = start_new (length (starts ++ length new ∷ []) - 1) (omega (arith, one_more));
+    }
+
+    list_kept : (i : ℕ) → i + 1 < length starts → ones_at (lists_between (starts ++ length new ∷ []) new) i ≡ ones_at (lists_between starts old) i
+    list_kept i lt =
+        sym (list_read (starts ++ length new ∷ []) new i (omega (arith, one_more)))
+        ∙ rw (start_kept i (omega arith), start_kept (i + 1) lt) (range_kept (slice_index starts i) (slice_index starts (i + 1)) (all.rise.rise i lt) (all.rise.within (i + 1) lt))
+        ∙ list_read starts old i lt
+
+    list_new : (i : ℕ) → i + 1 ≡ length starts → ones_at (lists_between (starts ++ length new ∷ []) new) i ≡ drop (length old) new
+    list_new i is =
+        sym (list_read (starts ++ length new ∷ []) new i (omega (arith, one_more)))
+        ∙ rw (start_kept i (omega arith), start_new (i + 1) is, start_old i is) (take_rest new (length old))
+
+    pub ones_next : (width row : ℕ) (bit : ℕ → ℕ → ℕ) → AreOnesOfRows row width bit (lists_between starts old) → ArePlacesOfOnes (bit row) 0 width (drop (length old) new) → AreOnesOfRows (row + 1) width bit (lists_between (starts ++ length new ∷ []) new)
+    ones_next width row bit ones next =
+        let height : length starts ≡ row + 1 = omega (arith, ones.count, length-lists starts old, all.rise.some) in
+        record {
+          count = length-lists (starts ++ length new ∷ []) new ∙ omega (arith, one_more, height);
+          each = λ i lt.
+              elim (cases_lt i row) [
+                | inl before ↦ rw (list_kept i (omega arith)) (ones.each i before)
+                | inr after ↦
+                    let here : i ≡ row = omega arith in
+                    rw (here, list_new row (omega arith)) next
+              ];
+        }

@@ -1,0 +1,19 @@
+-- What the check leaves to show of `pi_solver::ones::RowOnes::of_matrix`.
+use Rattle.std.proofs.Common.{◌≡◌, ℕ, ◌++◌, ◌∷◌, [], ap, ◌∙◌, length}
+use Rattle.rq_solver.proofs.RowLists.{between_next, ones_next}
+use Rattle.rq_solver.proofs.pi_solver.ones.RowOnes.of_matrix.Goals as goal
+
+pub loop-row-preserved : goal.loop-row-preserved
+loop-row-preserved g c =
+    let content = g.T.BinaryMatrix.content c.args.bits.now in
+    let v = c.loop-row.invariant in
+    let added = c.in_ok-push_ones.ensures.ones in
+    let old = c.loop-row.columns.items in
+    let new = c.push_ones.new.columns.items in
+    let starts = c.loop-row.starts.items in
+    let here : c.push-in-loop-row.new.self.items ≡ starts ++ length new ∷ [] = c.in_ok-push-2.ensures.items ∙ ap (λ (n : ℕ). starts ++ n ∷ []) (c.len.ensures ∙ c.push_ones.new.columns.ok.0) in
+    rw here
+    (record {
+      between = between_next old new added.kept starts v.between;
+      ones = ones_next old new added.kept starts v.between content.width c.loop-row.row content.bit v.ones added.ones;
+    })

@@ -1,0 +1,13 @@
+-- What the loops keep in `pi_solver::ones::RowOnes::of_matrix`.
+use Rattle.rq_parts.specs.Lists.{lists_between}
+use Rattle.rq_solver.specs.Peeled.{AreOnesOfRows}
+use Rattle.rq_solver.proofs.RowLists.{AreAllBetween}
+use Rattle.rq_solver.proofs.pi_solver.ones.RowOnes.of_matrix.Given as goal
+
+abbrev pub invariant-loop-row : goal.invariant-loop-row
+invariant-loop-row g l =
+    let content = g.T.BinaryMatrix.content l.bits in
+    record {
+      between : AreAllBetween l.starts.items l.columns.items;
+      ones : AreOnesOfRows l.row content.width content.bit (lists_between l.starts.items l.columns.items);
+    }
