@@ -7,6 +7,7 @@ pub mod PivotTurns
 pub mod Results
 pub mod RowLists
 pub mod RowStepLaws
+pub mod RowTurns
 pub mod ShownRows
 pub mod SolutionLaws
 pub mod StepColumns
