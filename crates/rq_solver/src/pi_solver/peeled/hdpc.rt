@@ -1,5 +1,5 @@
 //! The HDPC rows in the columns of pivots.
-ghost use Rattle.std.specs.Prelude.{◌≡◌, ◌≢◌, ℕ, ◌+◌, ◌<◌, ◌≤◌, length, OnOk, IfErr};
+ghost use Rattle.std.specs.Prelude.{◌≡◌, ◌≢◌, ℕ, ◌+◌, ◌^◌, ◌<◌, ◌≤◌, length, OnOk, IfErr};
 ghost use Rattle.rq_algebra.specs.Arrangements.{ArePlaces};
 ghost use Rattle.rq_algebra.specs.Systems.{at};
 ghost use Rattle.rq_bytes.specs.declared.error.Error.TheVariants.{OutOfMemory};
@@ -27,6 +27,7 @@ pub(super) fn clear_octets(
     requires few { length peeling.now.rows.items ≤ hdpc.now.width }
     requires pivots { AreRows peeling.now.rows.items tails.old }
     requires height { first_hdpc + length hdpc.now.rows ≤ length tails.old.rows }
+    requires fits { first_hdpc + length hdpc.now.rows < 2 ^ 64 }
     requires apart { (i p : ℕ) → i < length hdpc.now.rows → p < length peeling.now.rows.items → first_hdpc + i ≢ at peeling.now.rows.items p }
     requires octets { HasOctets tails.old }
     ensures cleared { OnOk result (ClearsOctets peeling.now.rows.items peeling.now.order.items (entry_of hdpc.now) first_hdpc (length hdpc.now.rows) tails.old tails.new operations.old.items operations.new.items) }
