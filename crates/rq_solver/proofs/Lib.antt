@@ -12,5 +12,6 @@ pub mod RowTurns
 pub mod ShownRows
 pub mod SolutionLaws
 pub mod StepColumns
+pub mod TailTurns
 pub mod Turns
 pub mod Writes
