@@ -13,5 +13,6 @@ pub mod ShownRows
 pub mod SolutionLaws
 pub mod StepColumns
 pub mod TailTurns
+pub mod TailWrites
 pub mod Turns
 pub mod Writes
