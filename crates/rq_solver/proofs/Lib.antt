@@ -1,5 +1,6 @@
 pub mod Entries
 pub mod EquationLaws
+pub mod ListingLaws
 pub mod OctetTurns
 pub mod Outcomes
 pub mod Performed

@@ -1,0 +1,16 @@
+-- What the check leaves to show of `pi_solver::peeled::listing::list_rows`.
+use Rattle.std.proofs.Common.{◌≡◌, ℕ, List, length, take, arith}
+use Rattle.rq_solver.proofs.ListingLaws.{next_unmarked, next_listed}
+use Rattle.rq_solver.proofs.pi_solver.peeled.listing.list_rows.Goals as goal
+
+pub loop-row-preserved : goal.loop-row-preserved
+loop-row-preserved c =
+    let rows = c.args.rows.now in
+    let i = c.loop-row.row-index in
+    let v = c.loop-row.invariant in
+    let turn = c.in_ok-list_row.ensures in
+    let unmarked = next_unmarked rows c.args.height i c.loop-row.is_listed c.requires.rows c.loop-row-test.true (rw v.listed at v.marked) in
+    record {
+      marked = turn.marked;
+      listed = next_listed rows c.loop-row.listed.items c.list_row.new.listed.items i c.loop-row-test.true v.listed (turn.fresh unmarked);
+    }
