@@ -6,6 +6,7 @@ pub mod Outcomes
 pub mod Performed
 pub mod Performing
 pub mod PivotTurns
+pub mod PivotsCleared
 pub mod Results
 pub mod RowLists
 pub mod RowStepLaws

@@ -1,15 +1,20 @@
 -- Rows get zeros in the frozen columns, by rows of which each has the pivot of one of them.
-use Rattle.std.proofs.Common.{◌≡◌, ◌≢◌, ℕ, ◌+◌, ◌<◌, ◌≤◌, List, [], ◌∷◌, ◌++◌, length, sym, ap, ◌∙◌, arith, inl, inr, lit<}
+use Rattle.std.proofs.Common.{◌≡◌, ◌≢◌, ℕ, ◌+◌, ◌<◌, ◌≤◌, List, [], ◌∷◌, ◌++◌, Contains, length, sym, ap, ◌∙◌, subst, arith, inl, inr, lit<}
+use Rattle.std.specs.List.Sorted.{IsPermutation}
 use Rattle.std.proofs.lemmas.Bool.{cases_eq}
+use Rattle.std.proofs.lemmas.List.{get_or_default}
+use Rattle.std.proofs.lemmas.List.Elements.{All-contains, All-from_get_or, Contains-get_or}
+use Rattle.std.proofs.lemmas.List.Sorted.{Contains-permutation, IsPermutation-sym}
 use Rattle.rq_algebra.specs.Operations.{Operation}
 use Rattle.rq_algebra.specs.Systems.{at}
+use Rattle.rq_algebra.proofs.Changes.{find_place}
 use Rattle.rq_standard.specs.OctetField.{octets}
 use Rattle.rq_bytes.specs.declared.operation_vector.SymbolOps.{SymbolOps}
 use Rattle.rq_parts.specs.OctetTable.{OctetTable, entry_of}
-use Rattle.rq_solver.specs.Cleared.{sum_step, Performs, ClearsTail, ClearsTails}
-use Rattle.rq_solver.specs.RowSteps.{HasOctets, AreRows, IsReduced, rows_after}
-use Rattle.rq_solver.proofs.StepColumns.{rows_after-none, rows_after-next}
-use Rattle.rq_solver.proofs.Performing.{sum_step-here, sum_step-elsewhere, performs_none, performs_more}
+use Rattle.rq_solver.specs.Cleared.{sum_step, Performs, ClearsTail, ClearsTails, ClearsFrozen, HasFrozenPivots}
+use Rattle.rq_solver.specs.RowSteps.{HasOctets, AreRows, IsReduced, RecordsSteps, rows_after}
+use Rattle.rq_solver.proofs.StepColumns.{rows_after-none, rows_after-next, rows_after-zero, rows_after-apart}
+use Rattle.rq_solver.proofs.Performing.{sum_step-here, sum_step-elsewhere, performs_none, performs_more, performs_records}
 use Rattle.rq_solver.proofs.OctetTurns.{plus_zero_times, plus_own}
 
 -- what reduced rows have in their columns
@@ -135,3 +140,44 @@ module _ (rows reduced : List ℕ) (frozen : ℕ) where
               ∙ v.cleared p f (omega arith) n
         ];
       }
+
+-- ---- the elimination of the rows that are left, and then of the pivots' rows
+
+module _ (rows left reduced : List ℕ) (frozen : ℕ) (permuted : IsPermutation left reduced) (old mid : OctetTable) (before between : List SymbolOps) (left_are : AreRows left old) (records : RecordsSteps left old mid before between) (are : HasOctets mid) where
+  left_below : (r : ℕ) → Contains left r → r < length old.rows
+  left_below r c = All-contains (λ q. q < length old.rows) left r (All-from_get_or (λ q. q < length old.rows) left 0 left_are.below) c
+
+  eliminated : Performs records.steps old mid before between
+  eliminated = performs_records left old mid before between left_below are records
+
+  -- where the rows that are left have zeros they stay
+  stays_zero : (m : ℕ → ℕ → ℕ) (k : ℕ) → ((r : ℕ) → Contains left r → m r k ≡ 0) → (r : ℕ) → rows_after octets records.steps m r k ≡ m r k
+  stays_zero m k zeros r = elim (find_place (length left) (at left) r) [
+    | inl q ↦
+        let listed : Contains left r = subst (Contains left) q.2 (Contains-get_or left q.0 0 q.1) in
+        rows_after-zero octets left records.steps m k records.among zeros r listed ∙ sym (zeros r listed)
+    | inr free ↦ rows_after-apart octets left records.steps m r k records.among (λ c. free c.0 c.1 (get_or_default left c.0 0 r c.1 ∙ c.2))
+  ]
+
+  pub frozen_stuck : ClearsFrozen left old mid before between
+  frozen_stuck = record { steps = records.steps; performs = eliminated; kept = stays_zero }
+
+  module _ (new : OctetTable) (after : List SymbolOps) (clears : ClearsTails rows reduced frozen (length rows) mid new between after) (fits : frozen ≤ length reduced) where
+    pub frozen_cleared : ClearsFrozen left old new before after
+    frozen_cleared = record {
+      steps = records.steps ++ clears.steps;
+      performs = performs_more records.steps clears.steps old mid new before between after eliminated clears.performs;
+      kept = λ m k zeros r.
+          let now : ℕ → ℕ → ℕ = rows_after octets records.steps m in
+          rows_after-next octets records.steps clears.steps m r k
+          ∙ clears.kept now r k (λ f l.
+          let listed : Contains left (at reduced f) = Contains-permutation reduced left (at reduced f) (IsPermutation-sym left reduced permuted) (Contains-get_or reduced f 0 (omega arith)) in
+          stays_zero m k zeros (at reduced f) ∙ zeros (at reduced f) listed)
+          ∙ stays_zero m k zeros r;
+    }
+
+    pub frozen_pivots : AreRows rows mid → AreRows reduced mid → ((p f : ℕ) → p < length rows → f < length reduced → at rows p ≢ at reduced f) → mid.width ≡ frozen → IsReduced reduced 0 frozen mid → HasFrozenPivots rows reduced frozen new
+    frozen_pivots rows_are reduced_are apart wide is = record {
+      reduced = still_reduced rows reduced frozen (length rows) mid new between after clears rows_are (omega arith) wide reduced_are apart is;
+      zeros = λ p f l n. clears.cleared p f l n;
+    }

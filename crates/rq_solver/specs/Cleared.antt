@@ -10,7 +10,7 @@ use Rattle.rq_bytes.specs.SymbolOps.{operation_of}
 use Rattle.rq_bytes.specs.declared.operation_vector.SymbolOps.{SymbolOps}
 use Rattle.rq_parts.specs.OctetTable.{OctetTable, entry_of}
 use Rattle.rq_solver.specs.Peeled.{ones_at, IsPeeled}
-use Rattle.rq_solver.specs.RowSteps.{HasOctets, rows_after, IsStepAmong}
+use Rattle.rq_solver.specs.RowSteps.{HasOctets, IsReduced, rows_after, IsStepAmong}
 use Rattle.rq_solver.specs.declared.pi_solver.peeling.Peeling.{Peeling}
 
 -- ---- the rows
@@ -123,3 +123,14 @@ pub record ClearsTails (rows reduced : List ℕ) (frozen done : ℕ) (old new : 
   pub elsewhere : (m : ℕ → ℕ → ℕ) (r k : ℕ) → ((p : ℕ) → p < done → at rows p ≢ r) → rows_after octets steps m r k ≡ m r k
   pub kept : (m : ℕ → ℕ → ℕ) (r k : ℕ) → ((f : ℕ) → f < frozen → m (at reduced f) k ≡ 0) → rows_after octets steps m r k ≡ m r k
   pub cleared : (p f : ℕ) → p < done → f < frozen → entry_of new (at rows p) f ≡ 0
+
+-- steps among the rows that are left and the pivots' rows, which change no column in which the rows that are left have zeros
+pub record ClearsFrozen (left : List ℕ) (old new : OctetTable) (before after : List SymbolOps) : Type 0 where
+  pub steps : List Operation
+  pub performs : Performs steps old new before after
+  pub kept : (m : ℕ → ℕ → ℕ) (k : ℕ) → ((r : ℕ) → Contains left r → m r k ≡ 0) → (r : ℕ) → rows_after octets steps m r k ≡ m r k
+
+-- each frozen column has its pivot in one of the rows that are left, and the pivots' rows have 0 there
+pub record HasFrozenPivots (rows left : List ℕ) (frozen : ℕ) (table : OctetTable) : Type 0 where
+  pub reduced : IsReduced left 0 frozen table
+  pub zeros : (p f : ℕ) → p < length rows → f < frozen → entry_of table (at rows p) f ≡ 0

@@ -15,7 +15,7 @@ mod hdpc;
 mod listing;
 mod tails;
 
-use super::elimination::{addition, eliminate};
+use super::elimination::addition;
 use super::ones::RowOnes;
 use super::peeling::Peeling;
 use hdpc::clear_octets;
@@ -25,7 +25,7 @@ use rq_bytes::octet::Octet;
 use rq_bytes::operation_vector::SymbolOps;
 use rq_parts::octet_matrix::DenseOctetMatrix;
 use std::alloc::Global;
-use tails::{clear_tails, fill_tails};
+use tails::{clear_frozen, fill_tails};
 
 /// Finds the operations that take values of the rows to the column that solves the rows with them.
 /// `None` where the rows don't determine a column. The rows are those of bits, but the HDPC rows
@@ -44,15 +44,9 @@ pub(super) fn operations_of_peeled(
     ensures found { IfOk result (λ answer. (bit : ℕ → ℕ → ℕ) → AreOnesOfRows (length ones.now) width bit ones.now → let rows = with_octet_rows first_hdpc (length hdpc.now.rows) bit (entry_of hdpc.now) in MatchOption answer (HasNullColumn octets (length ones.now) width rows) (λ ops. FindsColumn octets (length ones.now) width rows (map operation_of ops.items))) }
     ensures err { IfErr result (λ e. e ≡ OutOfMemory) }
 {
-    let pivots = peeling.rows.len();
-    let frozen = width - pivots;
-    let mut listed = rows_in_order(
-        alloc,
-        ones.height(),
-        first_hdpc,
-        hdpc.height(),
-        peeling.rows.as_slice(),
-    )?;
+    let pivots = peeling.rows.as_slice();
+    let frozen = width - pivots.len();
+    let mut listed = rows_in_order(alloc, ones.height(), first_hdpc, hdpc.height(), pivots)?;
     let mut tails = fill_tails(alloc, ones, hdpc, first_hdpc, frozen, peeling)?;
     let mut operations = Vec::new(alloc);
     clear_rows(
@@ -63,17 +57,10 @@ pub(super) fn operations_of_peeled(
         &mut operations,
     )?;
     clear_octets(hdpc, first_hdpc, peeling, &mut tails, &mut operations)?;
-    let left = &mut listed.as_mut_slice()[pivots..];
-    if !eliminate(&mut tails, &mut operations, left, 0, frozen)? {
+    let left = &mut listed.as_mut_slice()[pivots.len()..];
+    if !clear_frozen(pivots, left, frozen, &mut tails, &mut operations)? {
         return Ok(None);
     }
-    clear_tails(
-        peeling.rows.as_slice(),
-        &listed.as_slice()[pivots..],
-        frozen,
-        &mut tails,
-        &mut operations,
-    )?;
     let order = rows_at(alloc, listed.as_slice(), peeling.places.as_slice())?;
     operations.push(SymbolOps::Reorder { order })?;
     Ok(Some(operations))

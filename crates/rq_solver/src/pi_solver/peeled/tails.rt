@@ -1,14 +1,14 @@
 //! The entries of rows in frozen columns.
-ghost use Rattle.std.specs.Prelude.{◌≡◌, ◌≢◌, ℕ, ◌+◌, ◌-◌, ◌<◌, ◌≤◌, All, drop, length, IfOk, OnOk, IfErr};
-ghost use Rattle.rq_algebra.specs.Arrangements.{ArePlaces};
+ghost use Rattle.std.specs.Prelude.{◌≡◌, ◌≢◌, ℕ, ◌+◌, ◌<◌, ◌≤◌, Contains, IsPermutation, length, IfOk, OnOk, IfErr, MatchBool};
 ghost use Rattle.rq_algebra.specs.Systems.{at};
 ghost use Rattle.rq_bytes.specs.declared.error.Error.TheVariants.{OutOfMemory};
 ghost use Rattle.rq_parts.specs.OctetTable.{entry_of};
-ghost use Rattle.rq_solver.specs.Cleared.{AreOctetRows, AreRowsOfBits, ClearsTail, ClearsTails, PeelsRows, one_in, system_rows};
-ghost use Rattle.rq_solver.specs.Peeled.{IsOrderOf, ones_at};
-ghost use Rattle.rq_solver.specs.RowSteps.{AreRows, HasOctets, IsReduced};
+ghost use Rattle.rq_solver.specs.Cleared.{AreOctetRows, ClearsFrozen, ClearsTail, ClearsTails, HasFrozenPivots, PeelsRows, one_in, system_rows};
+ghost use Rattle.rq_solver.specs.Peeled.{IsOrderOf};
+ghost use Rattle.rq_solver.specs.RowSteps.{AreRows, HasOctets, IsReduced, IsStuck};
 ghost use Rattle.rq_solver.specs.RowWrites.{HoldsRows, WritesRow};
 
+use super::super::elimination::eliminate;
 use super::super::ones::RowOnes;
 use super::super::peeling::Peeling;
 use super::add_row;
@@ -86,8 +86,35 @@ fn fill_bits(ones: &RowOnes, row: usize, peeling: &Peeling, tails: &mut DenseOct
     }
 }
 
+/// Eliminates the rows that are left, and then adds multiples of them to the pivots' rows, so that
+/// these have 0 in the frozen columns. False where a frozen column is left without a pivot.
+pub(super) fn clear_frozen(
+    pivots: &[usize],
+    left: &mut [usize],
+    frozen: usize,
+    tails: &mut DenseOctetMatrix,
+    operations: &mut Vec<SymbolOps>,
+) -> Result<bool, Error>
+    requires pivots { AreRows pivots.now tails.old }
+    requires left { AreRows left.old tails.old }
+    requires apart { (p : ℕ) → p < length pivots.now → Contains left.old (at pivots.now p) → ⊥ }
+    requires width { tails.old.width ≡ frozen }
+    requires octets { HasOctets tails.old }
+    ensures permuted { IsPermutation left.old left.new }
+    ensures rows { OnOk result (AreRows left.new tails.old) }
+    ensures cleared { OnOk result (ClearsFrozen left.old tails.old tails.new operations.old.items operations.new.items) }
+    ensures found { IfOk result (λ found. MatchBool found (HasFrozenPivots pivots.now left.new frozen tails.new) (IsStuck left.new 0 frozen tails.new)) }
+    ensures err { IfErr result (λ e. e ≡ OutOfMemory) }
+{
+    if !eliminate(tails, operations, left, 0, frozen)? {
+        return Ok(false);
+    }
+    clear_tails(pivots, left, frozen, tails, operations)?;
+    Ok(true)
+}
+
 /// Adds to rows multiples of reduced rows, so that they have 0 in the frozen columns.
-pub(super) fn clear_tails(
+fn clear_tails(
     rows: &[usize],
     reduced: &[usize],
     frozen: usize,

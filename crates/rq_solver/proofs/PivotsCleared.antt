@@ -1,0 +1,143 @@
+-- The pivots' columns of a system's rows, once the rows of bits and then those of octets have been cleared.
+use Rattle.std.proofs.Common.{◌≡◌, ◌≢◌, ℕ, ◌+◌, ◌-◌, ◌<◌, ◌≤◌, ◌⊎◌, List, [], ◌++◌, All, Contains, length, drop, refl, sym, ap, ◌∙◌, subst, arith, inl, inr}
+use Rattle.std.proofs.lemmas.Bool.{cases_lt}
+use Rattle.std.proofs.lemmas.List.{length-drop, get_or-drop, get_or_default}
+use Rattle.rq_algebra.specs.Operations.{Operation}
+use Rattle.rq_algebra.specs.Systems.{at, stacked, HasElements}
+use Rattle.rq_algebra.proofs.Stacks.{stacked_above, stacked_below}
+use Rattle.rq_standard.specs.OctetField.{octets}
+use Rattle.rq_bytes.specs.declared.operation_vector.SymbolOps.{SymbolOps}
+use Rattle.rq_parts.specs.OctetTable.{OctetTable, entry_of}
+use Rattle.rq_solver.specs.Cleared.{AreRowsOfBits, AreOctetRows, ListsRows, IsCleared, IsUncleared, ClearsRows, ClearsOctets, one_in, system_rows}
+use Rattle.rq_solver.specs.Peeled.{ones_at, IsPeeled}
+use Rattle.rq_solver.specs.RowSteps.{rows_after, IsStepAmong}
+use Rattle.rq_solver.proofs.PivotTurns.{if_apart}
+use Rattle.rq_solver.proofs.StepColumns.{rows_after-next, rows_after-zero, rows_after-apart}
+
+-- in the pivots' columns their rows have their own 1 alone, and the other rows nothing
+pub record AreCleared (rows order left : List ℕ) (m : ℕ → ℕ → ℕ) : Type 0 where
+  pub pivots : (p : ℕ) → p < length rows → IsCleared rows order m (at rows p)
+  pub others : (r : ℕ) → Contains left r → (p : ℕ) → p < length rows → m r (at order p) ≡ 0
+
+-- ---- the rows of a system
+
+module _ (lists : List (List ℕ)) (first : ℕ) (hdpc : OctetTable) where
+  after_hdpc : ℕ → ℕ → ℕ
+  after_hdpc i = one_in lists (first + length hdpc.rows + i)
+
+  hdpc_and_after : ℕ → ℕ → ℕ
+  hdpc_and_after = stacked (length hdpc.rows) (entry_of hdpc) after_hdpc
+
+  pub octet_row : (i k : ℕ) → i < length hdpc.rows → system_rows lists first hdpc (first + i) k ≡ entry_of hdpc i k
+  unfolding hdpc_and_after after_hdpc
+  octet_row i k l = ap (λ (r : ℕ → ℕ). r k) (stacked_below first (one_in lists) hdpc_and_after i ∙ stacked_above (length hdpc.rows) (entry_of hdpc) after_hdpc i l)
+
+  -- a row is one of octets, or one of bits
+  pub row_cases : (r : ℕ) → ((i : ℕ) × (i < length hdpc.rows) × (first + i ≡ r)) ⊎ (((i : ℕ) → i < length hdpc.rows → first + i ≢ r) × ((k : ℕ) → system_rows lists first hdpc r k ≡ one_in lists r k))
+  unfolding hdpc_and_after after_hdpc
+  row_cases r = elim (cases_lt r first) [
+    | inl before ↦ inr ((λ i l e. omega (arith, e, before)), (λ k. ap (λ (f : ℕ → ℕ). f k) (stacked_above first (one_in lists) hdpc_and_after r before)))
+    | inr from ↦
+        let i : ℕ = r - first in
+        let is : first + i ≡ r = omega arith in
+        elim (cases_lt i (length hdpc.rows)) [
+          | inl here ↦ inl (i, here, is)
+          | inr behind ↦
+              let j : ℕ = i - length hdpc.rows in
+              let deep : length hdpc.rows + j ≡ i = omega arith in
+              let place : first + length hdpc.rows + j ≡ r = omega arith in
+              inr (
+                (λ q l e. let z : q ≡ i = omega (arith, e, is) in omega (arith, z, l, behind)),
+                (λ k. ap (λ (q : ℕ). system_rows lists first hdpc q k) (sym is)
+                    ∙ ap (λ (f : ℕ → ℕ). f k) (stacked_below first (one_in lists) hdpc_and_after i)
+                    ∙ ap (λ (q : ℕ). hdpc_and_after q k) (sym deep)
+                    ∙ ap (λ (f : ℕ → ℕ). f k) (stacked_below (length hdpc.rows) (entry_of hdpc) after_hdpc j)
+                    ∙ ap (λ (q : ℕ). one_in lists q k) place),
+              )
+        ]
+  ]
+
+  module _ (width : ℕ) (bits : AreRowsOfBits width lists) (are : AreOctetRows lists first width hdpc) where
+    pub system_elements : HasElements octets (length lists) width (system_rows lists first hdpc)
+    system_elements i k l m = elim (row_cases i) [
+      | inl q ↦ rw (← q.2, octet_row q.0 k q.1) (are.octets.elements q.0 k q.1 (rw are.width_is m))
+      | inr b ↦ rw (b.1 k) (omega (arith, bits.once i k l m))
+    ]
+
+    module _ (rows order places : List ℕ) (peeled : IsPeeled width lists rows order places) where
+      -- a pivot's row is one of bits
+      pub pivot_of_bits : (p i : ℕ) → p < length rows → i < length hdpc.rows → first + i ≢ at rows p
+      pivot_of_bits p i l n e =
+          let none : ones_at lists (at rows p) ≡ [] = ap (ones_at lists) (sym e) ∙ are.empty i n in
+          let own : Contains [] (at order p) = subst (λ (xs : List ℕ). Contains xs (at order p)) none (peeled.own p l) in
+          omega (arith, own.1)
+
+      uncleared : (r : ℕ) → ((k : ℕ) → system_rows lists first hdpc r k ≡ one_in lists r k) → IsUncleared lists rows order (system_rows lists first hdpc) r
+      uncleared r same = record { entries = λ i l. same (at order i) }
+
+      pivots_uncleared : (p : ℕ) → p < length rows → IsUncleared lists rows order (system_rows lists first hdpc) (at rows p)
+      pivots_uncleared p l = elim (row_cases (at rows p)) [ inl q ↦ absurd (pivot_of_bits p q.0 l q.1 q.2) | inr b ↦ uncleared (at rows p) b.1 ]
+
+      module _ (listed : List ℕ) (listing : ListsRows (length lists) rows listed) where
+        -- where a row stands that is no pivot's
+        pub left_place : (r : ℕ) → Contains (drop (length rows) listed) r → (s : ℕ) × (length rows ≤ s) × (s < length listed) × (at listed s ≡ r)
+        left_place r c =
+            let long = length-drop (length rows) listed in
+            let inside : length rows + c.0 < length listed = omega (arith, long, c.1, listing.few) in
+            (length rows + c.0, (omega arith), inside, get_or_default listed (length rows + c.0) 0 r inside ∙ sym (get_or-drop (length rows) listed c.0 r) ∙ c.2)
+
+        pub left_below : (r : ℕ) → Contains (drop (length rows) listed) r → r < length lists
+        left_below r c = let s = left_place r c in rw (← s.3) (listing.are.below s.0 s.2)
+
+        pub left_apart : (r p : ℕ) → Contains (drop (length rows) listed) r → p < length rows → at rows p ≢ r
+        left_apart r p c l e =
+            let s = left_place r c in
+            let z : p ≡ s.0 = listing.are.apart p s.0 (omega (arith, listing.few)) s.2 (listing.starts p l ∙ e ∙ sym s.3) in
+            omega (arith, z, s.1, l)
+
+        module _ (zero one two : OctetTable) (start between after : List SymbolOps) (clears : ClearsRows lists rows order listed (length listed) zero one start between) (wipes : ClearsOctets rows order (entry_of hdpc) first (length hdpc.rows) one two between after) where
+          system : ℕ → ℕ → ℕ
+          system = system_rows lists first hdpc
+
+          now : ℕ → ℕ → ℕ
+          now = rows_after octets clears.steps system
+
+          cleared_at : (s : ℕ) → s < length listed → ((k : ℕ) → system_rows lists first hdpc (at listed s) k ≡ one_in lists (at listed s) k) → IsCleared rows order now (at listed s)
+          unfolding system now
+          cleared_at s l same = clears.cleared system pivots_uncleared s l (uncleared (at listed s) same)
+
+          pivot_now : (p : ℕ) → p < length rows → IsCleared rows order now (at rows p)
+          unfolding system now
+          pivot_now p l = subst (IsCleared rows order now) (listing.starts p l) (clears.cleared system pivots_uncleared p (omega (arith, listing.few)) (subst (IsUncleared lists rows order system) (sym (listing.starts p l)) (pivots_uncleared p l)))
+
+          in_end : (r k : ℕ) → rows_after octets (clears.steps ++ wipes.steps) system r k ≡ rows_after octets wipes.steps now r k
+          unfolding now
+          in_end r k = rows_after-next octets clears.steps wipes.steps system r k
+
+          octets_now : (i k : ℕ) → i < length hdpc.rows → now (first + i) k ≡ entry_of hdpc i k
+          unfolding system now
+          octets_now i k l = clears.idle system (first + i) k (are.empty i l) ∙ octet_row i k l
+
+          left_cleared : (r : ℕ) → Contains (drop (length rows) listed) r → (p : ℕ) → p < length rows → rows_after octets wipes.steps now r (at order p) ≡ 0
+          left_cleared r c p l = elim (row_cases r) [
+            | inl q ↦ rw (← q.2) (wipes.cleared now pivot_now q.0 q.1 (λ j n. octets_now q.0 (at order j) q.1) p l)
+            | inr b ↦
+                let s = left_place r c in
+                let cleared : IsCleared rows order now r = subst (IsCleared rows order now) s.3 (cleared_at s.0 s.2 (λ k. rw s.3 (b.1 k))) in
+                wipes.elsewhere now r (at order p) (λ i n. b.0 i n) ∙ cleared.entries p l ∙ if_apart (at rows p) r 1 0 (left_apart r p c l)
+          ]
+
+          pub cleared_both : AreCleared rows order (drop (length rows) listed) (rows_after octets (clears.steps ++ wipes.steps) (system_rows lists first hdpc))
+          unfolding system
+          cleared_both = record {
+            pivots = λ p l. record { entries = λ i n. in_end (at rows p) (at order i) ∙ wipes.elsewhere now (at rows p) (at order i) (λ j o. pivot_of_bits p j l o) ∙ (pivot_now p l).entries i n };
+            others = λ r c p l. in_end r (at order p) ∙ left_cleared r c p l;
+          }
+
+-- ---- steps among the rows that are left
+
+pub cleared_stays : (rows order left : List ℕ) (steps : List Operation) (m : ℕ → ℕ → ℕ) → ((r p : ℕ) → Contains left r → p < length rows → at rows p ≢ r) → All (IsStepAmong octets left) steps → AreCleared rows order left m → AreCleared rows order left (rows_after octets steps m)
+cleared_stays rows order left steps m apart among are = record {
+  pivots = λ p l. record { entries = λ i n. rows_after-apart octets left steps m (at rows p) (at order i) among (λ c. apart (at rows p) p c l refl) ∙ (are.pivots p l).entries i n };
+  others = λ r c p l. rows_after-zero octets left steps m (at order p) among (λ q d. are.others q d p l) r c;
+}
