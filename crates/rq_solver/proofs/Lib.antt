@@ -1,8 +1,10 @@
 pub mod Entries
 pub mod EquationLaws
 pub mod ListingLaws
+pub mod OctetRows
 pub mod OctetTurns
 pub mod Outcomes
+pub mod PeeledOutcomes
 pub mod Performed
 pub mod Performing
 pub mod PivotTurns

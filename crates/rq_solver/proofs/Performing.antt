@@ -80,7 +80,7 @@ performs_none table operations are = record {
   octets = are;
 }
 
-below_range : (height : ℕ) → All (λ r. r < height) (range_with_len 0 height)
+pub below_range : (height : ℕ) → All (λ r. r < height) (range_with_len 0 height)
 below_range height = All-from_get_or (λ r. r < height) (range_with_len 0 height) 0 (λ i l. let n = length-range_with_len 0 height in let e = get_or-range_with_len 0 height i 0 (omega (arith, n)) in omega (arith, n))
 
 module _ (steps more : List Operation) (first second third : OctetTable) (before between after : List SymbolOps) where

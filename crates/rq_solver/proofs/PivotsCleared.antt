@@ -1,16 +1,15 @@
 -- The pivots' columns of a system's rows, once the rows of bits and then those of octets have been cleared.
-use Rattle.std.proofs.Common.{◌≡◌, ◌≢◌, ℕ, ◌+◌, ◌-◌, ◌<◌, ◌≤◌, ◌⊎◌, List, [], ◌++◌, All, Contains, length, drop, refl, sym, ap, ◌∙◌, subst, arith, inl, inr}
-use Rattle.std.proofs.lemmas.Bool.{cases_lt}
+use Rattle.std.proofs.Common.{◌≡◌, ◌≢◌, ℕ, ◌+◌, ◌<◌, ◌≤◌, ◌⊎◌, List, [], ◌++◌, All, Contains, length, drop, refl, sym, ap, ◌∙◌, subst, arith, inl, inr}
 use Rattle.std.proofs.lemmas.List.{length-drop, get_or-drop, get_or_default}
 use Rattle.rq_algebra.specs.Operations.{Operation}
-use Rattle.rq_algebra.specs.Systems.{at, stacked, HasElements}
-use Rattle.rq_algebra.proofs.Stacks.{stacked_above, stacked_below}
+use Rattle.rq_algebra.specs.Systems.{at, HasElements}
 use Rattle.rq_standard.specs.OctetField.{octets}
 use Rattle.rq_bytes.specs.declared.operation_vector.SymbolOps.{SymbolOps}
 use Rattle.rq_parts.specs.OctetTable.{OctetTable, entry_of}
 use Rattle.rq_solver.specs.Cleared.{AreRowsOfBits, AreOctetRows, ListsRows, IsCleared, IsUncleared, ClearsRows, ClearsOctets, one_in, system_rows}
 use Rattle.rq_solver.specs.Peeled.{ones_at, IsPeeled}
 use Rattle.rq_solver.specs.RowSteps.{rows_after, IsStepAmong}
+use Rattle.rq_solver.proofs.OctetRows.{octet_row, bit_row, octet_row_or_bit_row}
 use Rattle.rq_solver.proofs.PivotTurns.{if_apart}
 use Rattle.rq_solver.proofs.StepColumns.{rows_after-next, rows_after-zero, rows_after-apart}
 
@@ -22,46 +21,20 @@ pub record AreCleared (rows order left : List ℕ) (m : ℕ → ℕ → ℕ) : T
 -- ---- the rows of a system
 
 module _ (lists : List (List ℕ)) (first : ℕ) (hdpc : OctetTable) where
-  after_hdpc : ℕ → ℕ → ℕ
-  after_hdpc i = one_in lists (first + length hdpc.rows + i)
+  cases : (r : ℕ) → ((i : ℕ) × (i < length hdpc.rows) × (first + i ≡ r)) ⊎ ((i : ℕ) → i < length hdpc.rows → first + i ≢ r)
+  cases r = octet_row_or_bit_row first (length hdpc.rows) (entry_of hdpc) r
 
-  hdpc_and_after : ℕ → ℕ → ℕ
-  hdpc_and_after = stacked (length hdpc.rows) (entry_of hdpc) after_hdpc
+  octets_at : (i k : ℕ) → i < length hdpc.rows → system_rows lists first hdpc (first + i) k ≡ entry_of hdpc i k
+  octets_at i k l = octet_row first (length hdpc.rows) (entry_of hdpc) (one_in lists) i k l
 
-  pub octet_row : (i k : ℕ) → i < length hdpc.rows → system_rows lists first hdpc (first + i) k ≡ entry_of hdpc i k
-  unfolding hdpc_and_after after_hdpc
-  octet_row i k l = ap (λ (r : ℕ → ℕ). r k) (stacked_below first (one_in lists) hdpc_and_after i ∙ stacked_above (length hdpc.rows) (entry_of hdpc) after_hdpc i l)
-
-  -- a row is one of octets, or one of bits
-  pub row_cases : (r : ℕ) → ((i : ℕ) × (i < length hdpc.rows) × (first + i ≡ r)) ⊎ (((i : ℕ) → i < length hdpc.rows → first + i ≢ r) × ((k : ℕ) → system_rows lists first hdpc r k ≡ one_in lists r k))
-  unfolding hdpc_and_after after_hdpc
-  row_cases r = elim (cases_lt r first) [
-    | inl before ↦ inr ((λ i l e. omega (arith, e, before)), (λ k. ap (λ (f : ℕ → ℕ). f k) (stacked_above first (one_in lists) hdpc_and_after r before)))
-    | inr from ↦
-        let i : ℕ = r - first in
-        let is : first + i ≡ r = omega arith in
-        elim (cases_lt i (length hdpc.rows)) [
-          | inl here ↦ inl (i, here, is)
-          | inr behind ↦
-              let j : ℕ = i - length hdpc.rows in
-              let deep : length hdpc.rows + j ≡ i = omega arith in
-              let place : first + length hdpc.rows + j ≡ r = omega arith in
-              inr (
-                (λ q l e. let z : q ≡ i = omega (arith, e, is) in omega (arith, z, l, behind)),
-                (λ k. ap (λ (q : ℕ). system_rows lists first hdpc q k) (sym is)
-                    ∙ ap (λ (f : ℕ → ℕ). f k) (stacked_below first (one_in lists) hdpc_and_after i)
-                    ∙ ap (λ (q : ℕ). hdpc_and_after q k) (sym deep)
-                    ∙ ap (λ (f : ℕ → ℕ). f k) (stacked_below (length hdpc.rows) (entry_of hdpc) after_hdpc j)
-                    ∙ ap (λ (q : ℕ). one_in lists q k) place),
-              )
-        ]
-  ]
+  bits_at : (r k : ℕ) → ((i : ℕ) → i < length hdpc.rows → first + i ≢ r) → system_rows lists first hdpc r k ≡ one_in lists r k
+  bits_at r k out = bit_row first (length hdpc.rows) (entry_of hdpc) (one_in lists) r k out
 
   module _ (width : ℕ) (bits : AreRowsOfBits width lists) (are : AreOctetRows lists first width hdpc) where
     pub system_elements : HasElements octets (length lists) width (system_rows lists first hdpc)
-    system_elements i k l m = elim (row_cases i) [
-      | inl q ↦ rw (← q.2, octet_row q.0 k q.1) (are.octets.elements q.0 k q.1 (rw are.width_is m))
-      | inr b ↦ rw (b.1 k) (omega (arith, bits.once i k l m))
+    system_elements i k l m = elim (cases i) [
+      | inl q ↦ rw (← q.2, octets_at q.0 k q.1) (are.octets.elements q.0 k q.1 (rw are.width_is m))
+      | inr out ↦ rw (bits_at i k out) (omega (arith, bits.once i k l m))
     ]
 
     module _ (rows order places : List ℕ) (peeled : IsPeeled width lists rows order places) where
@@ -72,11 +45,11 @@ module _ (lists : List (List ℕ)) (first : ℕ) (hdpc : OctetTable) where
           let own : Contains [] (at order p) = subst (λ (xs : List ℕ). Contains xs (at order p)) none (peeled.own p l) in
           omega (arith, own.1)
 
-      uncleared : (r : ℕ) → ((k : ℕ) → system_rows lists first hdpc r k ≡ one_in lists r k) → IsUncleared lists rows order (system_rows lists first hdpc) r
-      uncleared r same = record { entries = λ i l. same (at order i) }
+      uncleared : (r : ℕ) → ((i : ℕ) → i < length hdpc.rows → first + i ≢ r) → IsUncleared lists rows order (system_rows lists first hdpc) r
+      uncleared r out = record { entries = λ i l. bits_at r (at order i) out }
 
       pivots_uncleared : (p : ℕ) → p < length rows → IsUncleared lists rows order (system_rows lists first hdpc) (at rows p)
-      pivots_uncleared p l = elim (row_cases (at rows p)) [ inl q ↦ absurd (pivot_of_bits p q.0 l q.1 q.2) | inr b ↦ uncleared (at rows p) b.1 ]
+      pivots_uncleared p l = uncleared (at rows p) (λ i n. pivot_of_bits p i l n)
 
       module _ (listed : List ℕ) (listing : ListsRows (length lists) rows listed) where
         -- where a row stands that is no pivot's
@@ -102,9 +75,9 @@ module _ (lists : List (List ℕ)) (first : ℕ) (hdpc : OctetTable) where
           now : ℕ → ℕ → ℕ
           now = rows_after octets clears.steps system
 
-          cleared_at : (s : ℕ) → s < length listed → ((k : ℕ) → system_rows lists first hdpc (at listed s) k ≡ one_in lists (at listed s) k) → IsCleared rows order now (at listed s)
+          cleared_at : (s : ℕ) → s < length listed → ((i : ℕ) → i < length hdpc.rows → first + i ≢ at listed s) → IsCleared rows order now (at listed s)
           unfolding system now
-          cleared_at s l same = clears.cleared system pivots_uncleared s l (uncleared (at listed s) same)
+          cleared_at s l out = clears.cleared system pivots_uncleared s l (uncleared (at listed s) out)
 
           pivot_now : (p : ℕ) → p < length rows → IsCleared rows order now (at rows p)
           unfolding system now
@@ -116,15 +89,15 @@ module _ (lists : List (List ℕ)) (first : ℕ) (hdpc : OctetTable) where
 
           octets_now : (i k : ℕ) → i < length hdpc.rows → now (first + i) k ≡ entry_of hdpc i k
           unfolding system now
-          octets_now i k l = clears.idle system (first + i) k (are.empty i l) ∙ octet_row i k l
+          octets_now i k l = clears.idle system (first + i) k (are.empty i l) ∙ octets_at i k l
 
           left_cleared : (r : ℕ) → Contains (drop (length rows) listed) r → (p : ℕ) → p < length rows → rows_after octets wipes.steps now r (at order p) ≡ 0
-          left_cleared r c p l = elim (row_cases r) [
+          left_cleared r c p l = elim (cases r) [
             | inl q ↦ rw (← q.2) (wipes.cleared now pivot_now q.0 q.1 (λ j n. octets_now q.0 (at order j) q.1) p l)
-            | inr b ↦
+            | inr out ↦
                 let s = left_place r c in
-                let cleared : IsCleared rows order now r = subst (IsCleared rows order now) s.3 (cleared_at s.0 s.2 (λ k. rw s.3 (b.1 k))) in
-                wipes.elsewhere now r (at order p) (λ i n. b.0 i n) ∙ cleared.entries p l ∙ if_apart (at rows p) r 1 0 (left_apart r p c l)
+                let cleared : IsCleared rows order now r = subst (IsCleared rows order now) s.3 (cleared_at s.0 s.2 (λ i n. rw s.3 (out i n))) in
+                wipes.elsewhere now r (at order p) out ∙ cleared.entries p l ∙ if_apart (at rows p) r 1 0 (left_apart r p c l)
           ]
 
           pub cleared_both : AreCleared rows order (drop (length rows) listed) (rows_after octets (clears.steps ++ wipes.steps) (system_rows lists first hdpc))

@@ -1,0 +1,258 @@
+-- What the elimination over peeled rows has found when it ends.
+use Rattle.std.proofs.Common.{◌≡◌, ◌≢◌, ℕ, suc, ◌+◌, ◌-◌, ◌<◌, ◌≤◌, ◌==◌, if◌then◌else◌, List, [], ◌∷◌, ◌++◌, All, Contains, map, length, drop, refl, sym, ap, ◌∙◌, subst, arith, inl, inr}
+use Rattle.std.specs.List.{range_with_len}
+use Rattle.std.specs.List.Sorted.{IsPermutation}
+use Rattle.std.proofs.lemmas.Bool.{cases_eq, cases_lt}
+use Rattle.std.proofs.lemmas.List.{length-drop, length-map, get_or-drop, get_or_default}
+use Rattle.std.proofs.lemmas.List.Elements.{Contains-get_or}
+use Rattle.std.proofs.lemmas.List.Sorted.{Contains-permutation, IsPermutation-sym}
+use Rattle.std.proofs.Math.ListN.{get_or-map}
+use Rattle.rq_algebra.specs.Arrangements.{ArePlaces, IsFewOn}
+use Rattle.rq_algebra.specs.Elimination.{FindsColumn, ReadsPivots}
+use Rattle.rq_algebra.specs.Meaning.{Follows, HasFirstPivots}
+use Rattle.rq_algebra.specs.Operations.{Operation, Reorder}
+use Rattle.rq_algebra.specs.Systems.{at, stacked, HasElements, HasNullColumn}
+use Rattle.rq_algebra.proofs.FewEquations.{null_of_few}
+use Rattle.rq_algebra.proofs.Pivots.{finds_by_pivots, null_back}
+use Rattle.rq_algebra.proofs.Reduction.{pivots_of_first}
+use Rattle.rq_algebra.proofs.Runs.{follows_none}
+use Rattle.rq_algebra.proofs.Stacks.{stacked_above, stacked_below}
+use Rattle.rq_standard.specs.OctetField.{octets}
+use Rattle.rq_bytes.specs.SymbolOps.{operation_of}
+use Rattle.rq_bytes.specs.declared.operation_vector.SymbolOps.{SymbolOps}
+use Rattle.rq_parts.specs.OctetTable.{OctetTable, entry_of}
+use Rattle.rq_solver.specs.Cleared.{AreRowsOfBits, AreOctetRows, ListsRows, ClearsRows, ClearsOctets, ClearsFrozen, HasFrozenPivots, Performs, system_rows}
+use Rattle.rq_solver.specs.Peeled.{IsPeeled}
+use Rattle.rq_solver.specs.RowSteps.{IsReduced, IsStuck, IsStepAmong, rows_after}
+use Rattle.rq_solver.specs.RowWrites.{HoldsRows}
+use Rattle.rq_solver.proofs.Performing.{below_range, performs_more, shows_after}
+use Rattle.rq_solver.proofs.PivotTurns.{if_same, if_apart}
+use Rattle.rq_solver.proofs.PivotsCleared.{AreCleared, system_elements, cleared_both, left_below, left_apart}
+use Rattle.rq_solver.proofs.RowStepLaws.{rows_after-elements, follows_steps}
+use Rattle.rq_solver.proofs.StepColumns.{rows_after-next}
+
+module _ (lists : List (List ℕ)) (first : ℕ) (hdpc : OctetTable) (width : ℕ) (bits : AreRowsOfBits width lists) (are : AreOctetRows lists first width hdpc) (rows order places : List ℕ) (peeled : IsPeeled width lists rows order places) (listed : List ℕ) (listing : ListsRows (length lists) rows listed)
+    (frozen : ℕ) (wide : length rows + frozen ≡ width) (zero one two last : OctetTable) (start between after final : List SymbolOps) (empty : start ≡ [])
+    (holds : HoldsRows (length lists) frozen (length lists) (λ r f. system_rows lists first hdpc r (at order (length rows + f))) zero)
+    (clears : ClearsRows lists rows order listed (length listed) zero one start between) (wipes : ClearsOctets rows order (entry_of hdpc) first (length hdpc.rows) one two between after)
+    (ends : ClearsFrozen (drop (length rows) listed) two last after final) (reduced : List ℕ) (permuted : IsPermutation (drop (length rows) listed) reduced) where
+  abbrev height : ℕ
+  height = length lists
+
+  abbrev pivots : ℕ
+  pivots = length rows
+
+  abbrev left : List ℕ
+  left = drop (length rows) listed
+
+  abbrev system : ℕ → ℕ → ℕ
+  system = system_rows lists first hdpc
+
+  abbrev mid : ℕ → ℕ → ℕ
+  mid = rows_after octets (clears.steps ++ wipes.steps) system
+
+  abbrev steps : List Operation
+  steps = (clears.steps ++ wipes.steps) ++ ends.steps
+
+  abbrev meant : ℕ → ℕ → ℕ
+  meant = rows_after octets steps system
+
+  cleared : AreCleared rows order left mid
+  cleared = cleared_both lists first hdpc width bits are rows order places peeled listed listing zero one two start between after clears wipes
+
+  performs : Performs steps zero last start final
+  performs = performs_more (clears.steps ++ wipes.steps) ends.steps zero two last start after final (performs_more clears.steps wipes.steps zero one two start between after clears.performs wipes.performs) ends.performs
+
+  among : All (IsStepAmong octets (range_with_len 0 height)) steps
+  among = rw holds.height_is at performs.among
+
+  elements : HasElements octets height width meant
+  elements = rows_after-elements octets (length lists) width (range_with_len 0 (length lists)) (below_range (length lists)) steps (system_rows lists first hdpc) among (system_elements lists first hdpc width bits are)
+
+  follows : Follows octets height width system meant (map operation_of final)
+  follows =
+      let recorded : map operation_of final ≡ steps = performs.recorded ∙ ap (λ (l : List SymbolOps). map operation_of l ++ steps) empty in
+      rw recorded (follows_steps octets (length lists) width (range_with_len 0 (length lists)) (below_range (length lists)) steps (system_rows lists first hdpc) (system_rows lists first hdpc) [] among (system_elements lists first hdpc width bits are) (follows_none octets (length lists) width (system_rows lists first hdpc)))
+
+  -- the pivots' columns stay as they were when the frozen ones get pivots
+  kept : (p r : ℕ) → p < pivots → meant r (at order p) ≡ mid r (at order p)
+  kept p r l = rows_after-next octets (clears.steps ++ wipes.steps) ends.steps system r (at order p) ∙ ends.kept mid (at order p) (λ q c. cleared.others q c p l) r
+
+  frozen_at : (r f : ℕ) → r < height → f < frozen → meant r (at order (pivots + f)) ≡ entry_of last r f
+  frozen_at r f l n =
+      sym (shows_after steps zero last start final (system_rows lists first hdpc) (λ g. at order (length rows + g)) performs
+      (λ i g o u. holds.written i g (rw holds.height_is at o) (rw holds.width_is at u)) r f (rw holds.height_is l) (rw holds.width_is n))
+
+  -- ---- rows in the order of their pivots' columns
+
+  row_of : ℕ → ℕ
+  row_of = stacked pivots (at rows) (at reduced)
+
+  of_pivot : (p : ℕ) → p < pivots → row_of p ≡ at rows p
+  unfolding row_of
+  of_pivot p l = stacked_above pivots (at rows) (at reduced) p l
+
+  of_left : (q : ℕ) → row_of (pivots + q) ≡ at reduced q
+  unfolding row_of
+  of_left q = stacked_below pivots (at rows) (at reduced) q
+
+  in_left : (q : ℕ) → q < length reduced → Contains left (at reduced q)
+  in_left q l = Contains-permutation reduced (drop (length rows) listed) (at reduced q) (IsPermutation-sym (drop (length rows) listed) reduced permuted) (Contains-get_or reduced q 0 l)
+
+  reduced_below : (q : ℕ) → q < length reduced → at reduced q < height
+  reduced_below q l = left_below lists first hdpc width bits are rows order places peeled listed listing (at reduced q) (in_left q l)
+
+  pivot_below : (p : ℕ) → p < pivots → at rows p < height
+  pivot_below p l = peeled.in_rows.below p l
+
+  apart : (p q : ℕ) → p < pivots → q < length reduced → at rows p ≢ at reduced q
+  apart p q l n = left_apart lists first hdpc width bits are rows order places peeled listed listing (at reduced q) p (in_left q n) l
+
+  pivot_pivot : (i p : ℕ) → i < pivots → p < pivots → meant (at rows i) (at order p) ≡ (if at rows p == at rows i then 1 else 0)
+  pivot_pivot i p l n = kept p (at rows i) n ∙ (cleared.pivots i l).entries p n
+
+  left_pivot : (r p : ℕ) → Contains left r → p < pivots → meant r (at order p) ≡ 0
+  left_pivot r p c l = kept p r l ∙ cleared.others r c p l
+
+  -- columns stand at one place each
+  columns_apart : (n : ℕ) → n ≤ width → ArePlaces n width (at order)
+  columns_apart n l = record {
+    below = λ j o. (peeled.columns.ordered j (omega arith)).0;
+    apart = λ i j o u e. sym (peeled.columns.ordered i (omega arith)).1 ∙ ap (at places) e ∙ (peeled.columns.ordered j (omega arith)).1;
+  }
+
+  -- ---- a frozen column without a pivot
+
+  module _ (stuck : IsStuck reduced 0 frozen last) where
+    -- a row that is none of those with pivots stands behind them
+    behind : (i : ℕ) → i < height → ((p : ℕ) → p < pivots + stuck.done → row_of p ≢ i) → (q : ℕ) × (stuck.done ≤ q) × (q < length reduced) × (at reduced q ≡ i)
+    behind i l free =
+        let c = listing.every i l in
+        let same : at listed c.0 ≡ i = get_or_default listed c.0 0 i c.1 ∙ c.2 in
+        elim (cases_lt c.0 pivots) [
+          | inl early ↦ absurd (free c.0 (omega arith) (of_pivot c.0 early ∙ sym (listing.starts c.0 early) ∙ same))
+          | inr late ↦
+              let s : ℕ = c.0 - pivots in
+              let back : pivots + s ≡ c.0 = omega arith in
+              let inside : s < length left = omega (arith, length-drop (length rows) listed, c.1) in
+              let here : at left s ≡ i = get_or-drop (length rows) listed s 0 ∙ ap (at listed) back ∙ same in
+              let d = Contains-permutation left reduced i permuted (subst (Contains left) here (Contains-get_or left s 0 inside)) in
+              let is : at reduced d.0 ≡ i = get_or_default reduced d.0 0 i d.1 ∙ d.2 in
+              elim (cases_lt d.0 stuck.done) [
+                | inl done ↦ absurd (free (pivots + d.0) (omega arith) (of_left d.0 ∙ is))
+                | inr undone ↦ (d.0, undone, d.1, is)
+              ]
+        ]
+
+    nothing_behind : (q j : ℕ) → stuck.done ≤ q → q < length reduced → j < suc (pivots + stuck.done) → meant (at reduced q) (at order j) ≡ 0
+    nothing_behind q j from l n = elim (cases_lt j pivots) [
+      | inl early ↦ left_pivot (at reduced q) j (in_left q l) early
+      | inr late ↦
+          let f : ℕ = j - pivots in
+          let back : pivots + f ≡ j = omega arith in
+          let fits : f < frozen = omega (arith, stuck.below) in
+          let column : f ≡ 0 + f = omega arith in
+          ap (λ (k : ℕ). meant (at reduced q) (at order k)) (sym back) ∙ frozen_at (at reduced q) f (reduced_below q l) fits ∙ ap (entry_of last (at reduced q)) column
+          ∙ elim (cases_eq f stuck.done) [
+            | inl e ↦ ap (λ (g : ℕ). entry_of last (at reduced q) (0 + g)) e ∙ stuck.empty q from l
+            | inr d ↦ stuck.reduced.pivots.zeros q f l (omega arith) (omega arith)
+          ]
+    ]
+
+    few : IsFewOn height width (pivots + stuck.done) meant row_of (at order)
+    few = record {
+      rows_below = λ p l. elim (cases_lt p pivots) [
+        | inl early ↦ rw (of_pivot p early) (pivot_below p early)
+        | inr late ↦
+            let q : ℕ = p - pivots in
+            let back : pivots + q ≡ p = omega arith in
+            rw (← back, of_left q) (reduced_below q (omega (arith, stuck.reduced.fits)))
+      ];
+      columns_are = columns_apart (suc (pivots + stuck.done)) (omega (arith, stuck.below));
+      zeros = λ i l free j n. let b = behind i l free in rw (← b.3) (nothing_behind b.0 j b.1 b.2 n);
+    }
+
+    pub null_of_peeled : HasNullColumn octets (length lists) width (system_rows lists first hdpc)
+    null_of_peeled = null_back octets height width system meant (map operation_of final) follows (null_of_few octets height width (pivots + stuck.done) meant row_of (at order) elements few)
+
+  -- ---- all columns with pivots
+
+  module _ (found : HasFrozenPivots rows reduced frozen last) (placed : List ℕ) (long : (q : ℕ) → q < length reduced → at placed (length rows + q) ≡ at reduced q) (starts : (p : ℕ) → p < length rows → at placed p ≡ at rows p) where
+    -- the part of a place among the frozen columns
+    frozen_place : (p : ℕ) → p < width → pivots ≤ p → (q : ℕ) × (q < frozen) × (pivots + q ≡ p)
+    frozen_place p l late = (p - pivots, (omega arith), (omega arith))
+
+    fits : (q : ℕ) → q < frozen → q < length reduced
+    fits q l = omega (arith, found.reduced.fits)
+
+    row_one : (p : ℕ) → p < width → meant (row_of p) (at order p) ≡ 1
+    row_one p l = elim (cases_lt p pivots) [
+      | inl early ↦ ap (λ (r : ℕ). meant r (at order p)) (of_pivot p early) ∙ pivot_pivot p p early early ∙ if_same (at rows p) (at rows p) 1 0 refl
+      | inr late ↦
+          let f = frozen_place p l late in
+          let column : f.0 ≡ 0 + f.0 = omega arith in
+          rw (← f.2) (
+          ap (λ (r : ℕ). meant r (at order (pivots + f.0))) (of_left f.0)
+          ∙ frozen_at (at reduced f.0) f.0 (reduced_below f.0 (fits f.0 f.1)) f.1
+          ∙ ap (entry_of last (at reduced f.0)) column
+          ∙ found.reduced.pivots.ones f.0 f.1)
+    ]
+
+    row_zero : (i p : ℕ) → i < width → p < width → i ≢ p → meant (row_of i) (at order p) ≡ 0
+    row_zero i p l n d = elim (cases_lt i pivots) [
+      | inl early ↦ ap (λ (r : ℕ). meant r (at order p)) (of_pivot i early) ∙ elim (cases_lt p pivots) [
+        | inl first_p ↦ pivot_pivot i p early first_p ∙ if_apart (at rows p) (at rows i) 1 0 (λ e. d (sym (peeled.in_rows.apart p i first_p early e)))
+        | inr late_p ↦
+            let f = frozen_place p n late_p in
+            rw (← f.2) (frozen_at (at rows i) f.0 (pivot_below i early) f.1 ∙ found.zeros i f.0 early f.1)
+      ]
+      | inr late ↦
+          let q = frozen_place i l late in
+          rw (← q.2) (
+          ap (λ (r : ℕ). meant r (at order p)) (of_left q.0) ∙ elim (cases_lt p pivots) [
+            | inl first_p ↦ left_pivot (at reduced q.0) p (in_left q.0 (fits q.0 q.1)) first_p
+            | inr late_p ↦
+                let f = frozen_place p n late_p in
+                let column : f.0 ≡ 0 + f.0 = omega arith in
+                let other : q.0 ≢ f.0 = (λ e. d (sym q.2 ∙ ap (λ (g : ℕ). pivots + g) e ∙ f.2)) in
+                rw (← f.2) (
+                frozen_at (at reduced q.0) f.0 (reduced_below q.0 (fits q.0 q.1)) f.1
+                ∙ ap (entry_of last (at reduced q.0)) column
+                ∙ found.reduced.pivots.zeros q.0 f.0 (fits q.0 q.1) f.1 other)
+          ])
+    ]
+
+    row_below : (p : ℕ) → p < width → row_of p < height
+    row_below p l = elim (cases_lt p pivots) [
+      | inl early ↦ rw (of_pivot p early) (pivot_below p early)
+      | inr late ↦ let f = frozen_place p l late in rw (← f.2, of_left f.0) (reduced_below f.0 (fits f.0 f.1))
+    ]
+
+    -- rows with 1 in different columns, and 0 in the others', are different
+    rows_are : ArePlaces width height row_of
+    rows_are = record {
+      below = row_below;
+      apart = λ i p l n e. elim (cases_eq i p) [
+        | inl same ↦ same
+        | inr d ↦ let z : 0 ≡ 1 = sym (row_zero i p l n d) ∙ ap (λ (r : ℕ). meant r (at order p)) e ∙ row_one p n in absurd (omega (arith, z))
+      ];
+    }
+
+    reads : ReadsPivots width row_of (at order) (map (at placed) places)
+    reads = record {
+      count = length-map places (at placed) ∙ peeled.columns.place_count;
+      reads = λ p l.
+          let there : at order p < length (map (at placed) places) = omega (arith, length-map places (at placed), peeled.columns.place_count, (peeled.columns.ordered p l).0) in
+          get_or_default (map (at placed) places) (at order p) 0 (at placed 0) there
+          ∙ get_or-map (at placed) places (at order p) 0
+          ∙ ap (at placed) (peeled.columns.ordered p l).1
+          ∙ elim (cases_lt p pivots) [
+            | inl early ↦ starts p early ∙ sym (of_pivot p early)
+            | inr late ↦ let f = frozen_place p l late in rw (← f.2) (long f.0 (fits f.0 f.1) ∙ sym (of_left f.0))
+          ];
+    }
+
+    pub finds_by_peeled : FindsColumn octets (length lists) width (system_rows lists first hdpc) (map operation_of final ++ Reorder (map (at placed) places) ∷ [])
+    finds_by_peeled =
+        let firsts : HasFirstPivots width width meant row_of (at order) = record { ones = row_one; zeros = row_zero } in
+        finds_by_pivots octets height width system meant (map operation_of final) follows row_of (at order) (pivots_of_first octets height width width meant row_of (at order) rows_are (omega arith) (columns_apart width (omega arith)) firsts) (map (at placed) places) reads
