@@ -4,7 +4,7 @@ use Rattle.std.specs.List.{range_with_len}
 use Rattle.std.specs.List.Sorted.{IsPermutation}
 use Rattle.std.proofs.lemmas.Bool.{cases_eq, cases_lt}
 use Rattle.std.proofs.lemmas.List.{length-drop, length-map, get_or-drop, get_or_default}
-use Rattle.std.proofs.lemmas.List.Elements.{Contains-get_or}
+use Rattle.std.proofs.lemmas.List.Elements.{All-append, Contains-get_or}
 use Rattle.std.proofs.lemmas.List.Sorted.{Contains-permutation, IsPermutation-sym}
 use Rattle.std.proofs.Math.ListN.{get_or-map}
 use Rattle.rq_algebra.specs.Arrangements.{ArePlaces, IsFewOn}
@@ -21,67 +21,50 @@ use Rattle.rq_standard.specs.OctetField.{octets}
 use Rattle.rq_bytes.specs.SymbolOps.{operation_of}
 use Rattle.rq_bytes.specs.declared.operation_vector.SymbolOps.{SymbolOps}
 use Rattle.rq_parts.specs.OctetTable.{OctetTable, entry_of}
-use Rattle.rq_solver.specs.Cleared.{AreRowsOfBits, AreOctetRows, ListsRows, ClearsRows, ClearsOctets, ClearsFrozen, HasFrozenPivots, Performs, system_rows}
-use Rattle.rq_solver.specs.Peeled.{IsPeeled}
+use Rattle.rq_solver.specs.Cleared.{ListsRows, ClearsFrozen, HasFrozenPivots, HasPeeledPivots}
+use Rattle.rq_solver.specs.Peeled.{IsOrderOf}
 use Rattle.rq_solver.specs.RowSteps.{IsReduced, IsStuck, IsStepAmong, rows_after}
-use Rattle.rq_solver.specs.RowWrites.{HoldsRows}
-use Rattle.rq_solver.proofs.Performing.{below_range, performs_more, shows_after}
+use Rattle.rq_solver.proofs.Performing.{below_range, shows_after}
 use Rattle.rq_solver.proofs.PivotTurns.{if_same, if_apart}
-use Rattle.rq_solver.proofs.PivotsCleared.{AreCleared, system_elements, cleared_both, left_below, left_apart}
+use Rattle.rq_solver.proofs.PivotsCleared.{left_below, left_apart}
 use Rattle.rq_solver.proofs.RowStepLaws.{rows_after-elements, follows_steps}
 use Rattle.rq_solver.proofs.StepColumns.{rows_after-next}
 
-module _ (lists : List (List ℕ)) (first : ℕ) (hdpc : OctetTable) (width : ℕ) (bits : AreRowsOfBits width lists) (are : AreOctetRows lists first width hdpc) (rows order places : List ℕ) (peeled : IsPeeled width lists rows order places) (listed : List ℕ) (listing : ListsRows (length lists) rows listed)
-    (frozen : ℕ) (wide : length rows + frozen ≡ width) (zero one two last : OctetTable) (start between after final : List SymbolOps) (empty : start ≡ [])
-    (holds : HoldsRows (length lists) frozen (length lists) (λ r f. system_rows lists first hdpc r (at order (length rows + f))) zero)
-    (clears : ClearsRows lists rows order listed (length listed) zero one start between) (wipes : ClearsOctets rows order (entry_of hdpc) first (length hdpc.rows) one two between after)
-    (ends : ClearsFrozen (drop (length rows) listed) two last after final) (reduced : List ℕ) (permuted : IsPermutation (drop (length rows) listed) reduced) where
-  abbrev height : ℕ
-  height = length lists
-
+module _ (height width : ℕ) (system : ℕ → ℕ → ℕ) (rows order places : List ℕ) (arranged : IsOrderOf width order places) (rows_are : ArePlaces (length rows) height (at rows)) (listed : List ℕ) (listing : ListsRows height rows listed)
+    (frozen : ℕ) (middle last : OctetTable) (before final : List SymbolOps) (peeled : HasPeeledPivots height width system rows order (drop (length rows) listed) middle before) (narrow : middle.width ≡ frozen)
+    (ends : ClearsFrozen (drop (length rows) listed) middle last before final) (reduced : List ℕ) (permuted : IsPermutation (drop (length rows) listed) reduced) where
   abbrev pivots : ℕ
   pivots = length rows
 
   abbrev left : List ℕ
   left = drop (length rows) listed
 
-  abbrev system : ℕ → ℕ → ℕ
-  system = system_rows lists first hdpc
-
   abbrev mid : ℕ → ℕ → ℕ
-  mid = rows_after octets (clears.steps ++ wipes.steps) system
+  mid = rows_after octets (map operation_of before) system
 
   abbrev steps : List Operation
-  steps = (clears.steps ++ wipes.steps) ++ ends.steps
+  steps = map operation_of before ++ ends.steps
 
   abbrev meant : ℕ → ℕ → ℕ
   meant = rows_after octets steps system
 
-  cleared : AreCleared rows order left mid
-  cleared = cleared_both lists first hdpc width bits are rows order places peeled listed listing zero one two start between after clears wipes
-
-  performs : Performs steps zero last start final
-  performs = performs_more (clears.steps ++ wipes.steps) ends.steps zero two last start after final (performs_more clears.steps wipes.steps zero one two start between after clears.performs wipes.performs) ends.performs
-
   among : All (IsStepAmong octets (range_with_len 0 height)) steps
-  among = rw holds.height_is at performs.among
+  among = All-append (IsStepAmong octets (range_with_len 0 height)) (map operation_of before) ends.steps peeled.among (rw peeled.height_is at ends.performs.among)
 
   elements : HasElements octets height width meant
-  elements = rows_after-elements octets (length lists) width (range_with_len 0 (length lists)) (below_range (length lists)) steps (system_rows lists first hdpc) among (system_elements lists first hdpc width bits are)
+  elements = rows_after-elements octets height width (range_with_len 0 height) (below_range height) steps system among peeled.elements
 
   follows : Follows octets height width system meant (map operation_of final)
-  follows =
-      let recorded : map operation_of final ≡ steps = performs.recorded ∙ ap (λ (l : List SymbolOps). map operation_of l ++ steps) empty in
-      rw recorded (follows_steps octets (length lists) width (range_with_len 0 (length lists)) (below_range (length lists)) steps (system_rows lists first hdpc) (system_rows lists first hdpc) [] among (system_elements lists first hdpc width bits are) (follows_none octets (length lists) width (system_rows lists first hdpc)))
+  follows = rw ends.performs.recorded (follows_steps octets height width (range_with_len 0 height) (below_range height) steps system system [] among peeled.elements (follows_none octets height width system))
 
   -- the pivots' columns stay as they were when the frozen ones get pivots
   kept : (p r : ℕ) → p < pivots → meant r (at order p) ≡ mid r (at order p)
-  kept p r l = rows_after-next octets (clears.steps ++ wipes.steps) ends.steps system r (at order p) ∙ ends.kept mid (at order p) (λ q c. cleared.others q c p l) r
+  kept p r l = rows_after-next octets (map operation_of before) ends.steps system r (at order p) ∙ ends.kept mid (at order p) (λ q c. peeled.others q p c l) r
 
   frozen_at : (r f : ℕ) → r < height → f < frozen → meant r (at order (pivots + f)) ≡ entry_of last r f
   frozen_at r f l n =
-      sym (shows_after steps zero last start final (system_rows lists first hdpc) (λ g. at order (length rows + g)) performs
-      (λ i g o u. holds.written i g (rw holds.height_is at o) (rw holds.width_is at u)) r f (rw holds.height_is l) (rw holds.width_is n))
+      rows_after-next octets (map operation_of before) ends.steps system r (at order (pivots + f))
+      ∙ sym (shows_after ends.steps middle last before final mid (λ g. at order (length rows + g)) ends.performs (λ i g o u. peeled.shows i g (rw peeled.height_is at o) u) r f (rw peeled.height_is l) (rw narrow n))
 
   -- ---- rows in the order of their pivots' columns
 
@@ -100,25 +83,25 @@ module _ (lists : List (List ℕ)) (first : ℕ) (hdpc : OctetTable) (width : �
   in_left q l = Contains-permutation reduced (drop (length rows) listed) (at reduced q) (IsPermutation-sym (drop (length rows) listed) reduced permuted) (Contains-get_or reduced q 0 l)
 
   reduced_below : (q : ℕ) → q < length reduced → at reduced q < height
-  reduced_below q l = left_below lists first hdpc width bits are rows order places peeled listed listing (at reduced q) (in_left q l)
+  reduced_below q l = left_below height rows listed listing (at reduced q) (in_left q l)
 
   pivot_below : (p : ℕ) → p < pivots → at rows p < height
-  pivot_below p l = peeled.in_rows.below p l
+  pivot_below p l = rows_are.below p l
 
   apart : (p q : ℕ) → p < pivots → q < length reduced → at rows p ≢ at reduced q
-  apart p q l n = left_apart lists first hdpc width bits are rows order places peeled listed listing (at reduced q) p (in_left q n) l
+  apart p q l n = left_apart height rows listed listing (at reduced q) p (in_left q n) l
 
   pivot_pivot : (i p : ℕ) → i < pivots → p < pivots → meant (at rows i) (at order p) ≡ (if at rows p == at rows i then 1 else 0)
-  pivot_pivot i p l n = kept p (at rows i) n ∙ (cleared.pivots i l).entries p n
+  pivot_pivot i p l n = kept p (at rows i) n ∙ (peeled.pivots i l).entries p n
 
   left_pivot : (r p : ℕ) → Contains left r → p < pivots → meant r (at order p) ≡ 0
-  left_pivot r p c l = kept p r l ∙ cleared.others r c p l
+  left_pivot r p c l = kept p r l ∙ peeled.others r p c l
 
   -- columns stand at one place each
   columns_apart : (n : ℕ) → n ≤ width → ArePlaces n width (at order)
   columns_apart n l = record {
-    below = λ j o. (peeled.columns.ordered j (omega arith)).0;
-    apart = λ i j o u e. sym (peeled.columns.ordered i (omega arith)).1 ∙ ap (at places) e ∙ (peeled.columns.ordered j (omega arith)).1;
+    below = λ j o. (arranged.ordered j (omega arith)).0;
+    apart = λ i j o u e. sym (arranged.ordered i (omega arith)).1 ∙ ap (at places) e ∙ (arranged.ordered j (omega arith)).1;
   }
 
   -- ---- a frozen column without a pivot
@@ -172,7 +155,7 @@ module _ (lists : List (List ℕ)) (first : ℕ) (hdpc : OctetTable) (width : �
       zeros = λ i l free j n. let b = behind i l free in rw (← b.3) (nothing_behind b.0 j b.1 b.2 n);
     }
 
-    pub null_of_peeled : HasNullColumn octets (length lists) width (system_rows lists first hdpc)
+    pub null_of_peeled : HasNullColumn octets height width system
     null_of_peeled = null_back octets height width system meant (map operation_of final) follows (null_of_few octets height width (pivots + stuck.done) meant row_of (at order) elements few)
 
   -- ---- all columns with pivots
@@ -201,7 +184,7 @@ module _ (lists : List (List ℕ)) (first : ℕ) (hdpc : OctetTable) (width : �
     row_zero : (i p : ℕ) → i < width → p < width → i ≢ p → meant (row_of i) (at order p) ≡ 0
     row_zero i p l n d = elim (cases_lt i pivots) [
       | inl early ↦ ap (λ (r : ℕ). meant r (at order p)) (of_pivot i early) ∙ elim (cases_lt p pivots) [
-        | inl first_p ↦ pivot_pivot i p early first_p ∙ if_apart (at rows p) (at rows i) 1 0 (λ e. d (sym (peeled.in_rows.apart p i first_p early e)))
+        | inl first_p ↦ pivot_pivot i p early first_p ∙ if_apart (at rows p) (at rows i) 1 0 (λ e. d (sym (rows_are.apart p i first_p early e)))
         | inr late_p ↦
             let f = frozen_place p n late_p in
             rw (← f.2) (frozen_at (at rows i) f.0 (pivot_below i early) f.1 ∙ found.zeros i f.0 early f.1)
@@ -229,8 +212,8 @@ module _ (lists : List (List ℕ)) (first : ℕ) (hdpc : OctetTable) (width : �
     ]
 
     -- rows with 1 in different columns, and 0 in the others', are different
-    rows_are : ArePlaces width height row_of
-    rows_are = record {
+    all_rows_are : ArePlaces width height row_of
+    all_rows_are = record {
       below = row_below;
       apart = λ i p l n e. elim (cases_eq i p) [
         | inl same ↦ same
@@ -240,19 +223,19 @@ module _ (lists : List (List ℕ)) (first : ℕ) (hdpc : OctetTable) (width : �
 
     reads : ReadsPivots width row_of (at order) (map (at placed) places)
     reads = record {
-      count = length-map places (at placed) ∙ peeled.columns.place_count;
+      count = length-map places (at placed) ∙ arranged.place_count;
       reads = λ p l.
-          let there : at order p < length (map (at placed) places) = omega (arith, length-map places (at placed), peeled.columns.place_count, (peeled.columns.ordered p l).0) in
+          let there : at order p < length (map (at placed) places) = omega (arith, length-map places (at placed), arranged.place_count, (arranged.ordered p l).0) in
           get_or_default (map (at placed) places) (at order p) 0 (at placed 0) there
           ∙ get_or-map (at placed) places (at order p) 0
-          ∙ ap (at placed) (peeled.columns.ordered p l).1
+          ∙ ap (at placed) (arranged.ordered p l).1
           ∙ elim (cases_lt p pivots) [
             | inl early ↦ starts p early ∙ sym (of_pivot p early)
             | inr late ↦ let f = frozen_place p l late in rw (← f.2) (long f.0 (fits f.0 f.1) ∙ sym (of_left f.0))
           ];
     }
 
-    pub finds_by_peeled : FindsColumn octets (length lists) width (system_rows lists first hdpc) (map operation_of final ++ Reorder (map (at placed) places) ∷ [])
+    pub finds_by_peeled : FindsColumn octets height width system (map operation_of final ++ Reorder (map (at placed) places) ∷ [])
     finds_by_peeled =
         let firsts : HasFirstPivots width width meant row_of (at order) = record { ones = row_one; zeros = row_zero } in
-        finds_by_pivots octets height width system meant (map operation_of final) follows row_of (at order) (pivots_of_first octets height width width meant row_of (at order) rows_are (omega arith) (columns_apart width (omega arith)) firsts) (map (at placed) places) reads
+        finds_by_pivots octets height width system meant (map operation_of final) follows row_of (at order) (pivots_of_first octets height width width meant row_of (at order) all_rows_are (omega arith) (columns_apart width (omega arith)) firsts) (map (at placed) places) reads

@@ -1,22 +1,44 @@
 -- The pivots' columns of a system's rows, once the rows of bits and then those of octets have been cleared.
-use Rattle.std.proofs.Common.{◌≡◌, ◌≢◌, ℕ, ◌+◌, ◌<◌, ◌≤◌, ◌⊎◌, List, [], ◌++◌, All, Contains, length, drop, refl, sym, ap, ◌∙◌, subst, arith, inl, inr}
+use Rattle.std.proofs.Common.{◌≡◌, ◌≢◌, ℕ, ◌+◌, ◌<◌, ◌≤◌, ◌⊎◌, List, [], ◌++◌, Contains, map, length, drop, sym, ap, ◌∙◌, subst, arith, inl, inr}
 use Rattle.std.proofs.lemmas.List.{length-drop, get_or-drop, get_or_default}
 use Rattle.rq_algebra.specs.Operations.{Operation}
 use Rattle.rq_algebra.specs.Systems.{at, HasElements}
 use Rattle.rq_standard.specs.OctetField.{octets}
+use Rattle.rq_bytes.specs.SymbolOps.{operation_of}
 use Rattle.rq_bytes.specs.declared.operation_vector.SymbolOps.{SymbolOps}
 use Rattle.rq_parts.specs.OctetTable.{OctetTable, entry_of}
-use Rattle.rq_solver.specs.Cleared.{AreRowsOfBits, AreOctetRows, ListsRows, IsCleared, IsUncleared, ClearsRows, ClearsOctets, one_in, system_rows}
+use Rattle.rq_solver.specs.Cleared.{AreRowsOfBits, AreOctetRows, ListsRows, IsCleared, IsUncleared, Performs, ClearsRows, ClearsOctets, HasPeeledPivots, one_in, system_rows}
 use Rattle.rq_solver.specs.Peeled.{ones_at, IsPeeled}
-use Rattle.rq_solver.specs.RowSteps.{rows_after, IsStepAmong}
+use Rattle.rq_solver.specs.RowSteps.{rows_after}
+use Rattle.rq_solver.specs.RowWrites.{HoldsRows}
 use Rattle.rq_solver.proofs.OctetRows.{octet_row, bit_row, octet_row_or_bit_row}
 use Rattle.rq_solver.proofs.PivotTurns.{if_apart}
-use Rattle.rq_solver.proofs.StepColumns.{rows_after-next, rows_after-zero, rows_after-apart}
+use Rattle.rq_solver.proofs.StepColumns.{rows_after-next}
+use Rattle.rq_solver.proofs.Performing.{performs_more, shows_after}
 
 -- in the pivots' columns their rows have their own 1 alone, and the other rows nothing
 pub record AreCleared (rows order left : List ℕ) (m : ℕ → ℕ → ℕ) : Type 0 where
   pub pivots : (p : ℕ) → p < length rows → IsCleared rows order m (at rows p)
   pub others : (r : ℕ) → Contains left r → (p : ℕ) → p < length rows → m r (at order p) ≡ 0
+
+-- ---- the rows that are left
+
+module _ (height : ℕ) (rows listed : List ℕ) (listing : ListsRows height rows listed) where
+  -- where a row stands that is no pivot's
+  pub left_place : (r : ℕ) → Contains (drop (length rows) listed) r → (s : ℕ) × (length rows ≤ s) × (s < length listed) × (at listed s ≡ r)
+  left_place r c =
+      let long = length-drop (length rows) listed in
+      let inside : length rows + c.0 < length listed = omega (arith, long, c.1, listing.few) in
+      (length rows + c.0, (omega arith), inside, get_or_default listed (length rows + c.0) 0 r inside ∙ sym (get_or-drop (length rows) listed c.0 r) ∙ c.2)
+
+  pub left_below : (r : ℕ) → Contains (drop (length rows) listed) r → r < height
+  left_below r c = let s = left_place r c in rw (← s.3) (listing.are.below s.0 s.2)
+
+  pub left_apart : (r p : ℕ) → Contains (drop (length rows) listed) r → p < length rows → at rows p ≢ r
+  left_apart r p c l e =
+      let s = left_place r c in
+      let z : p ≡ s.0 = listing.are.apart p s.0 (omega (arith, listing.few)) s.2 (listing.starts p l ∙ e ∙ sym s.3) in
+      omega (arith, z, s.1, l)
 
 -- ---- the rows of a system
 
@@ -52,22 +74,6 @@ module _ (lists : List (List ℕ)) (first : ℕ) (hdpc : OctetTable) where
       pivots_uncleared p l = uncleared (at rows p) (λ i n. pivot_of_bits p i l n)
 
       module _ (listed : List ℕ) (listing : ListsRows (length lists) rows listed) where
-        -- where a row stands that is no pivot's
-        pub left_place : (r : ℕ) → Contains (drop (length rows) listed) r → (s : ℕ) × (length rows ≤ s) × (s < length listed) × (at listed s ≡ r)
-        left_place r c =
-            let long = length-drop (length rows) listed in
-            let inside : length rows + c.0 < length listed = omega (arith, long, c.1, listing.few) in
-            (length rows + c.0, (omega arith), inside, get_or_default listed (length rows + c.0) 0 r inside ∙ sym (get_or-drop (length rows) listed c.0 r) ∙ c.2)
-
-        pub left_below : (r : ℕ) → Contains (drop (length rows) listed) r → r < length lists
-        left_below r c = let s = left_place r c in rw (← s.3) (listing.are.below s.0 s.2)
-
-        pub left_apart : (r p : ℕ) → Contains (drop (length rows) listed) r → p < length rows → at rows p ≢ r
-        left_apart r p c l e =
-            let s = left_place r c in
-            let z : p ≡ s.0 = listing.are.apart p s.0 (omega (arith, listing.few)) s.2 (listing.starts p l ∙ e ∙ sym s.3) in
-            omega (arith, z, s.1, l)
-
         module _ (zero one two : OctetTable) (start between after : List SymbolOps) (clears : ClearsRows lists rows order listed (length listed) zero one start between) (wipes : ClearsOctets rows order (entry_of hdpc) first (length hdpc.rows) one two between after) where
           system : ℕ → ℕ → ℕ
           system = system_rows lists first hdpc
@@ -95,9 +101,9 @@ module _ (lists : List (List ℕ)) (first : ℕ) (hdpc : OctetTable) where
           left_cleared r c p l = elim (cases r) [
             | inl q ↦ rw (← q.2) (wipes.cleared now pivot_now q.0 q.1 (λ j n. octets_now q.0 (at order j) q.1) p l)
             | inr out ↦
-                let s = left_place r c in
+                let s = left_place (length lists) rows listed listing r c in
                 let cleared : IsCleared rows order now r = subst (IsCleared rows order now) s.3 (cleared_at s.0 s.2 (λ i n. rw s.3 (out i n))) in
-                wipes.elsewhere now r (at order p) out ∙ cleared.entries p l ∙ if_apart (at rows p) r 1 0 (left_apart r p c l)
+                wipes.elsewhere now r (at order p) out ∙ cleared.entries p l ∙ if_apart (at rows p) r 1 0 (left_apart (length lists) rows listed listing r p c l)
           ]
 
           pub cleared_both : AreCleared rows order (drop (length rows) listed) (rows_after octets (clears.steps ++ wipes.steps) (system_rows lists first hdpc))
@@ -107,10 +113,22 @@ module _ (lists : List (List ℕ)) (first : ℕ) (hdpc : OctetTable) where
             others = λ r c p l. in_end r (at order p) ∙ left_cleared r c p l;
           }
 
--- ---- steps among the rows that are left
-
-pub cleared_stays : (rows order left : List ℕ) (steps : List Operation) (m : ℕ → ℕ → ℕ) → ((r p : ℕ) → Contains left r → p < length rows → at rows p ≢ r) → All (IsStepAmong octets left) steps → AreCleared rows order left m → AreCleared rows order left (rows_after octets steps m)
-cleared_stays rows order left steps m apart among are = record {
-  pivots = λ p l. record { entries = λ i n. rows_after-apart octets left steps m (at rows p) (at order i) among (λ c. apart (at rows p) p c l refl) ∙ (are.pivots p l).entries i n };
-  others = λ r c p l. rows_after-zero octets left steps m (at order p) among (λ q d. are.others q d p l) r c;
-}
+          -- the tables that were filled with the frozen columns show them
+          pub peeled_pivots : (frozen : ℕ) → length rows + frozen ≡ width → start ≡ [] → HoldsRows (length lists) frozen (length lists) (λ r f. system_rows lists first hdpc r (at order (length rows + f))) zero
+              → HasPeeledPivots (length lists) width (system_rows lists first hdpc) rows order (drop (length rows) listed) two after
+          peeled_pivots frozen wide empty holds =
+              let done : List Operation = clears.steps ++ wipes.steps in
+              let performs : Performs done zero two start after = performs_more clears.steps wipes.steps zero one two start between after clears.performs wipes.performs in
+              let recorded : map operation_of after ≡ done = performs.recorded ∙ ap (λ (l : List SymbolOps). map operation_of l ++ done) empty in
+              let both : AreCleared rows order (drop (length rows) listed) (rows_after octets done (system_rows lists first hdpc)) = cleared_both in
+              record {
+                elements = system_elements;
+                among = rw recorded (rw holds.height_is at performs.among);
+                height_is = performs.height ∙ holds.height_is;
+                width_is = omega (arith, performs.width, holds.width_is, wide);
+                shows = λ r f l n. rw recorded (shows_after done zero two start after (system_rows lists first hdpc) (λ g. at order (length rows + g)) performs
+                    (λ i g o u. holds.written i g (rw holds.height_is at o) (rw holds.width_is at u)) r f (rw holds.height_is l) (rw performs.width at n));
+                pivots = λ p l. rw recorded (both.pivots p l);
+                others = λ r p c l. rw recorded (both.others r c p l);
+                octets = performs.octets;
+              }

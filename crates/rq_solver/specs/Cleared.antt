@@ -2,7 +2,7 @@
 use Rattle.std.specs.Prelude.{◌≡◌, ◌≢◌, ℕ, ◌+◌, ◌<◌, ◌≤◌, ◌==◌, if◌then◌else◌, List, [], ◌∷◌, ◌++◌, All, Contains, count_by, length, map}
 use Rattle.std.specs.List.{range_with_len}
 use Rattle.rq_algebra.specs.Arrangements.{ArePlaces}
-use Rattle.rq_algebra.specs.Systems.{at}
+use Rattle.rq_algebra.specs.Systems.{at, HasElements}
 use Rattle.rq_algebra.specs.Operations.{Operation, AddAssign, Fma}
 use Rattle.rq_standard.specs.ConstraintMatrix.{with_octet_rows}
 use Rattle.rq_standard.specs.OctetField.{octets}
@@ -123,6 +123,18 @@ pub record ClearsTails (rows reduced : List ℕ) (frozen done : ℕ) (old new : 
   pub elsewhere : (m : ℕ → ℕ → ℕ) (r k : ℕ) → ((p : ℕ) → p < done → at rows p ≢ r) → rows_after octets steps m r k ≡ m r k
   pub kept : (m : ℕ → ℕ → ℕ) (r k : ℕ) → ((f : ℕ) → f < frozen → m (at reduced f) k ≡ 0) → rows_after octets steps m r k ≡ m r k
   pub cleared : (p f : ℕ) → p < done → f < frozen → entry_of new (at rows p) f ≡ 0
+
+-- After these operations the rows of a system have the pivots of the peeling: each pivot's column has one 1, in the pivot's row, and zeros in
+-- the rows that are left. The table shows the frozen columns.
+pub record HasPeeledPivots (height width : ℕ) (system : ℕ → ℕ → ℕ) (rows order left : List ℕ) (table : OctetTable) (operations : List SymbolOps) : Type 0 where
+  pub elements : HasElements octets height width system
+  pub among : All (IsStepAmong octets (range_with_len 0 height)) (map operation_of operations)
+  pub height_is : length table.rows ≡ height
+  pub width_is : length rows + table.width ≡ width
+  pub shows : (r f : ℕ) → r < height → f < table.width → entry_of table r f ≡ rows_after octets (map operation_of operations) system r (at order (length rows + f))
+  pub pivots : (p : ℕ) → p < length rows → IsCleared rows order (rows_after octets (map operation_of operations) system) (at rows p)
+  pub others : (r p : ℕ) → Contains left r → p < length rows → rows_after octets (map operation_of operations) system r (at order p) ≡ 0
+  pub octets : HasOctets table
 
 -- steps among the rows that are left and the pivots' rows, which change no column in which the rows that are left have zeros
 pub record ClearsFrozen (left : List ℕ) (old new : OctetTable) (before after : List SymbolOps) : Type 0 where

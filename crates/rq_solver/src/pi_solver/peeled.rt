@@ -1,15 +1,16 @@
 //! The elimination of rows of which some have pivots while they are still as they were.
-ghost use Rattle.std.specs.Prelude.{◌≡◌, ◌≢◌, ℕ, ◌+◌, ◌<◌, ◌≤◌, ◌∷◌, [], length, map, IfOk, OnOk, IfErr, MatchOption};
+ghost use Rattle.std.specs.Prelude.{◌≡◌, ◌≢◌, ℕ, ◌+◌, ◌<◌, ◌≤◌, ◌∷◌, ◌++◌, [], drop, length, map, IfOk, OnOk, IfErr, MatchOption};
 ghost use Rattle.rq_algebra.specs.Elimination.{FindsColumn};
+ghost use Rattle.rq_algebra.specs.Operations.{Reorder};
 ghost use Rattle.rq_algebra.specs.Systems.{at, HasNullColumn};
 ghost use Rattle.rq_bytes.specs.SymbolOps.{operation_of};
 ghost use Rattle.rq_bytes.specs.declared.error.Error.TheVariants.{OutOfMemory};
 ghost use Rattle.rq_parts.specs.OctetTable.{entry_of};
 ghost use Rattle.rq_standard.specs.ConstraintMatrix.{with_octet_rows};
 ghost use Rattle.rq_standard.specs.OctetField.{octets};
-ghost use Rattle.rq_solver.specs.Cleared.{AreOctetRows, AreRowsOfBits, ClearsRows, ListsRows, PeelsRows, Performs, TakesPivots, sum_step};
-ghost use Rattle.rq_solver.specs.Peeled.{AreOnesOfRows, IsPeeled, ones_at};
-ghost use Rattle.rq_solver.specs.RowSteps.{HasOctets};
+ghost use Rattle.rq_solver.specs.Cleared.{AreOctetRows, AreRowsOfBits, ClearsRows, HasPeeledPivots, ListsRows, PeelsRows, Performs, TakesPivots, sum_step, system_rows};
+ghost use Rattle.rq_solver.specs.Peeled.{AreOnesOfRows, IsOrderOf, IsPeeled, ones_at};
+ghost use Rattle.rq_solver.specs.RowSteps.{AreRows, HasOctets};
 
 mod hdpc;
 mod listing;
@@ -45,25 +46,74 @@ pub(super) fn operations_of_peeled(
     ensures err { IfErr result (λ e. e ≡ OutOfMemory) }
 {
     let pivots = peeling.rows.as_slice();
-    let frozen = width - pivots.len();
     let mut listed = rows_in_order(alloc, ones.height(), first_hdpc, hdpc.height(), pivots)?;
-    let mut tails = fill_tails(alloc, ones, hdpc, first_hdpc, frozen, peeling)?;
     let mut operations = Vec::new(alloc);
-    clear_rows(
+    let mut tails = clear_pivots(
+        alloc,
         ones,
-        listed.as_slice(),
+        hdpc,
+        first_hdpc,
         peeling,
-        &mut tails,
+        listed.as_slice(),
         &mut operations,
     )?;
-    clear_octets(hdpc, first_hdpc, peeling, &mut tails, &mut operations)?;
-    let left = &mut listed.as_mut_slice()[pivots.len()..];
-    if !clear_frozen(pivots, left, frozen, &mut tails, &mut operations)? {
+    let rows = listed.as_mut_slice();
+    let Some(order) = rows_of_columns(alloc, peeling, rows, &mut tails, &mut operations)? else {
         return Ok(None);
-    }
-    let order = rows_at(alloc, listed.as_slice(), peeling.places.as_slice())?;
+    };
     operations.push(SymbolOps::Reorder { order })?;
     Ok(Some(operations))
+}
+
+/// Clears the pivots' columns in the other rows, which are listed behind the pivots', and returns
+/// the entries of all rows in the frozen columns.
+fn clear_pivots(
+    alloc: Global,
+    ones: &RowOnes,
+    hdpc: &DenseOctetMatrix,
+    first_hdpc: usize,
+    peeling: &Peeling,
+    listed: &[usize],
+    operations: &mut Vec<SymbolOps>,
+) -> Result<DenseOctetMatrix, Error>
+    requires peeled { PeelsRows ones.now peeling.now }
+    requires hdpc { AreOctetRows ones.now first_hdpc (length peeling.now.places.items) hdpc.now }
+    requires listed { ListsRows (length ones.now) peeling.now.rows.items listed.now }
+    requires empty { operations.old.items ≡ [] }
+    ensures cleared { IfOk result (λ tails. HasPeeledPivots (length ones.now) (length peeling.now.places.items) (system_rows ones.now first_hdpc hdpc.now) peeling.now.rows.items peeling.now.order.items (drop (length peeling.now.rows.items) listed.now) tails operations.new.items) }
+    ensures err { IfErr result (λ e. e ≡ OutOfMemory) }
+{
+    let frozen = peeling.places.len() - peeling.rows.len();
+    let mut tails = fill_tails(alloc, ones, hdpc, first_hdpc, frozen, peeling)?;
+    clear_rows(ones, listed, peeling, &mut tails, operations)?;
+    clear_octets(hdpc, first_hdpc, peeling, &mut tails, operations)?;
+    Ok(tails)
+}
+
+/// Gives the frozen columns pivots among the rows behind the pivots', and lists for each column the
+/// row that has its pivot. `None` where a column is left without one.
+fn rows_of_columns(
+    alloc: Global,
+    peeling: &Peeling,
+    listed: &mut [usize],
+    tails: &mut DenseOctetMatrix,
+    operations: &mut Vec<SymbolOps>,
+) -> Result<Option<Vec<usize>>, Error>
+    requires order { IsOrderOf (length peeling.now.places.items) peeling.now.order.items peeling.now.places.items }
+    requires pivots { AreRows peeling.now.rows.items tails.old }
+    requires listed { ListsRows (length tails.old.rows) peeling.now.rows.items listed.old }
+    requires frozen { length peeling.now.rows.items + tails.old.width ≡ length peeling.now.places.items }
+    requires octets { HasOctets tails.old }
+    ensures found { IfOk result (λ answer. (system : ℕ → ℕ → ℕ) → HasPeeledPivots (length tails.old.rows) (length peeling.now.places.items) system peeling.now.rows.items peeling.now.order.items (drop (length peeling.now.rows.items) listed.old) tails.old operations.old.items → MatchOption answer (HasNullColumn octets (length tails.old.rows) (length peeling.now.places.items) system) (λ order. FindsColumn octets (length tails.old.rows) (length peeling.now.places.items) system (map operation_of operations.new.items ++ Reorder order.items ∷ []))) }
+    ensures err { IfErr result (λ e. e ≡ OutOfMemory) }
+{
+    let pivots = peeling.rows.as_slice();
+    let frozen = peeling.places.len() - pivots.len();
+    let left = &mut listed[pivots.len()..];
+    if !clear_frozen(pivots, left, frozen, tails, operations)? {
+        return Ok(None);
+    }
+    Ok(Some(rows_at(alloc, listed, peeling.places.as_slice())?))
 }
 
 /// The listed rows that stand at some places.
