@@ -1,6 +1,7 @@
 pub mod ColumnLaws
 pub mod Entries
 pub mod EquationLaws
+pub mod LinkLaws
 pub mod Outcomes
 pub mod Performed
 pub mod Results

@@ -84,7 +84,12 @@ pub record TakesRow (row : List ℕ) (old new : ColumnState) : Type 0 where
   pub left : (k : ℕ) → k < length old.order → IsActive new k → IsActive old k
   pub ended : (k : ℕ) → Contains row k → IsActive new k → ⊥
 
--- where each one of a column leads to an earlier one of the same column: rows below `height`, and places of ones
+-- so many rows and columns
+pub record Size : Type 0 where
+  pub rows : ℕ
+  pub columns : ℕ
+
+-- Links to rows below `height`, each of which leads to an earlier one if to any, and where each column begins.
 pub record AreLinks (height : ℕ) (links : List Link) (last : List (Option ℕ)) : Type 0 where
   pub in_rows : All (λ link. link.row < height) links
   pub earlier : (place : ℕ) (d : Link) → place < length links → ForSome (slice_index_or links place d).next (λ next. next < place)
