@@ -3,6 +3,7 @@ pub mod Entries
 pub mod EquationLaws
 pub mod LinkLaws
 pub mod Outcomes
+pub mod PeelingLaws
 pub mod Performed
 pub mod Results
 pub mod RowLists

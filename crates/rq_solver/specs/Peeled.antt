@@ -74,6 +74,14 @@ pub record EndsActive (column : ℕ) (old new : ColumnState) : Type 0 where
   pub before : (p : ℕ) → p < old.pivots → at new.order p ≡ at old.order p
   pub left : (k : ℕ) → k < length old.order → IsActive new k → IsActive old k × (k ≢ column)
 
+-- none of a row's columns is active any more, and no column has another pivot
+pub record FreezesRow (row : List ℕ) (old new : ColumnState) : Type 0 where
+  pub width : length new.order ≡ length old.order
+  pub pivots : new.pivots ≡ old.pivots
+  pub before : (p : ℕ) → p < old.pivots → at new.order p ≡ at old.order p
+  pub left : (k : ℕ) → k < length old.order → IsActive new k → IsActive old k
+  pub ended : (k : ℕ) → Contains row k → IsActive new k → ⊥
+
 -- A row has the next pivot, in one of its columns that were active. None of its columns is active any more.
 pub record TakesRow (row : List ℕ) (old new : ColumnState) : Type 0 where
   pub width : length new.order ≡ length old.order

@@ -1,7 +1,7 @@
 //! The first phase: columns get pivots among rows of bits while no row is changed.
-ghost use Rattle.std.specs.Prelude.{◌≡◌, ℕ, ◌<◌, ◌≤◌, length, All, Contains, IsTrue, IfSome, IfNone, OnOk, IfOk, IfErr};
+ghost use Rattle.std.specs.Prelude.{◌≡◌, ℕ, false, ◌<◌, ◌≤◌, length, All, Contains, IsTrue, IfSome, IfNone, OnOk, IfOk, IfErr};
 ghost use Rattle.rq_bytes.specs.declared.error.Error.TheVariants.{OutOfMemory};
-ghost use Rattle.rq_solver.specs.Peeled.{IsPeeled, IsActive, TakesRow};
+ghost use Rattle.rq_solver.specs.Peeled.{IsPeeled, IsActive, TakesRow, FreezesRow};
 
 use crate::pi_solver::columns::ColumnOrder;
 use crate::pi_solver::degrees::RowDegrees;
@@ -27,7 +27,12 @@ pub(super) fn peel(
     ones: &RowOnes,
     width: usize,
     boundary: usize,
-) -> Result<Peeling, Error> {
+) -> Result<Peeling, Error>
+    requires columns { All (λ row. All (λ column. column < width) row) ones.now }
+    requires boundary { boundary ≤ width }
+    ensures peeled { IfOk result (λ p. IsPeeled width ones.now p.rows.items p.order.items p.places.items) }
+    ensures err { IfErr result (λ e. e ≡ OutOfMemory) }
+{
     let links = ColumnLinks::of_rows(alloc, ones, width)?;
     let mut degrees = RowDegrees::new(alloc, ones, boundary)?;
     let mut columns = ColumnOrder::new(alloc, width, boundary)?;
@@ -55,7 +60,14 @@ fn take_row(
     links: &ColumnLinks,
     degrees: &mut RowDegrees,
     columns: &mut ColumnOrder,
-) -> Result<bool, Error> {
+) -> Result<bool, Error>
+    requires columns { All (λ column. column < length columns.old.order) row.now }
+    requires links { links.now ≡ record { rows = degrees.old; columns = length columns.old.order } }
+    ensures taken { IfOk result (λ taken. IsTrue taken → TakesRow row.now columns.old columns.new) }
+    ensures left { IfOk result (λ taken. (taken ≡ false) → columns.new ≡ columns.old) }
+    ensures degrees { degrees.new ≡ degrees.old }
+    ensures err { IfErr result (λ e. e ≡ OutOfMemory) }
+{
     let Some(pivot) = first_active(row, columns) else {
         return Ok(false);
     };
@@ -65,10 +77,18 @@ fn take_row(
     Ok(true)
 }
 
-fn first_active(row: &[usize], columns: &ColumnOrder) -> Option<usize> {
-    row.iter()
-        .copied()
-        .find(|column| columns.is_active(*column))
+// The first active column of a row.
+fn first_active(row: &[usize], columns: &ColumnOrder) -> Option<usize>
+    requires { All (λ column. column < length columns.now.order) row.now }
+    ensures column { IfSome result (Contains row.now) }
+    ensures active { IfSome result (IsActive columns.now) }
+{
+    for column in row {
+        if columns.is_active(*column) {
+            return Some(*column);
+        }
+    }
+    None
 }
 
 // Freezes the active columns of a row.
@@ -77,7 +97,13 @@ fn freeze_columns(
     links: &ColumnLinks,
     degrees: &mut RowDegrees,
     columns: &mut ColumnOrder,
-) -> Result<(), Error> {
+) -> Result<(), Error>
+    requires columns { All (λ column. column < length columns.old.order) row.now }
+    requires links { links.now ≡ record { rows = degrees.old; columns = length columns.old.order } }
+    ensures frozen { OnOk result (FreezesRow row.now columns.old columns.new) }
+    ensures degrees { degrees.new ≡ degrees.old }
+    ensures err { IfErr result (λ e. e ≡ OutOfMemory) }
+{
     for column in row {
         if columns.is_active(*column) {
             columns.freeze(*column);
