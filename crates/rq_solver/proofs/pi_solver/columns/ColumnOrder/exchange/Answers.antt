@@ -1,5 +1,5 @@
 -- What the check leaves to show of `pi_solver::columns::ColumnOrder::exchange`.
-use Rattle.std.proofs.Common.{◌≡◌, ℕ, ◌<◌, List, length, set, sym, ap, ◌∙◌, subst, arith}
+use Rattle.std.proofs.Common.{◌≡◌, ◌<◌, length, set, ap, subst}
 use Rattle.std.proofs.lemmas.List.{get_or_read}
 use Rattle.rq_algebra.specs.Systems.{at}
 use Rattle.rq_solver.specs.Peeled.{ColumnState, ExchangesColumns}

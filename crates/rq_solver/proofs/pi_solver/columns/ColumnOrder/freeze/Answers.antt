@@ -1,8 +1,8 @@
 -- What the check leaves to show of `pi_solver::columns::ColumnOrder::freeze`.
-use Rattle.std.proofs.Common.{◌≡◌, ℕ, ◌-◌, ◌+◌, ◌<◌, List, length, refl, sym, ap, ◌∙◌, subst, arith}
+use Rattle.std.proofs.Common.{◌≡◌, ℕ, ◌-◌, ◌+◌, ◌<◌, List, length, sym, ap, ◌∙◌, subst, arith}
 use Rattle.std.proofs.lemmas.List.{get_or_read}
 use Rattle.rq_algebra.specs.Systems.{at}
-use Rattle.rq_solver.specs.Peeled.{ColumnState, IsColumnState, ExchangesColumns}
+use Rattle.rq_solver.specs.Peeled.{ColumnState, IsColumnState}
 use Rattle.rq_solver.proofs.ColumnLaws.{ends_by_freeze}
 use Rattle.rq_solver.proofs.pi_solver.columns.ColumnOrder.freeze.Goals as goal
 

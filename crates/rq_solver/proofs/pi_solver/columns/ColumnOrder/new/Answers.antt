@@ -1,7 +1,5 @@
 -- What the check leaves to show of `pi_solver::columns::ColumnOrder::new`.
-use Rattle.std.proofs.Common.{◌≡◌, ℕ, ◌≤◌, List, length, refl, sym, ap, ◌∙◌, subst}
-use Rattle.std.specs.List.{range_with_len}
-use Rattle.rq_solver.specs.Peeled.{ColumnState, IsColumnState, first_columns}
+use Rattle.std.proofs.Common.{refl}
 use Rattle.rq_solver.proofs.ColumnLaws.{first_state}
 use Rattle.rq_solver.proofs.pi_solver.columns.ColumnOrder.new.Goals as goal
 

@@ -1,7 +1,6 @@
 -- What the check leaves to show of `pi_solver::links::ColumnLinks::add_row`.
-use Rattle.std.proofs.Common.{◌≡◌, ◌<◌, ℕ, ap, sym, ◌∙◌, Option, Some, length, List, get_or, set, subst, arith}
+use Rattle.std.proofs.Common.{◌≡◌, ◌<◌, ◌∙◌, Some, length, get_or, arith}
 use Rattle.std.proofs.lemmas.List.{length-set}
-use Rattle.rq_solver.specs.Peeled.{AreLinks}
 use Rattle.rq_solver.proofs.LinkLaws.{links_next}
 use Rattle.rq_solver.proofs.pi_solver.links.ColumnLinks.add_row.Goals as goal
 

@@ -1,5 +1,5 @@
 -- What the loops keep in `pi_solver::links::ColumnLinks::add_row`.
-use Rattle.std.proofs.Common.{◌≡◌, ◌<◌, All, length}
+use Rattle.std.proofs.Common.{◌≡◌, length}
 use Rattle.rq_solver.specs.Peeled.{AreLinks}
 use Rattle.rq_solver.proofs.pi_solver.links.ColumnLinks.add_row.Given as goal
 

@@ -1,5 +1,5 @@
 -- What the loops keep in `pi_solver::links::ColumnLinks::lower_rows`.
-use Rattle.std.proofs.Common.{ℕ, zero, suc, ◌≡◌, ◌<◌, ◌+◌, Option, None, Some, IfSome, length}
+use Rattle.std.proofs.Common.{◌≡◌, ◌<◌, length}
 use Rattle.std.specs.Option.{ForSome}
 use Rattle.rq_solver.proofs.LinkLaws.{links_left}
 use Rattle.rq_solver.proofs.pi_solver.links.ColumnLinks.lower_rows.Given as goal

@@ -1,6 +1,5 @@
 -- What the loops keep in `pi_solver::links::ColumnLinks::of_rows`.
 use Rattle.std.proofs.Common.{◌≡◌, length}
-use Rattle.rq_solver.specs.Peeled.{Size}
 use Rattle.rq_solver.proofs.pi_solver.links.ColumnLinks.of_rows.Given as goal
 
 abbrev pub invariant-loop-row : goal.invariant-loop-row
