@@ -11,6 +11,8 @@ mod elimination;
 mod links;
 mod ones;
 mod peeling;
+#[cfg(test)]
+mod peeling_tests;
 mod rows;
 
 use crate::replay::replay;
