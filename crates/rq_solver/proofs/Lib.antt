@@ -1,10 +1,13 @@
+pub mod ColumnLaws
 pub mod Entries
 pub mod EquationLaws
+pub mod LinkLaws
 pub mod ListingLaws
 pub mod OctetRows
 pub mod OctetTurns
 pub mod Outcomes
 pub mod PeeledOutcomes
+pub mod PeelingLaws
 pub mod Performed
 pub mod Performing
 pub mod PivotTurns

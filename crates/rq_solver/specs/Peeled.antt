@@ -1,8 +1,11 @@
 -- Columns that have pivots among rows of bits while no row is changed.
-use Rattle.std.specs.Prelude.{◌≡◌, ℕ, ◌<◌, ◌≤◌, List, [], Contains, length, take, drop, slice_index_or}
-use Rattle.rq_algebra.specs.Arrangements.{ArePlaces}
+use Rattle.std.specs.Prelude.{◌≡◌, ◌≢◌, ℕ, ◌+◌, ◌<◌, ◌≤◌, Option, List, [], All, Contains, length, take, drop, slice_index_or}
+use Rattle.std.specs.List.{range_with_len}
+use Rattle.std.specs.Option.{ForSome}
+use Rattle.rq_algebra.specs.Arrangements.{ArePlaces, exchange}
 use Rattle.rq_algebra.specs.Systems.{at}
 use Rattle.rq_standard.specs.BitTableSteps.{ArePlacesOfOnes}
+use Rattle.rq_solver.specs.declared.pi_solver.links.Link.{Link}
 
 -- the columns in which row i has its ones
 abbrev pub ones_at : List (List ℕ) → ℕ → List ℕ
@@ -32,3 +35,70 @@ pub record IsPeeled (width : ℕ) (lists : List (List ℕ)) (rows order places :
   pub columns : IsOrderOf width order places
   pub own : (p : ℕ) → p < length rows → Contains (ones_at lists (at rows p)) (at order p)
   pub later : (p q : ℕ) → p < q → q < length rows → Contains (ones_at lists (at rows p)) (at order q) → ⊥
+
+-- ---- on the way
+
+-- columns in an order, and the place of each: first those that have pivots, from place `end` on those that are frozen, and between them the active ones
+pub record ColumnState : Type 0 where
+  pub order : List ℕ
+  pub places : List ℕ
+  pub pivots : ℕ
+  pub end : ℕ
+
+-- what holds of each such state
+pub record IsColumnState (state : ColumnState) : Type 0 where
+  pub columns : IsOrderOf (length state.order) state.order state.places
+  pub few : state.pivots ≤ state.end
+  pub within : state.end ≤ length state.order
+
+-- a column that has no pivot and isn't frozen
+pub record IsActive (state : ColumnState) (column : ℕ) : Type 0 where
+  pub from : state.pivots ≤ at state.places column
+  pub below : at state.places column < state.end
+
+-- so many columns in their own order, those from `end` on frozen
+abbrev pub first_columns : ℕ → ℕ → ColumnState
+first_columns width end = record { order = range_with_len 0 width; places = range_with_len 0 width; pivots = 0; end = end }
+
+-- the columns at places p and q are exchanged
+pub record ExchangesColumns (p q : ℕ) (old new : ColumnState) : Type 0 where
+  pub width : length new.order ≡ length old.order
+  pub order : (j : ℕ) → j < length old.order → at new.order j ≡ at old.order (exchange p q j)
+  pub places : (k : ℕ) → k < length old.order → at new.places k ≡ exchange p q (at old.places k)
+  pub pivots : new.pivots ≡ old.pivots
+  pub end : new.end ≡ old.end
+
+-- a column isn't active any more, others that weren't still aren't, and the pivots stay
+pub record EndsActive (column : ℕ) (old new : ColumnState) : Type 0 where
+  pub width : length new.order ≡ length old.order
+  pub before : (p : ℕ) → p < old.pivots → at new.order p ≡ at old.order p
+  pub left : (k : ℕ) → k < length old.order → IsActive new k → IsActive old k × (k ≢ column)
+
+-- none of a row's columns is active any more, and no column has another pivot
+pub record FreezesRow (row : List ℕ) (old new : ColumnState) : Type 0 where
+  pub width : length new.order ≡ length old.order
+  pub pivots : new.pivots ≡ old.pivots
+  pub before : (p : ℕ) → p < old.pivots → at new.order p ≡ at old.order p
+  pub left : (k : ℕ) → k < length old.order → IsActive new k → IsActive old k
+  pub ended : (k : ℕ) → Contains row k → IsActive new k → ⊥
+
+-- A row has the next pivot, in one of its columns that were active. None of its columns is active any more.
+pub record TakesRow (row : List ℕ) (old new : ColumnState) : Type 0 where
+  pub width : length new.order ≡ length old.order
+  pub pivots : new.pivots ≡ old.pivots + 1
+  pub own : Contains row (at new.order old.pivots)
+  pub was : IsActive old (at new.order old.pivots)
+  pub before : (p : ℕ) → p < old.pivots → at new.order p ≡ at old.order p
+  pub left : (k : ℕ) → k < length old.order → IsActive new k → IsActive old k
+  pub ended : (k : ℕ) → Contains row k → IsActive new k → ⊥
+
+-- so many rows and columns
+pub record Size : Type 0 where
+  pub rows : ℕ
+  pub columns : ℕ
+
+-- Links to rows below `height`, each of which leads to an earlier one if to any, and where each column begins.
+pub record AreLinks (height : ℕ) (links : List Link) (last : List (Option ℕ)) : Type 0 where
+  pub in_rows : All (λ link. link.row < height) links
+  pub earlier : (place : ℕ) (d : Link) → place < length links → ForSome (slice_index_or links place d).next (λ next. next < place)
+  pub known : All (λ place. ForSome place (λ k. k < length links)) last

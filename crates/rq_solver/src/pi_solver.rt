@@ -5,10 +5,19 @@ ghost use Rattle.rq_standard.specs.TableRows.{greatest_size, row_of};
 ghost use Rattle.rq_bytes.specs.declared.error.Error.TheVariants.{AlreadyExecuted, OutOfMemory};
 ghost use Rattle.rq_solver.specs.Solving.{AreEquations, solver_of, IsOutcome};
 
+mod columns;
+mod degrees;
 mod elimination;
+mod links;
 mod ones;
+<<<<<<< HEAD
 mod peeled;
 mod peeling;
+=======
+mod peeling;
+#[cfg(test)]
+mod peeling_tests;
+>>>>>>> solver
 mod rows;
 
 use crate::replay::replay;

@@ -1,10 +1,114 @@
-//! Pivots among rows of bits, while no row is changed.
+//! The first phase: columns get pivots among rows of bits while no row is changed.
+ghost use Rattle.std.specs.Prelude.{◌≡◌, ℕ, false, ◌<◌, ◌≤◌, length, All, Contains, IsTrue, IfSome, IfNone, OnOk, IfOk, IfErr};
+ghost use Rattle.rq_bytes.specs.declared.error.Error.TheVariants.{OutOfMemory};
+ghost use Rattle.rq_solver.specs.Peeled.{IsPeeled, IsActive, TakesRow, FreezesRow};
 
-/// Pivots: pivot p has row `rows[p]`, and the column at place p of `order`. `places` has the place
-/// of each column in the order. The columns behind the pivots' are frozen.
+use crate::pi_solver::columns::ColumnOrder;
+use crate::pi_solver::degrees::RowDegrees;
+use crate::pi_solver::links::ColumnLinks;
+use crate::pi_solver::ones::RowOnes;
+use rq_bytes::error::Error;
+use std::alloc::Global;
+
+/// Columns with pivots among rows of bits, and the order of all columns: pivots' first, in the
+/// order in which they were chosen, then the frozen ones.
 #[derive(Drop)]
 pub(super) struct Peeling {
     pub rows: Vec<usize>,
     pub order: Vec<usize>,
     pub places: Vec<usize>,
+}
+
+/// Chooses pivots among rows of bits, of which the columns from `boundary` on are frozen from the
+/// start (RFC 6330, section 5.4.2.2): again and again a row with least active columns has one of
+/// them as its pivot, and the others are frozen.
+pub(super) fn peel(
+    alloc: Global,
+    ones: &RowOnes,
+    width: usize,
+    boundary: usize,
+) -> Result<Peeling, Error>
+    requires columns { All (λ row. All (λ column. column < width) row) ones.now }
+    requires boundary { boundary ≤ width }
+    ensures peeled { IfOk result (λ p. IsPeeled width ones.now p.rows.items p.order.items p.places.items) }
+    ensures err { IfErr result (λ e. e ≡ OutOfMemory) }
+{
+    let links = ColumnLinks::of_rows(alloc, ones, width)?;
+    let mut degrees = RowDegrees::new(alloc, ones, boundary)?;
+    let mut columns = ColumnOrder::new(alloc, width, boundary)?;
+    let mut rows = Vec::with_capacity(alloc, boundary)?;
+    for _ in 0..boundary {
+        let Some(row) = degrees.next_row() else {
+            break;
+        };
+        if take_row(ones.row(row), &links, &mut degrees, &mut columns)? {
+            rows.push(row)?;
+        }
+    }
+    let (order, places) = columns.into_arrays();
+    Ok(Peeling {
+        rows,
+        order,
+        places,
+    })
+}
+
+// Gives the first active column of a row the next pivot, and freezes the others. Says whether there
+// is one.
+fn take_row(
+    row: &[usize],
+    links: &ColumnLinks,
+    degrees: &mut RowDegrees,
+    columns: &mut ColumnOrder,
+) -> Result<bool, Error>
+    requires columns { All (λ column. column < length columns.old.order) row.now }
+    requires links { links.now ≡ record { rows = degrees.old; columns = length columns.old.order } }
+    ensures taken { IfOk result (λ taken. IsTrue taken → TakesRow row.now columns.old columns.new) }
+    ensures left { IfOk result (λ taken. (taken ≡ false) → columns.new ≡ columns.old) }
+    ensures degrees { degrees.new ≡ degrees.old }
+    ensures err { IfErr result (λ e. e ≡ OutOfMemory) }
+{
+    let Some(pivot) = first_active(row, columns) else {
+        return Ok(false);
+    };
+    columns.take_pivot(pivot);
+    links.lower_rows(pivot, degrees)?;
+    freeze_columns(row, links, degrees, columns)?;
+    Ok(true)
+}
+
+// The first active column of a row.
+fn first_active(row: &[usize], columns: &ColumnOrder) -> Option<usize>
+    requires { All (λ column. column < length columns.now.order) row.now }
+    ensures column { IfSome result (Contains row.now) }
+    ensures active { IfSome result (IsActive columns.now) }
+{
+    for column in row {
+        if columns.is_active(*column) {
+            return Some(*column);
+        }
+    }
+    None
+}
+
+// Freezes the active columns of a row.
+fn freeze_columns(
+    row: &[usize],
+    links: &ColumnLinks,
+    degrees: &mut RowDegrees,
+    columns: &mut ColumnOrder,
+) -> Result<(), Error>
+    requires columns { All (λ column. column < length columns.old.order) row.now }
+    requires links { links.now ≡ record { rows = degrees.old; columns = length columns.old.order } }
+    ensures frozen { OnOk result (FreezesRow row.now columns.old columns.new) }
+    ensures degrees { degrees.new ≡ degrees.old }
+    ensures err { IfErr result (λ e. e ≡ OutOfMemory) }
+{
+    for column in row {
+        if columns.is_active(*column) {
+            columns.freeze(*column);
+            links.lower_rows(*column, degrees)?;
+        }
+    }
+    Ok(())
 }

@@ -1,0 +1,118 @@
+//! The columns in an order: those with pivots, the active ones and the frozen ones.
+ghost use Rattle.std.specs.Prelude.{◌≡◌, ℕ, ◌+◌, ◌<◌, ◌≤◌, ◌↔◌, length, IsTrue, IfOk, IfErr};
+ghost use Rattle.std.specs.List.{range_with_len};
+ghost use Rattle.rq_bytes.specs.declared.error.Error.TheVariants.{OutOfMemory};
+ghost use Rattle.rq_solver.specs.Peeled.{IsOrderOf, IsActive, first_columns, ExchangesColumns, EndsActive};
+ghost use Rattle.rq_algebra.specs.Systems.{at};
+
+use rq_bytes::error::Error;
+use std::alloc::Global;
+use std::marker::Model;
+
+/// The columns in an order, and the place of each column in it: first those that have pivots, from
+/// place `end` on those that are frozen, and between them the active ones.
+#[derive(Drop)]
+pub(super) struct ColumnOrder {
+    order: Vec<usize>,
+    places: Vec<usize>,
+    pivots: usize,
+    end: usize,
+}
+
+impl Model for ColumnOrder {
+    ghost use Rattle.rq_solver.specs.Peeled.{ColumnState, IsColumnState};
+
+    ghost Value = { ColumnState };
+
+    ghost view = { λ c. record { order = c.order.items; places = c.places.items; pivots = c.pivots; end = c.end } };
+
+    ghost invariant = { λ c. IsColumnState (record { order = c.order.items; places = c.places.items; pivots = c.pivots; end = c.end }) };
+}
+
+impl ColumnOrder {
+    /// So many columns in their own order, those before `boundary` active and the others frozen.
+    pub(super) fn new(alloc: Global, width: usize, boundary: usize) -> Result<ColumnOrder, Error>
+        requires { boundary ≤ width }
+        ensures columns { IfOk result (λ columns. columns ≡ first_columns width boundary) }
+        ensures err { IfErr result (λ e. e ≡ OutOfMemory) }
+    {
+        Ok(ColumnOrder {
+            order: numbers_below(alloc, width)?,
+            places: numbers_below(alloc, width)?,
+            pivots: 0,
+            end: boundary,
+        })
+    }
+
+    /// Whether a column is active.
+    pub(super) fn is_active(&self, column: usize) -> bool
+        requires { column < length self.now.order }
+        ensures { IsTrue result ↔ IsActive self.now column }
+    {
+        let place = self.places[column];
+        self.pivots <= place && place < self.end
+    }
+
+    /// Gives an active column the next pivot.
+    pub(super) fn take_pivot(&mut self, column: usize)
+        requires column { column < length self.old.order }
+        requires active { IsActive self.old column }
+        ensures ended { EndsActive column self.old self.new }
+        ensures pivots { self.new.pivots ≡ self.old.pivots + 1 }
+        ensures here { at self.new.order self.old.pivots ≡ column }
+    {
+        let place = self.places[column];
+        let next = self.pivots;
+        self.exchange(place, next);
+        self.pivots += 1;
+    }
+
+    /// Freezes an active column.
+    pub(super) fn freeze(&mut self, column: usize)
+        requires column { column < length self.old.order }
+        requires active { IsActive self.old column }
+        ensures ended { EndsActive column self.old self.new }
+        ensures pivots { self.new.pivots ≡ self.old.pivots }
+    {
+        let place = self.places[column];
+        let last = self.end - 1;
+        self.exchange(place, last);
+        self.end -= 1;
+    }
+
+    // Exchanges the columns at two places.
+    fn exchange(&mut self, p: usize, q: usize)
+        requires first { p < length self.old.order }
+        requires second { q < length self.old.order }
+        ensures { ExchangesColumns p q self.old self.new }
+    {
+        let first = self.order[p];
+        let second = self.order[q];
+        self.order[p] = second;
+        self.order[q] = first;
+        self.places[first] = q;
+        self.places[second] = p;
+    }
+
+    /// The columns in their order, and the place of each.
+    pub(super) fn into_arrays(self) -> (Vec<usize>, Vec<usize>)
+        ensures order { result.0.items ≡ self.order }
+        ensures places { result.1.items ≡ self.places }
+        ensures columns { IsOrderOf (length self.order) self.order self.places }
+        ensures few { self.pivots ≤ length self.order }
+    {
+        let ColumnOrder { order, places, .. } = self;
+        (order, places)
+    }
+}
+
+fn numbers_below(alloc: Global, end: usize) -> Result<Vec<usize>, Error>
+    ensures numbers { IfOk result (λ numbers. numbers.items ≡ range_with_len 0 end) }
+    ensures err { IfErr result (λ e. e ≡ OutOfMemory) }
+{
+    let mut numbers = Vec::with_capacity(alloc, end)?;
+    for number in 0..end {
+        numbers.push(number)?;
+    }
+    Ok(numbers)
+}

@@ -1,0 +1,89 @@
+//! How many active columns each row has.
+ghost use Rattle.std.specs.Prelude.{◌≡◌, ℕ, ◌<◌, length, IfSome, IfOk, IfErr};
+ghost use Rattle.rq_bytes.specs.declared.error.Error.TheVariants.{OutOfMemory};
+
+use crate::pi_solver::ones::RowOnes;
+use rq_bytes::error::Error;
+use std::alloc::Global;
+use std::marker::Model;
+
+/// How many active columns each row has, and the rows that came to have one alone. This advises
+/// which row to take next, and nothing else rests on it. Contracts see the number of rows.
+#[derive(Drop)]
+pub(super) struct RowDegrees {
+    degrees: Vec<usize>,
+    singles: Vec<usize>,
+}
+
+impl Model for RowDegrees {
+    ghost use Rattle.std.specs.Prelude.{ℕ, ◌<◌, All, length};
+
+    ghost Value = { ℕ };
+
+    ghost view = { λ d. length d.degrees.items };
+
+    ghost invariant = { λ d. All (λ row. row < length d.degrees.items) d.singles.items };
+}
+
+impl RowDegrees {
+    /// The degrees while the columns before `boundary` are active.
+    pub(super) fn new(alloc: Global, ones: &RowOnes, boundary: usize) -> Result<RowDegrees, Error>
+        ensures rows { IfOk result (λ rows. rows ≡ length ones.now) }
+        ensures err { IfErr result (λ e. e ≡ OutOfMemory) }
+    {
+        let mut degrees = Vec::with_capacity(alloc, ones.height())?;
+        let mut singles = Vec::with_capacity(alloc, ones.height())?;
+        for row in 0..ones.height() {
+            let columns = ones.row(row);
+            let degree = columns.iter().filter(|column| **column < boundary).count();
+            degrees.push(degree)?;
+            if degree == 1 {
+                singles.push(row)?;
+            }
+        }
+        Ok(RowDegrees { degrees, singles })
+    }
+
+    /// A row has one active column less.
+    pub(super) fn lower(&mut self, row: usize) -> Result<(), Error>
+        requires { row < self.old }
+        ensures rows { self.new ≡ self.old }
+        ensures err { IfErr result (λ e. e ≡ OutOfMemory) }
+    {
+        let degree = self.degrees[row].saturating_sub(1);
+        self.degrees[row] = degree;
+        if degree == 1 {
+            self.singles.push(row)?;
+        }
+        Ok(())
+    }
+
+    /// A row that has least active columns but has some.
+    pub(super) fn next_row(&mut self) -> Option<usize>
+        ensures row { IfSome result (λ row. row < self.old) }
+        ensures rows { self.new ≡ self.old }
+    {
+        while let Some(row) = self.singles.pop() {
+            if self.degrees[row] == 1 {
+                return Some(row);
+            }
+        }
+        self.least()
+    }
+
+    // The first row of least positive degree.
+    fn least(&self) -> Option<usize>
+        ensures { IfSome result (λ row. row < self.now) }
+    {
+        let mut least = None;
+        let mut least_degree = usize::MAX;
+        for row in 0..self.degrees.len() {
+            let degree = self.degrees[row];
+            if degree > 0 && degree < least_degree {
+                least = Some(row);
+                least_degree = degree;
+            }
+        }
+        least
+    }
+}
