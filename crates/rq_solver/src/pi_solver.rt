@@ -10,14 +10,10 @@ mod degrees;
 mod elimination;
 mod links;
 mod ones;
-<<<<<<< HEAD
 mod peeled;
-mod peeling;
-=======
 mod peeling;
 #[cfg(test)]
 mod peeling_tests;
->>>>>>> solver
 mod rows;
 
 use crate::replay::replay;
