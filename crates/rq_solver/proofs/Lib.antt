@@ -1,6 +1,7 @@
 pub mod ColumnLaws
 pub mod Entries
 pub mod EquationLaws
+pub mod HandedRows
 pub mod LinkLaws
 pub mod ListingLaws
 pub mod OctetRows

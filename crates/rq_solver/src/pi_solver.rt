@@ -1,5 +1,5 @@
 //! The solver of a block's equations.
-ghost use Rattle.std.specs.Prelude.{◌≡◌, ◌≤◌, None, length, OnSome, IfSome, IfNone, IfOk, IfErr, Err};
+ghost use Rattle.std.specs.Prelude.{◌≡◌, ℕ, ◌+◌, ◌<◌, ◌≤◌, None, length, OnSome, IfSome, IfNone, IfOk, IfErr, Err};
 ghost use Rattle.std.specs.Option.{ForSome};
 ghost use Rattle.rq_standard.specs.TableRows.{greatest_size, row_of};
 ghost use Rattle.rq_bytes.specs.declared.error.Error.TheVariants.{AlreadyExecuted, OutOfMemory};
@@ -17,8 +17,10 @@ mod peeling_tests;
 mod rows;
 
 use crate::replay::replay;
-use elimination::operations_of_rows;
-use rows::octet_rows;
+use ones::RowOnes;
+use peeled::operations_of_peeled;
+use peeling::peel;
+use rows::copied_octets;
 use rq_bytes::error::Error;
 use rq_bytes::operation_vector::SymbolOps;
 use rq_bytes::symbol_slab::SymbolSlab;
@@ -41,6 +43,8 @@ pub struct IntermediateSymbolDecoder<T: BinaryMatrix> {
     pub ghost dense_columns: { boundary ≡ (T.content matrix).boundary },
     pub ghost octet_columns: { hdpc.width ≡ (T.content matrix).width },
     pub ghost unordered: { ForSome symbols (λ slab. slab.order ≡ None) },
+    pub ghost within: { first_hdpc + length hdpc.rows ≤ (T.content matrix).height },
+    pub ghost empty: { (i k : ℕ) → i < length hdpc.rows → k < (T.content matrix).width → (T.content matrix).bit (first_hdpc + i) k ≡ 0 },
     pub ghost counted: { ForSome symbols (λ slab. length slab.values ≡ (T.content matrix).height) },
 }
 
@@ -105,14 +109,13 @@ impl<T: BinaryMatrix> IntermediateSymbolDecoder<T> {
         let Some(mut symbols) = self.symbols.take() else {
             return Err(Error::AlreadyExecuted);
         };
-        let rows = octet_rows(
-            self.alloc,
-            &self.matrix,
-            self.boundary,
-            &self.hdpc,
-            self.first_hdpc,
-        )?;
-        let Some(operations) = operations_of_rows(self.alloc, rows, self.matrix.width())? else {
+        let width = self.matrix.width();
+        let ones = RowOnes::of_matrix(self.alloc, &self.matrix, self.boundary)?;
+        let hdpc = copied_octets(self.alloc, &self.hdpc, width)?;
+        let peeling = peel(self.alloc, &ones, width, self.boundary)?;
+        let Some(operations) =
+            operations_of_peeled(self.alloc, &ones, &hdpc, self.first_hdpc, width, &peeling)?
+        else {
             return Ok(None);
         };
         replay(operations.as_slice(), &mut symbols)?;
