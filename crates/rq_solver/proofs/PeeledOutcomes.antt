@@ -1,9 +1,9 @@
 -- What the elimination over peeled rows has found when it ends.
-use Rattle.std.proofs.Common.{◌≡◌, ◌≢◌, ℕ, suc, ◌+◌, ◌-◌, ◌<◌, ◌≤◌, ◌==◌, if◌then◌else◌, List, [], ◌∷◌, ◌++◌, All, Contains, map, length, drop, refl, sym, ap, ◌∙◌, subst, arith, inl, inr}
+use Rattle.std.proofs.Common.{◌≡◌, ◌≢◌, ℕ, suc, ◌+◌, ◌-◌, ◌<◌, ◌≤◌, ◌==◌, if◌then◌else◌, List, [], ◌∷◌, ◌++◌, All, Contains, map, length, drop, refl, sym, ap, ◌∙◌, arith, inl, inr}
 use Rattle.std.specs.List.{range_with_len}
 use Rattle.std.specs.List.Sorted.{IsPermutation}
 use Rattle.std.proofs.lemmas.Bool.{cases_eq, cases_lt}
-use Rattle.std.proofs.lemmas.List.{length-drop, length-map, get_or-drop, get_or_default}
+use Rattle.std.proofs.lemmas.List.{length-map, get_or_default}
 use Rattle.std.proofs.lemmas.List.Elements.{All-append, Contains-get_or}
 use Rattle.std.proofs.lemmas.List.Sorted.{Contains-permutation, IsPermutation-sym}
 use Rattle.std.proofs.Math.ListN.{get_or-map}
@@ -23,10 +23,10 @@ use Rattle.rq_bytes.specs.declared.operation_vector.SymbolOps.{SymbolOps}
 use Rattle.rq_parts.specs.OctetTable.{OctetTable, entry_of}
 use Rattle.rq_solver.specs.Cleared.{ListsRows, ClearsFrozen, HasFrozenPivots, HasPeeledPivots}
 use Rattle.rq_solver.specs.Peeled.{IsOrderOf}
-use Rattle.rq_solver.specs.RowSteps.{IsReduced, IsStuck, IsStepAmong, rows_after}
+use Rattle.rq_solver.specs.RowSteps.{IsStuck, IsStepAmong, rows_after}
 use Rattle.rq_solver.proofs.Performing.{below_range, shows_after}
 use Rattle.rq_solver.proofs.PivotTurns.{if_same, if_apart}
-use Rattle.rq_solver.proofs.PivotsCleared.{left_below, left_apart}
+use Rattle.rq_solver.proofs.PivotsCleared.{left_below, left_apart, pivot_or_left}
 use Rattle.rq_solver.proofs.RowStepLaws.{rows_after-elements, follows_steps}
 use Rattle.rq_solver.proofs.StepColumns.{rows_after-next}
 
@@ -109,23 +109,16 @@ module _ (height width : ℕ) (system : ℕ → ℕ → ℕ) (rows order places 
   module _ (stuck : IsStuck reduced 0 frozen last) where
     -- a row that is none of those with pivots stands behind them
     behind : (i : ℕ) → i < height → ((p : ℕ) → p < pivots + stuck.done → row_of p ≢ i) → (q : ℕ) × (stuck.done ≤ q) × (q < length reduced) × (at reduced q ≡ i)
-    behind i l free =
-        let c = listing.every i l in
-        let same : at listed c.0 ≡ i = get_or_default listed c.0 0 i c.1 ∙ c.2 in
-        elim (cases_lt c.0 pivots) [
-          | inl early ↦ absurd (free c.0 (omega arith) (of_pivot c.0 early ∙ sym (listing.starts c.0 early) ∙ same))
-          | inr late ↦
-              let s : ℕ = c.0 - pivots in
-              let back : pivots + s ≡ c.0 = omega arith in
-              let inside : s < length left = omega (arith, length-drop (length rows) listed, c.1) in
-              let here : at left s ≡ i = get_or-drop (length rows) listed s 0 ∙ ap (at listed) back ∙ same in
-              let d = Contains-permutation left reduced i permuted (subst (Contains left) here (Contains-get_or left s 0 inside)) in
-              let is : at reduced d.0 ≡ i = get_or_default reduced d.0 0 i d.1 ∙ d.2 in
-              elim (cases_lt d.0 stuck.done) [
-                | inl done ↦ absurd (free (pivots + d.0) (omega arith) (of_left d.0 ∙ is))
-                | inr undone ↦ (d.0, undone, d.1, is)
-              ]
-        ]
+    behind i l free = elim (pivot_or_left height rows listed listing i l) [
+      | inl p ↦ absurd (free p.0 (omega (arith, p.1)) (of_pivot p.0 p.1 ∙ p.2))
+      | inr c ↦
+          let d = Contains-permutation left reduced i permuted c in
+          let is : at reduced d.0 ≡ i = get_or_default reduced d.0 0 i d.1 ∙ d.2 in
+          elim (cases_lt d.0 stuck.done) [
+            | inl done ↦ absurd (free (pivots + d.0) (omega arith) (of_left d.0 ∙ is))
+            | inr undone ↦ (d.0, undone, d.1, is)
+          ]
+    ]
 
     nothing_behind : (q j : ℕ) → stuck.done ≤ q → q < length reduced → j < suc (pivots + stuck.done) → meant (at reduced q) (at order j) ≡ 0
     nothing_behind q j from l n = elim (cases_lt j pivots) [

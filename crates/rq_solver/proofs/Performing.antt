@@ -1,13 +1,11 @@
 -- Steps that were done to a table and recorded: one, several, and what they make of rows that the table shows in part.
-use Rattle.std.proofs.Common.{◌≡◌, ◌≢◌, ℕ, ◌+◌, ◌<◌, ◌≤◌, List, [], ◌∷◌, ◌++◌, All, Contains, map, length, refl, sym, ap, ◌∙◌, subst, arith, inl, inr, if◌then◌else◌, ◌==◌, Bool, append_assoc, append-nil}
+use Rattle.std.proofs.Common.{◌≡◌, ◌≢◌, ℕ, ◌<◌, List, [], ◌∷◌, ◌++◌, All, Contains, map, length, refl, sym, ap, ◌∙◌, subst, arith, inl, inr, if◌then◌else◌, Bool, append_assoc, append-nil}
 use Rattle.std.specs.List.{range_with_len}
 use Rattle.std.proofs.lemmas.Bool.{cases_eq, eq-eqb, ne_eqb}
 use Rattle.std.proofs.lemmas.List.{map-append}
 use Rattle.std.proofs.lemmas.List.FromFn.{length-range_with_len, get_or-range_with_len}
-use Rattle.std.proofs.lemmas.List.Elements.{All-nil, All-cons, All-append, All-contains, All-from_get_or, All-weaker}
-use Rattle.rq_algebra.specs.Field.{Field}
+use Rattle.std.proofs.lemmas.List.Elements.{All-nil, All-cons, All-append, All-contains, All-from_get_or}
 use Rattle.rq_algebra.specs.Steps.{AddsRow}
-use Rattle.rq_algebra.specs.Systems.{HasElements}
 use Rattle.rq_algebra.specs.Operations.{Operation, AddAssign, MulAssign, Fma, Reorder}
 use Rattle.rq_standard.specs.OctetField.{octets}
 use Rattle.rq_bytes.specs.SymbolOps.{operation_of}
@@ -15,7 +13,7 @@ use Rattle.rq_bytes.specs.declared.operation_vector.SymbolOps.{SymbolOps}
 use Rattle.rq_parts.specs.OctetTable.{OctetTable, entry_of}
 use Rattle.rq_solver.specs.Cleared.{sum_step, Performs}
 use Rattle.rq_solver.specs.RowSteps.{HasOctets, row_step, rows_after, IsStepAmong, RecordsSteps}
-use Rattle.rq_solver.proofs.RowStepLaws.{SameEntries, rows_after-same}
+use Rattle.rq_solver.proofs.RowStepLaws.{rows_after-same}
 use Rattle.rq_solver.proofs.StepColumns.{changed_here, changed_other, rows_after-none, rows_after-next, rows_after-column, Contains-range}
 
 -- ---- a multiple of a row is added

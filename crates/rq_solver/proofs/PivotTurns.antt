@@ -1,17 +1,16 @@
 -- A row takes the rows of pivots, one by one, and so does one row after another.
-use Rattle.std.proofs.Common.{◌≡◌, ◌≢◌, ℕ, ◌+◌, ◌<◌, ◌≤◌, ◌⊎◌, Bool, true, false, List, [], ◌∷◌, ◌++◌, All, Contains, length, take, drop, refl, sym, ap, ◌∙◌, subst, arith, inl, inr, if◌then◌else◌, ◌==◌, lit<}
+use Rattle.std.proofs.Common.{◌≡◌, ◌≢◌, ℕ, ◌+◌, ◌<◌, ◌≤◌, ◌⊎◌, Bool, List, [], ◌∷◌, ◌++◌, Contains, length, take, drop, refl, sym, ap, ◌∙◌, subst, arith, inl, inr, if◌then◌else◌, ◌==◌, lit<}
 use Rattle.std.specs.List.{count_by}
 use Rattle.std.proofs.lemmas.Bool.{cases_eq, eq-eqb, ne_eqb}
-use Rattle.std.proofs.lemmas.List.{take_more, take-append-drop, take_all, length-take-le, get_or-take}
+use Rattle.std.proofs.lemmas.List.{take_more, take-append-drop, length-take-le}
 use Rattle.std.proofs.lemmas.List.Sums.{count_by_more_yes, count_by_more_no, sum_by-append}
-use Rattle.std.proofs.lemmas.List.Elements.{Contains-append_left, Contains-push, Contains-get_or}
+use Rattle.std.proofs.lemmas.List.Elements.{Contains-append_left, Contains-push}
 use Rattle.rq_algebra.specs.Arrangements.{ArePlaces}
-use Rattle.rq_algebra.specs.Operations.{Operation}
 use Rattle.rq_algebra.specs.Systems.{at}
 use Rattle.rq_algebra.proofs.Sums.{add_zero, mul_zero}
 use Rattle.rq_standard.specs.OctetField.{octets}
 use Rattle.rq_bytes.specs.declared.operation_vector.SymbolOps.{SymbolOps}
-use Rattle.rq_parts.specs.OctetTable.{OctetTable, entry_of}
+use Rattle.rq_parts.specs.OctetTable.{OctetTable}
 use Rattle.rq_solver.specs.Cleared.{sum_step, Performs, IsCleared, TakesPivots}
 use Rattle.rq_solver.specs.Peeled.{IsOrderOf}
 use Rattle.rq_solver.specs.RowSteps.{HasOctets, rows_after}

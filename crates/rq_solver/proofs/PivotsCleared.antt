@@ -1,5 +1,6 @@
 -- The pivots' columns of a system's rows, once the rows of bits and then those of octets have been cleared.
-use Rattle.std.proofs.Common.{◌≡◌, ◌≢◌, ℕ, ◌+◌, ◌<◌, ◌≤◌, ◌⊎◌, List, [], ◌++◌, Contains, map, length, drop, sym, ap, ◌∙◌, subst, arith, inl, inr}
+use Rattle.std.proofs.Common.{◌≡◌, ◌≢◌, ℕ, ◌+◌, ◌-◌, ◌<◌, ◌≤◌, ◌⊎◌, List, [], ◌++◌, Contains, map, length, drop, get_or, sym, ap, ◌∙◌, subst, arith, inl, inr}
+use Rattle.std.proofs.lemmas.Bool.{cases_lt}
 use Rattle.std.proofs.lemmas.List.{length-drop, get_or-drop, get_or_default}
 use Rattle.rq_algebra.specs.Operations.{Operation}
 use Rattle.rq_algebra.specs.Systems.{at, HasElements}
@@ -40,6 +41,20 @@ module _ (height : ℕ) (rows listed : List ℕ) (listing : ListsRows height row
       let z : p ≡ s.0 = listing.are.apart p s.0 (omega (arith, listing.few)) s.2 (listing.starts p l ∙ e ∙ sym s.3) in
       omega (arith, z, s.1, l)
 
+  -- a row is a pivot's, or is left
+  pub pivot_or_left : (r : ℕ) → r < height → ((p : ℕ) × (p < length rows) × (at rows p ≡ r)) ⊎ Contains (drop (length rows) listed) r
+  pivot_or_left r l =
+      let c = listing.every r l in
+      elim (cases_lt c.0 (length rows)) [
+        | inl early ↦ inl (c.0, early, sym (listing.starts c.0 early) ∙ get_or_default listed c.0 0 r c.1 ∙ c.2)
+        | inr late ↦
+            let s : ℕ = c.0 - length rows in
+            let back : length rows + s ≡ c.0 = omega arith in
+            let inside : s < length (drop (length rows) listed) = omega (arith, length-drop (length rows) listed, c.1) in
+            let here : get_or (drop (length rows) listed) s r ≡ r = get_or-drop (length rows) listed s r ∙ ap (λ (i : ℕ). get_or listed i r) back ∙ c.2 in
+            inr (s, inside, here)
+      ]
+
 -- ---- the rows of a system
 
 module _ (lists : List (List ℕ)) (first : ℕ) (hdpc : OctetTable) where
@@ -55,7 +70,7 @@ module _ (lists : List (List ℕ)) (first : ℕ) (hdpc : OctetTable) where
   module _ (width : ℕ) (bits : AreRowsOfBits width lists) (are : AreOctetRows lists first width hdpc) where
     pub system_elements : HasElements octets (length lists) width (system_rows lists first hdpc)
     system_elements i k l m = elim (cases i) [
-      | inl q ↦ rw (← q.2, octets_at q.0 k q.1) (are.octets.elements q.0 k q.1 (rw are.width_is m))
+      | inl q ↦ rw (← q.2, octets_at q.0 k q.1) (are.elements q.0 k q.1 (rw are.width_is m))
       | inr out ↦ rw (bits_at i k out) (omega (arith, bits.once i k l m))
     ]
 

@@ -1,5 +1,5 @@
 -- What becomes of rows of which some have pivots while they are still as they were.
-use Rattle.std.specs.Prelude.{◌≡◌, ◌≢◌, ℕ, ◌+◌, ◌<◌, ◌≤◌, ◌==◌, if◌then◌else◌, List, [], ◌∷◌, ◌++◌, All, Contains, count_by, length, map}
+use Rattle.std.specs.Prelude.{◌≡◌, ◌≢◌, ℕ, ◌+◌, ◌<◌, ◌≤◌, ◌==◌, if◌then◌else◌, List, [], ◌++◌, All, Contains, count_by, length, map}
 use Rattle.std.specs.List.{range_with_len}
 use Rattle.rq_algebra.specs.Arrangements.{ArePlaces}
 use Rattle.rq_algebra.specs.Systems.{at, HasElements}
@@ -32,7 +32,7 @@ pub record PeelsRows (lists : List (List ℕ)) (peeling : Peeling) : Type 0 wher
 -- HDPC rows, which have the places of rows without ones
 pub record AreOctetRows (lists : List (List ℕ)) (first width : ℕ) (hdpc : OctetTable) : Type 0 where
   pub width_is : hdpc.width ≡ width
-  pub octets : HasOctets hdpc
+  pub elements : HasElements octets (length hdpc.rows) hdpc.width (entry_of hdpc)
   pub within : first + length hdpc.rows ≤ length lists
   pub empty : (i : ℕ) → i < length hdpc.rows → ones_at lists (first + i) ≡ []
 

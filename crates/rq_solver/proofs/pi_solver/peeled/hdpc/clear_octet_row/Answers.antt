@@ -1,5 +1,5 @@
 -- What the check leaves to show of `pi_solver::peeled::hdpc::clear_octet_row`.
-use Rattle.std.proofs.Common.{◌≡◌, ◌<◌, ℕ, length, sym, ap, ◌∙◌, arith}
+use Rattle.std.proofs.Common.{◌≡◌, ◌<◌, length, sym, ap, ◌∙◌, arith}
 use Rattle.std.proofs.lemmas.List.{get_or_read}
 use Rattle.rq_algebra.specs.Systems.{at}
 use Rattle.rq_parts.specs.OctetTable.{entry_of}
@@ -26,7 +26,7 @@ loop-p-preserved c =
     let in_order : t < length order = omega (arith, c.requires.order.order_count, c.requires.few) in
     let column : c.index.result.now ≡ at order t = get_or_read order t c.index.result.now in_order c.index.ensures 0 in
     let scalar_is : c.get-scalar.result ≡ octet (at order t) = c.get-scalar.ensures ∙ ap octet column in
-    let small : octet (at order t) < 256 = c.requires.hdpc.elements c.args.i (at order t) c.requires.i (c.requires.order.ordered t (omega arith)).0 in
+    let small : octet (at order t) < 256 = c.requires.hdpc c.args.i (at order t) c.requires.i (c.requires.order.ordered t (omega arith)).0 in
     elim c.if-byte-ne0.branch [
       | then-byte-ne0+in_ok-add_row w ↦
           let read : w.index-then-byte-ne0.result.now ≡ at rows t = get_or_read rows t w.index-then-byte-ne0.result.now in_rows w.index-then-byte-ne0.ensures 0 in

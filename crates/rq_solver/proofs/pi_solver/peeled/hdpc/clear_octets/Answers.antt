@@ -1,6 +1,5 @@
 -- What the check leaves to show of `pi_solver::peeled::hdpc::clear_octets`.
-use Rattle.std.proofs.Common.{◌<◌, ◌≢◌, ℕ, length, arith, ◌+◌}
-use Rattle.rq_algebra.specs.Systems.{at}
+use Rattle.std.proofs.Common.{arith}
 use Rattle.rq_parts.specs.OctetTable.{entry_of}
 use Rattle.rq_solver.proofs.OctetTurns.{octet_rows_none, octet_rows_more}
 use Rattle.rq_solver.proofs.pi_solver.peeled.hdpc.clear_octets.Goals as goal

@@ -1,5 +1,5 @@
 -- What the check leaves to show of `pi_solver::peeled::listing::list_range`.
-use Rattle.std.proofs.Common.{◌≡◌, ℕ, ◌<◌, ◌≤◌, Contains, sym, subst, arith, inl, inr}
+use Rattle.std.proofs.Common.{Contains, sym, subst, arith, inl, inr}
 use Rattle.std.proofs.lemmas.Bool.{cases_eq}
 use Rattle.rq_solver.proofs.ListingLaws.{more_none, more_more, more_contains}
 use Rattle.rq_solver.proofs.pi_solver.peeled.listing.list_range.Goals as goal

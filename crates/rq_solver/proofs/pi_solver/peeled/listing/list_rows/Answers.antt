@@ -1,5 +1,4 @@
 -- What the check leaves to show of `pi_solver::peeled::listing::list_rows`.
-use Rattle.std.proofs.Common.{◌≡◌, ℕ, List, length, take, arith}
 use Rattle.rq_solver.proofs.ListingLaws.{next_unmarked, next_listed}
 use Rattle.rq_solver.proofs.pi_solver.peeled.listing.list_rows.Goals as goal
 

@@ -1,5 +1,5 @@
 -- What the check leaves to show of `pi_solver::peeled::listing::rows_in_order`.
-use Rattle.std.proofs.Common.{ℕ, List, ◌+◌, ◌≡◌, sym, subst}
+use Rattle.std.proofs.Common.{ℕ, List, ◌+◌, subst}
 use Rattle.rq_solver.specs.Listing.{ListsMore}
 use Rattle.rq_solver.proofs.ListingLaws.{lists_all}
 use Rattle.rq_solver.proofs.pi_solver.peeled.listing.rows_in_order.Goals as goal

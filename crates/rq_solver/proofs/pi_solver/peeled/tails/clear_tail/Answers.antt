@@ -1,8 +1,5 @@
 -- What the check leaves to show of `pi_solver::peeled::tails::clear_tail`.
-use Rattle.std.proofs.Common.{◌≡◌, ◌<◌, ℕ, length, sym, ap, ◌∙◌, arith}
-use Rattle.std.proofs.lemmas.List.{get_or_read}
-use Rattle.rq_algebra.specs.Systems.{at}
-use Rattle.rq_parts.specs.OctetTable.{entry_of}
+use Rattle.std.proofs.Common.{◌<◌, length, sym, ◌∙◌, arith}
 use Rattle.rq_solver.proofs.TailTurns.{tail_none, tail_zero, tail_more}
 use Rattle.rq_solver.proofs.pi_solver.peeled.tails.clear_tail.Goals as goal
 use Rattle.rq_solver.proofs.pi_solver.peeled.tails.clear_tail.Goals.{then-byte-ne0+in_ok-add_row, else-byte-ne0}

@@ -1,5 +1,5 @@
 -- What the check leaves to show of `pi_solver::peeled::tails::clear_tails`.
-use Rattle.std.proofs.Common.{◌<◌, ◌≤◌, length, arith}
+use Rattle.std.proofs.Common.{arith}
 use Rattle.rq_solver.proofs.TailTurns.{tails_none, tails_more, still_reduced}
 use Rattle.rq_solver.proofs.pi_solver.peeled.tails.clear_tails.Goals as goal
 
