@@ -113,8 +113,14 @@ impl<T: BinaryMatrix> IntermediateSymbolDecoder<T> {
         let ones = RowOnes::of_matrix(self.alloc, &self.matrix, self.boundary)?;
         let hdpc = copied_octets(self.alloc, &self.hdpc, width)?;
         let peeling = peel(self.alloc, &ones, width, self.boundary)?;
-        let Some(operations) =
-            operations_of_peeled(self.alloc, &ones, &hdpc, self.first_hdpc, width, &peeling)?
+        let Some(operations) = operations_of_peeled(
+            self.alloc,
+            &ones,
+            &hdpc,
+            self.first_hdpc,
+            width,
+            &peeling,
+        )?
         else {
             return Ok(None);
         };
