@@ -1,12 +1,12 @@
 -- Symbols of which only the first octet may be nonzero: that octet stands before the object's padding, in every cutting.
-use Rattle.std.proofs.Common.{◌≡◌, ◌≢◌, ℕ, zero, suc, ◌+◌, ◌-◌, ◌*◌, ◌/◌, ◌%◌, ◌<◌, ◌≤◌, ◌⊎◌, cond, ltb, eqb, Bool, true, false, List, [], ◌∷◌, ◌++◌, length, take, get_or, map, refl, sym, ap, ◌∙◌, subst, arith, inl, inr, length-append}
+use Rattle.std.proofs.Common.{◌≡◌, ◌≢◌, ℕ, zero, suc, ◌+◌, ◌-◌, ◌*◌, ◌/◌, ◌%◌, ◌<◌, ◌≤◌, ◌⊎◌, cond, ltb, eqb, Bool, true, false, List, [], ◌∷◌, ◌++◌, length, take, get_or, set, replicate, map, refl, sym, ap, ◌∙◌, subst, arith, inl, inr, length-append}
 use Rattle.std.specs.Prelude.{◌&&◌}
 use Rattle.std.specs.List.{range_with_len}
 use Rattle.std.proofs.Math.Nat.{mul-le-mul_right, mul-mod_left}
 use Rattle.std.proofs.lemmas.Bool.{cases_lt, cases_eq, lt-ltb, le-ltb, eq-eqb, ne_eqb}
 use Rattle.std.proofs.lemmas.Nat.{div-mul-add, div-add-mod', mod-mul-add, mod_below}
 use Rattle.std.proofs.lemmas.Grind.{div_ceil_times}
-use Rattle.std.proofs.lemmas.List.{ext_get_or, get_or-take, get_or_past, length-take-le, get_or_append_left, get_or-append_right, length-replicate}
+use Rattle.std.proofs.lemmas.List.{ext_get_or, get_or-take, get_or_past, length-take-le, get_or_append_left, get_or-append_right, get_or-set_same, get_or-set_other, length-set, length-replicate}
 use Rattle.std.proofs.lemmas.List.FromFn.{length-map-range_with_len, get_or-map-range_with_len}
 use Rattle.rq_algebra.proofs.Placewise.{at-zeros}
 use Rattle.rq_standard.specs.Configuration.{Configuration, IsAligned, total_symbols}
@@ -213,3 +213,66 @@ module _ (c : Configuration) (octet : ℕ → ℕ → ℕ) where
         let i = sub_block_size c 0 * e in
         get_or-take c.transfer_length (pieces blocks c.source_blocks) (symbols_before c b * c.symbol_size + i) 0 (first_is_before_end b e below in_block)
         ∙ byte_at c.source_blocks b i (omega arith) below (place_of_first c pos aligned (block_symbols c b) (octet b) e in_block) ∙ at_first c pos aligned (block_symbols c b) (octet b) e in_block
+
+-- ---- octets written one after another
+
+-- the block with the first n of them
+abbrev pub first_octets_below : Configuration → ℕ → (ℕ → ℕ) → ℕ → List ℕ
+first_octets_below c k octet n = map (λ i. cond (eqb (i % sub_block_size c 0) 0 && ltb (i / sub_block_size c 0) n) (octet (i / sub_block_size c 0)) 0) (range_with_len 0 (k * c.symbol_size))
+
+pub all_octets : (c : Configuration) (k : ℕ) (octet : ℕ → ℕ) → first_octets_below c k octet k ≡ first_octets_block c k octet
+unfolding first_octets_block
+all_octets c k octet = refl
+
+module _ (c : Configuration) (k : ℕ) (octet : ℕ → ℕ) where
+  below_at : (n i : ℕ) → i < k * c.symbol_size → get_or (first_octets_below c k octet n) i 0 ≡ cond (eqb (i % sub_block_size c 0) 0 && ltb (i / sub_block_size c 0) n) (octet (i / sub_block_size c 0)) 0
+  below_at n i below = get_or-map-range_with_len _ 0 (k * c.symbol_size) i i 0 below (omega arith)
+
+  pub length-octets_below : (n : ℕ) → length (first_octets_below c k octet n) ≡ k * c.symbol_size
+  length-octets_below n = length-map-range_with_len _ 0 (k * c.symbol_size)
+
+  pub no_octets : replicate {A = ℕ} (k * c.symbol_size) 0 ≡ first_octets_below c k octet 0
+  no_octets =
+      let size = k * c.symbol_size in
+      let long = length-replicate {A = ℕ} size 0 in
+      ext_get_or 0 (replicate size 0) (first_octets_below c k octet 0) (long ∙ sym (length-octets_below 0))
+      (λ i lt. let within : i < size = omega (arith, long) in
+      at-zeros size i ∙ sym (below_at 0 i within ∙ none (eqb (i % sub_block_size c 0) 0) (i / sub_block_size c 0))) where
+        neither : (t : Bool) (v : ℕ) → cond (t && false) v 0 ≡ 0
+        neither true v = refl
+        neither false v = refl
+        none : (t : Bool) (q : ℕ) → cond (t && ltb q 0) (octet q) 0 ≡ 0
+        none t q = ap (λ b. cond (t && b) (octet q) 0) (le-ltb q 0 (omega arith)) ∙ neither t (octet q)
+
+  module _ (pos : 0 < c.symbol_size) (aligned : IsAligned c) (n : ℕ) (in_block : n < k) where
+    -- where the next one stands
+    pub next_place : n * sub_block_size c 0 < k * c.symbol_size
+    next_place = omega (arith, place_of_first c pos aligned k octet n in_block)
+
+    pub octet_written : (v : ℕ) → v ≡ octet n → set (first_octets_below c k octet n) (n * sub_block_size c 0) v ≡ first_octets_below c k octet (n + 1)
+    octet_written v is =
+        let z = sub_block_size c 0 in
+        let old = first_octets_below c k octet n in
+        let long = length-set old (n * z) v ∙ length-octets_below n in
+        ext_get_or 0 (set old (n * z) v) (first_octets_below c k octet (n + 1)) (long ∙ sym (length-octets_below (n + 1)))
+        (λ i lt. let within : i < k * c.symbol_size = omega (arith, long) in
+        elim (cases_eq i (n * z)) [
+          | inl e ↦ ap (λ j. get_or (set old (n * z) v) j 0) e ∙ get_or-set_same old (n * z) v 0 (omega (arith, length-octets_below n, next_place)) ∙ is ∙ sym (here z refl) ∙ sym (below_at (n + 1) (n * z) next_place) ∙ ap (λ j. get_or (first_octets_below c k octet (n + 1)) j 0) (sym e)
+          | inr ne ↦ get_or-set_other old (n * z) i v 0 ne ∙ below_at n i within ∙ elsewhere z i ne ∙ sym (below_at (n + 1) i within)
+        ]) where
+          positive : 0 < sub_block_size c 0
+          positive = (first_sub_block c pos aligned).positive
+          here : (z : ℕ) → z ≡ sub_block_size c 0 → cond (eqb (n * z % z) 0 && ltb (n * z / z) (n + 1)) (octet (n * z / z)) 0 ≡ octet n
+          here z same =
+              let quotient : n * z / z ≡ n = ap (λ m. m / z) (let s : n * z ≡ n * z + 0 = omega arith in s) ∙ div-mul-add n z 0 (omega (arith, same, positive)) in
+              ap (λ m. cond (eqb (n * z % z) 0 && ltb m (n + 1)) (octet m) 0) quotient ∙ ap (λ b. cond (b && ltb n (n + 1)) (octet n) 0) (eq-eqb (n * z % z) 0 (mul-mod_left n z)) ∙ ap (λ b. cond b (octet n) 0) (lt-ltb n (n + 1) (omega arith))
+          elsewhere : (z i : ℕ) → i ≢ n * z → cond (eqb (i % z) 0 && ltb (i / z) n) (octet (i / z)) 0 ≡ cond (eqb (i % z) 0 && ltb (i / z) (n + 1)) (octet (i / z)) 0
+          elsewhere z i ne = elim (cases_eq (i % z) 0) [
+            | inr d ↦ ap (λ b. cond (b && ltb (i / z) n) (octet (i / z)) 0) (ne_eqb (i % z) 0 d) ∙ sym (ap (λ b. cond (b && ltb (i / z) (n + 1)) (octet (i / z)) 0) (ne_eqb (i % z) 0 d))
+            | inl whole ↦
+                let other : i / z ≢ n = λ e. ne (omega (arith, div-add-mod' i z, whole, ap (λ m. m * z) e)) in
+                ap (λ b. cond (eqb (i % z) 0 && b) (octet (i / z)) 0) (elim (cases_lt (i / z) n) [
+                  | inl lt ↦ lt-ltb (i / z) n lt ∙ sym (lt-ltb (i / z) (n + 1) (omega arith))
+                  | inr past ↦ le-ltb (i / z) n past ∙ sym (le-ltb (i / z) (n + 1) (omega (arith, other)))
+                ])
+          ]
