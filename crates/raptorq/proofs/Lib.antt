@@ -13,6 +13,7 @@ pub mod Lists
 pub mod MissingCounts
 pub mod NewBlocks
 pub mod ObjectBlocks
+pub mod OctetSymbols
 pub mod Outcomes
 pub mod Payloads
 pub mod PlanLaws

@@ -95,7 +95,7 @@ module _ (row : Row) (size : ℕ) (checked : IsChecked row) where
 
 -- ---- a plain column as one of symbols
 
-abbrev wide : ℕ → (ℕ → ℕ) → ℕ → List ℕ
+abbrev pub wide : ℕ → (ℕ → ℕ) → ℕ → List ℕ
 wide size x k = first_octet size (x k)
 
 module _ (size : ℕ) (pos : 0 < size) where
@@ -115,14 +115,14 @@ module _ (size : ℕ) (pos : 0 < size) where
     by_place (suc p) = at-zeros (size - 1) p ∙ sym (at-zeros size (suc p))
 
   module _ (row : Row) (checked : IsChecked row) (x : ℕ → ℕ) (is : IsColumn octets (intermediate_symbols row) x) where
-    wide_symbols : IsSymbolColumn octets size (intermediate_symbols row) (wide size x)
+    pub wide_symbols : IsSymbolColumn octets size (intermediate_symbols row) (wide size x)
     wide_symbols k l = octet_symbol (x k) (is k l)
 
     -- past the first octet a row has zeros
     dot_later : (r : ℕ → ℕ) (p : ℕ) → dot octets (intermediate_symbols row) r (slice_at (suc p) (wide size x)) ≡ 0
     dot_later r p = dot_zero octets (intermediate_symbols row) r (slice_at (suc p) (wide size x)) (λ k l. ap (octets.mul (r k)) (at-zeros (size - 1) p) ∙ mul_zero octets (r k))
 
-    wide_sum : (e : ℕ) → tuple_sum row (wide size x) e ≡ first_octet size (plain_sum row x e)
+    pub wide_sum : (e : ℕ) → tuple_sum row (wide size x) e ≡ first_octet size (plain_sum row x e)
     wide_sum e =
         same_symbol octets size (tuple_sum row (wide size x) e) (first_octet size (plain_sum row x e)) (sum_symbol row size e (wide size x) checked wide_symbols)
             (octet_symbol (plain_sum row x e) (dot_below_size octets (intermediate_symbols row) (symbol_coefficient row e) x))

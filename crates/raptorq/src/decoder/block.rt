@@ -1,7 +1,8 @@
 //! The decoder of one source block.
-ghost use Rattle.std.specs.Prelude.{◌≡◌, ◌≢◌, ℕ, ◌+◌, ◌*◌, ◌%◌, ◌^◌, ◌<◌, ◌≤◌, true, ◌++◌, List, length, Result, Ok, Err, Some, None, IfOk, IfErr, OnOk, OnErr, IsSome, not, if◌then◌else◌, ◌==◌, option_map, vec_items};
+ghost use Rattle.std.specs.Prelude.{◌≡◌, ◌≢◌, ℕ, ◌+◌, ◌*◌, ◌%◌, ◌^◌, ◌<◌, ◌≤◌, true, [], ◌∷◌, ◌++◌, List, length, map, Result, Ok, Err, Some, None, IfOk, IfErr, OnOk, OnErr, IsSome, not, if◌then◌else◌, ◌==◌, option_map, vec_items};
 ghost use Rattle.std.specs.Option.{ForSome};
 ghost use Rattle.rq_bytes.specs.Refusals.{IsAnswer};
+ghost use Rattle.rq_bytes.specs.Slab.{slab_of};
 ghost use Rattle.rq_standard.specs.Cutting.{plain_symbol};
 ghost use Rattle.rq_standard.specs.Received.{or_later};
 ghost use Rattle.rq_standard.specs.TableRows.{IsChecked};
@@ -9,7 +10,7 @@ ghost use Rattle.raptorq.specs.Missing.{payload_of, has_payload, missing_count};
 
 use crate::decoder::known::known_equations;
 use crate::solving::solve;
-use crate::sub_blocks::into_sub_blocks;
+use crate::sub_blocks::{into_sub_blocks, size_at};
 use crate::sums::encoding_symbol;
 use rq_base::base::{EncodingPacket, ObjectTransmissionInformation};
 use rq_bytes::error::Error;
@@ -83,10 +84,22 @@ fn join(
     Ok(block)
 }
 
+// Symbols of one octet each.
+fn octet_symbols(alloc: Global, column: &[u8]) -> Result<SymbolSlab, Error>
+    ensures slab { IfOk result (λ slab. slab ≡ slab_of 1 (map (λ octet. octet ∷ []) column.now)) }
+    ensures memory { IfErr result (λ e. e ≡ Error.OutOfMemory) }
+{
+    let mut symbols = SymbolSlab::with_zeros(alloc, column.len(), 1)?;
+    symbols.copy_block_from(0, column);
+    Ok(symbols)
+}
+
 impl SourceBlockDecoder {
     ghost use Rattle.std.specs.Int.{div_ceil};
-    ghost use Rattle.rq_standard.specs.Held.{Held, nothing_held, recorded, IsBlockWith, IsBlockAnswer};
-    ghost use Rattle.rq_standard.specs.TableRows.{greatest_size, row_of};
+    ghost use Rattle.rq_algebra.specs.Systems.{at};
+    ghost use Rattle.rq_standard.specs.Differences.{first_octets_block, plain_sum};
+    ghost use Rattle.rq_standard.specs.Held.{Held, nothing_held, recorded, ShowsUndetermined, IsBlockWith, IsBlockAnswer};
+    ghost use Rattle.rq_standard.specs.TableRows.{greatest_size, intermediate_symbols, row_of};
     ghost use Rattle.raptorq.specs.Known.{SolvesBlock, IsHeldSolution, rebuilt_symbol};
     ghost use Rattle.raptorq.specs.Refused.{checked_block, block_refusal};
     ghost use Rattle.raptorq.specs.Blocks.{held_of};
@@ -207,6 +220,31 @@ impl SourceBlockDecoder {
             Some(intermediate) => Ok(Some(self.rebuild(&intermediate)?)),
             None => Ok(None),
         }
+    }
+
+    /// STUB
+    pub fn homogeneous(&self) -> Result<Option<Vec<u8>>, Error>
+        ensures shown { IfOk result (λ column. ShowsUndetermined (held_of self.now) (option_map vec_items column)) }
+        ensures memory { IfErr result (λ e. e ≡ Error.OutOfMemory) }
+    {
+        Ok(None)
+    }
+
+    /// The block whose symbols begin with the octets that a plain column has for them, and go on
+    /// with zeros.
+    pub(crate) fn first_octets(&self, column: &[u8]) -> Result<Vec<u8>, Error>
+        requires { length column.now ≡ intermediate_symbols (held_of self.now).row }
+        ensures block { IfOk result (λ block. block.items ≡ first_octets_block (held_of self.now).configuration (held_of self.now).symbols (plain_sum (held_of self.now).row (at column.now))) }
+        ensures memory { IfErr result (λ e. e ≡ Error.OutOfMemory) }
+    {
+        let octets = octet_symbols(self.alloc, column)?;
+        let mut block = vec![in self.alloc; 0u8; self.symbols as usize * self.symbol_size()]?;
+        let width = size_at(&self.config, 0);
+        for e in 0..self.symbols {
+            let octet = encoding_symbol(self.alloc, &self.row, &octets, e)?;
+            block[e as usize * width] = octet[0];
+        }
+        Ok(block)
     }
 
     // The intermediate symbols, where what came determines them.
