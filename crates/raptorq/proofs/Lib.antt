@@ -20,3 +20,4 @@ pub mod PlanLaws
 pub mod Ranges
 pub mod Summing
 pub mod Taking
+pub mod Witnesses

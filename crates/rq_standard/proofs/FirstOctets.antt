@@ -244,6 +244,16 @@ module _ (c : Configuration) (k : ℕ) (octet : ℕ → ℕ) where
         none : (t : Bool) (q : ℕ) → cond (t && ltb q 0) (octet q) 0 ≡ 0
         none t q = ap (λ b. cond (t && b) (octet q) 0) (le-ltb q 0 (omega arith)) ∙ neither t (octet q)
 
+  -- where all of them are zero, so is the block
+  pub zero_octets : ((e : ℕ) → octet e ≡ 0) → first_octets_block c k octet ≡ replicate {A = ℕ} (k * c.symbol_size) 0
+  zero_octets zeros =
+      let size = k * c.symbol_size in
+      sym (all_octets c k octet) ∙ ext_get_or 0 (first_octets_below c k octet k) (replicate {A = ℕ} size 0) (length-octets_below k ∙ sym (length-replicate {A = ℕ} size 0))
+      (λ i lt. below_at k i (omega (arith, length-octets_below k)) ∙ picked (eqb (i % sub_block_size c 0) 0 && ltb (i / sub_block_size c 0) k) (octet (i / sub_block_size c 0)) (zeros (i / sub_block_size c 0)) ∙ sym (at-zeros size i)) where
+        picked : (t : Bool) (v : ℕ) → v ≡ 0 → cond t v 0 ≡ 0
+        picked true v h = h
+        picked false v h = refl
+
   module _ (pos : 0 < c.symbol_size) (aligned : IsAligned c) (n : ℕ) (in_block : n < k) where
     -- where the next one stands
     pub next_place : n * sub_block_size c 0 < k * c.symbol_size

@@ -25,7 +25,7 @@ use Rattle.rq_standard.specs.Differences.{Fits, IsOnlyObject, xor_bytes, Encodes
 use Rattle.rq_standard.proofs.BlockCuts.{block_byte}
 use Rattle.rq_standard.proofs.Columns.{sum_symbol}
 use Rattle.rq_standard.proofs.Differences.{length-zero, add_zero_symbols, encoding-add, known_are_zeros, zero_octet, zeros_solve, zeros_are_octets, zero_dot, zeros_encode, no_change_is_zero, some_change}
-use Rattle.rq_standard.proofs.FirstOctets.{octet_at, first_octets_object, length-first_octets_block, length-first_octets_object, block_of_first_octets, symbol_of_object, object_at_first, first_is_before_end}
+use Rattle.rq_standard.proofs.FirstOctets.{first_octets_object, zero_octets, length-first_octets_object, block_of_first_octets, symbol_of_object, object_at_first, first_is_before_end}
 use Rattle.rq_standard.proofs.Interleaved.{get_or-symbol_of_block}
 use Rattle.rq_standard.proofs.PlainCut.{length-block_bytes}
 use Rattle.rq_standard.proofs.Standing.{length-symbol_of_block, length-block_source, source_at}
@@ -158,15 +158,12 @@ module _ (c : Configuration) (row : ℕ → Row) (columns : ℕ → ℕ → ℕ)
 
   -- a block whose column is zero has zeros
   pub zero_block : (b i : ℕ) → b < c.source_blocks → ((j : ℕ) → j < intermediate_symbols (row b) → columns b j ≡ 0) → get_or (block_bytes c (bytes_of c row columns) b) i 0 ≡ 0
-  zero_block b i below none = ap (λ block. get_or block i 0) (block_of_first_octets c (λ n e. plain_sum (row n) (columns n) e) pos some aligned b below) ∙ octets_zero (λ e. plain_sum (row b) (columns b) e) (λ e. dot_zero octets (intermediate_symbols (row b)) (symbol_coefficient (row b) e) (columns b) (λ j l. ap (octets.mul (symbol_coefficient (row b) e j)) (none j l) ∙ mul_zero octets (symbol_coefficient (row b) e j))) (block_symbols c b) where
-    picked : (t : Bool) (v : ℕ) → v ≡ 0 → cond t v 0 ≡ 0
-    picked true v h = h
-    picked false v h = refl
-    octets_zero : (octet : ℕ → ℕ) → ((e : ℕ) → octet e ≡ 0) → (k : ℕ) → get_or (first_octets_block c k octet) i 0 ≡ 0
-    octets_zero octet all k = elim (cases_lt i (k * c.symbol_size)) [
-      | inl lt ↦ octet_at c pos aligned k octet i lt ∙ picked (eqb (i % sub_block_size c 0) 0 && ltb (i / sub_block_size c 0) k) (octet (i / sub_block_size c 0)) (all (i / sub_block_size c 0))
-      | inr past ↦ get_or_past (first_octets_block c k octet) i 0 (omega (arith, length-first_octets_block c k octet))
-    ]
+  zero_block b i below none =
+      let k = block_symbols c b in
+      let octet = plain_sum (row b) (columns b) in
+      ap (λ block. get_or block i 0) (block_of_first_octets c (λ n e. plain_sum (row n) (columns n) e) pos some aligned b below
+      ∙ zero_octets c k octet (λ e. dot_zero octets (intermediate_symbols (row b)) (symbol_coefficient (row b) e) (columns b) (λ j l. ap (octets.mul (symbol_coefficient (row b) e j)) (none j l) ∙ mul_zero octets (symbol_coefficient (row b) e j))))
+      ∙ at-zeros (k * c.symbol_size) i
 
 -- ---- the only object
 

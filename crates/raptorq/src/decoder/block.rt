@@ -1,5 +1,5 @@
 //! The decoder of one source block.
-ghost use Rattle.std.specs.Prelude.{◌≡◌, ◌≢◌, ℕ, ◌+◌, ◌*◌, ◌%◌, ◌^◌, ◌<◌, ◌≤◌, true, [], ◌∷◌, ◌++◌, List, length, map, Result, Ok, Err, Some, None, IfOk, IfErr, OnOk, OnErr, IsSome, not, if◌then◌else◌, ◌==◌, option_map, vec_items};
+ghost use Rattle.std.specs.Prelude.{◌≡◌, ◌≢◌, ℕ, ◌+◌, ◌*◌, ◌%◌, ◌^◌, ◌<◌, ◌≤◌, true, [], ◌∷◌, ◌++◌, List, length, map, Result, Ok, Err, Some, None, IfSome, IfOk, IfErr, OnOk, OnErr, IsSome, not, if◌then◌else◌, ◌==◌, option_map, vec_items};
 ghost use Rattle.std.specs.Option.{ForSome};
 ghost use Rattle.rq_bytes.specs.Refusals.{IsAnswer};
 ghost use Rattle.rq_bytes.specs.Slab.{slab_of};
@@ -96,8 +96,7 @@ fn octet_symbols(alloc: Global, column: &[u8]) -> Result<SymbolSlab, Error>
 
 impl SourceBlockDecoder {
     ghost use Rattle.std.specs.Int.{div_ceil};
-    ghost use Rattle.rq_algebra.specs.Systems.{at};
-    ghost use Rattle.rq_standard.specs.Differences.{first_octets_block, plain_sum};
+    ghost use Rattle.raptorq.specs.Difference.{octets_of_column};
     ghost use Rattle.rq_standard.specs.Held.{Held, nothing_held, recorded, ShowsUndetermined, IsBlockWith, IsBlockAnswer};
     ghost use Rattle.rq_standard.specs.TableRows.{greatest_size, intermediate_symbols, row_of};
     ghost use Rattle.raptorq.specs.Known.{SolvesBlock, IsHeldSolution, rebuilt_symbol};
@@ -230,11 +229,26 @@ impl SourceBlockDecoder {
         Ok(None)
     }
 
-    /// The block whose symbols begin with the octets that a plain column has for them, and go on
-    /// with zeros.
-    pub(crate) fn first_octets(&self, column: &[u8]) -> Result<Vec<u8>, Error>
+    /// The block whose symbols begin with the octets that a column has for them, and go on with
+    /// zeros. Without a column all of it is zeros.
+    pub(crate) fn difference(&self, column: &Option<Vec<u8>>) -> Result<Vec<u8>, Error>
+        requires { IfSome column.now (λ xs. length xs.items ≡ intermediate_symbols (held_of self.now).row) }
+        ensures block { IfOk result (λ block. block.items ≡ octets_of_column (held_of self.now) (option_map vec_items column.now)) }
+        ensures memory { IfErr result (λ e. e ≡ Error.OutOfMemory) }
+    {
+        match column {
+            Some(octets) => self.first_octets(octets.as_slice()),
+            None => {
+                let length = self.symbols as usize * self.symbol_size();
+                Ok(vec![in self.alloc; 0u8; length]?)
+            }
+        }
+    }
+
+    // The block whose symbols have these first octets.
+    fn first_octets(&self, column: &[u8]) -> Result<Vec<u8>, Error>
         requires { length column.now ≡ intermediate_symbols (held_of self.now).row }
-        ensures block { IfOk result (λ block. block.items ≡ first_octets_block (held_of self.now).configuration (held_of self.now).symbols (plain_sum (held_of self.now).row (at column.now))) }
+        ensures block { IfOk result (λ block. block.items ≡ octets_of_column (held_of self.now) (Some column.now)) }
         ensures memory { IfErr result (λ e. e ≡ Error.OutOfMemory) }
     {
         let octets = octet_symbols(self.alloc, column)?;
