@@ -1,5 +1,5 @@
 -- Two objects that make the same packets differ by one whose symbols for these packets are zero.
-use Rattle.std.proofs.Common.{◌≡◌, ◌≢◌, ℕ, zero, suc, ◌+◌, ◌*◌, ◌/◌, ◌%◌, ◌<◌, ◌≤◌, ◌⊎◌, cond, eqb, ltb, Bool, true, false, List, [], ◌∷◌, length, get_or, Option, Some, None, refl, sym, ap, ◌∙◌, subst, arith, inl, inr}
+use Rattle.std.proofs.Common.{◌≡◌, ◌≢◌, ◌↔◌, ℕ, zero, suc, ◌+◌, ◌*◌, ◌/◌, ◌%◌, ◌<◌, ◌≤◌, ◌⊎◌, cond, eqb, ltb, Bool, true, false, List, [], ◌∷◌, length, get_or, Option, Some, None, refl, sym, ap, ◌∙◌, subst, arith, inl, inr}
 use Rattle.std.specs.Prelude.{is_some, IsSome, ◌&&◌}
 use Rattle.std.specs.List.{AllByRecursion}
 use Rattle.std.proofs.lemmas.Bool.{cases_lt, cases_eq, eqb-true, eq-eqb}
@@ -20,7 +20,7 @@ use Rattle.rq_standard.specs.Received.{or_later, payload_for, first_payload, has
 use Rattle.rq_standard.specs.Determined.{SolvesZeros, known_ids, DetermineBlock}
 use Rattle.rq_standard.specs.Encoded.{block_row, block_source, IsPacketOf, HasNonsingularRows, IsAnswerable}
 use Rattle.rq_standard.specs.Held.{Held, holds}
-use Rattle.rq_standard.specs.Standing.{State, IsHeldOf, BlockStands, StandsBut}
+use Rattle.rq_standard.specs.Standing.{State, IsHeldOf, BlockStands, StandsBut, Stands, IsObjectAnswer}
 use Rattle.rq_standard.specs.Differences.{Fits, IsOnlyObject, xor_bytes, EncodesToZeros, IsDifference, MakesOthersFit, AreUnansweredDetermined, plain_sum, first_octet, first_octets_block}
 use Rattle.rq_standard.proofs.BlockCuts.{block_byte}
 use Rattle.rq_standard.proofs.Columns.{sum_symbol}
@@ -34,6 +34,12 @@ use Rattle.rq_standard.proofs.Standing.{length-symbol_of_block, length-block_sou
 pub record HasRow (row : Row) (k : ℕ) : Type 0 where
   pub checked : IsChecked row
   pub fits : k ≤ row.source_symbols
+
+pub row_of_shape : (table : List Row) (c : Configuration) (b : ℕ) (h : Held) → IsHeldOf table c b h → HasRow (block_row table c b) (block_symbols c b)
+row_of_shape table c b h shape = record {
+  checked = subst IsChecked shape.row shape.checked;
+  fits = subst (λ (r : Row). block_symbols c b ≤ r.source_symbols) shape.row (subst (λ n. n ≤ h.row.source_symbols) shape.symbols shape.fits);
+}
 
 -- ---- the xor of two objects
 
@@ -192,6 +198,22 @@ module _ (table : List Row) (c : Configuration) (pos : 0 < c.symbol_size) (some 
       solves_one true r known h = h refl
       solves_one false r known h = zeros_solve r known
 
+-- what answers each object that makes the packets answers where there is one object
+some_object : (answer : Option (List ℕ)) (x y : List ℕ) → answer ≡ Some x → answer ≡ Some y → y ≡ x
+some_object answer x y is same = of_some y x (sym same ∙ is) where
+  of_some : (u v : List ℕ) → Some u ≡ Some v → u ≡ v
+  of_some u v e = cc e
+
+pub answers_only : (table : List Row) (object : List ℕ) (packets : List Packet) (s : State) (answer : Option (List ℕ)) → 0 < s.configuration.symbol_size → 0 < s.configuration.source_blocks → IsAligned s.configuration → HasNonsingularRows table s.configuration → Stands table object packets s
+    → ((other : List ℕ) → Fits table s.configuration packets other → IsObjectAnswer table s.configuration other packets answer) → IsSome answer ↔ IsOnlyObject table s.configuration packets object
+answers_only table object packets s answer pos some aligned nonsingular st each =
+    let c = s.configuration in
+    let fits : Fits table c packets object = record { long = st.long; packets_are = st.honest } in
+    let own = each object fits in (
+      λ h other also. some_object answer object other (own.whole (own.only h)) ((each other also).whole (own.only h)),
+      λ only. subst IsSome (sym (own.whole (only_is_answerable table c pos some aligned (λ b below. row_of_shape table c b (s.held b) (st.shape b below)) nonsingular object packets fits only))) refl,
+    )
+
 -- ---- what a decoder's bytes are
 
 module _ (s : State) (pos : 0 < s.configuration.symbol_size) (some : 0 < s.configuration.source_blocks) (aligned : IsAligned s.configuration) where
@@ -230,11 +252,7 @@ module _ (s : State) (pos : 0 < s.configuration.symbol_size) (some : 0 < s.confi
         zeros = λ b e below came. by_answer b e below came (s.answer b) refl;
       }) where
         rows : (b : ℕ) → b < s.configuration.source_blocks → HasRow (block_row table s.configuration b) (block_symbols s.configuration b)
-        rows b below =
-            let shape = st.shape b below in record {
-              checked = subst IsChecked shape.row shape.checked;
-              fits = subst (λ (r : Row). block_symbols s.configuration b ≤ r.source_symbols) shape.row (subst (λ n. n ≤ (s.held b).row.source_symbols) shape.symbols shape.fits);
-            }
+        rows b below = row_of_shape table s.configuration b (s.held b) (st.shape b below)
         by_answer : (b e : ℕ) → b < s.configuration.source_blocks → has_id b packets e ≡ true → (a : Option (List ℕ)) → s.answer b ≡ a
             → IsEncodingSymbol (block_row table s.configuration b) s.configuration.symbol_size (block_source s.configuration bytes b) e (zero_symbol s.configuration.symbol_size)
         by_answer b e below came (Some block) is =

@@ -6,6 +6,7 @@ ghost use Rattle.rq_bytes.specs.Refusals.{IsAnswer, IsRefusal};
 ghost use Rattle.rq_standard.specs.Configuration.{IsAccepted, IsAligned, largest_block};
 ghost use Rattle.rq_standard.specs.Cutting.{block_symbols};
 ghost use Rattle.rq_standard.specs.Packet.{Packet};
+ghost use Rattle.rq_standard.specs.Differences.{IsOnlyObject};
 ghost use Rattle.rq_standard.specs.Encoded.{IsPacketOf, HasNonsingularRows};
 ghost use Rattle.rq_standard.specs.Standing.{IsObjectAnswer};
 ghost use Rattle.rq_standard.specs.TableRows.{greatest_size};
@@ -325,6 +326,11 @@ pub fn decode_all(
     // they determine each block.
     ensures headline { IfOk result (λ r. (object : List ℕ) → length object ≡ config.transfer_length → HasNonsingularRows table.now config
         → AllByRecursion (IsPacketOf table.now config object) packets.items → IsObjectAnswer table.now config object packets.items (option_map vec_items r)) }
+
+    // Over packets of an object, an answer exactly where they are no other object's: no decoder can
+    // do better.
+    ensures only_object { IfOk result (λ r. (object : List ℕ) → length object ≡ config.transfer_length → HasNonsingularRows table.now config
+        → AllByRecursion (IsPacketOf table.now config object) packets.items → IsSome (option_map vec_items r) ↔ IsOnlyObject table.now config packets.items object) }
 {
     let mut decoder = Decoder::new(alloc, table, config)?;
     for packet in packets {
