@@ -9,6 +9,7 @@ pub mod HeldEquations
 pub mod Interleaving
 pub mod Intermediates
 pub mod Listing
+pub mod KnownIds
 pub mod Lists
 pub mod MissingCounts
 pub mod NewBlocks
@@ -19,3 +20,4 @@ pub mod PlanLaws
 pub mod Ranges
 pub mod Summing
 pub mod Taking
+pub mod Undetermined

@@ -1,6 +1,6 @@
 -- What rows say of a column once pivots stand in the first columns: where each column has one only zeros solve the rows with all values
 -- zero, and else the first column without one gives others.
-use Rattle.std.proofs.Common.{◌≡◌, ◌≢◌, ℕ, suc, ◌+◌, ◌-◌, ◌<◌, ◌≤◌, List, ◌∷◌, ◌++◌, length, map, take, replicate, refl, sym, ap, ◌∙◌, zero-add, arith, inl, inr}
+use Rattle.std.proofs.Common.{Option, None, Some, Vec, Global, ◌≡◌, ◌≢◌, ℕ, suc, ◌+◌, ◌-◌, ◌<◌, ◌≤◌, List, ◌∷◌, ◌++◌, length, map, take, replicate, refl, sym, ap, ◌∙◌, zero-add, arith, inl, inr}
 use Rattle.std.proofs.lemmas.Bool.{cases_eq, cases_lt}
 use Rattle.std.proofs.lemmas.List.{get_or_append_left, get_or-append_right, get_or-map, get_or-replicate, get_or-take, length-append, length-map, length-replicate, length-take-le}
 use Rattle.rq_algebra.specs.Arrangements.{ArePlaces}
@@ -10,9 +10,10 @@ use Rattle.rq_algebra.proofs.Solutions.{solves_same}
 use Rattle.rq_algebra.proofs.Sums.{mul_one, zero_mul, mul_zero, dot_one, dot_zero, dot-suc, dot_split}
 use Rattle.rq_standard.specs.OctetField.{octets}
 use Rattle.rq_parts.specs.OctetTable.{OctetTable, entry_of}
-use Rattle.rq_solver.specs.Homogeneous.{IsHomogeneousColumn, KeepsZeros, LacksPivot}
+use Rattle.rq_solver.specs.Homogeneous.{IsHomogeneousColumn, ShowsHomogeneous, KeepsZeros, LacksPivot}
 use Rattle.rq_solver.specs.RowSteps.{AreRows, IsReduced}
 use Rattle.rq_solver.specs.RowWrites.{HoldsRows}
+use Rattle.rq_solver.proofs.RowStepLaws.{SameEntries}
 
 -- a row with a 1, and another entry, makes zero of a column that has that entry and a 1 in these places
 pub two_places : (width place free : ℕ) (row x : ℕ → ℕ) → place < free → free < width → row place ≡ 1 → ((k : ℕ) → k < free → k ≢ place → row k ≡ 0) → x place ≡ row free → x free ≡ 1 → ((k : ℕ) → free < k → k < width → x k ≡ 0) → row free < 256
@@ -127,24 +128,36 @@ module _ (start end : OctetTable) (rows : List ℕ) (keeps : KeepsZeros start en
       nonzero = rw at_free (omega arith);
     }
 
--- the same of the rows that a table holds
+-- systems with the same entries
+module _ (height width : ℕ) (a b : ℕ → ℕ → ℕ) (same : SameEntries height width a b) where
+  determined_same : IsDetermined octets height width a → IsDetermined octets height width b
+  determined_same determined x elements solves = determined x elements (solves_same octets height width b a x (λ _. 0) (λ _. 0) (λ i k l m. sym (same i k l m)) (λ i l. refl) solves)
+
+  homogeneous_same : (column : List ℕ) → IsHomogeneousColumn height width a column → IsHomogeneousColumn height width b column
+  homogeneous_same column shows = record {
+    count = shows.count;
+    elements = shows.elements;
+    solves = solves_same octets height width a b (at column) (λ _. 0) (λ _. 0) same (λ i l. refl) shows.solves;
+    place = shows.place;
+    below = shows.below;
+    nonzero = shows.nonzero;
+  }
+
+  pub shows_same : (answer : Option (Vec ℕ Global)) → ShowsHomogeneous height width a answer → ShowsHomogeneous height width b answer
+  shows_same None determined = determined_same determined
+  shows_same (Some column) shows = homogeneous_same column.items shows
+
+-- what the answer says of the rows that a table holds
 module _ (height width : ℕ) (wanted : ℕ → ℕ → ℕ) (start end : OctetTable) (holds : HoldsRows height width height wanted start) (rows : List ℕ) (keeps : KeepsZeros start end) (are : AreRows rows end) (all : length rows ≡ length start.rows) where
   whole : length rows ≡ length end.rows
   whole = all ∙ sym keeps.height
 
   pub determined_rows : IsReduced rows 0 width end → IsDetermined octets height width wanted
-  determined_rows reduced x elements solves =
+  determined_rows reduced =
       let determined = determined_by_pivots start end rows keeps are whole (rw holds.width_is reduced) in
-      rw (holds.width_is, holds.height_is) at determined x elements (solves_same octets height width wanted (entry_of start) x (λ _. 0) (λ _. 0) (λ i k l m. sym (holds.written i k l m)) (λ i l. refl) solves)
+      determined_same height width (entry_of start) wanted holds.written (rw (holds.width_is, holds.height_is) at determined)
 
   pub homogeneous_rows : (free : ℕ) → LacksPivot rows free end → (column : List ℕ) → column ≡ map (λ row. entry_of end row free) (take free rows) ++ 1 ∷ replicate (width - free - 1) 0 → IsHomogeneousColumn height width wanted column
   homogeneous_rows free lacks column is =
-      let shows = rw (holds.width_is, holds.height_is) at (homogeneous_by_pivots start end rows keeps are whole free lacks column (rw holds.width_is is)) in
-      record {
-        count = shows.count;
-        elements = shows.elements;
-        solves = solves_same octets height width (entry_of start) wanted (at column) (λ _. 0) (λ _. 0) holds.written (λ i l. refl) shows.solves;
-        place = shows.place;
-        below = shows.below;
-        nonzero = shows.nonzero;
-      }
+      let shows = homogeneous_by_pivots start end rows keeps are whole free lacks column (rw holds.width_is is) in
+      homogeneous_same height width (entry_of start) wanted holds.written column (rw (holds.width_is, holds.height_is) at shows)

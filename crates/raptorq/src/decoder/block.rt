@@ -7,8 +7,8 @@ ghost use Rattle.rq_standard.specs.Received.{or_later};
 ghost use Rattle.rq_standard.specs.TableRows.{IsChecked};
 ghost use Rattle.raptorq.specs.Missing.{payload_of, has_payload, missing_count};
 
-use crate::decoder::known::known_equations;
-use crate::solving::solve;
+use crate::decoder::known::{known_equations, known_symbol_ids};
+use crate::solving::{homogeneous, solve};
 use crate::sub_blocks::into_sub_blocks;
 use crate::sums::encoding_symbol;
 use rq_base::base::{EncodingPacket, ObjectTransmissionInformation};
@@ -85,7 +85,7 @@ fn join(
 
 impl SourceBlockDecoder {
     ghost use Rattle.std.specs.Int.{div_ceil};
-    ghost use Rattle.rq_standard.specs.Held.{Held, nothing_held, recorded, IsBlockWith, IsBlockAnswer};
+    ghost use Rattle.rq_standard.specs.Held.{Held, nothing_held, recorded, IsBlockWith, IsBlockAnswer, ShowsUndetermined};
     ghost use Rattle.rq_standard.specs.TableRows.{greatest_size, row_of};
     ghost use Rattle.raptorq.specs.Known.{SolvesBlock, IsHeldSolution, rebuilt_symbol};
     ghost use Rattle.raptorq.specs.Refused.{checked_block, block_refusal};
@@ -170,6 +170,18 @@ impl SourceBlockDecoder {
             self.add(packet)?;
         }
         self.answer()
+    }
+
+    /// An octet for each intermediate symbol, not all of them zero, that together solve the block's
+    /// equations with all values zero: those of LDPC and HDPC, of the padding, and of what came
+    /// (RFC 6330, section 5.4.2). `None` exactly where what came determines the block. The Rust
+    /// crate has no such call.
+    pub fn homogeneous(&self) -> Result<Option<Vec<u8>>, Error>
+        ensures shown { IfOk result (λ answer. ShowsUndetermined (held_of self.now) (option_map vec_items answer)) }
+        ensures memory { IfErr result (λ e. e ≡ Error.OutOfMemory) }
+    {
+        let ids = known_symbol_ids(self.alloc, &self.row, self.symbols, &self.received)?;
+        homogeneous(self.alloc, &self.row, ids.as_slice())
     }
 
     /// Tests a packet and records its payload, unless one of its id came before.
