@@ -2,6 +2,7 @@ pub mod Answered
 pub mod BlockParts
 pub mod Built
 pub mod CacheLaws
+pub mod Came
 pub mod EncodedBlocks
 pub mod Encodes
 pub mod Filling
@@ -9,7 +10,6 @@ pub mod HeldEquations
 pub mod Interleaving
 pub mod Intermediates
 pub mod Listing
-pub mod KnownIds
 pub mod Lists
 pub mod MissingCounts
 pub mod NewBlocks

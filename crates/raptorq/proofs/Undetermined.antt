@@ -1,5 +1,5 @@
 -- What a column that solves a block's equations with all values zero says of the ids that came.
-use Rattle.std.proofs.Common.{◌≡◌, ℕ, ◌<◌, Bool, List, Option, None, Some, Vec, Global, length, sym, ap, ◌∙◌, subst, vec_items}
+use Rattle.std.proofs.Common.{ℕ, Bool, List, Option, None, Some, Vec, Global, length, vec_items}
 use Rattle.std.specs.Prelude.{option_map, MatchOption}
 use Rattle.rq_algebra.specs.Systems.{at}
 use Rattle.rq_standard.specs.declared.row.Row.{Row}

@@ -64,11 +64,7 @@ pub(crate) fn solve_recorded(
 /// A column that isn't all zeros and solves the equations of a list of internal symbol ids with all
 /// values zero. `None` where the ids determine the intermediate symbols. There may be any number of
 /// ids.
-pub(crate) fn homogeneous(
-    alloc: Global,
-    row: &Row,
-    ids: &[u32],
-) -> Result<Option<Vec<u8>>, Error>
+pub(crate) fn homogeneous(alloc: Global, row: &Row, ids: &[u32]) -> Result<Option<Vec<u8>>, Error>
     requires checked { IsChecked row.now }
     requires fits { equation_count row.now ids.now < 2 ^ 31 }
     ensures shown { IfOk result (ShowsHomogeneous (equation_count row.now ids.now) (intermediate_symbols row.now) (equations row.now ids.now)) }

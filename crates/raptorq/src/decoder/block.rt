@@ -7,7 +7,7 @@ ghost use Rattle.rq_standard.specs.Received.{or_later};
 ghost use Rattle.rq_standard.specs.TableRows.{IsChecked};
 ghost use Rattle.raptorq.specs.Missing.{payload_of, has_payload, missing_count};
 
-use crate::decoder::known::{known_equations, known_symbol_ids};
+use crate::decoder::known::{known_symbol_ids, known_symbol_values};
 use crate::solving::{homogeneous, solve};
 use crate::sub_blocks::into_sub_blocks;
 use crate::sums::encoding_symbol;
@@ -231,7 +231,8 @@ impl SourceBlockDecoder {
         if self.received.len() < self.symbols as usize {
             return Ok(None);
         }
-        let (ids, values) = known_equations(self.alloc, row, self.symbols, size, &self.received)?;
+        let ids = known_symbol_ids(self.alloc, row, self.symbols, &self.received)?;
+        let values = known_symbol_values(self.alloc, row, self.symbols, size, &self.received)?;
         solve(self.alloc, row, ids.as_slice(), values)
     }
 

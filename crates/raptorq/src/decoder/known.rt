@@ -38,31 +38,30 @@ pub(crate) fn known_symbol_ids(
     Ok(ids)
 }
 
-/// The internal symbol ids that are known, and the values of all equations.
-pub(crate) fn known_equations(
+/// The values of the equations: zeros for those of LDPC and HDPC and for the padding, and then what
+/// came.
+pub(crate) fn known_symbol_values(
     alloc: Global,
     row: &Row,
     symbols: u32,
     size: usize,
     received: &BTreeMap<u32, Vec<u8>>,
-) -> Result<(Vec<u32>, SymbolSlab), Error>
+) -> Result<SymbolSlab, Error>
     requires checked { IsChecked row.now }
     requires fits { symbols ≤ row.now.source_symbols }
     requires positive { 0 < size }
     requires small { size < 65536 }
     requires few { (e : ℕ) → has_payload received.now e ≡ true → e < 2 ^ 24 }
     requires sized { (e : ℕ) → ForSome (payload_of received.now e) (λ payload. length payload ≡ size) }
-    ensures ids { IfOk result (λ r. r.0.items ≡ known_list row.now symbols received.now.entries) }
-    ensures values { IfOk result (λ r. r.1 ≡ slab_of size (known_values row.now symbols size received.now.entries)) }
+    ensures values { IfOk result (λ values. values ≡ slab_of size (known_values row.now symbols size received.now.entries)) }
     ensures memory { IfErr result (λ e. e ≡ Error.OutOfMemory) }
 {
-    let fixed = (row.ldpc_symbols + row.hdpc_symbols) as usize;
-    let count = (row.source_symbols - symbols) as usize + received.len();
-    let mut ids = padding_ids(alloc, row, symbols, count)?;
-    let mut values = SymbolSlab::with_zeros(alloc, fixed + count, size)?;
-    for (esi, payload) in received {
-        values.copy_block_from(fixed + ids.len(), payload.as_slice());
-        ids.push(internal_symbol_id(row, symbols, *esi))?;
+    let padding = row.source_symbols - symbols;
+    let mut place = (row.ldpc_symbols + row.hdpc_symbols + padding) as usize;
+    let mut values = SymbolSlab::with_zeros(alloc, place + received.len(), size)?;
+    for payload in received.values() {
+        values.copy_block_from(place, payload.as_slice());
+        place += 1;
     }
-    Ok((ids, values))
+    Ok(values)
 }

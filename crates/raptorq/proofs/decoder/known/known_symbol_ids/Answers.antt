@@ -1,4 +1,4 @@
-use Rattle.std.proofs.Common.{◌≡◌, ◌∷◌, [], ◌++◌, ◌^◌, length, map, subst, arith, ap, sym, ◌∙◌, append-nil}
+use Rattle.std.proofs.Common.{◌≡◌, ◌∷◌, ◌++◌, ◌^◌, length, map, subst, arith, ap, sym, ◌∙◌, append-nil}
 use Rattle.std.specs.Map.Iter.{deref}
 use Rattle.rq_standard.specs.Determined.{known_ids}
 use Rattle.rq_standard.specs.IdLists.{IsListOf}
@@ -6,7 +6,7 @@ use Rattle.raptorq.specs.Known.{known_list}
 use Rattle.raptorq.specs.Missing.{has_payload}
 use Rattle.raptorq.proofs.HeldEquations.{known_listed}
 use Rattle.raptorq.proofs.Listing.{length-known_list, few_entries}
-use Rattle.raptorq.proofs.KnownIds.{next_came, known_by_keys}
+use Rattle.raptorq.proofs.Came.{next_came, known_by_keys}
 use Rattle.raptorq.proofs.decoder.known.known_symbol_ids.Goals as goal
 
 module _ (c : goal.In-None) where
