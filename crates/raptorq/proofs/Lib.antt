@@ -2,6 +2,7 @@ pub mod Answered
 pub mod BlockParts
 pub mod Built
 pub mod CacheLaws
+pub mod Came
 pub mod EncodedBlocks
 pub mod Encodes
 pub mod Filling
@@ -20,4 +21,5 @@ pub mod PlanLaws
 pub mod Ranges
 pub mod Summing
 pub mod Taking
+pub mod Undetermined
 pub mod Witnesses

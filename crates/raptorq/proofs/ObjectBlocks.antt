@@ -1,12 +1,10 @@
 -- The blocks of an object in a list, in the order of their numbers.
-use Rattle.std.proofs.Common.{◌≡◌, ◌≢◌, ℕ, zero, suc, ◌+◌, ◌<◌, ◌≤◌, Bool, true, false, List, [], ◌∷◌, ◌++◌, length, get_or, set, take, drop, map, All, Option, Some, None, refl, sym, ap, ◌∙◌, subst, arith, eq-eqb, inl, inr, append-nil, length-drop}
-use Rattle.std.specs.Prelude.{is_some, IsSome, option_map, unwrap_or, vec_items, MatchOption, Ok}
+use Rattle.std.proofs.Common.{◌≡◌, ◌≢◌, ℕ, suc, ◌+◌, ◌<◌, Bool, true, false, List, [], ◌∷◌, ◌++◌, length, get_or, set, take, drop, map, All, Option, Some, None, refl, sym, ap, ◌∙◌, subst, arith, eq-eqb, inl, inr, append-nil, length-drop}
+use Rattle.std.specs.Prelude.{is_some, IsSome, option_map, unwrap_or, vec_items, Ok}
 use Rattle.std.specs.List.{range_with_len}
 use Rattle.std.proofs.lemmas.Bool.{cases_lt}
-use Rattle.std.proofs.Math.Seq.{map-set_same}
 use Rattle.std.proofs.lemmas.List.{length-map, get_or-map, get_or_past, get_or-set_same, get_or-set_other, length-set, map_push, map-id, nil_from_length, take_all}
 use Rattle.std.proofs.lemmas.Simd.{map-map}
-use Rattle.std.proofs.lemmas.List.Elements.{All-get_or, All-set}
 use Rattle.std.proofs.lemmas.List.FromFn.{length-range_with_len, length-map-range_with_len, get_or-range_with_len, get_or-map-range_with_len, map-range_with_len_more}
 use Rattle.std.specs.declared.vec.Vec.{Vec}
 use Rattle.std.specs.declared.alloc.Global.{Global}
@@ -15,7 +13,7 @@ use Rattle.rq_standard.specs.Packet.{Packet}
 use Rattle.rq_standard.specs.Configuration.{Configuration}
 use Rattle.rq_standard.specs.Cutting.{block_symbols}
 use Rattle.rq_standard.specs.TableRows.{no_row}
-use Rattle.rq_standard.specs.Held.{Held, recorded, nothing_held}
+use Rattle.rq_standard.specs.Held.{Held, nothing_held}
 use Rattle.rq_standard.specs.Standing.{State, new_held, new_answer, IsNewState, AddsToBlock, StopsBlock, IsSameElsewhere, Adds, Stops, append_both, joined, result_of}
 use Rattle.rq_standard.proofs.ObjectAnswers.{joined_some, joined_each, some_of}
 use Rattle.raptorq.specs.Blocks.{held_of}

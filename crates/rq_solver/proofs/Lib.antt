@@ -1,5 +1,6 @@
 pub mod Entries
 pub mod EquationLaws
+pub mod FreeColumns
 pub mod Outcomes
 pub mod Performed
 pub mod Results
@@ -8,3 +9,4 @@ pub mod ShownRows
 pub mod SolutionLaws
 pub mod Turns
 pub mod Writes
+pub mod ZeroValues

@@ -1,3 +1,4 @@
+pub mod Homogeneous
 pub mod Replay
 pub mod RowSteps
 pub mod RowWrites

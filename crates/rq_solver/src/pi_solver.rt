@@ -5,8 +5,8 @@ ghost use Rattle.rq_standard.specs.TableRows.{greatest_size, row_of};
 ghost use Rattle.rq_bytes.specs.declared.error.Error.TheVariants.{AlreadyExecuted, OutOfMemory};
 ghost use Rattle.rq_solver.specs.Solving.{AreEquations, solver_of, IsOutcome};
 
-mod elimination;
-mod rows;
+pub(crate) mod elimination;
+pub(crate) mod rows;
 
 use crate::replay::replay;
 use elimination::operations_of_rows;

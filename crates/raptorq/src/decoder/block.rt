@@ -8,8 +8,8 @@ ghost use Rattle.rq_standard.specs.Received.{or_later};
 ghost use Rattle.rq_standard.specs.TableRows.{IsChecked};
 ghost use Rattle.raptorq.specs.Missing.{payload_of, has_payload, missing_count};
 
-use crate::decoder::known::known_equations;
-use crate::solving::solve;
+use crate::decoder::known::{known_symbol_ids, known_symbol_values};
+use crate::solving::{homogeneous, solve};
 use crate::sub_blocks::{into_sub_blocks, size_at};
 use crate::sums::encoding_symbol;
 use rq_base::base::{EncodingPacket, ObjectTransmissionInformation};
@@ -184,6 +184,18 @@ impl SourceBlockDecoder {
         self.answer()
     }
 
+    /// An octet for each intermediate symbol, not all of them zero, that together solve the block's
+    /// equations with all values zero: those of LDPC and HDPC, of the padding, and of what came
+    /// (RFC 6330, section 5.4.2). `None` exactly where what came determines the block. The Rust
+    /// crate has no such call.
+    pub fn homogeneous(&self) -> Result<Option<Vec<u8>>, Error>
+        ensures shown { IfOk result (λ answer. ShowsUndetermined (held_of self.now) (option_map vec_items answer)) }
+        ensures memory { IfErr result (λ e. e ≡ Error.OutOfMemory) }
+    {
+        let ids = known_symbol_ids(self.alloc, &self.row, self.symbols, &self.received)?;
+        homogeneous(self.alloc, &self.row, ids.as_slice())
+    }
+
     /// Tests a packet and records its payload, unless one of its id came before.
     pub(crate) fn add(&mut self, packet: EncodingPacket) -> Result<(), Error>
         ensures refused { IsAnswer (λ x. x) result (block_refusal (held_of self.old) packet) }
@@ -219,14 +231,6 @@ impl SourceBlockDecoder {
             Some(intermediate) => Ok(Some(self.rebuild(&intermediate)?)),
             None => Ok(None),
         }
-    }
-
-    /// STUB
-    pub fn homogeneous(&self) -> Result<Option<Vec<u8>>, Error>
-        ensures shown { IfOk result (λ column. ShowsUndetermined (held_of self.now) (option_map vec_items column)) }
-        ensures memory { IfErr result (λ e. e ≡ Error.OutOfMemory) }
-    {
-        Ok(None)
     }
 
     /// The block whose symbols begin with the octets that a column has for them, and go on with
@@ -271,7 +275,8 @@ impl SourceBlockDecoder {
         if self.received.len() < self.symbols as usize {
             return Ok(None);
         }
-        let (ids, values) = known_equations(self.alloc, row, self.symbols, size, &self.received)?;
+        let ids = known_symbol_ids(self.alloc, row, self.symbols, &self.received)?;
+        let values = known_symbol_values(self.alloc, row, self.symbols, size, &self.received)?;
         solve(self.alloc, row, ids.as_slice(), values)
     }
 
