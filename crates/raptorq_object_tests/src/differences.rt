@@ -134,7 +134,7 @@ fn decoder(
 fn random_lists(rt: HostRuntime) -> Result<(), Fail> {
     let alloc = rt.alloc();
     let table = SystematicTable::built_in(alloc)?;
-    let mut answers = 0;
+    let mut answers: usize = 0;
     for seed in 0..300 {
         let information = information(seed)?;
         let object = object(alloc, information.transfer_length(), seed)?;
@@ -143,7 +143,7 @@ fn random_lists(rt: HostRuntime) -> Result<(), Fail> {
         let answer = decoder.get_result()?;
         match decoder.difference()? {
             None => {
-                answers += 1;
+                answers = answers.saturating_add(1);
                 assert!(rt; answer == Some(object), "list {seed}");
             }
             Some(difference) => {
