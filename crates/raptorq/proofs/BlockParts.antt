@@ -1,11 +1,9 @@
 -- How many symbols a block has, by the parts of a partition.
-use Rattle.std.proofs.Common.{◌≡◌, ℕ, ◌+◌, ◌*◌, ◌<◌, ◌≤◌, sym, ap, ◌∙◌, arith, List, map}
-use Rattle.std.specs.Int.{div_ceil}
-use Rattle.std.specs.List.{range_with_len}
+use Rattle.std.proofs.Common.{◌≡◌, ℕ, ◌*◌, ◌<◌, ◌≤◌, sym, ap, ◌∙◌, arith}
 use Rattle.std.proofs.Math.Nat.{mul-le-mul}
 use Rattle.rq_standard.specs.Partition.{parts_of}
 use Rattle.rq_standard.specs.Configuration.{Configuration, total_symbols}
-use Rattle.rq_standard.specs.Cutting.{block_parts, block_symbols, symbols_before}
+use Rattle.rq_standard.specs.Cutting.{block_symbols}
 use Rattle.rq_standard.proofs.BlockCuts.{larger_block, smaller_block}
 
 abbrev pub four : ℕ → ℕ → ℕ × ℕ × ℕ × ℕ

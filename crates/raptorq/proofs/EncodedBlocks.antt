@@ -1,5 +1,5 @@
 -- The encoders of an object's blocks.
-use Rattle.std.proofs.Common.{◌≡◌, ℕ, zero, suc, ◌+◌, ◌-◌, ◌*◌, ◌<◌, ◌≤◌, ◌^◌, min, List, [], ◌∷◌, ◌++◌, All, length, take, drop, get_or, map, Result, Ok, Err, refl, sym, ap, ◌∙◌, subst, arith, ◌⊎◌, inl, inr, eq-eqb, append-nil, length-drop}
+use Rattle.std.proofs.Common.{◌≡◌, ℕ, ◌+◌, ◌-◌, ◌*◌, ◌<◌, ◌≤◌, min, List, [], ◌∷◌, ◌++◌, All, length, take, drop, get_or, map, Ok, refl, sym, ap, ◌∙◌, subst, arith, ◌⊎◌, inl, inr, eq-eqb, append-nil, length-drop}
 use Rattle.std.specs.List.{range_with_len, flat_map, AllByRecursion}
 use Rattle.std.proofs.lemmas.Bool.{cases_lt, le-ltb}
 use Rattle.std.proofs.lemmas.List.{ext_get_or, get_or-map, length-map, get_or-take, get_or-drop, get_or_past, length-take, take_all, nil_from_length, map-append, map-id}
@@ -14,8 +14,8 @@ use Rattle.rq_standard.specs.Configuration.{Configuration, IsAccepted}
 use Rattle.rq_standard.specs.Cutting.{block_symbols, symbols_before, place_in_block, block_bytes, symbol_of_block}
 use Rattle.rq_standard.specs.declared.row.Row.{Row}
 use Rattle.rq_standard.specs.TableRows.{greatest_size, row_of}
-use Rattle.rq_standard.specs.Equations.{IsEncodingSymbol, IsNonsingular, IsSingular}
-use Rattle.rq_standard.specs.Encoded.{block_row, block_source, IsPacketOf, HasNonsingularRows, first_ids, packet_ids, AreEncoded}
+use Rattle.rq_standard.specs.Equations.{IsEncodingSymbol, IsSingular}
+use Rattle.rq_standard.specs.Encoded.{block_row, block_source, IsPacketOf, HasNonsingularRows, first_ids, AreEncoded}
 use Rattle.rq_standard.proofs.PlainCut.{length-block_bytes}
 use Rattle.rq_standard.proofs.Standing.{length-block_source, length-symbol_of_block}
 use Rattle.rq_standard.proofs.BlockCuts.{block_symbols_few}

@@ -1,27 +1,18 @@
 -- An object of one block and its source packets.
-use Rattle.std.proofs.Common.{◌≡◌, ℕ, zero, suc, ◌+◌, ◌-◌, ◌*◌, ◌/◌, ◌<◌, ◌≤◌, ◌^◌, List, [], ◌∷◌, ◌++◌, All, length, take, drop, get_or, map, replicate, Result, Ok, Err, refl, sym, ap, ◌∙◌, subst, arith, append-nil, ◌⊎◌, inl, inr}
-use Rattle.std.specs.Int.{div_ceil}
-use Rattle.std.specs.List.{range_with_len, flat_map, AllByRecursion}
-use Rattle.std.proofs.lemmas.Bool.{cases_lt, lt-ltb, eq-eqb}
-use Rattle.std.proofs.Math.Nat.{mul-le-mul_right, div-mul-le_self, mul-div_cancel}
-use Rattle.std.proofs.lemmas.List.{take_all, get_or_past, length-replicate, map-append}
-use Rattle.std.proofs.lemmas.List.Elements.{All-get_or, All-from_get_or}
+use Rattle.std.proofs.Common.{◌≡◌, ℕ, zero, suc, ◌+◌, ◌-◌, ◌<◌, ◌≤◌, ◌^◌, List, [], ◌∷◌, ◌++◌, All, length, get_or, map, Result, Ok, Err, refl, sym, ap, ◌∙◌, subst, arith, inl, inr}
+use Rattle.std.specs.List.{range_with_len}
+use Rattle.std.proofs.lemmas.Bool.{cases_lt, lt-ltb}
+use Rattle.std.proofs.lemmas.List.{get_or_past, length-replicate, map-append}
+use Rattle.std.proofs.lemmas.List.Elements.{All-get_or}
 use Rattle.std.proofs.lemmas.List.FromFn.{map-range_with_len_more}
 use Rattle.rq_bytes.specs.declared.error.Error.{Error}
-use Rattle.rq_bytes.specs.declared.error.Error.TheVariants.{OutOfMemory, Singular}
-use Rattle.rq_bytes.specs.Refusals.{IsRefusal}
 use Rattle.rq_standard.specs.Packet.{SymbolId, Packet}
-use Rattle.rq_standard.specs.Configuration.{Configuration, total_symbols, largest_block}
-use Rattle.rq_standard.specs.Cutting.{HasOneSubBlock, block_symbols, block_bytes, symbol_of_block, plain_symbol}
-use Rattle.rq_standard.proofs.PlainCut.{symbol_of_block-plain, length-block_bytes}
-use Rattle.rq_base.specs.Refused.{new_id, checked_configuration}
-use Rattle.raptorq.specs.Refused.{new_encoder, RefusesEncoder}
+use Rattle.rq_base.specs.Refused.{new_id}
 use Rattle.rq_standard.specs.declared.row.Row.{Row}
-use Rattle.rq_standard.specs.TableRows.{IsChecked, row_of, greatest_size}
-use Rattle.rq_standard.specs.Equations.{zero_symbol, tuple_sum, IsIntermediateColumn, IsEncodingSymbol, IsNonsingular, IsSingular}
-use Rattle.rq_standard.specs.Encoded.{block_row, block_source, IsPacketOf, HasNonsingularRows, first_ids, AreEncoded}
+use Rattle.rq_standard.specs.TableRows.{IsChecked}
+use Rattle.rq_standard.specs.Equations.{zero_symbol, tuple_sum, IsIntermediateColumn, IsEncodingSymbol}
 use Rattle.rq_standard.proofs.Columns.{source_sum}
-use Rattle.rq_standard.proofs.Standing.{push-all, source_sized}
+use Rattle.rq_standard.proofs.Standing.{push-all}
 use Rattle.raptorq.specs.BlockEncoded.{BlockEncoded, IsBlockPacket, AreBlockPackets}
 use Rattle.raptorq.proofs.HeldEquations.{internal_below}
 

@@ -2,6 +2,7 @@ pub mod Answered
 pub mod BlockParts
 pub mod Built
 pub mod CacheLaws
+pub mod Came
 pub mod EncodedBlocks
 pub mod Encodes
 pub mod Filling
@@ -13,9 +14,12 @@ pub mod Lists
 pub mod MissingCounts
 pub mod NewBlocks
 pub mod ObjectBlocks
+pub mod OctetSymbols
 pub mod Outcomes
 pub mod Payloads
 pub mod PlanLaws
 pub mod Ranges
 pub mod Summing
 pub mod Taking
+pub mod Undetermined
+pub mod Witnesses

@@ -1,18 +1,21 @@
 -- A list of an object's packets, taken one by one.
-use Rattle.std.proofs.Common.{◌≡◌, ℕ, false, ◌<◌, List, [], ◌∷◌, ◌++◌, length, Ok, Option, refl, sym, ap, ◌∙◌, subst, append_assoc, append-nil, eq-eqb}
+use Rattle.std.proofs.Common.{◌≡◌, ◌↔◌, ℕ, false, ◌<◌, List, [], ◌∷◌, ◌++◌, length, Ok, Option, refl, sym, ap, ◌∙◌, subst, append_assoc, append-nil, eq-eqb}
+use Rattle.std.specs.Prelude.{IsSome}
 use Rattle.std.specs.List.{AllByRecursion}
 use Rattle.std.proofs.lemmas.Bool.{lt-ltb}
 use Rattle.rq_bytes.specs.declared.error.Error.{Error}
 use Rattle.rq_bytes.specs.declared.error.Error.TheVariants.{OutOfMemory}
 use Rattle.rq_bytes.specs.Refusals.{IsRefusal}
 use Rattle.rq_standard.specs.Packet.{Packet}
-use Rattle.rq_standard.specs.Configuration.{Configuration}
+use Rattle.rq_standard.specs.Configuration.{Configuration, IsAligned}
+use Rattle.rq_standard.specs.Differences.{Fits, IsOnlyObject}
 use Rattle.rq_standard.specs.declared.row.Row.{Row}
 use Rattle.rq_standard.specs.TableRows.{IsChecked}
 use Rattle.rq_standard.specs.Equations.{internal_id}
-use Rattle.rq_standard.specs.Encoded.{block_row, block_source, IsPacketOf}
+use Rattle.rq_standard.specs.Encoded.{block_row, block_source, IsPacketOf, HasNonsingularRows}
 use Rattle.rq_standard.specs.Standing.{State, Stands, IsObjectAnswer, AnswersObject}
 use Rattle.rq_standard.proofs.Columns.{sum_symbol}
+use Rattle.rq_standard.proofs.OtherObjects.{answers_only}
 use Rattle.raptorq.specs.Refused.{packet_refusal}
 
 pub all_at : (P : Packet → Type 0) (front rest : List Packet) (p : Packet) → AllByRecursion P (front ++ p ∷ rest) → P p
@@ -55,3 +58,13 @@ answer_all table c object all done rest s r same whole none st is =
     let all_done : done ≡ all = sym (whole ∙ ap (λ l. done ++ l) none ∙ append-nil done) in
     let there : IsObjectAnswer table s.configuration object all r = subst (λ ps. IsObjectAnswer table s.configuration object ps r) all_done ((is table object done (λ _. false) st).1 (λ b. refl)) in
     subst (λ k. IsObjectAnswer table k object all r) same there
+
+-- an answer exactly where no other object makes the list
+pub only_answer : (table : List Row) (c : Configuration) (object : List ℕ) (all done rest : List Packet) (s : State) (r : Option (List ℕ)) → s.configuration ≡ c → all ≡ done ++ rest → rest ≡ [] → 0 < c.symbol_size → 0 < c.source_blocks → IsAligned c → HasNonsingularRows table c → Stands table object done s
+    → ((other : List ℕ) → Fits table c all other → IsObjectAnswer table c other all r) → IsSome r ↔ IsOnlyObject table c all object
+only_answer table c object all done rest s r same whole none pos some aligned nonsingular st each =
+    let back = sym same in
+    let all_done : done ≡ all = sym (whole ∙ ap (λ l. done ++ l) none ∙ append-nil done) in
+    subst (λ k. IsSome r ↔ IsOnlyObject table k all object) same
+    (answers_only table object all s r (subst (λ (k : Configuration). 0 < k.symbol_size) back pos) (subst (λ (k : Configuration). 0 < k.source_blocks) back some) (subst IsAligned back aligned) (subst (HasNonsingularRows table) back nonsingular)
+    (subst (λ ps. Stands table object ps s) all_done st) (subst (λ k. (other : List ℕ) → Fits table k all other → IsObjectAnswer table k other all r) back each))

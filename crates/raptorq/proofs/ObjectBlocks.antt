@@ -1,20 +1,19 @@
 -- The blocks of an object in a list, in the order of their numbers.
-use Rattle.std.proofs.Common.{◌≡◌, ◌≢◌, ℕ, zero, suc, ◌+◌, ◌<◌, ◌≤◌, Bool, true, false, List, [], ◌∷◌, ◌++◌, length, get_or, set, take, drop, map, All, Option, Some, None, refl, sym, ap, ◌∙◌, subst, arith, eq-eqb, inl, inr, append-nil, length-drop}
-use Rattle.std.specs.Prelude.{is_some, IsSome, option_map, unwrap_or, vec_items, MatchOption, Ok}
+use Rattle.std.proofs.Common.{◌≡◌, ◌≢◌, ℕ, suc, ◌+◌, ◌<◌, Bool, true, false, List, [], ◌∷◌, ◌++◌, length, get_or, set, take, drop, map, All, Option, Some, None, refl, sym, ap, ◌∙◌, subst, arith, eq-eqb, inl, inr, append-nil, length-drop}
+use Rattle.std.specs.Prelude.{is_some, IsSome, option_map, unwrap_or, vec_items, Ok}
 use Rattle.std.specs.List.{range_with_len}
 use Rattle.std.proofs.lemmas.Bool.{cases_lt}
-use Rattle.std.proofs.Math.Seq.{map-set_same}
 use Rattle.std.proofs.lemmas.List.{length-map, get_or-map, get_or_past, get_or-set_same, get_or-set_other, length-set, map_push, map-id, nil_from_length, take_all}
 use Rattle.std.proofs.lemmas.Simd.{map-map}
-use Rattle.std.proofs.lemmas.List.Elements.{All-get_or, All-set}
 use Rattle.std.proofs.lemmas.List.FromFn.{length-range_with_len, length-map-range_with_len, get_or-range_with_len, get_or-map-range_with_len, map-range_with_len_more}
 use Rattle.std.specs.declared.vec.Vec.{Vec}
 use Rattle.std.specs.declared.alloc.Global.{Global}
 use Rattle.rq_standard.specs.declared.row.Row.{Row}
 use Rattle.rq_standard.specs.Packet.{Packet}
 use Rattle.rq_standard.specs.Configuration.{Configuration}
+use Rattle.rq_standard.specs.Cutting.{block_symbols}
 use Rattle.rq_standard.specs.TableRows.{no_row}
-use Rattle.rq_standard.specs.Held.{Held, recorded, nothing_held}
+use Rattle.rq_standard.specs.Held.{Held, nothing_held}
 use Rattle.rq_standard.specs.Standing.{State, new_held, new_answer, IsNewState, AddsToBlock, StopsBlock, IsSameElsewhere, Adds, Stops, append_both, joined, result_of}
 use Rattle.rq_standard.proofs.ObjectAnswers.{joined_some, joined_each, some_of}
 use Rattle.raptorq.specs.Blocks.{held_of}
@@ -27,6 +26,10 @@ number_of b = (held_of b.decoder).number
 
 abbrev pub state : Configuration → List ObjectBlock → State
 state c items = record { configuration = c; held = held_at c items; answer = answer_at items }
+
+-- what is held of it is of so many symbols as the configuration says
+abbrev pub IsCut : Configuration → Held → Type 0
+IsCut c h = h.symbols ≡ block_symbols c h.number
 
 pub length-blocks : (items : List ObjectBlock) (n : ℕ) → map number_of items ≡ range_with_len 0 n → length items ≡ n
 length-blocks items n numbered = sym (length-map items number_of) ∙ ap length numbered ∙ length-range_with_len 0 n
@@ -132,10 +135,13 @@ module _ (table : List Row) (c : Configuration) (items : List ObjectBlock) (held
   pub new_numbers : map number_of items ≡ range_with_len 0 c.source_blocks
   new_numbers = sym (map-map (λ h. h.number) (λ b. held_of b.decoder) items) ∙ ap (map (λ h. h.number)) held ∙ map-map (λ h. h.number) (new_held table c) (range_with_len 0 c.source_blocks) ∙ map-id (range_with_len 0 c.source_blocks)
 
-  pub new_configurations : All (λ b. (held_of b.decoder).configuration ≡ c) items
-  new_configurations i d below =
+  -- each of them is what is held of a new block
+  pub new_each : (P : Held → Type 0) → ((n : ℕ) → n < c.source_blocks → P (new_held table c n)) → All (λ b. P (held_of b.decoder)) items
+  new_each P each i d below =
       let long : length items ≡ c.source_blocks = sym (length-map items (λ b. held_of b.decoder)) ∙ ap length held ∙ length-map-range_with_len (new_held table c) 0 c.source_blocks in
-      ap (λ h. h.configuration) (sym (get_or-map (λ b. held_of b.decoder) items i d (held_of d.decoder) below) ∙ ap (λ l. get_or l i (held_of d.decoder)) held ∙ get_or-map-range_with_len (new_held table c) 0 c.source_blocks i i (held_of d.decoder) (omega (arith, long)) (omega arith))
+      let within : i < c.source_blocks = omega (arith, below, long) in
+      let is : held_of (get_or items i d).decoder ≡ new_held table c i = sym (get_or-map (λ b. held_of b.decoder) items i d (held_of d.decoder) below) ∙ ap (λ l. get_or l i (held_of d.decoder)) held ∙ get_or-map-range_with_len (new_held table c) 0 c.source_blocks i i (held_of d.decoder) within (omega arith) in
+      subst P (sym is) (each i within)
 
   pub new_state : map answer_of items ≡ map (new_answer c) (range_with_len 0 c.source_blocks) → IsNewState table c (state c items)
   new_state answers = record {
@@ -167,10 +173,12 @@ module _ (c : Configuration) (old new : List ObjectBlock) (held : map (λ b. hel
   pub same_numbers : map number_of new ≡ map number_of old
   same_numbers = sym (map-map (λ h. h.number) (λ b. held_of b.decoder) new) ∙ ap (map (λ h. h.number)) held ∙ map-map (λ h. h.number) (λ b. held_of b.decoder) old
 
-  pub same_configurations : All (λ b. (held_of b.decoder).configuration ≡ c) old → All (λ b. (held_of b.decoder).configuration ≡ c) new
-  same_configurations all i d below =
+  -- what each old one is, each new one is
+  pub same_each : (P : Held → Type 0) → All (λ b. P (held_of b.decoder)) old → All (λ b. P (held_of b.decoder)) new
+  same_each P all i d below =
       let within : i < length old = omega (arith, below, same_length) in
-      ap (λ h. h.configuration) (sym (get_or-map (λ b. held_of b.decoder) new i d (held_of d.decoder) below) ∙ ap (λ l. get_or l i (held_of d.decoder)) held ∙ get_or-map (λ b. held_of b.decoder) old i d (held_of d.decoder) within) ∙ all i d within
+      let is : held_of (get_or new i d).decoder ≡ held_of (get_or old i d).decoder = sym (get_or-map (λ b. held_of b.decoder) new i d (held_of d.decoder) below) ∙ ap (λ l. get_or l i (held_of d.decoder)) held ∙ get_or-map (λ b. held_of b.decoder) old i d (held_of d.decoder) within in
+      subst P (sym is) (all i d within)
 
 -- a list written over one of its length
 pub written_over : (n : ℕ) (new old : List ObjectBlock) → length new ≡ n → length old ≡ n → take n (new ++ drop (length new) old) ≡ new

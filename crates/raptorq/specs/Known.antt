@@ -3,7 +3,7 @@ use Rattle.std.specs.Prelude.{◌≡◌, ℕ, ◌+◌, ◌-◌, ◌<◌, ◌≤�
 use Rattle.std.specs.List.{range_with_len}
 use Rattle.std.specs.declared.vec.Vec.{Vec}
 use Rattle.std.specs.declared.alloc.Global.{Global}
-use Rattle.rq_algebra.specs.Symbols.{IsSymbolColumn, SolvesSymbols, symbol_at}
+use Rattle.rq_algebra.specs.Symbols.{IsSymbolColumn}
 use Rattle.rq_bytes.specs.Slab.{Slab, symbol_in, symbols_in}
 use Rattle.rq_standard.specs.declared.row.Row.{Row}
 use Rattle.rq_standard.specs.OctetField.{octets}

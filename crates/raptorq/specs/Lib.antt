@@ -5,6 +5,7 @@ pub mod Blocks
 pub mod Building
 pub mod CacheLends
 pub mod Decoding
+pub mod Difference
 pub mod Encoded
 pub mod Known
 pub mod Missing

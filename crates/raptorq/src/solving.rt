@@ -1,8 +1,9 @@
 //! The intermediate symbols of a block.
 ghost use Rattle.std.specs.Prelude.{◌≡◌, ℕ, ◌^◌, ◌<◌, ◌≤◌, List, length, Option, None, IfOk, IfErr};
 ghost use Rattle.rq_bytes.specs.Slab.{Slab};
-ghost use Rattle.rq_standard.specs.Equations.{equation_count};
 ghost use Rattle.rq_standard.specs.TableRows.{IsChecked, intermediate_symbols};
+ghost use Rattle.rq_standard.specs.Equations.{equation_count, equations};
+ghost use Rattle.rq_solver.specs.Homogeneous.{ShowsHomogeneous};
 ghost use Rattle.raptorq.specs.Solving.{Solves, SolvesByOperations};
 
 use rq_base::constraint_matrix::generate_constraint_matrix_of_row;
@@ -10,6 +11,7 @@ use rq_bytes::error::Error;
 use rq_bytes::operation_vector::SymbolOps;
 use rq_bytes::symbol_slab::SymbolSlab;
 use rq_matrix::matrix::DenseBinaryMatrix;
+use rq_solver::null_column::homogeneous_column;
 use rq_solver::pi_solver::IntermediateSymbolDecoder;
 use rq_standard::row::Row;
 use std::alloc::Global;
@@ -57,4 +59,18 @@ pub(crate) fn solve_recorded(
 {
     let (matrix, hdpc) = generate_constraint_matrix_of_row::<DenseBinaryMatrix>(alloc, row, ids)?;
     IntermediateSymbolDecoder::of_row(alloc, row, matrix, hdpc, values).execute()
+}
+
+/// A column that isn't all zeros and solves the equations of a list of internal symbol ids with all
+/// values zero. `None` where the ids determine the intermediate symbols. There may be any number of
+/// ids.
+pub(crate) fn homogeneous(alloc: Global, row: &Row, ids: &[u32]) -> Result<Option<Vec<u8>>, Error>
+    requires checked { IsChecked row.now }
+    requires fits { equation_count row.now ids.now < 2 ^ 31 }
+    ensures shown { IfOk result (ShowsHomogeneous (equation_count row.now ids.now) (intermediate_symbols row.now) (equations row.now ids.now)) }
+    ensures memory { IfErr result (λ e. e ≡ Error.OutOfMemory) }
+{
+    let (matrix, hdpc) = generate_constraint_matrix_of_row::<DenseBinaryMatrix>(alloc, row, ids)?;
+    let boundary = row.lt_symbols as usize;
+    homogeneous_column(alloc, &matrix, boundary, &hdpc, row.ldpc_symbols as usize)
 }

@@ -7,8 +7,8 @@ use rq_base::base::{ObjectTransmissionInformation, partition};
 use rq_bytes::symbol::Symbol;
 use std::alloc::{AllocError, Global};
 
-// The size of the sub-block that has this byte of a symbol, in bytes.
-fn size_at(config: &ObjectTransmissionInformation, byte: usize) -> usize
+/// The size of the sub-block that has this byte of a symbol, in bytes.
+pub(crate) fn size_at(config: &ObjectTransmissionInformation, byte: usize) -> usize
     requires { 0 < config.now.alignment }
     ensures { result ≡ sub_block_size config.now byte }
 {

@@ -1,6 +1,7 @@
 pub mod ColumnLaws
 pub mod Entries
 pub mod EquationLaws
+pub mod FreeColumns
 pub mod HandedRows
 pub mod LinkLaws
 pub mod ListingLaws
@@ -24,3 +25,4 @@ pub mod TailTurns
 pub mod TailWrites
 pub mod Turns
 pub mod Writes
+pub mod ZeroValues

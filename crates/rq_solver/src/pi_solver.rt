@@ -7,14 +7,14 @@ ghost use Rattle.rq_solver.specs.Solving.{AreEquations, solver_of, IsOutcome};
 
 mod columns;
 mod degrees;
-mod elimination;
+pub(crate) mod elimination;
 mod links;
 mod ones;
 mod peeled;
 mod peeling;
 #[cfg(test)]
 mod peeling_tests;
-mod rows;
+pub(crate) mod rows;
 
 use crate::replay::replay;
 use ones::RowOnes;

@@ -87,7 +87,7 @@ length-up_to c object symbols = length-map-range_with_len (λ i. get_or object i
 up_to-byte : (c : Configuration) (object : List ℕ) (symbols i : ℕ) → i < symbols * c.symbol_size → get_or (up_to c object symbols) i 0 ≡ get_or object i 0
 up_to-byte c object symbols i below = get_or-map-range_with_len (λ i. get_or object i 0) 0 (symbols * c.symbol_size) i i 0 below (omega arith)
 
-block_byte : (c : Configuration) (object : List ℕ) (b i : ℕ) → i < block_symbols c b * c.symbol_size → get_or (block_bytes c object b) i 0 ≡ get_or object (symbols_before c b * c.symbol_size + i) 0
+pub block_byte : (c : Configuration) (object : List ℕ) (b i : ℕ) → i < block_symbols c b * c.symbol_size → get_or (block_bytes c object b) i 0 ≡ get_or object (symbols_before c b * c.symbol_size + i) 0
 unfolding block_bytes
 block_byte c object b i below = get_or-map-range_with_len (λ i. get_or object (symbols_before c b * c.symbol_size + i) 0) 0 (block_symbols c b * c.symbol_size) i i 0 below (omega arith)
 

@@ -1,5 +1,7 @@
 pub mod BlockCuts
 pub mod Columns
+pub mod Differences
+pub mod FirstOctets
 pub mod Firsts
 pub mod HdpcLaws
 pub mod HeaderBytes
@@ -7,6 +9,7 @@ pub mod Interleaved
 pub mod Known
 pub mod LeastNumbers
 pub mod ObjectAnswers
+pub mod OtherObjects
 pub mod Packed
 pub mod PacketBytes
 pub mod PartSums

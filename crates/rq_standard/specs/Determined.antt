@@ -1,6 +1,6 @@
 -- Whether the symbols that are known determine the intermediate symbols of a block (RFC 6330, section 5.4.2.1). Which ids are known is a test, so that their order and repeats don't matter.
-use Rattle.std.specs.Prelude.{◌≡◌, ℕ, ◌+◌, ◌-◌, ◌<◌, Bool, true, if◌then◌else◌, nat_lt}
-use Rattle.rq_algebra.specs.Systems.{dot, Solves, IsColumn}
+use Rattle.std.specs.Prelude.{◌≡◌, ◌≢◌, ℕ, ◌+◌, ◌-◌, ◌<◌, Bool, true, if◌then◌else◌, nat_lt, List, length}
+use Rattle.rq_algebra.specs.Systems.{dot, Solves, IsColumn, at}
 use Rattle.rq_standard.specs.declared.row.Row.{Row}
 use Rattle.rq_standard.specs.OctetField.{octets}
 use Rattle.rq_standard.specs.TableRows.{intermediate_symbols}
@@ -25,3 +25,12 @@ known_ids row k has x =
 -- the encoding symbol ids that came determine the block
 abbrev pub DetermineBlock : Row → ℕ → (ℕ → Bool) → Type 0
 DetermineBlock row k has = AreDetermined row (known_ids row k has)
+
+-- a plain column that shows that they don't: it solves the same, and isn't all zeros
+pub record IsHomogeneous (row : Row) (known : ℕ → Bool) (column : List ℕ) : Type 0 where
+  pub count : length column ≡ intermediate_symbols row
+  pub elements : IsColumn octets (intermediate_symbols row) (at column)
+  pub solves : SolvesZeros row known (at column)
+  pub place : ℕ
+  pub below : place < intermediate_symbols row
+  pub nonzero : at column place ≢ 0

@@ -1,5 +1,5 @@
 -- What a decoder holds of a block, and what it answers.
-use Rattle.std.specs.Prelude.{◌≡◌, ℕ, ◌+◌, ◌*◌, ◌<◌, ◌≤◌, Bool, List, length, Option, Some, None, IfSome, IsSome, is_some, if◌then◌else◌, ◌==◌, ◌⊎◌}
+use Rattle.std.specs.Prelude.{◌≡◌, ℕ, ◌+◌, ◌*◌, ◌<◌, ◌≤◌, Bool, List, length, Option, Some, None, IfSome, IsSome, MatchOption, is_some, if◌then◌else◌, ◌==◌, ◌⊎◌}
 use Rattle.rq_algebra.specs.Symbols.{IsSymbolColumn, SolvesSymbols}
 use Rattle.rq_standard.specs.declared.row.Row.{Row}
 use Rattle.rq_standard.specs.OctetField.{octets}
@@ -8,7 +8,7 @@ use Rattle.rq_standard.specs.Configuration.{Configuration}
 use Rattle.rq_standard.specs.Cutting.{symbol_of_block}
 use Rattle.rq_standard.specs.Equations.{fixed_equations, tuple_sum, zero_symbol, internal_id}
 use Rattle.rq_standard.specs.Received.{or_later, HasSourceSymbols}
-use Rattle.rq_standard.specs.Determined.{DetermineBlock}
+use Rattle.rq_standard.specs.Determined.{DetermineBlock, known_ids, IsHomogeneous}
 
 -- of a block with this number and this many source symbols, over a row of the table, the payload that counts for each encoding symbol id
 pub record Held : Type 0 where
@@ -40,6 +40,10 @@ pub record SolvesHeld (h : Held) (column : ℕ → List ℕ) : Type 0 where
 -- the ids that are held determine the block
 abbrev pub AreHeldDetermining : Held → Type 0
 AreHeldDetermining h = DetermineBlock h.row h.symbols (holds h)
+
+-- a column that shows that they don't, and none where they do
+abbrev pub ShowsUndetermined : Held → Option (List ℕ) → Type 0
+ShowsUndetermined h answer = MatchOption answer (AreHeldDetermining h) (IsHomogeneous h.row (known_ids h.row h.symbols (holds h)))
 
 -- what a decoder needs for its answer: all source symbols, or ids that determine the block
 abbrev pub CanAnswer : Held → Type 0

@@ -5,6 +5,7 @@ pub mod Configuration
 pub mod ConstraintMatrix
 pub mod Cutting
 pub mod Determined
+pub mod Differences
 pub mod Encoded
 pub mod Equations
 pub mod Held

@@ -1,15 +1,16 @@
 //! The decoder of one source block.
-ghost use Rattle.std.specs.Prelude.{◌≡◌, ◌≢◌, ℕ, ◌+◌, ◌*◌, ◌%◌, ◌^◌, ◌<◌, ◌≤◌, true, ◌++◌, List, length, Result, Ok, Err, Some, None, IfOk, IfErr, OnOk, OnErr, IsSome, not, if◌then◌else◌, ◌==◌, option_map, vec_items};
+ghost use Rattle.std.specs.Prelude.{◌≡◌, ◌≢◌, ℕ, ◌+◌, ◌*◌, ◌%◌, ◌^◌, ◌<◌, ◌≤◌, true, [], ◌∷◌, ◌++◌, List, length, map, Result, Ok, Err, Some, None, IfSome, IfOk, IfErr, OnOk, OnErr, IsSome, not, if◌then◌else◌, ◌==◌, option_map, vec_items};
 ghost use Rattle.std.specs.Option.{ForSome};
 ghost use Rattle.rq_bytes.specs.Refusals.{IsAnswer};
+ghost use Rattle.rq_bytes.specs.Slab.{slab_of};
 ghost use Rattle.rq_standard.specs.Cutting.{plain_symbol};
 ghost use Rattle.rq_standard.specs.Received.{or_later};
 ghost use Rattle.rq_standard.specs.TableRows.{IsChecked};
 ghost use Rattle.raptorq.specs.Missing.{payload_of, has_payload, missing_count};
 
-use crate::decoder::known::known_equations;
-use crate::solving::solve;
-use crate::sub_blocks::into_sub_blocks;
+use crate::decoder::known::{known_symbol_ids, known_symbol_values};
+use crate::solving::{homogeneous, solve};
+use crate::sub_blocks::{into_sub_blocks, size_at};
 use crate::sums::encoding_symbol;
 use rq_base::base::{EncodingPacket, ObjectTransmissionInformation};
 use rq_bytes::error::Error;
@@ -83,10 +84,21 @@ fn join(
     Ok(block)
 }
 
+// Symbols of one octet each.
+fn octet_symbols(alloc: Global, column: &[u8]) -> Result<SymbolSlab, Error>
+    ensures slab { IfOk result (λ slab. slab ≡ slab_of 1 (map (λ octet. octet ∷ []) column.now)) }
+    ensures memory { IfErr result (λ e. e ≡ Error.OutOfMemory) }
+{
+    let mut symbols = SymbolSlab::with_zeros(alloc, column.len(), 1)?;
+    symbols.copy_block_from(0, column);
+    Ok(symbols)
+}
+
 impl SourceBlockDecoder {
     ghost use Rattle.std.specs.Int.{div_ceil};
-    ghost use Rattle.rq_standard.specs.Held.{Held, nothing_held, recorded, IsBlockWith, IsBlockAnswer};
-    ghost use Rattle.rq_standard.specs.TableRows.{greatest_size, row_of};
+    ghost use Rattle.raptorq.specs.Difference.{octets_of_column};
+    ghost use Rattle.rq_standard.specs.Held.{Held, nothing_held, recorded, ShowsUndetermined, IsBlockWith, IsBlockAnswer};
+    ghost use Rattle.rq_standard.specs.TableRows.{greatest_size, intermediate_symbols, row_of};
     ghost use Rattle.raptorq.specs.Known.{SolvesBlock, IsHeldSolution, rebuilt_symbol};
     ghost use Rattle.raptorq.specs.Refused.{checked_block, block_refusal};
     ghost use Rattle.raptorq.specs.Blocks.{held_of};
@@ -172,6 +184,18 @@ impl SourceBlockDecoder {
         self.answer()
     }
 
+    /// An octet for each intermediate symbol, not all of them zero, that together solve the block's
+    /// equations with all values zero: those of LDPC and HDPC, of the padding, and of what came
+    /// (RFC 6330, section 5.4.2). `None` exactly where what came determines the block. The Rust
+    /// crate has no such call.
+    pub fn homogeneous(&self) -> Result<Option<Vec<u8>>, Error>
+        ensures shown { IfOk result (λ answer. ShowsUndetermined (held_of self.now) (option_map vec_items answer)) }
+        ensures memory { IfErr result (λ e. e ≡ Error.OutOfMemory) }
+    {
+        let ids = known_symbol_ids(self.alloc, &self.row, self.symbols, &self.received)?;
+        homogeneous(self.alloc, &self.row, ids.as_slice())
+    }
+
     /// Tests a packet and records its payload, unless one of its id came before.
     pub(crate) fn add(&mut self, packet: EncodingPacket) -> Result<(), Error>
         ensures refused { IsAnswer (λ x. x) result (block_refusal (held_of self.old) packet) }
@@ -209,6 +233,38 @@ impl SourceBlockDecoder {
         }
     }
 
+    /// The block whose symbols begin with the octets that a column has for them, and go on with
+    /// zeros. Without a column all of it is zeros.
+    pub(crate) fn difference(&self, column: &Option<Vec<u8>>) -> Result<Vec<u8>, Error>
+        requires { IfSome column.now (λ xs. length xs.items ≡ intermediate_symbols (held_of self.now).row) }
+        ensures block { IfOk result (λ block. block.items ≡ octets_of_column (held_of self.now) (option_map vec_items column.now)) }
+        ensures memory { IfErr result (λ e. e ≡ Error.OutOfMemory) }
+    {
+        match column {
+            Some(octets) => self.first_octets(octets.as_slice()),
+            None => {
+                let length = self.symbols as usize * self.symbol_size();
+                Ok(vec![in self.alloc; 0u8; length]?)
+            }
+        }
+    }
+
+    // The block whose symbols have these first octets.
+    fn first_octets(&self, column: &[u8]) -> Result<Vec<u8>, Error>
+        requires { length column.now ≡ intermediate_symbols (held_of self.now).row }
+        ensures block { IfOk result (λ block. block.items ≡ octets_of_column (held_of self.now) (Some column.now)) }
+        ensures memory { IfErr result (λ e. e ≡ Error.OutOfMemory) }
+    {
+        let octets = octet_symbols(self.alloc, column)?;
+        let mut block = vec![in self.alloc; 0u8; self.symbols as usize * self.symbol_size()]?;
+        let width = size_at(&self.config, 0);
+        for e in 0..self.symbols {
+            let octet = encoding_symbol(self.alloc, &self.row, &octets, e)?;
+            block[e as usize * width] = octet[0];
+        }
+        Ok(block)
+    }
+
     // The intermediate symbols, where what came determines them.
     fn solve(&self) -> Result<Option<SymbolSlab>, Error>
         ensures solved { IfOk result (λ r. SolvesBlock (held_of self.now) r) }
@@ -219,7 +275,8 @@ impl SourceBlockDecoder {
         if self.received.len() < self.symbols as usize {
             return Ok(None);
         }
-        let (ids, values) = known_equations(self.alloc, row, self.symbols, size, &self.received)?;
+        let ids = known_symbol_ids(self.alloc, row, self.symbols, &self.received)?;
+        let values = known_symbol_values(self.alloc, row, self.symbols, size, &self.received)?;
         solve(self.alloc, row, ids.as_slice(), values)
     }
 

@@ -2,6 +2,9 @@
 ghost use Rattle.std.specs.Prelude.{◌≡◌, ℕ, ◌^◌, ◌<◌, ◌≤◌, true, List, length, IfOk, IfErr};
 ghost use Rattle.std.specs.Option.{ForSome};
 ghost use Rattle.rq_bytes.specs.Slab.{slab_of};
+ghost use Rattle.rq_standard.specs.Determined.{known_ids};
+ghost use Rattle.rq_standard.specs.Equations.{equation_count};
+ghost use Rattle.rq_standard.specs.IdLists.{IsListOf};
 ghost use Rattle.rq_standard.specs.TableRows.{IsChecked};
 ghost use Rattle.raptorq.specs.Known.{known_list, known_values};
 ghost use Rattle.raptorq.specs.Missing.{payload_of, has_payload};
@@ -10,34 +13,55 @@ use crate::ids::{internal_symbol_id, padding_ids};
 use rq_bytes::error::Error;
 use rq_bytes::symbol_slab::SymbolSlab;
 use rq_standard::row::Row;
-use std::alloc::Global;
+use std::alloc::{AllocError, Global};
 use std::collections::BTreeMap;
 
-/// The internal symbol ids that are known, and the values of all equations.
-pub(crate) fn known_equations(
+/// The internal symbol ids that are known: those of the padding, and then of what came.
+pub(crate) fn known_symbol_ids(
+    alloc: Global,
+    row: &Row,
+    symbols: u32,
+    received: &BTreeMap<u32, Vec<u8>>,
+) -> Result<Vec<u32>, AllocError>
+    requires checked { IsChecked row.now }
+    requires fits { symbols ≤ row.now.source_symbols }
+    requires few { (e : ℕ) → has_payload received.now e ≡ true → e < 2 ^ 24 }
+    ensures ids { IfOk result (λ ids. ids.items ≡ known_list row.now symbols received.now.entries) }
+    ensures listed { IfOk result (λ ids. IsListOf (known_ids row.now symbols (has_payload received.now)) ids.items) }
+    ensures few { IfOk result (λ ids. equation_count row.now ids.items < 2 ^ 31) }
+{
+    let count = (row.source_symbols - symbols) as usize + received.len();
+    let mut ids = padding_ids(alloc, row, symbols, count)?;
+    for esi in received.keys() {
+        ids.push(internal_symbol_id(row, symbols, *esi))?;
+    }
+    Ok(ids)
+}
+
+/// The values of the equations: zeros for those of LDPC and HDPC and for the padding, and then what
+/// came.
+pub(crate) fn known_symbol_values(
     alloc: Global,
     row: &Row,
     symbols: u32,
     size: usize,
     received: &BTreeMap<u32, Vec<u8>>,
-) -> Result<(Vec<u32>, SymbolSlab), Error>
+) -> Result<SymbolSlab, Error>
     requires checked { IsChecked row.now }
     requires fits { symbols ≤ row.now.source_symbols }
     requires positive { 0 < size }
     requires small { size < 65536 }
     requires few { (e : ℕ) → has_payload received.now e ≡ true → e < 2 ^ 24 }
     requires sized { (e : ℕ) → ForSome (payload_of received.now e) (λ payload. length payload ≡ size) }
-    ensures ids { IfOk result (λ r. r.0.items ≡ known_list row.now symbols received.now.entries) }
-    ensures values { IfOk result (λ r. r.1 ≡ slab_of size (known_values row.now symbols size received.now.entries)) }
+    ensures values { IfOk result (λ values. values ≡ slab_of size (known_values row.now symbols size received.now.entries)) }
     ensures memory { IfErr result (λ e. e ≡ Error.OutOfMemory) }
 {
-    let fixed = (row.ldpc_symbols + row.hdpc_symbols) as usize;
-    let count = (row.source_symbols - symbols) as usize + received.len();
-    let mut ids = padding_ids(alloc, row, symbols, count)?;
-    let mut values = SymbolSlab::with_zeros(alloc, fixed + count, size)?;
-    for (esi, payload) in received {
-        values.copy_block_from(fixed + ids.len(), payload.as_slice());
-        ids.push(internal_symbol_id(row, symbols, *esi))?;
+    let padding = row.source_symbols - symbols;
+    let mut place = (row.ldpc_symbols + row.hdpc_symbols + padding) as usize;
+    let mut values = SymbolSlab::with_zeros(alloc, place + received.len(), size)?;
+    for payload in received.values() {
+        values.copy_block_from(place, payload.as_slice());
+        place += 1;
     }
-    Ok((ids, values))
+    Ok(values)
 }

@@ -1,10 +1,12 @@
 //! The decoder of an object.
-ghost use Rattle.std.specs.Prelude.{◌≡◌, ◌≢◌, ℕ, ◌+◌, ◌*◌, ◌<◌, ◌≤◌, List, [], ◌∷◌, ◌++◌, length, Result, Ok, Err, Some, None, IfOk, IfErr, OnOk, OnErr, ◌⊎◌, All, map, option_map, vec_items, is_some, IsSome};
+ghost use Rattle.std.specs.Prelude.{◌≡◌, ◌≢◌, ◌↔◌, ℕ, ◌+◌, ◌*◌, ◌<◌, ◌≤◌, List, [], ◌∷◌, ◌++◌, length, Result, Ok, Err, Some, None, IfSome, IfOk, IfErr, OnOk, OnErr, ◌⊎◌, All, map, option_map, vec_items, is_some, IsSome};
 ghost use Rattle.std.specs.Int.{div_ceil};
 ghost use Rattle.std.specs.List.{range_with_len, AllByRecursion};
 ghost use Rattle.rq_bytes.specs.Refusals.{IsAnswer, IsRefusal};
 ghost use Rattle.rq_standard.specs.Configuration.{IsAccepted, IsAligned, largest_block};
+ghost use Rattle.rq_standard.specs.Cutting.{block_symbols};
 ghost use Rattle.rq_standard.specs.Packet.{Packet};
+ghost use Rattle.rq_standard.specs.Differences.{IsOnlyObject};
 ghost use Rattle.rq_standard.specs.Encoded.{IsPacketOf, HasNonsingularRows};
 ghost use Rattle.rq_standard.specs.Standing.{IsObjectAnswer};
 ghost use Rattle.rq_standard.specs.TableRows.{greatest_size};
@@ -26,6 +28,7 @@ struct ObjectBlock {
 }
 
 impl ObjectBlock {
+    ghost use Rattle.raptorq.specs.Difference.{ShowsUnanswered};
     ghost use Rattle.rq_standard.specs.Standing.{IsHeldOf, new_held, new_answer, AddsToBlock, StopsBlock};
     ghost use Rattle.raptorq.specs.Objects.{answer_of};
     ghost use Rattle.raptorq.specs.Refused.{block_refusal};
@@ -64,6 +67,7 @@ impl ObjectBlock {
         ensures stops { OnErr result (StopsBlock (held_of self.old.decoder) (answer_of self.old) packet (held_of self.new.decoder) (answer_of self.new)) }
         ensures number { (held_of self.new.decoder).number ≡ (held_of self.old.decoder).number }
         ensures configuration { (held_of self.new.decoder).configuration ≡ (held_of self.old.decoder).configuration }
+        ensures symbols { (held_of self.new.decoder).symbols ≡ (held_of self.old.decoder).symbols }
         ensures memory { IfErr result (λ e. e ≡ Error.OutOfMemory) }
     {
         if self.answer.is_none() {
@@ -71,6 +75,17 @@ impl ObjectBlock {
             self.answer = self.decoder.answer()?;
         }
         Ok(())
+    }
+
+    /// A column of octets that shows that the block isn't determined, where it has no answer.
+    fn homogeneous(&self) -> Result<Option<Vec<u8>>, Error>
+        ensures shown { IfOk result (λ column. ShowsUnanswered (held_of self.now.decoder) (answer_of self.now) (option_map vec_items column)) }
+        ensures memory { IfErr result (λ e. e ≡ Error.OutOfMemory) }
+    {
+        if self.answer.is_some() {
+            return Ok(None);
+        }
+        self.decoder.homogeneous()
     }
 }
 
@@ -98,9 +113,11 @@ pub struct Decoder {
     pub ghost some: { 0 < config.source_blocks },
     pub ghost numbered: { map (λ b. (held_of b.decoder).number) blocks.items ≡ range_with_len 0 config.source_blocks },
     pub ghost same: { All (λ b. (held_of b.decoder).configuration ≡ config) blocks.items },
+    pub ghost cut: { All (λ b. (held_of b.decoder).symbols ≡ block_symbols config (held_of b.decoder).number) blocks.items },
 }
 
 impl Decoder {
+    ghost use Rattle.rq_standard.specs.Differences.{AreUnansweredDetermined, IsDifference, MakesOthersFit};
     ghost use Rattle.rq_standard.specs.Standing.{State, IsNewState, Adds, Stops, Stands, StandsForMore, CatchesUp, FallsBehind, AnswersObject, result_of};
     ghost use Rattle.raptorq.specs.Refused.{packet_refusal};
     ghost use Rattle.raptorq.specs.Objects.{state_of};
@@ -218,6 +235,31 @@ impl Decoder {
         Ok(object)
     }
 
+    /// Why the object isn't answered: as many bytes as it has, whose xor with it makes the same
+    /// packets as far as they are recorded, zeros in blocks that are answered. `None` where what is
+    /// recorded of each block without an answer determines it. Not in the Rust crate.
+    pub fn difference(&self) -> Result<Option<Vec<u8>>, Error>
+        ensures exactly { IfOk result (λ r. (r ≡ None) ↔ AreUnansweredDetermined (state_of self.now)) }
+        ensures bytes { IfOk result (λ r. IfSome (option_map vec_items r) (IsDifference (state_of self.now))) }
+
+        // Of a decoder that stands for a list: its xor with any object that fits the list fits it.
+        ensures fits { IfOk result (λ r. IfSome (option_map vec_items r) (MakesOthersFit (state_of self.now))) }
+        ensures memory { IfErr result (λ e. e ≡ Error.OutOfMemory) }
+    {
+        let mut bytes = Vec::new(self.alloc);
+        let mut determined = true;
+        for block in &self.blocks {
+            let column = block.homogeneous()?;
+            determined &= column.is_none();
+            bytes.extend_from_slice(block.decoder.difference(&column)?.as_slice())?;
+        }
+        if determined {
+            return Ok(None);
+        }
+        bytes.truncate(self.config.transfer_length() as usize);
+        Ok(Some(bytes))
+    }
+
     /// Takes a packet and answers the object, where each of its blocks is determined.
     ///
     /// Refuses as [`Decoder::add_new_packet`] does. Where memory is refused for the object, the
@@ -284,6 +326,11 @@ pub fn decode_all(
     // they determine each block.
     ensures headline { IfOk result (λ r. (object : List ℕ) → length object ≡ config.transfer_length → HasNonsingularRows table.now config
         → AllByRecursion (IsPacketOf table.now config object) packets.items → IsObjectAnswer table.now config object packets.items (option_map vec_items r)) }
+
+    // Over packets of an object, an answer exactly where they are no other object's: no decoder can
+    // do better.
+    ensures only_object { IfOk result (λ r. (object : List ℕ) → length object ≡ config.transfer_length → HasNonsingularRows table.now config
+        → AllByRecursion (IsPacketOf table.now config object) packets.items → IsSome (option_map vec_items r) ↔ IsOnlyObject table.now config packets.items object) }
 {
     let mut decoder = Decoder::new(alloc, table, config)?;
     for packet in packets {

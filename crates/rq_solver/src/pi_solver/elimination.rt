@@ -41,7 +41,7 @@ pub(super) fn operations_of_rows(
 }
 
 /// The numbers below n.
-fn numbers_below(alloc: Global, n: usize) -> Result<Vec<usize>, AllocError>
+pub(crate) fn numbers_below(alloc: Global, n: usize) -> Result<Vec<usize>, AllocError>
     ensures { IfOk result (λ numbers. numbers.items ≡ range_with_len 0 n) }
 {
     let mut numbers = Vec::with_capacity(alloc, n)?;
@@ -85,7 +85,7 @@ pub(super) fn eliminate(
 }
 
 /// Where a row stands that isn't 0 in the column, from `start` on.
-fn find_pivot(
+pub(crate) fn find_pivot(
     matrix: &DenseOctetMatrix,
     rows: &[usize],
     start: usize,

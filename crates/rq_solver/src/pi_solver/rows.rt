@@ -14,7 +14,7 @@ use std::alloc::Global;
 
 /// The rows of a matrix of bits, but those of a matrix of octets in the places from `first_hdpc`
 /// on.
-pub(super) fn octet_rows<T: BinaryMatrix>(
+pub(crate) fn octet_rows<T: BinaryMatrix>(
     alloc: Global,
     bits: &T,
     boundary: usize,

@@ -1,8 +1,6 @@
-use Rattle.std.proofs.Common.{◌≡◌, ◌+◌, ◌*◌, ◌≤◌, ◌∷◌, [], ◌++◌, map, sym, ap, ◌∙◌, subst, arith}
+use Rattle.std.proofs.Common.{◌≡◌, ◌+◌, ◌*◌, ◌∷◌, [], ◌++◌, map, sym, ap, ◌∙◌, arith}
 use Rattle.std.specs.List.{range_with_len}
 use Rattle.std.proofs.lemmas.List.FromFn.{map-range_with_len_more}
-use Rattle.std.specs.Int.{div_ceil}
-use Rattle.rq_standard.specs.Configuration.{total_symbols, largest_block}
 use Rattle.rq_standard.specs.Cutting.{block_symbols, symbols_before}
 use Rattle.rq_standard.proofs.BlockCuts.{symbols_before-first, symbols_before-next, block_symbols_few}
 use Rattle.raptorq.specs.Offsets.{block_range}

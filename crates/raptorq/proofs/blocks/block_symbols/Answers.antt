@@ -1,4 +1,4 @@
-use Rattle.std.proofs.Common.{◌≡◌, ◌+◌, ap, ◌∙◌, arith}
+use Rattle.std.proofs.Common.{◌≡◌, ap, ◌∙◌, arith}
 use Rattle.std.specs.Int.{div_ceil}
 use Rattle.rq_standard.specs.Configuration.{total_symbols}
 use Rattle.raptorq.proofs.BlockParts.{parts_are, larger_part, smaller_part}

@@ -1,7 +1,5 @@
-use Rattle.std.proofs.Common.{◌≡◌, map, sym, ap, ◌∙◌, arith}
-use Rattle.std.specs.List.{range_with_len}
+use Rattle.std.proofs.Common.{◌∙◌, arith}
 use Rattle.std.proofs.lemmas.Result.{IfOk-weaker}
-use Rattle.rq_standard.specs.Cutting.{symbol_of_block}
 use Rattle.raptorq.specs.BlockEncoded.{block_encoded_of}
 use Rattle.raptorq.proofs.EncodedBlocks.{source_is, encoded_is, length-symbols, symbols_sized}
 use Rattle.raptorq.proofs.encoder.block_encoder.Goals as goal

@@ -1,14 +1,12 @@
-use Rattle.std.proofs.Common.{◌≡◌, ◌<◌, ◌-◌, ◌*◌, length, map, get_or, take, drop, sym, ap, ◌∙◌, subst, arith}
-use Rattle.std.specs.List.{range_with_len}
+use Rattle.std.proofs.Common.{◌≡◌, ◌<◌, length, get_or, sym, ap, ◌∙◌, subst, arith}
 use borrow.Author.Count.{below_more}
 use Rattle.std.proofs.lemmas.Result.{err_from_is_err_and}
 use Rattle.std.proofs.lemmas.List.FromFn.{length-map-range_with_len, get_or-map-range_with_len}
-use Rattle.rq_standard.specs.Cutting.{block_symbols, symbols_before}
 use Rattle.rq_standard.specs.Encoded.{block_row}
 use Rattle.rq_standard.specs.Equations.{IsNonsingular}
 use Rattle.rq_standard.specs.TableRows.{row_of}
 use Rattle.rq_standard.proofs.BlockCuts.{block_symbols_few}
-use Rattle.raptorq.specs.BlockEncoded.{block_encoded_of, new_block_encoded, bytes_of_block}
+use Rattle.raptorq.specs.BlockEncoded.{block_encoded_of, new_block_encoded}
 use Rattle.raptorq.specs.Offsets.{block_range}
 use Rattle.raptorq.proofs.EncodedBlocks.{refuses_plan, refuses_block, bytes_in_range}
 use Rattle.raptorq.proofs.ObjectBlocks.{mapped_more}

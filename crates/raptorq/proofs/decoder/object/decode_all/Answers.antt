@@ -5,7 +5,7 @@ use Rattle.std.proofs.lemmas.List.{nil_from_length}
 use Rattle.rq_bytes.specs.Refusals.{IsRefusal}
 use Rattle.rq_standard.specs.Encoded.{HasNonsingularRows}
 use Rattle.raptorq.specs.Objects.{state_of}
-use Rattle.raptorq.proofs.Lists.{next_honest, next_refused, next_whole, answer_all}
+use Rattle.raptorq.proofs.Lists.{next_honest, next_refused, next_whole, answer_all, only_answer}
 use Rattle.raptorq.proofs.decoder.object.decode_all.Goals as goal
 
 pub loop-packet-preserved : goal.loop-packet-preserved
@@ -34,4 +34,17 @@ returns-clause-headline c =
     let none : into_iter_items c.loop-packet.packet-iterator ≡ [] = nil_from_length (into_iter_items c.loop-packet.packet-iterator) (omega (arith, c.in-None.ensures.steps.0)) in
     IfOk-weaker c.get_result.result _ _
     (λ r is object long nonsingular honest. answer_all c.args.table.now c.args.config object c.args.packets.items c.loop-packet.yielded (into_iter_items c.loop-packet.packet-iterator) (state_of c.loop-packet.decoder) _ kept.configuration kept.whole none (kept.stands object long nonsingular honest) is)
+    c.get_result.ensures.object
+
+pub returns-clause-only_object : goal.returns-clause-only_object
+returns-clause-only_object c =
+    let kept = c.loop-packet.invariant in
+    let table = c.args.table.now in
+    let k = c.args.config in
+    let accepted = c.in_ok-decoder.ensures.accepted in
+    let none : into_iter_items c.loop-packet.packet-iterator ≡ [] = nil_from_length (into_iter_items c.loop-packet.packet-iterator) (omega (arith, c.in-None.ensures.steps.0)) in
+    IfOk-weaker c.get_result.result _ _
+    (λ r is object long nonsingular honest. only_answer table k object c.args.packets.items c.loop-packet.yielded (into_iter_items c.loop-packet.packet-iterator) (state_of c.loop-packet.decoder) _ kept.configuration kept.whole none
+        accepted.size_positive accepted.blocks_positive (record { alignment_positive = accepted.alignment_positive; aligned = accepted.aligned }) nonsingular (kept.stands object long nonsingular honest)
+        (λ other fits. answer_all table k other c.args.packets.items c.loop-packet.yielded (into_iter_items c.loop-packet.packet-iterator) (state_of c.loop-packet.decoder) _ kept.configuration kept.whole none (kept.stands other fits.long nonsingular fits.packets_are) is))
     c.get_result.ensures.object

@@ -1,4 +1,4 @@
-use Rattle.std.proofs.Common.{◌≡◌, ap, ◌∙◌, map}
+use Rattle.std.proofs.Common.{ap, ◌∙◌, map}
 use Rattle.std.proofs.lemmas.List.{length-map}
 use Rattle.raptorq.specs.BlockEncoded.{block_encoded_of}
 use Rattle.raptorq.specs.Encoded.{no_block}

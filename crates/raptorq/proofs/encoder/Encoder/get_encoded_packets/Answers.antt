@@ -1,11 +1,10 @@
-use Rattle.std.proofs.Common.{◌≡◌, ◌+◌, ◌-◌, ◌<◌, ◌++◌, length, get_or, map, Result, Ok, sym, ap, ◌∙◌, arith}
+use Rattle.std.proofs.Common.{◌≡◌, ◌+◌, ◌-◌, ◌<◌, ◌++◌, length, get_or, Result, Ok, sym, ap, ◌∙◌, arith}
 use Rattle.std.proofs.lemmas.List.{map-id}
 use Rattle.std.specs.declared.alloc.AllocError.{AllocError}
 use Rattle.std.proofs.lemmas.Iterator.Adapters.{YieldsList-from_vec, fact_from_extend}
-use Rattle.rq_standard.specs.Cutting.{block_symbols}
 use Rattle.rq_standard.proofs.BlockCuts.{first_is_largest}
 use Rattle.raptorq.specs.BlockEncoded.{block_encoded_of}
-use Rattle.raptorq.specs.Encoded.{encoded_of, no_block}
+use Rattle.raptorq.specs.Encoded.{encoded_of}
 use Rattle.raptorq.proofs.EncodedBlocks.{encoded_more, encoded_all, number_at, count_at, block_at, length-encoders}
 use Rattle.raptorq.proofs.encoder.Encoder.get_encoded_packets.Goals as goal
 

@@ -1,4 +1,3 @@
-use Rattle.std.proofs.Common.{◌≡◌}
 use Rattle.raptorq.specs.Encoded.{encoded_of}
 use Rattle.raptorq.proofs.EncodedBlocks.{AreEncodedSoFar}
 use Rattle.raptorq.proofs.encoder.Encoder.get_encoded_packets.Given as goal

@@ -1,4 +1,4 @@
-use Rattle.std.proofs.Common.{◌≡◌, ℕ, List, length, get_or, map, sym, ap, ◌∙◌}
+use Rattle.std.proofs.Common.{◌≡◌, List, length, get_or, map, sym, ap, ◌∙◌}
 use Rattle.std.proofs.lemmas.Simd.{map-map}
 use Rattle.raptorq.specs.BlockEncoded.{BlockEncoded, block_encoded_of}
 use Rattle.raptorq.specs.Encoded.{Encoded, no_block}

@@ -1,4 +1,4 @@
-use Rattle.std.proofs.Common.{◌≡◌, ◌<◌, ◌++◌, take, Some, None, sym, ap, ◌∙◌, arith, length, get_or}
+use Rattle.std.proofs.Common.{◌≡◌, ◌<◌, ◌++◌, take, Some, ap, ◌∙◌, arith, length, get_or}
 use Rattle.std.specs.Prelude.{option_map, vec_items}
 use Rattle.rq_standard.specs.Standing.{joined}
 use Rattle.raptorq.specs.Objects.{answer_at}

@@ -1,4 +1,4 @@
-use Rattle.std.proofs.Common.{◌≡◌, ℕ, ◌<◌, All, map}
+use Rattle.std.proofs.Common.{◌≡◌, ℕ, ◌<◌, map}
 use Rattle.std.specs.List.{range_with_len}
 use Rattle.rq_standard.specs.Standing.{IsHeldOf, new_held, new_answer}
 use Rattle.raptorq.specs.Blocks.{held_of}

@@ -1,8 +1,6 @@
-use Rattle.std.proofs.Common.{◌≡◌, List, All, length, map, take, drop, ◌++◌, sym, ap, ◌∙◌, subst}
-use Rattle.std.specs.List.{range_with_len}
+use Rattle.std.proofs.Common.{◌≡◌, All, length, map, take, drop, ◌++◌, sym, ap, ◌∙◌, subst}
 use Rattle.raptorq.specs.Blocks.{held_of}
-use Rattle.raptorq.specs.declared.decoder.object.ObjectBlock.{ObjectBlock}
-use Rattle.raptorq.proofs.ObjectBlocks.{number_of, same_length, same_numbers, same_configurations, written_over}
+use Rattle.raptorq.proofs.ObjectBlocks.{number_of, same_length, same_numbers, same_each, IsCut, written_over}
 use Rattle.raptorq.proofs.decoder.object.Decoder.set_sparse_threshold.Goals as goal
 
 pub invariant_of-self : goal.invariant_of-self
@@ -17,5 +15,6 @@ invariant_of-self c =
       aligned = s.aligned;
       some = s.some;
       numbered = ap (map number_of) is ∙ same_numbers s.config items new held ∙ s.numbered;
-      same = subst (All (λ b. (held_of b.decoder).configuration ≡ s.config)) (sym is) (same_configurations s.config items new held s.same);
+      same = subst (All (λ b. (held_of b.decoder).configuration ≡ s.config)) (sym is) (same_each s.config items new held (λ h. h.configuration ≡ s.config) s.same);
+      cut = subst (All (λ b. IsCut s.config (held_of b.decoder))) (sym is) (same_each s.config items new held (IsCut s.config) s.cut);
     }

@@ -4,9 +4,10 @@ use Rattle.std.proofs.lemmas.List.Elements.{All-set}
 use Rattle.std.proofs.lemmas.Result.{on_ok_weaker}
 use Rattle.std.proofs.Math.Seq.{map-set_same}
 use Rattle.rq_bytes.specs.declared.error.Error.TheVariants.{OutOfMemory}
+use Rattle.rq_standard.specs.Cutting.{block_symbols}
 use Rattle.rq_standard.specs.Standing.{Adds, Stops}
 use Rattle.raptorq.specs.Blocks.{held_of}
-use Rattle.raptorq.proofs.ObjectBlocks.{state, length-blocks, number_at, number_of, block_takes, adds_at, stops_at}
+use Rattle.raptorq.proofs.ObjectBlocks.{state, length-blocks, number_at, number_of, block_takes, IsCut, adds_at, stops_at}
 use Rattle.raptorq.proofs.decoder.object.Decoder.take.Goals as goal
 
 stops_of : {X E P Q : Type 0} (m : E) (r : Result X E) → (P → Q) → OnErr r P → IfErr r (λ e. e ≡ m → Q)
@@ -53,6 +54,7 @@ invariant_of-self c =
       some = s.some;
       numbered = map-set_same number_of items c.from-2.result y x (c.take.ensures.number ∙ ap number_of c.index_mut.ensures.value) ∙ s.numbered;
       same = All-set (λ b. (held_of b.decoder).configuration ≡ s.config) items c.from-2.result y (c.take.ensures.configuration ∙ ap (λ b. (held_of b.decoder).configuration) is ∙ s.same p.id.block x below) s.same;
+      cut = All-set (λ b. IsCut s.config (held_of b.decoder)) items c.from-2.result y (c.take.ensures.symbols ∙ ap (λ b. (held_of b.decoder).symbols) is ∙ s.cut p.id.block x below ∙ ap (λ b. block_symbols s.config (held_of b.decoder).number) (sym is) ∙ ap (block_symbols s.config) (sym c.take.ensures.number)) s.cut;
     }
 
 pub returns-clause-adds : goal.returns-clause-adds

@@ -4,7 +4,7 @@ use Rattle.rq_standard.specs.Standing.{State}
 use Rattle.rq_standard.specs.TableRows.{no_row}
 use Rattle.raptorq.specs.Blocks.{held_of}
 use Rattle.raptorq.specs.Objects.{answer_of}
-use Rattle.raptorq.proofs.ObjectBlocks.{same_numbers, same_configurations}
+use Rattle.raptorq.proofs.ObjectBlocks.{same_numbers, same_each, IsCut}
 use Rattle.raptorq.proofs.PlanLaws.{map-clones}
 use Rattle.raptorq.proofs.decoder.object.DecoderClone.clone.Goals as goal
 
@@ -19,7 +19,8 @@ invariant_of-result c =
       aligned = s.aligned;
       some = s.some;
       numbered = same_numbers s.config old new held ∙ s.numbered;
-      same = same_configurations s.config old new held s.same;
+      same = same_each s.config old new held (λ h. h.configuration ≡ s.config) s.same;
+      cut = same_each s.config old new held (IsCut s.config) s.cut;
     }
 
 pub returns : goal.returns

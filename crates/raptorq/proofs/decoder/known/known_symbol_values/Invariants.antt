@@ -1,0 +1,9 @@
+use Rattle.std.proofs.Common.{◌+◌, ◌-◌, map}
+use Rattle.std.specs.BTreeMap.{values}
+use Rattle.std.specs.Map.Iter.{deref}
+use Rattle.raptorq.proofs.Came.{FillsSoFar}
+use Rattle.raptorq.proofs.decoder.known.known_symbol_values.Given as goal
+
+-- the payloads so far are filled in
+abbrev pub invariant-loop-payload : goal.invariant-loop-payload
+invariant-loop-payload l = FillsSoFar (l.fn.row.ldpc_symbols + l.fn.row.hdpc_symbols + (l.fn.row.source_symbols - l.fn.symbols)) l.fn.size (values l.fn.received) (map deref l.yielded) l.payload-iterator l.place l.values

@@ -1,0 +1,7 @@
+-- What the loops keep in `null_column::free_column`.
+use Rattle.std.proofs.Common.{◌≡◌, map, take}
+use Rattle.rq_parts.specs.OctetTable.{entry_of}
+use Rattle.rq_solver.proofs.null_column.free_column.Given as goal
+
+abbrev pub invariant-loop-row : goal.invariant-loop-row
+invariant-loop-row l = l.column.items ≡ map (λ row. entry_of l.matrix row l.free) (take l.row-index l.pivots)

@@ -1,0 +1,71 @@
+-- What several objects that make the same packets differ by.
+use Rattle.std.specs.Prelude.{◌≡◌, ◌≢◌, ℕ, zero, suc, ◌+◌, ◌-◌, ◌*◌, ◌/◌, ◌%◌, ◌<◌, Bool, true, List, [], ◌∷◌, ◌++◌, length, map, take, slice_index, Option, None, IsSome, if◌then◌else◌, ◌==◌, ◌&&◌, nat_lt}
+use Rattle.std.specs.List.{range_with_len, AllByRecursion}
+use Rattle.rq_algebra.specs.Symbols.{add_symbols}
+use Rattle.rq_algebra.specs.Systems.{dot}
+use Rattle.rq_standard.specs.declared.row.Row.{Row}
+use Rattle.rq_standard.specs.OctetField.{octets}
+use Rattle.rq_standard.specs.Packet.{Packet}
+use Rattle.rq_standard.specs.Configuration.{Configuration}
+use Rattle.rq_standard.specs.Cutting.{block_symbols, block_bytes, sub_block_size}
+use Rattle.rq_standard.specs.Equations.{zero_symbol, symbol_coefficient, IsNonsingular, IsEncodingSymbol}
+use Rattle.rq_standard.specs.TableRows.{intermediate_symbols}
+use Rattle.rq_standard.specs.Encoded.{block_row, block_source, IsPacketOf, HasNonsingularRows}
+use Rattle.rq_standard.specs.Held.{holds, AreHeldDetermining}
+use Rattle.rq_standard.specs.Standing.{State, StandsBut}
+
+-- an object of the configuration's length of which these are packets
+pub record Fits (table : List Row) (c : Configuration) (packets : List Packet) (object : List ℕ) : Type 0 where
+  pub long : length object ≡ c.transfer_length
+  pub packets_are : AllByRecursion (IsPacketOf table c object) packets
+
+-- no other object fits
+abbrev pub IsOnlyObject : List Row → Configuration → List Packet → List ℕ → Type 0
+IsOnlyObject table c packets object = (other : List ℕ) → Fits table c packets other → other ≡ object
+
+-- the xor of two objects, byte by byte
+abbrev pub xor_bytes : List ℕ → List ℕ → List ℕ
+xor_bytes = add_symbols octets
+
+-- bytes of an object whose symbols with these ids, of each block, are zero
+pub record EncodesToZeros (table : List Row) (c : Configuration) (has : ℕ → ℕ → Bool) (bytes : List ℕ) : Type 0 where
+  pub long : length bytes ≡ c.transfer_length
+  pub zeros : (b e : ℕ) → b < c.source_blocks → has b e ≡ true → IsEncodingSymbol (block_row table c b) c.symbol_size (block_source c bytes b) e (zero_symbol c.symbol_size)
+
+-- ---- what a decoder answers
+
+-- the ids that are held determine each block that has no answer
+abbrev pub AreUnansweredDetermined : State → Type 0
+AreUnansweredDetermined s = (b : ℕ) → b < s.configuration.source_blocks → s.answer b ≡ None → AreHeldDetermining (s.held b)
+
+-- as many bytes as the object has
+pub record IsDifference (s : State) (bytes : List ℕ) : Type 0 where
+  pub long : length bytes ≡ s.configuration.transfer_length
+  -- zeros in a block that is answered
+  pub answered : (b i : ℕ) → b < s.configuration.source_blocks → IsSome (s.answer b) → slice_index (block_bytes s.configuration bytes b) i ≡ 0
+  -- zero symbols for all ids that are held
+  pub zeros : (b e : ℕ) → b < s.configuration.source_blocks → holds (s.held b) e ≡ true
+      → IsEncodingSymbol (s.held b).row s.configuration.symbol_size (block_source s.configuration bytes b) e (zero_symbol s.configuration.symbol_size)
+  -- not all zeros, over rows that aren't singular
+  pub nonzero : ((b : ℕ) → b < s.configuration.source_blocks → IsNonsingular (s.held b).row) → (i : ℕ) × (i < s.configuration.transfer_length) × (slice_index bytes i ≢ 0)
+
+-- bytes whose xor with any object that fits the list that a decoder stands for fits it too
+abbrev pub MakesOthersFit : State → List ℕ → Type 0
+MakesOthersFit s bytes =
+    (late : ℕ → Bool) (table : List Row) (object other : List ℕ) (packets : List Packet)
+    → StandsBut late table object packets s → Fits table s.configuration packets other → Fits table s.configuration packets (xor_bytes other bytes)
+
+-- ---- symbols of which only the first octet may be nonzero
+
+-- the octet that a plain column has for an internal symbol id
+abbrev pub plain_sum : Row → (ℕ → ℕ) → ℕ → ℕ
+plain_sum row column x = dot octets (intermediate_symbols row) (symbol_coefficient row x) column
+
+abbrev pub first_octet : ℕ → ℕ → List ℕ
+first_octet size octet = octet ∷ zero_symbol (size - 1)
+
+-- the block of k symbols that have these first octets: they stand where the first sub-block has the first byte of each symbol
+unfoldable pub first_octets_block : Configuration → ℕ → (ℕ → ℕ) → List ℕ
+first_octets_block c k octet =
+    let z = sub_block_size c 0 in
+    map (λ i. if i % z == 0 && nat_lt (i / z) k then octet (i / z) else 0) (range_with_len 0 (k * c.symbol_size))
