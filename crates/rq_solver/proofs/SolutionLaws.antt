@@ -41,14 +41,6 @@ module _ (F : Field) (height width : ℕ) (a b : ℕ → ℕ → ℕ) (same : Sa
     solves = solves_same F height width a b null.column (λ _. 0) (λ _. 0) same (λ i l. refl) null.solves;
   }
 
--- a table that holds the rows stands for them
-module _ (height width : ℕ) (rows : ℕ → ℕ → ℕ) (table : OctetTable) (holds : HoldsRows height width height rows table) where
-  pub finds_in_rows : (operations : List Operation) → FindsColumn octets (length table.rows) width (entry_of table) operations → FindsColumn octets height width rows operations
-  finds_in_rows operations finds = finds_same octets height width (entry_of table) rows holds.written operations (rw holds.height_is at finds)
-
-  pub null_in_rows : HasNullColumn octets (length table.rows) width (entry_of table) → HasNullColumn octets height width rows
-  null_in_rows null = null_same octets height width (entry_of table) rows holds.written (rw holds.height_is at null)
-
 -- what is read in a slab after operations, where no order was set before
 pub symbol_in-after_all : (operations : List Operation) (handed : Slab) (k : ℕ) → handed.order ≡ None → symbol_in (after_all operations handed) k ≡ found_by (symbols octets) operations handed.values k
 symbol_in-after_all operations handed k unordered_is =

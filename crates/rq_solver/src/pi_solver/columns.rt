@@ -5,6 +5,7 @@ ghost use Rattle.rq_bytes.specs.declared.error.Error.TheVariants.{OutOfMemory};
 ghost use Rattle.rq_solver.specs.Peeled.{IsOrderOf, IsActive, first_columns, ExchangesColumns, EndsActive};
 ghost use Rattle.rq_algebra.specs.Systems.{at};
 
+use crate::pi_solver::elimination::numbers_below;
 use rq_bytes::error::Error;
 use std::alloc::Global;
 use std::marker::Model;
@@ -104,15 +105,4 @@ impl ColumnOrder {
         let ColumnOrder { order, places, .. } = self;
         (order, places)
     }
-}
-
-fn numbers_below(alloc: Global, end: usize) -> Result<Vec<usize>, Error>
-    ensures numbers { IfOk result (λ numbers. numbers.items ≡ range_with_len 0 end) }
-    ensures err { IfErr result (λ e. e ≡ OutOfMemory) }
-{
-    let mut numbers = Vec::with_capacity(alloc, end)?;
-    for number in 0..end {
-        numbers.push(number)?;
-    }
-    Ok(numbers)
 }

@@ -1,8 +1,7 @@
 //! Gauss-Jordan elimination over a matrix of octets, recorded for the symbols.
-ghost use Rattle.std.specs.Prelude.{◌≡◌, ◌≢◌, ℕ, ◌+◌, ◌^◌, ◌<◌, ◌≤◌, ◌∷◌, [], ◌==◌, if◌then◌else◌, length, IfSome, IfNone, OnOk, IfOk, IfErr, MatchBool, MatchOption, IsPermutation, map};
+ghost use Rattle.std.specs.Prelude.{◌≡◌, ◌≢◌, ℕ, ◌+◌, ◌^◌, ◌<◌, ◌≤◌, ◌∷◌, [], ◌==◌, if◌then◌else◌, length, IfSome, IfNone, OnOk, IfOk, IfErr, MatchBool, IsPermutation};
 ghost use Rattle.std.specs.List.{range_with_len};
-ghost use Rattle.rq_algebra.specs.Systems.{at, HasNullColumn};
-ghost use Rattle.rq_algebra.specs.Elimination.{FindsColumn};
+ghost use Rattle.rq_algebra.specs.Systems.{at};
 ghost use Rattle.rq_algebra.specs.Steps.{AddsRow, ScalesRow};
 ghost use Rattle.rq_algebra.specs.Operations.{AddAssign, Fma};
 ghost use Rattle.rq_algebra.specs.Meaning.{ClearsColumn};
@@ -17,28 +16,6 @@ use rq_bytes::octet::Octet;
 use rq_bytes::operation_vector::SymbolOps;
 use rq_parts::octet_matrix::DenseOctetMatrix;
 use std::alloc::{AllocError, Global};
-
-/// Finds the operations that take values of the rows to the column that solves the rows with them.
-/// `None` where the rows don't determine a column.
-pub(super) fn operations_of_rows(
-    alloc: Global,
-    mut matrix: DenseOctetMatrix,
-    width: usize,
-) -> Result<Option<Vec<SymbolOps>>, Error>
-    requires width { matrix.width ≡ width }
-    requires octets { HasOctets matrix }
-    ensures found { IfOk result (λ answer. MatchOption answer (HasNullColumn octets (length matrix.rows) width (entry_of matrix)) (λ ops. FindsColumn octets (length matrix.rows) width (entry_of matrix) (map operation_of ops.items))) }
-    ensures err { IfErr result (λ e. e ≡ OutOfMemory) }
-{
-    let mut rows = numbers_below(alloc, matrix.height())?;
-    let mut operations = Vec::new(alloc);
-    if !eliminate(&mut matrix, &mut operations, rows.as_mut_slice(), 0, width)? {
-        return Ok(None);
-    }
-    rows.truncate(width);
-    operations.push(SymbolOps::Reorder { order: rows })?;
-    Ok(Some(operations))
-}
 
 /// The numbers below n.
 pub(crate) fn numbers_below(alloc: Global, n: usize) -> Result<Vec<usize>, AllocError>
