@@ -1,11 +1,10 @@
 -- The encoders of an object's blocks.
-use Rattle.std.proofs.Common.{◌≡◌, ℕ, ◌+◌, ◌-◌, ◌*◌, ◌<◌, ◌≤◌, min, List, [], ◌∷◌, ◌++◌, All, length, take, drop, get_or, map, Ok, refl, sym, ap, ◌∙◌, subst, arith, ◌⊎◌, inl, inr, eq-eqb, append-nil, length-drop}
+use Rattle.std.proofs.Common.{◌≡◌, ℕ, ◌+◌, ◌-◌, ◌*◌, ◌<◌, ◌≤◌, min, List, [], ◌∷◌, ◌++◌, length, take, drop, get_or, map, Ok, refl, sym, ap, ◌∙◌, subst, arith, ◌⊎◌, inl, inr, eq-eqb, append-nil, length-drop}
 use Rattle.std.specs.List.{range_with_len, flat_map, AllByRecursion}
-use Rattle.std.proofs.lemmas.Bool.{cases_lt, le-ltb}
-use Rattle.std.proofs.lemmas.List.{ext_get_or, get_or-map, length-map, get_or-take, get_or-drop, get_or_past, length-take, take_all, nil_from_length, map-append, map-id}
-use Rattle.std.proofs.lemmas.Simd.{map-map}
+use Rattle.std.proofs.lemmas.Bool.{cases_lt}
+use Rattle.std.proofs.lemmas.List.{ext_get_or, get_or-map, get_or-take, get_or-drop, get_or_past, length-take, take_all, nil_from_length, map-append, map-id}
 use Rattle.std.proofs.lemmas.Grind.{flat_map-append}
-use Rattle.std.proofs.lemmas.List.FromFn.{length-range_with_len, get_or-range_with_len, length-map-range_with_len, get_or-map-range_with_len, map-range_with_len_more}
+use Rattle.std.proofs.lemmas.List.FromFn.{length-map-range_with_len, get_or-map-range_with_len, map-range_with_len_more}
 use Rattle.rq_bytes.specs.declared.error.Error.{Error}
 use Rattle.rq_bytes.specs.declared.error.Error.TheVariants.{OutOfMemory, Singular}
 use Rattle.rq_bytes.specs.Refusals.{IsRefusal}
@@ -17,12 +16,14 @@ use Rattle.rq_standard.specs.TableRows.{greatest_size, row_of}
 use Rattle.rq_standard.specs.Equations.{IsEncodingSymbol, IsSingular}
 use Rattle.rq_standard.specs.Encoded.{block_row, block_source, IsPacketOf, HasNonsingularRows, first_ids, AreEncoded}
 use Rattle.rq_standard.proofs.PlainCut.{length-block_bytes}
-use Rattle.rq_standard.proofs.Standing.{length-block_source, length-symbol_of_block}
+use Rattle.rq_standard.proofs.Standing.{length-block_source}
 use Rattle.rq_standard.proofs.BlockCuts.{block_symbols_few}
 use Rattle.raptorq.specs.Offsets.{block_range}
-use Rattle.raptorq.specs.Plans.{plan_refusal, RefusesPlan}
+use Rattle.raptorq.specs.Plans.{RefusesPlan}
 use Rattle.raptorq.specs.Encoded.{Encoded, IsEncoderOf, no_block}
 use Rattle.raptorq.proofs.Encodes.{at_any}
+use Rattle.raptorq.proofs.Numbered.{mapped_through}
+use Rattle.raptorq.proofs.PlanLaws.{plan_refused}
 use Rattle.raptorq.specs.declared.encoder.block.SourceBlockEncoder.{SourceBlockEncoder}
 use Rattle.rq_base.specs.Refused.{checked_configuration}
 use Rattle.raptorq.specs.Refused.{new_encoder, RefusesEncoder}
@@ -133,27 +134,23 @@ encoded_all e repair n packets all so table object made = record {
 
 -- ---- what an encoder is made of
 
-module _ (table : List Row) (c : Configuration) (object : List ℕ) (blocks : List BlockEncoded) (encoded : blocks ≡ map (new_block_encoded table c object) (range_with_len 0 c.source_blocks)) where
-  pub new_numbers : map (λ b. b.number) blocks ≡ range_with_len 0 c.source_blocks
-  new_numbers = ap (map (λ b. b.number)) encoded ∙ map-map (λ b. b.number) (new_block_encoded table c object) (range_with_len 0 c.source_blocks) ∙ map-id (range_with_len 0 c.source_blocks)
+abbrev pub number_of : SourceBlockEncoder → ℕ
+number_of b = (block_encoded_of b).number
 
-  pub new_counts : map (λ b. length b.source) blocks ≡ map (block_symbols c) (range_with_len 0 c.source_blocks)
-  new_counts = ap (map (λ b. length b.source)) encoded ∙ map-map (λ b. length b.source) (new_block_encoded table c object) (range_with_len 0 c.source_blocks) ∙ (λ i. map (λ b. length-block_source c object b i) (range_with_len 0 c.source_blocks))
+abbrev pub count_of : SourceBlockEncoder → ℕ
+count_of b = length (block_encoded_of b).source
 
-  pub new_block : (b : ℕ) → b < c.source_blocks → (d : BlockEncoded) → get_or blocks b d ≡ new_block_encoded table c object b
+module _ (table : List Row) (c : Configuration) (object : List ℕ) (items : List SourceBlockEncoder) (encoded : map block_encoded_of items ≡ map (new_block_encoded table c object) (range_with_len 0 c.source_blocks)) where
+  pub new_counts : map count_of items ≡ map (block_symbols c) (range_with_len 0 c.source_blocks)
+  new_counts = mapped_through block_encoded_of (new_block_encoded table c object) c.source_blocks items encoded (λ b. length b.source) ∙ (λ i. map (λ b. length-block_source c object b i) (range_with_len 0 c.source_blocks))
+
+  pub new_block : (b : ℕ) → b < c.source_blocks → (d : BlockEncoded) → get_or (map block_encoded_of items) b d ≡ new_block_encoded table c object b
   new_block b below d = ap (λ l. get_or l b d) encoded ∙ get_or-map-range_with_len (new_block_encoded table c object) 0 c.source_blocks b b d below (omega arith)
 
 -- what the encoder of a block shows
-pub encoded_is : (table : List Row) (c : Configuration) (object : List ℕ) (b : ℕ) (e : BlockEncoded) (row : Row) (size : ℕ) (source : List (List ℕ)) → e ≡ record { number = b; row = row; size = size; source = source } → row ≡ block_row table c b → size ≡ c.symbol_size → source ≡ block_source c object b
-    → e ≡ new_block_encoded table c object b
-encoded_is table c object b e row size source is rows sizes sources = is ∙ (λ i. record { number = b; row = rows i; size = sizes i; source = sources i })
-
-pub length-symbols : (c : Configuration) (k : ℕ) (bytes : List ℕ) (source : List (List ℕ)) → source ≡ map (symbol_of_block c k bytes) (range_with_len 0 k) → length source ≡ k
-length-symbols c k bytes source so = ap length so ∙ length-map-range_with_len (symbol_of_block c k bytes) 0 k
-
-pub symbols_sized : (c : Configuration) (k size : ℕ) (bytes : List ℕ) (source : List (List ℕ)) → size ≡ c.symbol_size → source ≡ map (symbol_of_block c k bytes) (range_with_len 0 k) → All (λ s. length s ≡ size) source
-symbols_sized c k size bytes source same so i d below =
-    ap (λ l. length (get_or l i d)) so ∙ ap length (get_or-map-range_with_len (symbol_of_block c k bytes) 0 k i i d (omega (arith, length-symbols c k bytes source so)) (omega arith)) ∙ length-symbol_of_block c k bytes i ∙ sym same
+pub encoded_is : (table : List Row) (c : Configuration) (object bytes : List ℕ) (b k : ℕ) (e : BlockEncoded) (row : Row) → e ≡ record { number = b; row = row; size = c.symbol_size; source = map (symbol_of_block c k bytes) (range_with_len 0 k) }
+    → row ≡ block_row table c b → k ≡ block_symbols c b → bytes ≡ bytes_of_block c object b → e ≡ new_block_encoded table c object b
+encoded_is table c object bytes b k e row is rows count bytes_are = is ∙ (λ i. record { number = b; row = rows i; size = c.symbol_size; source = source_is c object bytes b k _ count bytes_are refl i })
 
 -- ---- refusals
 
@@ -163,16 +160,14 @@ new_encoder-taken greatest c n checked long = rw (checked, eq-eqb n c.transfer_l
 pub block_singular : (table : List Row) (c : Configuration) (b : ℕ) → b < c.source_blocks → IsSingular (block_row table c b) → ¬ (HasNonsingularRows table c)
 block_singular table c b below singular all = singular (all b below)
 
--- what a plan of a block's size is refused for
-pub refuses_plan : (table : List Row) (c : Configuration) (b count : ℕ) (e : Error) → IsAccepted (greatest_size table) c → b < c.source_blocks → count ≡ block_symbols c b → RefusesPlan table count e → (e ≡ OutOfMemory) ⊎ ((e ≡ Singular) × ¬ (HasNonsingularRows table c))
-refuses_plan table c b count e accepted below is (inl refused) =
-    let unrefused : plan_refusal table count ≡ Ok tt = rw (le-ltb (greatest_size table) count (omega (arith, is, block_symbols_few c b below, accepted.in_table))) refl in
-    inl (subst (IsRefusal e) unrefused refused)
-refuses_plan table c b count e accepted below is (inr singular) = inr (singular.1, block_singular table c b below (subst (λ k. IsSingular (row_of table k)) is singular.2))
-
+-- what a plan for so many is refused for
 pub refuses_block : (table : List Row) (c : Configuration) (b count : ℕ) (e : Error) → b < c.source_blocks → count ≡ block_symbols c b → (e ≡ OutOfMemory) ⊎ ((e ≡ Singular) × IsSingular (row_of table count)) → (e ≡ OutOfMemory) ⊎ ((e ≡ Singular) × ¬ (HasNonsingularRows table c))
 refuses_block table c b count e below is (inl memory) = inl memory
 refuses_block table c b count e below is (inr singular) = inr (singular.0, block_singular table c b below (subst (λ k. IsSingular (row_of table k)) is singular.1))
+
+-- what a plan of a block's size is refused for
+pub refuses_plan : (table : List Row) (c : Configuration) (b count : ℕ) (e : Error) → IsAccepted (greatest_size table) c → b < c.source_blocks → count ≡ block_symbols c b → RefusesPlan table count e → (e ≡ OutOfMemory) ⊎ ((e ≡ Singular) × ¬ (HasNonsingularRows table c))
+refuses_plan table c b count e accepted below is refused = refuses_block table c b count e below is (plan_refused table count e (omega (arith, is, block_symbols_few c b below, accepted.in_table)) refused)
 
 -- what it is refused for
 pub refuses_singular : (table : List Row) (c : Configuration) (n : ℕ) (e : Error) → new_encoder (greatest_size table) c n ≡ Ok tt → (e ≡ OutOfMemory) ⊎ ((e ≡ Singular) × ¬ (HasNonsingularRows table c)) → RefusesEncoder table c n e
@@ -180,17 +175,6 @@ refuses_singular table c n e taken (inl memory) = inl (subst (IsRefusal e) (sym 
 refuses_singular table c n e taken (inr singular) = inr (taken, singular.0, singular.1)
 
 -- ---- the encoders in a list
-
-pub length-encoders : (items : List SourceBlockEncoder) (n : ℕ) → map (λ b. (block_encoded_of b).number) items ≡ range_with_len 0 n → length items ≡ n
-length-encoders items n numbered = sym (length-map items (λ b. (block_encoded_of b).number)) ∙ ap length numbered ∙ length-range_with_len 0 n
-
-pub number_at : (items : List SourceBlockEncoder) (n i : ℕ) (x : SourceBlockEncoder) → i < length items → x ≡ get_or items i x → i < n → map (λ b. (block_encoded_of b).number) items ≡ range_with_len 0 n → (block_encoded_of x).number ≡ i
-number_at items n i x below is within numbered = ap (λ b. (block_encoded_of b).number) is ∙ sym (get_or-map (λ b. (block_encoded_of b).number) items i x 0 below) ∙ ap (λ l. get_or l i 0) numbered ∙ get_or-range_with_len 0 n i 0 within ∙ omega arith
-
-pub count_at : (c : Configuration) (items : List SourceBlockEncoder) (i : ℕ) (x : SourceBlockEncoder) → i < length items → x ≡ get_or items i x → i < c.source_blocks → map (λ b. length (block_encoded_of b).source) items ≡ map (block_symbols c) (range_with_len 0 c.source_blocks)
-    → length (block_encoded_of x).source ≡ block_symbols c i
-count_at c items i x below is within counted =
-    ap (λ b. length (block_encoded_of b).source) is ∙ sym (get_or-map (λ b. length (block_encoded_of b).source) items i x 0 below) ∙ ap (λ l. get_or l i 0) counted ∙ get_or-map-range_with_len (block_symbols c) 0 c.source_blocks i i 0 within (omega arith)
 
 pub block_at : (c : Configuration) (items : List SourceBlockEncoder) (i : ℕ) (x : SourceBlockEncoder) → i < length items → x ≡ get_or items i x → block_encoded_of x ≡ get_or (map block_encoded_of items) i (no_block i c.symbol_size)
 block_at c items i x below is = ap block_encoded_of is ∙ sym (get_or-map block_encoded_of items i x (no_block i c.symbol_size) below)

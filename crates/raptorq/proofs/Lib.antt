@@ -13,6 +13,7 @@ pub mod Listing
 pub mod Lists
 pub mod MissingCounts
 pub mod NewBlocks
+pub mod Numbered
 pub mod ObjectBlocks
 pub mod OctetSymbols
 pub mod Outcomes

@@ -1,11 +1,11 @@
 -- The blocks of an object in a list, in the order of their numbers.
-use Rattle.std.proofs.Common.{◌≡◌, ◌≢◌, ℕ, suc, ◌+◌, ◌<◌, Bool, true, false, List, [], ◌∷◌, ◌++◌, length, get_or, set, take, drop, map, All, Option, Some, None, refl, sym, ap, ◌∙◌, subst, arith, eq-eqb, inl, inr, append-nil, length-drop}
+use Rattle.std.proofs.Common.{◌≡◌, ◌≢◌, ℕ, suc, ◌+◌, ◌<◌, Bool, true, false, List, [], ◌++◌, length, get_or, set, take, drop, map, All, Option, Some, None, refl, sym, ap, ◌∙◌, subst, arith, eq-eqb, inl, inr, append-nil, length-drop}
 use Rattle.std.specs.Prelude.{is_some, IsSome, option_map, unwrap_or, vec_items, Ok}
 use Rattle.std.specs.List.{range_with_len}
 use Rattle.std.proofs.lemmas.Bool.{cases_lt}
-use Rattle.std.proofs.lemmas.List.{length-map, get_or-map, get_or_past, get_or-set_same, get_or-set_other, length-set, map_push, map-id, nil_from_length, take_all}
+use Rattle.std.proofs.lemmas.List.{length-map, get_or-map, get_or_past, get_or-set_same, get_or-set_other, length-set, nil_from_length, take_all}
 use Rattle.std.proofs.lemmas.Simd.{map-map}
-use Rattle.std.proofs.lemmas.List.FromFn.{length-range_with_len, length-map-range_with_len, get_or-range_with_len, get_or-map-range_with_len, map-range_with_len_more}
+use Rattle.std.proofs.lemmas.List.FromFn.{get_or-map-range_with_len}
 use Rattle.std.specs.declared.vec.Vec.{Vec}
 use Rattle.std.specs.declared.alloc.Global.{Global}
 use Rattle.rq_standard.specs.declared.row.Row.{Row}
@@ -19,6 +19,8 @@ use Rattle.rq_standard.proofs.ObjectAnswers.{joined_some, joined_each, some_of}
 use Rattle.raptorq.specs.Blocks.{held_of}
 use Rattle.raptorq.specs.Objects.{held_at, answer_at, answer_of}
 use Rattle.raptorq.specs.Refused.{block_refusal}
+use Rattle.raptorq.proofs.Encodes.{at_any}
+use Rattle.raptorq.proofs.Numbered.{length-mapped, mapped_at}
 use Rattle.raptorq.specs.declared.decoder.object.ObjectBlock.{ObjectBlock}
 
 abbrev pub number_of : ObjectBlock → ℕ
@@ -30,15 +32,6 @@ state c items = record { configuration = c; held = held_at c items; answer = ans
 -- what is held of it is of so many symbols as the configuration says
 abbrev pub IsCut : Configuration → Held → Type 0
 IsCut c h = h.symbols ≡ block_symbols c h.number
-
-pub length-blocks : (items : List ObjectBlock) (n : ℕ) → map number_of items ≡ range_with_len 0 n → length items ≡ n
-length-blocks items n numbered = sym (length-map items number_of) ∙ ap length numbered ∙ length-range_with_len 0 n
-
--- a block stands at its number
-pub number_at : (items : List ObjectBlock) (n i : ℕ) (x : ObjectBlock) → map number_of items ≡ range_with_len 0 n → i < n → x ≡ get_or items i x → number_of x ≡ i
-number_at items n i x numbered below is =
-    let long = length-blocks items n numbered in
-    ap number_of is ∙ sym (get_or-map number_of items i x 0 (omega (arith, long))) ∙ ap (λ l. get_or l i 0) numbered ∙ get_or-range_with_len 0 n i 0 below ∙ omega arith
 
 -- what is read of it
 pub held_here : (c : Configuration) (items : List ObjectBlock) (i : ℕ) (x : ObjectBlock) → i < length items → x ≡ get_or items i x → held_at c items i ≡ held_of x.decoder
@@ -128,13 +121,7 @@ join_some c items n x all below within is none = cc (joined_each (answer_at item
 
 -- ---- before any packet
 
-pub mapped_more : {X Y : Type 0} (f : X → Y) (g : ℕ → Y) (n : ℕ) (xs ys : List X) (x : X) → map f xs ≡ map g (range_with_len 0 n) → f x ≡ g n → ys ≡ xs ++ x ∷ [] → map f ys ≡ map g (range_with_len 0 (n + 1))
-mapped_more f g n xs ys x so here grown = ap (map f) grown ∙ map_push f xs x ∙ ap (λ l. l ++ f x ∷ []) so ∙ ap (λ y. map g (range_with_len 0 n) ++ y ∷ []) here ∙ sym (map-range_with_len_more g 0 n n (omega arith))
-
 module _ (table : List Row) (c : Configuration) (items : List ObjectBlock) (held : map (λ b. held_of b.decoder) items ≡ map (new_held table c) (range_with_len 0 c.source_blocks)) where
-  pub new_numbers : map number_of items ≡ range_with_len 0 c.source_blocks
-  new_numbers = sym (map-map (λ h. h.number) (λ b. held_of b.decoder) items) ∙ ap (map (λ h. h.number)) held ∙ map-map (λ h. h.number) (new_held table c) (range_with_len 0 c.source_blocks) ∙ map-id (range_with_len 0 c.source_blocks)
-
   -- each of them is what is held of a new block
   pub new_each : (P : Held → Type 0) → ((n : ℕ) → n < c.source_blocks → P (new_held table c n)) → All (λ b. P (held_of b.decoder)) items
   new_each P each i d below =

@@ -20,7 +20,8 @@ use Rattle.raptorq.specs.Blocks.{held_of}
 use Rattle.raptorq.specs.Objects.{held_at, answer_at, answer_of}
 use Rattle.raptorq.specs.Difference.{ShowsUnanswered, octets_of_column}
 use Rattle.raptorq.specs.declared.decoder.object.ObjectBlock.{ObjectBlock}
-use Rattle.raptorq.proofs.ObjectBlocks.{state, number_of, length-blocks, number_at, held_here}
+use Rattle.raptorq.proofs.Numbered.{length-numbered, number_at}
+use Rattle.raptorq.proofs.ObjectBlocks.{state, number_of, held_here}
 
 -- a block's bytes, by what is held of it
 abbrev block_of : Configuration → List ObjectBlock → (ℕ → Option (List ℕ)) → ℕ → List ℕ
@@ -139,15 +140,15 @@ module _ (c : Configuration) (items : List ObjectBlock) (numbered : map number_o
 
   pub block_is_cut : (b : ℕ) → b < c.source_blocks → (held_at c items b).symbols ≡ block_symbols c b
   block_is_cut b below =
-      let long = length-blocks items c.source_blocks numbered in
+      let long = length-numbered number_of c.source_blocks items numbered in
       let inside : b < length items = omega (arith, long) in
       let found = some_block items b inside in
       let x = found.0 in
-      ap (λ h. h.symbols) (held_here c items b x inside found.1) ∙ ap (λ y. (held_of y.decoder).symbols) found.1 ∙ cut b x inside ∙ ap (λ y. block_symbols c (held_of y.decoder).number) (sym found.1) ∙ ap (block_symbols c) (number_at items c.source_blocks b x numbered below found.1)
+      ap (λ h. h.symbols) (held_here c items b x inside found.1) ∙ ap (λ y. (held_of y.decoder).symbols) found.1 ∙ cut b x inside ∙ ap (λ y. block_symbols c (held_of y.decoder).number) (sym found.1) ∙ ap (block_symbols c) (number_at number_of c.source_blocks items numbered b x below found.1)
 
   pub block_has_row : (b : ℕ) → b < c.source_blocks → HasRow (held_at c items b).row (block_symbols c b)
   block_has_row b below =
-      let long = length-blocks items c.source_blocks numbered in
+      let long = length-numbered number_of c.source_blocks items numbered in
       let inside : b < length items = omega (arith, long) in
       let found = some_block items b inside in
       let x = found.0 in

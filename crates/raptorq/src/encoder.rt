@@ -18,7 +18,6 @@ mod cache;
 mod plan;
 
 use crate::blocks::{block_offsets, block_symbols};
-use crate::sub_blocks::source_symbols;
 pub use block::SourceBlockEncoder;
 pub use builder::EncoderBuilder;
 pub use cache::SourceBlockEncodingPlanCache;
@@ -180,7 +179,7 @@ fn block_encoders(
         plan = plan_for(alloc, table, block_symbols(config, number) as u16, plan)?;
         let (start, end) = offsets[usize::from(number)];
         let bytes = bytes_between(object, start, end);
-        blocks.push(block_encoder(alloc, config, number, bytes, &plan)?)?;
+        blocks.push(SourceBlockEncoder::of_block(alloc, number, config, bytes, &plan)?)?;
     }
     Ok(blocks)
 }
@@ -210,25 +209,4 @@ fn plan_for(
         return Ok(last);
     }
     SourceBlockEncodingPlan::generate(alloc, table, count)
-}
-
-// The encoder of a block, from the object's bytes in it and a plan of its size.
-fn block_encoder(
-    alloc: Global,
-    config: &ObjectTransmissionInformation,
-    number: u8,
-    bytes: &[u8],
-    plan: &SourceBlockEncodingPlan,
-) -> Result<SourceBlockEncoder, Error>
-    requires size { 0 < config.now.symbol_size }
-    requires aligned { IsAligned config.now }
-    requires count { (plan_of plan.now).count ≡ block_symbols config.now number }
-    ensures encoded { IfOk result (λ b. (table : List Row) (object : List ℕ) → (plan_of plan.now).row ≡ block_row table config.now number → bytes.now ≡ bytes_of_block config.now object number
-        → block_encoded_of b ≡ new_block_encoded table config.now object number) }
-    ensures memory { IfErr result (λ e. e ≡ Error.OutOfMemory) }
-{
-    let symbols = u32::from(plan.source_symbol_count());
-    let source = source_symbols(alloc, config, bytes, symbols)?;
-    let size = usize::from(config.symbol_size());
-    SourceBlockEncoder::planned(alloc, number, size, source, plan)
 }

@@ -105,8 +105,9 @@ impl SourceBlockEncoder {
         SourceBlockEncoder::of_block(alloc, source_block_number, config, block, plan)
     }
 
-    // The encoder of whole symbols, by a plan for as many.
-    fn of_block(
+    /// The encoder of these bytes in as many symbols as a plan is for. The bytes may end before the
+    /// last symbol does: the rest are zeros.
+    pub(crate) fn of_block(
         alloc: Global,
         number: u8,
         config: &ObjectTransmissionInformation,

@@ -8,8 +8,9 @@ use Rattle.rq_standard.specs.TableRows.{row_of}
 use Rattle.rq_standard.proofs.BlockCuts.{block_symbols_few}
 use Rattle.raptorq.specs.BlockEncoded.{block_encoded_of, new_block_encoded}
 use Rattle.raptorq.specs.Offsets.{block_range}
-use Rattle.raptorq.proofs.EncodedBlocks.{refuses_plan, refuses_block, bytes_in_range}
-use Rattle.raptorq.proofs.ObjectBlocks.{mapped_more}
+use Rattle.raptorq.specs.Plans.{plan_of}
+use Rattle.raptorq.proofs.EncodedBlocks.{refuses_plan, refuses_block, bytes_in_range, encoded_is}
+use Rattle.raptorq.proofs.Numbered.{mapped_more}
 use Rattle.raptorq.proofs.encoder.block_encoders.Goals as goal
 
 pub overflow_cast-block_symbols : goal.overflow_cast-block_symbols
@@ -65,7 +66,8 @@ loop-number-preserved c =
     let plan = c.in_ok-plan-2.ensures.plan in
     let row = plan.1 ∙ ap (row_of table) c.block_symbols-in-loop-number.ensures in
     record {
-      encoded = mapped_more block_encoded_of (new_block_encoded table k object) n c.loop-number.blocks.items c.push.new.self.items c.in_ok-block_encoder.field-0 kept.encoded (c.in_ok-block_encoder.ensures.encoded table object row bytes) c.in_ok-push.ensures.items;
+      encoded = mapped_more block_encoded_of (new_block_encoded table k object) n c.loop-number.blocks.items c.push.new.self.items c.in_ok-of_block.field-0 kept.encoded
+          (encoded_is table k object c.bytes_between-bytes.result.now n (plan_of c.in_ok-plan-2.plan).count (block_encoded_of c.in_ok-of_block.field-0) (plan_of c.in_ok-plan-2.plan).row c.in_ok-of_block.ensures.encoded row (plan.0 ∙ c.block_symbols-in-loop-number.ensures) bytes) c.in_ok-push.ensures.items;
       plan = plan.1 ∙ ap (row_of table) (sym plan.0);
       nonsingular = below_more (λ b. IsNonsingular (block_row table k b)) n kept.nonsingular (subst (λ m. IsNonsingular (row_of table m)) c.block_symbols-in-loop-number.ensures c.in_ok-plan-2.ensures.nonsingular);
     }

@@ -2,7 +2,8 @@ use Rattle.std.proofs.Common.{ap, ◌∙◌, map}
 use Rattle.std.proofs.lemmas.List.{length-map}
 use Rattle.raptorq.specs.BlockEncoded.{block_encoded_of}
 use Rattle.raptorq.specs.Encoded.{no_block}
-use Rattle.raptorq.proofs.EncodedBlocks.{by_places, length-encoders}
+use Rattle.raptorq.proofs.EncodedBlocks.{number_of, by_places}
+use Rattle.raptorq.proofs.Numbered.{length-numbered}
 use Rattle.raptorq.proofs.encoder.Encoder.get_block_encoders.Goals as goal
 
 pub returns : goal.returns
@@ -10,4 +11,4 @@ returns c =
     let s = c.args.self.now in
     let items = s.blocks.items in
     ap (map block_encoded_of) c.as_slice.ensures.value
-    ∙ by_places (map block_encoded_of items) (λ b. no_block b s.config.symbol_size) s.config.source_blocks (length-map items block_encoded_of ∙ length-encoders items s.config.source_blocks s.numbered)
+    ∙ by_places (map block_encoded_of items) (λ b. no_block b s.config.symbol_size) s.config.source_blocks (length-map items block_encoded_of ∙ length-numbered number_of s.config.source_blocks items s.numbered)

@@ -2,10 +2,12 @@ use Rattle.std.proofs.Common.{◌≡◌, ◌+◌, ◌-◌, ◌<◌, ◌++◌, le
 use Rattle.std.proofs.lemmas.List.{map-id}
 use Rattle.std.specs.declared.alloc.AllocError.{AllocError}
 use Rattle.std.proofs.lemmas.Iterator.Adapters.{YieldsList-from_vec, fact_from_extend}
+use Rattle.rq_standard.specs.Cutting.{block_symbols}
 use Rattle.rq_standard.proofs.BlockCuts.{first_is_largest}
 use Rattle.raptorq.specs.BlockEncoded.{block_encoded_of}
 use Rattle.raptorq.specs.Encoded.{encoded_of}
-use Rattle.raptorq.proofs.EncodedBlocks.{encoded_more, encoded_all, number_at, count_at, block_at, length-encoders}
+use Rattle.raptorq.proofs.EncodedBlocks.{number_of, count_of, encoded_more, encoded_all, block_at}
+use Rattle.raptorq.proofs.Numbered.{length-numbered, mapped_at, number_at}
 use Rattle.raptorq.proofs.encoder.Encoder.get_encoded_packets.Goals as goal
 
 abbrev ok_of : Unit {0} → Result (Unit {0}) AllocError
@@ -20,8 +22,8 @@ packets-requires-clause-ids c =
     let same = c.deref-block-items.ensures.value in
     let below : n < length items = omega (arith, ap length same, c.loop-block-test.true) in
     let is : x ≡ get_or items n x = c.block-item.is ∙ ap (λ l. get_or l n x) same in
-    let within : n < s.config.source_blocks = omega (arith, below, length-encoders items s.config.source_blocks s.numbered) in
-    omega (arith, c.symbols.ensures, count_at s.config items n x below is within s.counted, first_is_largest s.config n within, c.block_symbols.ensures, c.if-largest-from.false, c.from-largest.ensures, c.from.ensures)
+    let within : n < s.config.source_blocks = omega (arith, below, length-numbered number_of s.config.source_blocks items s.numbered) in
+    omega (arith, c.symbols.ensures, mapped_at count_of (block_symbols s.config) s.config.source_blocks items s.counted n x within is, first_is_largest s.config n within, c.block_symbols.ensures, c.if-largest-from.false, c.from-largest.ensures, c.from.ensures)
 
 pub loop-block-preserved : goal.loop-block-preserved
 loop-block-preserved c =
@@ -32,16 +34,16 @@ loop-block-preserved c =
     let same = c.deref-block-items.ensures.value in
     let below : n < length items = omega (arith, ap length same, c.loop-block-test.true) in
     let is : x ≡ get_or items n x = c.block-item.is ∙ ap (λ l. get_or l n x) same in
-    let within : n < s.config.source_blocks = omega (arith, below, length-encoders items s.config.source_blocks s.numbered) in
-    let count = count_at s.config items n x below is within s.counted in
+    let within : n < s.config.source_blocks = omega (arith, below, length-numbered number_of s.config.source_blocks items s.numbered) in
+    let count = mapped_at count_of (block_symbols s.config) s.config.source_blocks items s.counted n x within is in
     let more = c.in_ok-packets.field-0.items in
     let grown : c.extend.new.self.items ≡ c.loop-block.packets.items ++ more = fact_from_extend (λ p. p) (ok_of c.in_ok-extend.field-0) c.in_ok-extend.ensures.ran (λ it made. YieldsList-from_vec more made.0 (made.1 ∙ c.in_ok-packets.field-0.ok.0))
     (λ xs are grows. grows.0 ∙ ap (λ l. c.loop-block.packets.items ++ l) (sym (map-id xs) ∙ are)) in
     encoded_more (encoded_of s) c.args.repair_packets_per_block n (c.symbols.result + c.args.repair_packets_per_block - 0) (block_encoded_of x) c.loop-block.packets.items more c.extend.new.self.items within
-    (block_at s.config items n x below is) (number_at items s.config.source_blocks n x below is within s.numbered) count (omega (arith, c.symbols.ensures)) c.loop-block.invariant c.in_ok-packets.ensures.packets grown
+    (block_at s.config items n x below is) (number_at number_of s.config.source_blocks items s.numbered n x within is) count (omega (arith, c.symbols.ensures)) c.loop-block.invariant c.in_ok-packets.ensures.packets grown
 
 pub returns-clause-packets : goal.returns-clause-packets
 returns-clause-packets c =
     let s = c.args.self.now in
     encoded_all (encoded_of s) c.args.repair_packets_per_block c.loop-block.block-index c.loop-block.packets.items
-    (omega (arith, c.loop-block-test.false, c.loop-block.auto.block-index-end, ap length c.deref-block-items.ensures.value, length-encoders s.blocks.items s.config.source_blocks s.numbered)) c.loop-block.invariant
+    (omega (arith, c.loop-block-test.false, c.loop-block.auto.block-index-end, ap length c.deref-block-items.ensures.value, length-numbered number_of s.config.source_blocks s.blocks.items s.numbered)) c.loop-block.invariant

@@ -1,10 +1,10 @@
-use Rattle.std.proofs.Common.{◌≡◌, length, map, sym, ◌∙◌}
-use Rattle.std.proofs.lemmas.Simd.{map-map}
+use Rattle.std.proofs.Common.{◌≡◌, length, refl, sym, ◌∙◌}
 use Rattle.std.proofs.lemmas.Result.{err_from_is_err_and}
 use Rattle.rq_standard.specs.TableRows.{greatest_size}
-use Rattle.raptorq.specs.BlockEncoded.{block_encoded_of}
+use Rattle.raptorq.specs.BlockEncoded.{block_encoded_of, new_block_encoded}
 use Rattle.raptorq.specs.Encoded.{no_block}
-use Rattle.raptorq.proofs.EncodedBlocks.{new_encoder-taken, refuses_singular, new_numbers, new_counts, new_block}
+use Rattle.raptorq.proofs.EncodedBlocks.{new_encoder-taken, refuses_singular, new_counts, new_block}
+use Rattle.raptorq.proofs.Numbered.{new_numbers}
 use Rattle.raptorq.proofs.encoder.Encoder.new.Goals as goal
 
 pub returns-in_err-blocks-clause-refused : goal.returns-in_err-blocks-clause-refused
@@ -24,8 +24,8 @@ invariant_of-result c =
       positive = c.in_ok-check.ensures.accepted.size_positive;
       few = c.in_ok-check.ensures.few;
       some = c.in_ok-check.ensures.accepted.blocks_positive;
-      numbered = sym (map-map (λ b. b.number) block_encoded_of items) ∙ new_numbers c.args.table.now k c.args.object.now (map block_encoded_of items) encoded;
-      counted = sym (map-map (λ b. length b.source) block_encoded_of items) ∙ new_counts c.args.table.now k c.args.object.now (map block_encoded_of items) encoded;
+      numbered = new_numbers block_encoded_of (new_block_encoded c.args.table.now k c.args.object.now) k.source_blocks items encoded (λ b. b.number) (λ b. refl);
+      counted = new_counts c.args.table.now k c.args.object.now items encoded;
     }
 
 pub returns-clause-encoder : goal.returns-clause-encoder
@@ -33,5 +33,5 @@ returns-clause-encoder c =
     let k = c.args.config in
     record {
       long = c.if-object-transfer_length.false ∙ c.transfer_length.ensures.value;
-      block = λ b below. new_block c.args.table.now k c.args.object.now (map block_encoded_of c.in_ok-blocks.blocks.items) c.in_ok-blocks.ensures.encoded b below (no_block b k.symbol_size);
+      block = λ b below. new_block c.args.table.now k c.args.object.now c.in_ok-blocks.blocks.items c.in_ok-blocks.ensures.encoded b below (no_block b k.symbol_size);
     }

@@ -7,7 +7,8 @@ use Rattle.raptorq.specs.Blocks.{held_of}
 use Rattle.raptorq.specs.Difference.{ShowsUnanswered, octets_of_column}
 use Rattle.raptorq.specs.Objects.{state_of, held_at, answer_at, answer_of}
 use Rattle.raptorq.specs.declared.decoder.object.Decoder.{Decoder}
-use Rattle.raptorq.proofs.ObjectBlocks.{length-blocks, held_here, answer_here}
+use Rattle.raptorq.proofs.Numbered.{length-numbered}
+use Rattle.raptorq.proofs.ObjectBlocks.{number_of, held_here, answer_here}
 use Rattle.raptorq.proofs.Witnesses.{DifferenceSoFar, nothing_found, one_found, all_determined, some_undetermined, difference_found, block_has_row, block_is_cut}
 use Rattle.raptorq.proofs.decoder.object.Decoder.difference.Goals as goal
 
@@ -42,7 +43,7 @@ loop-block-preserved c =
     let same = c.deref-block-items.ensures.value in
     let below : n < length items = omega (arith, ap length same, c.loop-block-test.true) in
     let is : x ≡ get_or items n x = c.block-item.is ∙ ap (λ l. get_or l n x) same in
-    let in_object : n < s.config.source_blocks = omega (arith, below, length-blocks items s.config.source_blocks s.numbered) in
+    let in_object : n < s.config.source_blocks = omega (arith, below, length-numbered number_of s.config.source_blocks items s.numbered) in
     let held = held_here s.config items n x below is in
     let column = option_map vec_items c.in_ok-column.column in
     let shows : ShowsUnanswered (held_at s.config items n) (answer_at items n) column =
@@ -57,24 +58,24 @@ loop-block-preserved c =
 pub returns-then-determined-clause-exactly : goal.returns-then-determined-clause-exactly
 returns-then-determined-clause-exactly c =
     let s = c.args.self.now in
-    let all : c.loop-block.block-index ≡ s.config.source_blocks = omega (arith, c.loop-block-test.false, c.loop-block.auto.block-index-end, ap length c.deref-block-items.ensures.value, length-blocks s.blocks.items s.config.source_blocks s.numbered) in
+    let all : c.loop-block.block-index ≡ s.config.source_blocks = omega (arith, c.loop-block-test.false, c.loop-block.auto.block-index-end, ap length c.deref-block-items.ensures.value, length-numbered number_of s.config.source_blocks s.blocks.items s.numbered) in
     (λ _. all_determined s.config s.blocks.items c.loop-block.bytes.items (whole s c.loop-block.block-index true c.loop-block.bytes.items all (subst (λ t. DifferenceSoFar s.config s.blocks.items c.loop-block.block-index t c.loop-block.bytes.items) c.if-determined.true c.loop-block.invariant)), λ _. refl)
 
 pub returns-clause-exactly : goal.returns-clause-exactly
 returns-clause-exactly c =
     let s = c.args.self.now in
-    let all : c.loop-block.block-index ≡ s.config.source_blocks = omega (arith, c.loop-block-test.false, c.loop-block.auto.block-index-end, ap length c.deref-block-items.ensures.value, length-blocks s.blocks.items s.config.source_blocks s.numbered) in
+    let all : c.loop-block.block-index ≡ s.config.source_blocks = omega (arith, c.loop-block-test.false, c.loop-block.auto.block-index-end, ap length c.deref-block-items.ensures.value, length-numbered number_of s.config.source_blocks s.blocks.items s.numbered) in
     (λ none. absurd (cc none), λ determined. absurd (some_undetermined s.config s.blocks.items c.loop-block.bytes.items (whole s c.loop-block.block-index false c.loop-block.bytes.items all (subst (λ t. DifferenceSoFar s.config s.blocks.items c.loop-block.block-index t c.loop-block.bytes.items) c.if-determined.false c.loop-block.invariant)) determined))
 
 pub returns-clause-bytes : goal.returns-clause-bytes
 returns-clause-bytes c =
     let s = c.args.self.now in
-    let all : c.loop-block.block-index ≡ s.config.source_blocks = omega (arith, c.loop-block-test.false, c.loop-block.auto.block-index-end, ap length c.deref-block-items.ensures.value, length-blocks s.blocks.items s.config.source_blocks s.numbered) in
+    let all : c.loop-block.block-index ≡ s.config.source_blocks = omega (arith, c.loop-block-test.false, c.loop-block.auto.block-index-end, ap length c.deref-block-items.ensures.value, length-numbered number_of s.config.source_blocks s.blocks.items s.numbered) in
     found s c.loop-block.bytes.items c.truncate.new.self.items c.loop-block.block-index c.loop-block.determined all c.if-determined.false c.loop-block.invariant (c.truncate.ensures.items ∙ ap (λ n. take n c.loop-block.bytes.items) c.transfer_length.ensures.value)
 
 pub returns-clause-fits : goal.returns-clause-fits
 returns-clause-fits c =
     let s = c.args.self.now in
-    let all : c.loop-block.block-index ≡ s.config.source_blocks = omega (arith, c.loop-block-test.false, c.loop-block.auto.block-index-end, ap length c.deref-block-items.ensures.value, length-blocks s.blocks.items s.config.source_blocks s.numbered) in
+    let all : c.loop-block.block-index ≡ s.config.source_blocks = omega (arith, c.loop-block-test.false, c.loop-block.auto.block-index-end, ap length c.deref-block-items.ensures.value, length-numbered number_of s.config.source_blocks s.blocks.items s.numbered) in
     makes_others_fit (state_of s) s.positive s.some s.aligned c.truncate.new.self.items
         (found s c.loop-block.bytes.items c.truncate.new.self.items c.loop-block.block-index c.loop-block.determined all c.if-determined.false c.loop-block.invariant (c.truncate.ensures.items ∙ ap (λ n. take n c.loop-block.bytes.items) c.transfer_length.ensures.value))

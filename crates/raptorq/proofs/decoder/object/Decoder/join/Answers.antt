@@ -2,7 +2,8 @@ use Rattle.std.proofs.Common.{◌≡◌, ◌<◌, ◌++◌, take, Some, ap, ◌�
 use Rattle.std.specs.Prelude.{option_map, vec_items}
 use Rattle.rq_standard.specs.Standing.{joined}
 use Rattle.raptorq.specs.Objects.{answer_at}
-use Rattle.raptorq.proofs.ObjectBlocks.{length-blocks, join_next, join_some, none_otherwise}
+use Rattle.raptorq.proofs.Numbered.{length-numbered}
+use Rattle.raptorq.proofs.ObjectBlocks.{number_of, join_next, join_some, none_otherwise}
 use Rattle.raptorq.proofs.decoder.object.Decoder.join.Goals.{in-Some+in_ok-extend_from_slice, in_default}
 use Rattle.raptorq.proofs.decoder.object.Decoder.join.Goals as goal
 
@@ -17,13 +18,13 @@ loop-block-preserved c =
     elim c.match-block.branch [
       | in-Some+in_ok-extend_from_slice w ↦ join_next items n x c.loop-block.object.items w.in-Some.bytes.items c.match-block.object.items below is (ap (option_map vec_items) w.in-Some.is) c.loop-block.invariant
           (ap (λ o. o.items) w.object-is ∙ w.in_ok-extend_from_slice.ensures.items ∙ ap (λ l. c.loop-block.object.items ++ l) w.as_slice.ensures.value)
-      | in_default w ↦ absurd (join_some c.args.self.now.config items n x c.requires (omega (arith, below, length-blocks items c.args.self.now.config.source_blocks c.args.self.now.numbered)) below is (none_otherwise x.answer (λ v e. w.in_default.not-Some v e)))
+      | in_default w ↦ absurd (join_some c.args.self.now.config items n x c.requires (omega (arith, below, length-numbered number_of c.args.self.now.config.source_blocks items c.args.self.now.numbered)) below is (none_otherwise x.answer (λ v e. w.in_default.not-Some v e)))
     ]
 
 pub returns : goal.returns
 returns c =
     let items = c.args.self.now.blocks.items in
     let k = c.args.self.now.config in
-    let all : c.loop-block.block-index ≡ k.source_blocks = omega (arith, c.loop-block-test.false, c.loop-block.auto.block-index-end, ap length c.deref-block-items.ensures.value, length-blocks items k.source_blocks c.args.self.now.numbered) in
+    let all : c.loop-block.block-index ≡ k.source_blocks = omega (arith, c.loop-block-test.false, c.loop-block.auto.block-index-end, ap length c.deref-block-items.ensures.value, length-numbered number_of k.source_blocks items c.args.self.now.numbered) in
     let joined_all : Some c.loop-block.object.items ≡ joined k.source_blocks (answer_at items) = c.loop-block.invariant ∙ ap (λ n. joined n (answer_at items)) all in
     ap (λ xs. Some xs) (c.truncate.ensures.items ∙ ap (λ n. take n c.loop-block.object.items) c.transfer_length-2.ensures.value) ∙ ap (option_map (take k.transfer_length)) joined_all

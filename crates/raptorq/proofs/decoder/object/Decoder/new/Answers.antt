@@ -1,11 +1,12 @@
-use Rattle.std.proofs.Common.{◌≡◌, ◌<◌, map, refl, sym, ap, ◌∙◌, subst, arith}
+use Rattle.std.proofs.Common.{◌≡◌, map, refl, ap, ◌∙◌, arith}
 use Rattle.std.specs.List.{range_with_len}
 use borrow.Author.Count.{below_more}
 use Rattle.rq_standard.specs.Standing.{IsHeldOf, new_held, new_answer}
 use Rattle.rq_standard.proofs.Standing.{stands_new}
 use Rattle.raptorq.specs.Blocks.{held_of}
 use Rattle.raptorq.specs.Objects.{answer_of}
-use Rattle.raptorq.proofs.ObjectBlocks.{state, mapped_more, new_numbers, new_each, IsCut, new_state}
+use Rattle.raptorq.proofs.Numbered.{mapped_more, new_numbers}
+use Rattle.raptorq.proofs.ObjectBlocks.{state, new_each, IsCut, new_state}
 use Rattle.raptorq.proofs.decoder.object.Decoder.new.Goals as goal
 
 pub loop-number-preserved : goal.loop-number-preserved
@@ -31,7 +32,7 @@ invariant_of-result c =
       positive = accepted.size_positive;
       aligned = record { alignment_positive = accepted.alignment_positive; aligned = accepted.aligned };
       some = accepted.blocks_positive;
-      numbered = new_numbers table k c.loop-number.blocks.items held;
+      numbered = new_numbers (λ b. held_of b.decoder) (new_held table k) k.source_blocks c.loop-number.blocks.items held (λ h. h.number) (λ b. refl);
       same = new_each table k c.loop-number.blocks.items held (λ h. h.configuration ≡ k) (λ n below. refl);
       cut = new_each table k c.loop-number.blocks.items held (IsCut k) (λ n below. refl);
     }

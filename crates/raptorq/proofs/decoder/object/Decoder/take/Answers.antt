@@ -7,7 +7,8 @@ use Rattle.rq_bytes.specs.declared.error.Error.TheVariants.{OutOfMemory}
 use Rattle.rq_standard.specs.Cutting.{block_symbols}
 use Rattle.rq_standard.specs.Standing.{Adds, Stops}
 use Rattle.raptorq.specs.Blocks.{held_of}
-use Rattle.raptorq.proofs.ObjectBlocks.{state, length-blocks, number_at, number_of, block_takes, IsCut, adds_at, stops_at}
+use Rattle.raptorq.proofs.Numbered.{length-numbered, number_at}
+use Rattle.raptorq.proofs.ObjectBlocks.{state, number_of, block_takes, IsCut, adds_at, stops_at}
 use Rattle.raptorq.proofs.decoder.object.Decoder.take.Goals as goal
 
 stops_of : {X E P Q : Type 0} (m : E) (r : Result X E) → (P → Q) → OnErr r P → IfErr r (λ e. e ≡ m → Q)
@@ -20,7 +21,7 @@ index_mut-requires c =
     let items = s.blocks.items in
     let p = c.args.packet in
     let here : c.from-2.result ≡ p.id.block = c.from-2.ensures ∙ c.source_block_number-number.ensures ∙ ap (λ i. i.block) c.payload_id.ensures in
-    let count = length-blocks items s.config.source_blocks s.numbered in
+    let count = length-numbered number_of s.config.source_blocks items s.numbered in
     let below : p.id.block < length items = omega (arith, sym here, c.from-2.ensures, c.if-number-source_blocks.false, c.source_blocks.ensures, count) in
     omega (arith, here, below, s.blocks.ok.0)
 
@@ -30,11 +31,11 @@ take-requires c =
     let items = s.blocks.items in
     let p = c.args.packet in
     let here : c.from-2.result ≡ p.id.block = c.from-2.ensures ∙ c.source_block_number-number.ensures ∙ ap (λ i. i.block) c.payload_id.ensures in
-    let count = length-blocks items s.config.source_blocks s.numbered in
+    let count = length-numbered number_of s.config.source_blocks items s.numbered in
     let below : p.id.block < length items = omega (arith, sym here, c.from-2.ensures, c.if-number-source_blocks.false, c.source_blocks.ensures, count) in
     let x = c.index_mut.result.now in
     let is : x ≡ get_or items p.id.block x = c.index_mut.ensures.value ∙ ap (λ i. get_or items i x) here in
-    block_takes s.config (held_of x.decoder) p (ap (λ b. (held_of b.decoder).configuration) is ∙ s.same p.id.block x below) (number_at items s.config.source_blocks p.id.block x s.numbered (omega (arith, below, count)) is)
+    block_takes s.config (held_of x.decoder) p (ap (λ b. (held_of b.decoder).configuration) is ∙ s.same p.id.block x below) (number_at number_of s.config.source_blocks items s.numbered p.id.block x (omega (arith, below, count)) is)
     (sym (ap length c.data.ensures) ∙ c.if-data-from.false ∙ c.from.ensures ∙ c.symbol_size.ensures)
 
 pub invariant_of-self : goal.invariant_of-self
@@ -43,7 +44,7 @@ invariant_of-self c =
     let items = s.blocks.items in
     let p = c.args.packet in
     let here : c.from-2.result ≡ p.id.block = c.from-2.ensures ∙ c.source_block_number-number.ensures ∙ ap (λ i. i.block) c.payload_id.ensures in
-    let count = length-blocks items s.config.source_blocks s.numbered in
+    let count = length-numbered number_of s.config.source_blocks items s.numbered in
     let below : p.id.block < length items = omega (arith, sym here, c.from-2.ensures, c.if-number-source_blocks.false, c.source_blocks.ensures, count) in
     let x = c.index_mut.result.now in
     let is : x ≡ get_or items p.id.block x = c.index_mut.ensures.value ∙ ap (λ i. get_or items i x) here in
@@ -63,7 +64,7 @@ returns-clause-adds c =
     let items = s.blocks.items in
     let p = c.args.packet in
     let here : c.from-2.result ≡ p.id.block = c.from-2.ensures ∙ c.source_block_number-number.ensures ∙ ap (λ i. i.block) c.payload_id.ensures in
-    let count = length-blocks items s.config.source_blocks s.numbered in
+    let count = length-numbered number_of s.config.source_blocks items s.numbered in
     let below : p.id.block < length items = omega (arith, sym here, c.from-2.ensures, c.if-number-source_blocks.false, c.source_blocks.ensures, count) in
     let x = c.index_mut.result.now in
     let is : x ≡ get_or items p.id.block x = c.index_mut.ensures.value ∙ ap (λ i. get_or items i x) here in
@@ -76,7 +77,7 @@ returns-clause-stops c =
     let items = s.blocks.items in
     let p = c.args.packet in
     let here : c.from-2.result ≡ p.id.block = c.from-2.ensures ∙ c.source_block_number-number.ensures ∙ ap (λ i. i.block) c.payload_id.ensures in
-    let count = length-blocks items s.config.source_blocks s.numbered in
+    let count = length-numbered number_of s.config.source_blocks items s.numbered in
     let below : p.id.block < length items = omega (arith, sym here, c.from-2.ensures, c.if-number-source_blocks.false, c.source_blocks.ensures, count) in
     let x = c.index_mut.result.now in
     let is : x ≡ get_or items p.id.block x = c.index_mut.ensures.value ∙ ap (λ i. get_or items i x) here in
