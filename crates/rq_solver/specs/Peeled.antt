@@ -56,6 +56,10 @@ pub record IsActive (state : ColumnState) (column : ℕ) : Type 0 where
   pub from : state.pivots ≤ at state.places column
   pub below : at state.places column < state.end
 
+-- none of a row's columns is active
+abbrev pub HasNoActive : List ℕ → ColumnState → Type 0
+HasNoActive row state = (k : ℕ) → Contains row k → IsActive state k → ⊥
+
 -- so many columns in their own order, those from `end` on frozen
 abbrev pub first_columns : ℕ → ℕ → ColumnState
 first_columns width end = record { order = range_with_len 0 width; places = range_with_len 0 width; pivots = 0; end = end }
@@ -80,7 +84,7 @@ pub record FreezesRow (row : List ℕ) (old new : ColumnState) : Type 0 where
   pub pivots : new.pivots ≡ old.pivots
   pub before : (p : ℕ) → p < old.pivots → at new.order p ≡ at old.order p
   pub left : (k : ℕ) → k < length old.order → IsActive new k → IsActive old k
-  pub ended : (k : ℕ) → Contains row k → IsActive new k → ⊥
+  pub ended : HasNoActive row new
 
 -- A row has the next pivot, in one of its columns that were active. None of its columns is active any more.
 pub record TakesRow (row : List ℕ) (old new : ColumnState) : Type 0 where
@@ -90,7 +94,7 @@ pub record TakesRow (row : List ℕ) (old new : ColumnState) : Type 0 where
   pub was : IsActive old (at new.order old.pivots)
   pub before : (p : ℕ) → p < old.pivots → at new.order p ≡ at old.order p
   pub left : (k : ℕ) → k < length old.order → IsActive new k → IsActive old k
-  pub ended : (k : ℕ) → Contains row k → IsActive new k → ⊥
+  pub ended : HasNoActive row new
 
 -- so many rows and columns
 pub record Size : Type 0 where
