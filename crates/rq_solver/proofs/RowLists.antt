@@ -1,5 +1,5 @@
 -- Lists that follow one another in one list, each the places of a row's ones.
-use Rattle.std.proofs.Common.{refl, ◌≡◌, ◌≢◌, ℕ, suc, ◌+◌, ◌-◌, ◌<◌, ◌≤◌, cond, List, [], ◌∷◌, ◌++◌, All, length, map, filter, take, drop, sym, ap, subst, ◌∙◌, arith, inl, inr, zero-add, add-zero}
+use Rattle.std.proofs.Common.{refl, ◌≡◌, ◌≢◌, ℕ, suc, ◌+◌, ◌-◌, ◌<◌, ◌≤◌, cond, List, [], ◌∷◌, ◌++◌, All, length, map, filter, take, drop, sym, ap, subst, ◌∙◌, arith, inl, inr, zero-add, add-zero, append_assoc}
 use Rattle.std.specs.Prelude.{◌==◌, count_by, slice_index, slice_range}
 use Rattle.std.proofs.lemmas.Bool.{cases_lt}
 use Rattle.std.proofs.lemmas.Bool.Decides.{eqb_tells}
@@ -80,12 +80,14 @@ places_together bit start middle end xs ys low high first second = record {
       ];
 }
 
--- the list behind others
-pub adds_ones : (bit : ℕ → ℕ) (width : ℕ) (old places new : List ℕ) → new ≡ old ++ places → ArePlacesOfOnes bit 0 width places → AddsOnes bit width old new
-adds_ones bit width old places new is ones = record {
-  kept = ap (take (length old)) is ∙ take-append_seam old places;
-  ones = subst (ArePlacesOfOnes bit 0 width) (sym (ap (drop (length old)) is ∙ drop-append_seam old places)) ones;
-}
+-- the places of two parts of a row behind a list, the second those of a slice
+pub adds_ones : (bit : ℕ → ℕ) (width : ℕ) (old first second slice middle new : List ℕ) → middle ≡ old ++ first → new ≡ middle ++ slice → slice ≡ second → ArePlacesOfOnes bit 0 width (first ++ second) → AddsOnes bit width old new
+adds_ones bit width old first second slice middle new is_middle is_new is_slice ones =
+    let is : new ≡ old ++ (first ++ second) = is_new ∙ ap (λ l. middle ++ l) is_slice ∙ ap (λ l. l ++ second) is_middle ∙ append_assoc old first second in
+    record {
+      kept = ap (take (length old)) is ∙ take-append_seam old (first ++ second);
+      ones = subst (ArePlacesOfOnes bit 0 width) (sym (ap (drop (length old)) is ∙ drop-append_seam old (first ++ second))) ones;
+    }
 
 -- ---- one more list
 
