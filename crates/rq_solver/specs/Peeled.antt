@@ -1,15 +1,22 @@
 -- Columns that have pivots among rows of bits while no row is changed.
-use Rattle.std.specs.Prelude.{◌≡◌, ◌≢◌, ℕ, ◌+◌, ◌<◌, ◌≤◌, Option, List, [], All, Contains, length, take, drop, slice_index_or}
+use Rattle.std.specs.Prelude.{◌≡◌, ◌≢◌, ℕ, ◌+◌, ◌-◌, ◌<◌, ◌≤◌, Option, List, [], All, Contains, length, take, drop, slice_index_or}
 use Rattle.std.specs.List.{range_with_len}
 use Rattle.std.specs.Option.{ForSome}
 use Rattle.rq_algebra.specs.Arrangements.{ArePlaces, exchange}
 use Rattle.rq_algebra.specs.Systems.{at}
 use Rattle.rq_standard.specs.BitTableSteps.{ArePlacesOfOnes}
+use Rattle.rq_parts.specs.Lists.{AreStarts}
 use Rattle.rq_solver.specs.declared.pi_solver.links.Link.{Link}
 
 -- the columns in which row i has its ones
 abbrev pub ones_at : List (List ℕ) → ℕ → List ℕ
 ones_at lists i = slice_index_or lists i []
+
+-- the lists between starts are all of the values
+pub record AreAllBetween (starts values : List ℕ) : Type 0 where
+  pub rise : AreStarts starts (length values)
+  pub first : at starts 0 ≡ 0
+  pub last : at starts (length starts - 1) ≡ length values
 
 -- for each row of bits the columns of its ones, each once
 pub record AreOnesOfRows (height width : ℕ) (bit : ℕ → ℕ → ℕ) (lists : List (List ℕ)) : Type 0 where
