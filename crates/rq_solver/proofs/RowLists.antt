@@ -1,9 +1,11 @@
 -- Lists that follow one another in one list, each the places of a row's ones.
-use Rattle.std.proofs.Common.{refl, ◌≡◌, ◌≢◌, ℕ, suc, ◌+◌, ◌-◌, ◌<◌, ◌≤◌, cond, List, [], ◌∷◌, ◌++◌, All, length, map, filter, take, drop, sym, ap, subst, ◌∙◌, arith, inl, inr, zero-add, add-zero}
+use Rattle.std.proofs.Common.{refl, ◌≡◌, ◌≢◌, ℕ, zero, suc, ◌+◌, ◌-◌, ◌<◌, ◌≤◌, cond, List, [], ◌∷◌, ◌++◌, All, length, map, filter, take, drop, sym, ap, subst, ◌∙◌, arith, inl, inr, zero-add, add-zero, append_assoc}
 use Rattle.std.specs.Prelude.{◌==◌, count_by, slice_index, slice_range}
 use Rattle.std.proofs.lemmas.Bool.{cases_lt}
 use Rattle.std.proofs.lemmas.Bool.Decides.{eqb_tells}
-use Rattle.std.proofs.lemmas.List.{length-append, length-drop, take-append-le, drop-append-le, take-append-drop, take_rest}
+use Rattle.std.proofs.lemmas.List.{length-append, length-drop, take-append-le, drop-append-le, take-append-drop, take_rest, length-take-le}
+use Rattle.std.proofs.lemmas.List.FromFn.{sum_by-map-range_with_len_more}
+use Rattle.std.specs.List.{range_with_len, sum_by}
 use Rattle.std.proofs.lemmas.List.Elements.{All-append, All-map, All-filter}
 use Rattle.std.proofs.lemmas.List.Sums.{sum_by-cons, sum_by-append}
 use Rattle.std.proofs.Math.Seq.{take-append_seam, drop-append_seam, get_or-append_seam}
@@ -11,9 +13,9 @@ use Rattle.std.proofs.Math.ListN.{get_or-append}
 use Rattle.rq_standard.specs.BitTableSteps.{ArePlacesOfOnes, AreOnesOf, IsPlaceAndBit}
 use Rattle.rq_standard.specs.BitTableSteps as steps
 use Rattle.rq_standard.specs.BitTableLaws.{is_one_at-one, is_one_at-zero, is_one_at-other, ones_at-cons}
-use Rattle.rq_parts.specs.Lists.{AreStarts, lists_between}
+use Rattle.rq_parts.specs.Lists.{lists_between}
 use Rattle.rq_parts.proofs.KeyedLists.{list_read, length-lists}
-use Rattle.rq_solver.specs.Peeled.{ones_at, AreOnesOfRows, AddsOnes}
+use Rattle.rq_solver.specs.Peeled.{ones_at, AreOnesOfRows, AddsOnes, AreAllBetween}
 
 -- ---- the places of a row's ones
 
@@ -80,23 +82,21 @@ places_together bit start middle end xs ys low high first second = record {
       ];
 }
 
--- the list behind others
-pub adds_ones : (bit : ℕ → ℕ) (width : ℕ) (old places new : List ℕ) → new ≡ old ++ places → ArePlacesOfOnes bit 0 width places → AddsOnes bit width old new
-adds_ones bit width old places new is ones = record {
-  kept = ap (take (length old)) is ∙ take-append_seam old places;
-  ones = subst (ArePlacesOfOnes bit 0 width) (sym (ap (drop (length old)) is ∙ drop-append_seam old places)) ones;
-}
+-- the places of two parts of a row behind a list, the second those of a slice
+pub adds_ones : (bit : ℕ → ℕ) (width : ℕ) (old first second slice middle new : List ℕ) → middle ≡ old ++ first → new ≡ middle ++ slice → slice ≡ second → ArePlacesOfOnes bit 0 width (first ++ second) → AddsOnes bit width old new
+adds_ones bit width old first second slice middle new is_middle is_new is_slice ones =
+    let is : new ≡ old ++ (first ++ second) = is_new ∙ ap (λ l. middle ++ l) is_slice ∙ ap (λ l. l ++ second) is_middle ∙ append_assoc old first second in
+    record {
+      kept = ap (take (length old)) is ∙ take-append_seam old (first ++ second);
+      ones = subst (ArePlacesOfOnes bit 0 width) (sym (ap (drop (length old)) is ∙ drop-append_seam old (first ++ second))) ones;
+    }
 
 -- ---- one more list
-
--- the lists between the starts are all of the values
-pub record AreAllBetween (starts values : List ℕ) : Type 0 where
-  pub rise : AreStarts starts (length values)
-  pub last : slice_index starts (length starts - 1) ≡ length values
 
 pub between_none : AreAllBetween (0 ∷ []) []
 between_none = record {
   rise = record { some = omega arith; rise = λ key lt. absurd (omega arith); within = λ key lt. let first : key ≡ 0 = omega arith in rw first (omega arith) };
+  first = refl;
   last = refl;
 }
 
@@ -146,6 +146,7 @@ module _ (old new : List ℕ) (kept : take (length old) new ≡ old) where
               | inr after ↦ rw (start_new key (omega (arith, one_more))) (omega arith)
             ];
       };
+      first = start_kept 0 all.rise.some ∙ all.first;
       last = start_new (length (starts ++ length new ∷ []) - 1) (omega (arith, one_more));
     }
 
@@ -173,3 +174,30 @@ module _ (old new : List ℕ) (kept : take (length old) new ≡ old) where
                     rw (here, list_new row (omega arith)) next
               ];
         }
+
+-- ---- the number of ones
+
+module _ (starts values : List ℕ) (all : AreAllBetween starts values) where
+  list_of : ℕ → List ℕ
+  list_of row = slice_range values (slice_index starts row) (slice_index starts (row + 1))
+
+  length-list_of : (row : ℕ) → row + 1 < length starts → length (list_of row) ≡ slice_index starts (row + 1) - slice_index starts row
+  unfolding list_of
+  length-list_of row l = length-take-le (slice_index starts (row + 1) - slice_index starts row) (drop (slice_index starts row) values) (omega (arith, all.rise.within (row + 1) l, length-drop (slice_index starts row) values))
+
+  ones_step : (n : ℕ) → n + 1 < length starts → sum_by length (map list_of (range_with_len 0 n)) ≡ slice_index starts n → sum_by length (map list_of (range_with_len 0 (n + 1))) ≡ slice_index starts (n + 1)
+  ones_step n l before =
+      let here = length-list_of n l in
+      let more = sum_by-map-range_with_len_more length list_of 0 n n (zero-add n) in
+      let rise = all.rise.rise n l in
+      more ∙ omega (arith, before, here, rise)
+
+  ones_before : (n : ℕ) → n < length starts → sum_by length (map list_of (range_with_len 0 n)) ≡ slice_index starts n
+  ones_before zero l = sym all.first
+  ones_before (suc n) l =
+      let next : n + 1 ≡ suc n = omega arith in
+      subst (λ m. sum_by length (map list_of (range_with_len 0 m)) ≡ slice_index starts m) next (ones_step n (omega arith) (ones_before n (omega arith)))
+
+  pub ones_counted : sum_by length (lists_between starts values) ≡ length values
+  unfolding list_of
+  ones_counted = ones_before (length starts - 1) (omega (arith, all.rise.some)) ∙ all.last

@@ -1,15 +1,22 @@
 -- Columns that have pivots among rows of bits while no row is changed.
-use Rattle.std.specs.Prelude.{◌≡◌, ◌≢◌, ℕ, ◌+◌, ◌<◌, ◌≤◌, Option, List, [], All, Contains, length, take, drop, slice_index_or}
+use Rattle.std.specs.Prelude.{◌≡◌, ◌≢◌, ℕ, ◌+◌, ◌-◌, ◌<◌, ◌≤◌, Option, List, [], All, Contains, length, take, drop, slice_index_or}
 use Rattle.std.specs.List.{range_with_len}
 use Rattle.std.specs.Option.{ForSome}
 use Rattle.rq_algebra.specs.Arrangements.{ArePlaces, exchange}
 use Rattle.rq_algebra.specs.Systems.{at}
 use Rattle.rq_standard.specs.BitTableSteps.{ArePlacesOfOnes}
+use Rattle.rq_parts.specs.Lists.{AreStarts}
 use Rattle.rq_solver.specs.declared.pi_solver.links.Link.{Link}
 
 -- the columns in which row i has its ones
 abbrev pub ones_at : List (List ℕ) → ℕ → List ℕ
 ones_at lists i = slice_index_or lists i []
+
+-- the lists between starts are all of the values
+pub record AreAllBetween (starts values : List ℕ) : Type 0 where
+  pub rise : AreStarts starts (length values)
+  pub first : at starts 0 ≡ 0
+  pub last : at starts (length starts - 1) ≡ length values
 
 -- for each row of bits the columns of its ones, each once
 pub record AreOnesOfRows (height width : ℕ) (bit : ℕ → ℕ → ℕ) (lists : List (List ℕ)) : Type 0 where
@@ -56,6 +63,10 @@ pub record IsActive (state : ColumnState) (column : ℕ) : Type 0 where
   pub from : state.pivots ≤ at state.places column
   pub below : at state.places column < state.end
 
+-- none of a row's columns is active
+abbrev pub HasNoActive : List ℕ → ColumnState → Type 0
+HasNoActive row state = (k : ℕ) → Contains row k → IsActive state k → ⊥
+
 -- so many columns in their own order, those from `end` on frozen
 abbrev pub first_columns : ℕ → ℕ → ColumnState
 first_columns width end = record { order = range_with_len 0 width; places = range_with_len 0 width; pivots = 0; end = end }
@@ -80,7 +91,7 @@ pub record FreezesRow (row : List ℕ) (old new : ColumnState) : Type 0 where
   pub pivots : new.pivots ≡ old.pivots
   pub before : (p : ℕ) → p < old.pivots → at new.order p ≡ at old.order p
   pub left : (k : ℕ) → k < length old.order → IsActive new k → IsActive old k
-  pub ended : (k : ℕ) → Contains row k → IsActive new k → ⊥
+  pub ended : HasNoActive row new
 
 -- A row has the next pivot, in one of its columns that were active. None of its columns is active any more.
 pub record TakesRow (row : List ℕ) (old new : ColumnState) : Type 0 where
@@ -90,7 +101,7 @@ pub record TakesRow (row : List ℕ) (old new : ColumnState) : Type 0 where
   pub was : IsActive old (at new.order old.pivots)
   pub before : (p : ℕ) → p < old.pivots → at new.order p ≡ at old.order p
   pub left : (k : ℕ) → k < length old.order → IsActive new k → IsActive old k
-  pub ended : (k : ℕ) → Contains row k → IsActive new k → ⊥
+  pub ended : HasNoActive row new
 
 -- so many rows and columns
 pub record Size : Type 0 where

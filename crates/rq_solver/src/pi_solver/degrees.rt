@@ -71,7 +71,7 @@ impl RowDegrees {
         self.least()
     }
 
-    // The first row of least positive degree.
+    // The first row of least positive degree, where no row has degree 1.
     fn least(&self) -> Option<usize>
         ensures { IfSome result (λ row. row < self.now) }
     {
@@ -79,6 +79,9 @@ impl RowDegrees {
         let mut least_degree = usize::MAX;
         for row in 0..self.degrees.len() {
             let degree = self.degrees[row];
+            if degree == 2 {
+                return Some(row);
+            }
             if degree > 0 && degree < least_degree {
                 least = Some(row);
                 least_degree = degree;

@@ -46,7 +46,7 @@ impl ColumnLinks {
     {
         let mut links = ColumnLinks {
             height: ones.height(),
-            links: Vec::new(alloc),
+            links: Vec::with_capacity(alloc, ones.len())?,
             last: vec![in alloc; None; width]?,
         };
         for row in 0..ones.height() {

@@ -1,5 +1,6 @@
 //! The ones of a matrix of bits, row by row.
 ghost use Rattle.std.specs.Prelude.{◌≡◌, ℕ, ◌<◌, ◌≤◌, length, IfOk, OnOk, IfErr, slice_range};
+ghost use Rattle.std.specs.List.{sum_by};
 ghost use Rattle.rq_bytes.specs.declared.error.Error.TheVariants.{OutOfMemory};
 ghost use Rattle.rq_solver.specs.Peeled.{ones_at, AreOnesOfRows, AddsOnes};
 
@@ -16,14 +17,15 @@ pub(super) struct RowOnes {
 }
 
 impl Model for RowOnes {
-    ghost use Rattle.std.specs.Prelude.{ℕ, List, length};
-    ghost use Rattle.rq_parts.specs.Lists.{AreStarts, lists_between};
+    ghost use Rattle.std.specs.Prelude.{ℕ, List};
+    ghost use Rattle.rq_parts.specs.Lists.{lists_between};
+    ghost use Rattle.rq_solver.specs.Peeled.{AreAllBetween};
 
     ghost Value = { List (List ℕ) };
 
     ghost view = { λ ones. lists_between ones.starts.items ones.columns.items };
 
-    ghost invariant = { λ ones. AreStarts ones.starts.items (length ones.columns.items) };
+    ghost invariant = { λ ones. AreAllBetween ones.starts.items ones.columns.items };
 }
 
 impl RowOnes {
@@ -53,6 +55,13 @@ impl RowOnes {
         ensures { result ≡ length self.now }
     {
         self.starts.len() - 1
+    }
+
+    /// The number of ones.
+    pub(super) fn len(&self) -> usize
+        ensures { result ≡ sum_by length self.now }
+    {
+        self.columns.len()
     }
 
     /// The columns of the ones of a row.

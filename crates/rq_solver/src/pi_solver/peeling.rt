@@ -1,7 +1,7 @@
 //! The first phase: columns get pivots among rows of bits while no row is changed.
 ghost use Rattle.std.specs.Prelude.{◌≡◌, ℕ, false, ◌<◌, ◌≤◌, length, All, Contains, IsTrue, IfSome, IfNone, OnOk, IfOk, IfErr};
 ghost use Rattle.rq_bytes.specs.declared.error.Error.TheVariants.{OutOfMemory};
-ghost use Rattle.rq_solver.specs.Peeled.{IsPeeled, IsActive, TakesRow, FreezesRow};
+ghost use Rattle.rq_solver.specs.Peeled.{IsPeeled, IsActive, HasNoActive, TakesRow, FreezesRow};
 
 use crate::pi_solver::columns::ColumnOrder;
 use crate::pi_solver::degrees::RowDegrees;
@@ -65,6 +65,7 @@ fn take_row(
     requires links { links.now ≡ record { rows = degrees.old; columns = length columns.old.order } }
     ensures taken { IfOk result (λ taken. IsTrue taken → TakesRow row.now columns.old columns.new) }
     ensures left { IfOk result (λ taken. (taken ≡ false) → columns.new ≡ columns.old) }
+    ensures none { IfOk result (λ taken. (taken ≡ false) → HasNoActive row.now columns.old) }
     ensures degrees { degrees.new ≡ degrees.old }
     ensures err { IfErr result (λ e. e ≡ OutOfMemory) }
 {
@@ -82,6 +83,7 @@ fn first_active(row: &[usize], columns: &ColumnOrder) -> Option<usize>
     requires { All (λ column. column < length columns.now.order) row.now }
     ensures column { IfSome result (Contains row.now) }
     ensures active { IfSome result (IsActive columns.now) }
+    ensures none { IfNone result (HasNoActive row.now columns.now) }
 {
     for column in row {
         if columns.is_active(*column) {

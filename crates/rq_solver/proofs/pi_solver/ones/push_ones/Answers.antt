@@ -1,5 +1,5 @@
 -- What the check leaves to show of `pi_solver::ones::push_ones`.
-use Rattle.std.proofs.Common.{ℕ, ◌++◌, List, ap, ◌∙◌, subst, append-nil, append_assoc, arith}
+use Rattle.std.proofs.Common.{◌++◌, ap, ◌∙◌, subst, append-nil, arith}
 use Rattle.rq_standard.specs.BitTableSteps.{AreOnesOf}
 use Rattle.rq_solver.proofs.RowLists.{places_among, places_of_pairs, places_together, adds_ones}
 use Rattle.rq_solver.proofs.pi_solver.ones.push_ones.Goals as goal
@@ -14,6 +14,4 @@ returns-clause-ones g c =
     let whole : AreOnesOf bit 0 c.args.boundary taken = subst (AreOnesOf bit 0 c.args.boundary) (ap (λ l. taken ++ l) c.in-None.ensures.steps.0 ∙ append-nil taken) v.whole in
     let dense = c.in_ok-query_non_zero_columns_into.ensures.ok in
     let places = places_together bit 0 c.args.boundary content.width (places_among taken) c.query_non_zero_columns_into.new.out.items (omega arith) (omega (arith, c.requires.boundary, table.within)) (places_of_pairs bit 0 c.args.boundary taken whole) dense in
-    adds_ones bit content.width c.args.columns.now.items _ c.extend_from_slice.new.self.items
-    (c.in_ok-extend_from_slice.ensures.items ∙ ap (λ (l : List ℕ). l ++ c.as_slice.result.now) v.columns ∙ append_assoc c.args.columns.now.items (places_among taken) c.as_slice.result.now ∙ ap (λ (l : List ℕ). c.args.columns.now.items ++ (places_among taken ++ l)) c.as_slice.ensures.value)
-    places
+    adds_ones bit content.width c.args.columns.now.items (places_among taken) c.query_non_zero_columns_into.new.out.items c.as_slice.result.now c.loop-column.columns.items c.extend_from_slice.new.self.items v.columns c.in_ok-extend_from_slice.ensures.items c.as_slice.ensures.value places

@@ -1,5 +1,7 @@
 -- What the check leaves to show of `pi_solver::ones::RowOnes::of_matrix`.
-use Rattle.std.proofs.Common.{◌≡◌, ℕ, ◌++◌, ◌∷◌, [], ap, ◌∙◌, length}
+use Rattle.std.proofs.Common.{◌≡◌, ◌++◌, ◌∷◌, [], ◌∙◌, length, subst, arith, ℕ}
+use Rattle.rq_parts.specs.Lists.{lists_between}
+use Rattle.rq_solver.specs.Peeled.{AreOnesOfRows}
 use Rattle.rq_solver.proofs.RowLists.{between_next, ones_next}
 use Rattle.rq_solver.proofs.pi_solver.ones.RowOnes.of_matrix.Goals as goal
 
@@ -11,9 +13,16 @@ loop-row-preserved g c =
     let old = c.loop-row.columns.items in
     let new = c.push_ones.new.columns.items in
     let starts = c.loop-row.starts.items in
-    let here : c.push-in-loop-row.new.self.items ≡ starts ++ length new ∷ [] = c.in_ok-push-2.ensures.items ∙ ap (λ (n : ℕ). starts ++ n ∷ []) (c.len.ensures ∙ c.push_ones.new.columns.ok.0) in
+    let count : c.len.result ≡ length new = c.len.ensures ∙ c.push_ones.new.columns.ok.0 in
+    let here : c.push-in-loop-row.new.self.items ≡ starts ++ length new ∷ [] = rw count at c.in_ok-push-2.ensures.items in
     rw here
     (record {
       between = between_next old new added.kept starts v.between;
       ones = ones_next old new added.kept starts v.between content.width c.loop-row.row content.bit v.ones added.ones;
     })
+
+pub returns-clause-ones : goal.returns-clause-ones
+returns-clause-ones g c =
+    let content = g.T.BinaryMatrix.content c.args.bits.now in
+    let all : c.loop-row.row ≡ content.height = omega (arith, c.loop-row-test.false, c.loop-row.auto, c.height-row-end.ensures.height) in
+    subst (λ (n : ℕ). AreOnesOfRows n content.width content.bit (lists_between c.loop-row.starts.items c.loop-row.columns.items)) all c.loop-row.invariant.ones

@@ -1,7 +1,6 @@
 -- What the loops keep in `pi_solver::ones::RowOnes::of_matrix`.
 use Rattle.rq_parts.specs.Lists.{lists_between}
-use Rattle.rq_solver.specs.Peeled.{AreOnesOfRows}
-use Rattle.rq_solver.proofs.RowLists.{AreAllBetween}
+use Rattle.rq_solver.specs.Peeled.{AreOnesOfRows, AreAllBetween}
 use Rattle.rq_solver.proofs.pi_solver.ones.RowOnes.of_matrix.Given as goal
 
 abbrev pub invariant-loop-row : goal.invariant-loop-row

@@ -36,7 +36,7 @@ bounds-starts-row-2 c =
 pub part-requires-clause-order : goal.part-requires-clause-order
 part-requires-clause-order c =
     let enough = room _ _ _ c.args.row c.self.view_is c.requires in
-    rw c.as_slice-starts.ensures.value (c.self.invariant.rise c.args.row enough)
+    rw c.as_slice-starts.ensures.value (c.self.invariant.rise.rise c.args.row enough)
 
 pub returns : goal.returns
 returns c =
