@@ -1,3 +1,4 @@
+pub mod BitRows
 pub mod Entries
 pub mod EquationLaws
 pub mod ListingLaws
