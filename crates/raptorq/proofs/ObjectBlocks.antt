@@ -125,7 +125,7 @@ module _ (table : List Row) (c : Configuration) (items : List ObjectBlock) (held
   -- each of them is what is held of a new block
   pub new_each : (P : Held → Type 0) → ((n : ℕ) → n < c.source_blocks → P (new_held table c n)) → All (λ b. P (held_of b.decoder)) items
   new_each P each i d below =
-      let long : length items ≡ c.source_blocks = sym (length-map items (λ b. held_of b.decoder)) ∙ ap length held ∙ length-map-range_with_len (new_held table c) 0 c.source_blocks in
+      let long = length-mapped (λ b. held_of b.decoder) (new_held table c) c.source_blocks items held in
       let within : i < c.source_blocks = omega (arith, below, long) in
       let is : held_of (get_or items i d).decoder ≡ new_held table c i = sym (get_or-map (λ b. held_of b.decoder) items i d (held_of d.decoder) below) ∙ ap (λ l. get_or l i (held_of d.decoder)) held ∙ get_or-map-range_with_len (new_held table c) 0 c.source_blocks i i (held_of d.decoder) within (omega arith) in
       subst P (sym is) (each i within)

@@ -1,3 +1,4 @@
+pub mod BitRows
 pub mod ColumnLaws
 pub mod Entries
 pub mod EquationLaws

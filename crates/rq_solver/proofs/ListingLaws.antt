@@ -21,8 +21,8 @@ more_contains old new r m c =
     (c.0, there, get_or_default new c.0 r 0 there ∙ m.same c.0 c.1 ∙ get_or_default old c.0 0 r c.1 ∙ c.2)
 
 -- the next of rows that are listed in their order isn't marked yet
-pub next_unmarked : (rows : List ℕ) (height i : ℕ) (marks : List Bool) → ArePlaces (length rows) height (at rows) → i < length rows → IsMarked height (take i rows) marks → slice_index_or marks (at rows i) false ≡ false
-next_unmarked rows height i marks are l marked = go (slice_index_or marks (at rows i) false) refl where
+pub next_unmarked : (rows : List ℕ) (i : ℕ) (marks : List Bool) → ArePlaces (length rows) (length marks) (at rows) → i < length rows → IsMarked (take i rows) marks → slice_index_or marks (at rows i) false ≡ false
+next_unmarked rows i marks are l marked = go (slice_index_or marks (at rows i) false) refl where
   go : (b : Bool) → slice_index_or marks (at rows i) false ≡ b → slice_index_or marks (at rows i) false ≡ false
   go false e = e
   go true e =
@@ -37,12 +37,12 @@ pub next_listed : (rows listed new : List ℕ) (i : ℕ) → i < length rows →
 next_listed rows listed new i l e f = f ∙ ap (λ (xs : List ℕ). xs ++ at rows i ∷ []) e ∙ sym (take_more rows i 0 l)
 
 -- the pivots' rows, then the other rows, in three parts
-pub lists_all : (height first after : ℕ) (pivots one two three : List ℕ) (marks : List Bool) → IsMarked height three marks → ListsMore pivots one → ListsMore one two → ListsMore two three
+pub lists_all : (height first after : ℕ) (pivots one two three : List ℕ) (marks : List Bool) → length marks ≡ height → IsMarked three marks → ListsMore pivots one → ListsMore one two → ListsMore two three
     → ((r : ℕ) → 0 ≤ r → r < first → Contains one r) → ((r : ℕ) → after ≤ r → r < height → Contains two r) → ((r : ℕ) → first ≤ r → r < after → Contains three r) → ListsRows height pivots three
-lists_all height first after pivots one two three marks marked m n o low high middle =
+lists_all height first after pivots one two three marks count marked m n o low high middle =
     let all = more_more pivots one three m (more_more one two three n o) in
     record {
-      are = marked.are;
+      are = rw count at marked.are;
       few = all.longer;
       starts = all.same;
       every = λ r l. elim (cases_lt r first) [

@@ -1,5 +1,5 @@
 -- Rows of octets get zeros in the columns of pivots.
-use Rattle.std.proofs.Common.{◌≡◌, ◌≢◌, ℕ, ◌+◌, ◌<◌, List, [], ◌∷◌, ◌++◌, length, refl, sym, ap, ◌∙◌, arith, inl, inr}
+use Rattle.std.proofs.Common.{lit<, ◌≡◌, ◌≢◌, ℕ, ◌+◌, ◌<◌, List, [], ◌∷◌, ◌++◌, length, refl, sym, ap, ◌∙◌, arith, inl, inr}
 use Rattle.std.proofs.lemmas.Bool.{cases_eq}
 use Rattle.rq_algebra.specs.Arrangements.{ArePlaces}
 use Rattle.rq_algebra.specs.Systems.{at}
@@ -25,6 +25,7 @@ module _ (rows order : List ℕ) (octet : ℕ → ℕ) (row : ℕ) where
   octet_row_none table operations are = record {
     steps = [];
     performs = performs_none table operations are;
+    elements = λ p l. absurd (omega arith);
     elsewhere = λ m i k d. rows_after-none octets m i k;
     rest = λ m pivots p l n. rows_after-none octets m row (at order p);
     cleared = λ m pivots had p l. absurd (omega arith);
@@ -36,6 +37,7 @@ module _ (rows order : List ℕ) (octet : ℕ → ℕ) (row : ℕ) where
     octet_row_zero none = record {
       steps = v.steps;
       performs = v.performs;
+      elements = λ p l. elim (cases_eq p t) [ inl e ↦ rw (e, none) (lit< tt) | inr d ↦ v.elements p (omega arith) ];
       elsewhere = v.elsewhere;
       rest = λ m pivots p l n. v.rest m pivots p (omega arith) n;
       cleared = λ m pivots had p l. elim (cases_eq p t) [
@@ -77,6 +79,7 @@ module _ (rows order : List ℕ) (octet : ℕ → ℕ) (row : ℕ) where
       octet_row_more = record {
         steps = v.steps ++ sum_step row (at rows t) scalar ∷ [];
         performs = performs_more v.steps (sum_step row (at rows t) scalar ∷ []) old cur new before between after v.performs performs;
+        elements = λ p l. elim (cases_eq p t) [ inl e ↦ rw (e, ← scalar_is) small | inr d ↦ v.elements p (omega arith) ];
         elsewhere = λ m i k d. rows_after-next octets v.steps (sum_step row (at rows t) scalar ∷ []) m i k ∙ sum_step-elsewhere row (at rows t) scalar (rows_after octets v.steps m) i k d ∙ v.elsewhere m i k d;
         rest = λ m pivots p l n. other_column m pivots p n (omega arith) ∙ v.rest m pivots p (omega arith) n;
         cleared = λ m pivots had p l. elim (cases_eq p t) [
@@ -92,6 +95,7 @@ module _ (rows order : List ℕ) (octet : ℕ → ℕ → ℕ) (first : ℕ) whe
   octet_rows_none table operations are = record {
     steps = [];
     performs = performs_none table operations are;
+    elements = λ i p l. absurd (omega arith);
     elsewhere = λ m r k out. rows_after-none octets m r k;
     cleared = λ m pivots i l. absurd (omega arith);
   }
@@ -102,6 +106,7 @@ module _ (rows order : List ℕ) (octet : ℕ → ℕ → ℕ) (first : ℕ) whe
     octet_rows_more = record {
       steps = v.steps ++ turn.steps;
       performs = performs_more v.steps turn.steps old cur new before between after v.performs turn.performs;
+      elements = λ i p l n. elim (cases_eq i t) [ inl e ↦ rw e (turn.elements p n) | inr d ↦ v.elements i p (omega arith) n ];
       elsewhere = λ m r k out.
           rows_after-next octets v.steps turn.steps m r k
           ∙ turn.elsewhere (rows_after octets v.steps m) r k (λ e. out t (omega arith) (sym e))

@@ -3,7 +3,7 @@ use Rattle.std.proofs.Common.{◌≡◌, ◌≢◌, ℕ, ◌+◌, ◌-◌, ◌<�
 use Rattle.std.proofs.lemmas.Bool.{cases_lt}
 use Rattle.std.proofs.lemmas.List.{length-drop, get_or-drop, get_or_default}
 use Rattle.rq_algebra.specs.Operations.{Operation}
-use Rattle.rq_algebra.specs.Systems.{at, HasElements}
+use Rattle.rq_algebra.specs.Systems.{at}
 use Rattle.rq_standard.specs.OctetField.{octets}
 use Rattle.rq_bytes.specs.SymbolOps.{operation_of}
 use Rattle.rq_bytes.specs.declared.operation_vector.SymbolOps.{SymbolOps}
@@ -68,12 +68,6 @@ module _ (lists : List (List ℕ)) (first : ℕ) (hdpc : OctetTable) where
   bits_at r k out = bit_row first (length hdpc.rows) (entry_of hdpc) (one_in lists) r k out
 
   module _ (width : ℕ) (bits : AreRowsOfBits width lists) (are : AreOctetRows lists first width hdpc) where
-    pub system_elements : HasElements octets (length lists) width (system_rows lists first hdpc)
-    system_elements i k l m = elim (cases i) [
-      | inl q ↦ rw (← q.2, octets_at q.0 k q.1) (are.elements q.0 k q.1 (rw are.width_is m))
-      | inr out ↦ rw (bits_at i k out) (omega (arith, bits.once i k l m))
-    ]
-
     module _ (rows order places : List ℕ) (peeled : IsPeeled width lists rows order places) where
       -- a pivot's row is one of bits
       pub pivot_of_bits : (p i : ℕ) → p < length rows → i < length hdpc.rows → first + i ≢ at rows p
@@ -128,6 +122,22 @@ module _ (lists : List (List ℕ)) (first : ℕ) (hdpc : OctetTable) where
             others = λ r c p l. in_end r (at order p) ∙ left_cleared r c p l;
           }
 
+          -- the entries that were read are octets: those of the frozen columns when the tables were filled, and the others afterwards
+          octets_small : (frozen : ℕ) → length rows + frozen ≡ width → HoldsRows (length lists) frozen (length lists) (λ r f. system_rows lists first hdpc r (at order (length rows + f))) zero → (i k : ℕ) → i < length hdpc.rows → k < width → entry_of hdpc i k < 256
+          octets_small frozen wide holds i k l m =
+              let j : ℕ = at places k in
+              let placed = peeled.columns.placed k m in
+              elim (cases_lt j (length rows)) [
+                | inl early ↦ rw (← placed.1) (wipes.elements i j l early)
+                | inr late ↦
+                    let f : ℕ = j - length rows in
+                    let back : length rows + f ≡ j = omega arith in
+                    let inside : f < frozen = omega (arith, placed.0) in
+                    let row_in : first + i < length lists = omega (arith, are.within) in
+                    let same : entry_of zero (first + i) f ≡ entry_of hdpc i k = holds.written (first + i) f row_in inside ∙ octets_at i (at order (length rows + f)) l ∙ ap (entry_of hdpc i) (ap (at order) back ∙ placed.1) in
+                    rw (← same) (holds.octets.elements (first + i) f (rw holds.height_is row_in) (rw holds.width_is inside))
+              ]
+
           -- the tables that were filled with the frozen columns show them
           pub peeled_pivots : (frozen : ℕ) → length rows + frozen ≡ width → start ≡ [] → HoldsRows (length lists) frozen (length lists) (λ r f. system_rows lists first hdpc r (at order (length rows + f))) zero
               → HasPeeledPivots (length lists) width (system_rows lists first hdpc) rows order (drop (length rows) listed) two after
@@ -137,7 +147,10 @@ module _ (lists : List (List ℕ)) (first : ℕ) (hdpc : OctetTable) where
               let recorded : map operation_of after ≡ done = performs.recorded ∙ ap (λ (l : List SymbolOps). map operation_of l ++ done) empty in
               let both : AreCleared rows order (drop (length rows) listed) (rows_after octets done (system_rows lists first hdpc)) = cleared_both in
               record {
-                elements = system_elements;
+                elements = λ i k l m. elim (cases i) [
+                  | inl q ↦ rw (← q.2, octets_at q.0 k q.1) (octets_small frozen wide holds q.0 k q.1 m)
+                  | inr out ↦ rw (bits_at i k out) (omega (arith, bits.once i k l m))
+                ];
                 among = rw recorded (rw holds.height_is at performs.among);
                 height_is = performs.height ∙ holds.height_is;
                 width_is = omega (arith, performs.width, holds.width_is, wide);

@@ -32,7 +32,6 @@ pub record PeelsRows (lists : List (List ℕ)) (peeling : Peeling) : Type 0 wher
 -- HDPC rows, which have the places of rows without ones
 pub record AreOctetRows (lists : List (List ℕ)) (first width : ℕ) (hdpc : OctetTable) : Type 0 where
   pub width_is : hdpc.width ≡ width
-  pub elements : HasElements octets (length hdpc.rows) hdpc.width (entry_of hdpc)
   pub within : first + length hdpc.rows ≤ length lists
   pub empty : (i : ℕ) → i < length hdpc.rows → ones_at lists (first + i) ≡ []
 
@@ -94,6 +93,7 @@ pub record ClearsRows (lists : List (List ℕ)) (rows order listed : List ℕ) (
 pub record ClearsOctetRow (rows order : List ℕ) (octet : ℕ → ℕ) (row done : ℕ) (old new : OctetTable) (before after : List SymbolOps) : Type 0 where
   pub steps : List Operation
   pub performs : Performs steps old new before after
+  pub elements : (p : ℕ) → p < done → octet (at order p) < octets.size
   pub elsewhere : (m : ℕ → ℕ → ℕ) (i k : ℕ) → i ≢ row → rows_after octets steps m i k ≡ m i k
   pub rest : (m : ℕ → ℕ → ℕ) → ((p : ℕ) → p < length rows → IsCleared rows order m (at rows p)) → (p : ℕ) → done ≤ p → p < length rows → rows_after octets steps m row (at order p) ≡ m row (at order p)
   pub cleared : (m : ℕ → ℕ → ℕ) → ((p : ℕ) → p < length rows → IsCleared rows order m (at rows p)) → ((p : ℕ) → p < length rows → m row (at order p) ≡ octet (at order p))
@@ -103,6 +103,7 @@ pub record ClearsOctetRow (rows order : List ℕ) (octet : ℕ → ℕ) (row don
 pub record ClearsOctets (rows order : List ℕ) (octet : ℕ → ℕ → ℕ) (first done : ℕ) (old new : OctetTable) (before after : List SymbolOps) : Type 0 where
   pub steps : List Operation
   pub performs : Performs steps old new before after
+  pub elements : (i p : ℕ) → i < done → p < length rows → octet i (at order p) < octets.size
   pub elsewhere : (m : ℕ → ℕ → ℕ) (r k : ℕ) → ((i : ℕ) → i < done → first + i ≢ r) → rows_after octets steps m r k ≡ m r k
   pub cleared : (m : ℕ → ℕ → ℕ) → ((p : ℕ) → p < length rows → IsCleared rows order m (at rows p)) → (i : ℕ) → i < done
       → ((p : ℕ) → p < length rows → m (first + i) (at order p) ≡ octet i (at order p)) → (p : ℕ) → p < length rows → rows_after octets steps m (first + i) (at order p) ≡ 0

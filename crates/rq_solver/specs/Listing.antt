@@ -3,12 +3,11 @@ use Rattle.std.specs.Prelude.{◌≡◌, ℕ, ◌<◌, ◌≤◌, List, Bool, tr
 use Rattle.rq_algebra.specs.Arrangements.{ArePlaces}
 use Rattle.rq_algebra.specs.Systems.{at}
 
--- of the rows below the height those that are listed are marked
-pub record IsMarked (height : ℕ) (listed : List ℕ) (marks : List Bool) : Type 0 where
-  pub are : ArePlaces (length listed) height (at listed)
-  pub count : length marks ≡ height
+-- of the rows that have a mark those that are listed are marked
+pub record IsMarked (listed : List ℕ) (marks : List Bool) : Type 0 where
+  pub are : ArePlaces (length listed) (length marks) (at listed)
   pub marked : (i : ℕ) → i < length listed → slice_index_or marks (at listed i) false ≡ true
-  pub has : (r : ℕ) → r < height → slice_index_or marks r false ≡ true → Contains listed r
+  pub has : (r : ℕ) → r < length marks → slice_index_or marks r false ≡ true → Contains listed r
 
 -- rows are listed behind others
 pub record ListsMore (old new : List ℕ) : Type 0 where

@@ -1,9 +1,8 @@
 //! The HDPC rows in the columns of pivots.
 ghost use Rattle.std.specs.Prelude.{◌≡◌, ◌≢◌, ℕ, ◌+◌, ◌^◌, ◌<◌, ◌≤◌, length, OnOk, IfErr};
-ghost use Rattle.rq_algebra.specs.Systems.{at, HasElements};
+ghost use Rattle.rq_algebra.specs.Systems.{at};
 ghost use Rattle.rq_bytes.specs.declared.error.Error.TheVariants.{OutOfMemory};
 ghost use Rattle.rq_parts.specs.OctetTable.{entry_of};
-ghost use Rattle.rq_standard.specs.OctetField.{octets};
 ghost use Rattle.rq_solver.specs.Cleared.{ClearsOctetRow, ClearsOctets};
 ghost use Rattle.rq_solver.specs.Peeled.{IsOrderOf};
 ghost use Rattle.rq_solver.specs.RowSteps.{AreRows, HasOctets};
@@ -22,7 +21,6 @@ pub(super) fn clear_octets(
     tails: &mut DenseOctetMatrix,
     operations: &mut Vec<SymbolOps>,
 ) -> Result<(), Error>
-    requires hdpc { HasElements octets (length hdpc.now.rows) hdpc.now.width (entry_of hdpc.now) }
     requires order { IsOrderOf hdpc.now.width peeling.now.order.items peeling.now.places.items }
     requires few { length peeling.now.rows.items ≤ hdpc.now.width }
     requires pivots { AreRows peeling.now.rows.items tails.old }
@@ -48,7 +46,6 @@ fn clear_octet_row(
     tails: &mut DenseOctetMatrix,
     operations: &mut Vec<SymbolOps>,
 ) -> Result<(), Error>
-    requires hdpc { HasElements octets (length hdpc.now.rows) hdpc.now.width (entry_of hdpc.now) }
     requires order { IsOrderOf hdpc.now.width peeling.now.order.items peeling.now.places.items }
     requires few { length peeling.now.rows.items ≤ hdpc.now.width }
     requires pivots { AreRows peeling.now.rows.items tails.old }

@@ -23,43 +23,27 @@ pub(super) fn rows_in_order(
     ensures err { IfErr result (λ e. e ≡ OutOfMemory) }
 {
     let mut listed = Vec::with_capacity(alloc, height)?;
-    let mut is_listed = vec![in alloc; false; height]?;
-    list_rows(pivots, height, &mut listed, is_listed.as_mut_slice())?;
+    let mut marks = vec![in alloc; false; height]?;
+    let is_listed = marks.as_mut_slice();
     let after_hdpc = first_hdpc + hdpc_count;
-    list_range(0, first_hdpc, height, &mut listed, is_listed.as_mut_slice())?;
-    list_range(
-        after_hdpc,
-        height,
-        height,
-        &mut listed,
-        is_listed.as_mut_slice(),
-    )?;
-    list_range(
-        first_hdpc,
-        after_hdpc,
-        height,
-        &mut listed,
-        is_listed.as_mut_slice(),
-    )?;
+    list_rows(pivots, &mut listed, is_listed)?;
+    list_range(0, first_hdpc, &mut listed, is_listed)?;
+    list_range(after_hdpc, height, &mut listed, is_listed)?;
+    list_range(first_hdpc, after_hdpc, &mut listed, is_listed)?;
     Ok(listed)
 }
 
 /// Lists rows, the first ones.
-fn list_rows(
-    rows: &[usize],
-    height: usize,
-    listed: &mut Vec<usize>,
-    is_listed: &mut [bool],
-) -> Result<(), Error>
-    requires rows { ArePlaces (length rows.now) height (at rows.now) }
-    requires marked { IsMarked height listed.old.items is_listed.old }
+fn list_rows(rows: &[usize], listed: &mut Vec<usize>, is_listed: &mut [bool]) -> Result<(), Error>
+    requires rows { ArePlaces (length rows.now) (length is_listed.old) (at rows.now) }
+    requires marked { IsMarked listed.old.items is_listed.old }
     requires empty { length listed.old.items ≡ 0 }
-    ensures marked { OnOk result (IsMarked height listed.new.items is_listed.new) }
+    ensures marked { OnOk result (IsMarked listed.new.items is_listed.new) }
     ensures listed { OnOk result (listed.new.items ≡ rows.now) }
     ensures err { IfErr result (λ e. e ≡ OutOfMemory) }
 {
     for row in rows {
-        list_row(*row, height, listed, is_listed)?;
+        list_row(*row, listed, is_listed)?;
     }
     Ok(())
 }
@@ -68,33 +52,27 @@ fn list_rows(
 fn list_range(
     start: usize,
     end: usize,
-    height: usize,
     listed: &mut Vec<usize>,
     is_listed: &mut [bool],
 ) -> Result<(), Error>
-    requires end { end ≤ height }
-    requires marked { IsMarked height listed.old.items is_listed.old }
-    ensures marked { OnOk result (IsMarked height listed.new.items is_listed.new) }
+    requires end { end ≤ length is_listed.old }
+    requires marked { IsMarked listed.old.items is_listed.old }
+    ensures marked { OnOk result (IsMarked listed.new.items is_listed.new) }
     ensures more { OnOk result (ListsMore listed.old.items listed.new.items) }
     ensures range { OnOk result ((r : ℕ) → start ≤ r → r < end → Contains listed.new.items r) }
     ensures err { IfErr result (λ e. e ≡ OutOfMemory) }
 {
     for row in start..end {
-        list_row(row, height, listed, is_listed)?;
+        list_row(row, listed, is_listed)?;
     }
     Ok(())
 }
 
 /// Lists a row, if it isn't listed yet.
-fn list_row(
-    row: usize,
-    height: usize,
-    listed: &mut Vec<usize>,
-    is_listed: &mut [bool],
-) -> Result<(), Error>
-    requires row { row < height }
-    requires marked { IsMarked height listed.old.items is_listed.old }
-    ensures marked { OnOk result (IsMarked height listed.new.items is_listed.new) }
+fn list_row(row: usize, listed: &mut Vec<usize>, is_listed: &mut [bool]) -> Result<(), Error>
+    requires row { row < length is_listed.old }
+    requires marked { IsMarked listed.old.items is_listed.old }
+    ensures marked { OnOk result (IsMarked listed.new.items is_listed.new) }
     ensures more { OnOk result (ListsMore listed.old.items listed.new.items) }
     ensures has { OnOk result (Contains listed.new.items row) }
     ensures fresh { OnOk result (slice_index_or is_listed.old row false ≡ false → listed.new.items ≡ listed.old.items ++ row ∷ []) }

@@ -26,12 +26,12 @@ loop-p-preserved c =
     let in_order : t < length order = omega (arith, c.requires.order.order_count, c.requires.few) in
     let column : c.index.result.now ≡ at order t = get_or_read order t c.index.result.now in_order c.index.ensures 0 in
     let scalar_is : c.get-scalar.result ≡ octet (at order t) = c.get-scalar.ensures ∙ ap octet column in
-    let small : octet (at order t) < 256 = c.requires.hdpc c.args.i (at order t) c.requires.i (c.requires.order.ordered t (omega arith)).0 in
+    let small : c.get-scalar.result < 256 = rw c.byte.ensures at c.byte.type_inv in
     elim c.if-byte-ne0.branch [
       | then-byte-ne0+in_ok-add_row w ↦
           let read : w.index-then-byte-ne0.result.now ≡ at rows t = get_or_read rows t w.index-then-byte-ne0.result.now in_rows w.index-then-byte-ne0.ensures 0 in
           rw (w.tails-is, w.operations-is)
-          (octet_row_more rows order octet row t in_rows old cur before between c.loop-p.invariant _ c.requires.pivots (c.requires.apart t in_rows) c.get-scalar.result (rw scalar_is small) scalar_is
+          (octet_row_more rows order octet row t in_rows old cur before between c.loop-p.invariant _ c.requires.pivots (c.requires.apart t in_rows) c.get-scalar.result small scalar_is
           w.add_row.new.tails w.add_row.new.operations.items (rw read at w.in_ok-add_row.ensures.added))
       | else-byte-ne0 w ↦ rw (w.tails-is, w.operations-is) (octet_row_zero rows order octet row t in_rows old cur before between c.loop-p.invariant (sym scalar_is ∙ sym c.byte.ensures ∙ w.if-byte-ne0.false))
     ]

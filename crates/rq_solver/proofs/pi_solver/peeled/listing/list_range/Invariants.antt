@@ -5,7 +5,7 @@ use Rattle.rq_solver.proofs.pi_solver.peeled.listing.list_range.Given as goal
 
 abbrev pub invariant-loop-row : goal.invariant-loop-row
 invariant-loop-row l = record {
-  marked : IsMarked l.height l.listed.items l.is_listed;
+  marked : IsMarked l.listed.items l.is_listed;
   more : ListsMore l.fn.listed.items l.listed.items;
   range : (r : ℕ) → l.start ≤ r → r < l.row → Contains l.listed.items r;
 }

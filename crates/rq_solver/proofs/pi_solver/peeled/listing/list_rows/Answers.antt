@@ -8,7 +8,7 @@ loop-row-preserved c =
     let i = c.loop-row.row-index in
     let v = c.loop-row.invariant in
     let turn = c.in_ok-list_row.ensures in
-    let unmarked = next_unmarked rows c.args.height i c.loop-row.is_listed c.requires.rows c.loop-row-test.true (rw v.listed at v.marked) in
+    let unmarked = next_unmarked rows i c.loop-row.is_listed (rw c.loop-row.auto.is_listed c.requires.rows) c.loop-row-test.true (rw v.listed at v.marked) in
     record {
       marked = turn.marked;
       listed = next_listed rows c.loop-row.listed.items c.list_row.new.listed.items i c.loop-row-test.true v.listed (turn.fresh unmarked);

@@ -5,6 +5,6 @@ use Rattle.rq_solver.proofs.pi_solver.peeled.listing.list_rows.Given as goal
 
 abbrev pub invariant-loop-row : goal.invariant-loop-row
 invariant-loop-row l = record {
-  marked : IsMarked l.height l.listed.items l.is_listed;
+  marked : IsMarked l.listed.items l.is_listed;
   listed : l.listed.items ≡ take l.row-index l.rows;
 }

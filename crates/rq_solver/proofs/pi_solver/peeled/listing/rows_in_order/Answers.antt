@@ -1,5 +1,5 @@
 -- What the check leaves to show of `pi_solver::peeled::listing::rows_in_order`.
-use Rattle.std.proofs.Common.{ℕ, List, ◌+◌, subst}
+use Rattle.std.proofs.Common.{length, arith, ◌≡◌, ℕ, List, ◌+◌, subst}
 use Rattle.rq_solver.specs.Listing.{ListsMore}
 use Rattle.rq_solver.proofs.ListingLaws.{lists_all}
 use Rattle.rq_solver.proofs.pi_solver.peeled.listing.rows_in_order.Goals as goal
@@ -12,4 +12,5 @@ returns-clause-listed c =
     let high = c.in_ok-list_range-2.ensures in
     let middle = c.in_ok-list_range-3.ensures in
     let from_pivots : ListsMore pivots one = subst (λ (l : List ℕ). ListsMore l one) c.in_ok-list_rows.ensures.listed low.more in
-    lists_all c.args.height c.args.first_hdpc (c.args.first_hdpc + c.args.hdpc_count) pivots one c.list_range-2.new.listed.items c.list_range-3.new.listed.items c.list_range-3.new.is_listed middle.marked from_pivots high.more middle.more low.range high.range middle.range
+    let count : length c.list_range-3.new.is_listed ≡ c.args.height = omega (arith, c.in_ok-marks.ensures.len) in
+    lists_all c.args.height c.args.first_hdpc (c.args.first_hdpc + c.args.hdpc_count) pivots one c.list_range-2.new.listed.items c.list_range-3.new.listed.items c.list_range-3.new.is_listed count middle.marked from_pivots high.more middle.more low.range high.range middle.range
