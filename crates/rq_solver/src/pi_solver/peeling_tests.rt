@@ -1,5 +1,5 @@
 //! Tests of the first phase.
-ghost use Rattle.std.specs.Prelude.{◌≡◌, ◌<◌, ◌≤◌, ◌^◌, false, IfOk};
+ghost use Rattle.std.specs.Prelude.{◌≡◌, ◌<◌, ◌≤◌, ◌^◌, IfOk};
 
 use crate::pi_solver::ones::RowOnes;
 use crate::pi_solver::peeling::{Peeling, peel};
