@@ -1,5 +1,5 @@
 //! The entries of rows in frozen columns.
-ghost use Rattle.std.specs.Prelude.{◌≡◌, ◌≢◌, ℕ, ◌+◌, ◌-◌, ◌^◌, ◌<◌, ◌≤◌, Contains, IsPermutation, length, IfOk, OnOk, IfErr, MatchBool};
+ghost use Rattle.std.specs.Prelude.{◌≡◌, ◌≢◌, ℕ, ◌+◌, ◌-◌, ◌%◌, ◌^◌, ◌<◌, ◌≤◌, Contains, IsPermutation, length, IfOk, OnOk, IfErr, MatchBool};
 ghost use Rattle.rq_algebra.specs.Systems.{at};
 ghost use Rattle.rq_bytes.specs.declared.error.Error.TheVariants.{OutOfMemory};
 ghost use Rattle.rq_parts.specs.OctetTable.{entry_of};
@@ -46,10 +46,13 @@ pub(super) fn fill_tails(
     Ok(tails)
 }
 
-/// A number of octets in whole vectors, at least so many: so long rows are added soonest.
+/// The least number of octets, from this one on, that fills whole vectors: rows of such a length are
+/// added without octets that are left over.
 fn whole_vectors(octets: usize) -> usize
     requires { octets < 2 ^ 63 }
-    ensures { octets ≤ result }
+    ensures whole { result % 32 ≡ 0 }
+    ensures from { octets ≤ result }
+    ensures near { result < octets + 32 }
 {
     octets + (LANES - octets % LANES) % LANES
 }

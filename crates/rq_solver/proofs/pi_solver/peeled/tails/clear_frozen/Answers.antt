@@ -1,5 +1,5 @@
 -- What the check leaves to show of `pi_solver::peeled::tails::clear_frozen`.
-use Rattle.std.proofs.Common.{Contains, sym, ◌∙◌, subst}
+use Rattle.std.proofs.Common.{Contains, sym, subst}
 use Rattle.std.proofs.lemmas.List.Elements.{Contains-get_or}
 use Rattle.std.proofs.lemmas.List.Sorted.{Contains-permutation, IsPermutation-sym}
 use Rattle.rq_algebra.specs.Systems.{at}
