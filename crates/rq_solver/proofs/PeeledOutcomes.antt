@@ -31,7 +31,7 @@ use Rattle.rq_solver.proofs.RowStepLaws.{rows_after-elements, follows_steps}
 use Rattle.rq_solver.proofs.StepColumns.{rows_after-next}
 
 module _ (height width : ℕ) (system : ℕ → ℕ → ℕ) (rows order places : List ℕ) (arranged : IsOrderOf width order places) (rows_are : ArePlaces (length rows) height (at rows)) (listed : List ℕ) (listing : ListsRows height rows listed)
-    (frozen : ℕ) (middle last : OctetTable) (before final : List SymbolOps) (peeled : HasPeeledPivots height width system rows order (drop (length rows) listed) middle before) (narrow : middle.width ≡ frozen)
+    (frozen : ℕ) (middle last : OctetTable) (before final : List SymbolOps) (peeled : HasPeeledPivots height width system rows order (drop (length rows) listed) middle before) (wide : length rows + frozen ≡ width) (narrow : frozen ≤ middle.width)
     (ends : ClearsFrozen (drop (length rows) listed) middle last before final) (reduced : List ℕ) (permuted : IsPermutation (drop (length rows) listed) reduced) where
   abbrev pivots : ℕ
   pivots = length rows
@@ -64,7 +64,7 @@ module _ (height width : ℕ) (system : ℕ → ℕ → ℕ) (rows order places 
   frozen_at : (r f : ℕ) → r < height → f < frozen → meant r (at order (pivots + f)) ≡ entry_of last r f
   frozen_at r f l n =
       rows_after-next octets (map operation_of before) ends.steps system r (at order (pivots + f))
-      ∙ sym (shows_after ends.steps middle last before final mid (λ g. at order (length rows + g)) ends.performs (λ i g o u. peeled.shows i g (rw peeled.height_is at o) u) r f (rw peeled.height_is l) (rw narrow n))
+      ∙ sym (shows_after ends.steps middle last before final mid (λ g. at order (length rows + g)) frozen narrow ends.performs (λ i g o u. peeled.shows i g (rw peeled.height_is at o) (omega arith)) r f (rw peeled.height_is l) n)
 
   -- ---- rows in the order of their pivots' columns
 

@@ -1,5 +1,5 @@
 -- Steps that were done to a table and recorded: one, several, and what they make of rows that the table shows in part.
-use Rattle.std.proofs.Common.{◌≡◌, ◌≢◌, ℕ, ◌<◌, List, [], ◌∷◌, ◌++◌, All, Contains, map, length, refl, sym, ap, ◌∙◌, subst, arith, inl, inr, if◌then◌else◌, Bool, append_assoc, append-nil}
+use Rattle.std.proofs.Common.{◌≤◌, ◌≡◌, ◌≢◌, ℕ, ◌<◌, List, [], ◌∷◌, ◌++◌, All, Contains, map, length, refl, sym, ap, ◌∙◌, subst, arith, inl, inr, if◌then◌else◌, Bool, append_assoc, append-nil}
 use Rattle.std.specs.List.{range_with_len}
 use Rattle.std.proofs.lemmas.Bool.{cases_eq, eq-eqb, ne_eqb}
 use Rattle.std.proofs.lemmas.List.{map-append}
@@ -119,11 +119,11 @@ performs_records rows old new before after below are records = record {
 
 -- ---- a table that shows columns of rows goes on showing them
 
-pub shows_after : (steps : List Operation) (old new : OctetTable) (before after : List SymbolOps) (m : ℕ → ℕ → ℕ) (column : ℕ → ℕ) → Performs steps old new before after
-    → ((i f : ℕ) → i < length old.rows → f < old.width → entry_of old i f ≡ m i (column f))
-    → (i f : ℕ) → i < length old.rows → f < old.width → entry_of new i f ≡ rows_after octets steps m i (column f)
-shows_after steps old new before after m column performs shows i f l n =
+pub shows_after : (steps : List Operation) (old new : OctetTable) (before after : List SymbolOps) (m : ℕ → ℕ → ℕ) (column : ℕ → ℕ) (count : ℕ) → count ≤ old.width → Performs steps old new before after
+    → ((i f : ℕ) → i < length old.rows → f < count → entry_of old i f ≡ m i (column f))
+    → (i f : ℕ) → i < length old.rows → f < count → entry_of new i f ≡ rows_after octets steps m i (column f)
+shows_after steps old new before after m column count fits performs shows i f l n =
     let height = length old.rows in
-    performs.entries i f l n
+    performs.entries i f l (omega arith)
     ∙ rows_after-column octets (range_with_len 0 height) steps (entry_of old) m f (column f) performs.among
     (λ r c. shows r f (All-contains (λ (q : ℕ). q < height) (range_with_len 0 height) r (below_range height) c) n) i (Contains-range height i l)

@@ -8,10 +8,9 @@ use Rattle.rq_standard.specs.OctetField.{octets}
 use Rattle.rq_bytes.specs.SymbolOps.{operation_of}
 use Rattle.rq_bytes.specs.declared.operation_vector.SymbolOps.{SymbolOps}
 use Rattle.rq_parts.specs.OctetTable.{OctetTable, entry_of}
-use Rattle.rq_solver.specs.Cleared.{AreRowsOfBits, AreOctetRows, ListsRows, IsCleared, IsUncleared, Performs, ClearsRows, ClearsOctets, HasPeeledPivots, one_in, system_rows}
+use Rattle.rq_solver.specs.Cleared.{AreRowsOfBits, AreOctetRows, ListsRows, IsCleared, IsUncleared, Performs, ClearsRows, ClearsOctets, HasLeading, HasPeeledPivots, one_in, system_rows}
 use Rattle.rq_solver.specs.Peeled.{ones_at, IsPeeled}
 use Rattle.rq_solver.specs.RowSteps.{rows_after}
-use Rattle.rq_solver.specs.RowWrites.{HoldsRows}
 use Rattle.rq_solver.proofs.OctetRows.{octet_row, bit_row, octet_row_or_bit_row}
 use Rattle.rq_solver.proofs.PivotTurns.{if_apart}
 use Rattle.rq_solver.proofs.StepColumns.{rows_after-next}
@@ -123,7 +122,7 @@ module _ (lists : List (List ℕ)) (first : ℕ) (hdpc : OctetTable) where
           }
 
           -- the entries that were read are octets: those of the frozen columns when the tables were filled, and the others afterwards
-          octets_small : (frozen : ℕ) → length rows + frozen ≡ width → HoldsRows (length lists) frozen (length lists) (λ r f. system_rows lists first hdpc r (at order (length rows + f))) zero → (i k : ℕ) → i < length hdpc.rows → k < width → entry_of hdpc i k < 256
+          octets_small : (frozen : ℕ) → length rows + frozen ≡ width → HasLeading (length lists) frozen (length lists) (λ r f. system_rows lists first hdpc r (at order (length rows + f))) zero → (i k : ℕ) → i < length hdpc.rows → k < width → entry_of hdpc i k < 256
           octets_small frozen wide holds i k l m =
               let j : ℕ = at places k in
               let placed = peeled.columns.placed k m in
@@ -135,11 +134,11 @@ module _ (lists : List (List ℕ)) (first : ℕ) (hdpc : OctetTable) where
                     let inside : f < frozen = omega (arith, placed.0) in
                     let row_in : first + i < length lists = omega (arith, are.within) in
                     let same : entry_of zero (first + i) f ≡ entry_of hdpc i k = holds.written (first + i) f row_in inside ∙ octets_at i (at order (length rows + f)) l ∙ ap (entry_of hdpc i) (ap (at order) back ∙ placed.1) in
-                    rw (← same) (holds.octets.elements (first + i) f (rw holds.height_is row_in) (rw holds.width_is inside))
+                    rw (← same) (holds.octets.elements (first + i) f (rw holds.height_is row_in) (omega (arith, holds.wide, inside)))
               ]
 
           -- the tables that were filled with the frozen columns show them
-          pub peeled_pivots : (frozen : ℕ) → length rows + frozen ≡ width → start ≡ [] → HoldsRows (length lists) frozen (length lists) (λ r f. system_rows lists first hdpc r (at order (length rows + f))) zero
+          pub peeled_pivots : (frozen : ℕ) → length rows + frozen ≡ width → start ≡ [] → HasLeading (length lists) frozen (length lists) (λ r f. system_rows lists first hdpc r (at order (length rows + f))) zero
               → HasPeeledPivots (length lists) width (system_rows lists first hdpc) rows order (drop (length rows) listed) two after
           peeled_pivots frozen wide empty holds =
               let done : List Operation = clears.steps ++ wipes.steps in
@@ -153,9 +152,9 @@ module _ (lists : List (List ℕ)) (first : ℕ) (hdpc : OctetTable) where
                 ];
                 among = rw recorded (rw holds.height_is at performs.among);
                 height_is = performs.height ∙ holds.height_is;
-                width_is = omega (arith, performs.width, holds.width_is, wide);
-                shows = λ r f l n. rw recorded (shows_after done zero two start after (system_rows lists first hdpc) (λ g. at order (length rows + g)) performs
-                    (λ i g o u. holds.written i g (rw holds.height_is at o) (rw holds.width_is at u)) r f (rw holds.height_is l) (rw performs.width at n));
+                wide = omega (arith, performs.width, holds.wide, wide);
+                shows = λ r f l n. rw recorded (shows_after done zero two start after (system_rows lists first hdpc) (λ g. at order (length rows + g)) frozen holds.wide performs
+                    (λ i g o u. holds.written i g (rw holds.height_is at o) u) r f (rw holds.height_is l) (omega arith));
                 pivots = λ p l. rw recorded (both.pivots p l);
                 others = λ r p c l. rw recorded (both.others r c p l);
                 octets = performs.octets;

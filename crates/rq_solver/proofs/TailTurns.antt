@@ -47,7 +47,7 @@ module _ (reduced : List ℕ) (row frozen : ℕ) where
       cleared = λ f l. elim (cases_eq f t) [ inl e ↦ rw e none | inr d ↦ v.cleared f (omega arith) ];
     }
 
-    module _ (in_rows : row < length old.rows) (wide : old.width ≡ frozen) (are : AreRows reduced old) (is : IsReduced reduced 0 frozen old) (apart : row ≢ at reduced t) (scalar : ℕ) (scalar_is : scalar ≡ entry_of cur row t) (new : OctetTable) (after : List SymbolOps)
+    module _ (in_rows : row < length old.rows) (wide : frozen ≤ old.width) (are : AreRows reduced old) (is : IsReduced reduced 0 frozen old) (apart : row ≢ at reduced t) (scalar : ℕ) (scalar_is : scalar ≡ entry_of cur row t) (new : OctetTable) (after : List SymbolOps)
         (performs : Performs (sum_step row (at reduced t) scalar ∷ []) cur new between after) where
       src_below : at reduced t < length old.rows
       src_below = are.below t (omega (arith, is.fits))
@@ -101,7 +101,7 @@ module _ (rows reduced : List ℕ) (frozen : ℕ) where
     cleared = λ p f l n. absurd (omega arith);
   }
 
-  module _ (t : ℕ) (old cur : OctetTable) (before between : List SymbolOps) (v : ClearsTails rows reduced frozen t old cur before between) (rows_are : AreRows rows old) (fits : t ≤ length rows) (wide : old.width ≡ frozen) where
+  module _ (t : ℕ) (old cur : OctetTable) (before between : List SymbolOps) (v : ClearsTails rows reduced frozen t old cur before between) (rows_are : AreRows rows old) (fits : t ≤ length rows) (wide : frozen ≤ old.width) where
     -- the reduced rows stay
     pub still_reduced : AreRows reduced old → ((p f : ℕ) → p < length rows → f < length reduced → at rows p ≢ at reduced f) → IsReduced reduced 0 frozen old → IsReduced reduced 0 frozen cur
     still_reduced are apart is =
@@ -175,7 +175,7 @@ module _ (rows left reduced : List ℕ) (frozen : ℕ) (permuted : IsPermutation
           ∙ stays_zero m k zeros r;
     }
 
-    pub frozen_pivots : AreRows rows mid → AreRows reduced mid → ((p f : ℕ) → p < length rows → f < length reduced → at rows p ≢ at reduced f) → mid.width ≡ frozen → IsReduced reduced 0 frozen mid → HasFrozenPivots rows reduced frozen new
+    pub frozen_pivots : AreRows rows mid → AreRows reduced mid → ((p f : ℕ) → p < length rows → f < length reduced → at rows p ≢ at reduced f) → frozen ≤ mid.width → IsReduced reduced 0 frozen mid → HasFrozenPivots rows reduced frozen new
     frozen_pivots rows_are reduced_are apart wide is = record {
       reduced = still_reduced rows reduced frozen (length rows) mid new between after clears rows_are (omega arith) wide reduced_are apart is;
       zeros = λ p f l n. clears.cleared p f l n;

@@ -46,6 +46,14 @@ pub record ListsRows (height : ℕ) (rows listed : List ℕ) : Type 0 where
   pub starts : (p : ℕ) → p < length rows → at listed p ≡ at rows p
   pub every : (r : ℕ) → r < height → Contains listed r
 
+-- In their first columns the first n rows are these, and the rest are zeros. A table may be wider.
+pub record HasLeading (height width n : ℕ) (wanted : ℕ → ℕ → ℕ) (table : OctetTable) : Type 0 where
+  pub height_is : length table.rows ≡ height
+  pub wide : width ≤ table.width
+  pub octets : HasOctets table
+  pub written : (i k : ℕ) → i < n → k < width → entry_of table i k ≡ wanted i k
+  pub left : (i k : ℕ) → n ≤ i → i < height → k < width → entry_of table i k ≡ 0
+
 -- ---- what a row has in the pivots' columns
 
 -- what a row of bits has there
@@ -131,8 +139,8 @@ pub record HasPeeledPivots (height width : ℕ) (system : ℕ → ℕ → ℕ) (
   pub elements : HasElements octets height width system
   pub among : All (IsStepAmong octets (range_with_len 0 height)) (map operation_of operations)
   pub height_is : length table.rows ≡ height
-  pub width_is : length rows + table.width ≡ width
-  pub shows : (r f : ℕ) → r < height → f < table.width → entry_of table r f ≡ rows_after octets (map operation_of operations) system r (at order (length rows + f))
+  pub wide : width ≤ length rows + table.width
+  pub shows : (r f : ℕ) → r < height → length rows + f < width → entry_of table r f ≡ rows_after octets (map operation_of operations) system r (at order (length rows + f))
   pub pivots : (p : ℕ) → p < length rows → IsCleared rows order (rows_after octets (map operation_of operations) system) (at rows p)
   pub others : (r p : ℕ) → Contains left r → p < length rows → rows_after octets (map operation_of operations) system r (at order p) ≡ 0
   pub octets : HasOctets table

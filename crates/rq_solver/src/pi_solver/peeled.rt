@@ -102,7 +102,8 @@ fn rows_of_columns(
     requires order { IsOrderOf (length peeling.now.places.items) peeling.now.order.items peeling.now.places.items }
     requires pivots { AreRows peeling.now.rows.items tails.old }
     requires listed { ListsRows (length tails.old.rows) peeling.now.rows.items listed.old }
-    requires frozen { length peeling.now.rows.items + tails.old.width ≡ length peeling.now.places.items }
+    requires few { length peeling.now.rows.items ≤ length peeling.now.places.items }
+    requires frozen { length peeling.now.places.items ≤ length peeling.now.rows.items + tails.old.width }
     requires octets { HasOctets tails.old }
     ensures found { IfOk result (λ answer. (system : ℕ → ℕ → ℕ) → HasPeeledPivots (length tails.old.rows) (length peeling.now.places.items) system peeling.now.rows.items peeling.now.order.items (drop (length peeling.now.rows.items) listed.old) tails.old operations.old.items → MatchOption answer (HasNullColumn octets (length tails.old.rows) (length peeling.now.places.items) system) (λ order. FindsColumn octets (length tails.old.rows) (length peeling.now.places.items) system (map operation_of operations.new.items ++ Reorder order.items ∷ []))) }
     ensures err { IfErr result (λ e. e ≡ OutOfMemory) }

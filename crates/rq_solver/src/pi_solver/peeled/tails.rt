@@ -1,12 +1,12 @@
 //! The entries of rows in frozen columns.
-ghost use Rattle.std.specs.Prelude.{◌≡◌, ◌≢◌, ℕ, ◌+◌, ◌<◌, ◌≤◌, Contains, IsPermutation, length, IfOk, OnOk, IfErr, MatchBool};
+ghost use Rattle.std.specs.Prelude.{◌≡◌, ◌≢◌, ℕ, ◌+◌, ◌-◌, ◌%◌, ◌^◌, ◌<◌, ◌≤◌, Contains, IsPermutation, length, IfOk, OnOk, IfErr, MatchBool};
 ghost use Rattle.rq_algebra.specs.Systems.{at};
 ghost use Rattle.rq_bytes.specs.declared.error.Error.TheVariants.{OutOfMemory};
 ghost use Rattle.rq_parts.specs.OctetTable.{entry_of};
-ghost use Rattle.rq_solver.specs.Cleared.{AreOctetRows, ClearsFrozen, ClearsTail, ClearsTails, HasFrozenPivots, PeelsRows, one_in, system_rows};
+ghost use Rattle.rq_solver.specs.Cleared.{AreOctetRows, ClearsFrozen, ClearsTail, ClearsTails, HasFrozenPivots, HasLeading, PeelsRows, one_in, system_rows};
 ghost use Rattle.rq_solver.specs.Peeled.{IsOrderOf};
 ghost use Rattle.rq_solver.specs.RowSteps.{AreRows, HasOctets, IsReduced, IsStuck};
-ghost use Rattle.rq_solver.specs.RowWrites.{HoldsRows, WritesRow};
+ghost use Rattle.rq_solver.specs.RowWrites.{WritesRow};
 
 use super::super::elimination::eliminate;
 use super::super::ones::RowOnes;
@@ -17,6 +17,8 @@ use rq_bytes::octet::Octet;
 use rq_bytes::operation_vector::SymbolOps;
 use rq_parts::octet_matrix::DenseOctetMatrix;
 use std::alloc::Global;
+
+const LANES: usize = 32;
 
 /// The entries of the rows in the frozen columns, in their order.
 pub(super) fn fill_tails(
@@ -30,10 +32,10 @@ pub(super) fn fill_tails(
     requires peeled { PeelsRows ones.now peeling.now }
     requires hdpc { AreOctetRows ones.now first_hdpc (length peeling.now.places.items) hdpc.now }
     requires frozen { length peeling.now.rows.items + frozen ≡ length peeling.now.places.items }
-    ensures tails { IfOk result (HoldsRows (length ones.now) frozen (length ones.now) (λ r f. system_rows ones.now first_hdpc hdpc.now r (at peeling.now.order.items (length peeling.now.rows.items + f)))) }
+    ensures tails { IfOk result (HasLeading (length ones.now) frozen (length ones.now) (λ r f. system_rows ones.now first_hdpc hdpc.now r (at peeling.now.order.items (length peeling.now.rows.items + f)))) }
     ensures err { IfErr result (λ e. e ≡ OutOfMemory) }
 {
-    let mut tails = DenseOctetMatrix::new(alloc, ones.height(), frozen, 0)?;
+    let mut tails = DenseOctetMatrix::new(alloc, ones.height(), whole_vectors(frozen), 0)?;
     for row in 0..ones.height() {
         if row >= first_hdpc && row - first_hdpc < hdpc.height() {
             fill_octets(hdpc, row - first_hdpc, peeling, frozen, row, &mut tails);
@@ -42,6 +44,17 @@ pub(super) fn fill_tails(
         }
     }
     Ok(tails)
+}
+
+/// The least number of octets, from this one on, that fills whole vectors: rows of such a length are
+/// added without octets that are left over.
+fn whole_vectors(octets: usize) -> usize
+    requires { octets < 2 ^ 63 }
+    ensures whole { result % 32 ≡ 0 }
+    ensures from { octets ≤ result }
+    ensures near { result < octets + 32 }
+{
+    octets + (LANES - octets % LANES) % LANES
 }
 
 /// Sets the entries of a row to those of a row of octets in the frozen columns.
@@ -57,7 +70,7 @@ fn fill_octets(
     requires frozen { length peeling.now.rows.items + frozen ≡ octets.now.width }
     requires from { from < length octets.now.rows }
     requires row { row < length tails.old.rows }
-    requires width { tails.old.width ≡ frozen }
+    requires width { frozen ≤ tails.old.width }
     requires octets { HasOctets tails.old }
     ensures { WritesRow row 0 frozen (λ f. entry_of octets.now from (at peeling.now.order.items (length peeling.now.rows.items + f))) tails.old tails.new }
 {
@@ -72,10 +85,10 @@ fn fill_bits(ones: &RowOnes, row: usize, peeling: &Peeling, tails: &mut DenseOct
     requires peeled { PeelsRows ones.now peeling.now }
     requires row { row < length ones.now }
     requires height { length tails.old.rows ≡ length ones.now }
-    requires width { length peeling.now.rows.items + tails.old.width ≡ length peeling.now.places.items }
+    requires width { length peeling.now.places.items ≤ length peeling.now.rows.items + tails.old.width }
     requires octets { HasOctets tails.old }
-    requires zeros { (f : ℕ) → f < tails.old.width → entry_of tails.old row f ≡ 0 }
-    ensures { WritesRow row 0 tails.old.width (λ f. one_in ones.now row (at peeling.now.order.items (length peeling.now.rows.items + f))) tails.old tails.new }
+    requires zeros { (f : ℕ) → f < length peeling.now.places.items - length peeling.now.rows.items → entry_of tails.old row f ≡ 0 }
+    ensures { WritesRow row 0 (length peeling.now.places.items - length peeling.now.rows.items) (λ f. one_in ones.now row (at peeling.now.order.items (length peeling.now.rows.items + f))) tails.old tails.new }
 {
     let pivots = peeling.rows.len();
     for column in ones.row(row) {
@@ -98,7 +111,7 @@ pub(super) fn clear_frozen(
     requires pivots { AreRows pivots.now tails.old }
     requires left { AreRows left.old tails.old }
     requires apart { (p : ℕ) → p < length pivots.now → Contains left.old (at pivots.now p) → ⊥ }
-    requires width { tails.old.width ≡ frozen }
+    requires width { frozen ≤ tails.old.width }
     requires octets { HasOctets tails.old }
     ensures permuted { IsPermutation left.old left.new }
     ensures rows { OnOk result (AreRows left.new tails.old) }
@@ -124,7 +137,7 @@ fn clear_tails(
     requires rows { AreRows rows.now tails.old }
     requires reduced_rows { AreRows reduced.now tails.old }
     requires apart { (p f : ℕ) → p < length rows.now → f < length reduced.now → at rows.now p ≢ at reduced.now f }
-    requires width { tails.old.width ≡ frozen }
+    requires width { frozen ≤ tails.old.width }
     requires octets { HasOctets tails.old }
     requires reduced { IsReduced reduced.now 0 frozen tails.old }
     ensures cleared { OnOk result (ClearsTails rows.now reduced.now frozen (length rows.now) tails.old tails.new operations.old.items operations.new.items) }
@@ -147,7 +160,7 @@ fn clear_tail(
     requires row { row < length tails.old.rows }
     requires reduced_rows { AreRows reduced.now tails.old }
     requires apart { (f : ℕ) → f < length reduced.now → row ≢ at reduced.now f }
-    requires width { tails.old.width ≡ frozen }
+    requires width { frozen ≤ tails.old.width }
     requires octets { HasOctets tails.old }
     requires reduced { IsReduced reduced.now 0 frozen tails.old }
     ensures cleared { OnOk result (ClearsTail reduced.now row frozen frozen tails.old tails.new operations.old.items operations.new.items) }

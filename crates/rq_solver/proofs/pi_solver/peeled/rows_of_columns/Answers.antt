@@ -31,11 +31,12 @@ returns-then-not-branch-clause-found c = λ system peeled.
     let rest = rest_is rows slice listed c.as_slice-pivots.ensures.value in
     let all : c.len.result ≡ length places = c.len.ensures ∙ c.args.peeling.now.places.ok.0 in
     let many : length slice ≡ length rows = ap length c.as_slice-pivots.ensures.value in
-    let narrow : middle.width ≡ frozen = omega (arith, c.requires.frozen, all, many) in
+    let wide : length rows + frozen ≡ length places = omega (arith, all, many, c.requires.few) in
+    let narrow : frozen ≤ middle.width = omega (arith, c.requires.frozen, all, many) in
     let ends : ClearsFrozen (drop (length rows) listed) middle last before final = subst (λ (l : List ℕ). ClearsFrozen l middle last before final) rest done.cleared in
     let permuted : IsPermutation (drop (length rows) listed) reduced = subst (λ (l : List ℕ). IsPermutation l reduced) rest done.permuted in
     let stuck : IsStuck reduced 0 frozen last = rw c.if-not-branch.true at done.found in
-    null_of_peeled (length middle.rows) (length places) system rows order places c.requires.order c.requires.pivots listed c.requires.listed frozen middle last before final peeled narrow ends reduced permuted stuck
+    null_of_peeled (length middle.rows) (length places) system rows order places c.requires.order c.requires.pivots listed c.requires.listed frozen middle last before final peeled wide narrow ends reduced permuted stuck
 
 pub returns-clause-found : goal.returns-clause-found
 returns-clause-found c = λ system peeled.
@@ -54,7 +55,8 @@ returns-clause-found c = λ system peeled.
     let rest = rest_is rows slice listed c.as_slice-pivots.ensures.value in
     let all : c.len.result ≡ length places = c.len.ensures ∙ c.args.peeling.now.places.ok.0 in
     let many : length slice ≡ length rows = ap length c.as_slice-pivots.ensures.value in
-    let narrow : middle.width ≡ frozen = omega (arith, c.requires.frozen, all, many) in
+    let wide : length rows + frozen ≡ length places = omega (arith, all, many, c.requires.few) in
+    let narrow : frozen ≤ middle.width = omega (arith, c.requires.frozen, all, many) in
     let ends : ClearsFrozen (drop (length rows) listed) middle last before final = subst (λ (l : List ℕ). ClearsFrozen l middle last before final) rest done.cleared in
     let permuted : IsPermutation (drop (length rows) listed) reduced = subst (λ (l : List ℕ). IsPermutation l reduced) rest done.permuted in
     let found : HasFrozenPivots slice reduced frozen last = rw c.if-not-branch.false at done.found in
@@ -66,4 +68,4 @@ returns-clause-found c = λ system peeled.
     let starts : (p : ℕ) → p < length rows → at pick p ≡ at rows p = (λ (p : ℕ) (l : p < length rows).
     placed_first (length slice) (length listed - length slice) listed reduced within p (omega (arith, many)) ∙ c.requires.listed.starts p l) in
     rw (c.in_ok-rows_at.ensures.rows, c.as_slice.ensures.value)
-    (finds_by_peeled (length middle.rows) (length places) system rows order places c.requires.order c.requires.pivots listed c.requires.listed frozen middle last before final peeled narrow ends reduced permuted here pick long starts)
+    (finds_by_peeled (length middle.rows) (length places) system rows order places c.requires.order c.requires.pivots listed c.requires.listed frozen middle last before final peeled wide narrow ends reduced permuted here pick long starts)

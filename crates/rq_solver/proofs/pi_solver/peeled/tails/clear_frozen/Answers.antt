@@ -1,5 +1,5 @@
 -- What the check leaves to show of `pi_solver::peeled::tails::clear_frozen`.
-use Rattle.std.proofs.Common.{Contains, sym, ◌∙◌, subst}
+use Rattle.std.proofs.Common.{Contains, sym, subst}
 use Rattle.std.proofs.lemmas.List.Elements.{Contains-get_or}
 use Rattle.std.proofs.lemmas.List.Sorted.{Contains-permutation, IsPermutation-sym}
 use Rattle.rq_algebra.specs.Systems.{at}
@@ -35,4 +35,4 @@ returns-clause-found c =
     frozen_pivots pivots left reduced c.args.frozen done.permuted c.args.tails.now c.eliminate.new.matrix c.args.operations.now.items c.eliminate.new.operations.items c.requires.left done.steps done.octets
     c.clear_tails.new.tails c.clear_tails.new.operations.items c.in_ok-clear_tails.ensures.cleared is.fits (rw done.steps.height c.requires.pivots) (rw done.steps.height done.rows)
     (λ p f l n e. c.requires.apart p l (subst (Contains left) (sym e) (Contains-permutation reduced left (at reduced f) (IsPermutation-sym left reduced done.permuted) (Contains-get_or reduced f 0 n))))
-    (done.steps.width ∙ c.requires.width) is
+    (rw done.steps.width c.requires.width) is
