@@ -20,7 +20,6 @@ use crate::replay::replay;
 use ones::RowOnes;
 use peeled::operations_of_peeled;
 use peeling::peel;
-use rows::copied_octets;
 use rq_bytes::error::Error;
 use rq_bytes::operation_vector::SymbolOps;
 use rq_bytes::symbol_slab::SymbolSlab;
@@ -111,12 +110,11 @@ impl<T: BinaryMatrix> IntermediateSymbolDecoder<T> {
         };
         let width = self.matrix.width();
         let ones = RowOnes::of_matrix(self.alloc, &self.matrix, self.boundary)?;
-        let hdpc = copied_octets(self.alloc, &self.hdpc, width)?;
         let peeling = peel(self.alloc, &ones, width, self.boundary)?;
         let Some(operations) = operations_of_peeled(
             self.alloc,
             &ones,
-            &hdpc,
+            &self.hdpc,
             self.first_hdpc,
             width,
             &peeling,

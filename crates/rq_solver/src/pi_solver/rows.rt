@@ -40,23 +40,6 @@ pub(crate) fn octet_rows<T: BinaryMatrix>(
     Ok(rows)
 }
 
-/// The same rows of octets in a matrix of their own.
-pub(super) fn copied_octets(
-    alloc: Global,
-    octets: &DenseOctetMatrix,
-    width: usize,
-) -> Result<DenseOctetMatrix, Error>
-    requires { octets.now.width ≡ width }
-    ensures rows { IfOk result (λ copy. HoldsRows (length octets.now.rows) width (length octets.now.rows) (entry_of octets.now) copy) }
-    ensures err { IfErr result (λ e. e ≡ OutOfMemory) }
-{
-    let mut rows = DenseOctetMatrix::new(alloc, octets.height(), width, 0)?;
-    for row in 0..octets.height() {
-        copy_octets(octets, row, width, &mut rows, row);
-    }
-    Ok(rows)
-}
-
 /// Copies a row of octets to a row.
 fn copy_octets(
     octets: &DenseOctetMatrix,

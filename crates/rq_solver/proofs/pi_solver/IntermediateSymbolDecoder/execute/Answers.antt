@@ -7,14 +7,15 @@ use Rattle.rq_bytes.specs.SymbolOps.{operation_of}
 use Rattle.rq_parts.specs.OctetTable.{entry_of}
 use Rattle.rq_solver.specs.Replay.{after_all}
 use Rattle.rq_solver.specs.Peeled.{AreOnesOfRows}
-use Rattle.rq_solver.proofs.HandedRows.{rows_of_bits, columns_below, octet_rows, finds_of, null_of}
+use Rattle.rq_solver.proofs.HandedRows.{rows_of_bits, octet_rows, finds_of, null_of}
+use Rattle.rq_solver.proofs.PeelingLaws.{columns_below}
 use Rattle.rq_solver.proofs.SolutionLaws.{is_solution, if_some}
 use Rattle.rq_solver.proofs.pi_solver.IntermediateSymbolDecoder.execute.Goals as goal
 
 pub peel-requires-clause-columns : goal.peel-requires-clause-columns
 peel-requires-clause-columns g c =
     let m = g.T.BinaryMatrix.content c.args.self.now.matrix in
-    rw c.width-width.ensures.width (columns_below m c.in_ok-ones.ones (g.met.T.BinaryMatrix.is_table c.args.self.now.matrix) c.in_ok-ones.ensures.ones)
+    rw c.width-width.ensures.width (columns_below m.height m.width m.bit c.in_ok-ones.ones c.in_ok-ones.ensures.ones)
 
 pub operations_of_peeled-requires-clause-bits : goal.operations_of_peeled-requires-clause-bits
 operations_of_peeled-requires-clause-bits g c =
@@ -25,7 +26,7 @@ pub operations_of_peeled-requires-clause-hdpc : goal.operations_of_peeled-requir
 operations_of_peeled-requires-clause-hdpc g c =
     let solver = c.args.self.now in
     let m = g.T.BinaryMatrix.content solver.matrix in
-    rw c.width-width.ensures.width (octet_rows m c.in_ok-ones.ones (g.met.T.BinaryMatrix.is_table solver.matrix) c.in_ok-ones.ensures.ones solver.first_hdpc solver.hdpc c.in_ok-hdpc.hdpc (rw c.width-width.ensures.width at c.in_ok-hdpc.ensures.rows) solver.within solver.empty)
+    rw c.width-width.ensures.width (octet_rows m c.in_ok-ones.ones (g.met.T.BinaryMatrix.is_table solver.matrix) c.in_ok-ones.ensures.ones solver.first_hdpc solver.hdpc solver.octet_columns solver.within solver.empty)
 
 pub replay-requires : goal.replay-requires
 replay-requires g c =
@@ -33,7 +34,7 @@ replay-requires g c =
     let m = g.T.BinaryMatrix.content solver.matrix in
     let width = c.width-width.ensures.width in
     let operations = map operation_of c.in-Some-2.operations.items in
-    let finds = finds_of m c.in_ok-ones.ones (g.met.T.BinaryMatrix.is_table solver.matrix) c.in_ok-ones.ensures.ones solver.first_hdpc solver.hdpc c.in_ok-hdpc.hdpc (rw width at c.in_ok-hdpc.ensures.rows) solver.within c.width-width.result operations width (rw c.in-Some-2.is at c.in_ok-operations.ensures.found) in
+    let finds = finds_of m c.in_ok-ones.ones (g.met.T.BinaryMatrix.is_table solver.matrix) c.in_ok-ones.ensures.ones (λ bit. with_octet_rows solver.first_hdpc (length solver.hdpc.rows) bit (entry_of solver.hdpc)) c.width-width.result operations width (rw c.in-Some-2.is at c.in_ok-operations.ensures.found) in
     let handed = c.in-Some.symbols in
     let some = sym c.in-Some.ensures.value in
     subst (λ (l : List SymbolOps). AreAllowed (length handed.values) handed.order (map operation_of l)) (sym c.as_slice.ensures.value)
@@ -45,7 +46,7 @@ returns-in_default-2-clause-solved g c =
     let m = g.T.BinaryMatrix.content solver.matrix in
     let width = c.width-width.ensures.width in
     if_some solver.symbols c.in-Some.symbols _ (sym c.in-Some.ensures.value)
-    (null_of m c.in_ok-ones.ones (g.met.T.BinaryMatrix.is_table solver.matrix) c.in_ok-ones.ensures.ones solver.first_hdpc solver.hdpc c.in_ok-hdpc.hdpc (rw width at c.in_ok-hdpc.ensures.rows) solver.within c.width-width.result width (rw c.in_default-2.is at c.in_ok-operations.ensures.found))
+    (null_of m c.in_ok-ones.ones (g.met.T.BinaryMatrix.is_table solver.matrix) c.in_ok-ones.ensures.ones (λ bit. with_octet_rows solver.first_hdpc (length solver.hdpc.rows) bit (entry_of solver.hdpc)) c.width-width.result width (rw c.in_default-2.is at c.in_ok-operations.ensures.found))
 
 pub returns-clause-solved : goal.returns-clause-solved
 returns-clause-solved g c =
@@ -55,7 +56,7 @@ returns-clause-solved g c =
     let rows = with_octet_rows solver.first_hdpc (length solver.hdpc.rows) m.bit (entry_of solver.hdpc) in
     let handed = c.in-Some.symbols in
     let operations = map operation_of c.in-Some-2.operations.items in
-    let finds = finds_of m c.in_ok-ones.ones (g.met.T.BinaryMatrix.is_table solver.matrix) c.in_ok-ones.ensures.ones solver.first_hdpc solver.hdpc c.in_ok-hdpc.hdpc (rw width at c.in_ok-hdpc.ensures.rows) solver.within c.width-width.result operations width (rw c.in-Some-2.is at c.in_ok-operations.ensures.found) in
+    let finds = finds_of m c.in_ok-ones.ones (g.met.T.BinaryMatrix.is_table solver.matrix) c.in_ok-ones.ensures.ones (λ bit. with_octet_rows solver.first_hdpc (length solver.hdpc.rows) bit (entry_of solver.hdpc)) c.width-width.result operations width (rw c.in-Some-2.is at c.in_ok-operations.ensures.found) in
     if_some solver.symbols handed _ (sym c.in-Some.ensures.value)
     (is_solution m.height m.width rows operations finds handed c.replay.new.symbols (solver.unordered handed (sym c.in-Some.ensures.value))
     (c.in_ok-replay.ensures.ok ∙ ap (λ (l : List SymbolOps). after_all (map operation_of l) handed) c.as_slice.ensures.value))
