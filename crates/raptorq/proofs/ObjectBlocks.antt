@@ -19,8 +19,7 @@ use Rattle.rq_standard.proofs.ObjectAnswers.{joined_some, joined_each, some_of}
 use Rattle.raptorq.specs.Blocks.{held_of}
 use Rattle.raptorq.specs.Objects.{held_at, answer_at, answer_of}
 use Rattle.raptorq.specs.Refused.{block_refusal}
-use Rattle.raptorq.proofs.Encodes.{at_any}
-use Rattle.raptorq.proofs.Numbered.{length-mapped, mapped_at}
+use Rattle.raptorq.proofs.Numbered.{length-mapped}
 use Rattle.raptorq.specs.declared.decoder.object.ObjectBlock.{ObjectBlock}
 
 abbrev pub number_of : ObjectBlock → ℕ

@@ -1,6 +1,6 @@
 -- Octets as symbols of one octet each, and the sums at the places of ids.
-use Rattle.std.proofs.Common.{◌≡◌, ℕ, zero, suc, ◌+◌, ◌<◌, ◌≤◌, List, [], ◌∷◌, ◌++◌, length, map, take, drop, get_or, replicate, Option, None, refl, sym, ap, ◌∙◌, subst, arith, append-nil}
-use Rattle.std.proofs.lemmas.List.{length-map, get_or-map, nil_from_length, length-drop, length-replicate}
+use Rattle.std.proofs.Common.{◌≡◌, ℕ, ◌+◌, ◌<◌, ◌≤◌, List, [], ◌∷◌, ◌++◌, length, map, drop, refl, sym, ap, ◌∙◌, subst, arith, append-nil}
+use Rattle.std.proofs.lemmas.List.{length-map, get_or-map, nil_from_length, length-drop}
 use Rattle.rq_algebra.specs.Systems.{at, IsColumn}
 use Rattle.rq_algebra.specs.Symbols.{IsSymbol, IsSymbolColumn}
 use Rattle.rq_bytes.specs.Ranges.{cut, with_range}
@@ -9,7 +9,7 @@ use Rattle.rq_standard.specs.declared.row.Row.{Row}
 use Rattle.rq_standard.specs.OctetField.{octets}
 use Rattle.rq_standard.specs.TableRows.{IsChecked, intermediate_symbols}
 use Rattle.rq_standard.specs.Equations.{tuple_sum}
-use Rattle.rq_standard.specs.Differences.{plain_sum, first_octet}
+use Rattle.rq_standard.specs.Differences.{plain_sum}
 use Rattle.rq_standard.proofs.Columns.{sum_same}
 use Rattle.rq_standard.proofs.Differences.{wide, wide_symbols, wide_sum}
 

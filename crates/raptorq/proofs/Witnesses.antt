@@ -1,23 +1,21 @@
 -- The bytes of an object that isn't answered: what each block makes of them.
-use Rattle.std.proofs.Common.{◌≡◌, ◌≢◌, ◌↔◌, ℕ, zero, suc, ◌+◌, ◌<◌, ◌≤◌, cond, eqb, Bool, true, false, List, [], ◌∷◌, ◌++◌, length, get_or, take, map, All, Option, Some, None, refl, sym, ap, ◌∙◌, subst, arith, inl, inr}
-use Rattle.std.specs.Prelude.{IsSome, IfSome, is_some, is_none, unwrap_or, MatchBool, MatchOption, ◌&&◌}
+use Rattle.std.proofs.Common.{◌≡◌, ◌≢◌, ℕ, zero, suc, ◌+◌, ◌<◌, ◌≤◌, cond, eqb, Bool, true, false, List, [], ◌∷◌, ◌++◌, length, get_or, take, map, All, Option, Some, None, refl, sym, ap, ◌∙◌, subst, arith, inl, inr}
+use Rattle.std.specs.Prelude.{IsSome, is_some, is_none, unwrap_or, MatchBool, ◌&&◌}
 use Rattle.std.specs.List.{range_with_len}
 use Rattle.std.proofs.lemmas.Bool.{cases_lt, eq-eqb, ne_eqb}
 use Rattle.rq_algebra.specs.Systems.{at, IsColumn}
-use Rattle.rq_standard.specs.declared.row.Row.{Row}
 use Rattle.rq_standard.specs.OctetField.{octets}
 use Rattle.rq_standard.specs.TableRows.{IsChecked, intermediate_symbols}
 use Rattle.rq_standard.specs.Configuration.{Configuration, IsAligned}
 use Rattle.rq_standard.specs.Cutting.{block_symbols}
-use Rattle.rq_standard.specs.Determined.{SolvesZeros, known_ids, IsHomogeneous}
+use Rattle.rq_standard.specs.Determined.{SolvesZeros, known_ids}
 use Rattle.rq_standard.specs.Differences.{AreUnansweredDetermined, IsDifference, first_octets_block, plain_sum}
 use Rattle.rq_standard.specs.Held.{Held, holds, AreHeldDetermining}
-use Rattle.rq_standard.specs.Standing.{State}
 use Rattle.rq_standard.proofs.BlockCuts.{pieces}
 use Rattle.rq_standard.proofs.Differences.{zeros_solve, zeros_are_octets}
-use Rattle.rq_standard.proofs.OtherObjects.{HasRow, AreColumns, bytes_of, is_difference}
+use Rattle.rq_standard.proofs.OtherObjects.{HasRow, is_difference}
 use Rattle.raptorq.specs.Blocks.{held_of}
-use Rattle.raptorq.specs.Objects.{held_at, answer_at, answer_of}
+use Rattle.raptorq.specs.Objects.{held_at, answer_at}
 use Rattle.raptorq.specs.Difference.{ShowsUnanswered, octets_of_column}
 use Rattle.raptorq.specs.declared.decoder.object.ObjectBlock.{ObjectBlock}
 use Rattle.raptorq.proofs.Numbered.{length-numbered, number_at}

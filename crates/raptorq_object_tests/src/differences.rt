@@ -49,7 +49,10 @@ fn nine_packets_of_ten_symbols(rt: HostRuntime) -> Result<(), Fail> {
         assert!(rt; decoder.get_result()?.is_none(), "from {start} on");
         let difference = decoder.difference()?.ok_or("no difference")?;
         assert_eq!(rt; difference.len(), 10, "from {start} on");
-        assert!(rt; difference.as_slice() != [0; 10].as_slice(), "from {start} on");
+        assert!(rt;
+            difference.as_slice() != [0; 10].as_slice(),
+            "from {start} on"
+        );
         let makes = makes_zeros(alloc, &table, information, difference.as_slice(), start)?;
         assert!(rt; makes, "from {start} on");
         for esi in 0..10 {

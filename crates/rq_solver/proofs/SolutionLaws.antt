@@ -1,5 +1,5 @@
 -- What a solver answers, from operations that find the column.
-use Rattle.std.proofs.Common.{◌≡◌, ◌<◌, ℕ, List, Option, None, Some, IfSome, IfOk, Result, Vec, Global, length, refl, sym, ap, ◌∙◌, subst, arith}
+use Rattle.std.proofs.Common.{◌≡◌, ◌<◌, ℕ, List, Option, None, Some, IfSome, IfOk, Result, Vec, Global, refl, sym, ap, ◌∙◌, subst, arith}
 use Rattle.rq_algebra.specs.Field.{Field}
 use Rattle.rq_algebra.specs.Systems.{HasNullColumn, at}
 use Rattle.rq_algebra.specs.Operations.{Operation, Reorder, Store, step, run, read, unordered}
@@ -12,9 +12,7 @@ use Rattle.rq_standard.specs.OctetField.{octets}
 use Rattle.rq_bytes.specs.declared.error.Error.{Error}
 use Rattle.rq_bytes.specs.declared.operation_vector.SymbolOps.{SymbolOps}
 use Rattle.rq_bytes.specs.Slab.{Slab, store_of, symbol_in, HasPlace}
-use Rattle.rq_parts.specs.OctetTable.{OctetTable, entry_of}
 use Rattle.rq_solver.specs.Replay.{after_all}
-use Rattle.rq_solver.specs.RowWrites.{HoldsRows}
 use Rattle.rq_solver.specs.Solving.{IsSolution, IsOutcome, Solver}
 use Rattle.rq_solver.proofs.RowStepLaws.{SameEntries}
 

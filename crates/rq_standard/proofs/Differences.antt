@@ -1,35 +1,23 @@
 -- Where the packets of an object don't determine it, another object makes them too.
-use Rattle.std.proofs.Common.{◌≡◌, ◌≢◌, ℕ, zero, suc, ◌+◌, ◌-◌, ◌*◌, ◌<◌, ◌≤◌, ◌⊎◌, cond, eqb, ltb, Bool, true, false, List, [], ◌∷◌, All, length, get_or, Option, Some, None, refl, sym, ap, ◌∙◌, subst, arith, inl, inr}
-use Rattle.std.specs.Prelude.{is_some, IsSome, ◌&&◌}
-use Rattle.std.specs.List.{AllByRecursion}
-use Rattle.std.proofs.lemmas.Bool.{cases_lt, cases_eq, lt-ltb, le-ltb, eq-eqb, ne_eqb}
+use Rattle.std.proofs.Common.{◌≡◌, ◌≢◌, ℕ, zero, suc, ◌+◌, ◌-◌, ◌<◌, ◌≤◌, ◌⊎◌, cond, ltb, Bool, true, List, length, get_or, refl, sym, ap, ◌∙◌, arith, inl, inr}
+use Rattle.std.proofs.lemmas.Bool.{cases_lt, cases_eq, lt-ltb, le-ltb}
 use Rattle.std.proofs.lemmas.List.{ext_get_or, get_or_past, length-replicate}
 use Rattle.std.proofs.lemmas.List.FromFn.{length-range_with_len}
 use Rattle.std.proofs.lemmas.List.Elements.{All-from_get_or}
-use Rattle.rq_algebra.specs.Systems.{dot, at, Solves, IsColumn, rows_of}
+use Rattle.rq_algebra.specs.Systems.{dot, at, IsColumn, rows_of}
 use Rattle.rq_algebra.specs.Symbols.{add_symbols, IsSymbol, IsSymbolColumn, slice_at}
 use Rattle.rq_algebra.proofs.Placewise.{at-zeros, add_symbols_at}
 use Rattle.rq_algebra.proofs.Stacks.{stacked_above, stacked_below}
-use Rattle.rq_algebra.proofs.Sums.{add_twice, mul_zero, dot_same, dot_zero, dot_add_column, dot_below_size}
-use Rattle.rq_algebra.proofs.SymbolSums.{add_symbols_comm, add_zeros, same_symbol, length-add_symbols, add_is_symbol}
+use Rattle.rq_algebra.proofs.Sums.{mul_zero, dot_same, dot_zero, dot_add_column, dot_below_size}
+use Rattle.rq_algebra.proofs.SymbolSums.{add_zeros, same_symbol, add_is_symbol}
 use Rattle.rq_standard.specs.declared.row.Row.{Row}
 use Rattle.rq_standard.specs.OctetField.{octets}
 use Rattle.rq_standard.specs.TableRows.{IsChecked, intermediate_symbols}
-use Rattle.rq_standard.specs.Packet.{Packet}
-use Rattle.rq_standard.specs.Configuration.{Configuration, IsAligned}
-use Rattle.rq_standard.specs.Cutting.{block_symbols, symbols_before, sub_block_size, block_bytes, symbol_of_block, source_symbol}
 use Rattle.rq_standard.specs.Equations.{fixed_equations, symbol_coefficient, equations, equation_count, equation_values, zero_symbol, tuple_sum, internal_id, source_ids, IsNonsingular, IsIntermediateColumn, IsEncodingSymbol}
-use Rattle.rq_standard.specs.Received.{or_later, payload_for, first_payload, has_id}
-use Rattle.rq_standard.specs.Determined.{SolvesZeros, known_ids, DetermineBlock}
-use Rattle.rq_standard.specs.Encoded.{block_row, block_source, IsPacketOf, HasNonsingularRows, IsAnswerable}
-use Rattle.rq_standard.specs.Differences.{Fits, IsOnlyObject, xor_bytes, EncodesToZeros, plain_sum, first_octet}
-use Rattle.rq_standard.proofs.BlockCuts.{block_byte}
+use Rattle.rq_standard.specs.Determined.{SolvesZeros, known_ids}
+use Rattle.rq_standard.specs.Differences.{plain_sum, first_octet}
 use Rattle.rq_standard.proofs.Columns.{sum_symbol, sum_at}
-use Rattle.rq_standard.proofs.FirstOctets.{first_octets_object, length-first_octets_object, symbol_of_object, object_at_first, first_is_before_end}
-use Rattle.rq_standard.proofs.Interleaved.{get_or-symbol_of_block}
 use Rattle.rq_standard.proofs.Known.{to_list, known_source, known_padding, known_repair, range_at}
-use Rattle.rq_standard.proofs.PlainCut.{length-block_bytes}
-use Rattle.rq_standard.proofs.Standing.{length-symbol_of_block, length-block_source, source_at}
 
 -- ---- symbols are added
 
@@ -47,11 +35,11 @@ module _ (row : Row) (size : ℕ) (checked : IsChecked row) where
       let n = intermediate_symbols row in
       let both : IsSymbolColumn octets size n (λ k. add_symbols octets (x k) (y k)) = λ k l. add_is_symbol octets size (x k) (y k) (are_x k l) (are_y k l) in
       same_symbol octets size (tuple_sum row (λ k. add_symbols octets (x k) (y k)) e) (add_symbols octets (tuple_sum row x e) (tuple_sum row y e))
-          (sum_symbol row size e (λ k. add_symbols octets (x k) (y k)) checked both) (add_is_symbol octets size (tuple_sum row x e) (tuple_sum row y e) (sum_symbol row size e x checked are_x) (sum_symbol row size e y checked are_y))
-          (λ p. sum_at row size e (λ k. add_symbols octets (x k) (y k)) checked both p
-          ∙ dot_same octets n (symbol_coefficient row e) (symbol_coefficient row e) (slice_at p (λ k. add_symbols octets (x k) (y k))) (λ k. octets.add (slice_at p x k) (slice_at p y k)) (λ k l. refl) (λ k l. add_symbols_at octets p (x k) (y k))
-          ∙ dot_add_column octets n (symbol_coefficient row e) (slice_at p x) (slice_at p y)
-          ∙ cc (sum_at row size e x checked are_x p, sum_at row size e y checked are_y p, add_symbols_at octets p (tuple_sum row x e) (tuple_sum row y e)))
+      (sum_symbol row size e (λ k. add_symbols octets (x k) (y k)) checked both) (add_is_symbol octets size (tuple_sum row x e) (tuple_sum row y e) (sum_symbol row size e x checked are_x) (sum_symbol row size e y checked are_y))
+      (λ p. sum_at row size e (λ k. add_symbols octets (x k) (y k)) checked both p
+      ∙ dot_same octets n (symbol_coefficient row e) (symbol_coefficient row e) (slice_at p (λ k. add_symbols octets (x k) (y k))) (λ k. octets.add (slice_at p x k) (slice_at p y k)) (λ k l. refl) (λ k l. add_symbols_at octets p (x k) (y k))
+      ∙ dot_add_column octets n (symbol_coefficient row e) (slice_at p x) (slice_at p y)
+      ∙ cc (sum_at row size e x checked are_x p, sum_at row size e y checked are_y p, add_symbols_at octets p (tuple_sum row x e) (tuple_sum row y e)))
 
   module _ (xs ys zs : List (List ℕ)) (added : (i : ℕ) → get_or zs i (zero_symbol size) ≡ add_symbols octets (get_or xs i (zero_symbol size)) (get_or ys i (zero_symbol size))) where
     value-add : (i : ℕ) → equation_values row size zs i ≡ add_symbols octets (equation_values row size xs i) (equation_values row size ys i)
@@ -125,8 +113,8 @@ module _ (size : ℕ) (pos : 0 < size) where
     pub wide_sum : (e : ℕ) → tuple_sum row (wide size x) e ≡ first_octet size (plain_sum row x e)
     wide_sum e =
         same_symbol octets size (tuple_sum row (wide size x) e) (first_octet size (plain_sum row x e)) (sum_symbol row size e (wide size x) checked wide_symbols)
-            (octet_symbol (plain_sum row x e) (dot_below_size octets (intermediate_symbols row) (symbol_coefficient row e) x))
-            (λ p. sum_at row size e (wide size x) checked wide_symbols p ∙ by_place p) where
+        (octet_symbol (plain_sum row x e) (dot_below_size octets (intermediate_symbols row) (symbol_coefficient row e) x))
+        (λ p. sum_at row size e (wide size x) checked wide_symbols p ∙ by_place p) where
           by_place : (p : ℕ) → dot octets (intermediate_symbols row) (symbol_coefficient row e) (slice_at p (wide size x)) ≡ at (first_octet size (plain_sum row x e)) p
           by_place zero = refl
           by_place (suc p) = dot_later (symbol_coefficient row e) p ∙ sym (at-zeros (size - 1) p)

@@ -1,5 +1,5 @@
 -- Symbols of which only the first octet may be nonzero: that octet stands before the object's padding, in every cutting.
-use Rattle.std.proofs.Common.{◌≡◌, ◌≢◌, ℕ, zero, suc, ◌+◌, ◌-◌, ◌*◌, ◌/◌, ◌%◌, ◌<◌, ◌≤◌, ◌⊎◌, cond, ltb, eqb, Bool, true, false, List, [], ◌∷◌, ◌++◌, length, take, get_or, set, replicate, map, refl, sym, ap, ◌∙◌, subst, arith, inl, inr, length-append}
+use Rattle.std.proofs.Common.{◌≡◌, ◌≢◌, ℕ, zero, suc, ◌+◌, ◌-◌, ◌*◌, ◌/◌, ◌%◌, ◌<◌, ◌≤◌, ◌⊎◌, cond, ltb, eqb, Bool, true, false, List, length, take, get_or, set, replicate, map, refl, sym, ap, ◌∙◌, subst, arith, inl, inr, length-append}
 use Rattle.std.specs.Prelude.{◌&&◌}
 use Rattle.std.specs.List.{range_with_len}
 use Rattle.std.proofs.Math.Nat.{mul-le-mul_right, mul-mod_left}
@@ -11,10 +11,9 @@ use Rattle.std.proofs.lemmas.List.FromFn.{length-map-range_with_len, get_or-map-
 use Rattle.rq_algebra.proofs.Placewise.{at-zeros}
 use Rattle.rq_standard.specs.Configuration.{Configuration, IsAligned, total_symbols}
 use Rattle.rq_standard.specs.Cutting.{block_symbols, symbols_before, sub_block_size, sub_block_start, place_in_block, block_bytes, symbol_of_block, source_symbol}
-use Rattle.rq_standard.specs.Equations.{zero_symbol}
 use Rattle.rq_standard.specs.Differences.{first_octet, first_octets_block}
 use Rattle.rq_standard.proofs.BlockCuts.{pieces, symbols_before-first, symbols_before-next, symbols_before-all}
-use Rattle.rq_standard.proofs.Interleaved.{IsSubBlock, HasByte, at_byte, place_in, place_below, get_or-symbol_of_block}
+use Rattle.rq_standard.proofs.Interleaved.{IsSubBlock, at_byte, place_in, place_below, get_or-symbol_of_block}
 use Rattle.rq_standard.proofs.Standing.{length-symbol_of_block}
 
 -- ---- where first octets stand
@@ -88,6 +87,7 @@ module _ (c : Configuration) (pos : 0 < c.symbol_size) (aligned : IsAligned c) w
                 | inr past ↦ past
                 | inl lt ↦ let b : i / z + 1 ≤ k = omega arith in absurd (omega (arith, mul-le-mul_right z b, div-add-mod' i z, mod_below i z first_sub_block.positive))
               ]
+
           past_all : (q : ℕ) (b : Bool) → k ≤ q → cond (b && ltb q k) (octet q) 0 ≡ 0
           past_all q true past = ap (λ b. cond b (octet q) 0) (le-ltb q k past)
           past_all q false past = refl
@@ -241,6 +241,7 @@ module _ (c : Configuration) (k : ℕ) (octet : ℕ → ℕ) where
         neither : (t : Bool) (v : ℕ) → cond (t && false) v 0 ≡ 0
         neither true v = refl
         neither false v = refl
+
         none : (t : Bool) (q : ℕ) → cond (t && ltb q 0) (octet q) 0 ≡ 0
         none t q = ap (λ b. cond (t && b) (octet q) 0) (le-ltb q 0 (omega arith)) ∙ neither t (octet q)
 
@@ -272,10 +273,12 @@ module _ (c : Configuration) (k : ℕ) (octet : ℕ → ℕ) where
         ]) where
           positive : 0 < sub_block_size c 0
           positive = (first_sub_block c pos aligned).positive
+
           here : (z : ℕ) → z ≡ sub_block_size c 0 → cond (eqb (n * z % z) 0 && ltb (n * z / z) (n + 1)) (octet (n * z / z)) 0 ≡ octet n
           here z same =
               let quotient : n * z / z ≡ n = ap (λ m. m / z) (let s : n * z ≡ n * z + 0 = omega arith in s) ∙ div-mul-add n z 0 (omega (arith, same, positive)) in
               ap (λ m. cond (eqb (n * z % z) 0 && ltb m (n + 1)) (octet m) 0) quotient ∙ ap (λ b. cond (b && ltb n (n + 1)) (octet n) 0) (eq-eqb (n * z % z) 0 (mul-mod_left n z)) ∙ ap (λ b. cond b (octet n) 0) (lt-ltb n (n + 1) (omega arith))
+
           elsewhere : (z i : ℕ) → i ≢ n * z → cond (eqb (i % z) 0 && ltb (i / z) n) (octet (i / z)) 0 ≡ cond (eqb (i % z) 0 && ltb (i / z) (n + 1)) (octet (i / z)) 0
           elsewhere z i ne = elim (cases_eq (i % z) 0) [
             | inr d ↦ ap (λ b. cond (b && ltb (i / z) n) (octet (i / z)) 0) (ne_eqb (i % z) 0 d) ∙ sym (ap (λ b. cond (b && ltb (i / z) (n + 1)) (octet (i / z)) 0) (ne_eqb (i % z) 0 d))

@@ -1,8 +1,8 @@
 -- Two objects that make the same packets differ by one whose symbols for these packets are zero.
-use Rattle.std.proofs.Common.{◌≡◌, ◌≢◌, ◌↔◌, ℕ, zero, suc, ◌+◌, ◌*◌, ◌/◌, ◌%◌, ◌<◌, ◌≤◌, ◌⊎◌, cond, eqb, ltb, Bool, true, false, List, [], ◌∷◌, length, get_or, Option, Some, None, refl, sym, ap, ◌∙◌, subst, arith, inl, inr}
+use Rattle.std.proofs.Common.{◌≡◌, ◌≢◌, ◌↔◌, ℕ, ◌+◌, ◌*◌, ◌<◌, ◌≤◌, cond, eqb, Bool, true, false, List, [], ◌∷◌, length, get_or, Option, Some, None, refl, sym, ap, ◌∙◌, subst, arith, inl, inr}
 use Rattle.std.specs.Prelude.{is_some, IsSome, ◌&&◌}
 use Rattle.std.specs.List.{AllByRecursion}
-use Rattle.std.proofs.lemmas.Bool.{cases_lt, cases_eq, eqb-true, eq-eqb}
+use Rattle.std.proofs.lemmas.Bool.{cases_lt, eqb-true, eq-eqb}
 use Rattle.std.proofs.lemmas.List.{ext_get_or, get_or_past}
 use Rattle.rq_algebra.specs.Systems.{IsColumn}
 use Rattle.rq_algebra.specs.Symbols.{add_symbols}
@@ -15,16 +15,16 @@ use Rattle.rq_standard.specs.TableRows.{IsChecked, intermediate_symbols}
 use Rattle.rq_standard.specs.Packet.{Packet}
 use Rattle.rq_standard.specs.Configuration.{Configuration, IsAligned}
 use Rattle.rq_standard.specs.Cutting.{block_symbols, symbols_before, sub_block_size, place_in_block, block_bytes, symbol_of_block}
-use Rattle.rq_standard.specs.Equations.{zero_symbol, symbol_coefficient, internal_id, tuple_sum, IsNonsingular, IsEncodingSymbol}
+use Rattle.rq_standard.specs.Equations.{zero_symbol, symbol_coefficient, internal_id, IsNonsingular, IsEncodingSymbol}
 use Rattle.rq_standard.specs.Received.{or_later, payload_for, first_payload, has_id}
-use Rattle.rq_standard.specs.Determined.{SolvesZeros, known_ids, DetermineBlock}
+use Rattle.rq_standard.specs.Determined.{SolvesZeros, known_ids}
 use Rattle.rq_standard.specs.Encoded.{block_row, block_source, IsPacketOf, HasNonsingularRows, IsAnswerable}
 use Rattle.rq_standard.specs.Held.{Held, holds}
-use Rattle.rq_standard.specs.Standing.{State, IsHeldOf, BlockStands, StandsBut, Stands, IsObjectAnswer}
-use Rattle.rq_standard.specs.Differences.{Fits, IsOnlyObject, xor_bytes, EncodesToZeros, IsDifference, MakesOthersFit, AreUnansweredDetermined, plain_sum, first_octet, first_octets_block}
+use Rattle.rq_standard.specs.Standing.{State, IsHeldOf, BlockStands, Stands, IsObjectAnswer}
+use Rattle.rq_standard.specs.Differences.{Fits, IsOnlyObject, xor_bytes, EncodesToZeros, IsDifference, MakesOthersFit, plain_sum, first_octet}
 use Rattle.rq_standard.proofs.BlockCuts.{block_byte}
 use Rattle.rq_standard.proofs.Columns.{sum_symbol}
-use Rattle.rq_standard.proofs.Differences.{length-zero, add_zero_symbols, encoding-add, known_are_zeros, zero_octet, zeros_solve, zeros_are_octets, zero_dot, zeros_encode, no_change_is_zero, some_change}
+use Rattle.rq_standard.proofs.Differences.{length-zero, add_zero_symbols, encoding-add, known_are_zeros, zeros_solve, zeros_are_octets, zeros_encode, no_change_is_zero, some_change}
 use Rattle.rq_standard.proofs.FirstOctets.{first_octets_object, zero_octets, length-first_octets_object, block_of_first_octets, symbol_of_object, object_at_first, first_is_before_end}
 use Rattle.rq_standard.proofs.Interleaved.{get_or-symbol_of_block}
 use Rattle.rq_standard.proofs.PlainCut.{length-block_bytes}
@@ -83,9 +83,11 @@ all_came [] = tt
 all_came (p ∷ packets) = (here (first_payload p.id.block packets p.id.esi), later packets (all_came packets)) where
   here : (o : Option (List ℕ)) → is_some (or_later (payload_for p.id.block p p.id.esi) o) ≡ true
   here o = ap (λ t. is_some (or_later (cond (t && eqb p.id.esi p.id.esi) (Some p.payload) None) o)) (eq-eqb p.id.block p.id.block refl) ∙ ap (λ t. is_some (or_later (cond t (Some p.payload) None) o)) (eq-eqb p.id.esi p.id.esi refl)
+
   stays : (a o : Option (List ℕ)) → is_some o ≡ true → is_some (or_later a o) ≡ true
   stays None o h = h
   stays (Some z) o h = refl
+
   later : (rest : List Packet) → AllByRecursion (λ (q : Packet). has_id q.id.block packets q.id.esi ≡ true) rest → AllByRecursion (λ (q : Packet). has_id q.id.block (p ∷ packets) q.id.esi ≡ true) rest
   later [] h = tt
   later (q ∷ rest) h = (stays (payload_for q.id.block p q.id.esi) (first_payload q.id.block packets q.id.esi) h.0, later rest h.1)
@@ -194,6 +196,7 @@ module _ (table : List Row) (c : Configuration) (pos : 0 < c.symbol_size) (some 
       one_of : (t : Bool) (r : Row) → (t ≡ true → IsColumn octets (intermediate_symbols r) x) → IsColumn octets (intermediate_symbols r) (λ j. cond t (x j) 0)
       one_of true r h = h refl
       one_of false r h = zeros_are_octets r
+
       solves_one : (t : Bool) (r : Row) (known : ℕ → Bool) → (t ≡ true → SolvesZeros r known x) → SolvesZeros r known (λ j. cond t (x j) 0)
       solves_one true r known h = h refl
       solves_one false r known h = zeros_solve r known
@@ -253,6 +256,7 @@ module _ (s : State) (pos : 0 < s.configuration.symbol_size) (some : 0 < s.confi
       }) where
         rows : (b : ℕ) → b < s.configuration.source_blocks → HasRow (block_row table s.configuration b) (block_symbols s.configuration b)
         rows b below = row_of_shape table s.configuration b (s.held b) (st.shape b below)
+
         by_answer : (b e : ℕ) → b < s.configuration.source_blocks → has_id b packets e ≡ true → (a : Option (List ℕ)) → s.answer b ≡ a
             → IsEncodingSymbol (block_row table s.configuration b) s.configuration.symbol_size (block_source s.configuration bytes b) e (zero_symbol s.configuration.symbol_size)
         by_answer b e below came (Some block) is =

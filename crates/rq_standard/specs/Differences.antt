@@ -1,5 +1,5 @@
 -- What several objects that make the same packets differ by.
-use Rattle.std.specs.Prelude.{◌≡◌, ◌≢◌, ℕ, zero, suc, ◌+◌, ◌-◌, ◌*◌, ◌/◌, ◌%◌, ◌<◌, Bool, true, List, [], ◌∷◌, ◌++◌, length, map, take, slice_index, Option, None, IsSome, if◌then◌else◌, ◌==◌, ◌&&◌, nat_lt}
+use Rattle.std.specs.Prelude.{◌≡◌, ◌≢◌, ℕ, ◌-◌, ◌*◌, ◌/◌, ◌%◌, ◌<◌, Bool, true, List, ◌∷◌, length, map, slice_index, None, IsSome, if◌then◌else◌, ◌==◌, ◌&&◌, nat_lt}
 use Rattle.std.specs.List.{range_with_len, AllByRecursion}
 use Rattle.rq_algebra.specs.Symbols.{add_symbols}
 use Rattle.rq_algebra.specs.Systems.{dot}
@@ -7,10 +7,10 @@ use Rattle.rq_standard.specs.declared.row.Row.{Row}
 use Rattle.rq_standard.specs.OctetField.{octets}
 use Rattle.rq_standard.specs.Packet.{Packet}
 use Rattle.rq_standard.specs.Configuration.{Configuration}
-use Rattle.rq_standard.specs.Cutting.{block_symbols, block_bytes, sub_block_size}
+use Rattle.rq_standard.specs.Cutting.{block_bytes, sub_block_size}
 use Rattle.rq_standard.specs.Equations.{zero_symbol, symbol_coefficient, IsNonsingular, IsEncodingSymbol}
 use Rattle.rq_standard.specs.TableRows.{intermediate_symbols}
-use Rattle.rq_standard.specs.Encoded.{block_row, block_source, IsPacketOf, HasNonsingularRows}
+use Rattle.rq_standard.specs.Encoded.{block_row, block_source, IsPacketOf}
 use Rattle.rq_standard.specs.Held.{holds, AreHeldDetermining}
 use Rattle.rq_standard.specs.Standing.{State, StandsBut}
 

@@ -45,6 +45,6 @@ returns-clause-only_object c =
     let none : into_iter_items c.loop-packet.packet-iterator ≡ [] = nil_from_length (into_iter_items c.loop-packet.packet-iterator) (omega (arith, c.in-None.ensures.steps.0)) in
     IfOk-weaker c.get_result.result _ _
     (λ r is object long nonsingular honest. only_answer table k object c.args.packets.items c.loop-packet.yielded (into_iter_items c.loop-packet.packet-iterator) (state_of c.loop-packet.decoder) _ kept.configuration kept.whole none
-        accepted.size_positive accepted.blocks_positive (record { alignment_positive = accepted.alignment_positive; aligned = accepted.aligned }) nonsingular (kept.stands object long nonsingular honest)
-        (λ other fits. answer_all table k other c.args.packets.items c.loop-packet.yielded (into_iter_items c.loop-packet.packet-iterator) (state_of c.loop-packet.decoder) _ kept.configuration kept.whole none (kept.stands other fits.long nonsingular fits.packets_are) is))
+    accepted.size_positive accepted.blocks_positive (record { alignment_positive = accepted.alignment_positive; aligned = accepted.aligned }) nonsingular (kept.stands object long nonsingular honest)
+    (λ other fits. answer_all table k other c.args.packets.items c.loop-packet.yielded (into_iter_items c.loop-packet.packet-iterator) (state_of c.loop-packet.decoder) _ kept.configuration kept.whole none (kept.stands other fits.long nonsingular fits.packets_are) is))
     c.get_result.ensures.object

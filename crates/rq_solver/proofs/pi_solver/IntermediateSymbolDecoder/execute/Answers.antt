@@ -1,12 +1,11 @@
 -- What the check leaves to show of `pi_solver::IntermediateSymbolDecoder::execute`.
-use Rattle.std.proofs.Common.{◌≡◌, List, None, length, map, sym, ap, ◌∙◌, subst}
+use Rattle.std.proofs.Common.{List, None, length, map, sym, ap, ◌∙◌, subst}
 use Rattle.rq_algebra.specs.Operations.{AreAllowed}
 use Rattle.rq_standard.specs.ConstraintMatrix.{with_octet_rows}
 use Rattle.rq_bytes.specs.declared.operation_vector.SymbolOps.{SymbolOps}
 use Rattle.rq_bytes.specs.SymbolOps.{operation_of}
 use Rattle.rq_parts.specs.OctetTable.{entry_of}
 use Rattle.rq_solver.specs.Replay.{after_all}
-use Rattle.rq_solver.specs.Peeled.{AreOnesOfRows}
 use Rattle.rq_solver.proofs.HandedRows.{rows_of_bits, octet_rows, finds_of, null_of}
 use Rattle.rq_solver.proofs.PeelingLaws.{columns_below}
 use Rattle.rq_solver.proofs.SolutionLaws.{is_solution, if_some}

@@ -1,4 +1,4 @@
-use Rattle.std.proofs.Common.{◌≡◌, ℕ, ◌*◌, List, [], replicate, Option, None, sym, ap, ◌∙◌}
+use Rattle.std.proofs.Common.{ℕ, ◌*◌, [], replicate, sym, ap, ◌∙◌}
 use Rattle.std.specs.Prelude.{option_map, vec_items}
 use Rattle.rq_standard.specs.Equations.{symbol_coefficient}
 use Rattle.rq_standard.specs.Differences.{plain_sum}

@@ -1,11 +1,10 @@
-use Rattle.std.proofs.Common.{◌≡◌, ◌↔◌, ℕ, ◌+◌, ◌<◌, ◌≤◌, ◌++◌, Bool, true, false, List, [], length, get_or, take, Option, Some, None, Vec, Global, refl, sym, ap, ◌∙◌, subst, arith}
+use Rattle.std.proofs.Common.{◌≡◌, ℕ, ◌<◌, ◌++◌, Bool, true, false, List, length, get_or, take, Option, Some, None, Vec, Global, refl, sym, ap, ◌∙◌, subst, arith}
 use Rattle.std.specs.Prelude.{is_none, is_some, not, option_map, vec_items, ◌&&◌}
-use Rattle.rq_standard.specs.Cutting.{block_symbols}
 use Rattle.rq_standard.specs.Differences.{IsDifference}
-use Rattle.rq_standard.proofs.OtherObjects.{HasRow, makes_others_fit}
+use Rattle.rq_standard.proofs.OtherObjects.{makes_others_fit}
 use Rattle.raptorq.specs.Blocks.{held_of}
 use Rattle.raptorq.specs.Difference.{ShowsUnanswered, octets_of_column}
-use Rattle.raptorq.specs.Objects.{state_of, held_at, answer_at, answer_of}
+use Rattle.raptorq.specs.Objects.{state_of, held_at, answer_at}
 use Rattle.raptorq.specs.declared.decoder.object.Decoder.{Decoder}
 use Rattle.raptorq.proofs.Numbered.{length-numbered}
 use Rattle.raptorq.proofs.ObjectBlocks.{number_of, held_here, answer_here}
@@ -47,13 +46,13 @@ loop-block-preserved c =
     let held = held_here s.config items n x below is in
     let column = option_map vec_items c.in_ok-column.column in
     let shows : ShowsUnanswered (held_at s.config items n) (answer_at items n) column =
-        subst (λ h. ShowsUnanswered h (answer_at items n) column) (sym held) (subst (λ a. ShowsUnanswered (held_of x.decoder) a column) (sym (answer_here items n x below is)) c.in_ok-column.ensures.shown) in
+    subst (λ h. ShowsUnanswered h (answer_at items n) column) (sym held) (subst (λ a. ShowsUnanswered (held_of x.decoder) a column) (sym (answer_here items n x below is)) c.in_ok-column.ensures.shown) in
     one_found s.config items n c.loop-block.determined c.loop-block.bytes.items column c.loop-block.invariant shows (c.loop-block.determined && c.is_none.result) c.in_ok-difference.field-0.items c.extend_from_slice.new.self.items
-        (ap (λ t. c.loop-block.determined && t) (told_of c.is_none.result c.in_ok-column.column c.is_none.ensures))
-        (ap (λ h. h.configuration) held ∙ ap (λ b. (held_of b.decoder).configuration) is ∙ s.same n x below)
-        (block_is_cut s.config items s.numbered s.cut n in_object)
-        (c.in_ok-difference.ensures.block ∙ ap (λ h. octets_of_column h column) (sym held))
-        (c.in_ok-extend_from_slice.ensures.items ∙ ap (λ l. c.loop-block.bytes.items ++ l) c.as_slice.ensures.value)
+    (ap (λ t. c.loop-block.determined && t) (told_of c.is_none.result c.in_ok-column.column c.is_none.ensures))
+    (ap (λ h. h.configuration) held ∙ ap (λ b. (held_of b.decoder).configuration) is ∙ s.same n x below)
+    (block_is_cut s.config items s.numbered s.cut n in_object)
+    (c.in_ok-difference.ensures.block ∙ ap (λ h. octets_of_column h column) (sym held))
+    (c.in_ok-extend_from_slice.ensures.items ∙ ap (λ l. c.loop-block.bytes.items ++ l) c.as_slice.ensures.value)
 
 pub returns-then-determined-clause-exactly : goal.returns-then-determined-clause-exactly
 returns-then-determined-clause-exactly c =
@@ -78,4 +77,4 @@ returns-clause-fits c =
     let s = c.args.self.now in
     let all : c.loop-block.block-index ≡ s.config.source_blocks = omega (arith, c.loop-block-test.false, c.loop-block.auto.block-index-end, ap length c.deref-block-items.ensures.value, length-numbered number_of s.config.source_blocks s.blocks.items s.numbered) in
     makes_others_fit (state_of s) s.positive s.some s.aligned c.truncate.new.self.items
-        (found s c.loop-block.bytes.items c.truncate.new.self.items c.loop-block.block-index c.loop-block.determined all c.if-determined.false c.loop-block.invariant (c.truncate.ensures.items ∙ ap (λ n. take n c.loop-block.bytes.items) c.transfer_length.ensures.value))
+    (found s c.loop-block.bytes.items c.truncate.new.self.items c.loop-block.block-index c.loop-block.determined all c.if-determined.false c.loop-block.invariant (c.truncate.ensures.items ∙ ap (λ n. take n c.loop-block.bytes.items) c.transfer_length.ensures.value))

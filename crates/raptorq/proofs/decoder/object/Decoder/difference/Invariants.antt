@@ -1,4 +1,3 @@
-use Rattle.std.proofs.Common.{◌≡◌}
 use Rattle.raptorq.proofs.Witnesses.{DifferenceSoFar}
 use Rattle.raptorq.proofs.decoder.object.Decoder.difference.Given as goal
 
