@@ -1,5 +1,5 @@
--- What the ones of rows of bits are to an elimination over peeled rows.
-use Rattle.std.proofs.Common.{◌≡◌, ℕ, ◌+◌, ◌<◌, ◌≤◌, List, [], ◌∷◌, length, refl, ◌∙◌, arith}
+-- What the ones of rows of bits are to an elimination over peeled rows, and what that finds is to the bits.
+use Rattle.std.proofs.Common.{◌≡◌, ℕ, ◌+◌, ◌<◌, ◌≤◌, List, [], ◌∷◌, length, refl, ◌∙◌, subst, arith}
 use Rattle.std.proofs.lemmas.List.Elements.{All-weaker}
 use Rattle.rq_standard.specs.BitTableSteps.{ArePlacesOfOnes}
 use Rattle.rq_parts.specs.OctetTable.{OctetTable}
@@ -29,3 +29,8 @@ module _ (height width : ℕ) (bit : ℕ → ℕ → ℕ) (lists : List (List �
     within = rw are.count inside;
     empty = λ i l. no_places (bit (first + i)) width (ones_at lists (first + i)) (are.each (first + i) (omega arith)) (λ k m. zeros i k l m);
   }
+
+  -- what is found of any bits with these ones is found of these bits
+  pub found_of_bits : (P : ℕ → ℕ → (ℕ → ℕ → ℕ) → Type 0) (columns : ℕ) → columns ≡ width → ((b : ℕ → ℕ → ℕ) → AreOnesOfRows (length lists) columns b lists → P (length lists) columns b) → P height width bit
+  found_of_bits P columns same found =
+      rw are.count at (subst (λ w. (b : ℕ → ℕ → ℕ) → AreOnesOfRows (length lists) w b lists → P (length lists) w b) same found bit (record { count = refl; each = λ i l. are.each i (rw are.count at l) }))

@@ -3,7 +3,6 @@ pub mod ColumnLaws
 pub mod Entries
 pub mod EquationLaws
 pub mod FreeColumns
-pub mod HandedRows
 pub mod LinkLaws
 pub mod ListingLaws
 pub mod OctetRows

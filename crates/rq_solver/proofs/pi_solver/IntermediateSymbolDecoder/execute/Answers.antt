@@ -1,12 +1,15 @@
 -- What the check leaves to show of `pi_solver::IntermediateSymbolDecoder::execute`.
 use Rattle.std.proofs.Common.{List, None, length, map, sym, ap, ◌∙◌, subst}
+use Rattle.rq_algebra.specs.Elimination.{FindsColumn}
 use Rattle.rq_algebra.specs.Operations.{AreAllowed}
+use Rattle.rq_algebra.specs.Systems.{HasNullColumn}
 use Rattle.rq_standard.specs.ConstraintMatrix.{with_octet_rows}
+use Rattle.rq_standard.specs.OctetField.{octets}
 use Rattle.rq_bytes.specs.declared.operation_vector.SymbolOps.{SymbolOps}
 use Rattle.rq_bytes.specs.SymbolOps.{operation_of}
 use Rattle.rq_parts.specs.OctetTable.{entry_of}
 use Rattle.rq_solver.specs.Replay.{after_all}
-use Rattle.rq_solver.proofs.HandedRows.{rows_of_bits, octet_rows, finds_of, null_of}
+use Rattle.rq_solver.proofs.BitRows.{rows_of_bits, octet_rows, found_of_bits}
 use Rattle.rq_solver.proofs.PeelingLaws.{columns_below}
 use Rattle.rq_solver.proofs.SolutionLaws.{is_solution, if_some}
 use Rattle.rq_solver.proofs.pi_solver.IntermediateSymbolDecoder.execute.Goals as goal
@@ -19,13 +22,13 @@ peel-requires-clause-columns g c =
 pub operations_of_peeled-requires-clause-bits : goal.operations_of_peeled-requires-clause-bits
 operations_of_peeled-requires-clause-bits g c =
     let m = g.T.BinaryMatrix.content c.args.self.now.matrix in
-    rw c.width-width.ensures.width (rows_of_bits m c.in_ok-ones.ones (g.met.T.BinaryMatrix.is_table c.args.self.now.matrix) c.in_ok-ones.ensures.ones)
+    rw c.width-width.ensures.width (rows_of_bits m.height m.width m.bit c.in_ok-ones.ones c.in_ok-ones.ensures.ones (g.met.T.BinaryMatrix.is_table c.args.self.now.matrix).bits)
 
 pub operations_of_peeled-requires-clause-hdpc : goal.operations_of_peeled-requires-clause-hdpc
 operations_of_peeled-requires-clause-hdpc g c =
     let solver = c.args.self.now in
     let m = g.T.BinaryMatrix.content solver.matrix in
-    rw c.width-width.ensures.width (octet_rows m c.in_ok-ones.ones (g.met.T.BinaryMatrix.is_table solver.matrix) c.in_ok-ones.ensures.ones solver.first_hdpc solver.hdpc solver.octet_columns solver.within solver.empty)
+    rw c.width-width.ensures.width (octet_rows m.height m.width m.bit c.in_ok-ones.ones c.in_ok-ones.ensures.ones solver.first_hdpc solver.hdpc solver.octet_columns solver.within solver.empty)
 
 pub replay-requires : goal.replay-requires
 replay-requires g c =
@@ -33,7 +36,7 @@ replay-requires g c =
     let m = g.T.BinaryMatrix.content solver.matrix in
     let width = c.width-width.ensures.width in
     let operations = map operation_of c.in-Some-2.operations.items in
-    let finds = finds_of m c.in_ok-ones.ones (g.met.T.BinaryMatrix.is_table solver.matrix) c.in_ok-ones.ensures.ones (λ bit. with_octet_rows solver.first_hdpc (length solver.hdpc.rows) bit (entry_of solver.hdpc)) c.width-width.result operations width (rw c.in-Some-2.is at c.in_ok-operations.ensures.found) in
+    let finds = found_of_bits m.height m.width m.bit c.in_ok-ones.ones c.in_ok-ones.ensures.ones (λ height columns bit. FindsColumn octets height columns (with_octet_rows solver.first_hdpc (length solver.hdpc.rows) bit (entry_of solver.hdpc)) operations) c.width-width.result width (rw c.in-Some-2.is at c.in_ok-operations.ensures.found) in
     let handed = c.in-Some.symbols in
     let some = sym c.in-Some.ensures.value in
     subst (λ (l : List SymbolOps). AreAllowed (length handed.values) handed.order (map operation_of l)) (sym c.as_slice.ensures.value)
@@ -45,7 +48,7 @@ returns-in_default-2-clause-solved g c =
     let m = g.T.BinaryMatrix.content solver.matrix in
     let width = c.width-width.ensures.width in
     if_some solver.symbols c.in-Some.symbols _ (sym c.in-Some.ensures.value)
-    (null_of m c.in_ok-ones.ones (g.met.T.BinaryMatrix.is_table solver.matrix) c.in_ok-ones.ensures.ones (λ bit. with_octet_rows solver.first_hdpc (length solver.hdpc.rows) bit (entry_of solver.hdpc)) c.width-width.result width (rw c.in_default-2.is at c.in_ok-operations.ensures.found))
+    (found_of_bits m.height m.width m.bit c.in_ok-ones.ones c.in_ok-ones.ensures.ones (λ height columns bit. HasNullColumn octets height columns (with_octet_rows solver.first_hdpc (length solver.hdpc.rows) bit (entry_of solver.hdpc))) c.width-width.result width (rw c.in_default-2.is at c.in_ok-operations.ensures.found))
 
 pub returns-clause-solved : goal.returns-clause-solved
 returns-clause-solved g c =
@@ -55,7 +58,7 @@ returns-clause-solved g c =
     let rows = with_octet_rows solver.first_hdpc (length solver.hdpc.rows) m.bit (entry_of solver.hdpc) in
     let handed = c.in-Some.symbols in
     let operations = map operation_of c.in-Some-2.operations.items in
-    let finds = finds_of m c.in_ok-ones.ones (g.met.T.BinaryMatrix.is_table solver.matrix) c.in_ok-ones.ensures.ones (λ bit. with_octet_rows solver.first_hdpc (length solver.hdpc.rows) bit (entry_of solver.hdpc)) c.width-width.result operations width (rw c.in-Some-2.is at c.in_ok-operations.ensures.found) in
+    let finds = found_of_bits m.height m.width m.bit c.in_ok-ones.ones c.in_ok-ones.ensures.ones (λ height columns bit. FindsColumn octets height columns (with_octet_rows solver.first_hdpc (length solver.hdpc.rows) bit (entry_of solver.hdpc)) operations) c.width-width.result width (rw c.in-Some-2.is at c.in_ok-operations.ensures.found) in
     if_some solver.symbols handed _ (sym c.in-Some.ensures.value)
     (is_solution m.height m.width rows operations finds handed c.replay.new.symbols (solver.unordered handed (sym c.in-Some.ensures.value))
     (c.in_ok-replay.ensures.ok ∙ ap (λ (l : List SymbolOps). after_all (map operation_of l) handed) c.as_slice.ensures.value))
