@@ -1,6 +1,7 @@
 pub mod BitLanes
 pub mod Cuts
 pub mod Doubling
+pub mod HalfLookUps
 pub mod Halves
 pub mod PlaneFacts
 pub mod RangeFacts

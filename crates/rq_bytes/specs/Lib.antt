@@ -1,4 +1,5 @@
 pub mod Error
+pub mod HalfProducts
 pub mod Ranges
 pub mod Refusals
 pub mod Slab

@@ -4,7 +4,7 @@ ghost use Rattle.rq_standard.specs.PackedBits.{padding_of, packed_bits};
 ghost use Rattle.rq_standard.specs.Rows.{row_sum, row_multiple};
 
 use crate::octet::Octet;
-use crate::products::{bit_product, bit_products, lane_products, product};
+use crate::products::{Factor, bit_product, bit_products, product};
 use std::marker::Model;
 use std::simd::prelude::*;
 
@@ -96,10 +96,11 @@ pub fn mulassign_scalar(octets: &mut [u8], scalar: &Octet)
     ensures multiple { octets.new ≡ row_multiple scalar.now octets.old }
 {
     let scalar = scalar.byte();
+    let factor = Factor::new(scalar);
     let blocks = octets.len() / LANES;
     for block in 0..blocks {
         let at = LANES * block;
-        let multiple = lane_products(scalar, u8x32::from_slice(&octets[at..]));
+        let multiple = factor.lane_products(u8x32::from_slice(&octets[at..]));
         multiple.copy_to_slice(&mut octets[at..]);
     }
     for i in LANES * blocks..octets.len() {
@@ -114,10 +115,11 @@ pub fn fused_addassign_mul_scalar(octets: &mut [u8], other: &[u8], scalar: &Octe
     ensures sum { octets.new ≡ row_sum octets.old (row_multiple scalar.now other.now) }
 {
     let scalar = scalar.byte();
+    let factor = Factor::new(scalar);
     let blocks = octets.len() / LANES;
     for block in 0..blocks {
         let at = LANES * block;
-        let multiple = lane_products(scalar, u8x32::from_slice(&other[at..]));
+        let multiple = factor.lane_products(u8x32::from_slice(&other[at..]));
         let sum = u8x32::from_slice(&octets[at..]) ^ multiple;
         sum.copy_to_slice(&mut octets[at..]);
     }

@@ -1,9 +1,10 @@
-//! Products of an octet and each lane of a vector, by bit planes: no table is read.
+//! Products of an octet and each lane of a vector.
 ghost use Rattle.std.specs.Prelude.{◌≡◌, ℕ, ◌/◌, ◌%◌, ◌^◌, ◌<◌, length, map, slice_index, cond, ◌==◌};
 ghost use Rattle.std.specs.Int.{bit_at};
 ghost use Rattle.std.specs.List.{range_with_len};
 ghost use Rattle.rq_standard.specs.Octets.{octet_double, octet_mul};
 
+use std::marker::Model;
 use std::simd::prelude::*;
 
 /// The place in its byte of each bit of a word, as a mask.
@@ -17,6 +18,18 @@ const BITS: [u8; 64] = [
 const PLACES: [usize; 64] = [
     0, 0, 0, 0, 0, 0, 0, 0, 1, 1, 1, 1, 1, 1, 1, 1, 2, 2, 2, 2, 2, 2, 2, 2, 3, 3, 3, 3, 3, 3, 3, 3,
     4, 4, 4, 4, 4, 4, 4, 4, 5, 5, 5, 5, 5, 5, 5, 5, 6, 6, 6, 6, 6, 6, 6, 6, 7, 7, 7, 7, 7, 7, 7, 7,
+];
+
+/// What the lower half of a byte may be, twice.
+const LOW_HALVES: [u8; 32] = [
+    0, 1, 2, 3, 4, 5, 6, 7, 8, 9, 10, 11, 12, 13, 14, 15, 0, 1, 2, 3, 4, 5, 6, 7, 8, 9, 10, 11, 12,
+    13, 14, 15,
+];
+
+/// The same of the upper half.
+const HIGH_HALVES: [u8; 32] = [
+    0, 16, 32, 48, 64, 80, 96, 112, 128, 144, 160, 176, 192, 208, 224, 240, 0, 16, 32, 48, 64, 80,
+    96, 112, 128, 144, 160, 176, 192, 208, 224, 240,
 ];
 
 /// The product of an octet and x.
@@ -43,9 +56,53 @@ pub(crate) fn product(a: u8, b: u8) -> u8
     sum
 }
 
-/// The products of an octet and each lane.
+/// An octet by which vectors are multiplied, with its products by all halves of a byte, so that each
+/// lane is looked up by its halves. Contracts see the octet.
+#[derive(Drop)]
+pub(crate) struct Factor {
+    low: u8x32,
+    high: u8x32,
+}
+
+impl Model for Factor {
+    ghost use Rattle.std.specs.Prelude.{ℕ, slice_index};
+    ghost use Rattle.rq_bytes.specs.HalfProducts.{AreHalfProducts};
+
+    ghost Value = { ℕ };
+
+    ghost view = { λ f. slice_index f.low 1 };
+
+    ghost invariant = { λ f. AreHalfProducts (slice_index f.low 1) f.low f.high };
+}
+
+impl Factor {
+    /// The products are made by bit planes, which costs as much as two vectors' do.
+    #[inline(always)]
+    pub(crate) fn new(scalar: u8) -> Self
+        ensures { result ≡ scalar }
+    {
+        Factor {
+            low: plane_products(scalar, u8x32::from_array(LOW_HALVES)),
+            high: plane_products(scalar, u8x32::from_array(HIGH_HALVES)),
+        }
+    }
+
+    /// The products of the octet and each lane.
+    #[inline(always)]
+    pub(crate) fn lane_products(&self, lanes: u8x32) -> u8x32
+        requires { length lanes ≡ 32 }
+        ensures octet { self.now < 256 }
+        ensures products { result ≡ map (λ x. octet_mul self.now x) lanes }
+    {
+        let low = self.low.swizzle_dyn_within::<16>(lanes & u8x32::splat(15));
+        let high = self.high.swizzle_dyn_within::<16>(lanes >> u8x32::splat(4));
+        low ^ high
+    }
+}
+
+/// The products of an octet and each lane, without look-ups.
 #[inline(always)]
-pub(crate) fn lane_products(scalar: u8, lanes: u8x32) -> u8x32
+fn plane_products(scalar: u8, lanes: u8x32) -> u8x32
     requires { length lanes ≡ 32 }
     ensures { result ≡ map (λ x. octet_mul scalar x) lanes }
 {

@@ -1,5 +1,5 @@
 -- What the check leaves to show of `octets::fused_addassign_mul_scalar`.
-use Rattle.std.proofs.Common.{ℕ, ◌+◌, ◌*◌, ap, sym, ◌∙◌, arith, set, get_or}
+use Rattle.std.proofs.Common.{ℕ, ◌+◌, ◌*◌, ap, sym, ◌∙◌, arith, map, set, get_or}
 use Rattle.std.proofs.lemmas.Simd.{length-chunk}
 use Rattle.std.specs.Int.Bits.{bit_xor}
 use lib.Lanes.{zip2, chunk, put_chunk}
@@ -19,7 +19,7 @@ loop-block-preserved c =
     let at = 32 * b in
     let now = c.loop-block.octets in
     let other = c.args.other.now in
-    ap (λ t. put_chunk at now (zip2 bit_xor (chunk at 32 now) t)) c.lane_products-multiple.ensures
+    ap (λ t. put_chunk at now (zip2 bit_xor (chunk at 32 now) t)) (c.lane_products-multiple.ensures.products ∙ ap (λ (a : ℕ). map (octet_mul a) (chunk at 32 other)) c.new-factor.ensures)
     ∙ ap (put_chunk at now) (zip2-map_right bit_xor (octet_mul s) (chunk at 32 now) (chunk at 32 other))
     ∙ step_store f 32 at (32 * (b + 1)) now c.args.octets.now other c.loop-block.invariant (omega arith) (omega arith) (omega arith)
 

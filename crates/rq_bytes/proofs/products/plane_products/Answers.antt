@@ -1,11 +1,11 @@
--- What the check leaves to show of `products::lane_products`.
+-- What the check leaves to show of `products::plane_products`.
 use Rattle.std.proofs.Common.{◌≡◌, ◌+◌, ◌-◌, ◌/◌, ◌^◌, ap, sym, ◌∙◌, refl, get_or, arith}
 use Rattle.std.proofs.lemmas.Simd.{length-zip2, get_or-zip2, get_or-replicate}
 use Rattle.std.specs.Int.Bits.{bit_xor}
 use Rattle.rq_standard.specs.Octets.{octet_times, octet_mul}
 use Rattle.rq_bytes.proofs.Steps.{start}
 use Rattle.rq_bytes.proofs.PlaneFacts.{add_plane, all_planes}
-use Rattle.rq_bytes.proofs.products.lane_products.Goals as goal
+use Rattle.rq_bytes.proofs.products.plane_products.Goals as goal
 
 pub loop-k-init : goal.loop-k-init
 loop-k-init c = record {

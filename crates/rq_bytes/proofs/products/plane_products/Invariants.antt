@@ -1,8 +1,8 @@
--- What the loops keep in `products::lane_products`.
+-- What the loops keep in `products::plane_products`.
 use Rattle.std.proofs.Common.{◌≡◌, ◌-◌, ◌/◌, ◌^◌, ◌<◌, ℕ, length, get_or}
 use Rattle.std.specs.Int.Bits.{bit_xor}
 use Rattle.rq_standard.specs.Octets.{octet_times, octet_mul}
-use Rattle.rq_bytes.proofs.products.lane_products.Given as goal
+use Rattle.rq_bytes.proofs.products.plane_products.Given as goal
 
 abbrev pub invariant-loop-k : goal.invariant-loop-k
 invariant-loop-k l = record {

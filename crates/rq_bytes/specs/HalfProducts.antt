@@ -1,0 +1,11 @@
+-- Products of an octet and the halves of a byte.
+use Rattle.std.specs.Prelude.{◌≡◌, ℕ, ◌*◌, ◌%◌, ◌<◌, List, length, slice_index}
+use Rattle.rq_standard.specs.Octets.{octet_mul}
+
+-- those of each lower half, and those of each upper half, both twice
+pub record AreHalfProducts (scalar : ℕ) (low high : List ℕ) : Type 0 where
+  pub octet : scalar < 256
+  pub low_count : length low ≡ 32
+  pub high_count : length high ≡ 32
+  pub of_low : (i : ℕ) → i < 32 → slice_index low i ≡ octet_mul scalar (i % 16)
+  pub of_high : (i : ℕ) → i < 32 → slice_index high i ≡ octet_mul scalar (i % 16 * 16)
