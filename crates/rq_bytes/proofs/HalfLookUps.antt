@@ -7,8 +7,7 @@ use Rattle.std.proofs.lemmas.Simd.{Each1-all, Each1-get_or, Each1-weaker, Each1-
 use Rattle.std.specs.Int.Bits.{bit_xor}
 use lib.Lanes.{Each1, zip2}
 use Rattle.rq_standard.specs.Octets.{octet_mul}
-use Rattle.rq_standard.specs.OctetProducts.{mul-one, mul-xor_right}
-use Rattle.rq_bytes.specs.declared.products.TheConstants.{LOW_HALVES, HIGH_HALVES}
+use Rattle.rq_standard.specs.OctetProducts.{mul-xor_right}
 use Rattle.rq_bytes.specs.HalfProducts.{AreHalfProducts}
 
 abbrev down : ℕ → ℕ → ℕ
@@ -92,32 +91,3 @@ module _ (v : List ℕ) (long : length v ≡ 32) (fits : Each1 (Fits w8) v) wher
         ∙ sym (mul-xor_right scalar (x % 16) (x / 16 * 16) are.octet (omega arith) (omega arith))
         ∙ ap (octet_mul scalar) (halves x small)
         ∙ sym (get_or-map (λ x. octet_mul scalar x) v i 0 0 (omega (arith, long))))
-
--- ---- the products of all halves
-
-lows_are : agree_below (λ i. eqb (get_or LOW_HALVES i 0) (i % 16)) (λ _. true) 32 ≡ true
-lows_are = refl
-
-highs_are : agree_below (λ i. eqb (get_or HIGH_HALVES i 0) (i % 16 * 16)) (λ _. true) 32 ≡ true
-highs_are = refl
-
-products_at : (scalar : ℕ) (halves products : List ℕ) (f : ℕ → ℕ) → length halves ≡ 32 → products ≡ map (λ x. octet_mul scalar x) halves
-    → agree_below (λ i. eqb (get_or halves i 0) (f i)) (λ _. true) 32 ≡ true → (i : ℕ) → i < 32 → get_or products i 0 ≡ octet_mul scalar (f i)
-products_at scalar halves products f long is table i l =
-    ap (λ (p : List ℕ). get_or p i 0) is
-    ∙ get_or-map (λ x. octet_mul scalar x) halves i 0 0 (omega (arith, long))
-    ∙ ap (octet_mul scalar) (eqb-true _ _ (agree_below_at (λ k. eqb (get_or halves k 0) (f k)) (λ _. true) 32 i table l))
-
-module _ (scalar : ℕ) (small : scalar < 256) (low high : List ℕ) (low_is : low ≡ map (λ x. octet_mul scalar x) LOW_HALVES) (high_is : high ≡ map (λ x. octet_mul scalar x) HIGH_HALVES) where
-  -- the product by 1 is the octet
-  pub scalar_is : get_or low 1 0 ≡ scalar
-  scalar_is = products_at scalar LOW_HALVES low (λ i. i % 16) refl low_is lows_are 1 (omega arith) ∙ mul-one scalar small
-
-  pub half_products : AreHalfProducts (get_or low 1 0) low high
-  half_products = rw scalar_is (record {
-    octet = small;
-    low_count = ap length low_is ∙ length-map LOW_HALVES (λ x. octet_mul scalar x);
-    high_count = ap length high_is ∙ length-map HIGH_HALVES (λ x. octet_mul scalar x);
-    of_low = products_at scalar LOW_HALVES low (λ i. i % 16) refl low_is lows_are;
-    of_high = products_at scalar HIGH_HALVES high (λ i. i % 16 * 16) refl high_is highs_are;
-  })

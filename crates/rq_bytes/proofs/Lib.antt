@@ -2,8 +2,8 @@ pub mod BitLanes
 pub mod Cuts
 pub mod Doubling
 pub mod HalfLookUps
+pub mod HalfSums
 pub mod Halves
-pub mod PlaneFacts
 pub mod RangeFacts
 pub mod RangeLoans
 pub mod SlabFacts

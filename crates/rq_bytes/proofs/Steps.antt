@@ -1,5 +1,6 @@
 -- The product of two octets, bit by bit from the lowest.
-use Rattle.std.proofs.Common.{◌≡◌, ℕ, suc, ◌+◌, ◌-◌, ◌/◌, ◌%◌, ◌<◌, ◌≤◌, eqb, refl, sym, ap, ◌∙◌, arith}
+use Rattle.std.proofs.Common.{◌≡◌, ℕ, suc, ◌+◌, ◌-◌, ◌/◌, ◌%◌, ◌^◌, ◌<◌, ◌≤◌, eqb, refl, sym, ap, ◌∙◌, arith}
+use Rattle.std.proofs.lemmas.Nat.{shr-shr}
 use Rattle.std.proofs.lemmas.Bool.{cond-true, cond-false, eq-eqb, ne_eqb}
 use Rattle.std.specs.Int.Bits.{bit_xor, xor_assoc, xor_zero_r}
 use Rattle.rq_standard.specs.Octets.{octet_double, octet_times, octet_mul}
@@ -33,3 +34,12 @@ set_term sum term rest is = ap (bit_xor sum) (sym (cond-true (eqb (rest % 2) 1) 
 pub unset_term : (sum term rest : ℕ) → (rest % 2 ≡ 1 → ⊥) → sum ≡ bit_xor sum (if_set rest term)
 unset_term sum term rest ne =
     sym (ap (bit_xor sum) (cond-false (eqb (rest % 2) 1) term 0 (ne_eqb (rest % 2) 1 ne)) ∙ xor_zero_r sum)
+
+-- one more bit, of what it adds and the next term
+pub add_bit : (k sum part term next x p : ℕ) → k < 8 → term < 256 → part ≡ if_set (x / 2 ^ k) term → next ≡ octet_double term
+    → bit_xor sum (octet_times (8 - k) term (x / 2 ^ k)) ≡ p → bit_xor (bit_xor sum part) (octet_times (8 - (k + 1)) next (x / 2 ^ (k + 1))) ≡ p
+add_bit k sum part term next x p lt h is doubled so =
+    ap (λ y. bit_xor (bit_xor sum y) (octet_times (8 - (k + 1)) next (x / 2 ^ (k + 1)))) is
+    ∙ ap (λ y. bit_xor (bit_xor sum (if_set (x / 2 ^ k) term)) (octet_times (8 - (k + 1)) y (x / 2 ^ (k + 1)))) doubled
+    ∙ ap (λ y. bit_xor (bit_xor sum (if_set (x / 2 ^ k) term)) (octet_times (8 - (k + 1)) (octet_double term) y)) (sym (shr-shr x k 1))
+    ∙ step k (k + 1) sum term (x / 2 ^ k) p lt refl h so

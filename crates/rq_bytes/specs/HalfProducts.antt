@@ -1,8 +1,12 @@
 -- Products of an octet and the halves of a byte.
-use Rattle.std.specs.Prelude.{◌≡◌, ℕ, ◌*◌, ◌%◌, ◌<◌, List, length, slice_index}
+use Rattle.std.specs.Prelude.{◌≡◌, ℕ, ◌*◌, ◌/◌, ◌%◌, ◌^◌, ◌<◌, List, length, slice_index}
 use Rattle.rq_standard.specs.Octets.{octet_mul}
 
--- those of each lower half, and those of each upper half, both twice
+-- the halves of a byte: first the lower ones, then the upper ones
+abbrev pub half_byte : ℕ → ℕ
+half_byte i = i % 16 * 16 ^ (i / 16)
+
+-- the products of each lower half, and those of each upper half, both twice
 pub record AreHalfProducts (scalar : ℕ) (low high : List ℕ) : Type 0 where
   pub octet : scalar < 256
   pub low_count : length low ≡ 32

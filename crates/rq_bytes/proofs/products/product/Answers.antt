@@ -3,8 +3,7 @@ use Rattle.std.proofs.Common.{◌≡◌, ◌+◌, ◌-◌, ◌/◌, ◌^◌, ap,
 use Rattle.std.specs.Int.Bits.{bit_xor}
 use Rattle.rq_standard.specs.Octets.{octet_mul, octet_times}
 use Rattle.rq_standard.specs.OctetProducts.{if_set}
-use Rattle.rq_bytes.proofs.PlaneFacts.{add_plane}
-use Rattle.rq_bytes.proofs.Steps.{start, end, set_term, unset_term}
+use Rattle.rq_bytes.proofs.Steps.{add_bit, start, end, set_term, unset_term}
 use Rattle.rq_bytes.proofs.products.product.Goals as goal
 use Rattle.rq_bytes.proofs.products.product.Goals.{then-b-k-eq1, else-b-k-eq1}
 
@@ -32,7 +31,7 @@ loop-k-preserved c =
       octet = c.double-term.type_inv;
       same =
           ap (λ s. bit_xor s (octet_times (8 - (k + 1)) next (b / 2 ^ (k + 1)))) added
-          ∙ add_plane k sum (if_set rest term) term next b (octet_mul c.args.a b) c.loop-k-test.true c.loop-k.invariant.octet refl
+          ∙ add_bit k sum (if_set rest term) term next b (octet_mul c.args.a b) c.loop-k-test.true c.loop-k.invariant.octet refl
           c.double-term.ensures c.loop-k.invariant.same;
     }
 
