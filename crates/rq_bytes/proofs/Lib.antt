@@ -6,6 +6,7 @@ pub mod PlaneFacts
 pub mod RangeFacts
 pub mod RangeLoans
 pub mod SlabFacts
+pub mod SlabSums
 pub mod Steps
 pub mod TableFacts
 pub mod ZipUpto
