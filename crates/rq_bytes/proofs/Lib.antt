@@ -7,6 +7,7 @@ pub mod Halves
 pub mod RangeFacts
 pub mod RangeLoans
 pub mod SlabFacts
+pub mod SlabSums
 pub mod Steps
 pub mod TableFacts
 pub mod ZipUpto

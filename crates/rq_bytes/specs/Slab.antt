@@ -1,12 +1,12 @@
 -- What callers see of a slab.
-use Rattle.std.specs.Prelude.{ℕ, Bool, List, length, Option, None, ◌==◌}
+use Rattle.std.specs.Prelude.{ℕ, Bool, List, length, fold, slice_set, Option, None, ◌==◌}
 use Rattle.std.specs.Cmp.Lexicographic.{pointwise}
 use Rattle.std.specs.Option.{option_eq}
 use Rattle.std.specs.Ordering.{eq_of_both, on}
-use Rattle.rq_algebra.specs.Operations.{Operation, Store, step, read, values_in, IsPlace, IsAllowed}
-use Rattle.rq_algebra.specs.Symbols.{symbols}
+use Rattle.rq_algebra.specs.Operations.{Operation, Store, step, run, read, meant_at, values_in, IsPlace, IsAllowed}
+use Rattle.rq_algebra.specs.Symbols.{symbols, add_symbols}
 use Rattle.rq_standard.specs.OctetField.{octets}
-use Rattle.rq_bytes.specs.Ranges.{joined}
+use Rattle.rq_bytes.specs.Ranges.{range_of, with_range, joined}
 
 -- its symbols, the size of each, and the order in which places are read, where one is set
 pub record Slab : Type 0 where
@@ -25,6 +25,10 @@ slab_of size values = record { values = values; symbol_size = size; order = None
 abbrev pub after : Operation → Slab → Slab
 after operation slab = let s = step (symbols octets) (store_of slab) operation in record slab { values = s.values; order = s.order }
 
+-- a slab after operations, first to last
+abbrev pub after_all : List Operation → Slab → Slab
+after_all operations slab = let s = run (symbols octets) operations (store_of slab) in record slab { values = s.values; order = s.order }
+
 -- whether a place is defined
 abbrev pub HasPlace : Slab → ℕ → Type 0
 HasPlace slab i = IsPlace (length slab.values) slab.order i
@@ -40,6 +44,16 @@ symbol_in slab i = read (symbols octets) (store_of slab) i
 -- the symbols at the defined places, as they are read
 abbrev pub symbols_in : Slab → List (List ℕ)
 symbols_in slab = values_in (symbols octets) slab.values slab.order
+
+-- the sum of the symbol that a place means and of those that other places mean
+abbrev pub sum_in : Slab → ℕ → List ℕ → List ℕ
+sum_in slab dest sources = fold (λ sum src. add_symbols octets sum (symbol_in slab src)) (symbol_in slab dest) sources
+
+-- the slab with this sum in place of that symbol at n of its octets, from `start` on
+abbrev pub with_sum : Slab → ℕ → List ℕ → ℕ → ℕ → Slab
+with_sum slab dest sources start n =
+    let octets = with_range (symbol_in slab dest) start (range_of (sum_in slab dest sources) start n) in
+    record slab { values = slice_set slab.values (meant_at slab.order dest) octets }
 
 -- whether two slabs have as many symbols of one size, one order, and the same octets
 abbrev pub same_slab : Slab → Slab → Bool

@@ -1,5 +1,5 @@
 //! Symbols of one size in one buffer.
-ghost use Rattle.std.specs.Prelude.{◌≡◌, ◌≢◌, ◌⊎◌, ◌+◌, ◌*◌, ◌/◌, ◌^◌, ◌<◌, ◌≤◌, length, map, replicate, All, Ok, None};
+ghost use Rattle.std.specs.Prelude.{◌≡◌, ◌≢◌, ◌⊎◌, ◌+◌, ◌-◌, ◌*◌, ◌/◌, ◌^◌, ◌<◌, ◌≤◌, length, map, replicate, All, Ok, None};
 ghost use Rattle.std.proofs.Common.{rules};
 ghost use Rattle.std.specs.Cmp.Rules.{comparing};
 ghost use Rattle.rq_algebra.specs.Operations.{AddAssign, MulAssign, Fma, Reorder, IsOrder, meant_at};
@@ -8,7 +8,7 @@ ghost use Rattle.rq_standard.specs.OctetField.{octets};
 ghost use Rattle.std.specs.Borrow.{sem};
 ghost use Rattle.rq_bytes.specs.Ranges.{range_of, with_range, cut};
 ghost use Rattle.rq_bytes.specs.Refusals.{IsAnswer};
-ghost use Rattle.rq_bytes.specs.Slab.{slab_of, after, HasPlace, Allows, symbol_in, symbols_in, same_slab};
+ghost use Rattle.rq_bytes.specs.Slab.{slab_of, after, after_all, HasPlace, Allows, symbol_in, symbols_in, sum_in, with_sum, same_slab};
 
 use crate::error::Error;
 use crate::octet::Octet;
@@ -17,6 +17,7 @@ use crate::symbol::{Symbol, zeros};
 use crate::util::get_range_pair;
 use std::alloc::{AllocError, Global};
 use std::marker::Model;
+use std::simd::Simd;
 
 /// Symbols of one size in one buffer. An order may be set, and place i then means the symbol at the
 /// order's i-th entry. Contracts see the symbols, their size and the order.
@@ -124,6 +125,68 @@ impl SymbolSlab {
     {
         let (sum, other) = self.get_pair_mut(dest, src);
         octets::add_assign(sum, other);
+    }
+
+    /// Adds several symbols to another one, in one pass over its octets.
+    pub fn add_all(&mut self, dest: usize, sources: &[usize])
+        requires dest { HasPlace self.old dest }
+        requires sources { All (λ src. Allows self.old (AddAssign dest src)) sources.now }
+        ensures { self.new ≡ after_all (map (λ src. AddAssign dest src) sources.now) self.old }
+    {
+        // Where a field is read, a slab's invariant is known: its symbols have one size.
+        let _ = &self.data;
+        let wide = self.add_pieces::<64>(dest, sources, 0);
+        let narrow = self.add_pieces::<32>(dest, sources, wide);
+        self.add_pieces::<1>(dest, sources, narrow);
+    }
+
+    /// Adds the octets of several symbols from `start` on, by as many pieces of N as there are.
+    /// Returns where these end.
+    #[inline(always)]
+    fn add_pieces<const N: usize>(&mut self, dest: usize, sources: &[usize], start: usize) -> usize
+        requires lanes { (0 < N) × (N ≤ 64) }
+        requires dest { HasPlace self.old dest }
+        requires sources { All (λ src. Allows self.old (AddAssign dest src)) sources.now }
+        requires begins { start ≤ self.old.symbol_size }
+        ensures forward { start ≤ result }
+        ensures within { result ≤ self.old.symbol_size }
+        ensures rest { self.old.symbol_size < result + N }
+        ensures sum { self.new ≡ with_sum self.old dest sources.now start (result - start) }
+    {
+        let pieces = (self.symbol_size - start) / N;
+        for piece in 0..pieces {
+            self.add_piece::<N>(dest, sources, start + N * piece);
+        }
+        start + N * pieces
+    }
+
+    /// Adds the N octets of several symbols from `at` on to those of another one.
+    #[inline(always)]
+    fn add_piece<const N: usize>(&mut self, dest: usize, sources: &[usize], at: usize)
+        requires lanes { N ≤ 64 }
+        requires dest { HasPlace self.old dest }
+        requires sources { All (λ src. Allows self.old (AddAssign dest src)) sources.now }
+        requires within { at + N ≤ self.old.symbol_size }
+        ensures { self.new ≡ with_sum self.old dest sources.now at N }
+    {
+        let sum = self.piece_sum::<N>(dest, sources, at);
+        write_piece::<N>(self.get_mut(dest), at, sum);
+    }
+
+    /// The sum of the N octets of several symbols from `at` on.
+    #[inline(always)]
+    fn piece_sum<const N: usize>(&self, dest: usize, sources: &[usize], at: usize) -> Simd<u8, N>
+        requires dest { HasPlace self.now dest }
+        requires sources { All (HasPlace self.now) sources.now }
+        requires within { at + N ≤ self.now.symbol_size }
+        ensures sum { result ≡ range_of (sum_in self.now dest sources.now) at N }
+        ensures len { length result ≡ N }
+    {
+        let mut sum = Simd::<u8, N>::from_slice(&self.get(dest)[at..]);
+        for src in sources {
+            sum ^= Simd::<u8, N>::from_slice(&self.get(*src)[at..]);
+        }
+        sum
     }
 
     /// Multiplies a symbol by an octet.
@@ -291,4 +354,14 @@ fn write_range(bytes: &mut [u8], start: usize, source: &[u8])
     ensures { bytes.new ≡ with_range bytes.old start source.now }
 {
     bytes[start..start + source.len()].copy_from_slice(source);
+}
+
+/// Writes a piece of N octets from a place on.
+#[inline(always)]
+fn write_piece<const N: usize>(octets: &mut [u8], at: usize, piece: Simd<u8, N>)
+    requires len { length piece ≡ N }
+    requires within { at + N ≤ length octets.old }
+    ensures { octets.new ≡ with_range octets.old at piece.entry }
+{
+    piece.copy_to_slice(&mut octets[at..]);
 }

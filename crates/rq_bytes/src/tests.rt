@@ -1,5 +1,5 @@
 //! Worked rows, and each public call once.
-ghost use Rattle.std.specs.Prelude.{◌≡◌, ◌+◌, ◌/◌, ◌<◌, None, length, IfOk, vec_len};
+ghost use Rattle.std.specs.Prelude.{◌≡◌, ◌+◌, ◌/◌, ◌^◌, ◌<◌, None, length, IfOk, vec_len};
 
 use crate::error::Error;
 use crate::gf2::add_assign_binary;
@@ -237,6 +237,46 @@ fn operations_are_performed(rt: HostRuntime) -> Result<(), Error> {
     let order = [2, 0].to_vec(rt.alloc())?;
     perform_op(&SymbolOps::Reorder { order }, &mut slab)?;
     assert_symbols(&rt, slab, &[2, 0])
+}
+
+/// Five symbols of this size. All octets of symbol i are 2 ^ i.
+fn powers(alloc: Global, size: usize) -> Result<SymbolSlab, Error>
+    requires { size < 2 ^ 32 }
+    ensures { IfOk result (λ slab. (slab.order ≡ None) × (length slab.values ≡ 5) × (slab.symbol_size ≡ size)) }
+{
+    let mut slab = SymbolSlab::with_zeros(alloc, 5, size)?;
+    slab.get_mut(0).fill(1);
+    slab.get_mut(1).fill(2);
+    slab.get_mut(2).fill(4);
+    slab.get_mut(3).fill(8);
+    slab.get_mut(4).fill(16);
+    Ok(slab)
+}
+
+fn assert_repeated(rt: &impl Abort, slab: SymbolSlab, expected: &[u8]) -> Result<(), Error> {
+    let symbols = slab.into_symbols()?;
+    assert_eq!(rt; symbols.len(), expected.len());
+    for i in 0..symbols.len() {
+        for octet in symbols[i].as_bytes() {
+            assert_eq!(rt; *octet, expected[i], "at {i}");
+        }
+    }
+    Ok(())
+}
+
+#[test]
+#[tactic(auto, unfolding(rq_algebra::specs::Operations::step))]
+fn several_symbols_are_added_in_one_pass(rt: HostRuntime) -> Result<(), Error> {
+    for size in [1usize, 33, 160] {
+        let mut slab = powers(rt.alloc(), size)?;
+        slab.add_all(1, &[0, 3, 4]);
+        assert_repeated(&rt, slab, &[1, 27, 4, 8, 16])?;
+        let mut slab = powers(rt.alloc(), size)?;
+        slab.set_reorder([4, 2, 1, 0].to_vec(rt.alloc())?);
+        slab.add_all(1, &[2, 0, 3]);
+        assert_repeated(&rt, slab, &[16, 23, 2, 1])?;
+    }
+    Ok(())
 }
 
 #[test]

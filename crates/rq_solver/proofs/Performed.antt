@@ -1,16 +1,18 @@
--- A slab after one operation more.
-use Rattle.std.proofs.Common.{◌≡◌, ℕ, suc, ◌+◌, ◌<◌, List, [], ◌∷◌, ◌++◌, map, length, take, drop, get_or, refl, sym, ap, ◌∙◌, subst, arith}
-use Rattle.std.proofs.lemmas.List.{length-set, take_more, map-append, take-append-drop}
-use Rattle.std.proofs.Math.Seq.{drop-cons}
-use Rattle.rq_algebra.specs.Operations.{Operation, AddAssign, MulAssign, Fma, Reorder, Store, step, run, meant_at, AreAllowed}
+-- A slab after some of its operations, and after more.
+use Rattle.std.proofs.Common.{◌≡◌, ℕ, suc, ◌+◌, ◌<◌, List, [], ◌∷◌, ◌++◌, Option, All, map, length, take, drop, get_or, set, refl, sym, ap, ◌∙◌, subst, arith}
+use Rattle.std.proofs.lemmas.List.{length-set, length-map, get_or-map, take-append-drop, drop-drop, map-append, take_more_set}
+use Rattle.std.proofs.lemmas.List.Elements.{All-nil, All-cons}
+use Rattle.std.proofs.Math.Seq.{drop-cons, take-add}
+use Rattle.rq_algebra.specs.Operations.{Operation, AddAssign, MulAssign, Fma, Reorder, Store, step, run, meant_at, order_after, IsAllowed, AreAllowed}
 use Rattle.rq_algebra.specs.Symbols.{symbols}
-use Rattle.rq_algebra.proofs.Runs.{run_push, order-run, AreAllowed-middle}
+use Rattle.rq_algebra.proofs.Runs.{run-append, last_order, order-run}
 use Rattle.rq_standard.specs.OctetField.{octets}
+use Rattle.rq_bytes.specs.Ranges.{range_of}
 use Rattle.rq_bytes.specs.Slab.{Slab, store_of, after, Allows}
 use Rattle.rq_bytes.specs.SymbolOps.{operation_of, IsReorder}
 use Rattle.rq_bytes.specs.declared.operation_vector.SymbolOps.{SymbolOps}
 use Rattle.rq_bytes.specs.declared.operation_vector.SymbolOps.TheVariants as ops
-use Rattle.rq_solver.specs.Replay.{after_all, StopsAtReorder}
+use Rattle.rq_solver.specs.Replay.{after_all, PerformsNext, BeginsReorder, StopsAtReorder}
 
 -- operations change no number of values
 length-step : (s : Store (List ℕ)) (operation : Operation) → length (step (symbols octets) s operation).values ≡ length s.values
@@ -20,7 +22,7 @@ length-step s (MulAssign dest scalar) = length-set s.values (meant_at s.order de
 length-step s (Fma dest src scalar) = length-set s.values (meant_at s.order dest) _
 length-step s (Reorder order) = refl
 
-pub length-run : (operations : List Operation) (s : Store (List ℕ)) → length (run (symbols octets) operations s).values ≡ length s.values
+length-run : (operations : List Operation) (s : Store (List ℕ)) → length (run (symbols octets) operations s).values ≡ length s.values
 unfolding run
 length-run [] s = refl
 length-run (operation ∷ operations) s = unfold run in length-run operations (step (symbols octets) s operation) ∙ length-step s operation
@@ -29,47 +31,93 @@ pub after_all-none : (slab : Slab) → after_all [] slab ≡ slab
 unfolding run
 after_all-none slab = refl
 
-pub after_all-push : (operations : List Operation) (operation : Operation) (slab : Slab) → after_all (operations ++ operation ∷ []) slab ≡ after operation (after_all operations slab)
-after_all-push operations operation slab = ap (λ (s : Store (List ℕ)). let t : Slab = record slab { values = s.values; order = s.order } in t) (run_push (symbols octets) operations operation (store_of slab))
+pub after_all-one : (operation : Operation) (slab : Slab) → after_all (operation ∷ []) slab ≡ after operation slab
+unfolding run
+after_all-one operation slab = refl
 
--- the next of the operations that a slab allows
-module _ (ops : List SymbolOps) (slab : Slab) (i : ℕ) (op : SymbolOps) (here : i < length ops) (is : op ≡ get_or ops i op) (allowed : AreAllowed (length slab.values) slab.order (map operation_of ops)) where
-  done : List Operation
-  done = map operation_of (take i ops)
+after_all-append : (first second : List Operation) (slab : Slab) → after_all (first ++ second) slab ≡ after_all second (after_all first slab)
+after_all-append first second slab = ap (λ (s : Store (List ℕ)). let t : Slab = record slab { values = s.values; order = s.order } in t) (run-append (symbols octets) first second (store_of slab))
 
-  rest : List Operation
-  rest = map operation_of (drop (i + 1) ops)
+-- what operations ask after others
+AreAllowed-after : (n : ℕ) (order : Option (List ℕ)) (before rest : List Operation) → AreAllowed n order (before ++ rest) → AreAllowed n (last_order order before) rest
+AreAllowed-after n order [] rest all = all
+AreAllowed-after n order (first ∷ before) rest all = AreAllowed-after n (order_after order first) before rest all.1
 
-  split : map operation_of ops ≡ done ++ operation_of op ∷ rest
-  unfolding done rest
-  split =
-      let next : suc i ≡ i + 1 = omega arith in
-      ap (map operation_of) (sym (take-append-drop i ops) ∙ ap (λ (l : List SymbolOps). take i ops ++ l) (drop-cons ops i op here))
-      ∙ map-append operation_of (take i ops) (get_or ops i op ∷ drop (suc i) ops)
-      ∙ ap (λ (o : SymbolOps). map operation_of (take i ops) ++ operation_of o ∷ map operation_of (drop (suc i) ops)) (sym is)
-      ∙ ap (λ (n : ℕ). map operation_of (take i ops) ++ operation_of op ∷ map operation_of (drop n ops)) next
+-- ---- operations of which the first i were performed
 
-  pub next_allowed : Allows (after_all (map operation_of (take i ops)) slab) (operation_of op)
-  unfolding done
-  next_allowed =
-      let one = AreAllowed-middle (length slab.values) slab.order done (operation_of op) rest (subst (λ (all : List Operation). AreAllowed (length slab.values) slab.order all) split allowed) in
-      rw (length-run done (store_of slab), order-run (symbols octets) done (store_of slab)) one
+module _ (operations : List Operation) (slab : Slab) (i : ℕ) where
+  pub rest_allowed : AreAllowed (length slab.values) slab.order operations
+      → let now = after_all (take i operations) slab in AreAllowed (length now.values) now.order (drop i operations)
+  rest_allowed allowed =
+      let before = take i operations in
+      let rest = AreAllowed-after (length slab.values) slab.order before (drop i operations) (subst (λ (all : List Operation). AreAllowed (length slab.values) slab.order all) (sym (take-append-drop i operations)) allowed) in
+      rw (length-run before (store_of slab), order-run (symbols octets) before (store_of slab)) rest
 
-  pub after_all-next : (new : Slab) → new ≡ after (operation_of op) (after_all (map operation_of (take i ops)) slab) → new ≡ after_all (map operation_of (take (i + 1) ops)) slab
-  after_all-next new e =
-      e ∙ sym (after_all-push (map operation_of (take i ops)) (operation_of op) slab)
-      ∙ ap (λ (l : List Operation). after_all l slab) (
-      ap (λ (o : SymbolOps). map operation_of (take i ops) ++ operation_of o ∷ []) is
-      ∙ sym (map-append operation_of (take i ops) (get_or ops i op ∷ []))
-      ∙ ap (map operation_of) (sym (take_more ops i op here)))
+  pub performed_more : (count : ℕ) (now new : Slab) → now ≡ after_all (take i operations) slab → PerformsNext operations i count now new → new ≡ after_all (take (i + count) operations) slab
+  performed_more count now new e next =
+      next.performed
+      ∙ ap (after_all (range_of operations i count)) e
+      ∙ sym (after_all-append (take i operations) (range_of operations i count) slab)
+      ∙ ap (λ l. after_all l slab) (sym (take-add i count operations))
 
-  pub stops_here : (order : List ℕ) → operation_of op ≡ Reorder order → StopsAtReorder (map operation_of ops) slab (after_all (map operation_of (take i ops)) slab)
-  unfolding done
-  stops_here order e = record { before = done; order = order; rest = rest; splits = split ∙ ap (λ (o : Operation). done ++ o ∷ rest) e; performed = refl }
+  pub stops_here : (now new : Slab) → now ≡ after_all (take i operations) slab → new ≡ now → BeginsReorder (drop i operations) → StopsAtReorder operations slab new
+  stops_here now new e same begins = record {
+    before = take i operations;
+    order = begins.order;
+    rest = begins.rest;
+    splits = sym (take-append-drop i operations) ∙ ap (λ l. take i operations ++ l) begins.is;
+    performed = same ∙ e;
+  }
 
--- the order that a `Reorder` sets
-pub reorder_order : (op : SymbolOps) → IsReorder op → (order : List ℕ) × (operation_of op ≡ Reorder order)
-reorder_order (ops.AddAssign dest src) is = elim is [ ]
-reorder_order (ops.MulAssign dest scalar) is = elim is [ ]
-reorder_order (ops.FMA dest src scalar) is = elim is [ ]
-reorder_order (ops.Reorder order) is = (order.items, refl)
+-- ---- the operation at a place
+
+module _ (recorded : List SymbolOps) (i : ℕ) (op : SymbolOps) (here : i < length recorded) (is : op ≡ get_or recorded i op) where
+  pub operation_there : drop i (map operation_of recorded) ≡ operation_of op ∷ drop (suc i) (map operation_of recorded)
+  operation_there =
+      let operations = map operation_of recorded in
+      drop-cons operations i (operation_of op) (omega (arith, length-map recorded operation_of))
+      ∙ ap (λ o. o ∷ drop (suc i) operations) (get_or-map operation_of recorded i op (operation_of op) here ∙ ap operation_of (sym is))
+
+  pub one_performed : (old new : Slab) → new ≡ after (operation_of op) old → PerformsNext (map operation_of recorded) i 1 old new
+  one_performed old new e = record {
+    some = omega arith;
+    within = omega (arith, length-map recorded operation_of);
+    performed = e ∙ sym (ap (λ l. after_all (take 1 l) old) operation_there ∙ after_all-one (operation_of op) old);
+  }
+
+  pub reorder_begins : IsReorder op → BeginsReorder (drop i (map operation_of recorded))
+  reorder_begins reorder = begins op operation_there reorder
+    where
+      begins : (o : SymbolOps) → drop i (map operation_of recorded) ≡ operation_of o ∷ drop (suc i) (map operation_of recorded) → IsReorder o → BeginsReorder (drop i (map operation_of recorded))
+      begins (ops.AddAssign dest src) e none = absurd none
+      begins (ops.MulAssign dest scalar) e none = absurd none
+      begins (ops.FMA dest src scalar) e none = absurd none
+      begins (ops.Reorder order) e one = record { order = order.items; rest = drop (suc i) (map operation_of recorded); is = e }
+
+  -- one more addition to a symbol, and its source
+  pub run_more : (start count dest source : ℕ) (sources : List ℕ) → i ≡ start + count → count < length sources → operation_of op ≡ AddAssign dest source
+      → range_of (map operation_of recorded) start count ≡ map (λ src. AddAssign dest src) (take count sources)
+      → range_of (map operation_of recorded) start (count + 1) ≡ map (λ src. AddAssign dest src) (take (count + 1) (set sources count source))
+  run_more start count dest source sources at room adds so_far =
+      let operations = map operation_of recorded in
+      let add = λ (src : ℕ). AddAssign dest src in
+      take-add count 1 (drop start operations)
+      ∙ ap (λ l. l ++ take 1 (drop count (drop start operations))) so_far
+      ∙ ap (λ l. map add (take count sources) ++ take 1 l) (drop-drop count start operations ∙ ap (λ k. drop k operations) (sym at) ∙ operation_there)
+      ∙ ap (λ o. map add (take count sources) ++ o ∷ []) adds
+      ∙ sym (map-append add (take count sources) (source ∷ []))
+      ∙ ap (map add) (sym (take_more_set sources count source room))
+
+-- ---- additions to one symbol, one after another
+
+additions_allowed : (n : ℕ) (order : Option (List ℕ)) (dest : ℕ) (sources : List ℕ) (rest : List Operation) → AreAllowed n order (map (λ src. AddAssign dest src) sources ++ rest)
+    → All (λ src. IsAllowed n order (AddAssign dest src)) sources
+additions_allowed n order dest [] rest all = All-nil (λ src. IsAllowed n order (AddAssign dest src))
+additions_allowed n order dest (src ∷ sources) rest all = All-cons (λ s. IsAllowed n order (AddAssign dest s)) src sources all.0 (additions_allowed n order dest sources rest all.1)
+
+pub run_allowed : (slab : Slab) (operations : List Operation) (i count dest : ℕ) (sources : List ℕ) → AreAllowed (length slab.values) slab.order (drop i operations)
+    → range_of operations i count ≡ map (λ src. AddAssign dest src) sources → All (λ src. Allows slab (AddAssign dest src)) sources
+run_allowed slab operations i count dest sources allowed is =
+    let rest = drop count (drop i operations) in
+    let split : drop i operations ≡ map (λ src. AddAssign dest src) sources ++ rest = sym (take-append-drop count (drop i operations)) ∙ ap (λ l. l ++ rest) is in
+    additions_allowed (length slab.values) slab.order dest sources rest (subst (AreAllowed (length slab.values) slab.order) split allowed)
