@@ -18,10 +18,11 @@ use rq_bytes::operation_vector::SymbolOps;
 use rq_parts::octet_matrix::DenseOctetMatrix;
 use std::alloc::Global;
 
-/// Adds to the HDPC rows one another and the pivots' rows, so that they have 0 in the pivots'
-/// columns. In all columns but the last H of RFC 6330's HDPC rows (section 5.3.3.3) their sum
-/// is a multiple of what the column adds to each of them, so that one row, which starts as the sum,
-/// clears most of the others without products.
+/// Gives the HDPC rows 0 in the pivots' columns. The first row takes all others, and then clears
+/// them column by column, before all take the row of the column's pivot. That holds for any octets,
+/// and takes few products for those of RFC 6330 (section 5.3.3.3): a column there is alpha times the
+/// next but for ones in two rows, and the sum of the rows is alpha times the next without these, so
+/// that a column that was cleared by the sum leaves ones in two rows of the next.
 pub(super) fn clear_octets(
     hdpc: &DenseOctetMatrix,
     first_hdpc: usize,
@@ -187,14 +188,14 @@ fn add_pivot(
 {
     let column = peeling.order[place];
     for row in 0..current.height() {
-        let octet = current.get(row, column);
-        if octet.byte() != 0 {
+        let scalar = current.get(row, column);
+        if scalar.byte() != 0 {
             add_row(
                 tails,
                 operations,
                 first_hdpc + row,
                 peeling.rows[place],
-                octet,
+                scalar,
             )?;
             current.set(row, column, Octet::zero());
         }

@@ -1,6 +1,5 @@
 -- What the check leaves to show of `pi_solver::peeled::hdpc::add_first_row`.
-use Rattle.std.proofs.Common.{◌≡◌, ◌≢◌, ◌<◌, sym, ◌∙◌, arith}
-use Rattle.rq_standard.specs.OctetField.{octets}
+use Rattle.std.proofs.Common.{◌≢◌, ◌<◌, ◌∙◌}
 use Rattle.rq_solver.proofs.Entries.{one-div, inverse_nonzero}
 use Rattle.rq_solver.proofs.OctetTurns.{combines_none, combines_more}
 use Rattle.rq_solver.proofs.pi_solver.peeled.hdpc.add_first_row.Goals as goal

@@ -1,9 +1,9 @@
 -- What the check leaves to show of `pi_solver::peeled::hdpc::add_pivot`.
-use Rattle.std.proofs.Common.{◌≡◌, ◌+◌, ◌<◌, length, lit<, sym, ap, ◌∙◌, arith, inl, inr}
+use Rattle.std.proofs.Common.{◌≡◌, ◌<◌, length, lit<, sym, ap, ◌∙◌, arith, inl, inr}
 use Rattle.std.proofs.lemmas.Bool.{cases_eq}
 use Rattle.std.proofs.lemmas.List.{get_or_read}
 use Rattle.rq_algebra.specs.Systems.{at}
-use Rattle.rq_parts.specs.OctetTable.{OctetTable, entry_of}
+use Rattle.rq_parts.specs.OctetTable.{entry_of}
 use Rattle.rq_solver.specs.OctetBatch.{AreOctetsIn, HasPivotsBeside, ChangesOctets}
 use Rattle.rq_solver.proofs.OctetTurns.{octets_still, beside_still, changes_none, changes_pivot, changes_more}
 use Rattle.rq_solver.proofs.Writes.{SetsEntry, sets_entry}
@@ -41,17 +41,17 @@ loop-row-preserved c =
     let in_order : place < length order = omega (arith, beside.columns.order_count, beside.few, c.requires.place) in
     let column : c.index-column.result.now ≡ at order place = get_or_read order place c.index-column.result.now in_order c.index-column.ensures 0 in
     let in_rows : row < length was.rows = omega (arith, v.changed.height) in
-    let scalar_is : c.get-octet.result ≡ entry_of was row (at order place) = c.get-octet.ensures ∙ ap (entry_of was row) column in
+    let scalar_is : c.get-scalar.result ≡ entry_of was row (at order place) = c.get-scalar.ensures ∙ ap (entry_of was row) column in
     elim c.if-byte-ne0.branch [
       | then-byte-ne0+in_ok-add_row w ↦
-          let small : c.get-octet.result < 256 = rw c.byte.ensures at c.byte.type_inv in
+          let small : c.get-scalar.result < 256 = rw c.byte.ensures at c.byte.type_inv in
           let read : w.index.result.now ≡ at rows place = get_or_read rows place w.index.result.now c.requires.place w.index.ensures 0 in
           let are : AreOctetsIn first was cur = octets_still first start was old cur c.requires.rows v.changed.height v.changed.performs.height v.changed.octets v.changed.performs.octets in
           let still : HasPivotsBeside rows order places first was cur = beside_still rows order places first start was old cur beside v.changed.width v.changed.height v.changed.performs.height in
           let in_width : at order place < was.width = (still.columns.ordered place (omega (arith, still.few, c.requires.place))).0 in
           let sets : SetsEntry row (at order place) 0 was w.set.new.self = sets_entry was v.changed.octets row (at order place) 0 in_rows in_width (lit< tt) w.set.new.self (rw (column, w.zero.ensures) at w.set.ensures) in
           let turn : ChangesOctets rows order first was w.set.new.self cur w.add_row.new.tails between w.add_row.new.operations.items =
-              changes_pivot rows order places first was w.set.new.self cur w.add_row.new.tails between w.add_row.new.operations.items are still row place c.get-octet.result in_rows c.requires.place small scalar_is sets (rw read at w.in_ok-add_row.ensures.added) in
+          changes_pivot rows order places first was w.set.new.self cur w.add_row.new.tails between w.add_row.new.operations.items are still row place c.get-scalar.result in_rows c.requires.place small scalar_is sets (rw read at w.in_ok-add_row.ensures.added) in
           rw (w.current-is, w.tails-is, w.operations-is) (record {
             changed = changes_more rows order places first start was w.set.new.self old cur w.add_row.new.tails before between w.add_row.new.operations.items beside v.changed turn;
             cleared = λ i l. elim (cases_eq i row) [ inl e ↦ rw e sets.here | inr d ↦ sets.elsewhere i (at order place) d ∙ v.cleared i (omega arith) ];

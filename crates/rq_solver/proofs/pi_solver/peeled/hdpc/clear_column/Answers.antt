@@ -1,8 +1,7 @@
 -- What the check leaves to show of `pi_solver::peeled::hdpc::clear_column`.
-use Rattle.std.proofs.Common.{◌≡◌, ◌<◌, length, sym, ap, ◌∙◌, arith}
+use Rattle.std.proofs.Common.{◌≡◌, ◌<◌, length, ap, ◌∙◌, arith}
 use Rattle.std.proofs.lemmas.List.{get_or_read}
 use Rattle.rq_algebra.specs.Systems.{at}
-use Rattle.rq_solver.specs.OctetBatch.{ChangesOctets}
 use Rattle.rq_solver.proofs.OctetTurns.{beside_still, changes_combined, changes_more, zeros_kept, zeros_more}
 use Rattle.rq_solver.proofs.pi_solver.peeled.hdpc.clear_column.Goals as goal
 
@@ -18,7 +17,7 @@ returns-in_ok-add_pivot-clause-changed c =
     let order = c.args.peeling.now.order.items in
     let places = c.args.peeling.now.places.items in
     let added = changes_combined rows order places c.args.first_hdpc c.args.current.now c.add_first_row.new.current c.args.tails.now c.add_first_row.new.tails c.args.operations.now.items c.add_first_row.new.operations.items
-        c.requires.rows c.requires.pivots c.in_ok-add_first_row.ensures.added in
+    c.requires.rows c.requires.pivots c.in_ok-add_first_row.ensures.added in
     changes_more rows order places c.args.first_hdpc c.args.current.now c.add_first_row.new.current c.add_pivot.new.current c.args.tails.now c.add_first_row.new.tails c.add_pivot.new.tails
     c.args.operations.now.items c.add_first_row.new.operations.items c.add_pivot.new.operations.items c.requires.pivots added c.in_ok-add_pivot.ensures.changed
 
