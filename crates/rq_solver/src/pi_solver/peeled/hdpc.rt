@@ -18,11 +18,11 @@ use rq_bytes::operation_vector::SymbolOps;
 use rq_parts::octet_matrix::DenseOctetMatrix;
 use std::alloc::Global;
 
-/// Gives the HDPC rows 0 in the pivots' columns. The first row takes all others, and then clears
-/// them column by column, before all take the row of the column's pivot. That holds for any octets,
-/// and takes few products for those of RFC 6330 (section 5.3.3.3): a column there is alpha times the
-/// next but for ones in two rows, and the sum of the rows is alpha times the next without these, so
-/// that a column that was cleared by the sum leaves ones in two rows of the next.
+/// Gives the HDPC rows 0 in the pivots' columns: the first row takes all others, and clears them
+/// column by column, before all take the row of the column's pivot. This serves any octets. For
+/// those of RFC 6330 (section 5.3.3.3) it takes few products: a column is alpha times the next, but
+/// for ones in two rows, so that the sum of the rows is alpha times that in the next, and once it
+/// has cleared a column it is to be added to two rows at most to clear the next.
 pub(super) fn clear_octets(
     hdpc: &DenseOctetMatrix,
     first_hdpc: usize,
