@@ -230,10 +230,11 @@ module _ (rows order places : List ℕ) (first : ℕ) where
   pub zeros_more : (current : OctetTable) (column : ℕ) → HasZerosBefore (length rows) places column current → (at places column < length rows → HasZeros column (length current.rows) current) → HasZerosBefore (length rows) places (column + 1) current
   zeros_more current column zeros here = λ k l pivot. elim (cases_eq k column) [ inl e ↦ rw e (here (rw e at pivot)) | inr d ↦ zeros k (omega arith) pivot ]
 
-  -- a copy of the HDPC rows' octets stands for them
-  pub copy_beside : (octet : ℕ → ℕ → ℕ) (count width : ℕ) (copy table : OctetTable) → HoldsRows count width count octet copy → IsOrderOf width order places → length rows ≤ width → AreRows rows table
-      → ((i p : ℕ) → i < count → p < length rows → first + i ≢ at rows p) → HasPivotsBeside rows order places first copy table
-  copy_beside octet count width copy table holds columns few are apart = record { columns = rw holds.width_is columns; few = rw holds.width_is few; pivots = are; apart = λ i p l n. apart i p (rw holds.height_is at l) n }
+  -- what was a copy of the HDPC rows' octets shows them
+  pub copy_beside : (octet : ℕ → ℕ → ℕ) (count width : ℕ) (copy current old new : OctetTable) → HoldsRows count width count octet copy → IsOrderOf width order places → length rows ≤ width → AreRows rows old
+      → ((i p : ℕ) → i < count → p < length rows → first + i ≢ at rows p) → current.width ≡ copy.width → length current.rows ≡ length copy.rows → length new.rows ≡ length old.rows → HasPivotsBeside rows order places first current new
+  copy_beside octet count width copy current old new holds columns few are apart =
+      beside_still copy current old new (record { columns = rw holds.width_is columns; few = rw holds.width_is few; pivots = are; apart = λ i p l n. apart i p (rw holds.height_is at l) n })
 
   -- there are zeros in the columns of all pivots
   pub clears_octets : (octet : ℕ → ℕ → ℕ) (count width : ℕ) (copy current old new : OctetTable) (before after : List SymbolOps) (end : ℕ) → IsOrderOf width order places → length rows ≤ width → HoldsRows count width count octet copy

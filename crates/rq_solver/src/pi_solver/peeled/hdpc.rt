@@ -58,7 +58,7 @@ fn copy_of(
     width: usize,
 ) -> Result<DenseOctetMatrix, Error>
     requires width { octets.now.width ≡ width }
-    ensures copied { IfOk result (HoldsRows (length octets.now.rows) width (length octets.now.rows) (entry_of octets.now)) }
+    ensures copied { IfOk result (HoldsRows (length octets.now.rows) octets.now.width (length octets.now.rows) (entry_of octets.now)) }
     ensures err { IfErr result (λ e. e ≡ OutOfMemory) }
 {
     let mut copy = DenseOctetMatrix::new(alloc, octets.height(), width, 0)?;

@@ -5,4 +5,4 @@ use Rattle.rq_solver.specs.RowWrites.{HoldsRows}
 use Rattle.rq_solver.proofs.pi_solver.peeled.hdpc.copy_of.Given as goal
 
 abbrev pub invariant-loop-row : goal.invariant-loop-row
-invariant-loop-row l = HoldsRows (length l.octets.rows) l.width l.row (entry_of l.octets) l.copy
+invariant-loop-row l = HoldsRows (length l.octets.rows) l.octets.width l.row (entry_of l.octets) l.copy
