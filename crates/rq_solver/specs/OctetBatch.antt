@@ -1,6 +1,6 @@
 -- HDPC rows whose octets are cleared in the pivots' columns, all of them together. A table beside shows what the rows have in all columns.
 use Rattle.std.specs.Prelude.{◌≡◌, ◌≢◌, ℕ, ◌+◌, ◌^◌, ◌<◌, ◌≤◌, List, length}
-use Rattle.rq_algebra.specs.Systems.{at}
+use Rattle.rq_algebra.specs.Systems.{at, sum_below}
 use Rattle.rq_algebra.specs.Operations.{Operation}
 use Rattle.rq_standard.specs.OctetField.{octets}
 use Rattle.rq_bytes.specs.declared.operation_vector.SymbolOps.{SymbolOps}
@@ -61,3 +61,13 @@ HasZeros column done current = (i : ℕ) → i < done → entry_of current i col
 -- the rows have 0 in the columns before this one that have a pivot
 abbrev pub HasZerosBefore : ℕ → List ℕ → ℕ → OctetTable → Type 0
 HasZerosBefore pivots places column current = (k : ℕ) → k < column → at places k < pivots → HasZeros k (length current.rows) current
+
+-- the first row became the sum of all, and the others are as they were
+pub record SumsRows (was now : OctetTable) : Type 0 where
+  pub sum : (k : ℕ) → k < was.width → entry_of now 0 k ≡ sum_below octets (length was.rows) (λ i. entry_of was i k)
+  pub others : (i k : ℕ) → 0 < i → i < length was.rows → k < was.width → entry_of now i k ≡ entry_of was i k
+
+-- in a column the first row has 1, and the others have 0
+pub record IsFirstAlone (column : ℕ) (current : OctetTable) : Type 0 where
+  pub one : entry_of current 0 column ≡ 1
+  pub zeros : (i : ℕ) → 0 < i → i < length current.rows → entry_of current i column ≡ 0

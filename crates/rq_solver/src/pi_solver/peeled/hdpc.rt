@@ -1,10 +1,12 @@
 //! The HDPC rows in the columns of pivots.
 ghost use Rattle.std.specs.Prelude.{◌≡◌, ◌≢◌, ℕ, ◌+◌, ◌^◌, ◌<◌, ◌≤◌, length, IfOk, OnOk, IfErr};
+ghost use Rattle.rq_algebra.specs.Steps.{AddsRow, ScalesRow};
 ghost use Rattle.rq_algebra.specs.Systems.{at};
 ghost use Rattle.rq_bytes.specs.declared.error.Error.TheVariants.{OutOfMemory};
 ghost use Rattle.rq_parts.specs.OctetTable.{entry_of};
+ghost use Rattle.rq_standard.specs.OctetField.{octets};
 ghost use Rattle.rq_solver.specs.Cleared.{ClearsOctets};
-ghost use Rattle.rq_solver.specs.OctetBatch.{AreOctetsIn, ChangesOctets, CombinesOctets, HasPivotsBeside, HasZeros, HasZerosBefore};
+ghost use Rattle.rq_solver.specs.OctetBatch.{AreOctetsIn, ChangesOctets, CombinesOctets, HasPivotsBeside, HasZeros, HasZerosBefore, IsFirstAlone, SumsRows};
 ghost use Rattle.rq_solver.specs.Peeled.{IsOrderOf};
 ghost use Rattle.rq_solver.specs.RowSteps.{AreRows, HasOctets};
 ghost use Rattle.rq_solver.specs.RowWrites.{HoldsRows};
@@ -90,6 +92,8 @@ fn sum_rows(
     operations: &mut Vec<SymbolOps>,
 ) -> Result<(), Error>
     requires rows { AreOctetsIn first_hdpc current.old tails.old }
+    requires some { 0 < length current.old.rows }
+    ensures sum { OnOk result (SumsRows current.old current.new) }
     ensures summed { OnOk result (CombinesOctets first_hdpc current.old current.new tails.old tails.new operations.old.items operations.new.items) }
     ensures err { IfErr result (λ e. e ≡ OutOfMemory) }
 {
@@ -125,7 +129,7 @@ fn clear_column(
 }
 
 /// Adds multiples of the first HDPC row to the others, so that these have 0 in the column, and
-/// multiplies it so that it has 1. Where it has 0 there, nothing is done.
+/// multiplies it so that it has 1 there. Where it has 0, nothing is done.
 fn add_first_row(
     current: &mut DenseOctetMatrix,
     column: usize,
@@ -136,6 +140,7 @@ fn add_first_row(
     requires rows { AreOctetsIn first_hdpc current.old tails.old }
     requires some { 0 < length current.old.rows }
     requires column { column < current.old.width }
+    ensures alone { OnOk result (entry_of current.old 0 column ≢ 0 → IsFirstAlone column current.new) }
     ensures added { OnOk result (CombinesOctets first_hdpc current.old current.new tails.old tails.new operations.old.items operations.new.items) }
     ensures err { IfErr result (λ e. e ≡ OutOfMemory) }
 {
@@ -217,6 +222,7 @@ fn add_octets(
     requires two { dest ≢ src }
     requires dest { dest < length current.old.rows }
     requires src { src < length current.old.rows }
+    ensures sum { OnOk result (AddsRow octets (length current.old.rows) current.old.width dest src scalar (entry_of current.old) (entry_of current.new)) }
     ensures added { OnOk result (CombinesOctets first_hdpc current.old current.new tails.old tails.new operations.old.items operations.new.items) }
     ensures err { IfErr result (λ e. e ≡ OutOfMemory) }
 {
@@ -243,6 +249,7 @@ fn multiply_octets(
     requires rows { AreOctetsIn first_hdpc current.old tails.old }
     requires dest { dest < length current.old.rows }
     requires scalar { scalar ≢ 0 }
+    ensures scaled { OnOk result (ScalesRow octets (length current.old.rows) current.old.width dest scalar (entry_of current.old) (entry_of current.new)) }
     ensures multiplied { OnOk result (CombinesOctets first_hdpc current.old current.new tails.old tails.new operations.old.items operations.new.items) }
     ensures err { IfErr result (λ e. e ≡ OutOfMemory) }
 {

@@ -6,6 +6,11 @@ use Rattle.rq_solver.proofs.Entries.{summed_row, summed_octets}
 use Rattle.rq_solver.proofs.OctetTurns.{combines_sum}
 use Rattle.rq_solver.proofs.pi_solver.peeled.hdpc.add_octets.Goals as goal
 
+pub returns-clause-sum : goal.returns-clause-sum
+returns-clause-sum c =
+    let small : c.args.scalar < 256 = omega arith in
+    rw c.fma_rows.ensures (summed_row c.args.current.now c.requires.rows.shown c.args.dest c.args.scalar c.requires.dest small c.args.src c.requires.src)
+
 pub returns-clause-added : goal.returns-clause-added
 returns-clause-added c =
     let was = c.args.current.now in
@@ -19,4 +24,4 @@ returns-clause-added c =
     (ap (λ (t : OctetTable). t.width) c.fma_rows.ensures)
     (ap (λ (t : OctetTable). length t.rows) c.fma_rows.ensures ∙ length-set was.rows dest _)
     dest scalar c.requires.dest src c.requires.src
-    (rw c.fma_rows.ensures (summed_row was are dest scalar c.requires.dest small src c.requires.src)) c.in_ok-add_row.ensures.added
+    (returns-clause-sum c) c.in_ok-add_row.ensures.added

@@ -6,6 +6,11 @@ use Rattle.rq_solver.proofs.Entries.{multiplied_row, multiplied_octets}
 use Rattle.rq_solver.proofs.OctetTurns.{combines_scaling, performs_scaling}
 use Rattle.rq_solver.proofs.pi_solver.peeled.hdpc.multiply_octets.Goals as goal
 
+pub returns-clause-scaled : goal.returns-clause-scaled
+returns-clause-scaled c =
+    let small : c.args.scalar < 256 = omega arith in
+    rw c.mul_assign_row.ensures (multiplied_row c.args.current.now c.requires.rows.shown c.args.dest c.args.scalar c.requires.dest small)
+
 pub returns-clause-multiplied : goal.returns-clause-multiplied
 returns-clause-multiplied c =
     let was = c.args.current.now in
@@ -24,7 +29,7 @@ returns-clause-multiplied c =
     (ap (λ (t : OctetTable). t.width) now)
     (ap (λ (t : OctetTable). length t.rows) now ∙ length-set was.rows dest _)
     dest scalar c.requires.dest
-    (rw now (multiplied_row was are dest scalar c.requires.dest small))
+    (returns-clause-scaled c)
     (performs_scaling row scalar old c.mul_assign_row-2.new.self c.args.operations.now.items c.push.new.self.items _ c.in_ok-push.ensures.items refl in_rows small c.requires.scalar
     (rw new (multiplied_octets old are_in_table row scalar in_rows small))
     (ap (λ (t : OctetTable). t.width) new)
