@@ -6,6 +6,7 @@ pub mod FreeColumns
 pub mod LinkLaws
 pub mod ListingLaws
 pub mod OctetRows
+pub mod OctetSums
 pub mod OctetTurns
 pub mod Outcomes
 pub mod PeeledOutcomes

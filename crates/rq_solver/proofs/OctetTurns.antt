@@ -1,17 +1,26 @@
--- Rows of octets get zeros in the columns of pivots.
-use Rattle.std.proofs.Common.{lit<, ◌≡◌, ◌≢◌, ℕ, ◌+◌, ◌<◌, List, [], ◌∷◌, ◌++◌, length, refl, sym, ap, ◌∙◌, arith, inl, inr}
-use Rattle.std.proofs.lemmas.Bool.{cases_eq}
-use Rattle.rq_algebra.specs.Arrangements.{ArePlaces}
+-- HDPC rows take one another, factors, and rows of pivots, and a table beside shows what they have.
+use Rattle.std.proofs.Common.{◌≡◌, ◌≢◌, ℕ, ◌+◌, ◌<◌, ◌≤◌, List, [], ◌∷◌, ◌++◌, map, length, refl, sym, ap, ◌∙◌, arith, inl, inr}
+use Rattle.std.specs.List.{range_with_len}
+use Rattle.std.proofs.lemmas.Bool.{cases_eq, cases_lt}
+use Rattle.std.proofs.lemmas.List.{map-append}
+use Rattle.std.proofs.lemmas.List.Elements.{All-nil, All-cons}
+use Rattle.rq_algebra.specs.Operations.{Operation, MulAssign}
+use Rattle.rq_algebra.specs.Steps.{AddsRow, ScalesRow}
 use Rattle.rq_algebra.specs.Systems.{at}
 use Rattle.rq_algebra.proofs.Sums.{add_zero, mul_zero, mul_one}
 use Rattle.rq_standard.specs.OctetField.{octets}
+use Rattle.rq_bytes.specs.SymbolOps.{operation_of}
 use Rattle.rq_bytes.specs.declared.operation_vector.SymbolOps.{SymbolOps}
-use Rattle.rq_parts.specs.OctetTable.{OctetTable}
-use Rattle.rq_solver.specs.Cleared.{sum_step, Performs, IsCleared, ClearsOctetRow, ClearsOctets}
-use Rattle.rq_solver.specs.RowSteps.{HasOctets, rows_after}
-use Rattle.rq_solver.proofs.StepColumns.{rows_after-none, rows_after-next}
+use Rattle.rq_parts.specs.OctetTable.{OctetTable, entry_of}
+use Rattle.rq_solver.specs.Cleared.{sum_step, Performs, ClearsOctets}
+use Rattle.rq_solver.specs.OctetBatch.{AreOctetsIn, HasPivotsBeside, PivotsAreCleared, AreShown, CombinesOctets, ChangesOctets, HasZeros, HasZerosBefore}
+use Rattle.rq_solver.specs.Peeled.{IsOrderOf}
+use Rattle.rq_solver.specs.RowSteps.{AreRows, HasOctets, row_step, rows_after, IsStepAmong}
+use Rattle.rq_solver.specs.RowWrites.{HoldsRows}
+use Rattle.rq_solver.proofs.StepColumns.{changed_here, changed_other, rows_after-none, rows_after-next, rows_after-zero, Contains-range}
 use Rattle.rq_solver.proofs.Performing.{sum_step-here, sum_step-elsewhere, performs_none, performs_more}
 use Rattle.rq_solver.proofs.PivotTurns.{if_same, if_apart, cleared_small}
+use Rattle.rq_solver.proofs.Writes.{SetsEntry}
 
 -- a multiple of zero adds nothing, and a multiple of 1 takes away what it is
 pub plus_zero_times : (x c y : ℕ) → y ≡ 0 → octets.add x (octets.mul c y) ≡ x
@@ -20,107 +29,242 @@ plus_zero_times x c y e = ap (λ (z : ℕ). octets.add x (octets.mul c z)) e ∙
 pub plus_own : (x c y : ℕ) → c < 256 → x ≡ c → y ≡ 1 → octets.add x (octets.mul c y) ≡ 0
 plus_own x c y small e f = ap (λ (z : ℕ). octets.add x (octets.mul c z)) f ∙ ap (octets.add x) (mul_one octets c small) ∙ ap (λ (z : ℕ). octets.add z c) e ∙ octets.add_self c
 
-module _ (rows order : List ℕ) (octet : ℕ → ℕ) (row : ℕ) where
-  pub octet_row_none : (table : OctetTable) (operations : List SymbolOps) → HasOctets table → ClearsOctetRow rows order octet row 0 table table operations operations
-  octet_row_none table operations are = record {
+-- ---- a row is multiplied
+
+module _ (dest scalar : ℕ) (m : ℕ → ℕ → ℕ) where
+  scaling-here : (k : ℕ) → rows_after octets (MulAssign dest scalar ∷ []) m dest k ≡ octets.mul scalar (m dest k)
+  unfolding rows_after row_step
+  scaling-here k = changed_here m dest _ k
+
+  scaling-elsewhere : (i k : ℕ) → i ≢ dest → rows_after octets (MulAssign dest scalar ∷ []) m i k ≡ m i k
+  unfolding rows_after row_step
+  scaling-elsewhere i k apart = changed_other m dest _ i k apart
+
+-- that was done to a table, and was recorded
+pub performs_scaling : (dest scalar : ℕ) (old new : OctetTable) (before after : List SymbolOps) (recorded : SymbolOps) → after ≡ before ++ recorded ∷ [] → operation_of recorded ≡ MulAssign dest scalar → dest < length old.rows → scalar < 256 → scalar ≢ 0
+    → HasOctets new → new.width ≡ old.width → length new.rows ≡ length old.rows → ScalesRow octets (length old.rows) old.width dest scalar (entry_of old) (entry_of new)
+    → Performs (MulAssign dest scalar ∷ []) old new before after
+performs_scaling dest scalar old new before after recorded pushed is in_dest small nonzero are_new width height scales = record {
+  recorded = ap (map operation_of) pushed ∙ map-append operation_of before (recorded ∷ []) ∙ ap (λ (o : Operation). map operation_of before ++ o ∷ []) is;
+  among = let among = IsStepAmong octets (range_with_len 0 (length old.rows)) in All-cons among (MulAssign dest scalar) [] (Contains-range (length old.rows) dest in_dest, small, nonzero) (All-nil among);
+  width = width;
+  height = height;
+  entries = λ i k l m. elim (cases_eq i dest) [
+    | inl e ↦ rw e (scales.at_dest k m ∙ sym (scaling-here dest scalar (entry_of old) k))
+    | inr d ↦ scales.elsewhere i k l m d ∙ sym (scaling-elsewhere dest scalar (entry_of old) i k d)
+  ];
+  octets = are_new;
+}
+
+-- ---- steps among the HDPC rows
+
+module _ (first : ℕ) where
+  pub combines_none : (current table : OctetTable) (operations : List SymbolOps) → HasOctets current → HasOctets table → CombinesOctets first current current table table operations operations
+  combines_none current table operations are are_in_table = record {
     steps = [];
-    performs = performs_none table operations are;
-    elements = λ p l. absurd (omega arith);
-    elsewhere = λ m i k d. rows_after-none octets m i k;
-    rest = λ m pivots p l n. rows_after-none octets m row (at order p);
-    cleared = λ m pivots had p l. absurd (omega arith);
+    performs = performs_none table operations are_in_table;
+    width = refl;
+    height = refl;
+    elsewhere = λ m r k out. rows_after-none octets m r k;
+    shown = λ m l k n had i o. rows_after-none octets m (first + i) l ∙ had i o;
+    octets = are;
   }
 
-  module _ (t : ℕ) (in_rows : t < length rows) (old cur : OctetTable) (before between : List SymbolOps) (v : ClearsOctetRow rows order octet row t old cur before between) where
-    -- the row has 0 in the column of the next pivot
-    pub octet_row_zero : octet (at order t) ≡ 0 → ClearsOctetRow rows order octet row (t + 1) old cur before between
-    octet_row_zero none = record {
-      steps = v.steps;
-      performs = v.performs;
-      elements = λ p l. elim (cases_eq p t) [ inl e ↦ rw (e, none) (lit< tt) | inr d ↦ v.elements p (omega arith) ];
-      elsewhere = v.elsewhere;
-      rest = λ m pivots p l n. v.rest m pivots p (omega arith) n;
-      cleared = λ m pivots had p l. elim (cases_eq p t) [
-        | inl e ↦ rw e (v.rest m pivots t (omega arith) in_rows ∙ had t in_rows ∙ none)
-        | inr d ↦ v.cleared m pivots had p (omega arith)
+  pub combines_more : (a b c old cur new : OctetTable) (before between after : List SymbolOps) → CombinesOctets first a b old cur before between → CombinesOctets first b c cur new between after → CombinesOctets first a c old new before after
+  combines_more a b c old cur new before between after done next = record {
+    steps = done.steps ++ next.steps;
+    performs = performs_more done.steps next.steps old cur new before between after done.performs next.performs;
+    width = next.width ∙ done.width;
+    height = next.height ∙ done.height;
+    elsewhere = λ m r k out.
+        rows_after-next octets done.steps next.steps m r k
+        ∙ next.elsewhere (rows_after octets done.steps m) r k (λ i l. out i (rw done.height at l))
+        ∙ done.elsewhere m r k out;
+    shown = λ m l k n had i o.
+        rows_after-next octets done.steps next.steps m (first + i) l
+        ∙ next.shown (rows_after octets done.steps m) l k (rw done.width n) (λ j q. done.shown m l k n had j (rw done.height at q)) i (rw done.height o);
+    octets = next.octets;
+  }
+
+  module _ (was now old new : OctetTable) (before after : List SymbolOps) (are : HasOctets was) (are_now : HasOctets now) (width : now.width ≡ was.width) (height : length now.rows ≡ length was.rows) (dest scalar : ℕ) (in_dest : dest < length was.rows) where
+    pub combines_sum : (src : ℕ) → src < length was.rows → AddsRow octets (length was.rows) was.width dest src scalar (entry_of was) (entry_of now)
+        → Performs (sum_step (first + dest) (first + src) scalar ∷ []) old new before after → CombinesOctets first was now old new before after
+    combines_sum src in_src adds performs = record {
+      steps = sum_step (first + dest) (first + src) scalar ∷ [];
+      performs = performs;
+      width = width;
+      height = height;
+      elsewhere = λ m r k out. sum_step-elsewhere (first + dest) (first + src) scalar m r k (λ e. out dest in_dest (sym e));
+      shown = λ m l k n had i o. elim (cases_eq i dest) [
+        | inl e ↦
+            let small : m (first + src) l < 256 = rw (had src in_src) (are.elements src k in_src n) in
+            rw e (sum_step-here (first + dest) (first + src) scalar m l small ∙ cc (had dest in_dest, had src in_src, adds.at_dest k n))
+        | inr d ↦ sum_step-elsewhere (first + dest) (first + src) scalar m (first + i) l (λ e. d (omega (arith, e))) ∙ had i o ∙ sym (adds.elsewhere i k o n d)
       ];
+      octets = are_now;
     }
 
-    module _ (bound : ℕ) (rows_are : ArePlaces (length rows) bound (at rows)) (apart : row ≢ at rows t) (scalar : ℕ) (small : scalar < 256) (scalar_is : scalar ≡ octet (at order t)) (new : OctetTable) (after : List SymbolOps)
-        (performs : Performs (sum_step row (at rows t) scalar ∷ []) cur new between after) where
-      module _ (m : ℕ → ℕ → ℕ) (pivots : (p : ℕ) → p < length rows → IsCleared rows order m (at rows p)) where
-        now : ℕ → ℕ → ℕ
-        now = rows_after octets v.steps m
+    pub combines_scaling : ScalesRow octets (length was.rows) was.width dest scalar (entry_of was) (entry_of now)
+        → Performs (MulAssign (first + dest) scalar ∷ []) old new before after → CombinesOctets first was now old new before after
+    combines_scaling scales performs = record {
+      steps = MulAssign (first + dest) scalar ∷ [];
+      performs = performs;
+      width = width;
+      height = height;
+      elsewhere = λ m r k out. scaling-elsewhere (first + dest) scalar m r k (λ e. out dest in_dest (sym e));
+      shown = λ m l k n had i o. elim (cases_eq i dest) [
+        | inl e ↦ rw e (scaling-here (first + dest) scalar m l ∙ cc (had dest in_dest, scales.at_dest k n))
+        | inr d ↦ scaling-elsewhere (first + dest) scalar m (first + i) l (λ e. d (omega (arith, e))) ∙ had i o ∙ sym (scales.elsewhere i k o n d)
+      ];
+      octets = are_now;
+    }
 
-        pivot_now : (p : ℕ) → now (at rows t) (at order p) ≡ m (at rows t) (at order p)
-        unfolding now
-        pivot_now p = v.elsewhere m (at rows t) (at order p) (λ e. apart (sym e))
+-- ---- steps with the pivots' rows
 
-        next_row : (p : ℕ) → p < length rows → rows_after octets (v.steps ++ sum_step row (at rows t) scalar ∷ []) m row (at order p) ≡ octets.add (now row (at order p)) (octets.mul scalar (now (at rows t) (at order p)))
-        unfolding now
-        next_row p l =
-            let is_small : now (at rows t) (at order p) < 256 = rw (pivot_now p) (cleared_small rows order m (at rows t) p (pivots t in_rows) l) in
-            rows_after-next octets v.steps (sum_step row (at rows t) scalar ∷ []) m row (at order p) ∙ sum_step-here row (at rows t) scalar (rows_after octets v.steps m) (at order p) is_small
+-- the rows still stand where they stood
+pub octets_still : (first : ℕ) (was now old new : OctetTable) → AreOctetsIn first was old → length now.rows ≡ length was.rows → length new.rows ≡ length old.rows → HasOctets now → HasOctets new → AreOctetsIn first now new
+octets_still first was now old new are height heights shown octets_in = record { within = omega (arith, are.within); fits = omega (arith, are.fits); shown = shown; octets = octets_in }
 
-        -- the column of another pivot
-        other_column : (p : ℕ) → p < length rows → p ≢ t → rows_after octets (v.steps ++ sum_step row (at rows t) scalar ∷ []) m row (at order p) ≡ now row (at order p)
+module _ (rows order places : List ℕ) (first : ℕ) where
+  pub beside_still : (was now old new : OctetTable) → HasPivotsBeside rows order places first was old → now.width ≡ was.width → length now.rows ≡ length was.rows → length new.rows ≡ length old.rows → HasPivotsBeside rows order places first now new
+  beside_still was now old new beside width height heights = record {
+    columns = rw width beside.columns;
+    few = rw width beside.few;
+    pivots = rw heights beside.pivots;
+    apart = λ i p l n. beside.apart i p (rw height at l) n;
+  }
+
+  pub changes_none : (current table : OctetTable) (operations : List SymbolOps) → HasOctets current → HasOctets table → ChangesOctets rows order first current current table table operations operations
+  changes_none current table operations are are_in_table = record {
+    steps = [];
+    performs = performs_none table operations are_in_table;
+    width = refl;
+    height = refl;
+    elsewhere = λ m r k out. rows_after-none octets m r k;
+    shown = λ m pivots had i p l n. rows_after-none octets m (first + i) (at order p) ∙ had i p l n;
+    zeros = λ k n none. none;
+    octets = are;
+  }
+
+  module _ (was now old new : OctetTable) (before after : List SymbolOps) (are : AreOctetsIn first was old) (beside : HasPivotsBeside rows order places first was old) where
+    in_width : (p : ℕ) → p < length rows → at order p < was.width
+    in_width p l = (beside.columns.ordered p (omega (arith, beside.few, l))).0
+
+    pub changes_combined : CombinesOctets first was now old new before after → ChangesOctets rows order first was now old new before after
+    changes_combined combines = record {
+      steps = combines.steps;
+      performs = combines.performs;
+      width = combines.width;
+      height = combines.height;
+      elsewhere = combines.elsewhere;
+      shown = λ m pivots had i p l n. combines.shown m (at order p) (at order p) (in_width p n) (λ j o. had j p o n) i (rw combines.height at l);
+      zeros = λ k n none i l.
+          sym (combines.shown (λ r j. 0) k k n (λ j o. sym (none j o)) i l)
+          ∙ rows_after-zero octets (range_with_len 0 (length old.rows)) combines.steps (λ r j. 0) k combines.performs.among (λ r c. refl) (first + i) (Contains-range (length old.rows) (first + i) (omega (arith, are.within)));
+      octets = combines.octets;
+    }
+
+    -- an HDPC row takes the row of a pivot
+    module _ (row place scalar : ℕ) (in_rows : row < length was.rows) (is_pivot : place < length rows) (small : scalar < 256) (scalar_is : scalar ≡ entry_of was row (at order place)) (sets : SetsEntry row (at order place) 0 was now)
+        (performs : Performs (sum_step (first + row) (at rows place) scalar ∷ []) old new before after) where
+      module _ (m : ℕ → ℕ → ℕ) (pivots : PivotsAreCleared rows order m) (had : AreShown rows order first was m) where
+        next_row : (p : ℕ) → p < length rows → rows_after octets (sum_step (first + row) (at rows place) scalar ∷ []) m (first + row) (at order p) ≡ octets.add (m (first + row) (at order p)) (octets.mul scalar (m (at rows place) (at order p)))
+        next_row p l = sum_step-here (first + row) (at rows place) scalar m (at order p) (cleared_small rows order m (at rows place) p (pivots place is_pivot) l)
+
+        -- in the column of another pivot
+        other_column : (p : ℕ) → p < length rows → p ≢ place → rows_after octets (sum_step (first + row) (at rows place) scalar ∷ []) m (first + row) (at order p) ≡ entry_of now row (at order p)
         other_column p l d =
-            let zero : now (at rows t) (at order p) ≡ 0 = pivot_now p ∙ (pivots t in_rows).entries p l ∙ if_apart (at rows p) (at rows t) 1 0 (λ e. d (rows_are.apart p t l in_rows e)) in
-            next_row p l ∙ plus_zero_times (now row (at order p)) scalar (now (at rows t) (at order p)) zero
+            let zero : m (at rows place) (at order p) ≡ 0 = (pivots place is_pivot).entries p l ∙ if_apart (at rows p) (at rows place) 1 0 (λ e. d (beside.pivots.apart p place l is_pivot e)) in
+            let known = beside.few in
+            let other : at order p ≢ at order place = (λ e. d (sym (beside.columns.ordered p (omega arith)).1 ∙ ap (at places) e ∙ (beside.columns.ordered place (omega arith)).1)) in
+            next_row p l ∙ plus_zero_times (m (first + row) (at order p)) scalar (m (at rows place) (at order p)) zero ∙ had row p in_rows l ∙ sym (sets.beside (at order p) other)
 
-        this_column : m row (at order t) ≡ octet (at order t) → rows_after octets (v.steps ++ sum_step row (at rows t) scalar ∷ []) m row (at order t) ≡ 0
-        unfolding now
-        this_column had =
-            let one : now (at rows t) (at order t) ≡ 1 = pivot_now t ∙ (pivots t in_rows).entries t in_rows ∙ if_same (at rows t) (at rows t) 1 0 refl in
-            next_row t in_rows ∙ plus_own (now row (at order t)) scalar (now (at rows t) (at order t)) small (v.rest m pivots t (omega arith) in_rows ∙ had ∙ sym scalar_is) one
+        this_column : rows_after octets (sum_step (first + row) (at rows place) scalar ∷ []) m (first + row) (at order place) ≡ entry_of now row (at order place)
+        this_column =
+            let one : m (at rows place) (at order place) ≡ 1 = (pivots place is_pivot).entries place is_pivot ∙ if_same (at rows place) (at rows place) 1 0 refl in
+            next_row place is_pivot ∙ plus_own (m (first + row) (at order place)) scalar (m (at rows place) (at order place)) small (had row place in_rows is_pivot ∙ sym scalar_is) one ∙ sym sets.here
 
-      pub octet_row_more : ClearsOctetRow rows order octet row (t + 1) old new before after
-      unfolding now
-      octet_row_more = record {
-        steps = v.steps ++ sum_step row (at rows t) scalar ∷ [];
-        performs = performs_more v.steps (sum_step row (at rows t) scalar ∷ []) old cur new before between after v.performs performs;
-        elements = λ p l. elim (cases_eq p t) [ inl e ↦ rw (e, ← scalar_is) small | inr d ↦ v.elements p (omega arith) ];
-        elsewhere = λ m i k d. rows_after-next octets v.steps (sum_step row (at rows t) scalar ∷ []) m i k ∙ sum_step-elsewhere row (at rows t) scalar (rows_after octets v.steps m) i k d ∙ v.elsewhere m i k d;
-        rest = λ m pivots p l n. other_column m pivots p n (omega arith) ∙ v.rest m pivots p (omega arith) n;
-        cleared = λ m pivots had p l. elim (cases_eq p t) [
-          | inl e ↦ rw e (this_column m pivots (had t in_rows))
-          | inr d ↦ other_column m pivots p (omega arith) d ∙ v.cleared m pivots had p (omega arith)
+      pub changes_pivot : ChangesOctets rows order first was now old new before after
+      changes_pivot = record {
+        steps = sum_step (first + row) (at rows place) scalar ∷ [];
+        performs = performs;
+        width = sets.width;
+        height = sets.height;
+        elsewhere = λ m r k out. sum_step-elsewhere (first + row) (at rows place) scalar m r k (λ e. out row in_rows (sym e));
+        shown = λ m pivots had i p l n. elim (cases_eq i row) [
+          | inl e ↦ rw e (elim (cases_eq p place) [ inl f ↦ rw f (this_column m pivots had) | inr d ↦ other_column m pivots had p n d ])
+          | inr d ↦ sum_step-elsewhere (first + row) (at rows place) scalar m (first + i) (at order p) (λ e. d (omega (arith, e))) ∙ had i p (rw sets.height at l) n ∙ sym (sets.elsewhere i (at order p) d)
         ];
+        zeros = λ k n none i l. elim (cases_eq i row) [
+          | inl e ↦ rw e (elim (cases_eq k (at order place)) [ inl f ↦ rw f sets.here | inr d ↦ sets.beside k d ∙ none row in_rows ])
+          | inr d ↦ sets.elsewhere i k d ∙ none i l
+        ];
+        octets = sets.octets;
       }
 
--- ---- row after row
-
-module _ (rows order : List ℕ) (octet : ℕ → ℕ → ℕ) (first : ℕ) where
-  pub octet_rows_none : (table : OctetTable) (operations : List SymbolOps) → HasOctets table → ClearsOctets rows order octet first 0 table table operations operations
-  octet_rows_none table operations are = record {
-    steps = [];
-    performs = performs_none table operations are;
-    elements = λ i p l. absurd (omega arith);
-    elsewhere = λ m r k out. rows_after-none octets m r k;
-    cleared = λ m pivots i l. absurd (omega arith);
+  pub changes_more : (a b c old cur new : OctetTable) (before between after : List SymbolOps) → HasPivotsBeside rows order places first a old
+      → ChangesOctets rows order first a b old cur before between → ChangesOctets rows order first b c cur new between after → ChangesOctets rows order first a c old new before after
+  changes_more a b c old cur new before between after beside done next = record {
+    steps = done.steps ++ next.steps;
+    performs = performs_more done.steps next.steps old cur new before between after done.performs next.performs;
+    width = next.width ∙ done.width;
+    height = next.height ∙ done.height;
+    elsewhere = λ m r k out.
+        rows_after-next octets done.steps next.steps m r k
+        ∙ next.elsewhere (rows_after octets done.steps m) r k (λ i l. out i (rw done.height at l))
+        ∙ done.elsewhere m r k out;
+    shown = λ m pivots had i p l n.
+        let between_m : ℕ → ℕ → ℕ = rows_after octets done.steps m in
+        let still : PivotsAreCleared rows order between_m = (λ (q : ℕ) (o : q < length rows). record { entries = λ j u. done.elsewhere m (at rows q) (at order j) (λ i v. beside.apart i q v o) ∙ (pivots q o).entries j u }) in
+        rows_after-next octets done.steps next.steps m (first + i) (at order p) ∙ next.shown between_m still (done.shown m pivots had) i p l n;
+    zeros = λ k n none i l. next.zeros k (rw done.width n) (λ j o. done.zeros k n none j (rw done.height at o)) i (rw done.height l);
+    octets = next.octets;
   }
 
-  module _ (t : ℕ) (apart : (p : ℕ) → p < length rows → (i : ℕ) → i < t → first + i ≢ at rows p) (old cur new : OctetTable) (before between after : List SymbolOps) (v : ClearsOctets rows order octet first t old cur before between)
-      (turn : ClearsOctetRow rows order (octet t) (first + t) (length rows) cur new between after) where
-    pub octet_rows_more : ClearsOctets rows order octet first (t + 1) old new before after
-    octet_rows_more = record {
-      steps = v.steps ++ turn.steps;
-      performs = performs_more v.steps turn.steps old cur new before between after v.performs turn.performs;
-      elements = λ i p l n. elim (cases_eq i t) [ inl e ↦ rw e (turn.elements p n) | inr d ↦ v.elements i p (omega arith) n ];
-      elsewhere = λ m r k out.
-          rows_after-next octets v.steps turn.steps m r k
-          ∙ turn.elsewhere (rows_after octets v.steps m) r k (λ e. out t (omega arith) (sym e))
-          ∙ v.elsewhere m r k (λ i l. out i (omega arith));
-      cleared = λ m pivots i l had p n.
-          let now : ℕ → ℕ → ℕ = rows_after octets v.steps m in
-          rows_after-next octets v.steps turn.steps m (first + i) (at order p) ∙ elim (cases_eq i t) [
-            | inr d ↦ turn.elsewhere now (first + i) (at order p) (λ e. d (omega (arith, e))) ∙ v.cleared m pivots i (omega arith) had p n
-            | inl e ↦
-                let pivots_now : (q : ℕ) → q < length rows → IsCleared rows order now (at rows q) = (λ (q : ℕ) (o : q < length rows). record {
-                  entries = λ j u. v.elsewhere m (at rows q) (at order j) (apart q o) ∙ (pivots q o).entries j u;
-                }) in
-                let had_now : (q : ℕ) → q < length rows → now (first + t) (at order q) ≡ octet t (at order q) = (λ (q : ℕ) (o : q < length rows).
-                v.elsewhere m (first + t) (at order q) (λ j u f. let z : j ≡ t = omega (arith, f) in omega (arith, z, u)) ∙ (rw e at (had q o))) in
-                rw e (turn.cleared now pivots_now had_now p n)
-          ];
-    }
+  -- ---- zeros in column after column
+
+  -- the columns before this one keep their zeros
+  pub zeros_kept : (was now old new : OctetTable) (before after : List SymbolOps) (column : ℕ) → column ≤ was.width → HasZerosBefore (length rows) places column was → ChangesOctets rows order first was now old new before after → HasZerosBefore (length rows) places column now
+  zeros_kept was now old new before after column within zeros changes = λ k l pivot i n. changes.zeros k (omega arith) (zeros k l pivot) i (rw changes.height at n)
+
+  pub zeros_more : (current : OctetTable) (column : ℕ) → HasZerosBefore (length rows) places column current → (at places column < length rows → HasZeros column (length current.rows) current) → HasZerosBefore (length rows) places (column + 1) current
+  zeros_more current column zeros here = λ k l pivot. elim (cases_eq k column) [ inl e ↦ rw e (here (rw e at pivot)) | inr d ↦ zeros k (omega arith) pivot ]
+
+  -- what was a copy of the HDPC rows' octets shows them
+  pub copy_beside : (octet : ℕ → ℕ → ℕ) (count width : ℕ) (copy current old new : OctetTable) → HoldsRows count width count octet copy → IsOrderOf width order places → length rows ≤ width → AreRows rows old
+      → ((i p : ℕ) → i < count → p < length rows → first + i ≢ at rows p) → current.width ≡ copy.width → length current.rows ≡ length copy.rows → length new.rows ≡ length old.rows → HasPivotsBeside rows order places first current new
+  copy_beside octet count width copy current old new holds columns few are apart =
+      beside_still copy current old new (record { columns = rw holds.width_is columns; few = rw holds.width_is few; pivots = are; apart = λ i p l n. apart i p (rw holds.height_is at l) n })
+
+  -- there are zeros in the columns of all pivots
+  pub clears_octets : (octet : ℕ → ℕ → ℕ) (count width : ℕ) (copy current old new : OctetTable) (before after : List SymbolOps) (end : ℕ) → IsOrderOf width order places → length rows ≤ width → HoldsRows count width count octet copy
+      → ChangesOctets rows order first copy current old new before after → ((k : ℕ) → end ≤ k → k < length places → length rows ≤ at places k) → HasZerosBefore (length rows) places end current
+      → ClearsOctets rows order octet first count old new before after
+  clears_octets octet count width copy current old new before after end columns few holds changes last zeros =
+      let in_width : (p : ℕ) → p < length rows → at order p < width = (λ (p : ℕ) (l : p < length rows). (columns.ordered p (omega arith)).0) in
+      let same : (i p : ℕ) → i < count → p < length rows → entry_of copy i (at order p) ≡ octet i (at order p) = (λ (i p : ℕ) (l : i < count) (n : p < length rows). holds.written i (at order p) l (in_width p n)) in
+      record {
+        steps = changes.steps;
+        performs = changes.performs;
+        elements = λ i p l n. rw (← same i p l n) (holds.octets.elements i (at order p) (rw holds.height_is l) (rw holds.width_is (in_width p n)));
+        elsewhere = λ m r k out. changes.elsewhere m r k (λ i l. out i (rw holds.height_is at l));
+        cleared = λ m pivots had i p l n.
+            let in_current : i < length current.rows = omega (arith, changes.height, holds.height_is) in
+            let place : at places (at order p) ≡ p = (columns.ordered p (omega arith)).1 in
+            let early : at order p < end = elim (cases_lt (at order p) end) [
+              | inl before_end ↦ before_end
+              | inr late ↦ let none = last (at order p) late (rw columns.place_count (in_width p n)) in absurd (omega (arith, none, place))
+            ] in
+            changes.shown m pivots (λ j q o u. let in_count = rw holds.height_is at o in had j q in_count u ∙ sym (same j q in_count u)) i p in_current n
+            ∙ zeros (at order p) early (rw place n) i in_current;
+      }
+
+-- there are no HDPC rows
+pub clears_none : (rows order : List ℕ) (octet : ℕ → ℕ → ℕ) (first count : ℕ) (table : OctetTable) (operations : List SymbolOps) → count ≡ 0 → HasOctets table → ClearsOctets rows order octet first count table table operations operations
+clears_none rows order octet first count table operations none are = record {
+  steps = [];
+  performs = performs_none table operations are;
+  elements = λ i p l. absurd (omega arith);
+  elsewhere = λ m r k out. rows_after-none octets m r k;
+  cleared = λ m pivots had i p l. absurd (omega arith);
+}

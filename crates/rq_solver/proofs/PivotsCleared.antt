@@ -107,7 +107,7 @@ module _ (lists : List (List ℕ)) (first : ℕ) (hdpc : OctetTable) where
 
           left_cleared : (r : ℕ) → Contains (drop (length rows) listed) r → (p : ℕ) → p < length rows → rows_after octets wipes.steps now r (at order p) ≡ 0
           left_cleared r c p l = elim (cases r) [
-            | inl q ↦ rw (← q.2) (wipes.cleared now pivot_now q.0 q.1 (λ j n. octets_now q.0 (at order j) q.1) p l)
+            | inl q ↦ rw (← q.2) (wipes.cleared now pivot_now (λ i j n o. octets_now i (at order j) n) q.0 p q.1 l)
             | inr out ↦
                 let s = left_place (length lists) rows listed listing r c in
                 let cleared : IsCleared rows order now r = subst (IsCleared rows order now) s.3 (cleared_at s.0 s.2 (λ i n. rw s.3 (out i n))) in

@@ -97,24 +97,14 @@ pub record ClearsRows (lists : List (List ℕ)) (rows order listed : List ℕ) (
   pub cleared : (m : ℕ → ℕ → ℕ) → ((p : ℕ) → p < length rows → IsUncleared lists rows order m (at rows p))
       → (s : ℕ) → s < done → IsUncleared lists rows order m (at listed s) → IsCleared rows order (rows_after octets steps m) (at listed s)
 
--- a row of octets gets 0 in the columns of the first pivots
-pub record ClearsOctetRow (rows order : List ℕ) (octet : ℕ → ℕ) (row done : ℕ) (old new : OctetTable) (before after : List SymbolOps) : Type 0 where
+-- the HDPC rows of a system, which have these octets in the pivots' columns, get 0 there
+pub record ClearsOctets (rows order : List ℕ) (octet : ℕ → ℕ → ℕ) (first count : ℕ) (old new : OctetTable) (before after : List SymbolOps) : Type 0 where
   pub steps : List Operation
   pub performs : Performs steps old new before after
-  pub elements : (p : ℕ) → p < done → octet (at order p) < octets.size
-  pub elsewhere : (m : ℕ → ℕ → ℕ) (i k : ℕ) → i ≢ row → rows_after octets steps m i k ≡ m i k
-  pub rest : (m : ℕ → ℕ → ℕ) → ((p : ℕ) → p < length rows → IsCleared rows order m (at rows p)) → (p : ℕ) → done ≤ p → p < length rows → rows_after octets steps m row (at order p) ≡ m row (at order p)
-  pub cleared : (m : ℕ → ℕ → ℕ) → ((p : ℕ) → p < length rows → IsCleared rows order m (at rows p)) → ((p : ℕ) → p < length rows → m row (at order p) ≡ octet (at order p))
-      → (p : ℕ) → p < done → rows_after octets steps m row (at order p) ≡ 0
-
--- the first of the HDPC rows get 0 in the pivots' columns
-pub record ClearsOctets (rows order : List ℕ) (octet : ℕ → ℕ → ℕ) (first done : ℕ) (old new : OctetTable) (before after : List SymbolOps) : Type 0 where
-  pub steps : List Operation
-  pub performs : Performs steps old new before after
-  pub elements : (i p : ℕ) → i < done → p < length rows → octet i (at order p) < octets.size
-  pub elsewhere : (m : ℕ → ℕ → ℕ) (r k : ℕ) → ((i : ℕ) → i < done → first + i ≢ r) → rows_after octets steps m r k ≡ m r k
-  pub cleared : (m : ℕ → ℕ → ℕ) → ((p : ℕ) → p < length rows → IsCleared rows order m (at rows p)) → (i : ℕ) → i < done
-      → ((p : ℕ) → p < length rows → m (first + i) (at order p) ≡ octet i (at order p)) → (p : ℕ) → p < length rows → rows_after octets steps m (first + i) (at order p) ≡ 0
+  pub elements : (i p : ℕ) → i < count → p < length rows → octet i (at order p) < octets.size
+  pub elsewhere : (m : ℕ → ℕ → ℕ) (r k : ℕ) → ((i : ℕ) → i < count → first + i ≢ r) → rows_after octets steps m r k ≡ m r k
+  pub cleared : (m : ℕ → ℕ → ℕ) → ((p : ℕ) → p < length rows → IsCleared rows order m (at rows p))
+      → ((i p : ℕ) → i < count → p < length rows → m (first + i) (at order p) ≡ octet i (at order p)) → (i p : ℕ) → i < count → p < length rows → rows_after octets steps m (first + i) (at order p) ≡ 0
 
 -- a row gets 0 in the first of the frozen columns, each of which has its pivot in one of the reduced rows
 pub record ClearsTail (reduced : List ℕ) (row frozen done : ℕ) (old new : OctetTable) (before after : List SymbolOps) : Type 0 where

@@ -1,6 +1,7 @@
 pub mod Cleared
 pub mod Homogeneous
 pub mod Listing
+pub mod OctetBatch
 pub mod Peeled
 pub mod Replay
 pub mod RowSteps

@@ -41,7 +41,7 @@ pub(crate) fn octet_rows<T: BinaryMatrix>(
 }
 
 /// Copies a row of octets to a row.
-fn copy_octets(
+pub(super) fn copy_octets(
     octets: &DenseOctetMatrix,
     from: usize,
     width: usize,
