@@ -181,11 +181,7 @@ impl Row {
         requires { length other.now ≡ length self.old }
         ensures { self.new ≡ row_sum self.old (row_multiple scalar.now other.now) }
     {
-        octets::fused_addassign_mul_scalar(
-            self.octets.as_mut_slice(),
-            other.octets.as_slice(),
-            scalar,
-        );
+        add_octet_multiple(self.octets.as_mut_slice(), other.octets.as_slice(), scalar);
     }
 
     /// Sets the octet in column j.
@@ -222,6 +218,18 @@ impl Clone for Row {
         Ok(Row {
             octets: self.octets.clone()?,
         })
+    }
+}
+
+/// Adds a multiple of octets to as many others. A multiple by 1 needs no products.
+fn add_octet_multiple(sum: &mut [u8], other: &[u8], scalar: &Octet)
+    requires { length other.now ≡ length sum.old }
+    ensures { sum.new ≡ row_sum sum.old (row_multiple scalar.now other.now) }
+{
+    if scalar.byte() == 1 {
+        octets::add_assign(sum, other);
+    } else {
+        octets::fused_addassign_mul_scalar(sum, other, scalar);
     }
 }
 
