@@ -140,11 +140,12 @@ impl SymbolSlab {
         self.add_pieces::<1>(dest, sources, narrow);
     }
 
-    /// Adds the octets of several symbols from `start` on, by as many pieces of N as there are.
-    /// Returns where these end.
+    /// Adds the octets of several symbols from `start` on to those of another one, as many pieces of
+    /// N octets as there are. Returns where these end.
     #[inline(always)]
     fn add_pieces<const N: usize>(&mut self, dest: usize, sources: &[usize], start: usize) -> usize
-        requires lanes { (0 < N) × (N ≤ 64) }
+        requires some { 0 < N }
+        requires lanes { N ≤ 64 }
         requires dest { HasPlace self.old dest }
         requires sources { All (λ src. Allows self.old (AddAssign dest src)) sources.now }
         requires begins { start ≤ self.old.symbol_size }
