@@ -47,6 +47,7 @@ fn perform_next(
     let op = &ops[start];
     if let SymbolOps::AddAssign { dest, .. } = op {
         let count = read_sources(ops, start, *dest, sources);
+        // One addition alone is quicker on its own way below.
         if count > 1 {
             symbols.add_all(*dest, &sources[..count]);
             return Ok(count);
