@@ -3,7 +3,7 @@ ghost use Rattle.std.specs.Prelude.{◌≡◌, ◌≢◌, ◌↔◌, ℕ, ◌+�
 ghost use Rattle.std.specs.Int.{div_ceil};
 ghost use Rattle.std.specs.List.{range_with_len, AllByRecursion};
 ghost use Rattle.rq_bytes.specs.Refusals.{IsAnswer, IsRefusal};
-ghost use Rattle.rq_standard.specs.Configuration.{IsAccepted, IsAligned, largest_block};
+ghost use Rattle.rq_standard.specs.Configuration.{IsAccepted, IsAligned, largest_block, total_symbols};
 ghost use Rattle.rq_standard.specs.Cutting.{block_symbols};
 ghost use Rattle.rq_standard.specs.Packet.{Packet};
 ghost use Rattle.rq_standard.specs.Differences.{IsOnlyObject};
@@ -218,14 +218,20 @@ impl Decoder {
         Ok(Some(self.join()?))
     }
 
+    // The length of the blocks together, in bytes: that of the object and of the zeros behind it.
+    fn padded_length(&self) -> usize
+        ensures { let c = (state_of self.now).configuration in result ≡ total_symbols c * c.symbol_size }
+    {
+        let size = u64::from(self.config.symbol_size());
+        (self.config.transfer_length().div_ceil(size) * size) as usize
+    }
+
     // The blocks one after another, without the zeros behind the object.
     fn join(&self) -> Result<Vec<u8>, AllocError>
         requires { IsSome (result_of (state_of self.now)) }
         ensures { IfOk result (λ v. Some v.items ≡ result_of (state_of self.now)) }
     {
-        let size = u64::from(self.config.symbol_size());
-        let padded = self.config.transfer_length().div_ceil(size) * size;
-        let mut object = Vec::with_capacity(self.alloc, padded as usize)?;
+        let mut object = Vec::with_capacity(self.alloc, self.padded_length())?;
         for block in &self.blocks {
             if let Some(bytes) = &block.answer {
                 object.extend_from_slice(bytes.as_slice())?;
@@ -246,7 +252,7 @@ impl Decoder {
         ensures fits { IfOk result (λ r. IfSome (option_map vec_items r) (MakesOthersFit (state_of self.now))) }
         ensures memory { IfErr result (λ e. e ≡ Error.OutOfMemory) }
     {
-        let mut bytes = Vec::new(self.alloc);
+        let mut bytes = Vec::with_capacity(self.alloc, self.padded_length())?;
         let mut determined = true;
         for block in &self.blocks {
             let column = block.homogeneous()?;
