@@ -1,11 +1,35 @@
 //! How the bytes of a source block and of its symbols lie in one another (RFC 6330, 4.4.1.2).
 ghost use Rattle.std.specs.Prelude.{◌≡◌, ℕ, ◌+◌, ◌*◌, ◌^◌, ◌%◌, ◌<◌, ◌≤◌, ◌++◌, length, map, slice_index, slice_range, IfOk, OnOk, vec_len};
 ghost use Rattle.std.specs.List.{flat_map, range_with_len};
+ghost use Rattle.rq_standard.specs.Configuration.{IsAligned};
 ghost use Rattle.rq_standard.specs.Cutting.{sub_block_size, symbol_of_block, plain_symbol};
+ghost use Rattle.raptorq.specs.Refused.{checked_symbols};
 
 use rq_base::base::{ObjectTransmissionInformation, partition};
+use rq_bytes::error::Error;
 use rq_bytes::symbol::Symbol;
 use std::alloc::{AllocError, Global};
+
+/// Tests that symbols are cut in whole units of the alignment.
+///
+/// Refuses, in this order, [`Error::SymbolSizeZero`], [`Error::AlignmentZero`], and
+/// [`Error::Misaligned`] where the alignment doesn't divide the symbol size.
+pub(crate) fn check_symbols(config: &ObjectTransmissionInformation) -> Result<(), Error>
+    ensures refused { result ≡ checked_symbols config.now }
+    ensures positive { OnOk result (0 < config.now.symbol_size) }
+    ensures aligned { OnOk result (IsAligned config.now) }
+{
+    if config.symbol_size() == 0 {
+        return Err(Error::SymbolSizeZero);
+    }
+    if config.symbol_alignment() == 0 {
+        return Err(Error::AlignmentZero);
+    }
+    if config.symbol_size() % u16::from(config.symbol_alignment()) != 0 {
+        return Err(Error::Misaligned);
+    }
+    Ok(())
+}
 
 /// The size of the sub-block that has this byte of a symbol, in bytes.
 pub(crate) fn size_at(config: &ObjectTransmissionInformation, byte: usize) -> usize

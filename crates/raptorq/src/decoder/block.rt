@@ -10,7 +10,7 @@ ghost use Rattle.raptorq.specs.Missing.{payload_of, has_payload, missing_count};
 
 use crate::decoder::known::{known_symbol_ids, known_symbol_values};
 use crate::solving::{homogeneous, solve};
-use crate::sub_blocks::{into_sub_blocks, size_at};
+use crate::sub_blocks::{check_symbols, into_sub_blocks, size_at};
 use crate::sums::encoding_symbol;
 use rq_base::base::{EncodingPacket, ObjectTransmissionInformation};
 use rq_bytes::error::Error;
@@ -123,15 +123,7 @@ impl SourceBlockDecoder {
         ensures empty { IfOk result (λ d. let symbols = div_ceil block_length config.now.symbol_size in held_of d ≡ nothing_held config.now number (row_of table.now symbols) symbols) }
         ensures row { IfOk result (λ d. IsChecked (held_of d).row × ((held_of d).symbols ≤ (held_of d).row.source_symbols)) }
     {
-        if config.symbol_size() == 0 {
-            return Err(Error::SymbolSizeZero);
-        }
-        if config.symbol_alignment() == 0 {
-            return Err(Error::AlignmentZero);
-        }
-        if config.symbol_size() % u16::from(config.symbol_alignment()) != 0 {
-            return Err(Error::Misaligned);
-        }
+        check_symbols(config)?;
         let symbols = block_length.div_ceil(u64::from(config.symbol_size()));
         if symbols > u64::from(table.greatest()) {
             return Err(Error::BlockOverTable);

@@ -11,7 +11,7 @@ ghost use Rattle.raptorq.specs.Refused.{wanted_count, repair_refusal};
 use crate::encoder::cache::SourceBlockEncodingPlanCache;
 use crate::encoder::plan::SourceBlockEncodingPlan;
 use crate::ids::internal_symbol_id;
-use crate::sub_blocks::source_symbols;
+use crate::sub_blocks::{check_symbols, source_symbols};
 use crate::sums::encoding_symbol;
 use rq_base::base::{EncodingPacket, ObjectTransmissionInformation, PayloadId};
 use rq_bytes::error::Error;
@@ -231,15 +231,7 @@ fn source_symbol_count(
     ensures count { IfOk result (λ count. count ≡ length block.now / config.now.symbol_size) }
     ensures few { IfOk result (λ count. count ≤ greatest_size table.now) }
 {
-    if config.symbol_size() == 0 {
-        return Err(Error::SymbolSizeZero);
-    }
-    if config.symbol_alignment() == 0 {
-        return Err(Error::AlignmentZero);
-    }
-    if config.symbol_size() % u16::from(config.symbol_alignment()) != 0 {
-        return Err(Error::Misaligned);
-    }
+    check_symbols(config)?;
     let size = usize::from(config.symbol_size());
     if block.len() % size != 0 {
         return Err(Error::WrongDataLength);
