@@ -1,5 +1,5 @@
 //! How the bytes of a source block and of its symbols lie in one another (RFC 6330, 4.4.1.2).
-ghost use Rattle.std.specs.Prelude.{◌≡◌, ℕ, ◌+◌, ◌*◌, ◌^◌, ◌%◌, ◌<◌, ◌≤◌, ◌++◌, length, map, slice_index, slice_range, IfOk, OnOk, vec_len};
+ghost use Rattle.std.specs.Prelude.{◌≡◌, ℕ, ◌+◌, ◌*◌, ◌^◌, ◌<◌, ◌≤◌, ◌++◌, length, map, slice_index, slice_range, IfOk, OnOk, vec_len};
 ghost use Rattle.std.specs.List.{flat_map, range_with_len};
 ghost use Rattle.rq_standard.specs.Configuration.{IsAligned};
 ghost use Rattle.rq_standard.specs.Cutting.{sub_block_size, symbol_of_block, plain_symbol};
@@ -76,8 +76,7 @@ pub(crate) fn source_symbol(
     symbols: u32,
     e: u32,
 ) -> Result<Symbol, AllocError>
-    requires positive { 0 < config.now.alignment }
-    requires aligned { config.now.symbol_size % config.now.alignment ≡ 0 }
+    requires { IsAligned config.now }
     ensures { IfOk result (λ symbol. symbol ≡ symbol_of_block config.now symbols block.now e) }
 {
     let size = usize::from(config.symbol_size());
@@ -99,8 +98,7 @@ pub(crate) fn source_symbols(
     block: &[u8],
     symbols: u32,
 ) -> Result<Vec<Symbol>, AllocError>
-    requires positive { 0 < config.now.alignment }
-    requires aligned { config.now.symbol_size % config.now.alignment ≡ 0 }
+    requires { IsAligned config.now }
     ensures { IfOk result (λ v. v.items ≡ map (symbol_of_block config.now symbols block.now) (range_with_len 0 symbols)) }
 {
     let mut source = Vec::with_capacity(alloc, symbols as usize)?;
@@ -138,8 +136,7 @@ pub(crate) fn into_sub_blocks(
     symbols: u32,
     plain: Vec<u8>,
 ) -> Result<Vec<u8>, AllocError>
-    requires positive { 0 < config.now.alignment }
-    requires aligned { config.now.symbol_size % config.now.alignment ≡ 0 }
+    requires aligned { IsAligned config.now }
     requires long { length plain.items ≡ symbols * config.now.symbol_size }
     ensures long { IfOk result (λ block. length block.items ≡ symbols * config.now.symbol_size) }
     ensures each { IfOk result (λ block. (e : ℕ) → e < symbols → symbol_of_block config.now symbols block.items e ≡ plain_symbol config.now.symbol_size plain.items e) }

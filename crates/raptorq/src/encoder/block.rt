@@ -1,8 +1,9 @@
 //! The encoder of one source block.
-ghost use Rattle.std.specs.Prelude.{◌≡◌, ◌⊎◌, ℕ, ◌+◌, ◌-◌, ◌/◌, ◌%◌, ◌^◌, ◌<◌, ◌≤◌, All, List, length, map, IfOk, IfErr, OnOk, OnErr};
+ghost use Rattle.std.specs.Prelude.{◌≡◌, ◌⊎◌, ℕ, ◌+◌, ◌-◌, ◌/◌, ◌^◌, ◌<◌, ◌≤◌, All, List, length, map, IfOk, IfErr, OnOk, OnErr};
 ghost use Rattle.std.specs.List.{range_with_len};
 ghost use Rattle.rq_bytes.specs.Refusals.{IsAnswer};
 ghost use Rattle.rq_bytes.specs.Slab.{symbol_in, symbols_in};
+ghost use Rattle.rq_standard.specs.Configuration.{IsAligned};
 ghost use Rattle.rq_standard.specs.Cutting.{symbol_of_block};
 ghost use Rattle.rq_standard.specs.Equations.{IsNonsingular, IsIntermediateColumn, IsEncodingSymbol};
 ghost use Rattle.rq_standard.specs.TableRows.{IsChecked, greatest_size, intermediate_symbols};
@@ -115,8 +116,7 @@ impl SourceBlockEncoder {
         plan: &SourceBlockEncodingPlan,
     ) -> Result<SourceBlockEncoder, Error>
         requires positive { 0 < config.now.symbol_size }
-        requires alignment { 0 < config.now.alignment }
-        requires aligned { config.now.symbol_size % config.now.alignment ≡ 0 }
+        requires aligned { IsAligned config.now }
         ensures encoded { let count = (plan_of plan.now).count in IfOk result (λ b. block_encoded_of b ≡ record { number = number; row = (plan_of plan.now).row; size = config.now.symbol_size; source = map (symbol_of_block config.now count block.now) (range_with_len 0 count) }) }
         ensures memory { IfErr result (λ e. e ≡ Error.OutOfMemory) }
     {
@@ -226,8 +226,7 @@ fn source_symbol_count(
 ) -> Result<u16, Error>
     ensures wanted { result ≡ wanted_count (greatest_size table.now) config.now (length block.now) }
     ensures positive { OnOk result (0 < config.now.symbol_size) }
-    ensures alignment { OnOk result (0 < config.now.alignment) }
-    ensures aligned { OnOk result (config.now.symbol_size % config.now.alignment ≡ 0) }
+    ensures aligned { OnOk result (IsAligned config.now) }
     ensures count { IfOk result (λ count. count ≡ length block.now / config.now.symbol_size) }
     ensures few { IfOk result (λ count. count ≤ greatest_size table.now) }
 {
