@@ -42,8 +42,7 @@ pub struct Encoder {
 
 impl Encoder {
     ghost use Rattle.rq_standard.specs.Encoded.{AreEncoded};
-    ghost use Rattle.rq_base.specs.Defaults.{wanted_parameters};
-    ghost use Rattle.raptorq.specs.Building.{default_settings, RefusesBuilding};
+    ghost use Rattle.raptorq.specs.Building.{default_settings, RefusesBuilding, IsBuilt};
     ghost use Rattle.raptorq.specs.Encoded.{encoded_of, IsEncoderOf, packets_refusal};
     ghost use Rattle.raptorq.specs.Refused.{new_encoder, RefusesEncoder};
 
@@ -88,18 +87,11 @@ impl Encoder {
         maximum_transmission_unit: u16,
     ) -> Result<Encoder, Error>
         ensures refused { IfErr result (RefusesBuilding table.now (record default_settings { packet_size = maximum_transmission_unit }) (length object.now)) }
-        ensures parameters { IfOk result (λ e. wanted_parameters table.now (length object.now) maximum_transmission_unit 10485760 ≡ Ok (encoded_of e).configuration) }
-        ensures taken { IfOk result (λ e. new_encoder (greatest_size table.now) (encoded_of e).configuration (length object.now) ≡ Ok tt) }
-        ensures nonsingular { IfOk result (λ e. HasNonsingularRows table.now (encoded_of e).configuration) }
-        ensures encoder { IfOk result (λ e. IsEncoderOf table.now object.now (encoded_of e)) }
+        ensures built { IfOk result (λ e. IsBuilt table.now (record default_settings { packet_size = maximum_transmission_unit }) object.now (encoded_of e)) }
     {
-        let length = object.len() as u64;
-        let config = ObjectTransmissionInformation::with_defaults(
-            table,
-            length,
-            maximum_transmission_unit,
-        )?;
-        Encoder::new(alloc, table, object, config)
+        let mut builder = EncoderBuilder::new();
+        builder.set_max_packet_size(maximum_transmission_unit);
+        builder.build(alloc, table, object)
     }
 
     /// The configuration that a decoder needs.
