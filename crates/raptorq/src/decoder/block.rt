@@ -128,8 +128,25 @@ impl SourceBlockDecoder {
         if symbols > u64::from(table.greatest()) {
             return Err(Error::BlockOverTable);
         }
-        let symbols = symbols as u32;
-        Ok(SourceBlockDecoder {
+        Ok(SourceBlockDecoder::of_symbols(alloc, table, number, config, symbols as u32))
+    }
+
+    /// The decoder of a block of so many source symbols that holds nothing yet.
+    pub(crate) fn of_symbols(
+        alloc: Global,
+        table: &SystematicTable,
+        number: u8,
+        config: &ObjectTransmissionInformation,
+        symbols: u32,
+    ) -> SourceBlockDecoder
+        requires positive { 0 < config.now.symbol_size }
+        requires aligned { IsAligned config.now }
+        requires in_table { symbols ≤ greatest_size table.now }
+        ensures empty { held_of result ≡ nothing_held config.now number (row_of table.now symbols) symbols }
+        ensures checked { IsChecked (held_of result).row }
+        ensures fits { (held_of result).symbols ≤ (held_of result).row.source_symbols }
+    {
+        SourceBlockDecoder {
             config: *config,
             number,
             row: table.row(symbols),
@@ -138,7 +155,7 @@ impl SourceBlockDecoder {
             missing: symbols,
             sparse_threshold: SPARSE_MATRIX_THRESHOLD,
             alloc,
-        })
+        }
     }
 
     /// From how many source symbols on a sparse matrix is used. What is held stays. All matrices

@@ -39,24 +39,22 @@ impl ObjectBlock {
         table: &SystematicTable,
         config: &ObjectTransmissionInformation,
         number: u8,
-    ) -> Result<ObjectBlock, Error>
+    ) -> ObjectBlock
         requires accepted { IsAccepted (greatest_size table.now) config.now }
         requires few { largest_block config.now < 65536 }
         requires number { number < config.now.source_blocks }
-        ensures held { IfOk result (λ b. held_of b.decoder ≡ new_held table.now config.now number) }
-        ensures answer { IfOk result (λ b. answer_of b ≡ new_answer config.now number) }
-        ensures shape { OnOk result (IsHeldOf table.now config.now number (new_held table.now config.now number)) }
-        ensures memory { IfErr result (λ e. e ≡ Error.OutOfMemory) }
+        ensures held { held_of result.decoder ≡ new_held table.now config.now number }
+        ensures answer { answer_of result ≡ new_answer config.now number }
+        ensures shape { IsHeldOf table.now config.now number (new_held table.now config.now number) }
     {
         let symbols = block_symbols(config, number);
-        let length = u64::from(symbols) * u64::from(config.symbol_size());
-        let decoder = SourceBlockDecoder::new(alloc, table, number, config, length)?;
+        let decoder = SourceBlockDecoder::of_symbols(alloc, table, number, config, symbols);
         let answer = if symbols == 0 {
             Some(Vec::new(alloc))
         } else {
             None
         };
-        Ok(ObjectBlock { decoder, answer })
+        ObjectBlock { decoder, answer }
     }
 
     /// Takes a packet of the block, and answers the block where that is determined. An answered
@@ -138,7 +136,7 @@ impl Decoder {
         config.check(table)?;
         let mut blocks = Vec::with_capacity(alloc, usize::from(config.source_blocks()))?;
         for number in 0..config.source_blocks() {
-            blocks.push(ObjectBlock::new(alloc, table, &config, number)?)?;
+            blocks.push(ObjectBlock::new(alloc, table, &config, number))?;
         }
         Ok(Decoder {
             config,
