@@ -68,29 +68,22 @@ module _ (c : Configuration) (items : List ObjectBlock) (i : ℕ) (x y : ObjectB
 
 -- the packet's block is written
 module _ (c : Configuration) (items : List ObjectBlock) (p : Packet) (x y : ObjectBlock) (below : p.id.block < length items) (is : x ≡ get_or items p.id.block x) where
-  pub adds_at : AddsToBlock (held_of x.decoder) (answer_of x) p (held_of y.decoder) (answer_of y) → Adds (state c items) p (state c (set items p.id.block y))
-  adds_at add =
+  -- what is said of the block before and after is said of the two states
+  shown_here : (P : Held → Option (List ℕ) → Packet → Held → Option (List ℕ) → Type 0) → P (held_of x.decoder) (answer_of x) p (held_of y.decoder) (answer_of y)
+      → P (held_at c items p.id.block) (answer_at items p.id.block) p (held_at c (set items p.id.block y) p.id.block) (answer_at (set items p.id.block y) p.id.block)
+  shown_here P so =
       let i = p.id.block in
       let new = set items i y in
-      record {
-        here = subst (λ h. AddsToBlock h (answer_at items i) p (held_at c new i) (answer_at new i)) (sym (held_here c items i x below is))
-            (subst (λ a. AddsToBlock (held_of x.decoder) a p (held_at c new i) (answer_at new i)) (sym (answer_here items i x below is))
-            (subst (λ h. AddsToBlock (held_of x.decoder) (answer_of x) p h (answer_at new i)) (sym (held_here c new i y (within items i y below) (after items i y below)))
-            (subst (λ a. AddsToBlock (held_of x.decoder) (answer_of x) p (held_of y.decoder) a) (sym (answer_here new i y (within items i y below) (after items i y below))) add)));
-        elsewhere = elsewhere c items i x y;
-      }
+      subst (λ h. P h (answer_at items i) p (held_at c new i) (answer_at new i)) (sym (held_here c items i x below is))
+      (subst (λ a. P (held_of x.decoder) a p (held_at c new i) (answer_at new i)) (sym (answer_here items i x below is))
+      (subst (λ h. P (held_of x.decoder) (answer_of x) p h (answer_at new i)) (sym (held_here c new i y (within items i y below) (after items i y below)))
+      (subst (λ a. P (held_of x.decoder) (answer_of x) p (held_of y.decoder) a) (sym (answer_here new i y (within items i y below) (after items i y below))) so)))
+
+  pub adds_at : AddsToBlock (held_of x.decoder) (answer_of x) p (held_of y.decoder) (answer_of y) → Adds (state c items) p (state c (set items p.id.block y))
+  adds_at add = record { here = shown_here AddsToBlock add; elsewhere = elsewhere c items p.id.block x y }
 
   pub stops_at : StopsBlock (held_of x.decoder) (answer_of x) p (held_of y.decoder) (answer_of y) → Stops (state c items) p (state c (set items p.id.block y))
-  stops_at stop =
-      let i = p.id.block in
-      let new = set items i y in
-      record {
-        here = subst (λ h. StopsBlock h (answer_at items i) p (held_at c new i) (answer_at new i)) (sym (held_here c items i x below is))
-            (subst (λ a. StopsBlock (held_of x.decoder) a p (held_at c new i) (answer_at new i)) (sym (answer_here items i x below is))
-            (subst (λ h. StopsBlock (held_of x.decoder) (answer_of x) p h (answer_at new i)) (sym (held_here c new i y (within items i y below) (after items i y below)))
-            (subst (λ a. StopsBlock (held_of x.decoder) (answer_of x) p (held_of y.decoder) a) (sym (answer_here new i y (within items i y below) (after items i y below))) stop)));
-        elsewhere = elsewhere c items i x y;
-      }
+  stops_at stop = record { here = shown_here StopsBlock stop; elsewhere = elsewhere c items p.id.block x y }
 
 -- ---- all blocks joined
 
