@@ -1,5 +1,5 @@
 //! The decoder of one source block.
-ghost use Rattle.std.specs.Prelude.{◌≡◌, ◌≢◌, ℕ, ◌+◌, ◌*◌, ◌^◌, ◌<◌, ◌≤◌, true, [], ◌∷◌, ◌++◌, List, length, map, Result, Ok, Err, Some, None, IfSome, IfOk, IfErr, OnOk, OnErr, IsSome, not, if◌then◌else◌, ◌==◌, option_map, vec_items};
+ghost use Rattle.std.specs.Prelude.{◌≡◌, ℕ, ◌*◌, ◌^◌, ◌<◌, ◌≤◌, true, [], ◌∷◌, ◌++◌, length, map, Some, None, IfSome, IfOk, IfErr, OnOk, OnErr, IsSome, not, if◌then◌else◌, ◌==◌, option_map, vec_items};
 ghost use Rattle.std.specs.Option.{ForSome};
 ghost use Rattle.rq_bytes.specs.Refusals.{IsAnswer};
 ghost use Rattle.rq_bytes.specs.Slab.{slab_of};
@@ -97,7 +97,7 @@ fn octet_symbols(alloc: Global, column: &[u8]) -> Result<SymbolSlab, Error>
 impl SourceBlockDecoder {
     ghost use Rattle.std.specs.Int.{div_ceil};
     ghost use Rattle.raptorq.specs.Difference.{octets_of_column};
-    ghost use Rattle.rq_standard.specs.Held.{Held, nothing_held, recorded, ShowsUndetermined, IsBlockWith, IsBlockAnswer};
+    ghost use Rattle.rq_standard.specs.Held.{nothing_held, recorded, ShowsUndetermined, IsBlockWith, IsBlockAnswer};
     ghost use Rattle.rq_standard.specs.TableRows.{greatest_size, intermediate_symbols, row_of};
     ghost use Rattle.raptorq.specs.Known.{SolvesBlock, IsHeldSolution, rebuilt_symbol};
     ghost use Rattle.raptorq.specs.Refused.{checked_block, block_refusal};

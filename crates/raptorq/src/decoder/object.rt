@@ -1,11 +1,9 @@
 //! The decoder of an object.
-ghost use Rattle.std.specs.Prelude.{◌≡◌, ◌≢◌, ◌↔◌, ℕ, ◌+◌, ◌*◌, ◌<◌, ◌≤◌, List, [], ◌∷◌, ◌++◌, length, Result, Ok, Err, Some, None, IfSome, IfOk, IfErr, OnOk, OnErr, ◌⊎◌, All, map, option_map, vec_items, is_some, IsSome};
-ghost use Rattle.std.specs.Int.{div_ceil};
+ghost use Rattle.std.specs.Prelude.{◌≡◌, ◌≢◌, ◌↔◌, ℕ, ◌*◌, ◌<◌, List, [], length, Ok, Some, None, IfSome, IfOk, IfErr, OnOk, OnErr, ◌⊎◌, All, map, option_map, vec_items, is_some, IsSome};
 ghost use Rattle.std.specs.List.{range_with_len, AllByRecursion};
 ghost use Rattle.rq_bytes.specs.Refusals.{IsAnswer, IsRefusal};
 ghost use Rattle.rq_standard.specs.Configuration.{IsAccepted, IsAligned, largest_block, total_symbols};
 ghost use Rattle.rq_standard.specs.Cutting.{block_symbols};
-ghost use Rattle.rq_standard.specs.Packet.{Packet};
 ghost use Rattle.rq_standard.specs.Differences.{IsOnlyObject};
 ghost use Rattle.rq_standard.specs.Encoded.{IsPacketOf, HasNonsingularRows};
 ghost use Rattle.rq_standard.specs.Standing.{IsObjectAnswer};
@@ -116,7 +114,7 @@ pub struct Decoder {
 
 impl Decoder {
     ghost use Rattle.rq_standard.specs.Differences.{AreUnansweredDetermined, IsDifference, MakesOthersFit};
-    ghost use Rattle.rq_standard.specs.Standing.{State, IsNewState, Adds, Stops, Stands, StandsForMore, CatchesUp, FallsBehind, AnswersObject, result_of};
+    ghost use Rattle.rq_standard.specs.Standing.{IsNewState, Adds, Stops, Stands, StandsForMore, CatchesUp, FallsBehind, AnswersObject, result_of};
     ghost use Rattle.raptorq.specs.Refused.{packet_refusal};
     ghost use Rattle.raptorq.specs.Objects.{state_of};
 

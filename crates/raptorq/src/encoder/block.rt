@@ -1,5 +1,5 @@
 //! The encoder of one source block.
-ghost use Rattle.std.specs.Prelude.{◌≡◌, ◌⊎◌, ℕ, ◌+◌, ◌-◌, ◌/◌, ◌^◌, ◌<◌, ◌≤◌, All, List, length, map, IfOk, IfErr, OnOk, OnErr};
+ghost use Rattle.std.specs.Prelude.{◌≡◌, ◌+◌, ◌-◌, ◌/◌, ◌^◌, ◌<◌, ◌≤◌, All, length, map, IfOk, IfErr, OnOk, OnErr};
 ghost use Rattle.std.specs.List.{range_with_len};
 ghost use Rattle.rq_bytes.specs.Refusals.{IsAnswer};
 ghost use Rattle.rq_bytes.specs.Slab.{symbol_in, symbols_in};
@@ -39,7 +39,7 @@ pub struct SourceBlockEncoder {
 }
 
 impl SourceBlockEncoder {
-    ghost use Rattle.raptorq.specs.BlockEncoded.{block_encoded_of, IsBlockPacket, AreBlockPackets};
+    ghost use Rattle.raptorq.specs.BlockEncoded.{block_encoded_of, AreBlockPackets};
     ghost use Rattle.raptorq.specs.BlockData.{block_of, IsPlanFor, RefusesBlock, RefusesPlanned};
     ghost use Rattle.raptorq.specs.PlanCache.{used};
     ghost use Rattle.raptorq.specs.Plans.{plan_of};
