@@ -1,10 +1,9 @@
 -- The encoders of an object's blocks.
-use Rattle.std.proofs.Common.{◌≡◌, ℕ, ◌+◌, ◌*◌, ◌<◌, min, List, [], ◌∷◌, ◌++◌, length, take, drop, get_or, map, Ok, refl, sym, ap, ◌∙◌, subst, arith, ◌⊎◌, inl, inr, eq-eqb, append-nil}
+use Rattle.std.proofs.Common.{◌≡◌, ℕ, ◌+◌, ◌*◌, ◌<◌, min, List, [], ◌∷◌, ◌++◌, length, take, drop, get_or, map, Ok, refl, sym, ap, ◌∙◌, subst, arith, ◌⊎◌, inl, inr, eq-eqb}
 use Rattle.std.specs.List.{range_with_len, flat_map, AllByRecursion}
 use Rattle.std.proofs.lemmas.Bool.{cases_lt}
-use Rattle.std.proofs.lemmas.List.{ext_get_or, get_or-map, get_or-take, get_or-drop, get_or_past, length-take, take_min, drop_min, drop-drop, map-append, map-id}
-use Rattle.std.proofs.lemmas.Grind.{flat_map-append}
-use Rattle.std.proofs.lemmas.List.FromFn.{length-map-range_with_len, get_or-map-range_with_len, map-range_with_len_more}
+use Rattle.std.proofs.lemmas.List.{ext_get_or, get_or-map, get_or-take, get_or-drop, get_or_past, length-take, take_min, drop_min, drop-drop, map-append}
+use Rattle.std.proofs.lemmas.List.FromFn.{length-map-range_with_len, get_or-map-range_with_len}
 use Rattle.rq_bytes.specs.declared.error.Error.{Error}
 use Rattle.rq_bytes.specs.declared.error.Error.TheVariants.{OutOfMemory, Singular}
 use Rattle.rq_bytes.specs.Refusals.{IsRefusal}
@@ -23,6 +22,7 @@ use Rattle.raptorq.specs.Encoded.{Encoded, IsEncoderOf, no_block}
 use Rattle.raptorq.proofs.Encodes.{at_any}
 use Rattle.raptorq.proofs.Numbered.{mapped_through}
 use Rattle.raptorq.proofs.PlanLaws.{plan_refused}
+use Rattle.raptorq.proofs.Ranges.{flat_map-push}
 use Rattle.raptorq.specs.declared.encoder.block.SourceBlockEncoder.{SourceBlockEncoder}
 use Rattle.rq_base.specs.Refused.{checked_configuration}
 use Rattle.raptorq.specs.Refused.{new_encoder, RefusesEncoder}
@@ -95,11 +95,7 @@ abbrev pub ids_before : Configuration → ℕ → ℕ → List SymbolId
 ids_before c repair n = flat_map (λ b. first_ids (block_symbols c b + repair) b) (range_with_len 0 n)
 
 pub ids_next : (c : Configuration) (repair n : ℕ) → ids_before c repair (n + 1) ≡ ids_before c repair n ++ first_ids (block_symbols c n + repair) n
-ids_next c repair n =
-    let f : ℕ → List SymbolId = λ b. first_ids (block_symbols c b + repair) b in
-    ap (flat_map f) (range_next n) ∙ flat_map-append f (range_with_len 0 n) (n ∷ []) ∙ ap (λ l. flat_map f (range_with_len 0 n) ++ l) (append-nil (f n)) where
-      range_next : (n : ℕ) → range_with_len 0 (n + 1) ≡ range_with_len 0 n ++ n ∷ []
-      range_next n = sym (map-id (range_with_len 0 (n + 1))) ∙ map-range_with_len_more (λ i. i) 0 n n (omega arith) ∙ ap (λ l. l ++ n ∷ []) (map-id (range_with_len 0 n))
+ids_next c repair n = flat_map-push (λ b. first_ids (block_symbols c b + repair) b) n
 
 -- the packets of the first n blocks
 pub record AreEncodedSoFar (c : Configuration) (repair n : ℕ) (e : Encoded) (packets : List Packet) : Type 0 where

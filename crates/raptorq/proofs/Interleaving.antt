@@ -1,5 +1,5 @@
 -- A block, sub-block by sub-block.
-use Rattle.std.proofs.Common.{◌≡◌, ℕ, zero, suc, ◌+◌, ◌-◌, ◌*◌, ◌/◌, ◌<◌, ◌≤◌, min, max, List, [], ◌∷◌, ◌++◌, length, get_or, take, drop, map, replicate, inl, inr, cond, sym, ap, ◌∙◌, subst, arith, append_assoc, append-nil, length-append}
+use Rattle.std.proofs.Common.{◌≡◌, ℕ, zero, suc, ◌+◌, ◌-◌, ◌*◌, ◌/◌, ◌<◌, ◌≤◌, min, max, List, [], ◌++◌, length, get_or, take, drop, map, replicate, inl, inr, cond, sym, ap, ◌∙◌, subst, arith, append_assoc, length-append}
 use Rattle.std.specs.Prelude.{Result, Ok, Err, OnOk, is_ok}
 use Rattle.std.specs.Int.{div_ceil}
 use Rattle.std.specs.List.{flat_map, range_with_len}
@@ -7,8 +7,7 @@ use Rattle.std.proofs.Math.Nat.{mul-le-mul_right}
 use Rattle.std.proofs.lemmas.Nat.{mul-le}
 use Rattle.std.proofs.lemmas.Bool.{cases_lt, lt-ltb, le-ltb}
 use Rattle.std.proofs.lemmas.List.{get_or-take, get_or-drop, get_or-replicate, get_or_past, get_or_append_left, get_or-append_right, get_or-append-add, length-take-le, length-drop, length-replicate, take_all}
-use Rattle.std.proofs.lemmas.List.Concat.{flat_map-append}
-use Rattle.raptorq.proofs.Ranges.{range-push}
+use Rattle.raptorq.proofs.Ranges.{flat_map-push}
 use Rattle.std.proofs.lemmas.List.FromFn.{fill_by_all, length-map-range_with_len, get_or-map-range_with_len}
 use Rattle.rq_standard.specs.Configuration.{Configuration, IsAligned}
 use Rattle.rq_standard.specs.Cutting.{sub_block_count, sub_block_parts, larger_bytes, sub_block_size, sub_block_start, place_in_block, symbol_of_block, plain_symbol}
@@ -138,9 +137,6 @@ symbol_more c k e o z place block xs ys aligned at below is so front grown =
     ap (λ n. get_or block n 0) same)
 
 -- ---- pieces of one length, one after another
-
-flat_map-push : (f : ℕ → List ℕ) (k : ℕ) → flat_map f (range_with_len 0 (k + 1)) ≡ flat_map f (range_with_len 0 k) ++ f k
-flat_map-push f k = ap (flat_map f) (range-push 0 k k (omega arith)) ∙ flat_map-append f (range_with_len 0 k) (k ∷ []) ∙ ap (λ l. flat_map f (range_with_len 0 k) ++ l) (append-nil (f k))
 
 -- one piece more
 pub pieces_more : (f : ℕ → List ℕ) (k : ℕ) (old xs ys zs : List ℕ) → xs ≡ old ++ flat_map f (range_with_len 0 k) → ys ≡ xs ++ zs → zs ≡ f k → ys ≡ old ++ flat_map f (range_with_len 0 (k + 1))
