@@ -80,10 +80,6 @@ rebuilt_block h slab plain block n same checked s all long each =
           ∙ solved_by (h.received e) (tuple_sum h.row (symbol_in slab) e) (tuple_sum h.row column e) (λ x is. came_source h column e x z below is) (sum_same h.row e (symbol_in slab) column checked (λ k lt. sym (s.only column z k lt)));
     }
 
--- the block is determined
-pub answer-rebuilt : (h : Held) (slab : Slab) (block : List ℕ) → IsHeldSolution h slab → IsBlockWith h block → IsBlockAnswer h (Some block)
-answer-rebuilt h slab block s is = record { some = λ _. inr s.determined; none = λ _. refl; block = is }
-
 -- something is missing, and what came determines nothing
 pub answer-none : (h : Held) (missing : ℕ) → missing ≡ missing_count h.symbols (holds h) → 0 < missing → (AreHeldDetermining h → ⊥) → IsBlockAnswer h None
 answer-none h missing counted some undetermined = record {

@@ -1,14 +1,16 @@
 -- The counts that a cache of plans holds.
-use Rattle.std.proofs.Common.{◌≡◌, ℕ, suc, ◌+◌, ◌-◌, ◌<◌, ◌≤◌, Bool, true, false, List, [], ◌∷◌, ◌++◌, Option, Some, None, length, drop, get_or, map, cond, refl, sym, ap, ◌∙◌, arith, inl, inr}
+use Rattle.std.proofs.Common.{◌≡◌, ℕ, suc, ◌+◌, ◌-◌, ◌<◌, ◌≤◌, All, Bool, true, false, List, [], ◌∷◌, ◌++◌, Option, Some, None, length, drop, get_or, map, cond, refl, sym, ap, ◌∙◌, subst, arith, inl, inr}
 use Rattle.std.specs.Prelude.{is_some, slice_get, position, nat_lt, ◌==◌}
 use Rattle.std.specs.List.{list_any, position_or_len}
 use Rattle.std.proofs.lemmas.Bool.{cases_lt, lt-ltb, le-ltb, eqb-true}
 use Rattle.std.proofs.lemmas.List.{length-append, length-map, get_or-append_right}
 use Rattle.std.proofs.lemmas.List.Quantifiers.{position-Some}
-use Rattle.std.proofs.lemmas.Option.{slice_get_read}
+use Rattle.std.proofs.lemmas.Option.{slice_get_read, slice_get_within, get_or_from_slice_get}
 use Rattle.std.proofs.Math.ListN.{get_or-map}
+use Rattle.rq_standard.specs.declared.row.Row.{Row}
+use Rattle.rq_standard.specs.TableRows.{row_of}
 use Rattle.raptorq.specs.declared.encoder.plan.SourceBlockEncodingPlan.{SourceBlockEncodingPlan}
-use Rattle.raptorq.specs.PlanCache.{holds, cached}
+use Rattle.raptorq.specs.PlanCache.{holds, cached, IsPlanOver}
 use Rattle.raptorq.proofs.Encodes.{at_any}
 
 -- ---- whether a count is held
@@ -51,6 +53,16 @@ pub count_at : (plans : List SourceBlockEncodingPlan) (i : ℕ) (p : SourceBlock
 count_at plans i p below is =
     at_any (counts_in plans) i 0 p.source_symbol_count (omega (arith, length-map plans (λ (q : SourceBlockEncodingPlan). q.source_symbol_count)))
     ∙ get_or-map (λ (q : SourceBlockEncodingPlan). q.source_symbol_count) plans i p ∙ ap (λ (q : SourceBlockEncodingPlan). q.source_symbol_count) (sym is)
+
+-- the plan at a place where a count was found
+pub plan_found : (table : List Row) (plans : List SourceBlockEncodingPlan) (counts : List ℕ) (count place : ℕ) (p : SourceBlockEncodingPlan) → counts_in plans ≡ counts → All (IsPlanOver table) plans → position (λ n. n == count) counts ≡ Some place
+    → p ≡ get_or plans place p → (p.source_symbol_count ≡ count) × (p.row ≡ row_of table count)
+plan_found table plans counts count place p shown over found is =
+    let at : slice_get (counts_in plans) place ≡ Some count = ap (λ xs. slice_get xs place) shown ∙ place_found counts count place found in
+    let below = slice_get_within (counts_in plans) place count at in
+    let here : place < length plans = omega (arith, length-map plans (λ (q : SourceBlockEncodingPlan). q.source_symbol_count)) in
+    let same : p.source_symbol_count ≡ count = sym (count_at plans place p here is) ∙ get_or_from_slice_get (counts_in plans) place count 0 at in
+    (same, (subst (IsPlanOver table) (sym is) (over place p here)).row ∙ ap (row_of table) same)
 
 -- ---- a use of a count
 

@@ -1,10 +1,9 @@
 -- The encoders of an object's blocks.
-use Rattle.std.proofs.Common.{◌≡◌, ℕ, ◌+◌, ◌-◌, ◌*◌, ◌<◌, ◌≤◌, min, List, [], ◌∷◌, ◌++◌, length, take, drop, get_or, map, Ok, refl, sym, ap, ◌∙◌, subst, arith, ◌⊎◌, inl, inr, eq-eqb, append-nil, length-drop}
+use Rattle.std.proofs.Common.{◌≡◌, ℕ, ◌+◌, ◌*◌, ◌<◌, min, List, [], ◌∷◌, ◌++◌, length, take, drop, get_or, map, Ok, refl, sym, ap, ◌∙◌, subst, arith, ◌⊎◌, inl, inr, eq-eqb}
 use Rattle.std.specs.List.{range_with_len, flat_map, AllByRecursion}
 use Rattle.std.proofs.lemmas.Bool.{cases_lt}
-use Rattle.std.proofs.lemmas.List.{ext_get_or, get_or-map, get_or-take, get_or-drop, get_or_past, length-take, take_all, nil_from_length, map-append, map-id}
-use Rattle.std.proofs.lemmas.Grind.{flat_map-append}
-use Rattle.std.proofs.lemmas.List.FromFn.{length-map-range_with_len, get_or-map-range_with_len, map-range_with_len_more}
+use Rattle.std.proofs.lemmas.List.{ext_get_or, get_or-map, get_or-take, get_or-drop, get_or_past, length-take, take_min, drop_min, drop-drop, map-append}
+use Rattle.std.proofs.lemmas.List.FromFn.{length-map-range_with_len, get_or-map-range_with_len}
 use Rattle.rq_bytes.specs.declared.error.Error.{Error}
 use Rattle.rq_bytes.specs.declared.error.Error.TheVariants.{OutOfMemory, Singular}
 use Rattle.rq_bytes.specs.Refusals.{IsRefusal}
@@ -17,13 +16,13 @@ use Rattle.rq_standard.specs.Equations.{IsEncodingSymbol, IsSingular}
 use Rattle.rq_standard.specs.Encoded.{block_row, block_source, IsPacketOf, HasNonsingularRows, first_ids, AreEncoded}
 use Rattle.rq_standard.proofs.PlainCut.{length-block_bytes}
 use Rattle.rq_standard.proofs.Standing.{length-block_source}
-use Rattle.rq_standard.proofs.BlockCuts.{block_symbols_few}
-use Rattle.raptorq.specs.Offsets.{block_range}
+use Rattle.rq_standard.proofs.BlockCuts.{block_symbols_few, symbols_before-first, symbols_before-next}
 use Rattle.raptorq.specs.Plans.{RefusesPlan}
 use Rattle.raptorq.specs.Encoded.{Encoded, IsEncoderOf, no_block}
 use Rattle.raptorq.proofs.Encodes.{at_any}
 use Rattle.raptorq.proofs.Numbered.{mapped_through}
 use Rattle.raptorq.proofs.PlanLaws.{plan_refused}
+use Rattle.raptorq.proofs.Ranges.{flat_map-push}
 use Rattle.raptorq.specs.declared.encoder.block.SourceBlockEncoder.{SourceBlockEncoder}
 use Rattle.rq_base.specs.Refused.{checked_configuration}
 use Rattle.raptorq.specs.Refused.{new_encoder, RefusesEncoder}
@@ -31,32 +30,26 @@ use Rattle.raptorq.specs.BlockEncoded.{BlockEncoded, block_encoded_of, IsBlockPa
 
 -- ---- the bytes of a block
 
--- what a list has between two places
-pub clipped : (xs : List ℕ) (from end : ℕ) → from ≤ end → take (min end (length xs) - min from (length xs)) (drop (min from (length xs)) xs) ≡ take (end - from) (drop from xs)
-clipped xs from end order = elim (cases_lt from (length xs)) [
-  | inl lt ↦ elim (cases_lt (length xs) end) [
-    | inl past ↦
-        let a : min from (length xs) ≡ from = omega arith in
-        let b : min end (length xs) ≡ length xs = omega arith in
-        rw (a, b) (take_all (length xs - from) (drop from xs) (omega (arith, length-drop from xs)) ∙ sym (take_all (end - from) (drop from xs) (omega (arith, length-drop from xs))))
-    | inr within ↦
-        let a : min from (length xs) ≡ from = omega arith in
-        let b : min end (length xs) ≡ end = omega arith in
-        rw (a, b) refl
-  ]
-  | inr past ↦
-      let a : min from (length xs) ≡ length xs = omega arith in
-      let b : min end (length xs) ≡ length xs = omega arith in
-      let none : drop from xs ≡ [] = nil_from_length (drop from xs) (omega (arith, length-drop from xs)) in
-      let none_here : drop (length xs) xs ≡ [] = nil_from_length (drop (length xs) xs) (omega (arith, length-drop (length xs) xs)) in
-      rw (a, b, none, none_here) (take_all (length xs - length xs) [] (omega arith) ∙ sym (take_all (end - from) [] (omega arith)))
-]
+-- the object without the blocks before one
+abbrev pub from_block : Configuration → List ℕ → ℕ → List ℕ
+from_block c object b = drop (symbols_before c b * c.symbol_size) object
 
--- from the block's offsets
-pub bytes_in_range : (c : Configuration) (object bytes : List ℕ) (b from end : ℕ) → from ≡ (block_range c b).0 → end ≡ (block_range c b).1 → bytes ≡ take (end - from) (drop from object) → bytes ≡ bytes_of_block c object b
-bytes_in_range c object bytes b from end first last is =
-    let many : end - from ≡ block_symbols c b * c.symbol_size = omega (arith, first, last) in
-    is ∙ ap (λ n. take n (drop from object)) many ∙ ap (λ s. take (block_symbols c b * c.symbol_size) (drop s object)) first
+pub from_first : (c : Configuration) (object : List ℕ) → object ≡ from_block c object 0
+from_first c object =
+    let none : symbols_before c 0 * c.symbol_size ≡ 0 = ap (λ n. n * c.symbol_size) (symbols_before-first c) ∙ omega arith in
+    sym (ap (λ n. drop n object) none)
+
+module _ (c : Configuration) (object rest : List ℕ) (b whole : ℕ) (is : rest ≡ from_block c object b) (many : whole ≡ block_symbols c b * c.symbol_size) where
+  -- the block's bytes come first
+  pub block_front : (bytes : List ℕ) → bytes ≡ take (min whole (length rest)) rest → bytes ≡ bytes_of_block c object b
+  block_front bytes front = front ∙ take_min whole rest ∙ ap (λ n. take n rest) many ∙ ap (take (block_symbols c b * c.symbol_size)) is
+
+  -- and the next block comes behind them
+  pub block_behind : (behind : List ℕ) → b < c.source_blocks → behind ≡ drop (min whole (length rest)) rest → behind ≡ from_block c object (b + 1)
+  block_behind behind below back =
+      let both : symbols_before c b * c.symbol_size + block_symbols c b * c.symbol_size ≡ symbols_before c (b + 1) * c.symbol_size = omega arith ∙ ap (λ n. n * c.symbol_size) (sym (symbols_before-next c b below)) in
+      back ∙ drop_min whole rest ∙ ap (λ n. drop n rest) many ∙ ap (drop (block_symbols c b * c.symbol_size)) is ∙ drop-drop (block_symbols c b * c.symbol_size) (symbols_before c b * c.symbol_size) object
+      ∙ ap (λ n. drop n object) both
 
 block_byte : (c : Configuration) (object : List ℕ) (b i : ℕ) → get_or (bytes_of_block c object b) i 0 ≡ get_or (block_bytes c object b) i 0
 unfolding block_bytes
@@ -102,11 +95,7 @@ abbrev pub ids_before : Configuration → ℕ → ℕ → List SymbolId
 ids_before c repair n = flat_map (λ b. first_ids (block_symbols c b + repair) b) (range_with_len 0 n)
 
 pub ids_next : (c : Configuration) (repair n : ℕ) → ids_before c repair (n + 1) ≡ ids_before c repair n ++ first_ids (block_symbols c n + repair) n
-ids_next c repair n =
-    let f : ℕ → List SymbolId = λ b. first_ids (block_symbols c b + repair) b in
-    ap (flat_map f) (range_next n) ∙ flat_map-append f (range_with_len 0 n) (n ∷ []) ∙ ap (λ l. flat_map f (range_with_len 0 n) ++ l) (append-nil (f n)) where
-      range_next : (n : ℕ) → range_with_len 0 (n + 1) ≡ range_with_len 0 n ++ n ∷ []
-      range_next n = sym (map-id (range_with_len 0 (n + 1))) ∙ map-range_with_len_more (λ i. i) 0 n n (omega arith) ∙ ap (λ l. l ++ n ∷ []) (map-id (range_with_len 0 n))
+ids_next c repair n = flat_map-push (λ b. first_ids (block_symbols c b + repair) b) n
 
 -- the packets of the first n blocks
 pub record AreEncodedSoFar (c : Configuration) (repair n : ℕ) (e : Encoded) (packets : List Packet) : Type 0 where

@@ -1,5 +1,5 @@
 -- An object of one block and its source packets.
-use Rattle.std.proofs.Common.{◌≡◌, ℕ, zero, suc, ◌+◌, ◌-◌, ◌<◌, ◌≤◌, ◌^◌, List, [], ◌∷◌, ◌++◌, All, length, get_or, map, Result, Ok, Err, refl, sym, ap, ◌∙◌, subst, arith, inl, inr}
+use Rattle.std.proofs.Common.{◌≡◌, ℕ, zero, suc, ◌+◌, ◌-◌, ◌<◌, ◌≤◌, ◌^◌, List, [], ◌∷◌, ◌++◌, All, length, get_or, map, Result, Ok, refl, sym, ap, ◌∙◌, subst, arith, inl, inr}
 use Rattle.std.specs.List.{range_with_len}
 use Rattle.std.proofs.lemmas.Bool.{cases_lt, lt-ltb}
 use Rattle.std.proofs.lemmas.List.{get_or_past, length-replicate, map-append}
@@ -15,12 +15,6 @@ use Rattle.rq_standard.proofs.Columns.{source_sum}
 use Rattle.rq_standard.proofs.Standing.{push-all}
 use Rattle.raptorq.specs.BlockEncoded.{BlockEncoded, IsBlockPacket, AreBlockPackets}
 use Rattle.raptorq.proofs.HeldEquations.{internal_below}
-
--- an id below the number of symbols isn't refused
-pub new_id-small : (b e : ℕ) (x : Error) → e < 2 ^ 24 → new_id b e ≡ Err x → ⊥
-new_id-small b e x small h =
-    let ok : new_id b e ≡ Ok (record { block = b; esi = e }) = rw (lt-ltb e (2 ^ 24) small) refl in
-    cc (sym ok ∙ h)
 
 abbrev made : SymbolId → Result SymbolId Error
 made i = Ok i

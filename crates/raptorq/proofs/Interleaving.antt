@@ -1,5 +1,5 @@
 -- A block, sub-block by sub-block.
-use Rattle.std.proofs.Common.{◌≡◌, ℕ, zero, suc, ◌+◌, ◌-◌, ◌*◌, ◌/◌, ◌%◌, ◌<◌, ◌≤◌, min, max, List, [], ◌∷◌, ◌++◌, length, get_or, take, drop, map, replicate, inl, inr, cond, sym, ap, ◌∙◌, subst, arith, append_assoc, append-nil, length-append}
+use Rattle.std.proofs.Common.{◌≡◌, ℕ, zero, suc, ◌+◌, ◌-◌, ◌*◌, ◌/◌, ◌<◌, ◌≤◌, min, max, List, [], ◌++◌, length, get_or, take, drop, map, replicate, inl, inr, cond, sym, ap, ◌∙◌, subst, arith, append_assoc, length-append}
 use Rattle.std.specs.Prelude.{Result, Ok, Err, OnOk, is_ok}
 use Rattle.std.specs.Int.{div_ceil}
 use Rattle.std.specs.List.{flat_map, range_with_len}
@@ -7,10 +7,9 @@ use Rattle.std.proofs.Math.Nat.{mul-le-mul_right}
 use Rattle.std.proofs.lemmas.Nat.{mul-le}
 use Rattle.std.proofs.lemmas.Bool.{cases_lt, lt-ltb, le-ltb}
 use Rattle.std.proofs.lemmas.List.{get_or-take, get_or-drop, get_or-replicate, get_or_past, get_or_append_left, get_or-append_right, get_or-append-add, length-take-le, length-drop, length-replicate, take_all}
-use Rattle.std.proofs.lemmas.List.Concat.{flat_map-append}
-use Rattle.raptorq.proofs.Ranges.{range-push}
+use Rattle.raptorq.proofs.Ranges.{flat_map-push}
 use Rattle.std.proofs.lemmas.List.FromFn.{fill_by_all, length-map-range_with_len, get_or-map-range_with_len}
-use Rattle.rq_standard.specs.Configuration.{Configuration}
+use Rattle.rq_standard.specs.Configuration.{Configuration, IsAligned}
 use Rattle.rq_standard.specs.Cutting.{sub_block_count, sub_block_parts, larger_bytes, sub_block_size, sub_block_start, place_in_block, symbol_of_block, plain_symbol}
 use Rattle.rq_standard.proofs.PlainCut.{map-range_is_take}
 use Rattle.rq_standard.proofs.Interleaved.{IsSubBlock, at_byte, next_start, place_in, place_low}
@@ -106,20 +105,20 @@ pub record Reaches (c : Configuration) (o : ℕ) : Type 0 where
   pub within : o ≤ c.symbol_size
   pub starts : o < c.symbol_size → sub_block_start c o ≡ o
 
-pub reaches_none : (c : Configuration) → 0 < c.alignment → c.symbol_size % c.alignment ≡ 0 → Reaches c 0
-reaches_none c pos rem = record { within = omega arith; starts = λ some. omega (arith, (at_byte c 0 pos rem some).low) }
+pub reaches_none : (c : Configuration) → IsAligned c → Reaches c 0
+reaches_none c aligned = record { within = omega arith; starts = λ some. omega (arith, (at_byte c 0 aligned.alignment_positive aligned.aligned some).low) }
 
-pub part_from : (c : Configuration) (o : ℕ) → 0 < c.alignment → c.symbol_size % c.alignment ≡ 0 → Reaches c o → o < c.symbol_size → IsSubBlock c o (sub_block_size c o)
-part_from c o pos rem at below = subst (λ s. IsSubBlock c s (sub_block_size c o)) (at.starts below) (at_byte c o pos rem below).part
+pub part_from : (c : Configuration) (o : ℕ) → IsAligned c → Reaches c o → o < c.symbol_size → IsSubBlock c o (sub_block_size c o)
+part_from c o aligned at below = subst (λ s. IsSubBlock c s (sub_block_size c o)) (at.starts below) (at_byte c o aligned.alignment_positive aligned.aligned below).part
 
-pub reaches_more : (c : Configuration) (o z : ℕ) → 0 < c.alignment → c.symbol_size % c.alignment ≡ 0 → Reaches c o → o < c.symbol_size → z ≡ sub_block_size c o → Reaches c (o + z)
-reaches_more c o z pos rem at below is =
-    subst (λ w. Reaches c (o + w)) (sym is) (record { within = (part_from c o pos rem at below).room; starts = λ more. next_start c o pos rem below (at.starts below) more })
+pub reaches_more : (c : Configuration) (o z : ℕ) → IsAligned c → Reaches c o → o < c.symbol_size → z ≡ sub_block_size c o → Reaches c (o + z)
+reaches_more c o z aligned at below is =
+    subst (λ w. Reaches c (o + w)) (sym is) (record { within = (part_from c o aligned at below).room; starts = λ more. next_start c o aligned.alignment_positive aligned.aligned below (at.starts below) more })
 
 -- a sub-block has bytes, and ends within the symbol
-pub width_within : (c : Configuration) (o z size : ℕ) → 0 < c.alignment → c.symbol_size % c.alignment ≡ 0 → Reaches c o → o < size → size ≡ c.symbol_size → z ≡ sub_block_size c o → (0 < z) × (o + z ≤ size)
-width_within c o z size pos rem at below same is =
-    let part = part_from c o pos rem at (omega arith) in
+pub width_within : (c : Configuration) (o z size : ℕ) → IsAligned c → Reaches c o → o < size → size ≡ c.symbol_size → z ≡ sub_block_size c o → (0 < z) × (o + z ≤ size)
+width_within c o z size aligned at below same is =
+    let part = part_from c o aligned at (omega arith) in
     (omega (arith, part.positive), omega (arith, part.room))
 
 -- places in a block fit
@@ -127,10 +126,10 @@ pub place_fits : (o z k e size : ℕ) → o + z ≤ size → size < 65536 → k 
 place_fits o z k e size room small few below = omega (arith, mul-le o k 65535 4294967295 (omega arith) (omega arith), mul-le z e 65535 4294967295 (omega arith) (omega arith))
 
 -- a symbol's part of one sub-block more
-pub symbol_more : (c : Configuration) (k e o z place : ℕ) (block xs ys : List ℕ) → 0 < c.alignment → c.symbol_size % c.alignment ≡ 0 → Reaches c o → o < c.symbol_size → z ≡ sub_block_size c o → place ≡ o * k + z * e
+pub symbol_more : (c : Configuration) (k e o z place : ℕ) (block xs ys : List ℕ) → IsAligned c → Reaches c o → o < c.symbol_size → z ≡ sub_block_size c o → place ≡ o * k + z * e
     → xs ≡ map (λ t. get_or block (place_in_block c k e t) 0) (range_with_len 0 o) → ys ≡ xs ++ map (λ i. get_or block (place + i) 0) (range_with_len 0 z) → ys ≡ map (λ t. get_or block (place_in_block c k e t) 0) (range_with_len 0 (o + z))
-symbol_more c k e o z place block xs ys pos rem at below is so front grown =
-    let part : IsSubBlock c o z = subst (λ w. IsSubBlock c o w) (sym is) (part_from c o pos rem at below) in
+symbol_more c k e o z place block xs ys aligned at below is so front grown =
+    let part : IsSubBlock c o z = subst (λ w. IsSubBlock c o w) (sym is) (part_from c o aligned at below) in
     grown ∙ ap (λ l. l ++ map (λ i. get_or block (place + i) 0) (range_with_len 0 z)) front
     ∙ map-range-append (λ t. get_or block (place_in_block c k e t) 0) (λ i. get_or block (place + i) 0) o z
     (λ i lt. let there : place_in_block c k e (o + i) ≡ o * k + z * e + (o + i - o) = place_in c k e o z (o + i) part (omega arith) (omega arith) in
@@ -138,9 +137,6 @@ symbol_more c k e o z place block xs ys pos rem at below is so front grown =
     ap (λ n. get_or block n 0) same)
 
 -- ---- pieces of one length, one after another
-
-flat_map-push : (f : ℕ → List ℕ) (k : ℕ) → flat_map f (range_with_len 0 (k + 1)) ≡ flat_map f (range_with_len 0 k) ++ f k
-flat_map-push f k = ap (flat_map f) (range-push 0 k k (omega arith)) ∙ flat_map-append f (range_with_len 0 k) (k ∷ []) ∙ ap (λ l. flat_map f (range_with_len 0 k) ++ l) (append-nil (f k))
 
 -- one piece more
 pub pieces_more : (f : ℕ → List ℕ) (k : ℕ) (old xs ys zs : List ℕ) → xs ≡ old ++ flat_map f (range_with_len 0 k) → ys ≡ xs ++ zs → zs ≡ f k → ys ≡ old ++ flat_map f (range_with_len 0 (k + 1))
@@ -223,11 +219,11 @@ parts_step c k o z plain xs part whole h =
     }
 
 -- one sub-block more
-pub parts_more : (c : Configuration) (k o z size : ℕ) (plain shown xs ys : List ℕ) → 0 < c.alignment → c.symbol_size % c.alignment ≡ 0 → Reaches c o → o < c.symbol_size → z ≡ sub_block_size c o → size ≡ c.symbol_size → shown ≡ plain → length plain ≡ k * c.symbol_size → HasParts c k plain xs o
+pub parts_more : (c : Configuration) (k o z size : ℕ) (plain shown xs ys : List ℕ) → IsAligned c → Reaches c o → o < c.symbol_size → z ≡ sub_block_size c o → size ≡ c.symbol_size → shown ≡ plain → length plain ≡ k * c.symbol_size → HasParts c k plain xs o
     → ys ≡ xs ++ flat_map (λ e. take (e * size + o + z - (e * size + o)) (drop (e * size + o) shown)) (range_with_len 0 k) → HasParts c k plain ys (o + z)
 unfolding symbol_part
-parts_more c k o z size plain shown xs ys pos rem at below is same seen whole h grown =
-    let part : IsSubBlock c o z = subst (λ w. IsSubBlock c o w) (sym is) (part_from c o pos rem at below) in
+parts_more c k o z size plain shown xs ys aligned at below is same seen whole h grown =
+    let part : IsSubBlock c o z = subst (λ w. IsSubBlock c o w) (sym is) (part_from c o aligned at below) in
     subst (λ l. HasParts c k plain l (o + z)) (sym (grown ∙ ap (λ p. xs ++ flat_map (symbol_part size o z p) (range_with_len 0 k)) seen ∙ ap (λ s. xs ++ flat_map (symbol_part s o z plain) (range_with_len 0 k)) same)) (parts_step c k o z plain xs part whole h)
 
 -- all sub-blocks

@@ -12,7 +12,6 @@ pub mod Intermediates
 pub mod Listing
 pub mod Lists
 pub mod MissingCounts
-pub mod NewBlocks
 pub mod Numbered
 pub mod ObjectBlocks
 pub mod OctetSymbols

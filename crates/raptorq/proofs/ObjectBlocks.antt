@@ -19,7 +19,7 @@ use Rattle.rq_standard.proofs.ObjectAnswers.{joined_some, joined_each, some_of}
 use Rattle.raptorq.specs.Blocks.{held_of}
 use Rattle.raptorq.specs.Objects.{held_at, answer_at, answer_of}
 use Rattle.raptorq.specs.Refused.{block_refusal}
-use Rattle.raptorq.proofs.Numbered.{length-mapped}
+use Rattle.raptorq.proofs.Numbered.{length-mapped, length-numbered}
 use Rattle.raptorq.specs.declared.decoder.object.ObjectBlock.{ObjectBlock}
 
 abbrev pub number_of : ObjectBlock → ℕ
@@ -42,6 +42,19 @@ answer_here items i x below is = get_or-map answer_of items i x None below ∙ a
 -- a block that is its configuration's and the packet's refuses no packet with a symbol of the size
 pub block_takes : (c : Configuration) (h : Held) (p : Packet) → h.configuration ≡ c → h.number ≡ p.id.block → length p.payload ≡ c.symbol_size → block_refusal h p ≡ Ok tt
 block_takes c h p same number long = rw (eq-eqb p.id.block h.number (sym number), eq-eqb (length p.payload) h.configuration.symbol_size (long ∙ ap (λ k. k.symbol_size) (sym same))) refl
+
+-- the block of a packet, by its number
+pub record IsBlockOf (items : List ObjectBlock) (p : Packet) (i : ℕ) (x : ObjectBlock) : Type 0 where
+  pub here : i ≡ p.id.block
+  pub below : p.id.block < length items
+  pub is : x ≡ get_or items p.id.block x
+
+pub block_of_packet : (items : List ObjectBlock) (p : Packet) (count i : ℕ) (x : ObjectBlock) → map number_of items ≡ range_with_len 0 count → i ≡ p.id.block → i < count → x ≡ get_or items i x → IsBlockOf items p i x
+block_of_packet items p count i x numbered here below is = record {
+  here = here;
+  below = omega (arith, length-numbered number_of count items numbered);
+  is = is ∙ ap (λ n. get_or items n x) here;
+}
 
 after : (items : List ObjectBlock) (i : ℕ) (y : ObjectBlock) → i < length items → y ≡ get_or (set items i y) i y
 after items i y below = sym (get_or-set_same items i y y below)
@@ -68,29 +81,22 @@ module _ (c : Configuration) (items : List ObjectBlock) (i : ℕ) (x y : ObjectB
 
 -- the packet's block is written
 module _ (c : Configuration) (items : List ObjectBlock) (p : Packet) (x y : ObjectBlock) (below : p.id.block < length items) (is : x ≡ get_or items p.id.block x) where
-  pub adds_at : AddsToBlock (held_of x.decoder) (answer_of x) p (held_of y.decoder) (answer_of y) → Adds (state c items) p (state c (set items p.id.block y))
-  adds_at add =
+  -- what is said of the block before and after is said of the two states
+  shown_here : (P : Held → Option (List ℕ) → Packet → Held → Option (List ℕ) → Type 0) → P (held_of x.decoder) (answer_of x) p (held_of y.decoder) (answer_of y)
+      → P (held_at c items p.id.block) (answer_at items p.id.block) p (held_at c (set items p.id.block y) p.id.block) (answer_at (set items p.id.block y) p.id.block)
+  shown_here P so =
       let i = p.id.block in
       let new = set items i y in
-      record {
-        here = subst (λ h. AddsToBlock h (answer_at items i) p (held_at c new i) (answer_at new i)) (sym (held_here c items i x below is))
-            (subst (λ a. AddsToBlock (held_of x.decoder) a p (held_at c new i) (answer_at new i)) (sym (answer_here items i x below is))
-            (subst (λ h. AddsToBlock (held_of x.decoder) (answer_of x) p h (answer_at new i)) (sym (held_here c new i y (within items i y below) (after items i y below)))
-            (subst (λ a. AddsToBlock (held_of x.decoder) (answer_of x) p (held_of y.decoder) a) (sym (answer_here new i y (within items i y below) (after items i y below))) add)));
-        elsewhere = elsewhere c items i x y;
-      }
+      subst (λ h. P h (answer_at items i) p (held_at c new i) (answer_at new i)) (sym (held_here c items i x below is))
+      (subst (λ a. P (held_of x.decoder) a p (held_at c new i) (answer_at new i)) (sym (answer_here items i x below is))
+      (subst (λ h. P (held_of x.decoder) (answer_of x) p h (answer_at new i)) (sym (held_here c new i y (within items i y below) (after items i y below)))
+      (subst (λ a. P (held_of x.decoder) (answer_of x) p (held_of y.decoder) a) (sym (answer_here new i y (within items i y below) (after items i y below))) so)))
+
+  pub adds_at : AddsToBlock (held_of x.decoder) (answer_of x) p (held_of y.decoder) (answer_of y) → Adds (state c items) p (state c (set items p.id.block y))
+  adds_at add = record { here = shown_here AddsToBlock add; elsewhere = elsewhere c items p.id.block x y }
 
   pub stops_at : StopsBlock (held_of x.decoder) (answer_of x) p (held_of y.decoder) (answer_of y) → Stops (state c items) p (state c (set items p.id.block y))
-  stops_at stop =
-      let i = p.id.block in
-      let new = set items i y in
-      record {
-        here = subst (λ h. StopsBlock h (answer_at items i) p (held_at c new i) (answer_at new i)) (sym (held_here c items i x below is))
-            (subst (λ a. StopsBlock (held_of x.decoder) a p (held_at c new i) (answer_at new i)) (sym (answer_here items i x below is))
-            (subst (λ h. StopsBlock (held_of x.decoder) (answer_of x) p h (answer_at new i)) (sym (held_here c new i y (within items i y below) (after items i y below)))
-            (subst (λ a. StopsBlock (held_of x.decoder) (answer_of x) p (held_of y.decoder) a) (sym (answer_here new i y (within items i y below) (after items i y below))) stop)));
-        elsewhere = elsewhere c items i x y;
-      }
+  stops_at stop = record { here = shown_here StopsBlock stop; elsewhere = elsewhere c items p.id.block x y }
 
 -- ---- all blocks joined
 

@@ -1,10 +1,10 @@
 -- Octets as symbols of one octet each, and the sums at the places of ids.
-use Rattle.std.proofs.Common.{◌≡◌, ℕ, ◌+◌, ◌<◌, ◌≤◌, List, [], ◌∷◌, ◌++◌, length, map, drop, refl, sym, ap, ◌∙◌, subst, arith, append-nil}
+use Rattle.std.proofs.Common.{◌≡◌, ℕ, ◌+◌, ◌<◌, List, [], ◌∷◌, ◌++◌, length, map, drop, refl, sym, ap, ◌∙◌, subst, arith, append-nil}
 use Rattle.std.proofs.lemmas.List.{length-map, get_or-map, nil_from_length, length-drop}
 use Rattle.rq_algebra.specs.Systems.{at, IsColumn}
 use Rattle.rq_algebra.specs.Symbols.{IsSymbol, IsSymbolColumn}
 use Rattle.rq_bytes.specs.Ranges.{cut, with_range}
-use Rattle.rq_bytes.specs.Slab.{Slab, slab_of, symbol_in, symbols_in}
+use Rattle.rq_bytes.specs.Slab.{Slab, slab_of, symbol_in}
 use Rattle.rq_standard.specs.declared.row.Row.{Row}
 use Rattle.rq_standard.specs.OctetField.{octets}
 use Rattle.rq_standard.specs.TableRows.{IsChecked, intermediate_symbols}
@@ -29,9 +29,6 @@ octets_written zeros xs n is long =
 module _ (row : Row) (xs : List ℕ) (slab : Slab) (checked : IsChecked row) (count : length xs ≡ intermediate_symbols row) (elements : IsColumn octets (intermediate_symbols row) (at xs)) (is : slab ≡ slab_of 1 (one_by_one xs)) where
   symbol_is : (k : ℕ) → k < intermediate_symbols row → symbol_in slab k ≡ wide 1 (at xs) k
   symbol_is k below = ap (λ s. symbol_in s k) is ∙ get_or-map (λ (x : ℕ). x ∷ []) xs k 0 [] (omega (arith, count))
-
-  pub octet_places : intermediate_symbols row ≤ length (symbols_in slab)
-  octet_places = subst (λ s. intermediate_symbols row ≤ length (symbols_in s)) (sym is) (omega (arith, length-map xs (λ (x : ℕ). x ∷ []), count))
 
   pub octet_column : IsSymbolColumn octets slab.symbol_size (intermediate_symbols row) (symbol_in slab)
   octet_column k below = subst (λ s. IsSymbol octets s (symbol_in slab k)) (sym (ap (λ s. s.symbol_size) is)) (subst (IsSymbol octets 1) (sym (symbol_is k below)) (wide_symbols 1 (omega arith) row checked (at xs) elements k below))

@@ -9,11 +9,11 @@ use Rattle.std.specs.declared.alloc.Global.{Global}
 use Rattle.std.specs.declared.cmp.Ordering.TheVariants.{Less, Equal, Greater}
 use Rattle.std.specs.Ordering.{nat_cmp, is_eq}
 use Rattle.std.specs.Cmp.{nat_cmp_is}
-use Rattle.std.specs.BTreeMap.{BTreeMap, get, Updates}
+use Rattle.std.specs.BTreeMap.{BTreeMap, get}
 use Rattle.std.specs.Map.{lookup}
 use Rattle.std.proofs.lemmas.Bool.{cases_eq, cases_lt, eq-eqb, ne_eqb, eqb-true}
 use Rattle.rq_standard.specs.Received.{or_later}
-use Rattle.raptorq.specs.Missing.{payload_of, has_payload}
+use Rattle.raptorq.specs.Missing.{payload_of}
 
 -- the keys' order finds the key that is equal
 pub is_eq-nat_cmp : (k q : ℕ) → is_eq (nat_cmp k q) ≡ eqb k q
@@ -34,33 +34,6 @@ kept_by None r true x has = absurd (cc (has refl))
 
 pub or_later-again : (f : ℕ → Option (List ℕ)) (k : ℕ) (x : List ℕ) → is_some (f k) ≡ true → (e : ℕ) → f e ≡ or_later (f e) (cond (eqb k e) (Some x) None)
 or_later-again f k x has e = kept_by (f e) (f k) (eqb k e) x (λ t. ap (λ n. is_some (f n)) (sym (eqb-true k e t)) ∙ has)
-
--- a payload of a new id
-new_by : (o : Option (List ℕ)) (b : Bool) (x : List ℕ) → (b ≡ true → is_some o ≡ false) → cond b (Some x) o ≡ or_later o (cond b (Some x) None)
-new_by None false x none = refl
-new_by None true x none = refl
-new_by (Some y) false x none = refl
-new_by (Some y) true x none = absurd (cc (none refl))
-
-mapped : (b : Bool) (v : Vec ℕ Global) (o : Option (Vec ℕ Global)) → option_map vec_items (cond b (Some v) o) ≡ cond b (Some (vec_items v)) (option_map vec_items o)
-mapped true v o = refl
-mapped false v o = refl
-
-pub payload_of-put : (m n : BTreeMap ℕ (Vec ℕ Global)) (k : ℕ) (v : Vec ℕ Global) → Updates nat_cmp m n k (Some v) → has_payload m k ≡ false → (e : ℕ) → payload_of n e ≡ or_later (payload_of m e) (cond (eqb k e) (Some (vec_items v)) None)
-payload_of-put m n k v up none e =
-    ap (option_map vec_items) (up.0 e) ∙ mapped (is_eq (nat_cmp k e)) v (get nat_cmp m e) ∙ ap (λ b. cond b (Some (vec_items v)) (payload_of m e)) (is_eq-nat_cmp k e)
-    ∙ new_by (payload_of m e) (eqb k e) (vec_items v) (λ t. ap (λ q. is_some (payload_of m q)) (sym (eqb-true k e t)) ∙ none)
-
-pub payload_of-same : (m n : BTreeMap ℕ (Vec ℕ Global)) → n.entries ≡ m.entries → (e : ℕ) → payload_of n e ≡ payload_of m e
-payload_of-same m n same e = ap (λ es. option_map vec_items (lookup (λ q. is_eq (nat_cmp e q)) es)) same
-
-is_some-mapped : (o : Option (Vec ℕ Global)) → is_some (option_map vec_items o) ≡ is_some o
-is_some-mapped None = refl
-is_some-mapped (Some v) = refl
-
--- whether there is a payload is whether there is an entry
-pub has_payload-entry : (m : BTreeMap ℕ (Vec ℕ Global)) (e : ℕ) → has_payload m e ≡ is_some (get nat_cmp m e)
-has_payload-entry m e = is_some-mapped (get nat_cmp m e)
 
 sized_by : (o : Option (List ℕ)) (b : Bool) (x y : List ℕ) (size : ℕ) → ForSome o (λ payload. length payload ≡ size) → length x ≡ size → or_later o (cond b (Some x) None) ≡ Some y → length y ≡ size
 sized_by (Some z) b x y size all here is = all y is
@@ -94,19 +67,6 @@ same_items (x ∷ xs) (y ∷ ys) h = λ i. h.0 i ∷ same_items xs ys h.1 i
 -- a clone of a map of bytes holds the same payloads
 pub payload_of-cloned : (m n : BTreeMap ℕ (Vec ℕ Global)) → AllZip (λ p q. (q.0 ≡ p.0) × (AllZip (λ x y. y ≡ x) (vec_items p.1) (vec_items q.1) × (vec_len q.1 ≡ vec_len p.1))) m.entries n.entries → (e : ℕ) → payload_of n e ≡ payload_of m e
 payload_of-cloned m n clones = payload_of-clone (λ x y. y ≡ x) (λ v w. AllZip (λ x y. y ≡ x) (vec_items v) (vec_items w) × (vec_len w ≡ vec_len v)) m n (λ x y h. h) (λ v w h. same_items (vec_items v) (vec_items w) h.0) clones
-
--- an answer and its clone
-abbrev pub AreClones : Option (Vec ℕ Global) → Option (Vec ℕ Global) → Type 0
-AreClones None None = Unit {0}
-AreClones None (Some w) = ⊥
-AreClones (Some v) None = ⊥
-AreClones (Some v) (Some w) = AllZip (λ x y. y ≡ x) (vec_items v) (vec_items w) × (vec_len w ≡ vec_len v)
-
-pub same_answer : (o r : Option (Vec ℕ Global)) → AreClones o r → option_map vec_items r ≡ option_map vec_items o
-same_answer None None h = refl
-same_answer None (Some w) h = absurd h
-same_answer (Some v) None h = absurd h
-same_answer (Some v) (Some w) h = ap (λ xs. Some xs) (same_items (vec_items v) (vec_items w) h.0)
 
 few_by : (o : Option (List ℕ)) (b : Bool) (x : List ℕ) (k e n : ℕ) → (is_some o ≡ true → e < n) → k < n → (b ≡ true → k ≡ e) → is_some (or_later o (cond b (Some x) None)) ≡ true → e < n
 few_by (Some y) b x k e n few below here came = few refl

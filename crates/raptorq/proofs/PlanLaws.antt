@@ -1,10 +1,10 @@
 -- What plans refuse, and that a copy of a plan is one.
-use Rattle.std.proofs.Common.{vec_len, ◌≡◌, ℕ, ◌<◌, ◌≤◌, List, [], ◌∷◌, map, Ok, Err, refl, sym, ap, ◌∙◌, subst, ◌⊎◌, inl, inr}
+use Rattle.std.proofs.Common.{vec_len, ◌≡◌, ℕ, ◌≤◌, List, [], ◌∷◌, map, Ok, refl, sym, ap, ◌∙◌, subst, ◌⊎◌, inl, inr}
 use Rattle.std.specs.List.{AllZip}
-use Rattle.std.proofs.lemmas.Bool.{lt-ltb, le-ltb}
+use Rattle.std.proofs.lemmas.Bool.{le-ltb}
 use Rattle.rq_algebra.specs.Operations.{Reorder}
 use Rattle.rq_bytes.specs.declared.error.Error.{Error}
-use Rattle.rq_bytes.specs.declared.error.Error.TheVariants.{OutOfMemory, BlockOverTable, Singular}
+use Rattle.rq_bytes.specs.declared.error.Error.TheVariants.{OutOfMemory, Singular}
 use Rattle.rq_bytes.specs.Refusals.{IsRefusal}
 use Rattle.rq_bytes.specs.SymbolOps.{operation_of}
 use Rattle.rq_bytes.specs.declared.operation_vector.SymbolOps.{SymbolOps}
@@ -38,9 +38,6 @@ pub same_operations : (xs ys : List SymbolOps) → AllZip by_variants xs ys → 
 same_operations xs ys all = map-clones by_variants operation_of same_operation xs ys all
 
 -- ---- what is refused
-
-pub plan_over : (table : List Row) (count : ℕ) → greatest_size table < count → plan_refusal table count ≡ Err BlockOverTable
-plan_over table count above = rw (lt-ltb (greatest_size table) count above) refl
 
 pub plan_taken : (table : List Row) (count : ℕ) → count ≤ greatest_size table → plan_refusal table count ≡ Ok tt
 plan_taken table count within = rw (le-ltb (greatest_size table) count within) refl

@@ -11,24 +11,26 @@ use Rattle.rq_standard.specs.Packet.{Packet}
 use Rattle.rq_standard.specs.Configuration.{Configuration}
 use Rattle.rq_standard.specs.Held.{Held}
 
--- whether the decoder of a block of this many symbols is made
-abbrev pub checked_block : ℕ → Configuration → ℕ → Result (Unit {0}) Error
-checked_block greatest c symbols =
+-- whether symbols are cut in whole units of the alignment
+abbrev pub checked_symbols : Configuration → Result (Unit {0}) Error
+checked_symbols c =
     if c.symbol_size == 0 then Err SymbolSizeZero
     else if c.alignment == 0 then Err AlignmentZero
     else if not (c.symbol_size % c.alignment == 0) then Err Misaligned
-    else if nat_lt greatest symbols then Err BlockOverTable
     else Ok tt
+
+-- whether the decoder of a block of this many symbols is made
+abbrev pub checked_block : ℕ → Configuration → ℕ → Result (Unit {0}) Error
+checked_block greatest c symbols =
+    and_then (checked_symbols c) (λ _. if nat_lt greatest symbols then Err BlockOverTable else Ok tt)
 
 -- how many source symbols so many bytes are, where a table has a row for them
 abbrev pub wanted_count : ℕ → Configuration → ℕ → Result ℕ Error
 wanted_count greatest c bytes =
-    if c.symbol_size == 0 then Err SymbolSizeZero
-    else if c.alignment == 0 then Err AlignmentZero
-    else if not (c.symbol_size % c.alignment == 0) then Err Misaligned
-    else if not (bytes % c.symbol_size == 0) then Err WrongDataLength
+    and_then (checked_symbols c) (λ _.
+    if not (bytes % c.symbol_size == 0) then Err WrongDataLength
     else if nat_lt greatest (bytes / c.symbol_size) then Err BlockOverTable
-    else Ok (bytes / c.symbol_size)
+    else Ok (bytes / c.symbol_size))
 
 -- whether the decoder of a block takes a packet: the block's number comes first
 abbrev pub block_refusal : Held → Packet → Result (Unit {0}) Error

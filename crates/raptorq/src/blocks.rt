@@ -61,8 +61,8 @@ pub fn calculate_block_offsets(
     Ok(block_offsets(alloc, config)?)
 }
 
-/// Where each source block begins and where it ends, in bytes.
-pub(crate) fn block_offsets(
+// Where each source block begins and where it ends, in bytes.
+fn block_offsets(
     alloc: Global,
     config: &ObjectTransmissionInformation,
 ) -> Result<Vec<(usize, usize)>, AllocError>

@@ -1,23 +1,23 @@
 //! Encoders: an object in, its packets out.
-ghost use Rattle.std.specs.Prelude.{◌≡◌, ℕ, ◌+◌, ◌-◌, ◌*◌, ◌<◌, ◌≤◌, ◌⊎◌, List, length, map, take, drop, Result, Ok, Err, IfOk, IfErr, OnOk};
+ghost use Rattle.std.specs.Prelude.{◌≡◌, ℕ, ◌<◌, ◌≤◌, ◌⊎◌, List, length, map, Ok, IfOk, IfErr, OnOk};
 ghost use Rattle.std.specs.List.{range_with_len};
-ghost use Rattle.rq_bytes.specs.Refusals.{IsAnswer, IsRefusal};
-ghost use Rattle.rq_standard.specs.Configuration.{IsAccepted, IsAligned, largest_block};
+ghost use Rattle.rq_bytes.specs.Refusals.{IsAnswer};
+ghost use Rattle.rq_standard.specs.Configuration.{IsAccepted, largest_block};
 ghost use Rattle.rq_standard.specs.Cutting.{block_symbols};
-ghost use Rattle.rq_standard.specs.Encoded.{block_row, HasNonsingularRows};
+ghost use Rattle.rq_standard.specs.Encoded.{HasNonsingularRows};
 ghost use Rattle.rq_standard.specs.Equations.{IsNonsingular, IsSingular};
 ghost use Rattle.rq_standard.specs.TableRows.{greatest_size, row_of};
 ghost use Rattle.rq_standard.specs.declared.row.Row.{Row};
 ghost use Rattle.raptorq.specs.Plans.{plan_of};
 ghost use Rattle.raptorq.specs.BlockData.{IsPlanFor};
-ghost use Rattle.raptorq.specs.BlockEncoded.{block_encoded_of, new_block_encoded, bytes_of_block};
+ghost use Rattle.raptorq.specs.BlockEncoded.{block_encoded_of, new_block_encoded};
 
 mod block;
 mod builder;
 mod cache;
 mod plan;
 
-use crate::blocks::{block_offsets, block_symbols};
+use crate::blocks::block_symbols;
 pub use block::SourceBlockEncoder;
 pub use builder::EncoderBuilder;
 pub use cache::SourceBlockEncodingPlanCache;
@@ -42,8 +42,7 @@ pub struct Encoder {
 
 impl Encoder {
     ghost use Rattle.rq_standard.specs.Encoded.{AreEncoded};
-    ghost use Rattle.rq_base.specs.Defaults.{wanted_parameters};
-    ghost use Rattle.raptorq.specs.Building.{default_settings, RefusesBuilding};
+    ghost use Rattle.raptorq.specs.Building.{default_settings, RefusesBuilding, IsBuilt};
     ghost use Rattle.raptorq.specs.Encoded.{encoded_of, IsEncoderOf, packets_refusal};
     ghost use Rattle.raptorq.specs.Refused.{new_encoder, RefusesEncoder};
 
@@ -88,18 +87,11 @@ impl Encoder {
         maximum_transmission_unit: u16,
     ) -> Result<Encoder, Error>
         ensures refused { IfErr result (RefusesBuilding table.now (record default_settings { packet_size = maximum_transmission_unit }) (length object.now)) }
-        ensures parameters { IfOk result (λ e. wanted_parameters table.now (length object.now) maximum_transmission_unit 10485760 ≡ Ok (encoded_of e).configuration) }
-        ensures taken { IfOk result (λ e. new_encoder (greatest_size table.now) (encoded_of e).configuration (length object.now) ≡ Ok tt) }
-        ensures nonsingular { IfOk result (λ e. HasNonsingularRows table.now (encoded_of e).configuration) }
-        ensures encoder { IfOk result (λ e. IsEncoderOf table.now object.now (encoded_of e)) }
+        ensures built { IfOk result (λ e. IsBuilt table.now (record default_settings { packet_size = maximum_transmission_unit }) object.now (encoded_of e)) }
     {
-        let length = object.len() as u64;
-        let config = ObjectTransmissionInformation::with_defaults(
-            table,
-            length,
-            maximum_transmission_unit,
-        )?;
-        Encoder::new(alloc, table, object, config)
+        let mut builder = EncoderBuilder::new();
+        builder.set_max_packet_size(maximum_transmission_unit);
+        builder.build(alloc, table, object)
     }
 
     /// The configuration that a decoder needs.
@@ -168,28 +160,23 @@ fn block_encoders(
     ensures nonsingular { OnOk result (HasNonsingularRows table.now config.now) }
     ensures refused { IfErr result (λ e. (e ≡ Error.OutOfMemory) ⊎ ((e ≡ Error.Singular) × ¬ HasNonsingularRows table.now config.now)) }
 {
-    let offsets = block_offsets(alloc, config)?;
     let mut plan = SourceBlockEncodingPlan::generate(
         alloc,
         table,
         block_symbols(config, 0) as u16,
     )?;
-    let mut blocks = Vec::with_capacity(alloc, offsets.len())?;
+    let size = usize::from(config.symbol_size());
+    let mut encoders = Vec::with_capacity(alloc, usize::from(config.source_blocks()))?;
+    let mut rest = object;
     for number in 0..config.source_blocks() {
-        plan = plan_for(alloc, table, block_symbols(config, number) as u16, plan)?;
-        let (start, end) = offsets[usize::from(number)];
-        let bytes = bytes_between(object, start, end);
-        blocks.push(SourceBlockEncoder::of_block(alloc, number, config, bytes, &plan)?)?;
+        let count = block_symbols(config, number);
+        plan = plan_for(alloc, table, count as u16, plan)?;
+        // The object may end before its last blocks do.
+        let (bytes, behind) = rest.split_at((count as usize * size).min(rest.len()));
+        encoders.push(SourceBlockEncoder::of_block(alloc, number, config, bytes, &plan)?)?;
+        rest = behind;
     }
-    Ok(blocks)
-}
-
-// The object's bytes between two places, as far as it has them.
-fn bytes_between(object: &[u8], start: usize, end: usize) -> &[u8]
-    requires { start ≤ end }
-    ensures { result.now ≡ take (end - start) (drop start object.now) }
-{
-    &object[start.min(object.len())..end.min(object.len())]
+    Ok(encoders)
 }
 
 // A plan of blocks with so many source symbols: the last one, where it is for as many.

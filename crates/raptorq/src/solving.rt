@@ -1,6 +1,5 @@
 //! The intermediate symbols of a block.
-ghost use Rattle.std.specs.Prelude.{◌≡◌, ℕ, ◌^◌, ◌<◌, ◌≤◌, List, length, Option, None, IfOk, IfErr};
-ghost use Rattle.rq_bytes.specs.Slab.{Slab};
+ghost use Rattle.std.specs.Prelude.{◌≡◌, ◌^◌, ◌<◌, ◌≤◌, length, None, IfOk, IfErr};
 ghost use Rattle.rq_standard.specs.TableRows.{IsChecked, intermediate_symbols};
 ghost use Rattle.rq_standard.specs.Equations.{equation_count, equations};
 ghost use Rattle.rq_solver.specs.Homogeneous.{ShowsHomogeneous};

@@ -1,11 +1,35 @@
 //! How the bytes of a source block and of its symbols lie in one another (RFC 6330, 4.4.1.2).
-ghost use Rattle.std.specs.Prelude.{◌≡◌, ℕ, ◌+◌, ◌*◌, ◌^◌, ◌%◌, ◌<◌, ◌≤◌, ◌++◌, length, map, slice_index, slice_range, IfOk, OnOk, vec_len};
+ghost use Rattle.std.specs.Prelude.{◌≡◌, ℕ, ◌+◌, ◌*◌, ◌^◌, ◌<◌, ◌≤◌, ◌++◌, length, map, slice_index, slice_range, IfOk, OnOk, vec_len};
 ghost use Rattle.std.specs.List.{flat_map, range_with_len};
+ghost use Rattle.rq_standard.specs.Configuration.{IsAligned};
 ghost use Rattle.rq_standard.specs.Cutting.{sub_block_size, symbol_of_block, plain_symbol};
+ghost use Rattle.raptorq.specs.Refused.{checked_symbols};
 
 use rq_base::base::{ObjectTransmissionInformation, partition};
+use rq_bytes::error::Error;
 use rq_bytes::symbol::Symbol;
 use std::alloc::{AllocError, Global};
+
+/// Tests that symbols are cut in whole units of the alignment.
+///
+/// Refuses, in this order, [`Error::SymbolSizeZero`], [`Error::AlignmentZero`], and
+/// [`Error::Misaligned`] where the alignment doesn't divide the symbol size.
+pub(crate) fn check_symbols(config: &ObjectTransmissionInformation) -> Result<(), Error>
+    ensures refused { result ≡ checked_symbols config.now }
+    ensures positive { OnOk result (0 < config.now.symbol_size) }
+    ensures aligned { OnOk result (IsAligned config.now) }
+{
+    if config.symbol_size() == 0 {
+        return Err(Error::SymbolSizeZero);
+    }
+    if config.symbol_alignment() == 0 {
+        return Err(Error::AlignmentZero);
+    }
+    if config.symbol_size() % u16::from(config.symbol_alignment()) != 0 {
+        return Err(Error::Misaligned);
+    }
+    Ok(())
+}
 
 /// The size of the sub-block that has this byte of a symbol, in bytes.
 pub(crate) fn size_at(config: &ObjectTransmissionInformation, byte: usize) -> usize
@@ -52,8 +76,7 @@ pub(crate) fn source_symbol(
     symbols: u32,
     e: u32,
 ) -> Result<Symbol, AllocError>
-    requires positive { 0 < config.now.alignment }
-    requires aligned { config.now.symbol_size % config.now.alignment ≡ 0 }
+    requires { IsAligned config.now }
     ensures { IfOk result (λ symbol. symbol ≡ symbol_of_block config.now symbols block.now e) }
 {
     let size = usize::from(config.symbol_size());
@@ -75,8 +98,7 @@ pub(crate) fn source_symbols(
     block: &[u8],
     symbols: u32,
 ) -> Result<Vec<Symbol>, AllocError>
-    requires positive { 0 < config.now.alignment }
-    requires aligned { config.now.symbol_size % config.now.alignment ≡ 0 }
+    requires { IsAligned config.now }
     ensures { IfOk result (λ v. v.items ≡ map (symbol_of_block config.now symbols block.now) (range_with_len 0 symbols)) }
 {
     let mut source = Vec::with_capacity(alloc, symbols as usize)?;
@@ -114,8 +136,7 @@ pub(crate) fn into_sub_blocks(
     symbols: u32,
     plain: Vec<u8>,
 ) -> Result<Vec<u8>, AllocError>
-    requires positive { 0 < config.now.alignment }
-    requires aligned { config.now.symbol_size % config.now.alignment ≡ 0 }
+    requires aligned { IsAligned config.now }
     requires long { length plain.items ≡ symbols * config.now.symbol_size }
     ensures long { IfOk result (λ block. length block.items ≡ symbols * config.now.symbol_size) }
     ensures each { IfOk result (λ block. (e : ℕ) → e < symbols → symbol_of_block config.now symbols block.items e ≡ plain_symbol config.now.symbol_size plain.items e) }

@@ -1,5 +1,5 @@
 //! The sum at the places of an internal symbol id.
-ghost use Rattle.std.specs.Prelude.{◌≡◌, ℕ, ◌≤◌, List, length, IfOk, IfErr};
+ghost use Rattle.std.specs.Prelude.{◌≡◌, ◌≤◌, length, IfOk};
 ghost use Rattle.rq_algebra.specs.Symbols.{IsSymbolColumn};
 ghost use Rattle.rq_bytes.specs.Slab.{symbol_in, symbols_in};
 ghost use Rattle.rq_standard.specs.Equations.{tuple_sum};

@@ -1,8 +1,9 @@
 //! The decoder of one source block.
-ghost use Rattle.std.specs.Prelude.{◌≡◌, ◌≢◌, ℕ, ◌+◌, ◌*◌, ◌%◌, ◌^◌, ◌<◌, ◌≤◌, true, [], ◌∷◌, ◌++◌, List, length, map, Result, Ok, Err, Some, None, IfSome, IfOk, IfErr, OnOk, OnErr, IsSome, not, if◌then◌else◌, ◌==◌, option_map, vec_items};
+ghost use Rattle.std.specs.Prelude.{◌≡◌, ℕ, ◌*◌, ◌^◌, ◌<◌, ◌≤◌, true, [], ◌∷◌, ◌++◌, length, map, Some, None, IfSome, IfOk, IfErr, OnOk, OnErr, IsSome, not, if◌then◌else◌, ◌==◌, option_map, vec_items};
 ghost use Rattle.std.specs.Option.{ForSome};
 ghost use Rattle.rq_bytes.specs.Refusals.{IsAnswer};
 ghost use Rattle.rq_bytes.specs.Slab.{slab_of};
+ghost use Rattle.rq_standard.specs.Configuration.{IsAligned};
 ghost use Rattle.rq_standard.specs.Cutting.{plain_symbol};
 ghost use Rattle.rq_standard.specs.Received.{or_later};
 ghost use Rattle.rq_standard.specs.TableRows.{IsChecked};
@@ -10,7 +11,7 @@ ghost use Rattle.raptorq.specs.Missing.{payload_of, has_payload, missing_count};
 
 use crate::decoder::known::{known_symbol_ids, known_symbol_values};
 use crate::solving::{homogeneous, solve};
-use crate::sub_blocks::{into_sub_blocks, size_at};
+use crate::sub_blocks::{check_symbols, into_sub_blocks, size_at};
 use crate::sums::encoding_symbol;
 use rq_base::base::{EncodingPacket, ObjectTransmissionInformation};
 use rq_bytes::error::Error;
@@ -36,8 +37,7 @@ pub struct SourceBlockDecoder {
     alloc: Global,
     pub ghost sized: { (e : ℕ) → ForSome (payload_of received e) (λ payload. length payload ≡ config.symbol_size) },
     pub ghost positive: { 0 < config.symbol_size },
-    pub ghost alignment_positive: { 0 < config.alignment },
-    pub ghost aligned: { config.symbol_size % config.alignment ≡ 0 },
+    pub ghost aligned: { IsAligned config },
     pub ghost checked: { IsChecked row },
     pub ghost fits: { symbols ≤ row.source_symbols },
     pub ghost few: { (e : ℕ) → has_payload received e ≡ true → e < 2 ^ 24 },
@@ -97,7 +97,7 @@ fn octet_symbols(alloc: Global, column: &[u8]) -> Result<SymbolSlab, Error>
 impl SourceBlockDecoder {
     ghost use Rattle.std.specs.Int.{div_ceil};
     ghost use Rattle.raptorq.specs.Difference.{octets_of_column};
-    ghost use Rattle.rq_standard.specs.Held.{Held, nothing_held, recorded, ShowsUndetermined, IsBlockWith, IsBlockAnswer};
+    ghost use Rattle.rq_standard.specs.Held.{nothing_held, recorded, ShowsUndetermined, IsBlockWith, IsBlockAnswer};
     ghost use Rattle.rq_standard.specs.TableRows.{greatest_size, intermediate_symbols, row_of};
     ghost use Rattle.raptorq.specs.Known.{SolvesBlock, IsHeldSolution, rebuilt_symbol};
     ghost use Rattle.raptorq.specs.Refused.{checked_block, block_refusal};
@@ -123,21 +123,30 @@ impl SourceBlockDecoder {
         ensures empty { IfOk result (λ d. let symbols = div_ceil block_length config.now.symbol_size in held_of d ≡ nothing_held config.now number (row_of table.now symbols) symbols) }
         ensures row { IfOk result (λ d. IsChecked (held_of d).row × ((held_of d).symbols ≤ (held_of d).row.source_symbols)) }
     {
-        if config.symbol_size() == 0 {
-            return Err(Error::SymbolSizeZero);
-        }
-        if config.symbol_alignment() == 0 {
-            return Err(Error::AlignmentZero);
-        }
-        if config.symbol_size() % u16::from(config.symbol_alignment()) != 0 {
-            return Err(Error::Misaligned);
-        }
+        check_symbols(config)?;
         let symbols = block_length.div_ceil(u64::from(config.symbol_size()));
         if symbols > u64::from(table.greatest()) {
             return Err(Error::BlockOverTable);
         }
-        let symbols = symbols as u32;
-        Ok(SourceBlockDecoder {
+        Ok(SourceBlockDecoder::of_symbols(alloc, table, number, config, symbols as u32))
+    }
+
+    /// The decoder of a block of so many source symbols that holds nothing yet.
+    pub(crate) fn of_symbols(
+        alloc: Global,
+        table: &SystematicTable,
+        number: u8,
+        config: &ObjectTransmissionInformation,
+        symbols: u32,
+    ) -> SourceBlockDecoder
+        requires positive { 0 < config.now.symbol_size }
+        requires aligned { IsAligned config.now }
+        requires in_table { symbols ≤ greatest_size table.now }
+        ensures empty { held_of result ≡ nothing_held config.now number (row_of table.now symbols) symbols }
+        ensures checked { IsChecked (held_of result).row }
+        ensures fits { (held_of result).symbols ≤ (held_of result).row.source_symbols }
+    {
+        SourceBlockDecoder {
             config: *config,
             number,
             row: table.row(symbols),
@@ -146,7 +155,7 @@ impl SourceBlockDecoder {
             missing: symbols,
             sparse_threshold: SPARSE_MATRIX_THRESHOLD,
             alloc,
-        })
+        }
     }
 
     /// From how many source symbols on a sparse matrix is used. What is held stays. All matrices

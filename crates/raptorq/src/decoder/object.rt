@@ -1,11 +1,9 @@
 //! The decoder of an object.
-ghost use Rattle.std.specs.Prelude.{◌≡◌, ◌≢◌, ◌↔◌, ℕ, ◌+◌, ◌*◌, ◌<◌, ◌≤◌, List, [], ◌∷◌, ◌++◌, length, Result, Ok, Err, Some, None, IfSome, IfOk, IfErr, OnOk, OnErr, ◌⊎◌, All, map, option_map, vec_items, is_some, IsSome};
-ghost use Rattle.std.specs.Int.{div_ceil};
+ghost use Rattle.std.specs.Prelude.{◌≡◌, ◌≢◌, ◌↔◌, ℕ, ◌*◌, ◌<◌, List, [], length, Ok, Some, None, IfSome, IfOk, IfErr, OnOk, OnErr, ◌⊎◌, All, map, option_map, vec_items, is_some, IsSome};
 ghost use Rattle.std.specs.List.{range_with_len, AllByRecursion};
 ghost use Rattle.rq_bytes.specs.Refusals.{IsAnswer, IsRefusal};
-ghost use Rattle.rq_standard.specs.Configuration.{IsAccepted, IsAligned, largest_block};
+ghost use Rattle.rq_standard.specs.Configuration.{IsAccepted, IsAligned, largest_block, total_symbols};
 ghost use Rattle.rq_standard.specs.Cutting.{block_symbols};
-ghost use Rattle.rq_standard.specs.Packet.{Packet};
 ghost use Rattle.rq_standard.specs.Differences.{IsOnlyObject};
 ghost use Rattle.rq_standard.specs.Encoded.{IsPacketOf, HasNonsingularRows};
 ghost use Rattle.rq_standard.specs.Standing.{IsObjectAnswer};
@@ -39,24 +37,22 @@ impl ObjectBlock {
         table: &SystematicTable,
         config: &ObjectTransmissionInformation,
         number: u8,
-    ) -> Result<ObjectBlock, Error>
+    ) -> ObjectBlock
         requires accepted { IsAccepted (greatest_size table.now) config.now }
         requires few { largest_block config.now < 65536 }
         requires number { number < config.now.source_blocks }
-        ensures held { IfOk result (λ b. held_of b.decoder ≡ new_held table.now config.now number) }
-        ensures answer { IfOk result (λ b. answer_of b ≡ new_answer config.now number) }
-        ensures shape { OnOk result (IsHeldOf table.now config.now number (new_held table.now config.now number)) }
-        ensures memory { IfErr result (λ e. e ≡ Error.OutOfMemory) }
+        ensures held { held_of result.decoder ≡ new_held table.now config.now number }
+        ensures answer { answer_of result ≡ new_answer config.now number }
+        ensures shape { IsHeldOf table.now config.now number (new_held table.now config.now number) }
     {
         let symbols = block_symbols(config, number);
-        let length = u64::from(symbols) * u64::from(config.symbol_size());
-        let decoder = SourceBlockDecoder::new(alloc, table, number, config, length)?;
+        let decoder = SourceBlockDecoder::of_symbols(alloc, table, number, config, symbols);
         let answer = if symbols == 0 {
             Some(Vec::new(alloc))
         } else {
             None
         };
-        Ok(ObjectBlock { decoder, answer })
+        ObjectBlock { decoder, answer }
     }
 
     /// Takes a packet of the block, and answers the block where that is determined. An answered
@@ -118,7 +114,7 @@ pub struct Decoder {
 
 impl Decoder {
     ghost use Rattle.rq_standard.specs.Differences.{AreUnansweredDetermined, IsDifference, MakesOthersFit};
-    ghost use Rattle.rq_standard.specs.Standing.{State, IsNewState, Adds, Stops, Stands, StandsForMore, CatchesUp, FallsBehind, AnswersObject, result_of};
+    ghost use Rattle.rq_standard.specs.Standing.{IsNewState, Adds, Stops, Stands, StandsForMore, CatchesUp, FallsBehind, AnswersObject, result_of};
     ghost use Rattle.raptorq.specs.Refused.{packet_refusal};
     ghost use Rattle.raptorq.specs.Objects.{state_of};
 
@@ -138,7 +134,7 @@ impl Decoder {
         config.check(table)?;
         let mut blocks = Vec::with_capacity(alloc, usize::from(config.source_blocks()))?;
         for number in 0..config.source_blocks() {
-            blocks.push(ObjectBlock::new(alloc, table, &config, number)?)?;
+            blocks.push(ObjectBlock::new(alloc, table, &config, number))?;
         }
         Ok(Decoder {
             config,
@@ -218,14 +214,20 @@ impl Decoder {
         Ok(Some(self.join()?))
     }
 
+    // The length of the blocks together, in bytes: that of the object and of the zeros behind it.
+    fn padded_length(&self) -> usize
+        ensures { let c = (state_of self.now).configuration in result ≡ total_symbols c * c.symbol_size }
+    {
+        let size = u64::from(self.config.symbol_size());
+        (self.config.transfer_length().div_ceil(size) * size) as usize
+    }
+
     // The blocks one after another, without the zeros behind the object.
     fn join(&self) -> Result<Vec<u8>, AllocError>
         requires { IsSome (result_of (state_of self.now)) }
         ensures { IfOk result (λ v. Some v.items ≡ result_of (state_of self.now)) }
     {
-        let size = u64::from(self.config.symbol_size());
-        let padded = self.config.transfer_length().div_ceil(size) * size;
-        let mut object = Vec::with_capacity(self.alloc, padded as usize)?;
+        let mut object = Vec::with_capacity(self.alloc, self.padded_length())?;
         for block in &self.blocks {
             if let Some(bytes) = &block.answer {
                 object.extend_from_slice(bytes.as_slice())?;
@@ -246,7 +248,7 @@ impl Decoder {
         ensures fits { IfOk result (λ r. IfSome (option_map vec_items r) (MakesOthersFit (state_of self.now))) }
         ensures memory { IfErr result (λ e. e ≡ Error.OutOfMemory) }
     {
-        let mut bytes = Vec::new(self.alloc);
+        let mut bytes = Vec::with_capacity(self.alloc, self.padded_length())?;
         let mut determined = true;
         for block in &self.blocks {
             let column = block.homogeneous()?;

@@ -1,8 +1,9 @@
 //! The encoder of one source block.
-ghost use Rattle.std.specs.Prelude.{◌≡◌, ◌⊎◌, ℕ, ◌+◌, ◌-◌, ◌/◌, ◌%◌, ◌^◌, ◌<◌, ◌≤◌, All, List, length, map, IfOk, IfErr, OnOk, OnErr};
+ghost use Rattle.std.specs.Prelude.{◌≡◌, ◌+◌, ◌-◌, ◌/◌, ◌^◌, ◌<◌, ◌≤◌, All, length, map, IfOk, IfErr, OnOk, OnErr};
 ghost use Rattle.std.specs.List.{range_with_len};
 ghost use Rattle.rq_bytes.specs.Refusals.{IsAnswer};
 ghost use Rattle.rq_bytes.specs.Slab.{symbol_in, symbols_in};
+ghost use Rattle.rq_standard.specs.Configuration.{IsAligned};
 ghost use Rattle.rq_standard.specs.Cutting.{symbol_of_block};
 ghost use Rattle.rq_standard.specs.Equations.{IsNonsingular, IsIntermediateColumn, IsEncodingSymbol};
 ghost use Rattle.rq_standard.specs.TableRows.{IsChecked, greatest_size, intermediate_symbols};
@@ -11,7 +12,7 @@ ghost use Rattle.raptorq.specs.Refused.{wanted_count, repair_refusal};
 use crate::encoder::cache::SourceBlockEncodingPlanCache;
 use crate::encoder::plan::SourceBlockEncodingPlan;
 use crate::ids::internal_symbol_id;
-use crate::sub_blocks::source_symbols;
+use crate::sub_blocks::{check_symbols, source_symbols};
 use crate::sums::encoding_symbol;
 use rq_base::base::{EncodingPacket, ObjectTransmissionInformation, PayloadId};
 use rq_bytes::error::Error;
@@ -38,7 +39,7 @@ pub struct SourceBlockEncoder {
 }
 
 impl SourceBlockEncoder {
-    ghost use Rattle.raptorq.specs.BlockEncoded.{block_encoded_of, IsBlockPacket, AreBlockPackets};
+    ghost use Rattle.raptorq.specs.BlockEncoded.{block_encoded_of, AreBlockPackets};
     ghost use Rattle.raptorq.specs.BlockData.{block_of, IsPlanFor, RefusesBlock, RefusesPlanned};
     ghost use Rattle.raptorq.specs.PlanCache.{used};
     ghost use Rattle.raptorq.specs.Plans.{plan_of};
@@ -115,8 +116,7 @@ impl SourceBlockEncoder {
         plan: &SourceBlockEncodingPlan,
     ) -> Result<SourceBlockEncoder, Error>
         requires positive { 0 < config.now.symbol_size }
-        requires alignment { 0 < config.now.alignment }
-        requires aligned { config.now.symbol_size % config.now.alignment ≡ 0 }
+        requires aligned { IsAligned config.now }
         ensures encoded { let count = (plan_of plan.now).count in IfOk result (λ b. block_encoded_of b ≡ record { number = number; row = (plan_of plan.now).row; size = config.now.symbol_size; source = map (symbol_of_block config.now count block.now) (range_with_len 0 count) }) }
         ensures memory { IfErr result (λ e. e ≡ Error.OutOfMemory) }
     {
@@ -226,20 +226,11 @@ fn source_symbol_count(
 ) -> Result<u16, Error>
     ensures wanted { result ≡ wanted_count (greatest_size table.now) config.now (length block.now) }
     ensures positive { OnOk result (0 < config.now.symbol_size) }
-    ensures alignment { OnOk result (0 < config.now.alignment) }
-    ensures aligned { OnOk result (config.now.symbol_size % config.now.alignment ≡ 0) }
+    ensures aligned { OnOk result (IsAligned config.now) }
     ensures count { IfOk result (λ count. count ≡ length block.now / config.now.symbol_size) }
     ensures few { IfOk result (λ count. count ≤ greatest_size table.now) }
 {
-    if config.symbol_size() == 0 {
-        return Err(Error::SymbolSizeZero);
-    }
-    if config.symbol_alignment() == 0 {
-        return Err(Error::AlignmentZero);
-    }
-    if config.symbol_size() % u16::from(config.symbol_alignment()) != 0 {
-        return Err(Error::Misaligned);
-    }
+    check_symbols(config)?;
     let size = usize::from(config.symbol_size());
     if block.len() % size != 0 {
         return Err(Error::WrongDataLength);

@@ -1,11 +1,7 @@
 //! Encoders by their parameters.
-ghost use Rattle.std.specs.Prelude.{◌≡◌, length, Ok, IfOk, IfErr};
-ghost use Rattle.rq_standard.specs.Encoded.{HasNonsingularRows};
-ghost use Rattle.rq_standard.specs.TableRows.{greatest_size};
-ghost use Rattle.rq_base.specs.Defaults.{wanted_parameters};
-ghost use Rattle.raptorq.specs.Building.{default_settings, RefusesBuilding};
-ghost use Rattle.raptorq.specs.Encoded.{encoded_of, IsEncoderOf};
-ghost use Rattle.raptorq.specs.Refused.{new_encoder};
+ghost use Rattle.std.specs.Prelude.{◌≡◌, length, IfOk, IfErr};
+ghost use Rattle.raptorq.specs.Building.{default_settings, RefusesBuilding, IsBuilt};
+ghost use Rattle.raptorq.specs.Encoded.{encoded_of};
 
 use crate::encoder::Encoder;
 use rq_base::base::ObjectTransmissionInformation;
@@ -67,10 +63,7 @@ impl EncoderBuilder {
         object: &[u8],
     ) -> Result<Encoder, Error>
         ensures refused { IfErr result (RefusesBuilding table.now self.now (length object.now)) }
-        ensures parameters { IfOk result (λ e. wanted_parameters table.now (length object.now) self.now.packet_size self.now.decoder_memory ≡ Ok (encoded_of e).configuration) }
-        ensures taken { IfOk result (λ e. new_encoder (greatest_size table.now) (encoded_of e).configuration (length object.now) ≡ Ok tt) }
-        ensures nonsingular { IfOk result (λ e. HasNonsingularRows table.now (encoded_of e).configuration) }
-        ensures encoder { IfOk result (λ e. IsEncoderOf table.now object.now (encoded_of e)) }
+        ensures built { IfOk result (λ e. IsBuilt table.now self.now object.now (encoded_of e)) }
     {
         let config = ObjectTransmissionInformation::generate_encoding_parameters(
             table,

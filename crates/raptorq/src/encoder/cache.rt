@@ -3,7 +3,7 @@ ghost use Rattle.std.specs.Prelude.{◌≡◌, ◌≤◌, ◌<◌, ◌==◌, [],
 ghost use Rattle.std.specs.VecDeque.{deque_len, deque_capacity};
 ghost use Rattle.std.specs.Borrow.{sem};
 ghost use Rattle.rq_bytes.specs.Refusals.{IsAnswer};
-ghost use Rattle.raptorq.specs.PlanCache.{holds, cached, used, IsPlanOver};
+ghost use Rattle.raptorq.specs.PlanCache.{holds, used, IsPlanOver};
 
 use crate::encoder::plan::SourceBlockEncodingPlan;
 use rq_bytes::error::Error;
@@ -37,7 +37,7 @@ impl Model for SourceBlockEncodingPlanCache {
 
 impl SourceBlockEncodingPlanCache {
     ghost use Rattle.raptorq.specs.CacheLends.{EndsUsed};
-    ghost use Rattle.raptorq.specs.Plans.{plan_of, plan_refusal, RefusesPlan};
+    ghost use Rattle.raptorq.specs.Plans.{plan_of, RefusesPlan};
     ghost use Rattle.raptorq.specs.Planned.{IsPlanOf};
     ghost use Rattle.rq_standard.specs.TableRows.{row_of};
 

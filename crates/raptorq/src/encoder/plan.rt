@@ -1,10 +1,10 @@
 //! Plans: what solves the equations of every block of one size.
-ghost use Rattle.std.specs.Prelude.{◌≡◌, ◌⊎◌, ℕ, ◌^◌, ◌<◌, ◌≤◌, All, List, length, map, None, Ok, ◌+◌, IfOk, IfErr, OnOk};
+ghost use Rattle.std.specs.Prelude.{◌≡◌, ◌⊎◌, ◌<◌, ◌≤◌, All, length, map, None, Ok, IfOk, IfErr, OnOk};
 ghost use Rattle.rq_algebra.specs.Operations.{AreAllowed};
 ghost use Rattle.rq_bytes.specs.Slab.{slab_of, symbol_in, symbols_in};
 ghost use Rattle.rq_bytes.specs.SymbolOps.{operation_of};
 ghost use Rattle.rq_standard.specs.Equations.{IsNonsingular, IsSingular, IsIntermediateColumn};
-ghost use Rattle.rq_standard.specs.TableRows.{IsChecked, greatest_size, row_of, intermediate_symbols};
+ghost use Rattle.rq_standard.specs.TableRows.{IsChecked, row_of, intermediate_symbols};
 ghost use Rattle.raptorq.specs.Allowed.{AreAllowed-prop};
 ghost use Rattle.raptorq.specs.Planned.{IsPlanOf, source_values};
 

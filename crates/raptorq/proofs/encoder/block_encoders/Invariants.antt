@@ -5,12 +5,14 @@ use Rattle.rq_standard.specs.Equations.{IsNonsingular}
 use Rattle.rq_standard.specs.Encoded.{block_row}
 use Rattle.raptorq.specs.BlockEncoded.{block_encoded_of, new_block_encoded}
 use Rattle.raptorq.specs.Plans.{plan_of}
+use Rattle.raptorq.proofs.EncodedBlocks.{from_block}
 use Rattle.raptorq.proofs.encoder.block_encoders.Given as goal
 
 -- the blocks so far
 abbrev pub invariant-loop-number : goal.invariant-loop-number
 invariant-loop-number l = record {
-  encoded : map block_encoded_of l.blocks.items ≡ map (new_block_encoded l.fn.table l.fn.config l.fn.object) (range_with_len 0 l.number);
+  rest : l.rest ≡ from_block l.fn.config l.fn.object l.number;
+  encoded : map block_encoded_of l.encoders.items ≡ map (new_block_encoded l.fn.table l.fn.config l.fn.object) (range_with_len 0 l.number);
   plan : (plan_of l.plan).row ≡ row_of l.fn.table (plan_of l.plan).count;
   nonsingular : (b : ℕ) → b < l.number → IsNonsingular (block_row l.fn.table l.fn.config b);
 }

@@ -4,23 +4,23 @@ use Rattle.raptorq.proofs.Interleaving.{reaches_none, reaches_more, width_within
 use Rattle.raptorq.proofs.sub_blocks.into_sub_blocks.Goals as goal
 
 pub returns-then-sub_blocks-le1-clause-each : goal.returns-then-sub_blocks-le1-clause-each
-returns-then-sub_blocks-le1-clause-each c = λ e below. symbol_of_block-plain c.args.config.now c.args.symbols c.args.plain.items e (record { one = omega (arith, c.if-sub_blocks-le1.true, c.sub_blocks.ensures); aligned = c.requires.aligned; alignment_positive = c.requires.positive }) c.requires.long below
+returns-then-sub_blocks-le1-clause-each c = λ e below. symbol_of_block-plain c.args.config.now c.args.symbols c.args.plain.items e (record { one = omega (arith, c.if-sub_blocks-le1.true, c.sub_blocks.ensures); aligned = c.requires.aligned.aligned; alignment_positive = c.requires.aligned.alignment_positive }) c.requires.long below
 
 pub loop-start-init : goal.loop-start-init
-loop-start-init c = record { at = reaches_none c.args.config.now c.requires.positive c.requires.aligned; so_far = parts_none c.args.config.now c.args.symbols c.args.plain.items c.in_ok-block.block.items c.in_ok-block.ensures.items }
+loop-start-init c = record { at = reaches_none c.args.config.now c.requires.aligned; so_far = parts_none c.args.config.now c.args.symbols c.args.plain.items c.in_ok-block.block.items c.in_ok-block.ensures.items }
 
 pub append_sub_block-requires-clause-within : goal.append_sub_block-requires-clause-within
 append_sub_block-requires-clause-within c =
-    let w = width_within c.args.config.now c.loop-start.start c.size_at-width.result c.from-size.result c.requires.positive c.requires.aligned c.loop-start.invariant.at c.loop-start-test.true (c.from-size.ensures ∙ c.symbol_size.ensures) c.size_at-width.ensures in w.1
+    let w = width_within c.args.config.now c.loop-start.start c.size_at-width.result c.from-size.result c.requires.aligned c.loop-start.invariant.at c.loop-start-test.true (c.from-size.ensures ∙ c.symbol_size.ensures) c.size_at-width.ensures in w.1
 
 pub overflow_add-start : goal.overflow_add-start
 overflow_add-start c =
-    let w = width_within c.args.config.now c.loop-start.start c.size_at-width.result c.from-size.result c.requires.positive c.requires.aligned c.loop-start.invariant.at c.loop-start-test.true (c.from-size.ensures ∙ c.symbol_size.ensures) c.size_at-width.ensures in
+    let w = width_within c.args.config.now c.loop-start.start c.size_at-width.result c.from-size.result c.requires.aligned c.loop-start.invariant.at c.loop-start-test.true (c.from-size.ensures ∙ c.symbol_size.ensures) c.size_at-width.ensures in
     omega (arith, w.1)
 
 pub loop-start-smaller : goal.loop-start-smaller
 loop-start-smaller c =
-    let w = width_within c.args.config.now c.loop-start.start c.size_at-width.result c.from-size.result c.requires.positive c.requires.aligned c.loop-start.invariant.at c.loop-start-test.true (c.from-size.ensures ∙ c.symbol_size.ensures) c.size_at-width.ensures in
+    let w = width_within c.args.config.now c.loop-start.start c.size_at-width.result c.from-size.result c.requires.aligned c.loop-start.invariant.at c.loop-start-test.true (c.from-size.ensures ∙ c.symbol_size.ensures) c.size_at-width.ensures in
     omega (arith, w.0, w.1)
 
 pub loop-start-preserved : goal.loop-start-preserved
@@ -29,9 +29,9 @@ loop-start-preserved c =
     let size : c.from-size.result ≡ k.symbol_size = c.from-size.ensures ∙ c.symbol_size.ensures in
     let below : c.loop-start.start < k.symbol_size = omega (arith, c.loop-start-test.true, size) in
     let at = c.loop-start.invariant.at in record {
-      at = reaches_more k c.loop-start.start c.size_at-width.result c.requires.positive c.requires.aligned at below c.size_at-width.ensures;
+      at = reaches_more k c.loop-start.start c.size_at-width.result c.requires.aligned at below c.size_at-width.ensures;
       so_far = parts_more k c.args.symbols c.loop-start.start c.size_at-width.result c.from-size.result c.args.plain.items c.as_slice.result.now c.loop-start.block.items c.append_sub_block.new.block.items
-          c.requires.positive c.requires.aligned at below c.size_at-width.ensures size c.as_slice.ensures.value c.requires.long c.loop-start.invariant.so_far c.in_ok-append_sub_block.ensures;
+          c.requires.aligned at below c.size_at-width.ensures size c.as_slice.ensures.value c.requires.long c.loop-start.invariant.so_far c.in_ok-append_sub_block.ensures;
     }
 
 pub returns-clause-long : goal.returns-clause-long

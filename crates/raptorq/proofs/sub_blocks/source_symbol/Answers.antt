@@ -7,46 +7,46 @@ use Rattle.raptorq.proofs.Interleaving.{reaches_none, reaches_more, symbol_more,
 use Rattle.raptorq.proofs.sub_blocks.source_symbol.Goals as goal
 
 pub loop-start-init : goal.loop-start-init
-loop-start-init c = record { at = reaches_none c.args.config.now c.requires.positive c.requires.aligned; so_far = c.in_ok-symbol.ensures.items }
+loop-start-init c = record { at = reaches_none c.args.config.now c.requires; so_far = c.in_ok-symbol.ensures.items }
 
 pub overflow_mul-place-in-loop-start : goal.overflow_mul-place-in-loop-start
 overflow_mul-place-in-loop-start c =
     let k = c.args.config.now in
-    let w = width_within k c.loop-start.start c.size_at-width.result c.from-size.result c.requires.positive c.requires.aligned c.loop-start.invariant.at c.loop-start-test.true (c.from-size.ensures ∙ c.symbol_size.ensures) c.size_at-width.ensures in
+    let w = width_within k c.loop-start.start c.size_at-width.result c.from-size.result c.requires c.loop-start.invariant.at c.loop-start-test.true (c.from-size.ensures ∙ c.symbol_size.ensures) c.size_at-width.ensures in
     let fits = place_fits c.loop-start.start c.size_at-width.result c.args.symbols c.args.e c.from-size.result w.1 (omega (arith, c.from-size.ensures, c.symbol_size.type_inv)) c.ranges.symbols.fits c.ranges.e.fits in
     omega (arith, fits)
 
 pub overflow_add-place : goal.overflow_add-place
 overflow_add-place c =
     let k = c.args.config.now in
-    let w = width_within k c.loop-start.start c.size_at-width.result c.from-size.result c.requires.positive c.requires.aligned c.loop-start.invariant.at c.loop-start-test.true (c.from-size.ensures ∙ c.symbol_size.ensures) c.size_at-width.ensures in
+    let w = width_within k c.loop-start.start c.size_at-width.result c.from-size.result c.requires c.loop-start.invariant.at c.loop-start-test.true (c.from-size.ensures ∙ c.symbol_size.ensures) c.size_at-width.ensures in
     let fits = place_fits c.loop-start.start c.size_at-width.result c.args.symbols c.args.e c.from-size.result w.1 (omega (arith, c.from-size.ensures, c.symbol_size.type_inv)) c.ranges.symbols.fits c.ranges.e.fits in
     omega (arith, fits)
 
 pub append_padded-requires-clause-place : goal.append_padded-requires-clause-place
 append_padded-requires-clause-place c =
     let k = c.args.config.now in
-    let w = width_within k c.loop-start.start c.size_at-width.result c.from-size.result c.requires.positive c.requires.aligned c.loop-start.invariant.at c.loop-start-test.true (c.from-size.ensures ∙ c.symbol_size.ensures) c.size_at-width.ensures in
+    let w = width_within k c.loop-start.start c.size_at-width.result c.from-size.result c.requires c.loop-start.invariant.at c.loop-start-test.true (c.from-size.ensures ∙ c.symbol_size.ensures) c.size_at-width.ensures in
     let fits = place_fits c.loop-start.start c.size_at-width.result c.args.symbols c.args.e c.from-size.result w.1 (omega (arith, c.from-size.ensures, c.symbol_size.type_inv)) c.ranges.symbols.fits c.ranges.e.fits in
     omega (arith, fits)
 
 pub append_padded-requires-clause-room : goal.append_padded-requires-clause-room
 append_padded-requires-clause-room c =
     let k = c.args.config.now in
-    let w = width_within k c.loop-start.start c.size_at-width.result c.from-size.result c.requires.positive c.requires.aligned c.loop-start.invariant.at c.loop-start-test.true (c.from-size.ensures ∙ c.symbol_size.ensures) c.size_at-width.ensures in
+    let w = width_within k c.loop-start.start c.size_at-width.result c.from-size.result c.requires c.loop-start.invariant.at c.loop-start-test.true (c.from-size.ensures ∙ c.symbol_size.ensures) c.size_at-width.ensures in
     let long : vec_len c.loop-start.symbol ≡ c.loop-start.start = c.loop-start.symbol.ok.0 ∙ ap length c.loop-start.invariant.so_far ∙ length-map-range_with_len _ 0 c.loop-start.start in
     omega (arith, long, w.1, c.from-size.ensures, c.symbol_size.type_inv)
 
 pub overflow_add-start : goal.overflow_add-start
 overflow_add-start c =
     let k = c.args.config.now in
-    let w = width_within k c.loop-start.start c.size_at-width.result c.from-size.result c.requires.positive c.requires.aligned c.loop-start.invariant.at c.loop-start-test.true (c.from-size.ensures ∙ c.symbol_size.ensures) c.size_at-width.ensures in
+    let w = width_within k c.loop-start.start c.size_at-width.result c.from-size.result c.requires c.loop-start.invariant.at c.loop-start-test.true (c.from-size.ensures ∙ c.symbol_size.ensures) c.size_at-width.ensures in
     omega (arith, w.1)
 
 pub loop-start-smaller : goal.loop-start-smaller
 loop-start-smaller c =
     let k = c.args.config.now in
-    let w = width_within k c.loop-start.start c.size_at-width.result c.from-size.result c.requires.positive c.requires.aligned c.loop-start.invariant.at c.loop-start-test.true (c.from-size.ensures ∙ c.symbol_size.ensures) c.size_at-width.ensures in
+    let w = width_within k c.loop-start.start c.size_at-width.result c.from-size.result c.requires c.loop-start.invariant.at c.loop-start-test.true (c.from-size.ensures ∙ c.symbol_size.ensures) c.size_at-width.ensures in
     omega (arith, w.0, w.1)
 
 pub loop-start-preserved : goal.loop-start-preserved
@@ -55,9 +55,9 @@ loop-start-preserved c =
     let size : c.from-size.result ≡ k.symbol_size = c.from-size.ensures ∙ c.symbol_size.ensures in
     let below : c.loop-start.start < k.symbol_size = omega (arith, c.loop-start-test.true, size) in
     let at = c.loop-start.invariant.at in record {
-      at = reaches_more k c.loop-start.start c.size_at-width.result c.requires.positive c.requires.aligned at below c.size_at-width.ensures;
+      at = reaches_more k c.loop-start.start c.size_at-width.result c.requires at below c.size_at-width.ensures;
       so_far = symbol_more k c.args.symbols c.args.e c.loop-start.start c.size_at-width.result (c.loop-start.start * c.args.symbols + c.size_at-width.result * c.args.e) c.args.block.now c.loop-start.symbol.items c.append_padded.new.symbol.items
-          c.requires.positive c.requires.aligned at below c.size_at-width.ensures refl c.loop-start.invariant.so_far c.in_ok-append_padded.ensures;
+          c.requires at below c.size_at-width.ensures refl c.loop-start.invariant.so_far c.in_ok-append_padded.ensures;
     }
 
 pub returns : goal.returns

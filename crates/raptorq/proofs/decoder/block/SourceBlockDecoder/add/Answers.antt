@@ -9,7 +9,6 @@ pub invariant_of-self : goal.invariant_of-self
 invariant_of-self c = record {
   sized = λ e x is. c.args.self.now.sized e x (sym (c.in_err-kept.ensures.err e) ∙ is);
   positive = c.args.self.now.positive;
-  alignment_positive = c.args.self.now.alignment_positive;
   aligned = c.args.self.now.aligned;
   checked = c.args.self.now.checked;
   fits = c.args.self.now.fits;
@@ -26,7 +25,6 @@ invariant_of-self-2 c =
     record {
       sized = sized-more (payload_of c.args.self.now.received) (payload_of c.keep_first.new.received) c.encoding_symbol_id-esi.result c.split-id.result.1.items c.args.self.now.config.symbol_size c.args.self.now.sized long c.in_ok-kept.ensures.ok;
       positive = c.args.self.now.positive;
-      alignment_positive = c.args.self.now.alignment_positive;
       aligned = c.args.self.now.aligned;
       checked = c.args.self.now.checked;
       fits = c.args.self.now.fits;

@@ -1,6 +1,5 @@
 use Rattle.std.proofs.Common.{◌≡◌, ℕ, ◌*◌, ◌<◌, length, get_or, set, replicate, ap, ◌∙◌, arith}
 use Rattle.rq_algebra.specs.Systems.{at}
-use Rattle.rq_standard.specs.Configuration.{IsAligned}
 use Rattle.rq_standard.specs.Differences.{plain_sum}
 use Rattle.rq_standard.proofs.FirstOctets.{first_octets_below, all_octets, length-octets_below, no_octets, next_place, octet_written}
 use Rattle.raptorq.proofs.OctetSymbols.{octet_column, octet_sum}
@@ -22,19 +21,17 @@ index-requires c =
 pub overflow_mul-e : goal.overflow_mul-e
 overflow_mul-e c =
     let s = c.args.self.now in
-    let aligned : IsAligned s.config = record { alignment_positive = s.alignment_positive; aligned = s.aligned } in
     let below : c.loop-e.e < s.symbols = omega (arith, c.loop-e-test.true, c.loop-e.auto.e-end) in
     let octet = plain_sum s.row (at c.args.column.now) in
-    let place = next_place s.config s.symbols octet s.positive aligned c.loop-e.e below in
+    let place = next_place s.config s.symbols octet s.positive s.aligned c.loop-e.e below in
     record { fits = omega (arith, place, ap (λ n. c.loop-e.e * n) c.size_at-width.ensures, c.loop-e.block.ok.0, c.loop-e.block.small, ap length c.loop-e.invariant, length-octets_below s.config s.symbols octet c.loop-e.e) }
 
 pub index_mut-requires : goal.index_mut-requires
 index_mut-requires c =
     let s = c.args.self.now in
     let octet = plain_sum s.row (at c.args.column.now) in
-    let aligned : IsAligned s.config = record { alignment_positive = s.alignment_positive; aligned = s.aligned } in
     let below : c.loop-e.e < s.symbols = omega (arith, c.loop-e-test.true, c.loop-e.auto.e-end) in
-    let place = next_place s.config s.symbols octet s.positive aligned c.loop-e.e below in
+    let place = next_place s.config s.symbols octet s.positive s.aligned c.loop-e.e below in
     omega (arith, place, ap (λ n. c.loop-e.e * n) c.size_at-width.ensures, c.loop-e.block.ok.0, ap length c.loop-e.invariant, length-octets_below s.config s.symbols octet c.loop-e.e)
 
 pub loop-e-preserved : goal.loop-e-preserved
@@ -42,12 +39,11 @@ loop-e-preserved c =
     let s = c.args.self.now in
     let octet = plain_sum s.row (at c.args.column.now) in
     let e = c.loop-e.e in
-    let aligned : IsAligned s.config = record { alignment_positive = s.alignment_positive; aligned = s.aligned } in
     let below : e < s.symbols = omega (arith, c.loop-e-test.true, c.loop-e.auto.e-end) in
     let sum = c.in_ok-octet.ensures.sum ∙ octet_sum s.row c.args.column.now c.in_ok-octets.octets s.checked c.requires (λ k l. omega (arith, c.type_inv.column k)) c.in_ok-octets.ensures.slab e in
     let read : c.index.result.now ≡ octet e = c.index.ensures ∙ ap (λ xs. get_or xs 0 c.index.result.now) sum in
     ap (λ xs. set xs (e * c.size_at-width.result) c.index.result.now) c.loop-e.invariant ∙ ap (λ n. set (first_octets_below s.config s.symbols octet e) (e * n) c.index.result.now) c.size_at-width.ensures
-    ∙ octet_written s.config s.symbols octet s.positive aligned e below c.index.result.now read
+    ∙ octet_written s.config s.symbols octet s.positive s.aligned e below c.index.result.now read
 
 pub returns-clause-block : goal.returns-clause-block
 returns-clause-block c =

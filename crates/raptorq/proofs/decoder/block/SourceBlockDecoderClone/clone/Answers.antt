@@ -12,7 +12,6 @@ invariant_of-result c =
     record {
       sized = λ e x is. d.sized e x (sym (same e) ∙ is);
       positive = d.positive;
-      alignment_positive = d.alignment_positive;
       aligned = d.aligned;
       checked = d.checked;
       fits = d.fits;

@@ -31,7 +31,7 @@ told_of true (Some v) is = absurd (cc is)
 told_of false (Some v) is = refl
 
 pub loop-block-init : goal.loop-block-init
-loop-block-init c = nothing_found c.args.self.now.config c.args.self.now.blocks.items c.new-bytes.result.items c.new-bytes.ensures.items
+loop-block-init c = nothing_found c.args.self.now.config c.args.self.now.blocks.items c.in_ok-bytes.bytes.items c.in_ok-bytes.ensures.items
 
 pub loop-block-preserved : goal.loop-block-preserved
 loop-block-preserved c =

@@ -27,4 +27,4 @@ returns c =
     let k = c.args.self.now.config in
     let all : c.loop-block.block-index ≡ k.source_blocks = omega (arith, c.loop-block-test.false, c.loop-block.auto.block-index-end, ap length c.deref-block-items.ensures.value, length-numbered number_of k.source_blocks items c.args.self.now.numbered) in
     let joined_all : Some c.loop-block.object.items ≡ joined k.source_blocks (answer_at items) = c.loop-block.invariant ∙ ap (λ n. joined n (answer_at items)) all in
-    ap (λ xs. Some xs) (c.truncate.ensures.items ∙ ap (λ n. take n c.loop-block.object.items) c.transfer_length-2.ensures.value) ∙ ap (option_map (take k.transfer_length)) joined_all
+    ap (λ xs. Some xs) (c.truncate.ensures.items ∙ ap (λ n. take n c.loop-block.object.items) c.transfer_length.ensures.value) ∙ ap (option_map (take k.transfer_length)) joined_all

@@ -16,9 +16,9 @@ loop-number-preserved c =
     let n = c.loop-number.number in
     let kept = c.loop-number.invariant in
     record {
-      held = mapped_more (λ b. held_of b.decoder) (new_held table k) n c.loop-number.blocks.items c.push.new.self.items c.in_ok-new.field-0 kept.held c.in_ok-new.ensures.held c.in_ok-push.ensures.items;
-      answers = mapped_more answer_of (new_answer k) n c.loop-number.blocks.items c.push.new.self.items c.in_ok-new.field-0 kept.answers c.in_ok-new.ensures.answer c.in_ok-push.ensures.items;
-      shape = below_more (λ b. IsHeldOf table k b (new_held table k b)) n kept.shape c.in_ok-new.ensures.shape;
+      held = mapped_more (λ b. held_of b.decoder) (new_held table k) n c.loop-number.blocks.items c.push.new.self.items c.new.result kept.held c.new.ensures.held c.in_ok-push.ensures.items;
+      answers = mapped_more answer_of (new_answer k) n c.loop-number.blocks.items c.push.new.self.items c.new.result kept.answers c.new.ensures.answer c.in_ok-push.ensures.items;
+      shape = below_more (λ b. IsHeldOf table k b (new_held table k b)) n kept.shape c.new.ensures.shape;
     }
 
 pub invariant_of-result : goal.invariant_of-result

@@ -1,4 +1,4 @@
-use Rattle.std.proofs.Common.{◌≡◌, ◌<◌, length, get_or, set, sym, ap, ◌∙◌, subst, arith}
+use Rattle.std.proofs.Common.{◌≡◌, ◌<◌, length, set, sym, ap, ◌∙◌, subst, arith}
 use Rattle.std.specs.Prelude.{Result, Ok, Err, OnErr, IfErr}
 use Rattle.std.proofs.lemmas.List.Elements.{All-set}
 use Rattle.std.proofs.lemmas.Result.{on_ok_weaker}
@@ -8,7 +8,7 @@ use Rattle.rq_standard.specs.Cutting.{block_symbols}
 use Rattle.rq_standard.specs.Standing.{Adds, Stops}
 use Rattle.raptorq.specs.Blocks.{held_of}
 use Rattle.raptorq.proofs.Numbered.{length-numbered, number_at}
-use Rattle.raptorq.proofs.ObjectBlocks.{state, number_of, block_takes, IsCut, adds_at, stops_at}
+use Rattle.raptorq.proofs.ObjectBlocks.{state, number_of, block_of_packet, block_takes, IsCut, adds_at, stops_at}
 use Rattle.raptorq.proofs.decoder.object.Decoder.take.Goals as goal
 
 stops_of : {X E P Q : Type 0} (m : E) (r : Result X E) → (P → Q) → OnErr r P → IfErr r (λ e. e ≡ m → Q)
@@ -30,12 +30,9 @@ take-requires c =
     let s = c.args.self.now in
     let items = s.blocks.items in
     let p = c.args.packet in
-    let here : c.from-2.result ≡ p.id.block = c.from-2.ensures ∙ c.source_block_number-number.ensures ∙ ap (λ i. i.block) c.payload_id.ensures in
-    let count = length-numbered number_of s.config.source_blocks items s.numbered in
-    let below : p.id.block < length items = omega (arith, sym here, c.from-2.ensures, c.if-number-source_blocks.false, c.source_blocks.ensures, count) in
     let x = c.index_mut.result.now in
-    let is : x ≡ get_or items p.id.block x = c.index_mut.ensures.value ∙ ap (λ i. get_or items i x) here in
-    block_takes s.config (held_of x.decoder) p (ap (λ b. (held_of b.decoder).configuration) is ∙ s.same p.id.block x below) (number_at number_of s.config.source_blocks items s.numbered p.id.block x (omega (arith, below, count)) is)
+    let at = block_of_packet items p s.config.source_blocks c.from-2.result x s.numbered (c.from-2.ensures ∙ c.source_block_number-number.ensures ∙ ap (λ i. i.block) c.payload_id.ensures) (omega (arith, c.from-2.ensures, c.if-number-source_blocks.false, c.source_blocks.ensures)) c.index_mut.ensures.value in
+    block_takes s.config (held_of x.decoder) p (ap (λ b. (held_of b.decoder).configuration) at.is ∙ s.same p.id.block x at.below) (number_at number_of s.config.source_blocks items s.numbered p.id.block x (omega (arith, at.here, c.from-2.ensures, c.if-number-source_blocks.false, c.source_blocks.ensures)) at.is)
     (sym (ap length c.data.ensures) ∙ c.if-data-from.false ∙ c.from.ensures ∙ c.symbol_size.ensures)
 
 pub invariant_of-self : goal.invariant_of-self
@@ -43,19 +40,16 @@ invariant_of-self c =
     let s = c.args.self.now in
     let items = s.blocks.items in
     let p = c.args.packet in
-    let here : c.from-2.result ≡ p.id.block = c.from-2.ensures ∙ c.source_block_number-number.ensures ∙ ap (λ i. i.block) c.payload_id.ensures in
-    let count = length-numbered number_of s.config.source_blocks items s.numbered in
-    let below : p.id.block < length items = omega (arith, sym here, c.from-2.ensures, c.if-number-source_blocks.false, c.source_blocks.ensures, count) in
     let x = c.index_mut.result.now in
-    let is : x ≡ get_or items p.id.block x = c.index_mut.ensures.value ∙ ap (λ i. get_or items i x) here in
+    let at = block_of_packet items p s.config.source_blocks c.from-2.result x s.numbered (c.from-2.ensures ∙ c.source_block_number-number.ensures ∙ ap (λ i. i.block) c.payload_id.ensures) (omega (arith, c.from-2.ensures, c.if-number-source_blocks.false, c.source_blocks.ensures)) c.index_mut.ensures.value in
     let y = c.take.new.self in
     record {
       positive = s.positive;
       aligned = s.aligned;
       some = s.some;
       numbered = map-set_same number_of items c.from-2.result y x (c.take.ensures.number ∙ ap number_of c.index_mut.ensures.value) ∙ s.numbered;
-      same = All-set (λ b. (held_of b.decoder).configuration ≡ s.config) items c.from-2.result y (c.take.ensures.configuration ∙ ap (λ b. (held_of b.decoder).configuration) is ∙ s.same p.id.block x below) s.same;
-      cut = All-set (λ b. IsCut s.config (held_of b.decoder)) items c.from-2.result y (c.take.ensures.symbols ∙ ap (λ b. (held_of b.decoder).symbols) is ∙ s.cut p.id.block x below ∙ ap (λ b. block_symbols s.config (held_of b.decoder).number) (sym is) ∙ ap (block_symbols s.config) (sym c.take.ensures.number)) s.cut;
+      same = All-set (λ b. (held_of b.decoder).configuration ≡ s.config) items c.from-2.result y (c.take.ensures.configuration ∙ ap (λ b. (held_of b.decoder).configuration) at.is ∙ s.same p.id.block x at.below) s.same;
+      cut = All-set (λ b. IsCut s.config (held_of b.decoder)) items c.from-2.result y (c.take.ensures.symbols ∙ ap (λ b. (held_of b.decoder).symbols) at.is ∙ s.cut p.id.block x at.below ∙ ap (λ b. block_symbols s.config (held_of b.decoder).number) (sym at.is) ∙ ap (block_symbols s.config) (sym c.take.ensures.number)) s.cut;
     }
 
 pub returns-clause-adds : goal.returns-clause-adds
@@ -63,23 +57,17 @@ returns-clause-adds c =
     let s = c.args.self.now in
     let items = s.blocks.items in
     let p = c.args.packet in
-    let here : c.from-2.result ≡ p.id.block = c.from-2.ensures ∙ c.source_block_number-number.ensures ∙ ap (λ i. i.block) c.payload_id.ensures in
-    let count = length-numbered number_of s.config.source_blocks items s.numbered in
-    let below : p.id.block < length items = omega (arith, sym here, c.from-2.ensures, c.if-number-source_blocks.false, c.source_blocks.ensures, count) in
     let x = c.index_mut.result.now in
-    let is : x ≡ get_or items p.id.block x = c.index_mut.ensures.value ∙ ap (λ i. get_or items i x) here in
+    let at = block_of_packet items p s.config.source_blocks c.from-2.result x s.numbered (c.from-2.ensures ∙ c.source_block_number-number.ensures ∙ ap (λ i. i.block) c.payload_id.ensures) (omega (arith, c.from-2.ensures, c.if-number-source_blocks.false, c.source_blocks.ensures)) c.index_mut.ensures.value in
     let y = c.take.new.self in
-    on_ok_weaker c.take.result (λ add. subst (λ i. Adds (state s.config items) p (state s.config (set items i y))) (sym here) (adds_at s.config items p x y below is add)) c.take.ensures.adds
+    on_ok_weaker c.take.result (λ add. subst (λ i. Adds (state s.config items) p (state s.config (set items i y))) (sym at.here) (adds_at s.config items p x y at.below at.is add)) c.take.ensures.adds
 
 pub returns-clause-stops : goal.returns-clause-stops
 returns-clause-stops c =
     let s = c.args.self.now in
     let items = s.blocks.items in
     let p = c.args.packet in
-    let here : c.from-2.result ≡ p.id.block = c.from-2.ensures ∙ c.source_block_number-number.ensures ∙ ap (λ i. i.block) c.payload_id.ensures in
-    let count = length-numbered number_of s.config.source_blocks items s.numbered in
-    let below : p.id.block < length items = omega (arith, sym here, c.from-2.ensures, c.if-number-source_blocks.false, c.source_blocks.ensures, count) in
     let x = c.index_mut.result.now in
-    let is : x ≡ get_or items p.id.block x = c.index_mut.ensures.value ∙ ap (λ i. get_or items i x) here in
+    let at = block_of_packet items p s.config.source_blocks c.from-2.result x s.numbered (c.from-2.ensures ∙ c.source_block_number-number.ensures ∙ ap (λ i. i.block) c.payload_id.ensures) (omega (arith, c.from-2.ensures, c.if-number-source_blocks.false, c.source_blocks.ensures)) c.index_mut.ensures.value in
     let y = c.take.new.self in
-    stops_of OutOfMemory c.take.result (λ stop. subst (λ i. Stops (state s.config items) p (state s.config (set items i y))) (sym here) (stops_at s.config items p x y below is stop)) c.take.ensures.stops
+    stops_of OutOfMemory c.take.result (λ stop. subst (λ i. Stops (state s.config items) p (state s.config (set items i y))) (sym at.here) (stops_at s.config items p x y at.below at.is stop)) c.take.ensures.stops
