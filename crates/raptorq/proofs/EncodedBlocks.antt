@@ -12,8 +12,8 @@ use Rattle.rq_standard.specs.Configuration.{Configuration, IsAccepted}
 use Rattle.rq_standard.specs.Cutting.{block_symbols, symbols_before, place_in_block, block_bytes, symbol_of_block}
 use Rattle.rq_standard.specs.declared.row.Row.{Row}
 use Rattle.rq_standard.specs.TableRows.{greatest_size, row_of}
-use Rattle.rq_standard.specs.Equations.{IsEncodingSymbol, IsSingular}
-use Rattle.rq_standard.specs.Encoded.{block_row, block_source, IsPacketOf, HasNonsingularRows, first_ids, AreEncoded}
+use Rattle.rq_standard.specs.Headline.{IsEncodingSymbol, IsSingular, block_row, block_source, IsPacketOf, HasNonsingularRows}
+use Rattle.rq_standard.specs.ObjectPackets.{first_ids, AreEncoded}
 use Rattle.rq_standard.proofs.PlainCut.{length-block_bytes}
 use Rattle.rq_standard.proofs.Standing.{length-block_source}
 use Rattle.rq_standard.proofs.BlockCuts.{block_symbols_few, symbols_before-first, symbols_before-next}

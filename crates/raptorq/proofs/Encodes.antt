@@ -10,11 +10,12 @@ use Rattle.rq_standard.specs.Packet.{SymbolId, Packet}
 use Rattle.rq_base.specs.Refused.{new_id}
 use Rattle.rq_standard.specs.declared.row.Row.{Row}
 use Rattle.rq_standard.specs.TableRows.{IsChecked}
-use Rattle.rq_standard.specs.Equations.{zero_symbol, tuple_sum, IsIntermediateColumn, IsEncodingSymbol}
+use Rattle.rq_standard.specs.Equations.{zero_symbol, tuple_sum}
 use Rattle.rq_standard.proofs.Columns.{source_sum}
 use Rattle.rq_standard.proofs.Standing.{push-all}
 use Rattle.raptorq.specs.BlockEncoded.{BlockEncoded, IsBlockPacket, AreBlockPackets}
 use Rattle.raptorq.proofs.HeldEquations.{internal_below}
+use Rattle.rq_standard.specs.Headline.{IsIntermediateColumn, IsEncodingSymbol}
 
 abbrev made : SymbolId → Result SymbolId Error
 made i = Ok i

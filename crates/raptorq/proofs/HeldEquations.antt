@@ -15,9 +15,9 @@ use Rattle.rq_algebra.proofs.Stacks.{stacked_above, stacked_below}
 use Rattle.rq_standard.specs.declared.row.Row.{Row}
 use Rattle.rq_standard.specs.OctetField.{octets}
 use Rattle.rq_standard.specs.TableRows.{intermediate_symbols, IsChecked}
-use Rattle.rq_standard.specs.Equations.{fixed_equations, symbol_coefficient, equations, equation_count, zero_symbol, internal_id, tuple_sum, AreDetermining}
-use Rattle.rq_standard.specs.IdLists.{IsListOf}
-use Rattle.rq_standard.specs.Determined.{known_ids, DetermineBlock}
+use Rattle.rq_standard.specs.Equations.{fixed_equations, symbol_coefficient, equations, equation_count, zero_symbol, internal_id, tuple_sum}
+use Rattle.rq_standard.specs.IdLists.{IsListOf, HasDeterminedRows}
+use Rattle.rq_standard.specs.Headline.{known_ids, DetermineBlock}
 use Rattle.rq_standard.specs.Held.{Held, holds, SolvesHeld, AreHeldDetermining}
 use Rattle.rq_standard.proofs.Known.{known_source, known_padding, known_repair, range_at, determined_by, determined_list, block_same, few_not_determining}
 use Rattle.rq_standard.proofs.Columns.{sum_at}
@@ -206,7 +206,7 @@ module _ (h : Held) (m : Payloads) (fits : h.symbols ≤ h.row.source_symbols) (
       }
 
   -- where it finds nothing, the ids don't determine the block
-  pub not_held : (AreDetermining h.row (known_list h.row h.symbols m.entries) → ⊥) → AreHeldDetermining h → ⊥
+  pub not_held : (HasDeterminedRows h.row (known_list h.row h.symbols m.entries) → ⊥) → AreHeldDetermining h → ⊥
   not_held none d = none (determined_list h.row (known_ids h.row h.symbols (has_payload m)) (known_list h.row h.symbols m.entries) (known_listed h.row h.symbols h.configuration.symbol_size m fits ordered) (block_same h.row h.symbols (holds h) (has_payload m) (λ e. ap is_some (same e)) d))
 
   pub too_few : (h.row.source_symbols - h.symbols) + length m.entries < h.row.source_symbols → AreHeldDetermining h → ⊥
@@ -215,7 +215,7 @@ module _ (h : Held) (m : Payloads) (fits : h.symbols ≤ h.row.source_symbols) (
   -- an answer of a solver over them
   pub solves_block : (size : ℕ) (ids : List ℕ) (given : Slab) (answer : Option Slab) → size ≡ h.configuration.symbol_size → ids ≡ known_list h.row h.symbols m.entries → given ≡ slab_of size (known_values h.row h.symbols size m.entries)
       → Solves h.row ids given.symbol_size given.values answer → SolvesBlock h answer
-  solves_block size ids given None is listed values none = not_held (subst (λ l. AreDetermining h.row l → ⊥) listed none)
+  solves_block size ids given None is listed values none = not_held (subst (λ l. HasDeterminedRows h.row l → ⊥) listed none)
   solves_block size ids given (Some slab) is listed values some =
       held_solution slab (subst (λ n. IsSolution h.row (known_list h.row h.symbols m.entries) n (known_values h.row h.symbols n m.entries) slab) is
       (subst (λ l. IsSolution h.row l size (known_values h.row h.symbols size m.entries) slab) listed (subst (λ (g : Slab). IsSolution h.row ids g.symbol_size g.values slab) values some)))

@@ -17,10 +17,11 @@ use Rattle.rq_solver.proofs.SolutionLaws.{found_places}
 use Rattle.rq_standard.specs.declared.row.Row.{Row}
 use Rattle.rq_standard.specs.OctetField.{octets}
 use Rattle.rq_standard.specs.TableRows.{intermediate_symbols}
-use Rattle.rq_standard.specs.Equations.{equations, equation_count, equation_values, zero_symbol, source_ids, IsIntermediateColumn, IsNonsingular}
+use Rattle.rq_standard.specs.Equations.{equations, equation_count, equation_values, zero_symbol, source_ids}
 use Rattle.raptorq.specs.Planned.{source_values, planned, IsPlanOf}
 use Rattle.raptorq.proofs.Encodes.{at_any}
 use Rattle.raptorq.proofs.Outcomes.{places_count}
+use Rattle.rq_standard.specs.Headline.{IsIntermediateColumn, IsNonsingular}
 
 pub length-source_values : (row : Row) (size : ℕ) (source : List (List ℕ)) → length source ≤ row.source_symbols → length (source_values row size source) ≡ equation_count row (source_ids row)
 length-source_values row size source fits =

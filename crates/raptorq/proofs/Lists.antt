@@ -8,12 +8,11 @@ use Rattle.rq_bytes.specs.declared.error.Error.TheVariants.{OutOfMemory}
 use Rattle.rq_bytes.specs.Refusals.{IsRefusal}
 use Rattle.rq_standard.specs.Packet.{Packet}
 use Rattle.rq_standard.specs.Configuration.{Configuration, IsAligned}
-use Rattle.rq_standard.specs.Differences.{Fits, IsOnlyObject}
+use Rattle.rq_standard.specs.Headline.{IsHonestRun, IsOnlyObject, block_row, block_source, IsPacketOf, HasNonsingularRows, IsObjectAnswer}
 use Rattle.rq_standard.specs.declared.row.Row.{Row}
 use Rattle.rq_standard.specs.TableRows.{IsChecked}
 use Rattle.rq_standard.specs.Equations.{internal_id}
-use Rattle.rq_standard.specs.Encoded.{block_row, block_source, IsPacketOf, HasNonsingularRows}
-use Rattle.rq_standard.specs.Standing.{State, Stands, IsObjectAnswer, AnswersObject}
+use Rattle.rq_standard.specs.Standing.{State, Stands, AnswersObject}
 use Rattle.rq_standard.proofs.Columns.{sum_symbol}
 use Rattle.rq_standard.proofs.OtherObjects.{answers_only}
 use Rattle.raptorq.specs.Refused.{packet_refusal}

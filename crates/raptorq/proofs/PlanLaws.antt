@@ -12,7 +12,7 @@ use Rattle.rq_bytes.specs.declared.operation_vector.SymbolOps.TheVariants as ops
 use Rattle.rq_bytes.specs.contracts.operation_vector.SymbolOpsClone.TheImpl.{by_variants}
 use Rattle.rq_standard.specs.declared.row.Row.{Row}
 use Rattle.rq_standard.specs.TableRows.{greatest_size, row_of}
-use Rattle.rq_standard.specs.Equations.{IsSingular}
+use Rattle.rq_standard.specs.Headline.{IsSingular}
 use Rattle.rq_standard.specs.Configuration.{Configuration}
 use Rattle.raptorq.specs.BlockData.{RefusesBlock}
 use Rattle.raptorq.specs.Plans.{plan_refusal, RefusesPlan}

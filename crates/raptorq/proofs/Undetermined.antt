@@ -5,7 +5,7 @@ use Rattle.rq_algebra.specs.Systems.{at}
 use Rattle.rq_standard.specs.declared.row.Row.{Row}
 use Rattle.rq_standard.specs.BitTable.{BitTable}
 use Rattle.rq_standard.specs.ConstraintMatrix.{IsBinaryPart, with_octet_rows}
-use Rattle.rq_standard.specs.Determined.{AreDetermined, IsHomogeneous}
+use Rattle.rq_standard.specs.Headline.{AreDetermined}
 use Rattle.rq_standard.specs.Equations.{equations, equation_count}
 use Rattle.rq_standard.specs.IdLists.{IsListOf}
 use Rattle.rq_standard.specs.TableRows.{intermediate_symbols}
@@ -15,6 +15,7 @@ use Rattle.rq_parts.specs.OctetTable.{OctetTable, entry_of}
 use Rattle.rq_solver.specs.Homogeneous.{ShowsHomogeneous}
 use Rattle.rq_solver.proofs.EquationLaws.{equations_same}
 use Rattle.rq_solver.proofs.FreeColumns.{shows_same}
+use Rattle.rq_standard.specs.Held.{IsHomogeneous}
 
 -- the matrices of a list of ids stand for its equations
 pub shows_equations : (row : Row) (ids : List ℕ) (bits : BitTable) (hdpc : OctetTable) → IsBinaryPart row ids bits → IsHdpcPart row hdpc → (answer : Option (Vec ℕ Global))

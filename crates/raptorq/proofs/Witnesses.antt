@@ -8,7 +8,7 @@ use Rattle.rq_standard.specs.OctetField.{octets}
 use Rattle.rq_standard.specs.TableRows.{IsChecked, intermediate_symbols}
 use Rattle.rq_standard.specs.Configuration.{Configuration, IsAligned}
 use Rattle.rq_standard.specs.Cutting.{block_symbols}
-use Rattle.rq_standard.specs.Determined.{SolvesZeros, known_ids}
+use Rattle.rq_standard.specs.Headline.{SolvesZeros, known_ids}
 use Rattle.rq_standard.specs.Differences.{AreUnansweredDetermined, IsDifference, first_octets_block, plain_sum}
 use Rattle.rq_standard.specs.Held.{Held, holds, AreHeldDetermining}
 use Rattle.rq_standard.proofs.BlockCuts.{pieces}

@@ -6,7 +6,7 @@ use Rattle.rq_bytes.specs.declared.error.Error.TheVariants.{Singular, PlanMismat
 use Rattle.rq_standard.specs.declared.row.Row.{Row}
 use Rattle.rq_standard.specs.Configuration.{Configuration}
 use Rattle.rq_standard.specs.Cutting.{symbol_of_block}
-use Rattle.rq_standard.specs.Equations.{IsSingular}
+use Rattle.rq_standard.specs.Headline.{IsSingular}
 use Rattle.rq_standard.specs.TableRows.{greatest_size, row_of}
 use Rattle.raptorq.specs.BlockEncoded.{BlockEncoded}
 use Rattle.raptorq.specs.Plans.{Plan}
@@ -17,6 +17,10 @@ abbrev pub block_of : List Row → Configuration → ℕ → List ℕ → BlockE
 block_of table c number bytes =
     let count = length bytes / c.symbol_size in
     record { number = number; row = row_of table count; size = c.symbol_size; source = map (symbol_of_block c count bytes) (range_with_len 0 count) }
+
+-- the block of these bytes in as many symbols as a plan is for; the bytes may end before the last symbol does
+abbrev pub block_by_plan : Plan → Configuration → ℕ → List ℕ → BlockEncoded
+block_by_plan plan c number bytes = record { number = number; row = plan.row; size = c.symbol_size; source = map (symbol_of_block c plan.count bytes) (range_with_len 0 plan.count) }
 
 -- what its encoder is refused for: first these, and then a singular row
 abbrev pub RefusesBlock : List Row → Configuration → ℕ → Error → Type 0

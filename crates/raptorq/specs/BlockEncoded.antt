@@ -4,9 +4,8 @@ use Rattle.std.specs.List.{range_with_len, AllByRecursion}
 use Rattle.rq_standard.specs.declared.row.Row.{Row}
 use Rattle.rq_standard.specs.Configuration.{Configuration}
 use Rattle.rq_standard.specs.Cutting.{block_symbols, symbols_before}
-use Rattle.rq_standard.specs.Encoded.{block_row, block_source}
+use Rattle.rq_standard.specs.Headline.{block_row, block_source, IsEncodingSymbol}
 use Rattle.rq_standard.specs.Packet.{Packet}
-use Rattle.rq_standard.specs.Equations.{IsEncodingSymbol}
 use Rattle.raptorq.specs.declared.encoder.block.SourceBlockEncoder.{SourceBlockEncoder}
 
 -- the number of a block, its row, and its source symbols with their size

@@ -2,7 +2,7 @@
 use Rattle.std.specs.Prelude.{◌≡◌, ℕ, List, length, Ok, MatchResult}
 use Rattle.rq_bytes.specs.declared.error.Error.{Error}
 use Rattle.rq_standard.specs.declared.row.Row.{Row}
-use Rattle.rq_standard.specs.Encoded.{HasNonsingularRows}
+use Rattle.rq_standard.specs.Headline.{HasNonsingularRows}
 use Rattle.rq_standard.specs.TableRows.{greatest_size}
 use Rattle.rq_base.specs.Defaults.{wanted_parameters}
 use Rattle.raptorq.specs.Encoded.{Encoded, IsEncoderOf}

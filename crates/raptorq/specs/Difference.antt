@@ -1,9 +1,9 @@
 -- What shows that a block without an answer isn't determined, and the bytes that it makes.
 use Rattle.std.specs.Prelude.{◌≡◌, ℕ, List, [], Option, None, MatchOption, unwrap_or}
 use Rattle.rq_algebra.specs.Systems.{at}
-use Rattle.rq_standard.specs.Determined.{known_ids, IsHomogeneous}
+use Rattle.rq_standard.specs.Headline.{known_ids}
 use Rattle.rq_standard.specs.Differences.{first_octets_block, plain_sum}
-use Rattle.rq_standard.specs.Held.{Held, holds, AreHeldDetermining}
+use Rattle.rq_standard.specs.Held.{Held, holds, AreHeldDetermining, IsHomogeneous}
 
 -- a column of octets, of a block without an answer; where there is none, what is held determines a block without an answer
 abbrev pub ShowsUnanswered : Held → Option (List ℕ) → Option (List ℕ) → Type 0

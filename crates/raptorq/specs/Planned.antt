@@ -7,7 +7,8 @@ use Rattle.rq_solver.specs.Replay.{after_all}
 use Rattle.rq_standard.specs.declared.row.Row.{Row}
 use Rattle.rq_standard.specs.OctetField.{octets}
 use Rattle.rq_standard.specs.TableRows.{intermediate_symbols}
-use Rattle.rq_standard.specs.Equations.{zero_symbol, IsIntermediateColumn}
+use Rattle.rq_standard.specs.Equations.{zero_symbol}
+use Rattle.rq_standard.specs.Headline.{IsOnlyIntermediateColumn}
 
 -- the values of a block's equations: zeros, its source symbols, and zeros for the padding
 abbrev pub source_values : Row → ℕ → List (List ℕ) → List (List ℕ)
@@ -16,11 +17,6 @@ source_values row size source = replicate (row.ldpc_symbols + row.hdpc_symbols) 
 -- what operations make of these values
 abbrev pub planned : Row → List Operation → ℕ → List (List ℕ) → Slab
 planned row operations size source = after_all operations (slab_of size (source_values row size source))
-
--- an intermediate column of a block, and there is no other
-pub record IsOnlyIntermediateColumn (row : Row) (size : ℕ) (source : List (List ℕ)) (column : ℕ → List ℕ) : Type 0 where
-  pub is : IsIntermediateColumn row size source column
-  pub only : (other : ℕ → List ℕ) → IsIntermediateColumn row size source other → (k : ℕ) → k < intermediate_symbols row → other k ≡ column k
 
 -- The operations make the intermediate symbols of any block of the row, from any source symbols of one size.
 pub record IsPlanOf (row : Row) (operations : List Operation) : Type 0 where

@@ -7,7 +7,7 @@ use Rattle.rq_bytes.specs.Refusals.{IsRefusal}
 use Rattle.rq_bytes.specs.SymbolOps.{operation_of}
 use Rattle.rq_standard.specs.declared.row.Row.{Row}
 use Rattle.rq_standard.specs.TableRows.{greatest_size, row_of}
-use Rattle.rq_standard.specs.Equations.{IsSingular}
+use Rattle.rq_standard.specs.Headline.{IsSingular}
 use Rattle.raptorq.specs.declared.encoder.plan.SourceBlockEncodingPlan.{SourceBlockEncodingPlan}
 
 -- the number of source symbols that it was made for, their row, and its operations

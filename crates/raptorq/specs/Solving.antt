@@ -8,12 +8,13 @@ use Rattle.rq_bytes.specs.declared.operation_vector.SymbolOps.{SymbolOps}
 use Rattle.rq_standard.specs.declared.row.Row.{Row}
 use Rattle.rq_standard.specs.OctetField.{octets}
 use Rattle.rq_standard.specs.TableRows.{intermediate_symbols}
-use Rattle.rq_standard.specs.Equations.{equations, equation_count, AreDetermining}
+use Rattle.rq_standard.specs.Equations.{equations, equation_count}
+use Rattle.rq_standard.specs.IdLists.{HasDeterminedRows}
 use Rattle.rq_solver.specs.Solving as solver
 
 -- the intermediate symbols in a slab, from the values of the equations
 pub record IsSolution (row : Row) (ids : List ℕ) (size : ℕ) (values : List (List ℕ)) (slab : Slab) : Type 0 where
-  pub determined : AreDetermining row ids
+  pub determined : HasDeterminedRows row ids
   pub places : intermediate_symbols row ≤ length (symbols_in slab)
   pub size_is : slab.symbol_size ≡ size
   pub symbols : IsSymbolColumn octets size (intermediate_symbols row) (symbol_in slab)
@@ -25,10 +26,10 @@ pub record IsSolution (row : Row) (ids : List ℕ) (size : ℕ) (values : List (
 
 -- the intermediate symbols, exactly where the ids determine them
 abbrev pub Solves : Row → List ℕ → ℕ → List (List ℕ) → Option Slab → Type 0
-Solves row ids size values answer = MatchOption answer (AreDetermining row ids → ⊥) (IsSolution row ids size values)
+Solves row ids size values answer = MatchOption answer (HasDeterminedRows row ids → ⊥) (IsSolution row ids size values)
 
 -- the same, with the operations that make them
 abbrev pub SolvesByOperations : Row → List ℕ → Slab → Option (Slab × Vec SymbolOps Global) → Type 0
 SolvesByOperations row ids handed answer =
-    MatchOption answer (AreDetermining row ids → ⊥)
+    MatchOption answer (HasDeterminedRows row ids → ⊥)
     (λ found. solver.IsSolution (equation_count row ids) (intermediate_symbols row) (equations row ids) handed found.0 (map operation_of found.1.items))

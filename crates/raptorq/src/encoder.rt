@@ -4,8 +4,7 @@ ghost use Rattle.std.specs.List.{range_with_len};
 ghost use Rattle.rq_bytes.specs.Refusals.{IsAnswer};
 ghost use Rattle.rq_standard.specs.Configuration.{IsAccepted, largest_block};
 ghost use Rattle.rq_standard.specs.Cutting.{block_symbols};
-ghost use Rattle.rq_standard.specs.Encoded.{HasNonsingularRows};
-ghost use Rattle.rq_standard.specs.Equations.{IsNonsingular, IsSingular};
+ghost use Rattle.rq_standard.specs.Headline.{HasNonsingularRows, IsNonsingular, IsSingular};
 ghost use Rattle.rq_standard.specs.TableRows.{greatest_size, row_of};
 ghost use Rattle.rq_standard.specs.declared.row.Row.{Row};
 ghost use Rattle.raptorq.specs.Plans.{plan_of};
@@ -41,7 +40,7 @@ pub struct Encoder {
 }
 
 impl Encoder {
-    ghost use Rattle.rq_standard.specs.Encoded.{AreEncoded};
+    ghost use Rattle.rq_standard.specs.ObjectPackets.{AreEncoded};
     ghost use Rattle.raptorq.specs.Building.{default_settings, RefusesBuilding, IsBuilt};
     ghost use Rattle.raptorq.specs.Encoded.{encoded_of, IsEncoderOf, packets_refusal};
     ghost use Rattle.raptorq.specs.Refused.{new_encoder, RefusesEncoder};
@@ -117,8 +116,7 @@ impl Encoder {
         repair_packets_per_block: u32,
     ) -> Result<Vec<EncodingPacket>, Error>
         ensures refused { IsAnswer (λ _. tt) result (packets_refusal (encoded_of self.now).configuration repair_packets_per_block) }
-        ensures packets { IfOk result (λ v. (table : List Row) (object : List ℕ) → IsEncoderOf table object (encoded_of self.now)
-            → AreEncoded table (encoded_of self.now).configuration object repair_packets_per_block v.items) }
+        ensures packets { IfOk result (λ v. ArePacketsOf (encoded_of self.now) repair_packets_per_block v.items) }
     {
         let largest = u64::from(block_symbols(&self.config, 0));
         if largest + u64::from(repair_packets_per_block) > 1 << 24 {

@@ -15,11 +15,12 @@ use Rattle.rq_standard.specs.OctetField.{octets}
 use Rattle.rq_standard.specs.TableRows.{intermediate_symbols, pi_symbols, IsChecked}
 use Rattle.rq_standard.specs.Tuple.{Tuple, degree, seed_of, tuple_of, lt_places, pi_places, places_of}
 use Rattle.rq_standard.specs.Rand.{rand}
-use Rattle.rq_standard.specs.Equations.{fixed_equations, symbol_coefficient, equations, equation_count, equation_values, zero_symbol, row_places, tuple_sum, internal_id, IsNonsingular, source_ids, IsIntermediateColumn, IsEncodingSymbol}
+use Rattle.rq_standard.specs.Equations.{fixed_equations, symbol_coefficient, equations, equation_count, equation_values, zero_symbol, row_places, tuple_sum, internal_id, source_ids}
 use Rattle.rq_standard.specs.Held.{Held, SolvesHeld}
 use Rattle.rq_standard.proofs.PlaceLaws.{row_places_below, enough_lt}
 use Rattle.rq_standard.proofs.TupleLaws.{between}
-use Rattle.rq_standard.proofs.Known.{range_at}
+use Rattle.rq_standard.proofs.Known.{range_at, nonsingular_rows}
+use Rattle.rq_standard.specs.Headline.{IsNonsingular, IsIntermediateColumn, IsOnlyIntermediateColumn, IsEncodingSymbol}
 
 -- ---- an id has a place at least
 
@@ -85,25 +86,27 @@ source_sum row size x source column checked is are below =
     subst (λ n. tuple_sum row column n ≡ get_or source x (zero_symbol size)) at_x
     (solved_sum row size x (source_ids row) source column checked is.symbols is.solves (omega (arith, length-range_with_len 0 row.source_symbols)) (are x))
 
--- they are the only ones
-pub one_column : (row : Row) (size : ℕ) (source : List (List ℕ)) (x y : ℕ → List ℕ) → IsNonsingular row → IsIntermediateColumn row size source x → IsIntermediateColumn row size source y → (k : ℕ) → k < intermediate_symbols row → x k ≡ y k
-one_column row size source x y nonsingular is_x is_y =
-    symbols_unique octets size (equation_count row (source_ids row)) (intermediate_symbols row) (equations row (source_ids row)) x y (equation_values row size source) nonsingular is_x.symbols is_y.symbols is_x.solves is_y.solves
+-- over a row that isn't singular they are the only ones
+pub only_column : (row : Row) (size : ℕ) (source : List (List ℕ)) (column : ℕ → List ℕ) → IsNonsingular row → IsIntermediateColumn row size source column → IsOnlyIntermediateColumn row size source column
+only_column row size source column nonsingular is = record {
+  is = is;
+  only = λ other also. symbols_unique octets size (equation_count row (source_ids row)) (intermediate_symbols row) (equations row (source_ids row)) other column (equation_values row size source) (nonsingular_rows row nonsingular) also.symbols is.symbols also.solves is.solves;
+}
 
 -- so each encoding symbol is a sum of any intermediate symbols of its block
-pub encoding_sum : (row : Row) (size esi : ℕ) (source : List (List ℕ)) (column : ℕ → List ℕ) (payload : List ℕ) → IsChecked row → IsNonsingular row → IsIntermediateColumn row size source column → IsEncodingSymbol row size source esi payload
+pub encoding_sum : (row : Row) (size esi : ℕ) (source : List (List ℕ)) (column : ℕ → List ℕ) (payload : List ℕ) → IsChecked row → IsIntermediateColumn row size source column → IsEncodingSymbol row size source esi payload
     → payload ≡ tuple_sum row column (internal_id row (length source) esi)
-encoding_sum row size esi source column payload checked nonsingular is symbol =
-    symbol.is_sum ∙ sum_same row (internal_id row (length source) esi) symbol.column column checked (one_column row size source symbol.column column nonsingular symbol.is_column is)
+encoding_sum row size esi source column payload checked is symbol =
+    symbol.is_sum ∙ sum_same row (internal_id row (length source) esi) symbol.column column checked (λ k below. sym (symbol.is_only.only column is k below))
 
 pub if_some-weaker : {X : Type 0} (o : Option X) (P Q : X → Type 0) → ((x : X) → P x → Q x) → IfSome o P → IfSome o Q
 if_some-weaker None P Q weaker h = tt
 if_some-weaker (Some x) P Q weaker h = weaker x h
 
 -- what is held of a block whose symbols are those of a source is solved by the source's intermediate symbols
-pub solves_held : (h : Held) (source : List (List ℕ)) (column : ℕ → List ℕ) → IsChecked h.row → IsNonsingular h.row → length source ≡ h.symbols → ((e : ℕ) → length (get_or source e (zero_symbol h.configuration.symbol_size)) ≡ h.configuration.symbol_size)
+pub solves_held : (h : Held) (source : List (List ℕ)) (column : ℕ → List ℕ) → IsChecked h.row → length source ≡ h.symbols → ((e : ℕ) → length (get_or source e (zero_symbol h.configuration.symbol_size)) ≡ h.configuration.symbol_size)
     → IsIntermediateColumn h.row h.configuration.symbol_size source column → ((e : ℕ) → IfSome (h.received e) (λ payload. IsEncodingSymbol h.row h.configuration.symbol_size source e payload)) → SolvesHeld h column
-solves_held h source column checked nonsingular long are is honest =
+solves_held h source column checked long are is honest =
     let row = h.row in
     let size = h.configuration.symbol_size in
     let f : ℕ = row.ldpc_symbols + row.hdpc_symbols in
@@ -111,5 +114,5 @@ solves_held h source column checked nonsingular long are is honest =
       symbols = is.symbols;
       fixed = solves_symbols_above octets f (length (source_ids row)) (intermediate_symbols row) (fixed_equations row) (rows_of (symbol_coefficient row) (source_ids row)) column (λ _. zero_symbol size) (λ i. get_or source i (zero_symbol size)) is.solves;
       padding = λ x from below. source_sum row size x source column checked is are below ∙ get_or_past source x (zero_symbol size) (omega arith);
-      received = λ e. if_some-weaker (h.received e) _ _ (λ payload symbol. encoding_sum row size e source column payload checked nonsingular is symbol ∙ ap (λ k. tuple_sum row column (internal_id row k e)) long) (honest e);
+      received = λ e. if_some-weaker (h.received e) _ _ (λ payload symbol. encoding_sum row size e source column payload checked is symbol ∙ ap (λ k. tuple_sum row column (internal_id row k e)) long) (honest e);
     }

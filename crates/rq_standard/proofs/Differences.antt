@@ -1,6 +1,6 @@
 -- Where the packets of an object don't determine it, another object makes them too.
 use Rattle.std.proofs.Common.{◌≡◌, ◌≢◌, ℕ, zero, suc, ◌+◌, ◌-◌, ◌<◌, ◌≤◌, ◌⊎◌, cond, ltb, Bool, true, List, length, get_or, refl, sym, ap, ◌∙◌, arith, inl, inr}
-use Rattle.std.proofs.lemmas.Bool.{cases_lt, cases_eq, lt-ltb, le-ltb}
+use Rattle.std.proofs.lemmas.Bool.{cases_lt, cases_eq, lt-ltb, le-ltb, ltb-true}
 use Rattle.std.proofs.lemmas.List.{ext_get_or, get_or_past, length-replicate}
 use Rattle.std.proofs.lemmas.List.FromFn.{length-range_with_len}
 use Rattle.std.proofs.lemmas.List.Elements.{All-from_get_or}
@@ -13,11 +13,11 @@ use Rattle.rq_algebra.proofs.SymbolSums.{add_zeros, same_symbol, add_is_symbol}
 use Rattle.rq_standard.specs.declared.row.Row.{Row}
 use Rattle.rq_standard.specs.OctetField.{octets}
 use Rattle.rq_standard.specs.TableRows.{IsChecked, intermediate_symbols}
-use Rattle.rq_standard.specs.Equations.{fixed_equations, symbol_coefficient, equations, equation_count, equation_values, zero_symbol, tuple_sum, internal_id, source_ids, IsNonsingular, IsIntermediateColumn, IsEncodingSymbol}
-use Rattle.rq_standard.specs.Determined.{SolvesZeros, known_ids}
+use Rattle.rq_standard.specs.Equations.{fixed_equations, symbol_coefficient, equations, equation_count, equation_values, zero_symbol, tuple_sum, internal_id, source_ids}
+use Rattle.rq_standard.specs.Headline.{IsNonsingular, IsIntermediateColumn, IsEncodingSymbol, SolvesZeros, known_ids}
 use Rattle.rq_standard.specs.Differences.{plain_sum, first_octet}
-use Rattle.rq_standard.proofs.Columns.{sum_symbol, sum_at}
-use Rattle.rq_standard.proofs.Known.{to_list, known_source, known_padding, known_repair, range_at}
+use Rattle.rq_standard.proofs.Columns.{sum_symbol, sum_at, only_column}
+use Rattle.rq_standard.proofs.Known.{known_source, known_padding, known_repair, range_at}
 
 -- ---- symbols are added
 
@@ -71,14 +71,14 @@ module _ (row : Row) (size : ℕ) (checked : IsChecked row) where
         }
 
     -- encoding symbols of one id, added, are that of the symbols added
-    pub encoding-add : (e : ℕ) (p q : List ℕ) → length xs ≡ length zs → length ys ≡ length zs → IsEncodingSymbol row size xs e p → IsEncodingSymbol row size ys e q → IsEncodingSymbol row size zs e (add_symbols octets p q)
-    encoding-add e p q long_x long_y sx sy = record {
+    pub encoding-add : (e : ℕ) (p q : List ℕ) → IsNonsingular row → length xs ≡ length zs → length ys ≡ length zs → IsEncodingSymbol row size xs e p → IsEncodingSymbol row size ys e q → IsEncodingSymbol row size zs e (add_symbols octets p q)
+    encoding-add e p q nonsingular long_x long_y sx sy = record {
       column = λ k. add_symbols octets (sx.column k) (sy.column k);
-      is_column = intermediate-add sx.column sy.column sx.is_column sy.is_column;
+      is_only = only_column row size zs (λ k. add_symbols octets (sx.column k) (sy.column k)) nonsingular (intermediate-add sx.column sy.column sx.is_only.is sy.is_only.is);
       is_sum =
           let id : ℕ → ℕ = λ k. internal_id row k e in
           ap (λ s. add_symbols octets s q) (sx.is_sum ∙ ap (λ k. tuple_sum row sx.column (id k)) long_x) ∙ ap (add_symbols octets (tuple_sum row sx.column (id (length zs)))) (sy.is_sum ∙ ap (λ k. tuple_sum row sy.column (id k)) long_y)
-          ∙ sym (tuple_sum-add sx.column sy.column (id (length zs)) sx.is_column.symbols sy.is_column.symbols);
+          ∙ sym (tuple_sum-add sx.column sy.column (id (length zs)) sx.is_only.is.symbols sy.is_only.is.symbols);
     }
 
 -- ---- a plain column as one of symbols
@@ -153,10 +153,10 @@ module _ (size : ℕ) (pos : 0 < size) where
         by_place (suc p) r = dot_later r p ∙ sym (at-zeros (size - 1) p)
 
       -- symbols that have such first octets are zero for all ids that are known
-      pub known_are_zeros : k ≤ row.source_symbols → (e : ℕ) → has e ≡ true → IsEncodingSymbol row size source e (zero_symbol size)
-      known_are_zeros fits e came = record {
+      pub known_are_zeros : IsNonsingular row → k ≤ row.source_symbols → (e : ℕ) → has e ≡ true → IsEncodingSymbol row size source e (zero_symbol size)
+      known_are_zeros nonsingular fits e came = record {
         column = wide size x;
-        is_column = wide_column;
+        is_only = only_column row size source (wide size x) nonsingular wide_column;
         is_sum = sym (wide_sum (internal_id row (length source) e) ∙ ap (first_octet size) (ap (λ n. plain_sum row x (internal_id row n e)) long ∙ solves.each (internal_id row k e) known) ∙ zero_octet);
       } where
         known : known_ids row k has (internal_id row k e) ≡ true
@@ -181,26 +181,22 @@ pub zeros_are_octets : (row : Row) → IsColumn octets (intermediate_symbols row
 zeros_are_octets row k l = omega arith
 
 -- symbols that are zero are zero for all ids
-pub zeros_encode : (row : Row) (size k : ℕ) (source : List (List ℕ)) (e : ℕ) → 0 < size → IsChecked row → k ≤ row.source_symbols → length source ≡ k → ((i : ℕ) → i < k → get_or source i (zero_symbol size) ≡ zero_symbol size) → IsEncodingSymbol row size source e (zero_symbol size)
-zeros_encode row size k source e pos checked fits long zeros =
+pub zeros_encode : (row : Row) (size k : ℕ) (source : List (List ℕ)) (e : ℕ) → 0 < size → IsChecked row → IsNonsingular row → k ≤ row.source_symbols → length source ≡ k → ((i : ℕ) → i < k → get_or source i (zero_symbol size) ≡ zero_symbol size) → IsEncodingSymbol row size source e (zero_symbol size)
+zeros_encode row size k source e pos checked nonsingular fits long zeros =
     known_are_zeros size pos row checked (λ _. 0) (zeros_are_octets row) k (λ _. true) source long (zeros_solve row (known_ids row k (λ _. true)))
-    (λ i below. zeros i below ∙ sym (zero_octet size pos) ∙ ap (first_octet size) (sym (zero_dot row (symbol_coefficient row i)))) fits e refl
+    (λ i below. zeros i below ∙ sym (zero_octet size pos) ∙ ap (first_octet size) (sym (zero_dot row (symbol_coefficient row i)))) nonsingular fits e refl
 
 -- ---- over a row that isn't singular, a column that isn't zero changes a source symbol
 
 module _ (row : Row) (k : ℕ) (x : ℕ → ℕ) (has : ℕ → Bool) (nonsingular : IsNonsingular row) (is : IsColumn octets (intermediate_symbols row) x) (solves : SolvesZeros row (known_ids row k has) x) where
   pub no_change_is_zero : ((e : ℕ) → e < k → plain_sum row x e ≡ 0) → (j : ℕ) → j < intermediate_symbols row → x j ≡ 0
-  no_change_is_zero none =
-      let below : ℕ → Bool = λ e. ltb e row.source_symbols in
-      nonsingular x is (to_list row below (source_ids row) x
-      (λ j l. let lt : j < row.source_symbols = omega (arith, length-range_with_len 0 row.source_symbols) in ap below (range_at 0 row.source_symbols j lt ∙ omega arith) ∙ lt-ltb j row.source_symbols lt)
-      (record {
-        fixed = solves.fixed;
-        each = λ e l. elim (cases_lt e row.source_symbols) [
-          | inr past ↦ absurd (cc (sym (le-ltb e row.source_symbols past) ∙ l))
-          | inl lt ↦ elim (cases_lt e k) [ inl source ↦ none e source | inr padding ↦ solves.each e (known_padding row k e has padding lt) ]
-        ];
-      }))
+  no_change_is_zero none = nonsingular x is (record {
+    fixed = solves.fixed;
+    each = λ e l. elim (cases_lt e k) [
+      | inl source ↦ none e source
+      | inr padding ↦ solves.each e (known_padding row k e has padding (ltb-true e row.source_symbols l))
+    ];
+  })
 
   pub some_change : (j : ℕ) → j < intermediate_symbols row → x j ≢ 0 → (e : ℕ) × (e < k) × (plain_sum row x e ≢ 0)
   some_change j below nonzero = elim (search k) [ inr found ↦ found | inl none ↦ absurd (nonzero (no_change_is_zero none j below)) ] where

@@ -2,7 +2,7 @@
 use Rattle.std.proofs.Common.{◌≡◌, ℕ, ◌+◌, ◌-◌, ◌<◌, ◌≤◌, Bool, true, false, cond, ltb, eqb, ◌%◌, List, length, refl, sym, ap, ◌∙◌, subst, arith, inl, inr}
 use Rattle.std.specs.Prelude.{◌||◌}
 use Rattle.std.specs.List.{range_with_len}
-use Rattle.std.proofs.lemmas.Bool.{cases_lt, lt-ltb, le-ltb}
+use Rattle.std.proofs.lemmas.Bool.{cases_lt, lt-ltb, le-ltb, ltb-true}
 use Rattle.std.proofs.lemmas.List.FromFn.{length-range_with_len, get_or-range_with_len}
 use Rattle.rq_algebra.specs.Systems.{sum_below, dot, Solves, at, rows_of}
 use Rattle.rq_algebra.specs.Parities.{parity}
@@ -13,9 +13,9 @@ use Rattle.rq_algebra.proofs.Sums.{sum_below_size}
 use Rattle.rq_standard.specs.declared.row.Row.{Row}
 use Rattle.rq_standard.specs.OctetField.{octets}
 use Rattle.rq_standard.specs.TableRows.{intermediate_symbols, lone_lt_symbols, pi_symbols}
-use Rattle.rq_standard.specs.Equations.{fixed_equations, symbol_coefficient, equations, equation_count, ldpc_coefficient, hdpc_coefficient, before_hdpc, mt, gamma, is_ldpc_place, row_places, one_if, AreDetermining, IsNonsingular, source_ids}
-use Rattle.rq_standard.specs.IdLists.{IsListOf}
-use Rattle.rq_standard.specs.Determined.{SolvesZeros, AreDetermined, known_ids, DetermineBlock}
+use Rattle.rq_standard.specs.Equations.{fixed_equations, symbol_coefficient, equations, equation_count, ldpc_coefficient, hdpc_coefficient, before_hdpc, mt, gamma, is_ldpc_place, row_places, one_if, source_ids}
+use Rattle.rq_standard.specs.IdLists.{IsListOf, HasDeterminedRows}
+use Rattle.rq_standard.specs.Headline.{IsNonsingular, SolvesZeros, AreDetermined, known_ids, DetermineBlock}
 use Rattle.rq_standard.specs.Received.{HasSourceSymbols}
 
 module _ (row : Row) (known : ℕ → Bool) (ids : List ℕ) (column : ℕ → ℕ) where
@@ -46,11 +46,11 @@ module _ (row : Row) (known : ℕ → Bool) (ids : List ℕ) (column : ℕ → �
       }
 
 -- ids that are known and determine
-pub determined_by : (row : Row) (known : ℕ → Bool) (ids : List ℕ) → ((j : ℕ) → j < length ids → known (at ids j) ≡ true) → AreDetermining row ids → AreDetermined row known
+pub determined_by : (row : Row) (known : ℕ → Bool) (ids : List ℕ) → ((j : ℕ) → j < length ids → known (at ids j) ≡ true) → HasDeterminedRows row ids → AreDetermined row known
 determined_by row known ids listed d column is z = d column is (to_list row known ids column listed z)
 
 -- a list of all known ids determines where they do
-pub determined_list : (row : Row) (known : ℕ → Bool) (ids : List ℕ) → IsListOf known ids → AreDetermined row known → AreDetermining row ids
+pub determined_list : (row : Row) (known : ℕ → Bool) (ids : List ℕ) → IsListOf known ids → AreDetermined row known → HasDeterminedRows row ids
 determined_list row known ids list d column is s = d column is (from_list row known ids column list s)
 
 -- more known ids determine too
@@ -98,15 +98,33 @@ block_same row k f g same = block_more row k f g (λ e h. sym (same e) ∙ h)
 pub range_at : (a n i : ℕ) → i < n → at (range_with_len a n) i ≡ a + i
 range_at a n i lt = get_or-range_with_len a n i 0 lt
 
+-- the ids of source and padding symbols, as a list
+source_list : (row : Row) → IsListOf (λ x. ltb x row.source_symbols) (source_ids row)
+source_list row = record {
+  listed = λ j below.
+      let lt : j < row.source_symbols = omega (arith, length-range_with_len 0 row.source_symbols) in
+      let is : at (source_ids row) j ≡ j = range_at 0 row.source_symbols j lt ∙ omega arith in
+      ap (λ x. ltb x row.source_symbols) is ∙ lt-ltb j row.source_symbols lt;
+  place = λ x known.
+      let lt : x < row.source_symbols = ltb-true x row.source_symbols known in
+      (x, omega (arith, length-range_with_len 0 row.source_symbols), range_at 0 row.source_symbols x lt ∙ omega arith);
+}
+
+-- a row is nonsingular where the equations of these ids are determined
+pub nonsingular_rows : (row : Row) → IsNonsingular row → HasDeterminedRows row (source_ids row)
+nonsingular_rows row = determined_list row (λ x. ltb x row.source_symbols) (source_ids row) (source_list row)
+
+pub rows_nonsingular : (row : Row) → HasDeterminedRows row (source_ids row) → IsNonsingular row
+rows_nonsingular row = determined_by row (λ x. ltb x row.source_symbols) (source_ids row) (source_list row).listed
+
 -- over a row that isn't singular the source symbols determine a block
 pub block_of_source : (row : Row) (k : ℕ) (has : ℕ → Bool) → IsNonsingular row → HasSourceSymbols k has → DetermineBlock row k has
 block_of_source row k has nonsingular all =
-    determined_by row (known_ids row k has) (source_ids row) (λ j below.
-    let lt : j < row.source_symbols = omega (arith, length-range_with_len 0 row.source_symbols) in
-    let is : at (source_ids row) j ≡ j = range_at 0 row.source_symbols j lt ∙ omega arith in
-    ap (known_ids row k has) is ∙ elim (cases_lt j k) [
-      | inl l ↦ known_source row k j has l ∙ all.each j l
-      | inr ge ↦ known_padding row k j has ge lt
+    determined_more row (λ x. ltb x row.source_symbols) (known_ids row k has) (λ x below.
+    let lt : x < row.source_symbols = ltb-true x row.source_symbols below in
+    elim (cases_lt x k) [
+      | inl l ↦ known_source row k x has l ∙ all.each x l
+      | inr ge ↦ known_padding row k x has ge lt
     ]) nonsingular
 
 -- ---- few ids
@@ -156,7 +174,7 @@ equations_below row ids i k =
     ]
 
 -- fewer equations than intermediate symbols determine nothing
-pub few_not_determining : (row : Row) (ids : List ℕ) → equation_count row ids < intermediate_symbols row → AreDetermining row ids → ⊥
+pub few_not_determining : (row : Row) (ids : List ℕ) → equation_count row ids < intermediate_symbols row → HasDeterminedRows row ids → ⊥
 few_not_determining row ids few d =
     null_not_determined octets (equation_count row ids) (intermediate_symbols row) (equations row ids)
     (few_rows octets (intermediate_symbols row) (equation_count row ids) (equations row ids) few (λ i k _ _. equations_below row ids i k)) d

@@ -9,6 +9,7 @@ pub mod Interleaved
 pub mod Known
 pub mod LeastNumbers
 pub mod ObjectAnswers
+pub mod OneObject
 pub mod OtherObjects
 pub mod Packed
 pub mod PacketBytes

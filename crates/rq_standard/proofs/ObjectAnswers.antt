@@ -1,16 +1,17 @@
 -- What a decoder that stands for a list of packets answers.
 use Rattle.std.proofs.Common.{◌≡◌, ℕ, zero, suc, ◌<◌, Bool, false, List, take, Option, Some, None, refl, sym, ap, ◌∙◌, subst, arith, inl, inr}
-use Rattle.std.specs.Prelude.{option_map, IsSome, IfSome}
+use Rattle.std.specs.Prelude.{option_map, is_some, IsSome, IsNone, IfSome}
 use Rattle.std.proofs.lemmas.Bool.{cases_lt}
 use Rattle.rq_standard.specs.declared.row.Row.{Row}
 use Rattle.rq_standard.specs.Packet.{Packet}
 use Rattle.rq_standard.specs.Cutting.{block_symbols, block_bytes}
 use Rattle.rq_standard.specs.Received.{has_id}
-use Rattle.rq_standard.specs.Determined.{DetermineBlock}
-use Rattle.rq_standard.specs.Encoded.{block_row}
-use Rattle.rq_standard.specs.Held.{Held}
-use Rattle.rq_standard.specs.Standing.{State, IsHeldOf, BlockStands, StandsBut, append_both, joined, result_of, IsObjectAnswer, AnswersObject}
+use Rattle.rq_standard.specs.Headline.{DetermineBlock, block_row, IsObjectAnswer}
+use Rattle.rq_standard.specs.Held.{Held, holds, AreHeldDetermining}
+use Rattle.rq_standard.specs.Standing.{State, IsHeldOf, BlockStands, StandsBut, append_both, joined, result_of, AnswersObject}
+use Rattle.rq_standard.specs.Differences.{AreUnansweredDetermined, IsNoneWhereAnswered}
 use Rattle.rq_standard.proofs.BlockCuts.{pieces, whole_object}
+use Rattle.rq_standard.proofs.Known.{block_same}
 
 -- blocks are joined where each has an answer
 pub joined_some : (f : ℕ → List ℕ) (answer : ℕ → Option (List ℕ)) (n : ℕ) → ((b : ℕ) → b < n → answer b ≡ Some (f b)) → joined n answer ≡ Some (pieces f n)
@@ -59,7 +60,7 @@ module _ (table : List Row) (object : List ℕ) (packets : List Packet) (s : Sta
     from_all : ((b : ℕ) → b < s.configuration.source_blocks → IsSome (s.answer b)) → result_of s ≡ Some object
     from_all each =
         ap (λ o. option_map (take s.configuration.transfer_length) o) (joined_some (block_bytes s.configuration object) s.answer s.configuration.source_blocks (λ b below. (answered (late b) b (s.held b) (s.answer b) (st.shape b below) (st.block b below) (each b below)).0))
-        ∙ ap (λ xs. Some xs) (whole_object s.configuration object some pos st.long)
+        ∙ ap (λ xs. Some xs) (whole_object s.configuration object some pos st.run.long)
 
     each_of : IsSome (result_of s) → (b : ℕ) → b < s.configuration.source_blocks → IsSome (s.answer b)
     each_of h = joined_each s.answer s.configuration.source_blocks (some_of (take s.configuration.transfer_length) (joined s.configuration.source_blocks s.answer) h)
@@ -75,6 +76,31 @@ module _ (table : List Row) (object : List ℕ) (packets : List Packet) (s : Sta
       whole = λ all. from_all (λ b below. has_answer b (s.held b) (s.answer b) (st.shape b below) (subst (λ l. BlockStands l (block_bytes s.configuration object b) b packets (s.held b) (s.answer b)) (now b) (st.block b below)) (all b below));
       only = λ h b below. (answered (late b) b (s.held b) (s.answer b) (st.shape b below) (st.block b below) (each_of h b below)).1;
     }
+
+-- no block without an answer is determined
+not_determined : (packets : List Packet) (block : List ℕ) (b : ℕ) (h : Held) (a : Option (List ℕ)) → BlockStands false block b packets h a → a ≡ None → AreHeldDetermining h → ⊥
+not_determined packets block b h None st none d = st.1 refl (block_same h.row h.symbols (holds h) (has_id b packets) (λ e. ap is_some (st.0 e)) d)
+not_determined packets block b h (Some bytes) st none d = absurd (cc none)
+
+is_answered : (a : Option (List ℕ)) → (a ≡ None → ⊥) → IsSome a
+is_answered None some = absurd (some refl)
+is_answered (Some xs) some = refl
+
+some_is_some : (a : Option (List ℕ)) → IsSome a → a ≡ None → ⊥
+some_is_some None some none = cc some
+some_is_some (Some xs) some none = cc none
+
+is_none_where : (a : Option (List ℕ)) → IsNone a → a ≡ None
+is_none_where None h = refl
+is_none_where (Some xs) h = absurd (cc h)
+
+-- a decoder whose difference is none where what is held of each open block determines it, and that stands for a list, has it none where it answers
+pub none_where_answered : (s : State) (difference : Option (List ℕ)) → 0 < s.configuration.source_blocks → 0 < s.configuration.symbol_size → (difference ≡ None → AreUnansweredDetermined s) → (AreUnansweredDetermined s → difference ≡ None) → IsNoneWhereAnswered s difference
+none_where_answered s difference some pos told tells table object packets st = (
+  λ none. subst IsSome (sym (from_all table object packets s (λ _. false) some pos st (λ b below. is_answered (s.answer b) (λ unanswered.
+  not_determined packets (block_bytes s.configuration object b) b (s.held b) (s.answer b) (st.block b below) unanswered (told (is_none_where difference none) b below unanswered))))) refl,
+  λ answered. subst IsNone (sym (tells (λ b below unanswered. absurd (some_is_some (s.answer b) (each_of table object packets s (λ _. false) some pos st answered b below) unanswered)))) refl,
+)
 
 pub answers_object : (s : State) (r : Option (List ℕ)) → 0 < s.configuration.source_blocks → 0 < s.configuration.symbol_size → r ≡ result_of s → AnswersObject s r
 answers_object s r some pos is table object packets late st = (

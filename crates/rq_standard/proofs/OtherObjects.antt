@@ -15,18 +15,18 @@ use Rattle.rq_standard.specs.TableRows.{IsChecked, intermediate_symbols}
 use Rattle.rq_standard.specs.Packet.{Packet}
 use Rattle.rq_standard.specs.Configuration.{Configuration, IsAligned}
 use Rattle.rq_standard.specs.Cutting.{block_symbols, symbols_before, sub_block_size, place_in_block, block_bytes, symbol_of_block}
-use Rattle.rq_standard.specs.Equations.{zero_symbol, symbol_coefficient, internal_id, IsNonsingular, IsEncodingSymbol}
+use Rattle.rq_standard.specs.Equations.{zero_symbol, symbol_coefficient, internal_id}
 use Rattle.rq_standard.specs.Received.{or_later, payload_for, first_payload, has_id}
-use Rattle.rq_standard.specs.Determined.{SolvesZeros, known_ids}
-use Rattle.rq_standard.specs.Encoded.{block_row, block_source, IsPacketOf, HasNonsingularRows, IsAnswerable}
+use Rattle.rq_standard.specs.Headline.{IsNonsingular, IsEncodingSymbol, SolvesZeros, known_ids, block_row, block_source, IsPacketOf, HasNonsingularRows, IsAnswerable, IsObjectAnswer, IsHonestRun, IsOnlyObject}
 use Rattle.rq_standard.specs.Held.{Held, holds}
-use Rattle.rq_standard.specs.Standing.{State, IsHeldOf, BlockStands, Stands, IsObjectAnswer}
-use Rattle.rq_standard.specs.Differences.{Fits, IsOnlyObject, xor_bytes, EncodesToZeros, IsDifference, MakesOthersFit, plain_sum, first_octet}
+use Rattle.rq_standard.specs.Standing.{State, IsHeldOf, BlockStands, AnswersObject, AnswersOnlyObject}
+use Rattle.rq_standard.specs.Differences.{xor_bytes, EncodesToZeros, HoldsNonsingularRows, IsDifference, MakesOthersFit, plain_sum, first_octet}
 use Rattle.rq_standard.proofs.BlockCuts.{block_byte}
 use Rattle.rq_standard.proofs.Columns.{sum_symbol}
 use Rattle.rq_standard.proofs.Differences.{length-zero, add_zero_symbols, encoding-add, known_are_zeros, zeros_solve, zeros_are_octets, zeros_encode, no_change_is_zero, some_change}
 use Rattle.rq_standard.proofs.FirstOctets.{first_octets_object, zero_octets, length-first_octets_object, block_of_first_octets, symbol_of_object, object_at_first, first_is_before_end}
 use Rattle.rq_standard.proofs.Interleaved.{get_or-symbol_of_block}
+use Rattle.rq_standard.proofs.OneObject.{one_object}
 use Rattle.rq_standard.proofs.PlainCut.{length-block_bytes}
 use Rattle.rq_standard.proofs.Standing.{length-symbol_of_block, length-block_source, source_at}
 
@@ -96,7 +96,7 @@ both-all : (P Q R : Packet → Type 0) (packets : List Packet) → ((p : Packet)
 both-all P Q R [] f h g = tt
 both-all P Q R (p ∷ packets) f h g = (f p h.0 g.0, both-all P Q R packets f h.1 g.1)
 
-module _ (table : List Row) (c : Configuration) (rows : (b : ℕ) → b < c.source_blocks → HasRow (block_row table c b) (block_symbols c b)) where
+module _ (table : List Row) (c : Configuration) (rows : (b : ℕ) → b < c.source_blocks → HasRow (block_row table c b) (block_symbols c b)) (nonsingular : HasNonsingularRows table c) where
   -- the packets of an object are those of its xor with bytes whose symbols are zero there
   packet-xor : (object bytes : List ℕ) (has : ℕ → ℕ → Bool) → EncodesToZeros table c has bytes → (p : Packet) → IsPacketOf table c object p → has p.id.block p.id.esi ≡ true → IsPacketOf table c (xor_bytes object bytes) p
   packet-xor object bytes has z p pk came =
@@ -104,20 +104,21 @@ module _ (table : List Row) (c : Configuration) (rows : (b : ℕ) → b < c.sour
       let row = block_row table c b in
       let size = c.symbol_size in
       let length_of = length-block_source c in
-      let sized : length p.payload ≡ size = ap length pk.symbol.is_sum ∙ (sum_symbol row size (internal_id row (length (block_source c object b)) p.id.esi) pk.symbol.column (rows b pk.block).checked pk.symbol.is_column.symbols).size_is in
+      let sized : length p.payload ≡ size = ap length pk.symbol.is_sum ∙ (sum_symbol row size (internal_id row (length (block_source c object b)) p.id.esi) pk.symbol.column (rows b pk.block).checked pk.symbol.is_only.is.symbols).size_is in
       let same : add_symbols octets p.payload (zero_symbol size) ≡ p.payload = add_symbols_comm octets p.payload (zero_symbol size) ∙ add_zeros octets size p.payload sized in
       record {
         block = pk.block;
         esi = pk.esi;
         symbol = subst (IsEncodingSymbol row size (block_source c (xor_bytes object bytes) b) p.id.esi) same
-            (encoding-add row size (rows b pk.block).checked (block_source c object b) (block_source c bytes b) (block_source c (xor_bytes object bytes) b) (source-xor c object bytes b) p.id.esi p.payload (zero_symbol size)
+            (encoding-add row size (rows b pk.block).checked (block_source c object b) (block_source c bytes b) (block_source c (xor_bytes object bytes) b) (source-xor c object bytes b) p.id.esi p.payload (zero_symbol size) (nonsingular b pk.block)
             (length_of object b ∙ sym (length_of (xor_bytes object bytes) b)) (length_of bytes b ∙ sym (length_of (xor_bytes object bytes) b)) pk.symbol (z.zeros b p.id.esi pk.block came));
       }
 
-  pub fits-xor : (object bytes : List ℕ) (packets : List Packet) → Fits table c packets object → EncodesToZeros table c (λ b. has_id b packets) bytes → Fits table c packets (xor_bytes object bytes)
+  pub fits-xor : (object bytes : List ℕ) (packets : List Packet) → IsHonestRun table c object packets → EncodesToZeros table c (λ b. has_id b packets) bytes → IsHonestRun table c (xor_bytes object bytes) packets
   fits-xor object bytes packets fits z = record {
     long = length-add_symbols octets 0 c.transfer_length object bytes fits.long z.long;
-    packets_are = both-all (IsPacketOf table c object) (λ p. has_id p.id.block packets p.id.esi ≡ true) (IsPacketOf table c (xor_bytes object bytes)) packets (packet-xor object bytes (λ b. has_id b packets) z) fits.packets_are (all_came packets);
+    nonsingular = nonsingular;
+    honest = both-all (IsPacketOf table c object) (λ p. has_id p.id.block packets p.id.esi ≡ true) (IsPacketOf table c (xor_bytes object bytes)) packets (packet-xor object bytes (λ b. has_id b packets) z) fits.honest (all_came packets);
   }
 
 -- what changes nothing is zero
@@ -143,10 +144,10 @@ module _ (c : Configuration) (row : ℕ → Row) (columns : ℕ → ℕ → ℕ)
   source_of b e below in_block = source_at c (bytes_of c row columns) b e in_block ∙ symbol_of_object c (λ n i. plain_sum (row n) (columns n) i) pos some aligned b e below in_block
 
   -- their symbols are zero for all ids that are known
-  pub columns_encode : (has : ℕ → ℕ → Bool) → AreColumns row (block_symbols c) has c.source_blocks columns → (b e : ℕ) → b < c.source_blocks → HasRow (row b) (block_symbols c b) → has b e ≡ true → IsEncodingSymbol (row b) c.symbol_size (block_source c (bytes_of c row columns) b) e (zero_symbol c.symbol_size)
-  columns_encode has are b e below h came =
+  pub columns_encode : (has : ℕ → ℕ → Bool) → AreColumns row (block_symbols c) has c.source_blocks columns → (b e : ℕ) → b < c.source_blocks → HasRow (row b) (block_symbols c b) → IsNonsingular (row b) → has b e ≡ true → IsEncodingSymbol (row b) c.symbol_size (block_source c (bytes_of c row columns) b) e (zero_symbol c.symbol_size)
+  columns_encode has are b e below h nonsingular came =
       known_are_zeros c.symbol_size pos (row b) h.checked (columns b) (are.elements b below) (block_symbols c b) (has b) (block_source c (bytes_of c row columns) b) (length-block_source c (bytes_of c row columns) b) (are.solves b below)
-      (λ i in_block. source_of b i below in_block) h.fits e came
+      (λ i in_block. source_of b i below in_block) nonsingular h.fits e came
 
   -- where all bytes are zero, each column is, over a row that isn't singular
   pub zero_bytes : (has : ℕ → ℕ → Bool) → AreColumns row (block_symbols c) has c.source_blocks columns → ((i : ℕ) → get_or (bytes_of c row columns) i 0 ≡ 0) → (b : ℕ) → b < c.source_blocks → IsNonsingular (row b) → (j : ℕ) → j < intermediate_symbols (row b) → columns b j ≡ 0
@@ -175,9 +176,9 @@ module _ (c : Configuration) (row : ℕ → Row) (columns : ℕ → ℕ → ℕ)
 
 -- ---- the only object
 
-module _ (table : List Row) (c : Configuration) (pos : 0 < c.symbol_size) (some : 0 < c.source_blocks) (aligned : IsAligned c) (rows : (b : ℕ) → b < c.source_blocks → HasRow (block_row table c b) (block_symbols c b)) (nonsingular : HasNonsingularRows table c) where
+module _ (table : List Row) (c : Configuration) (pos : 0 < c.symbol_size) (some : 0 < c.source_blocks) (aligned : IsAligned c) (rows : (b : ℕ) → b < c.source_blocks → HasRow (block_row table c b) (block_symbols c b)) where
   -- where no other object makes the packets, they determine each block
-  pub only_is_answerable : (object : List ℕ) (packets : List Packet) → Fits table c packets object → IsOnlyObject table c packets object → IsAnswerable table c packets
+  pub only_is_answerable : (object : List ℕ) (packets : List Packet) → IsHonestRun table c object packets → IsOnlyObject table c packets object → IsAnswerable table c packets
   only_is_answerable object packets fits only b below x is solves =
       let row = block_row table c in
       let has : ℕ → ℕ → Bool = λ n. has_id n packets in
@@ -188,9 +189,9 @@ module _ (table : List Row) (c : Configuration) (pos : 0 < c.symbol_size) (some 
       } in
       let encodes : EncodesToZeros table c has (bytes_of c row columns) = record {
         long = length-bytes_of c row columns pos some aligned;
-        zeros = λ n e l came. columns_encode c row columns pos some aligned has are n e l (rows n l) came;
+        zeros = λ n e l came. columns_encode c row columns pos some aligned has are n e l (rows n l) (fits.nonsingular n l) came;
       } in
-      let none = zero_bytes c row columns pos some aligned has are (xor-same object (bytes_of c row columns) (only (xor_bytes object (bytes_of c row columns)) (fits-xor table c rows object (bytes_of c row columns) packets fits encodes))) b below (nonsingular b below) in
+      let none = zero_bytes c row columns pos some aligned has are (xor-same object (bytes_of c row columns) (only (xor_bytes object (bytes_of c row columns)) (fits-xor table c rows fits.nonsingular object (bytes_of c row columns) packets fits encodes))) b below (fits.nonsingular b below) in
       λ j l. ap (λ t. cond t (x j) 0) (sym (eq-eqb b b refl)) ∙ none j l
     where
       one_of : (t : Bool) (r : Row) → (t ≡ true → IsColumn octets (intermediate_symbols r) x) → IsColumn octets (intermediate_symbols r) (λ j. cond t (x j) 0)
@@ -201,20 +202,14 @@ module _ (table : List Row) (c : Configuration) (pos : 0 < c.symbol_size) (some 
       solves_one true r known h = h refl
       solves_one false r known h = zeros_solve r known
 
--- what answers each object that makes the packets answers where there is one object
-some_object : (answer : Option (List ℕ)) (x y : List ℕ) → answer ≡ Some x → answer ≡ Some y → y ≡ x
-some_object answer x y is same = of_some y x (sym same ∙ is) where
-  of_some : (u v : List ℕ) → Some u ≡ Some v → u ≡ v
-  of_some u v e = cc e
-
-pub answers_only : (table : List Row) (object : List ℕ) (packets : List Packet) (s : State) (answer : Option (List ℕ)) → 0 < s.configuration.symbol_size → 0 < s.configuration.source_blocks → IsAligned s.configuration → HasNonsingularRows table s.configuration → Stands table object packets s
-    → ((other : List ℕ) → Fits table s.configuration packets other → IsObjectAnswer table s.configuration other packets answer) → IsSome answer ↔ IsOnlyObject table s.configuration packets object
-answers_only table object packets s answer pos some aligned nonsingular st each =
+-- what a decoder that stands for a list answers
+pub answers_only : (s : State) (answer : Option (List ℕ)) → 0 < s.configuration.source_blocks → 0 < s.configuration.symbol_size → IsAligned s.configuration → AnswersObject s answer → AnswersOnlyObject s answer
+answers_only s answer some pos aligned is table object packets st =
     let c = s.configuration in
-    let fits : Fits table c packets object = record { long = st.long; packets_are = st.honest } in
-    let own = each object fits in (
-      λ h other also. some_object answer object other (own.whole (own.only h)) ((each other also).whole (own.only h)),
-      λ only. subst IsSome (sym (own.whole (only_is_answerable table c pos some aligned (λ b below. row_of_shape table c b (s.held b) (st.shape b below)) nonsingular object packets fits only))) refl,
+    let own = (is table object packets (λ _. false) st).1 (λ b. refl) in
+    let rows : (b : ℕ) → b < c.source_blocks → HasRow (block_row table c b) (block_symbols c b) = λ b below. row_of_shape table c b (s.held b) (st.shape b below) in (
+      λ h other fits. one_object table c object other packets pos some aligned (λ b l. (rows b l).checked) (λ b l. (rows b l).fits) st.run fits (own.only h),
+      λ only. subst IsSome (sym (own.whole (only_is_answerable table c pos some aligned rows object packets st.run only))) refl,
     )
 
 -- ---- what a decoder's bytes are
@@ -233,7 +228,7 @@ module _ (s : State) (pos : 0 < s.configuration.symbol_size) (some : 0 < s.confi
   is_difference columns b j rows are none below in_width nonzero = record {
     long = length-bytes_of s.configuration row_at columns pos some aligned;
     answered = λ n i l h. zero_block s.configuration row_at columns pos some aligned n i l (none n l h);
-    zeros = λ n e l came. columns_encode s.configuration row_at columns pos some aligned (λ m. holds (s.held m)) are n e l (rows n l) came;
+    zeros = λ nonsingular n e l came. columns_encode s.configuration row_at columns pos some aligned (λ m. holds (s.held m)) are n e l (rows n l) (nonsingular n l) came;
     nonzero = λ nonsingular. nonzero_byte s.configuration row_at columns pos some aligned (λ m. holds (s.held m)) are b j below (nonsingular b below) in_width nonzero;
   }
 
@@ -250,20 +245,23 @@ module _ (s : State) (pos : 0 < s.configuration.symbol_size) (some : 0 < s.confi
   pub makes_others_fit : (bytes : List ℕ) → IsDifference s bytes → MakesOthersFit s bytes
   makes_others_fit bytes d late table object other packets st fits =
       let c = s.configuration in
-      fits-xor table c rows other bytes packets fits (record {
+      fits-xor table c rows st.run.nonsingular other bytes packets fits (record {
         long = d.long;
         zeros = λ b e below came. by_answer b e below came (s.answer b) refl;
       }) where
         rows : (b : ℕ) → b < s.configuration.source_blocks → HasRow (block_row table s.configuration b) (block_symbols s.configuration b)
         rows b below = row_of_shape table s.configuration b (s.held b) (st.shape b below)
 
+        held : HoldsNonsingularRows s
+        held b below = subst IsNonsingular (sym (st.shape b below).row) (st.run.nonsingular b below)
+
         by_answer : (b e : ℕ) → b < s.configuration.source_blocks → has_id b packets e ≡ true → (a : Option (List ℕ)) → s.answer b ≡ a
             → IsEncodingSymbol (block_row table s.configuration b) s.configuration.symbol_size (block_source s.configuration bytes b) e (zero_symbol s.configuration.symbol_size)
         by_answer b e below came (Some block) is =
             let c = s.configuration in
-            zeros_encode (block_row table c b) c.symbol_size (block_symbols c b) (block_source c bytes b) e pos (rows b below).checked (rows b below).fits (length-block_source c bytes b)
+            zeros_encode (block_row table c b) c.symbol_size (block_symbols c b) (block_source c bytes b) e pos (rows b below).checked (st.run.nonsingular b below) (rows b below).fits (length-block_source c bytes b)
             (λ i in_block. zero_source bytes b i (λ n. d.answered b n below (subst IsSome (sym is) refl)) in_block)
         by_answer b e below came None is =
             let c = s.configuration in
             let reads = (subst (BlockStands (late b) (block_bytes c object b) b packets (s.held b)) is (st.block b below)).0 in
-            subst (λ (r : Row). IsEncodingSymbol r c.symbol_size (block_source c bytes b) e (zero_symbol c.symbol_size)) (st.shape b below).row (d.zeros b e below (ap is_some (reads e) ∙ came))
+            subst (λ (r : Row). IsEncodingSymbol r c.symbol_size (block_source c bytes b) e (zero_symbol c.symbol_size)) (st.shape b below).row (d.zeros held b e below (ap is_some (reads e) ∙ came))

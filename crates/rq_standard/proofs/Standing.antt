@@ -10,12 +10,11 @@ use Rattle.rq_standard.specs.TableRows.{IsChecked}
 use Rattle.rq_standard.specs.Packet.{Packet}
 use Rattle.rq_standard.specs.Configuration.{Configuration, IsAligned}
 use Rattle.rq_standard.specs.Cutting.{block_symbols, block_bytes, symbol_of_block, source_symbol}
-use Rattle.rq_standard.specs.Equations.{zero_symbol, IsNonsingular, IsIntermediateColumn, IsEncodingSymbol}
+use Rattle.rq_standard.specs.Equations.{zero_symbol}
 use Rattle.rq_standard.specs.Received.{or_later, first_payload, has_id}
-use Rattle.rq_standard.specs.Determined.{DetermineBlock}
-use Rattle.rq_standard.specs.Encoded.{block_row, block_source, IsPacketOf, HasNonsingularRows}
+use Rattle.rq_standard.specs.Headline.{IsNonsingular, IsIntermediateColumn, IsEncodingSymbol, DetermineBlock, block_row, block_source, IsPacketOf, HasNonsingularRows}
 use Rattle.rq_standard.specs.Held.{Held, recorded, CanAnswer, IsBlockAnswer}
-use Rattle.rq_standard.specs.Standing.{State, IsHeldOf, new_held, new_answer, IsNewState, AddsToBlock, IsSameElsewhere, Adds, Stops, BlockStands, StandsBut, Stands, with_late, StandsForMore, CatchesUp, FallsBehind}
+use Rattle.rq_standard.specs.Standing.{State, IsHeldOf, new_held, new_answer, IsNewState, AddsToBlock, IsSameElsewhere, Adds, Records, StopsEarly, BlockStands, StandsBut, Stands, with_late, StandsForNone, StandsForMore, CatchesUp, FallsBehind}
 use Rattle.rq_standard.proofs.Known.{block_more, block_same, block_of_source, none_determined}
 use Rattle.rq_standard.proofs.Columns.{source_sum, solves_held}
 use Rattle.rq_standard.proofs.Firsts.{first_payload-here, first_payload-elsewhere, first_payload-packet, has_id-push}
@@ -54,7 +53,7 @@ by_option (Some x) P h = h x refl
 
 -- ---- what is held of it
 
-abbrev held_at : List Row → Configuration → ℕ → (ℕ → Option (List ℕ)) → Held
+abbrev pub held_at : List Row → Configuration → ℕ → (ℕ → Option (List ℕ)) → Held
 held_at table c b received = record { configuration = c; number = b; row = block_row table c b; symbols = block_symbols c b; received = received }
 
 held_is : (table : List Row) (c : Configuration) (b : ℕ) (h : Held) → IsHeldOf table c b h → held_at table c b h.received ≡ h
@@ -62,7 +61,7 @@ held_is table c b h shape = λ i. record { configuration = sym shape.configurati
 
 module _ (table : List Row) (c : Configuration) (object : List ℕ) (packets : List Packet) (b : ℕ) (received : ℕ → Option (List ℕ)) where
   -- each payload that counts is an encoding symbol of the block
-  held_symbol : AllByRecursion (IsPacketOf table c object) packets → ((e : ℕ) → received e ≡ first_payload b packets e) → (e : ℕ) → IfSome (received e) (λ payload. IsEncodingSymbol (block_row table c b) c.symbol_size (block_source c object b) e payload)
+  pub held_symbol : AllByRecursion (IsPacketOf table c object) packets → ((e : ℕ) → received e ≡ first_payload b packets e) → (e : ℕ) → IfSome (received e) (λ payload. IsEncodingSymbol (block_row table c b) c.symbol_size (block_source c object b) e payload)
   held_symbol honest reads e = by_option (received e) (IsEncodingSymbol (block_row table c b) c.symbol_size (block_source c object b) e) (λ x is.
       let q = first_payload-packet (IsPacketOf table c object) packets b e x honest (sym (reads e) ∙ is) in
       subst (λ n. IsEncodingSymbol (block_row table c b) c.symbol_size (block_source c object b) e n) q.4
@@ -85,7 +84,7 @@ module _ (table : List Row) (c : Configuration) (object : List ℕ) (packets : L
     answered_at late column None is ans = (reads, λ now d. absurd (cc (ans.none (inr (held_back d)))))
     answered_at late column (Some bytes) is ans =
         let d = can_answer (ans.some refl) in
-        let solves = solves_held (held_at table c b received) (block_source c object b) column checked nonsingular (length-block_source c object b) (source_sized c object b) is (held_symbol honest reads) in (
+        let solves = solves_held (held_at table c b received) (block_source c object b) column checked (length-block_source c object b) (source_sized c object b) is (held_symbol honest reads) in (
           same_symbols c (block_symbols c b) bytes (block_bytes c object b) aligned.alignment_positive aligned.aligned ans.block.long (length-block_bytes c object b)
               (λ e below. ans.block.solved (held_back d) column solves e below ∙ source_sum (block_row table c b) c.symbol_size e (block_source c object b) column checked is (source_sized c object b) (omega (arith, fits)) ∙ source_at c object b e below),
           d,
@@ -124,7 +123,7 @@ own_step : (table : List Row) (c : Configuration) (object : List ℕ) (packets :
     → IsHeldOf table c p.id.block new → BlockStands late (block_bytes c object p.id.block) p.id.block packets old a → AddsToBlock old a p new answer
     → BlockStands false (block_bytes c object p.id.block) p.id.block (packets ++ p ∷ []) new answer
 own_step table c object packets p late old new None answer aligned nonsingular honest pk after st add =
-    stands_answered table c object (packets ++ p ∷ []) p.id.block false new pk.symbol.column answer aligned nonsingular honest after (firsts_more packets p old new st.0 add.held) pk.symbol.is_column add.answers
+    stands_answered table c object (packets ++ p ∷ []) p.id.block false new pk.symbol.column answer aligned nonsingular honest after (firsts_more packets p old new st.0 add.held) pk.symbol.is_only.is add.answers
 own_step table c object packets p late old new (Some bytes) answer aligned nonsingular honest pk after st add =
     subst (λ r. BlockStands false (block_bytes c object p.id.block) p.id.block (packets ++ p ∷ []) new r) (sym add.1)
     (subst (λ h. BlockStands false (block_bytes c object p.id.block) p.id.block (packets ++ p ∷ []) h (Some bytes)) (sym add.0) (answered_step late false (block_bytes c object p.id.block) p.id.block packets p old bytes st))
@@ -152,8 +151,7 @@ module _ (table : List Row) (object : List ℕ) (packets : List Packet) (p : Pac
       let after : State = record { configuration = c; held = new.held; answer = new.answer } in
       let is : after ≡ new = λ i. record { configuration = sym other.configuration i; held = new.held; answer = new.answer } in
       subst (StandsBut (with_late here now late) table object (packets ++ p ∷ [])) is (record {
-        long = st.long;
-        honest = push-all (IsPacketOf table c object) packets p st.honest pk;
+        run = record { long = st.run.long; nonsingular = st.run.nonsingular; honest = push-all (IsPacketOf table c object) packets p st.run.honest pk };
         shape = λ b below. elim (cases_eq here b) [
           | inl e ↦ subst (λ n. IsHeldOf table c n (new.held n)) e shape_here
           | inr ne ↦ subst (IsHeldOf table c b) (sym (other.other b below (λ e. ne (sym e))).0) (st.shape b below)
@@ -171,18 +169,17 @@ module _ (table : List Row) (object : List ℕ) (packets : List Packet) (p : Pac
 
 -- one packet more, whichever block it is of: its block isn't late any more
 pub catches_up : (p : Packet) (old new : State) → IsAligned old.configuration → Adds old p new → CatchesUp old p new
-catches_up p old new aligned add table object packets late nonsingular st pk =
+catches_up p old new aligned add table object packets late st pk =
     let c = old.configuration in
     let here = p.id.block in
     let shape_here = shape_step table c here p (old.held here) (new.held here) (old.answer here) (new.answer here) (st.shape here pk.block) add.here in
     moved table object packets p old new late false st pk add.elsewhere shape_here
-    (own_step table c object packets p (late here) (old.held here) (new.held here) (old.answer here) (new.answer here) aligned (nonsingular here pk.block) (push-all (IsPacketOf table c object) packets p st.honest pk) pk shape_here (st.block here pk.block) add.here)
+    (own_step table c object packets p (late here) (old.held here) (new.held here) (old.answer here) (new.answer here) aligned (st.run.nonsingular here pk.block) (push-all (IsPacketOf table c object) packets p st.run.honest pk) pk shape_here (st.block here pk.block) add.here)
 
 -- fewer blocks are late
 stands_later : (late more : ℕ → Bool) (table : List Row) (object : List ℕ) (packets : List Packet) (s : State) → ((b : ℕ) → more b ≡ false → late b ≡ false) → StandsBut late table object packets s → StandsBut more table object packets s
 stands_later late more table object packets s fewer st = record {
-  long = st.long;
-  honest = st.honest;
+  run = st.run;
   shape = st.shape;
   block = λ b below. weaker (late b) (more b) (block_bytes s.configuration object b) b packets (s.held b) (s.answer b) (fewer b) (st.block b below);
 } where
@@ -191,8 +188,8 @@ stands_later late more table object packets s fewer st = record {
   weaker l m block b packets h (Some bytes) less x = x
 
 pub stands_more : (p : Packet) (old new : State) → IsAligned old.configuration → Adds old p new → StandsForMore old p new
-stands_more p old new aligned add table object packets nonsingular st pk =
-    stands_later (with_late p.id.block false (λ _. false)) (λ _. false) table object (packets ++ p ∷ []) new (λ b _. none (eqb b p.id.block)) (catches_up p old new aligned add table object packets (λ _. false) nonsingular st pk) where
+stands_more p old new aligned add table object packets st pk =
+    stands_later (with_late p.id.block false (λ _. false)) (λ _. false) table object (packets ++ p ∷ []) new (λ b _. none (eqb b p.id.block)) (catches_up p old new aligned add table object packets (λ _. false) st pk) where
       none : (x : Bool) → cond x false false ≡ false
       none true = refl
       none false = refl
@@ -206,28 +203,25 @@ unmoved late table object packets old new configuration same st =
     let after : State = record { configuration = old.configuration; held = new.held; answer = new.answer } in
     let is : after ≡ new = λ i. record { configuration = sym configuration i; held = new.held; answer = new.answer } in
     subst (StandsBut late table object packets) is (record {
-      long = st.long;
-      honest = st.honest;
+      run = st.run;
       shape = λ b below. subst (IsHeldOf table old.configuration b) (sym (same b below).0) (st.shape b below);
       block = λ b below. subst (λ h. BlockStands (late b) (block_bytes old.configuration object b) b packets h (new.answer b)) (sym (same b below).0)
           (subst (λ a. BlockStands (late b) (block_bytes old.configuration object b) b packets (old.held b) a) (sym (same b below).1) (st.block b below));
     })
 
-pub falls_behind : (p : Packet) (old new : State) → Stops old p new → FallsBehind old p new
-falls_behind p old new stop table object packets late st pk =
+-- the packet is recorded, and its block is late
+records_late : (p : Packet) (old new : State) → Records old p new → (table : List Row) (object : List ℕ) (packets : List Packet) (late : ℕ → Bool) → StandsBut late table object packets old → IsPacketOf table old.configuration object p
+    → StandsBut (with_late p.id.block true late) table object (packets ++ p ∷ []) new
+records_late p old new more table object packets late st pk =
     let c = old.configuration in
     let here = p.id.block in
-    elim stop.here.held [
-      | inl same ↦ inl (unmoved late table object packets old new stop.elsewhere.configuration
-          (λ b below. elim (cases_eq here b) [
-            | inl e ↦ subst (λ n. (new.held n ≡ old.held n) × (new.answer n ≡ old.answer n)) e (same, stop.here.stays ∙ sym stop.here.unanswered)
-            | inr ne ↦ stop.elsewhere.other b below (λ e. ne (sym e))
-          ]) st)
-      | inr more ↦
-          let reads = (subst (BlockStands (late here) (block_bytes c object here) here packets (old.held here)) stop.here.unanswered (st.block here pk.block)).0 in
-          inr (moved table object packets p old new late true st pk stop.elsewhere (recorded_shape table c here p (old.held here) (new.held here) (st.shape here pk.block) more)
-          (subst (BlockStands true (block_bytes c object here) here (packets ++ p ∷ []) (new.held here)) (sym stop.here.stays) (firsts_more packets p (old.held here) (new.held here) reads more, λ now. absurd (cc now))))
-    ]
+    let reads = (subst (BlockStands (late here) (block_bytes c object here) here packets (old.held here)) more.here.unanswered (st.block here pk.block)).0 in
+    moved table object packets p old new late true st pk more.elsewhere (recorded_shape table c here p (old.held here) (new.held here) (st.shape here pk.block) more.here.held)
+    (subst (BlockStands true (block_bytes c object here) here (packets ++ p ∷ []) (new.held here)) (sym more.here.waits) (firsts_more packets p (old.held here) (new.held here) reads more.here.held, λ now. absurd (cc now)))
+
+pub falls_behind : (p : Packet) (old new : State) → StopsEarly old p new → FallsBehind old p new
+falls_behind p old new (inl same) table object packets late st pk = inl (subst (StandsBut late table object packets) (sym same) st)
+falls_behind p old new (inr more) table object packets late st pk = inr (records_late p old new more table object packets late st pk)
 
 -- ---- before any packet
 
@@ -244,11 +238,10 @@ new_block table c object b nonsingular fits = elim (cases_eq (block_symbols c b)
       (λ e. refl, λ now. none_determined (block_row table c b) (block_symbols c b) (omega (arith, some)) fits)
 ]
 
-pub stands_new : (table : List Row) (object : List ℕ) (c : Configuration) (s : State) → HasNonsingularRows table c → length object ≡ c.transfer_length → ((b : ℕ) → b < c.source_blocks → IsHeldOf table c b (new_held table c b)) → IsNewState table c s → Stands table object [] s
-stands_new table object c s nonsingular long shape new =
+pub stands_new : (table : List Row) (c : Configuration) (s : State) → ((b : ℕ) → b < c.source_blocks → IsHeldOf table c b (new_held table c b)) → IsNewState table c s → StandsForNone table c s
+stands_new table c s shape new object run =
     unmoved (λ _. false) table object [] (record { configuration = c; held = new_held table c; answer = new_answer c }) s new.configuration (λ b below. (new.held b below, new.answer b below)) (record {
-      long = long;
-      honest = tt;
+      run = run;
       shape = shape;
-      block = λ b below. new_block table c object b (nonsingular b below) (shape b below).fits;
+      block = λ b below. new_block table c object b (run.nonsingular b below) (shape b below).fits;
     })

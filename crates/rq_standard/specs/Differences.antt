@@ -1,6 +1,6 @@
 -- What several objects that make the same packets differ by.
-use Rattle.std.specs.Prelude.{◌≡◌, ◌≢◌, ℕ, ◌-◌, ◌*◌, ◌/◌, ◌%◌, ◌<◌, Bool, true, List, ◌∷◌, length, map, slice_index, None, IsSome, if◌then◌else◌, ◌==◌, ◌&&◌, nat_lt}
-use Rattle.std.specs.List.{range_with_len, AllByRecursion}
+use Rattle.std.specs.Prelude.{◌≡◌, ◌≢◌, ℕ, ◌-◌, ◌*◌, ◌/◌, ◌%◌, ◌<◌, Bool, true, List, ◌∷◌, length, map, slice_index, Option, None, IsNone, IsSome, ◌↔◌, if◌then◌else◌, ◌==◌, ◌&&◌, nat_lt}
+use Rattle.std.specs.List.{range_with_len}
 use Rattle.rq_algebra.specs.Symbols.{add_symbols}
 use Rattle.rq_algebra.specs.Systems.{dot}
 use Rattle.rq_standard.specs.declared.row.Row.{Row}
@@ -8,20 +8,11 @@ use Rattle.rq_standard.specs.OctetField.{octets}
 use Rattle.rq_standard.specs.Packet.{Packet}
 use Rattle.rq_standard.specs.Configuration.{Configuration}
 use Rattle.rq_standard.specs.Cutting.{block_bytes, sub_block_size}
-use Rattle.rq_standard.specs.Equations.{zero_symbol, symbol_coefficient, IsNonsingular, IsEncodingSymbol}
+use Rattle.rq_standard.specs.Equations.{zero_symbol, symbol_coefficient}
 use Rattle.rq_standard.specs.TableRows.{intermediate_symbols}
-use Rattle.rq_standard.specs.Encoded.{block_row, block_source, IsPacketOf}
+use Rattle.rq_standard.specs.Headline.{IsNonsingular, IsEncodingSymbol, IsHonestRun, block_row, block_source}
 use Rattle.rq_standard.specs.Held.{holds, AreHeldDetermining}
-use Rattle.rq_standard.specs.Standing.{State, StandsBut}
-
--- an object of the configuration's length of which these are packets
-pub record Fits (table : List Row) (c : Configuration) (packets : List Packet) (object : List ℕ) : Type 0 where
-  pub long : length object ≡ c.transfer_length
-  pub packets_are : AllByRecursion (IsPacketOf table c object) packets
-
--- no other object fits
-abbrev pub IsOnlyObject : List Row → Configuration → List Packet → List ℕ → Type 0
-IsOnlyObject table c packets object = (other : List ℕ) → Fits table c packets other → other ≡ object
+use Rattle.rq_standard.specs.Standing.{State, StandsBut, Stands, result_of}
 
 -- the xor of two objects, byte by byte
 abbrev pub xor_bytes : List ℕ → List ℕ → List ℕ
@@ -38,22 +29,30 @@ pub record EncodesToZeros (table : List Row) (c : Configuration) (has : ℕ → 
 abbrev pub AreUnansweredDetermined : State → Type 0
 AreUnansweredDetermined s = (b : ℕ) → b < s.configuration.source_blocks → s.answer b ≡ None → AreHeldDetermining (s.held b)
 
+-- no block's row is singular
+abbrev pub HoldsNonsingularRows : State → Type 0
+HoldsNonsingularRows s = (b : ℕ) → b < s.configuration.source_blocks → IsNonsingular (s.held b).row
+
 -- as many bytes as the object has
 pub record IsDifference (s : State) (bytes : List ℕ) : Type 0 where
   pub long : length bytes ≡ s.configuration.transfer_length
   -- zeros in a block that is answered
   pub answered : (b i : ℕ) → b < s.configuration.source_blocks → IsSome (s.answer b) → slice_index (block_bytes s.configuration bytes b) i ≡ 0
-  -- zero symbols for all ids that are held
-  pub zeros : (b e : ℕ) → b < s.configuration.source_blocks → holds (s.held b) e ≡ true
+  -- over rows that aren't singular: zero symbols for all ids that are held
+  pub zeros : HoldsNonsingularRows s → (b e : ℕ) → b < s.configuration.source_blocks → holds (s.held b) e ≡ true
       → IsEncodingSymbol (s.held b).row s.configuration.symbol_size (block_source s.configuration bytes b) e (zero_symbol s.configuration.symbol_size)
-  -- not all zeros, over rows that aren't singular
-  pub nonzero : ((b : ℕ) → b < s.configuration.source_blocks → IsNonsingular (s.held b).row) → (i : ℕ) × (i < s.configuration.transfer_length) × (slice_index bytes i ≢ 0)
+  -- and not all zeros
+  pub nonzero : HoldsNonsingularRows s → (i : ℕ) × (i < s.configuration.transfer_length) × (slice_index bytes i ≢ 0)
 
--- bytes whose xor with any object that fits the list that a decoder stands for fits it too
+-- Of a decoder that stands for a list, with no block late: none exactly where the object is answered.
+abbrev pub IsNoneWhereAnswered : State → Option (List ℕ) → Type 0
+IsNoneWhereAnswered s difference = (table : List Row) (object : List ℕ) (packets : List Packet) → Stands table object packets s → IsNone difference ↔ IsSome (result_of s)
+
+-- of a decoder that stands for a list: bytes whose xor with any object that fits the list fits it too
 abbrev pub MakesOthersFit : State → List ℕ → Type 0
 MakesOthersFit s bytes =
     (late : ℕ → Bool) (table : List Row) (object other : List ℕ) (packets : List Packet)
-    → StandsBut late table object packets s → Fits table s.configuration packets other → Fits table s.configuration packets (xor_bytes other bytes)
+    → StandsBut late table object packets s → IsHonestRun table s.configuration other packets → IsHonestRun table s.configuration (xor_bytes other bytes) packets
 
 -- ---- symbols of which only the first octet may be nonzero
 

@@ -1,9 +1,9 @@
 -- The equations that decide the intermediate symbols of a block (RFC 6330, sections 5.3.3.3, 5.3.3.4 and 5.3.5.3), over a row of the table.
 use Rattle.std.specs.Prelude.{◌≡◌, ℕ, ◌+◌, ◌-◌, ◌*◌, ◌/◌, ◌%◌, Bool, true, false, ◌||◌, if◌then◌else◌, ◌==◌, nat_lt, nat_le, List, length, replicate, slice_index_or}
 use Rattle.std.specs.List.{range_with_len}
-use Rattle.rq_algebra.specs.Systems.{sum_below, IsDetermined, stacked, rows_of}
+use Rattle.rq_algebra.specs.Systems.{sum_below, stacked, rows_of}
 use Rattle.rq_algebra.specs.Parities.{sum_listed, parity}
-use Rattle.rq_algebra.specs.Symbols.{symbols, IsSymbolColumn, SolvesSymbols}
+use Rattle.rq_algebra.specs.Symbols.{symbols}
 use Rattle.rq_standard.specs.declared.row.Row.{Row}
 use Rattle.rq_standard.specs.OctetField.{octets}
 use Rattle.rq_standard.specs.Octets.{octet_power}
@@ -85,20 +85,9 @@ equations row ids = stacked (row.ldpc_symbols + row.hdpc_symbols) (fixed_equatio
 abbrev pub equation_count : Row → List ℕ → ℕ
 equation_count row ids = row.ldpc_symbols + row.hdpc_symbols + length ids
 
--- the ids determine the intermediate symbols
-abbrev pub AreDetermining : Row → List ℕ → Type 0
-AreDetermining row ids = IsDetermined octets (equation_count row ids) (intermediate_symbols row) (equations row ids)
-
 -- the ids of a block's source and padding symbols
 abbrev pub source_ids : Row → List ℕ
 source_ids row = range_with_len 0 row.source_symbols
-
--- source and padding symbols decide the intermediate symbols
-abbrev pub IsNonsingular : Row → Type 0
-IsNonsingular row = AreDetermining row (source_ids row)
-
-abbrev pub IsSingular : Row → Type 0
-IsSingular row = ¬ (IsNonsingular row)
 
 -- the symbol of zeros
 abbrev pub zero_symbol : ℕ → List ℕ
@@ -108,17 +97,6 @@ zero_symbol size = replicate {A = ℕ} size 0
 abbrev pub equation_values : Row → ℕ → List (List ℕ) → ℕ → List ℕ
 equation_values row size carried = stacked (row.ldpc_symbols + row.hdpc_symbols) (λ _. zero_symbol size) (λ i. slice_index_or carried i (zero_symbol size))
 
--- an intermediate column of a block: it solves the equations of the source and padding symbols
-pub record IsIntermediateColumn (row : Row) (size : ℕ) (source : List (List ℕ)) (column : ℕ → List ℕ) : Type 0 where
-  pub symbols : IsSymbolColumn octets size (intermediate_symbols row) column
-  pub solves : SolvesSymbols octets (equation_count row (source_ids row)) (intermediate_symbols row) (equations row (source_ids row)) column (equation_values row size source)
-
 -- the internal symbol id of an encoding symbol id, in a block of k source symbols over a row: padding symbols have no encoding symbol id
 abbrev pub internal_id : Row → ℕ → ℕ → ℕ
 internal_id row k esi = if nat_lt esi k then esi else esi + row.source_symbols - k
-
--- the payload of an encoding symbol id, source or repair, of a block whose source symbols are these
-pub record IsEncodingSymbol (row : Row) (size : ℕ) (source : List (List ℕ)) (esi : ℕ) (payload : List ℕ) : Type 0 where
-  pub column : ℕ → List ℕ
-  pub is_column : IsIntermediateColumn row size source column
-  pub is_sum : payload ≡ tuple_sum row column (internal_id row (length source) esi)

@@ -1,5 +1,6 @@
 -- What a decoder holds of a block, and what it answers.
-use Rattle.std.specs.Prelude.{◌≡◌, ℕ, ◌+◌, ◌*◌, ◌<◌, ◌≤◌, Bool, List, length, Option, Some, None, IfSome, IsSome, MatchOption, is_some, if◌then◌else◌, ◌==◌, ◌⊎◌}
+use Rattle.std.specs.Prelude.{◌≡◌, ◌≢◌, ℕ, ◌+◌, ◌*◌, ◌<◌, ◌≤◌, Bool, List, length, Option, Some, None, IfSome, IsSome, MatchOption, is_some, if◌then◌else◌, ◌==◌, ◌⊎◌}
+use Rattle.rq_algebra.specs.Systems.{IsColumn, at}
 use Rattle.rq_algebra.specs.Symbols.{IsSymbolColumn, SolvesSymbols}
 use Rattle.rq_standard.specs.declared.row.Row.{Row}
 use Rattle.rq_standard.specs.OctetField.{octets}
@@ -8,7 +9,7 @@ use Rattle.rq_standard.specs.Configuration.{Configuration}
 use Rattle.rq_standard.specs.Cutting.{symbol_of_block}
 use Rattle.rq_standard.specs.Equations.{fixed_equations, tuple_sum, zero_symbol, internal_id}
 use Rattle.rq_standard.specs.Received.{or_later, HasSourceSymbols}
-use Rattle.rq_standard.specs.Determined.{DetermineBlock, known_ids, IsHomogeneous}
+use Rattle.rq_standard.specs.Headline.{SolvesZeros, DetermineBlock, known_ids}
 
 -- of a block with this number and this many source symbols, over a row of the table, the payload that counts for each encoding symbol id
 pub record Held : Type 0 where
@@ -41,7 +42,16 @@ pub record SolvesHeld (h : Held) (column : ℕ → List ℕ) : Type 0 where
 abbrev pub AreHeldDetermining : Held → Type 0
 AreHeldDetermining h = DetermineBlock h.row h.symbols (holds h)
 
--- a column that shows that they don't, and none where they do
+-- a plain column that shows that known ids don't determine: it solves their equations with all values zero, and isn't all zeros
+pub record IsHomogeneous (row : Row) (known : ℕ → Bool) (column : List ℕ) : Type 0 where
+  pub count : length column ≡ intermediate_symbols row
+  pub elements : IsColumn octets (intermediate_symbols row) (at column)
+  pub solves : SolvesZeros row known (at column)
+  pub place : ℕ
+  pub below : place < intermediate_symbols row
+  pub nonzero : at column place ≢ 0
+
+-- such a column of what is held, and none where the ids that are held determine the block
 abbrev pub ShowsUndetermined : Held → Option (List ℕ) → Type 0
 ShowsUndetermined h answer = MatchOption answer (AreHeldDetermining h) (IsHomogeneous h.row (known_ids h.row h.symbols (holds h)))
 

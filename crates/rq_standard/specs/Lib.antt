@@ -4,12 +4,12 @@ pub mod BitTableSteps
 pub mod Configuration
 pub mod ConstraintMatrix
 pub mod Cutting
-pub mod Determined
 pub mod Differences
-pub mod Encoded
 pub mod Equations
+pub mod Headline
 pub mod Held
 pub mod IdLists
+pub mod ObjectPackets
 pub mod OctetFacts
 pub mod OctetField
 pub mod OctetLaws

@@ -1,5 +1,5 @@
 -- What it means that a decoder of an object stands for a list of packets.
-use Rattle.std.specs.Prelude.{◌≡◌, ℕ, zero, suc, ◌<◌, ◌≤◌, ◌≢◌, ◌⊎◌, Bool, true, false, List, [], ◌∷◌, ◌++◌, length, take, Option, Some, None, option_map, IsSome, IfSome, MatchOption, if◌then◌else◌, ◌==◌}
+use Rattle.std.specs.Prelude.{◌≡◌, ◌↔◌, ℕ, zero, suc, ◌<◌, ◌≤◌, ◌≢◌, ◌⊎◌, Bool, true, false, List, [], ◌∷◌, ◌++◌, length, take, Option, Some, None, option_map, IsSome, IfSome, MatchOption, if◌then◌else◌, ◌==◌}
 use Rattle.std.specs.List.{AllByRecursion}
 use Rattle.rq_standard.specs.declared.row.Row.{Row}
 use Rattle.rq_standard.specs.TableRows.{IsChecked}
@@ -7,8 +7,7 @@ use Rattle.rq_standard.specs.Packet.{Packet}
 use Rattle.rq_standard.specs.Configuration.{Configuration}
 use Rattle.rq_standard.specs.Cutting.{block_symbols, block_bytes}
 use Rattle.rq_standard.specs.Received.{first_payload, has_id}
-use Rattle.rq_standard.specs.Determined.{DetermineBlock}
-use Rattle.rq_standard.specs.Encoded.{block_row, IsPacketOf, HasNonsingularRows, IsAnswerable}
+use Rattle.rq_standard.specs.Headline.{DetermineBlock, block_row, IsPacketOf, IsHonestRun, IsObjectAnswer, IsOnlyObject}
 use Rattle.rq_standard.specs.Held.{Held, nothing_held, recorded, IsBlockAnswer}
 
 -- what a decoder holds of each block, and which blocks it has answered
@@ -63,11 +62,11 @@ pub record AddsOpen (old : Held) (p : Packet) (new : Held) (answer : Option (Lis
 abbrev pub AddsToBlock : Held → Option (List ℕ) → Packet → Held → Option (List ℕ) → Type 0
 AddsToBlock old before p new after = MatchOption before (AddsOpen old p new after) (λ _. (new ≡ old) × (after ≡ before))
 
--- What it does where memory is refused: the packet is recorded or not, and the block stays without an answer.
-pub record StopsBlock (old : Held) (before : Option (List ℕ)) (p : Packet) (new : Held) (after : Option (List ℕ)) : Type 0 where
+-- What it does where memory is refused while its block is solved: the packet is recorded, and the block waits for its answer.
+pub record RecordsInBlock (old : Held) (before : Option (List ℕ)) (p : Packet) (new : Held) (after : Option (List ℕ)) : Type 0 where
   pub unanswered : before ≡ None
-  pub stays : after ≡ None
-  pub held : (new ≡ old) ⊎ (new ≡ recorded old p.id.esi p.payload)
+  pub waits : after ≡ None
+  pub held : new ≡ recorded old p.id.esi p.payload
 
 -- what was there of the other blocks stays
 pub record IsSameElsewhere (old : State) (b : ℕ) (new : State) : Type 0 where
@@ -79,26 +78,33 @@ pub record Adds (old : State) (p : Packet) (new : State) : Type 0 where
   pub here : AddsToBlock (old.held p.id.block) (old.answer p.id.block) p (new.held p.id.block) (new.answer p.id.block)
   pub elsewhere : IsSameElsewhere old p.id.block new
 
--- what it does where memory is refused before its block is answered
-pub record Stops (old : State) (p : Packet) (new : State) : Type 0 where
-  pub here : StopsBlock (old.held p.id.block) (old.answer p.id.block) p (new.held p.id.block) (new.answer p.id.block)
+-- what it does where memory is refused while its block is solved
+pub record Records (old : State) (p : Packet) (new : State) : Type 0 where
+  pub here : RecordsInBlock (old.held p.id.block) (old.answer p.id.block) p (new.held p.id.block) (new.answer p.id.block)
   pub elsewhere : IsSameElsewhere old p.id.block new
+
+-- Where memory is refused for a packet: everything is as it was, or the packet is recorded and its block waits for its answer.
+abbrev pub StopsEarly : State → Packet → State → Type 0
+StopsEarly old p new = (new ≡ old) ⊎ Records old p new
 
 -- What is held of a block, and its answer, after a list: answered and determined, or holding the first payloads and not determined. An answer can be late, where memory was refused while it was solved.
 abbrev pub BlockStands : Bool → List ℕ → ℕ → List Packet → Held → Option (List ℕ) → Type 0
 BlockStands late block b packets h (Some bytes) = (bytes ≡ block) × DetermineBlock h.row h.symbols (has_id b packets)
 BlockStands late block b packets h None = ((e : ℕ) → h.received e ≡ first_payload b packets e) × (late ≡ false → DetermineBlock h.row h.symbols (has_id b packets) → ⊥)
 
--- the decoder stands for a list of packets of the object, but for blocks whose answers are late
+-- the decoder stands for the list of an honest run, but for blocks whose answers are late
 pub record StandsBut (late : ℕ → Bool) (table : List Row) (object : List ℕ) (packets : List Packet) (s : State) : Type 0 where
-  pub long : length object ≡ s.configuration.transfer_length
-  pub honest : AllByRecursion (IsPacketOf table s.configuration object) packets
+  pub run : IsHonestRun table s.configuration object packets
   pub shape : (b : ℕ) → b < s.configuration.source_blocks → IsHeldOf table s.configuration b (s.held b)
   pub block : (b : ℕ) → b < s.configuration.source_blocks → BlockStands (late b) (block_bytes s.configuration object b) b packets (s.held b) (s.answer b)
 
--- the decoder stands for a list of packets of the object
+-- the decoder stands for the list of an honest run
 abbrev pub Stands : List Row → List ℕ → List Packet → State → Type 0
 Stands = StandsBut (λ _. false)
+
+-- before any packet it stands for the empty list
+abbrev pub StandsForNone : List Row → Configuration → State → Type 0
+StandsForNone table c new = (object : List ℕ) → IsHonestRun table c object [] → Stands table object [] new
 
 -- with one block more that is late, or one less
 abbrev pub with_late : ℕ → Bool → (ℕ → Bool) → ℕ → Bool
@@ -108,14 +114,14 @@ with_late b now late n = if n == b then now else late n
 abbrev pub StandsForMore : State → Packet → State → Type 0
 StandsForMore old p new =
     (table : List Row) (object : List ℕ) (packets : List Packet)
-    → HasNonsingularRows table old.configuration → Stands table object packets old → IsPacketOf table old.configuration object p
+    → Stands table object packets old → IsPacketOf table old.configuration object p
     → Stands table object (packets ++ p ∷ []) new
 
 -- The same where blocks are late: the packet's own block isn't late any more.
 abbrev pub CatchesUp : State → Packet → State → Type 0
 CatchesUp old p new =
     (table : List Row) (object : List ℕ) (packets : List Packet) (late : ℕ → Bool)
-    → HasNonsingularRows table old.configuration → StandsBut late table object packets old → IsPacketOf table old.configuration object p
+    → StandsBut late table object packets old → IsPacketOf table old.configuration object p
     → StandsBut (with_late p.id.block false late) table object (packets ++ p ∷ []) new
 
 -- Where memory is refused, one that stands for the list, or for the longer one but for its block's answer.
@@ -125,14 +131,16 @@ FallsBehind old p new =
     → StandsBut late table object packets old → IsPacketOf table old.configuration object p
     → StandsBut late table object packets new ⊎ StandsBut (with_late p.id.block true late) table object (packets ++ p ∷ []) new
 
--- the object, exactly where the list determines each of its blocks
-pub record IsObjectAnswer (table : List Row) (c : Configuration) (object : List ℕ) (packets : List Packet) (answer : Option (List ℕ)) : Type 0 where
-  pub whole : IsAnswerable table c packets → answer ≡ Some object
-  pub only : IsSome answer → IsAnswerable table c packets
-
 -- what a decoder that stands for a list answers: the object and nothing else, and that exactly where the list determines it, unless a block is late
 abbrev pub AnswersObject : State → Option (List ℕ) → Type 0
 AnswersObject s answer =
     (table : List Row) (object : List ℕ) (packets : List Packet) (late : ℕ → Bool)
     → StandsBut late table object packets s
     → IfSome answer (λ bytes. bytes ≡ object) × (((b : ℕ) → late b ≡ false) → IsObjectAnswer table s.configuration object packets answer)
+
+-- No decoder can do better: where it stands for a list, with no block late, there is an answer exactly where no other object fits the list.
+abbrev pub AnswersOnlyObject : State → Option (List ℕ) → Type 0
+AnswersOnlyObject s answer =
+    (table : List Row) (object : List ℕ) (packets : List Packet)
+    → Stands table object packets s
+    → IsSome answer ↔ IsOnlyObject table s.configuration packets object

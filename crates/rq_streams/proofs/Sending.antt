@@ -5,7 +5,7 @@ use Rattle.rq_bytes.specs.declared.error.Error.{Error}
 use Rattle.rq_bytes.specs.declared.error.Error.TheVariants.{OutOfMemory}
 use Rattle.rq_bytes.specs.Refusals.{IsRefusal}
 use Rattle.rq_standard.specs.declared.row.Row.{Row}
-use Rattle.rq_standard.specs.Encoded.{HasNonsingularRows, AreEncoded}
+use Rattle.rq_standard.specs.Headline.{HasNonsingularRows}
 use Rattle.rq_standard.specs.Packet.{Packet, packet_bytes}
 use Rattle.rq_standard.specs.TableRows.{greatest_size}
 use Rattle.rq_standard.specs.Configuration.{Configuration, header_bytes}
@@ -15,6 +15,7 @@ use Rattle.raptorq.specs.Encoded.{packets_refusal}
 use Rattle.raptorq.specs.Refused.{new_encoder}
 use Rattle.rq_streams.specs.Ends.{Wanted}
 use Rattle.rq_streams.specs.Sent.{sent_configuration, IsStreamSent, Sends, IsSent}
+use Rattle.rq_standard.specs.ObjectPackets.{AreEncoded}
 
 frames_of-push : (packets : List Packet) (p : Packet) → frames_of (packets ++ p ∷ []) ≡ frames_of packets ++ packet_bytes p
 frames_of-push [] p = append-nil (packet_bytes p)

@@ -12,7 +12,7 @@ use Rattle.rq_standard.specs.declared.row.Row.{Row}
 use Rattle.rq_standard.specs.Packet.{Packet}
 use Rattle.rq_standard.specs.Configuration.{Configuration, IsConfiguration, IsAccepted, largest_block}
 use Rattle.rq_standard.specs.Parameters.{alignment_for, symbol_size_for, fitting_block, most_sub_blocks, symbols_for, blocks_for, is_fitting, first_from, sub_blocks_for, parameters_for}
-use Rattle.rq_standard.specs.Encoded.{IsPacketOf, HasNonsingularRows}
+use Rattle.rq_standard.specs.Headline.{IsPacketOf, HasNonsingularRows}
 use Rattle.rq_standard.specs.Streams.{stream_of}
 use Rattle.rq_standard.specs.TableRows.{greatest_size, IsTable}
 use Rattle.rq_base.specs.Defaults.{wanted_parameters}

@@ -12,8 +12,7 @@ use Rattle.rq_standard.specs.Configuration.{Configuration, IsConfiguration, IsAc
 use Rattle.rq_standard.specs.Cutting.{block_symbols}
 use Rattle.rq_standard.specs.declared.row.Row.{Row}
 use Rattle.rq_standard.specs.TableRows.{IsChecked, IsTable, greatest_size}
-use Rattle.rq_standard.specs.Encoded.{block_row, IsPacketOf}
-use Rattle.rq_standard.specs.Standing.{IsObjectAnswer}
+use Rattle.rq_standard.specs.Headline.{block_row, IsPacketOf, IsObjectAnswer}
 use Rattle.rq_standard.specs.Streams.{frames_of}
 use Rattle.rq_standard.proofs.HeaderBytes.{configuration_of_bytes-header_bytes}
 use Rattle.rq_standard.proofs.BlockCuts.{block_symbols_few}

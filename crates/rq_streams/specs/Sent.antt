@@ -6,13 +6,14 @@ use Rattle.rq_bytes.specs.Refusals.{and_then}
 use Rattle.rq_standard.specs.declared.row.Row.{Row}
 use Rattle.rq_standard.specs.Packet.{Packet}
 use Rattle.rq_standard.specs.Configuration.{Configuration}
-use Rattle.rq_standard.specs.Encoded.{HasNonsingularRows, AreEncoded}
+use Rattle.rq_standard.specs.Headline.{HasNonsingularRows}
 use Rattle.rq_standard.specs.Streams.{stream_of}
 use Rattle.rq_standard.specs.TableRows.{greatest_size}
 use Rattle.rq_base.specs.Defaults.{wanted_parameters}
 use Rattle.raptorq.specs.Encoded.{packets_refusal}
 use Rattle.raptorq.specs.Refused.{new_encoder}
 use Rattle.rq_streams.specs.Ends.{Wanted}
+use Rattle.rq_standard.specs.ObjectPackets.{AreEncoded}
 
 -- the default configuration of an object, unless something refuses it
 abbrev pub sent_configuration : List Row → ℕ → List ℕ → Result Configuration Error

@@ -5,7 +5,7 @@ use Rattle.rq_standard.specs.declared.row.Row.{Row}
 use Rattle.rq_standard.specs.TableRows.{IsTable}
 use Rattle.rq_standard.specs.Packet.{Packet}
 use Rattle.rq_standard.specs.Configuration.{Configuration}
-use Rattle.rq_standard.specs.Encoded.{AreEncoded}
+use Rattle.rq_standard.specs.ObjectPackets.{AreEncoded}
 use Rattle.rq_standard.specs.Streams.{stream_of}
 use Rattle.rq_streams.specs.Received.{IsStreamOf}
 use Rattle.rq_streams.specs.Sent.{IsSent}

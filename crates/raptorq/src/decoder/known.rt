@@ -2,7 +2,7 @@
 ghost use Rattle.std.specs.Prelude.{◌≡◌, ℕ, ◌^◌, ◌<◌, ◌≤◌, true, length, IfOk, IfErr};
 ghost use Rattle.std.specs.Option.{ForSome};
 ghost use Rattle.rq_bytes.specs.Slab.{slab_of};
-ghost use Rattle.rq_standard.specs.Determined.{known_ids};
+ghost use Rattle.rq_standard.specs.Headline.{known_ids};
 ghost use Rattle.rq_standard.specs.Equations.{equation_count};
 ghost use Rattle.rq_standard.specs.IdLists.{IsListOf};
 ghost use Rattle.rq_standard.specs.TableRows.{IsChecked};

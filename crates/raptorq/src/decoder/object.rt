@@ -4,9 +4,7 @@ ghost use Rattle.std.specs.List.{range_with_len, AllByRecursion};
 ghost use Rattle.rq_bytes.specs.Refusals.{IsAnswer, IsRefusal};
 ghost use Rattle.rq_standard.specs.Configuration.{IsAccepted, IsAligned, largest_block, total_symbols};
 ghost use Rattle.rq_standard.specs.Cutting.{block_symbols};
-ghost use Rattle.rq_standard.specs.Differences.{IsOnlyObject};
-ghost use Rattle.rq_standard.specs.Encoded.{IsPacketOf, HasNonsingularRows};
-ghost use Rattle.rq_standard.specs.Standing.{IsObjectAnswer};
+ghost use Rattle.rq_standard.specs.Headline.{IsOnlyObject, IsPacketOf, HasNonsingularRows, IsObjectAnswer};
 ghost use Rattle.rq_standard.specs.TableRows.{greatest_size};
 ghost use Rattle.rq_base.specs.Refused.{checked_configuration};
 ghost use Rattle.raptorq.specs.Blocks.{held_of};
@@ -114,7 +112,7 @@ pub struct Decoder {
 
 impl Decoder {
     ghost use Rattle.rq_standard.specs.Differences.{AreUnansweredDetermined, IsDifference, MakesOthersFit};
-    ghost use Rattle.rq_standard.specs.Standing.{IsNewState, Adds, Stops, Stands, StandsForMore, CatchesUp, FallsBehind, AnswersObject, result_of};
+    ghost use Rattle.rq_standard.specs.Standing.{IsNewState, Adds, StopsEarly, Stands, StandsForMore, CatchesUp, FallsBehind, AnswersObject, result_of};
     ghost use Rattle.raptorq.specs.Refused.{packet_refusal};
     ghost use Rattle.raptorq.specs.Objects.{state_of};
 

@@ -1,11 +1,9 @@
 //! The encoder of one source block.
-ghost use Rattle.std.specs.Prelude.{◌≡◌, ◌+◌, ◌-◌, ◌/◌, ◌^◌, ◌<◌, ◌≤◌, All, length, map, IfOk, IfErr, OnOk, OnErr};
-ghost use Rattle.std.specs.List.{range_with_len};
+ghost use Rattle.std.specs.Prelude.{◌≡◌, ◌+◌, ◌-◌, ◌/◌, ◌^◌, ◌<◌, ◌≤◌, All, length, IfOk, IfErr, OnOk, OnErr};
 ghost use Rattle.rq_bytes.specs.Refusals.{IsAnswer};
 ghost use Rattle.rq_bytes.specs.Slab.{symbol_in, symbols_in};
 ghost use Rattle.rq_standard.specs.Configuration.{IsAligned};
-ghost use Rattle.rq_standard.specs.Cutting.{symbol_of_block};
-ghost use Rattle.rq_standard.specs.Equations.{IsNonsingular, IsIntermediateColumn, IsEncodingSymbol};
+ghost use Rattle.rq_standard.specs.Headline.{IsNonsingular, IsOnlyIntermediateColumn, IsEncodingSymbol};
 ghost use Rattle.rq_standard.specs.TableRows.{IsChecked, greatest_size, intermediate_symbols};
 ghost use Rattle.raptorq.specs.Refused.{wanted_count, repair_refusal};
 
@@ -35,12 +33,12 @@ pub struct SourceBlockEncoder {
     pub ghost few: { length source.items ≤ row.source_symbols },
     pub ghost sized: { All (λ symbol. length symbol ≡ intermediate.symbol_size) source.items },
     pub ghost places: { intermediate_symbols row ≤ length (symbols_in intermediate) },
-    pub ghost solved: { IsIntermediateColumn row intermediate.symbol_size source.items (symbol_in intermediate) },
+    pub ghost solved: { IsOnlyIntermediateColumn row intermediate.symbol_size source.items (symbol_in intermediate) },
 }
 
 impl SourceBlockEncoder {
     ghost use Rattle.raptorq.specs.BlockEncoded.{block_encoded_of, AreBlockPackets};
-    ghost use Rattle.raptorq.specs.BlockData.{block_of, IsPlanFor, RefusesBlock, RefusesPlanned};
+    ghost use Rattle.raptorq.specs.BlockData.{block_of, block_by_plan, IsPlanFor, RefusesBlock, RefusesPlanned};
     ghost use Rattle.raptorq.specs.PlanCache.{used};
     ghost use Rattle.raptorq.specs.Plans.{plan_of};
 
@@ -117,7 +115,7 @@ impl SourceBlockEncoder {
     ) -> Result<SourceBlockEncoder, Error>
         requires positive { 0 < config.now.symbol_size }
         requires aligned { IsAligned config.now }
-        ensures encoded { let count = (plan_of plan.now).count in IfOk result (λ b. block_encoded_of b ≡ record { number = number; row = (plan_of plan.now).row; size = config.now.symbol_size; source = map (symbol_of_block config.now count block.now) (range_with_len 0 count) }) }
+        ensures encoded { IfOk result (λ b. block_encoded_of b ≡ block_by_plan (plan_of plan.now) config.now number block.now) }
         ensures memory { IfErr result (λ e. e ≡ Error.OutOfMemory) }
     {
         let count = u32::from(plan.source_symbol_count());

@@ -3,7 +3,7 @@ ghost use Rattle.std.specs.Prelude.{◌≡◌, ◌⊎◌, ◌<◌, ◌≤◌, Al
 ghost use Rattle.rq_algebra.specs.Operations.{AreAllowed};
 ghost use Rattle.rq_bytes.specs.Slab.{slab_of, symbol_in, symbols_in};
 ghost use Rattle.rq_bytes.specs.SymbolOps.{operation_of};
-ghost use Rattle.rq_standard.specs.Equations.{IsNonsingular, IsSingular, IsIntermediateColumn};
+ghost use Rattle.rq_standard.specs.Headline.{IsNonsingular, IsSingular, IsOnlyIntermediateColumn};
 ghost use Rattle.rq_standard.specs.TableRows.{IsChecked, row_of, intermediate_symbols};
 ghost use Rattle.raptorq.specs.Allowed.{AreAllowed-prop};
 ghost use Rattle.raptorq.specs.Planned.{IsPlanOf, source_values};
@@ -115,7 +115,7 @@ impl SourceBlockEncodingPlan {
         requires sized { All (λ symbol. length symbol ≡ size) source.now }
         ensures size { IfOk result (λ slab. slab.symbol_size ≡ size) }
         ensures places { IfOk result (λ slab. intermediate_symbols (plan_of self.now).row ≤ length (symbols_in slab)) }
-        ensures column { IfOk result (λ slab. IsIntermediateColumn (plan_of self.now).row size source.now (symbol_in slab)) }
+        ensures column { IfOk result (λ slab. IsOnlyIntermediateColumn (plan_of self.now).row size source.now (symbol_in slab)) }
         ensures memory { IfErr result (λ e. e ≡ Error.OutOfMemory) }
     {
         let mut symbols = source_values(alloc, &self.row, size, source)?;

@@ -2,8 +2,7 @@ use Rattle.std.proofs.Common.{◌≡◌, ◌*◌, ◌<◌, take, drop, map, sym,
 use borrow.Author.Count.{below_more}
 use Rattle.std.proofs.lemmas.Result.{err_from_is_err_and}
 use Rattle.rq_standard.specs.Cutting.{block_symbols}
-use Rattle.rq_standard.specs.Encoded.{block_row}
-use Rattle.rq_standard.specs.Equations.{IsNonsingular}
+use Rattle.rq_standard.specs.Headline.{block_row, IsNonsingular}
 use Rattle.rq_standard.specs.TableRows.{row_of}
 use Rattle.rq_standard.proofs.BlockCuts.{block_symbols_few}
 use Rattle.raptorq.specs.BlockEncoded.{block_encoded_of, new_block_encoded}

@@ -1,5 +1,5 @@
 use Rattle.std.proofs.Common.{sym, ap, ◌∙◌, subst}
-use Rattle.rq_standard.specs.Equations.{IsNonsingular}
+use Rattle.rq_standard.specs.Headline.{IsNonsingular}
 use Rattle.rq_standard.specs.TableRows.{row_of}
 use Rattle.raptorq.proofs.encoder.plan_for.Goals as goal
 

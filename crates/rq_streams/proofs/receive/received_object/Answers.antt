@@ -3,7 +3,7 @@ use Rattle.std.specs.List.{AllByRecursion}
 use Rattle.std.proofs.lemmas.List.{take_rest}
 use Rattle.std.proofs.lemmas.Result.{IfOk-weaker, err_from_is_err_and}
 use Rattle.rq_bytes.specs.declared.error.Error.TheVariants.{OutOfMemory}
-use Rattle.rq_standard.specs.Encoded.{HasNonsingularRows}
+use Rattle.rq_standard.specs.Headline.{HasNonsingularRows}
 use Rattle.rq_standard.specs.Streams.{frames_of}
 use Rattle.rq_standard.specs.TableRows.{greatest_size}
 use Rattle.raptorq.specs.Objects.{state_of}

@@ -2,7 +2,7 @@ use Rattle.std.proofs.Common.{◌≡◌, ◌+◌, ◌∷◌, min, length, Ok, Er
 use Rattle.std.specs.Slice.Iter.{chunks_size, chunks_rest}
 use Rattle.std.proofs.lemmas.Result.{err_from_is_err_and}
 use Rattle.rq_bytes.specs.declared.error.Error.TheVariants.{OutOfMemory}
-use Rattle.rq_standard.specs.Encoded.{HasNonsingularRows}
+use Rattle.rq_standard.specs.Headline.{HasNonsingularRows}
 use Rattle.raptorq.specs.Objects.{state_of}
 use Rattle.rq_streams.specs.Frames.{frame_size, frames_in, frame_refusal, first_refusal}
 use Rattle.rq_streams.proofs.Cutting.{frames_in-next, frames_in-none}

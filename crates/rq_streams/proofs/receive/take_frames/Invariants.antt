@@ -3,7 +3,7 @@ use Rattle.std.specs.List.{AllByRecursion}
 use Rattle.std.specs.Slice.Iter.{chunks_size, chunks_rest}
 use Rattle.rq_standard.specs.Packet.{Packet}
 use Rattle.rq_standard.specs.declared.row.Row.{Row}
-use Rattle.rq_standard.specs.Encoded.{HasNonsingularRows}
+use Rattle.rq_standard.specs.Headline.{HasNonsingularRows}
 use Rattle.rq_standard.specs.Standing.{Stands}
 use Rattle.rq_standard.specs.Streams.{frames_of}
 use Rattle.raptorq.specs.Objects.{state_of}

@@ -1,6 +1,6 @@
 use Rattle.std.proofs.Common.{◌≡◌, ◌∷◌, ◌++◌, ◌^◌, length, map, subst, arith, ap, sym, ◌∙◌, append-nil}
 use Rattle.std.specs.Map.Iter.{deref}
-use Rattle.rq_standard.specs.Determined.{known_ids}
+use Rattle.rq_standard.specs.Headline.{known_ids}
 use Rattle.rq_standard.specs.IdLists.{IsListOf}
 use Rattle.raptorq.specs.Known.{known_list}
 use Rattle.raptorq.specs.Missing.{has_payload}

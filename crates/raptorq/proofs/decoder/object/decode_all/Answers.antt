@@ -3,7 +3,7 @@ use Rattle.std.specs.Vec.Iter.{into_iter_items}
 use Rattle.std.proofs.lemmas.Result.{IfOk-weaker, err_from_is_err_and}
 use Rattle.std.proofs.lemmas.List.{nil_from_length}
 use Rattle.rq_bytes.specs.Refusals.{IsRefusal}
-use Rattle.rq_standard.specs.Encoded.{HasNonsingularRows}
+use Rattle.rq_standard.specs.Headline.{HasNonsingularRows}
 use Rattle.raptorq.specs.Objects.{state_of}
 use Rattle.raptorq.proofs.Lists.{next_honest, next_refused, next_whole, answer_all, only_answer}
 use Rattle.raptorq.proofs.decoder.object.decode_all.Goals as goal

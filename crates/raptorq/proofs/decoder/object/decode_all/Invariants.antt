@@ -1,7 +1,7 @@
 use Rattle.std.proofs.Common.{◌≡◌, ℕ, List, ◌++◌, length}
 use Rattle.std.specs.List.{AllByRecursion}
 use Rattle.std.specs.Vec.Iter.{into_iter_items}
-use Rattle.rq_standard.specs.Encoded.{IsPacketOf, HasNonsingularRows}
+use Rattle.rq_standard.specs.Headline.{IsPacketOf, HasNonsingularRows}
 use Rattle.rq_standard.specs.Standing.{Stands}
 use Rattle.raptorq.specs.Objects.{state_of}
 use Rattle.raptorq.proofs.decoder.object.decode_all.Given as goal

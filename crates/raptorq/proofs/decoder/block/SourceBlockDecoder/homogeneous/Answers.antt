@@ -1,6 +1,6 @@
 use Rattle.std.proofs.Common.{sym, subst}
 use Rattle.std.proofs.lemmas.Result.{IfOk-weaker}
-use Rattle.rq_standard.specs.Determined.{known_ids}
+use Rattle.rq_standard.specs.Headline.{known_ids}
 use Rattle.rq_standard.specs.IdLists.{IsListOf}
 use Rattle.raptorq.specs.Missing.{has_payload}
 use Rattle.raptorq.proofs.Undetermined.{shows_known}

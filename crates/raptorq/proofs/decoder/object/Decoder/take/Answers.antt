@@ -5,7 +5,7 @@ use Rattle.std.proofs.lemmas.Result.{on_ok_weaker}
 use Rattle.std.proofs.Math.Seq.{map-set_same}
 use Rattle.rq_bytes.specs.declared.error.Error.TheVariants.{OutOfMemory}
 use Rattle.rq_standard.specs.Cutting.{block_symbols}
-use Rattle.rq_standard.specs.Standing.{Adds, Stops}
+use Rattle.rq_standard.specs.Standing.{Adds, StopsEarly}
 use Rattle.raptorq.specs.Blocks.{held_of}
 use Rattle.raptorq.proofs.Numbered.{length-numbered, number_at}
 use Rattle.raptorq.proofs.ObjectBlocks.{state, number_of, block_of_packet, block_takes, IsCut, adds_at, stops_at}

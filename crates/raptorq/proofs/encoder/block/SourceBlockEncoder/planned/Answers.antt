@@ -1,7 +1,7 @@
 use Rattle.std.proofs.Common.{◌≡◌, ◌≤◌, All, List, ℕ, length, sym, subst}
 use Rattle.rq_bytes.specs.Slab.{symbol_in, symbols_in}
 use Rattle.rq_standard.specs.declared.row.Row.{Row}
-use Rattle.rq_standard.specs.Equations.{IsIntermediateColumn}
+use Rattle.rq_standard.specs.Headline.{IsIntermediateColumn}
 use Rattle.rq_standard.specs.TableRows.{intermediate_symbols}
 use Rattle.raptorq.proofs.encoder.block.SourceBlockEncoder.planned.Goals as goal
 

@@ -3,7 +3,7 @@ use Rattle.rq_algebra.specs.Symbols.{AreSymbols}
 use Rattle.rq_bytes.specs.Slab.{Slab, symbol_in}
 use Rattle.rq_bytes.specs.SymbolOps.{operation_of}
 use Rattle.rq_solver.specs.Replay.{after_all}
-use Rattle.rq_standard.specs.Equations.{IsIntermediateColumn}
+use Rattle.rq_standard.specs.Headline.{IsIntermediateColumn}
 use Rattle.rq_standard.specs.OctetField.{octets}
 use Rattle.raptorq.specs.Planned.{planned}
 use Rattle.raptorq.proofs.Intermediates.{source_are_symbols}

@@ -1,6 +1,6 @@
 use Rattle.std.proofs.Common.{ap, ◌∙◌, subst, arith}
 use Rattle.std.proofs.lemmas.Result.{IfErr-weaker, on_ok_weaker}
-use Rattle.rq_standard.specs.Equations.{IsNonsingular}
+use Rattle.rq_standard.specs.Headline.{IsNonsingular}
 use Rattle.rq_standard.specs.TableRows.{row_of}
 use Rattle.raptorq.proofs.PlanLaws.{plan_taken, refuses_plan}
 use Rattle.raptorq.proofs.encoder.plan.SourceBlockEncodingPlan.generate.Goals as goal
