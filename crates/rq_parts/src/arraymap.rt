@@ -3,7 +3,7 @@ ghost use Rattle.std.specs.Prelude.{◌≡◌, ℕ, ◌+◌, ◌-◌, ◌^◌, �
 ghost use Rattle.std.specs.List.{swap};
 ghost use Rattle.rq_bytes.specs.Refusals.{IsAnswer};
 ghost use Rattle.rq_bytes.specs.declared.error.Error.TheVariants.{OutOfMemory};
-ghost use Rattle.rq_parts.specs.Numbers.{number_at, HasKey, IsSame, IsWith};
+ghost use Rattle.rq_parts.specs.ArrayMaps.{number_at, HasKey, IsSame, IsWith};
 
 mod lists;
 
@@ -23,7 +23,7 @@ pub struct U16ArrayMap {
 
 impl Model for U16ArrayMap {
     ghost use Rattle.std.specs.Prelude.{◌+◌, ◌^◌, ◌<◌, vec_len};
-    ghost use Rattle.rq_parts.specs.Numbers.{Numbers};
+    ghost use Rattle.rq_parts.specs.ArrayMaps.{Numbers};
 
     ghost Value = { Numbers };
 
@@ -106,7 +106,7 @@ pub struct U32VecMap {
 }
 
 impl Model for U32VecMap {
-    ghost use Rattle.rq_parts.specs.Numbers.{Numbers};
+    ghost use Rattle.rq_parts.specs.ArrayMaps.{Numbers};
 
     ghost Value = { Numbers };
 

@@ -1,3 +1,4 @@
+pub mod BitTableLaws
 pub mod BlockCuts
 pub mod Columns
 pub mod Differences
@@ -10,7 +11,6 @@ pub mod Known
 pub mod LeastNumbers
 pub mod ObjectAnswers
 pub mod OtherObjects
-pub mod Packed
 pub mod PacketBytes
 pub mod PartSums
 pub mod PlaceLaws
