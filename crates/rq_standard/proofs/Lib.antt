@@ -1,3 +1,4 @@
+pub mod BitTableLaws
 pub mod BlockCuts
 pub mod Columns
 pub mod Differences
@@ -11,7 +12,6 @@ pub mod LeastNumbers
 pub mod ObjectAnswers
 pub mod OneObject
 pub mod OtherObjects
-pub mod Packed
 pub mod PacketBytes
 pub mod PartSums
 pub mod PlaceLaws
