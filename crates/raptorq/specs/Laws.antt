@@ -8,7 +8,7 @@ use Rattle.rq_standard.specs.Joining.{symbols_of_block, joined_block}
 use Rattle.rq_standard.specs.Packet.{Packet}
 use Rattle.rq_standard.specs.Received.{has_id}
 use Rattle.rq_standard.specs.SameIds.{HasIdsOf, HaveSameIds}
-use Rattle.rq_standard.specs.Headline.{IsNonsingular, DetermineBlock, IsIntermediateColumn, IsOnlyIntermediateColumn, IsPacketOf, IsHonestRun, IsAnswerable, AnswersExactly}
+use Rattle.rq_standard.specs.Headline.{IsNonsingular, DetermineBlock, IsIntermediateColumn, IsOnlyIntermediateColumn, IsPacketOf, IsHonestRun, IsAnswerable, IsOnlyObject, AnswersExactly}
 
 -- Over a row that isn't singular, intermediate symbols of a block are the only ones.
 abbrev pub IntermediateSymbolsAreOnly : Type 0
@@ -22,6 +22,13 @@ SourcePacketsAreSymbols =
     (table : List Row) (c : Configuration) (object : List ℕ) (p : Packet)
     → IsTable table → IsAccepted (greatest_size table) c → IsPacketOf table c object p
     → p.id.esi < block_symbols c p.id.block → p.payload ≡ source_symbol c object p.id.block p.id.esi
+
+-- No decoder can do better: an honest run determines each block exactly where no other object fits.
+abbrev pub AnswerableIsOnlyObject : Type 0
+AnswerableIsOnlyObject =
+    (table : List Row) (c : Configuration) (object : List ℕ) (packets : List Packet)
+    → IsTable table → IsAccepted (greatest_size table) c → IsHonestRun table c object packets
+    → IsAnswerable table c packets ↔ IsOnlyObject table c packets object
 
 -- ---- more packets
 

@@ -1,5 +1,5 @@
 //! Laws of packets, blocks and answers: each is the contract of a function that does nothing.
-ghost use Rattle.raptorq.specs.Laws.{IntermediateSymbolsAreOnly, SourcePacketsAreSymbols, MorePacketsDetermine, MorePacketsAreAnswerable, AnswersStay, SameIdsAreAnswerable, SameIdsAnswerTheSame, JoiningUndoesCutting, CuttingUndoesJoining};
+ghost use Rattle.raptorq.specs.Laws.{IntermediateSymbolsAreOnly, SourcePacketsAreSymbols, AnswerableIsOnlyObject, MorePacketsDetermine, MorePacketsAreAnswerable, AnswersStay, SameIdsAreAnswerable, SameIdsAnswerTheSame, JoiningUndoesCutting, CuttingUndoesJoining};
 
 /// A block has one column of intermediate symbols, where its row isn't singular: any two are the
 /// same below L (RFC 6330, sections 5.3.3 and 5.4.2).
@@ -12,6 +12,12 @@ pub fn only_intermediate_symbols()
 /// coders take.
 pub fn source_packets()
     ensures { SourcePacketsAreSymbols }
+{}
+
+/// No decoder can do better: an object's packets determine each of its blocks exactly where no other
+/// object of its length has them all among its own (RFC 6330, section 5.4).
+pub fn only_objects()
+    ensures { AnswerableIsOnlyObject }
 {}
 
 /// More packets never hide what fewer told. A block, or an object, that a list of packets determines

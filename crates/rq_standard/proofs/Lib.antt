@@ -1,4 +1,5 @@
 pub mod BlockCuts
+pub mod BlockRows
 pub mod Columns
 pub mod Differences
 pub mod FirstOctets

@@ -1,5 +1,5 @@
 -- The packets of source symbols carry them.
-use Rattle.std.proofs.Common.{◌≡◌, ℕ, ◌+◌, ◌-◌, ◌<◌, ◌≤◌, cond, List, length, ap, ◌∙◌, arith}
+use Rattle.std.proofs.Common.{◌≡◌, ℕ, ◌+◌, ◌-◌, ◌<◌, cond, List, length, ap, ◌∙◌, arith}
 use Rattle.std.proofs.lemmas.Bool.{lt-ltb}
 use Rattle.rq_standard.specs.declared.row.Row.{Row}
 use Rattle.rq_standard.specs.TableRows.{IsTable, greatest_size}
@@ -8,18 +8,9 @@ use Rattle.rq_standard.specs.Cutting.{block_symbols, source_symbol}
 use Rattle.rq_standard.specs.Equations.{tuple_sum, internal_id}
 use Rattle.rq_standard.specs.Headline.{block_row, block_source, IsPacketOf}
 use Rattle.rq_standard.specs.Packet.{Packet}
-use Rattle.rq_standard.proofs.BlockCuts.{block_symbols_few}
+use Rattle.rq_standard.proofs.BlockRows.{block_has_row}
 use Rattle.rq_standard.proofs.Columns.{source_sum}
-use Rattle.rq_standard.proofs.OtherObjects.{HasRow}
-use Rattle.rq_standard.proofs.RowLaws.{row_checked}
 use Rattle.rq_standard.proofs.Standing.{length-block_source, source_at, source_sized}
-
--- the blocks of an accepted configuration have checked rows with room for them
-pub block_has_row : (table : List Row) (c : Configuration) → IsTable table → IsAccepted (greatest_size table) c → (b : ℕ) → b < c.source_blocks → HasRow (block_row table c b) (block_symbols c b)
-block_has_row table c checked accepted b below =
-    let few : block_symbols c b ≤ greatest_size table = omega (arith, block_symbols_few c b below, accepted.in_table) in
-    let q = row_checked table (block_symbols c b) checked few in
-    record { checked = q.0; fits = q.1 }
 
 pub source_packet : (table : List Row) (c : Configuration) (object : List ℕ) (p : Packet) → IsTable table → IsAccepted (greatest_size table) c → IsPacketOf table c object p → p.id.esi < block_symbols c p.id.block → p.payload ≡ source_symbol c object p.id.block p.id.esi
 source_packet table c object p checked accepted is below =
