@@ -15,7 +15,7 @@ use Rattle.rq_standard.proofs.Columns.{source_sum}
 use Rattle.rq_standard.proofs.Standing.{push-all}
 use Rattle.raptorq.specs.BlockEncoded.{BlockEncoded, IsBlockPacket, AreBlockPackets}
 use Rattle.raptorq.proofs.HeldEquations.{internal_below}
-use Rattle.rq_standard.specs.Headline.{IsIntermediateColumn, IsEncodingSymbol}
+use Rattle.rq_standard.specs.Headline.{IsOnlyIntermediateColumn, IsEncodingSymbol}
 
 abbrev made : SymbolId → Result SymbolId Error
 made i = Ok i
@@ -42,12 +42,12 @@ all_sized size source sized e = elim (cases_lt e (length source)) [
 ]
 
 -- a source symbol is an encoding symbol
-pub source_encodes : (row : Row) (size esi : ℕ) (source : List (List ℕ)) (column : ℕ → List ℕ) (payload : List ℕ) → IsChecked row → IsIntermediateColumn row size source column → length source ≤ row.source_symbols → All (λ s. length s ≡ size) source → esi < length source
+pub source_encodes : (row : Row) (size esi : ℕ) (source : List (List ℕ)) (column : ℕ → List ℕ) (payload : List ℕ) → IsChecked row → IsOnlyIntermediateColumn row size source column → length source ≤ row.source_symbols → All (λ s. length s ≡ size) source → esi < length source
     → payload ≡ get_or source esi payload → IsEncodingSymbol row size source esi payload
 source_encodes row size esi source column payload checked is few sized below read = record {
   column = column;
-  is_column = is;
-  is_sum = read ∙ at_any source esi payload (zero_symbol size) below ∙ sym (source_sum row size esi source column checked is (all_sized size source sized) (omega (arith, few))) ∙ ap (tuple_sum row column) (sym (internal_below row (length source) esi below));
+  is_only = is;
+  is_sum = read ∙ at_any source esi payload (zero_symbol size) below ∙ sym (source_sum row size esi source column checked is.is (all_sized size source sized) (omega (arith, few))) ∙ ap (tuple_sum row column) (sym (internal_below row (length source) esi below));
 }
 
 -- no packet yet

@@ -18,6 +18,7 @@ use Rattle.rq_standard.specs.declared.row.Row.{Row}
 use Rattle.rq_standard.specs.OctetField.{octets}
 use Rattle.rq_standard.specs.TableRows.{intermediate_symbols}
 use Rattle.rq_standard.specs.Equations.{equations, equation_count, equation_values, zero_symbol, source_ids}
+use Rattle.rq_standard.proofs.Known.{rows_nonsingular}
 use Rattle.raptorq.specs.Planned.{source_values, planned, IsPlanOf}
 use Rattle.raptorq.proofs.Encodes.{at_any}
 use Rattle.raptorq.proofs.Outcomes.{places_count}
@@ -115,7 +116,7 @@ module _ (row : Row) (operations : List Operation) (finds : FindsColumn octets (
   plan_allowed = subst (λ n. AreAllowed n None operations) (count_source row) finds.allowed
 
   pub plan_nonsingular : IsNonsingular row
-  plan_nonsingular = finds_determined octets (equation_count row (source_ids row)) (intermediate_symbols row) (equations row (source_ids row)) operations finds
+  plan_nonsingular = rows_nonsingular row (finds_determined octets (equation_count row (source_ids row)) (intermediate_symbols row) (equations row (source_ids row)) operations finds)
 
   module _ (size : ℕ) (source : List (List ℕ)) (fits : length source ≤ row.source_symbols) (are : AreSymbols octets size (length source) source) where
     plan_column : IsIntermediateColumn row size source (symbol_in (planned row operations size source))

@@ -19,6 +19,7 @@ pub mod Outcomes
 pub mod Payloads
 pub mod PlanLaws
 pub mod Ranges
+pub mod Stops
 pub mod Summing
 pub mod Taking
 pub mod Undetermined

@@ -1,9 +1,10 @@
 -- The blocks of an object in a list, in the order of their numbers.
-use Rattle.std.proofs.Common.{◌≡◌, ◌≢◌, ℕ, suc, ◌+◌, ◌<◌, Bool, true, false, List, [], ◌++◌, length, get_or, set, take, drop, map, All, Option, Some, None, refl, sym, ap, ◌∙◌, subst, arith, eq-eqb, inl, inr, append-nil, length-drop}
-use Rattle.std.specs.Prelude.{is_some, IsSome, option_map, unwrap_or, vec_items, Ok}
+use Rattle.std.proofs.Common.{◌≡◌, ◌≢◌, ℕ, suc, ◌+◌, ◌<◌, Bool, true, false, List, [], ◌++◌, length, get_or, set, take, drop, map, All, Option, Some, None, Result, Ok, Err, refl, sym, ap, ◌∙◌, subst, arith, eq-eqb, inl, inr, append-nil, length-drop}
+use Rattle.std.specs.Prelude.{is_some, IsSome, option_map, unwrap_or, vec_items}
 use Rattle.std.specs.List.{range_with_len}
 use Rattle.std.proofs.lemmas.Bool.{cases_lt}
 use Rattle.std.proofs.lemmas.List.{length-map, get_or-map, get_or_past, get_or-set_same, get_or-set_other, length-set, nil_from_length, take_all}
+use Rattle.std.proofs.Math.Seq.{map-set_same}
 use Rattle.std.proofs.lemmas.Simd.{map-map}
 use Rattle.std.proofs.lemmas.List.FromFn.{get_or-map-range_with_len}
 use Rattle.std.specs.declared.vec.Vec.{Vec}
@@ -14,11 +15,14 @@ use Rattle.rq_standard.specs.Configuration.{Configuration}
 use Rattle.rq_standard.specs.Cutting.{block_symbols}
 use Rattle.rq_standard.specs.TableRows.{no_row}
 use Rattle.rq_standard.specs.Held.{Held, nothing_held}
-use Rattle.rq_standard.specs.Standing.{State, new_held, new_answer, IsNewState, AddsToBlock, StopsBlock, IsSameElsewhere, Adds, StopsEarly, append_both, joined, result_of}
+use Rattle.rq_standard.specs.Standing.{State, new_held, new_answer, IsNewState, AddsToBlock, RecordsInBlock, IsSameElsewhere, Adds, Records, append_both, joined, result_of}
 use Rattle.rq_standard.proofs.ObjectAnswers.{joined_some, joined_each, some_of}
 use Rattle.raptorq.specs.Blocks.{held_of}
 use Rattle.raptorq.specs.Objects.{held_at, answer_at, answer_of}
 use Rattle.raptorq.specs.Refused.{block_refusal}
+use Rattle.raptorq.specs.Stopping.{TakesInBlock, Takes}
+use Rattle.raptorq.specs.declared.decoder.stopped.Stopped.{Stopped}
+use Rattle.raptorq.specs.declared.decoder.stopped.Stopped.TheVariants.{Refused, NotRecorded, NotSolved, NotJoined}
 use Rattle.raptorq.proofs.Numbered.{length-mapped, length-numbered}
 use Rattle.raptorq.specs.declared.decoder.object.ObjectBlock.{ObjectBlock}
 
@@ -92,11 +96,25 @@ module _ (c : Configuration) (items : List ObjectBlock) (p : Packet) (x y : Obje
       (subst (λ h. P (held_of x.decoder) (answer_of x) p h (answer_at new i)) (sym (held_here c new i y (within items i y below) (after items i y below)))
       (subst (λ a. P (held_of x.decoder) (answer_of x) p (held_of y.decoder) a) (sym (answer_here new i y (within items i y below) (after items i y below))) so)))
 
-  pub adds_at : AddsToBlock (held_of x.decoder) (answer_of x) p (held_of y.decoder) (answer_of y) → Adds (state c items) p (state c (set items p.id.block y))
+  adds_at : AddsToBlock (held_of x.decoder) (answer_of x) p (held_of y.decoder) (answer_of y) → Adds (state c items) p (state c (set items p.id.block y))
   adds_at add = record { here = shown_here AddsToBlock add; elsewhere = elsewhere c items p.id.block x y }
 
-  pub stops_at : StopsBlock (held_of x.decoder) (answer_of x) p (held_of y.decoder) (answer_of y) → Stops (state c items) p (state c (set items p.id.block y))
-  stops_at stop = record { here = shown_here StopsBlock stop; elsewhere = elsewhere c items p.id.block x y }
+  records_at : RecordsInBlock (held_of x.decoder) (answer_of x) p (held_of y.decoder) (answer_of y) → Records (state c items) p (state c (set items p.id.block y))
+  records_at more = record { here = shown_here RecordsInBlock more; elsewhere = elsewhere c items p.id.block x y }
+
+  stays_at : held_of y.decoder ≡ held_of x.decoder → answer_of y ≡ answer_of x → state c (set items p.id.block y) ≡ state c items
+  stays_at held answer =
+      let held_same : map (λ b. held_of b.decoder) (set items p.id.block y) ≡ map (λ b. held_of b.decoder) items = map-set_same (λ b. held_of b.decoder) items p.id.block y x (held ∙ ap (λ b. held_of b.decoder) is) in
+      let answer_same : map answer_of (set items p.id.block y) ≡ map answer_of items = map-set_same answer_of items p.id.block y x (answer ∙ ap answer_of is) in
+      λ i. record { configuration = c; held = λ n. get_or (held_same i) n (nothing_held c n no_row 0); answer = λ n. get_or (answer_same i) n None }
+
+  -- what the packet did to its block it did to the object's decoder
+  pub takes_at : (result : Result (Unit {0}) Stopped) → TakesInBlock (held_of x.decoder) (answer_of x) p result (held_of y.decoder) (answer_of y) → Takes (state c items) p result (state c (set items p.id.block y))
+  takes_at (Ok u) so = adds_at so
+  takes_at (Err NotSolved) so = records_at so
+  takes_at (Err NotRecorded) so = stays_at so.0 so.1
+  takes_at (Err NotJoined) so = so
+  takes_at (Err (Refused e)) so = absurd so
 
 -- ---- all blocks joined
 

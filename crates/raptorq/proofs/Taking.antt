@@ -1,15 +1,18 @@
 -- Packets that a block's decoder takes one after another.
 use Rattle.std.proofs.Common.{◌≡◌, ℕ, Bool, cond, eqb, List, [], ◌∷◌, ◌++◌, length, Option, Some, Result, Ok, Err, refl, sym, ap, ◌∙◌, subst, append-nil}
 use Rattle.std.specs.Iterator.{Yields}
-use Rattle.std.specs.Prelude.{not, option_map, IfOk, IfErr}
+use Rattle.std.specs.Prelude.{not}
 use Rattle.rq_bytes.specs.declared.error.Error.{Error}
 use Rattle.rq_bytes.specs.declared.error.Error.TheVariants.{OutOfMemory, UnknownBlock, WrongPayloadSize}
 use Rattle.rq_bytes.specs.Refusals.{IsRefusal}
 use Rattle.rq_standard.specs.Packet.{Packet}
-use Rattle.rq_standard.specs.Held.{Held, recorded, IsBlockAnswer}
+use Rattle.rq_standard.specs.Held.{Held, recorded}
 use Rattle.rq_standard.proofs.Standing.{push-all}
 use Rattle.raptorq.specs.Refused.{block_refusal}
-use Rattle.raptorq.specs.Decoding.{all_recorded, AreTaken, Decodes, shown}
+use Rattle.raptorq.specs.Decoding.{all_recorded, AreTaken, Decodes, DecodesUntil}
+use Rattle.raptorq.specs.Stopping.{StopsPacket, refusal_of}
+use Rattle.raptorq.specs.declared.decoder.stopped.Stopped.{Stopped}
+use Rattle.raptorq.specs.declared.decoder.stopped.Stopped.TheVariants.{Refused, NotRecorded, NotSolved, NotJoined}
 
 number_kept : (h : Held) (packets : List Packet) → (all_recorded h packets).number ≡ h.number
 number_kept h [] = refl
@@ -40,13 +43,18 @@ pub recorded-more : (h g new : Held) (packets : List Packet) (p : Packet) → g 
 recorded-more h g new packets p is one = one ∙ ap (λ k. recorded k p.id.esi p.payload) is ∙ sym (all_recorded-push h packets p)
 
 -- the packet that stops the call
-pub stopped : (h g new : Held) (packets : List Packet) (p : Packet) (e : Error) → AreTaken h packets → g ≡ all_recorded h packets → new ≡ g → IsRefusal e (block_refusal g p) → Decodes h (packets ++ p ∷ []) (Err e) new
-stopped h g new packets p e taken is same refused = (packets, p ∷ [], refl, taken, same ∙ is, (refl, subst (IsRefusal e) (refusal_kept h g packets p is) refused))
+pub stopped : (h g new : Held) (packets : List Packet) (p : Packet) (at : Stopped) → AreTaken h packets → g ≡ all_recorded h packets → new ≡ g → StopsPacket at (block_refusal g p) → DecodesUntil h (packets ++ p ∷ []) (Err at) new
+stopped h g new packets p (Refused e) taken is same stops = record { front = packets; last = p; whole = refl; taken = taken; holds = same ∙ is; stops = subst (StopsPacket (Refused e)) (refusal_kept h g packets p is) stops }
+stopped h g new packets p NotRecorded taken is same stops = record { front = packets; last = p; whole = refl; taken = taken; holds = same ∙ is; stops = subst (StopsPacket NotRecorded) (refusal_kept h g packets p is) stops }
+stopped h g new packets p NotSolved taken is same stops = absurd stops
+stopped h g new packets p NotJoined taken is same stops = absurd stops
 
--- the answer, or want of memory for it
-pub answered : {V : Type 0} (f : V → List ℕ) (h g : Held) (packets : List Packet) (r : Result (Option V) Error) → AreTaken h packets → g ≡ all_recorded h packets → IfOk r (λ a. IsBlockAnswer g (option_map f a)) → IfErr r (λ e. e ≡ OutOfMemory) → Decodes h packets (shown f r) g
-answered f h g packets (Ok a) taken is ok err = (taken, is, ok)
-answered f h g packets (Err e) taken is ok err = (packets, [], sym (append-nil packets), taken, is, err)
+-- what a caller sees of it
+pub decodes_seen : (old : Held) (packets : List Packet) (at : Stopped) (new : Held) → DecodesUntil old packets (Err at) new → Decodes old packets (Err (refusal_of at)) new
+decodes_seen old packets (Refused e) new d = (d.front, d.last ∷ [], d.whole, d.taken, d.holds, (refl, subst (IsRefusal e) (sym d.stops) refl))
+decodes_seen old packets NotRecorded new d = (d.front, d.last ∷ [], d.whole, d.taken, d.holds, (refl, subst (IsRefusal OutOfMemory) (sym d.stops) refl))
+decodes_seen old packets NotSolved new d = (packets, [], sym (append-nil packets), d.0, d.1, refl)
+decodes_seen old packets NotJoined new d = absurd d
 
 -- an iterator's next item, after those that it gave
 pub Yields-push : {S : Type 0} (steps : S → Option Packet → S → Type 0) (s : S) (packets : List Packet) (t : S) (p : Packet) (u : S) → Yields steps s packets t → steps t (Some p) u → Yields steps s (packets ++ p ∷ []) u

@@ -16,4 +16,6 @@ pub mod PlanCache
 pub mod Planned
 pub mod Plans
 pub mod Refused
+pub mod Runs
 pub mod Solving
+pub mod Stopping

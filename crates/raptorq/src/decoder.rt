@@ -2,6 +2,7 @@
 mod block;
 mod known;
 mod object;
+mod stopped;
 
 pub use block::SourceBlockDecoder;
 pub use object::{Decoder, decode_all};

@@ -1,12 +1,11 @@
 //! Encoders: an object in, its packets out.
-ghost use Rattle.std.specs.Prelude.{◌≡◌, ℕ, ◌<◌, ◌≤◌, ◌⊎◌, List, length, map, Ok, IfOk, IfErr, OnOk};
+ghost use Rattle.std.specs.Prelude.{◌≡◌, ◌<◌, ◌≤◌, ◌⊎◌, length, map, Ok, IfOk, IfErr, OnOk};
 ghost use Rattle.std.specs.List.{range_with_len};
 ghost use Rattle.rq_bytes.specs.Refusals.{IsAnswer};
 ghost use Rattle.rq_standard.specs.Configuration.{IsAccepted, largest_block};
 ghost use Rattle.rq_standard.specs.Cutting.{block_symbols};
 ghost use Rattle.rq_standard.specs.Headline.{HasNonsingularRows, IsNonsingular, IsSingular};
 ghost use Rattle.rq_standard.specs.TableRows.{greatest_size, row_of};
-ghost use Rattle.rq_standard.specs.declared.row.Row.{Row};
 ghost use Rattle.raptorq.specs.Plans.{plan_of};
 ghost use Rattle.raptorq.specs.BlockData.{IsPlanFor};
 ghost use Rattle.raptorq.specs.BlockEncoded.{block_encoded_of, new_block_encoded};
@@ -40,9 +39,8 @@ pub struct Encoder {
 }
 
 impl Encoder {
-    ghost use Rattle.rq_standard.specs.ObjectPackets.{AreEncoded};
     ghost use Rattle.raptorq.specs.Building.{default_settings, RefusesBuilding, IsBuilt};
-    ghost use Rattle.raptorq.specs.Encoded.{encoded_of, IsEncoderOf, packets_refusal};
+    ghost use Rattle.raptorq.specs.Encoded.{encoded_of, ArePacketsOf, IsEncoderOf, packets_refusal};
     ghost use Rattle.raptorq.specs.Refused.{new_encoder, RefusesEncoder};
 
     /// The encoder of an object, in bytes.

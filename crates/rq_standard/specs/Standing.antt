@@ -87,6 +87,10 @@ pub record Records (old : State) (p : Packet) (new : State) : Type 0 where
 abbrev pub StopsEarly : State → Packet → State → Type 0
 StopsEarly old p new = (new ≡ old) ⊎ Records old p new
 
+-- The same where the blocks are joined behind it: or the packet's block has the answer that it can have, and no block lost one.
+abbrev pub Stops : State → Packet → State → Type 0
+Stops old p new = StopsEarly old p new ⊎ Adds old p new
+
 -- What is held of a block, and its answer, after a list: answered and determined, or holding the first payloads and not determined. An answer can be late, where memory was refused while it was solved.
 abbrev pub BlockStands : Bool → List ℕ → ℕ → List Packet → Held → Option (List ℕ) → Type 0
 BlockStands late block b packets h (Some bytes) = (bytes ≡ block) × DetermineBlock h.row h.symbols (has_id b packets)
@@ -130,6 +134,10 @@ FallsBehind old p new =
     (table : List Row) (object : List ℕ) (packets : List Packet) (late : ℕ → Bool)
     → StandsBut late table object packets old → IsPacketOf table old.configuration object p
     → StandsBut late table object packets new ⊎ StandsBut (with_late p.id.block true late) table object (packets ++ p ∷ []) new
+
+-- the same where the blocks are joined behind the packet: or one that stands for the longer list
+abbrev pub FallsBehindOrJoinsLate : State → Packet → State → Type 0
+FallsBehindOrJoinsLate old p new = FallsBehind old p new ⊎ CatchesUp old p new
 
 -- what a decoder that stands for a list answers: the object and nothing else, and that exactly where the list determines it, unless a block is late
 abbrev pub AnswersObject : State → Option (List ℕ) → Type 0

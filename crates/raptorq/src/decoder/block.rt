@@ -1,5 +1,5 @@
 //! The decoder of one source block.
-ghost use Rattle.std.specs.Prelude.{◌≡◌, ℕ, ◌*◌, ◌^◌, ◌<◌, ◌≤◌, true, [], ◌∷◌, ◌++◌, length, map, Some, None, IfSome, IfOk, IfErr, OnOk, OnErr, IsSome, not, if◌then◌else◌, ◌==◌, option_map, vec_items};
+ghost use Rattle.std.specs.Prelude.{◌≡◌, ℕ, ◌*◌, ◌^◌, ◌<◌, ◌≤◌, true, [], ◌∷◌, ◌++◌, length, map, Ok, Some, None, IfSome, IfOk, IfErr, OnOk, OnErr, IsSome, not, if◌then◌else◌, ◌==◌, option_map, vec_items};
 ghost use Rattle.std.specs.Option.{ForSome};
 ghost use Rattle.rq_bytes.specs.Refusals.{IsAnswer};
 ghost use Rattle.rq_bytes.specs.Slab.{slab_of};
@@ -9,6 +9,7 @@ ghost use Rattle.rq_standard.specs.Received.{or_later};
 ghost use Rattle.rq_standard.specs.TableRows.{IsChecked};
 ghost use Rattle.raptorq.specs.Missing.{payload_of, has_payload, missing_count};
 
+use crate::decoder::stopped::Stopped;
 use crate::decoder::known::{known_symbol_ids, known_symbol_values};
 use crate::solving::{homogeneous, solve};
 use crate::sub_blocks::{check_symbols, into_sub_blocks, size_at};
@@ -97,12 +98,13 @@ fn octet_symbols(alloc: Global, column: &[u8]) -> Result<SymbolSlab, Error>
 impl SourceBlockDecoder {
     ghost use Rattle.std.specs.Int.{div_ceil};
     ghost use Rattle.raptorq.specs.Difference.{octets_of_column};
-    ghost use Rattle.rq_standard.specs.Held.{nothing_held, recorded, ShowsUndetermined, IsBlockWith, IsBlockAnswer};
-    ghost use Rattle.rq_standard.specs.TableRows.{greatest_size, intermediate_symbols, row_of};
+    ghost use Rattle.rq_standard.specs.Held.{recorded, ShowsUndetermined, IsBlockWith, IsBlockAnswer};
+    ghost use Rattle.rq_standard.specs.TableRows.{greatest_size, intermediate_symbols};
     ghost use Rattle.raptorq.specs.Known.{SolvesBlock, IsHeldSolution, rebuilt_symbol};
     ghost use Rattle.raptorq.specs.Refused.{checked_block, block_refusal};
-    ghost use Rattle.raptorq.specs.Blocks.{held_of};
-    ghost use Rattle.raptorq.specs.Decoding.{DecodesFrom, shown};
+    ghost use Rattle.raptorq.specs.Blocks.{held_of, empty_block};
+    ghost use Rattle.raptorq.specs.Decoding.{DecodesFrom, DecodesFromUntil, shown};
+    ghost use Rattle.raptorq.specs.Stopping.{StopsPacket};
     ghost use Rattle.std.specs.Iterator.{IsFinite};
 
     /// The decoder of the source block with this number, of this length in bytes, that holds
@@ -120,7 +122,7 @@ impl SourceBlockDecoder {
         block_length: u64,
     ) -> Result<SourceBlockDecoder, Error>
         ensures refused { IsAnswer (λ _. tt) result (checked_block (greatest_size table.now) config.now (div_ceil block_length config.now.symbol_size)) }
-        ensures empty { IfOk result (λ d. let symbols = div_ceil block_length config.now.symbol_size in held_of d ≡ nothing_held config.now number (row_of table.now symbols) symbols) }
+        ensures empty { IfOk result (λ d. held_of d ≡ empty_block table.now config.now number (div_ceil block_length config.now.symbol_size)) }
         ensures row { IfOk result (λ d. IsChecked (held_of d).row × ((held_of d).symbols ≤ (held_of d).row.source_symbols)) }
     {
         check_symbols(config)?;
@@ -142,7 +144,7 @@ impl SourceBlockDecoder {
         requires positive { 0 < config.now.symbol_size }
         requires aligned { IsAligned config.now }
         requires in_table { symbols ≤ greatest_size table.now }
-        ensures empty { held_of result ≡ nothing_held config.now number (row_of table.now symbols) symbols }
+        ensures empty { held_of result ≡ empty_block table.now config.now number symbols }
         ensures checked { IsChecked (held_of result).row }
         ensures fits { (held_of result).symbols ≤ (held_of result).row.source_symbols }
     {
@@ -187,10 +189,27 @@ impl SourceBlockDecoder {
         requires { (it : I.IntoIter) → I.into_iter_gives packets it → I.IntoIter.can_next it × IsFinite (I.IntoIter.remaining it) }
         ensures { DecodesFrom I.into_iter_gives I.IntoIter.next_gives packets (held_of self.old) (shown vec_items result) (held_of self.new) }
     {
+        match self.decode_until_stopped(packets) {
+            Ok(block) => Ok(block),
+            Err(stopped) => Err(stopped.refusal()),
+        }
+    }
+
+    // The same, naming where the work stopped.
+    fn decode_until_stopped<I: IntoIterator<Item = EncodingPacket>>(
+        &mut self,
+        packets: I,
+    ) -> Result<Option<Vec<u8>>, Stopped>
+        requires { (it : I.IntoIter) → I.into_iter_gives packets it → I.IntoIter.can_next it × IsFinite (I.IntoIter.remaining it) }
+        ensures { DecodesFromUntil I.into_iter_gives I.IntoIter.next_gives packets (held_of self.old) (shown vec_items result) (held_of self.new) }
+    {
         for packet in packets {
             self.add(packet)?;
         }
-        self.answer()
+        match self.answer() {
+            Ok(block) => Ok(block),
+            Err(_) => Err(Stopped::NotSolved),
+        }
     }
 
     /// An octet for each intermediate symbol, not all of them zero, that together solve the block's
@@ -206,21 +225,24 @@ impl SourceBlockDecoder {
     }
 
     /// Tests a packet and records its payload, unless one of its id came before.
-    pub(crate) fn add(&mut self, packet: EncodingPacket) -> Result<(), Error>
-        ensures refused { IsAnswer (λ x. x) result (block_refusal (held_of self.old) packet) }
+    pub(crate) fn add(&mut self, packet: EncodingPacket) -> Result<(), Stopped>
+        ensures taken { OnOk result (block_refusal (held_of self.old) packet ≡ Ok tt) }
+        ensures stops { IfErr result (λ stopped. StopsPacket stopped (block_refusal (held_of self.old) packet)) }
         ensures ok { OnOk result (held_of self.new ≡ recorded (held_of self.old) packet.id.esi packet.payload) }
         ensures err { OnErr result (held_of self.new ≡ held_of self.old) }
     {
         if packet.payload_id().source_block_number() != self.number {
-            return Err(Error::UnknownBlock);
+            return Err(Stopped::Refused(Error::UnknownBlock));
         }
         if packet.data().len() != self.symbol_size() {
-            return Err(Error::WrongPayloadSize);
+            return Err(Stopped::Refused(Error::WrongPayloadSize));
         }
         let (id, payload) = packet.split();
         let esi = id.encoding_symbol_id();
         let is_source = esi < self.symbols;
-        let kept = keep_first(&mut self.received, esi, payload)?;
+        let Ok(kept) = keep_first(&mut self.received, esi, payload) else {
+            return Err(Stopped::NotRecorded);
+        };
         self.missing -= u32::from(kept & is_source);
         Ok(())
     }

@@ -4,13 +4,15 @@ ghost use Rattle.std.specs.List.{range_with_len, AllByRecursion};
 ghost use Rattle.rq_bytes.specs.Refusals.{IsAnswer, IsRefusal};
 ghost use Rattle.rq_standard.specs.Configuration.{IsAccepted, IsAligned, largest_block, total_symbols};
 ghost use Rattle.rq_standard.specs.Cutting.{block_symbols};
-ghost use Rattle.rq_standard.specs.Headline.{IsOnlyObject, IsPacketOf, HasNonsingularRows, IsObjectAnswer};
+ghost use Rattle.rq_standard.specs.Headline.{AnswersExactly, AnswersWhereAnyCan};
+ghost use Rattle.raptorq.specs.Runs.{packets_of, RefusesConfiguration};
 ghost use Rattle.rq_standard.specs.TableRows.{greatest_size};
 ghost use Rattle.rq_base.specs.Refused.{checked_configuration};
 ghost use Rattle.raptorq.specs.Blocks.{held_of};
 
 use crate::blocks::block_symbols;
 use crate::decoder::block::SourceBlockDecoder;
+use crate::decoder::stopped::Stopped;
 use rq_base::base::{EncodingPacket, ObjectTransmissionInformation};
 use rq_bytes::error::Error;
 use rq_tables::systematic_constants::SystematicTable;
@@ -25,7 +27,8 @@ struct ObjectBlock {
 
 impl ObjectBlock {
     ghost use Rattle.raptorq.specs.Difference.{ShowsUnanswered};
-    ghost use Rattle.rq_standard.specs.Standing.{IsHeldOf, new_held, new_answer, AddsToBlock, StopsBlock};
+    ghost use Rattle.rq_standard.specs.Standing.{IsHeldOf, new_held, new_answer};
+    ghost use Rattle.raptorq.specs.Stopping.{TakesInBlock};
     ghost use Rattle.raptorq.specs.Objects.{answer_of};
     ghost use Rattle.raptorq.specs.Refused.{block_refusal};
 
@@ -55,20 +58,24 @@ impl ObjectBlock {
 
     /// Takes a packet of the block, and answers the block where that is determined. An answered
     /// block takes nothing more.
-    fn take(&mut self, packet: EncodingPacket) -> Result<(), Error>
+    fn take(&mut self, packet: EncodingPacket) -> Result<(), Stopped>
         requires { block_refusal (held_of self.old.decoder) packet ≡ Ok tt }
-        ensures adds { OnOk result (AddsToBlock (held_of self.old.decoder) (answer_of self.old) packet (held_of self.new.decoder) (answer_of self.new)) }
-        ensures stops { OnErr result (StopsBlock (held_of self.old.decoder) (answer_of self.old) packet (held_of self.new.decoder) (answer_of self.new)) }
+        ensures takes { TakesInBlock (held_of self.old.decoder) (answer_of self.old) packet result (held_of self.new.decoder) (answer_of self.new) }
         ensures number { (held_of self.new.decoder).number ≡ (held_of self.old.decoder).number }
         ensures configuration { (held_of self.new.decoder).configuration ≡ (held_of self.old.decoder).configuration }
         ensures symbols { (held_of self.new.decoder).symbols ≡ (held_of self.old.decoder).symbols }
-        ensures memory { IfErr result (λ e. e ≡ Error.OutOfMemory) }
     {
-        if self.answer.is_none() {
-            self.decoder.add(packet)?;
-            self.answer = self.decoder.answer()?;
+        if self.answer.is_some() {
+            return Ok(());
         }
-        Ok(())
+        self.decoder.add(packet)?;
+        match self.decoder.answer() {
+            Ok(answer) => {
+                self.answer = answer;
+                Ok(())
+            }
+            Err(_) => Err(Stopped::NotSolved),
+        }
     }
 
     /// A column of octets that shows that the block isn't determined, where it has no answer.
@@ -111,8 +118,11 @@ pub struct Decoder {
 }
 
 impl Decoder {
-    ghost use Rattle.rq_standard.specs.Differences.{AreUnansweredDetermined, IsDifference, MakesOthersFit};
-    ghost use Rattle.rq_standard.specs.Standing.{IsNewState, Adds, StopsEarly, Stands, StandsForMore, CatchesUp, FallsBehind, AnswersObject, result_of};
+    ghost use Rattle.rq_standard.specs.Differences.{AreUnansweredDetermined, IsDifference, IsNoneWhereAnswered, MakesOthersFit};
+    ghost use Rattle.rq_standard.specs.Standing.{IsNewState, Adds, Stops, StopsEarly, result_of};
+    ghost use Rattle.rq_standard.specs.Standing.{StandsForNone, StandsForMore, CatchesUp, FallsBehind, FallsBehindOrJoinsLate, AnswersObject, AnswersOnlyObject};
+    ghost use Rattle.raptorq.specs.Decoding.{shown};
+    ghost use Rattle.raptorq.specs.Stopping.{StopsAsTested, Takes, TakesAndJoins};
     ghost use Rattle.raptorq.specs.Refused.{packet_refusal};
     ghost use Rattle.raptorq.specs.Objects.{state_of};
 
@@ -127,7 +137,7 @@ impl Decoder {
         ensures refused { IsAnswer (λ _. tt) result (checked_configuration (greatest_size table.now) config) }
         ensures accepted { OnOk result (IsAccepted (greatest_size table.now) config) }
         ensures state { IfOk result (λ d. IsNewState table.now config (state_of d)) }
-        ensures stands { IfOk result (λ d. (object : List ℕ) → length object ≡ config.transfer_length → HasNonsingularRows table.now config → Stands table.now object [] (state_of d)) }
+        ensures stands { IfOk result (λ d. StandsForNone table.now config (state_of d)) }
     {
         config.check(table)?;
         let mut blocks = Vec::with_capacity(alloc, usize::from(config.source_blocks()))?;
@@ -150,19 +160,17 @@ impl Decoder {
     }
 
     // Takes a packet, whoever sent it.
-    fn take(&mut self, packet: EncodingPacket) -> Result<(), Error>
-        ensures refused { IsAnswer (λ x. x) result (packet_refusal (state_of self.old).configuration packet) }
-        ensures unchanged { IfErr result (λ e. e ≢ Error.OutOfMemory → state_of self.new ≡ state_of self.old) }
-        ensures adds { OnOk result (Adds (state_of self.old) packet (state_of self.new)) }
-        ensures stops { IfErr result (λ e. e ≡ Error.OutOfMemory → Stops (state_of self.old) packet (state_of self.new)) }
+    fn take(&mut self, packet: EncodingPacket) -> Result<(), Stopped>
+        ensures tested { StopsAsTested result (packet_refusal (state_of self.old).configuration packet) }
+        ensures takes { Takes (state_of self.old) packet result (state_of self.new) }
         ensures configuration { (state_of self.new).configuration ≡ (state_of self.old).configuration }
     {
         let number = packet.payload_id().source_block_number();
         if number >= self.config.source_blocks() {
-            return Err(Error::UnknownBlock);
+            return Err(Stopped::Refused(Error::UnknownBlock));
         }
         if packet.data().len() != usize::from(self.config.symbol_size()) {
-            return Err(Error::WrongPayloadSize);
+            return Err(Stopped::Refused(Error::WrongPayloadSize));
         }
         self.blocks[usize::from(number)].take(packet)
     }
@@ -177,7 +185,7 @@ impl Decoder {
         ensures refused { IsAnswer (λ x. x) result (packet_refusal (state_of self.old).configuration packet) }
         ensures unchanged { IfErr result (λ e. e ≢ Error.OutOfMemory → state_of self.new ≡ state_of self.old) }
         ensures adds { OnOk result (Adds (state_of self.old) packet (state_of self.new)) }
-        ensures stops { IfErr result (λ e. e ≡ Error.OutOfMemory → Stops (state_of self.old) packet (state_of self.new)) }
+        ensures stops { IfErr result (λ e. e ≡ Error.OutOfMemory → StopsEarly (state_of self.old) packet (state_of self.new)) }
         ensures configuration { (state_of self.new).configuration ≡ (state_of self.old).configuration }
 
         // From a decoder that stands for a list, one that stands for the longer list.
@@ -185,7 +193,10 @@ impl Decoder {
         ensures catches_up { OnOk result (CatchesUp (state_of self.old) packet (state_of self.new)) }
         ensures falls_behind { IfErr result (λ e. e ≡ Error.OutOfMemory → FallsBehind (state_of self.old) packet (state_of self.new)) }
     {
-        self.take(packet)
+        match self.take(packet) {
+            Ok(()) => Ok(()),
+            Err(stopped) => Err(stopped.refusal()),
+        }
     }
 
     // Whether each block has an answer.
@@ -204,6 +215,7 @@ impl Decoder {
     pub fn get_result(&self) -> Result<Option<Vec<u8>>, Error>
         ensures value { IfOk result (λ r. option_map vec_items r ≡ result_of (state_of self.now)) }
         ensures object { IfOk result (λ r. AnswersObject (state_of self.now) (option_map vec_items r)) }
+        ensures only_object { IfOk result (λ r. AnswersOnlyObject (state_of self.now) (option_map vec_items r)) }
         ensures memory { IfErr result (λ e. e ≡ Error.OutOfMemory) }
     {
         if !self.is_complete() {
@@ -242,7 +254,9 @@ impl Decoder {
         ensures exactly { IfOk result (λ r. (r ≡ None) ↔ AreUnansweredDetermined (state_of self.now)) }
         ensures bytes { IfOk result (λ r. IfSome (option_map vec_items r) (IsDifference (state_of self.now))) }
 
-        // Of a decoder that stands for a list: its xor with any object that fits the list fits it.
+        // Of a decoder that stands for a list: none exactly where the object is answered, and else
+        // bytes whose xor with any object that fits the list fits it.
+        ensures answered { IfOk result (λ r. IsNoneWhereAnswered (state_of self.now) (option_map vec_items r)) }
         ensures fits { IfOk result (λ r. IfSome (option_map vec_items r) (MakesOthersFit (state_of self.now))) }
         ensures memory { IfErr result (λ e. e ≡ Error.OutOfMemory) }
     {
@@ -260,6 +274,19 @@ impl Decoder {
         Ok(Some(bytes))
     }
 
+    // Takes a packet, and then joins the blocks where each has an answer.
+    fn take_and_join(&mut self, packet: EncodingPacket) -> Result<Option<Vec<u8>>, Stopped>
+        ensures tested { StopsAsTested result (packet_refusal (state_of self.old).configuration packet) }
+        ensures takes { TakesAndJoins (state_of self.old) packet (shown vec_items result) (state_of self.new) }
+        ensures configuration { (state_of self.new).configuration ≡ (state_of self.old).configuration }
+    {
+        self.take(packet)?;
+        match self.get_result() {
+            Ok(object) => Ok(object),
+            Err(_) => Err(Stopped::NotJoined),
+        }
+    }
+
     /// Takes a packet and answers the object, where each of its blocks is determined.
     ///
     /// Refuses as [`Decoder::add_new_packet`] does. Where memory is refused for the object, the
@@ -269,18 +296,21 @@ impl Decoder {
         ensures accepted { OnOk result (packet_refusal (state_of self.old).configuration packet ≡ Ok tt) }
         ensures unchanged { IfErr result (λ e. e ≢ Error.OutOfMemory → state_of self.new ≡ state_of self.old) }
         ensures adds { OnOk result (Adds (state_of self.old) packet (state_of self.new)) }
-        ensures stops { IfErr result (λ e. e ≡ Error.OutOfMemory → Stops (state_of self.old) packet (state_of self.new) ⊎ Adds (state_of self.old) packet (state_of self.new)) }
+        ensures stops { IfErr result (λ e. e ≡ Error.OutOfMemory → Stops (state_of self.old) packet (state_of self.new)) }
         ensures value { IfOk result (λ r. option_map vec_items r ≡ result_of (state_of self.new)) }
         ensures object { IfOk result (λ r. AnswersObject (state_of self.new) (option_map vec_items r)) }
+        ensures only_object { IfOk result (λ r. AnswersOnlyObject (state_of self.new) (option_map vec_items r)) }
         ensures configuration { (state_of self.new).configuration ≡ (state_of self.old).configuration }
 
         // From a decoder that stands for a list, one that stands for the longer list.
         ensures stands { OnOk result (StandsForMore (state_of self.old) packet (state_of self.new)) }
         ensures catches_up { OnOk result (CatchesUp (state_of self.old) packet (state_of self.new)) }
-        ensures falls_behind { IfErr result (λ e. e ≡ Error.OutOfMemory → FallsBehind (state_of self.old) packet (state_of self.new) ⊎ CatchesUp (state_of self.old) packet (state_of self.new)) }
+        ensures falls_behind { IfErr result (λ e. e ≡ Error.OutOfMemory → FallsBehindOrJoinsLate (state_of self.old) packet (state_of self.new)) }
     {
-        self.add_new_packet(packet)?;
-        self.get_result()
+        match self.take_and_join(packet) {
+            Ok(object) => Ok(object),
+            Err(stopped) => Err(stopped.refusal()),
+        }
     }
 }
 
@@ -308,7 +338,8 @@ fn set_sparse_thresholds(blocks: &mut [ObjectBlock], value: u32)
     }
 }
 
-/// What a decoder answers after a list of packets.
+/// What a decoder answers after a list of packets. Beside each packet stands the sparse threshold
+/// that is set before it ([`Decoder::set_sparse_threshold`]).
 ///
 /// Refuses what [`Decoder::new`] refuses, and then as [`Decoder::decode`] does, the first refused
 /// packet deciding.
@@ -316,25 +347,16 @@ pub fn decode_all(
     alloc: Global,
     table: &SystematicTable,
     config: ObjectTransmissionInformation,
-    packets: Vec<EncodingPacket>,
+    steps: Vec<(u32, EncodingPacket)>,
 ) -> Result<Option<Vec<u8>>, Error>
-    // Over packets of an object nothing is refused but the configuration, and memory.
-    ensures refused { IfErr result (λ e. (object : List ℕ) → length object ≡ config.transfer_length → HasNonsingularRows table.now config
-        → AllByRecursion (IsPacketOf table.now config object) packets.items → IsRefusal e (checked_configuration (greatest_size table.now) config)) }
-
-    // Over packets of an object, any number of times and in any order, the object exactly where
-    // they determine each block.
-    ensures headline { IfOk result (λ r. (object : List ℕ) → length object ≡ config.transfer_length → HasNonsingularRows table.now config
-        → AllByRecursion (IsPacketOf table.now config object) packets.items → IsObjectAnswer table.now config object packets.items (option_map vec_items r)) }
-
-    // Over packets of an object, an answer exactly where they are no other object's: no decoder can
-    // do better.
-    ensures only_object { IfOk result (λ r. (object : List ℕ) → length object ≡ config.transfer_length → HasNonsingularRows table.now config
-        → AllByRecursion (IsPacketOf table.now config object) packets.items → IsSome (option_map vec_items r) ↔ IsOnlyObject table.now config packets.items object) }
+    ensures refused { IfErr result (RefusesConfiguration table.now config (packets_of steps.items)) }
+    ensures headline { IfOk result (λ r. AnswersExactly table.now config (packets_of steps.items) (option_map vec_items r)) }
+    ensures only_object { IfOk result (λ r. AnswersWhereAnyCan table.now config (packets_of steps.items) (option_map vec_items r)) }
 {
     let mut decoder = Decoder::new(alloc, table, config)?;
-    for packet in packets {
-        decoder.add_new_packet(packet)?;
+    for step in steps {
+        decoder.set_sparse_threshold(step.0);
+        decoder.add_new_packet(step.1)?;
     }
     decoder.get_result()
 }

@@ -1,50 +1,60 @@
-use Rattle.std.proofs.Common.{◌≡◌, ◌∙◌, ◌∷◌, [], sym, subst, arith}
+use Rattle.std.proofs.Common.{◌≡◌, ◌∙◌, ◌∷◌, ◌++◌, [], sym, ap, subst, arith}
 use Rattle.std.specs.Vec.Iter.{into_iter_items}
 use Rattle.std.proofs.lemmas.Result.{IfOk-weaker, err_from_is_err_and}
 use Rattle.std.proofs.lemmas.List.{nil_from_length}
 use Rattle.rq_bytes.specs.Refusals.{IsRefusal}
-use Rattle.rq_standard.specs.Headline.{HasNonsingularRows}
+use Rattle.rq_standard.specs.Standing.{Stands}
 use Rattle.raptorq.specs.Objects.{state_of}
-use Rattle.raptorq.proofs.Lists.{next_honest, next_refused, next_whole, answer_all, only_answer}
+use Rattle.raptorq.specs.Runs.{packets_of}
+use Rattle.raptorq.proofs.Lists.{next_whole, all_came, step_honest, step_refused, packets_of-push, answers_exactly, answers_where_any_can}
 use Rattle.raptorq.proofs.decoder.object.decode_all.Goals as goal
 
-pub loop-packet-preserved : goal.loop-packet-preserved
-loop-packet-preserved c =
-    let kept = c.loop-packet.invariant in
-    let is : into_iter_items c.loop-packet.packet-iterator ≡ c.in-Some.packet ∷ into_iter_items c.next.new.self = c.in-Some.ensures.steps.0 in
+pub loop-step-preserved : goal.loop-step-preserved
+loop-step-preserved c =
+    let kept = c.loop-step.invariant in
+    let table = c.args.table.now in
+    let k = c.args.config in
+    let step = c.in-Some.step in
+    let is : into_iter_items c.loop-step.step-iterator ≡ step ∷ into_iter_items c.next.new.self = c.in-Some.ensures.steps.0 in
+    let same : (state_of c.set_sparse_threshold.new.self).configuration ≡ k = ap (λ s. s.configuration) c.set_sparse_threshold.ensures ∙ kept.configuration in
     record {
-      configuration = c.in_ok-add_new_packet.ensures.configuration ∙ kept.configuration;
-      whole = next_whole c.args.packets.items c.loop-packet.yielded (into_iter_items c.loop-packet.packet-iterator) (into_iter_items c.next.new.self) c.in-Some.packet kept.whole is;
-      stands = λ object long nonsingular honest. c.in_ok-add_new_packet.ensures.stands c.args.table.now object c.loop-packet.yielded (subst (HasNonsingularRows c.args.table.now) (sym kept.configuration) nonsingular) (kept.stands object long nonsingular honest)
-          (next_honest c.args.table.now c.args.config (state_of c.loop-packet.decoder).configuration object c.args.packets.items c.loop-packet.yielded (into_iter_items c.loop-packet.packet-iterator) (into_iter_items c.next.new.self) c.in-Some.packet kept.configuration kept.whole is honest);
+      configuration = c.in_ok-add_new_packet.ensures.configuration ∙ same;
+      whole = next_whole c.args.steps.items c.loop-step.yielded (into_iter_items c.loop-step.step-iterator) (into_iter_items c.next.new.self) step kept.whole is;
+      stands = λ object run. subst (λ ps. Stands table object ps (state_of c.add_new_packet.new.self)) (sym (packets_of-push c.loop-step.yielded step))
+          (c.in_ok-add_new_packet.ensures.stands table object (packets_of c.loop-step.yielded) (subst (Stands table object (packets_of c.loop-step.yielded)) (sym c.set_sparse_threshold.ensures) (kept.stands object run))
+          (step_honest table k (state_of c.set_sparse_threshold.new.self).configuration object c.args.steps.items c.loop-step.yielded (into_iter_items c.next.new.self) step same (kept.whole ∙ ap (λ l. c.loop-step.yielded ++ l) is) run));
     }
 
 pub returns-in_err-add_new_packet-clause-refused : goal.returns-in_err-add_new_packet-clause-refused
 returns-in_err-add_new_packet-clause-refused c =
-    let kept = c.loop-packet.invariant in
-    let is : into_iter_items c.loop-packet.packet-iterator ≡ c.in-Some.packet ∷ into_iter_items c.next.new.self = c.in-Some.ensures.steps.0 in
+    let kept = c.loop-step.invariant in
+    let table = c.args.table.now in
+    let k = c.args.config in
+    let step = c.in-Some.step in
+    let is : into_iter_items c.loop-step.step-iterator ≡ step ∷ into_iter_items c.next.new.self = c.in-Some.ensures.steps.0 in
+    let same : (state_of c.set_sparse_threshold.new.self).configuration ≡ k = ap (λ s. s.configuration) c.set_sparse_threshold.ensures ∙ kept.configuration in
     let e = c.in_err-add_new_packet.field-0.0 in
     let p = err_from_is_err_and c.from_residual-in_err-add_new_packet.result c.from_residual-in_err-add_new_packet.ensures.1 in
-    rw (p.1, p.2) (λ object long nonsingular honest. subst (IsRefusal e) (sym c.in_ok-decoder.ensures.refused)
-    (next_refused c.args.table.now c.args.config (state_of c.loop-packet.decoder) object c.args.packets.items c.loop-packet.yielded (into_iter_items c.loop-packet.packet-iterator) (into_iter_items c.next.new.self) c.in-Some.packet e kept.configuration kept.whole is (kept.stands object long nonsingular honest) honest c.in_err-add_new_packet.ensures.refused))
+    rw (p.1, p.2) (λ object run. subst (IsRefusal e) (sym c.in_ok-decoder.ensures.refused)
+    (step_refused table k (state_of c.set_sparse_threshold.new.self) object c.args.steps.items c.loop-step.yielded (into_iter_items c.next.new.self) step e same (kept.whole ∙ ap (λ l. c.loop-step.yielded ++ l) is)
+    (subst (Stands table object (packets_of c.loop-step.yielded)) (sym c.set_sparse_threshold.ensures) (kept.stands object run)) run c.in_err-add_new_packet.ensures.refused))
 
 pub returns-clause-headline : goal.returns-clause-headline
 returns-clause-headline c =
-    let kept = c.loop-packet.invariant in
-    let none : into_iter_items c.loop-packet.packet-iterator ≡ [] = nil_from_length (into_iter_items c.loop-packet.packet-iterator) (omega (arith, c.in-None.ensures.steps.0)) in
+    let kept = c.loop-step.invariant in
+    let table = c.args.table.now in
+    let none : into_iter_items c.loop-step.step-iterator ≡ [] = nil_from_length (into_iter_items c.loop-step.step-iterator) (omega (arith, c.in-None.ensures.steps.0)) in
+    let all = ap packets_of (all_came c.args.steps.items c.loop-step.yielded (into_iter_items c.loop-step.step-iterator) kept.whole none) in
     IfOk-weaker c.get_result.result _ _
-    (λ r is object long nonsingular honest. answer_all c.args.table.now c.args.config object c.args.packets.items c.loop-packet.yielded (into_iter_items c.loop-packet.packet-iterator) (state_of c.loop-packet.decoder) _ kept.configuration kept.whole none (kept.stands object long nonsingular honest) is)
+    (λ r is. answers_exactly table c.args.config (packets_of c.args.steps.items) (state_of c.loop-step.decoder) _ kept.configuration (λ object run. subst (λ ps. Stands table object ps (state_of c.loop-step.decoder)) all (kept.stands object run)) is)
     c.get_result.ensures.object
 
 pub returns-clause-only_object : goal.returns-clause-only_object
 returns-clause-only_object c =
-    let kept = c.loop-packet.invariant in
+    let kept = c.loop-step.invariant in
     let table = c.args.table.now in
-    let k = c.args.config in
-    let accepted = c.in_ok-decoder.ensures.accepted in
-    let none : into_iter_items c.loop-packet.packet-iterator ≡ [] = nil_from_length (into_iter_items c.loop-packet.packet-iterator) (omega (arith, c.in-None.ensures.steps.0)) in
+    let none : into_iter_items c.loop-step.step-iterator ≡ [] = nil_from_length (into_iter_items c.loop-step.step-iterator) (omega (arith, c.in-None.ensures.steps.0)) in
+    let all = ap packets_of (all_came c.args.steps.items c.loop-step.yielded (into_iter_items c.loop-step.step-iterator) kept.whole none) in
     IfOk-weaker c.get_result.result _ _
-    (λ r is object long nonsingular honest. only_answer table k object c.args.packets.items c.loop-packet.yielded (into_iter_items c.loop-packet.packet-iterator) (state_of c.loop-packet.decoder) _ kept.configuration kept.whole none
-    accepted.size_positive accepted.blocks_positive (record { alignment_positive = accepted.alignment_positive; aligned = accepted.aligned }) nonsingular (kept.stands object long nonsingular honest)
-    (λ other fits. answer_all table k other c.args.packets.items c.loop-packet.yielded (into_iter_items c.loop-packet.packet-iterator) (state_of c.loop-packet.decoder) _ kept.configuration kept.whole none (kept.stands other fits.long nonsingular fits.packets_are) is))
-    c.get_result.ensures.object
+    (λ r is. answers_where_any_can table c.args.config (packets_of c.args.steps.items) (state_of c.loop-step.decoder) _ kept.configuration (λ object run. subst (λ ps. Stands table object ps (state_of c.loop-step.decoder)) all (kept.stands object run)) is)
+    c.get_result.ensures.only_object

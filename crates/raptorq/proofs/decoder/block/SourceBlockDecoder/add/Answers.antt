@@ -7,27 +7,27 @@ use Rattle.raptorq.proofs.decoder.block.SourceBlockDecoder.add.Goals as goal
 
 pub invariant_of-self : goal.invariant_of-self
 invariant_of-self c = record {
-  sized = λ e x is. c.args.self.now.sized e x (sym (c.in_err-kept.ensures.err e) ∙ is);
+  sized = λ e x is. c.args.self.now.sized e x (sym (c.in_default.ensures.err e) ∙ is);
   positive = c.args.self.now.positive;
   aligned = c.args.self.now.aligned;
   checked = c.args.self.now.checked;
   fits = c.args.self.now.fits;
-  few = λ e came. c.args.self.now.few e (sym (ap is_some (c.in_err-kept.ensures.err e)) ∙ came);
-  counted = c.args.self.now.counted ∙ missing_count-same c.args.self.now.symbols _ _ (λ e below. sym (ap is_some (c.in_err-kept.ensures.err e)));
+  few = λ e came. c.args.self.now.few e (sym (ap is_some (c.in_default.ensures.err e)) ∙ came);
+  counted = c.args.self.now.counted ∙ missing_count-same c.args.self.now.symbols _ _ (λ e below. sym (ap is_some (c.in_default.ensures.err e)));
 }
 
 pub overflow_sub-self : goal.overflow_sub-self
-overflow_sub-self c = (missing-after c.args.self.now.missing _ _ c.from.result _ c.args.self.now.counted c.from.ensures (missing_count-step c.args.self.now.symbols c.encoding_symbol_id-esi.result (payload_of c.args.self.now.received) (payload_of c.keep_first.new.received) c.in_ok-kept.kept c.split-id.result.1.items c.in_ok-kept.ensures.kept c.in_ok-kept.ensures.ok)).0
+overflow_sub-self c = (missing-after c.args.self.now.missing _ _ c.from.result _ c.args.self.now.counted c.from.ensures (missing_count-step c.args.self.now.symbols c.encoding_symbol_id-esi.result (payload_of c.args.self.now.received) (payload_of c.keep_first.new.received) c.in-Ok.kept c.split-id.result.1.items c.in-Ok.ensures.kept c.in-Ok.ensures.ok)).0
 
 pub invariant_of-self-2 : goal.invariant_of-self-2
 invariant_of-self-2 c =
     let long : length c.split-id.result.1.items ≡ c.args.self.now.config.symbol_size = ap length (c.split-id.ensures.payload ∙ sym c.data.ensures) ∙ c.if-data-symbol_size.false ∙ c.symbol_size.ensures.value in
     record {
-      sized = sized-more (payload_of c.args.self.now.received) (payload_of c.keep_first.new.received) c.encoding_symbol_id-esi.result c.split-id.result.1.items c.args.self.now.config.symbol_size c.args.self.now.sized long c.in_ok-kept.ensures.ok;
+      sized = sized-more (payload_of c.args.self.now.received) (payload_of c.keep_first.new.received) c.encoding_symbol_id-esi.result c.split-id.result.1.items c.args.self.now.config.symbol_size c.args.self.now.sized long c.in-Ok.ensures.ok;
       positive = c.args.self.now.positive;
       aligned = c.args.self.now.aligned;
       checked = c.args.self.now.checked;
       fits = c.args.self.now.fits;
-      few = few-more (payload_of c.args.self.now.received) (payload_of c.keep_first.new.received) c.encoding_symbol_id-esi.result c.split-id.result.1.items (2 ^ 24) c.args.self.now.few c.encoding_symbol_id-esi.ensures.below c.in_ok-kept.ensures.ok;
-      counted = (missing-after c.args.self.now.missing _ _ c.from.result _ c.args.self.now.counted c.from.ensures (missing_count-step c.args.self.now.symbols c.encoding_symbol_id-esi.result (payload_of c.args.self.now.received) (payload_of c.keep_first.new.received) c.in_ok-kept.kept c.split-id.result.1.items c.in_ok-kept.ensures.kept c.in_ok-kept.ensures.ok)).1;
+      few = few-more (payload_of c.args.self.now.received) (payload_of c.keep_first.new.received) c.encoding_symbol_id-esi.result c.split-id.result.1.items (2 ^ 24) c.args.self.now.few c.encoding_symbol_id-esi.ensures.below c.in-Ok.ensures.ok;
+      counted = (missing-after c.args.self.now.missing _ _ c.from.result _ c.args.self.now.counted c.from.ensures (missing_count-step c.args.self.now.symbols c.encoding_symbol_id-esi.result (payload_of c.args.self.now.received) (payload_of c.keep_first.new.received) c.in-Ok.kept c.split-id.result.1.items c.in-Ok.ensures.kept c.in-Ok.ensures.ok)).1;
     }

@@ -1,8 +1,25 @@
-use Rattle.std.proofs.Common.{inl}
-use Rattle.std.proofs.lemmas.Result.{err_from_is_err_and}
+use Rattle.rq_standard.proofs.ObjectAnswers.{answers_object}
+use Rattle.rq_standard.proofs.OtherObjects.{answers_only}
+use Rattle.rq_standard.proofs.Standing.{stands_more, catches_up}
+use Rattle.raptorq.specs.Objects.{state_of}
+use Rattle.raptorq.proofs.Stops.{late_or_not}
 use Rattle.raptorq.proofs.decoder.object.Decoder.decode.Goals as goal
 
-pub returns-in_err-add_new_packet-clause-falls_behind : goal.returns-in_err-add_new_packet-clause-falls_behind
-returns-in_err-add_new_packet-clause-falls_behind c =
-    let p = err_from_is_err_and c.from_residual.result c.from_residual.ensures.1 in
-    rw (p.1, p.2) (λ memory. inl (c.in_err-add_new_packet.ensures.falls_behind memory))
+pub returns-in-Ok-clause-object : goal.returns-in-Ok-clause-object
+returns-in-Ok-clause-object c =
+    let new = c.take_and_join.new.self in
+    answers_object (state_of new) _ new.some new.positive c.in-Ok.ensures.takes.1
+
+pub returns-in-Ok-clause-only_object : goal.returns-in-Ok-clause-only_object
+returns-in-Ok-clause-only_object c =
+    let new = c.take_and_join.new.self in
+    answers_only (state_of new) _ new.some new.positive new.aligned (answers_object (state_of new) _ new.some new.positive c.in-Ok.ensures.takes.1)
+
+pub returns-in-Ok-clause-stands : goal.returns-in-Ok-clause-stands
+returns-in-Ok-clause-stands c = stands_more c.args.packet (state_of c.args.self.now) (state_of c.take_and_join.new.self) c.args.self.now.aligned c.in-Ok.ensures.takes.0
+
+pub returns-in-Ok-clause-catches_up : goal.returns-in-Ok-clause-catches_up
+returns-in-Ok-clause-catches_up c = catches_up c.args.packet (state_of c.args.self.now) (state_of c.take_and_join.new.self) c.args.self.now.aligned c.in-Ok.ensures.takes.0
+
+pub returns-in-Err-clause-falls_behind : goal.returns-in-Err-clause-falls_behind
+returns-in-Err-clause-falls_behind c = λ memory. late_or_not (state_of c.args.self.now) c.args.packet c.in-Err.stopped (state_of c.take_and_join.new.self) c.args.self.now.aligned c.in-Err.ensures.takes

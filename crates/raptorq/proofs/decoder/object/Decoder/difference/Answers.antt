@@ -1,6 +1,7 @@
 use Rattle.std.proofs.Common.{◌≡◌, ℕ, ◌<◌, ◌++◌, Bool, true, false, List, length, get_or, take, Option, Some, None, Vec, Global, refl, sym, ap, ◌∙◌, subst, arith}
 use Rattle.std.specs.Prelude.{is_none, is_some, not, option_map, vec_items, ◌&&◌}
 use Rattle.rq_standard.specs.Differences.{IsDifference}
+use Rattle.rq_standard.proofs.ObjectAnswers.{none_where_answered}
 use Rattle.rq_standard.proofs.OtherObjects.{makes_others_fit}
 use Rattle.raptorq.specs.Blocks.{held_of}
 use Rattle.raptorq.specs.Difference.{ShowsUnanswered, octets_of_column}
@@ -65,6 +66,20 @@ returns-clause-exactly c =
     let s = c.args.self.now in
     let all : c.loop-block.block-index ≡ s.config.source_blocks = omega (arith, c.loop-block-test.false, c.loop-block.auto.block-index-end, ap length c.deref-block-items.ensures.value, length-numbered number_of s.config.source_blocks s.blocks.items s.numbered) in
     (λ none. absurd (cc none), λ determined. absurd (some_undetermined s.config s.blocks.items c.loop-block.bytes.items (whole s c.loop-block.block-index false c.loop-block.bytes.items all (subst (λ t. DifferenceSoFar s.config s.blocks.items c.loop-block.block-index t c.loop-block.bytes.items) c.if-determined.false c.loop-block.invariant)) determined))
+
+pub returns-then-determined-clause-answered : goal.returns-then-determined-clause-answered
+returns-then-determined-clause-answered c =
+    let s = c.args.self.now in
+    let all : c.loop-block.block-index ≡ s.config.source_blocks = omega (arith, c.loop-block-test.false, c.loop-block.auto.block-index-end, ap length c.deref-block-items.ensures.value, length-numbered number_of s.config.source_blocks s.blocks.items s.numbered) in
+    none_where_answered (state_of s) None s.some s.positive
+    (λ _. all_determined s.config s.blocks.items c.loop-block.bytes.items (whole s c.loop-block.block-index true c.loop-block.bytes.items all (subst (λ t. DifferenceSoFar s.config s.blocks.items c.loop-block.block-index t c.loop-block.bytes.items) c.if-determined.true c.loop-block.invariant))) (λ _. refl)
+
+pub returns-clause-answered : goal.returns-clause-answered
+returns-clause-answered c =
+    let s = c.args.self.now in
+    let all : c.loop-block.block-index ≡ s.config.source_blocks = omega (arith, c.loop-block-test.false, c.loop-block.auto.block-index-end, ap length c.deref-block-items.ensures.value, length-numbered number_of s.config.source_blocks s.blocks.items s.numbered) in
+    none_where_answered (state_of s) (Some c.truncate.new.self.items) s.some s.positive (λ none. absurd (cc none))
+    (λ determined. absurd (some_undetermined s.config s.blocks.items c.loop-block.bytes.items (whole s c.loop-block.block-index false c.loop-block.bytes.items all (subst (λ t. DifferenceSoFar s.config s.blocks.items c.loop-block.block-index t c.loop-block.bytes.items) c.if-determined.false c.loop-block.invariant)) determined))
 
 pub returns-clause-bytes : goal.returns-clause-bytes
 returns-clause-bytes c =

@@ -2,6 +2,7 @@ use Rattle.std.proofs.Common.{◌≡◌, ℕ, false, List, Option, Some, None, r
 use Rattle.std.specs.Prelude.{is_some}
 use Rattle.rq_standard.specs.Standing.{result_of}
 use Rattle.rq_standard.proofs.ObjectAnswers.{answers_object}
+use Rattle.rq_standard.proofs.OtherObjects.{answers_only}
 use Rattle.raptorq.specs.Objects.{state_of}
 use Rattle.raptorq.proofs.decoder.object.Decoder.get_result.Goals as goal
 
@@ -10,7 +11,21 @@ not_some None h = refl
 not_some (Some x) h = absurd (cc h)
 
 pub returns-then-not-is_complete-clause-object : goal.returns-then-not-is_complete-clause-object
-returns-then-not-is_complete-clause-object c = answers_object (state_of c.args.self.now) _ c.args.self.now.some c.args.self.now.positive (not_some (result_of (state_of c.args.self.now)) (sym c.is_complete.ensures ∙ c.if-not-is_complete.true))
+returns-then-not-is_complete-clause-object c =
+    let s = c.args.self.now in
+    answers_object (state_of s) None s.some s.positive (not_some (result_of (state_of s)) (sym c.is_complete.ensures ∙ c.if-not-is_complete.true))
+
+pub returns-then-not-is_complete-clause-only_object : goal.returns-then-not-is_complete-clause-only_object
+returns-then-not-is_complete-clause-only_object c =
+    let s = c.args.self.now in
+    answers_only (state_of s) None s.some s.positive s.aligned (answers_object (state_of s) None s.some s.positive (not_some (result_of (state_of s)) (sym c.is_complete.ensures ∙ c.if-not-is_complete.true)))
 
 pub returns-clause-object : goal.returns-clause-object
-returns-clause-object c = answers_object (state_of c.args.self.now) _ c.args.self.now.some c.args.self.now.positive c.in_ok-join.ensures
+returns-clause-object c =
+    let s = c.args.self.now in
+    answers_object (state_of s) (Some c.in_ok-join.field-0.items) s.some s.positive c.in_ok-join.ensures
+
+pub returns-clause-only_object : goal.returns-clause-only_object
+returns-clause-only_object c =
+    let s = c.args.self.now in
+    answers_only (state_of s) (Some c.in_ok-join.field-0.items) s.some s.positive s.aligned (answers_object (state_of s) (Some c.in_ok-join.field-0.items) s.some s.positive c.in_ok-join.ensures)

@@ -50,4 +50,4 @@ returns-clause-stands c =
     let k = c.args.config in
     let all : c.loop-number.number ≡ k.source_blocks = omega (arith, c.loop-number-test.false, c.loop-number.auto.number-end, c.source_blocks-number-end.ensures) in
     let new = new_state table k c.loop-number.blocks.items (c.loop-number.invariant.held ∙ ap (λ n. map (new_held table k) (range_with_len 0 n)) all) (c.loop-number.invariant.answers ∙ ap (λ n. map (new_answer k) (range_with_len 0 n)) all) in
-    λ object long nonsingular. stands_new table object k (state k c.loop-number.blocks.items) nonsingular long (λ b below. c.loop-number.invariant.shape b (omega (arith, all))) new
+    stands_new table k (state k c.loop-number.blocks.items) (λ b below. c.loop-number.invariant.shape b (omega (arith, all))) new

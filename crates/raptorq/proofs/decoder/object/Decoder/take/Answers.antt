@@ -1,19 +1,12 @@
 use Rattle.std.proofs.Common.{◌≡◌, ◌<◌, length, set, sym, ap, ◌∙◌, subst, arith}
-use Rattle.std.specs.Prelude.{Result, Ok, Err, OnErr, IfErr}
 use Rattle.std.proofs.lemmas.List.Elements.{All-set}
-use Rattle.std.proofs.lemmas.Result.{on_ok_weaker}
 use Rattle.std.proofs.Math.Seq.{map-set_same}
-use Rattle.rq_bytes.specs.declared.error.Error.TheVariants.{OutOfMemory}
 use Rattle.rq_standard.specs.Cutting.{block_symbols}
-use Rattle.rq_standard.specs.Standing.{Adds, StopsEarly}
+use Rattle.raptorq.specs.Stopping.{Takes}
 use Rattle.raptorq.specs.Blocks.{held_of}
 use Rattle.raptorq.proofs.Numbered.{length-numbered, number_at}
-use Rattle.raptorq.proofs.ObjectBlocks.{state, number_of, block_of_packet, block_takes, IsCut, adds_at, stops_at}
+use Rattle.raptorq.proofs.ObjectBlocks.{state, number_of, block_of_packet, block_takes, IsCut, takes_at}
 use Rattle.raptorq.proofs.decoder.object.Decoder.take.Goals as goal
-
-stops_of : {X E P Q : Type 0} (m : E) (r : Result X E) → (P → Q) → OnErr r P → IfErr r (λ e. e ≡ m → Q)
-stops_of m (Ok x) f h = tt
-stops_of m (Err e) f h = λ _. f h
 
 pub index_mut-requires : goal.index_mut-requires
 index_mut-requires c =
@@ -52,22 +45,12 @@ invariant_of-self c =
       cut = All-set (λ b. IsCut s.config (held_of b.decoder)) items c.from-2.result y (c.take.ensures.symbols ∙ ap (λ b. (held_of b.decoder).symbols) at.is ∙ s.cut p.id.block x at.below ∙ ap (λ b. block_symbols s.config (held_of b.decoder).number) (sym at.is) ∙ ap (block_symbols s.config) (sym c.take.ensures.number)) s.cut;
     }
 
-pub returns-clause-adds : goal.returns-clause-adds
-returns-clause-adds c =
+pub returns-clause-takes : goal.returns-clause-takes
+returns-clause-takes c =
     let s = c.args.self.now in
     let items = s.blocks.items in
     let p = c.args.packet in
     let x = c.index_mut.result.now in
     let at = block_of_packet items p s.config.source_blocks c.from-2.result x s.numbered (c.from-2.ensures ∙ c.source_block_number-number.ensures ∙ ap (λ i. i.block) c.payload_id.ensures) (omega (arith, c.from-2.ensures, c.if-number-source_blocks.false, c.source_blocks.ensures)) c.index_mut.ensures.value in
     let y = c.take.new.self in
-    on_ok_weaker c.take.result (λ add. subst (λ i. Adds (state s.config items) p (state s.config (set items i y))) (sym at.here) (adds_at s.config items p x y at.below at.is add)) c.take.ensures.adds
-
-pub returns-clause-stops : goal.returns-clause-stops
-returns-clause-stops c =
-    let s = c.args.self.now in
-    let items = s.blocks.items in
-    let p = c.args.packet in
-    let x = c.index_mut.result.now in
-    let at = block_of_packet items p s.config.source_blocks c.from-2.result x s.numbered (c.from-2.ensures ∙ c.source_block_number-number.ensures ∙ ap (λ i. i.block) c.payload_id.ensures) (omega (arith, c.from-2.ensures, c.if-number-source_blocks.false, c.source_blocks.ensures)) c.index_mut.ensures.value in
-    let y = c.take.new.self in
-    stops_of OutOfMemory c.take.result (λ stop. subst (λ i. Stops (state s.config items) p (state s.config (set items i y))) (sym at.here) (stops_at s.config items p x y at.below at.is stop)) c.take.ensures.stops
+    subst (λ i. Takes (state s.config items) p c.take.result (state s.config (set items i y))) (sym at.here) (takes_at s.config items p x y at.below at.is c.take.result c.take.ensures.takes)

@@ -3,7 +3,7 @@ use Rattle.rq_algebra.specs.Symbols.{AreSymbols}
 use Rattle.rq_bytes.specs.Slab.{Slab, symbol_in}
 use Rattle.rq_bytes.specs.SymbolOps.{operation_of}
 use Rattle.rq_solver.specs.Replay.{after_all}
-use Rattle.rq_standard.specs.Headline.{IsIntermediateColumn}
+use Rattle.rq_standard.specs.Headline.{IsOnlyIntermediateColumn}
 use Rattle.rq_standard.specs.OctetField.{octets}
 use Rattle.raptorq.specs.Planned.{planned}
 use Rattle.raptorq.proofs.Intermediates.{source_are_symbols}
@@ -18,4 +18,4 @@ returns-clause-column c =
     let are = source_are_symbols plan.row c.args.size source c.requires.few c.len-count.result (subst (λ (s : Slab). AreSymbols octets s.symbol_size c.len-count.result s.values) values c.len-count.ensures.symbols) in
     let made : c.replay.new.symbols ≡ planned plan.row operations c.args.size source =
     c.in_ok-replay.ensures.ok ∙ ap (λ ops. after_all (map operation_of ops) c.in_ok-symbols.symbols) c.as_slice.ensures.value ∙ ap (λ (s : Slab). after_all operations s) values in
-    subst (λ (s : Slab). IsIntermediateColumn plan.row c.args.size source (symbol_in s)) (sym made) (plan.finds.column c.args.size source c.requires.few are).is
+    subst (λ (s : Slab). IsOnlyIntermediateColumn plan.row c.args.size source (symbol_in s)) (sym made) (plan.finds.column c.args.size source c.requires.few are)

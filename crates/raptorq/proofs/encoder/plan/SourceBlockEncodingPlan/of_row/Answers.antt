@@ -6,6 +6,7 @@ use Rattle.rq_bytes.specs.SymbolOps.{operation_of}
 use Rattle.rq_standard.specs.OctetField.{octets}
 use Rattle.rq_standard.specs.Equations.{equations, equation_count, source_ids}
 use Rattle.rq_standard.specs.TableRows.{intermediate_symbols}
+use Rattle.rq_standard.proofs.Known.{nonsingular_rows}
 use Rattle.raptorq.specs.Solving.{SolvesByOperations}
 use Rattle.raptorq.proofs.Intermediates.{count_source, source_ids_are, plan_allowed, plan_nonsingular, plan_is}
 use Rattle.raptorq.proofs.Listing.{slab_answered}
@@ -37,7 +38,7 @@ returns-in_default-clause-refused c =
     let row = c.args.row in
     let ids : c.as_slice.result.now ≡ source_ids row = c.as_slice.ensures.value ∙ source_ids_are row c.in_ok-ids.ids.items c.in_ok-ids.ensures in
     let none = subst (SolvesByOperations row c.as_slice.result.now c.in_ok-values.values) c.in_default.is c.in_ok-_symbols.ensures.solved in
-    inr (refl, subst (λ l. HasDeterminedRows row l → ⊥) ids none)
+    inr (refl, λ nonsingular. subst (λ l. HasDeterminedRows row l → ⊥) ids none (nonsingular_rows row nonsingular))
 
 pub invariant_of-result : goal.invariant_of-result
 invariant_of-result c =

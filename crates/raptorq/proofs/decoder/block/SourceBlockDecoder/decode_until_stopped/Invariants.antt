@@ -1,7 +1,7 @@
 use Rattle.std.proofs.Common.{◌≡◌}
 use Rattle.raptorq.specs.Blocks.{held_of}
 use Rattle.raptorq.specs.Decoding.{all_recorded, AreTaken}
-use Rattle.raptorq.proofs.decoder.block.SourceBlockDecoder.decode.Given as goal
+use Rattle.raptorq.proofs.decoder.block.SourceBlockDecoder.decode_until_stopped.Given as goal
 
 -- the packets so far are recorded
 abbrev pub invariant-loop-packet : goal.invariant-loop-packet

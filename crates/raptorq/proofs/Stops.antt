@@ -1,0 +1,23 @@
+-- What a decoder of an object stands for where the work on a packet stopped.
+use Rattle.std.proofs.Common.{◌⊎◌, Err, inl, inr}
+use Rattle.rq_standard.specs.Configuration.{IsAligned}
+use Rattle.rq_standard.specs.Packet.{Packet}
+use Rattle.rq_standard.specs.Standing.{State, StopsEarly, FallsBehind, CatchesUp}
+use Rattle.rq_standard.proofs.Standing.{catches_up, falls_behind}
+use Rattle.raptorq.specs.Stopping.{Takes, TakesAndJoins}
+use Rattle.raptorq.specs.declared.decoder.stopped.Stopped.{Stopped}
+use Rattle.raptorq.specs.declared.decoder.stopped.Stopped.TheVariants.{Refused, NotRecorded, NotSolved, NotJoined}
+
+-- nothing changed, or the packet is recorded
+pub stops_early : (old : State) (p : Packet) (at : Stopped) (new : State) → Takes old p (Err at) new → StopsEarly old p new
+stops_early old p (Refused e) new so = inl so
+stops_early old p NotRecorded new so = inl so
+stops_early old p NotSolved new so = inr so
+stops_early old p NotJoined new so = absurd so
+
+-- where the blocks weren't joined, it stands for the longer list
+pub late_or_not : (old : State) (p : Packet) (at : Stopped) (new : State) → IsAligned old.configuration → TakesAndJoins old p (Err at) new → FallsBehind old p new ⊎ CatchesUp old p new
+late_or_not old p (Refused e) new aligned so = inl (falls_behind p old new (inl so))
+late_or_not old p NotRecorded new aligned so = inl (falls_behind p old new (inl so))
+late_or_not old p NotSolved new aligned so = inl (falls_behind p old new (inr so))
+late_or_not old p NotJoined new aligned so = inr (catches_up p old new aligned so)

@@ -1,0 +1,55 @@
+-- What a decoder has done of a packet where its work stopped.
+use Rattle.std.specs.Prelude.{◌≡◌, ℕ, List, Option, Result, Ok, Err}
+use Rattle.rq_bytes.specs.declared.error.Error.{Error}
+use Rattle.rq_bytes.specs.declared.error.Error.TheVariants.{OutOfMemory}
+use Rattle.rq_standard.specs.Held.{Held}
+use Rattle.rq_standard.specs.Packet.{Packet}
+use Rattle.rq_standard.specs.Standing.{State, AddsToBlock, RecordsInBlock, Adds, Records, result_of}
+use Rattle.raptorq.specs.declared.decoder.stopped.Stopped.{Stopped}
+use Rattle.raptorq.specs.declared.decoder.stopped.Stopped.TheVariants.{Refused, NotRecorded, NotSolved, NotJoined}
+
+-- what a caller sees of it
+abbrev pub refusal_of : Stopped → Error
+refusal_of (Refused e) = e
+refusal_of NotRecorded = OutOfMemory
+refusal_of NotSolved = OutOfMemory
+refusal_of NotJoined = OutOfMemory
+
+-- the packet is refused exactly where the tests refuse it
+abbrev pub StopsAsTested : {X : Type 0} → Result X Stopped → Result (Unit {0}) Error → Type 0
+StopsAsTested (Err (Refused e)) tested = tested ≡ Err e
+StopsAsTested (Err NotRecorded) tested = tested ≡ Ok tt
+StopsAsTested (Err NotSolved) tested = tested ≡ Ok tt
+StopsAsTested (Err NotJoined) tested = tested ≡ Ok tt
+StopsAsTested (Ok x) tested = tested ≡ Ok tt
+
+-- a packet that isn't recorded is refused by the tests, or passes them and finds no memory
+abbrev pub StopsPacket : Stopped → Result (Unit {0}) Error → Type 0
+StopsPacket (Refused e) tested = tested ≡ Err e
+StopsPacket NotRecorded tested = tested ≡ Ok tt
+StopsPacket NotSolved tested = ⊥
+StopsPacket NotJoined tested = ⊥
+
+-- What a packet of a block did to what is held and to its answer: where it wasn't recorded, nothing; where the block wasn't solved, it is recorded.
+abbrev pub TakesInBlock : Held → Option (List ℕ) → Packet → Result (Unit {0}) Stopped → Held → Option (List ℕ) → Type 0
+TakesInBlock old before p (Ok x) new after = AddsToBlock old before p new after
+TakesInBlock old before p (Err NotSolved) new after = RecordsInBlock old before p new after
+TakesInBlock old before p (Err NotRecorded) new after = (new ≡ old) × (after ≡ before)
+TakesInBlock old before p (Err NotJoined) new after = ⊥
+TakesInBlock old before p (Err (Refused e)) new after = ⊥
+
+-- the same of an object's decoder; a refused packet does nothing
+abbrev pub Takes : State → Packet → Result (Unit {0}) Stopped → State → Type 0
+Takes old p (Ok x) new = Adds old p new
+Takes old p (Err NotSolved) new = Records old p new
+Takes old p (Err NotRecorded) new = new ≡ old
+Takes old p (Err NotJoined) new = ⊥
+Takes old p (Err (Refused e)) new = new ≡ old
+
+-- The same where the blocks are joined behind it: where they weren't joined, the packet's block has the answer that it can have.
+abbrev pub TakesAndJoins : State → Packet → Result (Option (List ℕ)) Stopped → State → Type 0
+TakesAndJoins old p (Ok answer) new = Adds old p new × (answer ≡ result_of new)
+TakesAndJoins old p (Err NotJoined) new = Adds old p new
+TakesAndJoins old p (Err NotSolved) new = Records old p new
+TakesAndJoins old p (Err NotRecorded) new = new ≡ old
+TakesAndJoins old p (Err (Refused e)) new = new ≡ old

@@ -1,0 +1,31 @@
+//! Where the work on a packet stopped.
+ghost use Rattle.std.specs.Prelude.{◌≡◌};
+ghost use Rattle.raptorq.specs.Stopping.{refusal_of};
+
+use rq_bytes::error::Error;
+
+/// Where the work on a packet stopped. Callers see the refusal alone, but what a decoder holds after
+/// it depends on the place, so the steps of a decoder name it.
+#[derive(Drop)]
+pub(crate) enum Stopped {
+    /// The packet is refused.
+    Refused(Error),
+    /// There was no memory to record it.
+    NotRecorded,
+    /// It is recorded, and there was no memory to answer its block.
+    NotSolved,
+    /// Its block has the answer that it can have, and there was no memory to join the blocks.
+    NotJoined,
+}
+
+impl Stopped {
+    /// The refusal that a caller sees.
+    pub(crate) fn refusal(self) -> Error
+        ensures { result ≡ refusal_of self }
+    {
+        match self {
+            Stopped::Refused(e) => e,
+            Stopped::NotRecorded | Stopped::NotSolved | Stopped::NotJoined => Error::OutOfMemory,
+        }
+    }
+}
