@@ -8,6 +8,7 @@ pub mod Decoding
 pub mod Difference
 pub mod Encoded
 pub mod Known
+pub mod Laws
 pub mod Missing
 pub mod Objects
 pub mod Offsets

@@ -5,6 +5,7 @@ mod blocks;
 pub mod decoder;
 pub mod encoder;
 mod ids;
+pub mod laws;
 mod solving;
 mod sub_blocks;
 mod sums;

@@ -1,5 +1,6 @@
 pub mod BitTableLaws
 pub mod BlockCuts
+pub mod BlockRows
 pub mod Columns
 pub mod Differences
 pub mod FirstOctets
@@ -7,8 +8,10 @@ pub mod Firsts
 pub mod HdpcLaws
 pub mod HeaderBytes
 pub mod Interleaved
+pub mod Joined
 pub mod Known
 pub mod LeastNumbers
+pub mod MorePackets
 pub mod ObjectAnswers
 pub mod OneObject
 pub mod OtherObjects
@@ -19,5 +22,6 @@ pub mod PlainCut
 pub mod Powers
 pub mod RowLaws
 pub mod RowSymbols
+pub mod SourcePackets
 pub mod Standing
 pub mod TupleLaws

@@ -78,7 +78,7 @@ module _ (c : Configuration) (x y : List ℕ) (b : ℕ) where
 -- ---- packets of both
 
 -- each packet of a list has an id that came
-all_came : (packets : List Packet) → AllByRecursion (λ (p : Packet). has_id p.id.block packets p.id.esi ≡ true) packets
+pub all_came : (packets : List Packet) → AllByRecursion (λ (p : Packet). has_id p.id.block packets p.id.esi ≡ true) packets
 all_came [] = tt
 all_came (p ∷ packets) = (here (first_payload p.id.block packets p.id.esi), later packets (all_came packets)) where
   here : (o : Option (List ℕ)) → is_some (or_later (payload_for p.id.block p p.id.esi) o) ≡ true

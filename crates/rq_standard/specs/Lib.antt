@@ -8,6 +8,7 @@ pub mod Equations
 pub mod Headline
 pub mod Held
 pub mod IdLists
+pub mod Joining
 pub mod ObjectPackets
 pub mod OctetFacts
 pub mod OctetField
@@ -20,6 +21,7 @@ pub mod Partition
 pub mod Rand
 pub mod Received
 pub mod Rows
+pub mod SameIds
 pub mod Standing
 pub mod Streams
 pub mod SymbolRows

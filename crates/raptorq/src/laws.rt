@@ -1,0 +1,45 @@
+//! Laws of packets, blocks and answers: each is the contract of a function that does nothing.
+ghost use Rattle.raptorq.specs.Laws.{IntermediateSymbolsAreOnly, SourcePacketsAreSymbols, AnswerableIsOnlyObject, MorePacketsDetermine, MorePacketsAreAnswerable, AnswersStay, SameIdsAreAnswerable, SameIdsAnswerTheSame, JoiningUndoesCutting, CuttingUndoesJoining};
+
+/// A block has one column of intermediate symbols, where its row isn't singular: any two are the
+/// same below L (RFC 6330, sections 5.3.3 and 5.4.2).
+pub fn only_intermediate_symbols()
+    ensures { IntermediateSymbolsAreOnly }
+{}
+
+/// The packet of an encoding symbol id below K carries the source symbol of that number: the code is
+/// systematic (RFC 6330, sections 5.1.1 and 5.3.1). The table and the configuration are ones that
+/// coders take.
+pub fn source_packets()
+    ensures { SourcePacketsAreSymbols }
+{}
+
+/// No decoder can do better: an object's packets determine each of its blocks exactly where no other
+/// object of its length has them all among its own (RFC 6330, section 5.4).
+pub fn only_objects()
+    ensures { AnswerableIsOnlyObject }
+{}
+
+/// More packets never hide what fewer told. A block, or an object, that a list of packets determines
+/// is determined by each list that has the same ids and perhaps others; and where both lists are an
+/// object's packets, what was answered stays the answer (RFC 6330, section 5.4.2).
+pub fn more_packets()
+    ensures blocks { MorePacketsDetermine }
+    ensures objects { MorePacketsAreAnswerable }
+    ensures answers { AnswersStay }
+{}
+
+/// Neither the order of packets nor their repeats matter: lists with the same ids are both
+/// answerable or neither, and where both are an object's packets their answers are the same (RFC
+/// 6330, section 5.4.1).
+pub fn order_and_repeats()
+    ensures objects { SameIdsAreAnswerable }
+    ensures answers { SameIdsAnswerTheSame }
+{}
+
+/// Cutting a block of K symbols into sub-blocks and symbols loses nothing: joining its symbols by
+/// places gives the block, and cutting a joined block gives its symbols (RFC 6330, section 4.4.1.2).
+pub fn joined_sub_blocks()
+    ensures joined { JoiningUndoesCutting }
+    ensures cut { CuttingUndoesJoining }
+{}
