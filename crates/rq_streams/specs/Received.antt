@@ -10,7 +10,7 @@ use Rattle.rq_standard.specs.declared.row.Row.{Row}
 use Rattle.rq_standard.specs.TableRows.{IsChecked, IsTable, greatest_size}
 use Rattle.rq_standard.specs.Encoded.{block_row, IsPacketOf, HasNonsingularRows, IsAnswerable}
 use Rattle.rq_standard.specs.Streams.{stream_of}
-use Rattle.rq_base.specs.Refused.{checked_configuration}
+use Rattle.rq_base.specs.RefusedInput.{checked_configuration}
 use Rattle.rq_streams.specs.Ends.{Wanted}
 use Rattle.rq_streams.specs.Frames.{frames_refusal}
 

@@ -10,7 +10,7 @@ ghost use Rattle.rq_standard.specs.Encoded.{HasNonsingularRows};
 ghost use Rattle.rq_standard.specs.Standing.{Stands, StandsForMore, IsObjectAnswer};
 ghost use Rattle.rq_standard.specs.Streams.{frames_of};
 ghost use Rattle.rq_standard.specs.TableRows.{greatest_size};
-ghost use Rattle.rq_base.specs.Refused.{checked_configuration};
+ghost use Rattle.rq_base.specs.RefusedInput.{checked_configuration};
 ghost use Rattle.raptorq.specs.Objects.{state_of};
 ghost use Rattle.rq_streams.specs.Counts.{failed_count, counted_inner};
 ghost use Rattle.rq_streams.specs.Ends.{Ends, AfterRefusal, failed_calls};

@@ -8,7 +8,7 @@ ghost use Rattle.rq_standard.specs.Differences.{IsOnlyObject};
 ghost use Rattle.rq_standard.specs.Encoded.{IsPacketOf, HasNonsingularRows};
 ghost use Rattle.rq_standard.specs.Standing.{IsObjectAnswer};
 ghost use Rattle.rq_standard.specs.TableRows.{greatest_size};
-ghost use Rattle.rq_base.specs.Refused.{checked_configuration};
+ghost use Rattle.rq_base.specs.RefusedInput.{checked_configuration};
 ghost use Rattle.raptorq.specs.Blocks.{held_of};
 
 use crate::blocks::block_symbols;
