@@ -6,7 +6,7 @@ ghost use Rattle.rq_algebra.specs.Operations.{AddAssign, MulAssign, Fma, Reorder
 ghost use Rattle.rq_algebra.specs.Symbols.{AreSymbols};
 ghost use Rattle.rq_standard.specs.OctetField.{octets};
 ghost use Rattle.std.specs.Borrow.{sem};
-ghost use Rattle.rq_bytes.specs.Ranges.{range_of, with_range, cut};
+ghost use Rattle.rq_bytes.specs.Ranges.{range_of, whole_symbols, with_range};
 ghost use Rattle.rq_bytes.specs.Refusals.{IsAnswer};
 ghost use Rattle.rq_bytes.specs.Slab.{slab_of, after, after_all, HasPlace, Allows, symbol_in, symbols_in, sum_in, with_sum, same_slab};
 
@@ -249,7 +249,7 @@ impl SymbolSlab {
         requires no_order { self.old.order ≡ None }
         requires whole { length source.now ≡ length source.now / self.old.symbol_size * self.old.symbol_size }
         requires fits { start + length source.now / self.old.symbol_size ≤ length self.old.values }
-        ensures { self.new ≡ record self.old { values = with_range self.old.values start (cut (length source.now / self.old.symbol_size) self.old.symbol_size source.now) } }
+        ensures { self.new ≡ record self.old { values = with_range self.old.values start (whole_symbols self.old.symbol_size source.now) } }
     {
         let start = start * self.symbol_size;
         let bytes = self.data.as_mut_slice();

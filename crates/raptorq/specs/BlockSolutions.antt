@@ -13,7 +13,7 @@ use Rattle.rq_standard.specs.IdLists.{HasDeterminedRows}
 use Rattle.rq_solver.specs.Solving as solver
 
 -- the intermediate symbols in a slab, from the values of the equations
-pub record IsSolution (row : Row) (ids : List ℕ) (size : ℕ) (values : List (List ℕ)) (slab : Slab) : Type 0 where
+pub record IsBlockSolution (row : Row) (ids : List ℕ) (size : ℕ) (values : List (List ℕ)) (slab : Slab) : Type 0 where
   pub determined : HasDeterminedRows row ids
   pub places : intermediate_symbols row ≤ length (symbols_in slab)
   pub size_is : slab.symbol_size ≡ size
@@ -25,8 +25,8 @@ pub record IsSolution (row : Row) (ids : List ℕ) (size : ℕ) (values : List (
   pub solves : equation_count row ids ≡ intermediate_symbols row → SolvesSymbols octets (equation_count row ids) (intermediate_symbols row) (equations row ids) (symbol_in slab) (symbol_at values)
 
 -- the intermediate symbols, exactly where the ids determine them
-abbrev pub Solves : Row → List ℕ → ℕ → List (List ℕ) → Option Slab → Type 0
-Solves row ids size values answer = MatchOption answer (HasDeterminedRows row ids → ⊥) (IsSolution row ids size values)
+abbrev pub SolvesListed : Row → List ℕ → ℕ → List (List ℕ) → Option Slab → Type 0
+SolvesListed row ids size values answer = MatchOption answer (HasDeterminedRows row ids → ⊥) (IsBlockSolution row ids size values)
 
 -- the same, with the operations that make them
 abbrev pub SolvesByOperations : Row → List ℕ → Slab → Option (Slab × Vec SymbolOps Global) → Type 0
