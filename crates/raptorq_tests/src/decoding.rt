@@ -50,7 +50,11 @@ fn an_object_there_and_back(rt: HostRuntime) -> Result<(), Fail> {
     let packets = encoder.get_encoded_packets(0)?;
     assert_eq!(rt; packets.len(), 2);
     assert_eq!(rt; packets[1].data(), [9, 0].as_slice());
-    let object = raptorq::decoder::decode_all(alloc, &table, information, packets)?;
+    let mut steps = Vec::new(alloc);
+    for packet in packets {
+        steps.push((0, packet))?;
+    }
+    let object = raptorq::decoder::decode_all(alloc, &table, information, steps)?;
     assert_eq!(rt; object.ok_or("no answer")?.as_slice(), [7, 8, 9].as_slice());
     let longer = Encoder::new(alloc, &table, &[7, 8, 9, 10], information);
     assert!(rt; longer == Err(Error::WrongDataLength));

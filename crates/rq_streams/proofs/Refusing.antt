@@ -17,7 +17,7 @@ use Rattle.rq_streams.specs.declared.run.Stop.{Stop}
 use Rattle.rq_streams.specs.declared.run.Stop.TheVariants.{Fault, Refused}
 use Rattle.rq_streams.specs.Ends.{Wanted, AnswersAs, EndsAs, Ends, AfterRefusal}
 use Rattle.rq_streams.specs.Frames.{frame_size, frame_refusal, first_refusal, frames_refusal}
-use Rattle.rq_streams.specs.Received.{received_configuration, receive_refusal}
+use Rattle.rq_streams.specs.ReceivedStreams.{received_configuration, receive_refusal}
 
 pub answers_of : {X Y : Type 0} (view : X → Y) (r : Result X Error) (wanted : Result Y Error) → IsAnswer view r wanted → Answers view r wanted
 answers_of view (Ok x) wanted h = h
@@ -83,10 +83,13 @@ pub memory_only : (refusal : Result (Unit {0}) Error) (e : Error) → refusal �
 memory_only refusal e accepted (inl h) = h
 memory_only refusal e accepted (inr h) = absurd (let no : Ok tt ≡ Err e = sym accepted ∙ h in cc no)
 
--- what a failed read leaves
+-- what a failed read leaves, whatever was wanted
+pub stopped_ends : (wanted : Wanted) (stop : Stop) (old : Option (List ℕ)) → (stop ≡ Fault) ⊎ (stop ≡ Refused OutOfMemory) → Ends (Err stop) old old wanted
+stopped_ends wanted stop old (inl h) = subst (λ s. Ends (Err s) old old wanted) (sym h) (inl (Keeps-refl old))
+stopped_ends wanted stop old (inr h) = subst (λ s. Ends (Err s) old old wanted) (sym h) (inl refl, Keeps-refl old)
+
 pub stopped_after : (refusal : Result (Unit {0}) Error) (stop : Stop) (old : Option (List ℕ)) → (stop ≡ Fault) ⊎ (stop ≡ Refused OutOfMemory) → AfterRefusal refusal (Ends (Err stop) old old)
-stopped_after refusal stop old (inl h) = (None, subst (λ s. Ends (Err s) old old (and_then refusal (λ _. Ok None))) (sym h) (inl (Keeps-refl old)))
-stopped_after refusal stop old (inr h) = (None, subst (λ s. Ends (Err s) old old (and_then refusal (λ _. Ok None))) (sym h) (inl refl, Keeps-refl old))
+stopped_after refusal stop old h = (None, stopped_ends (and_then refusal (λ _. Ok None)) stop old h)
 
 pub if_some_all : (o : Option (List ℕ)) (P : List ℕ → Type 0) → ((xs : List ℕ) → P xs) → IfSome o P
 if_some_all None P h = tt

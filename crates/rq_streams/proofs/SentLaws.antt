@@ -1,9 +1,9 @@
 -- A sender's stream is one that a receiver takes.
-use Rattle.std.proofs.Common.{◌≡◌, ℕ, zero, suc, ◌+◌, ◌-◌, ◌%◌, ◌*◌, ◌/◌, ◌<◌, ◌≤◌, ◌^◌, Bool, true, false, cond, eqb, ltb, leb, List, [], ◌∷◌, length, map, Option, Some, Result, Ok, Err, refl, sym, ap, ◌∙◌, subst, arith, inl, inr}
-use Rattle.std.specs.Prelude.{Contains, All, not, ◌&&◌, MatchResult}
+use Rattle.std.proofs.Common.{◌≡◌, ℕ, zero, suc, ◌+◌, ◌-◌, ◌%◌, ◌*◌, ◌/◌, ◌<◌, ◌≤◌, ◌^◌, Bool, true, false, cond, eqb, ltb, leb, List, [], ◌∷◌, length, Option, Some, Result, Ok, Err, refl, sym, ap, ◌∙◌, subst, arith, inl, inr}
+use Rattle.std.specs.Prelude.{Contains, not, MatchResult}
 use Rattle.std.specs.Int.{div_ceil}
 use Rattle.std.specs.List.{AllByRecursion}
-use Rattle.std.proofs.lemmas.Bool.{eqb-true, ltb-true, ltb-false, leb-false}
+use Rattle.std.proofs.lemmas.Bool.{eqb-true, ltb-false, leb-false}
 use Rattle.std.proofs.lemmas.List.Elements.{All-contains, All-from_recursion}
 use Rattle.rq_bytes.specs.declared.error.Error.{Error}
 use Rattle.rq_bytes.specs.declared.error.Error.TheVariants.{PacketSizeZero, TransferLengthZero, TransferTooLong, MemoryRequirementTooSmall, TooManyBlocks, SymbolSizeZero, AlignmentZero, Misaligned, SourceBlocksZero, BlockOverTable}
@@ -19,7 +19,6 @@ use Rattle.rq_base.specs.Defaults.{wanted_parameters}
 use Rattle.rq_base.specs.RefusedInput.{checked_configuration}
 use Rattle.raptorq.specs.Refused.{new_encoder}
 use Rattle.raptorq.specs.Encoded.{packets_refusal}
-use Rattle.rq_streams.specs.Received.{IsStreamOf}
 use Rattle.rq_streams.specs.Sent.{sent_configuration, IsStreamSent, Sends, IsSent}
 use Rattle.rq_streams.specs.SentStreams.{IsSentStream}
 
@@ -139,9 +138,7 @@ sent_by table s repair object stream c checked small configured_by nonsingular s
         checked = checked;
         fits = fits.0;
         accepted = accepted_by (greatest_size table) c taken.1;
-        nonsingular = nonsingular;
-        long = sym fits.1;
-        honest = among table c object sent.packets some sent.encoded.each of_it;
+        run = record { long = sym fits.1; nonsingular = nonsingular; honest = among table c object sent.packets some sent.encoded.each of_it };
         spelled = refl;
       };
     }

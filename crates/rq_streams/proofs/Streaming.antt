@@ -1,26 +1,24 @@
 -- Of a stream of an object's packets nothing is refused.
-use Rattle.std.proofs.Common.{◌≡◌, ℕ, ◌+◌, ◌%◌, ◌<◌, ◌≤◌, false, cond, ltb, eqb, List, [], ◌∷◌, length, take, drop, map, Result, Ok, Err, Option, Some, None, refl, sym, ap, ◌∙◌, subst, arith, inl, eq-eqb, length-append}
+use Rattle.std.proofs.Common.{◌≡◌, ℕ, ◌+◌, ◌%◌, ◌<◌, ◌≤◌, false, cond, ltb, eqb, List, [], ◌∷◌, length, take, drop, map, Result, Ok, Err, Option, Some, None, refl, sym, ap, ◌∙◌, arith, inl, eq-eqb, length-append}
 use Rattle.std.specs.Prelude.{option_map, IsSome, IfOk, IfErr}
 use Rattle.std.specs.List.{AllByRecursion}
-use Rattle.std.proofs.lemmas.Bool.{lt-ltb, le-ltb, ne_eqb, le-leb}
+use Rattle.std.proofs.lemmas.Bool.{le-ltb, ne_eqb}
 use Rattle.std.proofs.lemmas.List.{take_at, drop_at}
 use Rattle.rq_bytes.specs.declared.error.Error.{Error}
-use Rattle.rq_bytes.specs.declared.error.Error.TheVariants.{OutOfMemory, HeaderTooShort, PacketTooShort}
+use Rattle.rq_bytes.specs.declared.error.Error.TheVariants.{HeaderTooShort, PacketTooShort}
 use Rattle.rq_bytes.specs.Refusals.{Answers}
 use Rattle.rq_standard.specs.Packet.{Packet, packet_bytes, packet_of_bytes}
 use Rattle.rq_standard.specs.Configuration.{Configuration, IsConfiguration, IsAccepted, largest_block, header_bytes, configuration_of_bytes}
-use Rattle.rq_standard.specs.Cutting.{block_symbols}
 use Rattle.rq_standard.specs.declared.row.Row.{Row}
-use Rattle.rq_standard.specs.TableRows.{IsChecked, IsTable, greatest_size}
-use Rattle.rq_standard.specs.Headline.{block_row, IsPacketOf, IsObjectAnswer}
+use Rattle.rq_standard.specs.TableRows.{IsTable, greatest_size}
+use Rattle.rq_standard.specs.Headline.{IsPacketOf}
 use Rattle.rq_standard.specs.Streams.{frames_of}
 use Rattle.rq_standard.proofs.HeaderBytes.{configuration_of_bytes-header_bytes}
-use Rattle.rq_standard.proofs.BlockCuts.{block_symbols_few}
-use Rattle.rq_standard.proofs.RowLaws.{row_checked}
+use Rattle.rq_standard.proofs.BlockRows.{block_has_row, answerable_only}
 use Rattle.rq_base.specs.RefusedInput.{checked_configuration, read_packet}
 use Rattle.raptorq.proofs.Lists.{packet_refusal-packet}
 use Rattle.rq_streams.specs.Frames.{frame_size, frame_refusal, first_refusal, frames_refusal}
-use Rattle.rq_streams.specs.Received.{taken_configuration, received_configuration, FillsFrame, IsStreamOf, Wants}
+use Rattle.rq_streams.specs.ReceivedStreams.{taken_configuration, received_configuration, FillsFrame, IsStreamOf, AnswersStream, RefusesStream, Wants, WantsWhereAnyCan}
 use Rattle.rq_streams.specs.Ends.{Wanted}
 use Rattle.rq_streams.proofs.Cutting.{frames_in-frames_of}
 use Rattle.rq_streams.proofs.Refusing.{frame_refusal-whole, first_refusal-next}
@@ -58,14 +56,11 @@ pub stream_frames : (table : List Row) (c : Configuration) (object : List ℕ) (
 stream_frames table c object packets bytes s = ap (drop 12) s.spelled ∙ drop_at (header_bytes c) (frames_of packets) 12 (length-header_bytes c)
 
 -- the row of each of its blocks is checked
-block_checked : (table : List Row) (c : Configuration) (b : ℕ) → IsTable table → IsAccepted (greatest_size table) c → b < c.source_blocks → IsChecked (block_row table c b)
-block_checked table c b checked accepted below = (row_checked table (block_symbols c b) checked (omega (arith, block_symbols_few c b below, accepted.in_table))).0
-
 fills : (table : List Row) (c : Configuration) (object : List ℕ) (p : Packet) → IsTable table → IsAccepted (greatest_size table) c → IsConfiguration c → IsPacketOf table c object p → FillsFrame table c object p
 fills table c object p checked accepted fits source = record {
   source = source;
   id = record { block_fits = omega (arith, source.block, fits.blocks_fit); esi_fits = source.esi };
-  row = block_checked table c p.id.block checked accepted source.block;
+  row = (block_has_row table c checked accepted p.id.block source.block).checked;
 }
 
 all_fills : (table : List Row) (c : Configuration) (object : List ℕ) (packets : List Packet) → IsTable table → IsAccepted (greatest_size table) c → IsConfiguration c → AllByRecursion (IsPacketOf table c object) packets → AllByRecursion (FillsFrame table c object) packets
@@ -74,7 +69,7 @@ all_fills table c object (p ∷ packets) checked accepted fits honest = (fills t
 
 -- each packet fills its frame
 pub stream_fills : (table : List Row) (c : Configuration) (object : List ℕ) (packets : List Packet) (bytes : List ℕ) → IsStreamOf table c object packets bytes → AllByRecursion (FillsFrame table c object) packets
-stream_fills table c object packets bytes s = all_fills table c object packets s.checked s.accepted s.fits s.honest
+stream_fills table c object packets bytes s = all_fills table c object packets s.checked s.accepted s.fits s.run.honest
 
 frame_unrefused : (table : List Row) (c : Configuration) (object : List ℕ) (p : Packet) → FillsFrame table c object p → frame_refusal c (packet_bytes p) ≡ Ok tt
 frame_unrefused table c object p h =
@@ -98,8 +93,7 @@ none_of (Some x) h = absurd (h refl)
 
 -- what is answered over a stream is what is wanted
 pub wants_by : {V : Type 0} (f : V → List ℕ) (table : List Row) (c : Configuration) (object : List ℕ) (packets : List Packet) (bytes : List ℕ) (r : Result (Option V) Error) → IsStreamOf table c object packets bytes
-    → IfOk r (λ o. (k : Configuration) (x : List ℕ) (ps : List Packet) → IsStreamOf table k x ps bytes → IsObjectAnswer table k x ps (option_map f o))
-    → IfErr r (λ e. (k : Configuration) (x : List ℕ) (ps : List Packet) → IsStreamOf table k x ps bytes → e ≡ OutOfMemory)
+    → IfOk r (λ o. AnswersStream table bytes (option_map f o)) → IfErr r (RefusesStream table bytes)
     → Wants table c object packets (Answers (option_map f) r)
 wants_by f table c object packets bytes (Ok o) s ok err =
     let a = ok c object packets s in
@@ -117,6 +111,12 @@ wants_more table c object packets P Q more w = record {
   determined = λ d. more (Ok (Some object)) (w.determined d);
   undetermined = λ u. more (Ok None) (w.undetermined u);
 }
+
+-- an object is determined exactly where no other one fits
+pub wants_where_any_can : (table : List Row) (c : Configuration) (object : List ℕ) (packets : List Packet) (bytes : List ℕ) (P : Wanted → Type 0) → IsStreamOf table c object packets bytes → Wants table c object packets P → WantsWhereAnyCan table c object packets P
+wants_where_any_can table c object packets bytes P s w =
+    let same = answerable_only table c object packets s.checked s.accepted s.run in
+    record { only = λ o. w.determined (same.1 o); others = λ no. w.undetermined (λ d. no (same.0 d)) }
 
 abbrev taken : Configuration → Result Configuration Error
 taken k = Ok k

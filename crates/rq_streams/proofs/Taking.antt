@@ -10,7 +10,7 @@ use Rattle.rq_standard.specs.Streams.{frames_of}
 use Rattle.rq_standard.proofs.PacketBytes.{id_of_bytes-id_bytes, packet_of_bytes-packet_bytes}
 use Rattle.raptorq.proofs.Lists.{all_at, length-payload}
 use Rattle.rq_streams.specs.Frames.{frame_size, frames_in}
-use Rattle.rq_streams.specs.Received.{FillsFrame}
+use Rattle.rq_streams.specs.ReceivedStreams.{FillsFrame}
 use Rattle.rq_streams.proofs.Cutting.{frames_in-frames_of}
 
 -- The packets so far are taken, and the frames that are left are the others'.

@@ -2,6 +2,6 @@ pub mod Asked
 pub mod Counts
 pub mod Ends
 pub mod Frames
-pub mod Received
+pub mod ReceivedStreams
 pub mod Sent
 pub mod SentStreams

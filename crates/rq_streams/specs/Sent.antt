@@ -1,5 +1,5 @@
 -- What a sender writes.
-use Rattle.std.specs.Prelude.{◌≡◌, ◌⊎◌, ℕ, List, length, Some, Result, Ok, Err, MatchResult}
+use Rattle.std.specs.Prelude.{◌≡◌, ◌⊎◌, ℕ, List, length, Option, Some, IfSome, Result, Ok, Err, MatchResult}
 use Rattle.rq_bytes.specs.declared.error.Error.{Error}
 use Rattle.rq_bytes.specs.declared.error.Error.TheVariants.{Singular}
 use Rattle.rq_bytes.specs.Refusals.{and_then}
@@ -12,7 +12,9 @@ use Rattle.rq_standard.specs.TableRows.{greatest_size}
 use Rattle.rq_base.specs.Defaults.{wanted_parameters}
 use Rattle.raptorq.specs.Encoded.{packets_refusal}
 use Rattle.raptorq.specs.Refused.{new_encoder}
-use Rattle.rq_streams.specs.Ends.{Wanted}
+use Rattle.rq_streams.specs.declared.run.Outcome.{Outcome}
+use Rattle.rq_streams.specs.declared.run.Stop.{Stop}
+use Rattle.rq_streams.specs.Ends.{Wanted, EndsAs}
 use Rattle.rq_standard.specs.ObjectPackets.{AreEncoded}
 
 -- the default configuration of an object, unless something refuses it
@@ -36,3 +38,7 @@ Sends table c repair object wanted =
 -- the stream of an object's packets in its default configuration, unless something refuses it
 abbrev pub IsSent : List Row → ℕ → ℕ → List ℕ → Wanted → Type 0
 IsSent table packet_size repair object wanted = MatchResult (sent_configuration table packet_size object) (λ c. Sends table c repair object wanted) (λ e. wanted ≡ Err e)
+
+-- A run that reads this object, and behind whose writer this stood before and after, writes that stream.
+abbrev pub SendsStream : List Row → ℕ → ℕ → Result Outcome Stop → Option (List ℕ) → Option (List ℕ) → Option (List ℕ) → Type 0
+SendsStream table packet_size repair result input before after = IfSome input (λ object. EndsAs result before after (IsSent table packet_size repair object))

@@ -7,7 +7,7 @@ use Rattle.rq_standard.specs.Packet.{Packet}
 use Rattle.rq_standard.specs.Configuration.{Configuration}
 use Rattle.rq_standard.specs.ObjectPackets.{AreEncoded}
 use Rattle.rq_standard.specs.Streams.{stream_of}
-use Rattle.rq_streams.specs.Received.{IsStreamOf}
+use Rattle.rq_streams.specs.ReceivedStreams.{IsStreamOf}
 use Rattle.rq_streams.specs.Sent.{IsSent}
 
 -- A stream of an object's packets, each frame of which a receiver takes: any list of its packets is a stream of the object.

@@ -1,21 +1,17 @@
 //! A stream in, its object out.
-ghost use Rattle.std.specs.Prelude.{◌≡◌, ℕ, ◌+◌, ◌^◌, ◌-◌, ◌<◌, ◌≤◌, ◌⊎◌, ◌↔◌, List, [], ◌∷◌, ◌++◌, drop, length, Result, Ok, Err, OnOk, IfOk, IfErr, IfSome, option_map, vec_items};
+ghost use Rattle.std.specs.Prelude.{◌≡◌, ◌+◌, ◌^◌, ◌-◌, ◌<◌, ◌≤◌, ◌⊎◌, ◌↔◌, length, Ok, Err, OnOk, IfOk, IfErr, option_map, vec_items};
 ghost use Rattle.std.specs.Io.KnownBytes.{Keeps};
-ghost use Rattle.std.specs.List.{AllByRecursion};
 ghost use Rattle.rq_bytes.specs.Refusals.{Answers};
-ghost use Rattle.rq_standard.specs.Packet.{Packet, packet_of_bytes};
-ghost use Rattle.rq_standard.specs.Configuration.{Configuration, largest_block};
-ghost use Rattle.rq_standard.specs.declared.row.Row.{Row};
-ghost use Rattle.rq_standard.specs.Headline.{HasNonsingularRows, IsObjectAnswer};
-ghost use Rattle.rq_standard.specs.Standing.{Stands, StandsForMore};
-ghost use Rattle.rq_standard.specs.Streams.{frames_of};
+ghost use Rattle.rq_standard.specs.Packet.{packet_of_bytes};
+ghost use Rattle.rq_standard.specs.Configuration.{largest_block};
+ghost use Rattle.rq_standard.specs.Standing.{StandsForMore};
 ghost use Rattle.rq_standard.specs.TableRows.{greatest_size};
 ghost use Rattle.rq_base.specs.RefusedInput.{checked_configuration};
 ghost use Rattle.raptorq.specs.Objects.{state_of};
-ghost use Rattle.rq_streams.specs.Counts.{failed_count, counted_inner};
-ghost use Rattle.rq_streams.specs.Ends.{Ends, AfterRefusal, failed_calls};
+ghost use Rattle.rq_streams.specs.Counts.{failed_count, inner_of};
+ghost use Rattle.rq_streams.specs.Ends.{AfterRefusal, failed_calls};
 ghost use Rattle.rq_streams.specs.Frames.{frame_size, frame_refusal, frames_refusal};
-ghost use Rattle.rq_streams.specs.Received.{received_configuration, receive_refusal, FillsFrame, IsStreamOf, Wants};
+ghost use Rattle.rq_streams.specs.ReceivedStreams.{received_configuration, receive_refusal, StandsForFrames, AnswersStream, RefusesStream, RefusesFirst, ReceivesExactly, ReceivesWhereAnyCan};
 
 use crate::counted::Counted;
 use crate::run::{Outcome, Stop, finish, read_all};
@@ -67,9 +63,7 @@ fn take_frames(
     requires { symbol_size ≡ (state_of decoder.old).configuration.symbol_size }
     ensures refused { Answers (λ x. x) result (frames_refusal (state_of decoder.old).configuration frames.now) }
     ensures configuration { (state_of decoder.new).configuration ≡ (state_of decoder.old).configuration }
-    ensures stands { OnOk result ((table : List Row) (object : List ℕ) (packets : List Packet) → HasNonsingularRows table (state_of decoder.old).configuration
-        → Stands table object [] (state_of decoder.old) → AllByRecursion (FillsFrame table (state_of decoder.old).configuration object) packets → frames.now ≡ frames_of packets
-        → Stands table object packets (state_of decoder.new)) }
+    ensures stands { OnOk result (StandsForFrames (state_of decoder.old) frames.now (state_of decoder.new)) }
 {
     let size = 4 + usize::from(symbol_size);
     for frame in frames.chunks(size) {
@@ -85,10 +79,8 @@ fn received_object(
     bytes: &[u8],
 ) -> Result<Option<Vec<u8>>, Error>
     ensures refused { AfterRefusal (receive_refusal (greatest_size table.now) bytes.now) (Answers (option_map vec_items) result) }
-    ensures answer { IfOk result (λ r. (c : Configuration) (object : List ℕ) (packets : List Packet) → IsStreamOf table.now c object packets bytes.now
-        → IsObjectAnswer table.now c object packets (option_map vec_items r)) }
-    ensures memory { IfErr result (λ e. (c : Configuration) (object : List ℕ) (packets : List Packet) → IsStreamOf table.now c object packets bytes.now
-        → e ≡ Error.OutOfMemory) }
+    ensures answer { IfOk result (λ r. AnswersStream table.now bytes.now (option_map vec_items r)) }
+    ensures memory { IfErr result (RefusesStream table.now bytes.now) }
 {
     let config = received_configuration(table, bytes)?;
     let mut decoder = Decoder::new(alloc, table, config)?;
@@ -124,16 +116,19 @@ pub fn run_receive<R: Read, W: Write>(
     ensures fault { (result ≡ Err Stop.Fault) ↔ ((failed_count reader.old < failed_count reader.new)
         ⊎ (failed_count writer.old < failed_count writer.new)) }
     ensures unread { failed_count reader.old < failed_count reader.new
-        → Keeps (W.contents (counted_inner writer.old)) (W.contents (counted_inner writer.new)) }
+        → Keeps (W.contents (inner_of writer.old)) (W.contents (inner_of writer.new)) }
 
     // Whatever is read, what is refused is its first refusal, and then nothing is written.
-    ensures refused { IfSome (R.remaining (counted_inner reader.old)) (λ input. AfterRefusal (receive_refusal (greatest_size table.now) input)
-        (Ends result (W.contents (counted_inner writer.old)) (W.contents (counted_inner writer.new)))) }
+    ensures refused { RefusesFirst table.now result
+        (R.remaining (inner_of reader.old)) (W.contents (inner_of writer.old)) (W.contents (inner_of writer.new)) }
 
     // Of a stream of an object's packets the object, exactly where they determine it.
-    ensures ends { IfSome (R.remaining (counted_inner reader.old)) (λ input. (c : Configuration) (object : List ℕ) (packets : List Packet)
-        → IsStreamOf table.now c object packets input
-        → Wants table.now c object packets (Ends result (W.contents (counted_inner writer.old)) (W.contents (counted_inner writer.new)))) }
+    ensures ends { ReceivesExactly table.now result
+        (R.remaining (inner_of reader.old)) (W.contents (inner_of writer.old)) (W.contents (inner_of writer.new)) }
+
+    // No receiver can do better: the object exactly where no other object fits the packets.
+    ensures where_any_can { ReceivesWhereAnyCan table.now result
+        (R.remaining (inner_of reader.old)) (W.contents (inner_of writer.old)) (W.contents (inner_of writer.new)) }
 {
     match read_all(alloc, reader) {
         Ok(bytes) => finish(writer, received_object(alloc, table, bytes.as_slice())),

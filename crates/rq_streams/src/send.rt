@@ -1,11 +1,11 @@
 //! An object in, its stream out.
-ghost use Rattle.std.specs.Prelude.{◌≡◌, ◌+◌, ◌^◌, ◌-◌, ◌<◌, ◌⊎◌, ◌↔◌, Result, Ok, Err, IfSome, option_map, vec_items};
+ghost use Rattle.std.specs.Prelude.{◌≡◌, ◌+◌, ◌^◌, ◌-◌, ◌<◌, ◌⊎◌, ◌↔◌, Result, Ok, Err, option_map, vec_items};
 ghost use Rattle.std.specs.Io.KnownBytes.{Keeps};
 ghost use Rattle.rq_bytes.specs.Refusals.{IsAnswer};
 ghost use Rattle.rq_standard.specs.Streams.{stream_of};
-ghost use Rattle.rq_streams.specs.Counts.{failed_count, counted_inner};
-ghost use Rattle.rq_streams.specs.Ends.{AnswersAs, EndsAs, failed_calls};
-ghost use Rattle.rq_streams.specs.Sent.{IsSent};
+ghost use Rattle.rq_streams.specs.Counts.{failed_count, inner_of};
+ghost use Rattle.rq_streams.specs.Ends.{AnswersAs, failed_calls};
+ghost use Rattle.rq_streams.specs.Sent.{IsSent, SendsStream};
 
 use crate::counted::Counted;
 use crate::run::{Outcome, Stop, finish, read_all};
@@ -71,10 +71,11 @@ pub fn run_send<R: Read, W: Write>(
     ensures fault { (result ≡ Err Stop.Fault) ↔ ((failed_count reader.old < failed_count reader.new)
         ⊎ (failed_count writer.old < failed_count writer.new)) }
     ensures unread { failed_count reader.old < failed_count reader.new
-        → Keeps (W.contents (counted_inner writer.old)) (W.contents (counted_inner writer.new)) }
+        → Keeps (W.contents (inner_of writer.old)) (W.contents (inner_of writer.new)) }
 
-    ensures ends { IfSome (R.remaining (counted_inner reader.old)) (λ input.
-        EndsAs result (W.contents (counted_inner writer.old)) (W.contents (counted_inner writer.new)) (IsSent table.now packet_size repair input)) }
+    // The stream of what is read, or the first refusal in the written order.
+    ensures ends { SendsStream table.now packet_size repair result
+        (R.remaining (inner_of reader.old)) (W.contents (inner_of writer.old)) (W.contents (inner_of writer.new)) }
 {
     match read_all(alloc, reader) {
         Ok(bytes) => {

@@ -1,15 +1,14 @@
-use Rattle.std.proofs.Common.{◌≡◌, ◌-◌, ◌⊎◌, [], take, drop, length, Err, sym, ap, ◌∙◌, subst, refl, append-nil, vec_items, ℕ, Global}
+use Rattle.std.proofs.Common.{◌≡◌, ◌-◌, ◌⊎◌, [], take, drop, length, Err, sym, ap, ◌∙◌, subst, refl, vec_items, ℕ, false, Global}
+use Rattle.std.specs.Prelude.{option_map}
 use Rattle.std.specs.List.{AllByRecursion}
 use Rattle.std.proofs.lemmas.List.{take_rest}
 use Rattle.std.proofs.lemmas.Result.{IfOk-weaker, err_from_is_err_and}
 use Rattle.rq_bytes.specs.declared.error.Error.TheVariants.{OutOfMemory}
-use Rattle.rq_standard.specs.Headline.{HasNonsingularRows}
+use Rattle.rq_standard.specs.Headline.{IsHonestRun, IsObjectAnswer}
 use Rattle.rq_standard.specs.Streams.{frames_of}
 use Rattle.rq_standard.specs.TableRows.{greatest_size}
-use Rattle.raptorq.specs.Objects.{state_of}
-use Rattle.raptorq.proofs.Lists.{answer_all}
 use Rattle.rq_streams.specs.Frames.{frames_refusal}
-use Rattle.rq_streams.specs.Received.{FillsFrame, receive_refusal}
+use Rattle.rq_streams.specs.ReceivedStreams.{FillsFrame, receive_refusal}
 use Rattle.rq_streams.proofs.Refusing.{receive_refusal-taken, refused_after, answered_after, memory_only}
 use Rattle.rq_streams.proofs.Streaming.{stream_configuration, stream_frames, stream_fills, frames_unrefused, same_configuration}
 use Rattle.rq_streams.proofs.receive.received_object.Goals as goal
@@ -59,7 +58,7 @@ returns-clause-answer c =
     let same = same_configuration table k c.in_ok-config.config object packets bytes s c.in_ok-config.ensures.value in
     let here = c.in_ok-decoder.ensures.state.configuration ∙ same in
     let fill : AllByRecursion (FillsFrame table c.in_ok-decoder.decoder.config object) packets = subst (λ d. AllByRecursion (FillsFrame table d object) packets) (sym here) (stream_fills table k object packets bytes s) in
-    let start = c.in_ok-decoder.ensures.stands object (s.long ∙ ap (λ d. d.transfer_length) (sym same)) (subst (HasNonsingularRows table) (sym same) s.nonsingular) in
-    let end = c.in_ok-take_frames.ensures.stands table object packets (subst (HasNonsingularRows table) (sym here) s.nonsingular) start fill (take_rest bytes 12 ∙ stream_frames table k object packets bytes s) in
-    answer_all table k object packets packets [] (state_of c.take_frames.new.decoder) _ (c.in_ok-take_frames.ensures.configuration ∙ here) (sym (append-nil packets)) refl end is)
+    let none : IsHonestRun table c.in_ok-config.config object [] = subst (λ d. IsHonestRun table d object []) (sym same) (record { long = s.run.long; nonsingular = s.run.nonsingular; honest = tt }) in
+    let end = c.in_ok-take_frames.ensures.stands table object packets (c.in_ok-decoder.ensures.stands object none) fill (take_rest bytes 12 ∙ stream_frames table k object packets bytes s) in
+    subst (λ d. IsObjectAnswer table d object packets (option_map (vec_items {X = ℕ} {Z = Global}) r)) (c.in_ok-take_frames.ensures.configuration ∙ here) ((is table object packets (λ _. false) end).1 (λ b. refl)))
     c.get_result.ensures.object

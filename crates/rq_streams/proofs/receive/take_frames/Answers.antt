@@ -2,7 +2,6 @@ use Rattle.std.proofs.Common.{◌≡◌, ◌+◌, ◌∷◌, min, length, Ok, Er
 use Rattle.std.specs.Slice.Iter.{chunks_size, chunks_rest}
 use Rattle.std.proofs.lemmas.Result.{err_from_is_err_and}
 use Rattle.rq_bytes.specs.declared.error.Error.TheVariants.{OutOfMemory}
-use Rattle.rq_standard.specs.Headline.{HasNonsingularRows}
 use Rattle.raptorq.specs.Objects.{state_of}
 use Rattle.rq_streams.specs.Frames.{frame_size, frames_in, frame_refusal, first_refusal}
 use Rattle.rq_streams.proofs.Cutting.{frames_in-next, frames_in-none}
@@ -21,7 +20,7 @@ loop-frame-init c =
       size = ap (λ s. chunks_size s) is ∙ c.chunks-frame-items.ensures.size ∙ wide;
       configuration = refl;
       refused = ap (λ bytes. first_refusal config (frames_in (frame_size config) bytes)) (sym rest);
-      stands = λ table object packets nonsingular st fill spelled. taken_none table config object packets (chunks_rest c.into_iter-frame-iterator.result) (state_of c.args.decoder.now) fill (rest ∙ spelled) st;
+      stands = λ table object packets st fill spelled. taken_none table config object packets (chunks_rest c.into_iter-frame-iterator.result) (state_of c.args.decoder.now) fill (rest ∙ spelled) st;
     }
 
 pub loop-frame-preserved : goal.loop-frame-preserved
@@ -40,8 +39,8 @@ loop-frame-preserved c =
       configuration = c.in_ok-take_frame.ensures.configuration ∙ kept.configuration;
       refused = kept.refused ∙ ap (first_refusal config) cut
           ∙ first_refusal-next config frame (frames_in size after) c.in_ok-take_frame.field-0 (subst (λ k. frame_refusal k frame ≡ Ok c.in_ok-take_frame.field-0) kept.configuration c.in_ok-take_frame.ensures.refused);
-      stands = λ table object packets nonsingular st fill spelled. taken_next table config object packets frame (frames_in size after) (frames_in size before) (state_of c.loop-frame.decoder) (state_of c.take_frame.new.decoder) kept.configuration fill cut
-          (kept.stands table object packets nonsingular st fill spelled) (λ done. c.in_ok-take_frame.ensures.stands table object done (subst (HasNonsingularRows table) (sym kept.configuration) nonsingular));
+      stands = λ table object packets st fill spelled. taken_next table config object packets frame (frames_in size after) (frames_in size before) (state_of c.loop-frame.decoder) (state_of c.take_frame.new.decoder) kept.configuration fill cut
+          (kept.stands table object packets st fill spelled) (c.in_ok-take_frame.ensures.stands table object);
     }
 
 pub returns-in_err-take_frame-clause-refused : goal.returns-in_err-take_frame-clause-refused
@@ -68,4 +67,4 @@ pub returns-clause-stands : goal.returns-clause-stands
 returns-clause-stands c =
     let size = frame_size c.args.decoder.now.config in
     let rest = chunks_rest c.loop-frame.frame-iterator in
-    λ table object packets nonsingular st fill spelled. taken_all table object packets (frames_in size rest) (state_of c.loop-frame.decoder) (frames_in-none size rest c.in-None.ensures.steps.1.0) (c.loop-frame.invariant.stands table object packets nonsingular st fill spelled)
+    λ table object packets st fill spelled. taken_all table object packets (frames_in size rest) (state_of c.loop-frame.decoder) (frames_in-none size rest c.in-None.ensures.steps.1.0) (c.loop-frame.invariant.stands table object packets st fill spelled)
