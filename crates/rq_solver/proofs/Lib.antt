@@ -16,6 +16,7 @@ pub mod Performing
 pub mod PivotTurns
 pub mod PivotsCleared
 pub mod Results
+pub mod RowCounts
 pub mod RowLists
 pub mod RowStepLaws
 pub mod RowTurns

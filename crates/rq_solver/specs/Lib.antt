@@ -1,4 +1,5 @@
 pub mod Cleared
+pub mod FirstPhaseRowSelectionStats
 pub mod Homogeneous
 pub mod Listing
 pub mod OctetBatch

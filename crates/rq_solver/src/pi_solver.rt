@@ -14,12 +14,14 @@ mod peeled;
 mod peeling;
 #[cfg(test)]
 mod peeling_tests;
+mod row_selection;
 pub(crate) mod rows;
 
 use crate::replay::replay;
 use ones::RowOnes;
 use peeled::operations_of_peeled;
 use peeling::peel;
+pub use row_selection::FirstPhaseRowSelectionStats;
 use rq_bytes::error::Error;
 use rq_bytes::operation_vector::SymbolOps;
 use rq_bytes::symbol_slab::SymbolSlab;

@@ -1,8 +1,8 @@
--- What the check leaves to show of `products::Factor::lane_products`.
+-- What the check leaves to show of `factor::Factor::lane_products`.
 use Rattle.std.proofs.Common.{ℕ, ap, ◌∙◌, map}
 use Rattle.rq_standard.specs.Octets.{octet_mul}
 use Rattle.rq_bytes.proofs.HalfLookUps.{lower_ok, upper_ok, looked_up}
-use Rattle.rq_bytes.proofs.products.Factor.lane_products.Goals as goal
+use Rattle.rq_bytes.proofs.factor.Factor.lane_products.Goals as goal
 
 pub swizzle-low : goal.swizzle-low
 swizzle-low c = lower_ok c.args.lanes c.requires c.fits-lanes.1

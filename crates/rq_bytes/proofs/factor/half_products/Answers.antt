@@ -1,7 +1,7 @@
--- What the check leaves to show of `products::half_products`.
+-- What the check leaves to show of `factor::half_products`.
 use Rattle.std.proofs.Common.{refl, arith}
 use Rattle.rq_bytes.proofs.HalfSums.{sum_none, sum_more, sum_whole}
-use Rattle.rq_bytes.proofs.products.half_products.Goals as goal
+use Rattle.rq_bytes.proofs.factor.half_products.Goals as goal
 
 pub loop-k-init : goal.loop-k-init
 loop-k-init c = sum_none c.args.scalar
