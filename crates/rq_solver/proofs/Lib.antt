@@ -15,6 +15,8 @@ pub mod Performed
 pub mod Performing
 pub mod PivotTurns
 pub mod PivotsCleared
+pub mod RecordedLaws
+pub mod ReducedTurns
 pub mod Results
 pub mod RowLists
 pub mod RowStepLaws
@@ -22,7 +24,6 @@ pub mod RowTurns
 pub mod ShownRows
 pub mod SolutionLaws
 pub mod StepColumns
-pub mod TailTurns
 pub mod TailWrites
 pub mod Turns
 pub mod Writes

@@ -3,6 +3,7 @@ pub mod Homogeneous
 pub mod Listing
 pub mod OctetBatch
 pub mod Peeled
+pub mod Recorded
 pub mod Replay
 pub mod RowSteps
 pub mod RowWrites

@@ -8,18 +8,22 @@ ghost use Rattle.rq_solver.specs.Solving.{AreEquations, solver_of, IsOutcome};
 mod columns;
 mod degrees;
 pub(crate) mod elimination;
+mod first_phase;
+mod fourth_phase;
 mod links;
 mod ones;
-mod peeled;
 mod peeling;
 #[cfg(test)]
 mod peeling_tests;
+mod phases;
+mod recorded;
 pub(crate) mod rows;
+mod second_phase;
 
 use crate::replay::replay;
 use ones::RowOnes;
-use peeled::operations_of_peeled;
 use peeling::peel;
+use phases::operations_of_peeled;
 use rq_bytes::error::Error;
 use rq_bytes::operation_vector::SymbolOps;
 use rq_bytes::symbol_slab::SymbolSlab;

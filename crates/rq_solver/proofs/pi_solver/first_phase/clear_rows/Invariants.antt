@@ -1,0 +1,6 @@
+-- What the loops keep in `pi_solver::first_phase::clear_rows`.
+use Rattle.rq_solver.specs.Cleared.{ClearsRows}
+use Rattle.rq_solver.proofs.pi_solver.first_phase.clear_rows.Given as goal
+
+abbrev pub invariant-loop-row : goal.invariant-loop-row
+invariant-loop-row l = ClearsRows l.ones l.peeling.rows.items l.peeling.order.items l.listed l.row-index l.fn.recorded l.recorded

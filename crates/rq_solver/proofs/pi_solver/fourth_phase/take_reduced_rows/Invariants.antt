@@ -1,0 +1,6 @@
+-- What the loops keep in `pi_solver::fourth_phase::take_reduced_rows`.
+use Rattle.rq_solver.specs.Cleared.{TakesReduced}
+use Rattle.rq_solver.proofs.pi_solver.fourth_phase.take_reduced_rows.Given as goal
+
+abbrev pub invariant-loop-f : goal.invariant-loop-f
+invariant-loop-f l = TakesReduced l.reduced l.row l.inactive l.f l.fn.recorded l.recorded
