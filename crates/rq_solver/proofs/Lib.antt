@@ -1,5 +1,6 @@
 pub mod BitRows
 pub mod ColumnLaws
+pub mod CountLaws
 pub mod Entries
 pub mod EquationLaws
 pub mod FreeColumns

@@ -1,5 +1,5 @@
 -- HDPC rows take one another, factors, and rows of pivots, and a table beside shows what they have.
-use Rattle.std.proofs.Common.{◌≡◌, ◌≢◌, ℕ, ◌+◌, ◌<◌, ◌≤◌, List, [], ◌∷◌, ◌++◌, length, refl, sym, ap, ◌∙◌, arith, inl, inr}
+use Rattle.std.proofs.Common.{◌≡◌, ◌≢◌, ℕ, ◌+◌, ◌<◌, ◌≤◌, List, [], ◌∷◌, ◌++◌, length, refl, sym, ap, ◌∙◌, arith, inl, inr, lit<}
 use Rattle.std.specs.List.{range_with_len}
 use Rattle.std.proofs.lemmas.Bool.{cases_eq, cases_lt}
 use Rattle.rq_algebra.specs.Operations.{MulAssign}
@@ -229,12 +229,12 @@ module _ (rows order places : List ℕ) (first : ℕ) where
             ∙ zeros (at order p) early (rw place n) i in_current;
       }
 
--- there are no HDPC rows
-pub clears_none : (rows order : List ℕ) (octet : ℕ → ℕ → ℕ) (first count : ℕ) (table : Recorded) → count ≡ 0 → HasOctets table.table → ClearsOctets rows order octet first count table table
+-- the HDPC rows have zeros in the pivots' columns, or there are none
+pub clears_none : (rows order : List ℕ) (octet : ℕ → ℕ → ℕ) (first count : ℕ) (table : Recorded) → ((p : ℕ) → p < length rows → (i : ℕ) → i < count → octet i (at order p) ≡ 0) → HasOctets table.table → ClearsOctets rows order octet first count table table
 clears_none rows order octet first count table none are = record {
   steps = [];
   performs = performs_none table are;
-  elements = λ i p l. absurd (omega arith);
+  elements = λ i p l n. rw (none p n i l) (lit< tt);
   elsewhere = λ m r k out. rows_after-none octets m r k;
-  cleared = λ m pivots had i p l. absurd (omega arith);
+  cleared = λ m pivots had i p l n. rows_after-none octets m (first + i) (at order p) ∙ had i p l n ∙ none p n i l;
 }

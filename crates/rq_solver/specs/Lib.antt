@@ -1,8 +1,10 @@
 pub mod Cleared
+pub mod Counts
 pub mod Homogeneous
 pub mod Listing
 pub mod OctetBatch
 pub mod Peeled
+pub mod PhaseCounts
 pub mod Recorded
 pub mod Replay
 pub mod RowSteps

@@ -1,5 +1,5 @@
 -- HDPC rows whose octets are cleared in the pivots' columns, all of them together. A table beside shows what the rows have in all columns.
-use Rattle.std.specs.Prelude.{◌≡◌, ◌≢◌, ℕ, ◌+◌, ◌^◌, ◌<◌, ◌≤◌, List, length}
+use Rattle.std.specs.Prelude.{◌≡◌, ◌≢◌, ℕ, ◌+◌, ◌-◌, ◌*◌, ◌^◌, ◌<◌, ◌≤◌, List, length}
 use Rattle.rq_algebra.specs.Systems.{at, sum_below}
 use Rattle.rq_algebra.specs.Operations.{Operation}
 use Rattle.rq_standard.specs.OctetField.{octets}
@@ -22,6 +22,10 @@ pub record HasPivotsBeside (rows order places : List ℕ) (first : ℕ) (current
   pub few : length rows ≤ current.width
   pub pivots : AreRows rows state.table
   pub apart : (i p : ℕ) → i < length current.rows → p < length rows → first + i ≢ at rows p
+
+-- how many additions clear so many HDPC rows in the columns of pivots at most, where there are so many columns and pivots
+abbrev pub batch_bound : ℕ → ℕ → ℕ → ℕ
+batch_bound count width pivots = (count - 1) * (1 + width) + count * pivots
 
 -- each pivot's column has one 1 among the pivots' rows, in its own
 abbrev pub PivotsAreCleared : List ℕ → List ℕ → (ℕ → ℕ → ℕ) → Type 0

@@ -1,8 +1,10 @@
 //! The first phase (RFC 6330, section 5.4.2.2): once pivots are chosen, all rows are cleared in the
 //! pivots' columns.
-ghost use Rattle.std.specs.Prelude.{◌≡◌, ◌≢◌, ℕ, ◌+◌, ◌<◌, ◌≤◌, drop, length, IfOk, OnOk, IfErr};
+ghost use Rattle.std.specs.Prelude.{◌≡◌, ◌≢◌, ℕ, ◌+◌, ◌*◌, ◌<◌, ◌≤◌, drop, length, IfOk, OnOk, IfErr};
 ghost use Rattle.rq_bytes.specs.declared.error.Error.TheVariants.{OutOfMemory};
 ghost use Rattle.rq_solver.specs.Cleared.{AreOctetRows, ClearsRows, HasPeeledPivots, ListsRows, PeelsRows, TakesPivots, system_rows};
+ghost use Rattle.rq_solver.specs.Counts.{additions};
+ghost use Rattle.rq_solver.specs.OctetBatch.{batch_bound};
 ghost use Rattle.rq_solver.specs.Peeled.{ones_at};
 ghost use Rattle.rq_solver.specs.RowSteps.{HasOctets};
 
@@ -34,6 +36,7 @@ pub(super) fn clear_pivots(
     requires hdpc { AreOctetRows ones.now first_hdpc (length peeling.now.places.items) hdpc.now }
     requires listed { ListsRows (length ones.now) peeling.now.rows.items listed.now }
     ensures cleared { IfOk result (HasPeeledPivots (length ones.now) (length peeling.now.places.items) (system_rows ones.now first_hdpc hdpc.now) peeling.now.rows.items peeling.now.order.items (drop (length peeling.now.rows.items) listed.now)) }
+    ensures few { IfOk result (λ rows. additions rows.operations ≤ length ones.now * length peeling.now.rows.items + batch_bound (length hdpc.now.rows) (length peeling.now.places.items) (length peeling.now.rows.items)) }
     ensures err { IfErr result (λ e. e ≡ OutOfMemory) }
 {
     let inactive = peeling.places.len() - peeling.rows.len();
@@ -57,6 +60,7 @@ fn clear_rows(
     requires height { length recorded.old.table.rows ≡ length ones.now }
     requires octets { HasOctets recorded.old.table }
     ensures cleared { OnOk result (ClearsRows ones.now peeling.now.rows.items peeling.now.order.items listed.now (length listed.now) recorded.old recorded.new) }
+    ensures few { OnOk result (additions recorded.new.operations ≤ additions recorded.old.operations + length listed.now * length peeling.now.rows.items) }
     ensures err { IfErr result (λ e. e ≡ OutOfMemory) }
 {
     for row in listed {
@@ -77,6 +81,7 @@ fn take_pivots(
     requires height { length recorded.old.table.rows ≡ length ones.now }
     requires octets { HasOctets recorded.old.table }
     ensures taken { OnOk result (TakesPivots peeling.now.rows.items peeling.now.order.items row (ones_at ones.now row) recorded.old recorded.new) }
+    ensures few { OnOk result (additions recorded.new.operations ≤ additions recorded.old.operations + length peeling.now.rows.items) }
     ensures err { IfErr result (λ e. e ≡ OutOfMemory) }
 {
     for column in ones.row(row) {

@@ -1,8 +1,9 @@
 //! The fourth phase: the pivots' rows get zeros in the inactive columns (RFC 6330, section 5.4.2.5).
-ghost use Rattle.std.specs.Prelude.{◌≡◌, ◌≢◌, ℕ, ◌<◌, ◌≤◌, length, OnOk, IfErr};
+ghost use Rattle.std.specs.Prelude.{◌≡◌, ◌≢◌, ℕ, ◌+◌, ◌*◌, ◌<◌, ◌≤◌, length, OnOk, IfErr};
 ghost use Rattle.rq_algebra.specs.Systems.{at};
 ghost use Rattle.rq_bytes.specs.declared.error.Error.TheVariants.{OutOfMemory};
 ghost use Rattle.rq_solver.specs.Cleared.{TakeReduced, TakesReduced};
+ghost use Rattle.rq_solver.specs.Counts.{additions};
 ghost use Rattle.rq_solver.specs.RowSteps.{AreRows, HasOctets};
 
 use super::recorded::RecordedRows;
@@ -23,6 +24,7 @@ pub(super) fn take_reduced(
     requires width { inactive ≤ recorded.old.table.width }
     requires octets { HasOctets recorded.old.table }
     ensures taken { OnOk result (TakeReduced rows.now reduced.now inactive (length rows.now) recorded.old recorded.new) }
+    ensures few { OnOk result (additions recorded.new.operations ≤ additions recorded.old.operations + length rows.now * inactive) }
     ensures err { IfErr result (λ e. e ≡ OutOfMemory) }
 {
     for row in rows {
@@ -45,6 +47,7 @@ fn take_reduced_rows(
     requires width { inactive ≤ recorded.old.table.width }
     requires octets { HasOctets recorded.old.table }
     ensures taken { OnOk result (TakesReduced reduced.now row inactive inactive recorded.old recorded.new) }
+    ensures few { OnOk result (additions recorded.new.operations ≤ additions recorded.old.operations + inactive) }
     ensures err { IfErr result (λ e. e ≡ OutOfMemory) }
 {
     for f in 0..inactive {

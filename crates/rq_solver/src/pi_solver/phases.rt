@@ -1,5 +1,5 @@
 //! The phases of the solver, one after another (RFC 6330, section 5.4.2).
-ghost use Rattle.std.specs.Prelude.{◌≡◌, ℕ, ◌+◌, ◌<◌, ◌≤◌, ◌∷◌, ◌++◌, [], Contains, IsPermutation, drop, length, map, IfOk, IfErr, MatchBool, MatchOption};
+ghost use Rattle.std.specs.Prelude.{◌≡◌, ℕ, ◌+◌, ◌<◌, ◌≤◌, ◌*◌, ◌-◌, ◌∷◌, ◌++◌, [], Contains, IsPermutation, drop, length, map, IfOk, OnOk, IfErr, IfSome, MatchBool, MatchOption};
 ghost use Rattle.rq_algebra.specs.Elimination.{FindsColumn};
 ghost use Rattle.rq_algebra.specs.Operations.{Reorder};
 ghost use Rattle.rq_algebra.specs.Systems.{at, HasNullColumn};
@@ -9,9 +9,12 @@ ghost use Rattle.rq_parts.specs.OctetTable.{entry_of};
 ghost use Rattle.rq_standard.specs.ConstraintMatrix.{with_octet_rows};
 ghost use Rattle.rq_standard.specs.OctetField.{octets};
 ghost use Rattle.rq_solver.specs.Cleared.{AreOctetRows, AreRowsOfBits, HasPeeledPivots, LacksPivots, ListsRows, SolvesInactive};
+ghost use Rattle.rq_solver.specs.Counts.{additions};
+ghost use Rattle.rq_solver.specs.PhaseCounts.{AreCountsOf, total_of};
 ghost use Rattle.rq_solver.specs.Peeled.{AreOnesOfRows, IsOrderOf, IsPeeled};
 ghost use Rattle.rq_solver.specs.RowSteps.{AreRows, HasOctets};
 
+use super::counts::{OperationCounts, Phase};
 use super::first_phase::clear_pivots;
 use super::first_phase::listing::rows_in_order;
 use super::fourth_phase::take_reduced;
@@ -24,9 +27,17 @@ use rq_bytes::operation_vector::SymbolOps;
 use rq_parts::octet_matrix::DenseOctetMatrix;
 use std::alloc::Global;
 
-/// Finds the operations that take values of the rows to the column that solves the rows with them.
-/// `None` where the rows don't determine a column. The rows are those of bits, but the HDPC rows
-/// in the places from `first_hdpc` on.
+/// What was found for rows: the operations that take values of the rows to the column that solves
+/// the rows with them, or none where the rows don't determine a column. And how many operations
+/// were recorded until then.
+#[derive(Drop)]
+pub(super) struct Attempt {
+    pub operations: Option<Vec<SymbolOps>>,
+    pub counts: OperationCounts,
+}
+
+/// Looks for the operations that solve rows: those of bits, but the HDPC rows in the places from
+/// `first_hdpc` on.
 pub(super) fn operations_of_peeled(
     alloc: Global,
     ones: &RowOnes,
@@ -34,23 +45,33 @@ pub(super) fn operations_of_peeled(
     first_hdpc: usize,
     width: usize,
     peeling: &Peeling,
-) -> Result<Option<Vec<SymbolOps>>, Error>
+) -> Result<Attempt, Error>
     requires bits { AreRowsOfBits width ones.now }
     requires peeled { IsPeeled width ones.now peeling.now.rows.items peeling.now.order.items peeling.now.places.items }
     requires hdpc { AreOctetRows ones.now first_hdpc width hdpc.now }
-    ensures found { IfOk result (λ answer. (bit : ℕ → ℕ → ℕ) → AreOnesOfRows (length ones.now) width bit ones.now → let rows = with_octet_rows first_hdpc (length hdpc.now.rows) bit (entry_of hdpc.now) in MatchOption answer (HasNullColumn octets (length ones.now) width rows) (λ ops. FindsColumn octets (length ones.now) width rows (map operation_of ops.items))) }
+    requires few_hdpc { length hdpc.now.rows ≤ width }
+    ensures found { IfOk result (λ attempt. (bit : ℕ → ℕ → ℕ) → AreOnesOfRows (length ones.now) width bit ones.now → let rows = with_octet_rows first_hdpc (length hdpc.now.rows) bit (entry_of hdpc.now) in MatchOption attempt.operations (HasNullColumn octets (length ones.now) width rows) (λ ops. FindsColumn octets (length ones.now) width rows (map operation_of ops.items))) }
+    ensures counted { IfOk result (λ attempt. IfSome attempt.operations (λ ops. AreCountsOf attempt.counts (map operation_of ops.items))) }
+    ensures few { IfOk result (λ attempt. total_of attempt.counts.additions ≤ 2 * width * length ones.now) }
     ensures err { IfErr result (λ e. e ≡ OutOfMemory) }
 {
     let pivots = peeling.rows.as_slice();
     let mut listed = rows_in_order(alloc, ones.height(), first_hdpc, hdpc.height(), pivots)?;
     let mut recorded = clear_pivots(alloc, ones, hdpc, first_hdpc, peeling, listed.as_slice())?;
     let rows = listed.as_mut_slice();
-    let Some(order) = rows_of_columns(alloc, peeling, rows, &mut recorded)? else {
-        return Ok(None);
-    };
+    let found = rows_of_columns(alloc, peeling, rows, &mut recorded)?;
     let mut operations = recorded.into_operations();
+    let Some(order) = found else {
+        return Ok(Attempt {
+            operations: None,
+            counts: operations.counts(),
+        });
+    };
     operations.push(SymbolOps::Reorder { order })?;
-    Ok(Some(operations))
+    Ok(Attempt {
+        counts: operations.counts(),
+        operations: Some(operations.into_operations()),
+    })
 }
 
 /// Gives the inactive columns pivots among the rows behind the pivots', and lists for each column
@@ -68,6 +89,7 @@ fn rows_of_columns(
     requires wide { length peeling.now.places.items ≤ length peeling.now.rows.items + recorded.old.table.width }
     requires octets { HasOctets recorded.old.table }
     ensures found { IfOk result (λ answer. (system : ℕ → ℕ → ℕ) → HasPeeledPivots (length recorded.old.table.rows) (length peeling.now.places.items) system peeling.now.rows.items peeling.now.order.items (drop (length peeling.now.rows.items) listed.old) recorded.old → MatchOption answer (HasNullColumn octets (length recorded.old.table.rows) (length peeling.now.places.items) system) (λ order. FindsColumn octets (length recorded.old.table.rows) (length peeling.now.places.items) system (recorded.new.operations ++ Reorder order.items ∷ []))) }
+    ensures few { OnOk result (additions recorded.new.operations ≤ additions recorded.old.operations + (length peeling.now.places.items - length peeling.now.rows.items) * (length listed.old - 1)) }
     ensures err { IfErr result (λ e. e ≡ OutOfMemory) }
 {
     let pivots = peeling.rows.as_slice();
@@ -94,11 +116,14 @@ fn solve_inactive(
     requires octets { HasOctets recorded.old.table }
     ensures permuted { IsPermutation left.old left.new }
     ensures solved { IfOk result (λ found. MatchBool found (SolvesInactive pivots.now left.old left.new inactive recorded.old recorded.new) (LacksPivots left.old left.new inactive recorded.old recorded.new)) }
+    ensures few { OnOk result (additions recorded.new.operations ≤ additions recorded.old.operations + inactive * (length left.old + length pivots.now - 1)) }
     ensures err { IfErr result (λ e. e ≡ OutOfMemory) }
 {
+    recorded.enter(Phase::Second);
     if !eliminate(recorded, left, 0, inactive)? {
         return Ok(false);
     }
+    recorded.enter(Phase::Fourth);
     take_reduced(pivots, left, inactive, recorded)?;
     Ok(true)
 }

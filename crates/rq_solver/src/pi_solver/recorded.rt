@@ -1,13 +1,15 @@
 //! Rows that are worked on, with the operations that are recorded for them.
-ghost use Rattle.std.specs.Prelude.{◌≡◌, ◌≢◌, ◌<◌, ◌∷◌, [], length, map, OnOk, IfErr};
+ghost use Rattle.std.specs.Prelude.{◌≡◌, ◌≢◌, ◌+◌, ◌<◌, ◌∷◌, [], length, OnOk, IfErr};
 ghost use Rattle.rq_algebra.specs.Operations.{MulAssign};
 ghost use Rattle.rq_bytes.specs.declared.error.Error.TheVariants.{OutOfMemory};
 ghost use Rattle.rq_bytes.specs.SymbolOps.{operation_of};
 ghost use Rattle.rq_parts.specs.OctetTable.{entry_of};
+ghost use Rattle.rq_solver.specs.Counts.{additions};
 ghost use Rattle.rq_solver.specs.Recorded.{Performs, Records, sum_step};
 ghost use Rattle.rq_solver.specs.RowSteps.{HasOctets};
 ghost use Rattle.rq_standard.specs.OctetField.{octets};
 
+use super::counts::{OperationList, Phase};
 use rq_bytes::error::Error;
 use rq_bytes::octet::Octet;
 use rq_bytes::operation_vector::SymbolOps;
@@ -20,17 +22,15 @@ use std::marker::Model;
 #[derive(Drop)]
 pub(super) struct RecordedRows {
     table: DenseOctetMatrix,
-    operations: Vec<SymbolOps>,
+    operations: OperationList,
 }
 
 impl Model for RecordedRows {
-    ghost use Rattle.std.specs.Prelude.{map};
-    ghost use Rattle.rq_bytes.specs.SymbolOps.{operation_of};
     ghost use Rattle.rq_solver.specs.Recorded.{Recorded};
 
     ghost Value = { Recorded };
 
-    ghost view = { λ r. record { table = r.table; operations = map operation_of r.operations.items } };
+    ghost view = { λ r. record { table = r.table; operations = r.operations } };
 }
 
 impl RecordedRows {
@@ -40,13 +40,13 @@ impl RecordedRows {
     {
         RecordedRows {
             table,
-            operations: Vec::new(alloc),
+            operations: OperationList::new(alloc),
         }
     }
 
     /// The allocator of what is recorded.
     pub(super) fn allocator(&self) -> Global {
-        *self.operations.allocator()
+        self.operations.allocator()
     }
 
     /// What the rows have in the inactive columns.
@@ -73,6 +73,7 @@ impl RecordedRows {
         requires scalar { scalar < octets.size }
         requires octets { HasOctets self.old.table }
         ensures added { OnOk result (Performs (sum_step dest src scalar ∷ []) self.old self.new) }
+        ensures counted { OnOk result (additions self.new.operations ≡ additions self.old.operations + 1) }
         ensures err { IfErr result (λ e. e ≡ OutOfMemory) }
     {
         self.table.fma_rows(dest, src, &scalar);
@@ -87,6 +88,7 @@ impl RecordedRows {
         requires nonzero { scalar ≢ 0 }
         requires octets { HasOctets self.old.table }
         ensures multiplied { OnOk result (Performs (MulAssign dest scalar ∷ []) self.old self.new) }
+        ensures counted { OnOk result (additions self.new.operations ≡ additions self.old.operations) }
         ensures err { IfErr result (λ e. e ≡ OutOfMemory) }
     {
         self.table.mul_assign_row(dest, &scalar);
@@ -100,15 +102,23 @@ impl RecordedRows {
         requires dest { dest < length self.old.table.rows }
         requires src { src < length self.old.table.rows }
         ensures recorded { OnOk result (Records (sum_step dest src scalar ∷ []) self.old self.new) }
+        ensures counted { OnOk result (additions self.new.operations ≡ additions self.old.operations + 1) }
         ensures err { IfErr result (λ e. e ≡ OutOfMemory) }
     {
         self.operations.push(addition(dest, src, scalar))?;
         Ok(())
     }
 
+    /// A phase begins, or goes on.
+    pub(super) fn enter(&mut self, phase: Phase)
+        ensures { self.new ≡ self.old }
+    {
+        self.operations.enter(phase);
+    }
+
     /// What was recorded.
-    pub(super) fn into_operations(self) -> Vec<SymbolOps>
-        ensures { map operation_of result.items ≡ self.operations }
+    pub(super) fn into_operations(self) -> OperationList
+        ensures { result ≡ self.operations }
     {
         let RecordedRows { operations, .. } = self;
         operations

@@ -1,11 +1,12 @@
 //! The second phase: elimination over the inactive columns (RFC 6330, section 5.4.2.3).
-ghost use Rattle.std.specs.Prelude.{◌≡◌, ◌≢◌, ℕ, ◌+◌, ◌^◌, ◌<◌, ◌≤◌, ◌∷◌, [], length, IfSome, IfNone, OnOk, IfOk, IfErr, MatchBool, IsPermutation};
+ghost use Rattle.std.specs.Prelude.{◌≡◌, ◌≢◌, ℕ, ◌+◌, ◌-◌, ◌*◌, ◌^◌, ◌<◌, ◌≤◌, ◌∷◌, [], length, IfSome, IfNone, OnOk, IfOk, IfErr, MatchBool, IsPermutation};
 ghost use Rattle.rq_algebra.specs.Systems.{at};
 ghost use Rattle.rq_algebra.specs.Steps.{AddsRow, ScalesRow};
 ghost use Rattle.rq_algebra.specs.Meaning.{ClearsColumn};
 ghost use Rattle.rq_standard.specs.OctetField.{octets};
 ghost use Rattle.rq_bytes.specs.declared.error.Error.TheVariants.{OutOfMemory};
 ghost use Rattle.rq_parts.specs.OctetTable.{entry_of};
+ghost use Rattle.rq_solver.specs.Counts.{additions};
 ghost use Rattle.rq_solver.specs.Recorded.{ChangesRows};
 ghost use Rattle.rq_solver.specs.RowSteps.{HasOctets, AreRows, IsReduced, IsStuck};
 
@@ -32,6 +33,7 @@ pub(super) fn eliminate(
     ensures rows { OnOk result (AreRows rows.new recorded.old.table) }
     ensures steps { OnOk result (ChangesRows rows.old recorded.old recorded.new) }
     ensures pivots { IfOk result (λ found. MatchBool found (IsReduced rows.new first_column count recorded.new.table) (IsStuck rows.new first_column count recorded.new.table)) }
+    ensures few { OnOk result (additions recorded.new.operations ≤ additions recorded.old.operations + count * (length rows.old - 1)) }
     ensures err { IfErr result (λ e. e ≡ OutOfMemory) }
 {
     for done in 0..count {
@@ -55,6 +57,7 @@ fn scale_row(recorded: &mut RecordedRows, row: usize, column: usize) -> Result<(
     ensures steps { OnOk result (ChangesRows (row ∷ []) recorded.old recorded.new) }
     ensures octets { OnOk result (HasOctets recorded.new.table) }
     ensures scaled { OnOk result (ScalesRow octets (length recorded.old.table.rows) recorded.old.table.width row (octets.inverse (entry_of recorded.old.table row column)) (entry_of recorded.old.table) (entry_of recorded.new.table)) }
+    ensures few { OnOk result (additions recorded.new.operations ≤ additions recorded.old.operations + 0) }
     ensures err { IfErr result (λ e. e ≡ OutOfMemory) }
 {
     let entry = recorded.get(row, column);
@@ -81,6 +84,7 @@ fn clear_column(
     ensures steps { OnOk result (ChangesRows rows.now recorded.old recorded.new) }
     ensures octets { OnOk result (HasOctets recorded.new.table) }
     ensures cleared { OnOk result (ClearsColumn octets (length rows.now) recorded.old.table.width pivot column (length rows.now) (at rows.now) (entry_of recorded.old.table) (entry_of recorded.new.table)) }
+    ensures few { OnOk result (additions recorded.new.operations ≤ additions recorded.old.operations + (length rows.now - 1)) }
     ensures err { IfErr result (λ e. e ≡ OutOfMemory) }
 {
     for i in 0..rows.len() {
@@ -106,6 +110,7 @@ fn clear_entry(
     ensures steps { OnOk result (ChangesRows (dest ∷ src ∷ []) recorded.old recorded.new) }
     ensures octets { OnOk result (HasOctets recorded.new.table) }
     ensures added { OnOk result (AddsRow octets (length recorded.old.table.rows) recorded.old.table.width dest src (entry_of recorded.old.table dest column) (entry_of recorded.old.table) (entry_of recorded.new.table)) }
+    ensures few { OnOk result (additions recorded.new.operations ≤ additions recorded.old.operations + 1) }
     ensures err { IfErr result (λ e. e ≡ OutOfMemory) }
 {
     let scalar = recorded.get(dest, column);

@@ -1,12 +1,13 @@
 //! The HDPC rows in the columns of pivots.
-ghost use Rattle.std.specs.Prelude.{◌≡◌, ◌≢◌, ℕ, ◌+◌, ◌^◌, ◌<◌, ◌≤◌, length, IfOk, OnOk, IfErr};
+ghost use Rattle.std.specs.Prelude.{◌≡◌, ◌≢◌, ℕ, ◌+◌, ◌-◌, ◌^◌, ◌<◌, ◌≤◌, length, IsTrue, IfOk, OnOk, IfErr};
 ghost use Rattle.rq_algebra.specs.Steps.{AddsRow, ScalesRow};
 ghost use Rattle.rq_algebra.specs.Systems.{at};
 ghost use Rattle.rq_bytes.specs.declared.error.Error.TheVariants.{OutOfMemory};
 ghost use Rattle.rq_parts.specs.OctetTable.{entry_of};
 ghost use Rattle.rq_standard.specs.OctetField.{octets};
 ghost use Rattle.rq_solver.specs.Cleared.{ClearsOctets};
-ghost use Rattle.rq_solver.specs.OctetBatch.{AreOctetsIn, ChangesOctets, CombinesOctets, HasPivotsBeside, HasZeros, HasZerosBefore, IsFirstAlone, SumsRows};
+ghost use Rattle.rq_solver.specs.Counts.{additions};
+ghost use Rattle.rq_solver.specs.OctetBatch.{batch_bound, AreOctetsIn, ChangesOctets, CombinesOctets, HasPivotsBeside, HasZeros, HasZerosBefore, IsFirstAlone, SumsRows};
 ghost use Rattle.rq_solver.specs.Peeled.{IsOrderOf};
 ghost use Rattle.rq_solver.specs.RowSteps.{AreRows, HasOctets};
 ghost use Rattle.rq_solver.specs.RowWrites.{HoldsRows};
@@ -38,9 +39,10 @@ pub(super) fn clear_octets(
     requires apart { (i p : ℕ) → i < length hdpc.now.rows → p < length peeling.now.rows.items → first_hdpc + i ≢ at peeling.now.rows.items p }
     requires octets { HasOctets recorded.old.table }
     ensures cleared { OnOk result (ClearsOctets peeling.now.rows.items peeling.now.order.items (entry_of hdpc.now) first_hdpc (length hdpc.now.rows) recorded.old recorded.new) }
+    ensures few { OnOk result (additions recorded.new.operations ≤ additions recorded.old.operations + batch_bound (length hdpc.now.rows) hdpc.now.width (length peeling.now.rows.items)) }
     ensures err { IfErr result (λ e. e ≡ OutOfMemory) }
 {
-    if hdpc.height() == 0 {
+    if hdpc.height() == 0 || are_zeros_at_pivots(hdpc, peeling) {
         return Ok(());
     }
     let mut current = copy_of(recorded.allocator(), hdpc, peeling.order.len())?;
@@ -49,6 +51,33 @@ pub(super) fn clear_octets(
         clear_column(&mut current, column, first_hdpc, peeling, recorded)?;
     }
     Ok(())
+}
+
+/// Whether all rows have 0 in the pivots' columns.
+fn are_zeros_at_pivots(hdpc: &DenseOctetMatrix, peeling: &Peeling) -> bool
+    requires order { IsOrderOf hdpc.now.width peeling.now.order.items peeling.now.places.items }
+    requires few { length peeling.now.rows.items ≤ hdpc.now.width }
+    ensures { IsTrue result → (p : ℕ) → p < length peeling.now.rows.items → HasZeros (at peeling.now.order.items p) (length hdpc.now.rows) hdpc.now }
+{
+    for place in 0..peeling.rows.len() {
+        if !is_zero_column(hdpc, peeling.order[place]) {
+            return false;
+        }
+    }
+    true
+}
+
+/// Whether all rows have 0 in a column.
+fn is_zero_column(octets: &DenseOctetMatrix, column: usize) -> bool
+    requires { column < octets.now.width }
+    ensures { IsTrue result → HasZeros column (length octets.now.rows) octets.now }
+{
+    for row in 0..octets.height() {
+        if octets.get(row, column).byte() != 0 {
+            return false;
+        }
+    }
+    true
 }
 
 /// A copy of octets.
@@ -92,6 +121,7 @@ fn sum_rows(
     requires some { 0 < length current.old.rows }
     ensures sum { OnOk result (SumsRows current.old current.new) }
     ensures summed { OnOk result (CombinesOctets first_hdpc current.old current.new recorded.old recorded.new) }
+    ensures few { OnOk result (additions recorded.new.operations ≤ additions recorded.old.operations + (length current.old.rows - 1)) }
     ensures err { IfErr result (λ e. e ≡ OutOfMemory) }
 {
     for row in 1..current.height() {
@@ -114,6 +144,8 @@ fn clear_column(
     requires column { column < current.old.width }
     ensures changed { OnOk result (ChangesOctets peeling.now.rows.items peeling.now.order.items first_hdpc current.old current.new recorded.old recorded.new) }
     ensures cleared { OnOk result (HasZerosBefore (length peeling.now.rows.items) peeling.now.places.items column current.old → HasZerosBefore (length peeling.now.rows.items) peeling.now.places.items (column + 1) current.new) }
+    ensures few { OnOk result (additions recorded.new.operations ≤ additions recorded.old.operations + (length current.old.rows - 1) + length current.old.rows) }
+    ensures idle { OnOk result (length peeling.now.rows.items ≤ at peeling.now.places.items column → additions recorded.new.operations ≤ additions recorded.old.operations + (length current.old.rows - 1)) }
     ensures err { IfErr result (λ e. e ≡ OutOfMemory) }
 {
     add_first_row(current, column, first_hdpc, recorded)?;
@@ -137,6 +169,7 @@ fn add_first_row(
     requires column { column < current.old.width }
     ensures alone { OnOk result (entry_of current.old 0 column ≢ 0 → IsFirstAlone column current.new) }
     ensures added { OnOk result (CombinesOctets first_hdpc current.old current.new recorded.old recorded.new) }
+    ensures few { OnOk result (additions recorded.new.operations ≤ additions recorded.old.operations + (length current.old.rows - 1)) }
     ensures err { IfErr result (λ e. e ≡ OutOfMemory) }
 {
     let lead = current.get(0, column);
@@ -168,6 +201,7 @@ fn add_pivot(
     requires place { place < length peeling.now.rows.items }
     ensures changed { OnOk result (ChangesOctets peeling.now.rows.items peeling.now.order.items first_hdpc current.old current.new recorded.old recorded.new) }
     ensures cleared { OnOk result (HasZeros (at peeling.now.order.items place) (length current.new.rows) current.new) }
+    ensures few { OnOk result (additions recorded.new.operations ≤ additions recorded.old.operations + length current.old.rows) }
     ensures err { IfErr result (λ e. e ≡ OutOfMemory) }
 {
     let column = peeling.order[place];
@@ -196,6 +230,7 @@ fn add_octets(
     requires src { src < length current.old.rows }
     ensures sum { OnOk result (AddsRow octets (length current.old.rows) current.old.width dest src scalar (entry_of current.old) (entry_of current.new)) }
     ensures added { OnOk result (CombinesOctets first_hdpc current.old current.new recorded.old recorded.new) }
+    ensures few { OnOk result (additions recorded.new.operations ≤ additions recorded.old.operations + 1) }
     ensures err { IfErr result (λ e. e ≡ OutOfMemory) }
 {
     current.fma_rows(dest, src, &scalar);
@@ -216,6 +251,7 @@ fn multiply_octets(
     requires scalar { scalar ≢ 0 }
     ensures scaled { OnOk result (ScalesRow octets (length current.old.rows) current.old.width dest scalar (entry_of current.old) (entry_of current.new)) }
     ensures multiplied { OnOk result (CombinesOctets first_hdpc current.old current.new recorded.old recorded.new) }
+    ensures few { OnOk result (additions recorded.new.operations ≤ additions recorded.old.operations + 0) }
     ensures err { IfErr result (λ e. e ≡ OutOfMemory) }
 {
     current.mul_assign_row(dest, &scalar);

@@ -1,7 +1,7 @@
 -- What the check leaves to show of `pi_solver::phases::rows_of_columns`.
 use Rattle.std.proofs.Common.{◌≡◌, ◌+◌, ◌-◌, ◌<◌, ◌≤◌, ℕ, List, length, take, drop, sym, ap, ◌∙◌, subst, arith}
 use Rattle.std.specs.List.Sorted.{IsPermutation}
-use Rattle.std.proofs.lemmas.List.{take_rest}
+use Rattle.std.proofs.lemmas.List.{take_rest, length-drop}
 use borrow.Rule.Slice.PartMut.{put_mid}
 use Rattle.rq_algebra.specs.Systems.{at}
 use Rattle.rq_solver.specs.Cleared.{LacksPivots, SolvesInactive}
@@ -12,6 +12,9 @@ use Rattle.rq_solver.proofs.pi_solver.phases.rows_of_columns.Goals as goal
 -- the rest of the list
 rest_is : (rows slice listed : List ℕ) → slice ≡ rows → take (length listed - length slice) (drop (length slice) listed) ≡ drop (length rows) listed
 rest_is rows slice listed e = take_rest listed (length slice) ∙ ap (λ (l : List ℕ). drop (length l) listed) e
+
+rest_count : (slice listed : List ℕ) → length slice ≤ length listed → length (take (length listed - length slice) (drop (length slice) listed)) + length slice - 1 ≡ length listed - 1
+rest_count slice listed l = let same = ap length (take_rest listed (length slice)) in let count = length-drop (length slice) listed in omega (arith, same, count)
 
 pub returns-then-not-branch-clause-found : goal.returns-then-not-branch-clause-found
 returns-then-not-branch-clause-found c = λ system peeled.
@@ -64,3 +67,29 @@ returns-clause-found c = λ system peeled.
     rw (c.in_ok-rows_at.ensures.rows, c.as_slice.ensures.value)
     (finds_by_peeled (length middle.table.rows) (length places) system rows order places c.requires.order c.requires.pivots listed c.requires.listed inactive middle here.middle peeled wide narrow here.changes reduced permuted
     final here.reduced_rows here.takes pick long starts)
+
+pub returns-then-not-branch-clause-few : goal.returns-then-not-branch-clause-few
+returns-then-not-branch-clause-few c =
+    let rows = c.args.peeling.now.rows.items in
+    let listed = c.args.listed.now in
+    let slice = c.as_slice-pivots.result.now in
+    let few = c.in_ok-solve_inactive.ensures.few in
+    let all : c.len.result ≡ length c.args.peeling.now.places.items = c.len.ensures ∙ c.args.peeling.now.places.ok.0 in
+    let many : length slice ≡ length rows = ap length c.as_slice-pivots.ensures.value in
+    let inactive : ℕ = c.len.result - length slice in
+    let columns : inactive ≡ length c.args.peeling.now.places.items - length rows = omega (arith, all, many) in
+    let rest : length (take (length listed - length slice) (drop (length slice) listed)) + length slice - 1 ≡ length listed - 1 = rest_count slice listed (omega (arith, many, c.requires.listed.few)) in
+    rw (columns, rest) at few
+
+pub returns-clause-few : goal.returns-clause-few
+returns-clause-few c =
+    let rows = c.args.peeling.now.rows.items in
+    let listed = c.args.listed.now in
+    let slice = c.as_slice-pivots.result.now in
+    let few = c.in_ok-solve_inactive.ensures.few in
+    let all : c.len.result ≡ length c.args.peeling.now.places.items = c.len.ensures ∙ c.args.peeling.now.places.ok.0 in
+    let many : length slice ≡ length rows = ap length c.as_slice-pivots.ensures.value in
+    let inactive : ℕ = c.len.result - length slice in
+    let columns : inactive ≡ length c.args.peeling.now.places.items - length rows = omega (arith, all, many) in
+    let rest : length (take (length listed - length slice) (drop (length slice) listed)) + length slice - 1 ≡ length listed - 1 = rest_count slice listed (omega (arith, many, c.requires.listed.few)) in
+    rw (columns, rest) at few

@@ -1,8 +1,10 @@
 -- What the check leaves to show of `pi_solver::second_phase::eliminate`.
-use Rattle.std.proofs.Common.{◌+◌, ◌<◌, length, All, ◌∷◌, [], Contains, arith}
+use Rattle.std.proofs.Common.{◌≡◌, refl, ◌∙◌, ◌+◌, ◌-◌, ◌≤◌, ◌<◌, length, All, ◌∷◌, [], Contains, arith}
 use Rattle.std.proofs.lemmas.List.Elements.{All-nil, All-cons, Contains-get_or}
 use Rattle.std.proofs.lemmas.List.Sorted.{Contains-permutation, IsPermutation-refl, IsPermutation-sym, IsPermutation-trans}
 use Rattle.rq_algebra.specs.Systems.{at}
+use Rattle.rq_solver.specs.Counts.{additions}
+use Rattle.rq_solver.proofs.CountLaws.{one_turn_more}
 use Rattle.rq_solver.proofs.Performing.{changes_none, changes_among, changes_more}
 use Rattle.rq_solver.proofs.Turns.{reduced_none, swapped_rows, swapped_reduced, reduced_more}
 use Rattle.rq_solver.proofs.pi_solver.second_phase.eliminate.Goals as goal
@@ -13,6 +15,8 @@ loop-done-init c = record {
   are_rows = c.requires.rows;
   octets = c.requires.octets;
   steps = changes_none _ _ c.requires.octets;
+  long = refl;
+  few = omega arith;
   reduced = reduced_none _ _ _;
 }
 
@@ -56,5 +60,10 @@ loop-done-preserved c =
       octets = cleared.octets;
       steps = changes_more start c.args.recorded.now b e
           (changes_more start c.args.recorded.now a b v.steps scaling) clearing;
+      long = c.swap.ensures.len ∙ v.long;
+      few =
+          let long : length swapped ≡ length start = c.swap.ensures.len ∙ v.long in
+          let more : additions e.operations ≤ additions a.operations + (length start - 1) = omega (arith, long, scaled.few, cleared.few) in
+          one_turn_more (length start - 1) _ _ _ done v.few more;
       reduced = reduced_more swapped c.args.first_column done a.table b.table e.table are in_swapped (omega (arith, v.steps.performs.width)) v.octets (rw (c.swap.ensures.by_index.0 0) (rw c.table.ensures at found.2)) scaled.scaled (rw scaled.steps.performs.width at cleared.cleared) reduced;
     }

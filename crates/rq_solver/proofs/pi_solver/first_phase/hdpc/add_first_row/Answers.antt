@@ -16,6 +16,7 @@ returns-then-byte-eq0-clause-alone c = λ some. absurd (some (sym c.get-lead.ens
 
 pub loop-row-init : goal.loop-row-init
 loop-row-init c = record {
+  few = omega arith;
   lead = sym c.get-lead.ensures;
   cleared = λ i some l. absurd (omega arith);
   combined = combines_none c.args.first_hdpc c.args.current.now c.args.recorded.now c.requires.rows.shown c.requires.rows.octets;
@@ -40,6 +41,7 @@ loop-row-preserved c =
           let is_octet : entry_of was row column < 256 = v.combined.octets.elements row column in_rows in_width in
           let zero : entry_of now row column ≡ 0 = added.at_dest column in_width ∙ rw (v.lead, w.div.ensures, c.get-octet.ensures) (plus_quotient_times (entry_of was row column) lead is_octet small nonzero) in
           rw (w.current-is, w.recorded-is) (record {
+            few = (let more = w.in_ok-add_octets.ensures.few in let so_far = v.few in omega (arith, more, so_far, c.loop-row.auto.row));
             lead = added.elsewhere 0 column (omega arith) in_width (λ e. omega (arith, e)) ∙ v.lead;
             cleared = λ i some l. elim (cases_eq i row) [ inl e ↦ rw e zero | inr d ↦ added.elsewhere i column (omega arith) in_width d ∙ v.cleared i some (omega arith) ];
             combined = combines_more c.args.first_hdpc c.args.current.now was now c.args.recorded.now c.loop-row.recorded w.add_octets.new.recorded v.combined w.in_ok-add_octets.ensures.added;
@@ -47,6 +49,7 @@ loop-row-preserved c =
       | else-byte-ne0 w ↦
           let zero : entry_of was row column ≡ 0 = sym c.get-octet.ensures ∙ sym c.byte-in-loop-row.ensures ∙ w.if-byte-ne0.false in
           rw (w.current-is, w.recorded-is) (record {
+            few = (let so_far = v.few in omega (arith, so_far));
             lead = v.lead;
             cleared = λ i some l. elim (cases_eq i row) [ inl e ↦ rw e zero | inr d ↦ v.cleared i some (omega arith) ];
             combined = v.combined;
@@ -92,3 +95,16 @@ pub returns-in_ok-multiply_octets-clause-added : goal.returns-in_ok-multiply_oct
 returns-in_ok-multiply_octets-clause-added c =
     combines_more c.args.first_hdpc c.args.current.now c.loop-row.current c.multiply_octets.new.current c.args.recorded.now c.loop-row.recorded c.multiply_octets.new.recorded
     c.loop-row.invariant.combined c.in_ok-multiply_octets.ensures.multiplied
+
+pub returns-in_ok-multiply_octets-clause-few : goal.returns-in_ok-multiply_octets-clause-few
+returns-in_ok-multiply_octets-clause-few c =
+    let so_far = c.loop-row.invariant.few in
+    let same = c.in_ok-multiply_octets.ensures.few in
+    let height = c.loop-row.invariant.combined.height in
+    omega (arith, so_far, same, height, c.loop-row.auto.row-end, c.requires.some)
+
+pub returns-else-byte-ne1-clause-few : goal.returns-else-byte-ne1-clause-few
+returns-else-byte-ne1-clause-few c =
+    let so_far = c.loop-row.invariant.few in
+    let height = c.loop-row.invariant.combined.height in
+    omega (arith, so_far, height, c.loop-row.auto.row-end, c.requires.some)

@@ -12,6 +12,7 @@ use Rattle.rq_solver.proofs.pi_solver.first_phase.hdpc.add_pivot.Goals.{then-byt
 
 pub loop-row-init : goal.loop-row-init
 loop-row-init c = record {
+  few = omega arith;
   changed = changes_none c.args.peeling.now.rows.items c.args.peeling.now.order.items c.args.peeling.now.places.items c.args.first_hdpc c.args.current.now c.args.recorded.now c.requires.rows.shown c.requires.rows.octets;
   cleared = λ i l. absurd (omega arith);
 }
@@ -51,13 +52,20 @@ loop-row-preserved c =
           let turn : ChangesOctets rows order first was w.set.new.self cur w.add_row.new.self =
           changes_pivot rows order places first was w.set.new.self cur w.add_row.new.self are still row place c.get-scalar.result in_rows c.requires.place small scalar_is sets (rw read at w.in_ok-add_row.ensures.added) in
           rw (w.current-is, w.recorded-is) (record {
+            few = (let more = w.in_ok-add_row.ensures.counted in let so_far = v.few in omega (arith, more, so_far));
             changed = changes_more rows order places first start was w.set.new.self old cur w.add_row.new.self beside v.changed turn;
             cleared = λ i l. elim (cases_eq i row) [ inl e ↦ rw e sets.here | inr d ↦ sets.elsewhere i (at order place) d ∙ v.cleared i (omega arith) ];
           })
       | else-byte-ne0 w ↦
           let none : entry_of was row (at order place) ≡ 0 = sym scalar_is ∙ sym c.byte.ensures ∙ w.if-byte-ne0.false in
           rw (w.current-is, w.recorded-is) (record {
+            few = (let so_far = v.few in omega (arith, so_far));
             changed = v.changed;
             cleared = λ i l. elim (cases_eq i row) [ inl e ↦ rw e none | inr d ↦ v.cleared i (omega arith) ];
           })
     ]
+
+pub returns-clause-few : goal.returns-clause-few
+returns-clause-few c =
+    let so_far = c.loop-row.invariant.few in
+    omega (arith, so_far, c.loop-row.auto.row-end, c.loop-row.invariant.changed.height)

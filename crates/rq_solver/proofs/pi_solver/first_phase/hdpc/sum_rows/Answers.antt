@@ -8,6 +8,7 @@ use Rattle.rq_solver.proofs.pi_solver.first_phase.hdpc.sum_rows.Goals as goal
 
 pub loop-row-init : goal.loop-row-init
 loop-row-init c = record {
+  few = omega arith;
   sum = λ k l. sym (sum_of_one (λ i. entry_of c.args.current.now i k));
   others = λ i k some l n. refl;
   combined = combines_none c.args.first_hdpc c.args.current.now c.args.recorded.now c.requires.rows.shown c.requires.rows.octets;
@@ -22,6 +23,7 @@ loop-row-preserved c =
     let added = c.in_ok-add_octets.ensures.sum in
     let in_rows : row < length start.rows = omega (arith, v.combined.height) in
     record {
+      few = (let more = c.in_ok-add_octets.ensures.few in let so_far = v.few in omega (arith, more, so_far, c.loop-row.auto.row));
       sum = λ k l.
           let is_octet : entry_of start row k < 256 = c.requires.rows.shown.elements row k in_rows l in
           added.at_dest k (rw v.combined.width l)
@@ -35,3 +37,6 @@ returns-clause-sum c =
     let all : c.loop-row.row ≡ length c.args.current.now.rows = omega (arith, c.loop-row.auto.row-end) in
     let v = c.loop-row.invariant in
     record { sum = rw (← all) v.sum; others = v.others }
+
+pub returns-clause-few : goal.returns-clause-few
+returns-clause-few c = let so_far = c.loop-row.invariant.few in omega (arith, so_far, c.loop-row.auto.row-end)
