@@ -3,6 +3,8 @@ use Rattle.std.specs.Prelude.{◌≡◌, ◌<◌, ℕ, List, [], All, length, ma
 use Rattle.std.specs.List.{swap}
 use Rattle.rq_algebra.specs.Systems.{HasElements}
 use Rattle.rq_standard.specs.OctetField.{octets}
+use Rattle.rq_standard.specs.Rows.{row_sum, row_multiple}
+use Rattle.rq_bytes.specs.Ranges.{range_of, with_range}
 
 -- its rows, and how many octets each has
 pub record OctetTable : Type 0 where
@@ -28,6 +30,10 @@ pub record HasOctets (table : OctetTable) : Type 0 where
 -- another row in the place of row i
 abbrev pub with_row : OctetTable → ℕ → List ℕ → OctetTable
 with_row table i row = record table { rows = slice_set table.rows i row }
+
+-- a row with a multiple of others added from column `start` on
+abbrev pub sum_from : List ℕ → ℕ → ℕ → List ℕ → List ℕ
+sum_from row start scalar other = with_range row start (row_sum (range_of row start (length other)) (row_multiple scalar other))
 
 -- the rows from row `start` on with columns i and j exchanged
 abbrev pub columns_swapped : ℕ → ℕ → ℕ → List (List ℕ) → List (List ℕ)
