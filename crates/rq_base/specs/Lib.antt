@@ -2,6 +2,6 @@ pub mod BinaryRows
 pub mod Calls
 pub mod Defaults
 pub mod HdpcPart
-pub mod Information
+pub mod ObjectTransmissionInformation
+pub mod Places
 pub mod RefusedInput
-pub mod Walks

@@ -3,7 +3,7 @@ ghost use Rattle.std.specs.Prelude.{◌≡◌, ℕ, ◌+◌, ◌*◌, ◌%◌, �
 ghost use Rattle.rq_standard.specs.TableRows.{IsChecked, intermediate_symbols};
 ghost use Rattle.rq_standard.specs.Equations.{row_places};
 ghost use Rattle.rq_standard.specs.Tuple.{IsTuple, places_of};
-ghost use Rattle.rq_base.specs.Walks.{next_below};
+ghost use Rattle.rq_base.specs.Places.{next_below};
 
 use crate::base::intermediate_tuple;
 use rq_standard::row::Row;
@@ -25,7 +25,7 @@ pub struct Places {
 
 impl Model for Places {
     ghost use Rattle.std.specs.Prelude.{ℕ, List};
-    ghost use Rattle.rq_base.specs.Walks.{places_left, IsWalk};
+    ghost use Rattle.rq_base.specs.Places.{places_left, IsWalk};
 
     ghost Value = { List ℕ };
 

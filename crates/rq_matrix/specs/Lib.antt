@@ -1,2 +1,2 @@
 pub mod BitRows
-pub mod DenseBits
+pub mod DenseBinaryMatrix

@@ -220,7 +220,7 @@ impl DenseBinaryMatrix {
 }
 
 impl Clone for DenseBinaryMatrix {
-    ghost use Rattle.rq_matrix.specs.DenseBits.{IsCopy};
+    ghost use Rattle.rq_matrix.specs.DenseBinaryMatrix.{IsCopy};
 
     ghost is_clone = { IsCopy };
 
@@ -235,7 +235,7 @@ impl Clone for DenseBinaryMatrix {
 }
 
 impl BinaryMatrix for DenseBinaryMatrix {
-    ghost use Rattle.rq_matrix.specs.DenseBits.{content_of, is_table_of, copy_is_same};
+    ghost use Rattle.rq_matrix.specs.DenseBinaryMatrix.{content_of, is_table_of, copy_is_same};
 
     ghost content = { content_of };
 

@@ -3,7 +3,7 @@ use Rattle.std.proofs.Common.{◌≡◌, ℕ, ◌≤◌, length, set, ap, ◌∙
 use Rattle.std.specs.List.{All}
 use Rattle.std.proofs.lemmas.List.{length-set}
 use Rattle.rq_parts.specs.ArrayMaps.{Numbers}
-use Rattle.rq_parts.specs.Components.{AreComponents}
+use Rattle.rq_parts.specs.ConnectedComponentGraph.{AreComponents}
 use Rattle.rq_parts.specs.declared.graph.components.ConnectedComponentGraph.TheInside.{Inside}
 
 -- other numbers of the same keys

@@ -1,7 +1,7 @@
 pub mod ArrayMaps
 pub mod BitPairs
-pub mod Components
-pub mod Graphs
+pub mod ConnectedComponentGraph
 pub mod Lists
+pub mod OctetIter
 pub mod OctetTable
-pub mod PairsLeft
+pub mod UndirectedGraph

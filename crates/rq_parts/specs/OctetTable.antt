@@ -2,9 +2,9 @@
 use Rattle.std.specs.Prelude.{◌≡◌, ◌<◌, ℕ, List, [], All, length, map, slice_set, slice_index, slice_index_or, take, drop, ◌++◌}
 use Rattle.std.specs.List.{swap}
 use Rattle.rq_algebra.specs.Systems.{HasElements}
-use Rattle.rq_bytes.specs.Ranges.{range_of, with_range}
-use Rattle.rq_standard.specs.Rows.{row_sum, row_multiple}
 use Rattle.rq_standard.specs.OctetField.{octets}
+use Rattle.rq_standard.specs.Rows.{row_sum, row_multiple}
+use Rattle.rq_bytes.specs.Ranges.{range_of, with_range}
 
 -- its rows, and how many octets each has
 pub record OctetTable : Type 0 where
@@ -27,13 +27,13 @@ pub record HasOctets (table : OctetTable) : Type 0 where
   pub widths : All (λ row. length row ≡ table.width) table.rows
   pub elements : HasElements octets (length table.rows) table.width (entry_of table)
 
--- a row of octets with the multiple of bits added, from a column on
-abbrev pub with_multiple : List ℕ → ℕ → ℕ → List ℕ → List ℕ
-with_multiple row start scalar bits = with_range row start (row_sum (range_of row start (length bits)) (row_multiple scalar bits))
-
 -- another row in the place of row i
 abbrev pub with_row : OctetTable → ℕ → List ℕ → OctetTable
 with_row table i row = record table { rows = slice_set table.rows i row }
+
+-- a row with a multiple of others added from column `start` on
+abbrev pub sum_from : List ℕ → ℕ → ℕ → List ℕ → List ℕ
+sum_from row start scalar other = with_range row start (row_sum (range_of row start (length other)) (row_multiple scalar other))
 
 -- the rows from row `start` on with columns i and j exchanged
 abbrev pub columns_swapped : ℕ → ℕ → ℕ → List (List ℕ) → List (List ℕ)

@@ -5,7 +5,7 @@ ghost use Rattle.std.specs.List.Sorted.{IsPermutation, IsStrictlyIncreasing, IsN
 ghost use Rattle.rq_bytes.specs.Refusals.{IsAnswer};
 ghost use Rattle.rq_bytes.specs.declared.error.Error.TheVariants.{OutOfMemory};
 ghost use Rattle.rq_parts.specs.Lists.{values_of, IsStart};
-ghost use Rattle.rq_parts.specs.Graphs.{nodes_of};
+ghost use Rattle.rq_parts.specs.UndirectedGraph.{nodes_of};
 
 mod components;
 
@@ -24,7 +24,7 @@ pub struct UndirectedGraph {
 }
 
 impl Model for UndirectedGraph {
-    ghost use Rattle.rq_parts.specs.Graphs.{Graph, IsOrderedWhereBuilt};
+    ghost use Rattle.rq_parts.specs.UndirectedGraph.{Graph, IsOrderedWhereBuilt};
 
     ghost Value = { Graph };
 

@@ -25,7 +25,7 @@ impl<'a> Model for OctetIter<'a> {
 
     ghost Value = { List (ℕ × ℕ) };
 
-    ghost use Rattle.rq_parts.specs.PairsLeft.{pairs_left};
+    ghost use Rattle.rq_parts.specs.OctetIter.{pairs_left};
 
     ghost view = { λ s. pairs_left s.left };
 }
@@ -159,7 +159,7 @@ impl<'a> Model for DenseBits<'a> {
 
     ghost Value = { List (ℕ × ℕ) };
 
-    ghost use Rattle.rq_parts.specs.PairsLeft.{bits_left, IsWithinWords};
+    ghost use Rattle.rq_parts.specs.OctetIter.{bits_left, IsWithinWords};
 
     ghost view = { bits_left };
 

@@ -2,9 +2,8 @@
 ghost use Rattle.std.specs.Prelude.{◌≡◌, ◌≢◌, ℕ, ◌+◌, ◌<◌, ◌≤◌, All, length, map, replicate, slice_index, slice_index_or, slice_set, IfOk, Ok, []};
 ghost use Rattle.std.specs.List.{swap};
 ghost use Rattle.rq_standard.specs.Rows.{row_sum, row_multiple};
-ghost use Rattle.rq_bytes.specs.Ranges.{range_of, with_range};
 ghost use Rattle.rq_bytes.specs.Refusals.{IsAnswer};
-ghost use Rattle.rq_parts.specs.OctetTable.{HasOctets, IsOctetRow, row_at, with_multiple, with_row, columns_swapped};
+ghost use Rattle.rq_parts.specs.OctetTable.{HasOctets, IsOctetRow, row_at, with_row, sum_from, columns_swapped};
 
 use rq_bytes::error::Error;
 use rq_bytes::octet::Octet;
@@ -54,7 +53,7 @@ impl DenseOctetMatrix {
     )
         requires row { row < length self.old.rows }
         requires fits { start_col + length other.now ≤ self.old.width }
-        ensures { self.new ≡ with_row self.old row (with_multiple (row_at self.old row) start_col scalar.now other.now) }
+        ensures { self.new ≡ with_row self.old row (sum_from (row_at self.old row) start_col scalar.now other.now) }
     {
         self.elements[row].add_bits(start_col, scalar, other);
     }
@@ -170,7 +169,7 @@ impl Row {
     /// Adds a multiple of a packed row from a column on.
     fn add_bits(&mut self, start: usize, scalar: &Octet, other: &BinaryOctetVec)
         requires { start + length other.now ≤ length self.old }
-        ensures sum { self.new ≡ with_range self.old start (row_sum (range_of self.old start (length other.now)) (row_multiple scalar.now other.now)) }
+        ensures sum { self.new ≡ sum_from self.old start scalar.now other.now }
         ensures octets { IsOctetRow (length self.old) self.new }
     {
         let octets = self.octets.as_mut_slice();

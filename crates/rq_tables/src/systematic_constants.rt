@@ -4,7 +4,7 @@ ghost use Rattle.rq_bytes.specs.Refusals.{IsAnswer};
 ghost use Rattle.rq_standard.specs.declared.row.Row.{Row};
 ghost use Rattle.rq_standard.specs.TableRows.{IsTable, IsChecked, greatest_size, row_of, rows_from, built_in_rows, first_size, intermediate_symbols, pi_symbols};
 ghost use Rattle.rq_standard.specs.Parameters.{greatest_within};
-ghost use Rattle.rq_tables.specs.Tables.{wanted_size, wanted_table, wanted_rows};
+ghost use Rattle.rq_tables.specs.SystematicTable.{wanted_size, wanted_table, wanted_rows};
 
 use crate::checks::{first_failing_check, row_at};
 use rq_bytes::error::Error;

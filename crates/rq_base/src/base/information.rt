@@ -27,7 +27,7 @@ impl Model for ObjectTransmissionInformation {
 
     ghost Value = { Configuration };
 
-    ghost use Rattle.rq_base.specs.Information.{information_view};
+    ghost use Rattle.rq_base.specs.ObjectTransmissionInformation.{information_view};
 
     ghost view = { information_view };
 

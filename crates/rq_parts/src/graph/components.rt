@@ -24,7 +24,7 @@ pub struct ConnectedComponentGraph {
 }
 
 impl Model for ConnectedComponentGraph {
-    ghost use Rattle.rq_parts.specs.Components.{Components, AreComponents};
+    ghost use Rattle.rq_parts.specs.ConnectedComponentGraph.{Components, AreComponents};
 
     ghost Value = { Components };
 

@@ -1,5 +1,5 @@
 use Rattle.std.proofs.lemmas.Result.{IfOk-weaker}
-use Rattle.rq_matrix.specs.DenseBits.{content_of}
+use Rattle.rq_matrix.specs.DenseBinaryMatrix.{content_of}
 use Rattle.raptorq.proofs.Undetermined.{shows_equations}
 use Rattle.raptorq.proofs.solving.homogeneous.Goals as goal
 

@@ -1,6 +1,6 @@
 use Rattle.std.proofs.Common.{refl}
 use Rattle.std.proofs.lemmas.Result.{IfOk-weaker}
-use Rattle.rq_matrix.specs.DenseBits.{content_of}
+use Rattle.rq_matrix.specs.DenseBinaryMatrix.{content_of}
 use Rattle.rq_solver.specs.Solving.{solver_of}
 use Rattle.rq_solver.specs.SolverState.{state_of}
 use Rattle.rq_solver.proofs.SolutionLaws.{outcome_of}

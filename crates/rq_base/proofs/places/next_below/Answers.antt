@@ -1,5 +1,5 @@
 use Rattle.std.proofs.Common.{◌∙◌, sym, arith, ap, ℕ}
-use Rattle.rq_base.specs.Walks.{next_below}
+use Rattle.rq_base.specs.Places.{next_below}
 use Rattle.rq_base.proofs.WalkLaws.{Ends, next_step, next_here}
 use Rattle.rq_base.proofs.places.next_below.Goals as goal
 

@@ -1,5 +1,5 @@
 use Rattle.std.proofs.Common.{◌≡◌, ◌<◌}
-use Rattle.rq_base.specs.Walks.{next_below}
+use Rattle.rq_base.specs.Places.{next_below}
 use Rattle.rq_base.proofs.WalkLaws.{steps_to}
 use Rattle.rq_base.proofs.places.next_below.Given as goal
 

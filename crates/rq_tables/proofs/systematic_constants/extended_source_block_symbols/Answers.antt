@@ -3,7 +3,7 @@ use Rattle.std.specs.Option.{ok_or}
 use Rattle.rq_bytes.specs.declared.error.Error.TheVariants.{TooManySymbols}
 use Rattle.rq_standard.specs.TableRows.{extended_size}
 use Rattle.rq_standard.proofs.RowLaws.{extended_size_found}
-use Rattle.rq_tables.specs.Tables.{size_or_refusal}
+use Rattle.rq_tables.specs.SystematicTable.{size_or_refusal}
 use Rattle.rq_tables.proofs.systematic_constants.extended_source_block_symbols.Goals as goal
 
 refused_past : (size : Option ℕ) → ok_or size TooManySymbols ≡ size_or_refusal size

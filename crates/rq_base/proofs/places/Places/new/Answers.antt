@@ -1,6 +1,6 @@
 use Rattle.std.proofs.Common.{◌++◌, ◌+◌, ◌∙◌, sym, ap, arith, List, ℕ, map}
 use Rattle.rq_standard.specs.Tuple.{places_of, pi_places}
-use Rattle.rq_base.specs.Walks.{walk}
+use Rattle.rq_base.specs.Places.{walk}
 use Rattle.rq_base.proofs.WalkLaws.{Ends, walk_from, pi_walk}
 use Rattle.rq_base.proofs.places.Places.new.Goals as goal
 

@@ -1,5 +1,5 @@
 use Rattle.std.proofs.Common.{◌≡◌, ◌++◌, ◌+◌, ◌∷◌, [], ◌∙◌, sym, ap, arith, List, ℕ, map, ◌-◌, ◌<◌, refl}
-use Rattle.rq_base.specs.Walks.{walk, walk_below}
+use Rattle.rq_base.specs.Places.{walk, walk_below}
 use Rattle.rq_base.proofs.WalkLaws.{walk-next, walk-none, walk_below-next, walk_below-none}
 use Rattle.rq_base.proofs.places.Places.next_place.Goals as goal
 

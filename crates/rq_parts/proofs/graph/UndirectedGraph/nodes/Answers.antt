@@ -2,7 +2,7 @@ use Rattle.std.proofs.Common.{ℕ, ◌≡◌, ◌+◌, ◌-◌, ◌<◌, ◌↔�
 use Rattle.std.specs.List.{Contains}
 use Rattle.std.specs.List.Sorted.{IsNonDecreasingBy}
 use Rattle.std.proofs.lemmas.List.{get_or-map, length-map}
-use Rattle.rq_parts.specs.Graphs.{Graph, nodes_of}
+use Rattle.rq_parts.specs.UndirectedGraph.{Graph, nodes_of}
 use Rattle.rq_parts.proofs.NodeLists.{AreDistinctOf, distinct_known, distinct_more, distinct_all, firsts_rise}
 use Rattle.rq_parts.proofs.graph.UndirectedGraph.nodes.Goals as goal
 use Rattle.rq_parts.proofs.graph.UndirectedGraph.nodes.Goals.{then-not-is_last+in_ok-push, else-not-is_last}

@@ -1,4 +1,4 @@
-use Rattle.rq_parts.specs.Graphs.{nodes_of}
+use Rattle.rq_parts.specs.UndirectedGraph.{nodes_of}
 use Rattle.rq_parts.proofs.NodeLists.{AreDistinctOf}
 use Rattle.rq_parts.proofs.graph.UndirectedGraph.nodes.Given as goal
 

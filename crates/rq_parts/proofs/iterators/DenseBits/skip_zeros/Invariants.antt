@@ -1,7 +1,7 @@
 -- What the loop keeps in `iterators::DenseBits::skip_zeros`.
 use Rattle.std.proofs.Common.{◌≡◌, ◌-◌}
 use Rattle.rq_parts.specs.BitPairs.{ones_among}
-use Rattle.rq_parts.specs.PairsLeft.{bits_left, IsWithinWords}
+use Rattle.rq_parts.specs.OctetIter.{bits_left, IsWithinWords}
 use Rattle.rq_parts.proofs.iterators.DenseBits.skip_zeros.Given as goal
 
 abbrev pub invariant-loop-self : goal.invariant-loop-self

@@ -2,7 +2,7 @@ use Rattle.std.proofs.Common.{◌≡◌, ℕ, ◌++◌, ◌∙◌, sym, ap, subs
 use Rattle.rq_standard.specs.declared.row.Row.{Row}
 use Rattle.rq_standard.specs.TableRows.{IsTable, built_in_rows, rows_from, first_refused}
 use Rattle.rq_standard.proofs.RowLaws.{further_table}
-use Rattle.rq_tables.specs.Tables.{wanted_rows, refusal_or_ok}
+use Rattle.rq_tables.specs.SystematicTable.{wanted_rows, refusal_or_ok}
 use Rattle.rq_tables.proofs.Lookups.{made_built_in}
 use Rattle.rq_tables.proofs.systematic_constants.SystematicTable.with_rows.Goals as goal
 

@@ -2,7 +2,7 @@ use Rattle.std.proofs.Common.{◌≡◌, ℕ, List, [], ◌∷◌, get_or, ap, �
 use Rattle.std.specs.Int.{w16, w64, to_be_bytes}
 use Rattle.rq_standard.specs.Configuration.{Configuration, configuration_of_bytes, header_bytes}
 use Rattle.rq_standard.proofs.HeaderBytes.{configuration_of_bytes-header_bytes}
-use Rattle.rq_base.specs.Information.{information_view}
+use Rattle.rq_base.specs.ObjectTransmissionInformation.{information_view}
 use Rattle.rq_base.proofs.base.information.ObjectTransmissionInformation.serialize.Goals as goal
 
 -- the header of its numbers' bytes

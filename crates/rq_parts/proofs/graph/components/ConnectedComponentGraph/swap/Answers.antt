@@ -2,7 +2,7 @@ use Rattle.std.proofs.Common.{◌-◌, ◌≤◌, ℕ, length, ap, subst, sym, a
 use Rattle.std.specs.List.{All}
 use Rattle.std.proofs.lemmas.List.Edits.{length-swap}
 use Rattle.rq_parts.specs.ArrayMaps.{Numbers}
-use Rattle.rq_parts.specs.Components.{Components}
+use Rattle.rq_parts.specs.ConnectedComponentGraph.{Components}
 use Rattle.rq_parts.proofs.Rows.{All-swap}
 use Rattle.rq_parts.proofs.ComponentLaws.{labels_kept}
 use Rattle.rq_parts.proofs.graph.components.ConnectedComponentGraph.swap.Goals as goal
