@@ -1,5 +1,5 @@
 -- How many additions are recorded at most.
-use Rattle.std.proofs.Common.{◌≡◌, ◌≢◌, ℕ, zero, suc, ◌+◌, ◌-◌, ◌*◌, ◌<◌, ◌≤◌, ◌==◌, if◌then◌else◌, Bool, List, [], ◌∷◌, ◌++◌, length, take, refl, sym, ap, ◌∙◌, subst, arith, inl, inr}
+use Rattle.std.proofs.Common.{◌≡◌, ◌≢◌, ℕ, zero, suc, ◌+◌, ◌-◌, ◌*◌, ◌<◌, ◌≤◌, ◌==◌, if◌then◌else◌, Bool, List, [], ◌∷◌, ◌++◌, length, take, refl, sym, ap, ◌∙◌, arith, inl, inr}
 use Rattle.std.proofs.lemmas.Bool.{cases_eq, cases_lt, eq-eqb, ne_eqb}
 use Rattle.std.proofs.lemmas.List.Sums.{sum_by-append}
 use Rattle.std.proofs.Math.Nat.{mul-le-mul_left, mul-le-mul_right}
@@ -9,7 +9,7 @@ use Rattle.rq_algebra.specs.Arrangements.{ArePlaces}
 use Rattle.rq_algebra.specs.Systems.{at, stacked}
 use Rattle.rq_algebra.proofs.Stacks.{stacked_above, stacked_below}
 use Rattle.rq_algebra.specs.Operations.{Operation, AddAssign, MulAssign, Fma, Reorder}
-use Rattle.rq_solver.specs.Counts.{additions, is_addition}
+use Rattle.rq_solver.specs.Counts.{additions, is_addition, triangle, triangle-none, triangle-more}
 use Rattle.rq_solver.specs.OctetBatch.{batch_bound}
 use Rattle.rq_solver.specs.Recorded.{sum_step}
 use Rattle.rq_solver.proofs.PivotTurns.{if_same, if_apart, count_next, count_taken}
@@ -197,6 +197,26 @@ batch_sum k count width done met pivots l m =
     let columns : done * k ≤ width * k = mul-le-mul_right k l in
     let rows : count * met ≤ count * pivots = mul-le-mul_left count m in
     omega (arith, columns, rows)
+
+triangle-next : (n : ℕ) → triangle (n + 1) ≡ triangle n + n
+triangle-next n = let shift : n + 1 ≡ suc n = omega arith in ap triangle shift ∙ triangle-more n
+
+-- forward, each column is cleared in the rows behind its pivot's
+pub triangle-start : (before each : ℕ) → before + triangle 0 ≤ before + 0 * each
+triangle-start before each = let none = triangle-none in omega (arith, none)
+
+pub forward_more : (rows before now turn t : ℕ) → t < rows → now + triangle t ≤ before + t * (rows - 1) → turn + (t + 1) ≤ now + rows → turn + triangle (t + 1) ≤ before + (t + 1) * (rows - 1)
+forward_more rows before now turn t l m n = let next = triangle-next t in omega (arith, next)
+
+pub forward_bound : (rows before now t count : ℕ) → t ≤ count → now + triangle t ≤ before + t * (rows - 1) → now ≤ before + count * (rows - 1)
+forward_bound rows before now t count l m = let most : t * (rows - 1) ≤ count * (rows - 1) = mul-le-mul_right (rows - 1) l in omega (arith, most)
+
+-- back, each row takes those behind it
+pub back_start : (before : ℕ) → before ≤ before + triangle 0
+back_start before = omega arith
+
+pub back_turn : (before now turn t : ℕ) → now ≤ before + triangle t → turn ≤ now + t → turn ≤ before + triangle (t + 1)
+back_turn before now turn t l m = let next = triangle-next t in omega (arith, next)
 
 -- the second phase and the fourth
 inactive_shifted : (inactive less left pivots : ℕ) → left ≡ less + 1 → inactive * (left - 1) + pivots * inactive ≤ inactive * (left + pivots - 1)

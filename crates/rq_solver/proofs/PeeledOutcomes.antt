@@ -1,5 +1,5 @@
 -- What the elimination over peeled rows has found when it ends.
-use Rattle.std.proofs.Common.{◌≡◌, ◌≢◌, ℕ, suc, ◌+◌, ◌-◌, ◌<◌, ◌≤◌, ◌==◌, if◌then◌else◌, List, [], ◌∷◌, ◌++◌, All, Contains, map, length, drop, refl, sym, ap, ◌∙◌, arith, inl, inr}
+use Rattle.std.proofs.Common.{◌≡◌, ◌≢◌, ℕ, suc, ◌+◌, ◌-◌, ◌<◌, ◌≤◌, ◌==◌, if◌then◌else◌, List, [], ◌∷◌, ◌++◌, All, Contains, map, length, drop, append_assoc, refl, sym, ap, ◌∙◌, arith, inl, inr}
 use Rattle.std.specs.List.{range_with_len}
 use Rattle.std.specs.List.Sorted.{IsPermutation}
 use Rattle.std.proofs.lemmas.Bool.{cases_eq, cases_lt}
@@ -19,10 +19,10 @@ use Rattle.rq_algebra.proofs.Runs.{follows_none}
 use Rattle.rq_algebra.proofs.Stacks.{stacked_above, stacked_below}
 use Rattle.rq_standard.specs.OctetField.{octets}
 use Rattle.rq_parts.specs.OctetTable.{entry_of}
-use Rattle.rq_solver.specs.Cleared.{AreUnits, ListsRows, HasPeeledPivots, TakeReduced}
+use Rattle.rq_solver.specs.Cleared.{AreUnits, ListsRows, HasPeeledPivots, ReducesBack, TakeReduced}
 use Rattle.rq_solver.specs.Peeled.{IsOrderOf}
 use Rattle.rq_solver.specs.Recorded.{Recorded, ChangesRows}
-use Rattle.rq_solver.specs.RowSteps.{IsReduced, IsStuck, IsStepAmong, rows_after}
+use Rattle.rq_solver.specs.RowSteps.{IsStuck, IsStepAmong, rows_after}
 use Rattle.rq_solver.proofs.Performing.{below_range, changes_keep, shows_after}
 use Rattle.rq_solver.proofs.PivotTurns.{if_same, if_apart}
 use Rattle.rq_solver.proofs.PivotsCleared.{left_below, left_apart, pivot_or_left}
@@ -107,7 +107,7 @@ module _ (height width : ℕ) (system : ℕ → ℕ → ℕ) (rows order places 
 
   -- ---- an inactive column without a pivot
 
-  module _ (stuck : IsStuck reduced 0 inactive last.table) where
+  module _ (stuck : IsStuck reduced inactive last.table) where
     -- a row that is none of those with pivots stands behind them
     behind : (i : ℕ) → i < height → ((p : ℕ) → p < pivots + stuck.done → row_of p ≢ i) → (q : ℕ) × (stuck.done ≤ q) × (q < length reduced) × (at reduced q ≡ i)
     behind i l free = elim (pivot_or_left height rows listed listing i l) [
@@ -127,12 +127,11 @@ module _ (height width : ℕ) (system : ℕ → ℕ → ℕ) (rows order places 
       | inr late ↦
           let f : ℕ = j - pivots in
           let back : pivots + f ≡ j = omega arith in
-          let fits : f < inactive = omega (arith, stuck.below) in
-          let column : f ≡ 0 + f = omega arith in
-          ap (λ (k : ℕ). meant (at reduced q) (at order k)) (sym back) ∙ inactive_at (at reduced q) f (reduced_below q l) fits ∙ ap (entry_of last.table (at reduced q)) column
+          let inside : f < inactive = omega (arith, stuck.below) in
+          ap (λ (k : ℕ). meant (at reduced q) (at order k)) (sym back) ∙ inactive_at (at reduced q) f (reduced_below q l) inside
           ∙ elim (cases_eq f stuck.done) [
-            | inl e ↦ ap (λ (g : ℕ). entry_of last.table (at reduced q) (0 + g)) e ∙ stuck.empty q from l
-            | inr d ↦ stuck.reduced.pivots.zeros q f l (omega arith) (omega arith)
+            | inl e ↦ ap (entry_of last.table (at reduced q)) e ∙ stuck.empty q from l
+            | inr d ↦ stuck.echelon.zeros q f l (omega arith) (omega arith)
           ]
     ]
 
@@ -143,7 +142,7 @@ module _ (height width : ℕ) (system : ℕ → ℕ → ℕ) (rows order places 
         | inr late ↦
             let q : ℕ = p - pivots in
             let back : pivots + q ≡ p = omega arith in
-            rw (← back, of_left q) (reduced_below q (omega (arith, stuck.reduced.fits)))
+            rw (← back, of_left q) (reduced_below q (omega (arith, stuck.echelon.fits)))
       ];
       columns_are = columns_apart (suc (pivots + stuck.done)) (omega (arith, stuck.below));
       zeros = λ i l free j n. let b = behind i l free in rw (← b.3) (nothing_behind b.0 j b.1 b.2 n);
@@ -154,45 +153,52 @@ module _ (height width : ℕ) (system : ℕ → ℕ → ℕ) (rows order places 
 
   -- ---- all columns with pivots
 
-  module _ (final : Recorded) (is_reduced : IsReduced reduced 0 inactive last.table) (takes : TakeReduced rows reduced inactive (length rows) last final)
+  module _ (reduced_state final : Recorded) (enough : inactive ≤ length reduced) (reduces : ReducesBack reduced inactive 0 last reduced_state) (takes : TakeReduced rows reduced inactive (length rows) reduced_state final)
       (placed : List ℕ) (long : (q : ℕ) → q < length reduced → at placed (length rows + q) ≡ at reduced q) (starts : (p : ℕ) → p < length rows → at placed p ≡ at rows p) where
     abbrev all_steps : List Operation
-    all_steps = steps ++ takes.steps
+    all_steps = steps ++ (reduces.steps ++ takes.steps)
 
     abbrev ended : ℕ → ℕ → ℕ
     ended = rows_after octets all_steps system
 
+    -- when the rows that are left are reduced
+    abbrev between : ℕ → ℕ → ℕ
+    between = rows_after octets reduces.steps meant
+
     all_among : All (IsStepAmong octets (range_with_len 0 height)) all_steps
-    all_among = All-append (IsStepAmong octets (range_with_len 0 height)) steps takes.steps among (rw (changes.performs.height, peeled.height_is) at takes.records.among)
+    all_among =
+        let back : All (IsStepAmong octets (range_with_len 0 height)) reduces.steps = rw (changes.performs.height, peeled.height_is) at reduces.records.among in
+        let last_steps : All (IsStepAmong octets (range_with_len 0 height)) takes.steps = rw (reduces.records.table, changes.performs.height, peeled.height_is) at takes.records.among in
+        All-append (IsStepAmong octets (range_with_len 0 height)) steps (reduces.steps ++ takes.steps) among (All-append (IsStepAmong octets (range_with_len 0 height)) reduces.steps takes.steps back last_steps)
 
     all_recorded : final.operations ≡ all_steps
-    all_recorded = takes.records.recorded ∙ ap (λ (l : List Operation). l ++ takes.steps) changes.performs.recorded
+    all_recorded =
+        takes.records.recorded ∙ ap (λ (l : List Operation). l ++ takes.steps) (reduces.records.recorded ∙ ap (λ (l : List Operation). l ++ reduces.steps) changes.performs.recorded)
+        ∙ append_assoc steps reduces.steps takes.steps
 
-    ended_is : (r k : ℕ) → ended r k ≡ rows_after octets takes.steps meant r k
-    ended_is r k = rows_after-next octets steps takes.steps system r k
+    ended_is : (r k : ℕ) → ended r k ≡ rows_after octets takes.steps between r k
+    ended_is r k = rows_after-next octets steps (reduces.steps ++ takes.steps) system r k ∙ rows_after-next octets reduces.steps takes.steps meant r k
 
     fits : (q : ℕ) → q < inactive → q < length reduced
-    fits q l = omega (arith, is_reduced.fits)
+    fits q l = omega (arith, enough)
 
     -- the reduced rows stay
-    ended_reduced : (q k : ℕ) → q < inactive → ended (at reduced q) k ≡ meant (at reduced q) k
-    ended_reduced q k l = ended_is (at reduced q) k ∙ takes.elsewhere meant (at reduced q) k (λ p n. apart p q n (fits q l))
+    ended_reduced : (q k : ℕ) → q < inactive → ended (at reduced q) k ≡ between (at reduced q) k
+    ended_reduced q k l = ended_is (at reduced q) k ∙ takes.elsewhere between (at reduced q) k (λ p n. apart p q n (fits q l))
 
     -- and so do the pivots' columns
-    ended_pivot : (r p : ℕ) → p < pivots → ended r (at order p) ≡ meant r (at order p)
-    ended_pivot r p l = ended_is r (at order p) ∙ takes.kept meant r (at order p) (λ f n. left_pivot (at reduced f) p (in_left f (fits f n)) l)
+    between_pivot : (r p : ℕ) → p < pivots → between r (at order p) ≡ meant r (at order p)
+    between_pivot r p l = reduces.kept meant r (at order p) (λ f n. left_pivot (at reduced f) p (in_left f (fits f n)) l)
 
-    units : AreUnits reduced inactive (λ f. at order (length rows + f)) meant
-    units t f l n =
-        let column : f ≡ 0 + f = omega arith in
-        inactive_at (at reduced t) f (reduced_below t (fits t l)) n ∙ ap (entry_of last.table (at reduced t)) column
-        ∙ elim (cases_eq t f) [
-          | inl e ↦ rw e (is_reduced.pivots.ones f n ∙ sym (if_same f f 1 0 refl))
-          | inr d ↦ is_reduced.pivots.zeros t f (fits t l) n d ∙ sym (if_apart t f 1 0 d)
-        ]
+    ended_pivot : (r p : ℕ) → p < pivots → ended r (at order p) ≡ meant r (at order p)
+    ended_pivot r p l = ended_is r (at order p) ∙ takes.kept between r (at order p) (λ f n. between_pivot (at reduced f) p l ∙ left_pivot (at reduced f) p (in_left f (fits f n)) l) ∙ between_pivot r p l
+
+    units : AreUnits reduced 0 inactive (λ f. at order (length rows + f)) between
+    units = reduces.units meant (λ f. at order (length rows + f)) (λ t f l n. inactive_at (at reduced t) f (reduced_below t (fits t l)) n)
 
     cleared : (p f : ℕ) → p < pivots → f < inactive → ended (at rows p) (at order (pivots + f)) ≡ 0
-    cleared p f l n = ended_is (at rows p) (at order (pivots + f)) ∙ takes.cleared meant (λ g. at order (length rows + g)) units (λ q g o u. inactive_at (at rows q) g (pivot_below q o) u) p f l n
+    cleared p f l n = ended_is (at rows p) (at order (pivots + f)) ∙ takes.cleared between (λ g. at order (length rows + g)) units
+        (λ q g o u. reduces.elsewhere meant (at rows q) (at order (length rows + g)) (λ t z m e. apart q t o (fits t m) (sym e)) ∙ inactive_at (at rows q) g (pivot_below q o) u ∙ ap (λ table. entry_of table (at rows q) g) (sym reduces.records.table)) p f l n
 
     -- the part of a place among the inactive columns
     inactive_place : (p : ℕ) → p < width → pivots ≤ p → (q : ℕ) × (q < inactive) × (pivots + q ≡ p)
@@ -206,7 +212,7 @@ module _ (height width : ℕ) (system : ℕ → ℕ → ℕ) (rows order places 
           rw (← f.2) (
           ap (λ (r : ℕ). ended r (at order (pivots + f.0))) (of_left f.0)
           ∙ ended_reduced f.0 (at order (pivots + f.0)) f.1
-          ∙ units f.0 f.0 f.1 f.1
+          ∙ units f.0 f.0 (omega arith) f.1 f.1
           ∙ if_same f.0 f.0 1 0 refl)
     ]
 
@@ -220,11 +226,11 @@ module _ (height width : ℕ) (system : ℕ → ℕ → ℕ) (rows order places 
           let q = inactive_place i l late in
           rw (← q.2) (
           ap (λ (r : ℕ). ended r (at order p)) (of_left q.0) ∙ ended_reduced q.0 (at order p) q.1 ∙ elim (cases_lt p pivots) [
-            | inl first_p ↦ left_pivot (at reduced q.0) p (in_left q.0 (fits q.0 q.1)) first_p
+            | inl first_p ↦ between_pivot (at reduced q.0) p first_p ∙ left_pivot (at reduced q.0) p (in_left q.0 (fits q.0 q.1)) first_p
             | inr late_p ↦
                 let f = inactive_place p n late_p in
                 let other : q.0 ≢ f.0 = (λ e. d (sym q.2 ∙ ap (λ (g : ℕ). pivots + g) e ∙ f.2)) in
-                rw (← f.2) (units q.0 f.0 q.1 f.1 ∙ if_apart q.0 f.0 1 0 other)
+                rw (← f.2) (units q.0 f.0 (omega arith) q.1 f.1 ∙ if_apart q.0 f.0 1 0 other)
           ])
     ]
 

@@ -1,5 +1,5 @@
 //! The fourth phase: the pivots' rows get zeros in the inactive columns (RFC 6330, section 5.4.2.5).
-ghost use Rattle.std.specs.Prelude.{◌≡◌, ◌≢◌, ℕ, ◌+◌, ◌*◌, ◌<◌, ◌≤◌, length, OnOk, IfErr};
+ghost use Rattle.std.specs.Prelude.{◌≡◌, ◌≢◌, ℕ, ◌+◌, ◌-◌, ◌*◌, ◌<◌, ◌≤◌, length, OnOk, IfErr};
 ghost use Rattle.rq_algebra.specs.Systems.{at};
 ghost use Rattle.rq_bytes.specs.declared.error.Error.TheVariants.{OutOfMemory};
 ghost use Rattle.rq_solver.specs.Cleared.{TakeReduced, TakesReduced};
@@ -28,29 +28,31 @@ pub(super) fn take_reduced(
     ensures err { IfErr result (λ e. e ≡ OutOfMemory) }
 {
     for row in rows {
-        take_reduced_rows(*row, reduced, inactive, recorded)?;
+        take_reduced_rows(*row, reduced, 0, inactive, recorded)?;
     }
     Ok(())
 }
 
-/// The same for one row.
-fn take_reduced_rows(
+/// The same for one row and the reduced rows from `start` on.
+pub(super) fn take_reduced_rows(
     row: usize,
     reduced: &[usize],
+    start: usize,
     inactive: usize,
     recorded: &mut RecordedRows,
 ) -> Result<(), Error>
     requires row { row < length recorded.old.table.rows }
     requires reduced { AreRows reduced.now recorded.old.table }
     requires many { inactive ≤ length reduced.now }
-    requires apart { (f : ℕ) → f < length reduced.now → row ≢ at reduced.now f }
+    requires apart { (f : ℕ) → start ≤ f → f < length reduced.now → row ≢ at reduced.now f }
+    requires within { start ≤ inactive }
     requires width { inactive ≤ recorded.old.table.width }
     requires octets { HasOctets recorded.old.table }
-    ensures taken { OnOk result (TakesReduced reduced.now row inactive inactive recorded.old recorded.new) }
-    ensures few { OnOk result (additions recorded.new.operations ≤ additions recorded.old.operations + inactive) }
+    ensures taken { OnOk result (TakesReduced reduced.now row start inactive inactive recorded.old recorded.new) }
+    ensures few { OnOk result (additions recorded.new.operations ≤ additions recorded.old.operations + (inactive - start)) }
     ensures err { IfErr result (λ e. e ≡ OutOfMemory) }
 {
-    for f in 0..inactive {
+    for f in start..inactive {
         let scalar = recorded.get(row, f);
         if scalar.byte() != 0 {
             recorded.record_sum(row, reduced[f], scalar)?;

@@ -21,7 +21,7 @@ use super::fourth_phase::take_reduced;
 use super::ones::RowOnes;
 use super::peeling::Peeling;
 use super::recorded::RecordedRows;
-use super::second_phase::eliminate;
+use super::second_phase::{eliminate, reduce_back};
 use rq_bytes::error::Error;
 use rq_bytes::operation_vector::SymbolOps;
 use rq_parts::octet_matrix::DenseOctetMatrix;
@@ -120,9 +120,10 @@ fn solve_inactive(
     ensures err { IfErr result (λ e. e ≡ OutOfMemory) }
 {
     recorded.enter(Phase::Second);
-    if !eliminate(recorded, left, 0, inactive)? {
+    if !eliminate(recorded, left, inactive)? {
         return Ok(false);
     }
+    reduce_back(recorded, left, inactive)?;
     recorded.enter(Phase::Fourth);
     take_reduced(pivots, left, inactive, recorded)?;
     Ok(true)

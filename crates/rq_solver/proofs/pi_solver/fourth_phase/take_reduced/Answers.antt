@@ -9,7 +9,7 @@ loop-row-init c = record { taken = all_none c.args.rows.now c.args.reduced.now c
 
 pub loop-row-preserved : goal.loop-row-preserved
 loop-row-preserved c = record {
-  few = one_turn_more c.args.inactive _ _ _ c.loop-row.row-index c.loop-row.invariant.few c.in_ok-take_reduced_rows.ensures.few;
+  few = one_turn_more c.args.inactive _ _ _ c.loop-row.row-index c.loop-row.invariant.few (let more = c.in_ok-take_reduced_rows.ensures.few in omega (arith, more));
   taken = all_more c.args.rows.now c.args.reduced.now c.args.inactive c.loop-row.row-index c.args.recorded.now c.loop-row.recorded c.take_reduced_rows.new.recorded c.loop-row.invariant.taken c.requires.rows c.requires.apart c.requires.many c.loop-row-test.true
       c.in_ok-take_reduced_rows.ensures.taken;
 }

@@ -6,13 +6,11 @@ use Rattle.rq_solver.specs.Counts.{additions}
 use Rattle.rq_solver.specs.OctetBatch.{batch_bound}
 use Rattle.rq_solver.proofs.CountLaws.{additions-order, few_in_all, few_places, few_together}
 use Rattle.rq_solver.proofs.PivotsCleared.{pivot_of_bits}
-use Rattle.std.proofs.lemmas.List.{map-append}
 use Rattle.rq_algebra.specs.Elimination.{FindsColumn}
 use Rattle.rq_algebra.specs.Operations.{Operation, Reorder}
 use Rattle.rq_algebra.specs.Systems.{HasNullColumn}
 use Rattle.rq_standard.specs.OctetField.{octets}
 use Rattle.rq_bytes.specs.SymbolOps.{operation_of}
-use Rattle.rq_bytes.specs.declared.operation_vector.SymbolOps.TheVariants as ops
 use Rattle.rq_parts.specs.OctetTable.{entry_of}
 use Rattle.rq_solver.specs.Cleared.{HasPeeledPivots, one_in, system_rows}
 use Rattle.rq_solver.proofs.OctetRows.{same_rows}

@@ -66,7 +66,7 @@ returns-clause-found c = λ system peeled.
     placed_first (length slice) (length listed - length slice) listed reduced within p (omega (arith, many)) ∙ c.requires.listed.starts p l) in
     rw (c.in_ok-rows_at.ensures.rows, c.as_slice.ensures.value)
     (finds_by_peeled (length middle.table.rows) (length places) system rows order places c.requires.order c.requires.pivots listed c.requires.listed inactive middle here.middle peeled wide narrow here.changes reduced permuted
-    final here.reduced_rows here.takes pick long starts)
+    here.last final here.fits here.reduces here.takes pick long starts)
 
 pub returns-then-not-branch-clause-few : goal.returns-then-not-branch-clause-few
 returns-then-not-branch-clause-few c =
