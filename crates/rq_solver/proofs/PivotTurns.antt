@@ -87,7 +87,7 @@ module _ (rows order : List ℕ) (row : ℕ) (columns : List ℕ) where
     column_place : (i : ℕ) → i < length rows → at columns t ≡ at order i → at places (at columns t) ≡ i
     column_place i l e = ap (at places) e ∙ (arranged.ordered i (omega arith)).1
 
-    -- the column is frozen, or its pivot is the row's own
+    -- the column is inactive, or its pivot is the row's own
     pub takes_skipped : (length rows ≤ at places (at columns t)) ⊎ (at rows (at places (at columns t)) ≡ row) → TakesPivots rows order row (take (t + 1) columns) old cur
     takes_skipped why = record {
       steps = v.steps;
@@ -100,7 +100,7 @@ module _ (rows order : List ℕ) (row : ℕ) (columns : List ℕ) where
             | inl e ↦ if_same (at rows i) row 0 (count_by (λ x. x == at order i) (take t columns)) e ∙ sym (if_same (at rows i) row 0 (count_by (λ x. x == at order i) (take (t + 1) columns)) e)
             | inr d ↦
                 let other : at columns t ≢ at order i = (λ e. let place = column_place i l e in elim why [
-                  | inl frozen ↦ omega (arith, place, frozen, l)
+                  | inl inactive ↦ omega (arith, place, inactive, l)
                   | inr own ↦ d (ap (at rows) (sym place) ∙ own)
                 ]) in
                 ap (λ (n : ℕ). if at rows i == row then 0 else n) (sym (count_skipped columns t (at order i) in_columns other))
