@@ -234,33 +234,38 @@ inactive_bound inactive left pivots l = elim (cases_lt 0 left) [
 pub stuck_bound : (inactive left pivots : ℕ) → inactive * (left - 1) ≤ inactive * (left + pivots - 1)
 stuck_bound inactive left pivots = mul-le-mul_left inactive (omega arith)
 
--- all of them
-few_with_hdpc : (p u h m : ℕ) → p + (h + 1) ≤ m + 1 → h + 1 ≤ p + u → (m + 1) * p + (h * (1 + (p + u)) + (h + 1) * p) + u * m ≤ 2 * (p + u) * (m + 1)
-few_with_hdpc p u h m rows columns =
+-- all of them, with `more` for what pivots' rows take back and again
+few_with_hdpc : (p u h m more : ℕ) → p + (h + 1) ≤ m + 1 → more + (h + 1) ≤ p + u → (m + 1) * p + (h * (1 + (p + u)) + (h + 1) * p) + u * m + p * more ≤ 2 * (p + u) * (m + 1)
+few_with_hdpc p u h m more rows columns =
     let all : (p + (h + 1)) * (p + u) ≤ (m + 1) * (p + u) = mul-le-mul_right (p + u) rows in
-    let hdpc : (h + 1) * p ≤ (p + u) * p = mul-le-mul_right p columns in
-    omega (arith, all, hdpc)
+    let hdpc : p * (more + (h + 1)) ≤ p * (p + u) = mul-le-mul_left p columns in
+    omega (arith, all, hdpc, columns)
 
-few_shifted : (p u less_h less_m h m : ℕ) → h ≡ less_h + 1 → m ≡ less_m + 1 → p + h ≤ m → h ≤ p + u → m * p + batch_bound h (p + u) p + u * (m - 1) ≤ 2 * (p + u) * m
-few_shifted p u less_h less_m h m eh em rows columns =
+few_shifted : (p u less_h less_m h m more : ℕ) → h ≡ less_h + 1 → m ≡ less_m + 1 → p + h ≤ m → more + h ≤ p + u → m * p + batch_bound h (p + u) p + u * (m - 1) + p * more ≤ 2 * (p + u) * m
+few_shifted p u less_h less_m h m more eh em rows columns =
     let a : less_h + 1 - 1 ≡ less_h = omega arith in
     let b : less_m + 1 - 1 ≡ less_m = omega arith in
-    rw (eh, em, a, b) (few_with_hdpc p u less_h less_m (omega arith) (omega arith))
+    rw (eh, em, a, b) (few_with_hdpc p u less_h less_m more (omega arith) (omega arith))
 
-few_bits : (p u less m : ℕ) → m ≡ less + 1 → m * p + u * (m - 1) ≤ 2 * (p + u) * m
-few_bits p u less m e = let a : less + 1 - 1 ≡ less = omega arith in rw (e, a) (omega arith)
+few_bits : (p u less m more : ℕ) → m ≡ less + 1 → p ≤ m → more ≤ p + u → m * p + u * (m - 1) + p * more ≤ 2 * (p + u) * m
+few_bits p u less m more e rows columns =
+    let a : less + 1 - 1 ≡ less = omega arith in
+    let first : p * more ≤ p * (p + u) = mul-le-mul_left p columns in
+    let second : p * (p + u) ≤ (less + 1) * (p + u) = mul-le-mul_right (p + u) (omega arith) in
+    rw (e, a) (omega (arith, first, second))
 
-pub few_in_all : (p u h m : ℕ) → p + h ≤ m → h ≤ p + u → m * p + batch_bound h (p + u) p + u * (m - 1) ≤ 2 * (p + u) * m
-few_in_all p u h m rows columns = elim (cases_lt 0 m) [
+pub few_in_all : (p u h m more : ℕ) → p + h ≤ m → more + h ≤ p + u → m * p + batch_bound h (p + u) p + u * (m - 1) + p * more ≤ 2 * (p + u) * m
+few_in_all p u h m more rows columns = elim (cases_lt 0 m) [
   | inl some ↦ elim (cases_lt 0 h) [
-    | inl has ↦ few_shifted p u (h - 1) (m - 1) h m (omega arith) (omega arith) rows columns
+    | inl has ↦ few_shifted p u (h - 1) (m - 1) h m more (omega arith) (omega arith) rows columns
     | inr none ↦
         let z : h ≡ 0 = omega arith in
-        let less = few_bits p u (m - 1) m (omega arith) in
+        let less = few_bits p u (m - 1) m more (omega arith) (omega arith) (omega arith) in
         rw z (omega (arith, less))
   ]
   | inr none ↦
       let z : h ≡ 0 = omega arith in
       let y : m ≡ 0 = omega arith in
-      rw (z, y) (omega arith)
+      let x : p ≡ 0 = omega arith in
+      rw (z, y, x) (omega arith)
 ]

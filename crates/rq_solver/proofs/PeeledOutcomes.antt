@@ -1,5 +1,5 @@
 -- What the elimination over peeled rows has found when it ends.
-use Rattle.std.proofs.Common.{◌≡◌, ◌≢◌, ℕ, suc, ◌+◌, ◌-◌, ◌<◌, ◌≤◌, ◌==◌, if◌then◌else◌, List, [], ◌∷◌, ◌++◌, All, Contains, map, length, drop, append_assoc, refl, sym, ap, ◌∙◌, arith, inl, inr}
+use Rattle.std.proofs.Common.{◌≡◌, ◌≢◌, ℕ, suc, ◌+◌, ◌-◌, ◌<◌, ◌≤◌, ◌==◌, if◌then◌else◌, Bool, List, [], ◌∷◌, ◌++◌, All, Contains, map, length, drop, append_assoc, refl, sym, ap, ◌∙◌, arith, inl, inr}
 use Rattle.std.specs.List.{range_with_len}
 use Rattle.std.specs.List.Sorted.{IsPermutation}
 use Rattle.std.proofs.lemmas.Bool.{cases_eq, cases_lt}
@@ -19,7 +19,7 @@ use Rattle.rq_algebra.proofs.Runs.{follows_none}
 use Rattle.rq_algebra.proofs.Stacks.{stacked_above, stacked_below}
 use Rattle.rq_standard.specs.OctetField.{octets}
 use Rattle.rq_parts.specs.OctetTable.{entry_of}
-use Rattle.rq_solver.specs.Cleared.{AreUnits, ListsRows, HasPeeledPivots, ReducesBack, TakeReduced}
+use Rattle.rq_solver.specs.Cleared.{AreUnits, FinishesPivots, HasPeeledPivots, IsCleared, IsFinished, ListsRows, ReducesBack, TakesBack}
 use Rattle.rq_solver.specs.Peeled.{IsOrderOf}
 use Rattle.rq_solver.specs.Recorded.{Recorded, ChangesRows}
 use Rattle.rq_solver.specs.RowSteps.{IsStuck, IsStepAmong, rows_after}
@@ -153,52 +153,87 @@ module _ (height width : ℕ) (system : ℕ → ℕ → ℕ) (rows order places 
 
   -- ---- all columns with pivots
 
-  module _ (reduced_state final : Recorded) (enough : inactive ≤ length reduced) (reduces : ReducesBack reduced inactive 0 last reduced_state) (takes : TakeReduced rows reduced inactive (length rows) reduced_state final)
+  module _ (lists : List (List ℕ)) (marks : List Bool) (returned reduced_state final : Recorded) (enough : inactive ≤ length reduced) (back : TakesBack lists rows order marks 0 last returned) (reduces : ReducesBack reduced inactive 0 returned reduced_state)
+      (finishes : FinishesPivots lists rows order reduced marks inactive (length rows) reduced_state final)
       (placed : List ℕ) (long : (q : ℕ) → q < length reduced → at placed (length rows + q) ≡ at reduced q) (starts : (p : ℕ) → p < length rows → at placed p ≡ at rows p) where
+    abbrev late_steps : List Operation
+    late_steps = back.steps ++ (reduces.steps ++ finishes.steps)
+
     abbrev all_steps : List Operation
-    all_steps = steps ++ (reduces.steps ++ takes.steps)
+    all_steps = steps ++ late_steps
 
     abbrev ended : ℕ → ℕ → ℕ
     ended = rows_after octets all_steps system
 
-    -- when the rows that are left are reduced
+    -- when pivots' rows have taken back what they took, and when the rows that are left are reduced
+    abbrev given : ℕ → ℕ → ℕ
+    given = rows_after octets back.steps meant
+
     abbrev between : ℕ → ℕ → ℕ
-    between = rows_after octets reduces.steps meant
+    between = rows_after octets reduces.steps given
 
     all_among : All (IsStepAmong octets (range_with_len 0 height)) all_steps
     all_among =
-        let back : All (IsStepAmong octets (range_with_len 0 height)) reduces.steps = rw (changes.performs.height, peeled.height_is) at reduces.records.among in
-        let last_steps : All (IsStepAmong octets (range_with_len 0 height)) takes.steps = rw (reduces.records.table, changes.performs.height, peeled.height_is) at takes.records.among in
-        All-append (IsStepAmong octets (range_with_len 0 height)) steps (reduces.steps ++ takes.steps) among (All-append (IsStepAmong octets (range_with_len 0 height)) reduces.steps takes.steps back last_steps)
+        let Among = IsStepAmong octets (range_with_len 0 height) in
+        let first : All Among back.steps = rw (changes.performs.height, peeled.height_is) at back.performs.among in
+        let second : All Among reduces.steps = rw (back.performs.height, changes.performs.height, peeled.height_is) at reduces.records.among in
+        let third : All Among finishes.steps = rw (reduces.records.table, back.performs.height, changes.performs.height, peeled.height_is) at finishes.among in
+        All-append Among steps late_steps among (All-append Among back.steps (reduces.steps ++ finishes.steps) first (All-append Among reduces.steps finishes.steps second third))
 
     all_recorded : final.operations ≡ all_steps
     all_recorded =
-        takes.records.recorded ∙ ap (λ (l : List Operation). l ++ takes.steps) (reduces.records.recorded ∙ ap (λ (l : List Operation). l ++ reduces.steps) changes.performs.recorded)
-        ∙ append_assoc steps reduces.steps takes.steps
+        finishes.recorded
+        ∙ ap (λ (l : List Operation). l ++ finishes.steps) (reduces.records.recorded ∙ ap (λ (l : List Operation). l ++ reduces.steps) (back.performs.recorded ∙ ap (λ (l : List Operation). l ++ back.steps) changes.performs.recorded))
+        ∙ append_assoc (steps ++ back.steps) reduces.steps finishes.steps
+        ∙ append_assoc steps back.steps (reduces.steps ++ finishes.steps)
 
-    ended_is : (r k : ℕ) → ended r k ≡ rows_after octets takes.steps between r k
-    ended_is r k = rows_after-next octets steps (reduces.steps ++ takes.steps) system r k ∙ rows_after-next octets reduces.steps takes.steps meant r k
+    ended_is : (r k : ℕ) → ended r k ≡ rows_after octets finishes.steps between r k
+    ended_is r k = rows_after-next octets steps late_steps system r k ∙ rows_after-next octets back.steps (reduces.steps ++ finishes.steps) meant r k ∙ rows_after-next octets reduces.steps finishes.steps given r k
 
     fits : (q : ℕ) → q < inactive → q < length reduced
     fits q l = omega (arith, enough)
 
+    given_at : (r f : ℕ) → r < height → f < inactive → given r (at order (pivots + f)) ≡ entry_of returned.table r f
+    given_at r f l n =
+        let tall : length last.table.rows ≡ height = changes.performs.height ∙ peeled.height_is in
+        sym (shows_after back.steps last returned meant (λ g. at order (length rows + g)) inactive (rw changes.performs.width narrow) back.performs (λ i g o u. sym (inactive_at i g (rw tall at o) u)) r f (rw tall l) n)
+
+    -- the rows that are left take no part in that
+    given_left : (q k : ℕ) → q < inactive → given (at reduced q) k ≡ meant (at reduced q) k
+    given_left q k l = back.elsewhere meant (at reduced q) k (λ p from n. apart p q n (fits q l))
+
+    given_zero : (f p : ℕ) → f < inactive → p < pivots → given (at reduced f) (at order p) ≡ 0
+    given_zero f p l n = given_left f (at order p) l ∙ left_pivot (at reduced f) p (in_left f (fits f l)) n
+
     -- the reduced rows stay
     ended_reduced : (q k : ℕ) → q < inactive → ended (at reduced q) k ≡ between (at reduced q) k
-    ended_reduced q k l = ended_is (at reduced q) k ∙ takes.elsewhere between (at reduced q) k (λ p n. apart p q n (fits q l))
+    ended_reduced q k l = ended_is (at reduced q) k ∙ finishes.elsewhere between (at reduced q) k (λ p n. apart p q n (fits q l))
 
-    -- and so do the pivots' columns
-    between_pivot : (r p : ℕ) → p < pivots → between r (at order p) ≡ meant r (at order p)
-    between_pivot r p l = reduces.kept meant r (at order p) (λ f n. left_pivot (at reduced f) p (in_left f (fits f n)) l)
-
-    ended_pivot : (r p : ℕ) → p < pivots → ended r (at order p) ≡ meant r (at order p)
-    ended_pivot r p l = ended_is r (at order p) ∙ takes.kept between r (at order p) (λ f n. between_pivot (at reduced f) p l ∙ left_pivot (at reduced f) p (in_left f (fits f n)) l) ∙ between_pivot r p l
+    between_pivot : (r p : ℕ) → p < pivots → between r (at order p) ≡ given r (at order p)
+    between_pivot r p l = reduces.kept given r (at order p) (λ f n. given_zero f p n l)
 
     units : AreUnits reduced 0 inactive (λ f. at order (length rows + f)) between
-    units = reduces.units meant (λ f. at order (length rows + f)) (λ t f l n. inactive_at (at reduced t) f (reduced_below t (fits t l)) n)
+    units = reduces.units given (λ f. at order (length rows + f)) (λ t f l n. given_at (at reduced t) f (reduced_below t (fits t l)) n)
+
+    between_row : (p k : ℕ) → p < pivots → between (at rows p) k ≡ given (at rows p) k
+    between_row p k l = reduces.elsewhere given (at rows p) k (λ t from n e. apart p t l (fits t n) (sym e))
+
+    meant_cleared : (p : ℕ) → p < pivots → IsCleared rows order meant (at rows p)
+    meant_cleared p l = record { entries = λ i n. pivot_pivot p i l n }
+
+    finished : (p : ℕ) → p < pivots → IsFinished rows order inactive (λ f. at order (length rows + f)) (rows_after octets finishes.steps between) (at rows p)
+    finished p l = finishes.final between (λ f. at order (length rows + f)) units
+        (λ f i n o. between_pivot (at reduced f) i o ∙ given_zero f i n o)
+        (λ q f n o. between_row q (at order (pivots + f)) n ∙ given_at (at rows q) f (pivot_below q n) o ∙ ap (λ table. entry_of table (at rows q) f) (sym reduces.records.table))
+        (λ q n e. record { entries = λ i o. between_row q (at order i) n ∙ back.unmarked meant q (at order i) (omega arith) n e ∙ pivot_pivot q i n o })
+        (λ q n e. record { entries = λ i o. between_row q (at order i) n ∙ (back.uncleared meant meant_cleared q (omega arith) n e).entries i o })
+        p l
 
     cleared : (p f : ℕ) → p < pivots → f < inactive → ended (at rows p) (at order (pivots + f)) ≡ 0
-    cleared p f l n = ended_is (at rows p) (at order (pivots + f)) ∙ takes.cleared between (λ g. at order (length rows + g)) units
-        (λ q g o u. reduces.elsewhere meant (at rows q) (at order (length rows + g)) (λ t z m e. apart q t o (fits t m) (sym e)) ∙ inactive_at (at rows q) g (pivot_below q o) u ∙ ap (λ table. entry_of table (at rows q) g) (sym reduces.records.table)) p f l n
+    cleared p f l n = ended_is (at rows p) (at order (pivots + f)) ∙ (finished p l).zeros f n
+
+    ended_own : (i p : ℕ) → i < pivots → p < pivots → ended (at rows i) (at order p) ≡ (if at rows p == at rows i then 1 else 0)
+    ended_own i p l n = ended_is (at rows i) (at order p) ∙ (finished i l).cleared.entries p n
 
     -- the part of a place among the inactive columns
     inactive_place : (p : ℕ) → p < width → pivots ≤ p → (q : ℕ) × (q < inactive) × (pivots + q ≡ p)
@@ -206,7 +241,7 @@ module _ (height width : ℕ) (system : ℕ → ℕ → ℕ) (rows order places 
 
     row_one : (p : ℕ) → p < width → ended (row_of p) (at order p) ≡ 1
     row_one p l = elim (cases_lt p pivots) [
-      | inl early ↦ ap (λ (r : ℕ). ended r (at order p)) (of_pivot p early) ∙ ended_pivot (at rows p) p early ∙ pivot_pivot p p early early ∙ if_same (at rows p) (at rows p) 1 0 refl
+      | inl early ↦ ap (λ (r : ℕ). ended r (at order p)) (of_pivot p early) ∙ ended_own p p early early ∙ if_same (at rows p) (at rows p) 1 0 refl
       | inr late ↦
           let f = inactive_place p l late in
           rw (← f.2) (
@@ -219,14 +254,14 @@ module _ (height width : ℕ) (system : ℕ → ℕ → ℕ) (rows order places 
     row_zero : (i p : ℕ) → i < width → p < width → i ≢ p → ended (row_of i) (at order p) ≡ 0
     row_zero i p l n d = elim (cases_lt i pivots) [
       | inl early ↦ ap (λ (r : ℕ). ended r (at order p)) (of_pivot i early) ∙ elim (cases_lt p pivots) [
-        | inl first_p ↦ ended_pivot (at rows i) p first_p ∙ pivot_pivot i p early first_p ∙ if_apart (at rows p) (at rows i) 1 0 (λ e. d (sym (rows_are.apart p i first_p early e)))
+        | inl first_p ↦ ended_own i p early first_p ∙ if_apart (at rows p) (at rows i) 1 0 (λ e. d (sym (rows_are.apart p i first_p early e)))
         | inr late_p ↦ let f = inactive_place p n late_p in rw (← f.2) (cleared i f.0 early f.1)
       ]
       | inr late ↦
           let q = inactive_place i l late in
           rw (← q.2) (
           ap (λ (r : ℕ). ended r (at order p)) (of_left q.0) ∙ ended_reduced q.0 (at order p) q.1 ∙ elim (cases_lt p pivots) [
-            | inl first_p ↦ between_pivot (at reduced q.0) p first_p ∙ left_pivot (at reduced q.0) p (in_left q.0 (fits q.0 q.1)) first_p
+            | inl first_p ↦ between_pivot (at reduced q.0) p first_p ∙ given_zero q.0 p q.1 first_p
             | inr late_p ↦
                 let f = inactive_place p n late_p in
                 let other : q.0 ≢ f.0 = (λ e. d (sym q.2 ∙ ap (λ (g : ℕ). pivots + g) e ∙ f.2)) in

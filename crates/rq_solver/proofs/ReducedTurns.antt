@@ -4,7 +4,7 @@ use Rattle.std.proofs.lemmas.Bool.{cases_eq, cases_lt}
 use Rattle.rq_algebra.specs.Systems.{at}
 use Rattle.rq_standard.specs.OctetField.{octets}
 use Rattle.rq_parts.specs.OctetTable.{entry_of}
-use Rattle.rq_solver.specs.Cleared.{AreUnits, ReducesBack, TakesReduced, TakeReduced}
+use Rattle.rq_solver.specs.Cleared.{AreUnits, ReducesBack, TakesReduced}
 use Rattle.rq_solver.specs.Recorded.{Recorded, sum_step, Records}
 use Rattle.rq_solver.specs.RowSteps.{AreRows, IsEchelon, rows_after}
 use Rattle.rq_solver.proofs.StepColumns.{rows_after-none, rows_after-next}
@@ -158,53 +158,4 @@ module _ (reduced : List ℕ) (count : ℕ) where
         | inr d ↦ turn.elsewhere (before_turn m) r k d ∙ zero_before m k zeros r
       ];
       units = λ m column shown t f from l n. after_turn m (at reduced t) (column f) ∙ units_next m column shown t f from l n;
-    }
-
--- ---- row after row
-
-module _ (rows reduced : List ℕ) (count : ℕ) where
-  pub all_none : (old : Recorded) → TakeReduced rows reduced count 0 old old
-  all_none old = record {
-    steps = [];
-    records = records_none old;
-    elsewhere = λ m r k out. rows_after-none octets m r k;
-    kept = λ m r k zeros. rows_after-none octets m r k;
-    cleared = λ m column units shown p f l n. absurd (omega arith);
-  }
-
-  module _ (t : ℕ) (old cur new : Recorded) (v : TakeReduced rows reduced count t old cur) (are : AreRows rows old.table) (apart : (p f : ℕ) → p < length rows → f < length reduced → at rows p ≢ at reduced f) (fits : count ≤ length reduced) (inside : t < length rows)
-      (turn : TakesReduced reduced (at rows t) 0 count count cur new) where
-    apart_rows : (p : ℕ) → p < length rows → p ≢ t → at rows p ≢ at rows t
-    apart_rows p l d e = d (are.apart p t l inside e)
-
-    module _ (m : ℕ → ℕ → ℕ) where
-      before_row : ℕ → ℕ → ℕ
-      before_row = rows_after octets v.steps m
-
-      after_row : (r k : ℕ) → rows_after octets (v.steps ++ turn.steps) m r k ≡ rows_after octets turn.steps before_row r k
-      unfolding before_row
-      after_row r k = rows_after-next octets v.steps turn.steps m r k
-
-      reduced_stay : (f k : ℕ) → f < count → before_row (at reduced f) k ≡ m (at reduced f) k
-      unfolding before_row
-      reduced_stay f k l = v.elsewhere m (at reduced f) k (λ p n. apart p f (omega arith) (omega arith))
-
-      still_units : (column : ℕ → ℕ) → AreUnits reduced 0 count column m → AreUnits reduced 0 count column before_row
-      still_units column units = λ a f from l n. reduced_stay a (column f) l ∙ units a f from l n
-
-    pub all_more : TakeReduced rows reduced count (t + 1) old new
-    unfolding before_row
-    all_more = record {
-      steps = v.steps ++ turn.steps;
-      records = records_more v.steps turn.steps old cur new v.records turn.records;
-      elsewhere = λ m r k out. after_row m r k ∙ turn.elsewhere (before_row m) r k (λ e. out t (omega arith) (sym e)) ∙ v.elsewhere m r k (λ p l. out p (omega arith));
-      kept = λ m r k zeros. after_row m r k ∙ elim (cases_eq r (at rows t)) [
-        | inl e ↦ rw e (turn.kept (before_row m) k (λ f from l. reduced_stay m f k l ∙ zeros f l) ∙ v.kept m (at rows t) k zeros)
-        | inr d ↦ turn.elsewhere (before_row m) r k d ∙ v.kept m r k zeros
-      ];
-      cleared = λ m column units shown p f l n. after_row m (at rows p) (column f) ∙ elim (cases_eq p t) [
-        | inl e ↦ rw e (turn.cleared (before_row m) column (still_units m column units)
-            (λ g o. v.elsewhere m (at rows t) (column g) (λ q u. apart_rows q (omega arith) (omega arith)) ∙ shown t g inside o ∙ ap (λ table. entry_of table (at rows t) g) (sym v.records.table)) f (omega arith) n n)
-        | inr d ↦ turn.elsewhere (before_row m) (at rows p) (column f) (apart_rows p (omega arith) d) ∙ v.cleared m column units shown p f (omega arith) n
-      ];
     }
