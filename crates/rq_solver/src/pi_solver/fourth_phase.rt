@@ -67,8 +67,9 @@ fn take_back_rows(
     Ok(())
 }
 
-/// Whether a row has `most` ones at most, and more entries in the inactive columns than it would take to take back the
-/// pivots' rows and to take them again, beside the ones that it was handed in with.
+/// Whether a row has `most` ones at most, and more entries in the inactive columns than it would
+/// take to take back the pivots' rows and to take them again, beside the ones that it was handed in
+/// with.
 fn saves_additions(
     ones: &RowOnes,
     row: usize,

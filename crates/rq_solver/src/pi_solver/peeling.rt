@@ -53,8 +53,8 @@ pub(super) fn peel(
     })
 }
 
-// Gives the first active column of a row the next pivot, and makes the others inactive. Says whether there
-// is one.
+// Gives the first active column of a row the next pivot, and makes the others inactive. Says whether
+// there is one.
 fn take_row(
     row: &[usize],
     links: &ColumnLinks,
