@@ -119,9 +119,9 @@ module _ (column place other : ℕ) (old mid new : ColumnState) (active : IsActi
         left = λ k l still. let from = still.from in let under = still.below in left_of k l (λ e. omega (arith, e, ex.pivots)) (omega (arith, ex.pivots)) (omega (arith, ex.end));
       })
 
-  -- the column goes before the frozen ones
-  pub ends_by_freeze : old.end ≡ other + 1 → new ≡ record mid { end = mid.end - 1 } → EndsActive column old new
-  ends_by_freeze next is =
+  -- the column goes before the inactive ones
+  pub ends_by_inactivation : old.end ≡ other + 1 → new ≡ record mid { end = mid.end - 1 } → EndsActive column old new
+  ends_by_inactivation next is =
       rw is
       (record {
         width = ex.width;

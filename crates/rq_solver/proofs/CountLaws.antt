@@ -1,5 +1,5 @@
 -- How many additions are recorded at most.
-use Rattle.std.proofs.Common.{◌≡◌, ◌≢◌, ℕ, zero, suc, ◌+◌, ◌-◌, ◌*◌, ◌<◌, ◌≤◌, ◌==◌, if◌then◌else◌, Bool, List, [], ◌∷◌, ◌++◌, length, take, refl, sym, ap, ◌∙◌, subst, arith, inl, inr}
+use Rattle.std.proofs.Common.{◌≡◌, ◌≢◌, ℕ, zero, suc, ◌+◌, ◌-◌, ◌*◌, ◌<◌, ◌≤◌, ◌==◌, if◌then◌else◌, Bool, List, [], ◌∷◌, ◌++◌, length, take, refl, sym, ap, ◌∙◌, arith, inl, inr}
 use Rattle.std.proofs.lemmas.Bool.{cases_eq, cases_lt, eq-eqb, ne_eqb}
 use Rattle.std.proofs.lemmas.List.Sums.{sum_by-append}
 use Rattle.std.proofs.Math.Nat.{mul-le-mul_left, mul-le-mul_right}
@@ -9,7 +9,7 @@ use Rattle.rq_algebra.specs.Arrangements.{ArePlaces}
 use Rattle.rq_algebra.specs.Systems.{at, stacked}
 use Rattle.rq_algebra.proofs.Stacks.{stacked_above, stacked_below}
 use Rattle.rq_algebra.specs.Operations.{Operation, AddAssign, MulAssign, Fma, Reorder}
-use Rattle.rq_solver.specs.Counts.{additions, is_addition}
+use Rattle.rq_solver.specs.Counts.{additions, is_addition, triangle, triangle-none, triangle-more}
 use Rattle.rq_solver.specs.OctetBatch.{batch_bound}
 use Rattle.rq_solver.specs.Recorded.{sum_step}
 use Rattle.rq_solver.proofs.PivotTurns.{if_same, if_apart, count_next, count_taken}
@@ -198,6 +198,26 @@ batch_sum k count width done met pivots l m =
     let rows : count * met ≤ count * pivots = mul-le-mul_left count m in
     omega (arith, columns, rows)
 
+triangle-next : (n : ℕ) → triangle (n + 1) ≡ triangle n + n
+triangle-next n = let shift : n + 1 ≡ suc n = omega arith in ap triangle shift ∙ triangle-more n
+
+-- forward, each column is cleared in the rows behind its pivot's
+pub triangle-start : (before each : ℕ) → before + triangle 0 ≤ before + 0 * each
+triangle-start before each = let none = triangle-none in omega (arith, none)
+
+pub forward_more : (rows before now turn t : ℕ) → t < rows → now + triangle t ≤ before + t * (rows - 1) → turn + (t + 1) ≤ now + rows → turn + triangle (t + 1) ≤ before + (t + 1) * (rows - 1)
+forward_more rows before now turn t l m n = let next = triangle-next t in omega (arith, next)
+
+pub forward_bound : (rows before now t count : ℕ) → t ≤ count → now + triangle t ≤ before + t * (rows - 1) → now ≤ before + count * (rows - 1)
+forward_bound rows before now t count l m = let most : t * (rows - 1) ≤ count * (rows - 1) = mul-le-mul_right (rows - 1) l in omega (arith, most)
+
+-- back, each row takes those behind it
+pub back_start : (before : ℕ) → before ≤ before + triangle 0
+back_start before = omega arith
+
+pub back_turn : (before now turn t : ℕ) → now ≤ before + triangle t → turn ≤ now + t → turn ≤ before + triangle (t + 1)
+back_turn before now turn t l m = let next = triangle-next t in omega (arith, next)
+
 -- the second phase and the fourth
 inactive_shifted : (inactive less left pivots : ℕ) → left ≡ less + 1 → inactive * (left - 1) + pivots * inactive ≤ inactive * (left + pivots - 1)
 inactive_shifted inactive less left pivots e =
@@ -214,33 +234,38 @@ inactive_bound inactive left pivots l = elim (cases_lt 0 left) [
 pub stuck_bound : (inactive left pivots : ℕ) → inactive * (left - 1) ≤ inactive * (left + pivots - 1)
 stuck_bound inactive left pivots = mul-le-mul_left inactive (omega arith)
 
--- all of them
-few_with_hdpc : (p u h m : ℕ) → p + (h + 1) ≤ m + 1 → h + 1 ≤ p + u → (m + 1) * p + (h * (1 + (p + u)) + (h + 1) * p) + u * m ≤ 2 * (p + u) * (m + 1)
-few_with_hdpc p u h m rows columns =
+-- all of them, with `more` for what pivots' rows take back and again
+few_with_hdpc : (p u h m more : ℕ) → p + (h + 1) ≤ m + 1 → more + (h + 1) ≤ p + u → (m + 1) * p + (h * (1 + (p + u)) + (h + 1) * p) + u * m + p * more ≤ 2 * (p + u) * (m + 1)
+few_with_hdpc p u h m more rows columns =
     let all : (p + (h + 1)) * (p + u) ≤ (m + 1) * (p + u) = mul-le-mul_right (p + u) rows in
-    let hdpc : (h + 1) * p ≤ (p + u) * p = mul-le-mul_right p columns in
-    omega (arith, all, hdpc)
+    let hdpc : p * (more + (h + 1)) ≤ p * (p + u) = mul-le-mul_left p columns in
+    omega (arith, all, hdpc, columns)
 
-few_shifted : (p u less_h less_m h m : ℕ) → h ≡ less_h + 1 → m ≡ less_m + 1 → p + h ≤ m → h ≤ p + u → m * p + batch_bound h (p + u) p + u * (m - 1) ≤ 2 * (p + u) * m
-few_shifted p u less_h less_m h m eh em rows columns =
+few_shifted : (p u less_h less_m h m more : ℕ) → h ≡ less_h + 1 → m ≡ less_m + 1 → p + h ≤ m → more + h ≤ p + u → m * p + batch_bound h (p + u) p + u * (m - 1) + p * more ≤ 2 * (p + u) * m
+few_shifted p u less_h less_m h m more eh em rows columns =
     let a : less_h + 1 - 1 ≡ less_h = omega arith in
     let b : less_m + 1 - 1 ≡ less_m = omega arith in
-    rw (eh, em, a, b) (few_with_hdpc p u less_h less_m (omega arith) (omega arith))
+    rw (eh, em, a, b) (few_with_hdpc p u less_h less_m more (omega arith) (omega arith))
 
-few_bits : (p u less m : ℕ) → m ≡ less + 1 → m * p + u * (m - 1) ≤ 2 * (p + u) * m
-few_bits p u less m e = let a : less + 1 - 1 ≡ less = omega arith in rw (e, a) (omega arith)
+few_bits : (p u less m more : ℕ) → m ≡ less + 1 → p ≤ m → more ≤ p + u → m * p + u * (m - 1) + p * more ≤ 2 * (p + u) * m
+few_bits p u less m more e rows columns =
+    let a : less + 1 - 1 ≡ less = omega arith in
+    let first : p * more ≤ p * (p + u) = mul-le-mul_left p columns in
+    let second : p * (p + u) ≤ (less + 1) * (p + u) = mul-le-mul_right (p + u) (omega arith) in
+    rw (e, a) (omega (arith, first, second))
 
-pub few_in_all : (p u h m : ℕ) → p + h ≤ m → h ≤ p + u → m * p + batch_bound h (p + u) p + u * (m - 1) ≤ 2 * (p + u) * m
-few_in_all p u h m rows columns = elim (cases_lt 0 m) [
+pub few_in_all : (p u h m more : ℕ) → p + h ≤ m → more + h ≤ p + u → m * p + batch_bound h (p + u) p + u * (m - 1) + p * more ≤ 2 * (p + u) * m
+few_in_all p u h m more rows columns = elim (cases_lt 0 m) [
   | inl some ↦ elim (cases_lt 0 h) [
-    | inl has ↦ few_shifted p u (h - 1) (m - 1) h m (omega arith) (omega arith) rows columns
+    | inl has ↦ few_shifted p u (h - 1) (m - 1) h m more (omega arith) (omega arith) rows columns
     | inr none ↦
         let z : h ≡ 0 = omega arith in
-        let less = few_bits p u (m - 1) m (omega arith) in
+        let less = few_bits p u (m - 1) m more (omega arith) (omega arith) (omega arith) in
         rw z (omega (arith, less))
   ]
   | inr none ↦
       let z : h ≡ 0 = omega arith in
       let y : m ≡ 0 = omega arith in
-      rw (z, y) (omega arith)
+      let x : p ≡ 0 = omega arith in
+      rw (z, y, x) (omega arith)
 ]

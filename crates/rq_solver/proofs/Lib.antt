@@ -3,6 +3,7 @@ pub mod ColumnLaws
 pub mod CountLaws
 pub mod Entries
 pub mod EquationLaws
+pub mod FinalTurns
 pub mod FreeColumns
 pub mod LinkLaws
 pub mod ListingLaws

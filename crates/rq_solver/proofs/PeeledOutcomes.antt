@@ -1,5 +1,5 @@
 -- What the elimination over peeled rows has found when it ends.
-use Rattle.std.proofs.Common.{◌≡◌, ◌≢◌, ℕ, suc, ◌+◌, ◌-◌, ◌<◌, ◌≤◌, ◌==◌, if◌then◌else◌, List, [], ◌∷◌, ◌++◌, All, Contains, map, length, drop, refl, sym, ap, ◌∙◌, arith, inl, inr}
+use Rattle.std.proofs.Common.{◌≡◌, ◌≢◌, ℕ, suc, ◌+◌, ◌-◌, ◌<◌, ◌≤◌, ◌==◌, if◌then◌else◌, Bool, List, [], ◌∷◌, ◌++◌, All, Contains, map, length, drop, append_assoc, refl, sym, ap, ◌∙◌, arith, inl, inr}
 use Rattle.std.specs.List.{range_with_len}
 use Rattle.std.specs.List.Sorted.{IsPermutation}
 use Rattle.std.proofs.lemmas.Bool.{cases_eq, cases_lt}
@@ -19,10 +19,10 @@ use Rattle.rq_algebra.proofs.Runs.{follows_none}
 use Rattle.rq_algebra.proofs.Stacks.{stacked_above, stacked_below}
 use Rattle.rq_standard.specs.OctetField.{octets}
 use Rattle.rq_parts.specs.OctetTable.{entry_of}
-use Rattle.rq_solver.specs.Cleared.{AreUnits, ListsRows, HasPeeledPivots, TakeReduced}
+use Rattle.rq_solver.specs.Cleared.{AreUnits, FinishesPivots, HasPeeledPivots, IsCleared, IsFinished, ListsRows, ReducesBack, TakesBack}
 use Rattle.rq_solver.specs.Peeled.{IsOrderOf}
 use Rattle.rq_solver.specs.Recorded.{Recorded, ChangesRows}
-use Rattle.rq_solver.specs.RowSteps.{IsReduced, IsStuck, IsStepAmong, rows_after}
+use Rattle.rq_solver.specs.RowSteps.{IsStuck, IsStepAmong, rows_after}
 use Rattle.rq_solver.proofs.Performing.{below_range, changes_keep, shows_after}
 use Rattle.rq_solver.proofs.PivotTurns.{if_same, if_apart}
 use Rattle.rq_solver.proofs.PivotsCleared.{left_below, left_apart, pivot_or_left}
@@ -107,7 +107,7 @@ module _ (height width : ℕ) (system : ℕ → ℕ → ℕ) (rows order places 
 
   -- ---- an inactive column without a pivot
 
-  module _ (stuck : IsStuck reduced 0 inactive last.table) where
+  module _ (stuck : IsStuck reduced inactive last.table) where
     -- a row that is none of those with pivots stands behind them
     behind : (i : ℕ) → i < height → ((p : ℕ) → p < pivots + stuck.done → row_of p ≢ i) → (q : ℕ) × (stuck.done ≤ q) × (q < length reduced) × (at reduced q ≡ i)
     behind i l free = elim (pivot_or_left height rows listed listing i l) [
@@ -127,12 +127,11 @@ module _ (height width : ℕ) (system : ℕ → ℕ → ℕ) (rows order places 
       | inr late ↦
           let f : ℕ = j - pivots in
           let back : pivots + f ≡ j = omega arith in
-          let fits : f < inactive = omega (arith, stuck.below) in
-          let column : f ≡ 0 + f = omega arith in
-          ap (λ (k : ℕ). meant (at reduced q) (at order k)) (sym back) ∙ inactive_at (at reduced q) f (reduced_below q l) fits ∙ ap (entry_of last.table (at reduced q)) column
+          let inside : f < inactive = omega (arith, stuck.below) in
+          ap (λ (k : ℕ). meant (at reduced q) (at order k)) (sym back) ∙ inactive_at (at reduced q) f (reduced_below q l) inside
           ∙ elim (cases_eq f stuck.done) [
-            | inl e ↦ ap (λ (g : ℕ). entry_of last.table (at reduced q) (0 + g)) e ∙ stuck.empty q from l
-            | inr d ↦ stuck.reduced.pivots.zeros q f l (omega arith) (omega arith)
+            | inl e ↦ ap (entry_of last.table (at reduced q)) e ∙ stuck.empty q from l
+            | inr d ↦ stuck.echelon.zeros q f l (omega arith) (omega arith)
           ]
     ]
 
@@ -143,7 +142,7 @@ module _ (height width : ℕ) (system : ℕ → ℕ → ℕ) (rows order places 
         | inr late ↦
             let q : ℕ = p - pivots in
             let back : pivots + q ≡ p = omega arith in
-            rw (← back, of_left q) (reduced_below q (omega (arith, stuck.reduced.fits)))
+            rw (← back, of_left q) (reduced_below q (omega (arith, stuck.echelon.fits)))
       ];
       columns_are = columns_apart (suc (pivots + stuck.done)) (omega (arith, stuck.below));
       zeros = λ i l free j n. let b = behind i l free in rw (← b.3) (nothing_behind b.0 j b.1 b.2 n);
@@ -154,45 +153,87 @@ module _ (height width : ℕ) (system : ℕ → ℕ → ℕ) (rows order places 
 
   -- ---- all columns with pivots
 
-  module _ (final : Recorded) (is_reduced : IsReduced reduced 0 inactive last.table) (takes : TakeReduced rows reduced inactive (length rows) last final)
+  module _ (lists : List (List ℕ)) (marks : List Bool) (returned reduced_state final : Recorded) (enough : inactive ≤ length reduced) (back : TakesBack lists rows order marks 0 last returned) (reduces : ReducesBack reduced inactive 0 returned reduced_state)
+      (finishes : FinishesPivots lists rows order reduced marks inactive (length rows) reduced_state final)
       (placed : List ℕ) (long : (q : ℕ) → q < length reduced → at placed (length rows + q) ≡ at reduced q) (starts : (p : ℕ) → p < length rows → at placed p ≡ at rows p) where
+    abbrev late_steps : List Operation
+    late_steps = back.steps ++ (reduces.steps ++ finishes.steps)
+
     abbrev all_steps : List Operation
-    all_steps = steps ++ takes.steps
+    all_steps = steps ++ late_steps
 
     abbrev ended : ℕ → ℕ → ℕ
     ended = rows_after octets all_steps system
 
+    -- when pivots' rows have taken back what they took, and when the rows that are left are reduced
+    abbrev given : ℕ → ℕ → ℕ
+    given = rows_after octets back.steps meant
+
+    abbrev between : ℕ → ℕ → ℕ
+    between = rows_after octets reduces.steps given
+
     all_among : All (IsStepAmong octets (range_with_len 0 height)) all_steps
-    all_among = All-append (IsStepAmong octets (range_with_len 0 height)) steps takes.steps among (rw (changes.performs.height, peeled.height_is) at takes.records.among)
+    all_among =
+        let Among = IsStepAmong octets (range_with_len 0 height) in
+        let first : All Among back.steps = rw (changes.performs.height, peeled.height_is) at back.performs.among in
+        let second : All Among reduces.steps = rw (back.performs.height, changes.performs.height, peeled.height_is) at reduces.records.among in
+        let third : All Among finishes.steps = rw (reduces.records.table, back.performs.height, changes.performs.height, peeled.height_is) at finishes.among in
+        All-append Among steps late_steps among (All-append Among back.steps (reduces.steps ++ finishes.steps) first (All-append Among reduces.steps finishes.steps second third))
 
     all_recorded : final.operations ≡ all_steps
-    all_recorded = takes.records.recorded ∙ ap (λ (l : List Operation). l ++ takes.steps) changes.performs.recorded
+    all_recorded =
+        finishes.recorded
+        ∙ ap (λ (l : List Operation). l ++ finishes.steps) (reduces.records.recorded ∙ ap (λ (l : List Operation). l ++ reduces.steps) (back.performs.recorded ∙ ap (λ (l : List Operation). l ++ back.steps) changes.performs.recorded))
+        ∙ append_assoc (steps ++ back.steps) reduces.steps finishes.steps
+        ∙ append_assoc steps back.steps (reduces.steps ++ finishes.steps)
 
-    ended_is : (r k : ℕ) → ended r k ≡ rows_after octets takes.steps meant r k
-    ended_is r k = rows_after-next octets steps takes.steps system r k
+    ended_is : (r k : ℕ) → ended r k ≡ rows_after octets finishes.steps between r k
+    ended_is r k = rows_after-next octets steps late_steps system r k ∙ rows_after-next octets back.steps (reduces.steps ++ finishes.steps) meant r k ∙ rows_after-next octets reduces.steps finishes.steps given r k
 
     fits : (q : ℕ) → q < inactive → q < length reduced
-    fits q l = omega (arith, is_reduced.fits)
+    fits q l = omega (arith, enough)
+
+    given_at : (r f : ℕ) → r < height → f < inactive → given r (at order (pivots + f)) ≡ entry_of returned.table r f
+    given_at r f l n =
+        let tall : length last.table.rows ≡ height = changes.performs.height ∙ peeled.height_is in
+        sym (shows_after back.steps last returned meant (λ g. at order (length rows + g)) inactive (rw changes.performs.width narrow) back.performs (λ i g o u. sym (inactive_at i g (rw tall at o) u)) r f (rw tall l) n)
+
+    -- the rows that are left take no part in that
+    given_left : (q k : ℕ) → q < inactive → given (at reduced q) k ≡ meant (at reduced q) k
+    given_left q k l = back.elsewhere meant (at reduced q) k (λ p from n. apart p q n (fits q l))
+
+    given_zero : (f p : ℕ) → f < inactive → p < pivots → given (at reduced f) (at order p) ≡ 0
+    given_zero f p l n = given_left f (at order p) l ∙ left_pivot (at reduced f) p (in_left f (fits f l)) n
 
     -- the reduced rows stay
-    ended_reduced : (q k : ℕ) → q < inactive → ended (at reduced q) k ≡ meant (at reduced q) k
-    ended_reduced q k l = ended_is (at reduced q) k ∙ takes.elsewhere meant (at reduced q) k (λ p n. apart p q n (fits q l))
+    ended_reduced : (q k : ℕ) → q < inactive → ended (at reduced q) k ≡ between (at reduced q) k
+    ended_reduced q k l = ended_is (at reduced q) k ∙ finishes.elsewhere between (at reduced q) k (λ p n. apart p q n (fits q l))
 
-    -- and so do the pivots' columns
-    ended_pivot : (r p : ℕ) → p < pivots → ended r (at order p) ≡ meant r (at order p)
-    ended_pivot r p l = ended_is r (at order p) ∙ takes.kept meant r (at order p) (λ f n. left_pivot (at reduced f) p (in_left f (fits f n)) l)
+    between_pivot : (r p : ℕ) → p < pivots → between r (at order p) ≡ given r (at order p)
+    between_pivot r p l = reduces.kept given r (at order p) (λ f n. given_zero f p n l)
 
-    units : AreUnits reduced inactive (λ f. at order (length rows + f)) meant
-    units t f l n =
-        let column : f ≡ 0 + f = omega arith in
-        inactive_at (at reduced t) f (reduced_below t (fits t l)) n ∙ ap (entry_of last.table (at reduced t)) column
-        ∙ elim (cases_eq t f) [
-          | inl e ↦ rw e (is_reduced.pivots.ones f n ∙ sym (if_same f f 1 0 refl))
-          | inr d ↦ is_reduced.pivots.zeros t f (fits t l) n d ∙ sym (if_apart t f 1 0 d)
-        ]
+    units : AreUnits reduced 0 inactive (λ f. at order (length rows + f)) between
+    units = reduces.units given (λ f. at order (length rows + f)) (λ t f l n. given_at (at reduced t) f (reduced_below t (fits t l)) n)
+
+    between_row : (p k : ℕ) → p < pivots → between (at rows p) k ≡ given (at rows p) k
+    between_row p k l = reduces.elsewhere given (at rows p) k (λ t from n e. apart p t l (fits t n) (sym e))
+
+    meant_cleared : (p : ℕ) → p < pivots → IsCleared rows order meant (at rows p)
+    meant_cleared p l = record { entries = λ i n. pivot_pivot p i l n }
+
+    finished : (p : ℕ) → p < pivots → IsFinished rows order inactive (λ f. at order (length rows + f)) (rows_after octets finishes.steps between) (at rows p)
+    finished p l = finishes.final between (λ f. at order (length rows + f)) units
+        (λ f i n o. between_pivot (at reduced f) i o ∙ given_zero f i n o)
+        (λ q f n o. between_row q (at order (pivots + f)) n ∙ given_at (at rows q) f (pivot_below q n) o ∙ ap (λ table. entry_of table (at rows q) f) (sym reduces.records.table))
+        (λ q n e. record { entries = λ i o. between_row q (at order i) n ∙ back.unmarked meant q (at order i) (omega arith) n e ∙ pivot_pivot q i n o })
+        (λ q n e. record { entries = λ i o. between_row q (at order i) n ∙ (back.uncleared meant meant_cleared q (omega arith) n e).entries i o })
+        p l
 
     cleared : (p f : ℕ) → p < pivots → f < inactive → ended (at rows p) (at order (pivots + f)) ≡ 0
-    cleared p f l n = ended_is (at rows p) (at order (pivots + f)) ∙ takes.cleared meant (λ g. at order (length rows + g)) units (λ q g o u. inactive_at (at rows q) g (pivot_below q o) u) p f l n
+    cleared p f l n = ended_is (at rows p) (at order (pivots + f)) ∙ (finished p l).zeros f n
+
+    ended_own : (i p : ℕ) → i < pivots → p < pivots → ended (at rows i) (at order p) ≡ (if at rows p == at rows i then 1 else 0)
+    ended_own i p l n = ended_is (at rows i) (at order p) ∙ (finished i l).cleared.entries p n
 
     -- the part of a place among the inactive columns
     inactive_place : (p : ℕ) → p < width → pivots ≤ p → (q : ℕ) × (q < inactive) × (pivots + q ≡ p)
@@ -200,31 +241,31 @@ module _ (height width : ℕ) (system : ℕ → ℕ → ℕ) (rows order places 
 
     row_one : (p : ℕ) → p < width → ended (row_of p) (at order p) ≡ 1
     row_one p l = elim (cases_lt p pivots) [
-      | inl early ↦ ap (λ (r : ℕ). ended r (at order p)) (of_pivot p early) ∙ ended_pivot (at rows p) p early ∙ pivot_pivot p p early early ∙ if_same (at rows p) (at rows p) 1 0 refl
+      | inl early ↦ ap (λ (r : ℕ). ended r (at order p)) (of_pivot p early) ∙ ended_own p p early early ∙ if_same (at rows p) (at rows p) 1 0 refl
       | inr late ↦
           let f = inactive_place p l late in
           rw (← f.2) (
           ap (λ (r : ℕ). ended r (at order (pivots + f.0))) (of_left f.0)
           ∙ ended_reduced f.0 (at order (pivots + f.0)) f.1
-          ∙ units f.0 f.0 f.1 f.1
+          ∙ units f.0 f.0 (omega arith) f.1 f.1
           ∙ if_same f.0 f.0 1 0 refl)
     ]
 
     row_zero : (i p : ℕ) → i < width → p < width → i ≢ p → ended (row_of i) (at order p) ≡ 0
     row_zero i p l n d = elim (cases_lt i pivots) [
       | inl early ↦ ap (λ (r : ℕ). ended r (at order p)) (of_pivot i early) ∙ elim (cases_lt p pivots) [
-        | inl first_p ↦ ended_pivot (at rows i) p first_p ∙ pivot_pivot i p early first_p ∙ if_apart (at rows p) (at rows i) 1 0 (λ e. d (sym (rows_are.apart p i first_p early e)))
+        | inl first_p ↦ ended_own i p early first_p ∙ if_apart (at rows p) (at rows i) 1 0 (λ e. d (sym (rows_are.apart p i first_p early e)))
         | inr late_p ↦ let f = inactive_place p n late_p in rw (← f.2) (cleared i f.0 early f.1)
       ]
       | inr late ↦
           let q = inactive_place i l late in
           rw (← q.2) (
           ap (λ (r : ℕ). ended r (at order p)) (of_left q.0) ∙ ended_reduced q.0 (at order p) q.1 ∙ elim (cases_lt p pivots) [
-            | inl first_p ↦ left_pivot (at reduced q.0) p (in_left q.0 (fits q.0 q.1)) first_p
+            | inl first_p ↦ between_pivot (at reduced q.0) p first_p ∙ given_zero q.0 p q.1 first_p
             | inr late_p ↦
                 let f = inactive_place p n late_p in
                 let other : q.0 ≢ f.0 = (λ e. d (sym q.2 ∙ ap (λ (g : ℕ). pivots + g) e ∙ f.2)) in
-                rw (← f.2) (units q.0 f.0 q.1 f.1 ∙ if_apart q.0 f.0 1 0 other)
+                rw (← f.2) (units q.0 f.0 (omega arith) q.1 f.1 ∙ if_apart q.0 f.0 1 0 other)
           ])
     ]
 

@@ -72,6 +72,7 @@ module _ (rows order : List ℕ) (row : ℕ) (columns : List ℕ) where
     steps = [];
     performs = performs_none table are;
     idle = λ e. refl;
+    kept = λ m k zeros. rows_after-none octets m row k;
     elsewhere = λ m i k d. rows_after-none octets m i k;
     taken = λ m done i l.
         let none : (if at rows i == row then 0 else 0) ≡ 0 = elim (cases_eq (at rows i) row) [ inl e ↦ if_same (at rows i) row 0 0 e | inr d ↦ if_apart (at rows i) row 0 0 d ] in
@@ -87,12 +88,13 @@ module _ (rows order : List ℕ) (row : ℕ) (columns : List ℕ) where
     column_place : (i : ℕ) → i < length rows → at columns t ≡ at order i → at places (at columns t) ≡ i
     column_place i l e = ap (at places) e ∙ (arranged.ordered i (omega arith)).1
 
-    -- the column is frozen, or its pivot is the row's own
+    -- the column is inactive, or its pivot is the row's own
     pub takes_skipped : (length rows ≤ at places (at columns t)) ⊎ (at rows (at places (at columns t)) ≡ row) → TakesPivots rows order row (take (t + 1) columns) old cur
     takes_skipped why = record {
       steps = v.steps;
       performs = v.performs;
       idle = λ e. absurd (not_empty e);
+      kept = λ m k zeros. v.kept m k (λ j n c d. zeros j n (taken_before columns t (at order j) in_columns c) d);
       elsewhere = v.elsewhere;
       taken = λ m done i l.
           v.taken m (λ j n c d. done j n (taken_before columns t (at order j) in_columns c) d) i l
@@ -100,7 +102,7 @@ module _ (rows order : List ℕ) (row : ℕ) (columns : List ℕ) where
             | inl e ↦ if_same (at rows i) row 0 (count_by (λ x. x == at order i) (take t columns)) e ∙ sym (if_same (at rows i) row 0 (count_by (λ x. x == at order i) (take (t + 1) columns)) e)
             | inr d ↦
                 let other : at columns t ≢ at order i = (λ e. let place = column_place i l e in elim why [
-                  | inl frozen ↦ omega (arith, place, frozen, l)
+                  | inl inactive ↦ omega (arith, place, inactive, l)
                   | inr own ↦ d (ap (at rows) (sym place) ∙ own)
                 ]) in
                 ap (λ (n : ℕ). if at rows i == row then 0 else n) (sym (count_skipped columns t (at order i) in_columns other))
@@ -165,6 +167,12 @@ module _ (rows order : List ℕ) (row : ℕ) (columns : List ℕ) where
         steps = v.steps ++ sum_step row (at rows j) 1 ∷ [];
         performs = performs_more v.steps (sum_step row (at rows j) 1 ∷ []) old cur new v.performs performs;
         idle = λ e. absurd (not_empty e);
+        kept = λ m k zeros.
+            let here : rows_after octets v.steps m (at rows j) k ≡ 0 = v.elsewhere m (at rows j) k other ∙ zeros j in_rows (subst (Contains (take (t + 1) columns)) column_is (taken_next columns t in_columns)) other in
+            rows_after-next octets v.steps (sum_step row (at rows j) 1 ∷ []) m row k
+            ∙ sum_step-here row (at rows j) 1 (rows_after octets v.steps m) k (rw here (lit< tt))
+            ∙ plus_none (rows_after octets v.steps m row k) (rows_after octets v.steps m (at rows j) k) here
+            ∙ v.kept m k (λ i n c d. zeros i n (taken_before columns t (at order i) in_columns c) d);
         elsewhere = λ m i k d. rows_after-next octets v.steps (sum_step row (at rows j) 1 ∷ []) m i k ∙ sum_step-elsewhere row (at rows j) 1 (rows_after octets v.steps m) i k d ∙ v.elsewhere m i k d;
         taken = λ m done i l. next_taken m done i l;
       }

@@ -120,9 +120,9 @@ module _ (lists : List (List ℕ)) (first : ℕ) (hdpc : OctetTable) where
             others = λ r c p l. in_end r (at order p) ∙ left_cleared r c p l;
           }
 
-          -- the entries that were read are octets: those of the frozen columns when the tables were filled, and the others afterwards
-          octets_small : (frozen : ℕ) → length rows + frozen ≡ width → HasLeading (length lists) frozen (length lists) (λ r f. system_rows lists first hdpc r (at order (length rows + f))) zero.table → (i k : ℕ) → i < length hdpc.rows → k < width → entry_of hdpc i k < 256
-          octets_small frozen wide holds i k l m =
+          -- the entries that were read are octets: those of the inactive columns when the tables were filled, and the others afterwards
+          octets_small : (inactive : ℕ) → length rows + inactive ≡ width → HasLeading (length lists) inactive (length lists) (λ r f. system_rows lists first hdpc r (at order (length rows + f))) zero.table → (i k : ℕ) → i < length hdpc.rows → k < width → entry_of hdpc i k < 256
+          octets_small inactive wide holds i k l m =
               let j : ℕ = at places k in
               let placed = peeled.columns.placed k m in
               elim (cases_lt j (length rows)) [
@@ -130,29 +130,29 @@ module _ (lists : List (List ℕ)) (first : ℕ) (hdpc : OctetTable) where
                 | inr late ↦
                     let f : ℕ = j - length rows in
                     let back : length rows + f ≡ j = omega arith in
-                    let inside : f < frozen = omega (arith, placed.0) in
+                    let inside : f < inactive = omega (arith, placed.0) in
                     let row_in : first + i < length lists = omega (arith, are.within) in
                     let same : entry_of zero.table (first + i) f ≡ entry_of hdpc i k = holds.written (first + i) f row_in inside ∙ octets_at i (at order (length rows + f)) l ∙ ap (entry_of hdpc i) (ap (at order) back ∙ placed.1) in
                     rw (← same) (holds.octets.elements (first + i) f (rw holds.height_is row_in) (omega (arith, holds.wide, inside)))
               ]
 
-          -- the tables that were filled with the frozen columns show them
-          pub peeled_pivots : (frozen : ℕ) → length rows + frozen ≡ width → zero.operations ≡ [] → HasLeading (length lists) frozen (length lists) (λ r f. system_rows lists first hdpc r (at order (length rows + f))) zero.table
+          -- the tables that were filled with the inactive columns show them
+          pub peeled_pivots : (inactive : ℕ) → length rows + inactive ≡ width → zero.operations ≡ [] → HasLeading (length lists) inactive (length lists) (λ r f. system_rows lists first hdpc r (at order (length rows + f))) zero.table
               → HasPeeledPivots (length lists) width (system_rows lists first hdpc) rows order (drop (length rows) listed) two
-          peeled_pivots frozen wide empty holds =
+          peeled_pivots inactive wide empty holds =
               let done : List Operation = clears.steps ++ wipes.steps in
               let performs : Performs done zero two = performs_more clears.steps wipes.steps zero one two clears.performs wipes.performs in
               let recorded : two.operations ≡ done = performs.recorded ∙ ap (λ (l : List Operation). l ++ done) empty in
               let both : AreCleared rows order (drop (length rows) listed) (rows_after octets done (system_rows lists first hdpc)) = cleared_both in
               record {
                 elements = λ i k l m. elim (cases i) [
-                  | inl q ↦ rw (← q.2, octets_at q.0 k q.1) (octets_small frozen wide holds q.0 k q.1 m)
+                  | inl q ↦ rw (← q.2, octets_at q.0 k q.1) (octets_small inactive wide holds q.0 k q.1 m)
                   | inr out ↦ rw (bits_at i k out) (omega (arith, bits.once i k l m))
                 ];
                 among = rw recorded (rw holds.height_is at performs.among);
                 height_is = performs.height ∙ holds.height_is;
                 wide = omega (arith, performs.width, holds.wide, wide);
-                shows = λ r f l n. rw recorded (shows_after done zero two (system_rows lists first hdpc) (λ g. at order (length rows + g)) frozen holds.wide performs
+                shows = λ r f l n. rw recorded (shows_after done zero two (system_rows lists first hdpc) (λ g. at order (length rows + g)) inactive holds.wide performs
                     (λ i g o u. holds.written i g (rw holds.height_is at o) u) r f (rw holds.height_is l) (omega arith));
                 pivots = λ p l. rw recorded (both.pivots p l);
                 others = λ r p c l. rw recorded (both.others r c p l);

@@ -1,5 +1,5 @@
 -- What is seen of rows when an operation is recorded.
-use Rattle.std.proofs.Common.{◌≡◌, ◌≢◌, ℕ, ◌+◌, ◌<◌, List, [], ◌∷◌, ◌++◌, length, sym, ap, ◌∙◌}
+use Rattle.std.proofs.Common.{◌≡◌, ◌≢◌, ℕ, ◌+◌, ◌<◌, List, [], ◌∷◌, ◌++◌, length, ap, ◌∙◌}
 use Rattle.std.proofs.lemmas.List.{length-set}
 use Rattle.rq_algebra.specs.Operations.{Operation, MulAssign}
 use Rattle.rq_standard.specs.Rows.{row_sum, row_multiple}

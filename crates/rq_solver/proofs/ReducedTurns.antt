@@ -1,39 +1,39 @@
 -- Rows take multiples of reduced rows, which is recorded alone.
-use Rattle.std.proofs.Common.{◌≡◌, ◌≢◌, ℕ, ◌+◌, ◌<◌, ◌≤◌, List, [], ◌∷◌, ◌++◌, length, refl, sym, ap, ◌∙◌, arith, inl, inr, lit<}
-use Rattle.std.proofs.lemmas.Bool.{cases_eq}
+use Rattle.std.proofs.Common.{◌≡◌, ◌≢◌, ℕ, ◌+◌, ◌<◌, ◌≤◌, ◌==◌, if◌then◌else◌, List, [], ◌∷◌, ◌++◌, length, refl, sym, ap, ◌∙◌, arith, inl, inr, lit<}
+use Rattle.std.proofs.lemmas.Bool.{cases_eq, cases_lt}
 use Rattle.rq_algebra.specs.Systems.{at}
 use Rattle.rq_standard.specs.OctetField.{octets}
 use Rattle.rq_parts.specs.OctetTable.{entry_of}
-use Rattle.rq_solver.specs.Cleared.{AreUnits, TakesReduced, TakeReduced}
+use Rattle.rq_solver.specs.Cleared.{AreUnits, ReducesBack, TakesReduced}
 use Rattle.rq_solver.specs.Recorded.{Recorded, sum_step, Records}
-use Rattle.rq_solver.specs.RowSteps.{AreRows, rows_after}
+use Rattle.rq_solver.specs.RowSteps.{AreRows, IsEchelon, rows_after}
 use Rattle.rq_solver.proofs.StepColumns.{rows_after-none, rows_after-next}
 use Rattle.rq_solver.proofs.Performing.{sum_step-here, sum_step-elsewhere, records_none, records_more}
 use Rattle.rq_solver.proofs.OctetTurns.{plus_zero_times, plus_own}
 use Rattle.rq_solver.proofs.PivotTurns.{if_same, if_apart}
 
-module _ (reduced : List ℕ) (row count : ℕ) where
-  pub reduced_none : (old : Recorded) → TakesReduced reduced row count 0 old old
+module _ (reduced : List ℕ) (row start count : ℕ) where
+  pub reduced_none : (old : Recorded) → TakesReduced reduced row start count start old old
   reduced_none old = record {
     steps = [];
     records = records_none old;
     elsewhere = λ m i k d. rows_after-none octets m i k;
     kept = λ m k zeros. rows_after-none octets m row k;
-    cleared = λ m column units shown f l. absurd (omega arith);
+    cleared = λ m column units shown f from l n. absurd (omega arith);
     rest = λ m column units f l n. rows_after-none octets m row (column f);
   }
 
-  module _ (t : ℕ) (inside : t < count) (old cur : Recorded) (v : TakesReduced reduced row count t old cur) where
+  module _ (t : ℕ) (from : start ≤ t) (inside : t < count) (old cur : Recorded) (v : TakesReduced reduced row start count t old cur) where
     -- the row has 0 in the next column
-    pub reduced_zero : entry_of cur.table row t ≡ 0 → TakesReduced reduced row count (t + 1) old cur
+    pub reduced_zero : entry_of cur.table row t ≡ 0 → TakesReduced reduced row start count (t + 1) old cur
     reduced_zero none = record {
       steps = v.steps;
       records = v.records;
       elsewhere = v.elsewhere;
       kept = v.kept;
-      cleared = λ m column units shown f l. elim (cases_eq f t) [
+      cleared = λ m column units shown f first l n. elim (cases_eq f t) [
         | inl e ↦ rw e (v.rest m column units t (omega arith) inside ∙ shown t inside ∙ ap (λ table. entry_of table row t) (sym v.records.table) ∙ none)
-        | inr d ↦ v.cleared m column units shown f (omega arith)
+        | inr d ↦ v.cleared m column units shown f first (omega arith) n
       ];
       rest = λ m column units f l n. v.rest m column units f (omega arith) n;
     }
@@ -54,48 +54,51 @@ module _ (reduced : List ℕ) (row count : ℕ) where
         next_zero : (k : ℕ) → m (at reduced t) k ≡ 0 → rows_after octets (v.steps ++ sum_step row (at reduced t) scalar ∷ []) m row k ≡ now row k
         next_zero k zero = next_entry k (rw zero (lit< tt)) ∙ plus_zero_times (now row k) scalar (now (at reduced t) k) (src_now k ∙ zero)
 
-        module _ (column : ℕ → ℕ) (units : AreUnits reduced count column m) where
+        module _ (column : ℕ → ℕ) (units : AreUnits reduced start count column m) where
           other_zero : (f : ℕ) → f < count → f ≢ t → m (at reduced t) (column f) ≡ 0
-          other_zero f l d = units t f inside l ∙ if_apart t f 1 0 (λ e. d (sym e))
+          other_zero f l d = units t f from inside l ∙ if_apart t f 1 0 (λ e. d (sym e))
 
           this_entry : m row (column t) ≡ entry_of old.table row t → rows_after octets (v.steps ++ sum_step row (at reduced t) scalar ∷ []) m row (column t) ≡ 0
           unfolding now
           this_entry shown =
-              let one : m (at reduced t) (column t) ≡ 1 = units t t inside inside ∙ if_same t t 1 0 refl in
+              let one : m (at reduced t) (column t) ≡ 1 = units t t from inside inside ∙ if_same t t 1 0 refl in
               next_entry (column t) (rw one (lit< tt))
               ∙ plus_own (now row (column t)) scalar (now (at reduced t) (column t)) small
               (v.rest m column units t (omega arith) inside ∙ shown ∙ ap (λ table. entry_of table row t) (sym v.records.table) ∙ sym scalar_is) (src_now (column t) ∙ one)
 
-      pub reduced_more : TakesReduced reduced row count (t + 1) old new
+      pub reduced_more : TakesReduced reduced row start count (t + 1) old new
       unfolding now
       reduced_more = record {
         steps = v.steps ++ sum_step row (at reduced t) scalar ∷ [];
         records = records_more v.steps (sum_step row (at reduced t) scalar ∷ []) old cur new v.records records;
         elsewhere = λ m i k d. rows_after-next octets v.steps (sum_step row (at reduced t) scalar ∷ []) m i k ∙ sum_step-elsewhere row (at reduced t) scalar (rows_after octets v.steps m) i k d ∙ v.elsewhere m i k d;
-        kept = λ m k zeros. next_zero m k (zeros t inside) ∙ v.kept m k zeros;
-        cleared = λ m column units shown f l. elim (cases_eq f t) [
+        kept = λ m k zeros. next_zero m k (zeros t from inside) ∙ v.kept m k zeros;
+        cleared = λ m column units shown f first l n. elim (cases_eq f t) [
           | inl e ↦ rw e (this_entry m column units (shown t inside))
-          | inr d ↦ next_zero m (column f) (other_zero m column units f (omega arith) d) ∙ v.cleared m column units shown f (omega arith)
+          | inr d ↦ next_zero m (column f) (other_zero m column units f n d) ∙ v.cleared m column units shown f first (omega arith) n
         ];
         rest = λ m column units f l n. next_zero m (column f) (other_zero m column units f n (omega arith)) ∙ v.rest m column units f (omega arith) n;
       }
 
--- ---- row after row
+-- ---- rows in echelon form, the last first
 
-module _ (rows reduced : List ℕ) (count : ℕ) where
-  pub all_none : (old : Recorded) → TakeReduced rows reduced count 0 old old
-  all_none old = record {
+module _ (reduced : List ℕ) (count : ℕ) where
+  pub back_none : (old : Recorded) → ReducesBack reduced count count old old
+  back_none old = record {
     steps = [];
     records = records_none old;
     elsewhere = λ m r k out. rows_after-none octets m r k;
     kept = λ m r k zeros. rows_after-none octets m r k;
-    cleared = λ m column units shown p f l n. absurd (omega arith);
+    units = λ m column shown t f late l n. absurd (omega arith);
   }
 
-  module _ (t : ℕ) (old cur new : Recorded) (v : TakeReduced rows reduced count t old cur) (are : AreRows rows old.table) (apart : (p f : ℕ) → p < length rows → f < length reduced → at rows p ≢ at reduced f) (fits : count ≤ length reduced) (inside : t < length rows)
-      (turn : TakesReduced reduced (at rows t) count count cur new) where
-    apart_rows : (p : ℕ) → p < length rows → p ≢ t → at rows p ≢ at rows t
-    apart_rows p l d e = d (are.apart p t l inside e)
+  module _ (q : ℕ) (inside : q < count) (old cur new : Recorded) (are : AreRows reduced old.table) (echelon : IsEchelon reduced count old.table) (v : ReducesBack reduced count (q + 1) old cur)
+      (turn : TakesReduced reduced (at reduced q) (q + 1) count count cur new) where
+    fits : (t : ℕ) → t < count → t < length reduced
+    fits t l = omega (arith, echelon.fits)
+
+    apart : (t : ℕ) → t < count → t ≢ q → at reduced t ≢ at reduced q
+    apart t l d e = d (are.apart t q (fits t l) (fits q inside) e)
 
     module _ (m : ℕ → ℕ → ℕ) where
       before_turn : ℕ → ℕ → ℕ
@@ -105,26 +108,54 @@ module _ (rows reduced : List ℕ) (count : ℕ) where
       unfolding before_turn
       after_turn r k = rows_after-next octets v.steps turn.steps m r k
 
-      reduced_stay : (f k : ℕ) → f < count → before_turn (at reduced f) k ≡ m (at reduced f) k
+      own_before : (k : ℕ) → before_turn (at reduced q) k ≡ m (at reduced q) k
       unfolding before_turn
-      reduced_stay f k l = v.elsewhere m (at reduced f) k (λ p n. apart p f (omega arith) (omega arith))
+      own_before k = v.elsewhere m (at reduced q) k (λ t l n. apart t n (λ e. omega (arith, e, l)))
 
-      still_units : (column : ℕ → ℕ) → AreUnits reduced count column m → AreUnits reduced count column before_turn
-      still_units column units = λ a f l n. reduced_stay a (column f) l ∙ units a f l n
+      zero_before : (k : ℕ) → ((f : ℕ) → f < count → m (at reduced f) k ≡ 0) → (r : ℕ) → before_turn r k ≡ m r k
+      unfolding before_turn
+      zero_before k zeros r = v.kept m r k zeros
 
-    pub all_more : TakeReduced rows reduced count (t + 1) old new
+      module _ (column : ℕ → ℕ) (shown : (t f : ℕ) → t < count → f < count → m (at reduced t) (column f) ≡ entry_of old.table (at reduced t) f) where
+        later : AreUnits reduced (q + 1) count column before_turn
+        unfolding before_turn
+        later = v.units m column shown
+
+        own_entry : (f : ℕ) → f < count → before_turn (at reduced q) (column f) ≡ entry_of old.table (at reduced q) f
+        own_entry f l = own_before (column f) ∙ shown q f inside l
+
+        -- columns up to the row's own aren't touched in this turn
+        early : (f : ℕ) → f < q + 1 → rows_after octets turn.steps before_turn (at reduced q) (column f) ≡ entry_of old.table (at reduced q) f
+        early f l =
+            turn.kept before_turn (column f) (λ t from n. later t f from n (omega arith) ∙ if_apart t f 1 0 (λ e. omega (arith, e, from, l)))
+            ∙ own_entry f (omega arith)
+
+        own_unit : (f : ℕ) → f < count → rows_after octets turn.steps before_turn (at reduced q) (column f) ≡ (if q == f then 1 else 0)
+        own_unit f l = elim (cases_lt f (q + 1)) [
+          | inl first ↦ early f first ∙ elim (cases_eq q f) [
+            | inl e ↦ rw (← e) (echelon.ones q inside ∙ sym (if_same q q 1 0 refl))
+            | inr d ↦ echelon.zeros q f (fits q inside) (omega arith) l ∙ sym (if_apart q f 1 0 d)
+          ]
+          | inr late ↦
+              turn.cleared before_turn column later (λ g o. own_entry g o ∙ ap (λ table. entry_of table (at reduced q) g) (sym v.records.table)) f late l l
+              ∙ sym (if_apart q f 1 0 (λ e. omega (arith, e, late)))
+        ]
+
+        units_next : AreUnits reduced q count column (rows_after octets turn.steps before_turn)
+        units_next t f from l n = elim (cases_eq t q) [
+          | inl e ↦ rw e (own_unit f n)
+          | inr d ↦ turn.elsewhere before_turn (at reduced t) (column f) (apart t l d) ∙ later t f (omega arith) l n
+        ]
+
+    pub back_more : ReducesBack reduced count q old new
     unfolding before_turn
-    all_more = record {
+    back_more = record {
       steps = v.steps ++ turn.steps;
       records = records_more v.steps turn.steps old cur new v.records turn.records;
-      elsewhere = λ m r k out. after_turn m r k ∙ turn.elsewhere (before_turn m) r k (λ e. out t (omega arith) (sym e)) ∙ v.elsewhere m r k (λ p l. out p (omega arith));
-      kept = λ m r k zeros. after_turn m r k ∙ elim (cases_eq r (at rows t)) [
-        | inl e ↦ rw e (turn.kept (before_turn m) k (λ f l. reduced_stay m f k l ∙ zeros f l) ∙ v.kept m (at rows t) k zeros)
-        | inr d ↦ turn.elsewhere (before_turn m) r k d ∙ v.kept m r k zeros
+      elsewhere = λ m r k out. after_turn m r k ∙ turn.elsewhere (before_turn m) r k (λ e. out q (omega arith) inside (sym e)) ∙ v.elsewhere m r k (λ t l n. out t (omega arith) n);
+      kept = λ m r k zeros. after_turn m r k ∙ elim (cases_eq r (at reduced q)) [
+        | inl e ↦ rw e (turn.kept (before_turn m) k (λ f from l. zero_before m k zeros (at reduced f) ∙ zeros f l) ∙ zero_before m k zeros (at reduced q))
+        | inr d ↦ turn.elsewhere (before_turn m) r k d ∙ zero_before m k zeros r
       ];
-      cleared = λ m column units shown p f l n. after_turn m (at rows p) (column f) ∙ elim (cases_eq p t) [
-        | inl e ↦ rw e (turn.cleared (before_turn m) column (still_units m column units)
-            (λ g o. v.elsewhere m (at rows t) (column g) (λ q u. apart_rows q (omega arith) (omega arith)) ∙ shown t g inside o ∙ ap (λ table. entry_of table (at rows t) g) (sym v.records.table)) f n)
-        | inr d ↦ turn.elsewhere (before_turn m) (at rows p) (column f) (apart_rows p (omega arith) d) ∙ v.cleared m column units shown p f (omega arith) n
-      ];
+      units = λ m column shown t f from l n. after_turn m (at reduced t) (column f) ∙ units_next m column shown t f from l n;
     }

@@ -1,5 +1,5 @@
 -- What becomes of rows of which some have pivots while they are still as they were.
-use Rattle.std.specs.Prelude.{◌≡◌, ◌≢◌, ℕ, ◌+◌, ◌<◌, ◌≤◌, ◌==◌, if◌then◌else◌, List, [], All, Contains, count_by, length}
+use Rattle.std.specs.Prelude.{◌≡◌, ◌≢◌, ℕ, ◌+◌, ◌<◌, ◌≤◌, ◌==◌, if◌then◌else◌, Bool, true, false, List, [], ◌++◌, All, Contains, count_by, length, slice_index_or}
 use Rattle.std.specs.List.{range_with_len}
 use Rattle.rq_algebra.specs.Arrangements.{ArePlaces}
 use Rattle.rq_algebra.specs.Systems.{at, HasElements}
@@ -9,7 +9,7 @@ use Rattle.rq_standard.specs.OctetField.{octets}
 use Rattle.rq_parts.specs.OctetTable.{OctetTable, entry_of}
 use Rattle.rq_solver.specs.Peeled.{ones_at, IsPeeled}
 use Rattle.rq_solver.specs.Recorded.{Recorded, ChangesRows, Performs, Records}
-use Rattle.rq_solver.specs.RowSteps.{HasOctets, IsReduced, IsStuck, rows_after, IsStepAmong}
+use Rattle.rq_solver.specs.RowSteps.{HasOctets, IsStuck, rows_after, IsStepAmong}
 use Rattle.rq_solver.specs.declared.pi_solver.peeling.Peeling.{Peeling}
 
 -- ---- the rows
@@ -65,9 +65,9 @@ pub record IsCleared (rows order : List ℕ) (m : ℕ → ℕ → ℕ) (r : ℕ)
 
 -- ---- steps on the rows of a system
 
--- in the inactive columns each of these rows has 1 in its own, and 0 in the others
-abbrev pub AreUnits : List ℕ → ℕ → (ℕ → ℕ) → (ℕ → ℕ → ℕ) → Type 0
-AreUnits reduced count column m = (t f : ℕ) → t < count → f < count → m (at reduced t) (column f) ≡ (if t == f then 1 else 0)
+-- in the inactive columns each of these rows, from place `start` on, has 1 in its own, and 0 in the others
+abbrev pub AreUnits : List ℕ → ℕ → ℕ → (ℕ → ℕ) → (ℕ → ℕ → ℕ) → Type 0
+AreUnits reduced start count column m = (t f : ℕ) → start ≤ t → t < count → f < count → m (at reduced t) (column f) ≡ (if t == f then 1 else 0)
 
 -- A row takes the rows of the other pivots in whose columns it has these ones. What it is in whole is `m`, whatever that is.
 pub record TakesPivots (rows order : List ℕ) (row : ℕ) (columns : List ℕ) (old new : Recorded) : Type 0 where
@@ -77,6 +77,8 @@ pub record TakesPivots (rows order : List ℕ) (row : ℕ) (columns : List ℕ) 
   pub elsewhere : (m : ℕ → ℕ → ℕ) (i k : ℕ) → i ≢ row → rows_after octets steps m i k ≡ m i k
   pub taken : (m : ℕ → ℕ → ℕ) → ((j : ℕ) → j < length rows → Contains columns (at order j) → at rows j ≢ row → IsCleared rows order m (at rows j))
       → (i : ℕ) → i < length rows → rows_after octets steps m row (at order i) ≡ octets.add (m row (at order i)) (if at rows i == row then 0 else count_by (λ column. column == at order i) columns)
+  -- where these rows have zeros it stays as it was
+  pub kept : (m : ℕ → ℕ → ℕ) (k : ℕ) → ((j : ℕ) → j < length rows → Contains columns (at order j) → at rows j ≢ row → m (at rows j) k ≡ 0) → rows_after octets steps m row k ≡ m row k
 
 -- the first rows of a list are cleared, and the rest are as they were
 pub record ClearsRows (lists : List (List ℕ)) (rows order listed : List ℕ) (done : ℕ) (old new : Recorded) : Type 0 where
@@ -108,38 +110,77 @@ pub record HasPeeledPivots (height width : ℕ) (system : ℕ → ℕ → ℕ) (
   pub others : (r p : ℕ) → Contains left r → p < length rows → rows_after octets state.operations system r (at order p) ≡ 0
   pub octets : HasOctets state.table
 
--- ---- the fourth phase
+-- ---- rows that take reduced rows, in the second phase and the fourth
 
--- A row takes multiples of reduced rows, so that it gets 0 in the first of the inactive columns. What the rows are in whole is `m`, whatever
--- that is: `column f` is the place of inactive column f in it.
-pub record TakesReduced (reduced : List ℕ) (row count done : ℕ) (old new : Recorded) : Type 0 where
+-- A row takes multiples of reduced rows, those from place `start` on, so that it gets 0 in their inactive columns that come before column
+-- `done`. What the rows are in whole is `m`, whatever that is: `column f` is the place of inactive column f in it.
+pub record TakesReduced (reduced : List ℕ) (row start count done : ℕ) (old new : Recorded) : Type 0 where
   pub steps : List Operation
   pub records : Records steps old new
   pub elsewhere : (m : ℕ → ℕ → ℕ) (i k : ℕ) → i ≢ row → rows_after octets steps m i k ≡ m i k
-  pub kept : (m : ℕ → ℕ → ℕ) (k : ℕ) → ((f : ℕ) → f < count → m (at reduced f) k ≡ 0) → rows_after octets steps m row k ≡ m row k
-  pub cleared : (m : ℕ → ℕ → ℕ) (column : ℕ → ℕ) → AreUnits reduced count column m → ((f : ℕ) → f < count → m row (column f) ≡ entry_of old.table row f)
-      → (f : ℕ) → f < done → rows_after octets steps m row (column f) ≡ 0
-  pub rest : (m : ℕ → ℕ → ℕ) (column : ℕ → ℕ) → AreUnits reduced count column m → (f : ℕ) → done ≤ f → f < count → rows_after octets steps m row (column f) ≡ m row (column f)
+  pub kept : (m : ℕ → ℕ → ℕ) (k : ℕ) → ((f : ℕ) → start ≤ f → f < count → m (at reduced f) k ≡ 0) → rows_after octets steps m row k ≡ m row k
+  pub cleared : (m : ℕ → ℕ → ℕ) (column : ℕ → ℕ) → AreUnits reduced start count column m → ((f : ℕ) → f < count → m row (column f) ≡ entry_of old.table row f)
+      → (f : ℕ) → start ≤ f → f < done → f < count → rows_after octets steps m row (column f) ≡ 0
+  pub rest : (m : ℕ → ℕ → ℕ) (column : ℕ → ℕ) → AreUnits reduced start count column m → (f : ℕ) → done ≤ f → f < count → rows_after octets steps m row (column f) ≡ m row (column f)
 
--- the same of the first of these rows
-pub record TakeReduced (rows reduced : List ℕ) (count done : ℕ) (old new : Recorded) : Type 0 where
+-- the rows in echelon form take the later of them, from the last up to place `low`, until each has 1 in its own inactive column alone
+pub record ReducesBack (reduced : List ℕ) (count low : ℕ) (old new : Recorded) : Type 0 where
   pub steps : List Operation
   pub records : Records steps old new
-  pub elsewhere : (m : ℕ → ℕ → ℕ) (r k : ℕ) → ((p : ℕ) → p < done → at rows p ≢ r) → rows_after octets steps m r k ≡ m r k
+  pub elsewhere : (m : ℕ → ℕ → ℕ) (r k : ℕ) → ((q : ℕ) → low ≤ q → q < count → at reduced q ≢ r) → rows_after octets steps m r k ≡ m r k
   pub kept : (m : ℕ → ℕ → ℕ) (r k : ℕ) → ((f : ℕ) → f < count → m (at reduced f) k ≡ 0) → rows_after octets steps m r k ≡ m r k
-  pub cleared : (m : ℕ → ℕ → ℕ) (column : ℕ → ℕ) → AreUnits reduced count column m → ((p f : ℕ) → p < length rows → f < count → m (at rows p) (column f) ≡ entry_of old.table (at rows p) f)
-      → (p f : ℕ) → p < done → f < count → rows_after octets steps m (at rows p) (column f) ≡ 0
+  pub units : (m : ℕ → ℕ → ℕ) (column : ℕ → ℕ) → ((t f : ℕ) → t < count → f < count → m (at reduced t) (column f) ≡ entry_of old.table (at reduced t) f) → AreUnits reduced low count column (rows_after octets steps m)
+
+-- ---- the fourth phase
+
+-- Of the pivots' rows, the last first and up to place `low`, those that have a mark take the pivots' rows that they took in the first phase, and
+-- so are as they were before, in the pivots' columns.
+pub record TakesBack (lists : List (List ℕ)) (rows order : List ℕ) (marks : List Bool) (low : ℕ) (old new : Recorded) : Type 0 where
+  pub steps : List Operation
+  pub performs : Performs steps old new
+  pub elsewhere : (m : ℕ → ℕ → ℕ) (r k : ℕ) → ((p : ℕ) → low ≤ p → p < length rows → at rows p ≢ r) → rows_after octets steps m r k ≡ m r k
+  pub unmarked : (m : ℕ → ℕ → ℕ) (p k : ℕ) → low ≤ p → p < length rows → slice_index_or marks p false ≡ false → rows_after octets steps m (at rows p) k ≡ m (at rows p) k
+  pub uncleared : (m : ℕ → ℕ → ℕ) → ((p : ℕ) → p < length rows → IsCleared rows order m (at rows p)) → (p : ℕ) → low ≤ p → p < length rows → slice_index_or marks p false ≡ true
+      → IsUncleared lists rows order (rows_after octets steps m) (at rows p)
+
+-- a pivot's row has 1 in its own column alone
+pub record IsFinished (rows order : List ℕ) (count : ℕ) (column : ℕ → ℕ) (m : ℕ → ℕ → ℕ) (r : ℕ) : Type 0 where
+  pub cleared : IsCleared rows order m r
+  pub zeros : (f : ℕ) → f < count → m r (column f) ≡ 0
+
+-- The first of the pivots' rows take the reduced rows, and those that have a mark then take the pivots' rows again. Of the rows behind them
+-- the table shows what it showed.
+pub record FinishesPivots (lists : List (List ℕ)) (rows order reduced : List ℕ) (marks : List Bool) (count done : ℕ) (old new : Recorded) : Type 0 where
+  pub steps : List Operation
+  pub recorded : new.operations ≡ old.operations ++ steps
+  pub among : All (IsStepAmong octets (range_with_len 0 (length old.table.rows))) steps
+  pub width : new.table.width ≡ old.table.width
+  pub height : length new.table.rows ≡ length old.table.rows
+  pub shown : (p f : ℕ) → done ≤ p → p < length rows → f < old.table.width → entry_of new.table (at rows p) f ≡ entry_of old.table (at rows p) f
+  pub elsewhere : (m : ℕ → ℕ → ℕ) (r k : ℕ) → ((p : ℕ) → p < done → at rows p ≢ r) → rows_after octets steps m r k ≡ m r k
+  pub final : (m : ℕ → ℕ → ℕ) (column : ℕ → ℕ) → AreUnits reduced 0 count column m → ((f i : ℕ) → f < count → i < length rows → m (at reduced f) (at order i) ≡ 0)
+      → ((p f : ℕ) → p < length rows → f < count → m (at rows p) (column f) ≡ entry_of old.table (at rows p) f)
+      → ((p : ℕ) → p < length rows → slice_index_or marks p false ≡ false → IsCleared rows order m (at rows p))
+      → ((p : ℕ) → p < length rows → slice_index_or marks p false ≡ true → IsUncleared lists rows order m (at rows p))
+      → (p : ℕ) → p < done → IsFinished rows order count column (rows_after octets steps m) (at rows p)
+  pub octets : HasOctets new.table
 
 -- ---- the phases behind the first
 
 -- the rows that are left were worked on among themselves, and an inactive column has no pivot
 pub record LacksPivots (left reduced : List ℕ) (count : ℕ) (old new : Recorded) : Type 0 where
   pub changes : ChangesRows left old new
-  pub stuck : IsStuck reduced 0 count new.table
+  pub stuck : IsStuck reduced count new.table
 
--- the rows that are left were worked on among themselves until each inactive column had its pivot in one of them, and then these rows took them
-pub record SolvesInactive (rows left reduced : List ℕ) (count : ℕ) (old new : Recorded) : Type 0 where
+-- the rows that are left were worked on among themselves until each inactive column had its pivot in one of them, some of the pivots' rows
+-- took back what they had taken, the rows with those pivots were reduced, and the pivots' rows took them
+pub record SolvesInactive (lists : List (List ℕ)) (rows order left reduced : List ℕ) (count : ℕ) (old new : Recorded) : Type 0 where
   pub middle : Recorded
+  pub returned : Recorded
+  pub last : Recorded
+  pub marks : List Bool
   pub changes : ChangesRows left old middle
-  pub reduced_rows : IsReduced reduced 0 count middle.table
-  pub takes : TakeReduced rows reduced count (length rows) middle new
+  pub fits : count ≤ length reduced
+  pub back : TakesBack lists rows order marks 0 middle returned
+  pub reduces : ReducesBack reduced count 0 returned last
+  pub finishes : FinishesPivots lists rows order reduced marks count (length rows) last new

@@ -1,5 +1,5 @@
 -- How many operations add symbols, and how many multiply them.
-use Rattle.std.specs.Prelude.{◌≡◌, ℕ, ◌+◌, ◌<◌, ◌^◌, Bool, true, false, List, count_by}
+use Rattle.std.specs.Prelude.{◌≡◌, ℕ, zero, suc, ◌+◌, Bool, true, false, List, count_by, refl}
 use Rattle.rq_algebra.specs.Operations.{Operation, AddAssign, MulAssign, Fma, Reorder}
 
 abbrev pub is_addition : Operation → Bool
@@ -19,3 +19,16 @@ additions operations = count_by is_addition operations
 
 abbrev pub multiplications : List Operation → ℕ
 multiplications operations = count_by is_multiplication operations
+
+-- 0 + 1 + .. + (n - 1)
+pub triangle : ℕ → ℕ
+triangle zero = 0
+triangle (suc n) = triangle n + n
+
+pub triangle-none : triangle 0 ≡ 0
+unfolding triangle
+triangle-none = refl
+
+pub triangle-more : (n : ℕ) → triangle (suc n) ≡ triangle n + n
+unfolding triangle
+triangle-more n = refl

@@ -35,7 +35,7 @@ pub record IsOrderOf (width : ℕ) (order places : List ℕ) : Type 0 where
   pub ordered : (j : ℕ) → j < width → (at order j < width) × (at places (at order j) ≡ j)
   pub placed : (k : ℕ) → k < width → (at places k < width) × (at order (at places k) ≡ k)
 
--- Row `rows p` has a one in the column at place p of the order, and none in those of later pivots. The columns after the pivots' are frozen.
+-- Row `rows p` has a one in the column at place p of the order, and none in those of later pivots. The columns after the pivots' are inactive.
 pub record IsPeeled (width : ℕ) (lists : List (List ℕ)) (rows order places : List ℕ) : Type 0 where
   pub few : length rows ≤ width
   pub in_rows : ArePlaces (length rows) (length lists) (at rows)
@@ -45,7 +45,7 @@ pub record IsPeeled (width : ℕ) (lists : List (List ℕ)) (rows order places :
 
 -- ---- on the way
 
--- columns in an order, and the place of each: first those that have pivots, from place `end` on those that are frozen, and between them the active ones
+-- columns in an order, and the place of each: first those that have pivots, from place `end` on those that are inactive, and between them the active ones
 pub record ColumnState : Type 0 where
   pub order : List ℕ
   pub places : List ℕ
@@ -58,7 +58,7 @@ pub record IsColumnState (state : ColumnState) : Type 0 where
   pub few : state.pivots ≤ state.end
   pub within : state.end ≤ length state.order
 
--- a column that has no pivot and isn't frozen
+-- a column that has no pivot and isn't inactive
 pub record IsActive (state : ColumnState) (column : ℕ) : Type 0 where
   pub from : state.pivots ≤ at state.places column
   pub below : at state.places column < state.end
@@ -67,7 +67,7 @@ pub record IsActive (state : ColumnState) (column : ℕ) : Type 0 where
 abbrev pub HasNoActive : List ℕ → ColumnState → Type 0
 HasNoActive row state = (k : ℕ) → Contains row k → IsActive state k → ⊥
 
--- so many columns in their own order, those from `end` on frozen
+-- so many columns in their own order, those from `end` on inactive
 abbrev pub first_columns : ℕ → ℕ → ColumnState
 first_columns width end = record { order = range_with_len 0 width; places = range_with_len 0 width; pivots = 0; end = end }
 
@@ -86,7 +86,7 @@ pub record EndsActive (column : ℕ) (old new : ColumnState) : Type 0 where
   pub left : (k : ℕ) → k < length old.order → IsActive new k → IsActive old k × (k ≢ column)
 
 -- none of a row's columns is active any more, and no column has another pivot
-pub record FreezesRow (row : List ℕ) (old new : ColumnState) : Type 0 where
+pub record InactivatesRow (row : List ℕ) (old new : ColumnState) : Type 0 where
   pub width : length new.order ≡ length old.order
   pub pivots : new.pivots ≡ old.pivots
   pub before : (p : ℕ) → p < old.pivots → at new.order p ≡ at old.order p

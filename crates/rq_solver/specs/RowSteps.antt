@@ -42,9 +42,21 @@ pub record IsReduced (rows : List ℕ) (first done : ℕ) (table : OctetTable) :
   pub fits : done ≤ length rows
   pub pivots : HasFirstPivots (length rows) done (entry_of table) (at rows) (λ p. first + p)
 
+-- the first of these rows have 1 in their own columns, the first of all, and the rows behind each of them have 0 there
+pub record IsEchelon (rows : List ℕ) (done : ℕ) (table : OctetTable) : Type 0 where
+  pub fits : done ≤ length rows
+  pub ones : (p : ℕ) → p < done → entry_of table (at rows p) p ≡ 1
+  pub zeros : (i p : ℕ) → i < length rows → p < i → p < done → entry_of table (at rows i) p ≡ 0
+
 -- after some pivots the rows that are left have 0 in the next column
-pub record IsStuck (rows : List ℕ) (first count : ℕ) (table : OctetTable) : Type 0 where
+pub record IsStuck (rows : List ℕ) (count : ℕ) (table : OctetTable) : Type 0 where
   pub done : ℕ
   pub below : done < count
-  pub reduced : IsReduced rows first done table
-  pub empty : (i : ℕ) → done ≤ i → i < length rows → entry_of table (at rows i) (first + done) ≡ 0
+  pub echelon : IsEchelon rows done table
+  pub empty : (i : ℕ) → done ≤ i → i < length rows → entry_of table (at rows i) done ≡ 0
+
+-- of these rows those between the pivot's and place n have had a multiple of the pivot's row added: what they had in its column times the row
+pub record ClearsBelow (rows : List ℕ) (pivot n : ℕ) (old new : OctetTable) : Type 0 where
+  pub kept : (i k : ℕ) → i ≤ pivot → i < length rows → k < old.width → entry_of new (at rows i) k ≡ entry_of old (at rows i) k
+  pub cleared : (i k : ℕ) → pivot < i → i < n → i < length rows → k < old.width → entry_of new (at rows i) k ≡ octets.add (entry_of old (at rows i) k) (octets.mul (entry_of old (at rows i) pivot) (entry_of old (at rows pivot) k))
+  pub rest : (i k : ℕ) → pivot < i → n ≤ i → i < length rows → k < old.width → entry_of new (at rows i) k ≡ entry_of old (at rows i) k

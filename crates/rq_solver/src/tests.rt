@@ -1,5 +1,5 @@
 //! Tests of the solver and of replay.
-ghost use Rattle.std.specs.Prelude.{◌≡◌, ℕ, ◌+◌, ◌≤◌, ◌<◌, false, length, IfOk};
+ghost use Rattle.std.specs.Prelude.{◌≡◌, ℕ, ◌+◌, ◌≤◌, ◌<◌, false, None, length, IfOk};
 ghost use Rattle.rq_standard.specs.TableRows.{IsChecked, greatest_size, intermediate_symbols};
 
 use crate::pi_solver::{
@@ -74,6 +74,154 @@ fn mirrored_octets(alloc: Global, row: &Row) -> Result<DenseOctetMatrix, Error>
         octets.set(i, width - 1 - first - i, Octet::new(2));
     }
     Ok(octets)
+}
+
+/// Bits of which the ones stand at pairs of a row and a column, but none in the HDPC rows.
+fn bits_at<T: BinaryMatrix>(alloc: Global, row: &Row, ones: &[(usize, usize)]) -> Result<T, Error>
+    requires { IsChecked row.now }
+    ensures height { IfOk result (λ bits. (T.content bits).height ≡ intermediate_symbols row.now) }
+    ensures width { IfOk result (λ bits. (T.content bits).width ≡ intermediate_symbols row.now) }
+    ensures boundary { IfOk result (λ bits. (T.content bits).boundary ≡ row.now.lt_symbols) }
+    ensures indexed { IfOk result (λ bits. (T.content bits).indexed ≡ false) }
+    ensures zeros { IfOk result (λ bits. (i k : ℕ) → i < row.now.hdpc_symbols → k < intermediate_symbols row.now → (T.content bits).bit (row.now.ldpc_symbols + i) k ≡ 0) }
+{
+    let mut bits: T = zero_bits(alloc, row)?;
+    let width = width_of(row);
+    let first = row.ldpc_symbols as usize;
+    let after = first + row.hdpc_symbols as usize;
+    for (i, k) in ones {
+        if *i < width && *k < width && (*i < first || *i >= after) {
+            bits.set(*i, *k, Octet::one())?;
+        }
+    }
+    Ok(bits)
+}
+
+/// HDPC rows of which the first `count` have a 1 each, in the columns from `start` on.
+fn octets_from(
+    alloc: Global,
+    row: &Row,
+    start: usize,
+    count: usize,
+) -> Result<DenseOctetMatrix, Error>
+    requires { IsChecked row.now }
+    ensures height { IfOk result (λ octets. length octets.rows ≡ row.now.hdpc_symbols) }
+    ensures width { IfOk result (λ octets. octets.width ≡ intermediate_symbols row.now) }
+{
+    let height = row.hdpc_symbols as usize;
+    let mut octets = DenseOctetMatrix::new(alloc, height, width_of(row), 0)?;
+    for i in 0..count.min(height) {
+        if start < width_of(row) - i {
+            octets.set(i, start + i, Octet::one());
+        }
+    }
+    Ok(octets)
+}
+
+/// The row in which the k-th row of bits stands beside 10 HDPC rows behind 7 others.
+fn bit_row(k: usize) -> usize
+    requires { k < 1000 }
+{
+    if k < 7 { k } else { k + 10 }
+}
+
+/// Symbols of one octet each, the number of their place.
+fn numbered(alloc: Global) -> Result<SymbolSlab, Error>
+    ensures order { IfOk result (λ slab. slab.order ≡ None) }
+    ensures count { IfOk result (λ slab. length slab.values ≡ 27) }
+{
+    let mut symbols = SymbolSlab::with_zeros(alloc, 27, 1)?;
+    let values = [
+        0, 1, 2, 3, 4, 5, 6, 7, 8, 9, 10, 11, 12, 13, 14, 15, 16, 17, 18, 19, 20, 21, 22, 23, 24,
+        25, 26,
+    ];
+    symbols.copy_block_from(0, &values);
+    Ok(symbols)
+}
+
+/// Rows of bits with a one each in the columns from 10 on.
+fn late_ones(alloc: Global) -> Result<Vec<(usize, usize)>, Error> {
+    let mut ones = Vec::new(alloc);
+    for k in 0..17 {
+        ones.push((bit_row(k), 10 + k))?;
+    }
+    Ok(ones)
+}
+
+#[test]
+fn hdpc_rows_determine_what_is_left(rt: HostRuntime) -> Result<(), Error> {
+    let table = SystematicTable::built_in(rt.alloc())?;
+    assert!(rt; 10 <= table.greatest());
+    let row = table.row(10);
+    assert_eq!(rt; width_of(&row), 27);
+    let ones = late_ones(rt.alloc())?;
+    let bits: DenseBinaryMatrix = bits_at(rt.alloc(), &row, ones.as_slice())?;
+    let hdpc = octets_from(rt.alloc(), &row, 0, 10)?;
+    let symbols = numbered(rt.alloc())?;
+    let solved = fused_inverse_mul_symbols(rt.alloc(), &table, bits, hdpc, symbols, 10)?;
+    let (slab, _) = solved.expect(&rt, "the equations have one solution");
+    let expected = [
+        7, 8, 9, 10, 11, 12, 13, 14, 15, 16, 0, 1, 2, 3, 4, 5, 6, 17, 18, 19, 20, 21, 22, 23, 24,
+        25, 26,
+    ];
+    let found = slab.into_symbols()?;
+    assert_eq!(rt; found.len(), expected.len());
+    for k in 0..found.len() {
+        assert_eq!(rt; found[k].as_bytes(), [expected[k]].as_slice(), "at {k}");
+    }
+    Ok(())
+}
+
+#[test]
+fn nothing_is_answered_without_the_last_hdpc_row(rt: HostRuntime) -> Result<(), Error> {
+    let table = SystematicTable::built_in(rt.alloc())?;
+    assert!(rt; 10 <= table.greatest());
+    let row = table.row(10);
+    assert_eq!(rt; width_of(&row), 27);
+    let ones = late_ones(rt.alloc())?;
+    let bits: DenseBinaryMatrix = bits_at(rt.alloc(), &row, ones.as_slice())?;
+    let hdpc = octets_from(rt.alloc(), &row, 0, 9)?;
+    let symbols = numbered(rt.alloc())?;
+    assert!(rt; fused_inverse_mul_symbols(rt.alloc(), &table, bits, hdpc, symbols, 10)?.is_none());
+    Ok(())
+}
+
+#[test]
+fn rows_of_least_degree_take_few_additions(rt: HostRuntime) -> Result<(), Error> {
+    let table = SystematicTable::built_in(rt.alloc())?;
+    assert!(rt; 10 <= table.greatest());
+    let row = table.row(10);
+    assert_eq!(rt; width_of(&row), 27);
+    let mut ones = Vec::new(rt.alloc());
+    for k in 0..17 {
+        ones.push((bit_row(k), 0))?;
+        ones.push((bit_row(k), (k + 9) % 17))?;
+    }
+    let bits: DenseBinaryMatrix = bits_at(rt.alloc(), &row, ones.as_slice())?;
+    let hdpc = octets_from(rt.alloc(), &row, 17, 10)?;
+    let symbols = numbered(rt.alloc())?;
+    let mut solver = IntermediateSymbolDecoder::new(rt.alloc(), &table, bits, hdpc, symbols, 10);
+    let (slab, _) = solver
+        .execute()?
+        .expect(&rt, "the equations have one solution");
+    assert_eq!(rt; solver.get_symbol_add_ops(), 16);
+    assert_eq!(rt; solver.get_symbol_mul_ops(), 0);
+    let additions = solver.get_symbol_add_ops_by_phase();
+    assert_eq!(rt; additions.as_slice(), [16, 0, 0, 0, 0].as_slice());
+    let multiplications = solver.get_symbol_mul_ops_by_phase();
+    assert_eq!(rt; multiplications.as_slice(), [0, 0, 0, 0, 0].as_slice());
+    let found = slab.into_symbols()?;
+    assert_eq!(rt; found.len(), 27);
+    assert_eq!(rt; found[0].as_bytes(), [18].as_slice());
+    assert_eq!(rt; found[1].as_bytes(), [1].as_slice());
+    for i in 0..10u8 {
+        assert_eq!(rt;
+            found[17 + i as usize].as_bytes(),
+            [7 + i].as_slice(),
+            "at {i}"
+        );
+    }
+    Ok(())
 }
 
 #[test]

@@ -1,4 +1,4 @@
-//! The columns in an order: those with pivots, the active ones and the frozen ones.
+//! The columns in an order: those with pivots, the active ones and the inactive ones.
 ghost use Rattle.std.specs.Prelude.{◌≡◌, ◌+◌, ◌<◌, ◌≤◌, ◌↔◌, length, IsTrue, IfOk, IfErr};
 ghost use Rattle.std.specs.List.{range_with_len};
 ghost use Rattle.rq_bytes.specs.declared.error.Error.TheVariants.{OutOfMemory};
@@ -11,7 +11,7 @@ use std::alloc::Global;
 use std::marker::Model;
 
 /// The columns in an order, and the place of each column in it: first those that have pivots, from
-/// place `end` on those that are frozen, and between them the active ones.
+/// place `end` on those that are inactive, and between them the active ones.
 #[derive(Drop)]
 pub(super) struct ColumnOrder {
     order: Vec<usize>,
@@ -31,7 +31,7 @@ impl Model for ColumnOrder {
 }
 
 impl ColumnOrder {
-    /// So many columns in their own order, those before `boundary` active and the others frozen.
+    /// So many columns in their own order, those before `boundary` active and the others inactive.
     pub(super) fn new(alloc: Global, width: usize, boundary: usize) -> Result<ColumnOrder, Error>
         requires { boundary ≤ width }
         ensures columns { IfOk result (λ columns. columns ≡ first_columns width boundary) }
@@ -68,8 +68,8 @@ impl ColumnOrder {
         self.pivots += 1;
     }
 
-    /// Freezes an active column.
-    pub(super) fn freeze(&mut self, column: usize)
+    /// Makes an active column inactive.
+    pub(super) fn inactivate(&mut self, column: usize)
         requires column { column < length self.old.order }
         requires active { IsActive self.old column }
         ensures ended { EndsActive column self.old self.new }

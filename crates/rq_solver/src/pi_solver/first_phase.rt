@@ -70,7 +70,7 @@ fn clear_rows(
 }
 
 /// Adds to a row the rows of the other pivots in whose columns it has ones.
-fn take_pivots(
+pub(super) fn take_pivots(
     ones: &RowOnes,
     row: usize,
     peeling: &Peeling,
@@ -82,6 +82,7 @@ fn take_pivots(
     requires octets { HasOctets recorded.old.table }
     ensures taken { OnOk result (TakesPivots peeling.now.rows.items peeling.now.order.items row (ones_at ones.now row) recorded.old recorded.new) }
     ensures few { OnOk result (additions recorded.new.operations ≤ additions recorded.old.operations + length peeling.now.rows.items) }
+    ensures each { OnOk result (additions recorded.new.operations ≤ additions recorded.old.operations + length (ones_at ones.now row)) }
     ensures err { IfErr result (λ e. e ≡ OutOfMemory) }
 {
     for column in ones.row(row) {

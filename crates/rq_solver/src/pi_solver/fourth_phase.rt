@@ -1,56 +1,161 @@
 //! The fourth phase: the pivots' rows get zeros in the inactive columns (RFC 6330, section 5.4.2.5).
-ghost use Rattle.std.specs.Prelude.{◌≡◌, ◌≢◌, ℕ, ◌+◌, ◌*◌, ◌<◌, ◌≤◌, length, OnOk, IfErr};
+ghost use Rattle.std.specs.Prelude.{◌≡◌, ◌≢◌, ℕ, ◌+◌, ◌-◌, ◌*◌, ◌<◌, ◌≤◌, true, false, length, slice_index_or, IsTrue, IfOk, OnOk, IfErr};
 ghost use Rattle.rq_algebra.specs.Systems.{at};
 ghost use Rattle.rq_bytes.specs.declared.error.Error.TheVariants.{OutOfMemory};
-ghost use Rattle.rq_solver.specs.Cleared.{TakeReduced, TakesReduced};
+ghost use Rattle.rq_solver.specs.Cleared.{FinishesPivots, PeelsRows, TakesBack, TakesReduced};
 ghost use Rattle.rq_solver.specs.Counts.{additions};
+ghost use Rattle.rq_solver.specs.Peeled.{ones_at};
 ghost use Rattle.rq_solver.specs.RowSteps.{AreRows, HasOctets};
 
+use super::first_phase::take_pivots;
+use super::ones::RowOnes;
+use super::peeling::Peeling;
 use super::recorded::RecordedRows;
 use rq_bytes::error::Error;
 
-/// Adds to rows multiples of reduced rows, each of which has 1 in its own inactive column and 0 in
-/// the others, so that they get 0 there. What they have there is not read again, and stays stored.
-pub(super) fn take_reduced(
-    rows: &[usize],
-    reduced: &[usize],
-    inactive: usize,
+/// Adds again to some of the pivots' rows, the last first, the pivots' rows that they took in the
+/// first phase. So they are as they were handed in, and have few ones, where they came to have many
+/// in the inactive columns. Says which rows these are: each has `most` ones at most.
+pub(super) fn take_back(
+    ones: &RowOnes,
+    peeling: &Peeling,
+    most: usize,
     recorded: &mut RecordedRows,
-) -> Result<(), Error>
-    requires rows { AreRows rows.now recorded.old.table }
-    requires reduced { AreRows reduced.now recorded.old.table }
-    requires many { inactive ≤ length reduced.now }
-    requires apart { (p f : ℕ) → p < length rows.now → f < length reduced.now → at rows.now p ≢ at reduced.now f }
-    requires width { inactive ≤ recorded.old.table.width }
+) -> Result<Vec<bool>, Error>
+    requires peeled { PeelsRows ones.now peeling.now }
+    requires height { length recorded.old.table.rows ≡ length ones.now }
+    requires wide { length peeling.now.places.items ≤ length peeling.now.rows.items + recorded.old.table.width }
     requires octets { HasOctets recorded.old.table }
-    ensures taken { OnOk result (TakeReduced rows.now reduced.now inactive (length rows.now) recorded.old recorded.new) }
-    ensures few { OnOk result (additions recorded.new.operations ≤ additions recorded.old.operations + length rows.now * inactive) }
+    ensures taken { IfOk result (λ marks. TakesBack ones.now peeling.now.rows.items peeling.now.order.items marks.items 0 recorded.old recorded.new) }
+    ensures long { IfOk result (λ marks. length marks.items ≡ length peeling.now.rows.items) }
+    ensures short { IfOk result (λ marks. (p : ℕ) → p < length peeling.now.rows.items → slice_index_or marks.items p false ≡ true → length (ones_at ones.now (at peeling.now.rows.items p)) ≤ most) }
+    ensures few { OnOk result (additions recorded.new.operations ≤ additions recorded.old.operations + length peeling.now.rows.items * most) }
     ensures err { IfErr result (λ e. e ≡ OutOfMemory) }
 {
-    for row in rows {
-        take_reduced_rows(*row, reduced, inactive, recorded)?;
+    let mut marks = vec![in recorded.allocator(); false; peeling.rows.len()]?;
+    take_back_rows(ones, peeling, most, marks.as_mut_slice(), recorded)?;
+    Ok(marks)
+}
+
+/// The same, with a mark for each of the rows.
+fn take_back_rows(
+    ones: &RowOnes,
+    peeling: &Peeling,
+    most: usize,
+    marks: &mut [bool],
+    recorded: &mut RecordedRows,
+) -> Result<(), Error>
+    requires peeled { PeelsRows ones.now peeling.now }
+    requires height { length recorded.old.table.rows ≡ length ones.now }
+    requires wide { length peeling.now.places.items ≤ length peeling.now.rows.items + recorded.old.table.width }
+    requires octets { HasOctets recorded.old.table }
+    requires long { length marks.old ≡ length peeling.now.rows.items }
+    ensures taken { OnOk result (TakesBack ones.now peeling.now.rows.items peeling.now.order.items marks.new 0 recorded.old recorded.new) }
+    ensures short { OnOk result ((p : ℕ) → p < length peeling.now.rows.items → slice_index_or marks.new p false ≡ true → length (ones_at ones.now (at peeling.now.rows.items p)) ≤ most) }
+    ensures few { OnOk result (additions recorded.new.operations ≤ additions recorded.old.operations + length peeling.now.rows.items * most) }
+    ensures err { IfErr result (λ e. e ≡ OutOfMemory) }
+{
+    for done in 0..marks.len() {
+        let place = marks.len() - 1 - done;
+        let row = peeling.rows[place];
+        let saves = saves_additions(ones, row, peeling, most, recorded);
+        marks[place] = saves;
+        if saves {
+            take_pivots(ones, row, peeling, recorded)?;
+        }
     }
     Ok(())
 }
 
-/// The same for one row.
-fn take_reduced_rows(
+/// Whether a row has `most` ones at most, and more entries in the inactive columns than it would
+/// take to take back the pivots' rows and to take them again, beside the ones that it was handed in
+/// with.
+fn saves_additions(
+    ones: &RowOnes,
+    row: usize,
+    peeling: &Peeling,
+    most: usize,
+    recorded: &RecordedRows,
+) -> bool
+    requires peeled { PeelsRows ones.now peeling.now }
+    requires row { row < length ones.now }
+    requires height { length recorded.now.table.rows ≡ length ones.now }
+    requires wide { length peeling.now.places.items ≤ length peeling.now.rows.items + recorded.now.table.width }
+    ensures { IsTrue result → length (ones_at ones.now row) ≤ most }
+{
+    if ones.row(row).len() > most {
+        return false;
+    }
+    let mut cost = 0usize;
+    for column in ones.row(row) {
+        let each = if peeling.places[*column] < peeling.rows.len() {
+            2
+        } else {
+            1
+        };
+        cost = cost.saturating_add(each);
+    }
+    // The row's own pivot isn't taken.
+    let inactive = peeling.places.len() - peeling.rows.len();
+    cost < recorded.weight(row, inactive).saturating_add(2)
+}
+
+/// Adds to the pivots' rows, the first first, multiples of reduced rows, each of which has 1 in its
+/// own inactive column and 0 in the others, so that they get 0 there. Those with a mark take the
+/// rows of earlier pivots again, which have only their own 1 left.
+pub(super) fn finish_pivots(
+    ones: &RowOnes,
+    peeling: &Peeling,
+    marks: &[bool],
+    most: usize,
+    reduced: &[usize],
+    inactive: usize,
+    recorded: &mut RecordedRows,
+) -> Result<(), Error>
+    requires peeled { PeelsRows ones.now peeling.now }
+    requires height { length recorded.old.table.rows ≡ length ones.now }
+    requires reduced { AreRows reduced.now recorded.old.table }
+    requires many { inactive ≤ length reduced.now }
+    requires apart { (p f : ℕ) → p < length peeling.now.rows.items → f < length reduced.now → at peeling.now.rows.items p ≢ at reduced.now f }
+    requires width { inactive ≤ recorded.old.table.width }
+    requires octets { HasOctets recorded.old.table }
+    requires long { length marks.now ≡ length peeling.now.rows.items }
+    requires short { (p : ℕ) → p < length peeling.now.rows.items → slice_index_or marks.now p false ≡ true → length (ones_at ones.now (at peeling.now.rows.items p)) ≤ most }
+    ensures finished { OnOk result (FinishesPivots ones.now peeling.now.rows.items peeling.now.order.items reduced.now marks.now inactive (length peeling.now.rows.items) recorded.old recorded.new) }
+    ensures few { OnOk result (additions recorded.new.operations ≤ additions recorded.old.operations + length peeling.now.rows.items * (inactive + most)) }
+    ensures err { IfErr result (λ e. e ≡ OutOfMemory) }
+{
+    for place in 0..peeling.rows.len() {
+        let row = peeling.rows[place];
+        take_reduced_rows(row, reduced, 0, inactive, recorded)?;
+        if marks[place] {
+            take_pivots(ones, row, peeling, recorded)?;
+        }
+    }
+    Ok(())
+}
+
+/// Adds to a row multiples of reduced rows, those from `start` on, so that it gets 0 in their
+/// inactive columns. What it has there is not read again, and stays stored.
+pub(super) fn take_reduced_rows(
     row: usize,
     reduced: &[usize],
+    start: usize,
     inactive: usize,
     recorded: &mut RecordedRows,
 ) -> Result<(), Error>
     requires row { row < length recorded.old.table.rows }
     requires reduced { AreRows reduced.now recorded.old.table }
     requires many { inactive ≤ length reduced.now }
-    requires apart { (f : ℕ) → f < length reduced.now → row ≢ at reduced.now f }
+    requires apart { (f : ℕ) → start ≤ f → f < length reduced.now → row ≢ at reduced.now f }
+    requires within { start ≤ inactive }
     requires width { inactive ≤ recorded.old.table.width }
     requires octets { HasOctets recorded.old.table }
-    ensures taken { OnOk result (TakesReduced reduced.now row inactive inactive recorded.old recorded.new) }
-    ensures few { OnOk result (additions recorded.new.operations ≤ additions recorded.old.operations + inactive) }
+    ensures taken { OnOk result (TakesReduced reduced.now row start inactive inactive recorded.old recorded.new) }
+    ensures few { OnOk result (additions recorded.new.operations ≤ additions recorded.old.operations + (inactive - start)) }
     ensures err { IfErr result (λ e. e ≡ OutOfMemory) }
 {
-    for f in 0..inactive {
+    for f in start..inactive {
         let scalar = recorded.get(row, f);
         if scalar.byte() != 0 {
             recorded.record_sum(row, reduced[f], scalar)?;

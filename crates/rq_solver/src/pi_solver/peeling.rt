@@ -1,7 +1,7 @@
 //! The first phase: columns get pivots among rows of bits while no row is changed.
 ghost use Rattle.std.specs.Prelude.{◌≡◌, false, ◌<◌, ◌≤◌, length, All, Contains, IsTrue, IfSome, IfNone, OnOk, IfOk, IfErr};
 ghost use Rattle.rq_bytes.specs.declared.error.Error.TheVariants.{OutOfMemory};
-ghost use Rattle.rq_solver.specs.Peeled.{IsPeeled, IsActive, HasNoActive, TakesRow, FreezesRow};
+ghost use Rattle.rq_solver.specs.Peeled.{IsPeeled, IsActive, HasNoActive, TakesRow, InactivatesRow};
 
 use crate::pi_solver::columns::ColumnOrder;
 use crate::pi_solver::degrees::RowDegrees;
@@ -11,7 +11,7 @@ use rq_bytes::error::Error;
 use std::alloc::Global;
 
 /// Columns with pivots among rows of bits, and the order of all columns: pivots' first, in the
-/// order in which they were chosen, then the frozen ones.
+/// order in which they were chosen, then the inactive ones.
 #[derive(Drop)]
 pub(super) struct Peeling {
     pub rows: Vec<usize>,
@@ -19,9 +19,9 @@ pub(super) struct Peeling {
     pub places: Vec<usize>,
 }
 
-/// Chooses pivots among rows of bits, of which the columns from `boundary` on are frozen from the
+/// Chooses pivots among rows of bits, of which the columns from `boundary` on are inactive from the
 /// start (RFC 6330, section 5.4.2.2): again and again a row with least active columns has one of
-/// them as its pivot, and the others are frozen.
+/// them as its pivot, and the others are inactive.
 pub(super) fn peel(
     alloc: Global,
     ones: &RowOnes,
@@ -53,8 +53,8 @@ pub(super) fn peel(
     })
 }
 
-// Gives the first active column of a row the next pivot, and freezes the others. Says whether there
-// is one.
+// Gives the first active column of a row the next pivot, and makes the others inactive. Says whether
+// there is one.
 fn take_row(
     row: &[usize],
     links: &ColumnLinks,
@@ -74,7 +74,7 @@ fn take_row(
     };
     columns.take_pivot(pivot);
     links.lower_rows(pivot, degrees)?;
-    freeze_columns(row, links, degrees, columns)?;
+    inactivate_columns(row, links, degrees, columns)?;
     Ok(true)
 }
 
@@ -93,8 +93,8 @@ fn first_active(row: &[usize], columns: &ColumnOrder) -> Option<usize>
     None
 }
 
-// Freezes the active columns of a row.
-fn freeze_columns(
+// Makes the active columns of a row inactive.
+fn inactivate_columns(
     row: &[usize],
     links: &ColumnLinks,
     degrees: &mut RowDegrees,
@@ -102,13 +102,13 @@ fn freeze_columns(
 ) -> Result<(), Error>
     requires columns { All (λ column. column < length columns.old.order) row.now }
     requires links { links.now ≡ record { rows = degrees.old; columns = length columns.old.order } }
-    ensures frozen { OnOk result (FreezesRow row.now columns.old columns.new) }
+    ensures inactive { OnOk result (InactivatesRow row.now columns.old columns.new) }
     ensures degrees { degrees.new ≡ degrees.old }
     ensures err { IfErr result (λ e. e ≡ OutOfMemory) }
 {
     for column in row {
         if columns.is_active(*column) {
-            columns.freeze(*column);
+            columns.inactivate(*column);
             links.lower_rows(*column, degrees)?;
         }
     }

@@ -31,7 +31,7 @@ fn bits_of<T: BinaryMatrix>(
     Ok(bits)
 }
 
-/// The pivots among such bits, of which the columns from `boundary` on are frozen.
+/// The pivots among such bits, of which the columns from `boundary` on are inactive.
 fn peeling_of(
     alloc: Global,
     height: usize,
@@ -74,7 +74,7 @@ fn the_row_with_one_column_is_first(rt: HostRuntime) -> Result<(), Error> {
 }
 
 #[test]
-fn a_row_with_fewest_columns_freezes_the_others(rt: HostRuntime) -> Result<(), Error> {
+fn a_row_with_fewest_columns_makes_the_others_inactive(rt: HostRuntime) -> Result<(), Error> {
     let ones = [
         (0, 0),
         (0, 1),

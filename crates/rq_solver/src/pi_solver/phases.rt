@@ -7,7 +7,7 @@ ghost use Rattle.rq_bytes.specs.declared.error.Error.TheVariants.{OutOfMemory};
 ghost use Rattle.rq_parts.specs.OctetTable.{entry_of};
 ghost use Rattle.rq_standard.specs.ConstraintMatrix.{with_octet_rows};
 ghost use Rattle.rq_standard.specs.OctetField.{octets};
-ghost use Rattle.rq_solver.specs.Cleared.{AreOctetRows, AreRowsOfBits, HasPeeledPivots, LacksPivots, ListsRows, SolvesInactive};
+ghost use Rattle.rq_solver.specs.Cleared.{AreOctetRows, AreRowsOfBits, HasPeeledPivots, LacksPivots, ListsRows, PeelsRows, SolvesInactive};
 ghost use Rattle.rq_solver.specs.Counts.{additions};
 ghost use Rattle.rq_solver.specs.PhaseCounts.{AreCountsOf, total_of};
 ghost use Rattle.rq_solver.specs.Peeled.{AreOnesOfRows, IsOrderOf, IsPeeled};
@@ -16,11 +16,11 @@ ghost use Rattle.rq_solver.specs.RowSteps.{AreRows, HasOctets};
 use super::counts::{OperationCounts, Phase};
 use super::first_phase::clear_pivots;
 use super::first_phase::listing::rows_in_order;
-use super::fourth_phase::take_reduced;
+use super::fourth_phase::{finish_pivots, take_back};
 use super::ones::RowOnes;
 use super::peeling::Peeling;
 use super::recorded::RecordedRows;
-use super::second_phase::eliminate;
+use super::second_phase::{eliminate, reduce_back};
 use rq_bytes::error::Error;
 use rq_bytes::operation_vector::SymbolOps;
 use rq_parts::octet_matrix::DenseOctetMatrix;
@@ -58,7 +58,8 @@ pub(super) fn operations_of_peeled(
     let mut listed = rows_in_order(alloc, ones.height(), first_hdpc, hdpc.height(), pivots)?;
     let mut recorded = clear_pivots(alloc, ones, hdpc, first_hdpc, peeling, listed.as_slice())?;
     let rows = listed.as_mut_slice();
-    let found = rows_of_columns(alloc, peeling, rows, &mut recorded)?;
+    let most = (width - hdpc.height()) / 2;
+    let found = rows_of_columns(alloc, ones, peeling, rows, most, &mut recorded)?;
     let mut operations = recorded.into_operations();
     let Some(order) = found else {
         return Ok(Attempt {
@@ -77,24 +78,25 @@ pub(super) fn operations_of_peeled(
 /// the row that has its pivot. `None` where a column is left without one.
 fn rows_of_columns(
     alloc: Global,
+    ones: &RowOnes,
     peeling: &Peeling,
     listed: &mut [usize],
+    most: usize,
     recorded: &mut RecordedRows,
 ) -> Result<Option<Vec<usize>>, Error>
-    requires order { IsOrderOf (length peeling.now.places.items) peeling.now.order.items peeling.now.places.items }
-    requires pivots { AreRows peeling.now.rows.items recorded.old.table }
+    requires peeled { PeelsRows ones.now peeling.now }
+    requires height { length recorded.old.table.rows ≡ length ones.now }
     requires listed { ListsRows (length recorded.old.table.rows) peeling.now.rows.items listed.old }
-    requires few { length peeling.now.rows.items ≤ length peeling.now.places.items }
     requires wide { length peeling.now.places.items ≤ length peeling.now.rows.items + recorded.old.table.width }
     requires octets { HasOctets recorded.old.table }
     ensures found { IfOk result (λ answer. (system : ℕ → ℕ → ℕ) → HasPeeledPivots (length recorded.old.table.rows) (length peeling.now.places.items) system peeling.now.rows.items peeling.now.order.items (drop (length peeling.now.rows.items) listed.old) recorded.old → MatchOption answer (HasNullColumn octets (length recorded.old.table.rows) (length peeling.now.places.items) system) (λ order. FindsColumn octets (length recorded.old.table.rows) (length peeling.now.places.items) system (recorded.new.operations ++ Reorder order.items ∷ []))) }
-    ensures few { OnOk result (additions recorded.new.operations ≤ additions recorded.old.operations + (length peeling.now.places.items - length peeling.now.rows.items) * (length listed.old - 1)) }
+    ensures few { OnOk result (additions recorded.new.operations ≤ additions recorded.old.operations + (length peeling.now.places.items - length peeling.now.rows.items) * (length listed.old - 1) + 2 * (length peeling.now.rows.items * most)) }
     ensures err { IfErr result (λ e. e ≡ OutOfMemory) }
 {
     let pivots = peeling.rows.as_slice();
     let inactive = peeling.places.len() - pivots.len();
     let left = &mut listed[pivots.len()..];
-    if !solve_inactive(pivots, left, inactive, recorded)? {
+    if !solve_inactive(ones, peeling, left, inactive, most, recorded)? {
         return Ok(None);
     }
     Ok(Some(rows_at(alloc, listed, peeling.places.as_slice())?))
@@ -103,27 +105,43 @@ fn rows_of_columns(
 /// The second phase among the rows that are left, and then the fourth for the pivots' rows. False
 /// where an inactive column is left without a pivot.
 fn solve_inactive(
-    pivots: &[usize],
+    ones: &RowOnes,
+    peeling: &Peeling,
     left: &mut [usize],
     inactive: usize,
+    most: usize,
     recorded: &mut RecordedRows,
 ) -> Result<bool, Error>
-    requires pivots { AreRows pivots.now recorded.old.table }
+    requires peeled { PeelsRows ones.now peeling.now }
+    requires height { length recorded.old.table.rows ≡ length ones.now }
     requires left { AreRows left.old recorded.old.table }
-    requires apart { (p : ℕ) → p < length pivots.now → Contains left.old (at pivots.now p) → ⊥ }
+    requires apart { (p : ℕ) → p < length peeling.now.rows.items → Contains left.old (at peeling.now.rows.items p) → ⊥ }
     requires width { inactive ≤ recorded.old.table.width }
+    requires wide { length peeling.now.places.items ≤ length peeling.now.rows.items + recorded.old.table.width }
     requires octets { HasOctets recorded.old.table }
     ensures permuted { IsPermutation left.old left.new }
-    ensures solved { IfOk result (λ found. MatchBool found (SolvesInactive pivots.now left.old left.new inactive recorded.old recorded.new) (LacksPivots left.old left.new inactive recorded.old recorded.new)) }
-    ensures few { OnOk result (additions recorded.new.operations ≤ additions recorded.old.operations + inactive * (length left.old + length pivots.now - 1)) }
+    ensures solved { IfOk result (λ found. MatchBool found (SolvesInactive ones.now peeling.now.rows.items peeling.now.order.items left.old left.new inactive recorded.old recorded.new) (LacksPivots left.old left.new inactive recorded.old recorded.new)) }
+    ensures few { OnOk result (additions recorded.new.operations ≤ additions recorded.old.operations + inactive * (length left.old + length peeling.now.rows.items - 1) + 2 * (length peeling.now.rows.items * most)) }
     ensures err { IfErr result (λ e. e ≡ OutOfMemory) }
 {
     recorded.enter(Phase::Second);
-    if !eliminate(recorded, left, 0, inactive)? {
+    if !eliminate(recorded, left, inactive)? {
         return Ok(false);
     }
     recorded.enter(Phase::Fourth);
-    take_reduced(pivots, left, inactive, recorded)?;
+    let marks = take_back(ones, peeling, most, recorded)?;
+    recorded.enter(Phase::Second);
+    reduce_back(recorded, left, inactive)?;
+    recorded.enter(Phase::Fourth);
+    finish_pivots(
+        ones,
+        peeling,
+        marks.as_slice(),
+        most,
+        left,
+        inactive,
+        recorded,
+    )?;
     Ok(true)
 }
 

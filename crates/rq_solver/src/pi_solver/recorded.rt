@@ -1,5 +1,5 @@
 //! Rows that are worked on, with the operations that are recorded for them.
-ghost use Rattle.std.specs.Prelude.{◌≡◌, ◌≢◌, ◌+◌, ◌<◌, ◌∷◌, [], length, OnOk, IfErr};
+ghost use Rattle.std.specs.Prelude.{◌≡◌, ◌≢◌, ◌+◌, ◌<◌, ◌≤◌, ◌∷◌, [], length, OnOk, IfErr};
 ghost use Rattle.rq_algebra.specs.Operations.{MulAssign};
 ghost use Rattle.rq_bytes.specs.declared.error.Error.TheVariants.{OutOfMemory};
 ghost use Rattle.rq_bytes.specs.SymbolOps.{operation_of};
@@ -63,6 +63,20 @@ impl RecordedRows {
         ensures { result ≡ entry_of self.now.table row column }
     {
         self.table.get(row, column)
+    }
+
+    /// In how many of the first inactive columns a row has an entry that isn't 0.
+    pub(super) fn weight(&self, row: usize, count: usize) -> usize
+        requires row { row < length self.now.table.rows }
+        requires count { count ≤ self.now.table.width }
+    {
+        let mut weight = 0usize;
+        for column in 0..count {
+            if self.table.get(row, column).byte() != 0 {
+                weight = weight.saturating_add(1);
+            }
+        }
+        weight
     }
 
     /// Adds a multiple of a row to another one.

@@ -1,51 +1,72 @@
 //! The second phase: elimination over the inactive columns (RFC 6330, section 5.4.2.3).
-ghost use Rattle.std.specs.Prelude.{◌≡◌, ◌≢◌, ℕ, ◌+◌, ◌-◌, ◌*◌, ◌^◌, ◌<◌, ◌≤◌, ◌∷◌, [], length, IfSome, IfNone, OnOk, IfOk, IfErr, MatchBool, IsPermutation};
+ghost use Rattle.std.specs.Prelude.{◌≡◌, ◌≢◌, ℕ, ◌+◌, ◌-◌, ◌*◌, ◌<◌, ◌≤◌, ◌∷◌, [], length, OnOk, IfOk, IfErr, MatchBool, IsPermutation};
 ghost use Rattle.rq_algebra.specs.Systems.{at};
 ghost use Rattle.rq_algebra.specs.Steps.{AddsRow, ScalesRow};
-ghost use Rattle.rq_algebra.proofs.Elimination.{ClearsColumn};
 ghost use Rattle.rq_standard.specs.OctetField.{octets};
 ghost use Rattle.rq_bytes.specs.declared.error.Error.TheVariants.{OutOfMemory};
 ghost use Rattle.rq_parts.specs.OctetTable.{entry_of};
-ghost use Rattle.rq_solver.specs.Counts.{additions};
+ghost use Rattle.rq_solver.specs.Cleared.{ReducesBack};
+ghost use Rattle.rq_solver.specs.Counts.{additions, triangle};
 ghost use Rattle.rq_solver.specs.Recorded.{ChangesRows};
-ghost use Rattle.rq_solver.specs.RowSteps.{HasOctets, AreRows, IsReduced, IsStuck};
+ghost use Rattle.rq_solver.specs.RowSteps.{AreRows, ClearsBelow, HasOctets, IsEchelon, IsStuck};
 
 use super::elimination::find_pivot;
+use super::fourth_phase::take_reduced_rows;
 use super::recorded::RecordedRows;
 use rq_bytes::error::Error;
 use rq_bytes::octet::Octet;
 
-/// Gives each of `count` columns from `first_column` on a pivot: a row with 1 there, where the
-/// others have 0. Works on the listed rows alone, and whole rows are added. The list is put in the
-/// order of the pivots' columns. Where a column is left without a pivot the answer is false.
+/// Gives each of the first `count` columns a pivot: a row with 1 there, where the rows behind it
+/// have 0. Works on the listed rows alone. The list is put in the order of the pivots' columns.
+/// Where a column is left without a pivot the answer is false.
 pub(super) fn eliminate(
     recorded: &mut RecordedRows,
     rows: &mut [usize],
-    first_column: usize,
     count: usize,
 ) -> Result<bool, Error>
     requires rows { AreRows rows.old recorded.old.table }
-    requires columns { first_column + count ≤ recorded.old.table.width }
-    requires fits { first_column + count < 2 ^ 64 }
+    requires columns { count ≤ recorded.old.table.width }
     requires octets { HasOctets recorded.old.table }
     ensures permuted { IsPermutation rows.old rows.new }
     ensures octets { OnOk result (HasOctets recorded.new.table) }
     ensures rows { OnOk result (AreRows rows.new recorded.old.table) }
     ensures steps { OnOk result (ChangesRows rows.old recorded.old recorded.new) }
-    ensures pivots { IfOk result (λ found. MatchBool found (IsReduced rows.new first_column count recorded.new.table) (IsStuck rows.new first_column count recorded.new.table)) }
-    ensures few { OnOk result (additions recorded.new.operations ≤ additions recorded.old.operations + count * (length rows.old - 1)) }
+    ensures pivots { IfOk result (λ found. MatchBool found (IsEchelon rows.new count recorded.new.table) (IsStuck rows.new count recorded.new.table)) }
+    ensures few { IfOk result (λ found. MatchBool found (additions recorded.new.operations + triangle count ≤ additions recorded.old.operations + count * (length rows.old - 1)) (additions recorded.new.operations ≤ additions recorded.old.operations + count * (length rows.old - 1))) }
     ensures err { IfErr result (λ e. e ≡ OutOfMemory) }
 {
     for done in 0..count {
-        let column = first_column + done;
-        let Some(pivot) = find_pivot(recorded.table(), rows, done, column) else {
+        let Some(pivot) = find_pivot(recorded.table(), rows, done, done) else {
             return Ok(false);
         };
         rows.swap(done, pivot);
-        scale_row(recorded, rows[done], column)?;
-        clear_column(recorded, rows, done, column)?;
+        scale_row(recorded, rows[done], done)?;
+        clear_below(recorded, rows, done)?;
     }
     Ok(true)
+}
+
+/// Adds to each row in echelon form, the last first, multiples of those behind it, so that it has 0
+/// in their columns. Entries are bits or octets as they were, so that most of what is recorded are
+/// plain additions. What the rows have is stored as it was.
+pub(super) fn reduce_back(
+    recorded: &mut RecordedRows,
+    rows: &[usize],
+    count: usize,
+) -> Result<(), Error>
+    requires rows { AreRows rows.now recorded.old.table }
+    requires columns { count ≤ recorded.old.table.width }
+    requires octets { HasOctets recorded.old.table }
+    requires echelon { IsEchelon rows.now count recorded.old.table }
+    ensures reduced { OnOk result (ReducesBack rows.now count 0 recorded.old recorded.new) }
+    ensures few { OnOk result (additions recorded.new.operations ≤ additions recorded.old.operations + triangle count) }
+    ensures err { IfErr result (λ e. e ≡ OutOfMemory) }
+{
+    for done in 0..count {
+        let place = count - 1 - done;
+        take_reduced_rows(rows[place], rows, place + 1, count, recorded)?;
+    }
+    Ok(())
 }
 
 /// Multiplies a row so that it has 1 in the column, where it isn't 0.
@@ -69,28 +90,21 @@ fn scale_row(recorded: &mut RecordedRows, row: usize, column: usize) -> Result<(
     Ok(())
 }
 
-/// Adds multiples of the pivot's row, which has 1 in the column, to the other rows, so that they
-/// have 0 there.
-fn clear_column(
-    recorded: &mut RecordedRows,
-    rows: &[usize],
-    pivot: usize,
-    column: usize,
-) -> Result<(), Error>
+/// Adds multiples of the pivot's row, which has 1 in its column, to the rows behind it, so that
+/// they have 0 there.
+fn clear_below(recorded: &mut RecordedRows, rows: &[usize], pivot: usize) -> Result<(), Error>
     requires rows { AreRows rows.now recorded.old.table }
     requires pivot { pivot < length rows.now }
-    requires column { column < recorded.old.table.width }
+    requires column { pivot < recorded.old.table.width }
     requires octets { HasOctets recorded.old.table }
     ensures steps { OnOk result (ChangesRows rows.now recorded.old recorded.new) }
     ensures octets { OnOk result (HasOctets recorded.new.table) }
-    ensures cleared { OnOk result (ClearsColumn octets (length rows.now) recorded.old.table.width pivot column (length rows.now) (at rows.now) (entry_of recorded.old.table) (entry_of recorded.new.table)) }
-    ensures few { OnOk result (additions recorded.new.operations ≤ additions recorded.old.operations + (length rows.now - 1)) }
+    ensures cleared { OnOk result (ClearsBelow rows.now pivot (length rows.now) recorded.old.table recorded.new.table) }
+    ensures few { OnOk result (additions recorded.new.operations + (pivot + 1) ≤ additions recorded.old.operations + length rows.now) }
     ensures err { IfErr result (λ e. e ≡ OutOfMemory) }
 {
-    for i in 0..rows.len() {
-        if i != pivot {
-            clear_entry(recorded, rows[i], rows[pivot], column)?;
-        }
+    for i in pivot + 1..rows.len() {
+        clear_entry(recorded, rows[i], rows[pivot], pivot)?;
     }
     Ok(())
 }

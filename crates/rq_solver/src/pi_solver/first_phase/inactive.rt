@@ -23,19 +23,19 @@ pub(super) fn fill_inactive(
     ones: &RowOnes,
     hdpc: &DenseOctetMatrix,
     first_hdpc: usize,
-    frozen: usize,
+    inactive: usize,
     peeling: &Peeling,
 ) -> Result<DenseOctetMatrix, Error>
     requires peeled { PeelsRows ones.now peeling.now }
     requires hdpc { AreOctetRows ones.now first_hdpc (length peeling.now.places.items) hdpc.now }
-    requires frozen { length peeling.now.rows.items + frozen ≡ length peeling.now.places.items }
-    ensures tails { IfOk result (HasLeading (length ones.now) frozen (length ones.now) (λ r f. system_rows ones.now first_hdpc hdpc.now r (at peeling.now.order.items (length peeling.now.rows.items + f)))) }
+    requires inactive { length peeling.now.rows.items + inactive ≡ length peeling.now.places.items }
+    ensures tails { IfOk result (HasLeading (length ones.now) inactive (length ones.now) (λ r f. system_rows ones.now first_hdpc hdpc.now r (at peeling.now.order.items (length peeling.now.rows.items + f)))) }
     ensures err { IfErr result (λ e. e ≡ OutOfMemory) }
 {
-    let mut tails = DenseOctetMatrix::new(alloc, ones.height(), whole_vectors(frozen), 0)?;
+    let mut tails = DenseOctetMatrix::new(alloc, ones.height(), whole_vectors(inactive), 0)?;
     for row in 0..ones.height() {
         if row >= first_hdpc && row - first_hdpc < hdpc.height() {
-            fill_octets(hdpc, row - first_hdpc, peeling, frozen, row, &mut tails);
+            fill_octets(hdpc, row - first_hdpc, peeling, inactive, row, &mut tails);
         } else {
             fill_bits(ones, row, peeling, &mut tails);
         }
@@ -59,19 +59,19 @@ fn fill_octets(
     octets: &DenseOctetMatrix,
     from: usize,
     peeling: &Peeling,
-    frozen: usize,
+    inactive: usize,
     row: usize,
     tails: &mut DenseOctetMatrix,
 )
     requires order { IsOrderOf octets.now.width peeling.now.order.items peeling.now.places.items }
-    requires frozen { length peeling.now.rows.items + frozen ≡ octets.now.width }
+    requires inactive { length peeling.now.rows.items + inactive ≡ octets.now.width }
     requires from { from < length octets.now.rows }
     requires row { row < length tails.old.rows }
-    requires width { frozen ≤ tails.old.width }
+    requires width { inactive ≤ tails.old.width }
     requires octets { HasOctets tails.old }
-    ensures { WritesRow row 0 frozen (λ f. entry_of octets.now from (at peeling.now.order.items (length peeling.now.rows.items + f))) tails.old tails.new }
+    ensures { WritesRow row 0 inactive (λ f. entry_of octets.now from (at peeling.now.order.items (length peeling.now.rows.items + f))) tails.old tails.new }
 {
-    for f in 0..frozen {
+    for f in 0..inactive {
         let column = peeling.order[peeling.rows.len() + f];
         tails.set(row, f, Octet::new(octets.get(from, column).byte()));
     }

@@ -3,6 +3,7 @@ use Rattle.std.proofs.Common.{◌≡◌, ◌≢◌, ◌+◌, ◌<◌, ◌≤◌,
 use Rattle.std.specs.List.{count_by}
 use Rattle.std.proofs.lemmas.List.{get_or_read}
 use Rattle.rq_algebra.specs.Systems.{at}
+use Rattle.rq_solver.specs.Peeled.{ones_at}
 use Rattle.rq_solver.proofs.CountLaws.{few_places, met_none, met_skipped, met_more, twice_counted}
 use Rattle.rq_solver.proofs.PivotTurns.{takes_none, takes_skipped, takes_more}
 use Rattle.rq_solver.proofs.pi_solver.first_phase.take_pivots.Goals as goal
@@ -11,6 +12,7 @@ use Rattle.rq_solver.proofs.pi_solver.first_phase.take_pivots.Goals.{then-place-
 pub loop-column-init : goal.loop-column-init
 loop-column-init c = record {
   taken = takes_none c.args.peeling.now.rows.items c.args.peeling.now.order.items c.args.row c.row-column-items.result.now c.args.recorded.now c.requires.octets;
+  each = omega arith;
   few = (0, met_none (length c.args.peeling.now.rows.items) (λ q. at c.args.peeling.now.places.items (at c.row-column-items.result.now q)), (omega arith));
 }
 
@@ -44,6 +46,7 @@ loop-column-preserved c =
           let tested : w.index.result.now ≡ at rows j = get_or_read rows j w.index.result.now in_rows w.index.ensures 0 in
           let read : w.index-then-index-row.result.now ≡ at rows j = get_or_read rows j w.index-then-index-row.result.now in_rows w.index-then-index-row.ensures 0 in
           rw w.recorded-is (record {
+            each = (let added = w.in_ok-add_row.ensures.counted in let so_far = v.each in omega (arith, added, so_far));
             few =
                 let added = w.in_ok-add_row.ensures.counted in
                 (v.few.0 + 1, met_more (length rows) met t v.few.0 v.few.1 (rw place in_rows) fresh, (let so_far = v.few.2 in omega (arith, added, so_far)));
@@ -51,6 +54,7 @@ loop-column-preserved c =
                 w.add_row.new.self (rw (read, w.one.ensures) at w.in_ok-add_row.ensures.added);
           })
       | else-place-len w ↦ rw w.recorded-is (record {
+        each = (let so_far = v.each in omega (arith, so_far));
         few = (v.few.0, met_skipped (length rows) met t v.few.0 v.few.1, v.few.2);
         taken = elim w.else-place-len.branch [
           | else-place-len-via-then-place-len+else-index-row w' ↦
@@ -69,3 +73,9 @@ returns-clause-few c =
     let most = few_places few.0 (length c.args.peeling.now.rows.items) few.1.which few.1.are in
     let so_far = few.2 in
     omega (arith, most, so_far)
+
+pub returns-clause-each : goal.returns-clause-each
+returns-clause-each c =
+    let so_far = c.loop-column.invariant.each in
+    let all : length c.row-column-items.result.now ≡ length (ones_at c.args.ones.now c.args.row) = ap length c.row-column-items.ensures in
+    omega (arith, so_far, all)

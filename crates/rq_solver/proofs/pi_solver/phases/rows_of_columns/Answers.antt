@@ -31,11 +31,11 @@ returns-then-not-branch-clause-found c = λ system peeled.
     let rest = rest_is rows slice listed c.as_slice-pivots.ensures.value in
     let all : c.len.result ≡ length places = c.len.ensures ∙ c.args.peeling.now.places.ok.0 in
     let many : length slice ≡ length rows = ap length c.as_slice-pivots.ensures.value in
-    let wide : length rows + inactive ≡ length places = omega (arith, all, many, c.requires.few) in
+    let wide : length rows + inactive ≡ length places = omega (arith, all, many, c.requires.peeled.peeled.few) in
     let narrow : inactive ≤ middle.table.width = omega (arith, c.requires.wide, all, many) in
     let permuted : IsPermutation (drop (length rows) listed) reduced = subst (λ (l : List ℕ). IsPermutation l reduced) rest done.permuted in
     let lacks : LacksPivots (drop (length rows) listed) reduced inactive middle last = subst (λ (l : List ℕ). LacksPivots l reduced inactive middle last) rest (rw c.if-not-branch.true at done.solved) in
-    null_of_peeled (length middle.table.rows) (length places) system rows order places c.requires.order c.requires.pivots listed c.requires.listed inactive middle last peeled wide narrow lacks.changes reduced permuted lacks.stuck
+    null_of_peeled (length middle.table.rows) (length places) system rows order places c.requires.peeled.peeled.columns (rw c.requires.height c.requires.peeled.peeled.in_rows) listed c.requires.listed inactive middle last peeled wide narrow lacks.changes reduced permuted lacks.stuck
 
 pub returns-clause-found : goal.returns-clause-found
 returns-clause-found c = λ system peeled.
@@ -52,12 +52,11 @@ returns-clause-found c = λ system peeled.
     let rest = rest_is rows slice listed c.as_slice-pivots.ensures.value in
     let all : c.len.result ≡ length places = c.len.ensures ∙ c.args.peeling.now.places.ok.0 in
     let many : length slice ≡ length rows = ap length c.as_slice-pivots.ensures.value in
-    let wide : length rows + inactive ≡ length places = omega (arith, all, many, c.requires.few) in
+    let wide : length rows + inactive ≡ length places = omega (arith, all, many, c.requires.peeled.peeled.few) in
     let narrow : inactive ≤ middle.table.width = omega (arith, c.requires.wide, all, many) in
     let permuted : IsPermutation (drop (length rows) listed) reduced = subst (λ (l : List ℕ). IsPermutation l reduced) rest done.permuted in
-    let found : SolvesInactive slice (take (length listed - length slice) (drop (length slice) listed)) reduced inactive middle final = rw c.if-not-branch.false at done.solved in
-    let here : SolvesInactive rows (drop (length rows) listed) reduced inactive middle final =
-    subst (λ (l : List ℕ). SolvesInactive l (drop (length rows) listed) reduced inactive middle final) c.as_slice-pivots.ensures.value (subst (λ (l : List ℕ). SolvesInactive slice l reduced inactive middle final) rest found) in
+    let found : SolvesInactive c.args.ones.now rows order (take (length listed - length slice) (drop (length slice) listed)) reduced inactive middle final = rw c.if-not-branch.false at done.solved in
+    let here : SolvesInactive c.args.ones.now rows order (drop (length rows) listed) reduced inactive middle final = subst (λ (l : List ℕ). SolvesInactive c.args.ones.now rows order l reduced inactive middle final) rest found in
     let pick : List ℕ = put_mid (length slice) (length listed - length slice) listed reduced in
     let within : length slice ≤ length listed = omega (arith, many, c.requires.listed.few) in
     let long : (q : ℕ) → q < length reduced → at pick (length rows + q) ≡ at reduced q = (λ (q : ℕ) (l : q < length reduced).
@@ -65,8 +64,8 @@ returns-clause-found c = λ system peeled.
     let starts : (p : ℕ) → p < length rows → at pick p ≡ at rows p = (λ (p : ℕ) (l : p < length rows).
     placed_first (length slice) (length listed - length slice) listed reduced within p (omega (arith, many)) ∙ c.requires.listed.starts p l) in
     rw (c.in_ok-rows_at.ensures.rows, c.as_slice.ensures.value)
-    (finds_by_peeled (length middle.table.rows) (length places) system rows order places c.requires.order c.requires.pivots listed c.requires.listed inactive middle here.middle peeled wide narrow here.changes reduced permuted
-    final here.reduced_rows here.takes pick long starts)
+    (finds_by_peeled (length middle.table.rows) (length places) system rows order places c.requires.peeled.peeled.columns (rw c.requires.height c.requires.peeled.peeled.in_rows) listed c.requires.listed inactive middle here.middle peeled wide narrow here.changes reduced permuted
+    c.args.ones.now here.marks here.returned here.last final here.fits here.back here.reduces here.finishes pick long starts)
 
 pub returns-then-not-branch-clause-few : goal.returns-then-not-branch-clause-few
 returns-then-not-branch-clause-few c =
@@ -78,7 +77,7 @@ returns-then-not-branch-clause-few c =
     let many : length slice ≡ length rows = ap length c.as_slice-pivots.ensures.value in
     let inactive : ℕ = c.len.result - length slice in
     let columns : inactive ≡ length c.args.peeling.now.places.items - length rows = omega (arith, all, many) in
-    let rest : length (take (length listed - length slice) (drop (length slice) listed)) + length slice - 1 ≡ length listed - 1 = rest_count slice listed (omega (arith, many, c.requires.listed.few)) in
+    let rest : length (take (length listed - length slice) (drop (length slice) listed)) + length rows - 1 ≡ length listed - 1 = (let counted = rest_count slice listed (omega (arith, many, c.requires.listed.few)) in omega (arith, counted, many)) in
     rw (columns, rest) at few
 
 pub returns-clause-few : goal.returns-clause-few
@@ -91,5 +90,5 @@ returns-clause-few c =
     let many : length slice ≡ length rows = ap length c.as_slice-pivots.ensures.value in
     let inactive : ℕ = c.len.result - length slice in
     let columns : inactive ≡ length c.args.peeling.now.places.items - length rows = omega (arith, all, many) in
-    let rest : length (take (length listed - length slice) (drop (length slice) listed)) + length slice - 1 ≡ length listed - 1 = rest_count slice listed (omega (arith, many, c.requires.listed.few)) in
+    let rest : length (take (length listed - length slice) (drop (length slice) listed)) + length rows - 1 ≡ length listed - 1 = (let counted = rest_count slice listed (omega (arith, many, c.requires.listed.few)) in omega (arith, counted, many)) in
     rw (columns, rest) at few

@@ -1,35 +1,54 @@
 -- What the check leaves to show of `pi_solver::phases::solve_inactive`.
-use Rattle.std.proofs.Common.{◌≡◌, ◌≤◌, Contains, length, sym, ap, subst, arith}
+use Rattle.std.proofs.Common.{◌≡◌, ◌≢◌, ◌+◌, ◌-◌, ◌*◌, ◌<◌, ◌≤◌, ℕ, List, Contains, length, sym, ap, subst, arith}
 use Rattle.std.proofs.lemmas.List.Elements.{Contains-get_or}
 use Rattle.std.proofs.lemmas.List.Sorted.{Contains-permutation, IsPermutation-sym}
+use Rattle.std.specs.List.Sorted.{IsPermutation}
 use Rattle.rq_algebra.specs.Systems.{at}
-use Rattle.rq_solver.specs.Counts.{additions}
+use Rattle.rq_solver.specs.Counts.{additions, triangle}
 use Rattle.rq_solver.specs.Recorded.{Recorded}
-use Rattle.rq_solver.specs.RowSteps.{IsReduced}
+use Rattle.rq_solver.specs.RowSteps.{AreRows, IsEchelon}
 use Rattle.rq_solver.proofs.CountLaws.{inactive_bound, stuck_bound}
+use Rattle.rq_solver.proofs.FinalTurns.{echelon_stays}
 use Rattle.rq_solver.proofs.pi_solver.phases.solve_inactive.Goals as goal
 
-pub take_reduced-requires-clause-apart : goal.take_reduced-requires-clause-apart
-take_reduced-requires-clause-apart c = λ p f l n e.
+-- a pivot's row is none of those that are left
+apart_left : (rows left reduced : List ℕ) → IsPermutation left reduced → ((p : ℕ) → p < length rows → Contains left (at rows p) → ⊥) → (p f : ℕ) → p < length rows → f < length reduced → at rows p ≢ at reduced f
+apart_left rows left reduced permuted out p f l n e = out p l (subst (Contains left) (sym e) (Contains-permutation reduced left (at reduced f) (IsPermutation-sym left reduced permuted) (Contains-get_or reduced f 0 n)))
+
+pub reduce_back-requires-clause-echelon : goal.reduce_back-requires-clause-echelon
+reduce_back-requires-clause-echelon c =
+    let done = c.in_ok-eliminate.ensures in
+    let rows = c.args.peeling.now.rows.items in
     let reduced = c.eliminate.new.rows in
-    let left = c.args.left.now in
-    c.requires.apart p l (subst (Contains left) (sym e) (Contains-permutation reduced left (at reduced f) (IsPermutation-sym left reduced c.in_ok-eliminate.ensures.permuted) (Contains-get_or reduced f 0 n)))
+    let echelon : IsEchelon c.eliminate.new.rows c.args.inactive c.eliminate.new.recorded.table = rw c.if-not-branch.false at done.pivots in
+    let apart = apart_left rows c.args.left.now reduced done.permuted c.requires.apart in
+    let before : IsEchelon reduced c.args.inactive c.enter-2.new.self.table = rw c.enter-2.ensures echelon in
+    let are : AreRows reduced c.enter-2.new.self.table = rw (c.enter-2.ensures, done.steps.performs.height) done.rows in
+    let narrow : c.args.inactive ≤ c.enter-2.new.self.table.width = rw (c.enter-2.ensures, done.steps.performs.width, c.enter.ensures) c.requires.width in
+    rw c.enter-3.ensures (echelon_stays c.args.ones.now rows c.args.peeling.now.order.items c.in_ok-marks.marks.items reduced c.args.inactive c.enter-2.new.self c.take_back.new.recorded c.in_ok-marks.ensures.taken are narrow apart before)
+
+pub finish_pivots-requires-clause-apart : goal.finish_pivots-requires-clause-apart
+finish_pivots-requires-clause-apart c = apart_left c.args.peeling.now.rows.items c.args.left.now c.eliminate.new.rows c.in_ok-eliminate.ensures.permuted c.requires.apart
 
 pub returns-then-not-branch-clause-few : goal.returns-then-not-branch-clause-few
 returns-then-not-branch-clause-few c =
-    let few = c.in_ok-eliminate.ensures.few in
-    let most = stuck_bound c.args.inactive (length c.args.left.now) (length c.args.pivots.now) in
+    let few : additions c.eliminate.new.recorded.operations ≤ additions c.enter.new.self.operations + c.args.inactive * (length c.args.left.now - 1) = rw c.if-not-branch.true at c.in_ok-eliminate.ensures.few in
+    let most = stuck_bound c.args.inactive (length c.args.left.now) (length c.args.peeling.now.rows.items) in
     let same : additions c.enter.new.self.operations ≡ additions c.args.recorded.now.operations = ap (λ (s : Recorded). additions s.operations) c.enter.ensures in
     omega (arith, few, most, same)
 
 pub returns-clause-few : goal.returns-clause-few
 returns-clause-few c =
     let done = c.in_ok-eliminate.ensures in
-    let reduced : IsReduced c.eliminate.new.rows 0 c.args.inactive c.eliminate.new.recorded.table = rw c.if-not-branch.false at done.pivots in
-    let fits : c.args.inactive ≤ length c.args.left.now = omega (arith, reduced.fits, c.eliminate.auto.rows) in
-    let most = inactive_bound c.args.inactive (length c.args.left.now) (length c.args.pivots.now) fits in
-    let first = done.few in
-    let last = c.in_ok-take_reduced.ensures.few in
-    let same : additions c.enter.new.self.operations ≡ additions c.args.recorded.now.operations = ap (λ (s : Recorded). additions s.operations) c.enter.ensures in
-    let again : additions c.enter-2.new.self.operations ≡ additions c.eliminate.new.recorded.operations = ap (λ (s : Recorded). additions s.operations) c.enter-2.ensures in
-    omega (arith, most, first, last, same, again)
+    let echelon : IsEchelon c.eliminate.new.rows c.args.inactive c.eliminate.new.recorded.table = rw c.if-not-branch.false at done.pivots in
+    let fits : c.args.inactive ≤ length c.args.left.now = omega (arith, echelon.fits, c.eliminate.auto.rows) in
+    let most = inactive_bound c.args.inactive (length c.args.left.now) (length c.args.peeling.now.rows.items) fits in
+    let first : additions c.eliminate.new.recorded.operations + triangle c.args.inactive ≤ additions c.enter.new.self.operations + c.args.inactive * (length c.args.left.now - 1) = rw c.if-not-branch.false at done.few in
+    let taken = c.in_ok-marks.ensures.few in
+    let back = c.in_ok-reduce_back.ensures.few in
+    let last = c.in_ok-finish_pivots.ensures.few in
+    let one : additions c.enter.new.self.operations ≡ additions c.args.recorded.now.operations = ap (λ (s : Recorded). additions s.operations) c.enter.ensures in
+    let two : additions c.enter-2.new.self.operations ≡ additions c.eliminate.new.recorded.operations = ap (λ (s : Recorded). additions s.operations) c.enter-2.ensures in
+    let three : additions c.enter-3.new.self.operations ≡ additions c.take_back.new.recorded.operations = ap (λ (s : Recorded). additions s.operations) c.enter-3.ensures in
+    let four : additions c.enter-4.new.self.operations ≡ additions c.reduce_back.new.recorded.operations = ap (λ (s : Recorded). additions s.operations) c.enter-4.ensures in
+    omega (arith, most, first, taken, back, last, one, two, three, four)

@@ -1,5 +1,5 @@
 -- What the loops keep in `pi_solver::first_phase::hdpc::add_pivot`.
-use Rattle.std.proofs.Common.{◌≡◌, ℕ, ◌+◌, ◌-◌, ◌<◌, ◌≤◌, length}
+use Rattle.std.proofs.Common.{◌+◌, ◌≤◌}
 use Rattle.rq_algebra.specs.Systems.{at}
 use Rattle.rq_solver.specs.Counts.{additions}
 use Rattle.rq_solver.specs.OctetBatch.{ChangesOctets, HasZeros}

@@ -30,8 +30,8 @@ loop-column-preserved c =
     let table = c.loop-column.tails in
     let v = c.loop-column.invariant in
     let peeled = c.requires.peeled.peeled in
-    let frozen : ℕ = width - pivots in
-    let wide : pivots + frozen ≡ width = omega (arith, peeled.few) in
+    let inactive : ℕ = width - pivots in
+    let wide : pivots + inactive ≡ width = omega (arith, peeled.few) in
     let in_columns : t < length columns = c.loop-column-test.true in
     let within : All (λ k. k < width) columns = subst (λ (l : List ℕ). All (λ k. k < width) l) (sym c.row-column-items.ensures) (c.requires.peeled.bits.within row c.requires.row) in
     let once : (k : ℕ) → k < width → count_by (λ x. x == k) columns ≤ 1 = subst (λ (l : List ℕ). (k : ℕ) → k < width → count_by (λ x. x == k) l ≤ 1) (sym c.row-column-items.ensures) (λ k. c.requires.peeled.bits.once row k c.requires.row) in
@@ -43,6 +43,6 @@ loop-column-preserved c =
           let late : pivots ≤ place = omega (arith, many, w.if-place-pivots.true) in
           let inside : place - c.len-pivots.result < table.width = omega (arith, v.width, c.requires.width, (peeled.columns.placed (at columns t) in_width).0, is, many, late) in
           let sets = sets_entry table v.octets row (place - c.len-pivots.result) w.one.result (omega (arith, v.height, c.requires.height, c.requires.row)) inside (rw w.one.ensures (lit< tt)) w.set.new.self w.set.ensures in
-          rw w.tails-is (ones_more width pivots order places peeled.columns columns row old frozen wide t in_columns in_width table v once place is late w.set.new.self (rw (many, w.one.ensures) at sets))
-      | else-place-pivots w ↦ rw w.tails-is (ones_skipped width pivots order places peeled.columns columns row old frozen wide t in_columns in_width table v (omega (arith, is, many, w.if-place-pivots.false)))
+          rw w.tails-is (ones_more width pivots order places peeled.columns columns row old inactive wide t in_columns in_width table v once place is late w.set.new.self (rw (many, w.one.ensures) at sets))
+      | else-place-pivots w ↦ rw w.tails-is (ones_skipped width pivots order places peeled.columns columns row old inactive wide t in_columns in_width table v (omega (arith, is, many, w.if-place-pivots.false)))
     ]

@@ -1,10 +1,10 @@
--- What the check leaves to show of `pi_solver::columns::ColumnOrder::freeze`.
+-- What the check leaves to show of `pi_solver::columns::ColumnOrder::inactivate`.
 use Rattle.std.proofs.Common.{◌≡◌, ℕ, ◌-◌, ◌+◌, ◌<◌, List, length, sym, ap, ◌∙◌, subst, arith}
 use Rattle.std.proofs.lemmas.List.{get_or_read}
 use Rattle.rq_algebra.specs.Systems.{at}
 use Rattle.rq_solver.specs.Peeled.{ColumnState, IsColumnState}
-use Rattle.rq_solver.proofs.ColumnLaws.{ends_by_freeze}
-use Rattle.rq_solver.proofs.pi_solver.columns.ColumnOrder.freeze.Goals as goal
+use Rattle.rq_solver.proofs.ColumnLaws.{ends_by_inactivation}
+use Rattle.rq_solver.proofs.pi_solver.columns.ColumnOrder.inactivate.Goals as goal
 
 module _ (c : goal.After-self-1) where
   state : IsColumnState c.args.self.now
@@ -22,5 +22,5 @@ module _ (c : goal.After-self-1) where
 pub returns-clause-ended : goal.returns-clause-ended
 returns-clause-ended c =
     let one_more : c.args.self.now.end ≡ c.self.inside.end - 1 + 1 = omega (arith, end c, c.requires.active) in
-    ends_by_freeze c.args.column c.index-place.result.now (c.self.inside.end - 1) c.args.self.now c.exchange.new.self _ c.requires.active (here c) c.exchange.ensures (omega (arith, one_more, c.requires.active)) (omega (arith, one_more)) (state c).within
+    ends_by_inactivation c.args.column c.index-place.result.now (c.self.inside.end - 1) c.args.self.now c.exchange.new.self _ c.requires.active (here c) c.exchange.ensures (omega (arith, one_more, c.requires.active)) (omega (arith, one_more)) (state c).within
     one_more (ap (λ (s : ColumnState). record s { end = s.end - 1 }) c.self-2.view_is)

@@ -1,0 +1,77 @@
+-- What the check leaves to show of `pi_solver::fourth_phase::take_back_rows`.
+use Rattle.std.proofs.Common.{◌≡◌, ◌≢◌, ℕ, ◌+◌, ◌-◌, ◌<◌, ◌≤◌, List, Bool, true, false, get_or, set, length, sym, ◌∙◌, ap, arith, inl, inr}
+use Rattle.std.proofs.lemmas.Bool.{cases_eq}
+use Rattle.std.proofs.lemmas.List.{get_or_read, get_or-set_same, get_or-set_other}
+use Rattle.rq_algebra.specs.Systems.{at}
+use Rattle.rq_solver.specs.Peeled.{ones_at}
+use Rattle.rq_solver.proofs.CountLaws.{one_turn_more}
+use Rattle.rq_solver.proofs.FinalTurns.{takes_none, back_skipped, back_taken}
+use Rattle.rq_solver.proofs.pi_solver.fourth_phase.take_back_rows.Goals as goal
+use Rattle.rq_solver.proofs.pi_solver.fourth_phase.take_back_rows.Goals.{then-saves+in_ok-take_pivots, else-saves}
+
+pub loop-done-init : goal.loop-done-init
+loop-done-init c =
+    let all : length c.args.peeling.now.rows.items - 0 ≡ length c.args.peeling.now.rows.items = omega arith in
+    record {
+      taken = rw all (takes_none c.args.ones.now c.args.peeling.now.rows.items c.args.peeling.now.order.items c.args.peeling.now.places.items _ c.requires.peeled.bits c.requires.peeled.peeled c.args.marks.now c.args.recorded.now c.requires.octets);
+      short = λ p late l e. absurd (omega arith);
+      few = omega arith;
+    }
+
+pub loop-done-preserved : goal.loop-done-preserved
+loop-done-preserved c =
+    let lists = c.args.ones.now in
+    let rows = c.args.peeling.now.rows.items in
+    let order = c.args.peeling.now.order.items in
+    let places = c.args.peeling.now.places.items in
+    let bits = c.requires.peeled.bits in
+    let peeled = c.requires.peeled.peeled in
+    let marks = c.loop-done.marks in
+    let done = c.loop-done.done in
+    let long : length marks ≡ length rows = c.loop-done.auto.marks ∙ c.requires.long in
+    let place : ℕ = length marks - 1 - done in
+    let saves = c.saves_additions-saves.result in
+    let now : List Bool = set marks place saves in
+    let in_rows : place < length rows = omega (arith, long, c.loop-done-test.true) in
+    let in_marks : place < length marks = omega (arith, long, in_rows) in
+    let was : length rows - done ≡ place + 1 = omega (arith, long, c.loop-done-test.true) in
+    let next : length rows - (done + 1) ≡ place = omega (arith, long, c.loop-done-test.true) in
+    let v = c.loop-done.invariant in
+    let old = c.args.recorded.now in
+    let cur = c.loop-done.recorded in
+    let read : c.index-row.result.now ≡ at rows place = get_or_read rows place c.index-row.result.now in_rows c.index-row.ensures 0 in
+    let same : (p : ℕ) → p ≢ place → get_or now p false ≡ get_or marks p false = (λ (p : ℕ) (d : p ≢ place). get_or-set_other marks place p saves false d) in
+    let here : get_or now place false ≡ saves = get_or-set_same marks place saves false in_marks in
+    let so_far = rw was at v.taken in
+    let short : (p : ℕ) → length rows - (done + 1) ≤ p → p < length rows → get_or now p false ≡ true → length (ones_at lists (at rows p)) ≤ c.args.most = (λ (p : ℕ) (late : length rows - (done + 1) ≤ p) (l : p < length rows) (e : get_or now p false ≡ true). elim (cases_eq p place) [
+      | inl f ↦ rw (f, ← read) (c.saves_additions-saves.ensures (sym here ∙ ap (λ (n : ℕ). get_or now n false) (sym f) ∙ e))
+      | inr d ↦ v.short p (omega (arith, was, next, late, d)) l (sym (same p d) ∙ e)
+    ]) in
+    elim c.if-saves.branch [
+      | then-saves+in_ok-take_pivots w ↦ rw w.recorded-is (record {
+        taken = rw next (back_taken lists rows order places _ bits peeled marks now place in_rows old cur so_far same w.take_pivots.new.recorded (rw read at w.in_ok-take_pivots.ensures.taken) (here ∙ w.if-saves.true));
+        short = short;
+        few =
+            let few_ones = c.saves_additions-saves.ensures w.if-saves.true in
+            let each = w.in_ok-take_pivots.ensures.each in
+            one_turn_more c.args.most _ _ _ done v.few (omega (arith, each, few_ones));
+      })
+      | else-saves w ↦ rw w.recorded-is (record {
+        taken = rw next (back_skipped lists rows order places _ bits peeled marks now place in_rows old cur so_far same (here ∙ w.if-saves.false));
+        short = short;
+        few = one_turn_more c.args.most _ _ _ done v.few (omega arith);
+      })
+    ]
+
+pub returns-clause-taken : goal.returns-clause-taken
+returns-clause-taken c =
+    let none : length c.args.peeling.now.rows.items - c.loop-done.done ≡ 0 = omega (arith, c.loop-done.auto.done-end, c.loop-done.auto.marks, c.requires.long, c.loop-done-test.false) in
+    rw none at c.loop-done.invariant.taken
+
+pub returns-clause-short : goal.returns-clause-short
+returns-clause-short c = λ p l e. c.loop-done.invariant.short p (omega (arith, c.loop-done.auto.done-end, c.loop-done.auto.marks, c.requires.long, c.loop-done-test.false)) l e
+
+pub returns-clause-few : goal.returns-clause-few
+returns-clause-few c =
+    let all : c.loop-done.done ≡ length c.args.peeling.now.rows.items = omega (arith, c.loop-done.auto.done-end, c.loop-done.auto.marks, c.requires.long, c.loop-done-test.false) in
+    rw all at c.loop-done.invariant.few

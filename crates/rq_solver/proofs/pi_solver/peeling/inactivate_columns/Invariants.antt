@@ -1,0 +1,10 @@
+-- What the loops keep in `pi_solver::peeling::inactivate_columns`.
+use Rattle.std.proofs.Common.{◌≡◌, take}
+use Rattle.rq_solver.specs.Peeled.{InactivatesRow}
+use Rattle.rq_solver.proofs.pi_solver.peeling.inactivate_columns.Given as goal
+
+abbrev pub invariant-loop-column : goal.invariant-loop-column
+invariant-loop-column l = record {
+  inactive : InactivatesRow (take l.column-index l.row) l.fn.columns l.columns;
+  degrees : l.degrees ≡ l.fn.degrees;
+}

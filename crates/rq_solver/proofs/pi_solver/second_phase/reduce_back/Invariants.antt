@@ -1,0 +1,11 @@
+-- What the loops keep in `pi_solver::second_phase::reduce_back`.
+use Rattle.std.proofs.Common.{◌+◌, ◌-◌, ◌≤◌}
+use Rattle.rq_solver.specs.Cleared.{ReducesBack}
+use Rattle.rq_solver.specs.Counts.{additions, triangle}
+use Rattle.rq_solver.proofs.pi_solver.second_phase.reduce_back.Given as goal
+
+abbrev pub invariant-loop-done : goal.invariant-loop-done
+invariant-loop-done l = record {
+  reduced : ReducesBack l.rows l.count (l.count - l.done) l.fn.recorded l.recorded;
+  few : additions l.recorded.operations ≤ additions l.fn.recorded.operations + triangle l.done;
+}

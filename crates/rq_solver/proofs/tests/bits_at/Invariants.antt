@@ -1,0 +1,15 @@
+-- What the loops keep in `tests::bits_at`.
+use Rattle.std.proofs.Common.{◌≡◌, ◌<◌, ◌+◌, ℕ, false}
+use Rattle.rq_standard.specs.TableRows.{intermediate_symbols}
+use Rattle.rq_solver.proofs.tests.bits_at.Given as goal
+
+abbrev pub invariant-loop-i : goal.invariant-loop-i
+invariant-loop-i g l =
+    let content = g.T.BinaryMatrix.content l.bits in
+    record {
+      height : content.height ≡ intermediate_symbols l.row;
+      width : content.width ≡ intermediate_symbols l.row;
+      boundary : content.boundary ≡ l.row.lt_symbols;
+      indexed : content.indexed ≡ false;
+      zeros : (i k : ℕ) → i < l.row.hdpc_symbols → k < intermediate_symbols l.row → content.bit (l.row.ldpc_symbols + i) k ≡ 0;
+    }
