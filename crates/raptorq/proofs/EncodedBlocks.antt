@@ -24,7 +24,7 @@ use Rattle.raptorq.proofs.Numbered.{mapped_through}
 use Rattle.raptorq.proofs.PlanLaws.{plan_refused}
 use Rattle.raptorq.proofs.Ranges.{flat_map-push}
 use Rattle.raptorq.specs.declared.encoder.block.SourceBlockEncoder.{SourceBlockEncoder}
-use Rattle.rq_base.specs.Refused.{checked_configuration}
+use Rattle.rq_base.specs.RefusedInput.{checked_configuration}
 use Rattle.raptorq.specs.Refused.{new_encoder, RefusesEncoder}
 use Rattle.raptorq.specs.BlockEncoded.{BlockEncoded, block_encoded_of, IsBlockPacket, AreBlockPackets, new_block_encoded, bytes_of_block}
 

@@ -6,8 +6,7 @@ use Rattle.std.proofs.lemmas.List.{get_or_append_left, get_or-append_right, get_
 use Rattle.std.proofs.lemmas.List.FromFn.{length-range_with_len}
 use Rattle.std.proofs.lemmas.List.Elements.{All-from_get_or}
 use Rattle.rq_algebra.specs.Systems.{at}
-use Rattle.rq_algebra.specs.Operations.{Operation, AreAllowed}
-use Rattle.rq_algebra.specs.Elimination.{FindsColumn}
+use Rattle.rq_algebra.specs.Operations.{Operation, AreAllowed, FindsColumn}
 use Rattle.rq_algebra.specs.Symbols.{IsSymbol, AreSymbols, SolvesSymbols, symbol_at, slice_at}
 use Rattle.rq_algebra.proofs.Stacks.{stacked_above, stacked_below}
 use Rattle.rq_algebra.proofs.Solutions.{solves_same}

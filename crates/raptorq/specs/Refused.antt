@@ -6,7 +6,7 @@ use Rattle.rq_bytes.specs.Refusals.{IsRefusal, and_then}
 use Rattle.rq_standard.specs.declared.row.Row.{Row}
 use Rattle.rq_standard.specs.TableRows.{greatest_size}
 use Rattle.rq_standard.specs.Headline.{HasNonsingularRows}
-use Rattle.rq_base.specs.Refused.{checked_configuration}
+use Rattle.rq_base.specs.RefusedInput.{checked_configuration}
 use Rattle.rq_standard.specs.Packet.{Packet}
 use Rattle.rq_standard.specs.Configuration.{Configuration}
 use Rattle.rq_standard.specs.Held.{Held}

@@ -7,7 +7,7 @@ use Rattle.rq_standard.specs.TableRows.{greatest_size}
 use Rattle.rq_standard.specs.Configuration.{Configuration}
 use Rattle.rq_standard.specs.Headline.{IsHonestRun}
 use Rattle.rq_standard.specs.Packet.{Packet}
-use Rattle.rq_base.specs.Refused.{checked_configuration}
+use Rattle.rq_base.specs.RefusedInput.{checked_configuration}
 
 -- the packets without their thresholds
 abbrev pub packets_of : List (ℕ × Packet) → List Packet

@@ -5,9 +5,8 @@ use Rattle.std.proofs.lemmas.List.Elements.{All-get_or}
 use Rattle.std.proofs.Math.ListN.{get_or-map}
 use Rattle.rq_algebra.specs.Field.{Field}
 use Rattle.rq_algebra.specs.Systems.{IsDetermined, at}
-use Rattle.rq_algebra.specs.Operations.{Operation, Reorder, run, plain, unordered, AreAllowed}
+use Rattle.rq_algebra.specs.Operations.{Operation, Reorder, run, plain, unordered, AreAllowed, IsValues, found_by, FindsColumn}
 use Rattle.rq_algebra.specs.Symbols.{symbols, IsSymbolColumn, AreSymbols, symbol_at, slice_at, SolvesSymbols}
-use Rattle.rq_algebra.specs.Elimination.{IsValues, found_by, FindsColumn}
 use Rattle.rq_algebra.proofs.Sums.{dot_same}
 use Rattle.rq_algebra.proofs.Solutions.{solves_same}
 use Rattle.rq_algebra.proofs.Runs.{zero_values, AreAllowed-middle}

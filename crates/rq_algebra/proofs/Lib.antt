@@ -1,7 +1,8 @@
 pub mod Changes
+pub mod Elements
+pub mod Elimination
 pub mod FewEquations
 pub mod Found
-pub mod Meanings
 pub mod Parity
 pub mod Pivots
 pub mod Places

@@ -3,9 +3,9 @@ use Rattle.std.proofs.Common.{◌≡◌, ℕ, ◌<◌, List, [], ◌∷◌, ◌+
 use Rattle.std.proofs.lemmas.List.Elements.{All-from_get_or}
 use Rattle.rq_algebra.specs.Field.{Field}
 use Rattle.rq_algebra.specs.Systems.{dot, IsColumn, HasNullColumn, at}
-use Rattle.rq_algebra.specs.Operations.{Operation, Reorder, Space, Store, step, run, plain, unordered, read, IsOrder}
-use Rattle.rq_algebra.specs.Elimination.{found_by, FindsColumn, HasPivots, ReadsPivots}
-use Rattle.rq_algebra.specs.Meaning.{Follows}
+use Rattle.rq_algebra.specs.Operations.{Operation, Reorder, Space, Store, step, run, plain, unordered, read, IsOrder, found_by, FindsColumn}
+use Rattle.rq_algebra.proofs.Elimination.{HasPivots, ReadsPivots}
+use Rattle.rq_algebra.specs.Following.{Follows}
 use Rattle.rq_algebra.proofs.Sums.{dot_one}
 use Rattle.rq_algebra.proofs.FewEquations.{all_places}
 use Rattle.rq_algebra.proofs.Solutions.{solves_same}

@@ -6,9 +6,8 @@ use Rattle.std.proofs.lemmas.List.Sums.{fold_push}
 use Rattle.rq_algebra.specs.Field.{Field}
 use Rattle.rq_algebra.specs.Systems.{at}
 use Rattle.rq_algebra.specs.Steps.{AddsRow, ScalesRow}
-use Rattle.rq_algebra.specs.Operations.{Operation, AddAssign, MulAssign, Fma, Reorder, Space, Store, step, run, plain, unordered, IsAllowed, AreAllowed, order_after}
-use Rattle.rq_algebra.specs.Elimination.{IsValues}
-use Rattle.rq_algebra.specs.Meaning.{KeepsSolutions, Follows}
+use Rattle.rq_algebra.specs.Operations.{Operation, AddAssign, MulAssign, Fma, Reorder, Space, Store, step, run, plain, unordered, IsAllowed, AreAllowed, order_after, IsValues}
+use Rattle.rq_algebra.specs.Following.{KeepsSolutions, Follows}
 use Rattle.rq_algebra.proofs.Placewise.{at-zeros}
 use Rattle.rq_algebra.proofs.Solutions.{SameSolutions-refl, SameSolutions-trans, adds_keeps, scales_keeps}
 

@@ -1,13 +1,11 @@
 -- Small systems over the field of two elements, which show what the definitions mean, and why the laws have their premises.
-use Rattle.std.specs.Prelude.{◌≡◌, ◌≢◌, ℕ, ◌<◌, List, [], ◌∷◌, map, Some, None}
+use Rattle.std.specs.Prelude.{◌≡◌, ◌≢◌, ℕ, List, [], ◌∷◌, map, Some, None}
 use Rattle.rq_algebra.specs.Arrangements.{exchange}
 use Rattle.rq_algebra.specs.Systems.{dot, Solves, IsDetermined, HasNullColumn, at, stacked, rows_of}
 use Rattle.rq_algebra.specs.Steps.{AddsRow, AddsValue, ScalesRow, ScalesValue, SameSolutions}
-use Rattle.rq_algebra.specs.Operations.{Operation, AddAssign, MulAssign, Fma, Reorder, Space, plain, unordered, run, values_in, IsAllowed}
+use Rattle.rq_algebra.specs.Operations.{Operation, AddAssign, MulAssign, Fma, Reorder, Space, plain, unordered, run, values_in, IsAllowed, FindsColumn, found_by}
 use Rattle.rq_algebra.specs.Symbols.{symbols, symbol_at}
 use Rattle.rq_algebra.specs.Parities.{sum_listed, parity}
-use Rattle.rq_algebra.specs.Elimination.{FindsColumn, found_by}
-use Rattle.rq_algebra.specs.Meaning.{Shows}
 use Rattle.rq_algebra.specs.Two.{two}
 
 -- a system as a list of rows
@@ -79,10 +77,6 @@ turned = rows ((0 ∷ 1 ∷ []) ∷ (1 ∷ 1 ∷ []) ∷ [])
 -- x1 is in value 0, and x0 in value 1 once value 0 has been added to it
 abbrev pub TurnedIsFound : Type 0
 TurnedIsFound = FindsColumn two 2 2 turned (AddAssign 1 0 ∷ Reorder (1 ∷ 0 ∷ []) ∷ [])
-
--- a matrix that is stored with its rows exchanged, and whose column 0 is stale
-abbrev pub TriangleIsShown : Type 0
-TriangleIsShown = Shows 2 2 (exchange 0 1) (λ k. k) (λ r k. 0 < k) (rows ((7 ∷ 1 ∷ []) ∷ (7 ∷ 1 ∷ []) ∷ [])) triangle
 
 -- one equation, x0, and one without an unknown
 abbrev pub single : ℕ → ℕ → ℕ

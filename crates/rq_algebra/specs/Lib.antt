@@ -1,9 +1,8 @@
 pub mod Arrangements
-pub mod Elimination
 pub mod Examples
 pub mod Field
+pub mod Following
 pub mod FromLaws
-pub mod Meaning
 pub mod OperationLaws
 pub mod Operations
 pub mod Parities

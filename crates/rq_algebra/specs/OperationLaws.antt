@@ -3,9 +3,8 @@ use Rattle.std.specs.Prelude.{◌≡◌, ◌≢◌, ℕ, ◌<◌, List, [], ◌�
 use Rattle.rq_algebra.specs.Field.{Field}
 use Rattle.rq_algebra.specs.Systems.{IsDetermined, HasNullColumn, at}
 use Rattle.rq_algebra.specs.Steps.{AddsRow, ScalesRow}
-use Rattle.rq_algebra.specs.Operations.{Operation, AddAssign, MulAssign, Fma, Reorder, Store, run, plain}
-use Rattle.rq_algebra.specs.Elimination.{FindsColumn, HasPivots, ReadsPivots}
-use Rattle.rq_algebra.specs.Meaning.{Follows, Extends}
+use Rattle.rq_algebra.specs.Operations.{Operation, AddAssign, MulAssign, Fma, FindsColumn, Store, run, plain}
+use Rattle.rq_algebra.specs.Following.{Follows, Extends}
 
 abbrev pub NothingFollows : Type 0
 NothingFollows = (F : Field) (height width : ℕ) (rows : ℕ → ℕ → ℕ) → Follows F height width rows rows []
@@ -33,12 +32,6 @@ abbrev pub NullColumnGoesBack : Type 0
 NullColumnGoesBack =
     (F : Field) (height width : ℕ) (original rows : ℕ → ℕ → ℕ) (operations : List Operation)
     → Follows F height width original rows operations → HasNullColumn F height width rows → HasNullColumn F height width original
-
-abbrev pub PivotsFindColumn : Type 0
-PivotsFindColumn =
-    (F : Field) (height width : ℕ) (original a : ℕ → ℕ → ℕ) (operations : List Operation) (rows columns : ℕ → ℕ) (order : List ℕ)
-    → Follows F height width original a operations → HasPivots F height width a rows columns → ReadsPivots width rows columns order
-    → FindsColumn F height width original (operations ++ Reorder order ∷ [])
 
 abbrev pub FoundIsDetermined : Type 0
 FoundIsDetermined =

@@ -2,8 +2,9 @@
 --
 -- Places are read through the order that is set: place i means value order[i]. `Reorder` sets an order in place of the one before and
 -- moves no value. Where none is set, place i means value i.
-use Rattle.std.specs.Prelude.{◌≢◌, ℕ, ◌<◌, List, [], ◌∷◌, map, fold, length, All, Option, Some, None, ⊤, slice_index_or, slice_index, slice_set}
+use Rattle.std.specs.Prelude.{◌≡◌, ◌≢◌, ℕ, ◌<◌, List, [], ◌∷◌, ◌++◌, map, fold, length, All, Option, Some, None, ⊤, slice_index_or, slice_index, slice_set}
 use Rattle.rq_algebra.specs.Field.{Field}
+use Rattle.rq_algebra.specs.Systems.{Solves, IsColumn, at}
 
 -- add a value to another, multiply one, add a multiple of one to another, set the order
 pub data Operation : Type 0 where
@@ -84,3 +85,25 @@ order_after order (Reorder new) = Some new
 abbrev pub AreAllowed : ℕ → Option (List ℕ) → List Operation → Type 0
 AreAllowed n order [] = ⊤
 AreAllowed n order (operation ∷ operations) = IsAllowed n order operation × AreAllowed n (order_after order operation) operations
+
+-- as many elements as the system has rows
+pub record IsValues (F : Field) (height : ℕ) (values : List ℕ) : Type 0 where
+  pub count : length values ≡ height
+  pub elements : IsColumn F height (at values)
+
+-- what is read after the operations on some values
+abbrev pub found_by : {X : Type 0} → Space X → List Operation → List X → ℕ → X
+found_by S operations values = read S (run S operations (unordered values))
+
+-- the operations find the column from the values
+pub record FindsColumn (F : Field) (height width : ℕ) (rows : ℕ → ℕ → ℕ) (operations : List Operation) : Type 0 where
+  pub allowed : AreAllowed height None operations
+  -- they end with an order of as many places as there are columns
+  pub order : List ℕ
+  pub before : List Operation
+  pub ends : operations ≡ before ++ Reorder order ∷ []
+  pub count : length order ≡ width
+  -- a column that solves the rows with some values is what the operations make of them
+  pub only : (v : List ℕ) → IsValues F height v → (x : ℕ → ℕ) → IsColumn F width x → Solves F height width rows x (at v) → (k : ℕ) → k < width → x k ≡ found_by (plain F) operations v k
+  -- where there are as many rows as columns, what they make of any values solves the rows
+  pub solves : height ≡ width → (v : List ℕ) → IsValues F height v → Solves F height width rows (found_by (plain F) operations v) (at v)

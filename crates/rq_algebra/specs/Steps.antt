@@ -1,4 +1,4 @@
--- Elementary operations on the rows of a system and on its values, entry by entry, so that any store of a matrix can state them.
+-- Elementary operations on the rows of a system and on its values, entry by entry.
 use Rattle.std.specs.Prelude.{◌≡◌, ◌≢◌, ℕ, ◌<◌}
 use Rattle.rq_algebra.specs.Field.{Field}
 use Rattle.rq_algebra.specs.Systems.{Solves}

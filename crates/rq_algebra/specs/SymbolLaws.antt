@@ -2,10 +2,9 @@
 use Rattle.std.specs.Prelude.{◌≡◌, ℕ, ◌+◌, ◌<◌, ◌↔◌, List, ◌∷◌, All}
 use Rattle.rq_algebra.specs.Field.{Field}
 use Rattle.rq_algebra.specs.Systems.{dot, IsColumn, IsDetermined, at, stacked}
-use Rattle.rq_algebra.specs.Operations.{Operation, Store, read, run, plain}
+use Rattle.rq_algebra.specs.Operations.{Operation, Store, read, run, plain, found_by, FindsColumn}
 use Rattle.rq_algebra.specs.Symbols.{symbols, IsSymbol, IsSymbolColumn, AreSymbols, symbol_at, slice_at, store_at, SolvesSymbols}
 use Rattle.rq_algebra.specs.Parities.{sum_listed, parity}
-use Rattle.rq_algebra.specs.Elimination.{found_by, FindsColumn}
 
 -- at each place, operations on symbols are the operations on the elements there
 abbrev pub OperationsActPlacewise : Type 0

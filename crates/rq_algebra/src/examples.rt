@@ -1,6 +1,6 @@
 //! What the definitions mean, and why the laws have their premises, in small systems over the field
 //! of two elements.
-ghost use Rattle.rq_algebra.specs.Examples.{TriangleIsSolved, TriangleIsDetermined, RepeatedHasNullColumn, RepeatedIsNotDetermined, RowsStack, PlacesAreExchanged, OperationsRun, PlacesAreReadThroughTheOrder, OrdersAreReplaced, SymbolsAreAdded, OneValueIsNotAdded, RepeatsCancel, TurnedIsFound, TriangleIsShown, AddingNeedsTwoRows, ScalingNeedsNonzero, OneEquationIsTooFew, FoundNeedsAsManyEquations, SumNeedsPlacesAndElements};
+ghost use Rattle.rq_algebra.specs.Examples.{TriangleIsSolved, TriangleIsDetermined, RepeatedHasNullColumn, RepeatedIsNotDetermined, RowsStack, PlacesAreExchanged, OperationsRun, PlacesAreReadThroughTheOrder, OrdersAreReplaced, SymbolsAreAdded, OneValueIsNotAdded, RepeatsCancel, TurnedIsFound, AddingNeedsTwoRows, ScalingNeedsNonzero, OneEquationIsTooFew, FoundNeedsAsManyEquations, SumNeedsPlacesAndElements};
 
 /// Two equations that are determined, and two that are not.
 pub fn equations()
@@ -30,10 +30,9 @@ pub fn repeats()
     ensures { RepeatsCancel }
 {}
 
-/// What an elimination finds, and what its matrix means on the way.
-pub fn elimination()
-    ensures found { TurnedIsFound }
-    ensures shown { TriangleIsShown }
+/// Operations that find the column.
+pub fn found()
+    ensures { TurnedIsFound }
 {}
 
 /// What goes wrong without a premise of a law.

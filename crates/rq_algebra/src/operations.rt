@@ -1,5 +1,5 @@
 //! The laws of recorded operations.
-ghost use Rattle.rq_algebra.specs.OperationLaws.{NothingFollows, AddAssignExtends, FmaExtends, MulAssignExtends, NullColumnGoesBack, PivotsFindColumn, FoundIsDetermined, OperationsKeepZeros};
+ghost use Rattle.rq_algebra.specs.OperationLaws.{NothingFollows, AddAssignExtends, FmaExtends, MulAssignExtends, NullColumnGoesBack, FoundIsDetermined, OperationsKeepZeros};
 
 /// An operation that does to the values what was done to the rows keeps what the rows say of a
 /// column.
@@ -11,11 +11,9 @@ pub fn following()
     ensures back { NullColumnGoesBack }
 {}
 
-/// Pivots in any rows and columns, and an order that maps each column to its pivot's row, find the
-/// column.
-pub fn pivots()
-    ensures find { PivotsFindColumn }
-    ensures determine { FoundIsDetermined }
+/// Where operations find the column of a system, it is determined.
+pub fn found()
+    ensures { FoundIsDetermined }
 {}
 
 /// Operations make zeros of zeros.

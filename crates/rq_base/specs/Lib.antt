@@ -1,7 +1,7 @@
 pub mod BinaryRows
+pub mod Calls
+pub mod Defaults
 pub mod HdpcPart
 pub mod Information
-pub mod Refused
-pub mod Defaults
+pub mod RefusedInput
 pub mod Walks
-pub mod Calls

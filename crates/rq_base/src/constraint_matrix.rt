@@ -1,6 +1,6 @@
 //! The equations of a block as matrices, and the places of encoding symbols in them (RFC 6330,
 //! sections 5.3.3.3 and 5.3.5.3).
-ghost use Rattle.std.specs.Prelude.{◌≡◌, ◌+◌, ◌*◌, ◌^◌, ◌<◌, ◌≤◌, length, IfOk, IfErr};
+ghost use Rattle.std.specs.Prelude.{◌≡◌, ◌+◌, ◌*◌, ◌^◌, ◌<◌, ◌≤◌, All, length, IfOk, IfErr};
 ghost use Rattle.std.specs.List.{FoldsTo};
 ghost use Rattle.rq_standard.specs.Tuple.{IsTuple, places_of};
 ghost use Rattle.rq_bytes.specs.declared.error.Error.TheVariants.{OutOfMemory};
@@ -38,7 +38,8 @@ pub fn enc_indices<F: FnMut(usize)>(
     requires p1_above { pi_symbols ≤ p1 }
     requires p1_near { p1 ≤ 2 * pi_symbols }
     requires callable { CallableAlong (λ p x. F.pre p x) (λ p x q. F.step p x tt q) f (places_of lt_symbols pi_symbols p1 source_tuple) }
-    ensures { (last : F) × FoldsTo (λ p x q. F.step p x tt q) f (places_of lt_symbols pi_symbols p1 source_tuple) last }
+    ensures calls { (last : F) × FoldsTo (λ p x q. F.step p x tt q) f (places_of lt_symbols pi_symbols p1 source_tuple) last }
+    ensures below { All (λ place. place < lt_symbols + pi_symbols) (places_of lt_symbols pi_symbols p1 source_tuple) }
 {
     let mut places = Places::new(source_tuple, lt_symbols, pi_symbols, p1);
     while let Some(place) = places.next_place() {

@@ -11,8 +11,8 @@ use Rattle.std.specs.Int.{bit_at, to_le_bytes}
 use lib.Bits.{bit_and}
 use lib.Lanes.{zip2, chunk, sel_l, pick_l}
 use Rattle.rq_standard.specs.Octets.{octet_mul}
-use Rattle.rq_standard.specs.PackedBits.{padding_of, packed_bits}
-use Rattle.rq_standard.proofs.Packed.{length-packed_bits, get_or-packed_bits}
+use Rattle.rq_bytes.specs.BinaryOctetVec.{padding_of, packed_bits}
+use Rattle.rq_bytes.proofs.PackedRows.{length-packed_bits, get_or-packed_bits}
 use Rattle.rq_standard.specs.OctetProducts.{mul-one, mul-zero}
 use Rattle.rq_bytes.specs.declared.products.TheConstants.{BITS, PLACES}
 

@@ -4,7 +4,7 @@ use Rattle.std.proofs.Math.Nat.{mul-le-mul_right}
 use Rattle.std.proofs.lemmas.Bool.{cases_lt}
 use Rattle.std.proofs.Math.Seq.{take-append_seam, drop-append_seam, drop-append-add, take-append-add}
 use Rattle.std.proofs.lemmas.List.{take-take, drop-take, drop-drop, take-append-le, length-append, take-append-drop, take-replicate, drop-replicate, take_all, length-take-le, length-drop, append_assoc}
-use Rattle.rq_bytes.specs.Ranges.{range_of, with_range, cut, joined}
+use Rattle.rq_bytes.specs.Ranges.{range_of, with_range, cut, joined_pieces}
 
 pub length-cut : {X : Type 0} (n s : ℕ) (xs : List X) → length (cut n s xs) ≡ n
 length-cut zero s xs = refl
@@ -149,7 +149,7 @@ cut-with_ranges (suc n) s (suc p) k xs ys le size long =
     ∙ ap (λ i. (first ∷ take p (cut n s rest)) ++ (zs ++ drop i (first ∷ cut n s rest)))
     (let same : suc (p + length zs) ≡ suc p + length zs = omega arith in same)
 
-pub joined-cut : {X : Type 0} (n s : ℕ) (xs : List X) → length xs ≡ n * s → joined (cut n s xs) ≡ xs
+pub joined-cut : {X : Type 0} (n s : ℕ) (xs : List X) → length xs ≡ n * s → joined_pieces (cut n s xs) ≡ xs
 joined-cut zero s [] long = refl
 joined-cut zero s (x ∷ xs) long = absurd (omega arith)
 joined-cut (suc n) s xs long =

@@ -4,6 +4,7 @@ pub mod Doubling
 pub mod HalfLookUps
 pub mod HalfSums
 pub mod Halves
+pub mod PackedRows
 pub mod RangeFacts
 pub mod RangeLoans
 pub mod SlabFacts

@@ -7,7 +7,7 @@ use Rattle.rq_algebra.specs.Operations.{Operation, AddAssign, MulAssign, Fma, Re
 use Rattle.rq_algebra.specs.Symbols.{symbols, AreSymbols}
 use Rattle.std.proofs.lemmas.List.Elements.{All-take, All-drop}
 use Rattle.rq_standard.specs.OctetField.{octets}
-use Rattle.rq_bytes.specs.Ranges.{range_of, with_range, cut, joined}
+use Rattle.rq_bytes.specs.Ranges.{range_of, with_range, cut, joined_pieces}
 use Rattle.rq_bytes.specs.Slab.{Slab, after, symbols_in, same_slab, HasPlace}
 use Rattle.rq_bytes.specs.contracts.symbol_slab.SymbolSlab.{the_view, the_invariant}
 use Rattle.rq_bytes.specs.declared.symbol_slab.SymbolSlab.TheInside.{Inside}
@@ -79,31 +79,31 @@ module _ {bytes : List ℕ} {count size : ℕ} {order : Option (List ℕ)} {slab
   range_in p a old lt e same = ap (λ xs. range_of xs a size) same ∙ ap (λ k. range_of bytes k size) e ∙ range_at p lt
 
   -- the buffer again, of what callers see
-  joined_is : joined slab.values ≡ bytes
-  joined_is = sym (ap (λ (v : Slab). joined v.values) is.view) ∙ joined-cut count size bytes is.long
+  joined_is : joined_pieces slab.values ≡ bytes
+  joined_is = sym (ap (λ (v : Slab). joined_pieces v.values) is.view) ∙ joined-cut count size bytes is.long
 
   -- what callers see after a write of any octets from one symbol on, in a buffer that keeps its length
   pub octets_written : (p a all : ℕ) (ws : List ℕ) → p < length slab.values → a ≡ p * slab.symbol_size → all ≡ length bytes
       → ◌≡◌ {A = Slab} (record { values = cut count size (refilled all bytes a ws); symbol_size = size; order = order })
-      (record slab { values = cut (length slab.values) slab.symbol_size (with_range (joined slab.values) (p * slab.symbol_size) ws) })
+      (record slab { values = cut (length slab.values) slab.symbol_size (with_range (joined_pieces slab.values) (p * slab.symbol_size) ws) })
   octets_written p a all ws lt e whole =
       ap (λ (v : List (List ℕ)). record { values = v; symbol_size = size; order = order }) (
       ap (λ n. cut count size (refilled n bytes a ws)) (whole ∙ is.long)
       ∙ cut-refilled count size a bytes ws (omega (arith, within p lt)) is.long
       ∙ ap (λ xs. cut count size (with_range xs a ws)) (sym joined_is)
-      ∙ ap (λ k. cut count size (with_range (joined slab.values) k ws)) e
-      ∙ ap (λ n. cut n size (with_range (joined slab.values) (p * slab.symbol_size) ws)) count_is
-      ∙ ap (λ s. cut (length slab.values) s (with_range (joined slab.values) (p * slab.symbol_size) ws)) size_is)
-      ∙ ap (λ (v : Slab). record v { values = cut (length slab.values) slab.symbol_size (with_range (joined slab.values) (p * slab.symbol_size) ws) }) is.view
+      ∙ ap (λ k. cut count size (with_range (joined_pieces slab.values) k ws)) e
+      ∙ ap (λ n. cut n size (with_range (joined_pieces slab.values) (p * slab.symbol_size) ws)) count_is
+      ∙ ap (λ s. cut (length slab.values) s (with_range (joined_pieces slab.values) (p * slab.symbol_size) ws)) size_is)
+      ∙ ap (λ (v : Slab). record v { values = cut (length slab.values) slab.symbol_size (with_range (joined_pieces slab.values) (p * slab.symbol_size) ws) }) is.view
 
   -- and where they are as many as a symbol has
   pub symbol_written : (p : ℕ) (ws : List ℕ) → p < length slab.values → length ws ≡ slab.symbol_size
-      → ◌≡◌ {A = Slab} (record slab { values = cut (length slab.values) slab.symbol_size (with_range (joined slab.values) (p * slab.symbol_size) ws) })
+      → ◌≡◌ {A = Slab} (record slab { values = cut (length slab.values) slab.symbol_size (with_range (joined_pieces slab.values) (p * slab.symbol_size) ws) })
       (record slab { values = set slab.values p ws })
   symbol_written p ws lt long =
       let count_is_there = count_is in
       ap (λ (v : List (List ℕ)). record slab { values = v }) (
-      ap (λ n. cut n slab.symbol_size (with_range (joined slab.values) (p * slab.symbol_size) ws)) (sym count_is)
+      ap (λ n. cut n slab.symbol_size (with_range (joined_pieces slab.values) (p * slab.symbol_size) ws)) (sym count_is)
       ∙ ap (λ xs. cut count slab.symbol_size (with_range xs (p * slab.symbol_size) ws)) joined_is
       ∙ ap (λ s. cut count s (with_range bytes (p * s) ws)) (sym size_is)
       ∙ cut-with_range count size p bytes ws (omega arith) (long ∙ sym size_is) is.long
@@ -188,11 +188,11 @@ compared a b left right av ai bv bi =
     let E = option_eq (pointwise ◌==◌) (option_map (λ o. o.items) a.order) (option_map (λ o. o.items) b.order) in
     ap (λ (v : Slab). same_slab v right) (sym av)
     ∙ ap (λ (v : Slab). same_slab (the_view a) v) (sym bv)
-    ∙ ap (λ n. sizes && (n == length (cut b.count b.symbol_size b.«data».items) && (E && pointwise ◌==◌ (joined (cut a.count a.symbol_size a.«data».items)) (joined (cut b.count b.symbol_size b.«data».items)))))
+    ∙ ap (λ n. sizes && (n == length (cut b.count b.symbol_size b.«data».items) && (E && pointwise ◌==◌ (joined_pieces (cut a.count a.symbol_size a.«data».items)) (joined_pieces (cut b.count b.symbol_size b.«data».items)))))
     (length-cut a.count a.symbol_size a.«data».items)
-    ∙ ap (λ n. sizes && (a.count == n && (E && pointwise ◌==◌ (joined (cut a.count a.symbol_size a.«data».items)) (joined (cut b.count b.symbol_size b.«data».items)))))
+    ∙ ap (λ n. sizes && (a.count == n && (E && pointwise ◌==◌ (joined_pieces (cut a.count a.symbol_size a.«data».items)) (joined_pieces (cut b.count b.symbol_size b.«data».items)))))
     (length-cut b.count b.symbol_size b.«data».items)
-    ∙ ap (λ xs. sizes && (counts && (E && pointwise ◌==◌ xs (joined (cut b.count b.symbol_size b.«data».items))))) octets_a
+    ∙ ap (λ xs. sizes && (counts && (E && pointwise ◌==◌ xs (joined_pieces (cut b.count b.symbol_size b.«data».items))))) octets_a
     ∙ ap (λ ys. sizes && (counts && (E && pointwise ◌==◌ a.«data».items ys))) octets_b
     ∙ ap (λ e. sizes && (counts && (e && pointwise ◌==◌ a.«data».items b.«data».items))) (same_order a.order b.order)
 

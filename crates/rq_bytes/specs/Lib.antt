@@ -1,8 +1,9 @@
+pub mod BinaryOctetVec
 pub mod Error
 pub mod HalfProducts
+pub mod ProductTables
 pub mod Ranges
 pub mod Refusals
 pub mod Slab
 pub mod SlabLends
 pub mod SymbolOps
-pub mod Tables

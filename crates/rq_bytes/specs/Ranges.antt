@@ -14,7 +14,7 @@ abbrev pub cut : {X : Type 0} → ℕ → ℕ → List X → List (List X)
 cut zero size xs = []
 cut (suc count) size xs = take size xs ∷ cut count size (drop size xs)
 
--- the pieces joined again
-abbrev pub joined : {X : Type 0} → List (List X) → List X
-joined [] = []
-joined (xs ∷ rest) = xs ++ joined rest
+-- the pieces joined_pieces again
+abbrev pub joined_pieces : {X : Type 0} → List (List X) → List X
+joined_pieces [] = []
+joined_pieces (xs ∷ rest) = xs ++ joined_pieces rest

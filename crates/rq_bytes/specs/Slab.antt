@@ -6,7 +6,7 @@ use Rattle.std.specs.Ordering.{eq_of_both, on}
 use Rattle.rq_algebra.specs.Operations.{Operation, Store, step, run, read, meant_at, values_in, IsPlace, IsAllowed}
 use Rattle.rq_algebra.specs.Symbols.{symbols, add_symbols}
 use Rattle.rq_standard.specs.OctetField.{octets}
-use Rattle.rq_bytes.specs.Ranges.{range_of, with_range, joined}
+use Rattle.rq_bytes.specs.Ranges.{range_of, with_range, joined_pieces}
 
 -- its symbols, the size of each, and the order in which places are read, where one is set
 pub record Slab : Type 0 where
@@ -60,4 +60,4 @@ abbrev pub same_slab : Slab → Slab → Bool
 same_slab =
     eq_of_both (on (λ s. s.symbol_size) ◌==◌)
     (eq_of_both (on (λ s. length s.values) ◌==◌)
-    (eq_of_both (on (λ s. s.order) (option_eq (pointwise ◌==◌))) (on (λ s. joined s.values) (pointwise ◌==◌))))
+    (eq_of_both (on (λ s. s.order) (option_eq (pointwise ◌==◌))) (on (λ s. joined_pieces s.values) (pointwise ◌==◌))))

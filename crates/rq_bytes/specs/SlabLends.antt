@@ -2,13 +2,13 @@
 use Rattle.std.specs.Prelude.{ℕ, List, length, slice_set, ◌≡◌, ◌*◌}
 use Rattle.std.specs.Borrow.{Lends, MutBor, Array, Fml, u8 as byte}
 use Rattle.rq_algebra.specs.Operations.{meant_at}
-use Rattle.rq_bytes.specs.Ranges.{with_range, cut, joined}
+use Rattle.rq_bytes.specs.Ranges.{with_range, cut, joined_pieces}
 use Rattle.rq_bytes.specs.Slab.{Slab}
 use Rattle.rq_bytes.specs.contracts.symbol_slab.SymbolSlab.{the_row}
 
 -- the slab with these octets written from the symbol on that a place means
 abbrev pub with_octets : Slab → ℕ → List ℕ → Slab
-with_octets slab i octets = record slab { values = cut (length slab.values) slab.symbol_size (with_range (joined slab.values) (meant_at slab.order i * slab.symbol_size) octets) }
+with_octets slab i octets = record slab { values = cut (length slab.values) slab.symbol_size (with_range (joined_pieces slab.values) (meant_at slab.order i * slab.symbol_size) octets) }
 
 -- as many octets as a symbol has are the symbol that the place then means, and no other symbol changes
 abbrev pub IsSymbolWrite : Slab → ℕ → Type 0

@@ -1,6 +1,6 @@
 //! The field of 256 elements.
 ghost use Rattle.std.specs.Prelude.{◌≡◌, ◌≢◌, ℕ, ◌*◌, ◌%◌, ◌<◌, ◌≤◌, length, slice_index, EachIndex};
-ghost use Rattle.rq_bytes.specs.Tables.{IsTable};
+ghost use Rattle.rq_bytes.specs.ProductTables.{IsTableOf};
 ghost use Rattle.std.specs.Int.Bits.{bit_xor};
 ghost use Rattle.rq_standard.specs.Octets.{octet_mul, octet_div, octet_power};
 
@@ -180,7 +180,7 @@ impl Div<&Octet> for &Octet {
 
 /// Fills a table with the products of all octets: row i has i times j at place j.
 pub fn octet_mul_table(table: &mut [[u8; 256]; 256])
-    ensures { IsTable 256 256 octet_mul table.new }
+    ensures { IsTableOf 256 256 octet_mul table.new }
 {
     for i in 0..256usize {
         fill_row(&mut table[i], i as u8, 256, 1);
@@ -190,7 +190,7 @@ pub fn octet_mul_table(table: &mut [[u8; 256]; 256])
 /// Fills a table with the products of all octets and the upper half bytes: row i has i times 16 *
 /// (j mod 16) at place j.
 pub fn octet_mul_hi_bits(table: &mut [[u8; 32]; 256])
-    ensures { IsTable 256 32 (λ i j. octet_mul i (j % 16 * 16)) table.new }
+    ensures { IsTableOf 256 32 (λ i j. octet_mul i (j % 16 * 16)) table.new }
 {
     for i in 0..256usize {
         fill_row(&mut table[i], i as u8, 16, 16);
@@ -200,7 +200,7 @@ pub fn octet_mul_hi_bits(table: &mut [[u8; 32]; 256])
 /// Fills a table with the products of all octets and the lower half bytes: row i has i times (j mod
 /// 16) at place j.
 pub fn octet_mul_low_bits(table: &mut [[u8; 32]; 256])
-    ensures { IsTable 256 32 (λ i j. octet_mul i (j % 16)) table.new }
+    ensures { IsTableOf 256 32 (λ i j. octet_mul i (j % 16)) table.new }
 {
     for i in 0..256usize {
         fill_row(&mut table[i], i as u8, 16, 1);

@@ -1,6 +1,6 @@
 //! Rows of octets and packed rows of bits.
 ghost use Rattle.std.specs.Prelude.{◌≡◌, ◌+◌, ◌*◌, ◌^◌, ◌<◌, All, length, vec_len};
-ghost use Rattle.rq_standard.specs.PackedBits.{padding_of, packed_bits};
+ghost use Rattle.rq_bytes.specs.BinaryOctetVec.{padding_of, packed_bits};
 ghost use Rattle.rq_standard.specs.Rows.{row_sum, row_multiple};
 
 use crate::octet::Octet;
@@ -25,7 +25,7 @@ impl Model for BinaryOctetVec {
 
     ghost Value = { List ℕ };
 
-    ghost use Rattle.rq_standard.specs.PackedBits.{padding_of, packed_bits};
+    ghost use Rattle.rq_bytes.specs.BinaryOctetVec.{padding_of, packed_bits};
 
     ghost view = { λ v. packed_bits v.elements.items v.length };
 

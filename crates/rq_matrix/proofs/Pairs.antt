@@ -6,9 +6,9 @@ use Rattle.std.specs.List.Sorted.{IsStrictlyIncreasing}
 use Rattle.std.proofs.lemmas.List.Elements.{All-cons, All-filter, All-map, filter_passes}
 use Rattle.std.proofs.lemmas.List.Sums.{sum_by-cons, length-filter, count_by-le-length}
 use Rattle.std.proofs.lemmas.Bool.Decides.{eqb_tells}
-use Rattle.rq_standard.specs.PackedBits.{packed_bit}
+use Rattle.rq_bytes.specs.BinaryOctetVec.{packed_bit}
 use Rattle.rq_standard.specs.BitTableSteps.{ones_at, AreOnesOf, IsPlaceAndBit, ArePlacesOfOnes}
-use Rattle.rq_standard.specs.BitTableLaws.{is_one_at, is_one_at-other, is_one_at-one, is_one_at-zero, ones_at-cons}
+use Rattle.rq_standard.proofs.BitTableLaws.{is_one_at, is_one_at-other, is_one_at-one, is_one_at-zero, ones_at-cons}
 use Rattle.rq_parts.specs.BitPairs.{bit_pairs, ones_among}
 use Rattle.rq_matrix.proofs.Words.{packed_bit-lt}
 

@@ -5,7 +5,7 @@ use Rattle.std.specs.Int.Bits.{bit_xor}
 use Rattle.std.proofs.lemmas.Nat.Bits.{bit_at_xor}
 use Rattle.std.proofs.lemmas.Simd.{get_or-zip2}
 use Rattle.std.proofs.lemmas.List.{get_or-take}
-use Rattle.rq_standard.specs.PackedBits.{packed_bit}
+use Rattle.rq_bytes.specs.BinaryOctetVec.{packed_bit}
 use Rattle.rq_standard.specs.Rows.{row_sum}
 use Rattle.rq_matrix.specs.BitRows.{word_count}
 use Rattle.rq_matrix.proofs.Words.{packed_bit-lt}

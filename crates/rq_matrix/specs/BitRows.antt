@@ -1,7 +1,7 @@
 -- Rows of bits, 64 to a word, the bit in column k at place k mod 64 of word k / 64.
 use Rattle.std.specs.Prelude.{◌≡◌, ◌≢◌, ℕ, ◌+◌, ◌/◌, ◌<◌, ◌≤◌, List, [], length, slice_index_or}
 use Rattle.std.specs.Int.{bit_at}
-use Rattle.rq_standard.specs.PackedBits.{packed_bit}
+use Rattle.rq_bytes.specs.BinaryOctetVec.{packed_bit}
 use Rattle.rq_standard.specs.BitTableSteps.{SwapsPlaces}
 
 -- how many words a row of so many columns has

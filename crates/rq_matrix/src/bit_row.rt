@@ -6,7 +6,7 @@ ghost use Rattle.std.specs.Cmp.Rules.{comparing};
 ghost use Rattle.std.specs.Int.{bit_at};
 ghost use Rattle.rq_bytes.specs.declared.error.Error.TheVariants.{OutOfMemory};
 ghost use Rattle.rq_standard.specs.BitTableSteps.{ones_below, ones_between, AreBitsOf};
-ghost use Rattle.rq_standard.specs.PackedBits.{packed_bit};
+ghost use Rattle.rq_bytes.specs.BinaryOctetVec.{packed_bit};
 ghost use Rattle.rq_standard.specs.Rows.{row_sum};
 ghost use Rattle.rq_parts.specs.BitPairs.{bit_pairs, ones_among};
 ghost use Rattle.rq_matrix.specs.BitRows.{word_count, IsWordWith};

@@ -5,7 +5,7 @@ ghost use Rattle.rq_bytes.specs.declared.error.Error.TheVariants.{OutOfMemory};
 ghost use Rattle.rq_standard.specs.Rows.{row_sum};
 ghost use Rattle.rq_matrix.specs.BitRows.{word_count, AreSwappedFrom};
 ghost use Rattle.rq_standard.specs.BitTable.{BitTable, IsBitTable};
-ghost use Rattle.rq_standard.specs.BitTableSteps.{ones_between, ArePlacesOfOnes, AreOnesOf, AreBitsOf, CanSet, CanAdd, IsUnchanged, IsZeroTable, SetsBit, SwapsRows, SwapsColumns, SetsIndexed, SetsBoundary, AddsRow, KeepsLeading};
+ghost use Rattle.rq_standard.specs.BitTableSteps.{ones_between, ArePlacesOfOnes, AreOnesOf, AreBitsOf, CanSet, CanAdd, IsUnchanged, IsZeroTable, SetsBit, SwapsRows, SwapsColumns, SetsIndexed, SetsBoundary, AddsRowFrom, KeepsLeading};
 
 use crate::bit_row::BitRow;
 use rq_bytes::error::Error;
@@ -175,7 +175,7 @@ pub trait BinaryMatrix: Clone {
         requires dest { dest < (content self.old).height }
         requires src { src < (content self.old).height }
         requires start { CanAdd (content self.old) start_col }
-        ensures ok { OnOk result (AddsRow (content self.old) dest src start_col (content self.new)) }
+        ensures ok { OnOk result (AddsRowFrom (content self.old) dest src start_col (content self.new)) }
         ensures refused { OnErr result (IsUnchanged (content self.old) (content self.new)) }
         ensures err { IfErr result (λ e. e ≡ OutOfMemory) };
 

@@ -2,7 +2,7 @@
 use Rattle.std.proofs.Common.{◌≡◌, ℕ, ◌≤◌, length, set, ap, ◌∙◌, arith}
 use Rattle.std.specs.List.{All}
 use Rattle.std.proofs.lemmas.List.{length-set}
-use Rattle.rq_parts.specs.Numbers.{Numbers}
+use Rattle.rq_parts.specs.ArrayMaps.{Numbers}
 use Rattle.rq_parts.specs.Components.{AreComponents}
 use Rattle.rq_parts.specs.declared.graph.components.ConnectedComponentGraph.TheInside.{Inside}
 

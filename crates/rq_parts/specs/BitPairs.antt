@@ -1,6 +1,6 @@
 -- The columns of a row of bits, each with its bit.
 use Rattle.std.specs.Prelude.{◌≡◌, ℕ, zero, suc, ◌==◌, List, [], ◌∷◌, filter}
-use Rattle.rq_standard.specs.PackedBits.{packed_bit}
+use Rattle.rq_bytes.specs.BinaryOctetVec.{packed_bit}
 
 -- so many columns from a first one on, with the bits of packed words from one of them on
 unfoldable pub bit_pairs : List ℕ → ℕ → ℕ → ℕ → List (ℕ × ℕ)

@@ -1,7 +1,7 @@
+pub mod ArrayMaps
+pub mod BitPairs
 pub mod Components
 pub mod Graphs
 pub mod Lists
-pub mod BitPairs
-pub mod Numbers
 pub mod OctetTable
 pub mod PairsLeft

@@ -1,6 +1,8 @@
 -- What callers see of a matrix of octets.
-use Rattle.std.specs.Prelude.{ℕ, List, [], map, slice_set, slice_index, slice_index_or, take, drop, ◌++◌}
+use Rattle.std.specs.Prelude.{◌≡◌, ◌<◌, ℕ, List, [], All, length, map, slice_set, slice_index, slice_index_or, take, drop, ◌++◌}
 use Rattle.std.specs.List.{swap}
+use Rattle.rq_algebra.specs.Systems.{HasElements}
+use Rattle.rq_standard.specs.OctetField.{octets}
 
 -- its rows, and how many octets each has
 pub record OctetTable : Type 0 where
@@ -13,6 +15,15 @@ row_at table i = slice_index_or table.rows i []
 -- the octet in row i and column k
 abbrev pub entry_of : OctetTable → ℕ → ℕ → ℕ
 entry_of table i k = slice_index (row_at table i) k
+
+-- a row of so many octets
+abbrev pub IsOctetRow : ℕ → List ℕ → Type 0
+IsOctetRow width row = (length row ≡ width) × All (λ octet. octet < 256) row
+
+-- its rows are octets, as many as it is wide
+pub record HasOctets (table : OctetTable) : Type 0 where
+  pub widths : All (λ row. length row ≡ table.width) table.rows
+  pub elements : HasElements octets (length table.rows) table.width (entry_of table)
 
 -- another row in the place of row i
 abbrev pub with_row : OctetTable → ℕ → List ℕ → OctetTable

@@ -3,7 +3,7 @@ ghost use Rattle.std.specs.Prelude.{◌≡◌, ℕ, ◌+◌, ◌-◌, ◌^◌, �
 ghost use Rattle.std.specs.List.{swap};
 ghost use Rattle.rq_bytes.specs.Refusals.{IsAnswer};
 ghost use Rattle.rq_bytes.specs.declared.error.Error.TheVariants.{OutOfMemory};
-ghost use Rattle.rq_parts.specs.Numbers.{number_at, HasKey, IsSame, IsWith};
+ghost use Rattle.rq_parts.specs.ArrayMaps.{number_at, HasKey, IsSame, IsWith};
 
 mod lists;
 
@@ -23,7 +23,7 @@ pub struct U16ArrayMap {
 
 impl Model for U16ArrayMap {
     ghost use Rattle.std.specs.Prelude.{◌+◌, ◌^◌, ◌<◌, vec_len};
-    ghost use Rattle.rq_parts.specs.Numbers.{Numbers};
+    ghost use Rattle.rq_parts.specs.ArrayMaps.{Numbers};
 
     ghost Value = { Numbers };
 
@@ -106,7 +106,7 @@ pub struct U32VecMap {
 }
 
 impl Model for U32VecMap {
-    ghost use Rattle.rq_parts.specs.Numbers.{Numbers};
+    ghost use Rattle.rq_parts.specs.ArrayMaps.{Numbers};
 
     ghost Value = { Numbers };
 
@@ -143,7 +143,8 @@ impl U32VecMap {
 
     /// Sets the number at a key.
     pub fn insert(&mut self, key: usize, value: u32) -> Result<(), Error>
-        requires { self.old.start ≤ key }
+        requires key { self.old.start ≤ key }
+        requires below { key - self.old.start + 1 < 2 ^ 64 }
         ensures done { OnOk result (IsWith self.old key value self.new) }
         ensures err { IfErr result (λ e. (e ≡ OutOfMemory) × IsSame self.old self.new) }
     {
@@ -179,6 +180,7 @@ impl U32VecMap {
     /// Adds one to the number at a key.
     pub fn increment(&mut self, key: usize) -> Result<(), Error>
         requires key { self.old.start ≤ key }
+        requires below { key - self.old.start + 1 < 2 ^ 64 }
         requires fits { number_at self.old key + 1 < 2 ^ 32 }
         ensures done { OnOk result (IsWith self.old key (number_at self.old key + 1) self.new) }
         ensures err { IfErr result (λ e. (e ≡ OutOfMemory) × IsSame self.old self.new) }
@@ -198,16 +200,13 @@ fn zeros(alloc: Global, len: usize) -> Result<Vec<u32>, Error>
 
 /// Appends zeros until there is an element at `index`.
 fn grow(elements: &mut Vec<u32>, index: usize) -> Result<(), Error>
+    requires { index + 1 < 2 ^ 64 }
     ensures reaches { OnOk result (index < vec_len elements.new) }
     ensures same { (k : ℕ) → slice_index elements.new.items k ≡ slice_index elements.old.items k }
     ensures err { IfErr result (λ e. e ≡ OutOfMemory) }
 {
-    if index < elements.len() {
-        return Ok(());
+    if index >= elements.len() {
+        elements.resize(index + 1, 0)?;
     }
-    let Some(len) = index.checked_add(1) else {
-        return Err(Error::OutOfMemory);
-    };
-    elements.resize(len, 0)?;
     Ok(())
 }

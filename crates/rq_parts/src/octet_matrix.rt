@@ -4,7 +4,7 @@ ghost use Rattle.std.specs.List.{swap};
 ghost use Rattle.rq_standard.specs.Rows.{row_sum, row_multiple};
 ghost use Rattle.rq_bytes.specs.Ranges.{range_of, with_range};
 ghost use Rattle.rq_bytes.specs.Refusals.{IsAnswer};
-ghost use Rattle.rq_parts.specs.OctetTable.{row_at, with_row, columns_swapped};
+ghost use Rattle.rq_parts.specs.OctetTable.{HasOctets, IsOctetRow, row_at, with_row, columns_swapped};
 
 use rq_bytes::error::Error;
 use rq_bytes::octet::Octet;
@@ -21,14 +21,14 @@ pub struct DenseOctetMatrix {
 }
 
 impl Model for DenseOctetMatrix {
-    ghost use Rattle.std.specs.Prelude.{◌≡◌, All, length};
-    ghost use Rattle.rq_parts.specs.OctetTable.{OctetTable};
+    ghost use Rattle.std.specs.Prelude.{All};
+    ghost use Rattle.rq_parts.specs.OctetTable.{OctetTable, IsOctetRow};
 
     ghost Value = { OctetTable };
 
     ghost view = { λ m. record { width = m.width; rows = m.elements.items } };
 
-    ghost invariant = { λ m. All (λ row. length row ≡ m.width) m.elements.items };
+    ghost invariant = { λ m. All (IsOctetRow m.width) m.elements.items };
 }
 
 impl DenseOctetMatrix {
@@ -73,6 +73,14 @@ impl DenseOctetMatrix {
         ensures { result ≡ length self.now.rows }
     {
         self.elements.len()
+    }
+
+    /// The number of columns.
+    pub fn width(&self) -> usize
+        ensures width { result ≡ self.now.width }
+        ensures octets { HasOctets self.now }
+    {
+        self.width
     }
 
     /// Multiplies a row by an octet.
@@ -151,7 +159,8 @@ impl Model for Row {
 impl Row {
     /// A row of so many zeros.
     fn zero(alloc: Global, width: usize) -> Result<Self, AllocError>
-        ensures { IfOk result (λ row. row ≡ replicate width 0) }
+        ensures zeros { IfOk result (λ row. row ≡ replicate width 0) }
+        ensures octets { IfOk result (IsOctetRow width) }
     {
         Ok(Row {
             octets: vec![in alloc; 0; width]?,
@@ -162,7 +171,7 @@ impl Row {
     fn add_bits(&mut self, start: usize, scalar: &Octet, other: &BinaryOctetVec)
         requires { start + length other.now ≤ length self.old }
         ensures sum { self.new ≡ with_range self.old start (row_sum (range_of self.old start (length other.now)) (row_multiple scalar.now other.now)) }
-        ensures len { length self.new ≡ length self.old }
+        ensures octets { IsOctetRow (length self.old) self.new }
     {
         let octets = self.octets.as_mut_slice();
         let end = start + other.len();
@@ -171,25 +180,31 @@ impl Row {
 
     /// Multiplies the row by an octet.
     fn multiply(&mut self, scalar: &Octet)
-        ensures { self.new ≡ row_multiple scalar.now self.old }
+        ensures multiple { self.new ≡ row_multiple scalar.now self.old }
+        ensures octets { IsOctetRow (length self.old) self.new }
     {
         octets::mulassign_scalar(self.octets.as_mut_slice(), scalar);
+        octets::are_octets(self.octets.as_slice());
     }
 
     /// Adds a multiple of a row of the same length.
     fn add_multiple(&mut self, other: &Row, scalar: &Octet)
         requires { length other.now ≡ length self.old }
-        ensures { self.new ≡ row_sum self.old (row_multiple scalar.now other.now) }
+        ensures sum { self.new ≡ row_sum self.old (row_multiple scalar.now other.now) }
+        ensures octets { IsOctetRow (length self.old) self.new }
     {
         add_octet_multiple(self.octets.as_mut_slice(), other.octets.as_slice(), scalar);
+        octets::are_octets(self.octets.as_slice());
     }
 
     /// Sets the octet in column j.
     fn set(&mut self, j: usize, value: Octet)
         requires { j < length self.old }
-        ensures { self.new ≡ slice_set self.old j value }
+        ensures set { self.new ≡ slice_set self.old j value }
+        ensures octets { IsOctetRow (length self.old) self.new }
     {
         self.octets[j] = value.byte();
+        octets::are_octets(self.octets.as_slice());
     }
 
     /// The octet in column j.
@@ -205,9 +220,10 @@ impl Row {
         requires first { i < length self.old }
         requires second { j < length self.old }
         ensures swapped { self.new ≡ swap self.old i j }
-        ensures len { length self.new ≡ length self.old }
+        ensures octets { IsOctetRow (length self.old) self.new }
     {
         self.octets.swap(i, j);
+        octets::are_octets(self.octets.as_slice());
     }
 }
 
@@ -240,7 +256,7 @@ fn add_row_multiple(rows: &mut [Row], dest: usize, src: usize, scalar: &Octet)
     requires src { src < length rows.old }
     requires fits { length (slice_index_or rows.old src []) ≡ length (slice_index_or rows.old dest []) }
     ensures sum { rows.new ≡ slice_set rows.old dest (row_sum (slice_index_or rows.old dest []) (row_multiple scalar.now (slice_index_or rows.old src []))) }
-    ensures widths { (n : ℕ) → All (λ row. length row ≡ n) rows.old → All (λ row. length row ≡ n) rows.new }
+    ensures widths { (n : ℕ) → All (IsOctetRow n) rows.old → All (IsOctetRow n) rows.new }
 {
     if dest < src {
         let (front, back) = rows.split_at_mut(src);

@@ -14,6 +14,7 @@ use std::test::Fail;
 fn octet_matrix_rows(rt: HostRuntime) -> Result<(), Fail> {
     let mut matrix = DenseOctetMatrix::new(rt.alloc(), 2, 3, 0)?;
     assert_eq!(rt; matrix.height(), 2);
+    assert_eq!(rt; matrix.width(), 3);
     let bits = BinaryOctetVec::new(vec![in rt.alloc(); 1 << 61]?, 3);
     matrix.fma_sub_row(0, 0, &Octet::new(29), &bits);
     matrix.set(1, 2, Octet::new(128));

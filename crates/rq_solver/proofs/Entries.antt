@@ -9,7 +9,7 @@ use Rattle.rq_algebra.specs.FromLaws.{field_mul_is}
 use Rattle.rq_algebra.specs.Steps.{AddsRow, ScalesRow}
 use Rattle.rq_algebra.specs.Systems.{at}
 use Rattle.rq_algebra.proofs.Sums.{zero_mul, add_zero}
-use Rattle.rq_algebra.proofs.Meanings.{adds_elements, scales_elements}
+use Rattle.rq_algebra.proofs.Elements.{adds_elements, scales_elements}
 use Rattle.rq_standard.specs.Octets.{octet_mul, octet_inverse, octet_div}
 use Rattle.rq_standard.specs.OctetFacts.{one-mul, inverse-lt}
 use Rattle.rq_standard.specs.OctetField.{octets, octet_laws}

@@ -8,9 +8,9 @@ use Rattle.std.proofs.lemmas.List.Elements.{All-append, Contains-get_or}
 use Rattle.std.proofs.lemmas.List.Sorted.{Contains-permutation, IsPermutation-sym}
 use Rattle.std.proofs.Math.ListN.{get_or-map}
 use Rattle.rq_algebra.specs.Arrangements.{ArePlaces, IsFewOn}
-use Rattle.rq_algebra.specs.Elimination.{FindsColumn, ReadsPivots}
-use Rattle.rq_algebra.specs.Meaning.{Follows, HasFirstPivots}
-use Rattle.rq_algebra.specs.Operations.{Operation, Reorder}
+use Rattle.rq_algebra.proofs.Elimination.{ReadsPivots, HasFirstPivots}
+use Rattle.rq_algebra.specs.Following.{Follows}
+use Rattle.rq_algebra.specs.Operations.{Operation, Reorder, FindsColumn}
 use Rattle.rq_algebra.specs.Systems.{at, stacked, HasElements, HasNullColumn}
 use Rattle.rq_algebra.proofs.FewEquations.{null_of_few}
 use Rattle.rq_algebra.proofs.Pivots.{finds_by_pivots, null_back}

@@ -7,9 +7,9 @@ use Rattle.rq_algebra.specs.Field.{Field}
 use Rattle.rq_algebra.specs.Steps.{AddsRow, ScalesRow}
 use Rattle.rq_algebra.specs.Systems.{HasElements}
 use Rattle.rq_algebra.specs.Operations.{Operation, AddAssign, MulAssign, Fma, Reorder}
-use Rattle.rq_algebra.specs.Meaning.{Follows}
+use Rattle.rq_algebra.specs.Following.{Follows}
 use Rattle.rq_algebra.proofs.Changes.{with_at, with_at_same, with_at_other}
-use Rattle.rq_algebra.proofs.Meanings.{adds_elements, scales_elements}
+use Rattle.rq_algebra.proofs.Elements.{adds_elements, scales_elements}
 use Rattle.rq_algebra.proofs.Runs.{follows_add, follows_fma, follows_scale}
 use Rattle.rq_standard.specs.OctetField.{octets}
 use Rattle.rq_bytes.specs.SymbolOps.{operation_of}

@@ -2,8 +2,7 @@
 use Rattle.std.proofs.Common.{◌≡◌, ◌<◌, ℕ, List, Option, None, Some, IfSome, IfOk, Result, Vec, Global, refl, sym, ap, ◌∙◌, subst, arith}
 use Rattle.rq_algebra.specs.Field.{Field}
 use Rattle.rq_algebra.specs.Systems.{HasNullColumn, at}
-use Rattle.rq_algebra.specs.Operations.{Operation, Reorder, Store, step, run, read, unordered}
-use Rattle.rq_algebra.specs.Elimination.{FindsColumn, found_by}
+use Rattle.rq_algebra.specs.Operations.{Operation, Reorder, Store, step, run, read, unordered, FindsColumn, found_by}
 use Rattle.rq_algebra.specs.Symbols.{symbols}
 use Rattle.rq_algebra.proofs.Solutions.{solves_same}
 use Rattle.rq_algebra.proofs.Runs.{run_push}

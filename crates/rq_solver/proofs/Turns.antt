@@ -5,7 +5,7 @@ use Rattle.std.proofs.lemmas.Bool.{cases_eq}
 use Rattle.rq_algebra.specs.Arrangements.{exchange}
 use Rattle.rq_algebra.specs.Steps.{ScalesRow}
 use Rattle.rq_algebra.specs.Systems.{at}
-use Rattle.rq_algebra.specs.Meaning.{ClearsColumn}
+use Rattle.rq_algebra.proofs.Elimination.{ClearsColumn}
 use Rattle.rq_algebra.proofs.Places.{exchange_left, exchange_right, exchange_other, exchange_are, same_places, places_of_places}
 use Rattle.rq_algebra.proofs.Reduction.{first_pivots_none, first_pivots_rows, first_pivots_more}
 use Rattle.rq_standard.specs.OctetField.{octets}

@@ -4,7 +4,7 @@ use Rattle.rq_algebra.specs.Field.{Field}
 use Rattle.rq_algebra.specs.Arrangements.{ArePlaces}
 use Rattle.rq_algebra.specs.Systems.{at, HasElements}
 use Rattle.rq_algebra.specs.Operations.{Operation, AddAssign, MulAssign, Fma, Reorder}
-use Rattle.rq_algebra.specs.Meaning.{HasFirstPivots}
+use Rattle.rq_algebra.proofs.Elimination.{HasFirstPivots}
 use Rattle.rq_algebra.proofs.Changes.{with_at}
 use Rattle.rq_standard.specs.OctetField.{octets}
 use Rattle.rq_bytes.specs.SymbolOps.{operation_of}

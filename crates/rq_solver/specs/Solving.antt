@@ -2,8 +2,7 @@
 use Rattle.std.specs.Prelude.{◌≡◌, ℕ, ◌+◌, ◌<◌, ◌≤◌, false, List, Option, None, Some, Vec, length, map}
 use Rattle.std.specs.Global.{Global}
 use Rattle.rq_algebra.specs.Systems.{HasNullColumn}
-use Rattle.rq_algebra.specs.Operations.{Operation}
-use Rattle.rq_algebra.specs.Elimination.{FindsColumn, found_by}
+use Rattle.rq_algebra.specs.Operations.{Operation, FindsColumn, found_by}
 use Rattle.rq_algebra.specs.Symbols.{symbols, AreSymbols, IsSymbolColumn, SolvesSymbols, symbol_at}
 use Rattle.rq_standard.specs.declared.row.Row.{Row}
 use Rattle.rq_standard.specs.BitTable.{BitTable}

@@ -1,3 +1,4 @@
+pub mod BitTableLaws
 pub mod BlockCuts
 pub mod BlockRows
 pub mod Columns
@@ -14,7 +15,6 @@ pub mod MorePackets
 pub mod ObjectAnswers
 pub mod OneObject
 pub mod OtherObjects
-pub mod Packed
 pub mod PacketBytes
 pub mod PartSums
 pub mod PlaceLaws

@@ -5,7 +5,7 @@ use Rattle.std.proofs.lemmas.Bool.{and_parts, eqb-true, ltb-true, leb-true, le-l
 use Rattle.std.proofs.lemmas.List.{length-take, take-append-le}
 use Rattle.rq_standard.specs.declared.row.Row.{Row}
 use Rattle.rq_standard.specs.declared.sizes.TheConstants.{P1_TABLE}
-use Rattle.rq_standard.specs.TableRows.{first_failing_check, has_size, is_odd, fits_ldpc, fits_hdpc, fits_pi, fits_columns, fits_index, IsChecked, Numbers, row_at, rows_from, first_failure, first_refused, built_in_rows, IsTable, greatest_size, row_of, first_size, extended_size}
+use Rattle.rq_standard.specs.TableRows.{first_failing_check, has_size, is_odd, fits_ldpc, fits_hdpc, fits_pi, fits_columns, fits_index, IsChecked, RowNumbers, row_of_numbers, rows_from, first_failure, first_refused, built_in_rows, IsTable, greatest_size, row_of, first_size, extended_size}
 
 -- ---- the checks
 
@@ -147,15 +147,15 @@ refused_none : (failing : Option ℕ) (place : ℕ) (rest : Option (ℕ × ℕ))
 refused_none None place rest e = (refl, e)
 refused_none (Some check) place rest e = absurd (cc)
 
-further_pass : (place : ℕ) (numbers : List Numbers) → first_refused place numbers ≡ None → all_pass (74 + place) (rows_from (74 + place) numbers) ≡ true
+further_pass : (place : ℕ) (numbers : List RowNumbers) → first_refused place numbers ≡ None → all_pass (74 + place) (rows_from (74 + place) numbers) ≡ true
 unfolding first_refused rows_from
 further_pass place [] e = refl
 further_pass place (n ∷ rest) e =
-    let both = refused_none (first_failing_check (74 + place) (row_at (74 + place) n)) place (first_refused (place + 1) rest) e in
+    let both = refused_none (first_failing_check (74 + place) (row_of_numbers (74 + place) n)) place (first_refused (place + 1) rest) e in
     rw both.0 (subst (λ (k : ℕ). all_pass k (rows_from k rest) ≡ true) (let same : 74 + (place + 1) ≡ 74 + place + 1 = omega arith in same) (further_pass (place + 1) rest both.1))
 
 -- the built-in rows and further ones that are not refused
-pub further_table : (numbers : List Numbers) → first_refused 0 numbers ≡ None → IsTable (built_in_rows ++ rows_from 74 numbers)
+pub further_table : (numbers : List RowNumbers) → first_refused 0 numbers ≡ None → IsTable (built_in_rows ++ rows_from 74 numbers)
 further_table numbers e =
     let all : all_pass 0 (built_in_rows ++ rows_from 74 numbers) ≡ true =
     all_pass-append 0 built_in_rows (rows_from 74 numbers) built_in_pass

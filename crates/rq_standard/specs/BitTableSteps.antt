@@ -122,7 +122,7 @@ pub record SetsBoundary (old : BitTable) (first : ℕ) (new : BitTable) : Type 0
   pub bits : HasSameBits old new
 
 -- row `dest` is the sum of itself and row `src` from column `start` on; in each column before, it is that sum or as it was
-pub record AddsRow (old : BitTable) (dest src start : ℕ) (new : BitTable) : Type 0 where
+pub record AddsRowFrom (old : BitTable) (dest src start : ℕ) (new : BitTable) : Type 0 where
   pub shape : HasSameShape old new
   pub sum : (k : ℕ) → start ≤ k → k < old.width → new.bit dest k ≡ bit_xor (old.bit dest k) (old.bit src k)
   pub before : (k : ℕ) → k < start → k < old.width → (new.bit dest k ≡ old.bit dest k) ⊎ (new.bit dest k ≡ bit_xor (old.bit dest k) (old.bit src k))

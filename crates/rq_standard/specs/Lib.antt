@@ -1,5 +1,4 @@
 pub mod BitTable
-pub mod BitTableLaws
 pub mod BitTableSteps
 pub mod Configuration
 pub mod ConstraintMatrix
@@ -16,7 +15,6 @@ pub mod OctetField
 pub mod OctetLaws
 pub mod OctetProducts
 pub mod Octets
-pub mod PackedBits
 pub mod Packet
 pub mod Parameters
 pub mod Partition

@@ -79,8 +79,8 @@ pub record IsChecked (row : Row) : Type 0 where
 -- ---- tables
 
 -- the numbers of a row as they are handed in: K', J, S, H, W
-abbrev pub Numbers : Type 0
-Numbers = ℕ × ℕ × ℕ × ℕ × ℕ
+abbrev pub RowNumbers : Type 0
+RowNumbers = ℕ × ℕ × ℕ × ℕ × ℕ
 
 -- the P1 of a size, or 0 where there is no size
 abbrev pub p1_of : Option (ℕ × ℕ) → ℕ
@@ -88,8 +88,8 @@ p1_of None = 0
 p1_of (Some size) = size.1
 
 -- the row that numbers make at a place of a table, which decides its P1
-abbrev pub row_at : ℕ → Numbers → Row
-row_at place numbers = record {
+abbrev pub row_of_numbers : ℕ → RowNumbers → Row
+row_of_numbers place numbers = record {
   source_symbols = numbers.0;
   systematic_index = numbers.1;
   ldpc_symbols = numbers.2;
@@ -99,9 +99,9 @@ row_at place numbers = record {
 }
 
 -- the rows that numbers make from a place of a table on
-unfoldable pub rows_from : ℕ → List Numbers → List Row
+unfoldable pub rows_from : ℕ → List RowNumbers → List Row
 rows_from place [] = []
-rows_from place (numbers ∷ rest) = row_at place numbers ∷ rows_from (place + 1) rest
+rows_from place (numbers ∷ rest) = row_of_numbers place numbers ∷ rows_from (place + 1) rest
 
 -- the rows that each table begins with
 unfoldable pub built_in_rows : List Row
@@ -113,9 +113,9 @@ first_failure None place later = later
 first_failure (Some check) place later = Some (place, check)
 
 -- of numbers handed in after the built-in ones, the first that make a row that fails a check: their place among those handed in, and that check
-unfoldable pub first_refused : ℕ → List Numbers → Option (ℕ × ℕ)
+unfoldable pub first_refused : ℕ → List RowNumbers → Option (ℕ × ℕ)
 first_refused place [] = None
-first_refused place (numbers ∷ rest) = first_failure (first_failing_check (74 + place) (row_at (74 + place) numbers)) place (first_refused (place + 1) rest)
+first_refused place (numbers ∷ rest) = first_failure (first_failing_check (74 + place) (row_of_numbers (74 + place) numbers)) place (first_refused (place + 1) rest)
 
 -- A checked table: the built-in rows, and then rows that pass all checks at their places.
 pub record IsTable (rows : List Row) : Type 0 where

@@ -14,6 +14,6 @@ pub struct Row {
     pub hdpc_symbols: u32,
     /// W: the number of LT symbols.
     pub lt_symbols: u32,
-    /// P1: the least prime that is no less than the number P of PI symbols.
+    /// P1: the number beside K' in `P1_TABLE`.
     pub p1: u32,
 }

@@ -1,7 +1,7 @@
 //! The sizes of a source block that RFC 6330 lists.
 
-/// The sizes K' of a source block, in symbols, that section 5.6 lists, ascending, each with its P1:
-/// the least prime that is no less than its P.
+/// The sizes K' of a source block, in symbols, that section 5.6 lists, ascending, each with the
+/// P1 (section 5.3.3.3) of its row there.
 pub const P1_TABLE: [(u32, u32); 477] = [
     (10, 11),
     (12, 11),

@@ -8,7 +8,7 @@ use Rattle.rq_bytes.specs.declared.error.Error.TheVariants.{OutOfMemory, PacketT
 use Rattle.rq_bytes.specs.Refusals.{IsAnswer, Answers, and_then}
 use Rattle.rq_standard.specs.Packet.{Packet, packet_of_bytes}
 use Rattle.rq_standard.specs.Configuration.{Configuration}
-use Rattle.rq_base.specs.Refused.{read_packet}
+use Rattle.rq_base.specs.RefusedInput.{read_packet}
 use Rattle.raptorq.specs.Refused.{packet_refusal}
 use Rattle.raptorq.specs.Decoding.{shown}
 use Rattle.rq_streams.specs.declared.run.Outcome.{Outcome}

@@ -16,7 +16,7 @@ use Rattle.rq_standard.specs.Headline.{IsPacketOf, HasNonsingularRows}
 use Rattle.rq_standard.specs.Streams.{stream_of}
 use Rattle.rq_standard.specs.TableRows.{greatest_size, IsTable}
 use Rattle.rq_base.specs.Defaults.{wanted_parameters}
-use Rattle.rq_base.specs.Refused.{checked_configuration}
+use Rattle.rq_base.specs.RefusedInput.{checked_configuration}
 use Rattle.raptorq.specs.Refused.{new_encoder}
 use Rattle.raptorq.specs.Encoded.{packets_refusal}
 use Rattle.rq_streams.specs.Sent.{sent_configuration, IsStreamSent, Sends, IsSent}

@@ -15,7 +15,7 @@ use Rattle.rq_standard.specs.Headline.{IsPacketOf}
 use Rattle.rq_standard.specs.Streams.{frames_of}
 use Rattle.rq_standard.proofs.HeaderBytes.{configuration_of_bytes-header_bytes}
 use Rattle.rq_standard.proofs.BlockRows.{block_has_row, answerable_only}
-use Rattle.rq_base.specs.Refused.{checked_configuration, read_packet}
+use Rattle.rq_base.specs.RefusedInput.{checked_configuration, read_packet}
 use Rattle.raptorq.proofs.Lists.{packet_refusal-packet}
 use Rattle.rq_streams.specs.Frames.{frame_size, frame_refusal, first_refusal, frames_refusal}
 use Rattle.rq_streams.specs.ReceivedStreams.{taken_configuration, received_configuration, FillsFrame, IsStreamOf, AnswersStream, RefusesStream, Wants, WantsWhereAnyCan}

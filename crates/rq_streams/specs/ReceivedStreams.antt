@@ -11,7 +11,7 @@ use Rattle.rq_standard.specs.TableRows.{IsChecked, IsTable, greatest_size}
 use Rattle.rq_standard.specs.Headline.{block_row, IsPacketOf, IsHonestRun, IsAnswerable, IsOnlyObject, IsObjectAnswer}
 use Rattle.rq_standard.specs.Standing.{State, Stands}
 use Rattle.rq_standard.specs.Streams.{frames_of, stream_of}
-use Rattle.rq_base.specs.Refused.{checked_configuration}
+use Rattle.rq_base.specs.RefusedInput.{checked_configuration}
 use Rattle.rq_streams.specs.declared.run.Outcome.{Outcome}
 use Rattle.rq_streams.specs.declared.run.Stop.{Stop}
 use Rattle.rq_streams.specs.Ends.{Wanted, Ends, AfterRefusal}

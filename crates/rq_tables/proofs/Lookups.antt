@@ -8,7 +8,7 @@ use Rattle.std.specs.Slice.{IsItemAt}
 use Rattle.rq_standard.specs.declared.row.Row.{Row}
 use Rattle.rq_standard.specs.declared.numbers.TheConstants.{SYSTEMATIC_INDICES_AND_PARAMETERS}
 use Rattle.rq_standard.specs.Parameters.{greatest_within}
-use Rattle.rq_standard.specs.TableRows.{Numbers, row_at, rows_from, row_of, greatest_size, first_failing_check, first_failure, first_refused, built_in_rows}
+use Rattle.rq_standard.specs.TableRows.{RowNumbers, row_of_numbers, rows_from, row_of, greatest_size, first_failing_check, first_failure, first_refused, built_in_rows}
 
 -- what `get` lends, copied, is the item at the place
 pub copied-get : {X : Type 0} (xs : List X) (i : ℕ) (lent : Option (Bor X)) → IsItemAt xs i lent → option_copied lent ≡ slice_get xs i
@@ -59,19 +59,19 @@ greatest_none (first ∷ next ∷ rest) is =
 
 -- ---- the first refused row
 
-pub first_refused-drop : (rows : List Numbers) (place : ℕ) (d : Numbers) → place < length rows →
-    first_refused place (drop place rows) ≡ first_failure (first_failing_check (74 + place) (row_at (74 + place) (get_or rows place d))) place (first_refused (place + 1) (drop (place + 1) rows))
+pub first_refused-drop : (rows : List RowNumbers) (place : ℕ) (d : RowNumbers) → place < length rows →
+    first_refused place (drop place rows) ≡ first_failure (first_failing_check (74 + place) (row_of_numbers (74 + place) (get_or rows place d))) place (first_refused (place + 1) (drop (place + 1) rows))
 unfolding first_refused
 first_refused-drop rows place d lt =
     rw (drop-cons rows place d lt)
-    (ap (λ (n : ℕ). first_failure (first_failing_check (74 + place) (row_at (74 + place) (get_or rows place d))) place (first_refused (place + 1) (drop n rows))) (let same : suc place ≡ place + 1 = omega arith in same))
+    (ap (λ (n : ℕ). first_failure (first_failing_check (74 + place) (row_of_numbers (74 + place) (get_or rows place d))) place (first_refused (place + 1) (drop n rows))) (let same : suc place ≡ place + 1 = omega arith in same))
 
-pub first_refused-end : (rows : List Numbers) (place : ℕ) → length rows ≤ place → first_refused place (drop place rows) ≡ None
+pub first_refused-end : (rows : List RowNumbers) (place : ℕ) → length rows ≤ place → first_refused place (drop place rows) ≡ None
 unfolding first_refused
 first_refused-end rows place le = rw (drop_of_length-le rows le)
 
 -- a failing check found at a place of the rows that are tested
-pub check_step : (rows : List Numbers) (place : ℕ) (d : Numbers) (row : Row) (failing : Option ℕ) → place < length rows → row ≡ row_at (74 + place) (get_or rows place d) → failing ≡ first_failing_check (74 + place) row →
+pub check_step : (rows : List RowNumbers) (place : ℕ) (d : RowNumbers) (row : Row) (failing : Option ℕ) → place < length rows → row ≡ row_of_numbers (74 + place) (get_or rows place d) → failing ≡ first_failing_check (74 + place) row →
     first_refused place (drop place rows) ≡ first_failure failing place (first_refused (place + 1) (drop (place + 1) rows))
 check_step rows place d row failing lt row_is failing_is =
     first_refused-drop rows place d lt
@@ -80,17 +80,17 @@ check_step rows place d row failing lt row_is failing_is =
 -- ---- rows made one by one
 
 -- the rows made and those to come stay the same when one is made
-pub rows_from_push : (made : List Row) (place : ℕ) (numbers : List Numbers) (i : ℕ) (d : Numbers) (row : Row) → i < length numbers → row ≡ row_at place (get_or numbers i d) →
+pub rows_from_push : (made : List Row) (place : ℕ) (numbers : List RowNumbers) (i : ℕ) (d : RowNumbers) (row : Row) → i < length numbers → row ≡ row_of_numbers place (get_or numbers i d) →
     (made ++ row ∷ []) ++ rows_from (place + 1) (drop (i + 1) numbers) ≡ made ++ rows_from place (drop i numbers)
 unfolding rows_from
 rows_from_push made place numbers i d row lt row_is =
     append_assoc made (row ∷ []) (rows_from (place + 1) (drop (i + 1) numbers))
     ∙ ap (λ (rows : List Row). made ++ rows)
     (ap (λ (r : Row). r ∷ rows_from (place + 1) (drop (i + 1) numbers)) row_is
-    ∙ ap (λ (n : ℕ). row_at place (get_or numbers i d) ∷ rows_from (place + 1) (drop n numbers)) (let same : i + 1 ≡ suc i = omega arith in same)
-    ∙ ap (λ (rest : List Numbers). rows_from place rest) (sym (drop-cons numbers i d lt)))
+    ∙ ap (λ (n : ℕ). row_of_numbers place (get_or numbers i d) ∷ rows_from (place + 1) (drop n numbers)) (let same : i + 1 ≡ suc i = omega arith in same)
+    ∙ ap (λ (rest : List RowNumbers). rows_from place rest) (sym (drop-cons numbers i d lt)))
 
-pub rows_from_end : (made : List Row) (place : ℕ) (numbers : List Numbers) (i : ℕ) → length numbers ≤ i → made ++ rows_from place (drop i numbers) ≡ made
+pub rows_from_end : (made : List Row) (place : ℕ) (numbers : List RowNumbers) (i : ℕ) → length numbers ≤ i → made ++ rows_from place (drop i numbers) ≡ made
 unfolding rows_from
 rows_from_end made place numbers i le = rw (drop_of_length-le numbers le) (append-nil made)
 

@@ -1,13 +1,13 @@
 //! The seven checks of a row, in 64 bits, so that no number that is handed in wraps.
 ghost use Rattle.std.specs.Prelude.{◌≡◌, ◌<◌, ◌^◌, slice_get};
-ghost use Rattle.rq_standard.specs.TableRows.{row_at, intermediate_symbols, has_size, fits_ldpc, fits_hdpc, fits_pi, first_failing_check};
+ghost use Rattle.rq_standard.specs.TableRows.{row_of_numbers, intermediate_symbols, has_size, fits_ldpc, fits_hdpc, fits_pi, first_failing_check};
 
 use rq_standard::row::Row;
 use rq_standard::sizes::P1_TABLE;
 
 // The row that numbers make at a place of a table, which decides its P1.
 pub(crate) fn row_at(place: usize, numbers: &(u32, u32, u32, u32, u32)) -> Row
-    ensures { result ≡ row_at place numbers.now }
+    ensures { result ≡ row_of_numbers place numbers.now }
 {
     let p1 = size_at(place).map_or(0, |(_, p1)| p1);
     let (source_symbols, systematic_index, ldpc_symbols, hdpc_symbols, lt_symbols) = *numbers;

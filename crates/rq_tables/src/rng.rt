@@ -1,6 +1,6 @@
 //! The random generator (RFC 6330, section 5.3.5.1).
 ghost use Rattle.std.specs.Prelude.{◌≡◌, ◌<◌};
-ghost use Rattle.rq_standard.specs.Rand.{rand, entry_of};
+ghost use Rattle.rq_standard.specs.Rand.{rand, chosen_entry};
 
 use rq_standard::mixing::{V0, V1, V2, V3};
 
@@ -20,7 +20,7 @@ pub fn rand(y: u32, i: u32, modulus: u32) -> u32
 
 // The entry of a table that `y` and `i` choose.
 fn entry(table: &[u32; 256], y: u32, i: u32) -> u32
-    ensures { result ≡ entry_of table.now y i }
+    ensures { result ≡ chosen_entry table.now y i }
 {
     table[(y.wrapping_add(i) % 256) as usize]
 }

@@ -178,7 +178,7 @@ impl SystematicTable {
         row.source_symbols + row.ldpc_symbols + row.hdpc_symbols - row.lt_symbols
     }
 
-    /// P1, the least prime that is no less than P, of a block of `source_symbols` symbols.
+    /// P1 of a block of `source_symbols` symbols: the number beside K' in `P1_TABLE`.
     pub fn calculate_p1(&self, source_symbols: u32) -> u32
         requires { source_symbols ≤ greatest_size self.now }
         ensures { result ≡ (row_of self.now source_symbols).p1 }

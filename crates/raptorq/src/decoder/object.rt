@@ -7,7 +7,7 @@ ghost use Rattle.rq_standard.specs.Cutting.{block_symbols};
 ghost use Rattle.rq_standard.specs.Headline.{AnswersExactly, AnswersWhereAnyCan};
 ghost use Rattle.raptorq.specs.Runs.{packets_of, RefusesConfiguration};
 ghost use Rattle.rq_standard.specs.TableRows.{greatest_size};
-ghost use Rattle.rq_base.specs.Refused.{checked_configuration};
+ghost use Rattle.rq_base.specs.RefusedInput.{checked_configuration};
 ghost use Rattle.raptorq.specs.Blocks.{held_of};
 
 use crate::blocks::block_symbols;

@@ -43,7 +43,7 @@ impl Model for ObjectTransmissionInformation {
 }
 
 impl ObjectTransmissionInformation {
-    ghost use Rattle.rq_base.specs.Refused.{new_configuration, checked_configuration};
+    ghost use Rattle.rq_base.specs.RefusedInput.{new_configuration, checked_configuration};
 
     /// A configuration: the transfer length in bytes, the symbol size in bytes, the number of
     /// source blocks, the number of sub-blocks (0 is read as 1) and the symbol alignment in bytes.

@@ -31,7 +31,7 @@ impl Model for PayloadId {
 }
 
 impl PayloadId {
-    ghost use Rattle.rq_base.specs.Refused.{new_id};
+    ghost use Rattle.rq_base.specs.RefusedInput.{new_id};
 
     /// An id of a block number and an encoding symbol id. Refuses [`Error::EsiTooLarge`] where the
     /// encoding symbol id doesn't fit 24 bits.
@@ -103,7 +103,7 @@ impl Model for EncodingPacket {
 }
 
 impl EncodingPacket {
-    ghost use Rattle.rq_base.specs.Refused.{read_packet};
+    ghost use Rattle.rq_base.specs.RefusedInput.{read_packet};
 
     /// A packet of an id and its payload.
     pub fn new(payload_id: PayloadId, payload: Vec<u8>) -> EncodingPacket

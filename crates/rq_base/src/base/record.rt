@@ -1,7 +1,7 @@
 //! Plain records that serde reads and writes, and the values that they stand for.
 ghost use Rattle.std.specs.Prelude.{◌≡◌, Result, Ok, IfOk};
 ghost use Rattle.rq_bytes.specs.Refusals.{IsAnswer, and_then};
-ghost use Rattle.rq_base.specs.Refused.{new_id, new_configuration};
+ghost use Rattle.rq_base.specs.RefusedInput.{new_id, new_configuration};
 
 use crate::base::{EncodingPacket, ObjectTransmissionInformation, PayloadId};
 use rq_bytes::error::Error;

@@ -4,7 +4,7 @@ ghost use Rattle.std.specs.List.{range_with_len};
 ghost use Rattle.rq_algebra.specs.Systems.{at};
 ghost use Rattle.rq_algebra.specs.Steps.{AddsRow, ScalesRow};
 ghost use Rattle.rq_algebra.specs.Operations.{AddAssign, Fma};
-ghost use Rattle.rq_algebra.specs.Meaning.{ClearsColumn};
+ghost use Rattle.rq_algebra.proofs.Elimination.{ClearsColumn};
 ghost use Rattle.rq_standard.specs.OctetField.{octets};
 ghost use Rattle.rq_bytes.specs.declared.error.Error.TheVariants.{OutOfMemory};
 ghost use Rattle.rq_bytes.specs.SymbolOps.{operation_of};

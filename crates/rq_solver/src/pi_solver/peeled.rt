@@ -1,7 +1,6 @@
 //! The elimination of rows of which some have pivots while they are still as they were.
 ghost use Rattle.std.specs.Prelude.{◌≡◌, ◌≢◌, ℕ, ◌+◌, ◌<◌, ◌≤◌, ◌∷◌, ◌++◌, [], drop, length, map, IfOk, OnOk, IfErr, MatchOption};
-ghost use Rattle.rq_algebra.specs.Elimination.{FindsColumn};
-ghost use Rattle.rq_algebra.specs.Operations.{Reorder};
+ghost use Rattle.rq_algebra.specs.Operations.{Reorder, FindsColumn};
 ghost use Rattle.rq_algebra.specs.Systems.{at, HasNullColumn};
 ghost use Rattle.rq_bytes.specs.SymbolOps.{operation_of};
 ghost use Rattle.rq_bytes.specs.declared.error.Error.TheVariants.{OutOfMemory};

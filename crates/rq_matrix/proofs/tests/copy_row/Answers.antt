@@ -2,7 +2,7 @@
 use Rattle.std.proofs.Common.{◌≡◌, ℕ, ◌<◌, ◌≤◌, ◌++◌, ◌∷◌, [], length, slice_index, set, get_or, sym, ap, subst, ◌∙◌, arith, append_assoc, inl, inr, get_or-set_same, get_or-set_other, length-set}
 use Rattle.std.proofs.lemmas.Bool.Decides.{eqb_tells}
 use Rattle.rq_standard.specs.BitTableSteps.{AreOnesOf, ones_at}
-use Rattle.rq_standard.specs.BitTableLaws.{is_next_pair}
+use Rattle.rq_standard.proofs.BitTableLaws.{is_next_pair}
 use Rattle.rq_parts.specs.OctetTable.{OctetTable, row_at}
 use Rattle.rq_matrix.proofs.tests.copy_row.Goals as goal
 

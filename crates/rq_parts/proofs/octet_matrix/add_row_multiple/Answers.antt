@@ -1,12 +1,10 @@
 -- What the check leaves to show of `octet_matrix::add_row_multiple`.
 use Rattle.std.proofs.Common.{◌≡◌, ℕ, ◌+◌, ◌<◌, ◌≤◌, ◌++◌, List, [], length, set, get_or, take, drop, ap, sym, subst, ◌∙◌, arith}
 use Rattle.std.specs.List.{All}
-use Rattle.std.specs.Int.Bits.{bit_xor}
-use Rattle.std.proofs.lemmas.Simd.{length-zip2}
-use Rattle.std.proofs.lemmas.List.{get_or_read, get_or-take, get_or-drop, length-map, length-take-le, length-drop}
+use Rattle.std.proofs.lemmas.List.{get_or_read, get_or-take, get_or-drop, length-take-le, length-drop}
 use Rattle.std.proofs.lemmas.List.Elements.{All-set}
-use Rattle.rq_standard.specs.Octets.{octet_mul}
 use Rattle.rq_standard.specs.Rows.{row_sum, row_multiple}
+use Rattle.rq_parts.specs.OctetTable.{IsOctetRow}
 use Rattle.rq_parts.proofs.Rows.{set_front, set_back}
 use Rattle.rq_parts.proofs.octet_matrix.add_row_multiple.Goals as goal
 
@@ -23,16 +21,11 @@ back_read rows part n x e lt read =
     sym read ∙ get_or_read part 0 x (omega arith) read [] ∙ ap (λ l. get_or l 0 []) e ∙ get_or-drop n rows 0 [] ∙ ap (λ k. get_or rows k []) same
 
 -- the row that was added to is as long as it was
-widths_kept : (rows new : List (List ℕ)) (d s c : ℕ) → d < length rows → s < length rows
-    → new ≡ set rows d (row_sum (get_or rows d []) (row_multiple c (get_or rows s [])))
-    → (n : ℕ) → All (λ row. length row ≡ n) rows → All (λ row. length row ≡ n) new
-widths_kept rows new d s c lt lt' e n all =
-    let x = get_or rows d [] in
-    let y = get_or rows s [] in
-    let scaled = length-map y (octet_mul c) in
-    let long = all d [] lt ∙ sym (scaled ∙ all s [] lt') in
-    subst (All (λ row. length row ≡ n)) (sym e)
-    (All-set (λ row. length row ≡ n) rows d (row_sum x (row_multiple c y)) (length-zip2 bit_xor x (row_multiple c y) long ∙ all d [] lt) all)
+widths_kept : (rows new : List (List ℕ)) (d : ℕ) (x row : List ℕ) → d < length rows → x ≡ get_or rows d [] → new ≡ set rows d row → IsOctetRow (length x) row
+    → (n : ℕ) → All (IsOctetRow n) rows → All (IsOctetRow n) new
+widths_kept rows new d x row lt read e octets n all =
+    let long = octets.0 ∙ ap length read ∙ (all d [] lt).0 in
+    subst (All (IsOctetRow n)) (sym e) (All-set (IsOctetRow n) rows d row (long, octets.1) all)
 
 pub returns-then-dest-src : goal.returns-then-dest-src
 returns-then-dest-src c =
@@ -44,12 +37,15 @@ returns-then-dest-src c =
     let x = front_read rows split.result.0.now s d c.index-front-dest.result split.ensures.front (omega arith) (omega arith) c.index-front-dest.is in
     let y = back_read rows split.result.1.now s c.index-back-0.result split.ensures.back (omega arith) c.index-back-0.is in
     let scalar = c.args.scalar.now in
-    let sum =
+    let kept =
     ap (λ f. set f d new ++ split.result.1.now) split.ensures.front
     ∙ ap (λ b. set (take s rows) d new ++ b) split.ensures.back
     ∙ set_front rows s d new (omega arith) (omega arith)
-    ∙ ap (set rows d) (c.add_multiple.ensures ∙ ap (λ r. row_sum r (row_multiple scalar (get_or split.result.1.now 0 c.index-back-0.result))) x ∙ ap (λ r. row_sum (get_or rows d []) (row_multiple scalar r)) y)
-    in record { sum = sum; widths = widths_kept rows _ d s scalar (omega arith) (omega arith) sum }
+    in
+    let sum =
+    kept
+    ∙ ap (set rows d) (c.add_multiple.ensures.sum ∙ ap (λ r. row_sum r (row_multiple scalar (get_or split.result.1.now 0 c.index-back-0.result))) x ∙ ap (λ r. row_sum (get_or rows d []) (row_multiple scalar r)) y)
+    in record { sum = sum; widths = widths_kept rows _ d _ new (omega arith) x kept c.add_multiple.ensures.octets }
 
 pub returns-else-dest-src : goal.returns-else-dest-src
 returns-else-dest-src c =
@@ -62,9 +58,12 @@ returns-else-dest-src c =
     let x = back_read rows split.result.1.now d c.index-back-0-else-dest-src.result split.ensures.back (omega arith) c.index-back-0-else-dest-src.is in
     let y = front_read rows split.result.0.now d s c.index-front-src.result split.ensures.front two (omega arith) c.index-front-src.is in
     let scalar = c.args.scalar.now in
-    let sum =
+    let kept =
     ap (λ f. f ++ set split.result.1.now 0 new) split.ensures.front
     ∙ ap (λ b. take d rows ++ set b 0 new) split.ensures.back
     ∙ set_back rows d new (omega arith)
-    ∙ ap (set rows d) (c.add_multiple-else-dest-src.ensures ∙ ap (λ r. row_sum r (row_multiple scalar (get_or split.result.0.now s c.index-front-src.result))) x ∙ ap (λ r. row_sum (get_or rows d []) (row_multiple scalar r)) y)
-    in record { sum = sum; widths = widths_kept rows _ d s scalar (omega arith) (omega arith) sum }
+    in
+    let sum =
+    kept
+    ∙ ap (set rows d) (c.add_multiple-else-dest-src.ensures.sum ∙ ap (λ r. row_sum r (row_multiple scalar (get_or split.result.0.now s c.index-front-src.result))) x ∙ ap (λ r. row_sum (get_or rows d []) (row_multiple scalar r)) y)
+    in record { sum = sum; widths = widths_kept rows _ d _ new (omega arith) x kept c.add_multiple-else-dest-src.ensures.octets }

@@ -1,7 +1,7 @@
 -- What the loops keep in `null_column::clear_column`.
 use Rattle.std.proofs.Common.{length}
 use Rattle.rq_algebra.specs.Systems.{at}
-use Rattle.rq_algebra.specs.Meaning.{ClearsColumn}
+use Rattle.rq_algebra.proofs.Elimination.{ClearsColumn}
 use Rattle.rq_standard.specs.OctetField.{octets}
 use Rattle.rq_parts.specs.OctetTable.{entry_of}
 use Rattle.rq_solver.specs.Homogeneous.{KeepsZeros}

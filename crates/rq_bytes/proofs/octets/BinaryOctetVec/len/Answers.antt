@@ -1,6 +1,6 @@
 -- What the check leaves to show of `octets::BinaryOctetVec::len`.
 use Rattle.std.proofs.Common.{length, ap, sym, ◌∙◌}
-use Rattle.rq_standard.proofs.Packed.{length-packed_bits}
+use Rattle.rq_bytes.proofs.PackedRows.{length-packed_bits}
 use Rattle.rq_bytes.proofs.octets.BinaryOctetVec.len.Goals as goal
 
 pub returns : goal.returns

@@ -1,7 +1,7 @@
 -- What the check leaves to show of `octets::BinaryOctetVec::padding_bits`.
 use Rattle.std.proofs.Common.{length, ap, sym, ◌∙◌}
-use Rattle.rq_standard.specs.PackedBits.{padding_of}
-use Rattle.rq_standard.proofs.Packed.{length-packed_bits}
+use Rattle.rq_bytes.specs.BinaryOctetVec.{padding_of}
+use Rattle.rq_bytes.proofs.PackedRows.{length-packed_bits}
 use Rattle.rq_bytes.proofs.octets.BinaryOctetVec.padding_bits.Goals as goal
 
 pub returns : goal.returns

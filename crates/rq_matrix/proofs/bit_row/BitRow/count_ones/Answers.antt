@@ -2,7 +2,7 @@
 use Rattle.std.proofs.Common.{◌≡◌, ℕ, ◌+◌, ◌-◌, ◌/◌, ◌%◌, ◌<◌, List, length, get_or, ap, sym, ◌∙◌, arith}
 use Rattle.std.specs.Int.{bit_at}
 use Rattle.std.proofs.lemmas.List.{get_or_read}
-use Rattle.rq_standard.specs.PackedBits.{packed_bit}
+use Rattle.rq_bytes.specs.BinaryOctetVec.{packed_bit}
 use Rattle.rq_standard.specs.BitTableSteps.{ones_below, ones_between}
 use Rattle.rq_matrix.proofs.Ones.{ones_below-add, ones_below-same}
 use Rattle.rq_matrix.proofs.Words.{packed_bit-near}

@@ -1,6 +1,6 @@
 -- What the loop keeps in `bit_row::BitRow::count_ones`.
 use Rattle.std.proofs.Common.{◌≡◌, ◌-◌, ◌≤◌}
-use Rattle.rq_standard.specs.PackedBits.{packed_bit}
+use Rattle.rq_bytes.specs.BinaryOctetVec.{packed_bit}
 use Rattle.rq_standard.specs.BitTableSteps.{ones_between}
 use Rattle.rq_matrix.proofs.bit_row.BitRow.count_ones.Given as goal
 

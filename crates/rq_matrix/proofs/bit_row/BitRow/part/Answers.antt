@@ -1,7 +1,7 @@
 -- What the check leaves to show of `bit_row::BitRow::part`.
 use Rattle.std.proofs.Common.{◌≡◌, ℕ, ◌+◌, ◌-◌, ◌<◌, List, get_or, ap, ◌∙◌, arith}
-use Rattle.rq_standard.specs.PackedBits.{packed_bit, padding_of}
-use Rattle.rq_standard.proofs.Packed.{get_or-packed_bits}
+use Rattle.rq_bytes.specs.BinaryOctetVec.{packed_bit, padding_of}
+use Rattle.rq_bytes.proofs.PackedRows.{get_or-packed_bits}
 use Rattle.rq_matrix.proofs.bit_row.BitRow.part.Goals as goal
 
 pub returns-clause-ok : goal.returns-clause-ok

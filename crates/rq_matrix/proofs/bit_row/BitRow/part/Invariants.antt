@@ -1,6 +1,6 @@
 -- What the loop keeps in `bit_row::BitRow::part`.
 use Rattle.std.proofs.Common.{◌≡◌, ℕ, ◌+◌, ◌<◌, length}
-use Rattle.rq_standard.specs.PackedBits.{packed_bit}
+use Rattle.rq_bytes.specs.BinaryOctetVec.{packed_bit}
 use Rattle.rq_matrix.specs.BitRows.{word_count}
 use Rattle.rq_matrix.proofs.bit_row.BitRow.part.Given as goal
 

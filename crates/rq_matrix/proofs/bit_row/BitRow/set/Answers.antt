@@ -1,7 +1,7 @@
 -- What the check leaves to show of `bit_row::BitRow::set`.
 use Rattle.std.proofs.Common.{◌*◌, ◌/◌, ◌%◌, ◌<◌, ◌∙◌, List, ℕ, ap, subst, sym, arith, length, if◌then◌else◌}
 use Rattle.std.proofs.lemmas.List.{get_or_read}
-use Rattle.rq_standard.specs.PackedBits.{packed_bit}
+use Rattle.rq_bytes.specs.BinaryOctetVec.{packed_bit}
 use Rattle.rq_matrix.specs.BitRows.{IsWordWith}
 use Rattle.rq_matrix.proofs.Words.{packed_bit-set_here, packed_bit-set_other}
 use Rattle.rq_matrix.proofs.bit_row.BitRow.set.Goals as goal

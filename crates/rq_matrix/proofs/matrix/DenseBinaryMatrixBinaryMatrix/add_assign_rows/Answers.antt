@@ -5,7 +5,7 @@ use Rattle.std.specs.Int.Bits.{bit_xor}
 use Rattle.std.proofs.lemmas.List.{with_items_is}
 use Rattle.std.proofs.lemmas.List.Elements.{All-set}
 use Rattle.std.proofs.lemmas.Simd.{length-zip2}
-use Rattle.rq_standard.specs.PackedBits.{packed_bit}
+use Rattle.rq_bytes.specs.BinaryOctetVec.{packed_bit}
 use Rattle.rq_standard.specs.Rows.{row_sum}
 use Rattle.rq_matrix.specs.BitRows.{bit_in, word_count}
 use Rattle.rq_matrix.proofs.RowLaws.{packed_bit-sum, word_inside}

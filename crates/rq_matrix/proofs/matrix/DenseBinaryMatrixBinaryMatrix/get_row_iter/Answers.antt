@@ -1,7 +1,7 @@
 -- What the check leaves to show of `matrix::DenseBinaryMatrix::get_row_iter`.
 use Rattle.std.proofs.Common.{◌-◌, [], get_or, sym, subst, ap, ◌∙◌}
 use Rattle.std.proofs.lemmas.List.{get_or_read}
-use Rattle.rq_standard.specs.PackedBits.{packed_bit}
+use Rattle.rq_bytes.specs.BinaryOctetVec.{packed_bit}
 use Rattle.rq_standard.specs.BitTableSteps.{AreOnesOf}
 use Rattle.rq_parts.specs.BitPairs.{bit_pairs, ones_among}
 use Rattle.rq_matrix.proofs.Pairs.{are_ones_of}

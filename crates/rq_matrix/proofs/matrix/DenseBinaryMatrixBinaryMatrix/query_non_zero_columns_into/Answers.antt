@@ -2,7 +2,7 @@
 use Rattle.std.proofs.Common.{◌≡◌, ◌≤◌, ℕ, ◌-◌, List, [], ◌∷◌, ◌++◌, map, get_or, length, sym, subst, ap, ◌∙◌, arith, append-nil}
 use Rattle.std.proofs.lemmas.List.{length-append, length-map}
 use Rattle.std.specs.List.Sorted.{IsStrictlyIncreasing}
-use Rattle.rq_standard.specs.PackedBits.{packed_bit}
+use Rattle.rq_bytes.specs.BinaryOctetVec.{packed_bit}
 use Rattle.rq_standard.specs.BitTableSteps.{ArePlacesOfOnes}
 use Rattle.rq_matrix.proofs.Pairs.{places-ascend, are_places_of_ones, length-ones}
 use Rattle.rq_matrix.proofs.matrix.DenseBinaryMatrixBinaryMatrix.query_non_zero_columns_into.Goals as goal

@@ -3,7 +3,7 @@ use Rattle.std.proofs.Common.{◌≡◌, ◌≤◌, ◌<◌, ◌^◌, ℕ, List,
 use Rattle.std.specs.List.{All}
 use Rattle.std.proofs.lemmas.List.{with_items_is, get_or-take, get_or-map, length-map, length-take-le}
 use Rattle.std.proofs.lemmas.List.Elements.{All-map}
-use Rattle.rq_standard.specs.PackedBits.{packed_bit}
+use Rattle.rq_bytes.specs.BinaryOctetVec.{packed_bit}
 use Rattle.rq_matrix.specs.BitRows.{bit_in, word_count}
 use Rattle.rq_matrix.proofs.RowLaws.{packed_bit-take, word_inside, word_count-le}
 use Rattle.rq_matrix.proofs.matrix.DenseBinaryMatrixBinaryMatrix.resize.Goals as goal

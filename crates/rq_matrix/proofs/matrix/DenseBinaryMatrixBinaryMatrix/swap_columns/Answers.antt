@@ -1,7 +1,7 @@
 -- What the check leaves to show of `matrix::DenseBinaryMatrix::swap_columns`.
 use Rattle.std.proofs.Common.{ℕ, List, [], length, get_or, sym, subst, ap, ◌∙◌, inr, refl}
 use Rattle.std.proofs.lemmas.List.{with_items_is}
-use Rattle.rq_standard.specs.PackedBits.{packed_bit}
+use Rattle.rq_bytes.specs.BinaryOctetVec.{packed_bit}
 use Rattle.rq_standard.specs.BitTableSteps.{SwapsPlaces}
 use Rattle.rq_matrix.specs.BitRows.{AreSwappedFrom}
 use Rattle.rq_matrix.proofs.matrix.DenseBinaryMatrixBinaryMatrix.swap_columns.Goals as goal

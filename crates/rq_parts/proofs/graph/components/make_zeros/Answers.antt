@@ -1,5 +1,5 @@
 use Rattle.std.proofs.Common.{◌-◌, get_or, replicate, ap, sym, ◌∙◌, arith}
-use Rattle.rq_parts.specs.Numbers.{Numbers}
+use Rattle.rq_parts.specs.ArrayMaps.{Numbers}
 use Rattle.rq_parts.proofs.ComponentLaws.{set_keeps}
 use Rattle.rq_parts.proofs.Zeros.{all_zero, zeros_more}
 use Rattle.rq_parts.proofs.graph.components.make_zeros.Goals as goal

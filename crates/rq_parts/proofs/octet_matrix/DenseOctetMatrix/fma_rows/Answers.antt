@@ -1,7 +1,8 @@
 -- What the check leaves to show of `octet_matrix::DenseOctetMatrix::fma_rows`.
-use Rattle.std.proofs.Common.{◌≡◌, length, sym, subst, ◌∙◌}
+use Rattle.std.proofs.Common.{sym, subst, ◌∙◌}
 use Rattle.std.specs.List.{All}
 use Rattle.std.proofs.lemmas.List.{with_items_is}
+use Rattle.rq_parts.specs.OctetTable.{IsOctetRow}
 use Rattle.rq_parts.proofs.octet_matrix.DenseOctetMatrix.fma_rows.Goals as goal
 
 pub invariant_of-self : goal.invariant_of-self
@@ -9,5 +10,5 @@ invariant_of-self c =
     let rows = c.self.inside.elements in
     let new = c.add_row_multiple.new.rows in
     let kept = with_items_is rows new (c.add_row_multiple.auto.rows ∙ c.as_mut_slice.ensures.len) in
-    subst (All (λ row. length row ≡ c.self.inside.width)) (sym kept)
-    (c.add_row_multiple.ensures.widths c.self.inside.width (subst (All (λ row. length row ≡ c.self.inside.width)) (sym c.as_mut_slice.ensures.value) c.self.invariant))
+    subst (All (IsOctetRow c.self.inside.width)) (sym kept)
+    (c.add_row_multiple.ensures.widths c.self.inside.width (subst (All (IsOctetRow c.self.inside.width)) (sym c.as_mut_slice.ensures.value) c.self.invariant))

@@ -1,9 +1,9 @@
 -- What the check leaves to show of `octet_matrix::DenseOctetMatrix::swap_columns`.
-use Rattle.std.proofs.Common.{◌≡◌, ◌<◌, ◌≤◌, ◌∙◌, ℕ, List, [], length, set, get_or, ap, arith}
+use Rattle.std.proofs.Common.{◌<◌, ◌≤◌, ◌∙◌, ℕ, List, [], length, set, get_or, ap, arith}
 use Rattle.std.specs.List.{swap}
 use Rattle.std.proofs.lemmas.List.{get_or_read}
 use Rattle.std.proofs.lemmas.List.Elements.{All-set}
-use Rattle.rq_parts.specs.OctetTable.{OctetTable, columns_swapped}
+use Rattle.rq_parts.specs.OctetTable.{OctetTable, IsOctetRow, columns_swapped}
 use Rattle.rq_parts.proofs.Rows.{mapped_until-next, mapped_until-more, mapped_until-end, length-mapped_until}
 use Rattle.rq_parts.proofs.octet_matrix.DenseOctetMatrix.swap_columns.Goals as goal
 
@@ -24,11 +24,12 @@ loop-row-preserved c =
     get_or_read items n c.index_mut.result.now lt c.index_mut.ensures.value []
     ∙ ap (λ l. get_or l n []) kept
     ∙ mapped_until-next f start n rows from below []
-    in (
+    in
+    let long = ap length c.index_mut.ensures.value ∙ (c.loop-row.invariant.1 n c.index_mut.result.now lt).0 in (
       ap (set items n) (c.swap.ensures.swapped ∙ ap f read)
           ∙ ap (λ l. set l n (f (get_or rows n []))) kept
           ∙ mapped_until-more f start n rows from below [],
-      All-set (λ row. length row ≡ width) items n c.swap.new.self (c.swap.ensures.len ∙ ap length c.index_mut.ensures.value ∙ c.loop-row.invariant.1 n c.index_mut.result.now lt) c.loop-row.invariant.1,
+      All-set (IsOctetRow width) items n c.swap.new.self (c.swap.ensures.octets.0 ∙ long, c.swap.ensures.octets.1) c.loop-row.invariant.1,
       c.loop-row.invariant.2,
     )
 

@@ -1,7 +1,6 @@
 -- What the check leaves to show of `pi_solver::IntermediateSymbolDecoder::execute`.
 use Rattle.std.proofs.Common.{List, None, length, map, sym, ap, ◌∙◌, subst}
-use Rattle.rq_algebra.specs.Elimination.{FindsColumn}
-use Rattle.rq_algebra.specs.Operations.{AreAllowed}
+use Rattle.rq_algebra.specs.Operations.{AreAllowed, FindsColumn}
 use Rattle.rq_algebra.specs.Systems.{HasNullColumn}
 use Rattle.rq_standard.specs.ConstraintMatrix.{with_octet_rows}
 use Rattle.rq_standard.specs.OctetField.{octets}

@@ -1,7 +1,7 @@
 -- What the loops keep in `pi_solver::elimination::clear_column`.
 use Rattle.std.proofs.Common.{length}
 use Rattle.rq_algebra.specs.Systems.{at}
-use Rattle.rq_algebra.specs.Meaning.{ClearsColumn}
+use Rattle.rq_algebra.proofs.Elimination.{ClearsColumn}
 use Rattle.rq_standard.specs.OctetField.{octets}
 use Rattle.rq_solver.specs.RowSteps.{HasOctets, RecordsSteps}
 use Rattle.rq_solver.proofs.pi_solver.elimination.clear_column.Given as goal

@@ -1,8 +1,7 @@
 -- What the check leaves to show of `pi_solver::peeled::operations_of_peeled`.
 use Rattle.std.proofs.Common.{◌≡◌, ℕ, List, [], ◌∷◌, ◌++◌, length, map, drop, sym, ap, ◌∙◌, subst, arith}
 use Rattle.std.proofs.lemmas.List.{map-append}
-use Rattle.rq_algebra.specs.Elimination.{FindsColumn}
-use Rattle.rq_algebra.specs.Operations.{Reorder}
+use Rattle.rq_algebra.specs.Operations.{Reorder, FindsColumn}
 use Rattle.rq_algebra.specs.Systems.{HasNullColumn}
 use Rattle.rq_standard.specs.OctetField.{octets}
 use Rattle.rq_bytes.specs.SymbolOps.{operation_of}

@@ -1,7 +1,7 @@
 -- What the check leaves to show of `pi_solver::rows::copy_leading_bits`.
 use Rattle.std.proofs.Common.{◌≡◌, ℕ, ◌<◌, ◌≤◌, ◌++◌, ◌∷◌, [], sym, subst, arith, append_assoc}
 use Rattle.rq_standard.specs.BitTableSteps.{AreOnesOf, ones_at}
-use Rattle.rq_standard.specs.BitTableLaws.{is_next_pair}
+use Rattle.rq_standard.proofs.BitTableLaws.{is_next_pair}
 use Rattle.rq_solver.proofs.Writes.{sets_entry, writes_again}
 use Rattle.rq_solver.proofs.pi_solver.rows.copy_leading_bits.Goals as goal
 

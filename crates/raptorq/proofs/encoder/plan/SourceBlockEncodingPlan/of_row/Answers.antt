@@ -1,6 +1,6 @@
 use Rattle.std.proofs.Common.{◌≡◌, length, map, refl, sym, ap, ◌∙◌, subst, arith, inr}
 use Rattle.std.proofs.lemmas.List.{length-replicate}
-use Rattle.rq_algebra.specs.Elimination.{FindsColumn}
+use Rattle.rq_algebra.specs.Operations.{FindsColumn}
 use Rattle.rq_bytes.specs.Slab.{Slab}
 use Rattle.rq_bytes.specs.SymbolOps.{operation_of}
 use Rattle.rq_standard.specs.OctetField.{octets}

@@ -1,7 +1,7 @@
 use Rattle.std.proofs.Common.{◌-◌, ◌≤◌, ℕ, length, ap, subst, sym, arith, ◌∙◌}
 use Rattle.std.specs.List.{All}
 use Rattle.std.proofs.lemmas.List.Edits.{length-swap}
-use Rattle.rq_parts.specs.Numbers.{Numbers}
+use Rattle.rq_parts.specs.ArrayMaps.{Numbers}
 use Rattle.rq_parts.specs.Components.{Components}
 use Rattle.rq_parts.proofs.Rows.{All-swap}
 use Rattle.rq_parts.proofs.ComponentLaws.{labels_kept}

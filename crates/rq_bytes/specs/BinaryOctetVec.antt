@@ -1,10 +1,10 @@
--- Rows of bits, packed in words of 64, the lowest bit of a word first. A row ends where its last word ends, so that the
--- bits before its first element, which the first word may have, are no elements.
+-- What the words of a `BinaryOctetVec` hold: element i of a row of n stands at bit `padding_of n` + i, counted from the lowest bit of
+-- the first word on. The bits before it are no elements.
 use Rattle.std.specs.Prelude.{ℕ, ◌+◌, ◌-◌, ◌/◌, ◌%◌, List, map, slice_index}
 use Rattle.std.specs.Int.{bit_at}
 use Rattle.std.specs.List.{range_with_len}
 
--- how many bits stand before the first element of a row of n
+-- how many bits stand before the first element of a row of n, which ends where its last word ends
 abbrev pub padding_of : ℕ → ℕ
 padding_of n = (64 - n % 64) % 64
 

@@ -1,7 +1,7 @@
 -- The elements of a packed row.
 use Rattle.std.proofs.Common.{◌≡◌, ℕ, ◌+◌, ◌<◌, List, length, get_or, arith}
 use Rattle.std.proofs.lemmas.List.FromFn.{length-map-range_with_len, get_or-map-range_with_len}
-use Rattle.rq_standard.specs.PackedBits.{padding_of, packed_bit, packed_bits}
+use Rattle.rq_bytes.specs.BinaryOctetVec.{padding_of, packed_bit, packed_bits}
 
 pub length-packed_bits : (words : List ℕ) (n : ℕ) → length (packed_bits words n) ≡ n
 unfolding packed_bits

@@ -1,4 +1,4 @@
--- Walking over pairs of places and bits: after each pair, how often each place has come with a one.
+-- Pairs of places and bits, one after another: after each pair, how often each place has come with a one. Proofs of crates above rest on these laws.
 use Rattle.std.proofs.Common.{◌≡◌, ◌≢◌, ℕ, ◌+◌, ◌<◌, ◌≤◌, cond, List, [], ◌∷◌, ◌++◌, length, refl, sym, ap, ◌∙◌, subst, arith, append_assoc, append-nil, inl, inr, eq-eqb, zero-add, add-zero}
 use Rattle.std.specs.Prelude.{◌&&◌, ◌==◌}
 use Rattle.std.proofs.lemmas.List.Sums.{sum_by-append}
