@@ -10,7 +10,7 @@ use Rattle.std.proofs.Math.ListN.{get_or-map}
 use Rattle.rq_standard.specs.declared.row.Row.{Row}
 use Rattle.rq_standard.specs.TableRows.{row_of}
 use Rattle.raptorq.specs.declared.encoder.plan.SourceBlockEncodingPlan.{SourceBlockEncodingPlan}
-use Rattle.raptorq.specs.PlanCache.{holds, cached, IsPlanOver}
+use Rattle.raptorq.specs.PlanCache.{holds_count, cached, IsPlanOver}
 use Rattle.raptorq.proofs.Encodes.{at_any}
 
 -- ---- whether a count is held
@@ -35,7 +35,7 @@ is_some_if true n = refl
 is_some_if false n = refl
 
 -- a count is held where it has a place
-pub held_by : (counts : List ℕ) (count : ℕ) (place : Option ℕ) → place ≡ position (λ n. n == count) counts → is_some place ≡ holds counts count
+pub held_by : (counts : List ℕ) (count : ℕ) (place : Option ℕ) → place ≡ position (λ n. n == count) counts → is_some place ≡ holds_count counts count
 held_by counts count place is = ap is_some is ∙ is_some_if (nat_lt (position_or_len (λ n. n == count) counts) (length counts)) _ ∙ some_first (λ n. n == count) counts
 
 pub place_found : (counts : List ℕ) (count i : ℕ) → position (λ n. n == count) counts ≡ Some i → slice_get counts i ≡ Some count
@@ -66,10 +66,10 @@ plan_found table plans counts count place p shown over found is =
 
 -- ---- a use of a count
 
-pub cached-held : (counts : List ℕ) (count : ℕ) → holds counts count ≡ true → cached counts count ≡ counts
+pub cached-held : (counts : List ℕ) (count : ℕ) → holds_count counts count ≡ true → cached counts count ≡ counts
 cached-held counts count held = rw held refl
 
-pub cached-new : (counts : List ℕ) (count : ℕ) → holds counts count ≡ false → cached counts count ≡ cond (nat_lt (length counts) 64) counts (drop 1 counts) ++ count ∷ []
+pub cached-new : (counts : List ℕ) (count : ℕ) → holds_count counts count ≡ false → cached counts count ≡ cond (nat_lt (length counts) 64) counts (drop 1 counts) ++ count ∷ []
 cached-new counts count new = rw new (go (nat_lt (length counts) 64))
   where
     go : (b : Bool) → cond b (counts ++ count ∷ []) (drop 1 counts ++ count ∷ []) ≡ cond b counts (drop 1 counts) ++ count ∷ []
@@ -77,7 +77,7 @@ cached-new counts count new = rw new (go (nat_lt (length counts) 64))
     go false = refl
 
 -- a new count is the last
-pub new_last : (counts : List ℕ) (count n : ℕ) → holds counts count ≡ false → n ≡ length (cached counts count) → (1 ≤ n) × (slice_get (cached counts count) (n - 1) ≡ Some count)
+pub new_last : (counts : List ℕ) (count n : ℕ) → holds_count counts count ≡ false → n ≡ length (cached counts count) → (1 ≤ n) × (slice_get (cached counts count) (n - 1) ≡ Some count)
 new_last counts count n new long =
     let front = cond (nat_lt (length counts) 64) counts (drop 1 counts) in
     let is = cached-new counts count new in

@@ -22,7 +22,7 @@ use Rattle.rq_standard.specs.Held.{Held, holds, SolvesHeld, AreHeldDetermining}
 use Rattle.rq_standard.proofs.Known.{known_source, known_padding, known_repair, range_at, determined_by, determined_list, block_same, few_not_determining}
 use Rattle.rq_standard.proofs.Columns.{sum_at}
 use Rattle.raptorq.specs.Known.{known_list, known_values, IsHeldSolution, SolvesBlock}
-use Rattle.raptorq.specs.Solving.{IsSolution, Solves}
+use Rattle.raptorq.specs.BlockSolutions.{IsBlockSolution, SolvesListed}
 use Rattle.rq_bytes.specs.Slab.{Slab, slab_of}
 use Rattle.raptorq.specs.Missing.{payload_of, has_payload}
 use Rattle.raptorq.proofs.Listing.{entry_payload, length-known_list, length-known_values}
@@ -194,7 +194,7 @@ module _ (h : Held) (m : Payloads) (fits : h.symbols ≤ h.row.source_symbols) (
       }
 
   -- what a solver finds of them
-  pub held_solution : (slab : Slab) → IsSolution h.row (known_list h.row h.symbols m.entries) h.configuration.symbol_size (known_values h.row h.symbols h.configuration.symbol_size m.entries) slab → IsHeldSolution h slab
+  pub held_solution : (slab : Slab) → IsBlockSolution h.row (known_list h.row h.symbols m.entries) h.configuration.symbol_size (known_values h.row h.symbols h.configuration.symbol_size m.entries) slab → IsHeldSolution h slab
   held_solution slab s =
       let has : (e : ℕ) → holds h e ≡ has_payload m e = λ e. ap is_some (same e) in
       record {
@@ -214,8 +214,8 @@ module _ (h : Held) (m : Payloads) (fits : h.symbols ≤ h.row.source_symbols) (
 
   -- an answer of a solver over them
   pub solves_block : (size : ℕ) (ids : List ℕ) (given : Slab) (answer : Option Slab) → size ≡ h.configuration.symbol_size → ids ≡ known_list h.row h.symbols m.entries → given ≡ slab_of size (known_values h.row h.symbols size m.entries)
-      → Solves h.row ids given.symbol_size given.values answer → SolvesBlock h answer
+      → SolvesListed h.row ids given.symbol_size given.values answer → SolvesBlock h answer
   solves_block size ids given None is listed values none = not_held (subst (λ l. HasDeterminedRows h.row l → ⊥) listed none)
   solves_block size ids given (Some slab) is listed values some =
-      held_solution slab (subst (λ n. IsSolution h.row (known_list h.row h.symbols m.entries) n (known_values h.row h.symbols n m.entries) slab) is
-      (subst (λ l. IsSolution h.row l size (known_values h.row h.symbols size m.entries) slab) listed (subst (λ (g : Slab). IsSolution h.row ids g.symbol_size g.values slab) values some)))
+      held_solution slab (subst (λ n. IsBlockSolution h.row (known_list h.row h.symbols m.entries) n (known_values h.row h.symbols n m.entries) slab) is
+      (subst (λ l. IsBlockSolution h.row l size (known_values h.row h.symbols size m.entries) slab) listed (subst (λ (g : Slab). IsBlockSolution h.row ids g.symbol_size g.values slab) values some)))

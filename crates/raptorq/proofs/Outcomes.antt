@@ -19,7 +19,7 @@ use Rattle.rq_base.specs.HdpcPart.{IsHdpcPart}
 use Rattle.rq_solver.specs.Solving.{AreEquations, IsOutcome, solver_of}
 use Rattle.rq_solver.specs.Solving as solver
 use Rattle.rq_solver.proofs.EquationLaws.{are_equations, solution_of_equations, null_of_equations}
-use Rattle.raptorq.specs.Solving.{IsSolution, SolvesByOperations}
+use Rattle.raptorq.specs.BlockSolutions.{IsBlockSolution, SolvesByOperations}
 
 -- the matrices of a block's ids are equations for its values
 pub handed_equations : (row : Row) (ids : List ℕ) (bits : BitTable) (hdpc : OctetTable) (handed : Slab) → IsBinaryPart row ids bits → IsHdpcPart row hdpc → length handed.values ≡ equation_count row ids → intermediate_symbols row ≤ equation_count row ids → handed.order ≡ None
@@ -43,7 +43,7 @@ module _ (row : Row) (ids : List ℕ) (bits : BitTable) (hdpc : OctetTable) (han
 
 -- the solution is the block's
 pub solution_found : (row : Row) (ids : List ℕ) (handed slab : Slab) (operations : List Operation) → AreSymbols octets handed.symbol_size (equation_count row ids) handed.values
-    → solver.IsSolution (equation_count row ids) (intermediate_symbols row) (equations row ids) handed slab operations → IsSolution row ids handed.symbol_size handed.values slab
+    → solver.IsSolution (equation_count row ids) (intermediate_symbols row) (equations row ids) handed slab operations → IsBlockSolution row ids handed.symbol_size handed.values slab
 solution_found row ids handed slab operations symbols_are s = record {
   determined = finds_determined octets (equation_count row ids) (intermediate_symbols row) (equations row ids) operations s.finds;
   places = places_count slab (intermediate_symbols row) s.places;

@@ -1,6 +1,7 @@
 pub mod Allowed
 pub mod BlockData
 pub mod BlockEncoded
+pub mod BlockSolutions
 pub mod Blocks
 pub mod Building
 pub mod CacheLends
@@ -17,5 +18,4 @@ pub mod Planned
 pub mod Plans
 pub mod Refused
 pub mod Runs
-pub mod Solving
 pub mod Stopping

@@ -5,19 +5,19 @@ use Rattle.rq_standard.specs.declared.row.Row.{Row}
 use Rattle.rq_standard.specs.TableRows.{greatest_size, row_of}
 use Rattle.raptorq.specs.declared.encoder.plan.SourceBlockEncodingPlan.{SourceBlockEncodingPlan}
 
--- its table, and the counts of source symbols of the plans that it holds, the first to fall out first
+-- its table, and the counts of source symbols of the plans that it holds_count, the first to fall out first
 pub record PlanCache : Type 0 where
   pub table : List Row
   pub counts : List ℕ
 
 -- whether a count is held
-abbrev pub holds : List ℕ → ℕ → Bool
-holds counts count = list_any (λ n. n == count) counts
+abbrev pub holds_count : List ℕ → ℕ → Bool
+holds_count counts count = list_any (λ n. n == count) counts
 
 -- the counts after a use of one: a count that is held changes nothing; a new one goes last, and the first falls out where there were 64
 abbrev pub cached : List ℕ → ℕ → List ℕ
 cached counts count =
-    if holds counts count then counts
+    if holds_count counts count then counts
     else if nat_lt (length counts) 64 then counts ++ count ∷ []
     else drop 1 counts ++ count ∷ []
 

@@ -3,7 +3,7 @@ ghost use Rattle.std.specs.Prelude.{◌≡◌, ◌^◌, ◌<◌, ◌≤◌, leng
 ghost use Rattle.rq_standard.specs.TableRows.{IsChecked, intermediate_symbols};
 ghost use Rattle.rq_standard.specs.Equations.{equation_count, equations};
 ghost use Rattle.rq_solver.specs.Homogeneous.{ShowsHomogeneous};
-ghost use Rattle.raptorq.specs.Solving.{Solves, SolvesByOperations};
+ghost use Rattle.raptorq.specs.BlockSolutions.{SolvesListed, SolvesByOperations};
 
 use rq_base::constraint_matrix::generate_constraint_matrix_of_row;
 use rq_bytes::error::Error;
@@ -29,7 +29,7 @@ pub(crate) fn solve(
     requires fits { equation_count row.now ids.now < 2 ^ 31 }
     requires count { length values.values ≡ equation_count row.now ids.now }
     requires no_order { values.order ≡ None }
-    ensures solved { IfOk result (λ answer. Solves row.now ids.now values.symbol_size values.values answer) }
+    ensures solved { IfOk result (λ answer. SolvesListed row.now ids.now values.symbol_size values.values answer) }
     ensures memory { IfErr result (λ e. e ≡ Error.OutOfMemory) }
 {
     // What counts them says that they have one size.

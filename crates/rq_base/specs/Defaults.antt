@@ -4,7 +4,8 @@ use Rattle.rq_bytes.specs.declared.error.Error.{Error}
 use Rattle.rq_bytes.specs.declared.error.Error.TheVariants.{PacketSizeZero, TransferLengthZero, TransferTooLong, MemoryRequirementTooSmall, TooManyBlocks}
 use Rattle.rq_standard.specs.declared.row.Row.{Row}
 use Rattle.rq_standard.specs.Configuration.{Configuration}
-use Rattle.rq_standard.specs.Parameters.{fitting_block, most_sub_blocks, blocks_for, parameters_for}
+use Rattle.std.specs.Int.{div_ceil}
+use Rattle.rq_standard.specs.Parameters.{IsLeast, is_fitting, symbols_for, fitting_block, most_sub_blocks, blocks_for, parameters_for}
 
 abbrev pub wanted_parameters : List Row → ℕ → ℕ → ℕ → Result Configuration Error
 wanted_parameters rows length s memory =
@@ -14,3 +15,7 @@ wanted_parameters rows length s memory =
     else if fitting_block rows s memory (most_sub_blocks s) == 0 then Err MemoryRequirementTooSmall
     else if nat_lt 255 (blocks_for rows length s memory) then Err TooManyBlocks
     else Ok (parameters_for rows length s memory)
+
+-- N is the least number of sub-blocks that fit
+abbrev pub HasLeastSubBlocks : List Row → ℕ → ℕ → ℕ → Configuration → Type 0
+HasLeastSubBlocks rows length s memory c = IsLeast (is_fitting rows s memory (div_ceil (symbols_for length s) c.source_blocks)) c.sub_blocks

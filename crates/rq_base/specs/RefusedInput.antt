@@ -2,6 +2,7 @@
 use Rattle.std.specs.Prelude.{ℕ, ◌^◌, ◌%◌, List, length, Result, Ok, Err, if◌then◌else◌, ◌==◌, ◌&&◌, not, nat_lt}
 use Rattle.rq_bytes.specs.declared.error.Error.{Error}
 use Rattle.rq_bytes.specs.declared.error.Error.TheVariants.{TransferTooLong, AlignmentZero, Misaligned, TooManySymbols, SymbolSizeZero, SourceBlocksZero, BlockOverTable, EsiTooLarge, PacketTooShort}
+use Rattle.rq_bytes.specs.Refusals.{and_then}
 use Rattle.rq_standard.specs.Packet.{SymbolId, Packet, packet_of_bytes}
 use Rattle.rq_standard.specs.Configuration.{Configuration, largest_block}
 
@@ -12,6 +13,14 @@ new_id b e = if nat_lt e (2 ^ 24) then Ok (record { block = b; esi = e }) else E
 -- a packet, unless its id isn't whole
 abbrev pub read_packet : List ℕ → Result Packet Error
 read_packet bytes = if nat_lt (length bytes) 4 then Err PacketTooShort else Ok (packet_of_bytes bytes)
+
+-- the packet of a record's numbers and bytes
+abbrev pub new_packet : ℕ → ℕ → List ℕ → Result Packet Error
+new_packet b e payload = and_then (new_id b e) (λ id. Ok (record { id = id; payload = payload }))
+
+-- the configuration of these numbers: F, T, Z, N and Al
+abbrev pub configuration_with : ℕ → ℕ → ℕ → ℕ → ℕ → Configuration
+configuration_with length size blocks sub_blocks alignment = record { transfer_length = length; symbol_size = size; source_blocks = blocks; sub_blocks = sub_blocks; alignment = alignment }
 
 -- a configuration, whatever the table
 abbrev pub new_configuration : Configuration → Result Configuration Error

@@ -57,7 +57,7 @@ pub fn generate_constraint_matrix<T: BinaryMatrix>(
     encoded_symbol_indices: &[u32],
 ) -> Result<(T, DenseOctetMatrix), Error>
     requires block { source_block_symbols ≤ greatest_size table.now }
-    requires enough { intermediate_symbols (row_of table.now source_block_symbols) ≤ equation_count (row_of table.now source_block_symbols) encoded_symbol_indices.now }
+    requires enough { let row = row_of table.now source_block_symbols in intermediate_symbols row ≤ equation_count row encoded_symbol_indices.now }
     requires fits { equation_count (row_of table.now source_block_symbols) encoded_symbol_indices.now < 2 ^ 31 }
     ensures bits { IfOk result (λ parts. IsBinaryPart (row_of table.now source_block_symbols) encoded_symbol_indices.now (T.content parts.0)) }
     ensures hdpc { IfOk result (λ parts. IsHdpcPart (row_of table.now source_block_symbols) parts.1) }

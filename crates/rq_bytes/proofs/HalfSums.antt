@@ -1,5 +1,5 @@
 -- The products of an octet and the halves of a byte, bit by bit of the octet.
-use Rattle.std.proofs.Common.{◌≡◌, ℕ, zero, suc, ◌+◌, ◌-◌, ◌*◌, ◌/◌, ◌%◌, ◌^◌, ◌<◌, ◌≤◌, true, eqb, ltb, List, [], ◌++◌, length, get_or, replicate, bit_and, refl, sym, ap, ◌∙◌, subst, arith, inl, inr}
+use Rattle.std.proofs.Common.{◌≡◌, ℕ, zero, suc, ◌+◌, ◌-◌, ◌*◌, ◌/◌, ◌%◌, ◌^◌, ◌<◌, ◌≤◌, true, eqb, ltb, List, [], ◌++◌, length, get_or, replicate, bit_and, refl, sym, ap, ◌∙◌, arith, inl, inr}
 use Rattle.std.proofs.lemmas.Bool.{agree_below, agree_below_at, cases_eq, eqb-true, ltb-true, cond-true, cond-false, eq-eqb, ne_eqb}
 use Rattle.std.proofs.lemmas.List.{get_or-map, get_or_append_left, length-map}
 use Rattle.std.proofs.lemmas.Nat.{and_mask}
@@ -8,9 +8,9 @@ use Rattle.std.specs.Int.Bits.{and_zero_r, bit_xor}
 use lib.Lanes.{zip2, pick_l}
 use Rattle.rq_standard.specs.Octets.{octet_double, octet_mul, octet_times}
 use Rattle.rq_standard.specs.OctetFacts.{double-lt}
-use Rattle.rq_standard.specs.OctetProducts.{if_set, mul-comm, mul-one}
+use Rattle.rq_standard.specs.OctetProducts.{if_set, mul-comm}
 use Rattle.rq_bytes.specs.HalfProducts.{AreHalfProducts, half_byte}
-use Rattle.rq_bytes.specs.declared.products.TheConstants.{TERMS, FIRST_HALF, SECOND_HALF}
+use Rattle.rq_bytes.specs.declared.factor.TheConstants.{TERMS, FIRST_HALF, SECOND_HALF}
 use Rattle.rq_bytes.proofs.Steps.{add_bit, start, end}
 
 -- a product by x, k times
@@ -142,15 +142,11 @@ module _ (scalar : ℕ) (small : scalar < 256) (products : List ℕ) (long : len
   of_high : (i : ℕ) → i < 32 → get_or high i 0 ≡ octet_mul scalar (i % 16 * 16)
   of_high = picked SECOND_HALF (λ i. 16 + i % 16) (λ i. i % 16 * 16) refl seconds uppers (λ i. omega arith)
 
-  -- the product by 1 is the octet
-  pub scalar_is : get_or low 1 0 ≡ scalar
-  scalar_is = of_low 1 (omega arith) ∙ mul-one scalar small
-
-  pub half_products : AreHalfProducts (get_or low 1 0) low high
-  half_products = subst (λ (s : ℕ). AreHalfProducts s low high) (sym scalar_is) (record {
+  pub half_products : AreHalfProducts scalar low high
+  half_products = record {
     octet = small;
     low_count = length-map FIRST_HALF (λ k. get_or (products ++ products) k 0);
     high_count = length-map SECOND_HALF (λ k. get_or (products ++ products) k 0);
     of_low = of_low;
     of_high = of_high;
-  })
+  }

@@ -1,10 +1,12 @@
 pub mod BitLanes
+pub mod ChunkFacts
 pub mod Cuts
 pub mod Doubling
 pub mod HalfLookUps
 pub mod HalfSums
 pub mod Halves
 pub mod PackedRows
+pub mod PlaneFacts
 pub mod RangeFacts
 pub mod RangeLoans
 pub mod SlabFacts

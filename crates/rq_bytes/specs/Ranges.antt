@@ -1,5 +1,5 @@
 -- Ranges of a list, and its cut into pieces.
-use Rattle.std.specs.Prelude.{ℕ, zero, suc, ◌+◌, List, [], ◌∷◌, ◌++◌, length, take, drop}
+use Rattle.std.specs.Prelude.{ℕ, zero, suc, ◌+◌, ◌/◌, List, [], ◌∷◌, ◌++◌, length, take, drop}
 
 -- the elements from i on, so many
 abbrev pub range_of : {X : Type 0} → List X → ℕ → ℕ → List X
@@ -14,7 +14,11 @@ abbrev pub cut : {X : Type 0} → ℕ → ℕ → List X → List (List X)
 cut zero size xs = []
 cut (suc count) size xs = take size xs ∷ cut count size (drop size xs)
 
--- the pieces joined_pieces again
+-- its whole pieces of so many elements
+abbrev pub whole_symbols : {X : Type 0} → ℕ → List X → List (List X)
+whole_symbols size xs = cut (length xs / size) size xs
+
+-- the pieces joined again
 abbrev pub joined_pieces : {X : Type 0} → List (List X) → List X
 joined_pieces [] = []
 joined_pieces (xs ∷ rest) = xs ++ joined_pieces rest

@@ -2,6 +2,7 @@
 #![tactic(auto)]
 
 pub mod error;
+mod factor;
 pub mod gf2;
 mod logarithms;
 pub mod octet;

@@ -4,7 +4,7 @@ ghost use Rattle.rq_bytes.specs.BinaryOctetVec.{padding_of, packed_bits};
 ghost use Rattle.rq_standard.specs.Rows.{row_sum, row_multiple};
 
 use crate::octet::Octet;
-use crate::products::{Factor, bit_product, bit_products, product};
+use crate::products::{bit_product, bit_products, plane_products, product};
 use std::marker::Model;
 use std::simd::prelude::*;
 
@@ -79,13 +79,13 @@ pub fn add_assign(octets: &mut [u8], other: &[u8])
     requires { length other.now ≡ length octets.old }
     ensures { octets.new ≡ row_sum octets.old other.now }
 {
-    let blocks = octets.len() / LANES;
-    for block in 0..blocks {
+    let (chunks, _) = other.as_chunks::<LANES>();
+    for (block, chunk) in chunks.iter().enumerate() {
         let at = LANES * block;
-        let sum = u8x32::from_slice(&octets[at..]) ^ u8x32::from_slice(&other[at..]);
+        let sum = u8x32::from_slice(&octets[at..]) ^ u8x32::from_array(*chunk);
         sum.copy_to_slice(&mut octets[at..]);
     }
-    for i in LANES * blocks..octets.len() {
+    for i in LANES * chunks.len()..octets.len() {
         octets[i] ^= other[i];
     }
 }
@@ -96,11 +96,10 @@ pub fn mulassign_scalar(octets: &mut [u8], scalar: &Octet)
     ensures multiple { octets.new ≡ row_multiple scalar.now octets.old }
 {
     let scalar = scalar.byte();
-    let factor = Factor::new(scalar);
     let blocks = octets.len() / LANES;
     for block in 0..blocks {
         let at = LANES * block;
-        let multiple = factor.lane_products(u8x32::from_slice(&octets[at..]));
+        let multiple = plane_products(scalar, u8x32::from_slice(&octets[at..]));
         multiple.copy_to_slice(&mut octets[at..]);
     }
     for i in LANES * blocks..octets.len() {
@@ -115,15 +114,14 @@ pub fn fused_addassign_mul_scalar(octets: &mut [u8], other: &[u8], scalar: &Octe
     ensures sum { octets.new ≡ row_sum octets.old (row_multiple scalar.now other.now) }
 {
     let scalar = scalar.byte();
-    let factor = Factor::new(scalar);
-    let blocks = octets.len() / LANES;
-    for block in 0..blocks {
+    let (chunks, _) = other.as_chunks::<LANES>();
+    for (block, chunk) in chunks.iter().enumerate() {
         let at = LANES * block;
-        let multiple = factor.lane_products(u8x32::from_slice(&other[at..]));
+        let multiple = plane_products(scalar, u8x32::from_array(*chunk));
         let sum = u8x32::from_slice(&octets[at..]) ^ multiple;
         sum.copy_to_slice(&mut octets[at..]);
     }
-    for i in LANES * blocks..octets.len() {
+    for i in LANES * chunks.len()..octets.len() {
         octets[i] ^= product(scalar, other[i]);
     }
 }

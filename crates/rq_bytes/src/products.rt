@@ -3,9 +3,7 @@ ghost use Rattle.std.specs.Prelude.{◌≡◌, ℕ, ◌/◌, ◌%◌, ◌^◌, �
 ghost use Rattle.std.specs.Int.{bit_at};
 ghost use Rattle.std.specs.List.{range_with_len};
 ghost use Rattle.rq_standard.specs.Octets.{octet_double, octet_mul};
-ghost use Rattle.rq_bytes.specs.HalfProducts.{half_byte};
 
-use std::marker::Model;
 use std::simd::prelude::*;
 
 /// The place in its byte of each bit of a word, as a mask.
@@ -19,54 +17,6 @@ const BITS: [u8; 64] = [
 const PLACES: [usize; 64] = [
     0, 0, 0, 0, 0, 0, 0, 0, 1, 1, 1, 1, 1, 1, 1, 1, 2, 2, 2, 2, 2, 2, 2, 2, 3, 3, 3, 3, 3, 3, 3, 3,
     4, 4, 4, 4, 4, 4, 4, 4, 5, 5, 5, 5, 5, 5, 5, 5, 6, 6, 6, 6, 6, 6, 6, 6, 7, 7, 7, 7, 7, 7, 7, 7,
-];
-
-/// The products of x^k and all halves of a byte: first the lower halves, then the upper ones.
-const TERMS: [[u8; 32]; 8] = [
-    [
-        0, 1, 2, 3, 4, 5, 6, 7, 8, 9, 10, 11, 12, 13, 14, 15, 0, 16, 32, 48, 64, 80, 96, 112, 128,
-        144, 160, 176, 192, 208, 224, 240,
-    ],
-    [
-        0, 2, 4, 6, 8, 10, 12, 14, 16, 18, 20, 22, 24, 26, 28, 30, 0, 32, 64, 96, 128, 160, 192,
-        224, 29, 61, 93, 125, 157, 189, 221, 253,
-    ],
-    [
-        0, 4, 8, 12, 16, 20, 24, 28, 32, 36, 40, 44, 48, 52, 56, 60, 0, 64, 128, 192, 29, 93, 157,
-        221, 58, 122, 186, 250, 39, 103, 167, 231,
-    ],
-    [
-        0, 8, 16, 24, 32, 40, 48, 56, 64, 72, 80, 88, 96, 104, 112, 120, 0, 128, 29, 157, 58, 186,
-        39, 167, 116, 244, 105, 233, 78, 206, 83, 211,
-    ],
-    [
-        0, 16, 32, 48, 64, 80, 96, 112, 128, 144, 160, 176, 192, 208, 224, 240, 0, 29, 58, 39, 116,
-        105, 78, 83, 232, 245, 210, 207, 156, 129, 166, 187,
-    ],
-    [
-        0, 32, 64, 96, 128, 160, 192, 224, 29, 61, 93, 125, 157, 189, 221, 253, 0, 58, 116, 78,
-        232, 210, 156, 166, 205, 247, 185, 131, 37, 31, 81, 107,
-    ],
-    [
-        0, 64, 128, 192, 29, 93, 157, 221, 58, 122, 186, 250, 39, 103, 167, 231, 0, 116, 232, 156,
-        205, 185, 37, 81, 135, 243, 111, 27, 74, 62, 162, 214,
-    ],
-    [
-        0, 128, 29, 157, 58, 186, 39, 167, 116, 244, 105, 233, 78, 206, 83, 211, 0, 232, 205, 37,
-        135, 111, 74, 162, 19, 251, 222, 54, 148, 124, 89, 177,
-    ],
-];
-
-/// The first half of a vector, twice.
-const FIRST_HALF: [usize; 32] = [
-    0, 1, 2, 3, 4, 5, 6, 7, 8, 9, 10, 11, 12, 13, 14, 15, 0, 1, 2, 3, 4, 5, 6, 7, 8, 9, 10, 11, 12,
-    13, 14, 15,
-];
-
-/// The second half of a vector, twice.
-const SECOND_HALF: [usize; 32] = [
-    16, 17, 18, 19, 20, 21, 22, 23, 24, 25, 26, 27, 28, 29, 30, 31, 16, 17, 18, 19, 20, 21, 22, 23,
-    24, 25, 26, 27, 28, 29, 30, 31,
 ];
 
 /// The product of an octet and x.
@@ -93,64 +43,33 @@ pub(crate) fn product(a: u8, b: u8) -> u8
     sum
 }
 
-/// An octet by which vectors are multiplied, with its products by all halves of a byte, so that each
-/// lane is looked up by its halves. Contracts see the octet.
-#[derive(Drop)]
-pub(crate) struct Factor {
-    low: u8x32,
-    high: u8x32,
-}
-
-impl Model for Factor {
-    ghost use Rattle.std.specs.Prelude.{ℕ, slice_index};
-    ghost use Rattle.rq_bytes.specs.HalfProducts.{AreHalfProducts};
-
-    ghost Value = { ℕ };
-
-    ghost view = { λ f. slice_index f.low 1 };
-
-    ghost invariant = { λ f. AreHalfProducts (slice_index f.low 1) f.low f.high };
-}
-
-impl Factor {
-    /// The octet with its products.
-    #[inline(always)]
-    pub(crate) fn new(scalar: u8) -> Self
-        ensures { result ≡ scalar }
-    {
-        let products = half_products(scalar);
-        Factor {
-            low: products.swizzle(FIRST_HALF),
-            high: products.swizzle(SECOND_HALF),
-        }
-    }
-
-    /// The products of the octet and each lane.
-    #[inline(always)]
-    pub(crate) fn lane_products(&self, lanes: u8x32) -> u8x32
-        requires { length lanes ≡ 32 }
-        ensures octet { self.now < 256 }
-        ensures products { result ≡ map (λ x. octet_mul self.now x) lanes }
-    {
-        let low = self.low.swizzle_dyn_within::<16>(lanes & u8x32::splat(15));
-        let high = self.high.swizzle_dyn_within::<16>(lanes >> u8x32::splat(4));
-        low ^ high
-    }
-}
-
-/// The products of an octet and all halves of a byte: first the lower halves, then the upper ones.
+/// The products of an octet and each lane, one bit of the lanes after another.
 #[inline(always)]
-fn half_products(scalar: u8) -> u8x32
-    ensures long { length result ≡ 32 }
-    ensures each { (i : ℕ) → i < 32 → slice_index result i ≡ octet_mul scalar (half_byte i) }
+pub(crate) fn plane_products(scalar: u8, lanes: u8x32) -> u8x32
+    requires { length lanes ≡ 32 }
+    ensures { result ≡ map (λ x. octet_mul scalar x) lanes }
 {
     let mut sum = u8x32::splat(0);
-    for k in 0..8usize {
-        // All bits, or none.
-        let taken = 255 * ((scalar >> k) % 2);
-        sum ^= u8x32::from_array(TERMS[k]) & u8x32::splat(taken);
+    let mut term = scalar;
+    for k in 0..8u8 {
+        sum ^= plane(lanes, k, term);
+        term = double(term);
     }
     sum
+}
+
+/// An octet in the lanes that have a bit set, and 0 in the others.
+#[inline(always)]
+fn plane(lanes: u8x32, k: u8, term: u8) -> u8x32
+    requires long { length lanes ≡ 32 }
+    requires bit { k < 8 }
+    ensures len { length result ≡ 32 }
+    ensures each { (i : ℕ) → i < 32 → slice_index result i ≡ cond (slice_index lanes i / 2 ^ k % 2 == 1) term 0 }
+{
+    let bit = u8x32::splat(1 << k);
+    (lanes & bit)
+        .simd_eq(bit)
+        .select(u8x32::splat(term), u8x32::splat(0))
 }
 
 /// The product of an octet and one bit.

@@ -10,8 +10,9 @@ ghost use Rattle.rq_standard.specs.Rows.{row_sum, row_multiple};
 ghost use Rattle.rq_bytes.specs.Refusals.{IsAnswer};
 
 use crate::error::Error;
+use crate::factor::Factor;
 use crate::octet::Octet;
-use crate::octets::{add_assign, fused_addassign_mul_scalar, mulassign_scalar};
+use crate::octets::add_assign;
 use std::alloc::{AllocError, Global};
 use std::cmp::Ordering;
 use std::hash::{Hash, Hasher};
@@ -81,7 +82,7 @@ impl Symbol {
     pub fn mulassign_scalar(&mut self, scalar: &Octet)
         ensures { self.new ≡ row_multiple scalar.now self.old }
     {
-        mulassign_scalar(self.value.as_mut_slice(), scalar);
+        Factor::new(scalar).multiply(self.value.as_mut_slice());
     }
 
     /// Adds a multiple of a symbol of the same length.
@@ -89,7 +90,7 @@ impl Symbol {
         requires { length other.now ≡ length self.old }
         ensures { self.new ≡ row_sum self.old (row_multiple scalar.now other.now) }
     {
-        fused_addassign_mul_scalar(self.value.as_mut_slice(), other.as_bytes(), scalar);
+        Factor::new(scalar).add_multiple(self.value.as_mut_slice(), other.as_bytes());
     }
 }
 

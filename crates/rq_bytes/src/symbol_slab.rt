@@ -6,11 +6,12 @@ ghost use Rattle.rq_algebra.specs.Operations.{AddAssign, MulAssign, Fma, Reorder
 ghost use Rattle.rq_algebra.specs.Symbols.{AreSymbols};
 ghost use Rattle.rq_standard.specs.OctetField.{octets};
 ghost use Rattle.std.specs.Borrow.{sem};
-ghost use Rattle.rq_bytes.specs.Ranges.{range_of, with_range, cut};
+ghost use Rattle.rq_bytes.specs.Ranges.{range_of, whole_symbols, with_range};
 ghost use Rattle.rq_bytes.specs.Refusals.{IsAnswer};
 ghost use Rattle.rq_bytes.specs.Slab.{slab_of, after, after_all, HasPlace, Allows, symbol_in, symbols_in, sum_in, with_sum, same_slab};
 
 use crate::error::Error;
+use crate::factor::Factor;
 use crate::octet::Octet;
 use crate::octets;
 use crate::symbol::{Symbol, zeros};
@@ -195,7 +196,7 @@ impl SymbolSlab {
         requires { Allows self.old (MulAssign dest scalar.now) }
         ensures { self.new ≡ after (MulAssign dest scalar.now) self.old }
     {
-        octets::mulassign_scalar(self.get_mut(dest), scalar);
+        Factor::new(scalar).multiply(self.get_mut(dest));
     }
 
     /// Adds a multiple of a symbol to another one.
@@ -204,7 +205,7 @@ impl SymbolSlab {
         ensures { self.new ≡ after (Fma dest src scalar.now) self.old }
     {
         let (dest, src) = self.get_pair_mut(dest, src);
-        octets::fused_addassign_mul_scalar(dest, src, scalar);
+        Factor::new(scalar).add_multiple(dest, src);
     }
 
     /// Sets the order in which places are read, in place of the one before. No symbol moves.
@@ -249,7 +250,7 @@ impl SymbolSlab {
         requires no_order { self.old.order ≡ None }
         requires whole { length source.now ≡ length source.now / self.old.symbol_size * self.old.symbol_size }
         requires fits { start + length source.now / self.old.symbol_size ≤ length self.old.values }
-        ensures { self.new ≡ record self.old { values = with_range self.old.values start (cut (length source.now / self.old.symbol_size) self.old.symbol_size source.now) } }
+        ensures { self.new ≡ record self.old { values = with_range self.old.values start (whole_symbols self.old.symbol_size source.now) } }
     {
         let start = start * self.symbol_size;
         let bytes = self.data.as_mut_slice();

@@ -2,6 +2,8 @@
 use Rattle.std.specs.Prelude.{◌≡◌, ◌<◌, ℕ, List, [], All, length, map, slice_set, slice_index, slice_index_or, take, drop, ◌++◌}
 use Rattle.std.specs.List.{swap}
 use Rattle.rq_algebra.specs.Systems.{HasElements}
+use Rattle.rq_bytes.specs.Ranges.{range_of, with_range}
+use Rattle.rq_standard.specs.Rows.{row_sum, row_multiple}
 use Rattle.rq_standard.specs.OctetField.{octets}
 
 -- its rows, and how many octets each has
@@ -24,6 +26,10 @@ IsOctetRow width row = (length row ≡ width) × All (λ octet. octet < 256) row
 pub record HasOctets (table : OctetTable) : Type 0 where
   pub widths : All (λ row. length row ≡ table.width) table.rows
   pub elements : HasElements octets (length table.rows) table.width (entry_of table)
+
+-- a row of octets with the multiple of bits added, from a column on
+abbrev pub with_multiple : List ℕ → ℕ → ℕ → List ℕ → List ℕ
+with_multiple row start scalar bits = with_range row start (row_sum (range_of row start (length bits)) (row_multiple scalar bits))
 
 -- another row in the place of row i
 abbrev pub with_row : OctetTable → ℕ → List ℕ → OctetTable

@@ -4,7 +4,7 @@ ghost use Rattle.std.specs.List.{swap};
 ghost use Rattle.rq_standard.specs.Rows.{row_sum, row_multiple};
 ghost use Rattle.rq_bytes.specs.Ranges.{range_of, with_range};
 ghost use Rattle.rq_bytes.specs.Refusals.{IsAnswer};
-ghost use Rattle.rq_parts.specs.OctetTable.{HasOctets, IsOctetRow, row_at, with_row, columns_swapped};
+ghost use Rattle.rq_parts.specs.OctetTable.{HasOctets, IsOctetRow, row_at, with_multiple, with_row, columns_swapped};
 
 use rq_bytes::error::Error;
 use rq_bytes::octet::Octet;
@@ -54,7 +54,7 @@ impl DenseOctetMatrix {
     )
         requires row { row < length self.old.rows }
         requires fits { start_col + length other.now ≤ self.old.width }
-        ensures { let octets = row_at self.old row in self.new ≡ with_row self.old row (with_range octets start_col (row_sum (range_of octets start_col (length other.now)) (row_multiple scalar.now other.now))) }
+        ensures { self.new ≡ with_row self.old row (with_multiple (row_at self.old row) start_col scalar.now other.now) }
     {
         self.elements[row].add_bits(start_col, scalar, other);
     }

@@ -1,5 +1,6 @@
 pub mod BitRows
 pub mod ColumnLaws
+pub mod CountLaws
 pub mod Entries
 pub mod EquationLaws
 pub mod FreeColumns
@@ -15,14 +16,16 @@ pub mod Performed
 pub mod Performing
 pub mod PivotTurns
 pub mod PivotsCleared
+pub mod RecordedLaws
+pub mod ReducedTurns
 pub mod Results
+pub mod RowCounts
 pub mod RowLists
 pub mod RowStepLaws
 pub mod RowTurns
 pub mod ShownRows
 pub mod SolutionLaws
 pub mod StepColumns
-pub mod TailTurns
 pub mod TailWrites
 pub mod Turns
 pub mod Writes

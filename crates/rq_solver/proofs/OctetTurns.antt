@@ -1,24 +1,21 @@
 -- HDPC rows take one another, factors, and rows of pivots, and a table beside shows what they have.
-use Rattle.std.proofs.Common.{◌≡◌, ◌≢◌, ℕ, ◌+◌, ◌<◌, ◌≤◌, List, [], ◌∷◌, ◌++◌, map, length, refl, sym, ap, ◌∙◌, arith, inl, inr}
+use Rattle.std.proofs.Common.{◌≡◌, ◌≢◌, ℕ, ◌+◌, ◌<◌, ◌≤◌, List, [], ◌∷◌, ◌++◌, length, refl, sym, ap, ◌∙◌, arith, inl, inr, lit<}
 use Rattle.std.specs.List.{range_with_len}
 use Rattle.std.proofs.lemmas.Bool.{cases_eq, cases_lt}
-use Rattle.std.proofs.lemmas.List.{map-append}
-use Rattle.std.proofs.lemmas.List.Elements.{All-nil, All-cons}
-use Rattle.rq_algebra.specs.Operations.{Operation, MulAssign}
+use Rattle.rq_algebra.specs.Operations.{MulAssign}
 use Rattle.rq_algebra.specs.Steps.{AddsRow, ScalesRow}
 use Rattle.rq_algebra.specs.Systems.{at}
 use Rattle.rq_algebra.proofs.Sums.{add_zero, mul_zero, mul_one}
 use Rattle.rq_standard.specs.OctetField.{octets}
-use Rattle.rq_bytes.specs.SymbolOps.{operation_of}
-use Rattle.rq_bytes.specs.declared.operation_vector.SymbolOps.{SymbolOps}
 use Rattle.rq_parts.specs.OctetTable.{OctetTable, entry_of}
-use Rattle.rq_solver.specs.Cleared.{sum_step, Performs, ClearsOctets}
+use Rattle.rq_solver.specs.Cleared.{ClearsOctets}
 use Rattle.rq_solver.specs.OctetBatch.{AreOctetsIn, HasPivotsBeside, PivotsAreCleared, AreShown, CombinesOctets, ChangesOctets, HasZeros, HasZerosBefore}
 use Rattle.rq_solver.specs.Peeled.{IsOrderOf}
-use Rattle.rq_solver.specs.RowSteps.{AreRows, HasOctets, row_step, rows_after, IsStepAmong}
+use Rattle.rq_solver.specs.Recorded.{Recorded, sum_step, Performs}
+use Rattle.rq_solver.specs.RowSteps.{AreRows, HasOctets, rows_after}
 use Rattle.rq_solver.specs.RowWrites.{HoldsRows}
-use Rattle.rq_solver.proofs.StepColumns.{changed_here, changed_other, rows_after-none, rows_after-next, rows_after-zero, Contains-range}
-use Rattle.rq_solver.proofs.Performing.{sum_step-here, sum_step-elsewhere, performs_none, performs_more}
+use Rattle.rq_solver.proofs.StepColumns.{rows_after-none, rows_after-next, rows_after-zero, Contains-range}
+use Rattle.rq_solver.proofs.Performing.{sum_step-here, sum_step-elsewhere, scaling-here, scaling-elsewhere, performs_none, performs_more}
 use Rattle.rq_solver.proofs.PivotTurns.{if_same, if_apart, cleared_small}
 use Rattle.rq_solver.proofs.Writes.{SetsEntry}
 
@@ -29,40 +26,13 @@ plus_zero_times x c y e = ap (λ (z : ℕ). octets.add x (octets.mul c z)) e ∙
 pub plus_own : (x c y : ℕ) → c < 256 → x ≡ c → y ≡ 1 → octets.add x (octets.mul c y) ≡ 0
 plus_own x c y small e f = ap (λ (z : ℕ). octets.add x (octets.mul c z)) f ∙ ap (octets.add x) (mul_one octets c small) ∙ ap (λ (z : ℕ). octets.add z c) e ∙ octets.add_self c
 
--- ---- a row is multiplied
-
-module _ (dest scalar : ℕ) (m : ℕ → ℕ → ℕ) where
-  scaling-here : (k : ℕ) → rows_after octets (MulAssign dest scalar ∷ []) m dest k ≡ octets.mul scalar (m dest k)
-  unfolding rows_after row_step
-  scaling-here k = changed_here m dest _ k
-
-  scaling-elsewhere : (i k : ℕ) → i ≢ dest → rows_after octets (MulAssign dest scalar ∷ []) m i k ≡ m i k
-  unfolding rows_after row_step
-  scaling-elsewhere i k apart = changed_other m dest _ i k apart
-
--- that was done to a table, and was recorded
-pub performs_scaling : (dest scalar : ℕ) (old new : OctetTable) (before after : List SymbolOps) (recorded : SymbolOps) → after ≡ before ++ recorded ∷ [] → operation_of recorded ≡ MulAssign dest scalar → dest < length old.rows → scalar < 256 → scalar ≢ 0
-    → HasOctets new → new.width ≡ old.width → length new.rows ≡ length old.rows → ScalesRow octets (length old.rows) old.width dest scalar (entry_of old) (entry_of new)
-    → Performs (MulAssign dest scalar ∷ []) old new before after
-performs_scaling dest scalar old new before after recorded pushed is in_dest small nonzero are_new width height scales = record {
-  recorded = ap (map operation_of) pushed ∙ map-append operation_of before (recorded ∷ []) ∙ ap (λ (o : Operation). map operation_of before ++ o ∷ []) is;
-  among = let among = IsStepAmong octets (range_with_len 0 (length old.rows)) in All-cons among (MulAssign dest scalar) [] (Contains-range (length old.rows) dest in_dest, small, nonzero) (All-nil among);
-  width = width;
-  height = height;
-  entries = λ i k l m. elim (cases_eq i dest) [
-    | inl e ↦ rw e (scales.at_dest k m ∙ sym (scaling-here dest scalar (entry_of old) k))
-    | inr d ↦ scales.elsewhere i k l m d ∙ sym (scaling-elsewhere dest scalar (entry_of old) i k d)
-  ];
-  octets = are_new;
-}
-
 -- ---- steps among the HDPC rows
 
 module _ (first : ℕ) where
-  pub combines_none : (current table : OctetTable) (operations : List SymbolOps) → HasOctets current → HasOctets table → CombinesOctets first current current table table operations operations
-  combines_none current table operations are are_in_table = record {
+  pub combines_none : (current : OctetTable) (table : Recorded) → HasOctets current → HasOctets table.table → CombinesOctets first current current table table
+  combines_none current table are are_in_table = record {
     steps = [];
-    performs = performs_none table operations are_in_table;
+    performs = performs_none table are_in_table;
     width = refl;
     height = refl;
     elsewhere = λ m r k out. rows_after-none octets m r k;
@@ -70,10 +40,10 @@ module _ (first : ℕ) where
     octets = are;
   }
 
-  pub combines_more : (a b c old cur new : OctetTable) (before between after : List SymbolOps) → CombinesOctets first a b old cur before between → CombinesOctets first b c cur new between after → CombinesOctets first a c old new before after
-  combines_more a b c old cur new before between after done next = record {
+  pub combines_more : (a b c : OctetTable) (old cur new : Recorded) → CombinesOctets first a b old cur → CombinesOctets first b c cur new → CombinesOctets first a c old new
+  combines_more a b c old cur new done next = record {
     steps = done.steps ++ next.steps;
-    performs = performs_more done.steps next.steps old cur new before between after done.performs next.performs;
+    performs = performs_more done.steps next.steps old cur new done.performs next.performs;
     width = next.width ∙ done.width;
     height = next.height ∙ done.height;
     elsewhere = λ m r k out.
@@ -86,9 +56,9 @@ module _ (first : ℕ) where
     octets = next.octets;
   }
 
-  module _ (was now old new : OctetTable) (before after : List SymbolOps) (are : HasOctets was) (are_now : HasOctets now) (width : now.width ≡ was.width) (height : length now.rows ≡ length was.rows) (dest scalar : ℕ) (in_dest : dest < length was.rows) where
+  module _ (was now : OctetTable) (old new : Recorded) (are : HasOctets was) (are_now : HasOctets now) (width : now.width ≡ was.width) (height : length now.rows ≡ length was.rows) (dest scalar : ℕ) (in_dest : dest < length was.rows) where
     pub combines_sum : (src : ℕ) → src < length was.rows → AddsRow octets (length was.rows) was.width dest src scalar (entry_of was) (entry_of now)
-        → Performs (sum_step (first + dest) (first + src) scalar ∷ []) old new before after → CombinesOctets first was now old new before after
+        → Performs (sum_step (first + dest) (first + src) scalar ∷ []) old new → CombinesOctets first was now old new
     combines_sum src in_src adds performs = record {
       steps = sum_step (first + dest) (first + src) scalar ∷ [];
       performs = performs;
@@ -105,7 +75,7 @@ module _ (first : ℕ) where
     }
 
     pub combines_scaling : ScalesRow octets (length was.rows) was.width dest scalar (entry_of was) (entry_of now)
-        → Performs (MulAssign (first + dest) scalar ∷ []) old new before after → CombinesOctets first was now old new before after
+        → Performs (MulAssign (first + dest) scalar ∷ []) old new → CombinesOctets first was now old new
     combines_scaling scales performs = record {
       steps = MulAssign (first + dest) scalar ∷ [];
       performs = performs;
@@ -122,11 +92,11 @@ module _ (first : ℕ) where
 -- ---- steps with the pivots' rows
 
 -- the rows still stand where they stood
-pub octets_still : (first : ℕ) (was now old new : OctetTable) → AreOctetsIn first was old → length now.rows ≡ length was.rows → length new.rows ≡ length old.rows → HasOctets now → HasOctets new → AreOctetsIn first now new
+pub octets_still : (first : ℕ) (was now : OctetTable) (old new : Recorded) → AreOctetsIn first was old → length now.rows ≡ length was.rows → length new.table.rows ≡ length old.table.rows → HasOctets now → HasOctets new.table → AreOctetsIn first now new
 octets_still first was now old new are height heights shown octets_in = record { within = omega (arith, are.within); fits = omega (arith, are.fits); shown = shown; octets = octets_in }
 
 module _ (rows order places : List ℕ) (first : ℕ) where
-  pub beside_still : (was now old new : OctetTable) → HasPivotsBeside rows order places first was old → now.width ≡ was.width → length now.rows ≡ length was.rows → length new.rows ≡ length old.rows → HasPivotsBeside rows order places first now new
+  pub beside_still : (was now : OctetTable) (old new : Recorded) → HasPivotsBeside rows order places first was old → now.width ≡ was.width → length now.rows ≡ length was.rows → length new.table.rows ≡ length old.table.rows → HasPivotsBeside rows order places first now new
   beside_still was now old new beside width height heights = record {
     columns = rw width beside.columns;
     few = rw width beside.few;
@@ -134,10 +104,10 @@ module _ (rows order places : List ℕ) (first : ℕ) where
     apart = λ i p l n. beside.apart i p (rw height at l) n;
   }
 
-  pub changes_none : (current table : OctetTable) (operations : List SymbolOps) → HasOctets current → HasOctets table → ChangesOctets rows order first current current table table operations operations
-  changes_none current table operations are are_in_table = record {
+  pub changes_none : (current : OctetTable) (table : Recorded) → HasOctets current → HasOctets table.table → ChangesOctets rows order first current current table table
+  changes_none current table are are_in_table = record {
     steps = [];
-    performs = performs_none table operations are_in_table;
+    performs = performs_none table are_in_table;
     width = refl;
     height = refl;
     elsewhere = λ m r k out. rows_after-none octets m r k;
@@ -146,11 +116,11 @@ module _ (rows order places : List ℕ) (first : ℕ) where
     octets = are;
   }
 
-  module _ (was now old new : OctetTable) (before after : List SymbolOps) (are : AreOctetsIn first was old) (beside : HasPivotsBeside rows order places first was old) where
+  module _ (was now : OctetTable) (old new : Recorded) (are : AreOctetsIn first was old) (beside : HasPivotsBeside rows order places first was old) where
     in_width : (p : ℕ) → p < length rows → at order p < was.width
     in_width p l = (beside.columns.ordered p (omega (arith, beside.few, l))).0
 
-    pub changes_combined : CombinesOctets first was now old new before after → ChangesOctets rows order first was now old new before after
+    pub changes_combined : CombinesOctets first was now old new → ChangesOctets rows order first was now old new
     changes_combined combines = record {
       steps = combines.steps;
       performs = combines.performs;
@@ -160,13 +130,13 @@ module _ (rows order places : List ℕ) (first : ℕ) where
       shown = λ m pivots had i p l n. combines.shown m (at order p) (at order p) (in_width p n) (λ j o. had j p o n) i (rw combines.height at l);
       zeros = λ k n none i l.
           sym (combines.shown (λ r j. 0) k k n (λ j o. sym (none j o)) i l)
-          ∙ rows_after-zero octets (range_with_len 0 (length old.rows)) combines.steps (λ r j. 0) k combines.performs.among (λ r c. refl) (first + i) (Contains-range (length old.rows) (first + i) (omega (arith, are.within)));
+          ∙ rows_after-zero octets (range_with_len 0 (length old.table.rows)) combines.steps (λ r j. 0) k combines.performs.among (λ r c. refl) (first + i) (Contains-range (length old.table.rows) (first + i) (omega (arith, are.within)));
       octets = combines.octets;
     }
 
     -- an HDPC row takes the row of a pivot
     module _ (row place scalar : ℕ) (in_rows : row < length was.rows) (is_pivot : place < length rows) (small : scalar < 256) (scalar_is : scalar ≡ entry_of was row (at order place)) (sets : SetsEntry row (at order place) 0 was now)
-        (performs : Performs (sum_step (first + row) (at rows place) scalar ∷ []) old new before after) where
+        (performs : Performs (sum_step (first + row) (at rows place) scalar ∷ []) old new) where
       module _ (m : ℕ → ℕ → ℕ) (pivots : PivotsAreCleared rows order m) (had : AreShown rows order first was m) where
         next_row : (p : ℕ) → p < length rows → rows_after octets (sum_step (first + row) (at rows place) scalar ∷ []) m (first + row) (at order p) ≡ octets.add (m (first + row) (at order p)) (octets.mul scalar (m (at rows place) (at order p)))
         next_row p l = sum_step-here (first + row) (at rows place) scalar m (at order p) (cleared_small rows order m (at rows place) p (pivots place is_pivot) l)
@@ -184,7 +154,7 @@ module _ (rows order places : List ℕ) (first : ℕ) where
             let one : m (at rows place) (at order place) ≡ 1 = (pivots place is_pivot).entries place is_pivot ∙ if_same (at rows place) (at rows place) 1 0 refl in
             next_row place is_pivot ∙ plus_own (m (first + row) (at order place)) scalar (m (at rows place) (at order place)) small (had row place in_rows is_pivot ∙ sym scalar_is) one ∙ sym sets.here
 
-      pub changes_pivot : ChangesOctets rows order first was now old new before after
+      pub changes_pivot : ChangesOctets rows order first was now old new
       changes_pivot = record {
         steps = sum_step (first + row) (at rows place) scalar ∷ [];
         performs = performs;
@@ -202,11 +172,11 @@ module _ (rows order places : List ℕ) (first : ℕ) where
         octets = sets.octets;
       }
 
-  pub changes_more : (a b c old cur new : OctetTable) (before between after : List SymbolOps) → HasPivotsBeside rows order places first a old
-      → ChangesOctets rows order first a b old cur before between → ChangesOctets rows order first b c cur new between after → ChangesOctets rows order first a c old new before after
-  changes_more a b c old cur new before between after beside done next = record {
+  pub changes_more : (a b c : OctetTable) (old cur new : Recorded) → HasPivotsBeside rows order places first a old
+      → ChangesOctets rows order first a b old cur → ChangesOctets rows order first b c cur new → ChangesOctets rows order first a c old new
+  changes_more a b c old cur new beside done next = record {
     steps = done.steps ++ next.steps;
-    performs = performs_more done.steps next.steps old cur new before between after done.performs next.performs;
+    performs = performs_more done.steps next.steps old cur new done.performs next.performs;
     width = next.width ∙ done.width;
     height = next.height ∙ done.height;
     elsewhere = λ m r k out.
@@ -224,23 +194,23 @@ module _ (rows order places : List ℕ) (first : ℕ) where
   -- ---- zeros in column after column
 
   -- the columns before this one keep their zeros
-  pub zeros_kept : (was now old new : OctetTable) (before after : List SymbolOps) (column : ℕ) → column ≤ was.width → HasZerosBefore (length rows) places column was → ChangesOctets rows order first was now old new before after → HasZerosBefore (length rows) places column now
-  zeros_kept was now old new before after column within zeros changes = λ k l pivot i n. changes.zeros k (omega arith) (zeros k l pivot) i (rw changes.height at n)
+  pub zeros_kept : (was now : OctetTable) (old new : Recorded) (column : ℕ) → column ≤ was.width → HasZerosBefore (length rows) places column was → ChangesOctets rows order first was now old new → HasZerosBefore (length rows) places column now
+  zeros_kept was now old new column within zeros changes = λ k l pivot i n. changes.zeros k (omega arith) (zeros k l pivot) i (rw changes.height at n)
 
   pub zeros_more : (current : OctetTable) (column : ℕ) → HasZerosBefore (length rows) places column current → (at places column < length rows → HasZeros column (length current.rows) current) → HasZerosBefore (length rows) places (column + 1) current
   zeros_more current column zeros here = λ k l pivot. elim (cases_eq k column) [ inl e ↦ rw e (here (rw e at pivot)) | inr d ↦ zeros k (omega arith) pivot ]
 
   -- what was a copy of the HDPC rows' octets shows them
-  pub copy_beside : (octet : ℕ → ℕ → ℕ) (count width : ℕ) (copy current old new : OctetTable) → HoldsRows count width count octet copy → IsOrderOf width order places → length rows ≤ width → AreRows rows old
-      → ((i p : ℕ) → i < count → p < length rows → first + i ≢ at rows p) → current.width ≡ copy.width → length current.rows ≡ length copy.rows → length new.rows ≡ length old.rows → HasPivotsBeside rows order places first current new
+  pub copy_beside : (octet : ℕ → ℕ → ℕ) (count width : ℕ) (copy current : OctetTable) (old new : Recorded) → HoldsRows count width count octet copy → IsOrderOf width order places → length rows ≤ width → AreRows rows old.table
+      → ((i p : ℕ) → i < count → p < length rows → first + i ≢ at rows p) → current.width ≡ copy.width → length current.rows ≡ length copy.rows → length new.table.rows ≡ length old.table.rows → HasPivotsBeside rows order places first current new
   copy_beside octet count width copy current old new holds columns few are apart =
       beside_still copy current old new (record { columns = rw holds.width_is columns; few = rw holds.width_is few; pivots = are; apart = λ i p l n. apart i p (rw holds.height_is at l) n })
 
   -- there are zeros in the columns of all pivots
-  pub clears_octets : (octet : ℕ → ℕ → ℕ) (count width : ℕ) (copy current old new : OctetTable) (before after : List SymbolOps) (end : ℕ) → IsOrderOf width order places → length rows ≤ width → HoldsRows count width count octet copy
-      → ChangesOctets rows order first copy current old new before after → ((k : ℕ) → end ≤ k → k < length places → length rows ≤ at places k) → HasZerosBefore (length rows) places end current
-      → ClearsOctets rows order octet first count old new before after
-  clears_octets octet count width copy current old new before after end columns few holds changes last zeros =
+  pub clears_octets : (octet : ℕ → ℕ → ℕ) (count width : ℕ) (copy current : OctetTable) (old new : Recorded) (end : ℕ) → IsOrderOf width order places → length rows ≤ width → HoldsRows count width count octet copy
+      → ChangesOctets rows order first copy current old new → ((k : ℕ) → end ≤ k → k < length places → length rows ≤ at places k) → HasZerosBefore (length rows) places end current
+      → ClearsOctets rows order octet first count old new
+  clears_octets octet count width copy current old new end columns few holds changes last zeros =
       let in_width : (p : ℕ) → p < length rows → at order p < width = (λ (p : ℕ) (l : p < length rows). (columns.ordered p (omega arith)).0) in
       let same : (i p : ℕ) → i < count → p < length rows → entry_of copy i (at order p) ≡ octet i (at order p) = (λ (i p : ℕ) (l : i < count) (n : p < length rows). holds.written i (at order p) l (in_width p n)) in
       record {
@@ -259,12 +229,12 @@ module _ (rows order places : List ℕ) (first : ℕ) where
             ∙ zeros (at order p) early (rw place n) i in_current;
       }
 
--- there are no HDPC rows
-pub clears_none : (rows order : List ℕ) (octet : ℕ → ℕ → ℕ) (first count : ℕ) (table : OctetTable) (operations : List SymbolOps) → count ≡ 0 → HasOctets table → ClearsOctets rows order octet first count table table operations operations
-clears_none rows order octet first count table operations none are = record {
+-- the HDPC rows have zeros in the pivots' columns, or there are none
+pub clears_none : (rows order : List ℕ) (octet : ℕ → ℕ → ℕ) (first count : ℕ) (table : Recorded) → ((p : ℕ) → p < length rows → (i : ℕ) → i < count → octet i (at order p) ≡ 0) → HasOctets table.table → ClearsOctets rows order octet first count table table
+clears_none rows order octet first count table none are = record {
   steps = [];
-  performs = performs_none table operations are;
-  elements = λ i p l. absurd (omega arith);
+  performs = performs_none table are;
+  elements = λ i p l n. rw (none p n i l) (lit< tt);
   elsewhere = λ m r k out. rows_after-none octets m r k;
-  cleared = λ m pivots had i p l. absurd (omega arith);
+  cleared = λ m pivots had i p l n. rows_after-none octets m (first + i) (at order p) ∙ had i p l n ∙ none p n i l;
 }

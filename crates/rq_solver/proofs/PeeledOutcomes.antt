@@ -18,21 +18,28 @@ use Rattle.rq_algebra.proofs.Reduction.{pivots_of_first}
 use Rattle.rq_algebra.proofs.Runs.{follows_none}
 use Rattle.rq_algebra.proofs.Stacks.{stacked_above, stacked_below}
 use Rattle.rq_standard.specs.OctetField.{octets}
-use Rattle.rq_bytes.specs.SymbolOps.{operation_of}
-use Rattle.rq_bytes.specs.declared.operation_vector.SymbolOps.{SymbolOps}
-use Rattle.rq_parts.specs.OctetTable.{OctetTable, entry_of}
-use Rattle.rq_solver.specs.Cleared.{ListsRows, ClearsFrozen, HasFrozenPivots, HasPeeledPivots}
+use Rattle.rq_parts.specs.OctetTable.{entry_of}
+use Rattle.rq_solver.specs.Cleared.{AreUnits, ListsRows, HasPeeledPivots, TakeReduced}
 use Rattle.rq_solver.specs.Peeled.{IsOrderOf}
-use Rattle.rq_solver.specs.RowSteps.{IsStuck, IsStepAmong, rows_after}
-use Rattle.rq_solver.proofs.Performing.{below_range, shows_after}
+use Rattle.rq_solver.specs.Recorded.{Recorded, ChangesRows}
+use Rattle.rq_solver.specs.RowSteps.{IsReduced, IsStuck, IsStepAmong, rows_after}
+use Rattle.rq_solver.proofs.Performing.{below_range, changes_keep, shows_after}
 use Rattle.rq_solver.proofs.PivotTurns.{if_same, if_apart}
 use Rattle.rq_solver.proofs.PivotsCleared.{left_below, left_apart, pivot_or_left}
 use Rattle.rq_solver.proofs.RowStepLaws.{rows_after-elements, follows_steps}
 use Rattle.rq_solver.proofs.StepColumns.{rows_after-next}
 
+-- what was recorded for steps among all rows does to values what it did to the rows
+module _ (height width : ℕ) (system : ℕ → ℕ → ℕ) (steps : List Operation) (among : All (IsStepAmong octets (range_with_len 0 height)) steps) (small : HasElements octets height width system) where
+  pub steps_follow : Follows octets height width system (rows_after octets steps system) steps
+  steps_follow = follows_steps octets height width (range_with_len 0 height) (below_range height) steps system system [] among small (follows_none octets height width system)
+
+  pub steps_elements : HasElements octets height width (rows_after octets steps system)
+  steps_elements = rows_after-elements octets height width (range_with_len 0 height) (below_range height) steps system among small
+
 module _ (height width : ℕ) (system : ℕ → ℕ → ℕ) (rows order places : List ℕ) (arranged : IsOrderOf width order places) (rows_are : ArePlaces (length rows) height (at rows)) (listed : List ℕ) (listing : ListsRows height rows listed)
-    (frozen : ℕ) (middle last : OctetTable) (before final : List SymbolOps) (peeled : HasPeeledPivots height width system rows order (drop (length rows) listed) middle before) (wide : length rows + frozen ≡ width) (narrow : frozen ≤ middle.width)
-    (ends : ClearsFrozen (drop (length rows) listed) middle last before final) (reduced : List ℕ) (permuted : IsPermutation (drop (length rows) listed) reduced) where
+    (inactive : ℕ) (middle last : Recorded) (peeled : HasPeeledPivots height width system rows order (drop (length rows) listed) middle) (wide : length rows + inactive ≡ width) (narrow : inactive ≤ middle.table.width)
+    (changes : ChangesRows (drop (length rows) listed) middle last) (reduced : List ℕ) (permuted : IsPermutation (drop (length rows) listed) reduced) where
   abbrev pivots : ℕ
   pivots = length rows
 
@@ -40,31 +47,25 @@ module _ (height width : ℕ) (system : ℕ → ℕ → ℕ) (rows order places 
   left = drop (length rows) listed
 
   abbrev mid : ℕ → ℕ → ℕ
-  mid = rows_after octets (map operation_of before) system
+  mid = rows_after octets middle.operations system
 
   abbrev steps : List Operation
-  steps = map operation_of before ++ ends.steps
+  steps = middle.operations ++ changes.steps
 
   abbrev meant : ℕ → ℕ → ℕ
   meant = rows_after octets steps system
 
   among : All (IsStepAmong octets (range_with_len 0 height)) steps
-  among = All-append (IsStepAmong octets (range_with_len 0 height)) (map operation_of before) ends.steps peeled.among (rw peeled.height_is at ends.performs.among)
+  among = All-append (IsStepAmong octets (range_with_len 0 height)) middle.operations changes.steps peeled.among (rw peeled.height_is at changes.performs.among)
 
-  elements : HasElements octets height width meant
-  elements = rows_after-elements octets height width (range_with_len 0 height) (below_range height) steps system among peeled.elements
-
-  follows : Follows octets height width system meant (map operation_of final)
-  follows = rw ends.performs.recorded (follows_steps octets height width (range_with_len 0 height) (below_range height) steps system system [] among peeled.elements (follows_none octets height width system))
-
-  -- the pivots' columns stay as they were when the frozen ones get pivots
+  -- the pivots' columns stay as they were when the inactive ones get pivots
   kept : (p r : ℕ) → p < pivots → meant r (at order p) ≡ mid r (at order p)
-  kept p r l = rows_after-next octets (map operation_of before) ends.steps system r (at order p) ∙ ends.kept mid (at order p) (λ q c. peeled.others q p c l) r
+  kept p r l = rows_after-next octets middle.operations changes.steps system r (at order p) ∙ changes_keep left changes.steps changes.within mid (at order p) (λ q c. peeled.others q p c l) r
 
-  frozen_at : (r f : ℕ) → r < height → f < frozen → meant r (at order (pivots + f)) ≡ entry_of last r f
-  frozen_at r f l n =
-      rows_after-next octets (map operation_of before) ends.steps system r (at order (pivots + f))
-      ∙ sym (shows_after ends.steps middle last before final mid (λ g. at order (length rows + g)) frozen narrow ends.performs (λ i g o u. peeled.shows i g (rw peeled.height_is at o) (omega arith)) r f (rw peeled.height_is l) n)
+  inactive_at : (r f : ℕ) → r < height → f < inactive → meant r (at order (pivots + f)) ≡ entry_of last.table r f
+  inactive_at r f l n =
+      rows_after-next octets middle.operations changes.steps system r (at order (pivots + f))
+      ∙ sym (shows_after changes.steps middle last mid (λ g. at order (length rows + g)) inactive narrow changes.performs (λ i g o u. peeled.shows i g (rw peeled.height_is at o) (omega arith)) r f (rw peeled.height_is l) n)
 
   -- ---- rows in the order of their pivots' columns
 
@@ -104,9 +105,9 @@ module _ (height width : ℕ) (system : ℕ → ℕ → ℕ) (rows order places 
     apart = λ i j o u e. sym (arranged.ordered i (omega arith)).1 ∙ ap (at places) e ∙ (arranged.ordered j (omega arith)).1;
   }
 
-  -- ---- a frozen column without a pivot
+  -- ---- an inactive column without a pivot
 
-  module _ (stuck : IsStuck reduced 0 frozen last) where
+  module _ (stuck : IsStuck reduced 0 inactive last.table) where
     -- a row that is none of those with pivots stands behind them
     behind : (i : ℕ) → i < height → ((p : ℕ) → p < pivots + stuck.done → row_of p ≢ i) → (q : ℕ) × (stuck.done ≤ q) × (q < length reduced) × (at reduced q ≡ i)
     behind i l free = elim (pivot_or_left height rows listed listing i l) [
@@ -126,11 +127,11 @@ module _ (height width : ℕ) (system : ℕ → ℕ → ℕ) (rows order places 
       | inr late ↦
           let f : ℕ = j - pivots in
           let back : pivots + f ≡ j = omega arith in
-          let fits : f < frozen = omega (arith, stuck.below) in
+          let fits : f < inactive = omega (arith, stuck.below) in
           let column : f ≡ 0 + f = omega arith in
-          ap (λ (k : ℕ). meant (at reduced q) (at order k)) (sym back) ∙ frozen_at (at reduced q) f (reduced_below q l) fits ∙ ap (entry_of last (at reduced q)) column
+          ap (λ (k : ℕ). meant (at reduced q) (at order k)) (sym back) ∙ inactive_at (at reduced q) f (reduced_below q l) fits ∙ ap (entry_of last.table (at reduced q)) column
           ∙ elim (cases_eq f stuck.done) [
-            | inl e ↦ ap (λ (g : ℕ). entry_of last (at reduced q) (0 + g)) e ∙ stuck.empty q from l
+            | inl e ↦ ap (λ (g : ℕ). entry_of last.table (at reduced q) (0 + g)) e ∙ stuck.empty q from l
             | inr d ↦ stuck.reduced.pivots.zeros q f l (omega arith) (omega arith)
           ]
     ]
@@ -149,59 +150,88 @@ module _ (height width : ℕ) (system : ℕ → ℕ → ℕ) (rows order places 
     }
 
     pub null_of_peeled : HasNullColumn octets height width system
-    null_of_peeled = null_back octets height width system meant (map operation_of final) follows (null_of_few octets height width (pivots + stuck.done) meant row_of (at order) elements few)
+    null_of_peeled = null_back octets height width system meant steps (steps_follow height width system steps among peeled.elements) (null_of_few octets height width (pivots + stuck.done) meant row_of (at order) (steps_elements height width system steps among peeled.elements) few)
 
   -- ---- all columns with pivots
 
-  module _ (found : HasFrozenPivots rows reduced frozen last) (placed : List ℕ) (long : (q : ℕ) → q < length reduced → at placed (length rows + q) ≡ at reduced q) (starts : (p : ℕ) → p < length rows → at placed p ≡ at rows p) where
-    -- the part of a place among the frozen columns
-    frozen_place : (p : ℕ) → p < width → pivots ≤ p → (q : ℕ) × (q < frozen) × (pivots + q ≡ p)
-    frozen_place p l late = (p - pivots, (omega arith), (omega arith))
+  module _ (final : Recorded) (is_reduced : IsReduced reduced 0 inactive last.table) (takes : TakeReduced rows reduced inactive (length rows) last final)
+      (placed : List ℕ) (long : (q : ℕ) → q < length reduced → at placed (length rows + q) ≡ at reduced q) (starts : (p : ℕ) → p < length rows → at placed p ≡ at rows p) where
+    abbrev all_steps : List Operation
+    all_steps = steps ++ takes.steps
 
-    fits : (q : ℕ) → q < frozen → q < length reduced
-    fits q l = omega (arith, found.reduced.fits)
+    abbrev ended : ℕ → ℕ → ℕ
+    ended = rows_after octets all_steps system
 
-    row_one : (p : ℕ) → p < width → meant (row_of p) (at order p) ≡ 1
+    all_among : All (IsStepAmong octets (range_with_len 0 height)) all_steps
+    all_among = All-append (IsStepAmong octets (range_with_len 0 height)) steps takes.steps among (rw (changes.performs.height, peeled.height_is) at takes.records.among)
+
+    all_recorded : final.operations ≡ all_steps
+    all_recorded = takes.records.recorded ∙ ap (λ (l : List Operation). l ++ takes.steps) changes.performs.recorded
+
+    ended_is : (r k : ℕ) → ended r k ≡ rows_after octets takes.steps meant r k
+    ended_is r k = rows_after-next octets steps takes.steps system r k
+
+    fits : (q : ℕ) → q < inactive → q < length reduced
+    fits q l = omega (arith, is_reduced.fits)
+
+    -- the reduced rows stay
+    ended_reduced : (q k : ℕ) → q < inactive → ended (at reduced q) k ≡ meant (at reduced q) k
+    ended_reduced q k l = ended_is (at reduced q) k ∙ takes.elsewhere meant (at reduced q) k (λ p n. apart p q n (fits q l))
+
+    -- and so do the pivots' columns
+    ended_pivot : (r p : ℕ) → p < pivots → ended r (at order p) ≡ meant r (at order p)
+    ended_pivot r p l = ended_is r (at order p) ∙ takes.kept meant r (at order p) (λ f n. left_pivot (at reduced f) p (in_left f (fits f n)) l)
+
+    units : AreUnits reduced inactive (λ f. at order (length rows + f)) meant
+    units t f l n =
+        let column : f ≡ 0 + f = omega arith in
+        inactive_at (at reduced t) f (reduced_below t (fits t l)) n ∙ ap (entry_of last.table (at reduced t)) column
+        ∙ elim (cases_eq t f) [
+          | inl e ↦ rw e (is_reduced.pivots.ones f n ∙ sym (if_same f f 1 0 refl))
+          | inr d ↦ is_reduced.pivots.zeros t f (fits t l) n d ∙ sym (if_apart t f 1 0 d)
+        ]
+
+    cleared : (p f : ℕ) → p < pivots → f < inactive → ended (at rows p) (at order (pivots + f)) ≡ 0
+    cleared p f l n = ended_is (at rows p) (at order (pivots + f)) ∙ takes.cleared meant (λ g. at order (length rows + g)) units (λ q g o u. inactive_at (at rows q) g (pivot_below q o) u) p f l n
+
+    -- the part of a place among the inactive columns
+    inactive_place : (p : ℕ) → p < width → pivots ≤ p → (q : ℕ) × (q < inactive) × (pivots + q ≡ p)
+    inactive_place p l late = (p - pivots, (omega arith), (omega arith))
+
+    row_one : (p : ℕ) → p < width → ended (row_of p) (at order p) ≡ 1
     row_one p l = elim (cases_lt p pivots) [
-      | inl early ↦ ap (λ (r : ℕ). meant r (at order p)) (of_pivot p early) ∙ pivot_pivot p p early early ∙ if_same (at rows p) (at rows p) 1 0 refl
+      | inl early ↦ ap (λ (r : ℕ). ended r (at order p)) (of_pivot p early) ∙ ended_pivot (at rows p) p early ∙ pivot_pivot p p early early ∙ if_same (at rows p) (at rows p) 1 0 refl
       | inr late ↦
-          let f = frozen_place p l late in
-          let column : f.0 ≡ 0 + f.0 = omega arith in
+          let f = inactive_place p l late in
           rw (← f.2) (
-          ap (λ (r : ℕ). meant r (at order (pivots + f.0))) (of_left f.0)
-          ∙ frozen_at (at reduced f.0) f.0 (reduced_below f.0 (fits f.0 f.1)) f.1
-          ∙ ap (entry_of last (at reduced f.0)) column
-          ∙ found.reduced.pivots.ones f.0 f.1)
+          ap (λ (r : ℕ). ended r (at order (pivots + f.0))) (of_left f.0)
+          ∙ ended_reduced f.0 (at order (pivots + f.0)) f.1
+          ∙ units f.0 f.0 f.1 f.1
+          ∙ if_same f.0 f.0 1 0 refl)
     ]
 
-    row_zero : (i p : ℕ) → i < width → p < width → i ≢ p → meant (row_of i) (at order p) ≡ 0
+    row_zero : (i p : ℕ) → i < width → p < width → i ≢ p → ended (row_of i) (at order p) ≡ 0
     row_zero i p l n d = elim (cases_lt i pivots) [
-      | inl early ↦ ap (λ (r : ℕ). meant r (at order p)) (of_pivot i early) ∙ elim (cases_lt p pivots) [
-        | inl first_p ↦ pivot_pivot i p early first_p ∙ if_apart (at rows p) (at rows i) 1 0 (λ e. d (sym (rows_are.apart p i first_p early e)))
-        | inr late_p ↦
-            let f = frozen_place p n late_p in
-            rw (← f.2) (frozen_at (at rows i) f.0 (pivot_below i early) f.1 ∙ found.zeros i f.0 early f.1)
+      | inl early ↦ ap (λ (r : ℕ). ended r (at order p)) (of_pivot i early) ∙ elim (cases_lt p pivots) [
+        | inl first_p ↦ ended_pivot (at rows i) p first_p ∙ pivot_pivot i p early first_p ∙ if_apart (at rows p) (at rows i) 1 0 (λ e. d (sym (rows_are.apart p i first_p early e)))
+        | inr late_p ↦ let f = inactive_place p n late_p in rw (← f.2) (cleared i f.0 early f.1)
       ]
       | inr late ↦
-          let q = frozen_place i l late in
+          let q = inactive_place i l late in
           rw (← q.2) (
-          ap (λ (r : ℕ). meant r (at order p)) (of_left q.0) ∙ elim (cases_lt p pivots) [
+          ap (λ (r : ℕ). ended r (at order p)) (of_left q.0) ∙ ended_reduced q.0 (at order p) q.1 ∙ elim (cases_lt p pivots) [
             | inl first_p ↦ left_pivot (at reduced q.0) p (in_left q.0 (fits q.0 q.1)) first_p
             | inr late_p ↦
-                let f = frozen_place p n late_p in
-                let column : f.0 ≡ 0 + f.0 = omega arith in
+                let f = inactive_place p n late_p in
                 let other : q.0 ≢ f.0 = (λ e. d (sym q.2 ∙ ap (λ (g : ℕ). pivots + g) e ∙ f.2)) in
-                rw (← f.2) (
-                frozen_at (at reduced q.0) f.0 (reduced_below q.0 (fits q.0 q.1)) f.1
-                ∙ ap (entry_of last (at reduced q.0)) column
-                ∙ found.reduced.pivots.zeros q.0 f.0 (fits q.0 q.1) f.1 other)
+                rw (← f.2) (units q.0 f.0 q.1 f.1 ∙ if_apart q.0 f.0 1 0 other)
           ])
     ]
 
     row_below : (p : ℕ) → p < width → row_of p < height
     row_below p l = elim (cases_lt p pivots) [
       | inl early ↦ rw (of_pivot p early) (pivot_below p early)
-      | inr late ↦ let f = frozen_place p l late in rw (← f.2, of_left f.0) (reduced_below f.0 (fits f.0 f.1))
+      | inr late ↦ let f = inactive_place p l late in rw (← f.2, of_left f.0) (reduced_below f.0 (fits f.0 f.1))
     ]
 
     -- rows with 1 in different columns, and 0 in the others', are different
@@ -210,7 +240,7 @@ module _ (height width : ℕ) (system : ℕ → ℕ → ℕ) (rows order places 
       below = row_below;
       apart = λ i p l n e. elim (cases_eq i p) [
         | inl same ↦ same
-        | inr d ↦ let z : 0 ≡ 1 = sym (row_zero i p l n d) ∙ ap (λ (r : ℕ). meant r (at order p)) e ∙ row_one p n in absurd (omega (arith, z))
+        | inr d ↦ let z : 0 ≡ 1 = sym (row_zero i p l n d) ∙ ap (λ (r : ℕ). ended r (at order p)) e ∙ row_one p n in absurd (omega (arith, z))
       ];
     }
 
@@ -224,11 +254,11 @@ module _ (height width : ℕ) (system : ℕ → ℕ → ℕ) (rows order places 
           ∙ ap (at placed) (arranged.ordered p l).1
           ∙ elim (cases_lt p pivots) [
             | inl early ↦ starts p early ∙ sym (of_pivot p early)
-            | inr late ↦ let f = frozen_place p l late in rw (← f.2) (long f.0 (fits f.0 f.1) ∙ sym (of_left f.0))
+            | inr late ↦ let f = inactive_place p l late in rw (← f.2) (long f.0 (fits f.0 f.1) ∙ sym (of_left f.0))
           ];
     }
 
-    pub finds_by_peeled : FindsColumn octets height width system (map operation_of final ++ Reorder (map (at placed) places) ∷ [])
-    finds_by_peeled =
-        let firsts : HasFirstPivots width width meant row_of (at order) = record { ones = row_one; zeros = row_zero } in
-        finds_by_pivots octets height width system meant (map operation_of final) follows row_of (at order) (pivots_of_first octets height width width meant row_of (at order) all_rows_are (omega arith) (columns_apart width (omega arith)) firsts) (map (at placed) places) reads
+    pub finds_by_peeled : FindsColumn octets height width system (final.operations ++ Reorder (map (at placed) places) ∷ [])
+    finds_by_peeled = rw all_recorded (
+        let firsts : HasFirstPivots width width ended row_of (at order) = record { ones = row_one; zeros = row_zero } in
+        finds_by_pivots octets height width system ended all_steps (steps_follow height width system all_steps all_among peeled.elements) row_of (at order) (pivots_of_first octets height width width ended row_of (at order) all_rows_are (omega arith) (columns_apart width (omega arith)) firsts) (map (at placed) places) reads)

@@ -9,10 +9,9 @@ use Rattle.rq_algebra.specs.Arrangements.{ArePlaces}
 use Rattle.rq_algebra.specs.Systems.{at}
 use Rattle.rq_algebra.proofs.Sums.{add_zero, mul_zero}
 use Rattle.rq_standard.specs.OctetField.{octets}
-use Rattle.rq_bytes.specs.declared.operation_vector.SymbolOps.{SymbolOps}
-use Rattle.rq_parts.specs.OctetTable.{OctetTable}
-use Rattle.rq_solver.specs.Cleared.{sum_step, Performs, IsCleared, TakesPivots}
+use Rattle.rq_solver.specs.Cleared.{IsCleared, TakesPivots}
 use Rattle.rq_solver.specs.Peeled.{IsOrderOf}
+use Rattle.rq_solver.specs.Recorded.{Recorded, sum_step, Performs}
 use Rattle.rq_solver.specs.RowSteps.{HasOctets, rows_after}
 use Rattle.rq_solver.proofs.StepColumns.{rows_after-none, rows_after-next}
 use Rattle.rq_solver.proofs.Performing.{sum_step-here, sum_step-elsewhere, performs_none, performs_more}
@@ -68,10 +67,10 @@ cleared_small rows order m r i cleared l = elim (cases_eq (at rows i) r) [
 -- ---- the pivots that a row takes
 
 module _ (rows order : List ℕ) (row : ℕ) (columns : List ℕ) where
-  pub takes_none : (table : OctetTable) (operations : List SymbolOps) → HasOctets table → TakesPivots rows order row (take 0 columns) table table operations operations
-  takes_none table operations are = record {
+  pub takes_none : (table : Recorded) → HasOctets table.table → TakesPivots rows order row (take 0 columns) table table
+  takes_none table are = record {
     steps = [];
-    performs = performs_none table operations are;
+    performs = performs_none table are;
     idle = λ e. refl;
     elsewhere = λ m i k d. rows_after-none octets m i k;
     taken = λ m done i l.
@@ -79,8 +78,8 @@ module _ (rows order : List ℕ) (row : ℕ) (columns : List ℕ) where
         rows_after-none octets m row (at order i) ∙ sym (add_zero octets (m row (at order i))) ∙ ap (octets.add (m row (at order i))) (sym none);
   }
 
-  module _ (places : List ℕ) (width : ℕ) (arranged : IsOrderOf width order places) (few : length rows ≤ width) (t : ℕ) (in_columns : t < length columns) (in_width : at columns t < width) (old cur : OctetTable) (before between : List SymbolOps)
-      (v : TakesPivots rows order row (take t columns) old cur before between) where
+  module _ (places : List ℕ) (width : ℕ) (arranged : IsOrderOf width order places) (few : length rows ≤ width) (t : ℕ) (in_columns : t < length columns) (in_width : at columns t < width) (old cur : Recorded)
+      (v : TakesPivots rows order row (take t columns) old cur) where
     not_empty : take (t + 1) columns ≡ [] → ⊥
     not_empty e = let n = length-take-le (t + 1) columns (omega arith) in let z : length (take (t + 1) columns) ≡ 0 = ap length e in omega (arith, n, z)
 
@@ -89,7 +88,7 @@ module _ (rows order : List ℕ) (row : ℕ) (columns : List ℕ) where
     column_place i l e = ap (at places) e ∙ (arranged.ordered i (omega arith)).1
 
     -- the column is frozen, or its pivot is the row's own
-    pub takes_skipped : (length rows ≤ at places (at columns t)) ⊎ (at rows (at places (at columns t)) ≡ row) → TakesPivots rows order row (take (t + 1) columns) old cur before between
+    pub takes_skipped : (length rows ≤ at places (at columns t)) ⊎ (at rows (at places (at columns t)) ≡ row) → TakesPivots rows order row (take (t + 1) columns) old cur
     takes_skipped why = record {
       steps = v.steps;
       performs = v.performs;
@@ -109,7 +108,7 @@ module _ (rows order : List ℕ) (row : ℕ) (columns : List ℕ) where
     }
 
     module _ (once : (k : ℕ) → k < width → count_by (λ x. x == k) columns ≤ 1) (bound : ℕ) (rows_are : ArePlaces (length rows) bound (at rows)) (j : ℕ) (place : at places (at columns t) ≡ j) (in_rows : j < length rows) (other : at rows j ≢ row)
-        (new : OctetTable) (after : List SymbolOps) (performs : Performs (sum_step row (at rows j) 1 ∷ []) cur new between after) where
+        (new : Recorded) (performs : Performs (sum_step row (at rows j) 1 ∷ []) cur new) where
       column_is : at columns t ≡ at order j
       column_is = sym (arranged.placed (at columns t) in_width).1 ∙ ap (at order) place
 
@@ -161,10 +160,10 @@ module _ (rows order : List ℕ) (row : ℕ) (columns : List ℕ) where
           ]
         ]
 
-      pub takes_more : TakesPivots rows order row (take (t + 1) columns) old new before after
+      pub takes_more : TakesPivots rows order row (take (t + 1) columns) old new
       takes_more = record {
         steps = v.steps ++ sum_step row (at rows j) 1 ∷ [];
-        performs = performs_more v.steps (sum_step row (at rows j) 1 ∷ []) old cur new before between after v.performs performs;
+        performs = performs_more v.steps (sum_step row (at rows j) 1 ∷ []) old cur new v.performs performs;
         idle = λ e. absurd (not_empty e);
         elsewhere = λ m i k d. rows_after-next octets v.steps (sum_step row (at rows j) 1 ∷ []) m i k ∙ sum_step-elsewhere row (at rows j) 1 (rows_after octets v.steps m) i k d ∙ v.elsewhere m i k d;
         taken = λ m done i l. next_taken m done i l;

@@ -1,15 +1,14 @@
 -- The pivots' columns of a system's rows, once the rows of bits and then those of octets have been cleared.
-use Rattle.std.proofs.Common.{◌≡◌, ◌≢◌, ℕ, ◌+◌, ◌-◌, ◌<◌, ◌≤◌, ◌⊎◌, List, [], ◌++◌, Contains, map, length, drop, get_or, sym, ap, ◌∙◌, subst, arith, inl, inr}
+use Rattle.std.proofs.Common.{◌≡◌, ◌≢◌, ℕ, ◌+◌, ◌-◌, ◌<◌, ◌≤◌, ◌⊎◌, List, [], ◌++◌, Contains, length, drop, get_or, sym, ap, ◌∙◌, subst, arith, inl, inr}
 use Rattle.std.proofs.lemmas.Bool.{cases_lt}
 use Rattle.std.proofs.lemmas.List.{length-drop, get_or-drop, get_or_default}
 use Rattle.rq_algebra.specs.Operations.{Operation}
 use Rattle.rq_algebra.specs.Systems.{at}
 use Rattle.rq_standard.specs.OctetField.{octets}
-use Rattle.rq_bytes.specs.SymbolOps.{operation_of}
-use Rattle.rq_bytes.specs.declared.operation_vector.SymbolOps.{SymbolOps}
 use Rattle.rq_parts.specs.OctetTable.{OctetTable, entry_of}
-use Rattle.rq_solver.specs.Cleared.{AreRowsOfBits, AreOctetRows, ListsRows, IsCleared, IsUncleared, Performs, ClearsRows, ClearsOctets, HasLeading, HasPeeledPivots, one_in, system_rows}
+use Rattle.rq_solver.specs.Cleared.{AreRowsOfBits, AreOctetRows, ListsRows, IsCleared, IsUncleared, ClearsRows, ClearsOctets, HasLeading, HasPeeledPivots, one_in, system_rows}
 use Rattle.rq_solver.specs.Peeled.{ones_at, IsPeeled}
+use Rattle.rq_solver.specs.Recorded.{Recorded, Performs}
 use Rattle.rq_solver.specs.RowSteps.{rows_after}
 use Rattle.rq_solver.proofs.OctetRows.{octet_row, bit_row, octet_row_or_bit_row}
 use Rattle.rq_solver.proofs.PivotTurns.{if_apart}
@@ -82,7 +81,7 @@ module _ (lists : List (List ℕ)) (first : ℕ) (hdpc : OctetTable) where
       pivots_uncleared p l = uncleared (at rows p) (λ i n. pivot_of_bits p i l n)
 
       module _ (listed : List ℕ) (listing : ListsRows (length lists) rows listed) where
-        module _ (zero one two : OctetTable) (start between after : List SymbolOps) (clears : ClearsRows lists rows order listed (length listed) zero one start between) (wipes : ClearsOctets rows order (entry_of hdpc) first (length hdpc.rows) one two between after) where
+        module _ (zero one two : Recorded) (clears : ClearsRows lists rows order listed (length listed) zero one) (wipes : ClearsOctets rows order (entry_of hdpc) first (length hdpc.rows) one two) where
           system : ℕ → ℕ → ℕ
           system = system_rows lists first hdpc
 
@@ -122,7 +121,7 @@ module _ (lists : List (List ℕ)) (first : ℕ) (hdpc : OctetTable) where
           }
 
           -- the entries that were read are octets: those of the frozen columns when the tables were filled, and the others afterwards
-          octets_small : (frozen : ℕ) → length rows + frozen ≡ width → HasLeading (length lists) frozen (length lists) (λ r f. system_rows lists first hdpc r (at order (length rows + f))) zero → (i k : ℕ) → i < length hdpc.rows → k < width → entry_of hdpc i k < 256
+          octets_small : (frozen : ℕ) → length rows + frozen ≡ width → HasLeading (length lists) frozen (length lists) (λ r f. system_rows lists first hdpc r (at order (length rows + f))) zero.table → (i k : ℕ) → i < length hdpc.rows → k < width → entry_of hdpc i k < 256
           octets_small frozen wide holds i k l m =
               let j : ℕ = at places k in
               let placed = peeled.columns.placed k m in
@@ -133,17 +132,17 @@ module _ (lists : List (List ℕ)) (first : ℕ) (hdpc : OctetTable) where
                     let back : length rows + f ≡ j = omega arith in
                     let inside : f < frozen = omega (arith, placed.0) in
                     let row_in : first + i < length lists = omega (arith, are.within) in
-                    let same : entry_of zero (first + i) f ≡ entry_of hdpc i k = holds.written (first + i) f row_in inside ∙ octets_at i (at order (length rows + f)) l ∙ ap (entry_of hdpc i) (ap (at order) back ∙ placed.1) in
+                    let same : entry_of zero.table (first + i) f ≡ entry_of hdpc i k = holds.written (first + i) f row_in inside ∙ octets_at i (at order (length rows + f)) l ∙ ap (entry_of hdpc i) (ap (at order) back ∙ placed.1) in
                     rw (← same) (holds.octets.elements (first + i) f (rw holds.height_is row_in) (omega (arith, holds.wide, inside)))
               ]
 
           -- the tables that were filled with the frozen columns show them
-          pub peeled_pivots : (frozen : ℕ) → length rows + frozen ≡ width → start ≡ [] → HasLeading (length lists) frozen (length lists) (λ r f. system_rows lists first hdpc r (at order (length rows + f))) zero
-              → HasPeeledPivots (length lists) width (system_rows lists first hdpc) rows order (drop (length rows) listed) two after
+          pub peeled_pivots : (frozen : ℕ) → length rows + frozen ≡ width → zero.operations ≡ [] → HasLeading (length lists) frozen (length lists) (λ r f. system_rows lists first hdpc r (at order (length rows + f))) zero.table
+              → HasPeeledPivots (length lists) width (system_rows lists first hdpc) rows order (drop (length rows) listed) two
           peeled_pivots frozen wide empty holds =
               let done : List Operation = clears.steps ++ wipes.steps in
-              let performs : Performs done zero two start after = performs_more clears.steps wipes.steps zero one two start between after clears.performs wipes.performs in
-              let recorded : map operation_of after ≡ done = performs.recorded ∙ ap (λ (l : List SymbolOps). map operation_of l ++ done) empty in
+              let performs : Performs done zero two = performs_more clears.steps wipes.steps zero one two clears.performs wipes.performs in
+              let recorded : two.operations ≡ done = performs.recorded ∙ ap (λ (l : List Operation). l ++ done) empty in
               let both : AreCleared rows order (drop (length rows) listed) (rows_after octets done (system_rows lists first hdpc)) = cleared_both in
               record {
                 elements = λ i k l m. elim (cases i) [
@@ -153,7 +152,7 @@ module _ (lists : List (List ℕ)) (first : ℕ) (hdpc : OctetTable) where
                 among = rw recorded (rw holds.height_is at performs.among);
                 height_is = performs.height ∙ holds.height_is;
                 wide = omega (arith, performs.width, holds.wide, wide);
-                shows = λ r f l n. rw recorded (shows_after done zero two start after (system_rows lists first hdpc) (λ g. at order (length rows + g)) frozen holds.wide performs
+                shows = λ r f l n. rw recorded (shows_after done zero two (system_rows lists first hdpc) (λ g. at order (length rows + g)) frozen holds.wide performs
                     (λ i g o u. holds.written i g (rw holds.height_is at o) u) r f (rw holds.height_is l) (omega arith));
                 pivots = λ p l. rw recorded (both.pivots p l);
                 others = λ r p c l. rw recorded (both.others r c p l);

@@ -1,8 +1,7 @@
 -- What recorded steps keep, and that one follows another.
-use Rattle.std.proofs.Common.{if◌then◌else◌, ◌==◌, Bool, ◌≡◌, ◌≢◌, ℕ, ◌<◌, List, [], ◌∷◌, ◌++◌, All, Contains, map, length, get_or, sym, ap, ◌∙◌, refl, subst, inl, inr, append_assoc, append-nil}
-use Rattle.std.proofs.lemmas.Bool.{cases_eq, eq-eqb, ne_eqb}
-use Rattle.std.proofs.lemmas.List.{map-append}
-use Rattle.std.proofs.lemmas.List.Elements.{All-nil, All-cons, All-head, All-tail, All-append, All-contains, Contains-get_or}
+use Rattle.std.proofs.Common.{◌≡◌, ℕ, ◌<◌, List, [], ◌∷◌, ◌++◌, All, Contains, sym, ap, ◌∙◌, refl, subst, inl, inr, append_assoc, append-nil}
+use Rattle.std.proofs.lemmas.Bool.{cases_eq}
+use Rattle.std.proofs.lemmas.List.Elements.{All-head, All-tail, All-contains}
 use Rattle.rq_algebra.specs.Field.{Field}
 use Rattle.rq_algebra.specs.Steps.{AddsRow, ScalesRow}
 use Rattle.rq_algebra.specs.Systems.{HasElements}
@@ -11,11 +10,7 @@ use Rattle.rq_algebra.specs.Following.{Follows}
 use Rattle.rq_algebra.proofs.Changes.{with_at, with_at_same, with_at_other}
 use Rattle.rq_algebra.proofs.Elements.{adds_elements, scales_elements}
 use Rattle.rq_algebra.proofs.Runs.{follows_add, follows_fma, follows_scale}
-use Rattle.rq_standard.specs.OctetField.{octets}
-use Rattle.rq_bytes.specs.SymbolOps.{operation_of}
-use Rattle.rq_bytes.specs.declared.operation_vector.SymbolOps.{SymbolOps}
-use Rattle.rq_parts.specs.OctetTable.{OctetTable, entry_of}
-use Rattle.rq_solver.specs.RowSteps.{HasOctets, row_step, rows_after, IsStepAmong, RecordsSteps}
+use Rattle.rq_solver.specs.RowSteps.{row_step, rows_after, IsStepAmong}
 
 pub rows_after-append : (F : Field) (first second : List Operation) (a : ℕ → ℕ → ℕ) → rows_after F (first ++ second) a ≡ rows_after F second (rows_after F first a)
 unfolding rows_after
@@ -100,87 +95,3 @@ module _ (F : Field) (height width : ℕ) (rows : List ℕ) (below : All (λ r. 
       let is = All-head (IsStepAmong F rows) step steps among in
       let all : Follows F height width original (rows_after F steps (row_step F step a)) ((operations ++ step ∷ []) ++ steps) = follows_steps steps original (row_step F step a) (operations ++ step ∷ []) (All-tail (IsStepAmong F rows) step steps among) (row_step-elements step a is elements) (follows_step step original a operations is elements follows) in
       subst (λ (o : List Operation). Follows F height width original (rows_after F steps (row_step F step a)) o) (append_assoc operations (step ∷ []) steps) all
-
--- an addition or a multiplication leaves no choice
-same_added : (F : Field) (height width dest src scalar : ℕ) (a b c : ℕ → ℕ → ℕ) → AddsRow F height width dest src scalar a b → AddsRow F height width dest src scalar a c → SameEntries height width b c
-same_added F height width dest src scalar a b c adds adds' i k l m = elim (cases_eq i dest) [
-  | inl e ↦ rw e (adds.at_dest k m ∙ sym (adds'.at_dest k m))
-  | inr d ↦ adds.elsewhere i k l m d ∙ sym (adds'.elsewhere i k l m d)
-]
-
-same_scaled : (F : Field) (height width dest scalar : ℕ) (a b c : ℕ → ℕ → ℕ) → ScalesRow F height width dest scalar a b → ScalesRow F height width dest scalar a c → SameEntries height width b c
-same_scaled F height width dest scalar a b c scales scales' i k l m = elim (cases_eq i dest) [
-  | inl e ↦ rw e (scales.at_dest k m ∙ sym (scales'.at_dest k m))
-  | inr d ↦ scales.elsewhere i k l m d ∙ sym (scales'.elsewhere i k l m d)
-]
-
--- nothing was done
-pub records_none : (rows : List ℕ) (table : OctetTable) (operations : List SymbolOps) → RecordsSteps rows table table operations operations
-unfolding rows_after
-records_none rows table operations = record { steps = []; recorded = sym (append-nil (map operation_of operations)); among = All-nil (IsStepAmong octets rows); width = refl; height = refl; entries = λ i k l m. refl }
-
-module _ (rows : List ℕ) (old new : OctetTable) (before after : List SymbolOps) (recorded : SymbolOps) (pushed : after ≡ before ++ recorded ∷ []) (width : new.width ≡ old.width) (height : length new.rows ≡ length old.rows) where
-  records_one : (step : Operation) → operation_of recorded ≡ step → IsStepAmong octets rows step → SameEntries (length old.rows) old.width (entry_of new) (row_step octets step (entry_of old)) → RecordsSteps rows old new before after
-  unfolding rows_after
-  records_one step is among same = record {
-    steps = step ∷ [];
-    recorded = ap (map operation_of) pushed ∙ map-append operation_of before (recorded ∷ []) ∙ ap (λ (o : Operation). map operation_of before ++ o ∷ []) is;
-    among = All-cons (IsStepAmong octets rows) step [] among (All-nil (IsStepAmong octets rows));
-    width = width;
-    height = height;
-    entries = same;
-  }
-
-  pub records_scaling : (dest scalar : ℕ) → operation_of recorded ≡ MulAssign dest scalar → Contains rows dest → scalar < 256 → scalar ≢ 0 → ScalesRow octets (length old.rows) old.width dest scalar (entry_of old) (entry_of new) → RecordsSteps rows old new before after
-  records_scaling dest scalar is in_rows small nonzero scales =
-      records_one (MulAssign dest scalar) is (in_rows, small, nonzero) (same_scaled octets (length old.rows) old.width dest scalar (entry_of old) (entry_of new) _ scales (row_step_scales octets (length old.rows) old.width dest (entry_of old) scalar))
-
-  pub records_addition : (dest src scalar : ℕ) → operation_of recorded ≡ (if scalar == 1 then AddAssign dest src else Fma dest src scalar) → Contains rows dest → Contains rows src → src ≢ dest → HasOctets old → src < length old.rows
-      → AddsRow octets (length old.rows) old.width dest src scalar (entry_of old) (entry_of new) → RecordsSteps rows old new before after
-  records_addition dest src scalar is has_dest has_src apart are in_src adds = elim (cases_eq scalar 1) [
-    | inl e ↦
-        let one : operation_of recorded ≡ AddAssign dest src = is ∙ ap (λ (b : Bool). if b then AddAssign dest src else Fma dest src scalar) (eq-eqb scalar 1 e) in
-        records_one (AddAssign dest src) one (has_dest, has_src, apart) (same_added octets (length old.rows) old.width dest src 1 (entry_of old) (entry_of new) _ (subst (λ (c : ℕ). AddsRow octets (length old.rows) old.width dest src c (entry_of old) (entry_of new)) e adds) (row_step_adds_one octets (length old.rows) old.width dest (entry_of old) src are.elements in_src))
-    | inr d ↦
-        let other : operation_of recorded ≡ Fma dest src scalar = is ∙ ap (λ (b : Bool). if b then AddAssign dest src else Fma dest src scalar) (ne_eqb scalar 1 d) in
-        records_one (Fma dest src scalar) other (has_dest, has_src, apart) (same_added octets (length old.rows) old.width dest src scalar (entry_of old) (entry_of new) _ adds (row_step_adds octets (length old.rows) old.width dest (entry_of old) src scalar))
-  ]
-
--- the rows may be listed among others
-module _ (few rows : List ℕ) (all : All (Contains rows) few) where
-  step_among : (step : Operation) → IsStepAmong octets few step → IsStepAmong octets rows step
-  step_among (AddAssign dest src) is = (All-contains (Contains rows) few dest all is.0, All-contains (Contains rows) few src all is.1, is.2)
-  step_among (MulAssign dest scalar) is = (All-contains (Contains rows) few dest all is.0, is.1, is.2)
-  step_among (Fma dest src scalar) is = (All-contains (Contains rows) few dest all is.0, All-contains (Contains rows) few src all is.1, is.2)
-  step_among (Reorder order) is = is
-
-  pub records_among : (old new : OctetTable) (before after : List SymbolOps) → RecordsSteps few old new before after → RecordsSteps rows old new before after
-  records_among old new before after records = record {
-    steps = records.steps;
-    recorded = records.recorded;
-    among = λ k d l. step_among _ (records.among k d l);
-    width = records.width;
-    height = records.height;
-    entries = records.entries;
-  }
-
-pub one_among : (rows : List ℕ) (i : ℕ) → i < length rows → All (Contains rows) (get_or rows i 0 ∷ [])
-one_among rows i l = All-cons (Contains rows) (get_or rows i 0) [] (Contains-get_or rows i 0 l) (All-nil (Contains rows))
-
-pub two_among : (rows : List ℕ) (i j : ℕ) → i < length rows → j < length rows → All (Contains rows) (get_or rows i 0 ∷ get_or rows j 0 ∷ [])
-two_among rows i j l m = All-cons (Contains rows) (get_or rows i 0) (get_or rows j 0 ∷ []) (Contains-get_or rows i 0 l) (one_among rows j m)
-
--- one after the other
-module _ (rows : List ℕ) (first second third : OctetTable) (before between after : List SymbolOps) (records : RecordsSteps rows first second before between) where
-  pub records_more : All (λ r. r < length first.rows) rows → RecordsSteps rows second third between after → RecordsSteps rows first third before after
-  records_more below more = record {
-    steps = records.steps ++ more.steps;
-    recorded = more.recorded ∙ ap (λ (l : List Operation). l ++ more.steps) records.recorded ∙ append_assoc (map operation_of before) records.steps more.steps;
-    among = All-append (IsStepAmong octets rows) records.steps more.steps records.among more.among;
-    width = more.width ∙ records.width;
-    height = more.height ∙ records.height;
-    entries = λ i k l m.
-        more.entries i k (rw records.height l) (rw records.width m)
-        ∙ rows_after-same octets (length first.rows) first.width rows below more.steps (entry_of second) (rows_after octets records.steps (entry_of first)) more.among records.entries i k l m
-        ∙ ap (λ (a : ℕ → ℕ → ℕ). a i k) (sym (rows_after-append octets records.steps more.steps (entry_of first)));
-  }

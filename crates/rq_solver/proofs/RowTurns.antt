@@ -7,10 +7,9 @@ use Rattle.rq_algebra.specs.Operations.{Operation}
 use Rattle.rq_algebra.specs.Systems.{at}
 use Rattle.rq_algebra.proofs.Sums.{add_zero}
 use Rattle.rq_standard.specs.OctetField.{octets}
-use Rattle.rq_bytes.specs.declared.operation_vector.SymbolOps.{SymbolOps}
-use Rattle.rq_parts.specs.OctetTable.{OctetTable}
 use Rattle.rq_solver.specs.Cleared.{AreRowsOfBits, ListsRows, IsCleared, IsUncleared, TakesPivots, ClearsRows, one_in}
 use Rattle.rq_solver.specs.Peeled.{ones_at, IsPeeled}
+use Rattle.rq_solver.specs.Recorded.{Recorded}
 use Rattle.rq_solver.specs.RowSteps.{HasOctets, rows_after}
 use Rattle.rq_solver.proofs.StepColumns.{rows_after-none, rows_after-next}
 use Rattle.rq_solver.proofs.Performing.{performs_none, performs_more}
@@ -23,17 +22,17 @@ count_contains xs x c =
     omega (arith, next, count_taken xs (c.0 + 1) x)
 
 module _ (lists : List (List ℕ)) (rows order listed : List ℕ) where
-  pub clears_none : (table : OctetTable) (operations : List SymbolOps) → HasOctets table → ClearsRows lists rows order listed 0 table table operations operations
-  clears_none table operations are = record {
+  pub clears_none : (table : Recorded) → HasOctets table.table → ClearsRows lists rows order listed 0 table table
+  clears_none table are = record {
     steps = [];
-    performs = performs_none table operations are;
+    performs = performs_none table are;
     idle = λ m i k e. rows_after-none octets m i k;
     rest = λ m s k l n. rows_after-none octets m (at listed s) k;
     cleared = λ m pivots s l. absurd (omega arith);
   }
 
   module _ (width : ℕ) (places : List ℕ) (bits : AreRowsOfBits width lists) (peeled : IsPeeled width lists rows order places) (listing : ListsRows (length lists) rows listed) (t : ℕ) (in_listed : t < length listed)
-      (old cur new : OctetTable) (before between after : List SymbolOps) (v : ClearsRows lists rows order listed t old cur before between) (taken : TakesPivots rows order (at listed t) (ones_at lists (at listed t)) cur new between after) where
+      (old cur new : Recorded) (v : ClearsRows lists rows order listed t old cur) (taken : TakesPivots rows order (at listed t) (ones_at lists (at listed t)) cur new) where
     all_steps : List Operation
     all_steps = v.steps ++ taken.steps
 
@@ -103,11 +102,11 @@ module _ (lists : List (List ℕ)) (rows order listed : List ℕ) where
           }
         ]
 
-    pub clears_more : ClearsRows lists rows order listed (t + 1) old new before after
+    pub clears_more : ClearsRows lists rows order listed (t + 1) old new
     unfolding all_steps now
     clears_more = record {
       steps = v.steps ++ taken.steps;
-      performs = performs_more v.steps taken.steps old cur new before between after v.performs taken.performs;
+      performs = performs_more v.steps taken.steps old cur new v.performs taken.performs;
       idle = idle_next;
       rest = λ m s k l n.
           let apart : at listed s ≢ at listed t = (λ e. let z : s ≡ t = listing.are.apart s t n in_listed e in omega (arith, z, l)) in

@@ -1,16 +1,15 @@
 -- What becomes of rows of which some have pivots while they are still as they were.
-use Rattle.std.specs.Prelude.{◌≡◌, ◌≢◌, ℕ, ◌+◌, ◌<◌, ◌≤◌, ◌==◌, if◌then◌else◌, List, [], ◌++◌, All, Contains, count_by, length, map}
+use Rattle.std.specs.Prelude.{◌≡◌, ◌≢◌, ℕ, ◌+◌, ◌<◌, ◌≤◌, ◌==◌, if◌then◌else◌, List, [], All, Contains, count_by, length}
 use Rattle.std.specs.List.{range_with_len}
 use Rattle.rq_algebra.specs.Arrangements.{ArePlaces}
 use Rattle.rq_algebra.specs.Systems.{at, HasElements}
-use Rattle.rq_algebra.specs.Operations.{Operation, AddAssign, Fma}
+use Rattle.rq_algebra.specs.Operations.{Operation}
 use Rattle.rq_standard.specs.ConstraintMatrix.{with_octet_rows}
 use Rattle.rq_standard.specs.OctetField.{octets}
-use Rattle.rq_bytes.specs.SymbolOps.{operation_of}
-use Rattle.rq_bytes.specs.declared.operation_vector.SymbolOps.{SymbolOps}
 use Rattle.rq_parts.specs.OctetTable.{OctetTable, entry_of}
 use Rattle.rq_solver.specs.Peeled.{ones_at, IsPeeled}
-use Rattle.rq_solver.specs.RowSteps.{HasOctets, IsReduced, rows_after, IsStepAmong}
+use Rattle.rq_solver.specs.Recorded.{Recorded, ChangesRows, Performs, Records}
+use Rattle.rq_solver.specs.RowSteps.{HasOctets, IsReduced, IsStuck, rows_after, IsStepAmong}
 use Rattle.rq_solver.specs.declared.pi_solver.peeling.Peeling.{Peeling}
 
 -- ---- the rows
@@ -66,82 +65,81 @@ pub record IsCleared (rows order : List ℕ) (m : ℕ → ℕ → ℕ) (r : ℕ)
 
 -- ---- steps on the rows of a system
 
--- a multiple of a row is added
-abbrev pub sum_step : ℕ → ℕ → ℕ → Operation
-sum_step dest src scalar = if scalar == 1 then AddAssign dest src else Fma dest src scalar
-
--- these steps were done to a table, and were recorded
-pub record Performs (steps : List Operation) (old new : OctetTable) (before after : List SymbolOps) : Type 0 where
-  pub recorded : map operation_of after ≡ map operation_of before ++ steps
-  pub among : All (IsStepAmong octets (range_with_len 0 (length old.rows))) steps
-  pub width : new.width ≡ old.width
-  pub height : length new.rows ≡ length old.rows
-  pub entries : (i k : ℕ) → i < length old.rows → k < old.width → entry_of new i k ≡ rows_after octets steps (entry_of old) i k
-  pub octets : HasOctets new
+-- in the inactive columns each of these rows has 1 in its own, and 0 in the others
+abbrev pub AreUnits : List ℕ → ℕ → (ℕ → ℕ) → (ℕ → ℕ → ℕ) → Type 0
+AreUnits reduced count column m = (t f : ℕ) → t < count → f < count → m (at reduced t) (column f) ≡ (if t == f then 1 else 0)
 
 -- A row takes the rows of the other pivots in whose columns it has these ones. What it is in whole is `m`, whatever that is.
-pub record TakesPivots (rows order : List ℕ) (row : ℕ) (columns : List ℕ) (old new : OctetTable) (before after : List SymbolOps) : Type 0 where
+pub record TakesPivots (rows order : List ℕ) (row : ℕ) (columns : List ℕ) (old new : Recorded) : Type 0 where
   pub steps : List Operation
-  pub performs : Performs steps old new before after
+  pub performs : Performs steps old new
   pub idle : columns ≡ [] → steps ≡ []
   pub elsewhere : (m : ℕ → ℕ → ℕ) (i k : ℕ) → i ≢ row → rows_after octets steps m i k ≡ m i k
   pub taken : (m : ℕ → ℕ → ℕ) → ((j : ℕ) → j < length rows → Contains columns (at order j) → at rows j ≢ row → IsCleared rows order m (at rows j))
       → (i : ℕ) → i < length rows → rows_after octets steps m row (at order i) ≡ octets.add (m row (at order i)) (if at rows i == row then 0 else count_by (λ column. column == at order i) columns)
 
 -- the first rows of a list are cleared, and the rest are as they were
-pub record ClearsRows (lists : List (List ℕ)) (rows order listed : List ℕ) (done : ℕ) (old new : OctetTable) (before after : List SymbolOps) : Type 0 where
+pub record ClearsRows (lists : List (List ℕ)) (rows order listed : List ℕ) (done : ℕ) (old new : Recorded) : Type 0 where
   pub steps : List Operation
-  pub performs : Performs steps old new before after
+  pub performs : Performs steps old new
   pub idle : (m : ℕ → ℕ → ℕ) (i k : ℕ) → ones_at lists i ≡ [] → rows_after octets steps m i k ≡ m i k
   pub rest : (m : ℕ → ℕ → ℕ) (s k : ℕ) → done ≤ s → s < length listed → rows_after octets steps m (at listed s) k ≡ m (at listed s) k
   pub cleared : (m : ℕ → ℕ → ℕ) → ((p : ℕ) → p < length rows → IsUncleared lists rows order m (at rows p))
       → (s : ℕ) → s < done → IsUncleared lists rows order m (at listed s) → IsCleared rows order (rows_after octets steps m) (at listed s)
 
 -- the HDPC rows of a system, which have these octets in the pivots' columns, get 0 there
-pub record ClearsOctets (rows order : List ℕ) (octet : ℕ → ℕ → ℕ) (first count : ℕ) (old new : OctetTable) (before after : List SymbolOps) : Type 0 where
+pub record ClearsOctets (rows order : List ℕ) (octet : ℕ → ℕ → ℕ) (first count : ℕ) (old new : Recorded) : Type 0 where
   pub steps : List Operation
-  pub performs : Performs steps old new before after
+  pub performs : Performs steps old new
   pub elements : (i p : ℕ) → i < count → p < length rows → octet i (at order p) < octets.size
   pub elsewhere : (m : ℕ → ℕ → ℕ) (r k : ℕ) → ((i : ℕ) → i < count → first + i ≢ r) → rows_after octets steps m r k ≡ m r k
   pub cleared : (m : ℕ → ℕ → ℕ) → ((p : ℕ) → p < length rows → IsCleared rows order m (at rows p))
       → ((i p : ℕ) → i < count → p < length rows → m (first + i) (at order p) ≡ octet i (at order p)) → (i p : ℕ) → i < count → p < length rows → rows_after octets steps m (first + i) (at order p) ≡ 0
 
--- a row gets 0 in the first of the frozen columns, each of which has its pivot in one of the reduced rows
-pub record ClearsTail (reduced : List ℕ) (row frozen done : ℕ) (old new : OctetTable) (before after : List SymbolOps) : Type 0 where
+-- After what was recorded the rows of a system have the pivots of the peeling: each pivot's column has one 1, in the pivot's row, and zeros
+-- in the rows that are left. The table shows the inactive columns.
+pub record HasPeeledPivots (height width : ℕ) (system : ℕ → ℕ → ℕ) (rows order left : List ℕ) (state : Recorded) : Type 0 where
+  pub elements : HasElements octets height width system
+  pub among : All (IsStepAmong octets (range_with_len 0 height)) state.operations
+  pub height_is : length state.table.rows ≡ height
+  pub wide : width ≤ length rows + state.table.width
+  pub shows : (r f : ℕ) → r < height → length rows + f < width → entry_of state.table r f ≡ rows_after octets state.operations system r (at order (length rows + f))
+  pub pivots : (p : ℕ) → p < length rows → IsCleared rows order (rows_after octets state.operations system) (at rows p)
+  pub others : (r p : ℕ) → Contains left r → p < length rows → rows_after octets state.operations system r (at order p) ≡ 0
+  pub octets : HasOctets state.table
+
+-- ---- the fourth phase
+
+-- A row takes multiples of reduced rows, so that it gets 0 in the first of the inactive columns. What the rows are in whole is `m`, whatever
+-- that is: `column f` is the place of inactive column f in it.
+pub record TakesReduced (reduced : List ℕ) (row count done : ℕ) (old new : Recorded) : Type 0 where
   pub steps : List Operation
-  pub performs : Performs steps old new before after
+  pub records : Records steps old new
   pub elsewhere : (m : ℕ → ℕ → ℕ) (i k : ℕ) → i ≢ row → rows_after octets steps m i k ≡ m i k
-  pub kept : (m : ℕ → ℕ → ℕ) (k : ℕ) → ((f : ℕ) → f < frozen → m (at reduced f) k ≡ 0) → rows_after octets steps m row k ≡ m row k
-  pub rest : (f : ℕ) → done ≤ f → f < frozen → entry_of new row f ≡ entry_of old row f
-  pub cleared : (f : ℕ) → f < done → entry_of new row f ≡ 0
+  pub kept : (m : ℕ → ℕ → ℕ) (k : ℕ) → ((f : ℕ) → f < count → m (at reduced f) k ≡ 0) → rows_after octets steps m row k ≡ m row k
+  pub cleared : (m : ℕ → ℕ → ℕ) (column : ℕ → ℕ) → AreUnits reduced count column m → ((f : ℕ) → f < count → m row (column f) ≡ entry_of old.table row f)
+      → (f : ℕ) → f < done → rows_after octets steps m row (column f) ≡ 0
+  pub rest : (m : ℕ → ℕ → ℕ) (column : ℕ → ℕ) → AreUnits reduced count column m → (f : ℕ) → done ≤ f → f < count → rows_after octets steps m row (column f) ≡ m row (column f)
 
 -- the same of the first of these rows
-pub record ClearsTails (rows reduced : List ℕ) (frozen done : ℕ) (old new : OctetTable) (before after : List SymbolOps) : Type 0 where
+pub record TakeReduced (rows reduced : List ℕ) (count done : ℕ) (old new : Recorded) : Type 0 where
   pub steps : List Operation
-  pub performs : Performs steps old new before after
+  pub records : Records steps old new
   pub elsewhere : (m : ℕ → ℕ → ℕ) (r k : ℕ) → ((p : ℕ) → p < done → at rows p ≢ r) → rows_after octets steps m r k ≡ m r k
-  pub kept : (m : ℕ → ℕ → ℕ) (r k : ℕ) → ((f : ℕ) → f < frozen → m (at reduced f) k ≡ 0) → rows_after octets steps m r k ≡ m r k
-  pub cleared : (p f : ℕ) → p < done → f < frozen → entry_of new (at rows p) f ≡ 0
+  pub kept : (m : ℕ → ℕ → ℕ) (r k : ℕ) → ((f : ℕ) → f < count → m (at reduced f) k ≡ 0) → rows_after octets steps m r k ≡ m r k
+  pub cleared : (m : ℕ → ℕ → ℕ) (column : ℕ → ℕ) → AreUnits reduced count column m → ((p f : ℕ) → p < length rows → f < count → m (at rows p) (column f) ≡ entry_of old.table (at rows p) f)
+      → (p f : ℕ) → p < done → f < count → rows_after octets steps m (at rows p) (column f) ≡ 0
 
--- After these operations the rows of a system have the pivots of the peeling: each pivot's column has one 1, in the pivot's row, and zeros in
--- the rows that are left. The table shows the frozen columns.
-pub record HasPeeledPivots (height width : ℕ) (system : ℕ → ℕ → ℕ) (rows order left : List ℕ) (table : OctetTable) (operations : List SymbolOps) : Type 0 where
-  pub elements : HasElements octets height width system
-  pub among : All (IsStepAmong octets (range_with_len 0 height)) (map operation_of operations)
-  pub height_is : length table.rows ≡ height
-  pub wide : width ≤ length rows + table.width
-  pub shows : (r f : ℕ) → r < height → length rows + f < width → entry_of table r f ≡ rows_after octets (map operation_of operations) system r (at order (length rows + f))
-  pub pivots : (p : ℕ) → p < length rows → IsCleared rows order (rows_after octets (map operation_of operations) system) (at rows p)
-  pub others : (r p : ℕ) → Contains left r → p < length rows → rows_after octets (map operation_of operations) system r (at order p) ≡ 0
-  pub octets : HasOctets table
+-- ---- the phases behind the first
 
--- steps among the rows that are left and the pivots' rows, which change no column in which the rows that are left have zeros
-pub record ClearsFrozen (left : List ℕ) (old new : OctetTable) (before after : List SymbolOps) : Type 0 where
-  pub steps : List Operation
-  pub performs : Performs steps old new before after
-  pub kept : (m : ℕ → ℕ → ℕ) (k : ℕ) → ((r : ℕ) → Contains left r → m r k ≡ 0) → (r : ℕ) → rows_after octets steps m r k ≡ m r k
+-- the rows that are left were worked on among themselves, and an inactive column has no pivot
+pub record LacksPivots (left reduced : List ℕ) (count : ℕ) (old new : Recorded) : Type 0 where
+  pub changes : ChangesRows left old new
+  pub stuck : IsStuck reduced 0 count new.table
 
--- each frozen column has its pivot in one of the rows that are left, and the pivots' rows have 0 there
-pub record HasFrozenPivots (rows left : List ℕ) (frozen : ℕ) (table : OctetTable) : Type 0 where
-  pub reduced : IsReduced left 0 frozen table
-  pub zeros : (p f : ℕ) → p < length rows → f < frozen → entry_of table (at rows p) f ≡ 0
+-- the rows that are left were worked on among themselves until each inactive column had its pivot in one of them, and then these rows took them
+pub record SolvesInactive (rows left reduced : List ℕ) (count : ℕ) (old new : Recorded) : Type 0 where
+  pub middle : Recorded
+  pub changes : ChangesRows left old middle
+  pub reduced_rows : IsReduced reduced 0 count middle.table
+  pub takes : TakeReduced rows reduced count (length rows) middle new

@@ -1,8 +1,12 @@
 pub mod Cleared
+pub mod Counts
+pub mod FirstPhaseRowSelectionStats
 pub mod Homogeneous
 pub mod Listing
 pub mod OctetBatch
 pub mod Peeled
+pub mod PhaseCounts
+pub mod Recorded
 pub mod Replay
 pub mod RowSteps
 pub mod RowWrites

@@ -1,27 +1,31 @@
 -- HDPC rows whose octets are cleared in the pivots' columns, all of them together. A table beside shows what the rows have in all columns.
-use Rattle.std.specs.Prelude.{◌≡◌, ◌≢◌, ℕ, ◌+◌, ◌^◌, ◌<◌, ◌≤◌, List, length}
+use Rattle.std.specs.Prelude.{◌≡◌, ◌≢◌, ℕ, ◌+◌, ◌-◌, ◌*◌, ◌^◌, ◌<◌, ◌≤◌, List, length}
 use Rattle.rq_algebra.specs.Systems.{at, sum_below}
 use Rattle.rq_algebra.specs.Operations.{Operation}
 use Rattle.rq_standard.specs.OctetField.{octets}
-use Rattle.rq_bytes.specs.declared.operation_vector.SymbolOps.{SymbolOps}
 use Rattle.rq_parts.specs.OctetTable.{OctetTable, entry_of}
-use Rattle.rq_solver.specs.Cleared.{IsCleared, Performs}
+use Rattle.rq_solver.specs.Cleared.{IsCleared}
 use Rattle.rq_solver.specs.Peeled.{IsOrderOf}
+use Rattle.rq_solver.specs.Recorded.{Recorded, Performs}
 use Rattle.rq_solver.specs.RowSteps.{AreRows, HasOctets, rows_after}
 
 -- the HDPC rows stand in a table from row `first` on
-pub record AreOctetsIn (first : ℕ) (current table : OctetTable) : Type 0 where
-  pub within : first + length current.rows ≤ length table.rows
+pub record AreOctetsIn (first : ℕ) (current : OctetTable) (state : Recorded) : Type 0 where
+  pub within : first + length current.rows ≤ length state.table.rows
   pub fits : first + length current.rows < 2 ^ 64
   pub shown : HasOctets current
-  pub octets : HasOctets table
+  pub octets : HasOctets state.table
 
 -- the pivots are those of other rows
-pub record HasPivotsBeside (rows order places : List ℕ) (first : ℕ) (current table : OctetTable) : Type 0 where
+pub record HasPivotsBeside (rows order places : List ℕ) (first : ℕ) (current : OctetTable) (state : Recorded) : Type 0 where
   pub columns : IsOrderOf current.width order places
   pub few : length rows ≤ current.width
-  pub pivots : AreRows rows table
+  pub pivots : AreRows rows state.table
   pub apart : (i p : ℕ) → i < length current.rows → p < length rows → first + i ≢ at rows p
+
+-- how many additions clear so many HDPC rows in the columns of pivots at most, where there are so many columns and pivots
+abbrev pub batch_bound : ℕ → ℕ → ℕ → ℕ
+batch_bound count width pivots = (count - 1) * (1 + width) + count * pivots
 
 -- each pivot's column has one 1 among the pivots' rows, in its own
 abbrev pub PivotsAreCleared : List ℕ → List ℕ → (ℕ → ℕ → ℕ) → Type 0
@@ -32,9 +36,9 @@ abbrev pub AreShown : List ℕ → List ℕ → ℕ → OctetTable → (ℕ → 
 AreShown rows order first current m = (i p : ℕ) → i < length current.rows → p < length rows → m (first + i) (at order p) ≡ entry_of current i (at order p)
 
 -- Steps among the HDPC rows were done to a table, and were recorded: what `was` shows in a column of them, `now` shows afterwards.
-pub record CombinesOctets (first : ℕ) (was now old new : OctetTable) (before after : List SymbolOps) : Type 0 where
+pub record CombinesOctets (first : ℕ) (was now : OctetTable) (old new : Recorded) : Type 0 where
   pub steps : List Operation
-  pub performs : Performs steps old new before after
+  pub performs : Performs steps old new
   pub width : now.width ≡ was.width
   pub height : length now.rows ≡ length was.rows
   pub elsewhere : (m : ℕ → ℕ → ℕ) (r k : ℕ) → ((i : ℕ) → i < length was.rows → first + i ≢ r) → rows_after octets steps m r k ≡ m r k
@@ -43,9 +47,9 @@ pub record CombinesOctets (first : ℕ) (was now old new : OctetTable) (before a
   pub octets : HasOctets now
 
 -- The same where the HDPC rows took rows of pivots too: `now` shows the pivots' columns, in systems in which the pivots' rows are cleared.
-pub record ChangesOctets (rows order : List ℕ) (first : ℕ) (was now old new : OctetTable) (before after : List SymbolOps) : Type 0 where
+pub record ChangesOctets (rows order : List ℕ) (first : ℕ) (was now : OctetTable) (old new : Recorded) : Type 0 where
   pub steps : List Operation
-  pub performs : Performs steps old new before after
+  pub performs : Performs steps old new
   pub width : now.width ≡ was.width
   pub height : length now.rows ≡ length was.rows
   pub elsewhere : (m : ℕ → ℕ → ℕ) (r k : ℕ) → ((i : ℕ) → i < length was.rows → first + i ≢ r) → rows_after octets steps m r k ≡ m r k

@@ -1,5 +1,5 @@
 -- Operations done to the rows of a matrix, as they are recorded for the values.
-use Rattle.std.specs.Prelude.{◌≡◌, ◌≢◌, ℕ, ◌+◌, ◌<◌, ◌≤◌, List, [], ◌∷◌, ◌++◌, All, Contains, map, length}
+use Rattle.std.specs.Prelude.{◌≡◌, ◌≢◌, ℕ, ◌+◌, ◌<◌, ◌≤◌, List, [], ◌∷◌, All, Contains, length}
 use Rattle.rq_algebra.specs.Field.{Field}
 use Rattle.rq_algebra.specs.Arrangements.{ArePlaces}
 use Rattle.rq_algebra.specs.Systems.{at, HasElements}
@@ -7,8 +7,6 @@ use Rattle.rq_algebra.specs.Operations.{Operation, AddAssign, MulAssign, Fma, Re
 use Rattle.rq_algebra.proofs.Elimination.{HasFirstPivots}
 use Rattle.rq_algebra.proofs.Changes.{with_at}
 use Rattle.rq_standard.specs.OctetField.{octets}
-use Rattle.rq_bytes.specs.SymbolOps.{operation_of}
-use Rattle.rq_bytes.specs.declared.operation_vector.SymbolOps.{SymbolOps}
 use Rattle.rq_parts.specs.OctetTable.{OctetTable, entry_of}
 
 -- its rows are octets, as many as it is wide
@@ -38,15 +36,6 @@ IsStepAmong F rows (AddAssign dest src) = Contains rows dest × Contains rows sr
 IsStepAmong F rows (MulAssign dest scalar) = Contains rows dest × (scalar < F.size) × (scalar ≢ 0)
 IsStepAmong F rows (Fma dest src scalar) = Contains rows dest × Contains rows src × (src ≢ dest)
 IsStepAmong F rows (Reorder order) = ⊥
-
--- what was done to a matrix was recorded, and was done among these rows of it
-pub record RecordsSteps (rows : List ℕ) (old new : OctetTable) (before after : List SymbolOps) : Type 0 where
-  pub steps : List Operation
-  pub recorded : map operation_of after ≡ map operation_of before ++ steps
-  pub among : All (IsStepAmong octets rows) steps
-  pub width : new.width ≡ old.width
-  pub height : length new.rows ≡ length old.rows
-  pub entries : (i k : ℕ) → i < length old.rows → k < old.width → entry_of new i k ≡ rows_after octets steps (entry_of old) i k
 
 -- the first rows have pivots in columns `first`, `first + 1`, .., and the others of these rows have 0 there
 pub record IsReduced (rows : List ℕ) (first done : ℕ) (table : OctetTable) : Type 0 where

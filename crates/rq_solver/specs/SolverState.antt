@@ -1,5 +1,5 @@
 -- What a solver is for its callers.
-use Rattle.std.specs.Prelude.{length}
+use Rattle.std.specs.Prelude.{length, ◌∷◌, []}
 use Rattle.std.specs.declared.clone.Clone as clone
 use Rattle.rq_standard.specs.ConstraintMatrix.{with_octet_rows}
 use Rattle.rq_matrix.specs.declared.matrix.BinaryMatrix as matrix
@@ -14,4 +14,6 @@ state_of {T} {bits} {clones} solver = record {
   width = (bits.content solver.matrix).width;
   rows = with_octet_rows solver.first_hdpc (length solver.hdpc.rows) (bits.content solver.matrix).bit (entry_of solver.hdpc);
   symbols = solver.symbols;
+  additions = solver.counts.additions.first ∷ solver.counts.additions.second ∷ 0 ∷ solver.counts.additions.fourth ∷ 0 ∷ [];
+  multiplications = solver.counts.multiplications.first ∷ solver.counts.multiplications.second ∷ 0 ∷ solver.counts.multiplications.fourth ∷ 0 ∷ [];
 }

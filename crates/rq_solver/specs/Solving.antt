@@ -1,5 +1,5 @@
 -- What a solver is handed, and what it answers.
-use Rattle.std.specs.Prelude.{◌≡◌, ℕ, ◌+◌, ◌<◌, ◌≤◌, false, List, Option, None, Some, Vec, length, map}
+use Rattle.std.specs.Prelude.{◌≡◌, ℕ, ◌+◌, ◌<◌, ◌≤◌, false, List, Option, None, Some, Vec, length, map, replicate, sum}
 use Rattle.std.specs.Global.{Global}
 use Rattle.rq_algebra.specs.Systems.{HasNullColumn}
 use Rattle.rq_algebra.specs.Operations.{Operation, FindsColumn, found_by}
@@ -13,6 +13,7 @@ use Rattle.rq_bytes.specs.Slab.{Slab, HasPlace, symbol_in}
 use Rattle.rq_bytes.specs.SymbolOps.{operation_of}
 use Rattle.rq_bytes.specs.declared.operation_vector.SymbolOps.{SymbolOps}
 use Rattle.rq_parts.specs.OctetTable.{OctetTable, entry_of}
+use Rattle.rq_solver.specs.Counts.{additions, multiplications}
 use Rattle.rq_solver.specs.Replay.{after_all}
 
 -- the equations of a block of that row of the table: a matrix of bits, in which the HDPC rows are zeros, the HDPC rows as octets, and a
@@ -28,12 +29,14 @@ pub record AreEquations (row : Row) (bits : BitTable) (hdpc : OctetTable) (hande
   pub hdpc_width : hdpc.width ≡ intermediate_symbols row
   pub zeros : (i k : ℕ) → i < row.hdpc_symbols → k < intermediate_symbols row → bits.bit (row.ldpc_symbols + i) k ≡ 0
 
--- a solver's equations, and its symbols until it has run
+-- a solver's equations, its symbols until it has run, and how often each of the five phases added symbols and multiplied them
 pub record Solver : Type 0 where
   pub height : ℕ
   pub width : ℕ
   pub rows : ℕ → ℕ → ℕ
   pub symbols : Option Slab
+  pub additions : List ℕ
+  pub multiplications : List ℕ
 
 -- a solver that has not run
 abbrev pub solver_of : Row → BitTable → OctetTable → Slab → Solver
@@ -42,7 +45,14 @@ solver_of row bits hdpc handed = record {
   width = intermediate_symbols row;
   rows = with_octet_rows row.ldpc_symbols row.hdpc_symbols bits.bit (entry_of hdpc);
   symbols = Some handed;
+  additions = replicate 5 0;
+  multiplications = replicate 5 0;
 }
+
+-- the phases' counts sum to those of the operations
+pub record CountsOperations (solver : Solver) (operations : List Operation) : Type 0 where
+  pub additions_are : sum solver.additions ≡ additions operations
+  pub multiplications_are : sum solver.multiplications ≡ multiplications operations
 
 -- the slab has the symbols that solve the rows, and the operations find them from any symbols
 pub record IsSolution (height width : ℕ) (rows : ℕ → ℕ → ℕ) (handed slab : Slab) (operations : List Operation) : Type 0 where

@@ -1,25 +1,36 @@
 //! The solver of a block's equations.
-ghost use Rattle.std.specs.Prelude.{◌≡◌, ℕ, ◌+◌, ◌<◌, ◌≤◌, None, length, OnSome, IfSome, IfNone, IfOk, IfErr, Err};
+ghost use Rattle.std.specs.Prelude.{◌≡◌, ℕ, ◌+◌, ◌*◌, ◌<◌, ◌≤◌, None, length, map, sum, slice_index, OnSome, IfSome, IfNone, IfOk, IfErr, Err};
 ghost use Rattle.std.specs.Option.{ForSome};
 ghost use Rattle.rq_standard.specs.TableRows.{greatest_size, row_of};
 ghost use Rattle.rq_bytes.specs.declared.error.Error.TheVariants.{AlreadyExecuted, OutOfMemory};
-ghost use Rattle.rq_solver.specs.Solving.{AreEquations, solver_of, IsOutcome};
+ghost use Rattle.rq_bytes.specs.SymbolOps.{operation_of};
+ghost use Rattle.rq_solver.specs.PhaseCounts.{total_of};
+ghost use Rattle.rq_solver.specs.Solving.{AreEquations, CountsOperations, solver_of, IsOutcome};
 
 mod columns;
+mod counts;
 mod degrees;
 pub(crate) mod elimination;
+mod first_phase;
+mod fourth_phase;
 mod links;
 mod ones;
-mod peeled;
 mod peeling;
 #[cfg(test)]
 mod peeling_tests;
+mod row_selection;
+mod phases;
+mod recorded;
 pub(crate) mod rows;
+mod second_phase;
+
+pub use row_selection::FirstPhaseRowSelectionStats;
 
 use crate::replay::replay;
+use counts::OperationCounts;
 use ones::RowOnes;
-use peeled::operations_of_peeled;
 use peeling::peel;
+use phases::{Attempt, operations_of_peeled};
 use rq_bytes::error::Error;
 use rq_bytes::operation_vector::SymbolOps;
 use rq_bytes::symbol_slab::SymbolSlab;
@@ -39,12 +50,15 @@ pub struct IntermediateSymbolDecoder<T: BinaryMatrix> {
     first_hdpc: usize,
     boundary: usize,
     symbols: Option<SymbolSlab>,
+    counts: OperationCounts,
     pub ghost dense_columns: { boundary ≡ (T.content matrix).boundary },
     pub ghost octet_columns: { hdpc.width ≡ (T.content matrix).width },
     pub ghost unordered: { ForSome symbols (λ slab. slab.order ≡ None) },
     pub ghost within: { first_hdpc + length hdpc.rows ≤ (T.content matrix).height },
     pub ghost empty: { (i k : ℕ) → i < length hdpc.rows → k < (T.content matrix).width → (T.content matrix).bit (first_hdpc + i) k ≡ 0 },
     pub ghost counted: { ForSome symbols (λ slab. length slab.values ≡ (T.content matrix).height) },
+    pub ghost few_hdpc: { length hdpc.rows ≤ (T.content matrix).width },
+    pub ghost few_additions: { total_of counts.additions ≤ 2 * (T.content matrix).width * (T.content matrix).height },
 }
 
 impl<T: BinaryMatrix> IntermediateSymbolDecoder<T> {
@@ -91,7 +105,44 @@ impl<T: BinaryMatrix> IntermediateSymbolDecoder<T> {
             first_hdpc: row.ldpc_symbols as usize,
             boundary: row.lt_symbols as usize,
             symbols: Some(symbols),
+            counts: OperationCounts::none(),
         }
+    }
+
+    /// How many symbols were added, counting multiples that were added: at most twice the number of
+    /// equations for each intermediate symbol. Zero until the solver has run, or where it found no
+    /// memory.
+    pub fn get_symbol_add_ops(&self) -> u64
+        ensures counted { result ≡ sum (state_of self.now).additions }
+        ensures few { result ≤ 2 * (state_of self.now).width * (state_of self.now).height }
+    {
+        self.counts.additions.total()
+    }
+
+    /// How many symbols were multiplied, counting multiples that were added.
+    pub fn get_symbol_mul_ops(&self) -> u64
+        ensures { result ≡ sum (state_of self.now).multiplications }
+    {
+        self.counts.multiplications.total()
+    }
+
+    /// How many symbols each of the five phases added (RFC 6330, sections 5.4.2.2 to 5.4.2.6). The
+    /// third and the fifth have nothing to do.
+    pub fn get_symbol_add_ops_by_phase(&self) -> [u64; 5]
+        ensures counted { result ≡ (state_of self.now).additions }
+        ensures third { slice_index result 2 ≡ 0 }
+        ensures fifth { slice_index result 4 ≡ 0 }
+    {
+        self.counts.additions.by_phase()
+    }
+
+    /// How many symbols each of the five phases multiplied.
+    pub fn get_symbol_mul_ops_by_phase(&self) -> [u64; 5]
+        ensures counted { result ≡ (state_of self.now).multiplications }
+        ensures third { slice_index result 2 ≡ 0 }
+        ensures fifth { slice_index result 4 ≡ 0 }
+    {
+        self.counts.multiplications.by_phase()
     }
 
     /// Solves the equations: the slab with the intermediate symbols, and the operations that made
@@ -103,7 +154,9 @@ impl<T: BinaryMatrix> IntermediateSymbolDecoder<T> {
         ensures solved { IfSome (state_of self.old).symbols (λ handed. IfOk result (IsOutcome (state_of self.old) handed)) }
         ensures memory { OnSome (state_of self.old).symbols (IfErr result (λ e. e ≡ OutOfMemory)) }
         ensures once { IfNone (state_of self.old).symbols (result ≡ Err AlreadyExecuted) }
-        ensures spent { state_of self.new ≡ record (state_of self.old) { symbols = None } }
+        ensures spent { state_of self.new ≡ record (state_of self.old) { symbols = None; additions = (state_of self.new).additions; multiplications = (state_of self.new).multiplications } }
+        ensures bound { sum (state_of self.new).additions ≤ 2 * (state_of self.new).width * (state_of self.new).height }
+        ensures counted { IfOk result (λ answer. IfSome answer (λ found. CountsOperations (state_of self.new) (map operation_of found.1.items))) }
     {
         let Some(mut symbols) = self.symbols.take() else {
             return Err(Error::AlreadyExecuted);
@@ -111,15 +164,16 @@ impl<T: BinaryMatrix> IntermediateSymbolDecoder<T> {
         let width = self.matrix.width();
         let ones = RowOnes::of_matrix(self.alloc, &self.matrix, self.boundary)?;
         let peeling = peel(self.alloc, &ones, width, self.boundary)?;
-        let Some(operations) = operations_of_peeled(
+        let Attempt { operations, counts } = operations_of_peeled(
             self.alloc,
             &ones,
             &self.hdpc,
             self.first_hdpc,
             width,
             &peeling,
-        )?
-        else {
+        )?;
+        self.counts = counts;
+        let Some(operations) = operations else {
             return Ok(None);
         };
         replay(operations.as_slice(), &mut symbols)?;

@@ -2,7 +2,9 @@
 ghost use Rattle.std.specs.Prelude.{◌≡◌, ℕ, ◌+◌, ◌≤◌, ◌<◌, false, length, IfOk};
 ghost use Rattle.rq_standard.specs.TableRows.{IsChecked, greatest_size, intermediate_symbols};
 
-use crate::pi_solver::{IntermediateSymbolDecoder, fused_inverse_mul_symbols};
+use crate::pi_solver::{
+    FirstPhaseRowSelectionStats, IntermediateSymbolDecoder, fused_inverse_mul_symbols,
+};
 use crate::replay::replay;
 use rq_bytes::error::Error;
 use rq_bytes::octet::Octet;
@@ -139,5 +141,29 @@ fn operations_are_replayed(rt: HostRuntime) -> Result<(), Error> {
     assert_eq!(rt; symbols.len(), 2);
     assert_eq!(rt; symbols[0].as_bytes(), [6, 8].as_slice());
     assert_eq!(rt; symbols[1].as_bytes(), [8, 30].as_slice());
+    Ok(())
+}
+
+#[test]
+fn the_row_with_fewest_ones_is_selected(rt: HostRuntime) -> Result<(), Error> {
+    let mut bits = DenseBinaryMatrix::new(rt.alloc(), 3, 4, 0)?;
+    bits.set(0, 0, Octet::one())?;
+    bits.set(0, 1, Octet::one())?;
+    bits.set(0, 2, Octet::one())?;
+    bits.set(1, 1, Octet::one())?;
+    bits.set(1, 3, Octet::one())?;
+    let mut stats = FirstPhaseRowSelectionStats::new(rt.alloc(), &bits, 4, 3)?;
+    let mut scratch = Vec::new(rt.alloc());
+    let selected = stats.first_phase_selection(0, 3, &bits, &mut scratch);
+    assert_eq!(rt; selected, Some((1, 2)));
+    bits.swap_rows(0, 1);
+    stats.swap_rows(0, 1);
+    bits.swap_columns(0, 3, 0);
+    stats.swap_columns(0, 3);
+    bits.set(2, 3, Octet::one())?;
+    stats.recompute_row(2, &bits);
+    stats.resize(1, 3, 1, 4, &[], &bits);
+    let selected = stats.first_phase_selection(1, 3, &bits, &mut scratch);
+    assert_eq!(rt; selected, Some((2, 1)));
     Ok(())
 }

@@ -3,7 +3,7 @@ ghost use Rattle.std.specs.Prelude.{◌≡◌, ◌≤◌, ◌<◌, ◌==◌, [],
 ghost use Rattle.std.specs.VecDeque.{deque_len, deque_capacity};
 ghost use Rattle.std.specs.Borrow.{sem};
 ghost use Rattle.rq_bytes.specs.Refusals.{IsAnswer};
-ghost use Rattle.raptorq.specs.PlanCache.{holds, used, IsPlanOver};
+ghost use Rattle.raptorq.specs.PlanCache.{holds_count, used, IsPlanOver};
 
 use crate::encoder::plan::SourceBlockEncodingPlan;
 use rq_bytes::error::Error;
@@ -58,7 +58,7 @@ impl SourceBlockEncodingPlanCache {
     /// Refuses what [`SourceBlockEncodingPlan::generate`] refuses, and is then as before.
     pub fn get_or_generate(&mut self, count: u16) -> Result<&SourceBlockEncodingPlan, Error>
         ensures* after { sem 𝓛 (EndsUsed self.entry count result) }
-        ensures refused { IfErr result (λ e. (holds self.old.counts count ≡ false) × RefusesPlan self.old.table count e) }
+        ensures refused { IfErr result (λ e. (holds_count self.old.counts count ≡ false) × RefusesPlan self.old.table count e) }
         ensures count { IfOk result (λ p. (plan_of p.now).count ≡ count) }
         ensures row { IfOk result (λ p. (plan_of p.now).row ≡ row_of self.old.table count) }
         ensures plan { IfOk result (λ p. IsPlanOf (row_of self.old.table count) (plan_of p.now).operations) }
@@ -69,7 +69,7 @@ impl SourceBlockEncodingPlanCache {
 
     /// Whether the plan of so many source symbols is held.
     pub fn contains(&self, count: u16) -> bool
-        ensures { result ≡ holds self.now.counts count }
+        ensures { result ≡ holds_count self.now.counts count }
     {
         self.place_of(count).is_some()
     }
@@ -91,7 +91,7 @@ impl SourceBlockEncodingPlanCache {
 
     /// The plan of so many source symbols, if it is held.
     pub(crate) fn get(&self, count: u16) -> Option<&SourceBlockEncodingPlan>
-        ensures held { is_some result ≡ holds self.now.counts count }
+        ensures held { is_some result ≡ holds_count self.now.counts count }
         ensures count { IfSome result (λ p. (plan_of p.now).count ≡ count) }
         ensures row { IfSome result (λ p. (plan_of p.now).row ≡ row_of self.now.table count) }
     {
@@ -103,7 +103,7 @@ impl SourceBlockEncodingPlanCache {
     fn hold(&mut self, count: u16) -> Result<usize, Error>
         ensures used { OnOk result (self.new ≡ used self.old count) }
         ensures place { IfOk result (λ place. slice_get self.new.counts place ≡ Some count) }
-        ensures refused { IfErr result (λ e. (holds self.old.counts count ≡ false) × RefusesPlan self.old.table count e) }
+        ensures refused { IfErr result (λ e. (holds_count self.old.counts count ≡ false) × RefusesPlan self.old.table count e) }
         ensures unchanged { OnErr result (self.new ≡ self.old) }
     {
         if let Some(place) = self.place_of(count) {
@@ -124,7 +124,7 @@ impl SourceBlockEncodingPlanCache {
     /// Puts in a new plan as the last one.
     pub(crate) fn put(&mut self, plan: SourceBlockEncodingPlan)
         requires over { IsPlanOver self.old.table plan }
-        requires new { holds self.old.counts (plan_of plan).count ≡ false }
+        requires new { holds_count self.old.counts (plan_of plan).count ≡ false }
         ensures { self.new ≡ used self.old (plan_of plan).count }
     {
         make_room(&mut self.plans);

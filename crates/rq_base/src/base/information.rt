@@ -43,7 +43,7 @@ impl Model for ObjectTransmissionInformation {
 }
 
 impl ObjectTransmissionInformation {
-    ghost use Rattle.rq_base.specs.RefusedInput.{new_configuration, checked_configuration};
+    ghost use Rattle.rq_base.specs.RefusedInput.{configuration_with, new_configuration, checked_configuration};
 
     /// A configuration: the transfer length in bytes, the symbol size in bytes, the number of
     /// source blocks, the number of sub-blocks (0 is read as 1) and the symbol alignment in bytes.
@@ -59,13 +59,7 @@ impl ObjectTransmissionInformation {
         sub_blocks: u16,
         alignment: u8,
     ) -> Result<ObjectTransmissionInformation, Error>
-        ensures { result ≡ new_configuration (record {
-          transfer_length = transfer_length;
-          symbol_size = symbol_size;
-          source_blocks = source_blocks;
-          sub_blocks = sub_blocks;
-          alignment = alignment;
-        }) }
+        ensures { result ≡ new_configuration (configuration_with transfer_length symbol_size source_blocks sub_blocks alignment) }
     {
         if transfer_length > MAX_TRANSFER_LENGTH {
             return Err(Error::TransferTooLong);

@@ -1,7 +1,7 @@
 //! Plain records that serde reads and writes, and the values that they stand for.
 ghost use Rattle.std.specs.Prelude.{◌≡◌, Result, Ok, IfOk};
-ghost use Rattle.rq_bytes.specs.Refusals.{IsAnswer, and_then};
-ghost use Rattle.rq_base.specs.RefusedInput.{new_id, new_configuration};
+ghost use Rattle.rq_bytes.specs.Refusals.{IsAnswer};
+ghost use Rattle.rq_base.specs.RefusedInput.{configuration_with, new_id, new_packet, new_configuration};
 
 use crate::base::{EncodingPacket, ObjectTransmissionInformation, PayloadId};
 use rq_bytes::error::Error;
@@ -60,7 +60,7 @@ impl EncodingPacketRecord {
     /// The packet that the record spells. Refuses [`Error::EsiTooLarge`] where the encoding symbol
     /// id doesn't fit 24 bits.
     pub fn into_value(self) -> Result<EncodingPacket, Error>
-        ensures { result ≡ and_then (new_id self.payload_id.source_block_number self.payload_id.encoding_symbol_id) (λ i. Ok (record { id = i; payload = self.payload.items })) }
+        ensures { result ≡ new_packet self.payload_id.source_block_number self.payload_id.encoding_symbol_id self.payload.items }
     {
         let EncodingPacketRecord {
             payload_id,
@@ -101,13 +101,7 @@ impl ObjectTransmissionInformationRecord {
     /// The configuration that the record spells. Refuses what
     /// [`ObjectTransmissionInformation::new`] does.
     pub fn into_value(self) -> Result<ObjectTransmissionInformation, Error>
-        ensures { result ≡ new_configuration (record {
-          transfer_length = self.transfer_length;
-          symbol_size = self.symbol_size;
-          source_blocks = self.num_source_blocks;
-          sub_blocks = self.num_sub_blocks;
-          alignment = self.symbol_alignment;
-        }) }
+        ensures { result ≡ new_configuration (configuration_with self.transfer_length self.symbol_size self.num_source_blocks self.num_sub_blocks self.symbol_alignment) }
     {
         ObjectTransmissionInformation::new(
             self.transfer_length,

@@ -2,7 +2,7 @@ use Rattle.std.proofs.Common.{map, ◌∙◌, subst}
 use Rattle.rq_algebra.specs.Symbols.{AreSymbols}
 use Rattle.rq_bytes.specs.SymbolOps.{operation_of}
 use Rattle.rq_standard.specs.OctetField.{octets}
-use Rattle.raptorq.specs.Solving.{SolvesByOperations}
+use Rattle.raptorq.specs.BlockSolutions.{SolvesByOperations}
 use Rattle.raptorq.proofs.Outcomes.{solution_found}
 use Rattle.raptorq.proofs.solving.solve.Goals as goal
 

@@ -11,7 +11,7 @@ const DECODER_MEMORY: u64 = 10485760;
 
 impl ObjectTransmissionInformation {
     ghost use Rattle.std.specs.Int.{div_ceil};
-    ghost use Rattle.rq_base.specs.Defaults.{wanted_parameters};
+    ghost use Rattle.rq_base.specs.Defaults.{wanted_parameters, HasLeastSubBlocks};
 
     /// A configuration for an object of `transfer_length` bytes in packets of at most
     /// `max_packet_size` bytes of payload, for decoders with 10 MiB of memory.
@@ -43,7 +43,7 @@ impl ObjectTransmissionInformation {
         decoder_memory_requirement: u64,
     ) -> Result<ObjectTransmissionInformation, Error>
         ensures value { result ≡ wanted_parameters table.now transfer_length max_packet_size decoder_memory_requirement }
-        ensures least { IfOk result (λ c. IsLeast (is_fitting table.now max_packet_size decoder_memory_requirement (div_ceil (symbols_for transfer_length max_packet_size) c.source_blocks)) c.sub_blocks) }
+        ensures least { IfOk result (HasLeastSubBlocks table.now transfer_length max_packet_size decoder_memory_requirement) }
     {
         if max_packet_size == 0 {
             return Err(Error::PacketSizeZero);

@@ -1,15 +1,16 @@
 -- What the check leaves to show of `octets::fused_addassign_mul_scalar`.
 use Rattle.std.proofs.Common.{ℕ, ◌+◌, ◌*◌, ap, sym, ◌∙◌, arith, map, set, get_or}
-use Rattle.std.proofs.lemmas.Simd.{length-chunk}
 use Rattle.std.specs.Int.Bits.{bit_xor}
 use lib.Lanes.{zip2, chunk, put_chunk}
 use Rattle.rq_standard.specs.Octets.{octet_mul}
 use Rattle.rq_standard.specs.Rows.{row_sum, row_multiple}
+use Rattle.rq_bytes.proofs.ChunkFacts.{is_chunk}
 use Rattle.rq_bytes.proofs.ZipUpto.{step_one, step_store, at_end, zip2-map_right}
 use Rattle.rq_bytes.proofs.octets.fused_addassign_mul_scalar.Goals as goal
 
-pub lane_products-multiple-requires : goal.lane_products-multiple-requires
-lane_products-multiple-requires c = length-chunk (32 * c.loop-block.block) 32 c.args.other.now (omega arith)
+pub plane_products-multiple-requires : goal.plane_products-multiple-requires
+plane_products-multiple-requires c =
+    (is_chunk c.loop-block.block c.args.other.now c.as_chunks.result.0.now c.as_chunks.ensures.front c.as_chunks.ensures.front_len c.loop-block-test.true).long
 
 pub loop-block-preserved : goal.loop-block-preserved
 loop-block-preserved c =
@@ -19,9 +20,10 @@ loop-block-preserved c =
     let at = 32 * b in
     let now = c.loop-block.octets in
     let other = c.args.other.now in
-    ap (λ t. put_chunk at now (zip2 bit_xor (chunk at 32 now) t)) (c.lane_products-multiple.ensures.products ∙ ap (λ (a : ℕ). map (octet_mul a) (chunk at 32 other)) c.new-factor.ensures)
+    let read = is_chunk b other c.as_chunks.result.0.now c.as_chunks.ensures.front c.as_chunks.ensures.front_len c.loop-block-test.true in
+    ap (λ t. put_chunk at now (zip2 bit_xor (chunk at 32 now) t)) (c.plane_products-multiple.ensures ∙ ap (map (octet_mul s)) read.is)
     ∙ ap (put_chunk at now) (zip2-map_right bit_xor (octet_mul s) (chunk at 32 now) (chunk at 32 other))
-    ∙ step_store f 32 at (32 * (b + 1)) now c.args.octets.now other c.loop-block.invariant (omega arith) (omega arith) (omega arith)
+    ∙ step_store f 32 at (32 * (b + 1)) now c.args.octets.now other c.loop-block.invariant (omega (arith, read.within)) (omega arith) (omega arith)
 
 pub loop-i-preserved : goal.loop-i-preserved
 loop-i-preserved c =

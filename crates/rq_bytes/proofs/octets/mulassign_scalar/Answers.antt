@@ -1,5 +1,5 @@
 -- What the check leaves to show of `octets::mulassign_scalar`.
-use Rattle.std.proofs.Common.{ℕ, ◌+◌, ◌*◌, map, refl, sym, ap, ◌∙◌, arith, set}
+use Rattle.std.proofs.Common.{ℕ, ◌+◌, ◌*◌, refl, sym, ap, ◌∙◌, arith, set}
 use Rattle.std.proofs.lemmas.Simd.{length-chunk}
 use lib.Lanes.{chunk, put_chunk}
 use Rattle.rq_standard.specs.Octets.{octet_mul}
@@ -7,8 +7,8 @@ use Rattle.rq_standard.specs.Rows.{row_multiple}
 use Rattle.rq_bytes.proofs.ZipUpto.{step_one, step_store, at_end, zip2-left}
 use Rattle.rq_bytes.proofs.octets.mulassign_scalar.Goals as goal
 
-pub lane_products-multiple-requires : goal.lane_products-multiple-requires
-lane_products-multiple-requires c = length-chunk (32 * c.loop-block.block) 32 c.loop-block.octets (omega (arith, c.loop-block.auto.octets))
+pub plane_products-multiple-requires : goal.plane_products-multiple-requires
+plane_products-multiple-requires c = length-chunk (32 * c.loop-block.block) 32 c.loop-block.octets (omega (arith, c.loop-block.auto.octets))
 
 pub loop-block-preserved : goal.loop-block-preserved
 loop-block-preserved c =
@@ -20,7 +20,7 @@ loop-block-preserved c =
     let old = c.args.octets.now in
     let few = length-chunk at 32 now (omega (arith, c.loop-block.auto.octets)) in
     ap (put_chunk at now)
-    ((c.lane_products-multiple.ensures.products ∙ ap (λ (a : ℕ). map (octet_mul a) (chunk at 32 now)) c.new-factor.ensures) ∙ sym (zip2-left g (chunk at 32 now) (chunk at 32 old) (length-chunk at 32 old (omega arith) ∙ sym few)))
+    (c.plane_products-multiple.ensures ∙ sym (zip2-left g (chunk at 32 now) (chunk at 32 old) (length-chunk at 32 old (omega arith) ∙ sym few)))
     ∙ step_store f 32 at (32 * (b + 1)) now old old c.loop-block.invariant (omega arith) (omega arith) (omega arith)
 
 pub loop-i-preserved : goal.loop-i-preserved

@@ -1,5 +1,5 @@
 -- What the check leaves to show of `symbol_slab::SymbolSlab::mulassign_scalar`.
-use Rattle.std.proofs.Common.{List, ℕ, set, sym, ap, ◌∙◌}
+use Rattle.std.proofs.Common.{◌<◌, List, ℕ, arith, set, sym, ap, ◌∙◌}
 use Rattle.rq_algebra.specs.Operations.{step, meant_at}
 use Rattle.rq_standard.specs.Rows.{row_multiple}
 use Rattle.rq_standard.proofs.RowSymbols.{scale-rows}
@@ -12,8 +12,10 @@ returns c =
     let slab = c.args.self.now in
     let lent = c.get_mut in
     let scalar = c.args.scalar.now in
-    lent.ensures.whole_symbol c.mulassign_scalar.new.octets (c.mulassign_scalar.auto.octets ∙ lent.ensures.len)
+    let octet : scalar < 256 = omega (arith, c.new.ensures, c.multiply.ensures.octet) in
+    lent.ensures.whole_symbol c.multiply.new.octets (c.multiply.auto.octets ∙ lent.ensures.len)
     ∙ ap (λ (xs : List ℕ). record slab { values = set slab.values (meant_at slab.order c.args.dest) xs }) (
-    c.mulassign_scalar.ensures.multiple
+    c.multiply.ensures.multiple
+    ∙ ap (λ (a : ℕ). row_multiple a lent.result.now) c.new.ensures
     ∙ ap (row_multiple scalar) lent.ensures.symbol
-    ∙ sym (scale-rows scalar (symbol_in slab c.args.dest) c.mulassign_scalar.ensures.octet))
+    ∙ sym (scale-rows scalar (symbol_in slab c.args.dest) octet))

@@ -34,20 +34,20 @@ replay-requires g c =
     let solver = c.args.self.now in
     let m = g.T.BinaryMatrix.content solver.matrix in
     let width = c.width-width.ensures.width in
-    let operations = map operation_of c.in-Some-2.operations.items in
-    let finds = found_of_bits m.height m.width m.bit c.in_ok-ones.ones c.in_ok-ones.ensures.ones (λ height columns bit. FindsColumn octets height columns (with_octet_rows solver.first_hdpc (length solver.hdpc.rows) bit (entry_of solver.hdpc)) operations) c.width-width.result width (rw c.in-Some-2.is at c.in_ok-operations.ensures.found) in
+    let operations = map operation_of c.in-Some-operations.operations.items in
+    let finds = found_of_bits m.height m.width m.bit c.in_ok-ones.ones c.in_ok-ones.ensures.ones (λ height columns bit. FindsColumn octets height columns (with_octet_rows solver.first_hdpc (length solver.hdpc.rows) bit (entry_of solver.hdpc)) operations) c.width-width.result width (rw c.in-Some-operations.is at c.in_ok-operations.ensures.found) in
     let handed = c.in-Some.symbols in
     let some = sym c.in-Some.ensures.value in
     subst (λ (l : List SymbolOps). AreAllowed (length handed.values) handed.order (map operation_of l)) (sym c.as_slice.ensures.value)
     (subst (λ o. AreAllowed (length handed.values) o operations) (sym (solver.unordered handed some)) (subst (λ n. AreAllowed n None operations) (sym (solver.counted handed some)) finds.allowed))
 
-pub returns-in_default-2-clause-solved : goal.returns-in_default-2-clause-solved
-returns-in_default-2-clause-solved g c =
+pub returns-in_default-operations-clause-solved : goal.returns-in_default-operations-clause-solved
+returns-in_default-operations-clause-solved g c =
     let solver = c.args.self.now in
     let m = g.T.BinaryMatrix.content solver.matrix in
     let width = c.width-width.ensures.width in
     if_some solver.symbols c.in-Some.symbols _ (sym c.in-Some.ensures.value)
-    (found_of_bits m.height m.width m.bit c.in_ok-ones.ones c.in_ok-ones.ensures.ones (λ height columns bit. HasNullColumn octets height columns (with_octet_rows solver.first_hdpc (length solver.hdpc.rows) bit (entry_of solver.hdpc))) c.width-width.result width (rw c.in_default-2.is at c.in_ok-operations.ensures.found))
+    (found_of_bits m.height m.width m.bit c.in_ok-ones.ones c.in_ok-ones.ensures.ones (λ height columns bit. HasNullColumn octets height columns (with_octet_rows solver.first_hdpc (length solver.hdpc.rows) bit (entry_of solver.hdpc))) c.width-width.result width (rw c.in_default-operations.is at c.in_ok-operations.ensures.found))
 
 pub returns-clause-solved : goal.returns-clause-solved
 returns-clause-solved g c =
@@ -56,8 +56,8 @@ returns-clause-solved g c =
     let width = c.width-width.ensures.width in
     let rows = with_octet_rows solver.first_hdpc (length solver.hdpc.rows) m.bit (entry_of solver.hdpc) in
     let handed = c.in-Some.symbols in
-    let operations = map operation_of c.in-Some-2.operations.items in
-    let finds = found_of_bits m.height m.width m.bit c.in_ok-ones.ones c.in_ok-ones.ensures.ones (λ height columns bit. FindsColumn octets height columns (with_octet_rows solver.first_hdpc (length solver.hdpc.rows) bit (entry_of solver.hdpc)) operations) c.width-width.result width (rw c.in-Some-2.is at c.in_ok-operations.ensures.found) in
+    let operations = map operation_of c.in-Some-operations.operations.items in
+    let finds = found_of_bits m.height m.width m.bit c.in_ok-ones.ones c.in_ok-ones.ensures.ones (λ height columns bit. FindsColumn octets height columns (with_octet_rows solver.first_hdpc (length solver.hdpc.rows) bit (entry_of solver.hdpc)) operations) c.width-width.result width (rw c.in-Some-operations.is at c.in_ok-operations.ensures.found) in
     if_some solver.symbols handed _ (sym c.in-Some.ensures.value)
     (is_solution m.height m.width rows operations finds handed c.replay.new.symbols (solver.unordered handed (sym c.in-Some.ensures.value))
     (c.in_ok-replay.ensures.ok ∙ ap (λ (l : List SymbolOps). after_all (map operation_of l) handed) c.as_slice.ensures.value))

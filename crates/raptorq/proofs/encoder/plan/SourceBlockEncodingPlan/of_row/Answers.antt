@@ -7,7 +7,7 @@ use Rattle.rq_standard.specs.OctetField.{octets}
 use Rattle.rq_standard.specs.Equations.{equations, equation_count, source_ids}
 use Rattle.rq_standard.specs.TableRows.{intermediate_symbols}
 use Rattle.rq_standard.proofs.Known.{nonsingular_rows}
-use Rattle.raptorq.specs.Solving.{SolvesByOperations}
+use Rattle.raptorq.specs.BlockSolutions.{SolvesByOperations}
 use Rattle.raptorq.proofs.Intermediates.{count_source, source_ids_are, plan_allowed, plan_nonsingular, plan_is}
 use Rattle.raptorq.proofs.Listing.{slab_answered}
 use Rattle.rq_standard.specs.IdLists.{HasDeterminedRows}

@@ -1,0 +1,246 @@
+-- How many additions are recorded at most.
+use Rattle.std.proofs.Common.{◌≡◌, ◌≢◌, ℕ, zero, suc, ◌+◌, ◌-◌, ◌*◌, ◌<◌, ◌≤◌, ◌==◌, if◌then◌else◌, Bool, List, [], ◌∷◌, ◌++◌, length, take, refl, sym, ap, ◌∙◌, subst, arith, inl, inr}
+use Rattle.std.proofs.lemmas.Bool.{cases_eq, cases_lt, eq-eqb, ne_eqb}
+use Rattle.std.proofs.lemmas.List.Sums.{sum_by-append}
+use Rattle.std.proofs.Math.Nat.{mul-le-mul_left, mul-le-mul_right}
+use Rattle.std.specs.List.{count_by}
+use Rattle.std.proofs.lemmas.List.{length-take-le, get_or-take}
+use Rattle.rq_algebra.specs.Arrangements.{ArePlaces}
+use Rattle.rq_algebra.specs.Systems.{at, stacked}
+use Rattle.rq_algebra.proofs.Stacks.{stacked_above, stacked_below}
+use Rattle.rq_algebra.specs.Operations.{Operation, AddAssign, MulAssign, Fma, Reorder}
+use Rattle.rq_solver.specs.Counts.{additions, is_addition}
+use Rattle.rq_solver.specs.OctetBatch.{batch_bound}
+use Rattle.rq_solver.specs.Recorded.{sum_step}
+use Rattle.rq_solver.proofs.PivotTurns.{if_same, if_apart, count_next, count_taken}
+
+-- ---- one more operation
+
+additions-push : (operations : List Operation) (operation : Operation) → additions (operations ++ operation ∷ []) ≡ additions operations + additions (operation ∷ [])
+additions-push operations operation = sum_by-append (λ (o : Operation). if is_addition o then 1 else 0) operations (operation ∷ [])
+
+pub additions-sum : (operations : List Operation) (dest src scalar : ℕ) → additions (operations ++ sum_step dest src scalar ∷ []) ≡ additions operations + 1
+additions-sum operations dest src scalar = additions-push operations (sum_step dest src scalar) ∙ ap (λ (n : ℕ). additions operations + n) (elim (cases_eq scalar 1) [
+  | inl e ↦ ap (λ (b : Bool). additions ((if b then AddAssign dest src else Fma dest src scalar) ∷ [])) (eq-eqb scalar 1 e)
+  | inr d ↦ ap (λ (b : Bool). additions ((if b then AddAssign dest src else Fma dest src scalar) ∷ [])) (ne_eqb scalar 1 d)
+])
+
+pub additions-scaling : (operations : List Operation) (dest scalar : ℕ) → additions (operations ++ MulAssign dest scalar ∷ []) ≡ additions operations
+additions-scaling operations dest scalar = additions-push operations (MulAssign dest scalar) ∙ omega arith
+
+pub additions-order : (operations : List Operation) (order : List ℕ) → additions (operations ++ Reorder order ∷ []) ≡ additions operations
+additions-order operations order = additions-push operations (Reorder order) ∙ omega arith
+
+-- a number that stands at two places of a list is counted twice
+pub twice_counted : (xs : List ℕ) (q t : ℕ) → q < t → t < length xs → at xs q ≡ at xs t → count_by (λ x. x == at xs t) xs ≤ 1 → ⊥
+twice_counted xs q t early l e once =
+    let k = at xs t in
+    let here = count_next xs t k l refl in
+    let before = count_next (take t xs) q k (omega (arith, length-take-le t xs (omega arith))) (get_or-take t xs q 0 early ∙ e) in
+    let some = count_taken (take t xs) (q + 1) k in
+    let all = count_taken xs (t + 1) k in
+    omega (arith, here, before, some, all, once)
+
+-- ---- different places below a bound are at most as many as the bound
+
+module _ (n b : ℕ) (places : ℕ → ℕ) (are : ArePlaces (suc n) (suc b) places) where
+  -- the last place stands where the greatest stood
+  pub moved : ℕ → ℕ
+  moved i = if places i == b then places n else places i
+
+  moved_here : (i : ℕ) → places i ≡ b → moved i ≡ places n
+  unfolding moved
+  moved_here i e = if_same (places i) b (places n) (places i) e
+
+  moved_other : (i : ℕ) → places i ≢ b → moved i ≡ places i
+  unfolding moved
+  moved_other i d = if_apart (places i) b (places n) (places i) d
+
+  last_apart : (i : ℕ) → i < n → places i ≢ places n
+  last_apart i l e = let z : i ≡ n = are.apart i n (omega arith) (omega arith) e in omega (arith, z, l)
+
+  pub moved_are : ArePlaces n b moved
+  moved_are = record {
+    below = λ i l.
+        let first = are.below i (omega arith) in
+        let last = are.below n (omega arith) in
+        elim (cases_eq (places i) b) [
+          | inl e ↦ let other : places n ≢ b = (λ f. last_apart i l (e ∙ sym f)) in rw (moved_here i e) (omega arith)
+          | inr d ↦ rw (moved_other i d) (omega arith)
+        ];
+    apart = λ i j l m same. elim (cases_eq (places i) b) [
+      | inl e ↦ elim (cases_eq (places j) b) [
+        | inl f ↦ are.apart i j (omega arith) (omega arith) (e ∙ sym f)
+        | inr d ↦ absurd (last_apart j m (sym (moved_other j d) ∙ sym same ∙ moved_here i e))
+      ]
+      | inr d ↦ elim (cases_eq (places j) b) [
+        | inl f ↦ absurd (last_apart i l (sym (moved_other i d) ∙ same ∙ moved_here j f))
+        | inr g ↦ are.apart i j (omega arith) (omega arith) (sym (moved_other i d) ∙ same ∙ moved_other j g)
+      ]
+    ];
+  }
+
+pub few_places : (n b : ℕ) (places : ℕ → ℕ) → ArePlaces n b places → n ≤ b
+few_places zero b places are = omega arith
+few_places (suc n) zero places are = absurd (omega (arith, are.below 0 (omega arith)))
+few_places (suc n) (suc b) places are = let less = few_places n b (moved n b places are) (moved_are n b places are) in omega (arith, less)
+
+-- places, and others that follow each other
+module _ (n count first bound : ℕ) (places : ℕ → ℕ) (are : ArePlaces n bound places) (within : first + count ≤ bound) (other : (i q : ℕ) → i < count → q < n → first + i ≢ places q) where
+  both : ℕ → ℕ
+  both = stacked n places (λ i. first + i)
+
+  both_first : (i : ℕ) → i < n → both i ≡ places i
+  unfolding both
+  both_first i l = stacked_above n places (λ j. first + j) i l
+
+  both_after : (i : ℕ) → both (n + i) ≡ first + i
+  unfolding both
+  both_after i = stacked_below n places (λ j. first + j) i
+
+  -- a place behind the first n
+  behind : (i : ℕ) → n ≤ i → i < n + count → (j : ℕ) × (j < count) × (both i ≡ first + j)
+  behind i late l = let back : n + (i - n) ≡ i = omega arith in (i - n, (omega arith), ap both (sym back) ∙ both_after (i - n))
+
+  both_are : ArePlaces (n + count) bound both
+  both_are = record {
+    below = λ i l. elim (cases_lt i n) [
+      | inl early ↦ rw (both_first i early) (are.below i early)
+      | inr late ↦ let j = behind i late l in rw j.2 (let inside = j.1 in omega (arith, inside))
+    ];
+    apart = λ i k l m e. elim (cases_lt i n) [
+      | inl early ↦ elim (cases_lt k n) [
+        | inl first_k ↦ are.apart i k early first_k (sym (both_first i early) ∙ e ∙ both_first k first_k)
+        | inr late_k ↦ let j = behind k late_k m in absurd (other j.0 i j.1 early (sym j.2 ∙ sym e ∙ both_first i early))
+      ]
+      | inr late ↦ elim (cases_lt k n) [
+        | inl first_k ↦ let j = behind i late l in absurd (other j.0 k j.1 first_k (sym j.2 ∙ e ∙ both_first k first_k))
+        | inr late_k ↦
+            let back : n + (i - n) ≡ i = omega arith in
+            let back_k : n + (k - n) ≡ k = omega arith in
+            let same : first + (i - n) ≡ first + (k - n) = sym (both_after (i - n)) ∙ ap both back ∙ e ∙ ap both (sym back_k) ∙ both_after (k - n) in
+            omega (arith, same, back, back_k)
+      ]
+    ];
+  }
+
+  pub few_together : n + count ≤ bound
+  few_together = few_places (n + count) bound both both_are
+
+-- so many different places below the bound were met among the first t of these
+pub record HasMet (bound : ℕ) (place : ℕ → ℕ) (t n : ℕ) : Type 0 where
+  pub which : ℕ → ℕ
+  pub are : ArePlaces n bound which
+  pub met : (s : ℕ) → s < n → (q : ℕ) × (q < t) × (place q ≡ which s)
+
+module _ (bound : ℕ) (place : ℕ → ℕ) where
+  pub met_none : HasMet bound place 0 0
+  met_none = record {
+    which = λ s. 0;
+    are = record { below = λ s l. absurd (omega arith); apart = λ s r l m e. omega arith };
+    met = λ s l. absurd (omega arith);
+  }
+
+  module _ (t n : ℕ) (has : HasMet bound place t n) where
+    pub met_skipped : HasMet bound place (t + 1) n
+    met_skipped = record {
+      which = has.which;
+      are = has.are;
+      met = λ s l. let q = has.met s l in (q.0, (let early = q.1 in omega arith), q.2);
+    }
+
+    next : ℕ → ℕ
+    next s = if s == n then place t else has.which s
+
+    next_here : (s : ℕ) → s ≡ n → next s ≡ place t
+    unfolding next
+    next_here s e = if_same s n (place t) (has.which s) e
+
+    next_other : (s : ℕ) → s ≢ n → next s ≡ has.which s
+    unfolding next
+    next_other s d = if_apart s n (place t) (has.which s) d
+
+    further : ((q : ℕ) → q < t → place q ≢ place t) → (s : ℕ) → s < n → has.which s ≢ place t
+    further fresh s l e = let q = has.met s l in fresh q.0 q.1 (q.2 ∙ e)
+
+    -- the next one is a further place
+    pub met_more : place t < bound → ((q : ℕ) → q < t → place q ≢ place t) → HasMet bound place (t + 1) (n + 1)
+    met_more below fresh = record {
+      which = next;
+      are = record {
+        below = λ s l. elim (cases_eq s n) [ inl e ↦ rw (next_here s e) below | inr d ↦ rw (next_other s d) (has.are.below s (omega arith)) ];
+        apart = λ s r l m same. elim (cases_eq s n) [
+          | inl e ↦ elim (cases_eq r n) [
+            | inl f ↦ e ∙ sym f
+            | inr d ↦ absurd (further fresh r (omega arith) (sym (next_other r d) ∙ sym same ∙ next_here s e))
+          ]
+          | inr d ↦ elim (cases_eq r n) [
+            | inl f ↦ absurd (further fresh s (omega arith) (sym (next_other s d) ∙ same ∙ next_here r f))
+            | inr g ↦ has.are.apart s r (omega arith) (omega arith) (sym (next_other s d) ∙ same ∙ next_other r g)
+          ]
+        ];
+      };
+      met = λ s l. elim (cases_eq s n) [
+        | inl e ↦ (t, (omega arith), sym (next_here s e))
+        | inr d ↦ let q = has.met s (omega arith) in (q.0, (let early = q.1 in omega arith), q.2 ∙ sym (next_other s d))
+      ];
+    }
+
+-- ---- sums of what the phases add
+
+pub one_turn_more : (each before now turn t : ℕ) → now ≤ before + t * each → turn ≤ now + each → turn ≤ before + (t + 1) * each
+one_turn_more each before now turn t l m = omega arith
+
+-- the batch
+pub batch_sum : (k count width done met pivots : ℕ) → done ≤ width → met ≤ pivots → k + (done * k + count * met) ≤ k * (1 + width) + count * pivots
+batch_sum k count width done met pivots l m =
+    let columns : done * k ≤ width * k = mul-le-mul_right k l in
+    let rows : count * met ≤ count * pivots = mul-le-mul_left count m in
+    omega (arith, columns, rows)
+
+-- the second phase and the fourth
+inactive_shifted : (inactive less left pivots : ℕ) → left ≡ less + 1 → inactive * (left - 1) + pivots * inactive ≤ inactive * (left + pivots - 1)
+inactive_shifted inactive less left pivots e =
+    let a : less + 1 - 1 ≡ less = omega arith in
+    let b : less + 1 + pivots - 1 ≡ less + pivots = omega arith in
+    rw (e, a, b) (omega arith)
+
+pub inactive_bound : (inactive left pivots : ℕ) → inactive ≤ left → inactive * (left - 1) + pivots * inactive ≤ inactive * (left + pivots - 1)
+inactive_bound inactive left pivots l = elim (cases_lt 0 left) [
+  | inl some ↦ inactive_shifted inactive (left - 1) left pivots (omega arith)
+  | inr none ↦ let zero_inactive : inactive ≡ 0 = omega arith in rw zero_inactive (omega arith)
+]
+
+pub stuck_bound : (inactive left pivots : ℕ) → inactive * (left - 1) ≤ inactive * (left + pivots - 1)
+stuck_bound inactive left pivots = mul-le-mul_left inactive (omega arith)
+
+-- all of them
+few_with_hdpc : (p u h m : ℕ) → p + (h + 1) ≤ m + 1 → h + 1 ≤ p + u → (m + 1) * p + (h * (1 + (p + u)) + (h + 1) * p) + u * m ≤ 2 * (p + u) * (m + 1)
+few_with_hdpc p u h m rows columns =
+    let all : (p + (h + 1)) * (p + u) ≤ (m + 1) * (p + u) = mul-le-mul_right (p + u) rows in
+    let hdpc : (h + 1) * p ≤ (p + u) * p = mul-le-mul_right p columns in
+    omega (arith, all, hdpc)
+
+few_shifted : (p u less_h less_m h m : ℕ) → h ≡ less_h + 1 → m ≡ less_m + 1 → p + h ≤ m → h ≤ p + u → m * p + batch_bound h (p + u) p + u * (m - 1) ≤ 2 * (p + u) * m
+few_shifted p u less_h less_m h m eh em rows columns =
+    let a : less_h + 1 - 1 ≡ less_h = omega arith in
+    let b : less_m + 1 - 1 ≡ less_m = omega arith in
+    rw (eh, em, a, b) (few_with_hdpc p u less_h less_m (omega arith) (omega arith))
+
+few_bits : (p u less m : ℕ) → m ≡ less + 1 → m * p + u * (m - 1) ≤ 2 * (p + u) * m
+few_bits p u less m e = let a : less + 1 - 1 ≡ less = omega arith in rw (e, a) (omega arith)
+
+pub few_in_all : (p u h m : ℕ) → p + h ≤ m → h ≤ p + u → m * p + batch_bound h (p + u) p + u * (m - 1) ≤ 2 * (p + u) * m
+few_in_all p u h m rows columns = elim (cases_lt 0 m) [
+  | inl some ↦ elim (cases_lt 0 h) [
+    | inl has ↦ few_shifted p u (h - 1) (m - 1) h m (omega arith) (omega arith) rows columns
+    | inr none ↦
+        let z : h ≡ 0 = omega arith in
+        let less = few_bits p u (m - 1) m (omega arith) in
+        rw z (omega (arith, less))
+  ]
+  | inr none ↦
+      let z : h ≡ 0 = omega arith in
+      let y : m ≡ 0 = omega arith in
+      rw (z, y) (omega arith)
+]

@@ -1,0 +1,37 @@
+-- What the check leaves to show of `pi_solver::first_phase::clear_pivots`.
+use Rattle.std.proofs.Common.{◌+◌, ◌-◌, ◌*◌, ◌≤◌, ◌≡◌, ℕ, length, ap, arith, ◌∙◌}
+use Rattle.std.proofs.Math.Nat.{mul-le-mul_right}
+use Rattle.rq_algebra.specs.Systems.{at}
+use Rattle.rq_solver.specs.Counts.{additions}
+use Rattle.rq_solver.specs.Recorded.{Recorded}
+use Rattle.rq_solver.proofs.CountLaws.{few_places}
+use Rattle.rq_solver.proofs.PivotsCleared.{peeled_pivots, pivot_of_bits}
+use Rattle.rq_solver.proofs.pi_solver.first_phase.clear_pivots.Goals as goal
+
+pub clear_octets-requires-clause-apart : goal.clear_octets-requires-clause-apart
+clear_octets-requires-clause-apart c = λ i p l n.
+    pivot_of_bits c.args.ones.now c.args.first_hdpc c.args.hdpc.now _ c.requires.peeled.bits c.requires.hdpc c.args.peeling.now.rows.items c.args.peeling.now.order.items c.args.peeling.now.places.items c.requires.peeled.peeled p i n l
+
+pub returns-clause-cleared : goal.returns-clause-cleared
+returns-clause-cleared c =
+    let rows = c.args.peeling.now.rows.items in
+    let order = c.args.peeling.now.order.items in
+    let places = c.args.peeling.now.places.items in
+    let frozen : ℕ = c.len.result - c.len-2.result in
+    let all : c.len.result ≡ length places = c.len.ensures ∙ c.args.peeling.now.places.ok.0 in
+    let many : c.len-2.result ≡ length rows = c.len-2.ensures ∙ c.args.peeling.now.rows.ok.0 in
+    let wide : length rows + frozen ≡ length places = omega (arith, all, many, c.requires.peeled.peeled.few) in
+    peeled_pivots c.args.ones.now c.args.first_hdpc c.args.hdpc.now (length places) c.requires.peeled.bits c.requires.hdpc rows order places c.requires.peeled.peeled c.args.listed.now c.requires.listed
+    c.new-recorded.result c.clear_rows.new.recorded c.clear_octets.new.recorded c.in_ok-clear_rows.ensures.cleared c.in_ok-clear_octets.ensures.cleared
+    frozen wide (ap (λ (s : Recorded). s.operations) c.new-recorded.ensures) (rw c.new-recorded.ensures c.in_ok-table.ensures.tails)
+
+pub returns-clause-few : goal.returns-clause-few
+returns-clause-few c =
+    let listed = c.args.listed.now in
+    let pivots = length c.args.peeling.now.rows.items in
+    let few : length listed ≤ length c.args.ones.now = few_places (length listed) (length c.args.ones.now) (at listed) c.requires.listed.are in
+    let most : length listed * pivots ≤ length c.args.ones.now * pivots = mul-le-mul_right pivots few in
+    let start : additions c.new-recorded.result.operations ≡ 0 = ap (λ (s : Recorded). additions s.operations) c.new-recorded.ensures in
+    let rows = c.in_ok-clear_rows.ensures.few in
+    let batch = rw c.requires.hdpc.width_is at c.in_ok-clear_octets.ensures.few in
+    omega (arith, most, start, rows, batch)

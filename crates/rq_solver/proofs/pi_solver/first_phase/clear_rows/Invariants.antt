@@ -1,0 +1,11 @@
+-- What the loops keep in `pi_solver::first_phase::clear_rows`.
+use Rattle.std.proofs.Common.{◌+◌, ◌*◌, ◌≤◌, length}
+use Rattle.rq_solver.specs.Cleared.{ClearsRows}
+use Rattle.rq_solver.specs.Counts.{additions}
+use Rattle.rq_solver.proofs.pi_solver.first_phase.clear_rows.Given as goal
+
+abbrev pub invariant-loop-row : goal.invariant-loop-row
+invariant-loop-row l = record {
+  cleared : ClearsRows l.ones l.peeling.rows.items l.peeling.order.items l.listed l.row-index l.fn.recorded l.recorded;
+  few : additions l.recorded.operations ≤ additions l.fn.recorded.operations + l.row-index * length l.peeling.rows.items;
+}

@@ -1,0 +1,48 @@
+-- What the check leaves to show of `pi_solver::first_phase::inactive::fill_bits`.
+use Rattle.std.proofs.Common.{◌≡◌, ◌+◌, ◌-◌, ◌<◌, ◌≤◌, ◌==◌, lit<, ℕ, List, All, length, sym, ◌∙◌, subst, arith}
+use Rattle.std.specs.List.{count_by}
+use Rattle.std.proofs.lemmas.List.{get_or_read}
+use Rattle.rq_algebra.specs.Systems.{at}
+use Rattle.rq_solver.proofs.TailWrites.{ones_none, ones_skipped, ones_more}
+use Rattle.rq_solver.proofs.Writes.{sets_entry}
+use Rattle.rq_solver.proofs.pi_solver.first_phase.inactive.fill_bits.Goals as goal
+use Rattle.rq_solver.proofs.pi_solver.first_phase.inactive.fill_bits.Goals.{then-place-pivots, else-place-pivots}
+
+pub loop-column-init : goal.loop-column-init
+loop-column-init c =
+    let peeled = c.requires.peeled.peeled in
+    let width = length c.args.peeling.now.places.items in
+    let pivots = length c.args.peeling.now.rows.items in
+    let wide : pivots + (width - pivots) ≡ width = omega (arith, peeled.few) in
+    ones_none width pivots c.args.peeling.now.order.items c.args.peeling.now.places.items peeled.columns c.row-column-items.result.now c.args.row c.args.tails.now (width - pivots) wide c.requires.octets c.requires.zeros
+
+pub loop-column-preserved : goal.loop-column-preserved
+loop-column-preserved c =
+    let order = c.args.peeling.now.order.items in
+    let places = c.args.peeling.now.places.items in
+    let width = length places in
+    let pivots = length c.args.peeling.now.rows.items in
+    let row = c.args.row in
+    let columns = c.row-column-items.result.now in
+    let t = c.loop-column.column-index in
+    let place = c.index-place.result.now in
+    let old = c.args.tails.now in
+    let table = c.loop-column.tails in
+    let v = c.loop-column.invariant in
+    let peeled = c.requires.peeled.peeled in
+    let frozen : ℕ = width - pivots in
+    let wide : pivots + frozen ≡ width = omega (arith, peeled.few) in
+    let in_columns : t < length columns = c.loop-column-test.true in
+    let within : All (λ k. k < width) columns = subst (λ (l : List ℕ). All (λ k. k < width) l) (sym c.row-column-items.ensures) (c.requires.peeled.bits.within row c.requires.row) in
+    let once : (k : ℕ) → k < width → count_by (λ x. x == k) columns ≤ 1 = subst (λ (l : List ℕ). (k : ℕ) → k < width → count_by (λ x. x == k) l ≤ 1) (sym c.row-column-items.ensures) (λ k. c.requires.peeled.bits.once row k c.requires.row) in
+    let in_width : at columns t < width = within t 0 in_columns in
+    let is : at places (at columns t) ≡ place = sym (get_or_read places (at columns t) place in_width c.index-place.ensures 0) in
+    let many : c.len-pivots.result ≡ pivots = c.len-pivots.ensures ∙ c.args.peeling.now.rows.ok.0 in
+    elim c.if-place-pivots.branch [
+      | then-place-pivots w ↦
+          let late : pivots ≤ place = omega (arith, many, w.if-place-pivots.true) in
+          let inside : place - c.len-pivots.result < table.width = omega (arith, v.width, c.requires.width, (peeled.columns.placed (at columns t) in_width).0, is, many, late) in
+          let sets = sets_entry table v.octets row (place - c.len-pivots.result) w.one.result (omega (arith, v.height, c.requires.height, c.requires.row)) inside (rw w.one.ensures (lit< tt)) w.set.new.self w.set.ensures in
+          rw w.tails-is (ones_more width pivots order places peeled.columns columns row old frozen wide t in_columns in_width table v once place is late w.set.new.self (rw (many, w.one.ensures) at sets))
+      | else-place-pivots w ↦ rw w.tails-is (ones_skipped width pivots order places peeled.columns columns row old frozen wide t in_columns in_width table v (omega (arith, is, many, w.if-place-pivots.false)))
+    ]

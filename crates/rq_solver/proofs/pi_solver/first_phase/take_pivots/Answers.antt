@@ -1,0 +1,71 @@
+-- What the check leaves to show of `pi_solver::first_phase::take_pivots`.
+use Rattle.std.proofs.Common.{◌≡◌, ◌≢◌, ◌+◌, ◌<◌, ◌≤◌, ◌==◌, ℕ, List, All, length, sym, ap, ◌∙◌, subst, arith, inl, inr}
+use Rattle.std.specs.List.{count_by}
+use Rattle.std.proofs.lemmas.List.{get_or_read}
+use Rattle.rq_algebra.specs.Systems.{at}
+use Rattle.rq_solver.proofs.CountLaws.{few_places, met_none, met_skipped, met_more, twice_counted}
+use Rattle.rq_solver.proofs.PivotTurns.{takes_none, takes_skipped, takes_more}
+use Rattle.rq_solver.proofs.pi_solver.first_phase.take_pivots.Goals as goal
+use Rattle.rq_solver.proofs.pi_solver.first_phase.take_pivots.Goals.{then-place-len+then-index-row+in_ok-add_row, else-place-len, else-place-len-via-then-place-len+else-index-row, else-place-len-via-else-place-len}
+
+pub loop-column-init : goal.loop-column-init
+loop-column-init c = record {
+  taken = takes_none c.args.peeling.now.rows.items c.args.peeling.now.order.items c.args.row c.row-column-items.result.now c.args.recorded.now c.requires.octets;
+  few = (0, met_none (length c.args.peeling.now.rows.items) (λ q. at c.args.peeling.now.places.items (at c.row-column-items.result.now q)), (omega arith));
+}
+
+pub loop-column-preserved : goal.loop-column-preserved
+loop-column-preserved c =
+    let rows = c.args.peeling.now.rows.items in
+    let order = c.args.peeling.now.order.items in
+    let places = c.args.peeling.now.places.items in
+    let width = length places in
+    let row = c.args.row in
+    let columns = c.row-column-items.result.now in
+    let t = c.loop-column.column-index in
+    let j = c.index-place.result.now in
+    let old = c.args.recorded.now in
+    let cur = c.loop-column.recorded in
+    let peeled = c.requires.peeled.peeled in
+    let in_columns : t < length columns = c.loop-column-test.true in
+    let within : All (λ k. k < width) columns = subst (λ (l : List ℕ). All (λ k. k < width) l) (sym c.row-column-items.ensures) (c.requires.peeled.bits.within row c.requires.row) in
+    let once : (k : ℕ) → k < width → count_by (λ x. x == k) columns ≤ 1 = subst (λ (l : List ℕ). (k : ℕ) → k < width → count_by (λ x. x == k) l ≤ 1) (sym c.row-column-items.ensures) (λ k. c.requires.peeled.bits.once row k c.requires.row) in
+    let in_width : at columns t < width = within t 0 in_columns in
+    let place : at places (at columns t) ≡ j = sym (get_or_read places (at columns t) j in_width c.index-place.ensures 0) in
+    let many = c.len.ensures ∙ c.args.peeling.now.rows.ok.0 in
+    let v = c.loop-column.invariant in
+    let met : ℕ → ℕ = λ q. at places (at columns q) in
+    let fresh : (q : ℕ) → q < t → met q ≢ met t = (λ (q : ℕ) (l : q < t) (e : met q ≡ met t).
+    let same : at columns q ≡ at columns t = sym (peeled.columns.placed (at columns q) (within q 0 (omega arith))).1 ∙ ap (at order) e ∙ (peeled.columns.placed (at columns t) in_width).1 in
+    twice_counted columns q t l in_columns same (once (at columns t) in_width)) in
+    elim c.if-place-len.branch [
+      | then-place-len+then-index-row+in_ok-add_row w ↦
+          let in_rows : j < length rows = omega (arith, many, w.if-place-len.true) in
+          let tested : w.index.result.now ≡ at rows j = get_or_read rows j w.index.result.now in_rows w.index.ensures 0 in
+          let read : w.index-then-index-row.result.now ≡ at rows j = get_or_read rows j w.index-then-index-row.result.now in_rows w.index-then-index-row.ensures 0 in
+          rw w.recorded-is (record {
+            few =
+                let added = w.in_ok-add_row.ensures.counted in
+                (v.few.0 + 1, met_more (length rows) met t v.few.0 v.few.1 (rw place in_rows) fresh, (let so_far = v.few.2 in omega (arith, added, so_far)));
+            taken = takes_more rows order row columns places width peeled.columns peeled.few t in_columns in_width old cur v.taken once _ peeled.in_rows j place in_rows (λ e. w.if-index-row.true (tested ∙ e))
+                w.add_row.new.self (rw (read, w.one.ensures) at w.in_ok-add_row.ensures.added);
+          })
+      | else-place-len w ↦ rw w.recorded-is (record {
+        few = (v.few.0, met_skipped (length rows) met t v.few.0 v.few.1, v.few.2);
+        taken = elim w.else-place-len.branch [
+          | else-place-len-via-then-place-len+else-index-row w' ↦
+              let in_rows : j < length rows = omega (arith, many, w'.if-place-len.true) in
+              let tested : w'.index.result.now ≡ at rows j = get_or_read rows j w'.index.result.now in_rows w'.index.ensures 0 in
+              takes_skipped rows order row columns places width peeled.columns peeled.few t in_columns in_width old cur v.taken (inr (ap (at rows) place ∙ sym tested ∙ w'.if-index-row.false))
+          | else-place-len-via-else-place-len w' ↦
+              takes_skipped rows order row columns places width peeled.columns peeled.few t in_columns in_width old cur v.taken (inl (omega (arith, many, w'.if-place-len.false, place)))
+        ];
+      })
+    ]
+
+pub returns-clause-few : goal.returns-clause-few
+returns-clause-few c =
+    let few = c.loop-column.invariant.few in
+    let most = few_places few.0 (length c.args.peeling.now.rows.items) few.1.which few.1.are in
+    let so_far = few.2 in
+    omega (arith, most, so_far)

@@ -1,0 +1,11 @@
+-- What the loops keep in `pi_solver::fourth_phase::take_reduced_rows`.
+use Rattle.std.proofs.Common.{◌+◌, ◌≤◌}
+use Rattle.rq_solver.specs.Cleared.{TakesReduced}
+use Rattle.rq_solver.specs.Counts.{additions}
+use Rattle.rq_solver.proofs.pi_solver.fourth_phase.take_reduced_rows.Given as goal
+
+abbrev pub invariant-loop-f : goal.invariant-loop-f
+invariant-loop-f l = record {
+  taken : TakesReduced l.reduced l.row l.inactive l.f l.fn.recorded l.recorded;
+  few : additions l.recorded.operations ≤ additions l.fn.recorded.operations + l.f;
+}

@@ -1,6 +1,0 @@
--- What the loops keep in `pi_solver::peeled::clear_rows`.
-use Rattle.rq_solver.specs.Cleared.{ClearsRows}
-use Rattle.rq_solver.proofs.pi_solver.peeled.clear_rows.Given as goal
-
-abbrev pub invariant-loop-row : goal.invariant-loop-row
-invariant-loop-row l = ClearsRows l.ones l.peeling.rows.items l.peeling.order.items l.listed l.row-index l.fn.tails l.tails l.fn.operations.items l.operations.items

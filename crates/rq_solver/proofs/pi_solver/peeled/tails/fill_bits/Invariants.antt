@@ -1,8 +1,0 @@
--- What the loops keep in `pi_solver::peeled::tails::fill_bits`.
-use Rattle.std.proofs.Common.{◌-◌, length}
-use Rattle.rq_solver.specs.RowWrites.{WritesRow}
-use Rattle.rq_solver.proofs.TailWrites.{frozen_ones}
-use Rattle.rq_solver.proofs.pi_solver.peeled.tails.fill_bits.Given as goal
-
-abbrev pub invariant-loop-column : goal.invariant-loop-column
-invariant-loop-column l = WritesRow l.row 0 (length l.peeling.places.items - length l.peeling.rows.items) (frozen_ones l.peeling.order.items (length l.peeling.rows.items) l.column-items l.column-index) l.fn.tails l.tails

@@ -1,8 +1,0 @@
--- What the loops keep in `pi_solver::peeled::tails::fill_tails`.
-use Rattle.std.proofs.Common.{◌+◌, length}
-use Rattle.rq_algebra.specs.Systems.{at}
-use Rattle.rq_solver.specs.Cleared.{HasLeading, system_rows}
-use Rattle.rq_solver.proofs.pi_solver.peeled.tails.fill_tails.Given as goal
-
-abbrev pub invariant-loop-row : goal.invariant-loop-row
-invariant-loop-row l = HasLeading (length l.ones) l.frozen l.row (λ r f. system_rows l.ones l.first_hdpc l.hdpc r (at l.peeling.order.items (length l.peeling.rows.items + f))) l.tails

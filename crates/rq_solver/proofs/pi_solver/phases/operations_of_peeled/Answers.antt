@@ -1,0 +1,105 @@
+-- What the check leaves to show of `pi_solver::phases::operations_of_peeled`.
+use Rattle.std.proofs.Common.{◌≡◌, ℕ, ◌+◌, ◌-◌, ◌*◌, ◌≤◌, List, [], ◌∷◌, ◌++◌, length, map, drop, sym, ap, ◌∙◌, subst, arith}
+use Rattle.std.proofs.Math.Nat.{mul-le-mul_left}
+use Rattle.rq_algebra.specs.Systems.{at}
+use Rattle.rq_solver.specs.Counts.{additions}
+use Rattle.rq_solver.specs.OctetBatch.{batch_bound}
+use Rattle.rq_solver.proofs.CountLaws.{additions-order, few_in_all, few_places, few_together}
+use Rattle.rq_solver.proofs.PivotsCleared.{pivot_of_bits}
+use Rattle.std.proofs.lemmas.List.{map-append}
+use Rattle.rq_algebra.specs.Operations.{Operation, Reorder, FindsColumn}
+use Rattle.rq_algebra.specs.Systems.{HasNullColumn}
+use Rattle.rq_standard.specs.OctetField.{octets}
+use Rattle.rq_bytes.specs.SymbolOps.{operation_of}
+use Rattle.rq_bytes.specs.declared.operation_vector.SymbolOps.TheVariants as ops
+use Rattle.rq_parts.specs.OctetTable.{entry_of}
+use Rattle.rq_solver.specs.Cleared.{HasPeeledPivots, one_in, system_rows}
+use Rattle.rq_solver.proofs.OctetRows.{same_rows}
+use Rattle.rq_solver.proofs.SolutionLaws.{finds_same, null_same}
+use Rattle.rq_solver.proofs.pi_solver.phases.operations_of_peeled.Goals as goal
+
+pub returns-in_default-clause-found : goal.returns-in_default-clause-found
+returns-in_default-clause-found c = λ bit are.
+    let lists = c.args.ones.now in
+    let hdpc = c.args.hdpc.now in
+    let height = length lists in
+    let system = system_rows lists c.args.first_hdpc hdpc in
+    let rows = c.args.peeling.now.rows.items in
+    let order = c.args.peeling.now.order.items in
+    let places = c.args.peeling.now.places.items in
+    let cleared = c.in_ok-recorded.ensures.cleared in
+    let listed = c.as_slice.ensures.value ∙ sym c.as_mut_slice-rows.ensures.value in
+    let peeled : HasPeeledPivots height (length places) system rows order (drop (length rows) c.as_mut_slice-rows.result.now) c.in_ok-recorded.recorded =
+    subst (λ (l : List ℕ). HasPeeledPivots height (length places) system rows order (drop (length rows) l) c.in_ok-recorded.recorded) listed cleared in
+    let found = rw (cleared.height_is, c.in_default.is) at c.in_ok-found.ensures.found in
+    let null : HasNullColumn octets height c.args.width system = rw c.requires.peeled.columns.place_count at (found system peeled) in
+    null_same octets height c.args.width system _ (same_rows c.args.first_hdpc (length hdpc.rows) (entry_of hdpc) height c.args.width (one_in lists) bit (λ i k l m. (are.each i l).once k (omega arith) m)) null
+
+pub returns-clause-found : goal.returns-clause-found
+returns-clause-found c = λ bit are.
+    let lists = c.args.ones.now in
+    let hdpc = c.args.hdpc.now in
+    let height = length lists in
+    let system = system_rows lists c.args.first_hdpc hdpc in
+    let rows = c.args.peeling.now.rows.items in
+    let order = c.args.peeling.now.order.items in
+    let places = c.args.peeling.now.places.items in
+    let cleared = c.in_ok-recorded.ensures.cleared in
+    let listed = c.as_slice.ensures.value ∙ sym c.as_mut_slice-rows.ensures.value in
+    let peeled : HasPeeledPivots height (length places) system rows order (drop (length rows) c.as_mut_slice-rows.result.now) c.in_ok-recorded.recorded =
+    subst (λ (l : List ℕ). HasPeeledPivots height (length places) system rows order (drop (length rows) l) c.in_ok-recorded.recorded) listed cleared in
+    let found = rw (cleared.height_is, c.in-Some.is) at c.in_ok-found.ensures.found in
+    let finds : FindsColumn octets height c.args.width system (c.rows_of_columns.new.recorded.operations ++ Reorder c.in-Some.order.items ∷ []) = rw c.requires.peeled.columns.place_count at (found system peeled) in
+    let steps : List Operation = c.rows_of_columns.new.recorded.operations in
+    let recorded : map operation_of c.into_operations.result.items ≡ steps ++ Reorder c.in-Some.order.items ∷ [] =
+    c.into_operations.ensures ∙ c.in_ok-push.ensures.recorded ∙ ap (λ (l : List Operation). l ++ Reorder c.in-Some.order.items ∷ []) c.into_operations-operations.ensures in
+    rw recorded
+    (finds_same octets height c.args.width system _ (same_rows c.args.first_hdpc (length hdpc.rows) (entry_of hdpc) height c.args.width (one_in lists) bit (λ i k l m. (are.each i l).once k (omega arith) m)) (c.rows_of_columns.new.recorded.operations ++ Reorder c.in-Some.order.items ∷ []) finds)
+
+-- what was recorded in all phases
+few_of : (M width h p recorded phases : ℕ) → p ≤ width → p + h ≤ M → h ≤ width → recorded ≤ M * p + batch_bound h width p → phases ≤ recorded + (width - p) * (M - 1) → phases ≤ 2 * width * M
+few_of M width h p recorded phases fits rows columns first second =
+    let back : p + (width - p) ≡ width = omega arith in
+    let all : M * p + batch_bound h width p + (width - p) * (M - 1) ≤ 2 * width * M = rw back at (few_in_all p (width - p) h M rows (rw back columns)) in
+    omega (arith, all, first, second)
+
+pub returns-in_default-clause-few : goal.returns-in_default-clause-few
+returns-in_default-clause-few c =
+    let height = length c.args.ones.now in
+    let width = c.args.width in
+    let hdpc = c.args.hdpc.now in
+    let rows = c.args.peeling.now.rows.items in
+    let peeled = c.requires.peeled in
+    let listed = c.as_mut_slice-rows.result.now in
+    let listed_is : c.in_ok-listed.listed.items ≡ listed = sym c.as_mut_slice-rows.ensures.value in
+    let fewer : length listed ≤ height = rw (← listed_is) (few_places (length c.in_ok-listed.listed.items) height (at c.in_ok-listed.listed.items) (rw c.height.ensures at c.in_ok-listed.ensures.listed.are)) in
+    let together : length rows + length hdpc.rows ≤ height =
+    few_together (length rows) (length hdpc.rows) c.args.first_hdpc height (at rows) peeled.in_rows c.requires.hdpc.within (λ i p l n. pivot_of_bits c.args.ones.now c.args.first_hdpc hdpc width c.requires.bits c.requires.hdpc rows c.args.peeling.now.order.items c.args.peeling.now.places.items peeled p i n l) in
+    let most : (width - length rows) * (length listed - 1) ≤ (width - length rows) * (height - 1) = mul-le-mul_left (width - length rows) (omega arith) in
+    let first : additions c.in_ok-recorded.recorded.operations ≤ height * length rows + batch_bound (length hdpc.rows) width (length rows) = rw peeled.columns.place_count at c.in_ok-recorded.ensures.few in
+    let second : additions c.rows_of_columns.new.recorded.operations ≤ additions c.in_ok-recorded.recorded.operations + (width - length rows) * (length listed - 1) = rw peeled.columns.place_count at c.in_ok-found.ensures.few in
+    let same : additions c.into_operations-operations.result ≡ additions c.rows_of_columns.new.recorded.operations = ap additions c.into_operations-operations.ensures in
+    let all = few_of height width (length hdpc.rows) (length rows) (additions c.in_ok-recorded.recorded.operations) (additions c.into_operations-operations.result) peeled.few together c.requires.few_hdpc first (omega (arith, most, second, same)) in
+    let counted = c.counts.ensures.additions_are in
+    omega (arith, counted, all)
+
+pub returns-clause-few : goal.returns-clause-few
+returns-clause-few c =
+    let height = length c.args.ones.now in
+    let width = c.args.width in
+    let hdpc = c.args.hdpc.now in
+    let rows = c.args.peeling.now.rows.items in
+    let peeled = c.requires.peeled in
+    let listed = c.as_mut_slice-rows.result.now in
+    let listed_is : c.in_ok-listed.listed.items ≡ listed = sym c.as_mut_slice-rows.ensures.value in
+    let fewer : length listed ≤ height = rw (← listed_is) (few_places (length c.in_ok-listed.listed.items) height (at c.in_ok-listed.listed.items) (rw c.height.ensures at c.in_ok-listed.ensures.listed.are)) in
+    let together : length rows + length hdpc.rows ≤ height =
+    few_together (length rows) (length hdpc.rows) c.args.first_hdpc height (at rows) peeled.in_rows c.requires.hdpc.within (λ i p l n. pivot_of_bits c.args.ones.now c.args.first_hdpc hdpc width c.requires.bits c.requires.hdpc rows c.args.peeling.now.order.items c.args.peeling.now.places.items peeled p i n l) in
+    let most : (width - length rows) * (length listed - 1) ≤ (width - length rows) * (height - 1) = mul-le-mul_left (width - length rows) (omega arith) in
+    let first : additions c.in_ok-recorded.recorded.operations ≤ height * length rows + batch_bound (length hdpc.rows) width (length rows) = rw peeled.columns.place_count at c.in_ok-recorded.ensures.few in
+    let second : additions c.rows_of_columns.new.recorded.operations ≤ additions c.in_ok-recorded.recorded.operations + (width - length rows) * (length listed - 1) = rw peeled.columns.place_count at c.in_ok-found.ensures.few in
+    let same : additions c.into_operations-operations.result ≡ additions c.rows_of_columns.new.recorded.operations = ap additions c.into_operations-operations.ensures in
+    let pushed : additions c.push.new.self ≡ additions c.into_operations-operations.result = ap additions c.in_ok-push.ensures.recorded ∙ additions-order c.into_operations-operations.result c.in-Some.order.items in
+    let all = few_of height width (length hdpc.rows) (length rows) (additions c.in_ok-recorded.recorded.operations) (additions c.into_operations-operations.result) peeled.few together c.requires.few_hdpc first (omega (arith, most, second, same)) in
+    let counted = c.counts-2.ensures.additions_are in
+    omega (arith, counted, all, pushed)

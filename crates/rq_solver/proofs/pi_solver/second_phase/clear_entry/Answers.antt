@@ -1,0 +1,32 @@
+-- What the check leaves to show of `pi_solver::second_phase::clear_entry`.
+use Rattle.std.proofs.Common.{ℕ, ◌<◌, length, sym, ◌∙◌, subst}
+use Rattle.rq_algebra.specs.Steps.{AddsRow}
+use Rattle.rq_standard.specs.OctetField.{octets}
+use Rattle.rq_parts.specs.OctetTable.{entry_of}
+use Rattle.rq_solver.proofs.Entries.{zero_adds}
+use Rattle.rq_solver.proofs.Performing.{adds_of_sum, changes_none, changes_sum}
+use Rattle.rq_solver.proofs.pi_solver.second_phase.clear_entry.Goals as goal
+
+pub returns-then-byte-eq0-clause-steps : goal.returns-then-byte-eq0-clause-steps
+returns-then-byte-eq0-clause-steps c = changes_none _ _ c.requires.octets
+
+pub returns-then-byte-eq0-clause-added : goal.returns-then-byte-eq0-clause-added
+returns-then-byte-eq0-clause-added c = zero_adds _ _ _ _ (sym c.get-scalar.ensures ∙ sym c.byte.ensures ∙ c.if-byte-eq0.true)
+
+pub add_row-requires-clause-scalar : goal.add_row-requires-clause-scalar
+add_row-requires-clause-scalar c =
+    let small : entry_of c.args.recorded.now.table c.args.dest c.args.column < 256 = c.requires.octets.elements c.args.dest c.args.column c.requires.dest c.requires.column in
+    rw c.get-scalar.ensures small
+
+pub returns-clause-steps : goal.returns-clause-steps
+returns-clause-steps c = changes_sum c.args.recorded.now c.add_row.new.self c.args.dest c.args.src c.get-scalar.result (λ e. c.requires.two (sym e)) c.in_ok-add_row.ensures.added
+
+pub returns-clause-octets : goal.returns-clause-octets
+returns-clause-octets c = c.in_ok-add_row.ensures.added.octets
+
+pub returns-clause-added : goal.returns-clause-added
+returns-clause-added c =
+    let old = c.args.recorded.now.table in
+    let new = c.add_row.new.self.table in
+    subst (λ (s : ℕ). AddsRow octets (length old.rows) old.width c.args.dest c.args.src s (entry_of old) (entry_of new)) c.get-scalar.ensures
+    (adds_of_sum c.args.recorded.now c.add_row.new.self c.args.dest c.args.src c.get-scalar.result c.requires.dest c.requires.src c.requires.octets c.in_ok-add_row.ensures.added)

@@ -1,0 +1,190 @@
+//! How many operations the phases recorded.
+ghost use Rattle.std.specs.Prelude.{◌≡◌, ℕ, ◌+◌, ◌<◌, ◌^◌, ◌∷◌, [], ◌++◌, List, length, map, OnOk, IfErr};
+ghost use Rattle.rq_bytes.specs.SymbolOps.{operation_of};
+ghost use Rattle.rq_bytes.specs.declared.error.Error.TheVariants.{OutOfMemory};
+ghost use Rattle.rq_solver.specs.Counts.{additions, multiplications};
+
+use rq_bytes::error::Error;
+use rq_bytes::operation_vector::SymbolOps;
+use std::alloc::Global;
+use std::marker::Model;
+
+/// The phases of RFC 6330 (section 5.4.2) that record operations. The third and the fifth have
+/// nothing to do here.
+#[derive(Clone, Copy)]
+pub(super) enum Phase {
+    First,
+    Second,
+    Fourth,
+}
+
+/// How many operations of a kind each phase recorded.
+#[derive(Clone, Copy)]
+pub(super) struct PhaseCounts {
+    pub first: u64,
+    pub second: u64,
+    pub fourth: u64,
+    pub ghost fits: { first + second + fourth < 2 ^ 64 },
+}
+
+impl PhaseCounts {
+    /// No phase recorded any.
+    pub(super) fn none() -> PhaseCounts
+        ensures { result.first + result.second + result.fourth ≡ 0 }
+    {
+        PhaseCounts {
+            first: 0,
+            second: 0,
+            fourth: 0,
+        }
+    }
+
+    /// Counts one more in a phase.
+    fn count(self, phase: Phase) -> PhaseCounts
+        requires { self.first + self.second + self.fourth + 1 < 2 ^ 64 }
+        ensures { result.first + result.second + result.fourth ≡ self.first + self.second + self.fourth + 1 }
+    {
+        let PhaseCounts {
+            first,
+            second,
+            fourth,
+        } = self;
+        match phase {
+            Phase::First => PhaseCounts {
+                first: first + 1,
+                second,
+                fourth,
+            },
+            Phase::Second => PhaseCounts {
+                first,
+                second: second + 1,
+                fourth,
+            },
+            Phase::Fourth => PhaseCounts {
+                first,
+                second,
+                fourth: fourth + 1,
+            },
+        }
+    }
+
+    /// All of them.
+    pub(super) fn total(&self) -> u64
+        ensures { result ≡ self.now.first + self.now.second + self.now.fourth }
+    {
+        self.first + self.second + self.fourth
+    }
+
+    /// Those of each of the five phases.
+    pub(super) fn by_phase(&self) -> [u64; 5]
+        ensures { result ≡ self.now.first ∷ self.now.second ∷ 0 ∷ self.now.fourth ∷ 0 ∷ [] }
+    {
+        [self.first, self.second, 0, self.fourth, 0]
+    }
+}
+
+/// How many additions and multiplications each phase recorded.
+#[derive(Clone, Copy)]
+pub(super) struct OperationCounts {
+    pub additions: PhaseCounts,
+    pub multiplications: PhaseCounts,
+}
+
+impl OperationCounts {
+    /// No phase recorded any.
+    pub(super) fn none() -> OperationCounts
+        ensures additions { result.additions.first + result.additions.second + result.additions.fourth ≡ 0 }
+        ensures multiplications { result.multiplications.first + result.multiplications.second + result.multiplications.fourth ≡ 0 }
+    {
+        OperationCounts {
+            additions: PhaseCounts::none(),
+            multiplications: PhaseCounts::none(),
+        }
+    }
+}
+
+/// Operations that are recorded, and counted by phase. Contracts see them.
+#[derive(Drop)]
+pub(super) struct OperationList {
+    operations: Vec<SymbolOps>,
+    phase: Phase,
+    counts: OperationCounts,
+}
+
+impl Model for OperationList {
+    ghost use Rattle.std.specs.Prelude.{List, map};
+    ghost use Rattle.rq_algebra.specs.Operations.{Operation};
+    ghost use Rattle.rq_bytes.specs.SymbolOps.{operation_of};
+    ghost use Rattle.rq_solver.specs.PhaseCounts.{AreCountsOf};
+
+    ghost Value = { List Operation };
+
+    ghost view = { λ l. map operation_of l.operations.items };
+
+    ghost invariant = { λ l. AreCountsOf l.counts (map operation_of l.operations.items) };
+}
+
+impl OperationList {
+    ghost use Rattle.rq_solver.specs.PhaseCounts.{AreCountsOf};
+
+    /// Nothing is recorded yet, and the first phase begins.
+    pub(super) fn new(alloc: Global) -> OperationList
+        ensures { result ≡ [] }
+    {
+        OperationList {
+            operations: Vec::new(alloc),
+            phase: Phase::First,
+            counts: OperationCounts::none(),
+        }
+    }
+
+    /// The allocator of the list.
+    pub(super) fn allocator(&self) -> Global {
+        *self.operations.allocator()
+    }
+
+    /// A phase begins, or goes on.
+    pub(super) fn enter(&mut self, phase: Phase)
+        ensures { self.new ≡ self.old }
+    {
+        self.phase = phase;
+    }
+
+    /// Records an operation, and counts it.
+    pub(super) fn push(&mut self, operation: SymbolOps) -> Result<(), Error>
+        ensures recorded { OnOk result (self.new ≡ self.old ++ operation_of operation ∷ []) }
+        ensures err { IfErr result (λ e. e ≡ OutOfMemory) }
+    {
+        let adds = matches!(
+            operation,
+            SymbolOps::AddAssign { .. } | SymbolOps::FMA { .. }
+        );
+        let multiplies = matches!(
+            operation,
+            SymbolOps::MulAssign { .. } | SymbolOps::FMA { .. }
+        );
+        self.operations.push(operation)?;
+        if adds {
+            self.counts.additions = self.counts.additions.count(self.phase);
+        }
+        if multiplies {
+            self.counts.multiplications = self.counts.multiplications.count(self.phase);
+        }
+        Ok(())
+    }
+
+    /// How many were recorded.
+    pub(super) fn counts(&self) -> OperationCounts
+        ensures { AreCountsOf result self.now }
+    {
+        self.counts
+    }
+
+    /// The operations.
+    pub(super) fn into_operations(self) -> Vec<SymbolOps>
+        ensures { map operation_of result.items ≡ self }
+    {
+        let OperationList { operations, .. } = self;
+        operations
+    }
+}

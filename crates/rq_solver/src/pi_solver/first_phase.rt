@@ -1,0 +1,94 @@
+//! The first phase (RFC 6330, section 5.4.2.2): once pivots are chosen, all rows are cleared in the
+//! pivots' columns.
+ghost use Rattle.std.specs.Prelude.{◌≡◌, ◌≢◌, ℕ, ◌+◌, ◌*◌, ◌<◌, ◌≤◌, drop, length, IfOk, OnOk, IfErr};
+ghost use Rattle.rq_bytes.specs.declared.error.Error.TheVariants.{OutOfMemory};
+ghost use Rattle.rq_solver.specs.Cleared.{AreOctetRows, ClearsRows, HasPeeledPivots, ListsRows, PeelsRows, TakesPivots, system_rows};
+ghost use Rattle.rq_solver.specs.Counts.{additions};
+ghost use Rattle.rq_solver.specs.OctetBatch.{batch_bound};
+ghost use Rattle.rq_solver.specs.Peeled.{ones_at};
+ghost use Rattle.rq_solver.specs.RowSteps.{HasOctets};
+
+mod hdpc;
+mod inactive;
+pub(super) mod listing;
+
+use super::ones::RowOnes;
+use super::peeling::Peeling;
+use super::recorded::RecordedRows;
+use hdpc::clear_octets;
+use inactive::fill_inactive;
+use rq_bytes::error::Error;
+use rq_bytes::octet::Octet;
+use rq_parts::octet_matrix::DenseOctetMatrix;
+use std::alloc::Global;
+
+/// Clears the pivots' columns in the other rows, which are listed behind the pivots'. The rows are
+/// returned with their entries in the inactive columns.
+pub(super) fn clear_pivots(
+    alloc: Global,
+    ones: &RowOnes,
+    hdpc: &DenseOctetMatrix,
+    first_hdpc: usize,
+    peeling: &Peeling,
+    listed: &[usize],
+) -> Result<RecordedRows, Error>
+    requires peeled { PeelsRows ones.now peeling.now }
+    requires hdpc { AreOctetRows ones.now first_hdpc (length peeling.now.places.items) hdpc.now }
+    requires listed { ListsRows (length ones.now) peeling.now.rows.items listed.now }
+    ensures cleared { IfOk result (HasPeeledPivots (length ones.now) (length peeling.now.places.items) (system_rows ones.now first_hdpc hdpc.now) peeling.now.rows.items peeling.now.order.items (drop (length peeling.now.rows.items) listed.now)) }
+    ensures few { IfOk result (λ rows. additions rows.operations ≤ length ones.now * length peeling.now.rows.items + batch_bound (length hdpc.now.rows) (length peeling.now.places.items) (length peeling.now.rows.items)) }
+    ensures err { IfErr result (λ e. e ≡ OutOfMemory) }
+{
+    let inactive = peeling.places.len() - peeling.rows.len();
+    let table = fill_inactive(alloc, ones, hdpc, first_hdpc, inactive, peeling)?;
+    let mut recorded = RecordedRows::new(alloc, table);
+    clear_rows(ones, listed, peeling, &mut recorded)?;
+    clear_octets(hdpc, first_hdpc, peeling, &mut recorded)?;
+    Ok(recorded)
+}
+
+/// Adds to each listed row the rows of the other pivots in whose columns it has ones. The pivots'
+/// rows come first in the list, in their order.
+fn clear_rows(
+    ones: &RowOnes,
+    listed: &[usize],
+    peeling: &Peeling,
+    recorded: &mut RecordedRows,
+) -> Result<(), Error>
+    requires peeled { PeelsRows ones.now peeling.now }
+    requires listed { ListsRows (length ones.now) peeling.now.rows.items listed.now }
+    requires height { length recorded.old.table.rows ≡ length ones.now }
+    requires octets { HasOctets recorded.old.table }
+    ensures cleared { OnOk result (ClearsRows ones.now peeling.now.rows.items peeling.now.order.items listed.now (length listed.now) recorded.old recorded.new) }
+    ensures few { OnOk result (additions recorded.new.operations ≤ additions recorded.old.operations + length listed.now * length peeling.now.rows.items) }
+    ensures err { IfErr result (λ e. e ≡ OutOfMemory) }
+{
+    for row in listed {
+        take_pivots(ones, *row, peeling, recorded)?;
+    }
+    Ok(())
+}
+
+/// Adds to a row the rows of the other pivots in whose columns it has ones.
+fn take_pivots(
+    ones: &RowOnes,
+    row: usize,
+    peeling: &Peeling,
+    recorded: &mut RecordedRows,
+) -> Result<(), Error>
+    requires peeled { PeelsRows ones.now peeling.now }
+    requires row { row < length ones.now }
+    requires height { length recorded.old.table.rows ≡ length ones.now }
+    requires octets { HasOctets recorded.old.table }
+    ensures taken { OnOk result (TakesPivots peeling.now.rows.items peeling.now.order.items row (ones_at ones.now row) recorded.old recorded.new) }
+    ensures few { OnOk result (additions recorded.new.operations ≤ additions recorded.old.operations + length peeling.now.rows.items) }
+    ensures err { IfErr result (λ e. e ≡ OutOfMemory) }
+{
+    for column in ones.row(row) {
+        let place = peeling.places[*column];
+        if place < peeling.rows.len() && peeling.rows[place] != row {
+            recorded.add_row(row, peeling.rows[place], Octet::one())?;
+        }
+    }
+    Ok(())
+}

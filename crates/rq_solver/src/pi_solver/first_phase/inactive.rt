@@ -1,0 +1,97 @@
+//! The entries of rows in inactive columns.
+ghost use Rattle.std.specs.Prelude.{◌≡◌, ℕ, ◌+◌, ◌-◌, ◌%◌, ◌^◌, ◌<◌, ◌≤◌, length, IfOk, IfErr};
+ghost use Rattle.rq_algebra.specs.Systems.{at};
+ghost use Rattle.rq_bytes.specs.declared.error.Error.TheVariants.{OutOfMemory};
+ghost use Rattle.rq_parts.specs.OctetTable.{entry_of};
+ghost use Rattle.rq_solver.specs.Cleared.{AreOctetRows, HasLeading, PeelsRows, one_in, system_rows};
+ghost use Rattle.rq_solver.specs.Peeled.{IsOrderOf};
+ghost use Rattle.rq_solver.specs.RowSteps.{HasOctets};
+ghost use Rattle.rq_solver.specs.RowWrites.{WritesRow};
+
+use super::super::ones::RowOnes;
+use super::super::peeling::Peeling;
+use rq_bytes::error::Error;
+use rq_bytes::octet::Octet;
+use rq_parts::octet_matrix::DenseOctetMatrix;
+use std::alloc::Global;
+
+const LANES: usize = 32;
+
+/// The entries of the rows in the inactive columns, in their order.
+pub(super) fn fill_inactive(
+    alloc: Global,
+    ones: &RowOnes,
+    hdpc: &DenseOctetMatrix,
+    first_hdpc: usize,
+    frozen: usize,
+    peeling: &Peeling,
+) -> Result<DenseOctetMatrix, Error>
+    requires peeled { PeelsRows ones.now peeling.now }
+    requires hdpc { AreOctetRows ones.now first_hdpc (length peeling.now.places.items) hdpc.now }
+    requires frozen { length peeling.now.rows.items + frozen ≡ length peeling.now.places.items }
+    ensures tails { IfOk result (HasLeading (length ones.now) frozen (length ones.now) (λ r f. system_rows ones.now first_hdpc hdpc.now r (at peeling.now.order.items (length peeling.now.rows.items + f)))) }
+    ensures err { IfErr result (λ e. e ≡ OutOfMemory) }
+{
+    let mut tails = DenseOctetMatrix::new(alloc, ones.height(), whole_vectors(frozen), 0)?;
+    for row in 0..ones.height() {
+        if row >= first_hdpc && row - first_hdpc < hdpc.height() {
+            fill_octets(hdpc, row - first_hdpc, peeling, frozen, row, &mut tails);
+        } else {
+            fill_bits(ones, row, peeling, &mut tails);
+        }
+    }
+    Ok(tails)
+}
+
+/// The least number of octets, from this one on, that fills whole vectors: rows of such a length are
+/// added without octets that are left over.
+fn whole_vectors(octets: usize) -> usize
+    requires { octets < 2 ^ 63 }
+    ensures whole { result % 32 ≡ 0 }
+    ensures from { octets ≤ result }
+    ensures near { result < octets + 32 }
+{
+    octets + (LANES - octets % LANES) % LANES
+}
+
+/// Sets the entries of a row to those of a row of octets in the inactive columns.
+fn fill_octets(
+    octets: &DenseOctetMatrix,
+    from: usize,
+    peeling: &Peeling,
+    frozen: usize,
+    row: usize,
+    tails: &mut DenseOctetMatrix,
+)
+    requires order { IsOrderOf octets.now.width peeling.now.order.items peeling.now.places.items }
+    requires frozen { length peeling.now.rows.items + frozen ≡ octets.now.width }
+    requires from { from < length octets.now.rows }
+    requires row { row < length tails.old.rows }
+    requires width { frozen ≤ tails.old.width }
+    requires octets { HasOctets tails.old }
+    ensures { WritesRow row 0 frozen (λ f. entry_of octets.now from (at peeling.now.order.items (length peeling.now.rows.items + f))) tails.old tails.new }
+{
+    for f in 0..frozen {
+        let column = peeling.order[peeling.rows.len() + f];
+        tails.set(row, f, Octet::new(octets.get(from, column).byte()));
+    }
+}
+
+/// Sets the ones of a row of zeros that are in inactive columns.
+fn fill_bits(ones: &RowOnes, row: usize, peeling: &Peeling, tails: &mut DenseOctetMatrix)
+    requires peeled { PeelsRows ones.now peeling.now }
+    requires row { row < length ones.now }
+    requires height { length tails.old.rows ≡ length ones.now }
+    requires width { length peeling.now.places.items ≤ length peeling.now.rows.items + tails.old.width }
+    requires octets { HasOctets tails.old }
+    requires zeros { (f : ℕ) → f < length peeling.now.places.items - length peeling.now.rows.items → entry_of tails.old row f ≡ 0 }
+    ensures { WritesRow row 0 (length peeling.now.places.items - length peeling.now.rows.items) (λ f. one_in ones.now row (at peeling.now.order.items (length peeling.now.rows.items + f))) tails.old tails.new }
+{
+    let pivots = peeling.rows.len();
+    for column in ones.row(row) {
+        let place = peeling.places[*column];
+        if place >= pivots {
+            tails.set(row, place - pivots, Octet::one());
+        }
+    }
+}

@@ -1,0 +1,141 @@
+//! The phases of the solver, one after another (RFC 6330, section 5.4.2).
+ghost use Rattle.std.specs.Prelude.{◌≡◌, ℕ, ◌+◌, ◌<◌, ◌≤◌, ◌*◌, ◌-◌, ◌∷◌, ◌++◌, [], Contains, IsPermutation, drop, length, map, IfOk, OnOk, IfErr, IfSome, MatchBool, MatchOption};
+ghost use Rattle.rq_algebra.specs.Operations.{Reorder, FindsColumn};
+ghost use Rattle.rq_algebra.specs.Systems.{at, HasNullColumn};
+ghost use Rattle.rq_bytes.specs.SymbolOps.{operation_of};
+ghost use Rattle.rq_bytes.specs.declared.error.Error.TheVariants.{OutOfMemory};
+ghost use Rattle.rq_parts.specs.OctetTable.{entry_of};
+ghost use Rattle.rq_standard.specs.ConstraintMatrix.{with_octet_rows};
+ghost use Rattle.rq_standard.specs.OctetField.{octets};
+ghost use Rattle.rq_solver.specs.Cleared.{AreOctetRows, AreRowsOfBits, HasPeeledPivots, LacksPivots, ListsRows, SolvesInactive};
+ghost use Rattle.rq_solver.specs.Counts.{additions};
+ghost use Rattle.rq_solver.specs.PhaseCounts.{AreCountsOf, total_of};
+ghost use Rattle.rq_solver.specs.Peeled.{AreOnesOfRows, IsOrderOf, IsPeeled};
+ghost use Rattle.rq_solver.specs.RowSteps.{AreRows, HasOctets};
+
+use super::counts::{OperationCounts, Phase};
+use super::first_phase::clear_pivots;
+use super::first_phase::listing::rows_in_order;
+use super::fourth_phase::take_reduced;
+use super::ones::RowOnes;
+use super::peeling::Peeling;
+use super::recorded::RecordedRows;
+use super::second_phase::eliminate;
+use rq_bytes::error::Error;
+use rq_bytes::operation_vector::SymbolOps;
+use rq_parts::octet_matrix::DenseOctetMatrix;
+use std::alloc::Global;
+
+/// What was found for rows: the operations that take values of the rows to the column that solves
+/// the rows with them, or none where the rows don't determine a column. And how many operations
+/// were recorded until then.
+#[derive(Drop)]
+pub(super) struct Attempt {
+    pub operations: Option<Vec<SymbolOps>>,
+    pub counts: OperationCounts,
+}
+
+/// Looks for the operations that solve rows: those of bits, but the HDPC rows in the places from
+/// `first_hdpc` on.
+pub(super) fn operations_of_peeled(
+    alloc: Global,
+    ones: &RowOnes,
+    hdpc: &DenseOctetMatrix,
+    first_hdpc: usize,
+    width: usize,
+    peeling: &Peeling,
+) -> Result<Attempt, Error>
+    requires bits { AreRowsOfBits width ones.now }
+    requires peeled { IsPeeled width ones.now peeling.now.rows.items peeling.now.order.items peeling.now.places.items }
+    requires hdpc { AreOctetRows ones.now first_hdpc width hdpc.now }
+    requires few_hdpc { length hdpc.now.rows ≤ width }
+    ensures found { IfOk result (λ attempt. (bit : ℕ → ℕ → ℕ) → AreOnesOfRows (length ones.now) width bit ones.now → let rows = with_octet_rows first_hdpc (length hdpc.now.rows) bit (entry_of hdpc.now) in MatchOption attempt.operations (HasNullColumn octets (length ones.now) width rows) (λ ops. FindsColumn octets (length ones.now) width rows (map operation_of ops.items))) }
+    ensures counted { IfOk result (λ attempt. IfSome attempt.operations (λ ops. AreCountsOf attempt.counts (map operation_of ops.items))) }
+    ensures few { IfOk result (λ attempt. total_of attempt.counts.additions ≤ 2 * width * length ones.now) }
+    ensures err { IfErr result (λ e. e ≡ OutOfMemory) }
+{
+    let pivots = peeling.rows.as_slice();
+    let mut listed = rows_in_order(alloc, ones.height(), first_hdpc, hdpc.height(), pivots)?;
+    let mut recorded = clear_pivots(alloc, ones, hdpc, first_hdpc, peeling, listed.as_slice())?;
+    let rows = listed.as_mut_slice();
+    let found = rows_of_columns(alloc, peeling, rows, &mut recorded)?;
+    let mut operations = recorded.into_operations();
+    let Some(order) = found else {
+        return Ok(Attempt {
+            operations: None,
+            counts: operations.counts(),
+        });
+    };
+    operations.push(SymbolOps::Reorder { order })?;
+    Ok(Attempt {
+        counts: operations.counts(),
+        operations: Some(operations.into_operations()),
+    })
+}
+
+/// Gives the inactive columns pivots among the rows behind the pivots', and lists for each column
+/// the row that has its pivot. `None` where a column is left without one.
+fn rows_of_columns(
+    alloc: Global,
+    peeling: &Peeling,
+    listed: &mut [usize],
+    recorded: &mut RecordedRows,
+) -> Result<Option<Vec<usize>>, Error>
+    requires order { IsOrderOf (length peeling.now.places.items) peeling.now.order.items peeling.now.places.items }
+    requires pivots { AreRows peeling.now.rows.items recorded.old.table }
+    requires listed { ListsRows (length recorded.old.table.rows) peeling.now.rows.items listed.old }
+    requires few { length peeling.now.rows.items ≤ length peeling.now.places.items }
+    requires wide { length peeling.now.places.items ≤ length peeling.now.rows.items + recorded.old.table.width }
+    requires octets { HasOctets recorded.old.table }
+    ensures found { IfOk result (λ answer. (system : ℕ → ℕ → ℕ) → HasPeeledPivots (length recorded.old.table.rows) (length peeling.now.places.items) system peeling.now.rows.items peeling.now.order.items (drop (length peeling.now.rows.items) listed.old) recorded.old → MatchOption answer (HasNullColumn octets (length recorded.old.table.rows) (length peeling.now.places.items) system) (λ order. FindsColumn octets (length recorded.old.table.rows) (length peeling.now.places.items) system (recorded.new.operations ++ Reorder order.items ∷ []))) }
+    ensures few { OnOk result (additions recorded.new.operations ≤ additions recorded.old.operations + (length peeling.now.places.items - length peeling.now.rows.items) * (length listed.old - 1)) }
+    ensures err { IfErr result (λ e. e ≡ OutOfMemory) }
+{
+    let pivots = peeling.rows.as_slice();
+    let inactive = peeling.places.len() - pivots.len();
+    let left = &mut listed[pivots.len()..];
+    if !solve_inactive(pivots, left, inactive, recorded)? {
+        return Ok(None);
+    }
+    Ok(Some(rows_at(alloc, listed, peeling.places.as_slice())?))
+}
+
+/// The second phase among the rows that are left, and then the fourth for the pivots' rows. False
+/// where an inactive column is left without a pivot.
+fn solve_inactive(
+    pivots: &[usize],
+    left: &mut [usize],
+    inactive: usize,
+    recorded: &mut RecordedRows,
+) -> Result<bool, Error>
+    requires pivots { AreRows pivots.now recorded.old.table }
+    requires left { AreRows left.old recorded.old.table }
+    requires apart { (p : ℕ) → p < length pivots.now → Contains left.old (at pivots.now p) → ⊥ }
+    requires width { inactive ≤ recorded.old.table.width }
+    requires octets { HasOctets recorded.old.table }
+    ensures permuted { IsPermutation left.old left.new }
+    ensures solved { IfOk result (λ found. MatchBool found (SolvesInactive pivots.now left.old left.new inactive recorded.old recorded.new) (LacksPivots left.old left.new inactive recorded.old recorded.new)) }
+    ensures few { OnOk result (additions recorded.new.operations ≤ additions recorded.old.operations + inactive * (length left.old + length pivots.now - 1)) }
+    ensures err { IfErr result (λ e. e ≡ OutOfMemory) }
+{
+    recorded.enter(Phase::Second);
+    if !eliminate(recorded, left, 0, inactive)? {
+        return Ok(false);
+    }
+    recorded.enter(Phase::Fourth);
+    take_reduced(pivots, left, inactive, recorded)?;
+    Ok(true)
+}
+
+/// The listed rows that stand at some places.
+fn rows_at(alloc: Global, listed: &[usize], places: &[usize]) -> Result<Vec<usize>, Error>
+    requires { (k : ℕ) → k < length places.now → at places.now k < length listed.now }
+    ensures rows { IfOk result (λ rows. rows.items ≡ map (at listed.now) places.now) }
+    ensures err { IfErr result (λ e. e ≡ OutOfMemory) }
+{
+    let mut rows = Vec::with_capacity(alloc, places.len())?;
+    for place in places {
+        rows.push(listed[*place])?;
+    }
+    Ok(rows)
+}

@@ -1,0 +1,137 @@
+//! Rows that are worked on, with the operations that are recorded for them.
+ghost use Rattle.std.specs.Prelude.{◌≡◌, ◌≢◌, ◌+◌, ◌<◌, ◌∷◌, [], length, OnOk, IfErr};
+ghost use Rattle.rq_algebra.specs.Operations.{MulAssign};
+ghost use Rattle.rq_bytes.specs.declared.error.Error.TheVariants.{OutOfMemory};
+ghost use Rattle.rq_bytes.specs.SymbolOps.{operation_of};
+ghost use Rattle.rq_parts.specs.OctetTable.{entry_of};
+ghost use Rattle.rq_solver.specs.Counts.{additions};
+ghost use Rattle.rq_solver.specs.Recorded.{Performs, Records, sum_step};
+ghost use Rattle.rq_solver.specs.RowSteps.{HasOctets};
+ghost use Rattle.rq_standard.specs.OctetField.{octets};
+
+use super::counts::{OperationList, Phase};
+use rq_bytes::error::Error;
+use rq_bytes::octet::Octet;
+use rq_bytes::operation_vector::SymbolOps;
+use rq_parts::octet_matrix::DenseOctetMatrix;
+use std::alloc::Global;
+use std::marker::Model;
+
+/// Rows of a system: what they have in the inactive columns, and the operations that were done to
+/// them, for the symbols. Contracts see both.
+#[derive(Drop)]
+pub(super) struct RecordedRows {
+    table: DenseOctetMatrix,
+    operations: OperationList,
+}
+
+impl Model for RecordedRows {
+    ghost use Rattle.rq_solver.specs.Recorded.{Recorded};
+
+    ghost Value = { Recorded };
+
+    ghost view = { λ r. record { table = r.table; operations = r.operations } };
+}
+
+impl RecordedRows {
+    /// Rows to which nothing was done yet.
+    pub(super) fn new(alloc: Global, table: DenseOctetMatrix) -> RecordedRows
+        ensures { result ≡ record { table = table; operations = [] } }
+    {
+        RecordedRows {
+            table,
+            operations: OperationList::new(alloc),
+        }
+    }
+
+    /// The allocator of what is recorded.
+    pub(super) fn allocator(&self) -> Global {
+        self.operations.allocator()
+    }
+
+    /// What the rows have in the inactive columns.
+    pub(super) fn table(&self) -> &DenseOctetMatrix
+        ensures { result.now ≡ self.now.table }
+    {
+        &self.table
+    }
+
+    /// What a row has in an inactive column.
+    pub(super) fn get(&self, row: usize, column: usize) -> Octet
+        requires row { row < length self.now.table.rows }
+        requires column { column < self.now.table.width }
+        ensures { result ≡ entry_of self.now.table row column }
+    {
+        self.table.get(row, column)
+    }
+
+    /// Adds a multiple of a row to another one.
+    pub(super) fn add_row(&mut self, dest: usize, src: usize, scalar: Octet) -> Result<(), Error>
+        requires two { dest ≢ src }
+        requires dest { dest < length self.old.table.rows }
+        requires src { src < length self.old.table.rows }
+        requires scalar { scalar < octets.size }
+        requires octets { HasOctets self.old.table }
+        ensures added { OnOk result (Performs (sum_step dest src scalar ∷ []) self.old self.new) }
+        ensures counted { OnOk result (additions self.new.operations ≡ additions self.old.operations + 1) }
+        ensures err { IfErr result (λ e. e ≡ OutOfMemory) }
+    {
+        self.table.fma_rows(dest, src, &scalar);
+        self.operations.push(addition(dest, src, scalar))?;
+        Ok(())
+    }
+
+    /// Multiplies a row by an octet that isn't 0.
+    pub(super) fn multiply_row(&mut self, dest: usize, scalar: Octet) -> Result<(), Error>
+        requires dest { dest < length self.old.table.rows }
+        requires scalar { scalar < octets.size }
+        requires nonzero { scalar ≢ 0 }
+        requires octets { HasOctets self.old.table }
+        ensures multiplied { OnOk result (Performs (MulAssign dest scalar ∷ []) self.old self.new) }
+        ensures counted { OnOk result (additions self.new.operations ≡ additions self.old.operations) }
+        ensures err { IfErr result (λ e. e ≡ OutOfMemory) }
+    {
+        self.table.mul_assign_row(dest, &scalar);
+        self.operations.push(SymbolOps::MulAssign { dest, scalar })?;
+        Ok(())
+    }
+
+    /// Records that a multiple of a row is added to another one, of which no entry is read any more.
+    pub(super) fn record_sum(&mut self, dest: usize, src: usize, scalar: Octet) -> Result<(), Error>
+        requires two { dest ≢ src }
+        requires dest { dest < length self.old.table.rows }
+        requires src { src < length self.old.table.rows }
+        ensures recorded { OnOk result (Records (sum_step dest src scalar ∷ []) self.old self.new) }
+        ensures counted { OnOk result (additions self.new.operations ≡ additions self.old.operations + 1) }
+        ensures err { IfErr result (λ e. e ≡ OutOfMemory) }
+    {
+        self.operations.push(addition(dest, src, scalar))?;
+        Ok(())
+    }
+
+    /// A phase begins, or goes on.
+    pub(super) fn enter(&mut self, phase: Phase)
+        ensures { self.new ≡ self.old }
+    {
+        self.operations.enter(phase);
+    }
+
+    /// What was recorded.
+    pub(super) fn into_operations(self) -> OperationList
+        ensures { result ≡ self.operations }
+    {
+        let RecordedRows { operations, .. } = self;
+        operations
+    }
+}
+
+/// The operation that adds a multiple of a symbol.
+fn addition(dest: usize, src: usize, scalar: Octet) -> SymbolOps
+    ensures { operation_of result ≡ sum_step dest src scalar }
+{
+    if scalar.byte() == 1 {
+        SymbolOps::AddAssign { dest, src }
+    } else {
+        SymbolOps::FMA { dest, src, scalar }
+    }
+}
