@@ -1,8 +1,8 @@
 //! Laws of packets, blocks and answers: each is the contract of a function that does nothing.
 ghost use Rattle.raptorq.specs.Laws.{IntermediateSymbolsAreOnly, SourcePacketsAreSymbols, AnswerableIsOnlyObject, MorePacketsDetermine, MorePacketsAreAnswerable, AnswersStay, SameIdsAreAnswerable, SameIdsAnswerTheSame, JoiningUndoesCutting, CuttingUndoesJoining};
 
-/// A block has one column of intermediate symbols, where its row isn't singular: any two are the
-/// same below L (RFC 6330, sections 5.3.3 and 5.4.2).
+/// A block has no more than one column of intermediate symbols where its row isn't singular: any two
+/// are the same below L (RFC 6330, sections 5.3.3 and 5.4.2).
 pub fn only_intermediate_symbols()
     ensures { IntermediateSymbolsAreOnly }
 {}
