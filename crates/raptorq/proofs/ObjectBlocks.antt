@@ -15,7 +15,7 @@ use Rattle.rq_standard.specs.Configuration.{Configuration}
 use Rattle.rq_standard.specs.Cutting.{block_symbols}
 use Rattle.rq_standard.specs.TableRows.{no_row}
 use Rattle.rq_standard.specs.Held.{Held, nothing_held}
-use Rattle.rq_standard.specs.Standing.{State, new_held, new_answer, IsNewState, AddsToBlock, RecordsInBlock, IsSameElsewhere, Adds, Records, append_both, joined, result_of}
+use Rattle.rq_standard.specs.Standing.{State, new_held, new_answer, IsNewState, AddsToBlock, RecordsInBlock, IsSameElsewhere, Adds, RecordsOnly, append_both, joined, result_of}
 use Rattle.rq_standard.proofs.ObjectAnswers.{joined_some, joined_each, some_of}
 use Rattle.raptorq.specs.Blocks.{held_of}
 use Rattle.raptorq.specs.Objects.{held_at, answer_at, answer_of}
@@ -99,7 +99,7 @@ module _ (c : Configuration) (items : List ObjectBlock) (p : Packet) (x y : Obje
   adds_at : AddsToBlock (held_of x.decoder) (answer_of x) p (held_of y.decoder) (answer_of y) → Adds (state c items) p (state c (set items p.id.block y))
   adds_at add = record { here = shown_here AddsToBlock add; elsewhere = elsewhere c items p.id.block x y }
 
-  records_at : RecordsInBlock (held_of x.decoder) (answer_of x) p (held_of y.decoder) (answer_of y) → Records (state c items) p (state c (set items p.id.block y))
+  records_at : RecordsInBlock (held_of x.decoder) (answer_of x) p (held_of y.decoder) (answer_of y) → RecordsOnly (state c items) p (state c (set items p.id.block y))
   records_at more = record { here = shown_here RecordsInBlock more; elsewhere = elsewhere c items p.id.block x y }
 
   stays_at : held_of y.decoder ≡ held_of x.decoder → answer_of y ≡ answer_of x → state c (set items p.id.block y) ≡ state c items

@@ -4,7 +4,7 @@ use Rattle.rq_bytes.specs.declared.error.Error.{Error}
 use Rattle.rq_bytes.specs.declared.error.Error.TheVariants.{OutOfMemory}
 use Rattle.rq_standard.specs.Held.{Held}
 use Rattle.rq_standard.specs.Packet.{Packet}
-use Rattle.rq_standard.specs.Standing.{State, AddsToBlock, RecordsInBlock, Adds, Records, result_of}
+use Rattle.rq_standard.specs.Standing.{State, AddsToBlock, RecordsInBlock, Adds, RecordsOnly, result_of}
 use Rattle.raptorq.specs.declared.decoder.stopped.Stopped.{Stopped}
 use Rattle.raptorq.specs.declared.decoder.stopped.Stopped.TheVariants.{Refused, NotRecorded, NotSolved, NotJoined}
 
@@ -41,7 +41,7 @@ TakesInBlock old before p (Err (Refused e)) new after = ⊥
 -- the same of an object's decoder; a refused packet does nothing
 abbrev pub Takes : State → Packet → Result (Unit {0}) Stopped → State → Type 0
 Takes old p (Ok x) new = Adds old p new
-Takes old p (Err NotSolved) new = Records old p new
+Takes old p (Err NotSolved) new = RecordsOnly old p new
 Takes old p (Err NotRecorded) new = new ≡ old
 Takes old p (Err NotJoined) new = ⊥
 Takes old p (Err (Refused e)) new = new ≡ old
@@ -50,6 +50,6 @@ Takes old p (Err (Refused e)) new = new ≡ old
 abbrev pub TakesAndJoins : State → Packet → Result (Option (List ℕ)) Stopped → State → Type 0
 TakesAndJoins old p (Ok answer) new = Adds old p new × (answer ≡ result_of new)
 TakesAndJoins old p (Err NotJoined) new = Adds old p new
-TakesAndJoins old p (Err NotSolved) new = Records old p new
+TakesAndJoins old p (Err NotSolved) new = RecordsOnly old p new
 TakesAndJoins old p (Err NotRecorded) new = new ≡ old
 TakesAndJoins old p (Err (Refused e)) new = new ≡ old

@@ -4,7 +4,7 @@ use Rattle.std.proofs.lemmas.List.Elements.{All-weaker}
 use Rattle.rq_standard.specs.BitTableSteps.{ArePlacesOfOnes}
 use Rattle.rq_parts.specs.OctetTable.{OctetTable}
 use Rattle.rq_solver.specs.Cleared.{AreRowsOfBits, AreOctetRows}
-use Rattle.rq_solver.specs.Peeled.{AreOnesOfRows, ones_at}
+use Rattle.rq_solver.specs.Peeled.{AreOnesOfRows, ones_of}
 use Rattle.rq_solver.proofs.RowTurns.{count_contains}
 
 -- a row of zeros has no ones
@@ -19,7 +19,7 @@ no_places bit width (k ∷ places) are zeros =
 module _ (height width : ℕ) (bit : ℕ → ℕ → ℕ) (lists : List (List ℕ)) (are : AreOnesOfRows height width bit lists) where
   pub rows_of_bits : ((i k : ℕ) → i < height → k < width → bit i k < 2) → AreRowsOfBits width lists
   rows_of_bits bits = record {
-    within = λ i l. All-weaker (λ k. (0 ≤ k) × (k < width)) (λ k. k < width) (λ k b. b.1) (ones_at lists i) (are.each i (rw are.count at l)).within;
+    within = λ i l. All-weaker (λ k. (0 ≤ k) × (k < width)) (λ k. k < width) (λ k b. b.1) (ones_of lists i) (are.each i (rw are.count at l)).within;
     once = λ i k l m. let inside : i < height = rw are.count at l in omega (arith, (are.each i inside).once k (omega arith) m, bits i k inside m);
   }
 
@@ -27,7 +27,7 @@ module _ (height width : ℕ) (bit : ℕ → ℕ → ℕ) (lists : List (List �
   octet_rows first hdpc wide inside zeros = record {
     width_is = wide;
     within = rw are.count inside;
-    empty = λ i l. no_places (bit (first + i)) width (ones_at lists (first + i)) (are.each (first + i) (omega arith)) (λ k m. zeros i k l m);
+    empty = λ i l. no_places (bit (first + i)) width (ones_of lists (first + i)) (are.each (first + i) (omega arith)) (λ k m. zeros i k l m);
   }
 
   -- what is found of any bits with these ones is found of these bits

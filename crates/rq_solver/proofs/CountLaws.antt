@@ -9,7 +9,7 @@ use Rattle.rq_algebra.specs.Arrangements.{ArePlaces}
 use Rattle.rq_algebra.specs.Systems.{at, stacked}
 use Rattle.rq_algebra.proofs.Stacks.{stacked_above, stacked_below}
 use Rattle.rq_algebra.specs.Operations.{Operation, AddAssign, MulAssign, Fma, Reorder}
-use Rattle.rq_solver.specs.Counts.{additions, is_addition, triangle, triangle-none, triangle-more}
+use Rattle.rq_solver.specs.OperationCounts.{additions, is_addition, triangle, triangle-none, triangle-more}
 use Rattle.rq_solver.specs.OctetBatch.{batch_bound}
 use Rattle.rq_solver.specs.Recorded.{sum_step}
 use Rattle.rq_solver.proofs.PivotTurns.{if_same, if_apart, count_next, count_taken}

@@ -7,11 +7,11 @@ use Rattle.rq_algebra.specs.Operations.{Operation}
 use Rattle.rq_algebra.specs.Systems.{at}
 use Rattle.rq_algebra.proofs.Sums.{add_zero}
 use Rattle.rq_standard.specs.OctetField.{octets}
-use Rattle.rq_parts.specs.OctetTable.{entry_of}
+use Rattle.rq_parts.specs.OctetTable.{entry_of, HasOctets}
 use Rattle.rq_solver.specs.Cleared.{AreRowsOfBits, AreUnits, FinishesPivots, IsCleared, IsFinished, IsUncleared, TakesBack, TakesPivots, TakesReduced, one_in}
-use Rattle.rq_solver.specs.Peeled.{ones_at, IsPeeled}
+use Rattle.rq_solver.specs.Peeled.{ones_of, IsPeeled}
 use Rattle.rq_solver.specs.Recorded.{Recorded}
-use Rattle.rq_solver.specs.RowSteps.{AreRows, HasOctets, IsEchelon, IsStepAmong, rows_after}
+use Rattle.rq_solver.specs.RowSteps.{AreRows, IsEchelon, IsStepAmong, rows_after}
 use Rattle.rq_solver.proofs.Performing.{performs_none, performs_more}
 use Rattle.rq_solver.proofs.PivotTurns.{if_same, if_apart}
 use Rattle.rq_solver.proofs.RowTurns.{count_contains}
@@ -31,12 +31,12 @@ module _ (lists : List (List ℕ)) (rows order places : List ℕ) (width : ℕ) 
   -- a row has a one in its own pivot's column
   own_one : (p : ℕ) → p < length rows → one_in lists (at rows p) (at order p) ≡ 1
   own_one p l =
-      let some = count_contains (ones_at lists (at rows p)) (at order p) (peeled.own p l) in
+      let some = count_contains (ones_of lists (at rows p)) (at order p) (peeled.own p l) in
       let most = bits.once (at rows p) (at order p) (peeled.in_rows.below p l) (peeled.columns.ordered p (omega (arith, peeled.few))).0 in
       omega (arith, some, most)
 
   -- a row takes rows of earlier pivots alone
-  only_earlier : (p j : ℕ) → p < length rows → j < length rows → Contains (ones_at lists (at rows p)) (at order j) → at rows j ≢ at rows p → j < p
+  only_earlier : (p j : ℕ) → p < length rows → j < length rows → Contains (ones_of lists (at rows p)) (at order j) → at rows j ≢ at rows p → j < p
   only_earlier p j l n c d = elim (cases_lt j p) [
     | inl early ↦ early
     | inr late ↦
@@ -44,9 +44,9 @@ module _ (lists : List (List ℕ)) (rows order places : List ℕ) (width : ℕ) 
         absurd (peeled.later p j (omega arith) n c)
   ]
 
-  module _ (p : ℕ) (in_rows : p < length rows) (old new : Recorded) (taken : TakesPivots rows order (at rows p) (ones_at lists (at rows p)) old new) (m : ℕ → ℕ → ℕ)
+  module _ (p : ℕ) (in_rows : p < length rows) (old new : Recorded) (taken : TakesPivots rows order (at rows p) (ones_of lists (at rows p)) old new) (m : ℕ → ℕ → ℕ)
       (earlier : (j : ℕ) → j < p → j < length rows → IsCleared rows order m (at rows j)) where
-    needed : (j : ℕ) → j < length rows → Contains (ones_at lists (at rows p)) (at order j) → at rows j ≢ at rows p → IsCleared rows order m (at rows j)
+    needed : (j : ℕ) → j < length rows → Contains (ones_of lists (at rows p)) (at order j) → at rows j ≢ at rows p → IsCleared rows order m (at rows j)
     needed j n c d = earlier j (only_earlier p j in_rows n c d) n
 
     -- a cleared row is as it was, and one that is as it was is cleared
@@ -109,7 +109,7 @@ module _ (lists : List (List ℕ)) (rows order places : List ℕ) (width : ℕ) 
       ];
     }
 
-    module _ (new : Recorded) (taken : TakesPivots rows order (at rows q) (ones_at lists (at rows q)) cur new) (yes : get_or now q false ≡ true) where
+    module _ (new : Recorded) (taken : TakesPivots rows order (at rows q) (ones_of lists (at rows q)) cur new) (yes : get_or now q false ≡ true) where
       after_both : (m : ℕ → ℕ → ℕ) (r k : ℕ) → rows_after octets (v.steps ++ taken.steps) m r k ≡ rows_after octets taken.steps (rows_after octets v.steps m) r k
       after_both m r k = rows_after-next octets v.steps taken.steps m r k
 
@@ -214,7 +214,7 @@ module _ (lists : List (List ℕ)) (rows order places : List ℕ) (width : ℕ) 
         ];
       }
 
-      module _ (new : Recorded) (taken : TakesPivots rows order (at rows t) (ones_at lists (at rows t)) mid new) (yes : get_or marks t false ≡ true) where
+      module _ (new : Recorded) (taken : TakesPivots rows order (at rows t) (ones_of lists (at rows t)) mid new) (yes : get_or marks t false ≡ true) where
         all_is : (m : ℕ → ℕ → ℕ) (r k : ℕ) → rows_after octets ((v.steps ++ turn.steps) ++ taken.steps) m r k ≡ rows_after octets taken.steps (rows_after octets (v.steps ++ turn.steps) m) r k
         all_is m r k = rows_after-next octets (v.steps ++ turn.steps) taken.steps m r k
 

@@ -7,12 +7,12 @@ use Rattle.rq_algebra.specs.Steps.{AddsRow, ScalesRow}
 use Rattle.rq_algebra.specs.Systems.{at}
 use Rattle.rq_algebra.proofs.Sums.{add_zero, mul_zero, mul_one}
 use Rattle.rq_standard.specs.OctetField.{octets}
-use Rattle.rq_parts.specs.OctetTable.{OctetTable, entry_of}
+use Rattle.rq_parts.specs.OctetTable.{OctetTable, entry_of, HasOctets}
 use Rattle.rq_solver.specs.Cleared.{ClearsOctets}
 use Rattle.rq_solver.specs.OctetBatch.{AreOctetsIn, HasPivotsBeside, PivotsAreCleared, AreShown, CombinesOctets, ChangesOctets, HasZeros, HasZerosBefore}
 use Rattle.rq_solver.specs.Peeled.{IsOrderOf}
 use Rattle.rq_solver.specs.Recorded.{Recorded, sum_step, Performs}
-use Rattle.rq_solver.specs.RowSteps.{AreRows, HasOctets, rows_after}
+use Rattle.rq_solver.specs.RowSteps.{AreRows, rows_after}
 use Rattle.rq_solver.specs.RowWrites.{HoldsRows}
 use Rattle.rq_solver.proofs.StepColumns.{rows_after-none, rows_after-next, rows_after-zero, Contains-range}
 use Rattle.rq_solver.proofs.Performing.{sum_step-here, sum_step-elsewhere, scaling-here, scaling-elsewhere, performs_none, performs_more}

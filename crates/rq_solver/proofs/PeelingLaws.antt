@@ -6,15 +6,15 @@ use Rattle.std.proofs.lemmas.List.{length-append, get_or_push, get_or_default}
 use Rattle.std.proofs.Math.ListN.{get_or-append}
 use Rattle.rq_algebra.specs.Arrangements.{ArePlaces}
 use Rattle.rq_algebra.specs.Systems.{at}
-use Rattle.rq_solver.specs.Peeled.{ones_at, AreOnesOfRows, ColumnState, IsActive, TakesRow, IsPeeled, IsOrderOf, first_columns}
+use Rattle.rq_solver.specs.Peeled.{ones_of, AreOnesOfRows, ColumnState, IsActive, TakesRow, IsPeeled, IsOrderOf, first_columns}
 
 -- the pivots so far: none of their rows has an active column any more
 pub record IsPeeledSo (lists : List (List ℕ)) (rows : List ℕ) (state : ColumnState) : Type 0 where
   pub count : length rows ≡ state.pivots
   pub in_rows : ArePlaces (length rows) (length lists) (at rows)
-  pub own : (p : ℕ) → p < length rows → Contains (ones_at lists (at rows p)) (at state.order p)
-  pub later : (p q : ℕ) → p < q → q < length rows → Contains (ones_at lists (at rows p)) (at state.order q) → ⊥
-  pub ended : (p k : ℕ) → p < length rows → Contains (ones_at lists (at rows p)) k → IsActive state k → ⊥
+  pub own : (p : ℕ) → p < length rows → Contains (ones_of lists (at rows p)) (at state.order p)
+  pub later : (p q : ℕ) → p < q → q < length rows → Contains (ones_of lists (at rows p)) (at state.order q) → ⊥
+  pub ended : (p k : ℕ) → p < length rows → Contains (ones_of lists (at rows p)) k → IsActive state k → ⊥
 
 pub peeled_none : (lists : List (List ℕ)) (width boundary : ℕ) → IsPeeledSo lists [] (first_columns width boundary)
 peeled_none lists width boundary = record {
@@ -29,7 +29,7 @@ peeled_none lists width boundary = record {
 of_contained : (P : ℕ → Type 0) (xs : List ℕ) (x : ℕ) → All P xs → Contains xs x → P x
 of_contained P xs x all is = subst P is.2 (all is.0 x is.1)
 
-module _ (lists : List (List ℕ)) (rows : List ℕ) (old new : ColumnState) (columns : All (λ row. All (λ column. column < length old.order) row) lists) (so : IsPeeledSo lists rows old) (row : ℕ) (in_row : row < length lists) (takes : TakesRow (ones_at lists row) old new) where
+module _ (lists : List (List ℕ)) (rows : List ℕ) (old new : ColumnState) (columns : All (λ row. All (λ column. column < length old.order) row) lists) (so : IsPeeledSo lists rows old) (row : ℕ) (in_row : row < length lists) (takes : TakesRow (ones_of lists row) old new) where
   one_more : length (rows ++ row ∷ []) ≡ length rows + 1
   one_more = length-append rows (row ∷ [])
 
@@ -43,12 +43,12 @@ module _ (lists : List (List ℕ)) (rows : List ℕ) (old new : ColumnState) (co
   column_kept p l = takes.before p (omega (arith, so.count))
 
   -- the column of the new pivot is in none of the rows before
-  apart_before : (p : ℕ) → p < length rows → Contains (ones_at lists (at rows p)) (at new.order old.pivots) → ⊥
+  apart_before : (p : ℕ) → p < length rows → Contains (ones_of lists (at rows p)) (at new.order old.pivots) → ⊥
   apart_before p l is = so.ended p (at new.order old.pivots) l is takes.was
 
   rows_apart : (i j : ℕ) → i < length rows + 1 → j < length rows + 1 → at (rows ++ row ∷ []) i ≡ at (rows ++ row ∷ []) j → i ≡ j
   rows_apart i j l m e =
-      let other = λ (p : ℕ) (in_p : p < length rows) (same : at rows p ≡ row). apart_before p in_p (subst (λ (r : ℕ). Contains (ones_at lists r) (at new.order old.pivots)) (sym same) takes.own) in
+      let other = λ (p : ℕ) (in_p : p < length rows) (same : at rows p ≡ row). apart_before p in_p (subst (λ (r : ℕ). Contains (ones_of lists r) (at new.order old.pivots)) (sym same) takes.own) in
       elim (cases_lt i (length rows)) [
         | inl first ↦
             elim (cases_lt j (length rows)) [
@@ -82,20 +82,20 @@ module _ (lists : List (List ℕ)) (rows : List ℕ) (old new : ColumnState) (co
         ];
     later = λ p q l m is.
         let before : p < length rows = omega (arith, one_more) in
-        let in_old = subst (λ (r : ℕ). Contains (ones_at lists r) (at new.order q)) (row_kept p before) is in
+        let in_old = subst (λ (r : ℕ). Contains (ones_of lists r) (at new.order q)) (row_kept p before) is in
         elim (cases_lt q (length rows)) [
-          | inl second ↦ so.later p q l second (subst (Contains (ones_at lists (at rows p))) (column_kept q second) in_old)
+          | inl second ↦ so.later p q l second (subst (Contains (ones_of lists (at rows p))) (column_kept q second) in_old)
           | inr after ↦
               let here : q ≡ old.pivots = omega (arith, one_more, so.count) in
-              apart_before p before (subst (λ (j : ℕ). Contains (ones_at lists (at rows p)) (at new.order j)) here in_old)
+              apart_before p before (subst (λ (j : ℕ). Contains (ones_of lists (at rows p)) (at new.order j)) here in_old)
         ];
     ended = λ p k l is active.
         elim (cases_lt p (length rows)) [
           | inl before ↦
-              let in_old = subst (λ (r : ℕ). Contains (ones_at lists r) k) (row_kept p before) is in
-              let below = of_contained (λ (c : ℕ). c < length old.order) (ones_at lists (at rows p)) k (columns (at rows p) [] (so.in_rows.below p before)) in_old in
+              let in_old = subst (λ (r : ℕ). Contains (ones_of lists r) k) (row_kept p before) is in
+              let below = of_contained (λ (c : ℕ). c < length old.order) (ones_of lists (at rows p)) k (columns (at rows p) [] (so.in_rows.below p before)) in_old in
               so.ended p k before in_old (takes.left k below active)
-          | inr after ↦ takes.ended k (subst (λ (r : ℕ). Contains (ones_at lists r) k) (row_new p (omega (arith, one_more))) is) active
+          | inr after ↦ takes.ended k (subst (λ (r : ℕ). Contains (ones_of lists r) k) (row_new p (omega (arith, one_more))) is) active
         ];
   }
 
@@ -112,5 +112,5 @@ peeled_all lists rows state width so few columns = record {
 -- the columns of a matrix's rows are below its width
 pub columns_below : (height width : ℕ) (bit : ℕ → ℕ → ℕ) (lists : List (List ℕ)) → AreOnesOfRows height width bit lists → All (λ row. All (λ column. column < width) row) lists
 columns_below height width bit lists ones i d l j e m =
-    let same : get_or lists i d ≡ ones_at lists i = get_or_default lists i d [] l in
+    let same : get_or lists i d ≡ ones_of lists i = get_or_default lists i d [] l in
     rw same ((ones.each i (omega (arith, ones.count))).within j e (rw same at m)).1

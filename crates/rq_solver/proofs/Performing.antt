@@ -10,9 +10,9 @@ use Rattle.rq_algebra.specs.Systems.{at}
 use Rattle.rq_algebra.proofs.Changes.{find_place}
 use Rattle.rq_algebra.specs.Operations.{Operation, AddAssign, MulAssign, Fma, Reorder}
 use Rattle.rq_standard.specs.OctetField.{octets}
-use Rattle.rq_parts.specs.OctetTable.{entry_of}
+use Rattle.rq_parts.specs.OctetTable.{entry_of, HasOctets}
 use Rattle.rq_solver.specs.Recorded.{Recorded, sum_step, Performs, Records, ChangesRows}
-use Rattle.rq_solver.specs.RowSteps.{HasOctets, row_step, rows_after, IsStepAmong}
+use Rattle.rq_solver.specs.RowSteps.{row_step, rows_after, IsStepAmong}
 use Rattle.rq_solver.proofs.RowStepLaws.{rows_after-same}
 use Rattle.rq_solver.proofs.StepColumns.{changed_here, changed_other, rows_after-none, rows_after-next, rows_after-column, rows_after-apart, rows_after-zero, Contains-range}
 

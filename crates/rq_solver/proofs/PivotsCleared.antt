@@ -7,7 +7,7 @@ use Rattle.rq_algebra.specs.Systems.{at}
 use Rattle.rq_standard.specs.OctetField.{octets}
 use Rattle.rq_parts.specs.OctetTable.{OctetTable, entry_of}
 use Rattle.rq_solver.specs.Cleared.{AreRowsOfBits, AreOctetRows, ListsRows, IsCleared, IsUncleared, ClearsRows, ClearsOctets, HasLeading, HasPeeledPivots, one_in, system_rows}
-use Rattle.rq_solver.specs.Peeled.{ones_at, IsPeeled}
+use Rattle.rq_solver.specs.Peeled.{ones_of, IsPeeled}
 use Rattle.rq_solver.specs.Recorded.{Recorded, Performs}
 use Rattle.rq_solver.specs.RowSteps.{rows_after}
 use Rattle.rq_solver.proofs.OctetRows.{octet_row, bit_row, octet_row_or_bit_row}
@@ -70,7 +70,7 @@ module _ (lists : List (List ℕ)) (first : ℕ) (hdpc : OctetTable) where
       -- a pivot's row is one of bits
       pub pivot_of_bits : (p i : ℕ) → p < length rows → i < length hdpc.rows → first + i ≢ at rows p
       pivot_of_bits p i l n e =
-          let none : ones_at lists (at rows p) ≡ [] = ap (ones_at lists) (sym e) ∙ are.empty i n in
+          let none : ones_of lists (at rows p) ≡ [] = ap (ones_of lists) (sym e) ∙ are.empty i n in
           let own : Contains [] (at order p) = subst (λ (xs : List ℕ). Contains xs (at order p)) none (peeled.own p l) in
           omega (arith, own.1)
 

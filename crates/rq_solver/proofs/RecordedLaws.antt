@@ -3,10 +3,9 @@ use Rattle.std.proofs.Common.{◌≡◌, ◌≢◌, ℕ, ◌+◌, ◌<◌, List,
 use Rattle.std.proofs.lemmas.List.{length-set}
 use Rattle.rq_algebra.specs.Operations.{Operation, MulAssign}
 use Rattle.rq_standard.specs.Rows.{row_sum, row_multiple}
-use Rattle.rq_parts.specs.OctetTable.{OctetTable, row_at, with_row}
-use Rattle.rq_solver.specs.Counts.{additions}
+use Rattle.rq_parts.specs.OctetTable.{OctetTable, row_at, with_row, HasOctets}
+use Rattle.rq_solver.specs.OperationCounts.{additions}
 use Rattle.rq_solver.specs.Recorded.{Recorded, Performs, Records, sum_step}
-use Rattle.rq_solver.specs.RowSteps.{HasOctets}
 use Rattle.rq_solver.proofs.CountLaws.{additions-sum, additions-scaling}
 use Rattle.rq_solver.proofs.Entries.{multiplied_row, multiplied_octets, summed_row, summed_octets}
 use Rattle.rq_solver.proofs.Performing.{performs_sum, performs_scaling, one_sum}

@@ -15,7 +15,7 @@ use Rattle.rq_standard.specs.BitTableSteps as steps
 use Rattle.rq_standard.proofs.BitTableLaws.{is_one_at-one, is_one_at-zero, is_one_at-other, ones_at-cons}
 use Rattle.rq_parts.specs.Lists.{lists_between}
 use Rattle.rq_parts.proofs.KeyedLists.{list_read, length-lists}
-use Rattle.rq_solver.specs.Peeled.{ones_at, AreOnesOfRows, AddsOnes, AreAllBetween}
+use Rattle.rq_solver.specs.Peeled.{ones_of, AreOnesOfRows, AddsOnes, AreAllBetween}
 
 -- ---- the places of a row's ones
 
@@ -150,13 +150,13 @@ module _ (old new : List ℕ) (kept : take (length old) new ≡ old) where
       last = start_new (length (starts ++ length new ∷ []) - 1) (omega (arith, one_more));
     }
 
-    list_kept : (i : ℕ) → i + 1 < length starts → ones_at (lists_between (starts ++ length new ∷ []) new) i ≡ ones_at (lists_between starts old) i
+    list_kept : (i : ℕ) → i + 1 < length starts → ones_of (lists_between (starts ++ length new ∷ []) new) i ≡ ones_of (lists_between starts old) i
     list_kept i lt =
         sym (list_read (starts ++ length new ∷ []) new i (omega (arith, one_more)))
         ∙ rw (start_kept i (omega arith), start_kept (i + 1) lt) (range_kept (slice_index starts i) (slice_index starts (i + 1)) (all.rise.rise i lt) (all.rise.within (i + 1) lt))
         ∙ list_read starts old i lt
 
-    list_new : (i : ℕ) → i + 1 ≡ length starts → ones_at (lists_between (starts ++ length new ∷ []) new) i ≡ drop (length old) new
+    list_new : (i : ℕ) → i + 1 ≡ length starts → ones_of (lists_between (starts ++ length new ∷ []) new) i ≡ drop (length old) new
     list_new i is =
         sym (list_read (starts ++ length new ∷ []) new i (omega (arith, one_more)))
         ∙ rw (start_kept i (omega arith), start_new (i + 1) is, start_old i is) (take_rest new (length old))

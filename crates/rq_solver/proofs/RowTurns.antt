@@ -8,9 +8,10 @@ use Rattle.rq_algebra.specs.Systems.{at}
 use Rattle.rq_algebra.proofs.Sums.{add_zero}
 use Rattle.rq_standard.specs.OctetField.{octets}
 use Rattle.rq_solver.specs.Cleared.{AreRowsOfBits, ListsRows, IsCleared, IsUncleared, TakesPivots, ClearsRows, one_in}
-use Rattle.rq_solver.specs.Peeled.{ones_at, IsPeeled}
+use Rattle.rq_solver.specs.Peeled.{ones_of, IsPeeled}
 use Rattle.rq_solver.specs.Recorded.{Recorded}
-use Rattle.rq_solver.specs.RowSteps.{HasOctets, rows_after}
+use Rattle.rq_solver.specs.RowSteps.{rows_after}
+use Rattle.rq_parts.specs.OctetTable.{HasOctets}
 use Rattle.rq_solver.proofs.StepColumns.{rows_after-none, rows_after-next}
 use Rattle.rq_solver.proofs.Performing.{performs_none, performs_more}
 use Rattle.rq_solver.proofs.PivotTurns.{if_same, if_apart, count_next, count_taken}
@@ -32,7 +33,7 @@ module _ (lists : List (List ℕ)) (rows order listed : List ℕ) where
   }
 
   module _ (width : ℕ) (places : List ℕ) (bits : AreRowsOfBits width lists) (peeled : IsPeeled width lists rows order places) (listing : ListsRows (length lists) rows listed) (t : ℕ) (in_listed : t < length listed)
-      (old cur new : Recorded) (v : ClearsRows lists rows order listed t old cur) (taken : TakesPivots rows order (at listed t) (ones_at lists (at listed t)) cur new) where
+      (old cur new : Recorded) (v : ClearsRows lists rows order listed t old cur) (taken : TakesPivots rows order (at listed t) (ones_of lists (at listed t)) cur new) where
     all_steps : List Operation
     all_steps = v.steps ++ taken.steps
 
@@ -48,11 +49,11 @@ module _ (lists : List (List ℕ)) (rows order listed : List ℕ) where
       stays : (i k : ℕ) → i ≢ at listed t → rows_after octets all_steps m i k ≡ now i k
       stays i k d = after_all i k ∙ taken.elsewhere now i k d
 
-      idle_next : (i k : ℕ) → ones_at lists i ≡ [] → rows_after octets all_steps m i k ≡ m i k
+      idle_next : (i k : ℕ) → ones_of lists i ≡ [] → rows_after octets all_steps m i k ≡ m i k
       unfolding now
       idle_next i k e = elim (cases_eq i (at listed t)) [
         | inl s ↦
-            let nothing : taken.steps ≡ [] = taken.idle (ap (ones_at lists) (sym s) ∙ e) in
+            let nothing : taken.steps ≡ [] = taken.idle (ap (ones_of lists) (sym s) ∙ e) in
             after_all i k ∙ ap (λ (l : List Operation). rows_after octets l now i k) nothing ∙ rows_after-none octets now i k ∙ v.idle m i k e
         | inr d ↦ stays i k d ∙ v.idle m i k e
       ]
@@ -63,14 +64,14 @@ module _ (lists : List (List ℕ)) (rows order listed : List ℕ) where
         earlier j l before_t = subst (IsCleared rows order now) (listing.starts j l) (v.cleared m pivots j before_t (subst (IsUncleared lists rows order m) (sym (listing.starts j l)) (pivots j l)))
 
         -- a pivot whose row this one takes stands before it
-        needed : (j : ℕ) → j < length rows → Contains (ones_at lists (at listed t)) (at order j) → at rows j ≢ at listed t → IsCleared rows order now (at rows j)
+        needed : (j : ℕ) → j < length rows → Contains (ones_of lists (at listed t)) (at order j) → at rows j ≢ at listed t → IsCleared rows order now (at rows j)
         needed j l c d = elim (cases_lt j t) [
           | inl first ↦ earlier j l first
           | inr late ↦
               let in_rows : t < length rows = omega arith in
               let same : at listed t ≡ at rows t = listing.starts t in_rows in
               let apart : j ≢ t = (λ e. d (ap (at rows) e ∙ sym same)) in
-              absurd (peeled.later t j (omega arith) l (subst (λ (r : ℕ). Contains (ones_at lists r) (at order j)) same c))
+              absurd (peeled.later t j (omega arith) l (subst (λ (r : ℕ). Contains (ones_of lists r) (at order j)) same c))
         ]
 
         cleared_now : IsUncleared lists rows order m (at listed t) → IsCleared rows order (rows_after octets all_steps m) (at listed t)
@@ -83,7 +84,7 @@ module _ (lists : List (List ℕ)) (rows order listed : List ℕ) where
               after_all row (at order i) ∙ taken.taken now (λ j n c d. needed j n c d) i l ∙ ap (λ (x : ℕ). octets.add x (if at rows i == row then 0 else bit)) had
               ∙ elim (cases_eq (at rows i) row) [
                 | inl e ↦
-                    let some = count_contains (ones_at lists row) (at order i) (subst (λ (r : ℕ). Contains (ones_at lists r) (at order i)) e (peeled.own i l)) in
+                    let some = count_contains (ones_of lists row) (at order i) (subst (λ (r : ℕ). Contains (ones_of lists r) (at order i)) e (peeled.own i l)) in
                     let most = bits.once row (at order i) (listing.are.below t in_listed) (peeled.columns.ordered i (omega (arith, peeled.few))).0 in
                     let one : bit ≡ 1 = omega (arith, some, most) in
                     ap (octets.add bit) (if_same (at rows i) row 0 bit e) ∙ add_zero octets bit ∙ one ∙ sym (if_same (at rows i) row 1 0 e)

@@ -4,9 +4,8 @@ use Rattle.std.specs.List.{count_by}
 use Rattle.std.proofs.lemmas.Bool.{cases_eq}
 use Rattle.rq_algebra.specs.Systems.{at}
 use Rattle.rq_algebra.proofs.Changes.{with_at, with_at_same, with_at_other}
-use Rattle.rq_parts.specs.OctetTable.{OctetTable, entry_of}
+use Rattle.rq_parts.specs.OctetTable.{OctetTable, entry_of, HasOctets}
 use Rattle.rq_solver.specs.Peeled.{IsOrderOf}
-use Rattle.rq_solver.specs.RowSteps.{HasOctets}
 use Rattle.rq_solver.specs.RowWrites.{WritesRow}
 use Rattle.rq_solver.proofs.Writes.{SetsEntry, writes_wanted, writes_again, writes_same}
 use Rattle.rq_solver.proofs.PivotTurns.{count_next, count_skipped, count_taken}

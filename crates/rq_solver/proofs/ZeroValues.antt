@@ -6,9 +6,8 @@ use Rattle.rq_algebra.proofs.Solutions.{SameSolutions-refl, SameSolutions-trans,
 use Rattle.rq_algebra.proofs.Sums.{mul_zero}
 use Rattle.rq_standard.specs.OctetField.{octets}
 use Rattle.rq_standard.specs.Rows.{row_sum, row_multiple}
-use Rattle.rq_parts.specs.OctetTable.{OctetTable, row_at, with_row, entry_of}
+use Rattle.rq_parts.specs.OctetTable.{OctetTable, row_at, with_row, entry_of, HasOctets}
 use Rattle.rq_solver.specs.Homogeneous.{KeepsZeros}
-use Rattle.rq_solver.specs.RowSteps.{HasOctets}
 use Rattle.rq_solver.proofs.Entries.{multiplied_row, multiplied_octets, summed_row, summed_octets}
 
 pub keeps_none : (table : OctetTable) → HasOctets table → KeepsZeros table table

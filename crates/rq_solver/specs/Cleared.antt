@@ -6,21 +6,21 @@ use Rattle.rq_algebra.specs.Systems.{at, HasElements}
 use Rattle.rq_algebra.specs.Operations.{Operation}
 use Rattle.rq_standard.specs.ConstraintMatrix.{with_octet_rows}
 use Rattle.rq_standard.specs.OctetField.{octets}
-use Rattle.rq_parts.specs.OctetTable.{OctetTable, entry_of}
-use Rattle.rq_solver.specs.Peeled.{ones_at, IsPeeled}
+use Rattle.rq_parts.specs.OctetTable.{OctetTable, entry_of, HasOctets}
+use Rattle.rq_solver.specs.Peeled.{ones_of, IsPeeled}
 use Rattle.rq_solver.specs.Recorded.{Recorded, ChangesRows, Performs, Records}
-use Rattle.rq_solver.specs.RowSteps.{HasOctets, IsStuck, rows_after, IsStepAmong}
+use Rattle.rq_solver.specs.RowSteps.{IsStuck, rows_after, IsStepAmong}
 use Rattle.rq_solver.specs.declared.pi_solver.peeling.Peeling.{Peeling}
 
 -- ---- the rows
 
 -- how often a row of bits has a one in column k
 abbrev pub one_in : List (List ℕ) → ℕ → ℕ → ℕ
-one_in lists i k = count_by (λ column. column == k) (ones_at lists i)
+one_in lists i k = count_by (λ column. column == k) (ones_of lists i)
 
 -- the ones of rows stand in columns below the width, and at most once in each
 pub record AreRowsOfBits (width : ℕ) (lists : List (List ℕ)) : Type 0 where
-  pub within : (i : ℕ) → i < length lists → All (λ column. column < width) (ones_at lists i)
+  pub within : (i : ℕ) → i < length lists → All (λ column. column < width) (ones_of lists i)
   pub once : (i k : ℕ) → i < length lists → k < width → one_in lists i k ≤ 1
 
 -- pivots among rows of bits
@@ -32,7 +32,7 @@ pub record PeelsRows (lists : List (List ℕ)) (peeling : Peeling) : Type 0 wher
 pub record AreOctetRows (lists : List (List ℕ)) (first width : ℕ) (hdpc : OctetTable) : Type 0 where
   pub width_is : hdpc.width ≡ width
   pub within : first + length hdpc.rows ≤ length lists
-  pub empty : (i : ℕ) → i < length hdpc.rows → ones_at lists (first + i) ≡ []
+  pub empty : (i : ℕ) → i < length hdpc.rows → ones_of lists (first + i) ≡ []
 
 -- the rows of bits, but from row `first` on those of octets
 abbrev pub system_rows : List (List ℕ) → ℕ → OctetTable → ℕ → ℕ → ℕ
@@ -84,7 +84,7 @@ pub record TakesPivots (rows order : List ℕ) (row : ℕ) (columns : List ℕ) 
 pub record ClearsRows (lists : List (List ℕ)) (rows order listed : List ℕ) (done : ℕ) (old new : Recorded) : Type 0 where
   pub steps : List Operation
   pub performs : Performs steps old new
-  pub idle : (m : ℕ → ℕ → ℕ) (i k : ℕ) → ones_at lists i ≡ [] → rows_after octets steps m i k ≡ m i k
+  pub idle : (m : ℕ → ℕ → ℕ) (i k : ℕ) → ones_of lists i ≡ [] → rows_after octets steps m i k ≡ m i k
   pub rest : (m : ℕ → ℕ → ℕ) (s k : ℕ) → done ≤ s → s < length listed → rows_after octets steps m (at listed s) k ≡ m (at listed s) k
   pub cleared : (m : ℕ → ℕ → ℕ) → ((p : ℕ) → p < length rows → IsUncleared lists rows order m (at rows p))
       → (s : ℕ) → s < done → IsUncleared lists rows order m (at listed s) → IsCleared rows order (rows_after octets steps m) (at listed s)

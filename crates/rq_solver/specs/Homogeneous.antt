@@ -3,9 +3,11 @@ use Rattle.std.specs.Prelude.{◌≡◌, ◌≢◌, ℕ, ◌<◌, ◌≤◌, Lis
 use Rattle.std.specs.Global.{Global}
 use Rattle.rq_algebra.specs.Steps.{SameSolutions}
 use Rattle.rq_algebra.specs.Systems.{at, IsColumn, IsDetermined, Solves}
+use Rattle.rq_standard.specs.BitTable.{BitTable}
+use Rattle.rq_standard.specs.ConstraintMatrix.{with_octet_rows}
 use Rattle.rq_standard.specs.OctetField.{octets}
-use Rattle.rq_parts.specs.OctetTable.{OctetTable, entry_of}
-use Rattle.rq_solver.specs.RowSteps.{HasOctets, IsReduced}
+use Rattle.rq_parts.specs.OctetTable.{OctetTable, entry_of, HasOctets}
+use Rattle.rq_solver.specs.RowSteps.{IsReduced}
 
 -- octets, not all of them zero, that solve the rows with all values zero
 pub record IsHomogeneousColumn (height width : ℕ) (rows : ℕ → ℕ → ℕ) (column : List ℕ) : Type 0 where
@@ -19,6 +21,10 @@ pub record IsHomogeneousColumn (height width : ℕ) (rows : ℕ → ℕ → ℕ)
 -- such a column, and none where only zeros solve the rows
 abbrev pub ShowsHomogeneous : ℕ → ℕ → (ℕ → ℕ → ℕ) → Option (Vec ℕ Global) → Type 0
 ShowsHomogeneous height width rows answer = MatchOption answer (IsDetermined octets height width rows) (λ column. IsHomogeneousColumn height width rows column.items)
+
+-- the same of the rows of a matrix of bits, but those of a matrix of octets in the places from `first` on
+abbrev pub ShowsHomogeneousRows : BitTable → OctetTable → ℕ → Option (Vec ℕ Global) → Type 0
+ShowsHomogeneousRows bits octet_rows first = ShowsHomogeneous bits.height bits.width (with_octet_rows first (length octet_rows.rows) bits.bit (entry_of octet_rows))
 
 -- with all values zero the rows of both tables have the same solutions
 pub record KeepsZeros (old new : OctetTable) : Type 0 where

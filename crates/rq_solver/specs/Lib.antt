@@ -1,8 +1,8 @@
 pub mod Cleared
-pub mod Counts
 pub mod FirstPhaseRowSelectionStats
 pub mod Homogeneous
 pub mod Listing
+pub mod OperationCounts
 pub mod OctetBatch
 pub mod Peeled
 pub mod PhaseCounts

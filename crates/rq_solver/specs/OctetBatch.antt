@@ -3,11 +3,11 @@ use Rattle.std.specs.Prelude.{◌≡◌, ◌≢◌, ℕ, ◌+◌, ◌-◌, ◌*�
 use Rattle.rq_algebra.specs.Systems.{at, sum_below}
 use Rattle.rq_algebra.specs.Operations.{Operation}
 use Rattle.rq_standard.specs.OctetField.{octets}
-use Rattle.rq_parts.specs.OctetTable.{OctetTable, entry_of}
+use Rattle.rq_parts.specs.OctetTable.{OctetTable, entry_of, HasOctets}
 use Rattle.rq_solver.specs.Cleared.{IsCleared}
 use Rattle.rq_solver.specs.Peeled.{IsOrderOf}
 use Rattle.rq_solver.specs.Recorded.{Recorded, Performs}
-use Rattle.rq_solver.specs.RowSteps.{AreRows, HasOctets, rows_after}
+use Rattle.rq_solver.specs.RowSteps.{AreRows, rows_after}
 
 -- the HDPC rows stand in a table from row `first` on
 pub record AreOctetsIn (first : ℕ) (current : OctetTable) (state : Recorded) : Type 0 where

@@ -9,8 +9,8 @@ use Rattle.rq_parts.specs.Lists.{AreStarts}
 use Rattle.rq_solver.specs.declared.pi_solver.links.Link.{Link}
 
 -- the columns in which row i has its ones
-abbrev pub ones_at : List (List ℕ) → ℕ → List ℕ
-ones_at lists i = slice_index_or lists i []
+abbrev pub ones_of : List (List ℕ) → ℕ → List ℕ
+ones_of lists i = slice_index_or lists i []
 
 -- the lists between starts are all of the values
 pub record AreAllBetween (starts values : List ℕ) : Type 0 where
@@ -21,7 +21,7 @@ pub record AreAllBetween (starts values : List ℕ) : Type 0 where
 -- for each row of bits the columns of its ones, each once
 pub record AreOnesOfRows (height width : ℕ) (bit : ℕ → ℕ → ℕ) (lists : List (List ℕ)) : Type 0 where
   pub count : length lists ≡ height
-  pub each : (i : ℕ) → i < height → ArePlacesOfOnes (bit i) 0 width (ones_at lists i)
+  pub each : (i : ℕ) → i < height → ArePlacesOfOnes (bit i) 0 width (ones_of lists i)
 
 -- behind a list of columns, which stays as it was, those of a row's ones
 pub record AddsOnes (bit : ℕ → ℕ) (width : ℕ) (old new : List ℕ) : Type 0 where
@@ -40,8 +40,8 @@ pub record IsPeeled (width : ℕ) (lists : List (List ℕ)) (rows order places :
   pub few : length rows ≤ width
   pub in_rows : ArePlaces (length rows) (length lists) (at rows)
   pub columns : IsOrderOf width order places
-  pub own : (p : ℕ) → p < length rows → Contains (ones_at lists (at rows p)) (at order p)
-  pub later : (p q : ℕ) → p < q → q < length rows → Contains (ones_at lists (at rows p)) (at order q) → ⊥
+  pub own : (p : ℕ) → p < length rows → Contains (ones_of lists (at rows p)) (at order p)
+  pub later : (p q : ℕ) → p < q → q < length rows → Contains (ones_of lists (at rows p)) (at order q) → ⊥
 
 -- ---- on the way
 

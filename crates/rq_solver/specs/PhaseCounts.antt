@@ -1,7 +1,7 @@
 -- Counts by phase, and the operations that they count.
 use Rattle.std.specs.Prelude.{◌≡◌, ℕ, ◌+◌, List}
 use Rattle.rq_algebra.specs.Operations.{Operation}
-use Rattle.rq_solver.specs.Counts.{additions, multiplications}
+use Rattle.rq_solver.specs.OperationCounts.{additions, multiplications}
 use Rattle.rq_solver.specs.declared.pi_solver.counts.OperationCounts.{OperationCounts}
 use Rattle.rq_solver.specs.declared.pi_solver.counts.PhaseCounts.{PhaseCounts}
 

@@ -9,11 +9,6 @@ use Rattle.rq_algebra.proofs.Changes.{with_at}
 use Rattle.rq_standard.specs.OctetField.{octets}
 use Rattle.rq_parts.specs.OctetTable.{OctetTable, entry_of}
 
--- its rows are octets, as many as it is wide
-pub record HasOctets (table : OctetTable) : Type 0 where
-  pub widths : All (λ row. length row ≡ table.width) table.rows
-  pub elements : HasElements octets (length table.rows) table.width (entry_of table)
-
 -- rows of a table, no two of them the same
 abbrev pub AreRows : List ℕ → OctetTable → Type 0
 AreRows rows table = ArePlaces (length rows) (length table.rows) (at rows)

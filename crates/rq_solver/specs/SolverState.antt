@@ -8,8 +8,8 @@ use Rattle.rq_solver.specs.declared.pi_solver.IntermediateSymbolDecoder.{Interme
 use Rattle.rq_parts.specs.OctetTable.{entry_of}
 
 -- its equations, and its symbols until it has run
-abbrev pub state_of : {T : Type 0} {bits : matrix.Ghosts T} {clones : clone.Ghosts T} → IntermediateSymbolDecoder T bits clones → Solver
-state_of {T} {bits} {clones} solver = record {
+abbrev pub solver_state : {T : Type 0} {bits : matrix.Ghosts T} {clones : clone.Ghosts T} → IntermediateSymbolDecoder T bits clones → Solver
+solver_state {T} {bits} {clones} solver = record {
   height = (bits.content solver.matrix).height;
   width = (bits.content solver.matrix).width;
   rows = with_octet_rows solver.first_hdpc (length solver.hdpc.rows) (bits.content solver.matrix).bit (entry_of solver.hdpc);

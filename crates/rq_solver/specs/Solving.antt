@@ -13,7 +13,7 @@ use Rattle.rq_bytes.specs.Slab.{Slab, HasPlace, symbol_in}
 use Rattle.rq_bytes.specs.SymbolOps.{operation_of}
 use Rattle.rq_bytes.specs.declared.operation_vector.SymbolOps.{SymbolOps}
 use Rattle.rq_parts.specs.OctetTable.{OctetTable, entry_of}
-use Rattle.rq_solver.specs.Counts.{additions, multiplications}
+use Rattle.rq_solver.specs.OperationCounts.{additions, multiplications}
 use Rattle.rq_solver.specs.Replay.{after_all}
 
 -- the equations of a block of that row of the table: a matrix of bits, in which the HDPC rows are zeros, the HDPC rows as octets, and a
@@ -53,6 +53,10 @@ solver_of row bits hdpc handed = record {
 pub record CountsOperations (solver : Solver) (operations : List Operation) : Type 0 where
   pub additions_are : sum solver.additions ≡ additions operations
   pub multiplications_are : sum solver.multiplications ≡ multiplications operations
+
+-- after it has run: no symbols and the same equations, whatever it counted
+abbrev pub IsSpent : Solver → Solver → Type 0
+IsSpent old new = new ≡ record old { symbols = None; additions = new.additions; multiplications = new.multiplications }
 
 -- the slab has the symbols that solve the rows, and the operations find them from any symbols
 pub record IsSolution (height width : ℕ) (rows : ℕ → ℕ → ℕ) (handed slab : Slab) (operations : List Operation) : Type 0 where

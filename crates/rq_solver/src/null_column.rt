@@ -4,10 +4,9 @@ ghost use Rattle.rq_algebra.proofs.Elimination.{ClearsColumn};
 ghost use Rattle.rq_algebra.specs.Steps.{AddsRow, ScalesRow};
 ghost use Rattle.rq_algebra.specs.Systems.{at};
 ghost use Rattle.rq_bytes.specs.declared.error.Error.TheVariants.{OutOfMemory};
-ghost use Rattle.rq_parts.specs.OctetTable.{entry_of};
-ghost use Rattle.rq_solver.specs.Homogeneous.{ShowsHomogeneous, KeepsZeros, LacksPivot};
-ghost use Rattle.rq_solver.specs.RowSteps.{HasOctets, AreRows, IsReduced};
-ghost use Rattle.rq_standard.specs.ConstraintMatrix.{with_octet_rows};
+ghost use Rattle.rq_parts.specs.OctetTable.{entry_of, HasOctets};
+ghost use Rattle.rq_solver.specs.Homogeneous.{ShowsHomogeneousRows, KeepsZeros, LacksPivot};
+ghost use Rattle.rq_solver.specs.RowSteps.{AreRows, IsReduced};
 ghost use Rattle.rq_standard.specs.OctetField.{octets};
 
 use crate::pi_solver::elimination::{find_pivot, numbers_below};
@@ -32,7 +31,7 @@ pub fn homogeneous_column<T: BinaryMatrix>(
 ) -> Result<Option<Vec<u8>>, Error>
     requires boundary { boundary ≡ (T.content bits.now).boundary }
     requires hdpc_width { hdpc.now.width ≡ (T.content bits.now).width }
-    ensures shown { IfOk result (ShowsHomogeneous (T.content bits.now).height (T.content bits.now).width (with_octet_rows first_hdpc (length hdpc.now.rows) (T.content bits.now).bit (entry_of hdpc.now))) }
+    ensures shown { IfOk result (ShowsHomogeneousRows (T.content bits.now) hdpc.now first_hdpc) }
     ensures memory { IfErr result (λ e. e ≡ OutOfMemory) }
 {
     let mut matrix = octet_rows(alloc, bits, boundary, hdpc, first_hdpc)?;

@@ -5,7 +5,7 @@ ghost use Rattle.rq_standard.specs.TableRows.{greatest_size, row_of};
 ghost use Rattle.rq_bytes.specs.declared.error.Error.TheVariants.{AlreadyExecuted, OutOfMemory};
 ghost use Rattle.rq_bytes.specs.SymbolOps.{operation_of};
 ghost use Rattle.rq_solver.specs.PhaseCounts.{total_of};
-ghost use Rattle.rq_solver.specs.Solving.{AreEquations, CountsOperations, solver_of, IsOutcome};
+ghost use Rattle.rq_solver.specs.Solving.{AreEquations, CountsOperations, solver_of, IsOutcome, IsSpent};
 
 mod columns;
 mod counts;
@@ -62,7 +62,7 @@ pub struct IntermediateSymbolDecoder<T: BinaryMatrix> {
 }
 
 impl<T: BinaryMatrix> IntermediateSymbolDecoder<T> {
-    ghost use Rattle.rq_solver.specs.SolverState.{state_of};
+    ghost use Rattle.rq_solver.specs.SolverState.{solver_state};
 
     /// A solver of the equations of a block with so many source symbols: a matrix of bits, the HDPC
     /// rows, and a symbol for each equation.
@@ -76,7 +76,7 @@ impl<T: BinaryMatrix> IntermediateSymbolDecoder<T> {
     ) -> Self
         requires known { num_source_symbols ≤ greatest_size table.now }
         requires equations { AreEquations (row_of table.now num_source_symbols) (T.content matrix) hdpc symbols }
-        ensures { state_of result ≡ solver_of (row_of table.now num_source_symbols) (T.content matrix) hdpc symbols }
+        ensures { solver_state result ≡ solver_of (row_of table.now num_source_symbols) (T.content matrix) hdpc symbols }
     {
         IntermediateSymbolDecoder::of_row(
             alloc,
@@ -96,7 +96,7 @@ impl<T: BinaryMatrix> IntermediateSymbolDecoder<T> {
         symbols: SymbolSlab,
     ) -> Self
         requires { AreEquations row.now (T.content matrix) hdpc symbols }
-        ensures { state_of result ≡ solver_of row.now (T.content matrix) hdpc symbols }
+        ensures { solver_state result ≡ solver_of row.now (T.content matrix) hdpc symbols }
     {
         IntermediateSymbolDecoder {
             alloc,
@@ -113,15 +113,15 @@ impl<T: BinaryMatrix> IntermediateSymbolDecoder<T> {
     /// equations for each intermediate symbol. Zero until the solver has run, or where it found no
     /// memory.
     pub fn get_symbol_add_ops(&self) -> u64
-        ensures counted { result ≡ sum (state_of self.now).additions }
-        ensures few { result ≤ 2 * (state_of self.now).width * (state_of self.now).height }
+        ensures counted { result ≡ sum (solver_state self.now).additions }
+        ensures few { result ≤ 2 * (solver_state self.now).width * (solver_state self.now).height }
     {
         self.counts.additions.total()
     }
 
     /// How many symbols were multiplied, counting multiples that were added.
     pub fn get_symbol_mul_ops(&self) -> u64
-        ensures { result ≡ sum (state_of self.now).multiplications }
+        ensures { result ≡ sum (solver_state self.now).multiplications }
     {
         self.counts.multiplications.total()
     }
@@ -129,7 +129,7 @@ impl<T: BinaryMatrix> IntermediateSymbolDecoder<T> {
     /// How many symbols each of the five phases added (RFC 6330, sections 5.4.2.2 to 5.4.2.6). The
     /// third and the fifth have nothing to do.
     pub fn get_symbol_add_ops_by_phase(&self) -> [u64; 5]
-        ensures counted { result ≡ (state_of self.now).additions }
+        ensures counted { result ≡ (solver_state self.now).additions }
         ensures third { slice_index result 2 ≡ 0 }
         ensures fifth { slice_index result 4 ≡ 0 }
     {
@@ -138,7 +138,7 @@ impl<T: BinaryMatrix> IntermediateSymbolDecoder<T> {
 
     /// How many symbols each of the five phases multiplied.
     pub fn get_symbol_mul_ops_by_phase(&self) -> [u64; 5]
-        ensures counted { result ≡ (state_of self.now).multiplications }
+        ensures counted { result ≡ (solver_state self.now).multiplications }
         ensures third { slice_index result 2 ≡ 0 }
         ensures fifth { slice_index result 4 ≡ 0 }
     {
@@ -151,12 +151,12 @@ impl<T: BinaryMatrix> IntermediateSymbolDecoder<T> {
     ///
     /// Refuses `AlreadyExecuted` in each call after the first, whatever that answered.
     pub fn execute(&mut self) -> Result<Option<(SymbolSlab, Vec<SymbolOps>)>, Error>
-        ensures solved { IfSome (state_of self.old).symbols (λ handed. IfOk result (IsOutcome (state_of self.old) handed)) }
-        ensures memory { OnSome (state_of self.old).symbols (IfErr result (λ e. e ≡ OutOfMemory)) }
-        ensures once { IfNone (state_of self.old).symbols (result ≡ Err AlreadyExecuted) }
-        ensures spent { state_of self.new ≡ record (state_of self.old) { symbols = None; additions = (state_of self.new).additions; multiplications = (state_of self.new).multiplications } }
-        ensures bound { sum (state_of self.new).additions ≤ 2 * (state_of self.new).width * (state_of self.new).height }
-        ensures counted { IfOk result (λ answer. IfSome answer (λ found. CountsOperations (state_of self.new) (map operation_of found.1.items))) }
+        ensures solved { IfSome (solver_state self.old).symbols (λ handed. IfOk result (IsOutcome (solver_state self.old) handed)) }
+        ensures memory { OnSome (solver_state self.old).symbols (IfErr result (λ e. e ≡ OutOfMemory)) }
+        ensures once { IfNone (solver_state self.old).symbols (result ≡ Err AlreadyExecuted) }
+        ensures spent { IsSpent (solver_state self.old) (solver_state self.new) }
+        ensures bound { sum (solver_state self.new).additions ≤ 2 * (solver_state self.new).width * (solver_state self.new).height }
+        ensures counted { IfOk result (λ answer. IfSome answer (λ found. CountsOperations (solver_state self.new) (map operation_of found.1.items))) }
     {
         let Some(mut symbols) = self.symbols.take() else {
             return Err(Error::AlreadyExecuted);

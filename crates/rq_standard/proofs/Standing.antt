@@ -14,7 +14,7 @@ use Rattle.rq_standard.specs.Equations.{zero_symbol}
 use Rattle.rq_standard.specs.Received.{or_later, first_payload, has_id}
 use Rattle.rq_standard.specs.Headline.{IsNonsingular, IsIntermediateColumn, IsEncodingSymbol, DetermineBlock, block_row, block_source, IsPacketOf, HasNonsingularRows}
 use Rattle.rq_standard.specs.Held.{Held, recorded, CanAnswer, IsBlockAnswer}
-use Rattle.rq_standard.specs.Standing.{State, IsHeldOf, new_held, new_answer, IsNewState, AddsToBlock, IsSameElsewhere, Adds, Records, StopsEarly, BlockStands, StandsBut, Stands, with_late, StandsForNone, StandsForMore, CatchesUp, FallsBehind}
+use Rattle.rq_standard.specs.Standing.{State, IsHeldOf, new_held, new_answer, IsNewState, AddsToBlock, IsSameElsewhere, Adds, RecordsOnly, StopsEarly, BlockStands, StandsBut, Stands, with_late, StandsForNone, StandsForMore, CatchesUp, FallsBehind}
 use Rattle.rq_standard.proofs.Known.{block_more, block_same, block_of_source, none_determined}
 use Rattle.rq_standard.proofs.Columns.{source_sum, solves_held}
 use Rattle.rq_standard.proofs.Firsts.{first_payload-here, first_payload-elsewhere, first_payload-packet, has_id-push}
@@ -210,7 +210,7 @@ unmoved late table object packets old new configuration same st =
     })
 
 -- the packet is recorded, and its block is late
-records_late : (p : Packet) (old new : State) → Records old p new → (table : List Row) (object : List ℕ) (packets : List Packet) (late : ℕ → Bool) → StandsBut late table object packets old → IsPacketOf table old.configuration object p
+records_late : (p : Packet) (old new : State) → RecordsOnly old p new → (table : List Row) (object : List ℕ) (packets : List Packet) (late : ℕ → Bool) → StandsBut late table object packets old → IsPacketOf table old.configuration object p
     → StandsBut (with_late p.id.block true late) table object (packets ++ p ∷ []) new
 records_late p old new more table object packets late st pk =
     let c = old.configuration in

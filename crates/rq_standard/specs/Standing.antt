@@ -79,13 +79,13 @@ pub record Adds (old : State) (p : Packet) (new : State) : Type 0 where
   pub elsewhere : IsSameElsewhere old p.id.block new
 
 -- what it does where memory is refused while its block is solved
-pub record Records (old : State) (p : Packet) (new : State) : Type 0 where
+pub record RecordsOnly (old : State) (p : Packet) (new : State) : Type 0 where
   pub here : RecordsInBlock (old.held p.id.block) (old.answer p.id.block) p (new.held p.id.block) (new.answer p.id.block)
   pub elsewhere : IsSameElsewhere old p.id.block new
 
 -- Where memory is refused for a packet: everything is as it was, or the packet is recorded and its block waits for its answer.
 abbrev pub StopsEarly : State → Packet → State → Type 0
-StopsEarly old p new = (new ≡ old) ⊎ Records old p new
+StopsEarly old p new = (new ≡ old) ⊎ RecordsOnly old p new
 
 -- The same where the blocks are joined behind it: or the packet's block has the answer that it can have, and no block lost one.
 abbrev pub Stops : State → Packet → State → Type 0

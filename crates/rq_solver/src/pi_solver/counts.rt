@@ -2,7 +2,7 @@
 ghost use Rattle.std.specs.Prelude.{◌≡◌, ℕ, ◌+◌, ◌<◌, ◌^◌, ◌∷◌, [], ◌++◌, List, length, map, OnOk, IfErr};
 ghost use Rattle.rq_bytes.specs.SymbolOps.{operation_of};
 ghost use Rattle.rq_bytes.specs.declared.error.Error.TheVariants.{OutOfMemory};
-ghost use Rattle.rq_solver.specs.Counts.{additions, multiplications};
+ghost use Rattle.rq_solver.specs.OperationCounts.{additions, multiplications};
 
 use rq_bytes::error::Error;
 use rq_bytes::operation_vector::SymbolOps;

@@ -3,10 +3,10 @@
 ghost use Rattle.std.specs.Prelude.{◌≡◌, ◌≢◌, ℕ, ◌+◌, ◌*◌, ◌<◌, ◌≤◌, drop, length, IfOk, OnOk, IfErr};
 ghost use Rattle.rq_bytes.specs.declared.error.Error.TheVariants.{OutOfMemory};
 ghost use Rattle.rq_solver.specs.Cleared.{AreOctetRows, ClearsRows, HasPeeledPivots, ListsRows, PeelsRows, TakesPivots, system_rows};
-ghost use Rattle.rq_solver.specs.Counts.{additions};
+ghost use Rattle.rq_solver.specs.OperationCounts.{additions};
 ghost use Rattle.rq_solver.specs.OctetBatch.{batch_bound};
-ghost use Rattle.rq_solver.specs.Peeled.{ones_at};
-ghost use Rattle.rq_solver.specs.RowSteps.{HasOctets};
+ghost use Rattle.rq_solver.specs.Peeled.{ones_of};
+ghost use Rattle.rq_parts.specs.OctetTable.{HasOctets};
 
 mod hdpc;
 mod inactive;
@@ -80,9 +80,9 @@ pub(super) fn take_pivots(
     requires row { row < length ones.now }
     requires height { length recorded.old.table.rows ≡ length ones.now }
     requires octets { HasOctets recorded.old.table }
-    ensures taken { OnOk result (TakesPivots peeling.now.rows.items peeling.now.order.items row (ones_at ones.now row) recorded.old recorded.new) }
+    ensures taken { OnOk result (TakesPivots peeling.now.rows.items peeling.now.order.items row (ones_of ones.now row) recorded.old recorded.new) }
     ensures few { OnOk result (additions recorded.new.operations ≤ additions recorded.old.operations + length peeling.now.rows.items) }
-    ensures each { OnOk result (additions recorded.new.operations ≤ additions recorded.old.operations + length (ones_at ones.now row)) }
+    ensures each { OnOk result (additions recorded.new.operations ≤ additions recorded.old.operations + length (ones_of ones.now row)) }
     ensures err { IfErr result (λ e. e ≡ OutOfMemory) }
 {
     for column in ones.row(row) {

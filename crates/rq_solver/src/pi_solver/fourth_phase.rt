@@ -3,9 +3,10 @@ ghost use Rattle.std.specs.Prelude.{◌≡◌, ◌≢◌, ℕ, ◌+◌, ◌-◌,
 ghost use Rattle.rq_algebra.specs.Systems.{at};
 ghost use Rattle.rq_bytes.specs.declared.error.Error.TheVariants.{OutOfMemory};
 ghost use Rattle.rq_solver.specs.Cleared.{FinishesPivots, PeelsRows, TakesBack, TakesReduced};
-ghost use Rattle.rq_solver.specs.Counts.{additions};
-ghost use Rattle.rq_solver.specs.Peeled.{ones_at};
-ghost use Rattle.rq_solver.specs.RowSteps.{AreRows, HasOctets};
+ghost use Rattle.rq_solver.specs.OperationCounts.{additions};
+ghost use Rattle.rq_solver.specs.Peeled.{ones_of};
+ghost use Rattle.rq_solver.specs.RowSteps.{AreRows};
+ghost use Rattle.rq_parts.specs.OctetTable.{HasOctets};
 
 use super::first_phase::take_pivots;
 use super::ones::RowOnes;
@@ -28,7 +29,7 @@ pub(super) fn take_back(
     requires octets { HasOctets recorded.old.table }
     ensures taken { IfOk result (λ marks. TakesBack ones.now peeling.now.rows.items peeling.now.order.items marks.items 0 recorded.old recorded.new) }
     ensures long { IfOk result (λ marks. length marks.items ≡ length peeling.now.rows.items) }
-    ensures short { IfOk result (λ marks. (p : ℕ) → p < length peeling.now.rows.items → slice_index_or marks.items p false ≡ true → length (ones_at ones.now (at peeling.now.rows.items p)) ≤ most) }
+    ensures short { IfOk result (λ marks. (p : ℕ) → p < length peeling.now.rows.items → slice_index_or marks.items p false ≡ true → length (ones_of ones.now (at peeling.now.rows.items p)) ≤ most) }
     ensures few { OnOk result (additions recorded.new.operations ≤ additions recorded.old.operations + length peeling.now.rows.items * most) }
     ensures err { IfErr result (λ e. e ≡ OutOfMemory) }
 {
@@ -51,7 +52,7 @@ fn take_back_rows(
     requires octets { HasOctets recorded.old.table }
     requires long { length marks.old ≡ length peeling.now.rows.items }
     ensures taken { OnOk result (TakesBack ones.now peeling.now.rows.items peeling.now.order.items marks.new 0 recorded.old recorded.new) }
-    ensures short { OnOk result ((p : ℕ) → p < length peeling.now.rows.items → slice_index_or marks.new p false ≡ true → length (ones_at ones.now (at peeling.now.rows.items p)) ≤ most) }
+    ensures short { OnOk result ((p : ℕ) → p < length peeling.now.rows.items → slice_index_or marks.new p false ≡ true → length (ones_of ones.now (at peeling.now.rows.items p)) ≤ most) }
     ensures few { OnOk result (additions recorded.new.operations ≤ additions recorded.old.operations + length peeling.now.rows.items * most) }
     ensures err { IfErr result (λ e. e ≡ OutOfMemory) }
 {
@@ -81,7 +82,7 @@ fn saves_additions(
     requires row { row < length ones.now }
     requires height { length recorded.now.table.rows ≡ length ones.now }
     requires wide { length peeling.now.places.items ≤ length peeling.now.rows.items + recorded.now.table.width }
-    ensures { IsTrue result → length (ones_at ones.now row) ≤ most }
+    ensures { IsTrue result → length (ones_of ones.now row) ≤ most }
 {
     if ones.row(row).len() > most {
         return false;
@@ -120,7 +121,7 @@ pub(super) fn finish_pivots(
     requires width { inactive ≤ recorded.old.table.width }
     requires octets { HasOctets recorded.old.table }
     requires long { length marks.now ≡ length peeling.now.rows.items }
-    requires short { (p : ℕ) → p < length peeling.now.rows.items → slice_index_or marks.now p false ≡ true → length (ones_at ones.now (at peeling.now.rows.items p)) ≤ most }
+    requires short { (p : ℕ) → p < length peeling.now.rows.items → slice_index_or marks.now p false ≡ true → length (ones_of ones.now (at peeling.now.rows.items p)) ≤ most }
     ensures finished { OnOk result (FinishesPivots ones.now peeling.now.rows.items peeling.now.order.items reduced.now marks.now inactive (length peeling.now.rows.items) recorded.old recorded.new) }
     ensures few { OnOk result (additions recorded.new.operations ≤ additions recorded.old.operations + length peeling.now.rows.items * (inactive + most)) }
     ensures err { IfErr result (λ e. e ≡ OutOfMemory) }

@@ -2,7 +2,7 @@
 ghost use Rattle.std.specs.Prelude.{◌≡◌, ℕ, ◌<◌, ◌≤◌, length, IfOk, OnOk, IfErr, slice_range};
 ghost use Rattle.std.specs.List.{sum_by};
 ghost use Rattle.rq_bytes.specs.declared.error.Error.TheVariants.{OutOfMemory};
-ghost use Rattle.rq_solver.specs.Peeled.{ones_at, AreOnesOfRows, AddsOnes};
+ghost use Rattle.rq_solver.specs.Peeled.{ones_of, AreOnesOfRows, AddsOnes};
 
 use rq_bytes::error::Error;
 use rq_matrix::matrix::BinaryMatrix;
@@ -67,7 +67,7 @@ impl RowOnes {
     /// The columns of the ones of a row.
     pub(super) fn row(&self, row: usize) -> &[usize]
         requires { row < length self.now }
-        ensures { result.now ≡ ones_at self.now row }
+        ensures { result.now ≡ ones_of self.now row }
     {
         let starts = self.starts.as_slice();
         part(self.columns.as_slice(), starts[row], starts[row + 1])

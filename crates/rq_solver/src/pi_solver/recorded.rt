@@ -3,10 +3,9 @@ ghost use Rattle.std.specs.Prelude.{◌≡◌, ◌≢◌, ◌+◌, ◌<◌, ◌�
 ghost use Rattle.rq_algebra.specs.Operations.{MulAssign};
 ghost use Rattle.rq_bytes.specs.declared.error.Error.TheVariants.{OutOfMemory};
 ghost use Rattle.rq_bytes.specs.SymbolOps.{operation_of};
-ghost use Rattle.rq_parts.specs.OctetTable.{entry_of};
-ghost use Rattle.rq_solver.specs.Counts.{additions};
+ghost use Rattle.rq_parts.specs.OctetTable.{entry_of, HasOctets};
+ghost use Rattle.rq_solver.specs.OperationCounts.{additions};
 ghost use Rattle.rq_solver.specs.Recorded.{Performs, Records, sum_step};
-ghost use Rattle.rq_solver.specs.RowSteps.{HasOctets};
 ghost use Rattle.rq_standard.specs.OctetField.{octets};
 
 use super::counts::{OperationList, Phase};

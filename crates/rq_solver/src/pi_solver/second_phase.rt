@@ -4,11 +4,11 @@ ghost use Rattle.rq_algebra.specs.Systems.{at};
 ghost use Rattle.rq_algebra.specs.Steps.{AddsRow, ScalesRow};
 ghost use Rattle.rq_standard.specs.OctetField.{octets};
 ghost use Rattle.rq_bytes.specs.declared.error.Error.TheVariants.{OutOfMemory};
-ghost use Rattle.rq_parts.specs.OctetTable.{entry_of};
+ghost use Rattle.rq_parts.specs.OctetTable.{entry_of, HasOctets};
 ghost use Rattle.rq_solver.specs.Cleared.{ReducesBack};
-ghost use Rattle.rq_solver.specs.Counts.{additions, triangle};
+ghost use Rattle.rq_solver.specs.OperationCounts.{additions, triangle};
 ghost use Rattle.rq_solver.specs.Recorded.{ChangesRows};
-ghost use Rattle.rq_solver.specs.RowSteps.{AreRows, ClearsBelow, HasOctets, IsEchelon, IsStuck};
+ghost use Rattle.rq_solver.specs.RowSteps.{AreRows, ClearsBelow, IsEchelon, IsStuck};
 
 use super::elimination::find_pivot;
 use super::fourth_phase::take_reduced_rows;

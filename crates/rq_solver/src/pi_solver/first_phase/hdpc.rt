@@ -3,13 +3,13 @@ ghost use Rattle.std.specs.Prelude.{◌≡◌, ◌≢◌, ℕ, ◌+◌, ◌-◌,
 ghost use Rattle.rq_algebra.specs.Steps.{AddsRow, ScalesRow};
 ghost use Rattle.rq_algebra.specs.Systems.{at};
 ghost use Rattle.rq_bytes.specs.declared.error.Error.TheVariants.{OutOfMemory};
-ghost use Rattle.rq_parts.specs.OctetTable.{entry_of};
+ghost use Rattle.rq_parts.specs.OctetTable.{entry_of, HasOctets};
 ghost use Rattle.rq_standard.specs.OctetField.{octets};
 ghost use Rattle.rq_solver.specs.Cleared.{ClearsOctets};
-ghost use Rattle.rq_solver.specs.Counts.{additions};
+ghost use Rattle.rq_solver.specs.OperationCounts.{additions};
 ghost use Rattle.rq_solver.specs.OctetBatch.{batch_bound, AreOctetsIn, ChangesOctets, CombinesOctets, HasPivotsBeside, HasZeros, HasZerosBefore, IsFirstAlone, SumsRows};
 ghost use Rattle.rq_solver.specs.Peeled.{IsOrderOf};
-ghost use Rattle.rq_solver.specs.RowSteps.{AreRows, HasOctets};
+ghost use Rattle.rq_solver.specs.RowSteps.{AreRows};
 ghost use Rattle.rq_solver.specs.RowWrites.{HoldsRows};
 
 use super::super::peeling::Peeling;

@@ -2,10 +2,9 @@
 ghost use Rattle.std.specs.Prelude.{◌≡◌, ℕ, ◌+◌, ◌-◌, ◌%◌, ◌^◌, ◌<◌, ◌≤◌, length, IfOk, IfErr};
 ghost use Rattle.rq_algebra.specs.Systems.{at};
 ghost use Rattle.rq_bytes.specs.declared.error.Error.TheVariants.{OutOfMemory};
-ghost use Rattle.rq_parts.specs.OctetTable.{entry_of};
+ghost use Rattle.rq_parts.specs.OctetTable.{entry_of, HasOctets};
 ghost use Rattle.rq_solver.specs.Cleared.{AreOctetRows, HasLeading, PeelsRows, one_in, system_rows};
 ghost use Rattle.rq_solver.specs.Peeled.{IsOrderOf};
-ghost use Rattle.rq_solver.specs.RowSteps.{HasOctets};
 ghost use Rattle.rq_solver.specs.RowWrites.{WritesRow};
 
 use super::super::ones::RowOnes;

@@ -2,7 +2,7 @@
 use Rattle.std.proofs.Common.{◌+◌, ◌-◌, ◌*◌, ◌≤◌, ◌≡◌, ℕ, length, ap, arith, ◌∙◌}
 use Rattle.std.proofs.Math.Nat.{mul-le-mul_right}
 use Rattle.rq_algebra.specs.Systems.{at}
-use Rattle.rq_solver.specs.Counts.{additions}
+use Rattle.rq_solver.specs.OperationCounts.{additions}
 use Rattle.rq_solver.specs.Recorded.{Recorded}
 use Rattle.rq_solver.proofs.CountLaws.{few_places}
 use Rattle.rq_solver.proofs.PivotsCleared.{peeled_pivots, pivot_of_bits}

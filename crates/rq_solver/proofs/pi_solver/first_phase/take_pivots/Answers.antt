@@ -3,7 +3,7 @@ use Rattle.std.proofs.Common.{◌≡◌, ◌≢◌, ◌+◌, ◌<◌, ◌≤◌,
 use Rattle.std.specs.List.{count_by}
 use Rattle.std.proofs.lemmas.List.{get_or_read}
 use Rattle.rq_algebra.specs.Systems.{at}
-use Rattle.rq_solver.specs.Peeled.{ones_at}
+use Rattle.rq_solver.specs.Peeled.{ones_of}
 use Rattle.rq_solver.proofs.CountLaws.{few_places, met_none, met_skipped, met_more, twice_counted}
 use Rattle.rq_solver.proofs.PivotTurns.{takes_none, takes_skipped, takes_more}
 use Rattle.rq_solver.proofs.pi_solver.first_phase.take_pivots.Goals as goal
@@ -77,5 +77,5 @@ returns-clause-few c =
 pub returns-clause-each : goal.returns-clause-each
 returns-clause-each c =
     let so_far = c.loop-column.invariant.each in
-    let all : length c.row-column-items.result.now ≡ length (ones_at c.args.ones.now c.args.row) = ap length c.row-column-items.ensures in
+    let all : length c.row-column-items.result.now ≡ length (ones_of c.args.ones.now c.args.row) = ap length c.row-column-items.ensures in
     omega (arith, so_far, all)

@@ -3,7 +3,7 @@ use Rattle.std.proofs.Common.{◌≡◌, ◌≢◌, ℕ, ◌+◌, ◌-◌, ◌<�
 use Rattle.std.proofs.lemmas.Bool.{cases_eq}
 use Rattle.std.proofs.lemmas.List.{get_or_read, get_or-set_same, get_or-set_other}
 use Rattle.rq_algebra.specs.Systems.{at}
-use Rattle.rq_solver.specs.Peeled.{ones_at}
+use Rattle.rq_solver.specs.Peeled.{ones_of}
 use Rattle.rq_solver.proofs.CountLaws.{one_turn_more}
 use Rattle.rq_solver.proofs.FinalTurns.{takes_none, back_skipped, back_taken}
 use Rattle.rq_solver.proofs.pi_solver.fourth_phase.take_back_rows.Goals as goal
@@ -43,7 +43,7 @@ loop-done-preserved c =
     let same : (p : ℕ) → p ≢ place → get_or now p false ≡ get_or marks p false = (λ (p : ℕ) (d : p ≢ place). get_or-set_other marks place p saves false d) in
     let here : get_or now place false ≡ saves = get_or-set_same marks place saves false in_marks in
     let so_far = rw was at v.taken in
-    let short : (p : ℕ) → length rows - (done + 1) ≤ p → p < length rows → get_or now p false ≡ true → length (ones_at lists (at rows p)) ≤ c.args.most = (λ (p : ℕ) (late : length rows - (done + 1) ≤ p) (l : p < length rows) (e : get_or now p false ≡ true). elim (cases_eq p place) [
+    let short : (p : ℕ) → length rows - (done + 1) ≤ p → p < length rows → get_or now p false ≡ true → length (ones_of lists (at rows p)) ≤ c.args.most = (λ (p : ℕ) (late : length rows - (done + 1) ≤ p) (l : p < length rows) (e : get_or now p false ≡ true). elim (cases_eq p place) [
       | inl f ↦ rw (f, ← read) (c.saves_additions-saves.ensures (sym here ∙ ap (λ (n : ℕ). get_or now n false) (sym f) ∙ e))
       | inr d ↦ v.short p (omega (arith, was, next, late, d)) l (sym (same p d) ∙ e)
     ]) in

@@ -2,13 +2,13 @@
 use Rattle.std.proofs.Common.{◌≡◌, ℕ, ◌+◌, ◌-◌, ◌*◌, ◌<◌, ◌≤◌, true, false, get_or, length}
 use Rattle.rq_algebra.specs.Systems.{at}
 use Rattle.rq_solver.specs.Cleared.{TakesBack}
-use Rattle.rq_solver.specs.Counts.{additions}
-use Rattle.rq_solver.specs.Peeled.{ones_at}
+use Rattle.rq_solver.specs.OperationCounts.{additions}
+use Rattle.rq_solver.specs.Peeled.{ones_of}
 use Rattle.rq_solver.proofs.pi_solver.fourth_phase.take_back_rows.Given as goal
 
 abbrev pub invariant-loop-done : goal.invariant-loop-done
 invariant-loop-done l = record {
   taken : TakesBack l.ones l.peeling.rows.items l.peeling.order.items l.marks (length l.peeling.rows.items - l.done) l.fn.recorded l.recorded;
-  short : (p : ℕ) → length l.peeling.rows.items - l.done ≤ p → p < length l.peeling.rows.items → get_or l.marks p false ≡ true → length (ones_at l.ones (at l.peeling.rows.items p)) ≤ l.most;
+  short : (p : ℕ) → length l.peeling.rows.items - l.done ≤ p → p < length l.peeling.rows.items → get_or l.marks p false ≡ true → length (ones_of l.ones (at l.peeling.rows.items p)) ≤ l.most;
   few : additions l.recorded.operations ≤ additions l.fn.recorded.operations + l.done * l.most;
 }

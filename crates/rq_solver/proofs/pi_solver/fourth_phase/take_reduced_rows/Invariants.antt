@@ -1,7 +1,7 @@
 -- What the loops keep in `pi_solver::fourth_phase::take_reduced_rows`.
 use Rattle.std.proofs.Common.{◌+◌, ◌-◌, ◌≤◌}
 use Rattle.rq_solver.specs.Cleared.{TakesReduced}
-use Rattle.rq_solver.specs.Counts.{additions}
+use Rattle.rq_solver.specs.OperationCounts.{additions}
 use Rattle.rq_solver.proofs.pi_solver.fourth_phase.take_reduced_rows.Given as goal
 
 abbrev pub invariant-loop-f : goal.invariant-loop-f

@@ -1,7 +1,7 @@
 -- What the check leaves to show of `pi_solver::peeling::peel`.
 use Rattle.std.proofs.Common.{◌≡◌, ◌<◌, ℕ, [], ◌∷◌, ◌++◌, All, length, sym, ap, ◌∙◌, arith, Vec, Global}
 use Rattle.std.proofs.lemmas.List.FromFn.{length-range_with_len}
-use Rattle.rq_solver.specs.Peeled.{ones_at, TakesRow, IsOrderOf}
+use Rattle.rq_solver.specs.Peeled.{ones_of, TakesRow, IsOrderOf}
 use Rattle.rq_solver.proofs.PeelingLaws.{peeled_none, peeled_next, peeled_all}
 use Rattle.rq_solver.proofs.pi_solver.peeling.peel.Goals as goal
 use Rattle.rq_solver.proofs.pi_solver.peeling.peel.Goals.{then-branch+in_ok-push, else-branch}
@@ -22,7 +22,7 @@ loop-preserved c =
     let degrees = c.take_row.ensures.degrees ∙ c.next_row.ensures.rows ∙ v.degrees in
     elim c.if-branch.branch [
       | then-branch+in_ok-push w ↦
-          let takes : TakesRow (ones_at lists c.in-Some.row) c.loop.columns c.take_row.new.columns = rw (sym c.row.ensures) (c.in_ok-take_row.ensures.taken w.if-branch.true) in
+          let takes : TakesRow (ones_of lists c.in-Some.row) c.loop.columns c.take_row.new.columns = rw (sym c.row.ensures) (c.in_ok-take_row.ensures.taken w.if-branch.true) in
           let columns : All (λ row. All (λ column. column < length c.loop.columns.order) row) lists = rw v.width c.requires.columns in
           let rows : c.if-branch.rows.items ≡ c.loop.rows.items ++ c.in-Some.row ∷ [] = ap (λ (v : Vec ℕ Global). v.items) w.rows-is ∙ w.in_ok-push.ensures.items in
           rw rows

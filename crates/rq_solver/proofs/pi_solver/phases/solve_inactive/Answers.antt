@@ -4,7 +4,7 @@ use Rattle.std.proofs.lemmas.List.Elements.{Contains-get_or}
 use Rattle.std.proofs.lemmas.List.Sorted.{Contains-permutation, IsPermutation-sym}
 use Rattle.std.specs.List.Sorted.{IsPermutation}
 use Rattle.rq_algebra.specs.Systems.{at}
-use Rattle.rq_solver.specs.Counts.{additions, triangle}
+use Rattle.rq_solver.specs.OperationCounts.{additions, triangle}
 use Rattle.rq_solver.specs.Recorded.{Recorded}
 use Rattle.rq_solver.specs.RowSteps.{AreRows, IsEchelon}
 use Rattle.rq_solver.proofs.CountLaws.{inactive_bound, stuck_bound}

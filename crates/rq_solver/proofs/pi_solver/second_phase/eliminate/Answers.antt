@@ -3,7 +3,7 @@ use Rattle.std.proofs.Common.{◌≡◌, refl, ◌∙◌, ◌+◌, ◌-◌, ◌�
 use Rattle.std.proofs.lemmas.List.Elements.{All-nil, All-cons, Contains-get_or}
 use Rattle.std.proofs.lemmas.List.Sorted.{Contains-permutation, IsPermutation-refl, IsPermutation-sym, IsPermutation-trans}
 use Rattle.rq_algebra.specs.Systems.{at}
-use Rattle.rq_solver.specs.Counts.{additions}
+use Rattle.rq_solver.specs.OperationCounts.{additions}
 use Rattle.rq_solver.proofs.CountLaws.{triangle-start, forward_more, forward_bound}
 use Rattle.rq_solver.proofs.Performing.{changes_none, changes_among, changes_more}
 use Rattle.rq_solver.proofs.Turns.{echelon_none, swapped_rows, swapped_echelon, echelon_more}

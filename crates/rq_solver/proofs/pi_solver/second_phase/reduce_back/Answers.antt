@@ -1,6 +1,6 @@
 -- What the check leaves to show of `pi_solver::second_phase::reduce_back`.
 use Rattle.std.proofs.Common.{◌≡◌, ◌+◌, ◌-◌, ◌<◌, ℕ, arith}
-use Rattle.rq_solver.specs.Counts.{additions}
+use Rattle.rq_solver.specs.OperationCounts.{additions}
 use Rattle.rq_solver.proofs.CountLaws.{back_start, back_turn}
 use Rattle.rq_solver.proofs.ReducedTurns.{back_none, back_more}
 use Rattle.rq_solver.proofs.pi_solver.second_phase.reduce_back.Goals as goal

@@ -1,7 +1,7 @@
 -- What the loops keep in `pi_solver::second_phase::reduce_back`.
 use Rattle.std.proofs.Common.{◌+◌, ◌-◌, ◌≤◌}
 use Rattle.rq_solver.specs.Cleared.{ReducesBack}
-use Rattle.rq_solver.specs.Counts.{additions, triangle}
+use Rattle.rq_solver.specs.OperationCounts.{additions, triangle}
 use Rattle.rq_solver.proofs.pi_solver.second_phase.reduce_back.Given as goal
 
 abbrev pub invariant-loop-done : goal.invariant-loop-done

@@ -1,7 +1,7 @@
 -- What the loops keep in `pi_solver::first_phase::hdpc::add_pivot`.
 use Rattle.std.proofs.Common.{◌+◌, ◌≤◌}
 use Rattle.rq_algebra.specs.Systems.{at}
-use Rattle.rq_solver.specs.Counts.{additions}
+use Rattle.rq_solver.specs.OperationCounts.{additions}
 use Rattle.rq_solver.specs.OctetBatch.{ChangesOctets, HasZeros}
 use Rattle.rq_solver.proofs.pi_solver.first_phase.hdpc.add_pivot.Given as goal
 

@@ -2,7 +2,7 @@
 use Rattle.std.proofs.Common.{◌≡◌, ◌≢◌, ℕ, ◌+◌, ◌-◌, ◌<◌, ◌≤◌, length, refl, sym, ap, ◌∙◌, arith, inl, inr}
 use Rattle.std.proofs.lemmas.Bool.{cases_lt}
 use Rattle.rq_algebra.specs.Systems.{at}
-use Rattle.rq_solver.specs.Counts.{additions}
+use Rattle.rq_solver.specs.OperationCounts.{additions}
 use Rattle.rq_solver.proofs.CountLaws.{batch_sum, few_places, met_none, met_skipped, met_more}
 use Rattle.rq_parts.specs.OctetTable.{entry_of}
 use Rattle.rq_solver.specs.OctetBatch.{AreOctetsIn, HasPivotsBeside, ChangesOctets}

@@ -1,7 +1,7 @@
 -- What the loops keep in `pi_solver::first_phase::hdpc::clear_octets`.
 use Rattle.std.proofs.Common.{ℕ, ◌+◌, ◌-◌, ◌*◌, ◌≤◌, length}
 use Rattle.rq_algebra.specs.Systems.{at}
-use Rattle.rq_solver.specs.Counts.{additions}
+use Rattle.rq_solver.specs.OperationCounts.{additions}
 use Rattle.rq_solver.specs.OctetBatch.{ChangesOctets, HasZerosBefore}
 use Rattle.rq_solver.proofs.CountLaws.{HasMet}
 use Rattle.rq_solver.proofs.pi_solver.first_phase.hdpc.clear_octets.Given as goal

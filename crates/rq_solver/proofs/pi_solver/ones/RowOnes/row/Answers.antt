@@ -2,7 +2,7 @@
 use Rattle.std.proofs.Common.{ℕ, ◌+◌, ◌<◌, ◌≡◌, List, length, ap, ◌∙◌, arith}
 use Rattle.rq_parts.specs.Lists.{lists_between}
 use Rattle.rq_parts.proofs.KeyedLists.{list_read, length-lists}
-use Rattle.rq_solver.specs.Peeled.{ones_at}
+use Rattle.rq_solver.specs.Peeled.{ones_of}
 use Rattle.rq_solver.proofs.pi_solver.ones.RowOnes.row.Goals as goal
 
 room : (starts values : List ℕ) (lists : List (List ℕ)) (row : ℕ) → lists_between starts values ≡ lists → row < length lists → row + 1 < length starts
@@ -43,4 +43,4 @@ returns c =
     let enough = room _ _ _ c.args.row c.self.view_is c.requires in
     c.part.ensures
     ∙ rw (c.as_slice-starts.ensures.value, c.as_slice.ensures.value) (list_read c.self.inside.starts.items c.self.inside.columns.items c.args.row enough)
-    ∙ ap (λ (lists : List (List ℕ)). ones_at lists c.args.row) c.self.view_is
+    ∙ ap (λ (lists : List (List ℕ)). ones_of lists c.args.row) c.self.view_is
