@@ -18,19 +18,18 @@ mod ones;
 mod peeling;
 #[cfg(test)]
 mod peeling_tests;
-mod row_selection;
 mod phases;
 mod recorded;
+mod row_selection;
 pub(crate) mod rows;
 mod second_phase;
-
-pub use row_selection::FirstPhaseRowSelectionStats;
 
 use crate::replay::replay;
 use counts::OperationCounts;
 use ones::RowOnes;
 use peeling::peel;
 use phases::{Attempt, operations_of_peeled};
+pub use row_selection::FirstPhaseRowSelectionStats;
 use rq_bytes::error::Error;
 use rq_bytes::operation_vector::SymbolOps;
 use rq_bytes::symbol_slab::SymbolSlab;

@@ -98,7 +98,7 @@ is_none_where (Some xs) h = absurd (cc h)
 pub none_where_answered : (s : State) (difference : Option (List ℕ)) → 0 < s.configuration.source_blocks → 0 < s.configuration.symbol_size → (difference ≡ None → AreUnansweredDetermined s) → (AreUnansweredDetermined s → difference ≡ None) → IsNoneWhereAnswered s difference
 none_where_answered s difference some pos told tells table object packets st = (
   λ none. subst IsSome (sym (from_all table object packets s (λ _. false) some pos st (λ b below. is_answered (s.answer b) (λ unanswered.
-  not_determined packets (block_bytes s.configuration object b) b (s.held b) (s.answer b) (st.block b below) unanswered (told (is_none_where difference none) b below unanswered))))) refl,
+      not_determined packets (block_bytes s.configuration object b) b (s.held b) (s.answer b) (st.block b below) unanswered (told (is_none_where difference none) b below unanswered))))) refl,
   λ answered. subst IsNone (sym (tells (λ b below unanswered. absurd (some_is_some (s.answer b) (each_of table object packets s (λ _. false) some pos st answered b below) unanswered)))) refl,
 )
 

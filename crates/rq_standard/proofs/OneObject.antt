@@ -55,11 +55,12 @@ module _ (h : Held) (x y : ℕ → List ℕ) (checked : IsChecked h.row) (fits :
   sum_solves p =
       let n = intermediate_symbols h.row in
       record {
-        fixed = record { at = λ i l.
-            dot_add_column octets n (fixed_equations h.row i) (slice_at p x) (slice_at p y)
-            ∙ ap (λ s. octets.add s (dot octets n (fixed_equations h.row i) (slice_at p y))) ((solves_x.fixed.at_place p).at i l)
-            ∙ ap (octets.add (slice_at p (λ _. zero_symbol h.configuration.symbol_size) i)) ((solves_y.fixed.at_place p).at i l)
-            ∙ octets.add_self (slice_at p (λ _. zero_symbol h.configuration.symbol_size) i)
+        fixed = record {
+          at = λ i l.
+              dot_add_column octets n (fixed_equations h.row i) (slice_at p x) (slice_at p y)
+              ∙ ap (λ s. octets.add s (dot octets n (fixed_equations h.row i) (slice_at p y))) ((solves_x.fixed.at_place p).at i l)
+              ∙ ap (octets.add (slice_at p (λ _. zero_symbol h.configuration.symbol_size) i)) ((solves_y.fixed.at_place p).at i l)
+              ∙ octets.add_self (slice_at p (λ _. zero_symbol h.configuration.symbol_size) i);
         };
         each = λ i known.
             dot_add_column octets n (symbol_coefficient h.row i) (slice_at p x) (slice_at p y)

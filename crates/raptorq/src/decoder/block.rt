@@ -9,8 +9,8 @@ ghost use Rattle.rq_standard.specs.Received.{or_later};
 ghost use Rattle.rq_standard.specs.TableRows.{IsChecked};
 ghost use Rattle.raptorq.specs.Missing.{payload_of, has_payload, missing_count};
 
-use crate::decoder::stopped::Stopped;
 use crate::decoder::known::{known_symbol_ids, known_symbol_values};
+use crate::decoder::stopped::Stopped;
 use crate::solving::{homogeneous, solve};
 use crate::sub_blocks::{check_symbols, into_sub_blocks, size_at};
 use crate::sums::encoding_symbol;
