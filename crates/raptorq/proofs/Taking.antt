@@ -1,5 +1,5 @@
 -- Packets that a block's decoder takes one after another.
-use Rattle.std.proofs.Common.{◌≡◌, ℕ, Bool, cond, eqb, List, [], ◌∷◌, ◌++◌, length, Option, Some, Result, Ok, Err, refl, sym, ap, ◌∙◌, subst, append-nil}
+use Rattle.std.proofs.Common.{◌≡◌, ℕ, Bool, cond, eqb, List, [], ◌∷◌, ◌++◌, length, Option, Some, Result, Ok, Err, refl, sym, ap, ◌∙◌, subst, inl, inr}
 use Rattle.std.specs.Iterator.{Yields}
 use Rattle.std.specs.Prelude.{not}
 use Rattle.rq_bytes.specs.declared.error.Error.{Error}
@@ -9,7 +9,7 @@ use Rattle.rq_standard.specs.Packet.{Packet}
 use Rattle.rq_standard.specs.Held.{Held, recorded}
 use Rattle.rq_standard.proofs.Standing.{push-all}
 use Rattle.raptorq.specs.Refused.{block_refusal}
-use Rattle.raptorq.specs.Decoding.{all_recorded, AreTaken, Decodes, DecodesUntil}
+use Rattle.raptorq.specs.Decoding.{all_recorded, AreTaken, StopsAtLast, Decodes, DecodesUntil}
 use Rattle.raptorq.specs.Stopping.{StopsPacket, refusal_of}
 use Rattle.raptorq.specs.declared.decoder.stopped.Stopped.{Stopped}
 use Rattle.raptorq.specs.declared.decoder.stopped.Stopped.TheVariants.{Refused, NotRecorded, NotSolved, NotJoined}
@@ -42,19 +42,28 @@ taken-more h g packets p taken is passed = push-all (λ q. block_refusal h q ≡
 pub recorded-more : (h g new : Held) (packets : List Packet) (p : Packet) → g ≡ all_recorded h packets → new ≡ recorded g p.id.esi p.payload → new ≡ all_recorded h (packets ++ p ∷ [])
 recorded-more h g new packets p is one = one ∙ ap (λ k. recorded k p.id.esi p.payload) is ∙ sym (all_recorded-push h packets p)
 
--- the packet that stops the call
-pub stopped : (h g new : Held) (packets : List Packet) (p : Packet) (at : Stopped) → AreTaken h packets → g ≡ all_recorded h packets → new ≡ g → StopsPacket at (block_refusal g p) → DecodesUntil h (packets ++ p ∷ []) (Err at) new
-stopped h g new packets p (Refused e) taken is same stops = record { front = packets; last = p; whole = refl; taken = taken; holds = same ∙ is; stops = subst (StopsPacket (Refused e)) (refusal_kept h g packets p is) stops }
-stopped h g new packets p NotRecorded taken is same stops = record { front = packets; last = p; whole = refl; taken = taken; holds = same ∙ is; stops = subst (StopsPacket NotRecorded) (refusal_kept h g packets p is) stops }
-stopped h g new packets p NotSolved taken is same stops = absurd stops
-stopped h g new packets p NotJoined taken is same stops = absurd stops
+module _ {T : Type 0} (steps : T → Option Packet → T → Type 0) (iterator : T) where
+  stops_at : (h g new : Held) (packets : List Packet) (p : Packet) (after : T) (Stops : Result (Unit {0}) Error → Type 0) → Yields steps iterator (packets ++ p ∷ []) after → AreTaken h packets → g ≡ all_recorded h packets → new ≡ g → Stops (block_refusal g p)
+      → StopsAtLast steps iterator h (packets ++ p ∷ []) Stops new
+  stops_at h g new packets p after Stops gave taken is same stops = record { after = after; gave = gave; front = packets; last = p; whole = refl; taken = taken; holds = same ∙ is; stopped = subst Stops (refusal_kept h g packets p is) stops }
 
--- what a caller sees of it
-pub decodes_seen : (old : Held) (packets : List Packet) (at : Stopped) (new : Held) → DecodesUntil old packets (Err at) new → Decodes old packets (Err (refusal_of at)) new
-decodes_seen old packets (Refused e) new d = (d.front, d.last ∷ [], d.whole, d.taken, d.holds, (refl, subst (IsRefusal e) (sym d.stops) refl))
-decodes_seen old packets NotRecorded new d = (d.front, d.last ∷ [], d.whole, d.taken, d.holds, (refl, subst (IsRefusal OutOfMemory) (sym d.stops) refl))
-decodes_seen old packets NotSolved new d = (packets, [], sym (append-nil packets), d.0, d.1, refl)
-decodes_seen old packets NotJoined new d = absurd d
+  -- the packet that stops the call
+  pub stopped : (h g new : Held) (packets : List Packet) (p : Packet) (after : T) (at : Stopped) → Yields steps iterator (packets ++ p ∷ []) after → AreTaken h packets → g ≡ all_recorded h packets → new ≡ g → StopsPacket at (block_refusal g p)
+      → DecodesUntil steps iterator h (packets ++ p ∷ []) (Err at) new
+  stopped h g new packets p after (Refused e) gave taken is same stops = stops_at h g new packets p after (StopsPacket (Refused e)) gave taken is same stops
+  stopped h g new packets p after NotRecorded gave taken is same stops = stops_at h g new packets p after (StopsPacket NotRecorded) gave taken is same stops
+  stopped h g new packets p after NotSolved gave taken is same stops = absurd stops
+  stopped h g new packets p after NotJoined gave taken is same stops = absurd stops
+
+  seen_at : (old : Held) (packets : List Packet) (new : Held) (Stops Seen : Result (Unit {0}) Error → Type 0) → ((tested : Result (Unit {0}) Error) → Stops tested → Seen tested) → StopsAtLast steps iterator old packets Stops new → StopsAtLast steps iterator old packets Seen new
+  seen_at old packets new Stops Seen weaker d = record { after = d.after; gave = d.gave; front = d.front; last = d.last; whole = d.whole; taken = d.taken; holds = d.holds; stopped = weaker (block_refusal old d.last) d.stopped }
+
+  -- what a caller sees of it
+  pub decodes_seen : (old : Held) (packets : List Packet) (at : Stopped) (new : Held) → DecodesUntil steps iterator old packets (Err at) new → Decodes steps iterator old packets (Err (refusal_of at)) new
+  decodes_seen old packets (Refused e) new d = inr (seen_at old packets new (StopsPacket (Refused e)) (IsRefusal e) (λ tested is. subst (IsRefusal e) (sym is) refl) d)
+  decodes_seen old packets NotRecorded new d = inr (seen_at old packets new (StopsPacket NotRecorded) (IsRefusal OutOfMemory) (λ tested is. subst (IsRefusal OutOfMemory) (sym is) refl) d)
+  decodes_seen old packets NotSolved new d = inl (d, refl)
+  decodes_seen old packets NotJoined new d = absurd d
 
 -- an iterator's next item, after those that it gave
 pub Yields-push : {S : Type 0} (steps : S → Option Packet → S → Type 0) (s : S) (packets : List Packet) (t : S) (p : Packet) (u : S) → Yields steps s packets t → steps t (Some p) u → Yields steps s (packets ++ p ∷ []) u

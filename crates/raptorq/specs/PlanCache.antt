@@ -5,7 +5,7 @@ use Rattle.rq_standard.specs.declared.row.Row.{Row}
 use Rattle.rq_standard.specs.TableRows.{greatest_size, row_of}
 use Rattle.raptorq.specs.declared.encoder.plan.SourceBlockEncodingPlan.{SourceBlockEncodingPlan}
 
--- its table, and the counts of source symbols of the plans that it holds_count, the first to fall out first
+-- its table, and the counts of source symbols of the plans that it holds, the first to fall out first
 pub record PlanCache : Type 0 where
   pub table : List Row
   pub counts : List ℕ

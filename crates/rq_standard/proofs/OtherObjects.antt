@@ -228,7 +228,7 @@ module _ (s : State) (pos : 0 < s.configuration.symbol_size) (some : 0 < s.confi
   is_difference columns b j rows are none below in_width nonzero = record {
     long = length-bytes_of s.configuration row_at columns pos some aligned;
     answered = λ n i l h. zero_block s.configuration row_at columns pos some aligned n i l (none n l h);
-    zeros = λ nonsingular n e l came. columns_encode s.configuration row_at columns pos some aligned (λ m. holds (s.held m)) are n e l (rows n l) (nonsingular n l) came;
+    zeros = λ n e l nonsingular came. columns_encode s.configuration row_at columns pos some aligned (λ m. holds (s.held m)) are n e l (rows n l) nonsingular came;
     nonzero = λ nonsingular. nonzero_byte s.configuration row_at columns pos some aligned (λ m. holds (s.held m)) are b j below (nonsingular b below) in_width nonzero;
   }
 
@@ -244,11 +244,13 @@ module _ (s : State) (pos : 0 < s.configuration.symbol_size) (some : 0 < s.confi
   -- they make other objects fit
   pub makes_others_fit : (bytes : List ℕ) → IsDifference s bytes → MakesOthersFit s bytes
   makes_others_fit bytes d late table object other packets st fits =
-      let c = s.configuration in
-      fits-xor table c rows st.run.nonsingular other bytes packets fits (record {
-        long = d.long;
-        zeros = λ b e below came. by_answer b e below came (s.answer b) refl;
-      }) where
+      let c = s.configuration in (
+        fits-xor table c rows st.run.nonsingular other bytes packets fits (record {
+          long = d.long;
+          zeros = λ b e below came. by_answer b e below came (s.answer b) refl;
+        }),
+        λ same. (d.nonzero held).2 (xor-same other bytes same (d.nonzero held).0),
+      ) where
         rows : (b : ℕ) → b < s.configuration.source_blocks → HasRow (block_row table s.configuration b) (block_symbols s.configuration b)
         rows b below = row_of_shape table s.configuration b (s.held b) (st.shape b below)
 
@@ -264,4 +266,4 @@ module _ (s : State) (pos : 0 < s.configuration.symbol_size) (some : 0 < s.confi
         by_answer b e below came None is =
             let c = s.configuration in
             let reads = (subst (BlockStands (late b) (block_bytes c object b) b packets (s.held b)) is (st.block b below)).0 in
-            subst (λ (r : Row). IsEncodingSymbol r c.symbol_size (block_source c bytes b) e (zero_symbol c.symbol_size)) (st.shape b below).row (d.zeros held b e below (ap is_some (reads e) ∙ came))
+            subst (λ (r : Row). IsEncodingSymbol r c.symbol_size (block_source c bytes b) e (zero_symbol c.symbol_size)) (st.shape b below).row (d.zeros b e below (held b below) (ap is_some (reads e) ∙ came))

@@ -38,21 +38,21 @@ pub record IsDifference (s : State) (bytes : List ℕ) : Type 0 where
   pub long : length bytes ≡ s.configuration.transfer_length
   -- zeros in a block that is answered
   pub answered : (b i : ℕ) → b < s.configuration.source_blocks → IsSome (s.answer b) → slice_index (block_bytes s.configuration bytes b) i ≡ 0
-  -- over rows that aren't singular: zero symbols for all ids that are held
-  pub zeros : HoldsNonsingularRows s → (b e : ℕ) → b < s.configuration.source_blocks → holds (s.held b) e ≡ true
+  -- zero symbols for all ids that are held of a block whose row isn't singular
+  pub zeros : (b e : ℕ) → b < s.configuration.source_blocks → IsNonsingular (s.held b).row → holds (s.held b) e ≡ true
       → IsEncodingSymbol (s.held b).row s.configuration.symbol_size (block_source s.configuration bytes b) e (zero_symbol s.configuration.symbol_size)
-  -- and not all zeros
+  -- not all zeros, where no row is singular
   pub nonzero : HoldsNonsingularRows s → (i : ℕ) × (i < s.configuration.transfer_length) × (slice_index bytes i ≢ 0)
 
 -- Of a decoder that stands for a list, with no block late: none exactly where the object is answered.
 abbrev pub IsNoneWhereAnswered : State → Option (List ℕ) → Type 0
 IsNoneWhereAnswered s difference = (table : List Row) (object : List ℕ) (packets : List Packet) → Stands table object packets s → IsNone difference ↔ IsSome (result_of s)
 
--- of a decoder that stands for a list: bytes whose xor with any object that fits the list fits it too
+-- of a decoder that stands for a list: bytes whose xor with any object that fits the list is another one that fits it
 abbrev pub MakesOthersFit : State → List ℕ → Type 0
 MakesOthersFit s bytes =
     (late : ℕ → Bool) (table : List Row) (object other : List ℕ) (packets : List Packet)
-    → StandsBut late table object packets s → IsHonestRun table s.configuration other packets → IsHonestRun table s.configuration (xor_bytes other bytes) packets
+    → StandsBut late table object packets s → IsHonestRun table s.configuration other packets → IsHonestRun table s.configuration (xor_bytes other bytes) packets × (xor_bytes other bytes ≢ other)
 
 -- ---- symbols of which only the first octet may be nonzero
 

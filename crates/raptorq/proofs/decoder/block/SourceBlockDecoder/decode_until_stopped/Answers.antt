@@ -24,6 +24,7 @@ returns-in_err-add g c =
       iterator = c.into_iter-packet-iterator.result;
       packets = c.loop-packet.yielded ++ c.in-Some.packet ∷ [];
       made = c.into_iter-packet-iterator.ensures.into_iter_gives;
-      gave = (c.next.new.self, Yields-push g.I.IntoIter.Iterator.next_gives c.into_iter-packet-iterator.result c.loop-packet.yielded c.loop-packet.packet-iterator c.in-Some.packet c.next.new.self c.loop-packet.yielded_by c.in-Some.ensures.steps);
-      decodes = stopped old now (held_of c.add.new.self) c.loop-packet.yielded c.in-Some.packet c.in_err-add.field-0.0 kept.taken kept.holds c.in_err-add.ensures.err c.in_err-add.ensures.stops;
+      decodes = stopped g.I.IntoIter.Iterator.next_gives c.into_iter-packet-iterator.result old now (held_of c.add.new.self) c.loop-packet.yielded c.in-Some.packet c.next.new.self c.in_err-add.field-0.0
+          (Yields-push g.I.IntoIter.Iterator.next_gives c.into_iter-packet-iterator.result c.loop-packet.yielded c.loop-packet.packet-iterator c.in-Some.packet c.next.new.self c.loop-packet.yielded_by c.in-Some.ensures.steps)
+          kept.taken kept.holds c.in_err-add.ensures.err c.in_err-add.ensures.stops;
     })
