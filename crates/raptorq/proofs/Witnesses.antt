@@ -22,14 +22,14 @@ use Rattle.raptorq.proofs.Numbered.{length-numbered, number_at}
 use Rattle.raptorq.proofs.ObjectBlocks.{state, number_of, held_here}
 
 -- a block's bytes, by what is held of it
-abbrev block_of : Configuration → List ObjectBlock → (ℕ → Option (List ℕ)) → ℕ → List ℕ
-block_of c items columns b = first_octets_block c (block_symbols c b) (plain_sum (held_at c items b).row (at (unwrap_or (columns b) [])))
+abbrev other_block_of : Configuration → List ObjectBlock → (ℕ → Option (List ℕ)) → ℕ → List ℕ
+other_block_of c items columns b = first_octets_block c (block_symbols c b) (plain_sum (held_at c items b).row (at (unwrap_or (columns b) [])))
 
 -- the first n blocks: what was found of each of them, and whether nothing was
 pub record DifferenceSoFar (c : Configuration) (items : List ObjectBlock) (n : ℕ) (none : Bool) (bytes : List ℕ) : Type 0 where
   pub columns : ℕ → Option (List ℕ)
   pub shows : (b : ℕ) → b < n → ShowsUnanswered (held_at c items b) (answer_at items b) (columns b)
-  pub appended : bytes ≡ pieces (block_of c items columns) n
+  pub appended : bytes ≡ pieces (other_block_of c items columns) n
   pub told : MatchBool none ((b : ℕ) → b < n → columns b ≡ None) ((b : ℕ) × (b < n) × IsSome (columns b))
 
 pub nothing_found : (c : Configuration) (items : List ObjectBlock) (bytes : List ℕ) → bytes ≡ [] → DifferenceSoFar c items 0 true bytes
@@ -67,14 +67,14 @@ module _ (c : Configuration) (items : List ObjectBlock) (n : ℕ) (none : Bool) 
   one_found t block new flag same cut is grown =
       let next : n + 1 ≡ suc n = omega arith in
       let h = held_at c items n in
-      let own : block ≡ block_of c items with_one n = is ∙ ap (λ k. first_octets_block k h.symbols (plain_sum h.row (at (unwrap_or column [])))) same ∙ ap (λ k. first_octets_block c k (plain_sum h.row (at (unwrap_or column [])))) cut ∙ ap (λ o. first_octets_block c (block_symbols c n) (plain_sum h.row (at (unwrap_or o [])))) (sym here) in
+      let own : block ≡ other_block_of c items with_one n = is ∙ ap (λ k. first_octets_block k h.symbols (plain_sum h.row (at (unwrap_or column [])))) same ∙ ap (λ k. first_octets_block c k (plain_sum h.row (at (unwrap_or column [])))) cut ∙ ap (λ o. first_octets_block c (block_symbols c n) (plain_sum h.row (at (unwrap_or o [])))) (sym here) in
       record {
         columns = with_one;
         shows = λ b below. elim (cases_lt b n) [
           | inl lt ↦ subst (ShowsUnanswered (held_at c items b) (answer_at items b)) (sym (before b lt)) (so.shows b lt)
           | inr past ↦ let same : n ≡ b = omega arith in subst (λ m. ShowsUnanswered (held_at c items m) (answer_at items m) (with_one m)) same (subst (ShowsUnanswered (held_at c items n) (answer_at items n)) (sym here) shows)
         ];
-        appended = grown ∙ ap (λ xs. xs ++ block) (so.appended ∙ pieces-same (block_of c items so.columns) (block_of c items with_one) n (λ b below. ap (λ o. first_octets_block c (block_symbols c b) (plain_sum (held_at c items b).row (at (unwrap_or o [])))) (sym (before b below)))) ∙ ap (λ xs. pieces (block_of c items with_one) n ++ xs) own ∙ ap (pieces (block_of c items with_one)) (sym next);
+        appended = grown ∙ ap (λ xs. xs ++ block) (so.appended ∙ pieces-same (other_block_of c items so.columns) (other_block_of c items with_one) n (λ b below. ap (λ o. first_octets_block c (block_symbols c b) (plain_sum (held_at c items b).row (at (unwrap_or o [])))) (sym (before b below)))) ∙ ap (λ xs. pieces (other_block_of c items with_one) n ++ xs) own ∙ ap (pieces (other_block_of c items with_one)) (sym next);
         told = subst (λ u. MatchBool u ((b : ℕ) → b < n + 1 → with_one b ≡ None) ((b : ℕ) × (b < n + 1) × IsSome (with_one b))) (sym flag) (told_more none column refl so.told);
       }
 
@@ -153,5 +153,5 @@ module _ (c : Configuration) (items : List ObjectBlock) (numbered : map number_o
       let here = held_here c items b x inside found.1 in
       record {
         checked = subst (λ (h : Held). IsChecked h.row) (sym here) x.decoder.checked;
-        fits = subst (λ n. n ≤ (held_at c items b).row.source_symbols) (block_is_cut b below) (subst (λ (h : Held). h.symbols ≤ h.row.source_symbols) (sym here) x.decoder.fits);
+        fits = subst (λ n. n ≤ (held_at c items b).row.extended_symbols) (block_is_cut b below) (subst (λ (h : Held). h.symbols ≤ h.row.extended_symbols) (sym here) x.decoder.fits);
       }

@@ -2,7 +2,7 @@
 use Rattle.std.specs.Prelude.{ℕ, List, map}
 use Rattle.rq_bytes.specs.declared.error.Error.{Error}
 use Rattle.rq_bytes.specs.Refusals.{IsRefusal}
-use Rattle.rq_standard.specs.declared.row.Row.{Row}
+use Rattle.rq_standard.specs.declared.row.TableRow.{TableRow}
 use Rattle.rq_standard.specs.TableRows.{greatest_size}
 use Rattle.rq_standard.specs.Configuration.{Configuration}
 use Rattle.rq_standard.specs.Headline.{IsHonestRun}
@@ -14,5 +14,5 @@ abbrev pub packets_of : List (ℕ × Packet) → List Packet
 packets_of steps = map (λ step. step.1) steps
 
 -- over an honest run nothing is refused but the configuration, and memory
-abbrev pub RefusesConfiguration : List Row → Configuration → List Packet → Error → Type 0
+abbrev pub RefusesConfiguration : List TableRow → Configuration → List Packet → Error → Type 0
 RefusesConfiguration table c packets e = (object : List ℕ) → IsHonestRun table c object packets → IsRefusal e (checked_configuration (greatest_size table) c)

@@ -25,6 +25,10 @@ use rq_bytes::error::Error;
 use rq_tables::systematic_constants::SystematicTable;
 use std::alloc::{AllocError, Global};
 
+/// From how many symbols of an extended source block (K') on the Rust crate solves over a sparse
+/// matrix. Decoders begin with it as their threshold; so far all matrices here are dense.
+pub const SPARSE_MATRIX_THRESHOLD: u32 = 250;
+
 /// Makes the packets of an object.
 #[derive(Debug, PartialEq, Eq, Drop)]
 pub struct Encoder {

@@ -1,14 +1,17 @@
 //! A RaptorQ erasure codec (RFC 6330): objects in packets, and back.
+//!
+//! Its modules are those of the Rust crate of this name. Most stand in crates of their own below this
+//! one and are named again here, so that a user's line of `crates.txt` names `raptorq` alone.
 #![tactic(auto)]
 
 mod blocks;
 pub mod decoder;
+mod enc;
 pub mod encoder;
 mod ids;
 pub mod laws;
 mod solving;
 mod sub_blocks;
-mod sums;
 
 pub use blocks::calculate_block_offsets;
 pub use decoder::{Decoder, SourceBlockDecoder};
@@ -16,8 +19,11 @@ pub use encoder::{
     Encoder, EncoderBuilder, SourceBlockEncoder, SourceBlockEncodingPlan,
     SourceBlockEncodingPlanCache,
 };
-pub use rq_base::base;
 pub use rq_base::base::{EncodingPacket, ObjectTransmissionInformation, PayloadId, partition};
-pub use rq_bytes::error;
+pub use rq_base::{base, constraint_matrix};
+pub use rq_bytes::{error, gf2, octet, octets, operation_vector, symbol, symbol_slab, util};
+pub use rq_matrix::matrix;
+pub use rq_parts::{arraymap, graph, iterators, octet_matrix};
+pub use rq_solver::pi_solver;
 pub use rq_tables::systematic_constants::extended_source_block_symbols;
 pub use rq_tables::{rng, systematic_constants};

@@ -1,19 +1,19 @@
 -- The rows of bits as single bits are set.
 use Rattle.std.proofs.Common.{◌≡◌, ◌≢◌, ℕ, ◌+◌, ◌*◌, ◌%◌, ◌<◌, ◌≤◌, Bool, true, false, cond, eqb, ◌&&◌, ◌||◌, refl, sym, ap, ◌∙◌, arith, inl, inr}
 use Rattle.std.proofs.lemmas.Bool.{cases_eq, cases_lt, eq-eqb, ne_eqb, lt-ltb, le-ltb}
-use Rattle.rq_standard.specs.declared.row.Row.{Row}
+use Rattle.rq_standard.specs.declared.row.TableRow.{TableRow}
 use Rattle.rq_standard.specs.BitTable.{BitTable}
 use Rattle.rq_standard.specs.BitTableSteps.{HasSameShape, SetsBit, bit_of}
-use Rattle.rq_standard.specs.TableRows.{IsChecked, intermediate_symbols, lone_lt_symbols, pi_symbols}
-use Rattle.rq_standard.specs.Equations.{one_if, ldpc_step, is_ldpc_place, ldpc_coefficient}
-use Rattle.rq_base.specs.BinaryRows.{HasRows, HasLoneColumns, HasLdpcRows}
+use Rattle.rq_standard.specs.TableRows.{IsChecked, intermediate_symbols, b_of, pi_symbols}
+use Rattle.rq_standard.specs.Equations.{one_if, ldpc_step, is_ldpc_row, ldpc_coefficient}
+use Rattle.rq_base.specs.BinaryRows.{HasRows, HasLdpc1Columns, HasLdpcRows}
 
 -- ---- shapes
 
 pub same_shape : {a b c : BitTable} → HasSameShape a b → HasSameShape b c → HasSameShape a c
 same_shape s t = record { height = t.height ∙ s.height; width = t.width ∙ s.width; boundary = t.boundary ∙ s.boundary; indexed = t.indexed ∙ s.indexed }
 
-pub rows_stay : {row : Row} {rows : ℕ} {old new : BitTable} → HasRows row rows old → HasSameShape old new → HasRows row rows new
+pub rows_stay : {row : TableRow} {rows : ℕ} {old new : BitTable} → HasRows row rows old → HasSameShape old new → HasRows row rows new
 rows_stay r s = record { height = s.height ∙ r.height; width = s.width ∙ r.width; boundary = s.boundary ∙ r.boundary; indexed = s.indexed ∙ r.indexed }
 
 -- ---- three bits that are set to one
@@ -56,28 +56,15 @@ three_set {m} {m'} {m''} {m'''} {i} {i'} {i''} {j} {j'} {j''} a b d e e' e'' =
           ∙ ap (cond (eqb r i' && eqb k j') 1) (x.bits r k hr hk));
     }
 
--- in a column where all three are, and in another
-three_here : (a b d : Bool) (x : ℕ) → x ≡ 0 → cond (d && true) 1 (cond (b && true) 1 (cond (a && true) 1 x)) ≡ one_if (a || b || d)
-three_here true true true x e = refl
-three_here true true false x e = refl
-three_here true false true x e = refl
-three_here true false false x e = refl
-three_here false true true x e = refl
-three_here false true false x e = refl
-three_here false false true x e = refl
-three_here false false false x e = e
+and_true : (b : Bool) → (b && true) ≡ b
+and_true true = refl
+and_true false = refl
 
-three_there : (a b d : Bool) (x : ℕ) → cond (d && false) 1 (cond (b && false) 1 (cond (a && false) 1 x)) ≡ x
-three_there true true true x = refl
-three_there true true false x = refl
-three_there true false true x = refl
-three_there true false false x = refl
-three_there false true true x = refl
-three_there false true false x = refl
-three_there false false true x = refl
-three_there false false false x = refl
+and_false : (b : Bool) → (b && false) ≡ false
+and_false true = refl
+and_false false = refl
 
--- the same in one row
+-- in one row
 three_in_row : (a b d : Bool) (x : ℕ) → x ≡ 0 → cond d 1 (cond b 1 (cond a 1 x)) ≡ one_if (a || b || d)
 three_in_row true true true x e = refl
 three_in_row true true false x e = refl
@@ -88,13 +75,20 @@ three_in_row false true false x e = refl
 three_in_row false false true x e = refl
 three_in_row false false false x e = e
 
+-- in a column where all three are, and in another
+three_here : (a b d : Bool) (x : ℕ) → x ≡ 0 → cond (d && true) 1 (cond (b && true) 1 (cond (a && true) 1 x)) ≡ one_if (a || b || d)
+three_here a b d x e = rw (and_true d, and_true b, and_true a) (three_in_row a b d x e)
+
+three_there : (a b d : Bool) (x : ℕ) → cond (d && false) 1 (cond (b && false) 1 (cond (a && false) 1 x)) ≡ x
+three_there a b d x = rw (and_false d, and_false b, and_false a) refl
+
 -- ---- the columns of the first B symbols
 
-pub lone_more :
-    {row : Row} {rows column : ℕ} {old new : BitTable} → IsChecked row → row.ldpc_symbols ≤ rows → column < lone_lt_symbols row → HasLoneColumns row rows column old
+pub ldpc_1_more :
+    {row : TableRow} {rows column : ℕ} {old new : BitTable} → IsChecked row → row.ldpc_symbols ≤ rows → column < b_of row → HasLdpc1Columns row rows column old
     → SetsThree old new (column % row.ldpc_symbols) ((column + ldpc_step row column) % row.ldpc_symbols) ((column + 2 * ldpc_step row column) % row.ldpc_symbols) column column column
-    → HasLoneColumns row rows (column + 1) new
-lone_more {row} {rows} {column} {old} {new} checked room lt lone three =
+    → HasLdpc1Columns row rows (column + 1) new
+ldpc_1_more {row} {rows} {column} {old} {new} checked room lt before three =
     let s = row.ldpc_symbols in
     let some : 0 < s = omega (arith, checked.odd) in
     let x = column % s in
@@ -102,39 +96,39 @@ lone_more {row} {rows} {column} {old} {new} checked room lt lone three =
     let z = (column + 2 * ldpc_step row column) % s in
     let wide : column < intermediate_symbols row = omega (arith, checked.three_pi) in
     let elsewhere : (i k : ℕ) → i < rows → k < intermediate_symbols row → k ≢ column → new.bit i k ≡ old.bit i k = λ i k hi hk other.
-    (three.bits i k (omega (arith, lone.shape.height)) (omega (arith, lone.shape.width))
+    (three.bits i k (omega (arith, before.shape.height)) (omega (arith, before.shape.width))
     ∙ ap (λ e. cond (eqb i z && e) 1 (cond (eqb i y && e) 1 (cond (eqb i x && e) 1 (old.bit i k)))) (ne_eqb k column other)
     ∙ three_there (eqb i x) (eqb i y) (eqb i z) (old.bit i k)) in
     let under : (i k : ℕ) → s ≤ i → i < rows → k < intermediate_symbols row → new.bit i k ≡ old.bit i k = λ i k low hi hk.
     (let not_x : eqb i x ≡ false = ne_eqb i x (λ e. omega arith) in
     let not_y : eqb i y ≡ false = ne_eqb i y (λ e. omega arith) in
     let not_z : eqb i z ≡ false = ne_eqb i z (λ e. omega arith) in
-    three.bits i k (omega (arith, lone.shape.height)) (omega (arith, lone.shape.width))
+    three.bits i k (omega (arith, before.shape.height)) (omega (arith, before.shape.width))
     ∙ ap (λ e. cond (e && eqb k column) 1 (cond (eqb i y && eqb k column) 1 (cond (eqb i x && eqb k column) 1 (old.bit i k)))) not_z
     ∙ ap (λ e. cond (e && eqb k column) 1 (cond (eqb i x && eqb k column) 1 (old.bit i k))) not_y
     ∙ ap (λ e. cond (e && eqb k column) 1 (old.bit i k)) not_x) in
     record {
-      shape = rows_stay lone.shape three.shape;
+      shape = rows_stay before.shape three.shape;
       done = λ i k hi hk. elim (cases_eq k column) [
         | inl here ↦
-            three.bits i k (omega (arith, lone.shape.height)) (omega (arith, lone.shape.width))
+            three.bits i k (omega (arith, before.shape.height)) (omega (arith, before.shape.width))
             ∙ ap (λ e. cond (eqb i z && e) 1 (cond (eqb i y && e) 1 (cond (eqb i x && e) 1 (old.bit i k)))) (eq-eqb k column here)
-            ∙ three_here (eqb i x) (eqb i y) (eqb i z) (old.bit i k) (lone.right i k hi (omega arith) (omega arith))
-            ∙ ap (λ n. one_if (is_ldpc_place row i n)) (sym here)
-        | inr other ↦ elsewhere i k (omega arith) (omega arith) other ∙ lone.done i k hi (omega arith)
+            ∙ three_here (eqb i x) (eqb i y) (eqb i z) (old.bit i k) (before.right i k hi (omega arith) (omega arith))
+            ∙ ap (λ n. one_if (is_ldpc_row row i n)) (sym here)
+        | inr other ↦ elsewhere i k (omega arith) (omega arith) other ∙ before.done i k hi (omega arith)
       ];
-      right = λ i k hi low hk. elsewhere i k (omega arith) hk (λ e. omega arith) ∙ lone.right i k hi (omega arith) hk;
-      below = λ i k low hi hk. under i k low (omega (arith, lone.shape.height, three.shape.height)) hk ∙ lone.below i k low (omega (arith, three.shape.height)) hk;
+      right = λ i k hi low hk. elsewhere i k (omega arith) hk (λ e. omega arith) ∙ before.right i k hi (omega arith) hk;
+      below = λ i k low hi hk. under i k low (omega (arith, before.shape.height, three.shape.height)) hk ∙ before.below i k low (omega (arith, three.shape.height)) hk;
     }
 
 -- with all of them, no LDPC row is whole yet
-pub lone_whole : {row : Row} {rows : ℕ} {m : BitTable} → HasLoneColumns row rows (lone_lt_symbols row) m → HasLdpcRows row rows 0 m
-lone_whole lone = record {
-  shape = lone.shape;
+pub ldpc_1_whole : {row : TableRow} {rows : ℕ} {m : BitTable} → HasLdpc1Columns row rows (b_of row) m → HasLdpcRows row rows 0 m
+ldpc_1_whole before = record {
+  shape = before.shape;
   whole = λ i k hi hk. absurd (omega arith);
-  left = λ i k low hi hk. lone.done i k hi hk;
-  right = λ i k low hi from hk. lone.right i k hi from hk;
-  below = lone.below;
+  left = λ i k low hi hk. before.done i k hi hk;
+  right = λ i k low hi from hk. before.right i k hi from hk;
+  below = before.below;
 }
 
 -- ---- the LDPC rows
@@ -143,28 +137,28 @@ or_false : (b : Bool) → one_if (b || false || false) ≡ one_if b
 or_false true = refl
 or_false false = refl
 
-coefficient-left : (row : Row) (i k : ℕ) → k < lone_lt_symbols row → ldpc_coefficient row i k ≡ one_if (is_ldpc_place row i k)
+coefficient-left : (row : TableRow) (i k : ℕ) → k < b_of row → ldpc_coefficient row i k ≡ one_if (is_ldpc_row row i k)
 unfolding ldpc_coefficient
-coefficient-left row i k lt = rw (lt-ltb k (lone_lt_symbols row) lt) refl
+coefficient-left row i k lt = rw (lt-ltb k (b_of row) lt) refl
 
 -- the last columns of an LDPC row
 coefficient-right :
-    (row : Row) → IsChecked row → (i : ℕ) → i < row.ldpc_symbols → (k : ℕ) → lone_lt_symbols row ≤ k
-    → one_if (eqb k (lone_lt_symbols row + i) || eqb k (row.lt_symbols + i % pi_symbols row) || eqb k (row.lt_symbols + (i + 1) % pi_symbols row)) ≡ ldpc_coefficient row i k
+    (row : TableRow) → IsChecked row → (i : ℕ) → i < row.ldpc_symbols → (k : ℕ) → b_of row ≤ k
+    → one_if (eqb k (b_of row + i) || eqb k (row.lt_symbols + i % pi_symbols row) || eqb k (row.lt_symbols + (i + 1) % pi_symbols row)) ≡ ldpc_coefficient row i k
 unfolding ldpc_coefficient
 coefficient-right row checked i ldpc k low =
     let w = row.lt_symbols in
-    rw (le-ltb k (lone_lt_symbols row) low) (elim (cases_lt k w) [
-      | inl lt ↦ rw (lt-ltb k w lt, ne_eqb k (w + i % pi_symbols row) (λ e. omega arith), ne_eqb k (w + (i + 1) % pi_symbols row) (λ e. omega arith)) (or_false (eqb k (lone_lt_symbols row + i)))
-      | inr le ↦ rw (le-ltb k w le, ne_eqb k (lone_lt_symbols row + i) (λ e. omega (arith, checked.some_lone))) refl
+    rw (le-ltb k (b_of row) low) (elim (cases_lt k w) [
+      | inl lt ↦ rw (lt-ltb k w lt, ne_eqb k (w + i % pi_symbols row) (λ e. omega arith), ne_eqb k (w + (i + 1) % pi_symbols row) (λ e. omega arith)) (or_false (eqb k (b_of row + i)))
+      | inr le ↦ rw (le-ltb k w le, ne_eqb k (b_of row + i) (λ e. omega (arith, checked.some_b))) refl
     ])
 
 pub ldpc_more :
-    {row : Row} {rows i : ℕ} {old new : BitTable} → IsChecked row → row.ldpc_symbols ≤ rows → i < row.ldpc_symbols → HasLdpcRows row rows i old
-    → SetsThree old new i i i (lone_lt_symbols row + i) (row.lt_symbols + i % pi_symbols row) (row.lt_symbols + (i + 1) % pi_symbols row)
+    {row : TableRow} {rows i : ℕ} {old new : BitTable} → IsChecked row → row.ldpc_symbols ≤ rows → i < row.ldpc_symbols → HasLdpcRows row rows i old
+    → SetsThree old new i i i (b_of row + i) (row.lt_symbols + i % pi_symbols row) (row.lt_symbols + (i + 1) % pi_symbols row)
     → HasLdpcRows row rows (i + 1) new
 ldpc_more {row} {rows} {i} {old} {new} checked room lt before three =
-    let own = lone_lt_symbols row + i in
+    let own = b_of row + i in
     let first = row.lt_symbols + i % pi_symbols row in
     let second = row.lt_symbols + (i + 1) % pi_symbols row in
     let bits = λ (a k : ℕ) (ha : a < rows) (hk : k < intermediate_symbols row). three.bits a k (omega (arith, before.shape.height)) (omega (arith, before.shape.width)) in
@@ -172,14 +166,14 @@ ldpc_more {row} {rows} {i} {old} {new} checked room lt before three =
     (bits a k ha hk ∙ ap (λ e. cond (e && eqb k second) 1 (cond (e && eqb k first) 1 (cond (e && eqb k own) 1 (old.bit a k)))) (ne_eqb a i other)) in
     let here : (k : ℕ) → k < intermediate_symbols row → new.bit i k ≡ cond (eqb k second) 1 (cond (eqb k first) 1 (cond (eqb k own) 1 (old.bit i k))) = λ k hk.
     (bits i k (omega arith) hk ∙ ap (λ e. cond (e && eqb k second) 1 (cond (e && eqb k first) 1 (cond (e && eqb k own) 1 (old.bit i k)))) (eq-eqb i i refl)) in
-    let left_of : (k : ℕ) → k < lone_lt_symbols row → cond (eqb k second) 1 (cond (eqb k first) 1 (cond (eqb k own) 1 (old.bit i k))) ≡ old.bit i k = λ k hk.
+    let left_of : (k : ℕ) → k < b_of row → cond (eqb k second) 1 (cond (eqb k first) 1 (cond (eqb k own) 1 (old.bit i k))) ≡ old.bit i k = λ k hk.
     rw (ne_eqb k second (λ e. omega arith), ne_eqb k first (λ e. omega arith), ne_eqb k own (λ e. omega arith)) refl in
     record {
       shape = rows_stay before.shape three.shape;
       whole = λ a k ha hk. elim (cases_eq a i) [
         | inl same ↦
             ap (λ n. new.bit n k) same ∙ here k hk
-            ∙ elim (cases_lt k (lone_lt_symbols row)) [
+            ∙ elim (cases_lt k (b_of row)) [
               | inl low ↦ left_of k low ∙ before.left i k (omega arith) lt low ∙ sym (coefficient-left row i k low)
               | inr high ↦ three_in_row (eqb k own) (eqb k first) (eqb k second) (old.bit i k) (before.right i k (omega arith) lt high hk) ∙ coefficient-right row checked i lt k high
             ]

@@ -1,8 +1,8 @@
-//! The equations of a block as matrices, and the places of encoding symbols in them (RFC 6330,
-//! sections 5.3.3.3 and 5.3.5.3).
+//! The equations of a block as matrices, and the indices of the intermediate symbols that make up an
+//! encoding symbol (RFC 6330, sections 5.3.3.3 and 5.3.5.3).
 ghost use Rattle.std.specs.Prelude.{◌≡◌, ◌+◌, ◌*◌, ◌^◌, ◌<◌, ◌≤◌, All, length, IfOk, IfErr};
 ghost use Rattle.std.specs.List.{FoldsTo};
-ghost use Rattle.rq_standard.specs.Tuple.{IsTuple, places_of};
+ghost use Rattle.rq_standard.specs.Tuple.{IsTuple, enc_indices};
 ghost use Rattle.rq_bytes.specs.declared.error.Error.TheVariants.{OutOfMemory};
 ghost use Rattle.rq_standard.specs.TableRows.{IsChecked, greatest_size, row_of, intermediate_symbols};
 ghost use Rattle.rq_standard.specs.Equations.{equation_count};
@@ -13,19 +13,19 @@ ghost use Rattle.rq_base.specs.HdpcPart.{IsHdpcPart};
 mod binary;
 pub mod hdpc;
 
-use crate::places::Places;
+use crate::indices::Indices;
 use binary::binary_rows;
 use hdpc::generate_hdpc_rows;
 use rq_bytes::error::Error;
 use rq_matrix::matrix::BinaryMatrix;
 use rq_parts::octet_matrix::DenseOctetMatrix;
-use rq_standard::row::Row;
+use rq_standard::row::TableRow;
 use rq_tables::systematic_constants::SystematicTable;
 use std::alloc::Global;
 
-/// Calls `f` with each place of a tuple (d, a, b, d1, a1, b1) in order, over a row of the table
-/// with W `lt_symbols`, P `pi_symbols` and P1 `p1`: the places of the intermediate symbols whose
-/// sum is the encoding symbol. A place may come twice; it then cancels in the sum.
+/// Calls `f` with each index of a tuple (d, a, b, d1, a1, b1) in order, over a row of the table with
+/// W `lt_symbols`, P `pi_symbols` and P1 `p1`: the indices of the intermediate symbols whose sum is
+/// the encoding symbol. An index may come twice; it then cancels in the sum.
 pub fn enc_indices<F: FnMut(usize)>(
     source_tuple: (u32, u32, u32, u32, u32, u32),
     lt_symbols: u32,
@@ -37,12 +37,12 @@ pub fn enc_indices<F: FnMut(usize)>(
     requires some_pi { 3 ≤ pi_symbols }
     requires p1_above { pi_symbols ≤ p1 }
     requires p1_near { p1 ≤ 2 * pi_symbols }
-    requires callable { CallableAlong (λ p x. F.pre p x) (λ p x q. F.step p x tt q) f (places_of lt_symbols pi_symbols p1 source_tuple) }
-    ensures calls { (last : F) × FoldsTo (λ p x q. F.step p x tt q) f (places_of lt_symbols pi_symbols p1 source_tuple) last }
-    ensures below { All (λ place. place < lt_symbols + pi_symbols) (places_of lt_symbols pi_symbols p1 source_tuple) }
+    requires callable { CallableAlong (λ p x. F.pre p x) (λ p x q. F.step p x tt q) f (enc_indices lt_symbols pi_symbols p1 source_tuple) }
+    ensures calls { (last : F) × FoldsTo (λ p x q. F.step p x tt q) f (enc_indices lt_symbols pi_symbols p1 source_tuple) last }
+    ensures below { All (λ place. place < lt_symbols + pi_symbols) (enc_indices lt_symbols pi_symbols p1 source_tuple) }
 {
-    let mut places = Places::new(source_tuple, lt_symbols, pi_symbols, p1);
-    while let Some(place) = places.next_place() {
+    let mut places = Indices::new(source_tuple, lt_symbols, pi_symbols, p1);
+    while let Some(place) = places.next_index() {
         f(place);
     }
 }
@@ -67,10 +67,11 @@ pub fn generate_constraint_matrix<T: BinaryMatrix>(
     generate_constraint_matrix_of_row(alloc, &row, encoded_symbol_indices)
 }
 
-/// The same over a row of a table.
+/// The matrix of the equations of a block over a row of a table: the S LDPC rows, H rows of zeros,
+/// and a row for each internal symbol id; and beside it the H rows of octets of the HDPC equations.
 pub fn generate_constraint_matrix_of_row<T: BinaryMatrix>(
     alloc: Global,
-    row: &Row,
+    row: &TableRow,
     encoded_symbol_indices: &[u32],
 ) -> Result<(T, DenseOctetMatrix), Error>
     requires checked { IsChecked row.now }
@@ -85,8 +86,8 @@ pub fn generate_constraint_matrix_of_row<T: BinaryMatrix>(
     Ok((matrix, hdpc_rows))
 }
 
-/// The same without rows for the HDPC equations: the S LDPC rows, and a row for each internal
-/// symbol id.
+/// The matrix of the equations of a block of `source_block_symbols` symbols, over a table, without
+/// the HDPC equations: the S LDPC rows, and a row for each internal symbol id.
 pub fn generate_constraint_matrix_no_hdpc<T: BinaryMatrix>(
     alloc: Global,
     table: &SystematicTable,
@@ -103,6 +104,3 @@ pub fn generate_constraint_matrix_no_hdpc<T: BinaryMatrix>(
     let first_symbol_row = row.ldpc_symbols as usize;
     binary_rows(alloc, &row, first_symbol_row, encoded_symbol_indices)
 }
-
-#[cfg(test)]
-mod tests;

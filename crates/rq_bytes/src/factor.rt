@@ -11,7 +11,7 @@ use std::simd::prelude::*;
 
 const LANES: usize = 32;
 
-/// The products of x^k and all halves of a byte: first the lower halves, then the upper ones.
+// The products of x^k and all halves of a byte: first the lower halves, then the upper ones.
 const TERMS: [[u8; 32]; 8] = [
     [
         0, 1, 2, 3, 4, 5, 6, 7, 8, 9, 10, 11, 12, 13, 14, 15, 0, 16, 32, 48, 64, 80, 96, 112, 128,
@@ -47,13 +47,13 @@ const TERMS: [[u8; 32]; 8] = [
     ],
 ];
 
-/// The first half of a vector, twice.
+// The first half of a vector, twice.
 const FIRST_HALF: [usize; 32] = [
     0, 1, 2, 3, 4, 5, 6, 7, 8, 9, 10, 11, 12, 13, 14, 15, 0, 1, 2, 3, 4, 5, 6, 7, 8, 9, 10, 11, 12,
     13, 14, 15,
 ];
 
-/// The second half of a vector, twice.
+// The second half of a vector, twice.
 const SECOND_HALF: [usize; 32] = [
     16, 17, 18, 19, 20, 21, 22, 23, 24, 25, 26, 27, 28, 29, 30, 31, 16, 17, 18, 19, 20, 21, 22, 23,
     24, 25, 26, 27, 28, 29, 30, 31,
@@ -128,7 +128,7 @@ impl Factor {
         }
     }
 
-    /// The products of the octet and each lane.
+    // The products of the octet and each lane.
     #[inline(always)]
     fn lane_products(&self, lanes: u8x32) -> u8x32
         requires { length lanes ≡ 32 }
@@ -141,7 +141,7 @@ impl Factor {
     }
 }
 
-/// The products of an octet and all halves of a byte: first the lower halves, then the upper ones.
+// The products of an octet and all halves of a byte: first the lower halves, then the upper ones.
 #[inline(always)]
 fn half_products(scalar: u8) -> u8x32
     ensures long { length result ≡ 32 }

@@ -11,6 +11,4 @@ pub mod operation_vector;
 mod products;
 pub mod symbol;
 pub mod symbol_slab;
-#[cfg(test)]
-mod tests;
 pub mod util;

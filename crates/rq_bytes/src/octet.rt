@@ -207,7 +207,7 @@ pub fn octet_mul_low_bits(table: &mut [[u8; 32]; 256])
     }
 }
 
-/// Fills a row with the products of an octet and `step` times the places modulo `modulus`.
+// Fills a row with the products of an octet and `step` times the places modulo `modulus`.
 fn fill_row(row: &mut [u8], scalar: u8, modulus: usize, step: usize)
     requires some { 0 < modulus }
     requires octets { modulus * step ≤ 256 }

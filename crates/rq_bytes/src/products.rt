@@ -6,20 +6,20 @@ ghost use Rattle.rq_standard.specs.Octets.{octet_double, octet_mul};
 
 use std::simd::prelude::*;
 
-/// The place in its byte of each bit of a word, as a mask.
+// The place in its byte of each bit of a word, as a mask.
 const BITS: [u8; 64] = [
     1, 2, 4, 8, 16, 32, 64, 128, 1, 2, 4, 8, 16, 32, 64, 128, 1, 2, 4, 8, 16, 32, 64, 128, 1, 2, 4,
     8, 16, 32, 64, 128, 1, 2, 4, 8, 16, 32, 64, 128, 1, 2, 4, 8, 16, 32, 64, 128, 1, 2, 4, 8, 16,
     32, 64, 128, 1, 2, 4, 8, 16, 32, 64, 128,
 ];
 
-/// The byte of a word in which each of its bits stands.
+// The byte of a word in which each of its bits stands.
 const PLACES: [usize; 64] = [
     0, 0, 0, 0, 0, 0, 0, 0, 1, 1, 1, 1, 1, 1, 1, 1, 2, 2, 2, 2, 2, 2, 2, 2, 3, 3, 3, 3, 3, 3, 3, 3,
     4, 4, 4, 4, 4, 4, 4, 4, 5, 5, 5, 5, 5, 5, 5, 5, 6, 6, 6, 6, 6, 6, 6, 6, 7, 7, 7, 7, 7, 7, 7, 7,
 ];
 
-/// The product of an octet and x.
+// The product of an octet and x.
 #[inline(always)]
 fn double(a: u8) -> u8
     ensures { result ≡ octet_double a }
@@ -58,7 +58,7 @@ pub(crate) fn plane_products(scalar: u8, lanes: u8x32) -> u8x32
     sum
 }
 
-/// An octet in the lanes that have a bit set, and 0 in the others.
+// An octet in the lanes that have a bit set, and 0 in the others.
 #[inline(always)]
 fn plane(lanes: u8x32, k: u8, term: u8) -> u8x32
     requires long { length lanes ≡ 32 }
@@ -92,7 +92,7 @@ pub(crate) fn bit_products(scalar: u8, word: u64) -> u8x64
         .select(u8x64::splat(scalar), u8x64::splat(0))
 }
 
-/// Each byte of a word, eight times.
+// Each byte of a word, eight times.
 #[inline(always)]
 fn bytes_repeated(word: u64) -> u8x64
     ensures len { length result ≡ 64 }

@@ -8,7 +8,7 @@ ghost use Rattle.rq_standard.specs.OctetField.{octets};
 ghost use Rattle.std.specs.Borrow.{sem};
 ghost use Rattle.rq_bytes.specs.Ranges.{range_of, whole_symbols, with_range};
 ghost use Rattle.rq_bytes.specs.Refusals.{IsAnswer};
-ghost use Rattle.rq_bytes.specs.Slab.{slab_of, after, after_all, HasPlace, Allows, symbol_in, symbols_in, sum_in, with_sum, same_slab};
+ghost use Rattle.rq_bytes.specs.SymbolSlab.{slab_of, after, after_all, HasPlace, Allows, symbol_in, symbols_in, sum_in, with_sum, same_slab};
 
 use crate::error::Error;
 use crate::factor::Factor;
@@ -35,7 +35,7 @@ impl Model for SymbolSlab {
     ghost use Rattle.std.specs.Option.{option_map, ForSome};
     ghost use Rattle.rq_algebra.specs.Operations.{IsOrder};
     ghost use Rattle.rq_bytes.specs.Ranges.{cut};
-    ghost use Rattle.rq_bytes.specs.Slab.{Slab};
+    ghost use Rattle.rq_bytes.specs.SymbolSlab.{Slab};
 
     ghost Value = { Slab };
 
@@ -141,8 +141,8 @@ impl SymbolSlab {
         self.add_pieces::<1>(dest, sources, narrow);
     }
 
-    /// Adds the octets of several symbols from `start` on to those of another one, as many pieces of
-    /// N octets as there are. Returns where these end.
+    // Adds the octets of several symbols from `start` on to those of another one, as many pieces of
+    // N octets as there are. Returns where these end.
     #[inline(always)]
     fn add_pieces<const N: usize>(&mut self, dest: usize, sources: &[usize], start: usize) -> usize
         requires some { 0 < N }
@@ -162,7 +162,7 @@ impl SymbolSlab {
         start + N * pieces
     }
 
-    /// Adds the N octets of several symbols from `at` on to those of another one.
+    // Adds the N octets of several symbols from `at` on to those of another one.
     #[inline(always)]
     fn add_piece<const N: usize>(&mut self, dest: usize, sources: &[usize], at: usize)
         requires lanes { N ≤ 64 }
@@ -175,7 +175,7 @@ impl SymbolSlab {
         write_piece::<N>(self.get_mut(dest), at, sum);
     }
 
-    /// The sum of the N octets of several symbols from `at` on.
+    // The sum of the N octets of several symbols from `at` on.
     #[inline(always)]
     fn piece_sum<const N: usize>(&self, dest: usize, sources: &[usize], at: usize) -> Simd<u8, N>
         requires dest { HasPlace self.now dest }
@@ -274,7 +274,7 @@ impl SymbolSlab {
         })
     }
 
-    /// Where the symbol that a place means begins in the buffer.
+    // Where the symbol that a place means begins in the buffer.
     fn start_of(&self, i: usize) -> usize
         requires { HasPlace self.now i }
         ensures start { result ≡ meant_at self.now.order i * self.now.symbol_size }
@@ -283,7 +283,7 @@ impl SymbolSlab {
         self.meant(i) * self.symbol_size
     }
 
-    /// Which symbol a place means.
+    // Which symbol a place means.
     fn meant(&self, i: usize) -> usize
         requires { HasPlace self.now i }
         ensures is { result ≡ meant_at self.now.order i }
@@ -295,7 +295,7 @@ impl SymbolSlab {
         }
     }
 
-    /// The number of defined places.
+    // The number of defined places.
     fn places(&self) -> usize
         ensures { result ≡ length (symbols_in self.now) }
     {
@@ -342,7 +342,7 @@ impl Clone for SymbolSlab {
     }
 }
 
-/// The octets of a range.
+// The octets of a range.
 fn range(bytes: &[u8], start: usize, len: usize) -> &[u8]
     requires { start + len ≤ length bytes.now }
     ensures { result.now ≡ range_of bytes.now start len }
@@ -350,7 +350,7 @@ fn range(bytes: &[u8], start: usize, len: usize) -> &[u8]
     &bytes[start..start + len]
 }
 
-/// Writes octets from a place on.
+// Writes octets from a place on.
 fn write_range(bytes: &mut [u8], start: usize, source: &[u8])
     requires { start + length source.now ≤ length bytes.old }
     ensures { bytes.new ≡ with_range bytes.old start source.now }
@@ -358,7 +358,7 @@ fn write_range(bytes: &mut [u8], start: usize, source: &[u8])
     bytes[start..start + source.len()].copy_from_slice(source);
 }
 
-/// Writes a piece of N octets from a place on.
+// Writes a piece of N octets from a place on.
 #[inline(always)]
 fn write_piece<const N: usize>(octets: &mut [u8], at: usize, piece: Simd<u8, N>)
     requires len { length piece ≡ N }

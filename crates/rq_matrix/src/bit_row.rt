@@ -148,7 +148,7 @@ impl BitRow {
         Ok(BinaryOctetVec::new(part.into_words(), len))
     }
 
-    /// The words.
+    // The words.
     fn into_words(self) -> Vec<u64>
         ensures { result.items ≡ self }
     {
@@ -173,7 +173,7 @@ impl BitRow {
     }
 }
 
-/// A word with one bit set anew.
+// A word with one bit set anew.
 fn word_with(word: u64, bit: usize, one: bool) -> u64
     requires { bit < 64 }
     ensures { IsWordWith word bit (if one then 1 else 0) result }
@@ -185,7 +185,7 @@ fn word_with(word: u64, bit: usize, one: bool) -> u64
     }
 }
 
-/// The number of ones among so many bits of a word from one on.
+// The number of ones among so many bits of a word from one on.
 fn ones_in_word(word: u64, bit: usize, count: usize) -> usize
     requires some { 0 < count }
     requires within { bit + count ≤ 64 }

@@ -3,5 +3,3 @@
 
 mod bit_row;
 pub mod matrix;
-#[cfg(test)]
-mod tests;

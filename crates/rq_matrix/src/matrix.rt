@@ -85,7 +85,9 @@ pub trait BinaryMatrix: Clone {
         ensures ok { IfOk result (λ rows. ArePlacesOfOnes (λ row. (content self.now).bit row col) start_row end_row rows.items) }
         ensures err { IfErr result (λ e. e ≡ OutOfMemory) };
 
-    /// The same, in place of what a list held. A refusal leaves the list as it was.
+    /// Replaces a list by the rows from `start_row` on and before `end_row` that have a one in a
+    /// column that isn't dense: each once, in any order. The columns are indexed. A refusal leaves
+    /// the list as it was.
     fn get_ones_in_column_into(
         &self,
         col: usize,
@@ -117,7 +119,8 @@ pub trait BinaryMatrix: Clone {
         ensures ascending { IfOk result (λ columns. IsStrictlyIncreasing columns.items) }
         ensures err { IfErr result (λ e. e ≡ OutOfMemory) };
 
-    /// The same, in place of what a list held. A refusal leaves the list as it was.
+    /// Replaces a list by the dense columns in which a row has a one, in ascending order;
+    /// `start_col` is the first dense column. A refusal leaves the list as it was.
     fn query_non_zero_columns_into(
         &self,
         row: usize,
@@ -370,7 +373,7 @@ impl BinaryMatrix for DenseBinaryMatrix {
     }
 }
 
-/// So many rows of zeros.
+// So many rows of zeros.
 fn zero_rows(alloc: Global, height: usize, width: usize) -> Result<Vec<BitRow>, AllocError>
     requires { width < 65536 }
     ensures { IfOk result (λ rows. rows.items ≡ replicate height (replicate (word_count width) 0)) }
@@ -382,7 +385,7 @@ fn zero_rows(alloc: Global, height: usize, width: usize) -> Result<Vec<BitRow>, 
     Ok(rows)
 }
 
-/// Exchanges two columns in the rows from one on.
+// Exchanges two columns in the rows from one on.
 fn swap_columns_from(rows: &mut [BitRow], i: usize, j: usize, start: usize)
     requires first { All (λ row. i < 64 * length row) rows.old }
     requires second { All (λ row. j < 64 * length row) rows.old }
@@ -393,7 +396,7 @@ fn swap_columns_from(rows: &mut [BitRow], i: usize, j: usize, start: usize)
     }
 }
 
-/// Adds a row to another one.
+// Adds a row to another one.
 fn add_row(rows: &mut [BitRow], dest: usize, src: usize)
     requires two { dest ≢ src }
     requires dest { dest < length rows.old }
@@ -405,7 +408,7 @@ fn add_row(rows: &mut [BitRow], dest: usize, src: usize)
     to.add(from);
 }
 
-/// Drops the words of each row that so many columns don't need.
+// Drops the words of each row that so many columns don't need.
 fn truncate_rows(rows: &mut [BitRow], width: usize)
     requires { width < 65536 }
     ensures { rows.new ≡ map (λ row. take (word_count width) row) rows.old }

@@ -54,7 +54,7 @@ impl U16ArrayMap {
             .swap(key - self.offset, other_key - self.offset);
     }
 
-    /// The keys.
+    /// The keys, in ascending order.
     pub fn keys(&self) -> Range<usize>
         ensures start { result.start ≡ self.now.start }
         ensures end { result.end ≡ self.now.start + length self.now.values }
@@ -127,7 +127,8 @@ impl U32VecMap {
         })
     }
 
-    /// The same, with memory for the keys below `end_key`.
+    /// A map of the keys from `start_key` on, with the number 0 at each, and with memory for the keys
+    /// below `end_key`.
     pub fn with_capacity(alloc: Global, start_key: usize, end_key: usize) -> Result<Self, Error>
         requires { start_key ≤ end_key }
         ensures start { IfOk result (λ m. m.start ≡ start_key) }
@@ -190,7 +191,7 @@ impl U32VecMap {
     }
 }
 
-/// So many zeros.
+// So many zeros.
 fn zeros(alloc: Global, len: usize) -> Result<Vec<u32>, Error>
     ensures zeros { IfOk result (λ v. v.items ≡ replicate len 0) }
     ensures err { IfErr result (λ e. e ≡ OutOfMemory) }
@@ -198,7 +199,7 @@ fn zeros(alloc: Global, len: usize) -> Result<Vec<u32>, Error>
     Ok(vec![in alloc; 0; len]?)
 }
 
-/// Appends zeros until there is an element at `index`.
+// Appends zeros until there is an element at `index`.
 fn grow(elements: &mut Vec<u32>, index: usize) -> Result<(), Error>
     requires { index + 1 < 2 ^ 64 }
     ensures reaches { OnOk result (index < vec_len elements.new) }

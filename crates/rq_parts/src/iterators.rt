@@ -30,7 +30,7 @@ impl<'a> Model for OctetIter<'a> {
     ghost view = { λ s. pairs_left s.left };
 }
 
-/// The columns that are left, each with its bit, or those that have a one.
+// The columns that are left, each with its bit, or those that have a one.
 #[derive(Debug, Drop)]
 enum Left<'a> {
     Columns(DenseBits<'a>),
@@ -88,7 +88,7 @@ impl<'a> OctetIter<'a> {
         })
     }
 
-    /// The same pairs once more.
+    // A copy of the pairs that are left.
     fn again(&self) -> OctetIter<'a>
         ensures { result ≡ self.now }
     {
@@ -143,8 +143,8 @@ impl Iterator for ClonedOctetIter {
     }
 }
 
-/// Columns and their bits, the first of them at a place of a word. Contracts see the list of the pairs
-/// that are left.
+// Columns and their bits, the first of them at a place of a word. Contracts see the list of the pairs
+// that are left.
 #[derive(Debug, Drop)]
 struct DenseBits<'a> {
     column: usize,
@@ -167,7 +167,7 @@ impl<'a> Model for DenseBits<'a> {
 }
 
 impl<'a> DenseBits<'a> {
-    /// The columns of a range, with the bits from one of the first word on.
+    // The columns of a range, with the bits from one of the first word on.
     fn new(column: usize, end: usize, bit: usize, words: &'a [u64]) -> DenseBits<'a>
         requires range { column ≤ end }
         requires bit { bit < 64 }
@@ -183,7 +183,7 @@ impl<'a> DenseBits<'a> {
         }
     }
 
-    /// The next column.
+    // The next column.
     fn next_column(&mut self) -> Option<(usize, Octet)>
         ensures { MatchOption result ((self.old ≡ []) × (self.new ≡ [])) (λ p. self.old ≡ p ∷ self.new) }
     {
@@ -201,7 +201,7 @@ impl<'a> DenseBits<'a> {
         Some((column, octet))
     }
 
-    /// The next column that has a one.
+    // The next column that has a one.
     fn next_one(&mut self) -> Option<(usize, Octet)>
         ensures { MatchOption result ((ones_among self.old ≡ []) × (ones_among self.new ≡ [])) (λ p. ones_among self.old ≡ p ∷ ones_among self.new) }
     {
@@ -209,7 +209,7 @@ impl<'a> DenseBits<'a> {
         self.next_column()
     }
 
-    /// Passes over the columns before the next one that has a one.
+    // Passes over the columns before the next one that has a one.
     fn skip_zeros(&mut self)
         ensures ones { ones_among self.new ≡ ones_among self.old }
         ensures first { BeginsWithOne self.new }
@@ -229,7 +229,7 @@ impl<'a> DenseBits<'a> {
         }
     }
 
-    /// The same columns once more.
+    // A copy of the columns that are left.
     fn again(&self) -> DenseBits<'a>
         ensures { result ≡ self.now }
     {
@@ -243,7 +243,7 @@ impl<'a> DenseBits<'a> {
     }
 }
 
-/// The number of zeros from a bit of a word on and before the next one, or before the word's end.
+// The number of zeros from a bit of a word on and before the next one, or before the word's end.
 fn zeros_in_word(word: u64, bit: usize) -> usize
     requires { bit < 64 }
     ensures within { bit + result ≤ 64 }
@@ -253,6 +253,3 @@ fn zeros_in_word(word: u64, bit: usize) -> usize
     let zeros = (word >> bit).trailing_zeros() as usize;
     zeros.min(WORD_BITS - bit)
 }
-
-#[cfg(test)]
-mod tests;

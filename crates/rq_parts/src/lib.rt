@@ -5,5 +5,3 @@ pub mod arraymap;
 pub mod graph;
 pub mod iterators;
 pub mod octet_matrix;
-#[cfg(test)]
-mod tests;

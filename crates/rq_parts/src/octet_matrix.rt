@@ -3,7 +3,7 @@ ghost use Rattle.std.specs.Prelude.{◌≡◌, ◌≢◌, ℕ, ◌+◌, ◌<◌,
 ghost use Rattle.std.specs.List.{swap};
 ghost use Rattle.rq_standard.specs.Rows.{row_sum, row_multiple};
 ghost use Rattle.rq_bytes.specs.Refusals.{IsAnswer};
-ghost use Rattle.rq_parts.specs.OctetTable.{HasOctets, IsOctetRow, row_at, with_row, sum_from, columns_swapped};
+ghost use Rattle.rq_parts.specs.DenseOctetMatrix.{HasOctets, IsOctetRow, row_at, with_row, sum_from, columns_swapped};
 
 use rq_bytes::error::Error;
 use rq_bytes::octet::Octet;
@@ -21,7 +21,7 @@ pub struct DenseOctetMatrix {
 
 impl Model for DenseOctetMatrix {
     ghost use Rattle.std.specs.Prelude.{All};
-    ghost use Rattle.rq_parts.specs.OctetTable.{OctetTable, IsOctetRow};
+    ghost use Rattle.rq_parts.specs.DenseOctetMatrix.{OctetTable, IsOctetRow};
 
     ghost Value = { OctetTable };
 
@@ -141,7 +141,7 @@ impl Clone for DenseOctetMatrix {
     }
 }
 
-/// The octets of one row. Contracts see their list.
+// The octets of one row. Contracts see their list.
 #[derive(Debug, Drop)]
 struct Row {
     octets: Vec<u8>,
@@ -156,7 +156,7 @@ impl Model for Row {
 }
 
 impl Row {
-    /// A row of so many zeros.
+    // A row of so many zeros.
     fn zero(alloc: Global, width: usize) -> Result<Self, AllocError>
         ensures zeros { IfOk result (λ row. row ≡ replicate width 0) }
         ensures octets { IfOk result (IsOctetRow width) }
@@ -166,7 +166,7 @@ impl Row {
         })
     }
 
-    /// Adds a multiple of a packed row from a column on.
+    // Adds a multiple of a packed row from a column on.
     fn add_bits(&mut self, start: usize, scalar: &Octet, other: &BinaryOctetVec)
         requires { start + length other.now ≤ length self.old }
         ensures sum { self.new ≡ sum_from self.old start scalar.now other.now }
@@ -177,7 +177,7 @@ impl Row {
         octets::fused_addassign_mul_scalar_binary(&mut octets[start..end], other, scalar);
     }
 
-    /// Multiplies the row by an octet.
+    // Multiplies the row by an octet.
     fn multiply(&mut self, scalar: &Octet)
         ensures multiple { self.new ≡ row_multiple scalar.now self.old }
         ensures octets { IsOctetRow (length self.old) self.new }
@@ -186,7 +186,7 @@ impl Row {
         octets::are_octets(self.octets.as_slice());
     }
 
-    /// Adds a multiple of a row of the same length.
+    // Adds a multiple of a row of the same length.
     fn add_multiple(&mut self, other: &Row, scalar: &Octet)
         requires { length other.now ≡ length self.old }
         ensures sum { self.new ≡ row_sum self.old (row_multiple scalar.now other.now) }
@@ -196,7 +196,7 @@ impl Row {
         octets::are_octets(self.octets.as_slice());
     }
 
-    /// Sets the octet in column j.
+    // Sets the octet in column j.
     fn set(&mut self, j: usize, value: Octet)
         requires { j < length self.old }
         ensures set { self.new ≡ slice_set self.old j value }
@@ -206,7 +206,7 @@ impl Row {
         octets::are_octets(self.octets.as_slice());
     }
 
-    /// The octet in column j.
+    // The octet in column j.
     fn get(&self, j: usize) -> Octet
         requires { j < length self.now }
         ensures { result ≡ slice_index self.now j }
@@ -214,7 +214,7 @@ impl Row {
         Octet::new(self.octets[j])
     }
 
-    /// Exchanges two octets.
+    // Exchanges two octets.
     fn swap(&mut self, i: usize, j: usize)
         requires first { i < length self.old }
         requires second { j < length self.old }
@@ -236,7 +236,7 @@ impl Clone for Row {
     }
 }
 
-/// Adds a multiple of octets to as many others. A multiple by 1 needs no products.
+// Adds a multiple of octets to as many others. A multiple by 1 needs no products.
 fn add_octet_multiple(sum: &mut [u8], other: &[u8], scalar: &Octet)
     requires { length other.now ≡ length sum.old }
     ensures { sum.new ≡ row_sum sum.old (row_multiple scalar.now other.now) }
@@ -248,7 +248,7 @@ fn add_octet_multiple(sum: &mut [u8], other: &[u8], scalar: &Octet)
     }
 }
 
-/// Adds a multiple of a row to another one.
+// Adds a multiple of a row to another one.
 fn add_row_multiple(rows: &mut [Row], dest: usize, src: usize, scalar: &Octet)
     requires two { dest ≢ src }
     requires dest { dest < length rows.old }

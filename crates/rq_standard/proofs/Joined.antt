@@ -18,6 +18,8 @@ module _ (c : Configuration) (k e t : ℕ) (aligned : IsAligned c) (here : e < k
     high : t < o + z
     start : sub_block_start c (i / k) ≡ o
     size : sub_block_size c (i / k) ≡ z
+    rest : t - o < z
+    within : i - o * k ≡ e * z + (t - o)
 
   placed : IsPlaced (place_in_block c k e t) (sub_block_start c t) (sub_block_size c t)
   placed =
@@ -34,6 +36,8 @@ module _ (c : Configuration) (k e t : ℕ) (aligned : IsAligned c) (here : e < k
         high = b.high;
         start = b.part.start (i / k) from to;
         size = b.part.size (i / k) from to;
+        rest = omega (arith, b.low, b.high);
+        within = omega (arith, is);
       }
 
   pub symbol_of_place-place : symbol_of_place c k (place_in_block c k e t) ≡ e
@@ -43,9 +47,7 @@ module _ (c : Configuration) (k e t : ℕ) (aligned : IsAligned c) (here : e < k
       let z = sub_block_size c t in
       let i = place_in_block c k e t in
       let p = placed in
-      let rest : t - o < z = omega (arith, p.low, p.high) in
-      let within : i - o * k ≡ e * z + (t - o) = omega (arith, p.place) in
-      ap (λ s. (i - s * k) / sub_block_size c (i / k)) p.start ∙ ap (λ s. (i - o * k) / s) p.size ∙ ap (λ n. n / z) within ∙ div-mul-add e z (t - o) rest
+      ap (λ s. (i - s * k) / sub_block_size c (i / k)) p.start ∙ ap (λ s. (i - o * k) / s) p.size ∙ ap (λ n. n / z) p.within ∙ div-mul-add e z (t - o) p.rest
 
   pub byte_of_place-place : byte_of_place c k (place_in_block c k e t) ≡ t
   unfolding byte_of_place
@@ -54,10 +56,8 @@ module _ (c : Configuration) (k e t : ℕ) (aligned : IsAligned c) (here : e < k
       let z = sub_block_size c t in
       let i = place_in_block c k e t in
       let p = placed in
-      let rest : t - o < z = omega (arith, p.low, p.high) in
-      let within : i - o * k ≡ e * z + (t - o) = omega (arith, p.place) in
-      let last : (e * z + (t - o)) % z ≡ t - o = mod-mul-add e z (t - o) rest in
-      ap (λ s. s + (i - s * k) % sub_block_size c (i / k)) p.start ∙ ap (λ s. o + (i - o * k) % s) p.size ∙ ap (λ n. o + n % z) within ∙ ap (λ n. o + n) last ∙ omega (arith, p.low)
+      let last : (e * z + (t - o)) % z ≡ t - o = mod-mul-add e z (t - o) p.rest in
+      ap (λ s. s + (i - s * k) % sub_block_size c (i / k)) p.start ∙ ap (λ s. o + (i - o * k) % s) p.size ∙ ap (λ n. o + n % z) p.within ∙ ap (λ n. o + n) last ∙ omega (arith, p.low)
 
 -- ---- both ways
 

@@ -8,7 +8,7 @@ use Rattle.rq_bytes.specs.declared.error.Error.TheVariants.{OutOfMemory, PacketT
 use Rattle.rq_bytes.specs.Refusals.{IsAnswer, Answers, and_then}
 use Rattle.rq_standard.specs.Packet.{Packet, packet_of_bytes}
 use Rattle.rq_standard.specs.Configuration.{Configuration}
-use Rattle.rq_base.specs.RefusedInput.{read_packet}
+use Rattle.rq_base.specs.RefusedInput.{checked_configuration, read_packet}
 use Rattle.raptorq.specs.Refused.{packet_refusal}
 use Rattle.raptorq.specs.Decoding.{shown}
 use Rattle.rq_streams.specs.declared.run.Outcome.{Outcome}
@@ -17,7 +17,7 @@ use Rattle.rq_streams.specs.declared.run.Stop.{Stop}
 use Rattle.rq_streams.specs.declared.run.Stop.TheVariants.{Fault, Refused}
 use Rattle.rq_streams.specs.Ends.{Wanted, AnswersAs, EndsAs, Ends, AfterRefusal}
 use Rattle.rq_streams.specs.Frames.{frame_size, frame_refusal, first_refusal, frames_refusal}
-use Rattle.rq_streams.specs.ReceivedStreams.{received_configuration, receive_refusal}
+use Rattle.rq_streams.specs.ReceivedStreams.{header_configuration, taken_configuration, received_configuration, receive_refusal}
 
 pub answers_of : {X Y : Type 0} (view : X → Y) (r : Result X Error) (wanted : Result Y Error) → IsAnswer view r wanted → Answers view r wanted
 answers_of view (Ok x) wanted h = h
@@ -63,6 +63,20 @@ first_refusal-next c frame frames x taken = ap (λ r. and_then r (λ _. first_re
 pub first_refusal-here : (c : Configuration) (frame : List ℕ) (frames : List (List ℕ)) (e : Error) → (e ≡ OutOfMemory) ⊎ (frame_refusal c frame ≡ Err e) → (e ≡ OutOfMemory) ⊎ (first_refusal c (frame ∷ frames) ≡ Err e)
 first_refusal-here c frame frames e (inl h) = inl h
 first_refusal-here c frame frames e (inr h) = inr (ap (λ r. and_then r (λ _. first_refusal c frames)) h)
+
+abbrev read_of : Configuration → Result Configuration Error
+read_of c = Ok c
+
+-- the configuration of a stream whose header's is taken
+pub received-taken : (greatest : ℕ) (c : Configuration) (bytes : List ℕ) → Ok c ≡ header_configuration bytes → checked_configuration greatest c ≡ Ok tt → Ok c ≡ received_configuration greatest bytes
+received-taken greatest c bytes read accepted =
+    ap (λ r. and_then r (λ _. read_of c)) (sym accepted) ∙ ap (λ r. and_then r (taken_configuration greatest)) read
+
+-- the refusal of a stream whose header's configuration isn't
+pub receive_refusal-refused : (greatest : ℕ) (c : Configuration) (e : Error) (bytes : List ℕ) → Ok c ≡ header_configuration bytes → checked_configuration greatest c ≡ Err e → receive_refusal greatest bytes ≡ Err e
+receive_refusal-refused greatest c e bytes read refused =
+    ap (λ r. and_then (and_then r (taken_configuration greatest)) (λ k. frames_refusal k (drop 12 bytes))) (sym read)
+    ∙ ap (λ r. and_then (and_then r (λ _. read_of c)) (λ k. frames_refusal k (drop 12 bytes))) refused
 
 -- the refusal of a stream whose configuration is taken
 pub receive_refusal-taken : (greatest : ℕ) (c d : Configuration) (bytes rest : List ℕ) → Ok c ≡ received_configuration greatest bytes → d ≡ c → rest ≡ drop 12 bytes → receive_refusal greatest bytes ≡ frames_refusal d rest

@@ -17,6 +17,3 @@ pub use receive::run_receive;
 pub use run::{Outcome, Stop};
 pub use send::run_send;
 pub use words::job;
-
-#[cfg(test)]
-mod tests;

@@ -3,15 +3,13 @@ ghost use Rattle.std.specs.Prelude.{◌≡◌, ◌+◌, ◌^◌, ◌-◌, ◌<�
 ghost use Rattle.std.specs.Io.KnownBytes.{Keeps};
 ghost use Rattle.rq_bytes.specs.Refusals.{Answers};
 ghost use Rattle.rq_standard.specs.Packet.{packet_of_bytes};
-ghost use Rattle.rq_standard.specs.Configuration.{largest_block};
 ghost use Rattle.rq_standard.specs.Standing.{StandsForMore};
 ghost use Rattle.rq_standard.specs.TableRows.{greatest_size};
-ghost use Rattle.rq_base.specs.RefusedInput.{checked_configuration};
 ghost use Rattle.raptorq.specs.Objects.{state_of};
-ghost use Rattle.rq_streams.specs.Counts.{failed_count, inner_of};
+ghost use Rattle.rq_streams.specs.Counted.{failed_count, inner_of};
 ghost use Rattle.rq_streams.specs.Ends.{AfterRefusal, failed_calls};
 ghost use Rattle.rq_streams.specs.Frames.{frame_size, frame_refusal, frames_refusal};
-ghost use Rattle.rq_streams.specs.ReceivedStreams.{received_configuration, receive_refusal, StandsForFrames, AnswersStream, RefusesStream, RefusesFirst, ReceivesExactly, ReceivesWhereAnyCan};
+ghost use Rattle.rq_streams.specs.ReceivedStreams.{header_configuration, receive_refusal, StandsForFrames, AnswersStream, RefusesStream, RefusesFirst, ReceivesExactly, ReceivesWhereAnyCan};
 
 use crate::counted::Counted;
 use crate::run::{Outcome, Stop, finish, read_all};
@@ -21,26 +19,19 @@ use raptorq::{Decoder, EncodingPacket, ObjectTransmissionInformation};
 use std::alloc::Global;
 use std::io::{Read, Write};
 
-// The configuration in a stream's header, where coders take it.
-fn received_configuration(
-    table: &SystematicTable,
-    bytes: &[u8],
-) -> Result<ObjectTransmissionInformation, Error>
-    ensures value { result ≡ received_configuration (greatest_size table.now) bytes.now }
+// The configuration in a stream's header, whether or not coders take it.
+fn header_configuration(bytes: &[u8]) -> Result<ObjectTransmissionInformation, Error>
+    ensures value { result ≡ header_configuration bytes.now }
     ensures long { OnOk result (12 ≤ length bytes.now) }
-    ensures accepted { IfOk result (λ c. checked_configuration (greatest_size table.now) c ≡ Ok tt) }
-    ensures few { IfOk result (λ c. largest_block c < 65536) }
 {
-    let Some(header) = bytes.first_chunk::<12>() else {
-        return Err(Error::HeaderTooShort);
-    };
-    let config = ObjectTransmissionInformation::deserialize(header);
-    config.check(table)?;
-    Ok(config)
+    match bytes.first_chunk::<12>() {
+        Some(header) => Ok(ObjectTransmissionInformation::deserialize(header)),
+        None => Err(Error::HeaderTooShort),
+    }
 }
 
-// A frame into the decoder.
-fn take_frame(alloc: Global, decoder: &mut Decoder, size: usize, frame: &[u8]) -> Result<(), Error>
+// Hands a frame to the decoder.
+fn add_frame(alloc: Global, decoder: &mut Decoder, size: usize, frame: &[u8]) -> Result<(), Error>
     requires { size ≡ frame_size (state_of decoder.old).configuration }
     ensures refused { Answers (λ x. x) result (frame_refusal (state_of decoder.old).configuration frame.now) }
     ensures configuration { (state_of decoder.new).configuration ≡ (state_of decoder.old).configuration }
@@ -53,8 +44,8 @@ fn take_frame(alloc: Global, decoder: &mut Decoder, size: usize, frame: &[u8]) -
     decoder.add_new_packet(packet)
 }
 
-// The frames into the decoder, in order. The first refusal ends it.
-fn take_frames(
+// Hands the frames to the decoder, in order. The first refusal ends it.
+fn add_frames(
     alloc: Global,
     decoder: &mut Decoder,
     symbol_size: u16,
@@ -67,7 +58,7 @@ fn take_frames(
 {
     let size = 4 + usize::from(symbol_size);
     for frame in frames.chunks(size) {
-        take_frame(alloc, decoder, size, frame)?;
+        add_frame(alloc, decoder, size, frame)?;
     }
     Ok(())
 }
@@ -82,9 +73,9 @@ fn received_object(
     ensures answer { IfOk result (λ r. AnswersStream table.now bytes.now (option_map vec_items r)) }
     ensures memory { IfErr result (RefusesStream table.now bytes.now) }
 {
-    let config = received_configuration(table, bytes)?;
+    let config = header_configuration(bytes)?;
     let mut decoder = Decoder::new(alloc, table, config)?;
-    take_frames(alloc, &mut decoder, config.symbol_size(), &bytes[12..])?;
+    add_frames(alloc, &mut decoder, config.symbol_size(), &bytes[12..])?;
     decoder.get_result()
 }
 

@@ -2,7 +2,7 @@
 ghost use Rattle.std.specs.Prelude.{◌≡◌, ◌<◌};
 ghost use Rattle.rq_standard.specs.Rand.{rand, chosen_entry};
 
-use rq_standard::mixing::{V0, V1, V2, V3};
+use rq_standard::random_numbers::{V0, V1, V2, V3};
 
 /// Rand[y, i, m]: a number below `modulus` that depends on `y` and `i` alone otherwise. Sums wrap,
 /// as the standard's do.
@@ -23,15 +23,4 @@ fn entry(table: &[u32; 256], y: u32, i: u32) -> u32
     ensures { result ≡ chosen_entry table.now y i }
 {
     table[(y.wrapping_add(i) % 256) as usize]
-}
-
-#[cfg(test)]
-mod tests {
-    use super::rand;
-
-    #[test]
-    fn numbers(rt: HostRuntime) {
-        assert_eq!(rt; rand(0, 0, 1048576), 145433);
-        assert_eq!(rt; rand(4294967295, 1, 1048576), 145433);
-    }
 }

@@ -120,7 +120,7 @@ pub struct Decoder {
 impl Decoder {
     ghost use Rattle.rq_standard.specs.Differences.{AreUnansweredDetermined, IsDifference, IsNoneWhereAnswered, MakesOthersFit};
     ghost use Rattle.rq_standard.specs.Standing.{IsNewState, Adds, Stops, StopsEarly, result_of};
-    ghost use Rattle.rq_standard.specs.Standing.{StandsForNone, StandsForMore, CatchesUp, FallsBehind, FallsBehindOrJoinsLate, AnswersObject, AnswersOnlyObject};
+    ghost use Rattle.rq_standard.specs.Standing.{StandsForNone, StandsForMore, AnswersLateBlock, LeavesBlockLate, LeavesOrAnswersLateBlock, AnswersObject, AnswersOnlyObject};
     ghost use Rattle.raptorq.specs.Decoding.{shown};
     ghost use Rattle.raptorq.specs.Stopping.{StopsAsTested, Takes, TakesAndJoins};
     ghost use Rattle.raptorq.specs.Refused.{packet_refusal};
@@ -151,8 +151,10 @@ impl Decoder {
         })
     }
 
-    /// Sets from which number of source symbols on, padding included, a block is to be solved with a
-    /// sparse matrix; 250 at first. What is answered doesn't depend on it.
+    /// Sets the sparse threshold of each block: from how many symbols of an extended source block
+    /// (K') on the Rust crate solves over a sparse matrix. It is
+    /// [`SPARSE_MATRIX_THRESHOLD`](crate::encoder::SPARSE_MATRIX_THRESHOLD) at first. All matrices
+    /// here are dense so far, whatever is set, and what is answered doesn't depend on it.
     pub fn set_sparse_threshold(&mut self, value: u32)
         ensures { state_of self.new ≡ state_of self.old }
     {
@@ -190,8 +192,8 @@ impl Decoder {
 
         // From a decoder that stands for a list, one that stands for the longer list.
         ensures stands { OnOk result (StandsForMore (state_of self.old) packet (state_of self.new)) }
-        ensures catches_up { OnOk result (CatchesUp (state_of self.old) packet (state_of self.new)) }
-        ensures falls_behind { IfErr result (λ e. e ≡ Error.OutOfMemory → FallsBehind (state_of self.old) packet (state_of self.new)) }
+        ensures answers_late { OnOk result (AnswersLateBlock (state_of self.old) packet (state_of self.new)) }
+        ensures leaves_late { IfErr result (λ e. e ≡ Error.OutOfMemory → LeavesBlockLate (state_of self.old) packet (state_of self.new)) }
     {
         match self.take(packet) {
             Ok(()) => Ok(()),
@@ -304,8 +306,8 @@ impl Decoder {
 
         // From a decoder that stands for a list, one that stands for the longer list.
         ensures stands { OnOk result (StandsForMore (state_of self.old) packet (state_of self.new)) }
-        ensures catches_up { OnOk result (CatchesUp (state_of self.old) packet (state_of self.new)) }
-        ensures falls_behind { IfErr result (λ e. e ≡ Error.OutOfMemory → FallsBehindOrJoinsLate (state_of self.old) packet (state_of self.new)) }
+        ensures answers_late { OnOk result (AnswersLateBlock (state_of self.old) packet (state_of self.new)) }
+        ensures leaves_late { IfErr result (λ e. e ≡ Error.OutOfMemory → LeavesOrAnswersLateBlock (state_of self.old) packet (state_of self.new)) }
     {
         match self.take_and_join(packet) {
             Ok(object) => Ok(object),

@@ -1,7 +1,8 @@
 //! The object transmission information (RFC 6330, 3.3.2 and 3.3.3).
 ghost use Rattle.std.specs.Prelude.{◌≡◌, ◌<◌, Result, Ok, OnOk, slice_index};
-ghost use Rattle.rq_standard.specs.Configuration.{Configuration, IsConfiguration, IsAccepted, largest_block, header_bytes, configuration_of_bytes};
+ghost use Rattle.rq_standard.specs.Configuration.{Configuration, IsConfiguration, IsAccepted, total_symbols, largest_block, header_bytes, configuration_of_bytes};
 ghost use Rattle.rq_standard.specs.TableRows.{greatest_size};
+ghost use Rattle.std.specs.Int.{div_ceil};
 
 use rq_bytes::error::Error;
 use rq_tables::systematic_constants::{MAX_SOURCE_SYMBOLS_PER_BLOCK, SystematicTable};
@@ -9,7 +10,7 @@ use std::marker::Model;
 
 mod parameters;
 
-/// The greatest transfer length, in bytes: 65535 bytes in each of 56403 symbols of 255 blocks.
+// The greatest transfer length, in bytes: 65535 bytes in each of 56403 symbols of 255 blocks.
 const MAX_TRANSFER_LENGTH: u64 = 942574504275;
 
 /// What encoder and decoder both know of an object: its length and how it is cut.
@@ -70,21 +71,18 @@ impl ObjectTransmissionInformation {
         if symbol_size % u16::from(alignment) != 0 {
             return Err(Error::Misaligned);
         }
-        if symbol_size != 0 && source_blocks != 0 {
-            let symbols = transfer_length.div_ceil(u64::from(symbol_size));
-            if symbols.div_ceil(u64::from(source_blocks))
-                > u64::from(MAX_SOURCE_SYMBOLS_PER_BLOCK)
-            {
-                return Err(Error::TooManySymbols);
-            }
-        }
-        Ok(ObjectTransmissionInformation {
+        let made = ObjectTransmissionInformation {
             transfer_length,
             symbol_size,
             num_source_blocks: source_blocks,
             num_sub_blocks: sub_blocks,
             symbol_alignment: alignment,
-        })
+        };
+        let most = u64::from(MAX_SOURCE_SYMBOLS_PER_BLOCK);
+        if symbol_size != 0 && source_blocks != 0 && made.largest_block() > most {
+            return Err(Error::TooManySymbols);
+        }
+        Ok(made)
     }
 
     /// Tests that coders can take the configuration over a table.
@@ -110,8 +108,7 @@ impl ObjectTransmissionInformation {
         if self.num_source_blocks == 0 {
             return Err(Error::SourceBlocksZero);
         }
-        let symbols = self.transfer_length.div_ceil(u64::from(self.symbol_size));
-        if symbols.div_ceil(u64::from(self.num_source_blocks)) > u64::from(table.greatest()) {
+        if self.largest_block() > u64::from(table.greatest()) {
             return Err(Error::BlockOverTable);
         }
         Ok(())
@@ -161,6 +158,24 @@ impl ObjectTransmissionInformation {
         ]
     }
 
+    /// Kt: the number of source symbols of the object, F divided by T and rounded up.
+    pub fn total_symbols(&self) -> u64
+        requires { 0 < self.now.symbol_size }
+        ensures { result ≡ total_symbols self.now }
+    {
+        total_symbols(self.transfer_length, self.symbol_size)
+    }
+
+    /// The number of source symbols of the largest source block, which is the first.
+    pub fn largest_block(&self) -> u64
+        requires size { 0 < self.now.symbol_size }
+        requires blocks { 0 < self.now.source_blocks }
+        ensures { result ≡ largest_block self.now }
+    {
+        self.total_symbols()
+            .div_ceil(u64::from(self.num_source_blocks))
+    }
+
     /// The length of the object, in bytes.
     pub fn transfer_length(&self) -> u64
         ensures value { result ≡ self.now.transfer_length }
@@ -196,4 +211,12 @@ impl ObjectTransmissionInformation {
     {
         self.symbol_alignment
     }
+}
+
+// Kt, of a transfer length F and a symbol size T.
+fn total_symbols(transfer_length: u64, symbol_size: u16) -> u64
+    requires { 0 < symbol_size }
+    ensures { result ≡ div_ceil transfer_length symbol_size }
+{
+    transfer_length.div_ceil(u64::from(symbol_size))
 }

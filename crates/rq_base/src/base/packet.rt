@@ -8,7 +8,7 @@ use rq_bytes::symbol::Symbol;
 use std::alloc::Global;
 use std::marker::Model;
 
-/// Encoding symbol ids are below this number, since they have 24 bits.
+// Encoding symbol ids are below this number, since they have 24 bits.
 const ENCODING_SYMBOL_IDS: u32 = 16777216;
 
 /// Which symbol of which source block a packet carries.

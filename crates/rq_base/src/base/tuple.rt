@@ -2,7 +2,7 @@
 ghost use Rattle.std.specs.Prelude.{◌≡◌, ℕ, ◌-◌, ◌≤◌, ◌<◌, ◌^◌, min};
 ghost use Rattle.rq_standard.specs.Tuple.{first_above, degree, IsBetween, tuple_of, IsTuple, multiplier_of, seed_of};
 
-use rq_standard::numbers::DEGREE_STARTS;
+use rq_standard::degrees::DEGREE_STARTS;
 use rq_tables::rng::rand;
 
 /// Deg[v]: the degree that a number below 2^20 stands for, at most `lt_symbols - 2`.
@@ -79,21 +79,4 @@ fn first_above(v: u32, starts: &[u32; 31]) -> u32
         place += 1;
     }
     place
-}
-
-#[cfg(test)]
-mod tests {
-    use super::{deg, intermediate_tuple};
-
-    #[test]
-    fn degrees(rt: HostRuntime) {
-        assert_eq!(rt; deg(5242, 17), 1);
-        assert_eq!(rt; deg(5243, 17), 2);
-        assert_eq!(rt; deg(1048575, 17), 15);
-    }
-
-    #[test]
-    fn tuple_of_the_first_id(rt: HostRuntime) {
-        assert_eq!(rt; intermediate_tuple(0, 17, 254, 11), (2, 4, 9, 2, 5, 1));
-    }
 }

@@ -2,11 +2,11 @@
 ghost use Rattle.std.specs.Prelude.{◌≡◌, ◌<◌, ◌≤◌, IfOk};
 ghost use Rattle.rq_standard.specs.Parameters.{alignment_for, symbol_size_for, most_sub_blocks, fitting_block, is_fitting, first_from, blocks_for, symbols_for, IsLeast};
 
-use super::{MAX_TRANSFER_LENGTH, ObjectTransmissionInformation};
+use super::{MAX_TRANSFER_LENGTH, ObjectTransmissionInformation, total_symbols};
 use rq_bytes::error::Error;
 use rq_tables::systematic_constants::SystematicTable;
 
-/// The memory that a decoder is taken to have, in bytes.
+// The memory that a decoder is taken to have, in bytes.
 const DECODER_MEMORY: u64 = 10485760;
 
 impl ObjectTransmissionInformation {
@@ -60,7 +60,7 @@ impl ObjectTransmissionInformation {
             return Err(Error::MemoryRequirementTooSmall);
         }
         let symbol_size = symbol_size(max_packet_size);
-        let symbols = transfer_length.div_ceil(u64::from(symbol_size));
+        let symbols = total_symbols(transfer_length, symbol_size);
         let blocks = symbols.div_ceil(u64::from(greatest));
         if blocks > 255 {
             return Err(Error::TooManyBlocks);
@@ -139,66 +139,4 @@ fn least_sub_blocks(table: &SystematicTable, packet_size: u16, memory: u64, symb
         }
     }
     end
-}
-
-#[cfg(test)]
-mod tests {
-    use crate::base::ObjectTransmissionInformation;
-    use rq_bytes::error::Error;
-    use rq_tables::systematic_constants::SystematicTable;
-    use std::test::Fail;
-
-    // Symbol size, source blocks, sub-blocks and alignment of a configuration.
-    fn cut(
-        configuration: Result<ObjectTransmissionInformation, Error>,
-    ) -> Result<(u16, u8, u16, u8), Error> {
-        let c = configuration?;
-        Ok((
-            c.symbol_size(),
-            c.source_blocks(),
-            c.sub_blocks(),
-            c.symbol_alignment(),
-        ))
-    }
-
-    #[test]
-    fn parameters(rt: HostRuntime) -> Result<(), Fail> {
-        let table = SystematicTable::built_in(rt.alloc())?;
-        let cases = [
-            ((10000, 1400, 10485760), Ok((1400, 1, 1, 8))),
-            ((10000, 500, 5000), Ok((496, 1, 3, 8))),
-            ((400, 500, 1000), Ok((496, 1, 6, 8))),
-            ((400, 500, 719), Err(Error::MemoryRequirementTooSmall)),
-            ((10000, 64, 640), Ok((64, 16, 1, 8))),
-            ((10000, 64, 64), Err(Error::MemoryRequirementTooSmall)),
-            ((10000, 63, 64), Ok((63, 3, 63, 1))),
-            ((0, 0, 1), Err(Error::PacketSizeZero)),
-            ((942574504276, 1, 10485760), Err(Error::TransferTooLong)),
-        ];
-        for ((length, size, memory), wanted) in cases {
-            let made = ObjectTransmissionInformation::generate_encoding_parameters(
-                &table, length, size, memory,
-            );
-            assert_eq!(rt; cut(made), wanted);
-        }
-        Ok(())
-    }
-
-    #[test]
-    fn defaults(rt: HostRuntime) -> Result<(), Fail> {
-        let table = SystematicTable::built_in(rt.alloc())?;
-        let cases = [
-            ((126735, 1), Ok((1, 255, 1, 1))),
-            ((126736, 1), Err(Error::TooManyBlocks)),
-            ((1, 0), Err(Error::PacketSizeZero)),
-            ((0, 1), Err(Error::TransferLengthZero)),
-        ];
-        for ((length, size), wanted) in cases {
-            assert_eq!(rt;
-                cut(ObjectTransmissionInformation::with_defaults(&table, length, size)),
-                wanted
-            );
-        }
-        Ok(())
-    }
 }

@@ -18,35 +18,35 @@ returns-in_err-config-clause-memory c =
     let p = err_from_is_err_and c.from_residual.result c.from_residual.ensures.1 in
     rw p.1 (λ k object packets s. absurd (cc (c.in_err-config.ensures.value ∙ stream_configuration c.args.table.now k object packets c.args.bytes.now s)))
 
-pub returns-in_err-take_frames-clause-refused : goal.returns-in_err-take_frames-clause-refused
-returns-in_err-take_frames-clause-refused c =
+pub returns-in_err-add_frames-clause-refused : goal.returns-in_err-add_frames-clause-refused
+returns-in_err-add_frames-clause-refused c =
     let bytes = c.args.bytes.now in
-    let e = c.in_err-take_frames.field-0.0 in
+    let e = c.in_err-add_frames.field-0.0 in
     let rest = take (length bytes - 12) (drop 12 bytes) in
     let is = receive_refusal-taken (greatest_size c.args.table.now) c.in_ok-config.config c.in_ok-decoder.decoder.config bytes rest c.in_ok-config.ensures.value c.in_ok-decoder.ensures.state.configuration (take_rest bytes 12) in
-    let p = err_from_is_err_and c.from_residual-in_err-take_frames.result c.from_residual-in_err-take_frames.ensures.1 in
-    rw (p.1, p.2) (refused_after (vec_items {X = ℕ} {Z = Global}) (receive_refusal (greatest_size c.args.table.now) bytes) e (subst (λ r. (e ≡ OutOfMemory) ⊎ (r ≡ Err e)) (sym is) c.in_err-take_frames.ensures.refused))
+    let p = err_from_is_err_and c.from_residual-in_err-add_frames.result c.from_residual-in_err-add_frames.ensures.1 in
+    rw (p.1, p.2) (refused_after (vec_items {X = ℕ} {Z = Global}) (receive_refusal (greatest_size c.args.table.now) bytes) e (subst (λ r. (e ≡ OutOfMemory) ⊎ (r ≡ Err e)) (sym is) c.in_err-add_frames.ensures.refused))
 
-pub returns-in_err-take_frames-clause-memory : goal.returns-in_err-take_frames-clause-memory
-returns-in_err-take_frames-clause-memory c =
+pub returns-in_err-add_frames-clause-memory : goal.returns-in_err-add_frames-clause-memory
+returns-in_err-add_frames-clause-memory c =
     let table = c.args.table.now in
     let bytes = c.args.bytes.now in
-    let e = c.in_err-take_frames.field-0.0 in
+    let e = c.in_err-add_frames.field-0.0 in
     let rest = take (length bytes - 12) (drop 12 bytes) in
-    let p = err_from_is_err_and c.from_residual-in_err-take_frames.result c.from_residual-in_err-take_frames.ensures.1 in
+    let p = err_from_is_err_and c.from_residual-in_err-add_frames.result c.from_residual-in_err-add_frames.ensures.1 in
     rw (p.1, p.2) (λ k object packets s.
     let same = same_configuration table k c.in_ok-config.config object packets bytes s c.in_ok-config.ensures.value in
     let behind : rest ≡ frames_of packets = take_rest bytes 12 ∙ stream_frames table k object packets bytes s in
     memory_only (frames_refusal c.in_ok-decoder.decoder.config rest) e
     (ap (λ d. frames_refusal d rest) (c.in_ok-decoder.ensures.state.configuration ∙ same) ∙ ap (frames_refusal k) behind ∙ frames_unrefused table k object packets (stream_fills table k object packets bytes s))
-    c.in_err-take_frames.ensures.refused)
+    c.in_err-add_frames.ensures.refused)
 
 pub returns-clause-refused : goal.returns-clause-refused
 returns-clause-refused c =
     let bytes = c.args.bytes.now in
     let rest = take (length bytes - 12) (drop 12 bytes) in
     let is = receive_refusal-taken (greatest_size c.args.table.now) c.in_ok-config.config c.in_ok-decoder.decoder.config bytes rest c.in_ok-config.ensures.value c.in_ok-decoder.ensures.state.configuration (take_rest bytes 12) in
-    answered_after (vec_items {X = ℕ} {Z = Global}) (receive_refusal (greatest_size c.args.table.now) bytes) c.get_result.result (is ∙ c.in_ok-take_frames.ensures.refused) c.get_result.ensures.memory
+    answered_after (vec_items {X = ℕ} {Z = Global}) (receive_refusal (greatest_size c.args.table.now) bytes) c.get_result.result (is ∙ c.in_ok-add_frames.ensures.refused) c.get_result.ensures.memory
 
 pub returns-clause-answer : goal.returns-clause-answer
 returns-clause-answer c =
@@ -59,6 +59,6 @@ returns-clause-answer c =
     let here = c.in_ok-decoder.ensures.state.configuration ∙ same in
     let fill : AllByRecursion (FillsFrame table c.in_ok-decoder.decoder.config object) packets = subst (λ d. AllByRecursion (FillsFrame table d object) packets) (sym here) (stream_fills table k object packets bytes s) in
     let none : IsHonestRun table c.in_ok-config.config object [] = subst (λ d. IsHonestRun table d object []) (sym same) (record { long = s.run.long; nonsingular = s.run.nonsingular; honest = tt }) in
-    let end = c.in_ok-take_frames.ensures.stands table object packets (c.in_ok-decoder.ensures.stands object none) fill (take_rest bytes 12 ∙ stream_frames table k object packets bytes s) in
-    subst (λ d. IsObjectAnswer table d object packets (option_map (vec_items {X = ℕ} {Z = Global}) r)) (c.in_ok-take_frames.ensures.configuration ∙ here) ((is table object packets (λ _. false) end).1 (λ b. refl)))
+    let end = c.in_ok-add_frames.ensures.stands table object packets (c.in_ok-decoder.ensures.stands object none) fill (take_rest bytes 12 ∙ stream_frames table k object packets bytes s) in
+    subst (λ d. IsObjectAnswer table d object packets (option_map (vec_items {X = ℕ} {Z = Global}) r)) (c.in_ok-add_frames.ensures.configuration ∙ here) ((is table object packets (λ _. false) end).1 (λ b. refl)))
     c.get_result.ensures.object

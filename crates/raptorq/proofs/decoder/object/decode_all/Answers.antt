@@ -3,7 +3,7 @@ use Rattle.std.specs.Vec.Iter.{into_iter_items}
 use Rattle.std.proofs.lemmas.Result.{IfOk-weaker, err_from_is_err_and}
 use Rattle.std.proofs.lemmas.List.{nil_from_length}
 use Rattle.rq_bytes.specs.Refusals.{IsRefusal}
-use Rattle.rq_standard.specs.Standing.{Stands}
+use Rattle.rq_standard.specs.Standing.{StandsFor}
 use Rattle.raptorq.specs.Objects.{state_of}
 use Rattle.raptorq.specs.Runs.{packets_of}
 use Rattle.raptorq.proofs.Lists.{next_whole, all_came, step_honest, step_refused, packets_of-push, answers_exactly, answers_where_any_can}
@@ -20,8 +20,8 @@ loop-step-preserved c =
     record {
       configuration = c.in_ok-add_new_packet.ensures.configuration ∙ same;
       whole = next_whole c.args.steps.items c.loop-step.yielded (into_iter_items c.loop-step.step-iterator) (into_iter_items c.next.new.self) step kept.whole is;
-      stands = λ object run. subst (λ ps. Stands table object ps (state_of c.add_new_packet.new.self)) (sym (packets_of-push c.loop-step.yielded step))
-          (c.in_ok-add_new_packet.ensures.stands table object (packets_of c.loop-step.yielded) (subst (Stands table object (packets_of c.loop-step.yielded)) (sym c.set_sparse_threshold.ensures) (kept.stands object run))
+      stands = λ object run. subst (λ ps. StandsFor table object ps (state_of c.add_new_packet.new.self)) (sym (packets_of-push c.loop-step.yielded step))
+          (c.in_ok-add_new_packet.ensures.stands table object (packets_of c.loop-step.yielded) (subst (StandsFor table object (packets_of c.loop-step.yielded)) (sym c.set_sparse_threshold.ensures) (kept.stands object run))
           (step_honest table k (state_of c.set_sparse_threshold.new.self).configuration object c.args.steps.items c.loop-step.yielded (into_iter_items c.next.new.self) step same (kept.whole ∙ ap (λ l. c.loop-step.yielded ++ l) is) run));
     }
 
@@ -37,7 +37,7 @@ returns-in_err-add_new_packet-clause-refused c =
     let p = err_from_is_err_and c.from_residual-in_err-add_new_packet.result c.from_residual-in_err-add_new_packet.ensures.1 in
     rw (p.1, p.2) (λ object run. subst (IsRefusal e) (sym c.in_ok-decoder.ensures.refused)
     (step_refused table k (state_of c.set_sparse_threshold.new.self) object c.args.steps.items c.loop-step.yielded (into_iter_items c.next.new.self) step e same (kept.whole ∙ ap (λ l. c.loop-step.yielded ++ l) is)
-    (subst (Stands table object (packets_of c.loop-step.yielded)) (sym c.set_sparse_threshold.ensures) (kept.stands object run)) run c.in_err-add_new_packet.ensures.refused))
+    (subst (StandsFor table object (packets_of c.loop-step.yielded)) (sym c.set_sparse_threshold.ensures) (kept.stands object run)) run c.in_err-add_new_packet.ensures.refused))
 
 pub returns-clause-headline : goal.returns-clause-headline
 returns-clause-headline c =
@@ -46,7 +46,7 @@ returns-clause-headline c =
     let none : into_iter_items c.loop-step.step-iterator ≡ [] = nil_from_length (into_iter_items c.loop-step.step-iterator) (omega (arith, c.in-None.ensures.steps.0)) in
     let all = ap packets_of (all_came c.args.steps.items c.loop-step.yielded (into_iter_items c.loop-step.step-iterator) kept.whole none) in
     IfOk-weaker c.get_result.result _ _
-    (λ r is. answers_exactly table c.args.config (packets_of c.args.steps.items) (state_of c.loop-step.decoder) _ kept.configuration (λ object run. subst (λ ps. Stands table object ps (state_of c.loop-step.decoder)) all (kept.stands object run)) is)
+    (λ r is. answers_exactly table c.args.config (packets_of c.args.steps.items) (state_of c.loop-step.decoder) _ kept.configuration (λ object run. subst (λ ps. StandsFor table object ps (state_of c.loop-step.decoder)) all (kept.stands object run)) is)
     c.get_result.ensures.object
 
 pub returns-clause-only_object : goal.returns-clause-only_object
@@ -56,5 +56,5 @@ returns-clause-only_object c =
     let none : into_iter_items c.loop-step.step-iterator ≡ [] = nil_from_length (into_iter_items c.loop-step.step-iterator) (omega (arith, c.in-None.ensures.steps.0)) in
     let all = ap packets_of (all_came c.args.steps.items c.loop-step.yielded (into_iter_items c.loop-step.step-iterator) kept.whole none) in
     IfOk-weaker c.get_result.result _ _
-    (λ r is. answers_where_any_can table c.args.config (packets_of c.args.steps.items) (state_of c.loop-step.decoder) _ kept.configuration (λ object run. subst (λ ps. Stands table object ps (state_of c.loop-step.decoder)) all (kept.stands object run)) is)
+    (λ r is. answers_where_any_can table c.args.config (packets_of c.args.steps.items) (state_of c.loop-step.decoder) _ kept.configuration (λ object run. subst (λ ps. StandsFor table object ps (state_of c.loop-step.decoder)) all (kept.stands object run)) is)
     c.get_result.ensures.only_object

@@ -8,11 +8,11 @@ use Rattle.rq_base.proofs.base.information.ObjectTransmissionInformation.generat
 greatest_is : (c : goal.After-alignment) → c.fitting_block-greatest.result ≡ fitting_block c.args.table.now c.args.max_packet_size c.args.decoder_memory_requirement (most_sub_blocks c.args.max_packet_size)
 greatest_is c = c.fitting_block-greatest.ensures ∙ ap (λ (n : ℕ). fitting_block c.args.table.now c.args.max_packet_size c.args.decoder_memory_requirement n) c.most_sub_blocks-most.ensures.value
 
-symbols_is : (c : goal.After-alignment) → c.div_ceil-symbols.result ≡ symbols_for c.args.transfer_length c.args.max_packet_size
-symbols_is c = c.div_ceil-symbols.ensures ∙ ap (λ (n : ℕ). div_ceil c.args.transfer_length n) (c.from.ensures ∙ c.symbol_size-symbol_size.ensures.value)
+symbols_is : (c : goal.After-alignment) → c.total_symbols-symbols.result ≡ symbols_for c.args.transfer_length c.args.max_packet_size
+symbols_is c = c.total_symbols-symbols.ensures ∙ ap (λ (n : ℕ). div_ceil c.args.transfer_length n) c.symbol_size-symbol_size.ensures.value
 
 blocks_is : (c : goal.After-alignment) → c.div_ceil-blocks.result ≡ blocks_for c.args.table.now c.args.transfer_length c.args.max_packet_size c.args.decoder_memory_requirement
-blocks_is c = c.div_ceil-blocks.ensures ∙ ap (λ (n : ℕ). div_ceil n c.from-2.result) (symbols_is c) ∙ ap (λ (n : ℕ). div_ceil (symbols_for c.args.transfer_length c.args.max_packet_size) n) (c.from-2.ensures ∙ greatest_is c)
+blocks_is c = c.div_ceil-blocks.ensures ∙ ap (λ (n : ℕ). div_ceil n c.from.result) (symbols_is c) ∙ ap (λ (n : ℕ). div_ceil (symbols_for c.args.transfer_length c.args.max_packet_size) n) (c.from.ensures ∙ greatest_is c)
 
 largest_is : (c : goal.After-alignment) →
     c.div_ceil-largest.result ≡ div_ceil (symbols_for c.args.transfer_length c.args.max_packet_size) (blocks_for c.args.table.now c.args.transfer_length c.args.max_packet_size c.args.decoder_memory_requirement)

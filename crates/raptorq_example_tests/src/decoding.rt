@@ -1,0 +1,76 @@
+//! Worked examples of the coders.
+use raptorq::error::Error;
+use raptorq::systematic_constants::SystematicTable;
+use raptorq::{Decoder, Encoder, ObjectTransmissionInformation, SourceBlockDecoder};
+use raptorq_test_kit::packets::packet;
+use std::test::Fail;
+
+// Repeats are ignored, and refused packets are refused before and after the answer.
+#[test]
+fn a_decoder_of_ten_symbols(rt: HostRuntime) -> Result<(), Fail> {
+    let alloc = rt.alloc();
+    let table = SystematicTable::built_in(alloc)?;
+    let information = ObjectTransmissionInformation::new(10, 1, 1, 1, 1)?;
+    let mut decoder = Decoder::new(alloc, &table, information)?;
+    for esi in 0..9u8 {
+        let answer = decoder.decode(packet(alloc, 0, u32::from(esi), &[esi + 20])?)?;
+        assert!(rt; answer.is_none());
+    }
+    assert!(rt; decoder.decode(packet(alloc, 0, 0, &[99])?)?.is_none());
+    let answer = decoder.decode(packet(alloc, 0, 9, &[29])?)?;
+    let object = answer.ok_or("no answer")?;
+    assert_eq!(rt;
+        object.as_slice(),
+        [20, 21, 22, 23, 24, 25, 26, 27, 28, 29].as_slice()
+    );
+    let wide = decoder.decode(packet(alloc, 0, 0, &[1, 2])?);
+    assert!(rt; wide == Err(Error::WrongPayloadSize));
+    let unknown = decoder.decode(packet(alloc, 1, 0, &[1])?);
+    assert!(rt; unknown == Err(Error::UnknownBlock));
+    let both = decoder.decode(packet(alloc, 1, 0, &[1, 2])?);
+    assert!(rt; both == Err(Error::UnknownBlock));
+    Ok(())
+}
+
+// An object that doesn't fill its last symbol.
+#[test]
+fn an_object_there_and_back(rt: HostRuntime) -> Result<(), Fail> {
+    let alloc = rt.alloc();
+    let table = SystematicTable::built_in(alloc)?;
+    let information = ObjectTransmissionInformation::new(3, 2, 1, 1, 1)?;
+    let encoder = Encoder::new(alloc, &table, &[7, 8, 9], information)?;
+    assert!(rt; encoder.get_config() == information);
+    let packets = encoder.get_encoded_packets(0)?;
+    assert_eq!(rt; packets.len(), 2);
+    assert_eq!(rt; packets[1].data(), [9, 0].as_slice());
+    let mut steps = Vec::new(alloc);
+    for packet in packets {
+        steps.push((0, packet))?;
+    }
+    let object = raptorq::decoder::decode_all(alloc, &table, information, steps)?;
+    assert_eq!(rt; object.ok_or("no answer")?.as_slice(), [7, 8, 9].as_slice());
+    let longer = Encoder::new(alloc, &table, &[7, 8, 9, 10], information);
+    assert!(rt; longer == Err(Error::WrongDataLength));
+    Ok(())
+}
+
+// Packets before a refused one stay recorded.
+#[test]
+fn a_block_in_two_calls(rt: HostRuntime) -> Result<(), Fail> {
+    let alloc = rt.alloc();
+    let table = SystematicTable::built_in(alloc)?;
+    let information = ObjectTransmissionInformation::new(4, 2, 1, 1, 1)?;
+    let mut decoder = SourceBlockDecoder::new(alloc, &table, 0, &information, 4)?;
+    let first = packet(alloc, 0, 0, &[7, 8])?;
+    let other = packet(alloc, 1, 0, &[0, 0])?;
+    let last = packet(alloc, 0, 1, &[9, 0])?;
+    let refused = decoder.decode(vec![in alloc; first, other, last]?);
+    assert!(rt; refused == Err(Error::UnknownBlock));
+    assert!(rt; decoder.decode(Vec::new(alloc))?.is_none());
+    let answer = decoder.decode(Some(packet(alloc, 0, 1, &[9, 0])?))?;
+    assert_eq!(rt;
+        answer.ok_or("no answer")?.as_slice(),
+        [7, 8, 9, 0].as_slice()
+    );
+    Ok(())
+}

@@ -1,0 +1,9 @@
+//! Runs over streams, and runs and coders where memory is refused or calls fail.
+#![tactic(auto)]
+
+#[cfg(test)]
+mod coders;
+#[cfg(test)]
+mod runs;
+#[cfg(test)]
+mod streams;

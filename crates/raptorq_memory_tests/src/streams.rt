@@ -1,0 +1,299 @@
+//! Runs over memory, calls that fail, and what the program says.
+use raptorq::error::Error;
+use raptorq::systematic_constants::SystematicTable;
+use rq_streams::{Counted, Job, Outcome, Stop, job, report, run_receive, run_send};
+use std::alloc::Global;
+use std::io;
+use std::io::{ErrorKind, Read, Write};
+use std::process::Abort;
+use std::test::Fail;
+
+const OBJECT: [u8; 3] = [7, 8, 9];
+
+// The stream of that object at two bytes a symbol.
+const STREAM: [u8; 24] = [
+    0, 0, 0, 0, 3, 0, 0, 2, 1, 0, 1, 1, 0, 0, 0, 0, 7, 8, 0, 0, 0, 1, 9, 0,
+];
+
+// A reader whose first call is interrupted.
+#[derive(Drop)]
+struct Interrupted<'a> {
+    rest: &'a [u8],
+    fails: bool,
+}
+
+impl<'a> Read for Interrupted<'a> {
+    fn read(&mut self, buf: &mut [u8]) -> io::Result<usize> {
+        if self.fails {
+            self.fails = false;
+            return Err(io::Error::from(ErrorKind::Interrupted));
+        }
+        self.rest.read(buf)
+    }
+}
+
+// A writer that takes a byte at a time, so many of them, and then none. Its flush may fail.
+#[derive(Drop)]
+struct Slow {
+    bytes: [u8; 32],
+    len: usize,
+    room: usize,
+    flushes: bool,
+}
+
+impl Slow {
+    fn new(room: usize, flushes: bool) -> Slow {
+        Slow {
+            bytes: [0; 32],
+            len: 0,
+            room,
+            flushes,
+        }
+    }
+}
+
+impl Write for Slow {
+    fn write(&mut self, buf: &[u8]) -> io::Result<usize> {
+        if self.len >= self.room.min(32) || buf.is_empty() {
+            return Ok(0);
+        }
+        self.bytes[self.len] = buf[0];
+        self.len += 1;
+        Ok(1)
+    }
+
+    fn flush(&mut self) -> io::Result<()> {
+        if self.flushes {
+            Ok(())
+        } else {
+            Err(io::Error::from(ErrorKind::Other))
+        }
+    }
+}
+
+fn run<R: Read, W: Write>(
+    alloc: Global,
+    asked: Job,
+    reader: R,
+    writer: W,
+) -> Result<(Result<Outcome, Stop>, u64), Error>
+where
+    R: Drop,
+    W: Drop,
+{
+    let table = SystematicTable::built_in(alloc)?;
+    let mut reader = Counted::new(reader);
+    let mut writer = Counted::new(writer);
+    let ended = match asked {
+        Job::Send { size, repair } => {
+            run_send(alloc, &table, &mut reader, &mut writer, size, repair)
+        }
+        Job::Receive => run_receive(alloc, &table, &mut reader, &mut writer),
+    };
+    Ok((ended, reader.failed().saturating_add(writer.failed())))
+}
+
+// A run over memory ends so, writes this, and meets no failed call.
+fn run_ends(
+    rt: &impl Abort,
+    alloc: Global,
+    asked: Job,
+    input: &[u8],
+    wanted: Result<Outcome, Stop>,
+    written: &[u8],
+) -> Result<(), Error> {
+    let mut out: Vec<u8> = Vec::new(alloc);
+    let (ended, failed) = run(alloc, asked, input, &mut out)?;
+    assert!(rt; ended == wanted, "{asked:?}, {input:?}: {ended:?}");
+    assert_eq!(rt; out.as_slice(), written);
+    assert_eq!(rt; failed, 0);
+    Ok(())
+}
+
+#[test]
+fn sends(rt: HostRuntime) -> Result<(), Fail> {
+    let two_bytes = Job::Send { size: 2, repair: 0 };
+    let cases: [(Job, &[u8], Result<Outcome, Stop>, &[u8]); 4] = [
+        (two_bytes, &OBJECT, Ok(Outcome::Written), &STREAM),
+        (
+            two_bytes,
+            &[],
+            Err(Stop::Refused(Error::TransferLengthZero)),
+            &[],
+        ),
+        (
+            Job::Send { size: 0, repair: 1 },
+            &OBJECT,
+            Err(Stop::Refused(Error::PacketSizeZero)),
+            &[],
+        ),
+        (
+            Job::Send {
+                size: 2,
+                repair: 16777215,
+            },
+            &OBJECT,
+            Err(Stop::Refused(Error::EsiTooLarge)),
+            &[],
+        ),
+    ];
+    for (asked, input, wanted, written) in cases {
+        run_ends(&rt, rt.alloc(), asked, input, wanted, written)?;
+    }
+    Ok(())
+}
+
+#[test]
+fn receives(rt: HostRuntime) -> Result<(), Fail> {
+    let shuffled: [u8; 30] = [
+        0, 0, 0, 0, 3, 0, 0, 2, 1, 0, 1, 1, 0, 0, 0, 1, 9, 0, 0, 0, 0, 0, 7, 8, 0, 0, 0, 1, 9, 0,
+    ];
+    let other_block: [u8; 18] = [0, 0, 0, 0, 3, 0, 0, 2, 1, 0, 1, 1, 1, 0, 0, 0, 7, 8];
+    let cases: [(&[u8], Result<Outcome, Stop>, &[u8]); 8] = [
+        (&STREAM, Ok(Outcome::Written), &OBJECT),
+        (&shuffled, Ok(Outcome::Written), &OBJECT),
+        (
+            &STREAM[..11],
+            Err(Stop::Refused(Error::HeaderTooShort)),
+            &[],
+        ),
+        (&STREAM[..12], Ok(Outcome::Incomplete), &[]),
+        (
+            &STREAM[..15],
+            Err(Stop::Refused(Error::PacketTooShort)),
+            &[],
+        ),
+        (
+            &STREAM[..17],
+            Err(Stop::Refused(Error::WrongPayloadSize)),
+            &[],
+        ),
+        (&STREAM[..18], Ok(Outcome::Incomplete), &[]),
+        (&other_block, Err(Stop::Refused(Error::UnknownBlock)), &[]),
+    ];
+    for (input, wanted, written) in cases {
+        run_ends(&rt, rt.alloc(), Job::Receive, input, wanted, written)?;
+    }
+    Ok(())
+}
+
+// Objects of two blocks: one in packets, one of no bytes, the longest ones and a longer one.
+#[test]
+fn receives_two_blocks(rt: HostRuntime) -> Result<(), Fail> {
+    let packets: [u8; 30] = [
+        0, 0, 0, 0, 3, 0, 0, 2, 2, 0, 1, 1, 1, 0, 0, 0, 9, 0, 0, 0, 0, 0, 7, 8, 2, 0, 0, 0, 7, 8,
+    ];
+    let empty: [u8; 12] = [0, 0, 0, 0, 0, 0, 0, 2, 2, 0, 1, 1];
+    let longest: [u8; 12] = [0, 0, 0, 3, 226, 0, 0, 1, 2, 0, 1, 1];
+    let longer: [u8; 12] = [0, 0, 0, 3, 227, 0, 0, 1, 2, 0, 1, 1];
+    let cases: [(&[u8], Result<Outcome, Stop>, &[u8]); 6] = [
+        (&packets[..24], Ok(Outcome::Written), &OBJECT),
+        (&packets[..18], Ok(Outcome::Incomplete), &[]),
+        (&packets, Err(Stop::Refused(Error::UnknownBlock)), &[]),
+        (&empty, Ok(Outcome::Written), &[]),
+        (&longest, Ok(Outcome::Incomplete), &[]),
+        (&longer, Err(Stop::Refused(Error::BlockOverTable)), &[]),
+    ];
+    for (input, wanted, written) in cases {
+        run_ends(&rt, rt.alloc(), Job::Receive, input, wanted, written)?;
+    }
+    Ok(())
+}
+
+#[test]
+fn faults(rt: HostRuntime) -> Result<(), Fail> {
+    // Whether the first read is interrupted, how many bytes are taken, whether the flush passes,
+    // and what is written.
+    let cases: [(bool, usize, bool, &[u8]); 4] = [
+        (true, 32, true, &[]),
+        (false, 0, true, &[]),
+        (false, 2, true, &[0, 0]),
+        (false, 32, false, &STREAM),
+    ];
+    for (fails, room, flushes, written) in cases {
+        let rest: &[u8] = &OBJECT;
+        let mut out = Slow::new(room, flushes);
+        let asked = Job::Send { size: 2, repair: 0 };
+        let (ended, failed) = run(rt.alloc(), asked, Interrupted { rest, fails }, &mut out)?;
+        assert!(rt; ended == Err(Stop::Fault) && failed == 1);
+        assert_eq!(rt; &out.bytes[..out.len.min(32)], written);
+
+        let rest: &[u8] = &STREAM;
+        let mut out = Slow::new(room, flushes);
+        let (ended, failed) = run(
+            rt.alloc(),
+            Job::Receive,
+            Interrupted { rest, fails },
+            &mut out,
+        )?;
+        assert!(rt; ended == Err(Stop::Fault) && failed == 1);
+    }
+    Ok(())
+}
+
+#[test]
+fn asks(rt: HostRuntime) -> Result<(), Fail> {
+    let cases: [(&str, Option<Job>); 9] = [
+        (
+            "send 1400 7",
+            Some(Job::Send {
+                size: 1400,
+                repair: 7,
+            }),
+        ),
+        (
+            "send 65535 4294967295",
+            Some(Job::Send {
+                size: 65535,
+                repair: 4294967295,
+            }),
+        ),
+        ("receive", Some(Job::Receive)),
+        ("send 65536 0", None),
+        ("send 2 4294967296", None),
+        ("send 2", None),
+        ("receive 2", None),
+        ("give", None),
+        ("", None),
+    ];
+    for (line, wanted) in cases {
+        let mut words: Vec<String> = Vec::new(rt.alloc());
+        for word in line.split_whitespace() {
+            words.push(String::from_str(rt.alloc(), word)?)?;
+        }
+        assert!(rt; job(words.as_slice()) == wanted, "{line}");
+    }
+    Ok(())
+}
+
+#[test]
+fn reports(rt: HostRuntime) -> Result<(), Fail> {
+    let cases: [(Option<Result<Outcome, Stop>>, &str, u8); 7] = [
+        (Some(Ok(Outcome::Written)), "", 0),
+        (Some(Err(Stop::Fault)), "fault\n", 1),
+        (Some(Ok(Outcome::Incomplete)), "incomplete\n", 2),
+        (
+            Some(Err(Stop::Refused(Error::HeaderTooShort))),
+            "refused 23\n",
+            3,
+        ),
+        (
+            Some(Err(Stop::Refused(Error::PacketTooShort))),
+            "refused 12\n",
+            3,
+        ),
+        (
+            Some(Err(Stop::Refused(Error::WrongPayloadSize))),
+            "refused 13\n",
+            3,
+        ),
+        (None, "usage: rq send SIZE REPAIR | rq receive\n", 4),
+    ];
+    for (ended, line, status) in cases {
+        let mut out: Vec<u8> = Vec::new(rt.alloc());
+        assert_eq!(rt; report(ended.as_ref(), &mut out), status);
+        assert_eq!(rt; out.as_slice(), line.as_bytes());
+        assert_eq!(rt; report(ended.as_ref(), &mut Slow::new(0, false)), status);
+    }
+    Ok(())
+}

@@ -1,0 +1,129 @@
+//! Maps kept in arrays, and graphs.
+use raptorq::arraymap::{ImmutableListMapBuilder, U16ArrayMap, U32VecMap};
+use raptorq::graph::{ConnectedComponentGraph, UndirectedGraph};
+use std::process::Abort;
+use std::test::Fail;
+
+#[test]
+fn maps_in_arrays(rt: HostRuntime) -> Result<(), Fail> {
+    let mut map = U16ArrayMap::new(rt.alloc(), 5, 8)?;
+    map.insert(5, 1);
+    map.insert(7, 2);
+    map.swap(5, 7);
+    assert_eq!(rt; map.get(5), 2);
+    assert_eq!(rt; map.get(7), 1);
+    map.increment(6);
+    map.decrement(7);
+    assert_eq!(rt; map.get(6), 1);
+    assert_eq!(rt; map.get(7), 0);
+    assert_eq!(rt; map.keys().count(), 3);
+    Ok(())
+}
+
+#[test]
+fn maps_that_grow(rt: HostRuntime) -> Result<(), Fail> {
+    let mut map = U32VecMap::new(rt.alloc(), 3)?;
+    map.insert(5, 9)?;
+    assert_eq!(rt; map.get(4), 0);
+    assert_eq!(rt; map.get(5), 9);
+    assert_eq!(rt; map.get(9), 0);
+    let mut counts = U32VecMap::with_capacity(rt.alloc(), 3, 5)?;
+    counts.increment(8)?;
+    assert_eq!(rt; counts.get(8), 1);
+    counts.decrement(8);
+    assert_eq!(rt; counts.get(8), 0);
+    Ok(())
+}
+
+#[test]
+fn lists_in_order_of_insertion(rt: HostRuntime) -> Result<(), Fail> {
+    let mut builder = ImmutableListMapBuilder::new(rt.alloc(), 4);
+    builder.add(2, 9)?;
+    builder.add(0, 7)?;
+    builder.add(2, 4)?;
+    builder.add(2, 9)?;
+    let map = builder.build()?;
+    assert_eq!(rt; map.get(0), [7].as_slice());
+    assert!(rt; map.get(1).is_empty());
+    assert_eq!(rt; map.get(2), [9, 4, 9].as_slice());
+    assert!(rt; map.clone()?.get(3).is_empty());
+    Ok(())
+}
+
+#[test]
+fn lists_of_ten_keys(rt: HostRuntime) -> Result<(), Fail> {
+    let mut builder = ImmutableListMapBuilder::new(rt.alloc(), 10);
+    for (key, value) in [(0, 1), (3, 1), (3, 2)] {
+        builder.add(key, value)?;
+    }
+    let map = builder.build()?;
+    assert_eq!(rt; map.get(0), [1].as_slice());
+    assert_eq!(rt; map.get(3), [1, 2].as_slice());
+    assert!(rt; map.get(2).is_empty());
+    let empty = ImmutableListMapBuilder::new(rt.alloc(), 10).build()?;
+    for key in 0..10 {
+        assert!(rt; empty.get(key).is_empty(), "{key}");
+    }
+    Ok(())
+}
+
+#[test]
+fn neighbours_of_nodes(rt: HostRuntime) -> Result<(), Fail> {
+    let mut graph = UndirectedGraph::with_capacity(rt.alloc(), 0, 10, 3)?;
+    for (node1, node2) in [(5, 3), (3, 8), (8, 8)] {
+        graph.add_edge(node1, node2)?;
+    }
+    graph.build();
+    let nodes = graph.nodes()?;
+    assert_eq!(rt; nodes.as_slice(), [3, 5, 8].as_slice());
+    assert_eq!(rt; graph.get_adjacent_nodes(3).count(), 2);
+    assert_eq!(rt; graph.get_adjacent_nodes(3).min(), Some(5));
+    assert_eq!(rt; graph.get_adjacent_nodes(3).max(), Some(8));
+    assert_eq!(rt;
+        graph
+            .get_adjacent_nodes(8)
+            .filter(|node| *node == 8)
+            .count(),
+        2
+    );
+    assert_eq!(rt; graph.get_adjacent_nodes(4).next(), None);
+    Ok(())
+}
+
+#[test]
+fn connected_components(rt: HostRuntime) -> Result<(), Fail> {
+    let mut graph = ConnectedComponentGraph::new(rt.alloc(), 6)?;
+    assert_eq!(rt; graph.get_node_in_largest_connected_component(0, 6), None);
+    graph.add_edge(0, 1);
+    graph.add_edge(3, 4);
+    graph.add_edge(4, 5);
+    assert!(rt; !graph.contains(2));
+    assert_eq!(rt;
+        graph.get_node_in_largest_connected_component(0, 6),
+        Some(3)
+    );
+    graph.swap(3, 2);
+    graph.remove_node(4);
+    graph.remove_node(5);
+    assert!(rt; graph.contains(2));
+    assert_eq!(rt;
+        graph.get_node_in_largest_connected_component(0, 6),
+        Some(0)
+    );
+    graph.add_edge(1, 2);
+    assert_eq!(rt;
+        graph.get_node_in_largest_connected_component(2, 6),
+        Some(2)
+    );
+    graph.reset();
+    assert!(rt; !graph.contains(0));
+    let component = graph
+        .create_connected_component()
+        .expect(&rt, "a component");
+    graph.add_node(5, component);
+    assert_eq!(rt;
+        graph.get_node_in_largest_connected_component(0, 6),
+        Some(5)
+    );
+    Ok(())
+}

@@ -1,0 +1,161 @@
+//! Matrices of bits, at the dense matrix through the trait; the matrix of octets; and iterators over
+//! rows.
+ghost use Rattle.std.specs.Prelude.{◌≡◌, ℕ, ◌<◌, ◌≤◌, length, slice_index};
+ghost use Rattle.rq_parts.specs.DenseOctetMatrix.{row_at};
+
+use raptorq::error::Error;
+use raptorq::iterators::OctetIter;
+use raptorq::matrix::{BinaryMatrix, DenseBinaryMatrix};
+use raptorq::octet::Octet;
+use raptorq::octet_matrix::DenseOctetMatrix;
+use raptorq::octets::BinaryOctetVec;
+use std::alloc::Global;
+use std::process::Abort;
+use std::test::Fail;
+
+#[test]
+fn steps_of_the_dense_matrix(rt: HostRuntime) -> Result<(), Fail> {
+    steps::<DenseBinaryMatrix>(&rt, rt.alloc())?;
+    Ok(())
+}
+
+// Exchanges, an addition, a frozen column and the columns left out.
+fn steps<T: BinaryMatrix>(rt: &impl Abort, alloc: Global) -> Result<(), Error> {
+    let mut matrix = T::new(alloc, 3, 70, 5)?;
+    matrix.set(0, 3, Octet::one())?;
+    matrix.set(0, 64, Octet::one())?;
+    matrix.set(0, 69, Octet::new(7))?;
+    matrix.swap_rows(0, 1);
+    matrix.swap_columns(3, 10, 1);
+    matrix.add_assign_rows(2, 1, 0)?;
+    assert_eq!(rt; matrix.count_ones(2, 0, 65), 2);
+    assert_eq!(rt; matrix.get(2, 10), Octet::one());
+    assert_eq!(rt; matrix.get(2, 3), Octet::zero());
+    let mut rows = vec![in alloc; 9, 9]?;
+    let mut columns = vec![in alloc; 9]?;
+    matrix.enable_column_access_acceleration()?;
+    matrix.get_ones_in_column_into(64, 0, 3, &mut rows)?;
+    assert_eq!(rt; rows.len(), 2);
+    assert!(rt; rows.contains(&1));
+    assert_eq!(rt; matrix.get_ones_in_column(64, 2, 3)?.len(), 1);
+    matrix.hint_column_dense_and_frozen(64)?;
+    matrix.query_non_zero_columns_into(2, 64, &mut columns)?;
+    assert_eq!(rt; columns.as_slice(), [64, 69].as_slice());
+    assert_eq!(rt; matrix.query_non_zero_columns(0, 64)?.len(), 0);
+    assert_eq!(rt; matrix.get_sub_row_as_octets(2, 64)?.len(), 6);
+    matrix.disable_column_access_acceleration();
+    let mut left = matrix.clone()?;
+    left.resize(2, 0)?;
+    assert_eq!(rt; left.height(), 2);
+    assert_eq!(rt; left.width(), 0);
+    assert_eq!(rt; matrix.width(), 70);
+    Ok(())
+}
+
+#[test]
+fn one_row_of_one_word(rt: HostRuntime) -> Result<(), Fail> {
+    let mut matrix = DenseBinaryMatrix::new(rt.alloc(), 1, 64, 0)?;
+    matrix.set(0, 0, Octet::one())?;
+    matrix.set(0, 63, Octet::one())?;
+    let mut ones = matrix.get_row_iter(0, 0, 64);
+    assert_eq!(rt; ones.next(), Some((0, Octet::one())));
+    assert_eq!(rt; ones.clone(rt.alloc())?.count(), 1);
+    assert_eq!(rt; ones.next(), Some((63, Octet::one())));
+    assert_eq!(rt; ones.next(), None);
+    let mut copy = DenseOctetMatrix::new(rt.alloc(), 1, 64, 0)?;
+    copy_row(&matrix, 0, 64, &mut copy);
+    assert_eq!(rt; copy.get(0, 63), Octet::one());
+    assert_eq!(rt; copy.get(0, 62), Octet::zero());
+    assert_eq!(rt; DenseBinaryMatrix::select_mask(3), 8);
+    Ok(())
+}
+
+// Copies the ones of a row before a column to a row of zeros.
+fn copy_row<T: BinaryMatrix>(matrix: &T, row: usize, end: usize, copy: &mut DenseOctetMatrix)
+    requires row { row < (T.content matrix.now).height }
+    requires end { end ≤ (T.content matrix.now).boundary }
+    requires room { row < length copy.old.rows }
+    requires wide { end ≤ copy.old.width }
+    requires long { end ≤ length (row_at copy.old row) }
+    requires zeros { (k : ℕ) → k < end → slice_index (row_at copy.old row) k ≡ 0 }
+    ensures copied { (k : ℕ) → k < end → slice_index (row_at copy.new row) k ≡ (T.content matrix.now).bit row k }
+    ensures width { copy.new.width ≡ copy.old.width }
+    ensures height { length copy.new.rows ≡ length copy.old.rows }
+{
+    for (column, octet) in matrix.get_row_iter(row, 0, end) {
+        copy.set(row, column, octet);
+    }
+}
+
+#[test]
+fn lists_are_replaced(rt: HostRuntime) -> Result<(), Fail> {
+    let mut matrix = DenseBinaryMatrix::new(rt.alloc(), 2, 3, 1)?;
+    matrix.set(1, 0, Octet::one())?;
+    matrix.set(0, 2, Octet::one())?;
+    matrix.enable_column_access_acceleration()?;
+    let mut rows = vec![in rt.alloc(); 7]?;
+    matrix.get_ones_in_column_into(0, 0, 2, &mut rows)?;
+    assert_eq!(rt; rows.as_slice(), [1].as_slice());
+    let mut columns = vec![in rt.alloc(); 7]?;
+    matrix.query_non_zero_columns_into(0, 2, &mut columns)?;
+    assert_eq!(rt; columns.as_slice(), [2].as_slice());
+    Ok(())
+}
+
+// That the boundary is 2 is shown by the call behind it, which asks for the boundary.
+#[test]
+fn a_frozen_column_keeps_its_bits(rt: HostRuntime) -> Result<(), Fail> {
+    let mut matrix = DenseBinaryMatrix::new(rt.alloc(), 2, 3, 0)?;
+    matrix.set(0, 2, Octet::one())?;
+    matrix.set(1, 1, Octet::one())?;
+    matrix.enable_column_access_acceleration()?;
+    matrix.hint_column_dense_and_frozen(2)?;
+    assert_eq!(rt;
+        matrix.query_non_zero_columns(0, 2)?.as_slice(),
+        [2].as_slice()
+    );
+    for (i, row) in [[0, 0, 1], [0, 1, 0]].iter().enumerate() {
+        for (j, bit) in row.iter().enumerate() {
+            assert_eq!(rt; matrix.get(i, j).byte(), *bit, "at {i}, {j}");
+        }
+    }
+    let mut other = DenseBinaryMatrix::new(rt.alloc(), 2, 3, 0)?;
+    other.resize(2, 0)?;
+    assert_eq!(rt; other.height(), 2);
+    assert_eq!(rt; other.width(), 0);
+    Ok(())
+}
+
+#[test]
+fn octet_matrix_rows(rt: HostRuntime) -> Result<(), Fail> {
+    let mut matrix = DenseOctetMatrix::new(rt.alloc(), 2, 3, 0)?;
+    assert_eq!(rt; matrix.height(), 2);
+    assert_eq!(rt; matrix.width(), 3);
+    let bits = BinaryOctetVec::new(vec![in rt.alloc(); 1 << 61]?, 3);
+    matrix.fma_sub_row(0, 0, &Octet::new(29), &bits);
+    matrix.set(1, 2, Octet::new(128));
+    matrix.mul_assign_row(1, &Octet::new(2));
+    matrix.fma_rows(0, 1, &Octet::one());
+    assert_eq!(rt; matrix.get(0, 0), Octet::new(29));
+    assert_eq!(rt; matrix.get(0, 2), Octet::new(29));
+    let mut exchanged = matrix.clone()?;
+    exchanged.swap_rows(0, 1);
+    exchanged.swap_columns(0, 1, 1);
+    assert_eq!(rt; exchanged.get(1, 1), Octet::new(29));
+    assert_eq!(rt; exchanged.get(0, 2), Octet::new(29));
+    assert_eq!(rt; matrix.get(0, 1), Octet::zero());
+    Ok(())
+}
+
+#[test]
+fn columns_with_their_bits(rt: HostRuntime) -> Result<(), Fail> {
+    let mut columns = OctetIter::new_dense_binary(5, 9, 62, &[1 << 63, 2]);
+    assert_eq!(rt; columns.next(), Some((5, Octet::zero())));
+    assert_eq!(rt; columns.next(), Some((6, Octet::one())));
+    let mut copy = columns.clone(rt.alloc())?;
+    assert_eq!(rt; columns.next(), Some((7, Octet::zero())));
+    assert_eq!(rt; copy.next(), Some((7, Octet::zero())));
+    assert_eq!(rt; copy.next(), Some((8, Octet::one())));
+    assert_eq!(rt; copy.next(), None);
+    Ok(())
+}

@@ -1,0 +1,173 @@
+//! Symbols, slabs of them, operations on them, and the helpers of `util` and `gf2`.
+ghost use Rattle.std.specs.Prelude.{◌≡◌, ◌^◌, ◌<◌, None, length, IfOk};
+
+use raptorq::error::Error;
+use raptorq::gf2::add_assign_binary;
+use raptorq::octet::Octet;
+use raptorq::operation_vector::{SymbolOps, perform_op};
+use raptorq::symbol::Symbol;
+use raptorq::symbol_slab::SymbolSlab;
+use raptorq::util::{get_both_indices, get_both_ranges, int_div_ceil};
+use std::alloc::Global;
+use std::process::Abort;
+use std::test::Fail;
+
+#[test]
+fn words_and_lists(rt: HostRuntime) {
+    let mut words = [0b1100, 7];
+    add_assign_binary(&mut words, &[0b1010, 1, 9]);
+    assert_eq!(rt; words.as_slice(), [0b0110, 6].as_slice());
+    let mut list = [1, 2, 3, 4, 5];
+    let (later, first) = get_both_indices(&mut list, 3, 0);
+    *later = 7;
+    *first = 8;
+    assert_eq!(rt; list.as_slice(), [8, 2, 3, 7, 5].as_slice());
+    let (back, front) = get_both_ranges(&mut list, 3, 0, 2);
+    back.copy_from_slice(&[6, 6]);
+    front.copy_from_slice(&[9, 9]);
+    assert_eq!(rt; list.as_slice(), [9, 9, 3, 6, 6].as_slice());
+    assert_eq!(rt; int_div_ceil(10, 5), 2);
+    assert_eq!(rt; int_div_ceil(11, 5), 3);
+}
+
+#[test]
+fn symbols_are_rows(rt: HostRuntime) -> Result<(), Fail> {
+    let mut symbol = Symbol::new([1, 2].to_vec(rt.alloc())?);
+    assert_eq!(rt; symbol.len(), 2);
+    assert!(rt; !symbol.is_empty());
+    let other = symbol.clone()?;
+    assert_eq!(rt; other, symbol);
+    symbol.mulassign_scalar(&Octet::new(2));
+    assert_eq!(rt; symbol.as_bytes(), [2, 4].as_slice());
+    symbol += &other;
+    symbol.fused_addassign_mul_scalar(&other, &Octet::new(4));
+    assert_eq!(rt; symbol.as_bytes(), [7, 14].as_slice());
+    assert!(rt; other < symbol);
+    let bytes = Symbol::zero(rt.alloc(), 3)?.into_bytes();
+    assert_eq!(rt; bytes.as_slice(), [0, 0, 0].as_slice());
+    Ok(())
+}
+
+// The symbols [0], [1], [2].
+fn three(alloc: Global) -> Result<SymbolSlab, Error>
+    ensures { IfOk result (λ slab. (slab.order ≡ None) × (length slab.values ≡ 3) × (slab.symbol_size ≡ 1)) }
+{
+    let mut slab = SymbolSlab::with_zeros(alloc, 3, 1)?;
+    slab.copy_block_from(1, &[1, 2]);
+    Ok(slab)
+}
+
+fn assert_symbols(rt: &impl Abort, slab: SymbolSlab, expected: &[u8]) -> Result<(), Error> {
+    let symbols = slab.into_symbols()?;
+    assert_eq!(rt; symbols.len(), expected.len());
+    for i in 0..symbols.len() {
+        assert_eq!(rt; symbols[i].as_bytes(), [expected[i]].as_slice(), "at {i}");
+    }
+    Ok(())
+}
+
+#[test]
+fn an_order_moves_no_symbol(rt: HostRuntime) -> Result<(), Error> {
+    let mut slab = three(rt.alloc())?;
+    assert_eq!(rt; slab.get(1), [1].as_slice());
+    slab.set_reorder([2, 0, 1].to_vec(rt.alloc())?);
+    assert_eq!(rt; slab.len(), 3);
+    assert_eq!(rt; slab.symbol_size(), 1);
+    slab.set_reorder([1, 2].to_vec(rt.alloc())?);
+    assert_symbols(&rt, slab, &[1, 2])?;
+    let mut slab = three(rt.alloc())?;
+    slab.set_reorder([2, 0, 1].to_vec(rt.alloc())?);
+    assert_eq!(rt; slab.get(0), [2].as_slice());
+    assert_eq!(rt; slab.get(1), [0].as_slice());
+    assert_eq!(rt; slab.get(2), [1].as_slice());
+    assert_symbols(&rt, slab, &[2, 0, 1])
+}
+
+#[test]
+fn a_multiple_is_added(rt: HostRuntime) -> Result<(), Error> {
+    let mut slab = SymbolSlab::with_zeros(rt.alloc(), 2, 1)?;
+    slab.copy_block_from(0, &[1, 2]);
+    slab.fma(0, 1, &Octet::new(3));
+    assert_eq!(rt; slab.get(0), [7].as_slice());
+    Ok(())
+}
+
+#[test]
+fn operations_are_performed(rt: HostRuntime) -> Result<(), Error> {
+    let mut slab = three(rt.alloc())?;
+    assert!(rt; slab == slab.clone()?);
+    let scalar = Octet::new(3);
+    let op = SymbolOps::FMA {
+        dest: 1,
+        src: 2,
+        scalar,
+    };
+    perform_op(&op, &mut slab)?;
+    assert_symbols(&rt, slab, &[0, 7, 2])?;
+    let mut slab = three(rt.alloc())?;
+    perform_op(&SymbolOps::AddAssign { dest: 1, src: 2 }, &mut slab)?;
+    assert_symbols(&rt, slab, &[0, 3, 2])?;
+    let mut slab = three(rt.alloc())?;
+    let scalar = Octet::new(128);
+    perform_op(&SymbolOps::MulAssign { dest: 2, scalar }, &mut slab)?;
+    assert_symbols(&rt, slab, &[0, 1, 29])?;
+    let mut slab = three(rt.alloc())?;
+    let order = [2, 0].to_vec(rt.alloc())?;
+    perform_op(&SymbolOps::Reorder { order }, &mut slab)?;
+    assert_symbols(&rt, slab, &[2, 0])
+}
+
+// Five symbols of this size. All octets of symbol i are 2 ^ i.
+fn powers(alloc: Global, size: usize) -> Result<SymbolSlab, Error>
+    requires { size < 2 ^ 32 }
+    ensures { IfOk result (λ slab. (slab.order ≡ None) × (length slab.values ≡ 5) × (slab.symbol_size ≡ size)) }
+{
+    let mut slab = SymbolSlab::with_zeros(alloc, 5, size)?;
+    slab.get_mut(0).fill(1);
+    slab.get_mut(1).fill(2);
+    slab.get_mut(2).fill(4);
+    slab.get_mut(3).fill(8);
+    slab.get_mut(4).fill(16);
+    Ok(slab)
+}
+
+fn assert_repeated(rt: &impl Abort, slab: SymbolSlab, expected: &[u8]) -> Result<(), Error> {
+    let symbols = slab.into_symbols()?;
+    assert_eq!(rt; symbols.len(), expected.len());
+    for i in 0..symbols.len() {
+        for octet in symbols[i].as_bytes() {
+            assert_eq!(rt; *octet, expected[i], "at {i}");
+        }
+    }
+    Ok(())
+}
+
+#[test]
+#[tactic(auto, unfolding(rq_algebra::specs::Operations::step))]
+fn several_symbols_are_added_in_one_pass(rt: HostRuntime) -> Result<(), Error> {
+    for size in [1usize, 33, 160] {
+        let mut slab = powers(rt.alloc(), size)?;
+        slab.add_all(1, &[0, 3, 4]);
+        assert_repeated(&rt, slab, &[1, 27, 4, 8, 16])?;
+        let mut slab = powers(rt.alloc(), size)?;
+        slab.set_reorder([4, 2, 1, 0].to_vec(rt.alloc())?);
+        slab.add_all(1, &[2, 0, 3]);
+        assert_repeated(&rt, slab, &[16, 23, 2, 1])?;
+    }
+    Ok(())
+}
+
+#[test]
+fn symbols_go_in_and_out(rt: HostRuntime) -> Result<(), Error> {
+    let mut slab = three(rt.alloc())?;
+    assert_symbols(&rt, slab.gather(&[2, 0])?, &[2, 0])?;
+    slab.get_mut(0).copy_from_slice(&[9]);
+    assert_symbols(&rt, slab, &[9, 1, 2])?;
+    let mut slab = three(rt.alloc())?;
+    let (dest, src) = slab.get_pair_mut(1, 2);
+    dest.copy_from_slice(src);
+    assert_symbols(&rt, slab, &[0, 2, 2])?;
+    let mut symbols = Vec::new(rt.alloc());
+    symbols.push(Symbol::new([3].to_vec(rt.alloc())?))?;
+    assert_symbols(&rt, SymbolSlab::from_symbols(rt.alloc(), symbols, 1)?, &[3])
+}

@@ -1,0 +1,35 @@
+//! Random numbers, degrees, tuples and the indices of an id.
+use raptorq::base::{deg, intermediate_tuple};
+use raptorq::constraint_matrix::enc_indices;
+use raptorq::rng::rand;
+
+#[test]
+fn random_numbers(rt: HostRuntime) {
+    assert_eq!(rt; rand(0, 0, 1048576), 145433);
+    assert_eq!(rt; rand(4294967295, 1, 1048576), 145433);
+}
+
+#[test]
+fn degrees(rt: HostRuntime) {
+    assert_eq!(rt; deg(5242, 17), 1);
+    assert_eq!(rt; deg(5243, 17), 2);
+    assert_eq!(rt; deg(1048575, 17), 15);
+}
+
+#[test]
+fn tuple_of_the_first_id(rt: HostRuntime) {
+    assert_eq!(rt; intermediate_tuple(0, 17, 254, 11), (2, 4, 9, 2, 5, 1));
+}
+
+#[test]
+fn indices_of_the_first_id(rt: HostRuntime) {
+    let mut digits: u64 = 0;
+    enc_indices(
+        (2, 4, 9, 2, 5, 1),
+        17,
+        10,
+        11,
+        |index| digits = digits.wrapping_mul(100).wrapping_add(index as u64),
+    );
+    assert_eq!(rt; digits, 9131823);
+}
