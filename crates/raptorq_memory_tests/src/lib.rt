@@ -2,8 +2,4 @@
 #![tactic(auto)]
 
 #[cfg(test)]
-mod coders;
-#[cfg(test)]
-mod runs;
-#[cfg(test)]
-mod streams;
+mod tests;

@@ -2,22 +2,4 @@
 #![tactic(auto)]
 
 #[cfg(test)]
-mod hashes;
-#[cfg(test)]
-mod maps;
-#[cfg(test)]
-mod matrices;
-#[cfg(test)]
-mod octets;
-#[cfg(test)]
-mod packets;
-#[cfg(test)]
-mod parameters;
-#[cfg(test)]
-mod records;
-#[cfg(test)]
-mod symbols;
-#[cfg(test)]
-mod tables;
-#[cfg(test)]
-mod tuples;
+mod tests;

@@ -2,16 +2,4 @@
 #![tactic(auto)]
 
 #[cfg(test)]
-mod block_vectors;
-#[cfg(test)]
-mod blocks;
-#[cfg(test)]
-mod indices;
-#[cfg(test)]
-mod matrices;
-#[cfg(test)]
-mod object_vectors;
-#[cfg(test)]
-mod objects;
-#[cfg(test)]
-mod rows;
+mod tests;

@@ -77,7 +77,11 @@ fn mirrored_octets(alloc: Global, row: &TableRow) -> Result<DenseOctetMatrix, Er
 }
 
 /// Bits of which the ones stand at pairs of a row and a column, but none in the HDPC rows.
-fn bits_at<T: BinaryMatrix>(alloc: Global, row: &TableRow, ones: &[(usize, usize)]) -> Result<T, Error>
+fn bits_at<T: BinaryMatrix>(
+    alloc: Global,
+    row: &TableRow,
+    ones: &[(usize, usize)],
+) -> Result<T, Error>
     requires { IsChecked row.now }
     ensures height { IfOk result (λ bits. (T.content bits).height ≡ intermediate_symbols row.now) }
     ensures width { IfOk result (λ bits. (T.content bits).width ≡ intermediate_symbols row.now) }

@@ -40,24 +40,22 @@ module _ (c : Configuration) (k e t : ℕ) (aligned : IsAligned c) (here : e < k
         within = omega (arith, is);
       }
 
-  pub symbol_of_place-place : symbol_of_place c k (place_in_block c k e t) ≡ e
+  symbol_by : (i o z : ℕ) → IsPlaced i o z → symbol_of_place c k i ≡ e
   unfolding symbol_of_place
-  symbol_of_place-place =
-      let o = sub_block_start c t in
-      let z = sub_block_size c t in
-      let i = place_in_block c k e t in
-      let p = placed in
+  symbol_by i o z p =
       ap (λ s. (i - s * k) / sub_block_size c (i / k)) p.start ∙ ap (λ s. (i - o * k) / s) p.size ∙ ap (λ n. n / z) p.within ∙ div-mul-add e z (t - o) p.rest
 
-  pub byte_of_place-place : byte_of_place c k (place_in_block c k e t) ≡ t
+  byte_by : (i o z : ℕ) → IsPlaced i o z → byte_of_place c k i ≡ t
   unfolding byte_of_place
-  byte_of_place-place =
-      let o = sub_block_start c t in
-      let z = sub_block_size c t in
-      let i = place_in_block c k e t in
-      let p = placed in
-      let last : (e * z + (t - o)) % z ≡ t - o = mod-mul-add e z (t - o) p.rest in
-      ap (λ s. s + (i - s * k) % sub_block_size c (i / k)) p.start ∙ ap (λ s. o + (i - o * k) % s) p.size ∙ ap (λ n. o + n % z) p.within ∙ ap (λ n. o + n) last ∙ omega (arith, p.low)
+  byte_by i o z p =
+      ap (λ s. s + (i - s * k) % sub_block_size c (i / k)) p.start ∙ ap (λ s. o + (i - o * k) % s) p.size ∙ ap (λ n. o + n % z) p.within
+      ∙ ap (λ n. o + n) (mod-mul-add e z (t - o) p.rest) ∙ omega (arith, p.low)
+
+  pub symbol_of_place-place : symbol_of_place c k (place_in_block c k e t) ≡ e
+  symbol_of_place-place = symbol_by (place_in_block c k e t) (sub_block_start c t) (sub_block_size c t) placed
+
+  pub byte_of_place-place : byte_of_place c k (place_in_block c k e t) ≡ t
+  byte_of_place-place = byte_by (place_in_block c k e t) (sub_block_start c t) (sub_block_size c t) placed
 
 -- ---- both ways
 

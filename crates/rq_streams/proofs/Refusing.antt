@@ -5,7 +5,7 @@ use Rattle.std.proofs.KnownBytes.{Keeps-refl}
 use Rattle.std.proofs.lemmas.Bool.{lt-ltb, le-ltb}
 use Rattle.rq_bytes.specs.declared.error.Error.{Error}
 use Rattle.rq_bytes.specs.declared.error.Error.TheVariants.{OutOfMemory, PacketTooShort, WrongPayloadSize}
-use Rattle.rq_bytes.specs.Refusals.{IsAnswer, Answers, and_then}
+use Rattle.rq_bytes.specs.Refusals.{IsAnswer, IsRefusal, Answers, and_then}
 use Rattle.rq_standard.specs.Packet.{Packet, packet_of_bytes}
 use Rattle.rq_standard.specs.Configuration.{Configuration}
 use Rattle.rq_base.specs.RefusedInput.{checked_configuration, read_packet}
@@ -77,6 +77,14 @@ pub receive_refusal-refused : (greatest : ℕ) (c : Configuration) (e : Error) (
 receive_refusal-refused greatest c e bytes read refused =
     ap (λ r. and_then (and_then r (taken_configuration greatest)) (λ k. frames_refusal k (drop 12 bytes))) (sym read)
     ∙ ap (λ r. and_then (and_then r (λ _. read_of c)) (λ k. frames_refusal k (drop 12 bytes))) refused
+
+new_refused_by : (greatest : ℕ) (c : Configuration) (e : Error) (bytes : List ℕ) (checked : Result (Unit {0}) Error) → Ok c ≡ header_configuration bytes → checked_configuration greatest c ≡ checked → IsRefusal e checked → (e ≡ OutOfMemory) ⊎ (receive_refusal greatest bytes ≡ Err e)
+new_refused_by greatest c e bytes (Ok x) read is h = inl h
+new_refused_by greatest c e bytes (Err wanted) read is h = inr (receive_refusal-refused greatest c e bytes read (is ∙ ap (λ w. Err w) (sym h)))
+
+-- a decoder's refusal of the configuration is the stream's
+pub new_refused : (greatest : ℕ) (c : Configuration) (e : Error) (bytes : List ℕ) → Ok c ≡ header_configuration bytes → IsRefusal e (checked_configuration greatest c) → (e ≡ OutOfMemory) ⊎ (receive_refusal greatest bytes ≡ Err e)
+new_refused greatest c e bytes read h = new_refused_by greatest c e bytes (checked_configuration greatest c) read refl h
 
 -- the refusal of a stream whose configuration is taken
 pub receive_refusal-taken : (greatest : ℕ) (c d : Configuration) (bytes rest : List ℕ) → Ok c ≡ received_configuration greatest bytes → d ≡ c → rest ≡ drop 12 bytes → receive_refusal greatest bytes ≡ frames_refusal d rest

@@ -6,7 +6,7 @@ use Rattle.std.proofs.lemmas.Bool.{le-ltb, ne_eqb}
 use Rattle.std.proofs.lemmas.List.{take_at, drop_at}
 use Rattle.rq_bytes.specs.declared.error.Error.{Error}
 use Rattle.rq_bytes.specs.declared.error.Error.TheVariants.{HeaderTooShort, PacketTooShort}
-use Rattle.rq_bytes.specs.Refusals.{Answers, and_then}
+use Rattle.rq_bytes.specs.Refusals.{Answers}
 use Rattle.rq_standard.specs.Packet.{Packet, packet_bytes, packet_of_bytes}
 use Rattle.rq_standard.specs.Configuration.{Configuration, IsConfiguration, IsAccepted, largest_block, header_bytes, configuration_of_bytes}
 use Rattle.rq_standard.specs.declared.row.TableRow.{TableRow}
@@ -18,38 +18,36 @@ use Rattle.rq_standard.proofs.BlockRows.{block_has_row, answerable_only}
 use Rattle.rq_base.specs.RefusedInput.{checked_configuration, read_packet}
 use Rattle.raptorq.proofs.Lists.{packet_refusal-packet}
 use Rattle.rq_streams.specs.Frames.{frame_size, frame_refusal, first_refusal, frames_refusal}
-use Rattle.rq_streams.specs.ReceivedStreams.{taken_configuration, received_configuration, FillsFrame, IsStreamOf, AnswersStream, RefusesStream, WantsDetermined, WantsOnlyObject}
+use Rattle.rq_streams.specs.ReceivedStreams.{header_configuration, FillsFrame, IsStreamOf, AnswersStream, RefusesStream, WantsDetermined, WantsOnlyObject}
 use Rattle.rq_streams.specs.Ends.{Wanted}
 use Rattle.rq_streams.proofs.Cutting.{frames_in-frames_of}
 use Rattle.rq_streams.proofs.Refusing.{frame_refusal-whole, first_refusal-next}
 use Rattle.rq_streams.proofs.Taking.{read_back, length-packet_bytes, all_fill}
 
+abbrev taken : Configuration → Result Configuration Error
+taken k = Ok k
+
 positive_eqb : (n : ℕ) → 0 < n → eqb n 0 ≡ false
 positive_eqb n h = ne_eqb n 0 (λ e. absurd (omega arith))
 
 -- what is accepted isn't refused
-accepted_unrefused : (greatest : ℕ) (c : Configuration) → IsAccepted greatest c → checked_configuration greatest c ≡ Ok tt
+pub accepted_unrefused : (greatest : ℕ) (c : Configuration) → IsAccepted greatest c → checked_configuration greatest c ≡ Ok tt
 accepted_unrefused greatest c h =
     rw (positive_eqb c.symbol_size h.size_positive, positive_eqb c.alignment h.alignment_positive, eq-eqb (c.symbol_size % c.alignment) 0 h.aligned, positive_eqb c.source_blocks h.blocks_positive, le-ltb greatest (largest_block c) h.in_table) refl
-
-taken_is : (greatest : ℕ) (c : Configuration) → IsAccepted greatest c → taken_configuration greatest c ≡ Ok c
-taken_is greatest c accepted = rw (accepted_unrefused greatest c accepted) refl
 
 length-header_bytes : (c : Configuration) → length (header_bytes c) ≡ 12
 unfolding header_bytes
 length-header_bytes c = refl
 
--- the stream's configuration is read
-pub stream_configuration : (table : List TableRow) (c : Configuration) (object : List ℕ) (packets : List Packet) (bytes : List ℕ) → IsStreamOf table c object packets bytes → received_configuration (greatest_size table) bytes ≡ Ok c
-stream_configuration table c object packets bytes s =
+-- the stream's configuration is in its header
+pub stream_header : (table : List TableRow) (c : Configuration) (object : List ℕ) (packets : List Packet) (bytes : List ℕ) → IsStreamOf table c object packets bytes → header_configuration bytes ≡ Ok c
+stream_header table c object packets bytes s =
     let header : take 12 bytes ≡ header_bytes c = ap (take 12) s.spelled ∙ take_at (header_bytes c) (frames_of packets) 12 (length-header_bytes c) in
     let long : length bytes ≡ 12 + length (frames_of packets) = ap length s.spelled ∙ length-append (header_bytes c) (frames_of packets) ∙ ap (λ n. n + length (frames_of packets)) (length-header_bytes c) in
     let enough : ltb (length bytes) 12 ≡ false = le-ltb (length bytes) 12 (omega arith) in
-    let greatest = greatest_size table in
-    ap (λ b. and_then (cond b (Err HeaderTooShort) (Ok (configuration_of_bytes (take 12 bytes)))) (taken_configuration greatest)) enough
-    ∙ ap (λ h. taken_configuration greatest (configuration_of_bytes h)) header
-    ∙ ap (taken_configuration greatest) (configuration_of_bytes-header_bytes c s.fits)
-    ∙ taken_is greatest c s.accepted
+    ap (λ b. cond b (Err HeaderTooShort) (taken (configuration_of_bytes (take 12 bytes)))) enough
+    ∙ ap (λ h. taken (configuration_of_bytes h)) header
+    ∙ ap taken (configuration_of_bytes-header_bytes c s.fits)
 
 -- and then come its frames
 pub stream_frames : (table : List TableRow) (c : Configuration) (object : List ℕ) (packets : List Packet) (bytes : List ℕ) → IsStreamOf table c object packets bytes → drop 12 bytes ≡ frames_of packets
@@ -118,9 +116,6 @@ wants_where_any_can table c object packets bytes P s w =
     let same = answerable_only table c object packets s.checked s.accepted s.run in
     record { only = λ o. w.determined (same.1 o); others = λ no. w.undetermined (λ d. no (same.0 d)) }
 
-abbrev taken : Configuration → Result Configuration Error
-taken k = Ok k
-
 -- a stream has one configuration
-pub same_configuration : (table : List TableRow) (c d : Configuration) (object : List ℕ) (packets : List Packet) (bytes : List ℕ) → IsStreamOf table c object packets bytes → Ok d ≡ received_configuration (greatest_size table) bytes → d ≡ c
-same_configuration table c d object packets bytes s read = let e : taken d ≡ taken c = read ∙ stream_configuration table c object packets bytes s in cc
+pub same_header : (table : List TableRow) (c d : Configuration) (object : List ℕ) (packets : List Packet) (bytes : List ℕ) → IsStreamOf table c object packets bytes → Ok d ≡ header_configuration bytes → d ≡ c
+same_header table c d object packets bytes s read = let e : taken d ≡ taken c = read ∙ stream_header table c object packets bytes s in cc

@@ -46,17 +46,16 @@ loop-frame-preserved c =
 pub returns-in_err-add_frame-clause-refused : goal.returns-in_err-add_frame-clause-refused
 returns-in_err-add_frame-clause-refused c =
     let config = c.args.decoder.now.config in
-    let size = frame_size config in
     let kept = c.loop-frame.invariant in
     let step = c.in-Some.ensures.steps in
-    let before = chunks_rest c.loop-frame.frame-iterator in
-    let after = chunks_rest c.next.new.self in
-    let frame = c.in-Some.frame.now in
     let e = c.in_err-add_frame.field-0.0 in
-    let cut : frames_in size before ≡ frame ∷ frames_in size after = frames_in-next size before frame after (omega arith) step.1.0 (step.1.1 ∙ ap (λ n. min n (length before)) kept.size) step.1.2 in
+    let rest = frames_in (frame_size config) (chunks_rest c.next.new.self) in
+    let cut : frames_in (frame_size config) (chunks_rest c.loop-frame.frame-iterator) ≡ c.in-Some.frame.now ∷ rest =
+    frames_in-next (frame_size config) (chunks_rest c.loop-frame.frame-iterator) c.in-Some.frame.now (chunks_rest c.next.new.self) (omega arith) step.1.0 (step.1.1 ∙ ap (λ n. min n (length (chunks_rest c.loop-frame.frame-iterator))) kept.size) step.1.2
+    in
     let p = err_from_is_err_and c.from_residual.result c.from_residual.ensures.1 in
     rw (p.1, p.2) (subst (λ r. (e ≡ OutOfMemory) ⊎ (r ≡ Err e)) (sym (kept.refused ∙ ap (first_refusal config) cut))
-    (first_refusal-here config frame (frames_in size after) e (subst (λ k. (e ≡ OutOfMemory) ⊎ (frame_refusal k frame ≡ Err e)) kept.configuration c.in_err-add_frame.ensures.refused)))
+    (first_refusal-here config c.in-Some.frame.now rest e (subst (λ k. (e ≡ OutOfMemory) ⊎ (frame_refusal k c.in-Some.frame.now ≡ Err e)) kept.configuration c.in_err-add_frame.ensures.refused)))
 
 pub returns-clause-refused : goal.returns-clause-refused
 returns-clause-refused c =

@@ -1,8 +1,8 @@
--- What the loops keep in `matrices::copy_row`.
+-- What the loops keep in `tests::matrices::copy_row`.
 use Rattle.std.proofs.Common.{◌≡◌, ℕ, ◌<◌, ◌≤◌, ◌++◌, length, slice_index}
 use Rattle.rq_standard.specs.BitTableSteps.{AreOnesOf, ones_at}
 use Rattle.rq_parts.specs.DenseOctetMatrix.{row_at}
-use Rattle.raptorq_part_tests.proofs.matrices.copy_row.Given as goal
+use Rattle.raptorq_part_tests.proofs.tests.matrices.copy_row.Given as goal
 
 abbrev pub invariant-loop-column : goal.invariant-loop-column
 invariant-loop-column g l = record {

@@ -1,5 +1,5 @@
 //! The packets and answers of the Rust crate raptorq, for objects of symbols of four bytes.
-use crate::block_vectors::{DIGESTS, LISTS};
+use crate::tests::block_vectors::{DIGESTS, LISTS};
 use raptorq::error::Error;
 use raptorq::systematic_constants::SystematicTable;
 use raptorq::{Encoder, EncodingPacket, ObjectTransmissionInformation};

@@ -1,8 +1,8 @@
--- What the check leaves to show of `matrices::one_row_of_one_word`.
+-- What the check leaves to show of `tests::matrices::one_row_of_one_word`.
 use Rattle.std.proofs.Common.{◌≡◌, replicate, slice_index, ap, ◌∙◌}
 use Rattle.rq_parts.specs.DenseOctetMatrix.{OctetTable, row_at}
 use Rattle.rq_parts.proofs.Zeros.{zeros_everywhere}
-use Rattle.raptorq_part_tests.proofs.matrices.one_row_of_one_word.Goals as goal
+use Rattle.raptorq_part_tests.proofs.tests.matrices.one_row_of_one_word.Goals as goal
 
 pub copy_row-requires-clause-zeros : goal.copy_row-requires-clause-zeros
 copy_row-requires-clause-zeros g c =

@@ -1,6 +1,6 @@
 use Rattle.std.proofs.Common.{rules}
 use Rattle.rq_base.proofs.CallLaws.{callable_along}
-use Rattle.raptorq_part_tests.proofs.tuples.indices_of_the_first_id.Goals as goal
+use Rattle.raptorq_part_tests.proofs.tests.tuples.indices_of_the_first_id.Goals as goal
 
 pub enc_indices-requires-clause-callable : goal.enc_indices-requires-clause-callable
 enc_indices-requires-clause-callable g c =

@@ -1,5 +1,5 @@
 //! The packets and answers of the Rust crate raptorq, for objects of several blocks and sub-blocks.
-use crate::object_vectors::{LOSSES, OBJECTS};
+use crate::tests::object_vectors::{LOSSES, OBJECTS};
 use raptorq::error::Error;
 use raptorq::systematic_constants::SystematicTable;
 use raptorq::{Encoder, EncodingPacket, ObjectTransmissionInformation};

@@ -1,10 +1,10 @@
--- What the check leaves to show of `matrices::copy_row`.
+-- What the check leaves to show of `tests::matrices::copy_row`.
 use Rattle.std.proofs.Common.{◌≡◌, ℕ, ◌<◌, ◌≤◌, ◌++◌, ◌∷◌, [], length, slice_index, set, get_or, sym, ap, subst, ◌∙◌, arith, append_assoc, inl, inr, get_or-set_same, get_or-set_other, length-set}
 use Rattle.std.proofs.lemmas.Bool.Decides.{eqb_tells}
 use Rattle.rq_standard.specs.BitTableSteps.{AreOnesOf, ones_at}
 use Rattle.rq_standard.proofs.BitTableLaws.{is_next_pair}
 use Rattle.rq_parts.specs.DenseOctetMatrix.{OctetTable, row_at}
-use Rattle.raptorq_part_tests.proofs.matrices.copy_row.Goals as goal
+use Rattle.raptorq_part_tests.proofs.tests.matrices.copy_row.Goals as goal
 
 pub loop-column-preserved : goal.loop-column-preserved
 loop-column-preserved g c =

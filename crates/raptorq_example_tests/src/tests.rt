@@ -1,0 +1,11 @@
+//! The tests, by what they are of.
+
+mod blocks;
+mod builder;
+mod cutting;
+mod decoding;
+mod determined;
+mod differences;
+mod plans;
+mod several_blocks;
+mod sub_blocks;

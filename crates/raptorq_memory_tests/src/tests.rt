@@ -1,0 +1,5 @@
+//! The tests, by what they are of.
+
+mod coders;
+mod runs;
+mod streams;

@@ -1,0 +1,12 @@
+//! The tests, by what they are of.
+
+mod hashes;
+mod maps;
+mod matrices;
+mod octets;
+mod packets;
+mod parameters;
+mod records;
+mod symbols;
+mod tables;
+mod tuples;

@@ -1,0 +1,9 @@
+//! The tests, by what they are of.
+
+mod block_vectors;
+mod blocks;
+mod indices;
+mod matrices;
+mod object_vectors;
+mod objects;
+mod rows;
