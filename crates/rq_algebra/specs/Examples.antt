@@ -13,8 +13,8 @@ abbrev pub rows : List (List ℕ) → ℕ → ℕ → ℕ
 rows lists i k = at (symbol_at lists i) k
 
 -- x0 + x1 and x1
-abbrev pub triangle : ℕ → ℕ → ℕ
-triangle = rows ((1 ∷ 1 ∷ []) ∷ (0 ∷ 1 ∷ []) ∷ [])
+abbrev pub triangular : ℕ → ℕ → ℕ
+triangular = rows ((1 ∷ 1 ∷ []) ∷ (0 ∷ 1 ∷ []) ∷ [])
 
 -- x0 + x1, twice
 abbrev pub repeated : ℕ → ℕ → ℕ
@@ -22,10 +22,10 @@ repeated = rows ((1 ∷ 1 ∷ []) ∷ (1 ∷ 1 ∷ []) ∷ [])
 
 -- (1, 1) solves x0 + x1 = 0 and x1 = 1, and these two equations are determined
 abbrev pub TriangleIsSolved : Type 0
-TriangleIsSolved = Solves two 2 2 triangle (at (1 ∷ 1 ∷ [])) (at (0 ∷ 1 ∷ []))
+TriangleIsSolved = Solves two 2 2 triangular (at (1 ∷ 1 ∷ [])) (at (0 ∷ 1 ∷ []))
 
 abbrev pub TriangleIsDetermined : Type 0
-TriangleIsDetermined = IsDetermined two 2 2 triangle
+TriangleIsDetermined = IsDetermined two 2 2 triangular
 
 -- (1, 1) is a null column of the repeated equation
 abbrev pub RepeatedHasNullColumn : Type 0
@@ -36,7 +36,7 @@ RepeatedIsNotDetermined = ¬ IsDetermined two 2 2 repeated
 
 -- rows that stand one below the other, and one row for each id
 abbrev pub RowsStack : Type 0
-RowsStack = (stacked 1 triangle (rows_of triangle (0 ∷ 1 ∷ [])) 0 1 ≡ 1) × (stacked 1 triangle (rows_of triangle (0 ∷ 1 ∷ [])) 2 0 ≡ 0)
+RowsStack = (stacked 1 triangular (rows_of triangular (0 ∷ 1 ∷ [])) 0 1 ≡ 1) × (stacked 1 triangular (rows_of triangular (0 ∷ 1 ∷ [])) 2 0 ≡ 0)
 
 -- places 0 and 2 exchanged
 abbrev pub PlacesAreExchanged : Type 0
@@ -99,7 +99,7 @@ ScalingNeedsNonzero = ScalesRow two 1 1 0 0 single empty × ScalesValue two 1 0 
 
 -- as many equations as unknowns may determine, so only fewer never do: one equation of the two leaves a null column
 abbrev pub OneEquationIsTooFew : Type 0
-OneEquationIsTooFew = HasNullColumn two 1 2 triangle
+OneEquationIsTooFew = HasNullColumn two 1 2 triangular
 
 -- the operations find the column of a system with more equations than unknowns, and of values that contradict they make no solution
 abbrev pub FoundNeedsAsManyEquations : Type 0

@@ -24,7 +24,7 @@ use Rattle.rq_standard.proofs.Columns.{sum_at, sum_same, source_sum, solves_held
 use Rattle.rq_standard.proofs.Interleaved.{same_symbols}
 use Rattle.rq_standard.proofs.Known.{known_source, known_padding, known_repair, none_determined, block_same}
 use Rattle.rq_standard.proofs.PlainCut.{length-block_bytes}
-use Rattle.rq_standard.proofs.Standing.{held_at, held_symbol, length-block_source, source_at, source_sized}
+use Rattle.rq_standard.proofs.Standing.{held_with, held_symbol, length-block_source, source_at, source_sized}
 
 -- ---- columns that solve what is held
 
@@ -104,7 +104,7 @@ module _ (table : List Row) (c : Configuration) (one other : List ℕ) (b : ℕ)
 
     -- what came of the block
     abbrev came : Held
-    came = held_at table c b (first_payload b packets)
+    came = held_with table c b (first_payload b packets)
 
     column_of : (object : List ℕ) (p : Packet) → p.id.block ≡ b → IsPacketOf table c object p → IsEncodingSymbol row c.symbol_size (block_source c object b) p.id.esi p.payload
     column_of object p here is = subst (λ n. IsEncodingSymbol (block_row table c n) c.symbol_size (block_source c object n) p.id.esi p.payload) here is.symbol

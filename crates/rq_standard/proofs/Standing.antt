@@ -53,10 +53,10 @@ by_option (Some x) P h = h x refl
 
 -- ---- what is held of it
 
-abbrev pub held_at : List Row → Configuration → ℕ → (ℕ → Option (List ℕ)) → Held
-held_at table c b received = record { configuration = c; number = b; row = block_row table c b; symbols = block_symbols c b; received = received }
+abbrev pub held_with : List Row → Configuration → ℕ → (ℕ → Option (List ℕ)) → Held
+held_with table c b received = record { configuration = c; number = b; row = block_row table c b; symbols = block_symbols c b; received = received }
 
-held_is : (table : List Row) (c : Configuration) (b : ℕ) (h : Held) → IsHeldOf table c b h → held_at table c b h.received ≡ h
+held_is : (table : List Row) (c : Configuration) (b : ℕ) (h : Held) → IsHeldOf table c b h → held_with table c b h.received ≡ h
 held_is table c b h shape = λ i. record { configuration = sym shape.configuration i; number = sym shape.number i; row = sym shape.row i; symbols = sym shape.symbols i; received = h.received }
 
 module _ (table : List Row) (c : Configuration) (object : List ℕ) (packets : List Packet) (b : ℕ) (received : ℕ → Option (List ℕ)) where
@@ -69,7 +69,7 @@ module _ (table : List Row) (c : Configuration) (object : List ℕ) (packets : L
       (subst (λ n. IsEncodingSymbol (block_row table c n) c.symbol_size (block_source c object n) q.0.id.esi q.0.payload) q.2 q.1.symbol)))
 
   module _ (aligned : IsAligned c) (nonsingular : IsNonsingular (block_row table c b)) (honest : AllByRecursion (IsPacketOf table c object) packets) (reads : (e : ℕ) → received e ≡ first_payload b packets e) (checked : IsChecked (block_row table c b)) (fits : block_symbols c b ≤ (block_row table c b).source_symbols) where
-    can_answer : CanAnswer (held_at table c b received) → DetermineBlock (block_row table c b) (block_symbols c b) (has_id b packets)
+    can_answer : CanAnswer (held_with table c b received) → DetermineBlock (block_row table c b) (block_symbols c b) (has_id b packets)
     can_answer can = block_same (block_row table c b) (block_symbols c b) (λ e. is_some (received e)) (has_id b packets) (λ e. ap is_some (reads e)) (elim can [
       | inl all ↦ block_of_source (block_row table c b) (block_symbols c b) (λ e. is_some (received e)) nonsingular all
       | inr d ↦ d
@@ -79,12 +79,12 @@ module _ (table : List Row) (c : Configuration) (object : List ℕ) (packets : L
     held_back = block_same (block_row table c b) (block_symbols c b) (has_id b packets) (λ e. is_some (received e)) (λ e. sym (ap is_some (reads e)))
 
     -- once it is answered
-    answered_at : (late : Bool) (column : ℕ → List ℕ) (answer : Option (List ℕ)) → IsIntermediateColumn (block_row table c b) c.symbol_size (block_source c object b) column → IsBlockAnswer (held_at table c b received) answer
-        → BlockStands late (block_bytes c object b) b packets (held_at table c b received) answer
+    answered_at : (late : Bool) (column : ℕ → List ℕ) (answer : Option (List ℕ)) → IsIntermediateColumn (block_row table c b) c.symbol_size (block_source c object b) column → IsBlockAnswer (held_with table c b received) answer
+        → BlockStands late (block_bytes c object b) b packets (held_with table c b received) answer
     answered_at late column None is ans = (reads, λ now d. absurd (cc (ans.none (inr (held_back d)))))
     answered_at late column (Some bytes) is ans =
         let d = can_answer (ans.some refl) in
-        let solves = solves_held (held_at table c b received) (block_source c object b) column checked (length-block_source c object b) (source_sized c object b) is (held_symbol honest reads) in (
+        let solves = solves_held (held_with table c b received) (block_source c object b) column checked (length-block_source c object b) (source_sized c object b) is (held_symbol honest reads) in (
           same_symbols c (block_symbols c b) bytes (block_bytes c object b) aligned.alignment_positive aligned.aligned ans.block.long (length-block_bytes c object b)
               (λ e below. ans.block.solved (held_back d) column solves e below ∙ source_sum (block_row table c b) c.symbol_size e (block_source c object b) column checked is (source_sized c object b) (omega (arith, fits)) ∙ source_at c object b e below),
           d,

@@ -3,17 +3,17 @@ use Rattle.std.proofs.Common.{◌≡◌, refl, arith}
 use Rattle.rq_algebra.specs.Field.{Field}
 use Rattle.rq_algebra.specs.Systems.{sum_below, dot, IsDetermined}
 use Rattle.rq_algebra.specs.Two.{two}
-use Rattle.rq_algebra.specs.Examples.{triangle, repeated, RepeatedHasNullColumn}
+use Rattle.rq_algebra.specs.Examples.{triangular, repeated, RepeatedHasNullColumn}
 use Rattle.rq_algebra.proofs.Sums.{add_zero, zero_mul}
 use Rattle.rq_algebra.proofs.Solutions.{null_not_determined}
 use Rattle.rq_algebra.proofs.SmallCases.{below_two, dot-two}
 use Rattle.rq_algebra.proofs.examples.equations.Goals as goal
 
 -- over any field
-triangle_determined : (F : Field) → IsDetermined F 2 2 triangle
+triangle_determined : (F : Field) → IsDetermined F 2 2 triangular
 triangle_determined F x elements s =
-    let last : x 1 ≡ 0 = cc (s.at 1 (omega arith), dot-two F (triangle 1) x, zero_mul F (x 0), F.one_mul (x 1) (elements 1 (omega arith)), F.zero_add (x 1)) in
-    let first : x 0 ≡ 0 = cc (s.at 0 (omega arith), dot-two F (triangle 0) x, F.one_mul (x 0) (elements 0 (omega arith)), F.one_mul (x 1) (elements 1 (omega arith)), last, add_zero F (x 0)) in
+    let last : x 1 ≡ 0 = cc (s.at 1 (omega arith), dot-two F (triangular 1) x, zero_mul F (x 0), F.one_mul (x 1) (elements 1 (omega arith)), F.zero_add (x 1)) in
+    let first : x 0 ≡ 0 = cc (s.at 0 (omega arith), dot-two F (triangular 0) x, F.one_mul (x 0) (elements 0 (omega arith)), F.one_mul (x 1) (elements 1 (omega arith)), last, add_zero F (x 0)) in
     below_two (λ k. x k ≡ 0) first last
 
 null_column : RepeatedHasNullColumn

@@ -5,7 +5,7 @@ use Rattle.rq_algebra.specs.Steps.{SameSolutions}
 use Rattle.rq_algebra.specs.Operations.{run, step}
 use Rattle.rq_algebra.specs.Parities.{sum_listed, parity}
 use Rattle.rq_algebra.specs.Two.{two}
-use Rattle.rq_algebra.specs.Examples.{triangle, single, empty, tall}
+use Rattle.rq_algebra.specs.Examples.{triangular, single, empty, tall}
 use Rattle.rq_algebra.proofs.FewEquations.{few_rows}
 use Rattle.rq_algebra.proofs.Runs.{follows_none}
 use Rattle.rq_algebra.proofs.Pivots.{finds_by_pivots}
@@ -25,7 +25,7 @@ unfolding dot sum_below run step sum_listed parity
 returns c = record {
   two_rows = (record { at_dest = below_one _ refl; elsewhere = λ i k l m d. absurd (omega arith) }, record { at_dest = refl; elsewhere = λ i l d. absurd (omega arith) }, lost);
   nonzero = (record { at_dest = below_one _ refl; elsewhere = λ i k l m d. absurd (omega arith) }, record { at_dest = refl; elsewhere = λ i l d. absurd (omega arith) }, lost);
-  few = few_rows two 2 1 triangle (omega arith) (λ i k l m. below_one (λ j. triangle j k < 2) (below_two (λ j. triangle 0 j < 2) (omega arith) (omega arith) k m) i l);
+  few = few_rows two 2 1 triangular (omega arith) (λ i k l m. below_one (λ j. triangular j k < 2) (below_two (λ j. triangular 0 j < 2) (omega arith) (omega arith) k m) i l);
   square = (
     finds_by_pivots two 2 1 tall tall [] (follows_none two 2 1 tall) (λ _. 0) (λ _. 0) record {
       in_rows = record { below = λ i l. omega arith; apart = λ i j l m e. omega arith };
