@@ -2,7 +2,7 @@
 use Rattle.std.proofs.Common.{◌≡◌, ℕ, ◌*◌, ◌<◌, true, List, length, Option, Some, None, refl, sym, ap, ◌∙◌, subst, arith, inl, inr}
 use Rattle.std.specs.Prelude.{is_some, IsSome, IfSome, unwrap_or}
 use Rattle.std.specs.Option.{ForSome}
-use Rattle.rq_bytes.specs.Slab.{Slab, symbol_in}
+use Rattle.rq_bytes.specs.SymbolSlab.{Slab, symbol_in}
 use Rattle.rq_standard.specs.Cutting.{symbol_of_block, plain_symbol}
 use Rattle.rq_standard.specs.TableRows.{IsChecked}
 use Rattle.rq_standard.specs.Equations.{tuple_sum, internal_id}

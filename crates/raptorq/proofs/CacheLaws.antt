@@ -7,7 +7,7 @@ use Rattle.std.proofs.lemmas.List.{length-append, length-map, get_or-append_righ
 use Rattle.std.proofs.lemmas.List.Quantifiers.{position-Some}
 use Rattle.std.proofs.lemmas.Option.{slice_get_read, slice_get_within, get_or_from_slice_get}
 use Rattle.std.proofs.Math.ListN.{get_or-map}
-use Rattle.rq_standard.specs.declared.row.Row.{Row}
+use Rattle.rq_standard.specs.declared.row.TableRow.{TableRow}
 use Rattle.rq_standard.specs.TableRows.{row_of}
 use Rattle.raptorq.specs.declared.encoder.plan.SourceBlockEncodingPlan.{SourceBlockEncodingPlan}
 use Rattle.raptorq.specs.SourceBlockEncodingPlanCache.{holds_count, cached, IsPlanOver}
@@ -55,7 +55,7 @@ count_at plans i p below is =
     ∙ get_or-map (λ (q : SourceBlockEncodingPlan). q.source_symbol_count) plans i p ∙ ap (λ (q : SourceBlockEncodingPlan). q.source_symbol_count) (sym is)
 
 -- the plan at a place where a count was found
-pub plan_found : (table : List Row) (plans : List SourceBlockEncodingPlan) (counts : List ℕ) (count place : ℕ) (p : SourceBlockEncodingPlan) → counts_in plans ≡ counts → All (IsPlanOver table) plans → position (λ n. n == count) counts ≡ Some place
+pub plan_found : (table : List TableRow) (plans : List SourceBlockEncodingPlan) (counts : List ℕ) (count place : ℕ) (p : SourceBlockEncodingPlan) → counts_in plans ≡ counts → All (IsPlanOver table) plans → position (λ n. n == count) counts ≡ Some place
     → p ≡ get_or plans place p → (p.source_symbol_count ≡ count) × (p.row ≡ row_of table count)
 plan_found table plans counts count place p shown over found is =
     let at : slice_get (counts_in plans) place ≡ Some count = ap (λ xs. slice_get xs place) shown ∙ place_found counts count place found in

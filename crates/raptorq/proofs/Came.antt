@@ -10,8 +10,8 @@ use Rattle.std.proofs.lemmas.List.{get_or-map, length-append, length-map}
 use Rattle.std.proofs.lemmas.List.Elements.{All-map}
 use Rattle.std.proofs.lemmas.Simd.{map-map}
 use Rattle.rq_bytes.specs.Ranges.{with_range, cut}
-use Rattle.rq_bytes.specs.Slab.{Slab, slab_of}
-use Rattle.rq_standard.specs.declared.row.Row.{Row}
+use Rattle.rq_bytes.specs.SymbolSlab.{Slab, slab_of}
+use Rattle.rq_standard.specs.declared.row.TableRow.{TableRow}
 use Rattle.rq_standard.specs.Equations.{internal_id, zero_symbol}
 use Rattle.raptorq.specs.Known.{known_list, known_values}
 use Rattle.raptorq.specs.Missing.{has_payload, payload_of}
@@ -34,8 +34,8 @@ next_came m done rest e found whole =
     has_value _ (rw (get_or-append_seam done e rest 0) at (all (length done) 0 (omega (arith, length-append done (e ∷ rest)))))
 
 -- the keys are those of what came
-pub known_by_keys : (row : Row) (k : ℕ) (m : Payloads) (done : List ℕ) → done ≡ keys m → range_with_len k (row.source_symbols - k) ++ map (internal_id row k) done ≡ known_list row k m.entries
-known_by_keys row k m done all = ap (λ xs. range_with_len k (row.source_symbols - k) ++ xs) (ap (map (internal_id row k)) all ∙ map-map (internal_id row k) (λ e. e.0) m.entries)
+pub known_by_keys : (row : TableRow) (k : ℕ) (m : Payloads) (done : List ℕ) → done ≡ keys m → range_with_len k (row.extended_symbols - k) ++ map (internal_id row k) done ≡ known_list row k m.entries
+known_by_keys row k m done all = ap (λ xs. range_with_len k (row.extended_symbols - k) ++ xs) (ap (map (internal_id row k)) all ∙ map-map (internal_id row k) (λ e. e.0) m.entries)
 
 -- ---- payloads
 
@@ -91,9 +91,9 @@ module _ (m : Payloads) (zeros size : ℕ) (ordered : IsOrdered nat_cmp m) (posi
       }
 
 -- all of them
-pub fills_all : (row : Row) (k size : ℕ) (m : Payloads) (done rest : List (Vec ℕ Global)) (place : ℕ) (slab : Slab) → FillsSoFar (row.ldpc_symbols + row.hdpc_symbols + (row.source_symbols - k)) size (values m) done rest place slab → rest ≡ [] → slab ≡ slab_of size (known_values row k size m.entries)
+pub fills_all : (row : TableRow) (k size : ℕ) (m : Payloads) (done rest : List (Vec ℕ Global)) (place : ℕ) (slab : Slab) → FillsSoFar (row.ldpc_symbols + row.hdpc_symbols + (row.extended_symbols - k)) size (values m) done rest place slab → rest ≡ [] → slab ≡ slab_of size (known_values row k size m.entries)
 fills_all row k size m done rest place slab so none =
-    let zeros : ℕ = row.ldpc_symbols + row.hdpc_symbols + (row.source_symbols - k) in
+    let zeros : ℕ = row.ldpc_symbols + row.hdpc_symbols + (row.extended_symbols - k) in
     let source = map vec_items (values m) in
     let all : done ≡ values m = sym (append-nil done) ∙ ap (λ r. done ++ r) (sym none) ∙ so.whole in
     let left : length (values m) - length source ≡ 0 = omega (arith, length-map (values m) vec_items) in

@@ -10,7 +10,7 @@ use Rattle.rq_bytes.specs.Refusals.{IsRefusal}
 use Rattle.rq_standard.specs.Packet.{SymbolId, Packet}
 use Rattle.rq_standard.specs.Configuration.{Configuration, IsAccepted}
 use Rattle.rq_standard.specs.Cutting.{block_symbols, symbols_before, place_in_block, block_bytes, symbol_of_block}
-use Rattle.rq_standard.specs.declared.row.Row.{Row}
+use Rattle.rq_standard.specs.declared.row.TableRow.{TableRow}
 use Rattle.rq_standard.specs.TableRows.{greatest_size, row_of}
 use Rattle.rq_standard.specs.Headline.{IsEncodingSymbol, IsSingular, block_row, block_source, IsPacketOf, HasNonsingularRows}
 use Rattle.rq_standard.specs.ObjectPackets.{first_ids, AreEncoded}
@@ -78,7 +78,7 @@ source_is c object bytes b k source count is so =
 -- ---- packets
 
 -- a packet of a block is one of the object's
-module _ (table : List Row) (c : Configuration) (object : List ℕ) (b : ℕ) (below : b < c.source_blocks) where
+module _ (table : List TableRow) (c : Configuration) (object : List ℕ) (b : ℕ) (below : b < c.source_blocks) where
   packet_of_block : (p : Packet) → IsBlockPacket (new_block_encoded table c object b) p → IsPacketOf table c object p
   packet_of_block p is = record {
     block = subst (λ n. n < c.source_blocks) (sym is.number) below;
@@ -104,7 +104,7 @@ ids_next c repair n = flat_map-push (λ b. first_ids (block_symbols c b + repair
 -- the packets of the first n blocks
 pub record AreEncodedSoFar (c : Configuration) (repair n : ℕ) (e : Encoded) (packets : List Packet) : Type 0 where
   pub ids : map (λ p. p.id) packets ≡ ids_before c repair n
-  pub each : (table : List Row) (object : List ℕ) → IsEncoderOf table object e → AllByRecursion (IsPacketOf table c object) packets
+  pub each : (table : List TableRow) (object : List ℕ) → IsEncoderOf table object e → AllByRecursion (IsPacketOf table c object) packets
 
 -- those of one block more
 pub encoded_more : (e : Encoded) (repair n end : ℕ) (b : BlockEncoded) (done more new : List Packet) → n < e.configuration.source_blocks → b ≡ e.block n → b.number ≡ n → length b.source ≡ block_symbols e.configuration n → end ≡ length b.source + repair
@@ -119,7 +119,7 @@ encoded_more e repair n end b done more new below is number count so_many so are
     })
 
 -- those of all blocks
-pub encoded_all : (e : Encoded) (repair n : ℕ) (packets : List Packet) → n ≡ e.configuration.source_blocks → AreEncodedSoFar e.configuration repair n e packets → (table : List Row) (object : List ℕ) → IsEncoderOf table object e → AreEncoded table e.configuration object repair packets
+pub encoded_all : (e : Encoded) (repair n : ℕ) (packets : List Packet) → n ≡ e.configuration.source_blocks → AreEncodedSoFar e.configuration repair n e packets → (table : List TableRow) (object : List ℕ) → IsEncoderOf table object e → AreEncoded table e.configuration object repair packets
 encoded_all e repair n packets all so table object made = record {
   ids = so.ids ∙ ap (ids_before e.configuration repair) all;
   each = so.each table object made;
@@ -133,7 +133,7 @@ number_of b = (block_encoded_of b).number
 abbrev pub count_of : SourceBlockEncoder → ℕ
 count_of b = length (block_encoded_of b).source
 
-module _ (table : List Row) (c : Configuration) (object : List ℕ) (items : List SourceBlockEncoder) (encoded : map block_encoded_of items ≡ map (new_block_encoded table c object) (range_with_len 0 c.source_blocks)) where
+module _ (table : List TableRow) (c : Configuration) (object : List ℕ) (items : List SourceBlockEncoder) (encoded : map block_encoded_of items ≡ map (new_block_encoded table c object) (range_with_len 0 c.source_blocks)) where
   pub new_counts : map count_of items ≡ map (block_symbols c) (range_with_len 0 c.source_blocks)
   new_counts = mapped_through block_encoded_of (new_block_encoded table c object) c.source_blocks items encoded (λ b. length b.source) ∙ (λ i. map (λ b. length-block_source c object b i) (range_with_len 0 c.source_blocks))
 
@@ -141,7 +141,7 @@ module _ (table : List Row) (c : Configuration) (object : List ℕ) (items : Lis
   new_block b below d = ap (λ l. get_or l b d) encoded ∙ get_or-map-range_with_len (new_block_encoded table c object) 0 c.source_blocks b b d below (omega arith)
 
 -- what the encoder of a block shows
-pub encoded_is : (table : List Row) (c : Configuration) (object bytes : List ℕ) (b k : ℕ) (e : BlockEncoded) (row : Row) → e ≡ record { number = b; row = row; size = c.symbol_size; source = map (symbol_of_block c k bytes) (range_with_len 0 k) }
+pub encoded_is : (table : List TableRow) (c : Configuration) (object bytes : List ℕ) (b k : ℕ) (e : BlockEncoded) (row : TableRow) → e ≡ record { number = b; row = row; size = c.symbol_size; source = map (symbol_of_block c k bytes) (range_with_len 0 k) }
     → row ≡ block_row table c b → k ≡ block_symbols c b → bytes ≡ bytes_of_block c object b → e ≡ new_block_encoded table c object b
 encoded_is table c object bytes b k e row is rows count bytes_are = is ∙ (λ i. record { number = b; row = rows i; size = c.symbol_size; source = source_is c object bytes b k _ count bytes_are refl i })
 
@@ -150,20 +150,20 @@ encoded_is table c object bytes b k e row is rows count bytes_are = is ∙ (λ i
 pub new_encoder-taken : (greatest : ℕ) (c : Configuration) (n : ℕ) → checked_configuration greatest c ≡ Ok tt → n ≡ c.transfer_length → new_encoder greatest c n ≡ Ok tt
 new_encoder-taken greatest c n checked long = rw (checked, eq-eqb n c.transfer_length long) refl
 
-pub block_singular : (table : List Row) (c : Configuration) (b : ℕ) → b < c.source_blocks → IsSingular (block_row table c b) → ¬ (HasNonsingularRows table c)
+pub block_singular : (table : List TableRow) (c : Configuration) (b : ℕ) → b < c.source_blocks → IsSingular (block_row table c b) → ¬ (HasNonsingularRows table c)
 block_singular table c b below singular all = singular (all b below)
 
 -- what a plan for so many is refused for
-pub refuses_block : (table : List Row) (c : Configuration) (b count : ℕ) (e : Error) → b < c.source_blocks → count ≡ block_symbols c b → (e ≡ OutOfMemory) ⊎ ((e ≡ Singular) × IsSingular (row_of table count)) → (e ≡ OutOfMemory) ⊎ ((e ≡ Singular) × ¬ (HasNonsingularRows table c))
+pub refuses_block : (table : List TableRow) (c : Configuration) (b count : ℕ) (e : Error) → b < c.source_blocks → count ≡ block_symbols c b → (e ≡ OutOfMemory) ⊎ ((e ≡ Singular) × IsSingular (row_of table count)) → (e ≡ OutOfMemory) ⊎ ((e ≡ Singular) × ¬ (HasNonsingularRows table c))
 refuses_block table c b count e below is (inl memory) = inl memory
 refuses_block table c b count e below is (inr singular) = inr (singular.0, block_singular table c b below (subst (λ k. IsSingular (row_of table k)) is singular.1))
 
 -- what a plan of a block's size is refused for
-pub refuses_plan : (table : List Row) (c : Configuration) (b count : ℕ) (e : Error) → IsAccepted (greatest_size table) c → b < c.source_blocks → count ≡ block_symbols c b → RefusesPlan table count e → (e ≡ OutOfMemory) ⊎ ((e ≡ Singular) × ¬ (HasNonsingularRows table c))
+pub refuses_plan : (table : List TableRow) (c : Configuration) (b count : ℕ) (e : Error) → IsAccepted (greatest_size table) c → b < c.source_blocks → count ≡ block_symbols c b → RefusesPlan table count e → (e ≡ OutOfMemory) ⊎ ((e ≡ Singular) × ¬ (HasNonsingularRows table c))
 refuses_plan table c b count e accepted below is refused = refuses_block table c b count e below is (plan_refused table count e (omega (arith, is, block_symbols_few c b below, accepted.in_table)) refused)
 
 -- what it is refused for
-pub refuses_singular : (table : List Row) (c : Configuration) (n : ℕ) (e : Error) → new_encoder (greatest_size table) c n ≡ Ok tt → (e ≡ OutOfMemory) ⊎ ((e ≡ Singular) × ¬ (HasNonsingularRows table c)) → RefusesEncoder table c n e
+pub refuses_singular : (table : List TableRow) (c : Configuration) (n : ℕ) (e : Error) → new_encoder (greatest_size table) c n ≡ Ok tt → (e ≡ OutOfMemory) ⊎ ((e ≡ Singular) × ¬ (HasNonsingularRows table c)) → RefusesEncoder table c n e
 refuses_singular table c n e taken (inl memory) = inl (subst (IsRefusal e) (sym taken) memory)
 refuses_singular table c n e taken (inr singular) = inr (taken, singular.0, singular.1)
 

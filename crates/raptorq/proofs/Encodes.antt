@@ -8,7 +8,7 @@ use Rattle.std.proofs.lemmas.List.FromFn.{map-range_with_len_more}
 use Rattle.rq_bytes.specs.declared.error.Error.{Error}
 use Rattle.rq_standard.specs.Packet.{SymbolId, Packet}
 use Rattle.rq_base.specs.RefusedInput.{new_id}
-use Rattle.rq_standard.specs.declared.row.Row.{Row}
+use Rattle.rq_standard.specs.declared.row.TableRow.{TableRow}
 use Rattle.rq_standard.specs.TableRows.{IsChecked}
 use Rattle.rq_standard.specs.Equations.{zero_symbol, tuple_sum}
 use Rattle.rq_standard.proofs.Columns.{source_sum}
@@ -42,7 +42,7 @@ all_sized size source sized e = elim (cases_lt e (length source)) [
 ]
 
 -- a source symbol is an encoding symbol
-pub source_encodes : (row : Row) (size esi : ℕ) (source : List (List ℕ)) (column : ℕ → List ℕ) (payload : List ℕ) → IsChecked row → IsOnlyIntermediateColumn row size source column → length source ≤ row.source_symbols → All (λ s. length s ≡ size) source → esi < length source
+pub source_encodes : (row : TableRow) (size esi : ℕ) (source : List (List ℕ)) (column : ℕ → List ℕ) (payload : List ℕ) → IsChecked row → IsOnlyIntermediateColumn row size source column → length source ≤ row.extended_symbols → All (λ s. length s ≡ size) source → esi < length source
     → payload ≡ get_or source esi payload → IsEncodingSymbol row size source esi payload
 source_encodes row size esi source column payload checked is few sized below read = record {
   column = column;

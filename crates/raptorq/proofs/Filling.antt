@@ -2,7 +2,7 @@
 use Rattle.std.proofs.Common.{◌≡◌, ℕ, ◌+◌, ◌-◌, ◌/◌, ◌<◌, ◌≤◌, List, [], ◌∷◌, ◌++◌, length, take, get_or, replicate, sym, ap, ◌∙◌, arith, append_assoc, append-nil}
 use Rattle.std.proofs.lemmas.List.{length-append, length-replicate, length-take-le, take_more, take_all, replicate-append-replicate}
 use Rattle.std.proofs.Math.Nat.{div_self}
-use Rattle.rq_bytes.specs.Slab.{Slab, slab_of}
+use Rattle.rq_bytes.specs.SymbolSlab.{Slab, slab_of}
 use Rattle.rq_bytes.specs.Ranges.{with_range, cut}
 use Rattle.rq_standard.specs.Equations.{zero_symbol}
 use Rattle.raptorq.proofs.Listing.{put_symbol}

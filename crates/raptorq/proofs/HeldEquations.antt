@@ -12,7 +12,7 @@ use Rattle.std.proofs.lemmas.Map.Entries.{place_from_lookup}
 use Rattle.rq_algebra.specs.Systems.{dot, at, rows_of}
 use Rattle.rq_algebra.specs.Symbols.{SolvesSymbols, symbol_at, slice_at}
 use Rattle.rq_algebra.proofs.Stacks.{stacked_above, stacked_below}
-use Rattle.rq_standard.specs.declared.row.Row.{Row}
+use Rattle.rq_standard.specs.declared.row.TableRow.{TableRow}
 use Rattle.rq_standard.specs.OctetField.{octets}
 use Rattle.rq_standard.specs.TableRows.{intermediate_symbols, IsChecked}
 use Rattle.rq_standard.specs.Equations.{fixed_equations, symbol_coefficient, equations, equation_count, zero_symbol, internal_id, tuple_sum}
@@ -23,7 +23,7 @@ use Rattle.rq_standard.proofs.Known.{known_source, known_padding, known_repair, 
 use Rattle.rq_standard.proofs.Columns.{sum_at}
 use Rattle.raptorq.specs.Known.{known_list, known_values, IsHeldSolution, SolvesBlock}
 use Rattle.raptorq.specs.BlockSolutions.{IsBlockSolution, SolvesListed}
-use Rattle.rq_bytes.specs.Slab.{Slab, slab_of}
+use Rattle.rq_bytes.specs.SymbolSlab.{Slab, slab_of}
 use Rattle.raptorq.specs.Missing.{payload_of, has_payload}
 use Rattle.raptorq.proofs.Listing.{entry_payload, length-known_list, length-known_values}
 use Rattle.raptorq.proofs.Payloads.{is_eq-nat_cmp}
@@ -33,19 +33,19 @@ Payloads = BTreeMap ℕ (Vec ℕ Global)
 
 -- ---- internal ids
 
-pub internal_below : (row : Row) (k e : ℕ) → e < k → internal_id row k e ≡ e
-internal_below row k e below = ap (λ b. cond b e (e + row.source_symbols - k)) (lt-ltb e k below)
+pub internal_below : (row : TableRow) (k e : ℕ) → e < k → internal_id row k e ≡ e
+internal_below row k e below = ap (λ b. cond b e (e + row.extended_symbols - k)) (lt-ltb e k below)
 
-internal_above : (row : Row) (k e : ℕ) → k ≤ e → internal_id row k e ≡ e + row.source_symbols - k
-internal_above row k e above = ap (λ b. cond b e (e + row.source_symbols - k)) (le-ltb e k above)
+internal_above : (row : TableRow) (k e : ℕ) → k ≤ e → internal_id row k e ≡ e + row.extended_symbols - k
+internal_above row k e above = ap (λ b. cond b e (e + row.extended_symbols - k)) (le-ltb e k above)
 
 -- the internal id of an encoding symbol id is known where that came
-known_internal : (row : Row) (k e : ℕ) (has : ℕ → Bool) → k ≤ row.source_symbols → known_ids row k has (internal_id row k e) ≡ has e
+known_internal : (row : TableRow) (k e : ℕ) (has : ℕ → Bool) → k ≤ row.extended_symbols → known_ids row k has (internal_id row k e) ≡ has e
 known_internal row k e has fits = elim (cases_lt e k) [
   | inl below ↦ ap (known_ids row k has) (internal_below row k e below) ∙ known_source row k e has below
   | inr above ↦
-      let back : e + row.source_symbols - k + k - row.source_symbols ≡ e = omega arith in
-      ap (known_ids row k has) (internal_above row k e above) ∙ known_repair row k (e + row.source_symbols - k) has (omega arith) (omega arith) ∙ ap has back
+      let back : e + row.extended_symbols - k + k - row.extended_symbols ≡ e = omega arith in
+      ap (known_ids row k has) (internal_above row k e above) ∙ known_repair row k (e + row.extended_symbols - k) has (omega arith) (omega arith) ∙ ap has back
 ]
 
 some_value : (o : Option (Vec ℕ Global)) → is_some (option_map vec_items o) ≡ true → (v : Vec ℕ Global) × (o ≡ Some v)
@@ -65,23 +65,23 @@ came_sum o x y is h = subst (λ r. IfSome r (λ payload. payload ≡ y)) is h
 -- ---- what stands at a place
 
 -- padding, or a payload that came
-pub record IsPadding (row : Row) (k size j : ℕ) (x : ℕ) (value : List ℕ) : Type 0 where
+pub record IsPadding (row : TableRow) (k size j : ℕ) (x : ℕ) (value : List ℕ) : Type 0 where
   pub from : k ≤ x
-  pub below : x < row.source_symbols
+  pub below : x < row.extended_symbols
   pub is_zero : value ≡ zero_symbol size
 
-pub record IsPayload (row : Row) (k : ℕ) (m : Payloads) (x : ℕ) (value : List ℕ) : Type 0 where
+pub record IsPayload (row : TableRow) (k : ℕ) (m : Payloads) (x : ℕ) (value : List ℕ) : Type 0 where
   pub esi : ℕ
   pub came : payload_of m esi ≡ Some value
   pub id : x ≡ internal_id row k esi
 
-module _ (row : Row) (k size : ℕ) (m : Payloads) (fits : k ≤ row.source_symbols) (ordered : IsOrdered nat_cmp m) where
+module _ (row : TableRow) (k size : ℕ) (m : Payloads) (fits : k ≤ row.extended_symbols) (ordered : IsOrdered nat_cmp m) where
   -- the ids and the values of the symbol equations, one by one
   known_at : (j : ℕ) → j < length (known_list row k m.entries)
       → IsPadding row k size j (at (known_list row k m.entries) j) (symbol_at (known_values row k size m.entries) (row.ldpc_symbols + row.hdpc_symbols + j)) ⊎ IsPayload row k m (at (known_list row k m.entries) j) (symbol_at (known_values row k size m.entries) (row.ldpc_symbols + row.hdpc_symbols + j))
   known_at j below =
       let f : ℕ = row.ldpc_symbols + row.hdpc_symbols in
-      let pad : ℕ = row.source_symbols - k in
+      let pad : ℕ = row.extended_symbols - k in
       let ids : List ℕ = range_with_len k pad in
       let zeros : List (List ℕ) = replicate (f + pad) (zero_symbol size) in
       let named : List ℕ = map (λ e. internal_id row k e.0) m.entries in
@@ -110,7 +110,7 @@ module _ (row : Row) (k size : ℕ) (m : Payloads) (fits : k ≤ row.source_symb
   -- an id that came has a place
   place_came : (e : ℕ) → has_payload m e ≡ true → (j : ℕ) × (j < length (known_list row k m.entries)) × (at (known_list row k m.entries) j ≡ internal_id row k e)
   place_came e came =
-      let pad : ℕ = row.source_symbols - k in
+      let pad : ℕ = row.extended_symbols - k in
       let some = some_value (get nat_cmp m e) came in
       let q = place_from_lookup (is_at (nat_cmp e)) m.entries some.0 some.1 in
       let key : e ≡ q.1 = eqb-true e q.1 (sym (is_eq-nat_cmp e q.1) ∙ q.3) in
@@ -134,22 +134,22 @@ module _ (row : Row) (k size : ℕ) (m : Payloads) (fits : k ≤ row.source_symb
       | inl below ↦
           let q = place_came x (sym (known_source row k x (has_payload m) below) ∙ known) in
           (q.0, q.1, q.2 ∙ internal_below row k x below)
-      | inr above ↦ elim (cases_lt x row.source_symbols) [
+      | inr above ↦ elim (cases_lt x row.extended_symbols) [
         | inl below ↦ (
           x - k,
           (omega (arith, length-known_list row k m.entries)),
-          get_or_append_left (range_with_len k (row.source_symbols - k)) (map (λ e. internal_id row k e.0) m.entries) 0 (x - k) (omega (arith, length-range_with_len k (row.source_symbols - k)))
-              ∙ range_at k (row.source_symbols - k) (x - k) (omega arith) ∙ omega arith,
+          get_or_append_left (range_with_len k (row.extended_symbols - k)) (map (λ e. internal_id row k e.0) m.entries) 0 (x - k) (omega (arith, length-range_with_len k (row.extended_symbols - k)))
+              ∙ range_at k (row.extended_symbols - k) (x - k) (omega arith) ∙ omega arith,
         )
         | inr past ↦
-            let q = place_came (x + k - row.source_symbols) (sym (known_repair row k x (has_payload m) above past) ∙ known) in
-            (q.0, q.1, q.2 ∙ internal_above row k (x + k - row.source_symbols) (omega arith) ∙ omega arith)
+            let q = place_came (x + k - row.extended_symbols) (sym (known_repair row k x (has_payload m) above past) ∙ known) in
+            (q.0, q.1, q.2 ∙ internal_above row k (x + k - row.extended_symbols) (omega arith) ∙ omega arith)
       ]
     ];
   }
 
   -- fewer ids than K' determine nothing
-  pub few_held : (row.source_symbols - k) + length m.entries < row.source_symbols → DetermineBlock row k (has_payload m) → ⊥
+  pub few_held : (row.extended_symbols - k) + length m.entries < row.extended_symbols → DetermineBlock row k (has_payload m) → ⊥
   few_held few d =
       let ids = known_list row k m.entries in
       few_not_determining row ids (omega (arith, length-known_list row k m.entries)) (determined_list row (known_ids row k (has_payload m)) ids known_listed d)
@@ -159,7 +159,7 @@ module _ (row : Row) (k size : ℕ) (m : Payloads) (fits : k ≤ row.source_symb
 
 -- ---- of a block
 
-module _ (h : Held) (m : Payloads) (fits : h.symbols ≤ h.row.source_symbols) (ordered : IsOrdered nat_cmp m) (checked : IsChecked h.row) (same : (e : ℕ) → h.received e ≡ payload_of m e) where
+module _ (h : Held) (m : Payloads) (fits : h.symbols ≤ h.row.extended_symbols) (ordered : IsOrdered nat_cmp m) (checked : IsChecked h.row) (same : (e : ℕ) → h.received e ≡ payload_of m e) where
   -- a column that solves what is held solves the equations with their values
   values_solved : (column : ℕ → List ℕ) → SolvesHeld h column
       → SolvesSymbols octets (equation_count h.row (known_list h.row h.symbols m.entries)) (intermediate_symbols h.row) (equations h.row (known_list h.row h.symbols m.entries)) column (symbol_at (known_values h.row h.symbols h.configuration.symbol_size m.entries))
@@ -177,8 +177,8 @@ module _ (h : Held) (m : Payloads) (fits : h.symbols ≤ h.row.source_symbols) (
                 ap (λ (r : ℕ → ℕ). dot octets (intermediate_symbols row) r (slice_at p column)) (stacked_above f (fixed_equations row) (rows_of (symbol_coefficient row) ids) i lt)
                 ∙ (z.fixed.at_place p).at i lt
                 ∙ ap (λ xs. at xs p) (sym (
-                get_or_append_left (replicate (f + (row.source_symbols - k)) (zero_symbol size)) (map (λ e. e.1.items) m.entries) [] i (omega (arith, length-replicate (f + (row.source_symbols - k)) (zero_symbol size)))
-                ∙ get_or-replicate (f + (row.source_symbols - k)) i (zero_symbol size) [] (omega arith)))
+                get_or_append_left (replicate (f + (row.extended_symbols - k)) (zero_symbol size)) (map (λ e. e.1.items) m.entries) [] i (omega (arith, length-replicate (f + (row.extended_symbols - k)) (zero_symbol size)))
+                ∙ get_or-replicate (f + (row.extended_symbols - k)) i (zero_symbol size) [] (omega arith)))
             | inr past ↦
                 let j : ℕ = i - f in
                 let e : f + j ≡ i = omega arith in
@@ -209,7 +209,7 @@ module _ (h : Held) (m : Payloads) (fits : h.symbols ≤ h.row.source_symbols) (
   pub not_held : (HasDeterminedRows h.row (known_list h.row h.symbols m.entries) → ⊥) → AreHeldDetermining h → ⊥
   not_held none d = none (determined_list h.row (known_ids h.row h.symbols (has_payload m)) (known_list h.row h.symbols m.entries) (known_listed h.row h.symbols h.configuration.symbol_size m fits ordered) (block_same h.row h.symbols (holds h) (has_payload m) (λ e. ap is_some (same e)) d))
 
-  pub too_few : (h.row.source_symbols - h.symbols) + length m.entries < h.row.source_symbols → AreHeldDetermining h → ⊥
+  pub too_few : (h.row.extended_symbols - h.symbols) + length m.entries < h.row.extended_symbols → AreHeldDetermining h → ⊥
   too_few few d = few_held h.row h.symbols h.configuration.symbol_size m fits ordered few (block_same h.row h.symbols (holds h) (has_payload m) (λ e. ap is_some (same e)) d)
 
   -- an answer of a solver over them

@@ -11,29 +11,29 @@ use Rattle.rq_algebra.specs.Symbols.{IsSymbol, AreSymbols, SolvesSymbols, symbol
 use Rattle.rq_algebra.proofs.Stacks.{stacked_above, stacked_below}
 use Rattle.rq_algebra.proofs.Solutions.{solves_same}
 use Rattle.rq_algebra.proofs.Found.{finds_determined, found_are_symbols, found_only, found_solves}
-use Rattle.rq_bytes.specs.Slab.{slab_of, symbol_in}
+use Rattle.rq_bytes.specs.SymbolSlab.{slab_of, symbol_in}
 use Rattle.rq_solver.proofs.SolutionLaws.{found_places}
-use Rattle.rq_standard.specs.declared.row.Row.{Row}
+use Rattle.rq_standard.specs.declared.row.TableRow.{TableRow}
 use Rattle.rq_standard.specs.OctetField.{octets}
 use Rattle.rq_standard.specs.TableRows.{intermediate_symbols}
-use Rattle.rq_standard.specs.Equations.{equations, equation_count, equation_values, zero_symbol, source_ids}
+use Rattle.rq_standard.specs.Equations.{equations, equation_count, equation_values, zero_symbol, extended_ids}
 use Rattle.rq_standard.proofs.Known.{rows_nonsingular}
 use Rattle.raptorq.specs.Planned.{source_values, planned, IsPlanOf}
 use Rattle.raptorq.proofs.Encodes.{at_any}
 use Rattle.raptorq.proofs.Outcomes.{places_count}
 use Rattle.rq_standard.specs.Headline.{IsIntermediateColumn, IsNonsingular}
 
-pub length-source_values : (row : Row) (size : ℕ) (source : List (List ℕ)) → length source ≤ row.source_symbols → length (source_values row size source) ≡ equation_count row (source_ids row)
+pub length-source_values : (row : TableRow) (size : ℕ) (source : List (List ℕ)) → length source ≤ row.extended_symbols → length (source_values row size source) ≡ equation_count row (extended_ids row)
 length-source_values row size source fits =
-    length-append (replicate (row.ldpc_symbols + row.hdpc_symbols) (zero_symbol size)) (source ++ replicate (row.source_symbols - length source) (zero_symbol size))
-    ∙ omega (arith, length-replicate (row.ldpc_symbols + row.hdpc_symbols) (zero_symbol size), length-append source (replicate (row.source_symbols - length source) (zero_symbol size)), length-replicate (row.source_symbols - length source) (zero_symbol size), length-range_with_len 0 row.source_symbols)
+    length-append (replicate (row.ldpc_symbols + row.hdpc_symbols) (zero_symbol size)) (source ++ replicate (row.extended_symbols - length source) (zero_symbol size))
+    ∙ omega (arith, length-replicate (row.ldpc_symbols + row.hdpc_symbols) (zero_symbol size), length-append source (replicate (row.extended_symbols - length source) (zero_symbol size)), length-replicate (row.extended_symbols - length source) (zero_symbol size), length-range_with_len 0 row.extended_symbols)
 
 -- there are as many equations as intermediate symbols
-pub count_source : (row : Row) → equation_count row (source_ids row) ≡ intermediate_symbols row
-count_source row = omega (arith, length-range_with_len 0 row.source_symbols)
+pub count_source : (row : TableRow) → equation_count row (extended_ids row) ≡ intermediate_symbols row
+count_source row = omega (arith, length-range_with_len 0 row.extended_symbols)
 
-pub source_ids_are : (row : Row) (ids : List ℕ) → ids ≡ range_with_len 0 (row.source_symbols - 0) → ids ≡ source_ids row
-source_ids_are row ids is = is ∙ ap (range_with_len 0) (let e : row.source_symbols - 0 ≡ row.source_symbols = omega arith in e)
+pub extended_ids_are : (row : TableRow) (ids : List ℕ) → ids ≡ range_with_len 0 (row.extended_symbols - 0) → ids ≡ extended_ids row
+extended_ids_are row ids is = is ∙ ap (range_with_len 0) (let e : row.extended_symbols - 0 ≡ row.extended_symbols = omega arith in e)
 
 -- past the source symbols there are zeros
 padded_at : (size n j : ℕ) (source : List (List ℕ)) → j < length source + n → get_or (source ++ replicate n (zero_symbol size)) j [] ≡ get_or source j (zero_symbol size)
@@ -42,10 +42,10 @@ padded_at size n j source below = elim (cases_lt j (length source)) [
   | inr past ↦ get_or-append_right source (replicate n (zero_symbol size)) (length source) j [] refl past ∙ get_or-replicate n (j - length source) (zero_symbol size) [] (omega arith) ∙ sym (get_or_past source j (zero_symbol size) past)
 ]
 
-values_are : (row : Row) (size i : ℕ) (source : List (List ℕ)) → length source ≤ row.source_symbols → i < equation_count row (source_ids row) → symbol_at (source_values row size source) i ≡ equation_values row size source i
+values_are : (row : TableRow) (size i : ℕ) (source : List (List ℕ)) → length source ≤ row.extended_symbols → i < equation_count row (extended_ids row) → symbol_at (source_values row size source) i ≡ equation_values row size source i
 values_are row size i source fits below =
     let f : ℕ = row.ldpc_symbols + row.hdpc_symbols in
-    let n : ℕ = row.source_symbols - length source in
+    let n : ℕ = row.extended_symbols - length source in
     let zeros = replicate f (zero_symbol size) in
     let rest = source ++ replicate n (zero_symbol size) in
     elim (cases_lt i f) [
@@ -55,7 +55,7 @@ values_are row size i source fits below =
           let j : ℕ = i - f in
           let e : f + j ≡ i = omega arith in
           get_or-append_right zeros rest f i [] (length-replicate f (zero_symbol size)) past
-          ∙ padded_at size n j source (omega (arith, length-range_with_len 0 row.source_symbols))
+          ∙ padded_at size n j source (omega (arith, length-range_with_len 0 row.extended_symbols))
           ∙ sym (stacked_below f (λ _. zero_symbol size) (λ k. get_or source k (zero_symbol size)) j) ∙ ap (equation_values row size source) e
     ]
 
@@ -67,7 +67,7 @@ zeros_are size = record {
   elements = All-from_get_or (λ x. x < 256) (zero_symbol size) 0 (λ k l. let e : get_or (zero_symbol size) k 0 ≡ 0 = get_or-replicate size k 0 0 (omega (arith, length-replicate {A = ℕ} size 0)) in omega arith);
 }
 
-module _ (row : Row) (size : ℕ) (source : List (List ℕ)) (fits : length source ≤ row.source_symbols) where
+module _ (row : TableRow) (size : ℕ) (source : List (List ℕ)) (fits : length source ≤ row.extended_symbols) where
   value_is : (i : ℕ) → AreSymbols octets size (length source) source → IsSymbol octets size (equation_values row size source i)
   value_is i are = elim (cases_lt i (row.ldpc_symbols + row.hdpc_symbols)) [
     | inl lt ↦ subst (IsSymbol octets size) (sym (stacked_above (row.ldpc_symbols + row.hdpc_symbols) (λ _. zero_symbol size) (λ j. get_or source j (zero_symbol size)) i lt)) (zeros_are size)
@@ -82,7 +82,7 @@ module _ (row : Row) (size : ℕ) (source : List (List ℕ)) (fits : length sour
         ])
   ]
 
-  pub values_are_symbols : AreSymbols octets size (length source) source → AreSymbols octets size (equation_count row (source_ids row)) (source_values row size source)
+  pub values_are_symbols : AreSymbols octets size (length source) source → AreSymbols octets size (equation_count row (extended_ids row)) (source_values row size source)
   values_are_symbols are = record {
     count_is = length-source_values row size source fits;
     each = λ k l. subst (IsSymbol octets size) (sym (values_are row size k source fits l)) (value_is k are);
@@ -94,47 +94,47 @@ module _ (row : Row) (size : ℕ) (source : List (List ℕ)) (fits : length sour
     each = λ k l.
         let f : ℕ = row.ldpc_symbols + row.hdpc_symbols in
         let long = length-source_values row size source fits in
-        let within : f + k < equation_count row (source_ids row) = omega (arith, length-range_with_len 0 row.source_symbols) in
+        let within : f + k < equation_count row (extended_ids row) = omega (arith, length-range_with_len 0 row.extended_symbols) in
         let read : symbol_at (source_values row size source) (f + k) ≡ symbol_at source k =
         values_are row size (f + k) source fits within ∙ stacked_below f (λ _. zero_symbol size) (λ j. get_or source j (zero_symbol size)) k ∙ at_any source k (zero_symbol size) [] l in
         subst (IsSymbol octets size) read (are.each (f + k) (omega (arith, long, are.count_is)));
   }
 
   -- the equations of a block in both forms
-  same_values : (column : ℕ → List ℕ) (v w : ℕ → List ℕ) → ((i : ℕ) → i < equation_count row (source_ids row) → v i ≡ w i) → SolvesSymbols octets (equation_count row (source_ids row)) (intermediate_symbols row) (equations row (source_ids row)) column v
-      → SolvesSymbols octets (equation_count row (source_ids row)) (intermediate_symbols row) (equations row (source_ids row)) column w
+  same_values : (column : ℕ → List ℕ) (v w : ℕ → List ℕ) → ((i : ℕ) → i < equation_count row (extended_ids row) → v i ≡ w i) → SolvesSymbols octets (equation_count row (extended_ids row)) (intermediate_symbols row) (equations row (extended_ids row)) column v
+      → SolvesSymbols octets (equation_count row (extended_ids row)) (intermediate_symbols row) (equations row (extended_ids row)) column w
   same_values column v w same solves = record {
-    at_place = λ p. solves_same octets (equation_count row (source_ids row)) (intermediate_symbols row) (equations row (source_ids row)) (equations row (source_ids row)) (slice_at p column) (slice_at p v) (slice_at p w)
+    at_place = λ p. solves_same octets (equation_count row (extended_ids row)) (intermediate_symbols row) (equations row (extended_ids row)) (equations row (extended_ids row)) (slice_at p column) (slice_at p v) (slice_at p w)
         (λ i k l m. refl) (λ i l. ap (λ xs. at xs p) (same i l)) (solves.at_place p);
   }
 
 -- ---- plans
 
-module _ (row : Row) (operations : List Operation) (finds : FindsColumn octets (equation_count row (source_ids row)) (intermediate_symbols row) (equations row (source_ids row)) operations) where
+module _ (row : TableRow) (operations : List Operation) (finds : FindsColumn octets (equation_count row (extended_ids row)) (intermediate_symbols row) (equations row (extended_ids row)) operations) where
   pub plan_allowed : AreAllowed (intermediate_symbols row) None operations
   plan_allowed = subst (λ n. AreAllowed n None operations) (count_source row) finds.allowed
 
   pub plan_nonsingular : IsNonsingular row
-  plan_nonsingular = rows_nonsingular row (finds_determined octets (equation_count row (source_ids row)) (intermediate_symbols row) (equations row (source_ids row)) operations finds)
+  plan_nonsingular = rows_nonsingular row (finds_determined octets (equation_count row (extended_ids row)) (intermediate_symbols row) (equations row (extended_ids row)) operations finds)
 
-  module _ (size : ℕ) (source : List (List ℕ)) (fits : length source ≤ row.source_symbols) (are : AreSymbols octets size (length source) source) where
+  module _ (size : ℕ) (source : List (List ℕ)) (fits : length source ≤ row.extended_symbols) (are : AreSymbols octets size (length source) source) where
     plan_column : IsIntermediateColumn row size source (symbol_in (planned row operations size source))
     plan_column =
         let values = values_are_symbols row size source fits are in
         record {
-          symbols = found_are_symbols octets (equation_count row (source_ids row)) (intermediate_symbols row) (equations row (source_ids row)) operations finds size (source_values row size source) values;
+          symbols = found_are_symbols octets (equation_count row (extended_ids row)) (intermediate_symbols row) (equations row (extended_ids row)) operations finds size (source_values row size source) values;
           solves = same_values row size source fits _ (symbol_at (source_values row size source)) (equation_values row size source) (λ i l. values_are row size i source fits l)
-              (found_solves octets (equation_count row (source_ids row)) (intermediate_symbols row) (equations row (source_ids row)) operations finds size (source_values row size source) values (count_source row));
+              (found_solves octets (equation_count row (extended_ids row)) (intermediate_symbols row) (equations row (extended_ids row)) operations finds size (source_values row size source) values (count_source row));
         }
 
     plan_only : (other : ℕ → List ℕ) → IsIntermediateColumn row size source other → (k : ℕ) → k < intermediate_symbols row → other k ≡ symbol_in (planned row operations size source) k
-    plan_only other is = found_only octets (equation_count row (source_ids row)) (intermediate_symbols row) (equations row (source_ids row)) operations finds size (source_values row size source) (values_are_symbols row size source fits are) other is.symbols
+    plan_only other is = found_only octets (equation_count row (extended_ids row)) (intermediate_symbols row) (equations row (extended_ids row)) operations finds size (source_values row size source) (values_are_symbols row size source fits are) other is.symbols
         (same_values row size source fits other (equation_values row size source) (symbol_at (source_values row size source)) (λ i l. sym (values_are row size i source fits l)) is.solves)
 
   -- operations that find the column of a row's equations are its plan
   pub plan_is : IsPlanOf row operations
   plan_is = record {
     places = λ size source fits. places_count (planned row operations size source) (intermediate_symbols row)
-        (found_places (equation_count row (source_ids row)) (intermediate_symbols row) (equations row (source_ids row)) operations finds (slab_of size (source_values row size source)));
+        (found_places (equation_count row (extended_ids row)) (intermediate_symbols row) (equations row (extended_ids row)) operations finds (slab_of size (source_values row size source)));
     column = λ size source fits are. record { is = plan_column size source fits are; only = plan_only size source fits are };
   }

@@ -14,9 +14,9 @@ use Rattle.std.proofs.lemmas.Map.Views.{length-le_from_below}
 use Rattle.std.proofs.Math.Nat.{div_self}
 use Rattle.std.proofs.Math.Seq.{take-append_seam}
 use Rattle.rq_bytes.specs.declared.error.Error.{Error}
-use Rattle.rq_bytes.specs.Slab.{Slab}
+use Rattle.rq_bytes.specs.SymbolSlab.{Slab}
 use Rattle.rq_bytes.specs.Ranges.{with_range, cut}
-use Rattle.rq_standard.specs.declared.row.Row.{Row}
+use Rattle.rq_standard.specs.declared.row.TableRow.{TableRow}
 use Rattle.rq_standard.specs.Equations.{zero_symbol, internal_id}
 use Rattle.raptorq.specs.Known.{known_list, known_values}
 use Rattle.raptorq.specs.Missing.{payload_of, has_payload}
@@ -71,13 +71,13 @@ put_symbol size front zeros n i ys some long at are =
     let more : zeros ≡ zero_symbol size ∷ replicate n (zero_symbol size) = are ∙ ap (λ m. replicate m (zero_symbol size)) (let e : n + 1 ≡ suc n = omega arith in e) in
     ap (with_range (front ++ zeros) i) (one_piece size ys some long) ∙ ap (λ z. with_range (front ++ z) i (ys ∷ [])) more ∙ put_next front (replicate n (zero_symbol size)) (zero_symbol size) ys i at
 
-pub length-known_list : (row : Row) (k : ℕ) (done : List (ℕ × Vec ℕ Global)) → length (known_list row k done) ≡ row.source_symbols - k + length done
-length-known_list row k done = length-append (range_with_len k (row.source_symbols - k)) (map (λ e. internal_id row k e.0) done) ∙ omega (arith, length-range_with_len k (row.source_symbols - k), length-map done (λ e. internal_id row k e.0))
+pub length-known_list : (row : TableRow) (k : ℕ) (done : List (ℕ × Vec ℕ Global)) → length (known_list row k done) ≡ row.extended_symbols - k + length done
+length-known_list row k done = length-append (range_with_len k (row.extended_symbols - k)) (map (λ e. internal_id row k e.0) done) ∙ omega (arith, length-range_with_len k (row.extended_symbols - k), length-map done (λ e. internal_id row k e.0))
 
-pub length-known_values : (row : Row) (k size : ℕ) (done : List (ℕ × Vec ℕ Global)) → length (known_values row k size done) ≡ row.ldpc_symbols + row.hdpc_symbols + (row.source_symbols - k) + length done
+pub length-known_values : (row : TableRow) (k size : ℕ) (done : List (ℕ × Vec ℕ Global)) → length (known_values row k size done) ≡ row.ldpc_symbols + row.hdpc_symbols + (row.extended_symbols - k) + length done
 length-known_values row k size done =
-    length-append (replicate (row.ldpc_symbols + row.hdpc_symbols + (row.source_symbols - k)) (zero_symbol size)) (map (λ e. e.1.items) done)
-    ∙ omega (arith, length-replicate (row.ldpc_symbols + row.hdpc_symbols + (row.source_symbols - k)) (zero_symbol size), length-map done (λ e. e.1.items))
+    length-append (replicate (row.ldpc_symbols + row.hdpc_symbols + (row.extended_symbols - k)) (zero_symbol size)) (map (λ e. e.1.items) done)
+    ∙ omega (arith, length-replicate (row.ldpc_symbols + row.hdpc_symbols + (row.extended_symbols - k)) (zero_symbol size), length-map done (λ e. e.1.items))
 
 -- a payload is one whole symbol
 pub whole_piece : (piece size n : ℕ) → 0 < size → piece ≡ size → n ≡ size → n ≡ n / piece * piece

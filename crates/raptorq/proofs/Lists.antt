@@ -10,10 +10,10 @@ use Rattle.rq_bytes.specs.Refusals.{IsRefusal}
 use Rattle.rq_standard.specs.Packet.{Packet}
 use Rattle.rq_standard.specs.Configuration.{Configuration}
 use Rattle.rq_standard.specs.Headline.{IsHonestRun, IsOnlyObject, block_row, block_source, IsPacketOf, IsObjectAnswer, AnswersExactly, AnswersWhereAnyCan}
-use Rattle.rq_standard.specs.declared.row.Row.{Row}
+use Rattle.rq_standard.specs.declared.row.TableRow.{TableRow}
 use Rattle.rq_standard.specs.TableRows.{IsChecked}
 use Rattle.rq_standard.specs.Equations.{internal_id}
-use Rattle.rq_standard.specs.Standing.{State, Stands, AnswersObject, AnswersOnlyObject}
+use Rattle.rq_standard.specs.Standing.{State, StandsFor, AnswersObject, AnswersOnlyObject}
 use Rattle.rq_standard.proofs.Columns.{sum_symbol}
 use Rattle.raptorq.specs.Refused.{packet_refusal}
 use Rattle.raptorq.specs.Runs.{packets_of}
@@ -23,13 +23,13 @@ all_at P [] rest p h = h.0
 all_at P (x ∷ front) rest p h = all_at P front rest p h.1
 
 -- a packet of the object carries a symbol
-pub length-payload : (table : List Row) (c : Configuration) (object : List ℕ) (p : Packet) → IsChecked (block_row table c p.id.block) → IsPacketOf table c object p → length p.payload ≡ c.symbol_size
+pub length-payload : (table : List TableRow) (c : Configuration) (object : List ℕ) (p : Packet) → IsChecked (block_row table c p.id.block) → IsPacketOf table c object p → length p.payload ≡ c.symbol_size
 length-payload table c object p checked h =
     let row = block_row table c p.id.block in
     ap length h.symbol.is_sum ∙ (sum_symbol row c.symbol_size (internal_id row (length (block_source c object p.id.block)) p.id.esi) h.symbol.column checked h.symbol.is_only.is.symbols).size_is
 
 -- and isn't refused
-pub packet_refusal-packet : (table : List Row) (c : Configuration) (object : List ℕ) (p : Packet) → IsChecked (block_row table c p.id.block) → IsPacketOf table c object p → packet_refusal c p ≡ Ok tt
+pub packet_refusal-packet : (table : List TableRow) (c : Configuration) (object : List ℕ) (p : Packet) → IsChecked (block_row table c p.id.block) → IsPacketOf table c object p → packet_refusal c p ≡ Ok tt
 packet_refusal-packet table c object p checked h =
     let here = lt-ltb p.id.block c.source_blocks h.block in
     let long = eq-eqb (length p.payload) c.symbol_size (length-payload table c object p checked h) in
@@ -38,7 +38,7 @@ packet_refusal-packet table c object p checked h =
 pub packets_of-push : (done : List (ℕ × Packet)) (step : ℕ × Packet) → packets_of (done ++ step ∷ []) ≡ packets_of done ++ step.1 ∷ []
 packets_of-push done step = map-append (λ (s : ℕ × Packet). s.1) done (step ∷ [])
 
-module _ (table : List Row) where
+module _ (table : List TableRow) where
   -- the next packet of a list is one of the object's
   pub step_honest : (c d : Configuration) (object : List ℕ) (all done left : List (ℕ × Packet)) (step : ℕ × Packet) → d ≡ c → all ≡ done ++ step ∷ left → IsHonestRun table c object (packets_of all) → IsPacketOf table d object step.1
   step_honest c d object all done left step same whole run =
@@ -46,7 +46,7 @@ module _ (table : List Row) where
       (all_at (IsPacketOf table c object) (packets_of done) (packets_of left) step.1 (subst (AllByRecursion (IsPacketOf table c object)) (ap packets_of whole ∙ map-append (λ (s : ℕ × Packet). s.1) done (step ∷ left)) run.honest))
 
   -- so its only refusal is want of memory
-  pub step_refused : (c : Configuration) (s : State) (object : List ℕ) (all done left : List (ℕ × Packet)) (step : ℕ × Packet) (e : Error) → s.configuration ≡ c → all ≡ done ++ step ∷ left → Stands table object (packets_of done) s → IsHonestRun table c object (packets_of all)
+  pub step_refused : (c : Configuration) (s : State) (object : List ℕ) (all done left : List (ℕ × Packet)) (step : ℕ × Packet) (e : Error) → s.configuration ≡ c → all ≡ done ++ step ∷ left → StandsFor table object (packets_of done) s → IsHonestRun table c object (packets_of all)
       → IsRefusal e (packet_refusal s.configuration step.1) → e ≡ OutOfMemory
   step_refused c s object all done left step e same whole st run ref =
       let pk = step_honest c s.configuration object all done left step same whole run in
@@ -60,7 +60,7 @@ next_whole all done rest left x whole is = whole ∙ ap (λ l. done ++ l) is ∙
 pub all_came : {X : Type 0} → (all done rest : List X) → all ≡ done ++ rest → rest ≡ [] → done ≡ all
 all_came all done rest whole none = sym (whole ∙ ap (λ l. done ++ l) none ∙ append-nil done)
 
-module _ (table : List Row) (c : Configuration) (all : List Packet) (s : State) (r : Option (List ℕ)) (same : s.configuration ≡ c) (stands : (object : List ℕ) → IsHonestRun table c object all → Stands table object all s) where
+module _ (table : List TableRow) (c : Configuration) (all : List Packet) (s : State) (r : Option (List ℕ)) (same : s.configuration ≡ c) (stands : (object : List ℕ) → IsHonestRun table c object all → StandsFor table object all s) where
   -- the answer after the whole list
   pub answers_exactly : AnswersObject s r → AnswersExactly table c all r
   answers_exactly is object run = subst (λ k. IsObjectAnswer table k object all r) same (is table object all (stands object run))

@@ -9,7 +9,7 @@ use Rattle.std.proofs.lemmas.Simd.{map-map}
 use Rattle.std.proofs.lemmas.List.FromFn.{get_or-map-range_with_len}
 use Rattle.std.specs.declared.vec.Vec.{Vec}
 use Rattle.std.specs.declared.alloc.Global.{Global}
-use Rattle.rq_standard.specs.declared.row.Row.{Row}
+use Rattle.rq_standard.specs.declared.row.TableRow.{TableRow}
 use Rattle.rq_standard.specs.Packet.{Packet}
 use Rattle.rq_standard.specs.Configuration.{Configuration}
 use Rattle.rq_standard.specs.Cutting.{block_symbols}
@@ -144,7 +144,7 @@ join_some c items n x all below within is none = cc (joined_each (answer_at item
 
 -- ---- before any packet
 
-module _ (table : List Row) (c : Configuration) (items : List ObjectBlock) (held : map (λ b. held_of b.decoder) items ≡ map (new_held table c) (range_with_len 0 c.source_blocks)) where
+module _ (table : List TableRow) (c : Configuration) (items : List ObjectBlock) (held : map (λ b. held_of b.decoder) items ≡ map (new_held table c) (range_with_len 0 c.source_blocks)) where
   -- each of them is what is held of a new block
   pub new_each : (P : Held → Type 0) → ((n : ℕ) → n < c.source_blocks → P (new_held table c n)) → All (λ b. P (held_of b.decoder)) items
   new_each P each i d below =

@@ -4,8 +4,8 @@ use Rattle.std.proofs.lemmas.List.{length-map, get_or-map, nil_from_length, leng
 use Rattle.rq_algebra.specs.Systems.{at, IsColumn}
 use Rattle.rq_algebra.specs.Symbols.{IsSymbol, IsSymbolColumn}
 use Rattle.rq_bytes.specs.Ranges.{cut, with_range}
-use Rattle.rq_bytes.specs.Slab.{Slab, slab_of, symbol_in}
-use Rattle.rq_standard.specs.declared.row.Row.{Row}
+use Rattle.rq_bytes.specs.SymbolSlab.{Slab, slab_of, symbol_in}
+use Rattle.rq_standard.specs.declared.row.TableRow.{TableRow}
 use Rattle.rq_standard.specs.OctetField.{octets}
 use Rattle.rq_standard.specs.TableRows.{IsChecked, intermediate_symbols}
 use Rattle.rq_standard.specs.Equations.{tuple_sum}
@@ -26,7 +26,7 @@ octets_written zeros xs n is long =
     let none : drop (0 + length (one_by_one xs)) zeros ≡ [] = nil_from_length (drop (0 + length (one_by_one xs)) zeros) (length-drop (0 + length (one_by_one xs)) zeros ∙ omega (arith, long, is, length-map xs (λ (x : ℕ). x ∷ []))) in
     ap (with_range zeros 0) all ∙ ap (λ ys. one_by_one xs ++ ys) none ∙ append-nil (one_by_one xs)
 
-module _ (row : Row) (xs : List ℕ) (slab : Slab) (checked : IsChecked row) (count : length xs ≡ intermediate_symbols row) (elements : IsColumn octets (intermediate_symbols row) (at xs)) (is : slab ≡ slab_of 1 (one_by_one xs)) where
+module _ (row : TableRow) (xs : List ℕ) (slab : Slab) (checked : IsChecked row) (count : length xs ≡ intermediate_symbols row) (elements : IsColumn octets (intermediate_symbols row) (at xs)) (is : slab ≡ slab_of 1 (one_by_one xs)) where
   symbol_is : (k : ℕ) → k < intermediate_symbols row → symbol_in slab k ≡ wide 1 (at xs) k
   symbol_is k below = ap (λ s. symbol_in s k) is ∙ get_or-map (λ (x : ℕ). x ∷ []) xs k 0 [] (omega (arith, count))
 

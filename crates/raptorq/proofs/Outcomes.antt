@@ -5,11 +5,11 @@ use Rattle.rq_algebra.specs.Operations.{Operation}
 use Rattle.rq_algebra.specs.Symbols.{IsSymbol, AreSymbols, SolvesSymbols, symbol_at}
 use Rattle.rq_algebra.proofs.Found.{finds_determined, found_are_symbols}
 use Rattle.rq_algebra.proofs.Solutions.{null_not_determined}
-use Rattle.rq_bytes.specs.Slab.{Slab, HasPlace, symbols_in}
+use Rattle.rq_bytes.specs.SymbolSlab.{Slab, HasPlace, symbols_in}
 use Rattle.rq_bytes.specs.SymbolOps.{operation_of}
 use Rattle.rq_bytes.specs.declared.operation_vector.SymbolOps.{SymbolOps}
-use Rattle.rq_parts.specs.OctetTable.{OctetTable}
-use Rattle.rq_standard.specs.declared.row.Row.{Row}
+use Rattle.rq_parts.specs.DenseOctetMatrix.{OctetTable}
+use Rattle.rq_standard.specs.declared.row.TableRow.{TableRow}
 use Rattle.rq_standard.specs.BitTable.{BitTable}
 use Rattle.rq_standard.specs.ConstraintMatrix.{IsBinaryPart}
 use Rattle.rq_standard.specs.OctetField.{octets}
@@ -22,7 +22,7 @@ use Rattle.rq_solver.proofs.EquationLaws.{are_equations, solution_of_equations, 
 use Rattle.raptorq.specs.BlockSolutions.{IsBlockSolution, SolvesByOperations}
 
 -- the matrices of a block's ids are equations for its values
-pub handed_equations : (row : Row) (ids : List ℕ) (bits : BitTable) (hdpc : OctetTable) (handed : Slab) → IsBinaryPart row ids bits → IsHdpcPart row hdpc → length handed.values ≡ equation_count row ids → intermediate_symbols row ≤ equation_count row ids → handed.order ≡ None
+pub handed_equations : (row : TableRow) (ids : List ℕ) (bits : BitTable) (hdpc : OctetTable) (handed : Slab) → IsBinaryPart row ids bits → IsHdpcPart row hdpc → length handed.values ≡ equation_count row ids → intermediate_symbols row ≤ equation_count row ids → handed.order ≡ None
     → AreEquations row bits hdpc handed
 handed_equations row ids bits hdpc handed part octet_part count enough order = are_equations row ids bits hdpc handed part octet_part.shape.tall octet_part.shape.wide count order enough
 
@@ -35,14 +35,14 @@ pub places_count : (slab : Slab) (n : ℕ) → ((k : ℕ) → k < n → HasPlace
 places_count slab zero places = omega arith
 places_count slab (suc n) places = has_count slab.values slab.symbol_size slab.order n (places n (omega arith))
 
-module _ (row : Row) (ids : List ℕ) (bits : BitTable) (hdpc : OctetTable) (handed : Slab) (part : IsBinaryPart row ids bits) (octet_part : IsHdpcPart row hdpc) (are : AreEquations row bits hdpc handed) where
+module _ (row : TableRow) (ids : List ℕ) (bits : BitTable) (hdpc : OctetTable) (handed : Slab) (part : IsBinaryPart row ids bits) (octet_part : IsHdpcPart row hdpc) (are : AreEquations row bits hdpc handed) where
   -- what a solver finds solves the block's equations; where there is nothing, the ids don't determine the block
   pub recorded_outcome : (answer : Option (Slab × Vec SymbolOps Global)) → IsOutcome (solver_of row bits hdpc handed) handed answer → SolvesByOperations row ids handed answer
   recorded_outcome None null = λ d. null_not_determined octets (equation_count row ids) (intermediate_symbols row) (equations row ids) (null_of_equations row ids bits hdpc part octet_part.rows handed are null) d
   recorded_outcome (Some found) solution = solution_of_equations row ids bits hdpc part octet_part.rows handed are found.0 (map operation_of found.1.items) solution
 
 -- the solution is the block's
-pub solution_found : (row : Row) (ids : List ℕ) (handed slab : Slab) (operations : List Operation) → AreSymbols octets handed.symbol_size (equation_count row ids) handed.values
+pub solution_found : (row : TableRow) (ids : List ℕ) (handed slab : Slab) (operations : List Operation) → AreSymbols octets handed.symbol_size (equation_count row ids) handed.values
     → solver.IsSolution (equation_count row ids) (intermediate_symbols row) (equations row ids) handed slab operations → IsBlockSolution row ids handed.symbol_size handed.values slab
 solution_found row ids handed slab operations symbols_are s = record {
   determined = finds_determined octets (equation_count row ids) (intermediate_symbols row) (equations row ids) operations s.finds;

@@ -10,7 +10,7 @@ use Rattle.rq_bytes.specs.SymbolOps.{operation_of}
 use Rattle.rq_bytes.specs.declared.operation_vector.SymbolOps.{SymbolOps}
 use Rattle.rq_bytes.specs.declared.operation_vector.SymbolOps.TheVariants as ops
 use Rattle.rq_bytes.specs.contracts.operation_vector.SymbolOpsClone.TheImpl.{by_variants}
-use Rattle.rq_standard.specs.declared.row.Row.{Row}
+use Rattle.rq_standard.specs.declared.row.TableRow.{TableRow}
 use Rattle.rq_standard.specs.TableRows.{greatest_size, row_of}
 use Rattle.rq_standard.specs.Headline.{IsSingular}
 use Rattle.rq_standard.specs.Configuration.{Configuration}
@@ -39,17 +39,17 @@ same_operations xs ys all = map-clones by_variants operation_of same_operation x
 
 -- ---- what is refused
 
-pub plan_taken : (table : List Row) (count : ℕ) → count ≤ greatest_size table → plan_refusal table count ≡ Ok tt
+pub plan_taken : (table : List TableRow) (count : ℕ) → count ≤ greatest_size table → plan_refusal table count ≡ Ok tt
 plan_taken table count within = rw (le-ltb (greatest_size table) count within) refl
 
-pub refuses_plan : (table : List Row) (count : ℕ) (row : Row) (e : Error) → plan_refusal table count ≡ Ok tt → row ≡ row_of table count → (e ≡ OutOfMemory) ⊎ ((e ≡ Singular) × IsSingular row) → RefusesPlan table count e
+pub refuses_plan : (table : List TableRow) (count : ℕ) (row : TableRow) (e : Error) → plan_refusal table count ≡ Ok tt → row ≡ row_of table count → (e ≡ OutOfMemory) ⊎ ((e ≡ Singular) × IsSingular row) → RefusesPlan table count e
 refuses_plan table count row e taken is (inl memory) = inl (subst (IsRefusal e) (sym taken) memory)
 refuses_plan table count row e taken is (inr singular) = inr (taken, singular.0, subst IsSingular is singular.1)
 
 -- the refusals that are left where the table has a row
-pub plan_refused : (table : List Row) (count : ℕ) (e : Error) → count ≤ greatest_size table → RefusesPlan table count e → (e ≡ OutOfMemory) ⊎ ((e ≡ Singular) × IsSingular (row_of table count))
+pub plan_refused : (table : List TableRow) (count : ℕ) (e : Error) → count ≤ greatest_size table → RefusesPlan table count e → (e ≡ OutOfMemory) ⊎ ((e ≡ Singular) × IsSingular (row_of table count))
 plan_refused table count e within (inl refused) = inl (subst (IsRefusal e) (plan_taken table count within) refused)
 plan_refused table count e within (inr singular) = inr (singular.1, singular.2)
 
-pub refuses_block : (table : List Row) (c : Configuration) (bytes count : ℕ) (e : Error) → Ok count ≡ wanted_count (greatest_size table) c bytes → count ≤ greatest_size table → RefusesPlan table count e → RefusesBlock table c bytes e
+pub refuses_block : (table : List TableRow) (c : Configuration) (bytes count : ℕ) (e : Error) → Ok count ≡ wanted_count (greatest_size table) c bytes → count ≤ greatest_size table → RefusesPlan table count e → RefusesBlock table c bytes e
 refuses_block table c bytes count e is within refused = rw (← is) (plan_refused table count e within refused)

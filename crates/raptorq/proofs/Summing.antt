@@ -4,11 +4,11 @@ use Rattle.std.proofs.lemmas.List.{length-map}
 use Rattle.rq_algebra.specs.Symbols.{add_symbols, symbols, IsSymbolColumn}
 use Rattle.rq_algebra.specs.Parities.{sum_listed}
 use Rattle.rq_algebra.proofs.SymbolSums.{add_nothing, add_zeros, add_symbols_assoc, length-add_symbols, sum_listed-push}
-use Rattle.rq_bytes.specs.Slab.{Slab, HasPlace, symbol_in, symbols_in}
+use Rattle.rq_bytes.specs.SymbolSlab.{Slab, HasPlace, symbol_in, symbols_in}
 use Rattle.rq_standard.specs.OctetField.{octets}
-use Rattle.rq_standard.specs.declared.row.Row.{Row}
+use Rattle.rq_standard.specs.declared.row.TableRow.{TableRow}
 use Rattle.rq_standard.specs.TableRows.{IsChecked, intermediate_symbols}
-use Rattle.rq_standard.specs.Equations.{row_places, tuple_sum}
+use Rattle.rq_standard.specs.Equations.{row_indices, tuple_sum}
 use Rattle.rq_standard.specs.Rows.{row_sum}
 use Rattle.rq_standard.proofs.Columns.{sum_symbol}
 use Rattle.rq_standard.proofs.RowSymbols.{add_symbols-rows}
@@ -43,7 +43,7 @@ pub length-sum : (xs ys : List ℕ) → length ys ≡ length xs → length (row_
 length-sum xs ys same = ap length (sym (add_symbols-rows xs ys same)) ∙ length-add_symbols octets 0 (length xs) xs ys refl same
 
 -- the sum at all places
-pub all_summed : (row : Row) (slab : Slab) (id : ℕ) (left sum : List ℕ) → IsChecked row → IsSymbolColumn octets slab.symbol_size (intermediate_symbols row) (symbol_in slab) → left ≡ [] → SumsSoFar slab.symbol_size (row_places row id) left (symbol_in slab) sum → sum ≡ tuple_sum row (symbol_in slab) id
+pub all_summed : (row : TableRow) (slab : Slab) (id : ℕ) (left sum : List ℕ) → IsChecked row → IsSymbolColumn octets slab.symbol_size (intermediate_symbols row) (symbol_in slab) → left ≡ [] → SumsSoFar slab.symbol_size (row_indices row id) left (symbol_in slab) sum → sum ≡ tuple_sum row (symbol_in slab) id
 all_summed row slab id left sum checked are none so =
-    let whole : row_places row id ≡ so.done = so.whole ∙ ap (λ l. so.done ++ l) none ∙ append-nil so.done in
+    let whole : row_indices row id ≡ so.done = so.whole ∙ ap (λ l. so.done ++ l) none ∙ append-nil so.done in
     so.is ∙ ap (λ ps. add_symbols octets (replicate slab.symbol_size 0) (sum_listed (symbols octets) ps (symbol_in slab))) (sym whole) ∙ add_zeros octets slab.symbol_size (tuple_sum row (symbol_in slab) id) (sum_symbol row slab.symbol_size id (symbol_in slab) checked are).size_is

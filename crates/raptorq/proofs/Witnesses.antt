@@ -153,5 +153,5 @@ module _ (c : Configuration) (items : List ObjectBlock) (numbered : map number_o
       let here = held_here c items b x inside found.1 in
       record {
         checked = subst (λ (h : Held). IsChecked h.row) (sym here) x.decoder.checked;
-        fits = subst (λ n. n ≤ (held_at c items b).row.source_symbols) (block_is_cut b below) (subst (λ (h : Held). h.symbols ≤ h.row.source_symbols) (sym here) x.decoder.fits);
+        fits = subst (λ n. n ≤ (held_at c items b).row.extended_symbols) (block_is_cut b below) (subst (λ (h : Held). h.symbols ≤ h.row.extended_symbols) (sym here) x.decoder.fits);
       }

@@ -3,7 +3,7 @@ use Rattle.std.specs.Prelude.{◌≡◌, ◌⊎◌, ℕ, ◌/◌, List, length, 
 use Rattle.std.specs.List.{range_with_len}
 use Rattle.rq_bytes.specs.declared.error.Error.{Error}
 use Rattle.rq_bytes.specs.declared.error.Error.TheVariants.{Singular, PlanMismatch, OutOfMemory}
-use Rattle.rq_standard.specs.declared.row.Row.{Row}
+use Rattle.rq_standard.specs.declared.row.TableRow.{TableRow}
 use Rattle.rq_standard.specs.Configuration.{Configuration}
 use Rattle.rq_standard.specs.Cutting.{symbol_of_block}
 use Rattle.rq_standard.specs.Headline.{IsSingular}
@@ -13,7 +13,7 @@ use Rattle.raptorq.specs.SourceBlockEncodingPlan.{Plan}
 use Rattle.raptorq.specs.Refused.{wanted_count}
 
 -- the block of these bytes
-abbrev pub block_of : List Row → Configuration → ℕ → List ℕ → BlockEncoded
+abbrev pub block_of : List TableRow → Configuration → ℕ → List ℕ → BlockEncoded
 block_of table c number bytes =
     let count = length bytes / c.symbol_size in
     record { number = number; row = row_of table count; size = c.symbol_size; source = map (symbol_of_block c count bytes) (range_with_len 0 count) }
@@ -23,18 +23,18 @@ abbrev pub block_by_plan : Plan → Configuration → ℕ → List ℕ → Block
 block_by_plan plan c number bytes = record { number = number; row = plan.row; size = c.symbol_size; source = map (symbol_of_block c plan.count bytes) (range_with_len 0 plan.count) }
 
 -- what its encoder is refused for: first these, and then a singular row
-abbrev pub RefusesBlock : List Row → Configuration → ℕ → Error → Type 0
+abbrev pub RefusesBlock : List TableRow → Configuration → ℕ → Error → Type 0
 RefusesBlock table c bytes e =
     MatchResult (wanted_count (greatest_size table) c bytes)
     (λ count. (e ≡ OutOfMemory) ⊎ ((e ≡ Singular) × IsSingular (row_of table count)))
     (λ wanted. e ≡ wanted)
 
 -- a plan for blocks of so many source symbols over this table
-abbrev pub IsPlanFor : List Row → ℕ → Plan → Type 0
+abbrev pub IsPlanFor : List TableRow → ℕ → Plan → Type 0
 IsPlanFor table count plan = (plan.count ≡ count) × (plan.row ≡ row_of table count)
 
 -- what it is refused for with a plan: first these, and then a plan for other blocks
-abbrev pub RefusesPlanned : List Row → Configuration → ℕ → Plan → Error → Type 0
+abbrev pub RefusesPlanned : List TableRow → Configuration → ℕ → Plan → Error → Type 0
 RefusesPlanned table c bytes plan e =
     MatchResult (wanted_count (greatest_size table) c bytes)
     (λ count. ((e ≡ OutOfMemory) × IsPlanFor table count plan) ⊎ ((e ≡ PlanMismatch) × ¬ IsPlanFor table count plan))

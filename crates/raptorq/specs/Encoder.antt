@@ -2,7 +2,7 @@
 use Rattle.std.specs.Prelude.{◌≡◌, ℕ, ◌+◌, ◌<◌, ◌^◌, List, [], length, map, Result, Ok, Err, if◌then◌else◌, nat_lt, slice_index_or}
 use Rattle.rq_bytes.specs.declared.error.Error.{Error}
 use Rattle.rq_bytes.specs.declared.error.Error.TheVariants.{EsiTooLarge}
-use Rattle.rq_standard.specs.declared.row.Row.{Row}
+use Rattle.rq_standard.specs.declared.row.TableRow.{TableRow}
 use Rattle.rq_standard.specs.TableRows.{no_row}
 use Rattle.rq_standard.specs.Configuration.{Configuration}
 use Rattle.rq_standard.specs.Packet.{Packet}
@@ -24,13 +24,13 @@ abbrev pub encoded_of : Encoder → Encoded
 encoded_of e = record { configuration = e.config; block = λ b. slice_index_or (map block_encoded_of e.blocks.items) b (no_block b e.config.symbol_size) }
 
 -- an encoder of this object, over this table
-pub record IsEncoderOf (table : List Row) (object : List ℕ) (e : Encoded) : Type 0 where
+pub record IsEncoderOf (table : List TableRow) (object : List ℕ) (e : Encoded) : Type 0 where
   pub long : length object ≡ e.configuration.transfer_length
   pub block : (b : ℕ) → b < e.configuration.source_blocks → e.block b ≡ new_block_encoded table e.configuration object b
 
 -- the source packets of the object whose encoder it is, and so many repair packets a block
 abbrev pub ArePacketsOf : Encoded → ℕ → List Packet → Type 0
-ArePacketsOf e repair packets = (table : List Row) (object : List ℕ) → IsEncoderOf table object e → AreEncoded table e.configuration object repair packets
+ArePacketsOf e repair packets = (table : List TableRow) (object : List ℕ) → IsEncoderOf table object e → AreEncoded table e.configuration object repair packets
 
 -- whether packets of so many repair symbols a block have ids: the first block is the largest
 abbrev pub packets_refusal : Configuration → ℕ → Result (Unit {0}) Error

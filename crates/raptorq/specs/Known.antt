@@ -4,20 +4,20 @@ use Rattle.std.specs.List.{range_with_len}
 use Rattle.std.specs.declared.vec.Vec.{Vec}
 use Rattle.std.specs.declared.alloc.Global.{Global}
 use Rattle.rq_algebra.specs.Symbols.{IsSymbolColumn}
-use Rattle.rq_bytes.specs.Slab.{Slab, symbol_in, symbols_in}
-use Rattle.rq_standard.specs.declared.row.Row.{Row}
+use Rattle.rq_bytes.specs.SymbolSlab.{Slab, symbol_in, symbols_in}
+use Rattle.rq_standard.specs.declared.row.TableRow.{TableRow}
 use Rattle.rq_standard.specs.OctetField.{octets}
 use Rattle.rq_standard.specs.TableRows.{intermediate_symbols}
 use Rattle.rq_standard.specs.Equations.{zero_symbol, internal_id, tuple_sum}
 use Rattle.rq_standard.specs.Held.{Held, SolvesHeld, AreHeldDetermining}
 
 -- padding comes first, then what came in the order of its encoding symbol ids
-abbrev pub known_list : Row → ℕ → List (ℕ × Vec ℕ Global) → List ℕ
-known_list row k entries = range_with_len k (row.source_symbols - k) ++ map (λ e. internal_id row k e.0) entries
+abbrev pub known_list : TableRow → ℕ → List (ℕ × Vec ℕ Global) → List ℕ
+known_list row k entries = range_with_len k (row.extended_symbols - k) ++ map (λ e. internal_id row k e.0) entries
 
 -- zeros for the LDPC and HDPC equations and for the padding, and the payloads
-abbrev pub known_values : Row → ℕ → ℕ → List (ℕ × Vec ℕ Global) → List (List ℕ)
-known_values row k size entries = replicate (row.ldpc_symbols + row.hdpc_symbols + (row.source_symbols - k)) (zero_symbol size) ++ map (λ e. e.1.items) entries
+abbrev pub known_values : TableRow → ℕ → ℕ → List (ℕ × Vec ℕ Global) → List (List ℕ)
+known_values row k size entries = replicate (row.ldpc_symbols + row.hdpc_symbols + (row.extended_symbols - k)) (zero_symbol size) ++ map (λ e. e.1.items) entries
 
 -- the intermediate symbols of what is held
 pub record IsHeldSolution (h : Held) (slab : Slab) : Type 0 where

@@ -1,6 +1,6 @@
 -- Laws of packets, blocks and answers, in the words of the headline.
 use Rattle.std.specs.Prelude.{◌≡◌, ◌↔◌, ℕ, ◌*◌, ◌<◌, List, length, All, Option, IsSome}
-use Rattle.rq_standard.specs.declared.row.Row.{Row}
+use Rattle.rq_standard.specs.declared.row.TableRow.{TableRow}
 use Rattle.rq_standard.specs.TableRows.{IsTable, greatest_size}
 use Rattle.rq_standard.specs.Configuration.{Configuration, IsAccepted, IsAligned}
 use Rattle.rq_standard.specs.Cutting.{block_symbols, source_symbol}
@@ -13,20 +13,20 @@ use Rattle.rq_standard.specs.Headline.{IsNonsingular, DetermineBlock, IsIntermed
 -- Over a row that isn't singular, intermediate symbols of a block are the only ones.
 abbrev pub IntermediateSymbolsAreOnly : Type 0
 IntermediateSymbolsAreOnly =
-    (row : Row) (size : ℕ) (source : List (List ℕ)) (column : ℕ → List ℕ)
+    (row : TableRow) (size : ℕ) (source : List (List ℕ)) (column : ℕ → List ℕ)
     → IsNonsingular row → IsIntermediateColumn row size source column → IsOnlyIntermediateColumn row size source column
 
 -- The packet of an encoding symbol id below K carries that source symbol.
 abbrev pub SourcePacketsAreSymbols : Type 0
 SourcePacketsAreSymbols =
-    (table : List Row) (c : Configuration) (object : List ℕ) (p : Packet)
+    (table : List TableRow) (c : Configuration) (object : List ℕ) (p : Packet)
     → IsTable table → IsAccepted (greatest_size table) c → IsPacketOf table c object p
     → p.id.esi < block_symbols c p.id.block → p.payload ≡ source_symbol c object p.id.block p.id.esi
 
 -- No decoder can do better: an honest run determines each block exactly where no other object fits.
 abbrev pub AnswerableIsOnlyObject : Type 0
 AnswerableIsOnlyObject =
-    (table : List Row) (c : Configuration) (object : List ℕ) (packets : List Packet)
+    (table : List TableRow) (c : Configuration) (object : List ℕ) (packets : List Packet)
     → IsTable table → IsAccepted (greatest_size table) c → IsHonestRun table c object packets
     → IsAnswerable table c packets ↔ IsOnlyObject table c packets object
 
@@ -35,19 +35,19 @@ AnswerableIsOnlyObject =
 -- A block that a list determines is determined by each list that has its ids,
 abbrev pub MorePacketsDetermine : Type 0
 MorePacketsDetermine =
-    (row : Row) (k b : ℕ) (packets more : List Packet)
+    (row : TableRow) (k b : ℕ) (packets more : List Packet)
     → HasIdsOf more packets → DetermineBlock row k (has_id b packets) → DetermineBlock row k (has_id b more)
 
 -- and so is an object.
 abbrev pub MorePacketsAreAnswerable : Type 0
 MorePacketsAreAnswerable =
-    (table : List Row) (c : Configuration) (packets more : List Packet)
+    (table : List TableRow) (c : Configuration) (packets more : List Packet)
     → HasIdsOf more packets → IsAnswerable table c packets → IsAnswerable table c more
 
 -- Of honest runs of one object, what the first answers is what the longer one answers.
 abbrev pub AnswersStay : Type 0
 AnswersStay =
-    (table : List Row) (c : Configuration) (object : List ℕ) (packets more : List Packet) (answer later : Option (List ℕ))
+    (table : List TableRow) (c : Configuration) (object : List ℕ) (packets more : List Packet) (answer later : Option (List ℕ))
     → IsHonestRun table c object packets → IsHonestRun table c object more → HasIdsOf more packets
     → AnswersExactly table c packets answer → AnswersExactly table c more later
     → IsSome answer → later ≡ answer
@@ -57,13 +57,13 @@ AnswersStay =
 -- Of two lists with the same ids both are answerable or neither is.
 abbrev pub SameIdsAreAnswerable : Type 0
 SameIdsAreAnswerable =
-    (table : List Row) (c : Configuration) (one other : List Packet)
+    (table : List TableRow) (c : Configuration) (one other : List Packet)
     → HaveSameIds one other → IsAnswerable table c one ↔ IsAnswerable table c other
 
 -- Honest runs of one object with the same ids have the same answer.
 abbrev pub SameIdsAnswerTheSame : Type 0
 SameIdsAnswerTheSame =
-    (table : List Row) (c : Configuration) (object : List ℕ) (one other : List Packet) (answer again : Option (List ℕ))
+    (table : List TableRow) (c : Configuration) (object : List ℕ) (one other : List Packet) (answer again : Option (List ℕ))
     → IsHonestRun table c object one → IsHonestRun table c object other → HaveSameIds one other
     → AnswersExactly table c one answer → AnswersExactly table c other again
     → answer ≡ again

@@ -3,7 +3,7 @@ use Rattle.std.specs.Prelude.{◌≡◌, ◌⊎◌, ℕ, ◌+◌, ◌/◌, ◌%�
 use Rattle.rq_bytes.specs.declared.error.Error.{Error}
 use Rattle.rq_bytes.specs.declared.error.Error.TheVariants.{SymbolSizeZero, AlignmentZero, Misaligned, BlockOverTable, UnknownBlock, WrongPayloadSize, WrongDataLength, Singular, EsiTooLarge}
 use Rattle.rq_bytes.specs.Refusals.{IsRefusal, and_then}
-use Rattle.rq_standard.specs.declared.row.Row.{Row}
+use Rattle.rq_standard.specs.declared.row.TableRow.{TableRow}
 use Rattle.rq_standard.specs.TableRows.{greatest_size}
 use Rattle.rq_standard.specs.Headline.{HasNonsingularRows}
 use Rattle.rq_base.specs.RefusedInput.{checked_configuration}
@@ -52,7 +52,7 @@ new_encoder greatest c length_of_data =
     and_then (checked_configuration greatest c) (λ _. if length_of_data == c.transfer_length then Ok tt else Err WrongDataLength)
 
 -- what it is refused for: first these, and then a singular row
-abbrev pub RefusesEncoder : List Row → Configuration → ℕ → Error → Type 0
+abbrev pub RefusesEncoder : List TableRow → Configuration → ℕ → Error → Type 0
 RefusesEncoder table c length_of_data e =
     let wanted = new_encoder (greatest_size table) c length_of_data in
     IsRefusal e wanted ⊎ ((wanted ≡ Ok tt) × (e ≡ Singular) × ¬ HasNonsingularRows table c)

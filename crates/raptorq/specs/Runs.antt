@@ -2,7 +2,7 @@
 use Rattle.std.specs.Prelude.{ℕ, List, map, Result}
 use Rattle.rq_bytes.specs.declared.error.Error.{Error}
 use Rattle.rq_bytes.specs.Refusals.{IsRefusal, and_then, first_refusal}
-use Rattle.rq_standard.specs.declared.row.Row.{Row}
+use Rattle.rq_standard.specs.declared.row.TableRow.{TableRow}
 use Rattle.rq_standard.specs.TableRows.{greatest_size}
 use Rattle.rq_standard.specs.Configuration.{Configuration}
 use Rattle.rq_standard.specs.Headline.{IsHonestRun}
@@ -15,9 +15,9 @@ abbrev pub packets_of : List (ℕ × Packet) → List Packet
 packets_of steps = map (λ step. step.1) steps
 
 -- over an honest run nothing is refused but the configuration, and memory
-abbrev pub RefusesConfiguration : List Row → Configuration → List Packet → Error → Type 0
+abbrev pub RefusesConfiguration : List TableRow → Configuration → List Packet → Error → Type 0
 RefusesConfiguration table c packets e = (object : List ℕ) → IsHonestRun table c object packets → IsRefusal e (checked_configuration (greatest_size table) c)
 
 -- whoever sent the packets: the first refusal of the configuration, and then of the packets in their order
-abbrev pub run_refusal : List Row → Configuration → List Packet → Result (Unit {0}) Error
+abbrev pub run_refusal : List TableRow → Configuration → List Packet → Result (Unit {0}) Error
 run_refusal table c packets = and_then (checked_configuration (greatest_size table) c) (λ _. first_refusal (packet_refusal c) packets)

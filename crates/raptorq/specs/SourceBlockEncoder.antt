@@ -1,7 +1,7 @@
 -- What the encoder of a block shows.
 use Rattle.std.specs.Prelude.{◌≡◌, ℕ, ◌<◌, ◌^◌, List, map}
 use Rattle.std.specs.List.{range_with_len, AllByRecursion}
-use Rattle.rq_standard.specs.declared.row.Row.{Row}
+use Rattle.rq_standard.specs.declared.row.TableRow.{TableRow}
 use Rattle.rq_standard.specs.Configuration.{Configuration}
 use Rattle.rq_standard.specs.Headline.{block_row, block_source, IsEncodingSymbol}
 use Rattle.rq_standard.specs.Packet.{Packet}
@@ -10,7 +10,7 @@ use Rattle.raptorq.specs.declared.encoder.block.SourceBlockEncoder.{SourceBlockE
 -- the number of a block, its row, and its source symbols with their size
 pub record BlockEncoded : Type 0 where
   pub number : ℕ
-  pub row : Row
+  pub row : TableRow
   pub size : ℕ
   pub source : List (List ℕ)
 
@@ -18,7 +18,7 @@ abbrev pub block_encoded_of : SourceBlockEncoder → BlockEncoded
 block_encoded_of b = record { number = b.number; row = b.row; size = b.intermediate.symbol_size; source = b.source.items }
 
 -- what is encoded of a block of this object, over this table
-abbrev pub new_block_encoded : List Row → Configuration → List ℕ → ℕ → BlockEncoded
+abbrev pub new_block_encoded : List TableRow → Configuration → List ℕ → ℕ → BlockEncoded
 new_block_encoded table c object b = record { number = b; row = block_row table c b; size = c.symbol_size; source = block_source c object b }
 
 -- a packet of the block

@@ -1,13 +1,13 @@
 -- What callers see of a cache of plans.
 use Rattle.std.specs.Prelude.{◌≡◌, ◌≤◌, ℕ, Bool, List, [], ◌∷◌, ◌++◌, length, drop, if◌then◌else◌, ◌==◌, nat_lt}
 use Rattle.std.specs.List.{list_any}
-use Rattle.rq_standard.specs.declared.row.Row.{Row}
+use Rattle.rq_standard.specs.declared.row.TableRow.{TableRow}
 use Rattle.rq_standard.specs.TableRows.{greatest_size, row_of}
 use Rattle.raptorq.specs.declared.encoder.plan.SourceBlockEncodingPlan.{SourceBlockEncodingPlan}
 
 -- its table, and the counts of source symbols of the plans that it holds, the first to fall out first
 pub record PlanCache : Type 0 where
-  pub table : List Row
+  pub table : List TableRow
   pub counts : List ℕ
 
 -- whether a count is held
@@ -26,6 +26,6 @@ abbrev pub used : PlanCache → ℕ → PlanCache
 used cache count = record cache { counts = cached cache.counts count }
 
 -- a plan over that table
-pub record IsPlanOver (table : List Row) (p : SourceBlockEncodingPlan) : Type 0 where
+pub record IsPlanOver (table : List TableRow) (p : SourceBlockEncodingPlan) : Type 0 where
   pub known : p.source_symbol_count ≤ greatest_size table
   pub row : p.row ≡ row_of table p.source_symbol_count

@@ -4,21 +4,21 @@ ghost use Rattle.std.specs.List.{range_with_len};
 ghost use Rattle.rq_standard.specs.Equations.{internal_id};
 ghost use Rattle.rq_standard.specs.TableRows.{IsChecked};
 
-use rq_standard::row::Row;
+use rq_standard::row::TableRow;
 use std::alloc::{AllocError, Global};
 
 /// The internal symbol id of an encoding symbol id, in a block of so many source symbols: padding
 /// symbols have no encoding symbol id (RFC 6330, section 5.3.1).
-pub(crate) fn internal_symbol_id(row: &Row, symbols: u32, esi: u32) -> u32
+pub(crate) fn internal_symbol_id(row: &TableRow, symbols: u32, esi: u32) -> u32
     requires checked { IsChecked row.now }
-    requires fits { symbols ≤ row.now.source_symbols }
+    requires fits { symbols ≤ row.now.extended_symbols }
     requires esi { esi < 2 ^ 24 }
     ensures { result ≡ internal_id row.now symbols esi }
 {
     if esi < symbols {
         esi
     } else {
-        esi + (row.source_symbols - symbols)
+        esi + (row.extended_symbols - symbols)
     }
 }
 
@@ -26,15 +26,15 @@ pub(crate) fn internal_symbol_id(row: &Row, symbols: u32, esi: u32) -> u32
 /// room for `count`.
 pub(crate) fn padding_ids(
     alloc: Global,
-    row: &Row,
+    row: &TableRow,
     symbols: u32,
     count: usize,
 ) -> Result<Vec<u32>, AllocError>
-    requires { symbols ≤ row.now.source_symbols }
-    ensures { IfOk result (λ ids. ids.items ≡ range_with_len symbols (row.now.source_symbols - symbols)) }
+    requires { symbols ≤ row.now.extended_symbols }
+    ensures { IfOk result (λ ids. ids.items ≡ range_with_len symbols (row.now.extended_symbols - symbols)) }
 {
     let mut ids = Vec::with_capacity(alloc, count)?;
-    for id in symbols..row.source_symbols {
+    for id in symbols..row.extended_symbols {
         ids.push(id)?;
     }
     Ok(ids)

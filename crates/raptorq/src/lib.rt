@@ -8,7 +8,7 @@ mod ids;
 pub mod laws;
 mod solving;
 mod sub_blocks;
-mod sums;
+mod enc;
 
 pub use blocks::calculate_block_offsets;
 pub use decoder::{Decoder, SourceBlockDecoder};

@@ -12,7 +12,7 @@ use rq_bytes::symbol_slab::SymbolSlab;
 use rq_matrix::matrix::DenseBinaryMatrix;
 use rq_solver::null_column::homogeneous_column;
 use rq_solver::pi_solver::IntermediateSymbolDecoder;
-use rq_standard::row::Row;
+use rq_standard::row::TableRow;
 use std::alloc::Global;
 
 /// The intermediate symbols that solve the equations of a list of internal symbol ids, with these
@@ -20,7 +20,7 @@ use std::alloc::Global;
 /// ids don't determine them.
 pub(crate) fn solve(
     alloc: Global,
-    row: &Row,
+    row: &TableRow,
     ids: &[u32],
     values: SymbolSlab,
 ) -> Result<Option<SymbolSlab>, Error>
@@ -44,7 +44,7 @@ pub(crate) fn solve(
 /// operations alone are wanted.
 pub(crate) fn solve_recorded(
     alloc: Global,
-    row: &Row,
+    row: &TableRow,
     ids: &[u32],
     values: SymbolSlab,
 ) -> Result<Option<(SymbolSlab, Vec<SymbolOps>)>, Error>
@@ -63,7 +63,7 @@ pub(crate) fn solve_recorded(
 /// A column that isn't all zeros and solves the equations of a list of internal symbol ids with all
 /// values zero. `None` where the ids determine the intermediate symbols. There may be any number of
 /// ids.
-pub(crate) fn homogeneous(alloc: Global, row: &Row, ids: &[u32]) -> Result<Option<Vec<u8>>, Error>
+pub(crate) fn homogeneous(alloc: Global, row: &TableRow, ids: &[u32]) -> Result<Option<Vec<u8>>, Error>
     requires checked { IsChecked row.now }
     requires fits { equation_count row.now ids.now < 2 ^ 31 }
     ensures shown { IfOk result (ShowsHomogeneous (equation_count row.now ids.now) (intermediate_symbols row.now) (equations row.now ids.now)) }

@@ -7,7 +7,7 @@ use raptorq::{
     EncodingPacket, ObjectTransmissionInformation, PayloadId, SourceBlockEncoder,
     SourceBlockEncodingPlan, SourceBlockEncodingPlanCache,
 };
-use rq_standard::numbers::SYSTEMATIC_INDICES_AND_PARAMETERS;
+use rq_standard::systematic_indices::SYSTEMATIC_INDICES_AND_PARAMETERS;
 use std::alloc::Global;
 use std::test::Fail;
 

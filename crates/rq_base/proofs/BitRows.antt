@@ -1,19 +1,19 @@
 -- The rows of bits as single bits are set.
 use Rattle.std.proofs.Common.{◌≡◌, ◌≢◌, ℕ, ◌+◌, ◌*◌, ◌%◌, ◌<◌, ◌≤◌, Bool, true, false, cond, eqb, ◌&&◌, ◌||◌, refl, sym, ap, ◌∙◌, arith, inl, inr}
 use Rattle.std.proofs.lemmas.Bool.{cases_eq, cases_lt, eq-eqb, ne_eqb, lt-ltb, le-ltb}
-use Rattle.rq_standard.specs.declared.row.Row.{Row}
+use Rattle.rq_standard.specs.declared.row.TableRow.{TableRow}
 use Rattle.rq_standard.specs.BitTable.{BitTable}
 use Rattle.rq_standard.specs.BitTableSteps.{HasSameShape, SetsBit, bit_of}
-use Rattle.rq_standard.specs.TableRows.{IsChecked, intermediate_symbols, lone_lt_symbols, pi_symbols}
-use Rattle.rq_standard.specs.Equations.{one_if, ldpc_step, is_ldpc_place, ldpc_coefficient}
-use Rattle.rq_base.specs.BinaryRows.{HasRows, HasLoneColumns, HasLdpcRows}
+use Rattle.rq_standard.specs.TableRows.{IsChecked, intermediate_symbols, b_of, pi_symbols}
+use Rattle.rq_standard.specs.Equations.{one_if, ldpc_step, is_ldpc_row, ldpc_coefficient}
+use Rattle.rq_base.specs.BinaryRows.{HasRows, HasLdpc1Columns, HasLdpcRows}
 
 -- ---- shapes
 
 pub same_shape : {a b c : BitTable} → HasSameShape a b → HasSameShape b c → HasSameShape a c
 same_shape s t = record { height = t.height ∙ s.height; width = t.width ∙ s.width; boundary = t.boundary ∙ s.boundary; indexed = t.indexed ∙ s.indexed }
 
-pub rows_stay : {row : Row} {rows : ℕ} {old new : BitTable} → HasRows row rows old → HasSameShape old new → HasRows row rows new
+pub rows_stay : {row : TableRow} {rows : ℕ} {old new : BitTable} → HasRows row rows old → HasSameShape old new → HasRows row rows new
 rows_stay r s = record { height = s.height ∙ r.height; width = s.width ∙ r.width; boundary = s.boundary ∙ r.boundary; indexed = s.indexed ∙ r.indexed }
 
 -- ---- three bits that are set to one
@@ -90,11 +90,11 @@ three_in_row false false false x e = e
 
 -- ---- the columns of the first B symbols
 
-pub lone_more :
-    {row : Row} {rows column : ℕ} {old new : BitTable} → IsChecked row → row.ldpc_symbols ≤ rows → column < lone_lt_symbols row → HasLoneColumns row rows column old
+pub ldpc_1_more :
+    {row : TableRow} {rows column : ℕ} {old new : BitTable} → IsChecked row → row.ldpc_symbols ≤ rows → column < b_of row → HasLdpc1Columns row rows column old
     → SetsThree old new (column % row.ldpc_symbols) ((column + ldpc_step row column) % row.ldpc_symbols) ((column + 2 * ldpc_step row column) % row.ldpc_symbols) column column column
-    → HasLoneColumns row rows (column + 1) new
-lone_more {row} {rows} {column} {old} {new} checked room lt lone three =
+    → HasLdpc1Columns row rows (column + 1) new
+ldpc_1_more {row} {rows} {column} {old} {new} checked room lt lone three =
     let s = row.ldpc_symbols in
     let some : 0 < s = omega (arith, checked.odd) in
     let x = column % s in
@@ -120,7 +120,7 @@ lone_more {row} {rows} {column} {old} {new} checked room lt lone three =
             three.bits i k (omega (arith, lone.shape.height)) (omega (arith, lone.shape.width))
             ∙ ap (λ e. cond (eqb i z && e) 1 (cond (eqb i y && e) 1 (cond (eqb i x && e) 1 (old.bit i k)))) (eq-eqb k column here)
             ∙ three_here (eqb i x) (eqb i y) (eqb i z) (old.bit i k) (lone.right i k hi (omega arith) (omega arith))
-            ∙ ap (λ n. one_if (is_ldpc_place row i n)) (sym here)
+            ∙ ap (λ n. one_if (is_ldpc_row row i n)) (sym here)
         | inr other ↦ elsewhere i k (omega arith) (omega arith) other ∙ lone.done i k hi (omega arith)
       ];
       right = λ i k hi low hk. elsewhere i k (omega arith) hk (λ e. omega arith) ∙ lone.right i k hi (omega arith) hk;
@@ -128,8 +128,8 @@ lone_more {row} {rows} {column} {old} {new} checked room lt lone three =
     }
 
 -- with all of them, no LDPC row is whole yet
-pub lone_whole : {row : Row} {rows : ℕ} {m : BitTable} → HasLoneColumns row rows (lone_lt_symbols row) m → HasLdpcRows row rows 0 m
-lone_whole lone = record {
+pub ldpc_1_whole : {row : TableRow} {rows : ℕ} {m : BitTable} → HasLdpc1Columns row rows (b_of row) m → HasLdpcRows row rows 0 m
+ldpc_1_whole lone = record {
   shape = lone.shape;
   whole = λ i k hi hk. absurd (omega arith);
   left = λ i k low hi hk. lone.done i k hi hk;
@@ -143,28 +143,28 @@ or_false : (b : Bool) → one_if (b || false || false) ≡ one_if b
 or_false true = refl
 or_false false = refl
 
-coefficient-left : (row : Row) (i k : ℕ) → k < lone_lt_symbols row → ldpc_coefficient row i k ≡ one_if (is_ldpc_place row i k)
+coefficient-left : (row : TableRow) (i k : ℕ) → k < b_of row → ldpc_coefficient row i k ≡ one_if (is_ldpc_row row i k)
 unfolding ldpc_coefficient
-coefficient-left row i k lt = rw (lt-ltb k (lone_lt_symbols row) lt) refl
+coefficient-left row i k lt = rw (lt-ltb k (b_of row) lt) refl
 
 -- the last columns of an LDPC row
 coefficient-right :
-    (row : Row) → IsChecked row → (i : ℕ) → i < row.ldpc_symbols → (k : ℕ) → lone_lt_symbols row ≤ k
-    → one_if (eqb k (lone_lt_symbols row + i) || eqb k (row.lt_symbols + i % pi_symbols row) || eqb k (row.lt_symbols + (i + 1) % pi_symbols row)) ≡ ldpc_coefficient row i k
+    (row : TableRow) → IsChecked row → (i : ℕ) → i < row.ldpc_symbols → (k : ℕ) → b_of row ≤ k
+    → one_if (eqb k (b_of row + i) || eqb k (row.lt_symbols + i % pi_symbols row) || eqb k (row.lt_symbols + (i + 1) % pi_symbols row)) ≡ ldpc_coefficient row i k
 unfolding ldpc_coefficient
 coefficient-right row checked i ldpc k low =
     let w = row.lt_symbols in
-    rw (le-ltb k (lone_lt_symbols row) low) (elim (cases_lt k w) [
-      | inl lt ↦ rw (lt-ltb k w lt, ne_eqb k (w + i % pi_symbols row) (λ e. omega arith), ne_eqb k (w + (i + 1) % pi_symbols row) (λ e. omega arith)) (or_false (eqb k (lone_lt_symbols row + i)))
-      | inr le ↦ rw (le-ltb k w le, ne_eqb k (lone_lt_symbols row + i) (λ e. omega (arith, checked.some_lone))) refl
+    rw (le-ltb k (b_of row) low) (elim (cases_lt k w) [
+      | inl lt ↦ rw (lt-ltb k w lt, ne_eqb k (w + i % pi_symbols row) (λ e. omega arith), ne_eqb k (w + (i + 1) % pi_symbols row) (λ e. omega arith)) (or_false (eqb k (b_of row + i)))
+      | inr le ↦ rw (le-ltb k w le, ne_eqb k (b_of row + i) (λ e. omega (arith, checked.some_b))) refl
     ])
 
 pub ldpc_more :
-    {row : Row} {rows i : ℕ} {old new : BitTable} → IsChecked row → row.ldpc_symbols ≤ rows → i < row.ldpc_symbols → HasLdpcRows row rows i old
-    → SetsThree old new i i i (lone_lt_symbols row + i) (row.lt_symbols + i % pi_symbols row) (row.lt_symbols + (i + 1) % pi_symbols row)
+    {row : TableRow} {rows i : ℕ} {old new : BitTable} → IsChecked row → row.ldpc_symbols ≤ rows → i < row.ldpc_symbols → HasLdpcRows row rows i old
+    → SetsThree old new i i i (b_of row + i) (row.lt_symbols + i % pi_symbols row) (row.lt_symbols + (i + 1) % pi_symbols row)
     → HasLdpcRows row rows (i + 1) new
 ldpc_more {row} {rows} {i} {old} {new} checked room lt before three =
-    let own = lone_lt_symbols row + i in
+    let own = b_of row + i in
     let first = row.lt_symbols + i % pi_symbols row in
     let second = row.lt_symbols + (i + 1) % pi_symbols row in
     let bits = λ (a k : ℕ) (ha : a < rows) (hk : k < intermediate_symbols row). three.bits a k (omega (arith, before.shape.height)) (omega (arith, before.shape.width)) in
@@ -172,14 +172,14 @@ ldpc_more {row} {rows} {i} {old} {new} checked room lt before three =
     (bits a k ha hk ∙ ap (λ e. cond (e && eqb k second) 1 (cond (e && eqb k first) 1 (cond (e && eqb k own) 1 (old.bit a k)))) (ne_eqb a i other)) in
     let here : (k : ℕ) → k < intermediate_symbols row → new.bit i k ≡ cond (eqb k second) 1 (cond (eqb k first) 1 (cond (eqb k own) 1 (old.bit i k))) = λ k hk.
     (bits i k (omega arith) hk ∙ ap (λ e. cond (e && eqb k second) 1 (cond (e && eqb k first) 1 (cond (e && eqb k own) 1 (old.bit i k)))) (eq-eqb i i refl)) in
-    let left_of : (k : ℕ) → k < lone_lt_symbols row → cond (eqb k second) 1 (cond (eqb k first) 1 (cond (eqb k own) 1 (old.bit i k))) ≡ old.bit i k = λ k hk.
+    let left_of : (k : ℕ) → k < b_of row → cond (eqb k second) 1 (cond (eqb k first) 1 (cond (eqb k own) 1 (old.bit i k))) ≡ old.bit i k = λ k hk.
     rw (ne_eqb k second (λ e. omega arith), ne_eqb k first (λ e. omega arith), ne_eqb k own (λ e. omega arith)) refl in
     record {
       shape = rows_stay before.shape three.shape;
       whole = λ a k ha hk. elim (cases_eq a i) [
         | inl same ↦
             ap (λ n. new.bit n k) same ∙ here k hk
-            ∙ elim (cases_lt k (lone_lt_symbols row)) [
+            ∙ elim (cases_lt k (b_of row)) [
               | inl low ↦ left_of k low ∙ before.left i k (omega arith) lt low ∙ sym (coefficient-left row i k low)
               | inr high ↦ three_in_row (eqb k own) (eqb k first) (eqb k second) (old.bit i k) (before.right i k (omega arith) lt high hk) ∙ coefficient-right row checked i lt k high
             ]

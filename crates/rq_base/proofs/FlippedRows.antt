@@ -6,11 +6,11 @@ use Rattle.std.specs.Int.Bits.{bit_xor}
 use Rattle.rq_algebra.specs.Parities.{parity}
 use Rattle.rq_algebra.specs.Systems.{at}
 use Rattle.rq_algebra.proofs.Parity.{unit, unit_same, unit_other, parity-cons, parity_cases}
-use Rattle.rq_standard.specs.declared.row.Row.{Row}
+use Rattle.rq_standard.specs.declared.row.TableRow.{TableRow}
 use Rattle.rq_standard.specs.BitTable.{BitTable}
 use Rattle.rq_standard.specs.BitTableSteps.{HasSameShape, SetsBit, bit_of}
 use Rattle.rq_standard.specs.TableRows.{intermediate_symbols}
-use Rattle.rq_standard.specs.Equations.{row_places, symbol_coefficient}
+use Rattle.rq_standard.specs.Equations.{row_indices, symbol_coefficient}
 use Rattle.rq_base.specs.BinaryRows.{HasLdpcRows, HasSymbolRows, FillsRow}
 use Rattle.rq_base.proofs.BitRows.{same_shape, rows_stay}
 
@@ -102,7 +102,7 @@ flips_none {old} {new} {i} {places} {left} flipping e = record {
 
 -- ---- the rows of the ids
 
-pub symbols_none : {row : Row} {first : ℕ} {ids : List ℕ} {m : BitTable} → row.ldpc_symbols ≤ first → HasLdpcRows row (first + length ids) row.ldpc_symbols m → HasSymbolRows row first ids 0 m
+pub symbols_none : {row : TableRow} {first : ℕ} {ids : List ℕ} {m : BitTable} → row.ldpc_symbols ≤ first → HasLdpcRows row (first + length ids) row.ldpc_symbols m → HasSymbolRows row first ids 0 m
 symbols_none {row} {first} {ids} {m} after rows = record {
   shape = rows.shape;
   ldpc = rows.whole;
@@ -112,8 +112,8 @@ symbols_none {row} {first} {ids} {m} after rows = record {
 }
 
 pub symbols_more :
-    {row : Row} {first i : ℕ} {ids places : List ℕ} {old new : BitTable} → row.ldpc_symbols ≤ first → i < length ids → HasSymbolRows row first ids i old
-    → FillsRow old (first + i) places new → places ≡ row_places row (at ids i) → HasSymbolRows row first ids (i + 1) new
+    {row : TableRow} {first i : ℕ} {ids places : List ℕ} {old new : BitTable} → row.ldpc_symbols ≤ first → i < length ids → HasSymbolRows row first ids i old
+    → FillsRow old (first + i) places new → places ≡ row_indices row (at ids i) → HasSymbolRows row first ids (i + 1) new
 symbols_more {row} {first} {i} {ids} {places} {old} {new} after lt rows fills is =
     let tall = rows.shape.height in
     let wide = rows.shape.width in

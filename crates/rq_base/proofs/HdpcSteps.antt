@@ -1,8 +1,8 @@
 -- The HDPC rows column by column.
 use Rattle.std.proofs.Common.{◌≡◌, ℕ, ◌+◌, ◌-◌, ◌%◌, ◌≤◌, ◌<◌, eqb, ◌||◌, set, sym, ap, ◌∙◌, refl, arith, inl, inr}
 use Rattle.std.proofs.lemmas.Bool.{cases_eq, eq-eqb, ne_eqb}
-use Rattle.rq_parts.specs.OctetTable.{OctetTable, row_at, with_row, entry_of}
-use Rattle.rq_standard.specs.declared.row.Row.{Row}
+use Rattle.rq_parts.specs.DenseOctetMatrix.{OctetTable, row_at, with_row, entry_of}
+use Rattle.rq_standard.specs.declared.row.TableRow.{TableRow}
 use Rattle.rq_standard.specs.Rand.{rand}
 use Rattle.rq_standard.specs.Octets.{octet_power}
 use Rattle.rq_standard.specs.TableRows.{intermediate_symbols}
@@ -12,17 +12,17 @@ use Rattle.rq_base.specs.HdpcPart.{HasShape, IsFilledFrom}
 use Rattle.rq_base.proofs.OctetEntries.{sets}
 
 -- a column before the last one of MT has ones in two rows
-pub mt-is : (row : Row) (i j first second : ℕ) → j + 1 < before_hdpc row → first ≡ rand (j + 1) 6 row.hdpc_symbols → second ≡ (first + rand (j + 1) 7 (row.hdpc_symbols - 1) + 1) % row.hdpc_symbols → mt row i j ≡ one_if (eqb i first || eqb i second)
+pub mt-is : (row : TableRow) (i j first second : ℕ) → j + 1 < before_hdpc row → first ≡ rand (j + 1) 6 row.hdpc_symbols → second ≡ (first + rand (j + 1) 7 (row.hdpc_symbols - 1) + 1) % row.hdpc_symbols → mt row i j ≡ one_if (eqb i first || eqb i second)
 unfolding mt
 mt-is row i j first second lt e f = rw (ne_eqb j (before_hdpc row - 1) (λ e. omega arith), f, e) refl
 
 -- the column down to row i, and the columns after it
-pub record IsPartlyFilled (row : Row) (column height : ℕ) (table : OctetTable) : Type 0 where
+pub record IsPartlyFilled (row : TableRow) (column height : ℕ) (table : OctetTable) : Type 0 where
   pub next : IsFilledFrom row (column + 1) table
   pub done : (i : ℕ) → i < height → entry_of table i column ≡ hdpc_coefficient row i column
 
 pub filled_more :
-    (row : Row) (old new : OctetTable) (column i value : ℕ) → IsPartlyFilled row column i old → i < row.hdpc_symbols → column + 1 < before_hdpc row
+    (row : TableRow) (old new : OctetTable) (column i value : ℕ) → IsPartlyFilled row column i old → i < row.hdpc_symbols → column + 1 < before_hdpc row
     → new ≡ with_row old i (set (row_at old i) column value) → value ≡ hdpc_coefficient row i column → IsPartlyFilled row column (i + 1) new
 filled_more row old new column i value filled lt below e is =
     let wide : column < intermediate_symbols row = omega arith in
@@ -39,7 +39,7 @@ filled_more row old new column i value filled lt below e is =
     }
 
 -- and when all rows are done
-pub filled_whole : (row : Row) (column : ℕ) (table : OctetTable) → IsPartlyFilled row column row.hdpc_symbols table → IsFilledFrom row column table
+pub filled_whole : (row : TableRow) (column : ℕ) (table : OctetTable) → IsPartlyFilled row column row.hdpc_symbols table → IsFilledFrom row column table
 filled_whole row column table filled = record {
   shape = filled.next.shape;
   columns = λ i k hi hk hl. elim (cases_eq k column) [
@@ -50,14 +50,14 @@ filled_whole row column table filled = record {
 
 -- ---- the columns from K' + S - 1 on, row by row
 
-pub record AreRowsFilled (row : Row) (height : ℕ) (table : OctetTable) : Type 0 where
+pub record AreRowsFilled (row : TableRow) (height : ℕ) (table : OctetTable) : Type 0 where
   pub shape : HasShape row.hdpc_symbols (intermediate_symbols row) table
   pub done : (i k : ℕ) → i < height → before_hdpc row - 1 ≤ k → k < intermediate_symbols row → entry_of table i k ≡ hdpc_coefficient row i k
   pub rest : (i k : ℕ) → height ≤ i → entry_of table i k ≡ 0
 
 -- a row is filled by two octets
 pub rows_more :
-    (row : Row) (old middle new : OctetTable) (i : ℕ) → AreRowsFilled row i old → i < row.hdpc_symbols → 0 < before_hdpc row
+    (row : TableRow) (old middle new : OctetTable) (i : ℕ) → AreRowsFilled row i old → i < row.hdpc_symbols → 0 < before_hdpc row
     → middle ≡ with_row old i (set (row_at old i) (before_hdpc row - 1) (octet_power i))
     → new ≡ with_row middle i (set (row_at middle i) (before_hdpc row + i) 1) → AreRowsFilled row (i + 1) new
 rows_more row old middle new i filled lt some e f =

@@ -2,7 +2,7 @@
 use Rattle.std.proofs.Common.{◌≡◌, ◌≢◌, ℕ, ◌<◌, [], length, set, get_or, sym, ap, ◌∙◌, subst, arith, inl, inr}
 use Rattle.std.proofs.lemmas.Bool.{cases_eq}
 use Rattle.std.proofs.lemmas.List.{get_or-set_same, get_or-set_other, length-set}
-use Rattle.rq_parts.specs.OctetTable.{OctetTable, row_at, with_row, entry_of}
+use Rattle.rq_parts.specs.DenseOctetMatrix.{OctetTable, row_at, with_row, entry_of}
 use Rattle.rq_base.specs.HdpcPart.{HasShape}
 
 pub record Sets (height width : ℕ) (old new : OctetTable) (i j value : ℕ) : Type 0 where

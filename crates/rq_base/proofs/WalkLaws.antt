@@ -3,7 +3,7 @@ use Rattle.std.proofs.Common.{◌≡◌, ℕ, zero, suc, ◌+◌, ◌-◌, ◌*�
 use Rattle.std.proofs.lemmas.Bool.{lt-ltb, le-ltb, cases_lt}
 use Rattle.std.proofs.Math.Nat.{mod-eq_of_lt, add-mod_right, mod-add-mod}
 use Rattle.std.specs.List.{range_with_len}
-use Rattle.rq_base.specs.Places.{walk, next_below, walk_below}
+use Rattle.rq_base.specs.Indices.{walk, next_below, walk_below}
 
 -- ---- the walk ends
 

@@ -2,40 +2,40 @@
 use Rattle.std.specs.Prelude.{◌≡◌, ◌≢◌, ℕ, ◌+◌, ◌<◌, ◌≤◌, false, List, length}
 use Rattle.rq_algebra.specs.Systems.{at}
 use Rattle.rq_algebra.specs.Parities.{parity}
-use Rattle.rq_standard.specs.declared.row.Row.{Row}
+use Rattle.rq_standard.specs.declared.row.TableRow.{TableRow}
 use Rattle.rq_standard.specs.BitTable.{BitTable}
 use Rattle.rq_standard.specs.BitTableSteps.{HasSameShape}
-use Rattle.rq_standard.specs.TableRows.{intermediate_symbols, lone_lt_symbols}
-use Rattle.rq_standard.specs.Equations.{one_if, is_ldpc_place, ldpc_coefficient, symbol_coefficient}
+use Rattle.rq_standard.specs.TableRows.{intermediate_symbols, b_of}
+use Rattle.rq_standard.specs.Equations.{one_if, is_ldpc_row, ldpc_coefficient, symbol_coefficient}
 
 -- so many rows of L columns, of which the LT symbols' ones aren't dense, and none is indexed
-pub record HasRows (row : Row) (rows : ℕ) (m : BitTable) : Type 0 where
+pub record HasRows (row : TableRow) (rows : ℕ) (m : BitTable) : Type 0 where
   pub height : m.height ≡ rows
   pub width : m.width ≡ intermediate_symbols row
   pub boundary : m.boundary ≡ row.lt_symbols
   pub indexed : m.indexed ≡ false
 
 -- no ones from a row on
-abbrev pub IsZeroFrom : Row → ℕ → BitTable → Type 0
+abbrev pub IsZeroFrom : TableRow → ℕ → BitTable → Type 0
 IsZeroFrom row first m = (i k : ℕ) → first ≤ i → i < m.height → k < intermediate_symbols row → m.bit i k ≡ 0
 
 -- the LDPC rows hold the places of the first `columns` LT symbols, and nothing else is set
-pub record HasLoneColumns (row : Row) (rows columns : ℕ) (m : BitTable) : Type 0 where
+pub record HasLdpc1Columns (row : TableRow) (rows columns : ℕ) (m : BitTable) : Type 0 where
   pub shape : HasRows row rows m
-  pub done : (i k : ℕ) → i < row.ldpc_symbols → k < columns → m.bit i k ≡ one_if (is_ldpc_place row i k)
+  pub done : (i k : ℕ) → i < row.ldpc_symbols → k < columns → m.bit i k ≡ one_if (is_ldpc_row row i k)
   pub right : (i k : ℕ) → i < row.ldpc_symbols → columns ≤ k → k < intermediate_symbols row → m.bit i k ≡ 0
   pub below : IsZeroFrom row row.ldpc_symbols m
 
 -- the first rows are LDPC rows, the others have the places of the B lone LT symbols, and nothing else is set
-pub record HasLdpcRows (row : Row) (rows done : ℕ) (m : BitTable) : Type 0 where
+pub record HasLdpcRows (row : TableRow) (rows done : ℕ) (m : BitTable) : Type 0 where
   pub shape : HasRows row rows m
   pub whole : (i k : ℕ) → i < done → k < intermediate_symbols row → m.bit i k ≡ ldpc_coefficient row i k
-  pub left : (i k : ℕ) → done ≤ i → i < row.ldpc_symbols → k < lone_lt_symbols row → m.bit i k ≡ one_if (is_ldpc_place row i k)
-  pub right : (i k : ℕ) → done ≤ i → i < row.ldpc_symbols → lone_lt_symbols row ≤ k → k < intermediate_symbols row → m.bit i k ≡ 0
+  pub left : (i k : ℕ) → done ≤ i → i < row.ldpc_symbols → k < b_of row → m.bit i k ≡ one_if (is_ldpc_row row i k)
+  pub right : (i k : ℕ) → done ≤ i → i < row.ldpc_symbols → b_of row ≤ k → k < intermediate_symbols row → m.bit i k ≡ 0
   pub below : IsZeroFrom row row.ldpc_symbols m
 
 -- the LDPC rows, and from row `first` on a row for each of the first `done` ids; the other rows are zeros
-pub record HasSymbolRows (row : Row) (first : ℕ) (ids : List ℕ) (done : ℕ) (m : BitTable) : Type 0 where
+pub record HasSymbolRows (row : TableRow) (first : ℕ) (ids : List ℕ) (done : ℕ) (m : BitTable) : Type 0 where
   pub shape : HasRows row (first + length ids) m
   pub ldpc : (i k : ℕ) → i < row.ldpc_symbols → k < intermediate_symbols row → m.bit i k ≡ ldpc_coefficient row i k
   pub zeros : (i k : ℕ) → row.ldpc_symbols ≤ i → i < first → k < intermediate_symbols row → m.bit i k ≡ 0

@@ -2,12 +2,12 @@
 use Rattle.std.specs.Prelude.{ℕ, List, Result, Ok, Err, if◌then◌else◌, ◌==◌, nat_lt}
 use Rattle.rq_bytes.specs.declared.error.Error.{Error}
 use Rattle.rq_bytes.specs.declared.error.Error.TheVariants.{PacketSizeZero, TransferLengthZero, TransferTooLong, MemoryRequirementTooSmall, TooManyBlocks}
-use Rattle.rq_standard.specs.declared.row.Row.{Row}
+use Rattle.rq_standard.specs.declared.row.TableRow.{TableRow}
 use Rattle.rq_standard.specs.Configuration.{Configuration}
 use Rattle.std.specs.Int.{div_ceil}
 use Rattle.rq_standard.specs.Parameters.{IsLeast, is_fitting, symbols_for, fitting_block, most_sub_blocks, blocks_for, parameters_for}
 
-abbrev pub wanted_parameters : List Row → ℕ → ℕ → ℕ → Result Configuration Error
+abbrev pub wanted_parameters : List TableRow → ℕ → ℕ → ℕ → Result Configuration Error
 wanted_parameters rows length s memory =
     if s == 0 then Err PacketSizeZero
     else if length == 0 then Err TransferLengthZero
@@ -17,5 +17,5 @@ wanted_parameters rows length s memory =
     else Ok (parameters_for rows length s memory)
 
 -- N is the least number of sub-blocks that fit
-abbrev pub HasLeastSubBlocks : List Row → ℕ → ℕ → ℕ → Configuration → Type 0
+abbrev pub HasLeastSubBlocks : List TableRow → ℕ → ℕ → ℕ → Configuration → Type 0
 HasLeastSubBlocks rows length s memory c = IsLeast (is_fitting rows s memory (div_ceil (symbols_for length s) c.source_blocks)) c.sub_blocks

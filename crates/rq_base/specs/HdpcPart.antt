@@ -1,7 +1,7 @@
 -- The matrix of octets of the HDPC equations.
 use Rattle.std.specs.Prelude.{◌≡◌, ℕ, ◌<◌, ◌≤◌, length}
-use Rattle.rq_parts.specs.OctetTable.{OctetTable, row_at, entry_of}
-use Rattle.rq_standard.specs.declared.row.Row.{Row}
+use Rattle.rq_parts.specs.DenseOctetMatrix.{OctetTable, row_at, entry_of}
+use Rattle.rq_standard.specs.declared.row.TableRow.{TableRow}
 use Rattle.rq_standard.specs.TableRows.{intermediate_symbols}
 use Rattle.rq_standard.specs.Equations.{hdpc_coefficient}
 use Rattle.rq_standard.specs.ConstraintMatrix.{AreHdpcRows}
@@ -13,11 +13,11 @@ pub record HasShape (height width : ℕ) (table : OctetTable) : Type 0 where
   pub full : (i : ℕ) → i < height → length (row_at table i) ≡ width
 
 -- the HDPC rows, H rows of L octets
-pub record IsHdpcPart (row : Row) (table : OctetTable) : Type 0 where
+pub record IsHdpcPart (row : TableRow) (table : OctetTable) : Type 0 where
   pub shape : HasShape row.hdpc_symbols (intermediate_symbols row) table
   pub rows : AreHdpcRows row (entry_of table)
 
 -- the columns from `start` on are those of the HDPC rows
-pub record IsFilledFrom (row : Row) (start : ℕ) (table : OctetTable) : Type 0 where
+pub record IsFilledFrom (row : TableRow) (start : ℕ) (table : OctetTable) : Type 0 where
   pub shape : HasShape row.hdpc_symbols (intermediate_symbols row) table
   pub columns : (i k : ℕ) → i < row.hdpc_symbols → start ≤ k → k < intermediate_symbols row → entry_of table i k ≡ hdpc_coefficient row i k

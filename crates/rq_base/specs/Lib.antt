@@ -3,5 +3,5 @@ pub mod Calls
 pub mod Defaults
 pub mod HdpcPart
 pub mod ObjectTransmissionInformation
-pub mod Places
+pub mod Indices
 pub mod RefusedInput

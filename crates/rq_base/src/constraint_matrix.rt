@@ -2,7 +2,7 @@
 //! sections 5.3.3.3 and 5.3.5.3).
 ghost use Rattle.std.specs.Prelude.{◌≡◌, ◌+◌, ◌*◌, ◌^◌, ◌<◌, ◌≤◌, All, length, IfOk, IfErr};
 ghost use Rattle.std.specs.List.{FoldsTo};
-ghost use Rattle.rq_standard.specs.Tuple.{IsTuple, places_of};
+ghost use Rattle.rq_standard.specs.Tuple.{IsTuple, enc_indices};
 ghost use Rattle.rq_bytes.specs.declared.error.Error.TheVariants.{OutOfMemory};
 ghost use Rattle.rq_standard.specs.TableRows.{IsChecked, greatest_size, row_of, intermediate_symbols};
 ghost use Rattle.rq_standard.specs.Equations.{equation_count};
@@ -13,13 +13,13 @@ ghost use Rattle.rq_base.specs.HdpcPart.{IsHdpcPart};
 mod binary;
 pub mod hdpc;
 
-use crate::places::Places;
+use crate::indices::Indices;
 use binary::binary_rows;
 use hdpc::generate_hdpc_rows;
 use rq_bytes::error::Error;
 use rq_matrix::matrix::BinaryMatrix;
 use rq_parts::octet_matrix::DenseOctetMatrix;
-use rq_standard::row::Row;
+use rq_standard::row::TableRow;
 use rq_tables::systematic_constants::SystematicTable;
 use std::alloc::Global;
 
@@ -37,12 +37,12 @@ pub fn enc_indices<F: FnMut(usize)>(
     requires some_pi { 3 ≤ pi_symbols }
     requires p1_above { pi_symbols ≤ p1 }
     requires p1_near { p1 ≤ 2 * pi_symbols }
-    requires callable { CallableAlong (λ p x. F.pre p x) (λ p x q. F.step p x tt q) f (places_of lt_symbols pi_symbols p1 source_tuple) }
-    ensures calls { (last : F) × FoldsTo (λ p x q. F.step p x tt q) f (places_of lt_symbols pi_symbols p1 source_tuple) last }
-    ensures below { All (λ place. place < lt_symbols + pi_symbols) (places_of lt_symbols pi_symbols p1 source_tuple) }
+    requires callable { CallableAlong (λ p x. F.pre p x) (λ p x q. F.step p x tt q) f (enc_indices lt_symbols pi_symbols p1 source_tuple) }
+    ensures calls { (last : F) × FoldsTo (λ p x q. F.step p x tt q) f (enc_indices lt_symbols pi_symbols p1 source_tuple) last }
+    ensures below { All (λ place. place < lt_symbols + pi_symbols) (enc_indices lt_symbols pi_symbols p1 source_tuple) }
 {
-    let mut places = Places::new(source_tuple, lt_symbols, pi_symbols, p1);
-    while let Some(place) = places.next_place() {
+    let mut places = Indices::new(source_tuple, lt_symbols, pi_symbols, p1);
+    while let Some(place) = places.next_index() {
         f(place);
     }
 }
@@ -70,7 +70,7 @@ pub fn generate_constraint_matrix<T: BinaryMatrix>(
 /// The same over a row of a table.
 pub fn generate_constraint_matrix_of_row<T: BinaryMatrix>(
     alloc: Global,
-    row: &Row,
+    row: &TableRow,
     encoded_symbol_indices: &[u32],
 ) -> Result<(T, DenseOctetMatrix), Error>
     requires checked { IsChecked row.now }

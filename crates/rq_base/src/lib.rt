@@ -3,4 +3,4 @@
 
 pub mod base;
 pub mod constraint_matrix;
-pub mod places;
+pub mod indices;

@@ -8,7 +8,7 @@ use Rattle.rq_algebra.specs.Symbols.{symbols, AreSymbols}
 use Rattle.std.proofs.lemmas.List.Elements.{All-take, All-drop}
 use Rattle.rq_standard.specs.OctetField.{octets}
 use Rattle.rq_bytes.specs.Ranges.{range_of, with_range, cut, joined_pieces}
-use Rattle.rq_bytes.specs.Slab.{Slab, after, symbols_in, same_slab, HasPlace}
+use Rattle.rq_bytes.specs.SymbolSlab.{Slab, after, symbols_in, same_slab, HasPlace}
 use Rattle.rq_bytes.specs.contracts.symbol_slab.SymbolSlab.{the_view, the_invariant}
 use Rattle.rq_bytes.specs.declared.symbol_slab.SymbolSlab.TheInside.{Inside}
 use Rattle.std.specs.Option.{option_map, option_eq, ForSome}

@@ -12,7 +12,7 @@ use Rattle.rq_standard.specs.Rows.{row_sum}
 use Rattle.rq_standard.proofs.RowSymbols.{add_symbols-rows}
 use Rattle.rq_bytes.specs.Ranges.{range_of, with_range}
 use Rattle.rq_bytes.proofs.RangeFacts.{length-range}
-use Rattle.rq_bytes.specs.Slab.{Slab, store_of, after_all, Allows, symbol_in, sum_in, with_sum}
+use Rattle.rq_bytes.specs.SymbolSlab.{Slab, store_of, after_all, Allows, symbol_in, sum_in, with_sum}
 
 -- ---- parts of a sum
 

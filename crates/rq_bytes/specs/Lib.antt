@@ -4,6 +4,6 @@ pub mod HalfProducts
 pub mod ProductTables
 pub mod Ranges
 pub mod Refusals
-pub mod Slab
+pub mod SymbolSlab
 pub mod SlabLends
 pub mod SymbolOps

@@ -3,7 +3,7 @@ use Rattle.std.specs.Prelude.{ℕ, List, length, slice_set, ◌≡◌, ◌*◌}
 use Rattle.std.specs.Borrow.{Lends, MutBor, Array, Fml, u8 as byte}
 use Rattle.rq_algebra.specs.Operations.{meant_at}
 use Rattle.rq_bytes.specs.Ranges.{with_range, cut, joined_pieces}
-use Rattle.rq_bytes.specs.Slab.{Slab}
+use Rattle.rq_bytes.specs.SymbolSlab.{Slab}
 use Rattle.rq_bytes.specs.contracts.symbol_slab.SymbolSlab.{the_row}
 
 -- the slab with these octets written from the symbol on that a place means

@@ -1,7 +1,7 @@
 //! Recorded operations on symbols.
 ghost use Rattle.std.specs.Prelude.{◌≡◌, OnOk, IfErr};
 ghost use Rattle.rq_bytes.specs.declared.error.Error.TheVariants.{OutOfMemory};
-ghost use Rattle.rq_bytes.specs.Slab.{after, Allows};
+ghost use Rattle.rq_bytes.specs.SymbolSlab.{after, Allows};
 ghost use Rattle.rq_bytes.specs.SymbolOps.{operation_of, IsReorder};
 
 use crate::error::Error;

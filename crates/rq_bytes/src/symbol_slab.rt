@@ -8,7 +8,7 @@ ghost use Rattle.rq_standard.specs.OctetField.{octets};
 ghost use Rattle.std.specs.Borrow.{sem};
 ghost use Rattle.rq_bytes.specs.Ranges.{range_of, whole_symbols, with_range};
 ghost use Rattle.rq_bytes.specs.Refusals.{IsAnswer};
-ghost use Rattle.rq_bytes.specs.Slab.{slab_of, after, after_all, HasPlace, Allows, symbol_in, symbols_in, sum_in, with_sum, same_slab};
+ghost use Rattle.rq_bytes.specs.SymbolSlab.{slab_of, after, after_all, HasPlace, Allows, symbol_in, symbols_in, sum_in, with_sum, same_slab};
 
 use crate::error::Error;
 use crate::factor::Factor;
@@ -35,7 +35,7 @@ impl Model for SymbolSlab {
     ghost use Rattle.std.specs.Option.{option_map, ForSome};
     ghost use Rattle.rq_algebra.specs.Operations.{IsOrder};
     ghost use Rattle.rq_bytes.specs.Ranges.{cut};
-    ghost use Rattle.rq_bytes.specs.Slab.{Slab};
+    ghost use Rattle.rq_bytes.specs.SymbolSlab.{Slab};
 
     ghost Value = { Slab };
 

@@ -1,6 +1,6 @@
 //! Each public call once, at the dense matrix through the trait.
 ghost use Rattle.std.specs.Prelude.{◌≡◌, ℕ, ◌<◌, ◌≤◌, length, slice_index};
-ghost use Rattle.rq_parts.specs.OctetTable.{row_at};
+ghost use Rattle.rq_parts.specs.DenseOctetMatrix.{row_at};
 
 use crate::matrix::{BinaryMatrix, DenseBinaryMatrix};
 use rq_bytes::error::Error;

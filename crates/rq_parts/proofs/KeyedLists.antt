@@ -7,7 +7,7 @@ use Rattle.std.proofs.lemmas.List.{take-map, drop-map}
 use Rattle.std.specs.Prelude.{slice_index, slice_range, not, ◌&&◌}
 use Rattle.std.specs.Ordering.{nat_cmp, is_lt}
 use Rattle.std.specs.List.Sorted.{ties, IsStableByKey, IsPartitionPoint}
-use Rattle.rq_parts.specs.Lists.{IsStart, AreStarts, AreStartsOf, values_of, lists_of, lists_between}
+use Rattle.rq_parts.specs.ImmutableListMap.{IsStart, AreStarts, AreStartsOf, values_of, lists_of, lists_between}
 
 -- ---- a filter that passes a range
 

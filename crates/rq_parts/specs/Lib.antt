@@ -1,7 +1,7 @@
 pub mod ArrayMaps
 pub mod BitPairs
 pub mod ConnectedComponentGraph
-pub mod Lists
+pub mod ImmutableListMap
 pub mod OctetIter
-pub mod OctetTable
+pub mod DenseOctetMatrix
 pub mod UndirectedGraph

@@ -4,7 +4,7 @@ ghost use Rattle.std.specs.Iterator.{YieldsFirst, item_count};
 ghost use Rattle.std.specs.List.Sorted.{IsPermutation, IsStrictlyIncreasing, IsNonDecreasingBy};
 ghost use Rattle.rq_bytes.specs.Refusals.{IsAnswer};
 ghost use Rattle.rq_bytes.specs.declared.error.Error.TheVariants.{OutOfMemory};
-ghost use Rattle.rq_parts.specs.Lists.{values_of, IsStart};
+ghost use Rattle.rq_parts.specs.ImmutableListMap.{values_of, IsStart};
 ghost use Rattle.rq_parts.specs.UndirectedGraph.{nodes_of};
 
 mod components;

@@ -3,7 +3,7 @@ ghost use Rattle.std.specs.Prelude.{◌≡◌, ◌≢◌, ℕ, ◌+◌, ◌<◌,
 ghost use Rattle.std.specs.List.{swap};
 ghost use Rattle.rq_standard.specs.Rows.{row_sum, row_multiple};
 ghost use Rattle.rq_bytes.specs.Refusals.{IsAnswer};
-ghost use Rattle.rq_parts.specs.OctetTable.{HasOctets, IsOctetRow, row_at, with_row, sum_from, columns_swapped};
+ghost use Rattle.rq_parts.specs.DenseOctetMatrix.{HasOctets, IsOctetRow, row_at, with_row, sum_from, columns_swapped};
 
 use rq_bytes::error::Error;
 use rq_bytes::octet::Octet;
@@ -21,7 +21,7 @@ pub struct DenseOctetMatrix {
 
 impl Model for DenseOctetMatrix {
     ghost use Rattle.std.specs.Prelude.{All};
-    ghost use Rattle.rq_parts.specs.OctetTable.{OctetTable, IsOctetRow};
+    ghost use Rattle.rq_parts.specs.DenseOctetMatrix.{OctetTable, IsOctetRow};
 
     ghost Value = { OctetTable };
 

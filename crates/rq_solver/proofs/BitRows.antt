@@ -2,7 +2,7 @@
 use Rattle.std.proofs.Common.{◌≡◌, ℕ, ◌+◌, ◌<◌, ◌≤◌, List, [], ◌∷◌, length, refl, ◌∙◌, subst, arith}
 use Rattle.std.proofs.lemmas.List.Elements.{All-weaker}
 use Rattle.rq_standard.specs.BitTableSteps.{ArePlacesOfOnes}
-use Rattle.rq_parts.specs.OctetTable.{OctetTable}
+use Rattle.rq_parts.specs.DenseOctetMatrix.{OctetTable}
 use Rattle.rq_solver.specs.Cleared.{AreRowsOfBits, AreOctetRows}
 use Rattle.rq_solver.specs.Peeled.{AreOnesOfRows, ones_of}
 use Rattle.rq_solver.proofs.RowTurns.{count_contains}

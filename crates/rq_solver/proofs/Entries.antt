@@ -14,7 +14,7 @@ use Rattle.rq_standard.specs.Octets.{octet_mul, octet_inverse, octet_div}
 use Rattle.rq_standard.specs.OctetFacts.{one-mul, inverse-lt}
 use Rattle.rq_standard.specs.OctetField.{octets, octet_laws}
 use Rattle.rq_standard.specs.Rows.{row_sum, row_multiple}
-use Rattle.rq_parts.specs.OctetTable.{OctetTable, row_at, with_row, entry_of, HasOctets}
+use Rattle.rq_parts.specs.DenseOctetMatrix.{OctetTable, row_at, with_row, entry_of, HasOctets}
 
 -- the product of octets
 pub mul_is : (x y : ℕ) → x < 256 → y < 256 → octets.mul x y ≡ octet_mul x y

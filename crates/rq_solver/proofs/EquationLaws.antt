@@ -4,19 +4,19 @@ use Rattle.std.proofs.lemmas.Bool.{cases_lt}
 use Rattle.rq_algebra.specs.Operations.{Operation}
 use Rattle.rq_algebra.specs.Systems.{stacked, rows_of, HasNullColumn}
 use Rattle.rq_algebra.proofs.Stacks.{stacked_above, stacked_below}
-use Rattle.rq_standard.specs.declared.row.Row.{Row}
+use Rattle.rq_standard.specs.declared.row.TableRow.{TableRow}
 use Rattle.rq_standard.specs.BitTable.{BitTable}
 use Rattle.rq_standard.specs.ConstraintMatrix.{with_octet_rows, IsBinaryPart, AreHdpcRows}
 use Rattle.rq_standard.specs.Equations.{ldpc_coefficient, hdpc_coefficient, symbol_coefficient, fixed_equations, equations, equation_count}
 use Rattle.rq_standard.specs.OctetField.{octets}
 use Rattle.rq_standard.specs.TableRows.{intermediate_symbols}
-use Rattle.rq_bytes.specs.Slab.{Slab}
-use Rattle.rq_parts.specs.OctetTable.{OctetTable, entry_of}
+use Rattle.rq_bytes.specs.SymbolSlab.{Slab}
+use Rattle.rq_parts.specs.DenseOctetMatrix.{OctetTable, entry_of}
 use Rattle.rq_solver.specs.Solving.{IsSolution, AreEquations}
 use Rattle.rq_solver.proofs.RowStepLaws.{SameEntries}
 use Rattle.rq_solver.proofs.SolutionLaws.{finds_same, null_same, is_solution}
 
-module _ (row : Row) (ids : List ℕ) (bits : BitTable) (hdpc : OctetTable) (part : IsBinaryPart row ids bits) (are_hdpc : AreHdpcRows row (entry_of hdpc)) where
+module _ (row : TableRow) (ids : List ℕ) (bits : BitTable) (hdpc : OctetTable) (part : IsBinaryPart row ids bits) (are_hdpc : AreHdpcRows row (entry_of hdpc)) where
   handed_rows : ℕ → ℕ → ℕ
   handed_rows = with_octet_rows row.ldpc_symbols row.hdpc_symbols bits.bit (entry_of hdpc)
 
@@ -77,7 +77,7 @@ module _ (row : Row) (ids : List ℕ) (bits : BitTable) (hdpc : OctetTable) (par
     null_of_equations null = null_same octets (equation_count row ids) (intermediate_symbols row) _ (equations row ids) equations_same (rw count at null)
 
 -- what a solver asks, from what the generator of both matrices says of them
-pub are_equations : (row : Row) (ids : List ℕ) (bits : BitTable) (hdpc : OctetTable) (handed : Slab) → IsBinaryPart row ids bits → length hdpc.rows ≡ row.hdpc_symbols → hdpc.width ≡ intermediate_symbols row
+pub are_equations : (row : TableRow) (ids : List ℕ) (bits : BitTable) (hdpc : OctetTable) (handed : Slab) → IsBinaryPart row ids bits → length hdpc.rows ≡ row.hdpc_symbols → hdpc.width ≡ intermediate_symbols row
     → length handed.values ≡ equation_count row ids → handed.order ≡ None → intermediate_symbols row ≤ equation_count row ids → AreEquations row bits hdpc handed
 are_equations row ids bits hdpc handed part rows columns count order enough = record {
   width = part.width;

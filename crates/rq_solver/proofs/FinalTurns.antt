@@ -7,7 +7,7 @@ use Rattle.rq_algebra.specs.Operations.{Operation}
 use Rattle.rq_algebra.specs.Systems.{at}
 use Rattle.rq_algebra.proofs.Sums.{add_zero}
 use Rattle.rq_standard.specs.OctetField.{octets}
-use Rattle.rq_parts.specs.OctetTable.{entry_of, HasOctets}
+use Rattle.rq_parts.specs.DenseOctetMatrix.{entry_of, HasOctets}
 use Rattle.rq_solver.specs.Cleared.{AreRowsOfBits, AreUnits, FinishesPivots, IsCleared, IsFinished, IsUncleared, TakesBack, TakesPivots, TakesReduced, one_in}
 use Rattle.rq_solver.specs.Peeled.{ones_of, IsPeeled}
 use Rattle.rq_solver.specs.Recorded.{Recorded}

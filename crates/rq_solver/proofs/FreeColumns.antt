@@ -9,7 +9,7 @@ use Rattle.rq_algebra.proofs.FewEquations.{all_places}
 use Rattle.rq_algebra.proofs.Solutions.{solves_same}
 use Rattle.rq_algebra.proofs.Sums.{mul_one, zero_mul, mul_zero, dot_one, dot_zero, dot-suc, dot_split}
 use Rattle.rq_standard.specs.OctetField.{octets}
-use Rattle.rq_parts.specs.OctetTable.{OctetTable, entry_of}
+use Rattle.rq_parts.specs.DenseOctetMatrix.{OctetTable, entry_of}
 use Rattle.rq_solver.specs.Homogeneous.{IsHomogeneousColumn, ShowsHomogeneous, KeepsZeros, LacksPivot}
 use Rattle.rq_solver.specs.RowSteps.{AreRows, IsReduced}
 use Rattle.rq_solver.specs.RowWrites.{HoldsRows}

@@ -7,7 +7,7 @@ use Rattle.rq_algebra.specs.Steps.{AddsRow, ScalesRow}
 use Rattle.rq_algebra.specs.Systems.{at}
 use Rattle.rq_algebra.proofs.Sums.{add_zero, mul_zero, mul_one}
 use Rattle.rq_standard.specs.OctetField.{octets}
-use Rattle.rq_parts.specs.OctetTable.{OctetTable, entry_of, HasOctets}
+use Rattle.rq_parts.specs.DenseOctetMatrix.{OctetTable, entry_of, HasOctets}
 use Rattle.rq_solver.specs.Cleared.{ClearsOctets}
 use Rattle.rq_solver.specs.OctetBatch.{AreOctetsIn, HasPivotsBeside, PivotsAreCleared, AreShown, CombinesOctets, ChangesOctets, HasZeros, HasZerosBefore}
 use Rattle.rq_solver.specs.Peeled.{IsOrderOf}

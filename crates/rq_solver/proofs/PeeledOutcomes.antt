@@ -18,7 +18,7 @@ use Rattle.rq_algebra.proofs.Reduction.{pivots_of_first}
 use Rattle.rq_algebra.proofs.Runs.{follows_none}
 use Rattle.rq_algebra.proofs.Stacks.{stacked_above, stacked_below}
 use Rattle.rq_standard.specs.OctetField.{octets}
-use Rattle.rq_parts.specs.OctetTable.{entry_of}
+use Rattle.rq_parts.specs.DenseOctetMatrix.{entry_of}
 use Rattle.rq_solver.specs.Cleared.{AreUnits, FinishesPivots, HasPeeledPivots, IsCleared, IsFinished, ListsRows, ReducesBack, TakesBack}
 use Rattle.rq_solver.specs.Peeled.{IsOrderOf}
 use Rattle.rq_solver.specs.Recorded.{Recorded, ChangesRows}

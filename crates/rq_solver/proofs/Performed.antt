@@ -8,7 +8,7 @@ use Rattle.rq_algebra.specs.Symbols.{symbols}
 use Rattle.rq_algebra.proofs.Runs.{run-append, last_order, order-run}
 use Rattle.rq_standard.specs.OctetField.{octets}
 use Rattle.rq_bytes.specs.Ranges.{range_of}
-use Rattle.rq_bytes.specs.Slab.{Slab, store_of, after, Allows}
+use Rattle.rq_bytes.specs.SymbolSlab.{Slab, store_of, after, Allows}
 use Rattle.rq_bytes.specs.SymbolOps.{operation_of, IsReorder}
 use Rattle.rq_bytes.specs.declared.operation_vector.SymbolOps.{SymbolOps}
 use Rattle.rq_bytes.specs.declared.operation_vector.SymbolOps.TheVariants as ops

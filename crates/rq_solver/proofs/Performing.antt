@@ -10,7 +10,7 @@ use Rattle.rq_algebra.specs.Systems.{at}
 use Rattle.rq_algebra.proofs.Changes.{find_place}
 use Rattle.rq_algebra.specs.Operations.{Operation, AddAssign, MulAssign, Fma, Reorder}
 use Rattle.rq_standard.specs.OctetField.{octets}
-use Rattle.rq_parts.specs.OctetTable.{entry_of, HasOctets}
+use Rattle.rq_parts.specs.DenseOctetMatrix.{entry_of, HasOctets}
 use Rattle.rq_solver.specs.Recorded.{Recorded, sum_step, Performs, Records, ChangesRows}
 use Rattle.rq_solver.specs.RowSteps.{row_step, rows_after, IsStepAmong}
 use Rattle.rq_solver.proofs.RowStepLaws.{rows_after-same}

@@ -13,7 +13,7 @@ use Rattle.rq_solver.specs.Cleared.{IsCleared, TakesPivots}
 use Rattle.rq_solver.specs.Peeled.{IsOrderOf}
 use Rattle.rq_solver.specs.Recorded.{Recorded, sum_step, Performs}
 use Rattle.rq_solver.specs.RowSteps.{rows_after}
-use Rattle.rq_parts.specs.OctetTable.{HasOctets}
+use Rattle.rq_parts.specs.DenseOctetMatrix.{HasOctets}
 use Rattle.rq_solver.proofs.StepColumns.{rows_after-none, rows_after-next}
 use Rattle.rq_solver.proofs.Performing.{sum_step-here, sum_step-elsewhere, performs_none, performs_more}
 

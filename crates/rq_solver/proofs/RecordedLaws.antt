@@ -3,7 +3,7 @@ use Rattle.std.proofs.Common.{◌≡◌, ◌≢◌, ℕ, ◌+◌, ◌<◌, List,
 use Rattle.std.proofs.lemmas.List.{length-set}
 use Rattle.rq_algebra.specs.Operations.{Operation, MulAssign}
 use Rattle.rq_standard.specs.Rows.{row_sum, row_multiple}
-use Rattle.rq_parts.specs.OctetTable.{OctetTable, row_at, with_row, HasOctets}
+use Rattle.rq_parts.specs.DenseOctetMatrix.{OctetTable, row_at, with_row, HasOctets}
 use Rattle.rq_solver.specs.OperationCounts.{additions}
 use Rattle.rq_solver.specs.Recorded.{Recorded, Performs, Records, sum_step}
 use Rattle.rq_solver.proofs.CountLaws.{additions-sum, additions-scaling}

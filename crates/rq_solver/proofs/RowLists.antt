@@ -13,7 +13,7 @@ use Rattle.std.proofs.Math.ListN.{get_or-append}
 use Rattle.rq_standard.specs.BitTableSteps.{ArePlacesOfOnes, AreOnesOf, IsPlaceAndBit}
 use Rattle.rq_standard.specs.BitTableSteps as steps
 use Rattle.rq_standard.proofs.BitTableLaws.{is_one_at-one, is_one_at-zero, is_one_at-other, ones_at-cons}
-use Rattle.rq_parts.specs.Lists.{lists_between}
+use Rattle.rq_parts.specs.ImmutableListMap.{lists_between}
 use Rattle.rq_parts.proofs.KeyedLists.{list_read, length-lists}
 use Rattle.rq_solver.specs.Peeled.{ones_of, AreOnesOfRows, AddsOnes, AreAllBetween}
 

@@ -11,7 +11,7 @@ use Rattle.rq_solver.specs.Cleared.{AreRowsOfBits, ListsRows, IsCleared, IsUncle
 use Rattle.rq_solver.specs.Peeled.{ones_of, IsPeeled}
 use Rattle.rq_solver.specs.Recorded.{Recorded}
 use Rattle.rq_solver.specs.RowSteps.{rows_after}
-use Rattle.rq_parts.specs.OctetTable.{HasOctets}
+use Rattle.rq_parts.specs.DenseOctetMatrix.{HasOctets}
 use Rattle.rq_solver.proofs.StepColumns.{rows_after-none, rows_after-next}
 use Rattle.rq_solver.proofs.Performing.{performs_none, performs_more}
 use Rattle.rq_solver.proofs.PivotTurns.{if_same, if_apart, count_next, count_taken}

@@ -10,7 +10,7 @@ use Rattle.rq_algebra.proofs.Found.{found_only, found_solves}
 use Rattle.rq_standard.specs.OctetField.{octets}
 use Rattle.rq_bytes.specs.declared.error.Error.{Error}
 use Rattle.rq_bytes.specs.declared.operation_vector.SymbolOps.{SymbolOps}
-use Rattle.rq_bytes.specs.Slab.{Slab, store_of, symbol_in, HasPlace}
+use Rattle.rq_bytes.specs.SymbolSlab.{Slab, store_of, symbol_in, HasPlace}
 use Rattle.rq_solver.specs.Replay.{after_all}
 use Rattle.rq_solver.specs.Solving.{IsSolution, IsOutcome, Solver}
 use Rattle.rq_solver.proofs.RowStepLaws.{SameEntries}

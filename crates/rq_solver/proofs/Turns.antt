@@ -10,7 +10,7 @@ use Rattle.rq_algebra.proofs.Places.{exchange_left, exchange_right, exchange_oth
 use Rattle.rq_algebra.proofs.Reduction.{first_pivots_none, first_pivots_rows, first_pivots_more}
 use Rattle.rq_algebra.proofs.Sums.{mul_zero}
 use Rattle.rq_standard.specs.OctetField.{octets}
-use Rattle.rq_parts.specs.OctetTable.{OctetTable, entry_of, HasOctets}
+use Rattle.rq_parts.specs.DenseOctetMatrix.{OctetTable, entry_of, HasOctets}
 use Rattle.rq_solver.proofs.OctetTurns.{plus_zero_times, plus_own}
 use Rattle.rq_solver.specs.RowSteps.{AreRows, ClearsBelow, IsEchelon, IsReduced}
 

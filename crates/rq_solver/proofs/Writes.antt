@@ -3,7 +3,7 @@ use Rattle.std.proofs.Common.{◌≡◌, ◌≢◌, ℕ, ◌+◌, ◌<◌, ◌�
 use Rattle.std.proofs.lemmas.Bool.{cases_eq}
 use Rattle.std.proofs.lemmas.List.{get_or-set_same, get_or-set_other, length-set}
 use Rattle.std.proofs.lemmas.List.Elements.{All-set}
-use Rattle.rq_parts.specs.OctetTable.{OctetTable, row_at, with_row, entry_of, HasOctets}
+use Rattle.rq_parts.specs.DenseOctetMatrix.{OctetTable, row_at, with_row, entry_of, HasOctets}
 use Rattle.rq_solver.specs.RowWrites.{WritesRow}
 use Rattle.rq_solver.proofs.Entries.{entry_of-with_row_same, entry_of-with_row_other}
 

@@ -6,7 +6,7 @@ use Rattle.rq_algebra.proofs.Solutions.{SameSolutions-refl, SameSolutions-trans,
 use Rattle.rq_algebra.proofs.Sums.{mul_zero}
 use Rattle.rq_standard.specs.OctetField.{octets}
 use Rattle.rq_standard.specs.Rows.{row_sum, row_multiple}
-use Rattle.rq_parts.specs.OctetTable.{OctetTable, row_at, with_row, entry_of, HasOctets}
+use Rattle.rq_parts.specs.DenseOctetMatrix.{OctetTable, row_at, with_row, entry_of, HasOctets}
 use Rattle.rq_solver.specs.Homogeneous.{KeepsZeros}
 use Rattle.rq_solver.proofs.Entries.{multiplied_row, multiplied_octets, summed_row, summed_octets}
 

@@ -6,7 +6,7 @@ use Rattle.rq_algebra.specs.Systems.{at, HasElements}
 use Rattle.rq_algebra.specs.Operations.{Operation}
 use Rattle.rq_standard.specs.ConstraintMatrix.{with_octet_rows}
 use Rattle.rq_standard.specs.OctetField.{octets}
-use Rattle.rq_parts.specs.OctetTable.{OctetTable, entry_of, HasOctets}
+use Rattle.rq_parts.specs.DenseOctetMatrix.{OctetTable, entry_of, HasOctets}
 use Rattle.rq_solver.specs.Peeled.{ones_of, IsPeeled}
 use Rattle.rq_solver.specs.Recorded.{Recorded, ChangesRows, Performs, Records}
 use Rattle.rq_solver.specs.RowSteps.{IsStuck, rows_after, IsStepAmong}

@@ -6,7 +6,7 @@ use Rattle.rq_algebra.specs.Systems.{at, IsColumn, IsDetermined, Solves}
 use Rattle.rq_standard.specs.BitTable.{BitTable}
 use Rattle.rq_standard.specs.ConstraintMatrix.{with_octet_rows}
 use Rattle.rq_standard.specs.OctetField.{octets}
-use Rattle.rq_parts.specs.OctetTable.{OctetTable, entry_of, HasOctets}
+use Rattle.rq_parts.specs.DenseOctetMatrix.{OctetTable, entry_of, HasOctets}
 use Rattle.rq_solver.specs.RowSteps.{IsReduced}
 
 -- octets, not all of them zero, that solve the rows with all values zero

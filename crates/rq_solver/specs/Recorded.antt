@@ -3,7 +3,7 @@ use Rattle.std.specs.Prelude.{◌≡◌, ℕ, ◌<◌, ◌==◌, if◌then◌els
 use Rattle.std.specs.List.{range_with_len}
 use Rattle.rq_algebra.specs.Operations.{Operation, AddAssign, Fma}
 use Rattle.rq_standard.specs.OctetField.{octets}
-use Rattle.rq_parts.specs.OctetTable.{OctetTable, entry_of, HasOctets}
+use Rattle.rq_parts.specs.DenseOctetMatrix.{OctetTable, entry_of, HasOctets}
 use Rattle.rq_solver.specs.RowSteps.{rows_after, IsStepAmong}
 
 -- what the rows have in the inactive columns, and what was recorded

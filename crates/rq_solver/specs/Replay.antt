@@ -2,8 +2,8 @@
 use Rattle.std.specs.Prelude.{◌≡◌, ℕ, ◌+◌, ◌<◌, ◌≤◌, List, ◌∷◌, ◌++◌, length}
 use Rattle.rq_algebra.specs.Operations.{Operation, Reorder}
 use Rattle.rq_bytes.specs.Ranges.{range_of}
-pub use Rattle.rq_bytes.specs.Slab.{after_all}
-use Rattle.rq_bytes.specs.Slab.{Slab}
+pub use Rattle.rq_bytes.specs.SymbolSlab.{after_all}
+use Rattle.rq_bytes.specs.SymbolSlab.{Slab}
 
 -- so many operations from a place on were performed, one at least
 pub record PerformsNext (operations : List Operation) (start count : ℕ) (old new : Slab) : Type 0 where

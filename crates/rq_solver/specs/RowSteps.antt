@@ -7,7 +7,7 @@ use Rattle.rq_algebra.specs.Operations.{Operation, AddAssign, MulAssign, Fma, Re
 use Rattle.rq_algebra.proofs.Elimination.{HasFirstPivots}
 use Rattle.rq_algebra.proofs.Changes.{with_at}
 use Rattle.rq_standard.specs.OctetField.{octets}
-use Rattle.rq_parts.specs.OctetTable.{OctetTable, entry_of}
+use Rattle.rq_parts.specs.DenseOctetMatrix.{OctetTable, entry_of}
 
 -- rows of a table, no two of them the same
 abbrev pub AreRows : List ℕ → OctetTable → Type 0

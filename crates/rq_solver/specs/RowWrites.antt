@@ -1,6 +1,6 @@
 -- Rows of a matrix of octets that are written place by place.
 use Rattle.std.specs.Prelude.{◌≡◌, ◌≢◌, ℕ, ◌<◌, ◌≤◌, ◌⊎◌, length}
-use Rattle.rq_parts.specs.OctetTable.{OctetTable, entry_of, HasOctets}
+use Rattle.rq_parts.specs.DenseOctetMatrix.{OctetTable, entry_of, HasOctets}
 
 -- the entries of one row from `start` on and before `end` are these, and the others are as they were
 pub record WritesRow (row start end : ℕ) (wanted : ℕ → ℕ) (old new : OctetTable) : Type 0 where

@@ -5,7 +5,7 @@ use Rattle.rq_standard.specs.ConstraintMatrix.{with_octet_rows}
 use Rattle.rq_matrix.specs.declared.matrix.BinaryMatrix as matrix
 use Rattle.rq_solver.specs.Solving.{Solver}
 use Rattle.rq_solver.specs.declared.pi_solver.IntermediateSymbolDecoder.{IntermediateSymbolDecoder}
-use Rattle.rq_parts.specs.OctetTable.{entry_of}
+use Rattle.rq_parts.specs.DenseOctetMatrix.{entry_of}
 
 -- its equations, and its symbols until it has run
 abbrev pub solver_state : {T : Type 0} {bits : matrix.Ghosts T} {clones : clone.Ghosts T} → IntermediateSymbolDecoder T bits clones → Solver

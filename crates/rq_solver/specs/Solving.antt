@@ -4,21 +4,21 @@ use Rattle.std.specs.Global.{Global}
 use Rattle.rq_algebra.specs.Systems.{HasNullColumn}
 use Rattle.rq_algebra.specs.Operations.{Operation, FindsColumn, found_by}
 use Rattle.rq_algebra.specs.Symbols.{symbols, AreSymbols, IsSymbolColumn, SolvesSymbols, symbol_at}
-use Rattle.rq_standard.specs.declared.row.Row.{Row}
+use Rattle.rq_standard.specs.declared.row.TableRow.{TableRow}
 use Rattle.rq_standard.specs.BitTable.{BitTable}
 use Rattle.rq_standard.specs.ConstraintMatrix.{with_octet_rows}
 use Rattle.rq_standard.specs.OctetField.{octets}
 use Rattle.rq_standard.specs.TableRows.{intermediate_symbols}
-use Rattle.rq_bytes.specs.Slab.{Slab, HasPlace, symbol_in}
+use Rattle.rq_bytes.specs.SymbolSlab.{Slab, HasPlace, symbol_in}
 use Rattle.rq_bytes.specs.SymbolOps.{operation_of}
 use Rattle.rq_bytes.specs.declared.operation_vector.SymbolOps.{SymbolOps}
-use Rattle.rq_parts.specs.OctetTable.{OctetTable, entry_of}
+use Rattle.rq_parts.specs.DenseOctetMatrix.{OctetTable, entry_of}
 use Rattle.rq_solver.specs.OperationCounts.{additions, multiplications}
 use Rattle.rq_solver.specs.Replay.{after_all}
 
 -- the equations of a block of that row of the table: a matrix of bits, in which the HDPC rows are zeros, the HDPC rows as octets, and a
 -- symbol for each equation
-pub record AreEquations (row : Row) (bits : BitTable) (hdpc : OctetTable) (handed : Slab) : Type 0 where
+pub record AreEquations (row : TableRow) (bits : BitTable) (hdpc : OctetTable) (handed : Slab) : Type 0 where
   pub width : bits.width ≡ intermediate_symbols row
   pub boundary : bits.boundary ≡ row.lt_symbols
   pub indexed : bits.indexed ≡ false
@@ -39,7 +39,7 @@ pub record Solver : Type 0 where
   pub multiplications : List ℕ
 
 -- a solver that has not run
-abbrev pub solver_of : Row → BitTable → OctetTable → Slab → Solver
+abbrev pub solver_of : TableRow → BitTable → OctetTable → Slab → Solver
 solver_of row bits hdpc handed = record {
   height = length handed.values;
   width = intermediate_symbols row;

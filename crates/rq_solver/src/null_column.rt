@@ -4,7 +4,7 @@ ghost use Rattle.rq_algebra.proofs.Elimination.{ClearsColumn};
 ghost use Rattle.rq_algebra.specs.Steps.{AddsRow, ScalesRow};
 ghost use Rattle.rq_algebra.specs.Systems.{at};
 ghost use Rattle.rq_bytes.specs.declared.error.Error.TheVariants.{OutOfMemory};
-ghost use Rattle.rq_parts.specs.OctetTable.{entry_of, HasOctets};
+ghost use Rattle.rq_parts.specs.DenseOctetMatrix.{entry_of, HasOctets};
 ghost use Rattle.rq_solver.specs.Homogeneous.{ShowsHomogeneousRows, KeepsZeros, LacksPivot};
 ghost use Rattle.rq_solver.specs.RowSteps.{AreRows, IsReduced};
 ghost use Rattle.rq_standard.specs.OctetField.{octets};

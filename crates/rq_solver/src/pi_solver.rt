@@ -35,7 +35,7 @@ use rq_bytes::operation_vector::SymbolOps;
 use rq_bytes::symbol_slab::SymbolSlab;
 use rq_matrix::matrix::BinaryMatrix;
 use rq_parts::octet_matrix::DenseOctetMatrix;
-use rq_standard::row::Row;
+use rq_standard::row::TableRow;
 use rq_tables::systematic_constants::SystematicTable;
 use std::alloc::Global;
 
@@ -89,7 +89,7 @@ impl<T: BinaryMatrix> IntermediateSymbolDecoder<T> {
     /// The same over a row of a table.
     pub fn of_row(
         alloc: Global,
-        row: &Row,
+        row: &TableRow,
         matrix: T,
         hdpc: DenseOctetMatrix,
         symbols: SymbolSlab,

@@ -12,22 +12,22 @@ use rq_bytes::operation_vector::SymbolOps;
 use rq_bytes::symbol_slab::SymbolSlab;
 use rq_matrix::matrix::{BinaryMatrix, DenseBinaryMatrix};
 use rq_parts::octet_matrix::DenseOctetMatrix;
-use rq_standard::row::Row;
+use rq_standard::row::TableRow;
 use rq_tables::systematic_constants::SystematicTable;
 use std::alloc::Global;
 use std::process::Abort;
 
 /// The number of equations and columns of a square system over a row.
-fn width_of(row: &Row) -> usize
+fn width_of(row: &TableRow) -> usize
     requires { IsChecked row.now }
     ensures width { result ≡ intermediate_symbols row.now }
     ensures fits { result < 65536 }
 {
-    (row.source_symbols + row.ldpc_symbols + row.hdpc_symbols) as usize
+    row.intermediate_symbols() as usize
 }
 
 /// Bits of zeros.
-fn zero_bits<T: BinaryMatrix>(alloc: Global, row: &Row) -> Result<T, Error>
+fn zero_bits<T: BinaryMatrix>(alloc: Global, row: &TableRow) -> Result<T, Error>
     requires { IsChecked row.now }
     ensures height { IfOk result (λ bits. (T.content bits).height ≡ intermediate_symbols row.now) }
     ensures width { IfOk result (λ bits. (T.content bits).width ≡ intermediate_symbols row.now) }
@@ -40,7 +40,7 @@ fn zero_bits<T: BinaryMatrix>(alloc: Global, row: &Row) -> Result<T, Error>
 }
 
 /// Bits with ones from the upper right to the lower left, but none in the HDPC rows.
-fn mirrored_bits<T: BinaryMatrix>(alloc: Global, row: &Row) -> Result<T, Error>
+fn mirrored_bits<T: BinaryMatrix>(alloc: Global, row: &TableRow) -> Result<T, Error>
     requires { IsChecked row.now }
     ensures height { IfOk result (λ bits. (T.content bits).height ≡ intermediate_symbols row.now) }
     ensures width { IfOk result (λ bits. (T.content bits).width ≡ intermediate_symbols row.now) }
@@ -61,7 +61,7 @@ fn mirrored_bits<T: BinaryMatrix>(alloc: Global, row: &Row) -> Result<T, Error>
 }
 
 /// HDPC rows with twos on the same line, and a 1 first.
-fn mirrored_octets(alloc: Global, row: &Row) -> Result<DenseOctetMatrix, Error>
+fn mirrored_octets(alloc: Global, row: &TableRow) -> Result<DenseOctetMatrix, Error>
     requires { IsChecked row.now }
     ensures height { IfOk result (λ octets. length octets.rows ≡ row.now.hdpc_symbols) }
     ensures width { IfOk result (λ octets. octets.width ≡ intermediate_symbols row.now) }
@@ -77,7 +77,7 @@ fn mirrored_octets(alloc: Global, row: &Row) -> Result<DenseOctetMatrix, Error>
 }
 
 /// Bits of which the ones stand at pairs of a row and a column, but none in the HDPC rows.
-fn bits_at<T: BinaryMatrix>(alloc: Global, row: &Row, ones: &[(usize, usize)]) -> Result<T, Error>
+fn bits_at<T: BinaryMatrix>(alloc: Global, row: &TableRow, ones: &[(usize, usize)]) -> Result<T, Error>
     requires { IsChecked row.now }
     ensures height { IfOk result (λ bits. (T.content bits).height ≡ intermediate_symbols row.now) }
     ensures width { IfOk result (λ bits. (T.content bits).width ≡ intermediate_symbols row.now) }
@@ -100,7 +100,7 @@ fn bits_at<T: BinaryMatrix>(alloc: Global, row: &Row, ones: &[(usize, usize)]) -
 /// HDPC rows of which the first `count` have a 1 each, in the columns from `start` on.
 fn octets_from(
     alloc: Global,
-    row: &Row,
+    row: &TableRow,
     start: usize,
     count: usize,
 ) -> Result<DenseOctetMatrix, Error>

@@ -1,6 +1,6 @@
 -- The blocks of a configuration that coders take, over a checked table.
 use Rattle.std.proofs.Common.{◌≡◌, ◌↔◌, ℕ, ◌<◌, ◌≤◌, List, arith}
-use Rattle.rq_standard.specs.declared.row.Row.{Row}
+use Rattle.rq_standard.specs.declared.row.TableRow.{TableRow}
 use Rattle.rq_standard.specs.TableRows.{IsTable, greatest_size}
 use Rattle.rq_standard.specs.Configuration.{Configuration, IsAccepted, IsAligned}
 use Rattle.rq_standard.specs.Cutting.{block_symbols}
@@ -12,14 +12,14 @@ use Rattle.rq_standard.proofs.OtherObjects.{HasRow, only_is_answerable}
 use Rattle.rq_standard.proofs.RowLaws.{row_checked}
 
 -- they have checked rows with room for them
-pub block_has_row : (table : List Row) (c : Configuration) → IsTable table → IsAccepted (greatest_size table) c → (b : ℕ) → b < c.source_blocks → HasRow (block_row table c b) (block_symbols c b)
+pub block_has_row : (table : List TableRow) (c : Configuration) → IsTable table → IsAccepted (greatest_size table) c → (b : ℕ) → b < c.source_blocks → HasRow (block_row table c b) (block_symbols c b)
 block_has_row table c checked accepted b below =
     let few : block_symbols c b ≤ greatest_size table = omega (arith, block_symbols_few c b below, accepted.in_table) in
     let q = row_checked table (block_symbols c b) checked few in
     record { checked = q.0; fits = q.1 }
 
 -- so an honest run determines each of them exactly where no other object fits
-pub answerable_only : (table : List Row) (c : Configuration) (object : List ℕ) (packets : List Packet) → IsTable table → IsAccepted (greatest_size table) c → IsHonestRun table c object packets → IsAnswerable table c packets ↔ IsOnlyObject table c packets object
+pub answerable_only : (table : List TableRow) (c : Configuration) (object : List ℕ) (packets : List Packet) → IsTable table → IsAccepted (greatest_size table) c → IsHonestRun table c object packets → IsAnswerable table c packets ↔ IsOnlyObject table c packets object
 answerable_only table c object packets checked accepted run =
     let rows = block_has_row table c checked accepted in
     let aligned : IsAligned c = record { alignment_positive = accepted.alignment_positive; aligned = accepted.aligned } in (

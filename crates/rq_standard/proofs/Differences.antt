@@ -10,10 +10,10 @@ use Rattle.rq_algebra.proofs.Placewise.{at-zeros, add_symbols_at}
 use Rattle.rq_algebra.proofs.Stacks.{stacked_above, stacked_below}
 use Rattle.rq_algebra.proofs.Sums.{mul_zero, dot_same, dot_zero, dot_add_column, dot_below_size}
 use Rattle.rq_algebra.proofs.SymbolSums.{add_zeros, same_symbol, add_is_symbol}
-use Rattle.rq_standard.specs.declared.row.Row.{Row}
+use Rattle.rq_standard.specs.declared.row.TableRow.{TableRow}
 use Rattle.rq_standard.specs.OctetField.{octets}
 use Rattle.rq_standard.specs.TableRows.{IsChecked, intermediate_symbols}
-use Rattle.rq_standard.specs.Equations.{fixed_equations, symbol_coefficient, equations, equation_count, equation_values, zero_symbol, tuple_sum, internal_id, source_ids}
+use Rattle.rq_standard.specs.Equations.{fixed_equations, symbol_coefficient, equations, equation_count, equation_values, zero_symbol, tuple_sum, internal_id, extended_ids}
 use Rattle.rq_standard.specs.Headline.{IsNonsingular, IsIntermediateColumn, IsEncodingSymbol, SolvesZeros, known_ids}
 use Rattle.rq_standard.specs.Differences.{plain_sum}
 use Rattle.rq_standard.proofs.Columns.{sum_symbol, sum_at, only_column}
@@ -28,7 +28,7 @@ length-zero size = length-replicate {A = ℕ} size 0
 pub add_zero_symbols : (size : ℕ) → add_symbols octets (zero_symbol size) (zero_symbol size) ≡ zero_symbol size
 add_zero_symbols size = add_zeros octets size (zero_symbol size) (length-zero size)
 
-module _ (row : Row) (size : ℕ) (checked : IsChecked row) where
+module _ (row : TableRow) (size : ℕ) (checked : IsChecked row) where
   -- a sum of sums
   tuple_sum-add : (x y : ℕ → List ℕ) (e : ℕ) → IsSymbolColumn octets size (intermediate_symbols row) x → IsSymbolColumn octets size (intermediate_symbols row) y
       → tuple_sum row (λ k. add_symbols octets (x k) (y k)) e ≡ add_symbols octets (tuple_sum row x e) (tuple_sum row y e)
@@ -57,7 +57,7 @@ module _ (row : Row) (size : ℕ) (checked : IsChecked row) where
     intermediate-add : (x y : ℕ → List ℕ) → IsIntermediateColumn row size xs x → IsIntermediateColumn row size ys y → IsIntermediateColumn row size zs (λ k. add_symbols octets (x k) (y k))
     intermediate-add x y is_x is_y =
         let n = intermediate_symbols row in
-        let rows = equations row (source_ids row) in
+        let rows = equations row (extended_ids row) in
         record {
           symbols = λ k l. add_is_symbol octets size (x k) (y k) (is_x.symbols k l) (is_y.symbols k l);
           solves = record {
@@ -103,7 +103,7 @@ module _ (size : ℕ) (pos : 0 < size) where
     by_place zero = sym (at-zeros size 0)
     by_place (suc p) = at-zeros (size - 1) p ∙ sym (at-zeros size (suc p))
 
-  module _ (row : Row) (checked : IsChecked row) (x : ℕ → ℕ) (is : IsColumn octets (intermediate_symbols row) x) where
+  module _ (row : TableRow) (checked : IsChecked row) (x : ℕ → ℕ) (is : IsColumn octets (intermediate_symbols row) x) where
     pub wide_symbols : IsSymbolColumn octets size (intermediate_symbols row) (wide size x)
     wide_symbols k l = octet_symbol (x k) (is k l)
 
@@ -123,22 +123,22 @@ module _ (size : ℕ) (pos : 0 < size) where
     module _ (k : ℕ) (has : ℕ → Bool) (source : List (List ℕ)) (long : length source ≡ k) (solves : SolvesZeros row (known_ids row k has) x)
         (reads : (e : ℕ) → e < k → get_or source e (zero_symbol size) ≡ first_octet size (plain_sum row x e)) where
       -- the value of an equation, at the first octet and later
-      value_at : (i : ℕ) → i < equation_count row (source_ids row) → equation_values row size source i ≡ first_octet size (dot octets (intermediate_symbols row) (equations row (source_ids row) i) x)
+      value_at : (i : ℕ) → i < equation_count row (extended_ids row) → equation_values row size source i ≡ first_octet size (dot octets (intermediate_symbols row) (equations row (extended_ids row) i) x)
       value_at i below =
           let f : ℕ = row.ldpc_symbols + row.hdpc_symbols in
           let n = intermediate_symbols row in
           elim (cases_lt i f) [
             | inl lt ↦ stacked_above f (λ _. zero_symbol size) (λ j. get_or source j (zero_symbol size)) i lt ∙ sym zero_octet
-                ∙ ap (first_octet size) (sym (ap (λ (r : ℕ → ℕ). dot octets n r x) (stacked_above f (fixed_equations row) (rows_of (symbol_coefficient row) (source_ids row)) i lt) ∙ solves.fixed.at i lt))
+                ∙ ap (first_octet size) (sym (ap (λ (r : ℕ → ℕ). dot octets n r x) (stacked_above f (fixed_equations row) (rows_of (symbol_coefficient row) (extended_ids row)) i lt) ∙ solves.fixed.at i lt))
             | inr past ↦
                 let j : ℕ = i - f in
                 let e : f + j ≡ i = omega arith in
-                let in_ids : j < row.source_symbols = omega (arith, length-range_with_len 0 row.source_symbols) in
-                let id : at (source_ids row) j ≡ j = range_at 0 row.source_symbols j in_ids ∙ omega arith in
+                let in_ids : j < row.extended_symbols = omega (arith, length-range_with_len 0 row.extended_symbols) in
+                let id : at (extended_ids row) j ≡ j = range_at 0 row.extended_symbols j in_ids ∙ omega arith in
                 rw (← e) (stacked_below f (λ _. zero_symbol size) (λ j. get_or source j (zero_symbol size)) j ∙ symbol_value j in_ids
-                ∙ ap (first_octet size) (sym (ap (λ (r : ℕ → ℕ). dot octets n r x) (stacked_below f (fixed_equations row) (rows_of (symbol_coefficient row) (source_ids row)) j ∙ ap (symbol_coefficient row) id))))
+                ∙ ap (first_octet size) (sym (ap (λ (r : ℕ → ℕ). dot octets n r x) (stacked_below f (fixed_equations row) (rows_of (symbol_coefficient row) (extended_ids row)) j ∙ ap (symbol_coefficient row) id))))
           ] where
-            symbol_value : (j : ℕ) → j < row.source_symbols → get_or source j (zero_symbol size) ≡ first_octet size (plain_sum row x j)
+            symbol_value : (j : ℕ) → j < row.extended_symbols → get_or source j (zero_symbol size) ≡ first_octet size (plain_sum row x j)
             symbol_value j in_ids = elim (cases_lt j k) [
               | inl lt ↦ reads j lt
               | inr past ↦ get_or_past source j (zero_symbol size) (omega (arith, long)) ∙ sym zero_octet ∙ ap (first_octet size) (sym (solves.each j (known_padding row k j has past in_ids)))
@@ -147,14 +147,14 @@ module _ (size : ℕ) (pos : 0 < size) where
       wide_column : IsIntermediateColumn row size source (wide size x)
       wide_column = record {
         symbols = wide_symbols;
-        solves = record { at_place = λ p. record { at = λ i l. by_place p (equations row (source_ids row) i) ∙ ap (λ s. at s p) (sym (value_at i l)) } };
+        solves = record { at_place = λ p. record { at = λ i l. by_place p (equations row (extended_ids row) i) ∙ ap (λ s. at s p) (sym (value_at i l)) } };
       } where
         by_place : (p : ℕ) (r : ℕ → ℕ) → dot octets (intermediate_symbols row) r (slice_at p (wide size x)) ≡ at (first_octet size (dot octets (intermediate_symbols row) r x)) p
         by_place zero r = refl
         by_place (suc p) r = dot_later r p ∙ sym (at-zeros (size - 1) p)
 
       -- symbols that have such first octets are zero for all ids that are known
-      pub known_are_zeros : IsNonsingular row → k ≤ row.source_symbols → (e : ℕ) → has e ≡ true → IsEncodingSymbol row size source e (zero_symbol size)
+      pub known_are_zeros : IsNonsingular row → k ≤ row.extended_symbols → (e : ℕ) → has e ≡ true → IsEncodingSymbol row size source e (zero_symbol size)
       known_are_zeros nonsingular fits e came = record {
         column = wide size x;
         is_only = only_column row size source (wide size x) nonsingular wide_column;
@@ -162,40 +162,40 @@ module _ (size : ℕ) (pos : 0 < size) where
       } where
         known : known_ids row k has (internal_id row k e) ≡ true
         known = elim (cases_lt e k) [
-          | inl lt ↦ ap (known_ids row k has) (ap (λ b. cond b e (e + row.source_symbols - k)) (lt-ltb e k lt)) ∙ known_source row k e has lt ∙ came
-          | inr past ↦ ap (known_ids row k has) (ap (λ b. cond b e (e + row.source_symbols - k)) (le-ltb e k past))
-              ∙ known_repair row k (e + row.source_symbols - k) has (omega arith) (omega arith) ∙ ap has (omega arith) ∙ came
+          | inl lt ↦ ap (known_ids row k has) (ap (λ b. cond b e (e + row.extended_symbols - k)) (lt-ltb e k lt)) ∙ known_source row k e has lt ∙ came
+          | inr past ↦ ap (known_ids row k has) (ap (λ b. cond b e (e + row.extended_symbols - k)) (le-ltb e k past))
+              ∙ known_repair row k (e + row.extended_symbols - k) has (omega arith) (omega arith) ∙ ap has (omega arith) ∙ came
         ]
 
 -- ---- a column of zeros
 
-pub zero_dot : (row : Row) (r : ℕ → ℕ) → dot octets (intermediate_symbols row) r (λ _. 0) ≡ 0
+pub zero_dot : (row : TableRow) (r : ℕ → ℕ) → dot octets (intermediate_symbols row) r (λ _. 0) ≡ 0
 zero_dot row r = dot_zero octets (intermediate_symbols row) r (λ _. 0) (λ k l. mul_zero octets (r k))
 
-pub zeros_solve : (row : Row) (known : ℕ → Bool) → SolvesZeros row known (λ _. 0)
+pub zeros_solve : (row : TableRow) (known : ℕ → Bool) → SolvesZeros row known (λ _. 0)
 zeros_solve row known = record {
   fixed = record { at = λ i l. zero_dot row (fixed_equations row i) };
   each = λ e _. zero_dot row (symbol_coefficient row e);
 }
 
-pub zeros_are_octets : (row : Row) → IsColumn octets (intermediate_symbols row) (λ _. 0)
+pub zeros_are_octets : (row : TableRow) → IsColumn octets (intermediate_symbols row) (λ _. 0)
 zeros_are_octets row k l = omega arith
 
 -- symbols that are zero are zero for all ids
-pub zeros_encode : (row : Row) (size k : ℕ) (source : List (List ℕ)) (e : ℕ) → 0 < size → IsChecked row → IsNonsingular row → k ≤ row.source_symbols → length source ≡ k → ((i : ℕ) → i < k → get_or source i (zero_symbol size) ≡ zero_symbol size) → IsEncodingSymbol row size source e (zero_symbol size)
+pub zeros_encode : (row : TableRow) (size k : ℕ) (source : List (List ℕ)) (e : ℕ) → 0 < size → IsChecked row → IsNonsingular row → k ≤ row.extended_symbols → length source ≡ k → ((i : ℕ) → i < k → get_or source i (zero_symbol size) ≡ zero_symbol size) → IsEncodingSymbol row size source e (zero_symbol size)
 zeros_encode row size k source e pos checked nonsingular fits long zeros =
     known_are_zeros size pos row checked (λ _. 0) (zeros_are_octets row) k (λ _. true) source long (zeros_solve row (known_ids row k (λ _. true)))
     (λ i below. zeros i below ∙ sym (zero_octet size pos) ∙ ap (first_octet size) (sym (zero_dot row (symbol_coefficient row i)))) nonsingular fits e refl
 
 -- ---- over a row that isn't singular, a column that isn't zero changes a source symbol
 
-module _ (row : Row) (k : ℕ) (x : ℕ → ℕ) (has : ℕ → Bool) (nonsingular : IsNonsingular row) (is : IsColumn octets (intermediate_symbols row) x) (solves : SolvesZeros row (known_ids row k has) x) where
+module _ (row : TableRow) (k : ℕ) (x : ℕ → ℕ) (has : ℕ → Bool) (nonsingular : IsNonsingular row) (is : IsColumn octets (intermediate_symbols row) x) (solves : SolvesZeros row (known_ids row k has) x) where
   pub no_change_is_zero : ((e : ℕ) → e < k → plain_sum row x e ≡ 0) → (j : ℕ) → j < intermediate_symbols row → x j ≡ 0
   no_change_is_zero none = nonsingular x is (record {
     fixed = solves.fixed;
     each = λ e l. elim (cases_lt e k) [
       | inl source ↦ none e source
-      | inr padding ↦ solves.each e (known_padding row k e has padding (ltb-true e row.source_symbols l))
+      | inr padding ↦ solves.each e (known_padding row k e has padding (ltb-true e row.extended_symbols l))
     ];
   })
 

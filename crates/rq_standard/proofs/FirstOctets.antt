@@ -262,8 +262,8 @@ module _ (c : Configuration) (k : ℕ) (octet : ℕ → ℕ) where
 
   module _ (pos : 0 < c.symbol_size) (aligned : IsAligned c) (n : ℕ) (in_block : n < k) where
     -- where the next one stands
-    pub next_place : n * sub_block_size c 0 < k * c.symbol_size
-    next_place = omega (arith, place_of_first c pos aligned k octet n in_block)
+    pub next_index : n * sub_block_size c 0 < k * c.symbol_size
+    next_index = omega (arith, place_of_first c pos aligned k octet n in_block)
 
     pub octet_written : (v : ℕ) → v ≡ octet n → set (first_octets_below c k octet n) (n * sub_block_size c 0) v ≡ first_octets_below c k octet (n + 1)
     octet_written v is =
@@ -273,7 +273,7 @@ module _ (c : Configuration) (k : ℕ) (octet : ℕ → ℕ) where
         ext_get_or 0 (set old (n * z) v) (first_octets_below c k octet (n + 1)) (long ∙ sym (length-octets_below (n + 1)))
         (λ i lt. let within : i < k * c.symbol_size = omega (arith, long) in
         elim (cases_eq i (n * z)) [
-          | inl e ↦ ap (λ j. get_or (set old (n * z) v) j 0) e ∙ get_or-set_same old (n * z) v 0 (omega (arith, length-octets_below n, next_place)) ∙ is ∙ sym (here z refl) ∙ sym (below_at (n + 1) (n * z) next_place) ∙ ap (λ j. get_or (first_octets_below c k octet (n + 1)) j 0) (sym e)
+          | inl e ↦ ap (λ j. get_or (set old (n * z) v) j 0) e ∙ get_or-set_same old (n * z) v 0 (omega (arith, length-octets_below n, next_index)) ∙ is ∙ sym (here z refl) ∙ sym (below_at (n + 1) (n * z) next_index) ∙ ap (λ j. get_or (first_octets_below c k octet (n + 1)) j 0) (sym e)
           | inr ne ↦ get_or-set_other old (n * z) i v 0 ne ∙ below_at n i within ∙ elsewhere z i ne ∙ sym (below_at (n + 1) i within)
         ]) where
           positive : 0 < sub_block_size c 0

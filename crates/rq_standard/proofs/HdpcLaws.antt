@@ -5,7 +5,7 @@ use Rattle.std.specs.Int.Bits.{bit_xor, xor_zero_l}
 use Rattle.rq_algebra.specs.Systems.{sum_below}
 use Rattle.rq_algebra.specs.FromLaws.{field_mul_is}
 use Rattle.rq_algebra.proofs.Sums.{add_zero, mul_zero, sum_same, sum_add, sum_mul, sum_one, sum_below_size}
-use Rattle.rq_standard.specs.declared.row.Row.{Row}
+use Rattle.rq_standard.specs.declared.row.TableRow.{TableRow}
 use Rattle.rq_standard.specs.Octets.{octet_double, octet_mul, octet_power, octet_inverse}
 use Rattle.rq_standard.specs.OctetField.{octets, octet_laws}
 use Rattle.rq_standard.specs.OctetFacts.{one-mul}
@@ -21,7 +21,7 @@ cond-lt : (b : Bool) (x y : ℕ) → x < 256 → y < 256 → cond b x y < 256
 cond-lt true x y hx hy = hx
 cond-lt false x y hx hy = hy
 
-pub mt-lt : (row : Row) (i j : ℕ) → mt row i j < 256
+pub mt-lt : (row : TableRow) (i j : ℕ) → mt row i j < 256
 unfolding mt
 mt-lt row i j = cond-lt (eqb j (before_hdpc row - 1)) (octet_power i) _ (power-lt i) (one_if-lt _)
 
@@ -53,14 +53,14 @@ gamma-below j k lt =
 -- ---- columns
 
 -- the term of column j of MT in coefficient k
-abbrev term : Row → ℕ → ℕ → ℕ → ℕ
+abbrev term : TableRow → ℕ → ℕ → ℕ → ℕ
 term row i k j = octets.mul (mt row i j) (gamma j k)
 
 -- what MT's own column adds to it
-abbrev own : Row → ℕ → ℕ → ℕ → ℕ
+abbrev own : TableRow → ℕ → ℕ → ℕ → ℕ
 own row i k j = cond (eqb j k) (mt row i k) 0
 
-term-step : (row : Row) (i k j : ℕ) → term row i k j ≡ bit_xor (octets.mul 2 (term row i (k + 1) j)) (own row i k j)
+term-step : (row : TableRow) (i k j : ℕ) → term row i k j ≡ bit_xor (octets.mul 2 (term row i (k + 1) j)) (own row i k j)
 term-step row i k j =
     let m = mt row i j in
     elim (cases_eq j k) [
@@ -87,16 +87,16 @@ term-step row i k j =
     ]
 
 -- the coefficient as a sum of these terms
-coefficient-is : (row : Row) (i k : ℕ) → k < before_hdpc row → hdpc_coefficient row i k ≡ sum_below octets (before_hdpc row) (term row i k)
+coefficient-is : (row : TableRow) (i k : ℕ) → k < before_hdpc row → hdpc_coefficient row i k ≡ sum_below octets (before_hdpc row) (term row i k)
 unfolding hdpc_coefficient
 coefficient-is row i k lt = rw (lt-ltb k (before_hdpc row) lt) refl
 
-pub hdpc-lt : (row : Row) (i k : ℕ) → k < before_hdpc row → hdpc_coefficient row i k < 256
+pub hdpc-lt : (row : TableRow) (i k : ℕ) → k < before_hdpc row → hdpc_coefficient row i k < 256
 hdpc-lt row i k lt =
     rw (coefficient-is row i k lt) (sum_below_size octets (before_hdpc row) (term row i k) (λ j l. octets.mul_below (mt row i j) (gamma j k)))
 
 -- column K' + S - 1 is that of MT
-pub hdpc-last : (row : Row) (i : ℕ) → 0 < before_hdpc row → hdpc_coefficient row i (before_hdpc row - 1) ≡ octet_power i
+pub hdpc-last : (row : TableRow) (i : ℕ) → 0 < before_hdpc row → hdpc_coefficient row i (before_hdpc row - 1) ≡ octet_power i
 unfolding mt
 hdpc-last row i some =
     let last = before_hdpc row - 1 in
@@ -109,7 +109,7 @@ hdpc-last row i some =
     ∙ ap (octets.mul m) (gamma-diagonal last) ∙ octets.mul_comm m 1 ∙ octets.one_mul m (mt-lt row i last) ∙ is_power
 
 -- each other column by the one after it
-pub hdpc-step : (row : Row) (i k : ℕ) → k + 1 < before_hdpc row → hdpc_coefficient row i k ≡ bit_xor (octet_mul 2 (hdpc_coefficient row i (k + 1))) (mt row i k)
+pub hdpc-step : (row : TableRow) (i k : ℕ) → k + 1 < before_hdpc row → hdpc_coefficient row i k ≡ bit_xor (octet_mul 2 (hdpc_coefficient row i (k + 1))) (mt row i k)
 hdpc-step row i k lt =
     let n = before_hdpc row in
     let next = hdpc_coefficient row i (k + 1) in
@@ -124,6 +124,6 @@ hdpc-step row i k lt =
     ∙ ap (bit_xor (octet_mul 2 next)) own_sum
 
 -- then come the HDPC symbols' own columns
-pub hdpc-own : (row : Row) (i k : ℕ) → before_hdpc row ≤ k → hdpc_coefficient row i k ≡ one_if (eqb k (before_hdpc row + i))
+pub hdpc-own : (row : TableRow) (i k : ℕ) → before_hdpc row ≤ k → hdpc_coefficient row i k ≡ one_if (eqb k (before_hdpc row + i))
 unfolding hdpc_coefficient
 hdpc-own row i k le = rw (le-ltb k (before_hdpc row) le) refl

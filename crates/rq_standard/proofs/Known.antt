@@ -10,15 +10,15 @@ use Rattle.rq_algebra.proofs.Stacks.{stacked_above, stacked_below}
 use Rattle.rq_algebra.proofs.FewEquations.{few_rows}
 use Rattle.rq_algebra.proofs.Solutions.{null_not_determined}
 use Rattle.rq_algebra.proofs.Sums.{sum_below_size}
-use Rattle.rq_standard.specs.declared.row.Row.{Row}
+use Rattle.rq_standard.specs.declared.row.TableRow.{TableRow}
 use Rattle.rq_standard.specs.OctetField.{octets}
-use Rattle.rq_standard.specs.TableRows.{intermediate_symbols, lone_lt_symbols, pi_symbols}
-use Rattle.rq_standard.specs.Equations.{fixed_equations, symbol_coefficient, equations, equation_count, ldpc_coefficient, hdpc_coefficient, before_hdpc, mt, gamma, is_ldpc_place, row_places, one_if, source_ids}
+use Rattle.rq_standard.specs.TableRows.{intermediate_symbols, b_of, pi_symbols}
+use Rattle.rq_standard.specs.Equations.{fixed_equations, symbol_coefficient, equations, equation_count, ldpc_coefficient, hdpc_coefficient, before_hdpc, mt, gamma, is_ldpc_row, row_indices, one_if, extended_ids}
 use Rattle.rq_standard.specs.IdLists.{IsListOf, HasDeterminedRows}
 use Rattle.rq_standard.specs.Headline.{IsNonsingular, SolvesZeros, AreDetermined, known_ids, DetermineBlock}
 use Rattle.rq_standard.specs.Received.{HasSourceSymbols}
 
-module _ (row : Row) (known : ℕ → Bool) (ids : List ℕ) (column : ℕ → ℕ) where
+module _ (row : TableRow) (known : ℕ → Bool) (ids : List ℕ) (column : ℕ → ℕ) where
   -- a column that solves what is known solves the equations of known ids
   pub to_list : ((j : ℕ) → j < length ids → known (at ids j) ≡ true) → SolvesZeros row known column → Solves octets (equation_count row ids) (intermediate_symbols row) (equations row ids) column (λ _. 0)
   to_list listed z =
@@ -46,82 +46,82 @@ module _ (row : Row) (known : ℕ → Bool) (ids : List ℕ) (column : ℕ → �
       }
 
 -- ids that are known and determine
-pub determined_by : (row : Row) (known : ℕ → Bool) (ids : List ℕ) → ((j : ℕ) → j < length ids → known (at ids j) ≡ true) → HasDeterminedRows row ids → AreDetermined row known
+pub determined_by : (row : TableRow) (known : ℕ → Bool) (ids : List ℕ) → ((j : ℕ) → j < length ids → known (at ids j) ≡ true) → HasDeterminedRows row ids → AreDetermined row known
 determined_by row known ids listed d column is z = d column is (to_list row known ids column listed z)
 
 -- a list of all known ids determines where they do
-pub determined_list : (row : Row) (known : ℕ → Bool) (ids : List ℕ) → IsListOf known ids → AreDetermined row known → HasDeterminedRows row ids
+pub determined_list : (row : TableRow) (known : ℕ → Bool) (ids : List ℕ) → IsListOf known ids → AreDetermined row known → HasDeterminedRows row ids
 determined_list row known ids list d column is s = d column is (from_list row known ids column list s)
 
 -- more known ids determine too
-pub determined_more : (row : Row) (known more : ℕ → Bool) → ((x : ℕ) → known x ≡ true → more x ≡ true) → AreDetermined row known → AreDetermined row more
+pub determined_more : (row : TableRow) (known more : ℕ → Bool) → ((x : ℕ) → known x ≡ true → more x ≡ true) → AreDetermined row known → AreDetermined row more
 determined_more row known more within d column is z = d column is (record { fixed = z.fixed; each = λ x k. z.each x (within x k) })
 
 -- ---- the ids of a block
 
-by_cases : (row : Row) (k x : ℕ) (has : ℕ → Bool) (b : Bool) → (x < k → has x ≡ b) → (k ≤ x → x < row.source_symbols → true ≡ b) → (k ≤ x → row.source_symbols ≤ x → has (x + k - row.source_symbols) ≡ b) → known_ids row k has x ≡ b
+by_cases : (row : TableRow) (k x : ℕ) (has : ℕ → Bool) (b : Bool) → (x < k → has x ≡ b) → (k ≤ x → x < row.extended_symbols → true ≡ b) → (k ≤ x → row.extended_symbols ≤ x → has (x + k - row.extended_symbols) ≡ b) → known_ids row k has x ≡ b
 by_cases row k x has b source padding repair = elim (cases_lt x k) [
-  | inl lt ↦ ap (λ c. cond c (has x) (cond (ltb x row.source_symbols) true (has (x + k - row.source_symbols)))) (lt-ltb x k lt) ∙ source lt
-  | inr ge ↦ ap (λ c. cond c (has x) (cond (ltb x row.source_symbols) true (has (x + k - row.source_symbols)))) (le-ltb x k ge)
-      ∙ elim (cases_lt x row.source_symbols) [
-        | inl lt ↦ ap (λ c. cond c true (has (x + k - row.source_symbols))) (lt-ltb x row.source_symbols lt) ∙ padding ge lt
-        | inr past ↦ ap (λ c. cond c true (has (x + k - row.source_symbols))) (le-ltb x row.source_symbols past) ∙ repair ge past
+  | inl lt ↦ ap (λ c. cond c (has x) (cond (ltb x row.extended_symbols) true (has (x + k - row.extended_symbols)))) (lt-ltb x k lt) ∙ source lt
+  | inr ge ↦ ap (λ c. cond c (has x) (cond (ltb x row.extended_symbols) true (has (x + k - row.extended_symbols)))) (le-ltb x k ge)
+      ∙ elim (cases_lt x row.extended_symbols) [
+        | inl lt ↦ ap (λ c. cond c true (has (x + k - row.extended_symbols))) (lt-ltb x row.extended_symbols lt) ∙ padding ge lt
+        | inr past ↦ ap (λ c. cond c true (has (x + k - row.extended_symbols))) (le-ltb x row.extended_symbols past) ∙ repair ge past
       ]
 ]
 
-pub known_source : (row : Row) (k x : ℕ) (has : ℕ → Bool) → x < k → known_ids row k has x ≡ has x
+pub known_source : (row : TableRow) (k x : ℕ) (has : ℕ → Bool) → x < k → known_ids row k has x ≡ has x
 known_source row k x has lt = by_cases row k x has (has x) (λ _. refl) (λ ge _. absurd (omega arith)) (λ ge _. absurd (omega arith))
 
-pub known_padding : (row : Row) (k x : ℕ) (has : ℕ → Bool) → k ≤ x → x < row.source_symbols → known_ids row k has x ≡ true
+pub known_padding : (row : TableRow) (k x : ℕ) (has : ℕ → Bool) → k ≤ x → x < row.extended_symbols → known_ids row k has x ≡ true
 known_padding row k x has ge lt = by_cases row k x has true (λ l. absurd (omega arith)) (λ _ _. refl) (λ _ past. absurd (omega arith))
 
-pub known_repair : (row : Row) (k x : ℕ) (has : ℕ → Bool) → k ≤ x → row.source_symbols ≤ x → known_ids row k has x ≡ has (x + k - row.source_symbols)
+pub known_repair : (row : TableRow) (k x : ℕ) (has : ℕ → Bool) → k ≤ x → row.extended_symbols ≤ x → known_ids row k has x ≡ has (x + k - row.extended_symbols)
 known_repair row k x has ge past = by_cases row k x has _ (λ l. absurd (omega arith)) (λ _ l. absurd (omega arith)) (λ _ _. refl)
 
-known_within : (row : Row) (k : ℕ) (f g : ℕ → Bool) → ((e : ℕ) → f e ≡ true → g e ≡ true) → (x : ℕ) → known_ids row k f x ≡ true → known_ids row k g x ≡ true
+known_within : (row : TableRow) (k : ℕ) (f g : ℕ → Bool) → ((e : ℕ) → f e ≡ true → g e ≡ true) → (x : ℕ) → known_ids row k f x ≡ true → known_ids row k g x ≡ true
 known_within row k f g within x h = elim (cases_lt x k) [
   | inl lt ↦ known_source row k x g lt ∙ within x (sym (known_source row k x f lt) ∙ h)
-  | inr ge ↦ elim (cases_lt x row.source_symbols) [
+  | inr ge ↦ elim (cases_lt x row.extended_symbols) [
     | inl lt ↦ known_padding row k x g ge lt
-    | inr past ↦ known_repair row k x g ge past ∙ within (x + k - row.source_symbols) (sym (known_repair row k x f ge past) ∙ h)
+    | inr past ↦ known_repair row k x g ge past ∙ within (x + k - row.extended_symbols) (sym (known_repair row k x f ge past) ∙ h)
   ]
 ]
 
 -- a block that is determined stays so when more ids come
-pub block_more : (row : Row) (k : ℕ) (f g : ℕ → Bool) → ((e : ℕ) → f e ≡ true → g e ≡ true) → DetermineBlock row k f → DetermineBlock row k g
+pub block_more : (row : TableRow) (k : ℕ) (f g : ℕ → Bool) → ((e : ℕ) → f e ≡ true → g e ≡ true) → DetermineBlock row k f → DetermineBlock row k g
 block_more row k f g within = determined_more row (known_ids row k f) (known_ids row k g) (known_within row k f g within)
 
 -- the ids alone matter
-pub block_same : (row : Row) (k : ℕ) (f g : ℕ → Bool) → ((e : ℕ) → f e ≡ g e) → DetermineBlock row k f → DetermineBlock row k g
+pub block_same : (row : TableRow) (k : ℕ) (f g : ℕ → Bool) → ((e : ℕ) → f e ≡ g e) → DetermineBlock row k f → DetermineBlock row k g
 block_same row k f g same = block_more row k f g (λ e h. sym (same e) ∙ h)
 
 pub range_at : (a n i : ℕ) → i < n → at (range_with_len a n) i ≡ a + i
 range_at a n i lt = get_or-range_with_len a n i 0 lt
 
 -- the ids of source and padding symbols, as a list
-source_list : (row : Row) → IsListOf (λ x. ltb x row.source_symbols) (source_ids row)
+source_list : (row : TableRow) → IsListOf (λ x. ltb x row.extended_symbols) (extended_ids row)
 source_list row = record {
   listed = λ j below.
-      let lt : j < row.source_symbols = omega (arith, length-range_with_len 0 row.source_symbols) in
-      let is : at (source_ids row) j ≡ j = range_at 0 row.source_symbols j lt ∙ omega arith in
-      ap (λ x. ltb x row.source_symbols) is ∙ lt-ltb j row.source_symbols lt;
+      let lt : j < row.extended_symbols = omega (arith, length-range_with_len 0 row.extended_symbols) in
+      let is : at (extended_ids row) j ≡ j = range_at 0 row.extended_symbols j lt ∙ omega arith in
+      ap (λ x. ltb x row.extended_symbols) is ∙ lt-ltb j row.extended_symbols lt;
   place = λ x known.
-      let lt : x < row.source_symbols = ltb-true x row.source_symbols known in
-      (x, omega (arith, length-range_with_len 0 row.source_symbols), range_at 0 row.source_symbols x lt ∙ omega arith);
+      let lt : x < row.extended_symbols = ltb-true x row.extended_symbols known in
+      (x, omega (arith, length-range_with_len 0 row.extended_symbols), range_at 0 row.extended_symbols x lt ∙ omega arith);
 }
 
 -- a row is nonsingular where the equations of these ids are determined
-pub nonsingular_rows : (row : Row) → IsNonsingular row → HasDeterminedRows row (source_ids row)
-nonsingular_rows row = determined_list row (λ x. ltb x row.source_symbols) (source_ids row) (source_list row)
+pub nonsingular_rows : (row : TableRow) → IsNonsingular row → HasDeterminedRows row (extended_ids row)
+nonsingular_rows row = determined_list row (λ x. ltb x row.extended_symbols) (extended_ids row) (source_list row)
 
-pub rows_nonsingular : (row : Row) → HasDeterminedRows row (source_ids row) → IsNonsingular row
-rows_nonsingular row = determined_by row (λ x. ltb x row.source_symbols) (source_ids row) (source_list row).listed
+pub rows_nonsingular : (row : TableRow) → HasDeterminedRows row (extended_ids row) → IsNonsingular row
+rows_nonsingular row = determined_by row (λ x. ltb x row.extended_symbols) (extended_ids row) (source_list row).listed
 
 -- over a row that isn't singular the source symbols determine a block
-pub block_of_source : (row : Row) (k : ℕ) (has : ℕ → Bool) → IsNonsingular row → HasSourceSymbols k has → DetermineBlock row k has
+pub block_of_source : (row : TableRow) (k : ℕ) (has : ℕ → Bool) → IsNonsingular row → HasSourceSymbols k has → DetermineBlock row k has
 block_of_source row k has nonsingular all =
-    determined_more row (λ x. ltb x row.source_symbols) (known_ids row k has) (λ x below.
-    let lt : x < row.source_symbols = ltb-true x row.source_symbols below in
+    determined_more row (λ x. ltb x row.extended_symbols) (known_ids row k has) (λ x below.
+    let lt : x < row.extended_symbols = ltb-true x row.extended_symbols below in
     elim (cases_lt x k) [
       | inl l ↦ known_source row k x has l ∙ all.each x l
       | inr ge ↦ known_padding row k x has ge lt
@@ -137,15 +137,15 @@ cond_below : (b : Bool) (x y : ℕ) → x < 256 → y < 256 → cond b x y < 256
 cond_below true x y h l = h
 cond_below false x y h l = l
 
-ldpc_below : (row : Row) (m k : ℕ) → ldpc_coefficient row m k < 256
+ldpc_below : (row : TableRow) (m k : ℕ) → ldpc_coefficient row m k < 256
 unfolding ldpc_coefficient
 ldpc_below row m k =
-    let lone = is_ldpc_place row m k in
-    let own = eqb k (lone_lt_symbols row + m) in
+    let lone = is_ldpc_row row m k in
+    let own = eqb k (b_of row + m) in
     let two = eqb k (row.lt_symbols + m % pi_symbols row) || eqb k (row.lt_symbols + (m + 1) % pi_symbols row) in
-    cond_below (ltb k (lone_lt_symbols row)) (one_if lone) (cond (ltb k row.lt_symbols) (one_if own) (one_if two)) (one_if-below lone) (cond_below (ltb k row.lt_symbols) (one_if own) (one_if two) (one_if-below own) (one_if-below two))
+    cond_below (ltb k (b_of row)) (one_if lone) (cond (ltb k row.lt_symbols) (one_if own) (one_if two)) (one_if-below lone) (cond_below (ltb k row.lt_symbols) (one_if own) (one_if two) (one_if-below own) (one_if-below two))
 
-hdpc_below : (row : Row) (i k : ℕ) → hdpc_coefficient row i k < 256
+hdpc_below : (row : TableRow) (i k : ℕ) → hdpc_coefficient row i k < 256
 unfolding hdpc_coefficient
 hdpc_below row i k =
     let own = eqb k (before_hdpc row + i) in
@@ -156,7 +156,7 @@ parity_below : (places : List ℕ) (k : ℕ) → parity places k < 256
 unfolding parity
 parity_below places k = omega arith
 
-equations_below : (row : Row) (ids : List ℕ) (i k : ℕ) → equations row ids i k < 256
+equations_below : (row : TableRow) (ids : List ℕ) (i k : ℕ) → equations row ids i k < 256
 equations_below row ids i k =
     let f : ℕ = row.ldpc_symbols + row.hdpc_symbols in
     elim (cases_lt i f) [
@@ -170,19 +170,19 @@ equations_below row ids i k =
       | inr past ↦
           let j : ℕ = i - f in
           let e : f + j ≡ i = omega arith in
-          subst (λ (r : ℕ → ℕ). r k < 256) (sym (ap (equations row ids) (sym e) ∙ stacked_below f (fixed_equations row) (rows_of (symbol_coefficient row) ids) j)) (parity_below (row_places row (at ids j)) k)
+          subst (λ (r : ℕ → ℕ). r k < 256) (sym (ap (equations row ids) (sym e) ∙ stacked_below f (fixed_equations row) (rows_of (symbol_coefficient row) ids) j)) (parity_below (row_indices row (at ids j)) k)
     ]
 
 -- fewer equations than intermediate symbols determine nothing
-pub few_not_determining : (row : Row) (ids : List ℕ) → equation_count row ids < intermediate_symbols row → HasDeterminedRows row ids → ⊥
+pub few_not_determining : (row : TableRow) (ids : List ℕ) → equation_count row ids < intermediate_symbols row → HasDeterminedRows row ids → ⊥
 few_not_determining row ids few d =
     null_not_determined octets (equation_count row ids) (intermediate_symbols row) (equations row ids)
     (few_rows octets (intermediate_symbols row) (equation_count row ids) (equations row ids) few (λ i k _ _. equations_below row ids i k)) d
 
 -- before any symbol came
-padding_list : (row : Row) (k : ℕ) → k ≤ row.source_symbols → IsListOf (known_ids row k (λ _. false)) (range_with_len k (row.source_symbols - k))
+padding_list : (row : TableRow) (k : ℕ) → k ≤ row.extended_symbols → IsListOf (known_ids row k (λ _. false)) (range_with_len k (row.extended_symbols - k))
 padding_list row k fits =
-    let n : ℕ = row.source_symbols - k in
+    let n : ℕ = row.extended_symbols - k in
     let ids : List ℕ = range_with_len k n in
     record {
       listed = λ j below.
@@ -190,14 +190,14 @@ padding_list row k fits =
           ap (known_ids row k (λ _. false)) (range_at k n j lt) ∙ known_padding row k (k + j) (λ _. false) (omega arith) (omega arith);
       place = λ x known. elim (cases_lt x k) [
         | inl lt ↦ absurd (cc (sym (known_source row k x (λ _. false) lt) ∙ known))
-        | inr ge ↦ elim (cases_lt x row.source_symbols) [
+        | inr ge ↦ elim (cases_lt x row.extended_symbols) [
           | inl lt ↦ (x - k, (omega (arith, length-range_with_len k n)), range_at k n (x - k) (omega arith) ∙ omega arith)
           | inr past ↦ absurd (cc (sym (known_repair row k x (λ _. false) ge past) ∙ known))
         ]
       ];
     }
 
-pub none_determined : (row : Row) (k : ℕ) → 0 < k → k ≤ row.source_symbols → DetermineBlock row k (λ _. false) → ⊥
+pub none_determined : (row : TableRow) (k : ℕ) → 0 < k → k ≤ row.extended_symbols → DetermineBlock row k (λ _. false) → ⊥
 none_determined row k some fits d =
-    let ids : List ℕ = range_with_len k (row.source_symbols - k) in
-    few_not_determining row ids (omega (arith, length-range_with_len k (row.source_symbols - k))) (determined_list row (known_ids row k (λ _. false)) ids (padding_list row k fits) d)
+    let ids : List ℕ = range_with_len k (row.extended_symbols - k) in
+    few_not_determining row ids (omega (arith, length-range_with_len k (row.extended_symbols - k))) (determined_list row (known_ids row k (λ _. false)) ids (padding_list row k fits) d)

@@ -4,7 +4,7 @@ use Rattle.std.proofs.lemmas.Bool.{cases_Bool, cases_eq, le-leb}
 use Rattle.std.proofs.lemmas.Grind.{div_ceil_times}
 use Rattle.std.proofs.Math.Nat.{lt_of_mul-lt-mul_right}
 use Rattle.std.specs.Int.{div_ceil}
-use Rattle.rq_standard.specs.declared.row.Row.{Row}
+use Rattle.rq_standard.specs.declared.row.TableRow.{TableRow}
 use Rattle.rq_standard.specs.Parameters.{first_from, IsLeast, fitting_block, most_sub_blocks, symbols_for, blocks_for, sub_blocks_for, is_fitting}
 
 pub first_from-step : (test : ℕ → Bool) (n end : ℕ) → n < end → first_from test n (end - n) ≡ cond (test n) n (first_from test (n + 1) (end - (n + 1)))
@@ -67,7 +67,7 @@ ceil_within a c some parts =
     omega arith
 
 -- the greatest number of sub-blocks is one with which the largest block fits, so that there is a least
-pub least_sub_blocks : (rows : List Row) (length s memory : ℕ) → 0 < symbols_for length s → 0 < fitting_block rows s memory (most_sub_blocks s) → 0 < most_sub_blocks s →
+pub least_sub_blocks : (rows : List TableRow) (length s memory : ℕ) → 0 < symbols_for length s → 0 < fitting_block rows s memory (most_sub_blocks s) → 0 < most_sub_blocks s →
     IsLeast (is_fitting rows s memory (div_ceil (symbols_for length s) (blocks_for rows length s memory))) (sub_blocks_for rows length s memory)
 unfolding sub_blocks_for
 least_sub_blocks rows length s memory symbols fitting most =

@@ -3,7 +3,7 @@ use Rattle.std.proofs.Common.{◌≡◌, ◌↔◌, ℕ, true, List, [], ◌∷�
 use Rattle.std.specs.Prelude.{Contains, IsSome, is_some}
 use Rattle.std.specs.List.{AllByRecursion}
 use Rattle.std.proofs.lemmas.List.Elements.{All-head, All-tail, All-map, All-contains, All-from_recursion}
-use Rattle.rq_standard.specs.declared.row.Row.{Row}
+use Rattle.rq_standard.specs.declared.row.TableRow.{TableRow}
 use Rattle.rq_standard.specs.Configuration.{Configuration}
 use Rattle.rq_standard.specs.Cutting.{block_symbols}
 use Rattle.rq_standard.specs.Packet.{SymbolId, Packet}
@@ -40,18 +40,18 @@ came_in_more packets more ids b e came = came_by packets more ids b e (first_pay
 -- ---- what they determine
 
 -- a block that is determined stays so when more packets come
-pub more_determine_block : (row : Row) (k b : ℕ) (packets more : List Packet) → HasIdsOf more packets → DetermineBlock row k (has_id b packets) → DetermineBlock row k (has_id b more)
+pub more_determine_block : (row : TableRow) (k b : ℕ) (packets more : List Packet) → HasIdsOf more packets → DetermineBlock row k (has_id b packets) → DetermineBlock row k (has_id b more)
 more_determine_block row k b packets more ids = block_more row k (has_id b packets) (has_id b more) (came_in_more packets more ids b)
 
-pub more_answerable : (table : List Row) (c : Configuration) (packets more : List Packet) → HasIdsOf more packets → IsAnswerable table c packets → IsAnswerable table c more
+pub more_answerable : (table : List TableRow) (c : Configuration) (packets more : List Packet) → HasIdsOf more packets → IsAnswerable table c packets → IsAnswerable table c more
 more_answerable table c packets more ids determined b below = more_determine_block (block_row table c b) (block_symbols c b) b packets more ids (determined b below)
 
-pub same_answerable : (table : List Row) (c : Configuration) (one other : List Packet) → HaveSameIds one other → IsAnswerable table c one ↔ IsAnswerable table c other
+pub same_answerable : (table : List TableRow) (c : Configuration) (one other : List Packet) → HaveSameIds one other → IsAnswerable table c one ↔ IsAnswerable table c other
 same_answerable table c one other same = (more_answerable table c one other same.there, more_answerable table c other one same.back)
 
 -- ---- what is answered
 
-module _ (table : List Row) (c : Configuration) (object : List ℕ) where
+module _ (table : List TableRow) (c : Configuration) (object : List ℕ) where
   -- an answer is that of more packets too
   stays : (packets more : List Packet) (answer later : Option (List ℕ)) → HasIdsOf more packets → IsObjectAnswer table c object packets answer → IsObjectAnswer table c object more later → IsSome answer → later ≡ answer
   stays packets more answer later ids is after some =
@@ -64,10 +64,10 @@ module _ (table : List Row) (c : Configuration) (object : List ℕ) where
   same_by one other None None same is after = refl
 
 -- Two answers, each right for its own list of an object's packets: what is answered stays the answer when more packets come,
-pub answer_stays : (table : List Row) (c : Configuration) (object : List ℕ) (packets more : List Packet) (answer later : Option (List ℕ)) → IsHonestRun table c object packets → IsHonestRun table c object more → HasIdsOf more packets → AnswersExactly table c packets answer → AnswersExactly table c more later
+pub answer_stays : (table : List TableRow) (c : Configuration) (object : List ℕ) (packets more : List Packet) (answer later : Option (List ℕ)) → IsHonestRun table c object packets → IsHonestRun table c object more → HasIdsOf more packets → AnswersExactly table c packets answer → AnswersExactly table c more later
     → IsSome answer → later ≡ answer
 answer_stays table c object packets more answer later run longer ids right after = stays table c object packets more answer later ids (right object run) (after object longer)
 
 -- and lists of the same ids have the same answer
-pub same_answers : (table : List Row) (c : Configuration) (object : List ℕ) (one other : List Packet) (answer later : Option (List ℕ)) → IsHonestRun table c object one → IsHonestRun table c object other → HaveSameIds one other → AnswersExactly table c one answer → AnswersExactly table c other later → answer ≡ later
+pub same_answers : (table : List TableRow) (c : Configuration) (object : List ℕ) (one other : List Packet) (answer later : Option (List ℕ)) → IsHonestRun table c object one → IsHonestRun table c object other → HaveSameIds one other → AnswersExactly table c one answer → AnswersExactly table c other later → answer ≡ later
 same_answers table c object one other answer later run again same right after = same_by table c object one other answer later same (right object run) (after object again)

@@ -2,13 +2,13 @@
 use Rattle.std.proofs.Common.{◌≡◌, ℕ, zero, suc, ◌<◌, Bool, false, List, take, Option, Some, None, refl, sym, ap, ◌∙◌, subst, arith, inl, inr}
 use Rattle.std.specs.Prelude.{option_map, is_some, IsSome, IsNone, IfSome}
 use Rattle.std.proofs.lemmas.Bool.{cases_lt}
-use Rattle.rq_standard.specs.declared.row.Row.{Row}
+use Rattle.rq_standard.specs.declared.row.TableRow.{TableRow}
 use Rattle.rq_standard.specs.Packet.{Packet}
 use Rattle.rq_standard.specs.Cutting.{block_symbols, block_bytes}
 use Rattle.rq_standard.specs.Received.{has_id}
 use Rattle.rq_standard.specs.Headline.{DetermineBlock, block_row, IsObjectAnswer}
 use Rattle.rq_standard.specs.Held.{Held, holds, AreHeldDetermining}
-use Rattle.rq_standard.specs.Standing.{State, IsHeldOf, BlockStands, StandsBut, append_both, joined, result_of, AnswersObject, AnswersNothingElse}
+use Rattle.rq_standard.specs.Standing.{State, IsHeldOf, BlockStandsFor, StandsForButLate, append_both, joined, result_of, AnswersObject, AnswersNothingElse}
 use Rattle.rq_standard.specs.Differences.{AreUnansweredDetermined, IsNoneWhereAnswered}
 use Rattle.rq_standard.proofs.BlockCuts.{pieces, whole_object}
 use Rattle.rq_standard.proofs.Known.{block_same}
@@ -36,7 +36,7 @@ pub some_of : (f : List ℕ → List ℕ) (o : Option (List ℕ)) → IsSome (op
 some_of f None h = h
 some_of f (Some xs) h = refl
 
-module _ (table : List Row) (object : List ℕ) (packets : List Packet) (s : State) where
+module _ (table : List TableRow) (object : List ℕ) (packets : List Packet) (s : State) where
   -- the ids that came determine a block, by its row and by what is held
   by_row : (b : ℕ) (h : Held) → IsHeldOf table s.configuration b h → DetermineBlock h.row h.symbols (has_id b packets) → DetermineBlock (block_row table s.configuration b) (block_symbols s.configuration b) (has_id b packets)
   by_row b h shape d = subst (λ r. DetermineBlock r (block_symbols s.configuration b) (has_id b packets)) shape.row (subst (λ k. DetermineBlock h.row k (has_id b packets)) shape.symbols d)
@@ -45,17 +45,17 @@ module _ (table : List Row) (object : List ℕ) (packets : List Packet) (s : Sta
   by_held b h shape d = subst (λ k. DetermineBlock h.row k (has_id b packets)) (sym shape.symbols) (subst (λ r. DetermineBlock r (block_symbols s.configuration b) (has_id b packets)) (sym shape.row) d)
 
   -- a block with an answer
-  answered : (late : Bool) (b : ℕ) (h : Held) (a : Option (List ℕ)) → IsHeldOf table s.configuration b h → BlockStands late (block_bytes s.configuration object b) b packets h a → IsSome a
+  answered : (late : Bool) (b : ℕ) (h : Held) (a : Option (List ℕ)) → IsHeldOf table s.configuration b h → BlockStandsFor late (block_bytes s.configuration object b) b packets h a → IsSome a
       → (a ≡ Some (block_bytes s.configuration object b)) × DetermineBlock (block_row table s.configuration b) (block_symbols s.configuration b) (has_id b packets)
   answered late b h None shape st some = absurd (cc some)
   answered late b h (Some bytes) shape st some = (ap (λ xs. Some xs) st.0, by_row b h shape st.1)
 
   -- a block that is determined has an answer, unless it is late
-  has_answer : (b : ℕ) (h : Held) (a : Option (List ℕ)) → IsHeldOf table s.configuration b h → BlockStands false (block_bytes s.configuration object b) b packets h a → DetermineBlock (block_row table s.configuration b) (block_symbols s.configuration b) (has_id b packets) → IsSome a
+  has_answer : (b : ℕ) (h : Held) (a : Option (List ℕ)) → IsHeldOf table s.configuration b h → BlockStandsFor false (block_bytes s.configuration object b) b packets h a → DetermineBlock (block_row table s.configuration b) (block_symbols s.configuration b) (has_id b packets) → IsSome a
   has_answer b h None shape st d = absurd (st.1 refl (by_held b h shape d))
   has_answer b h (Some bytes) shape st d = refl
 
-  module _ (late : ℕ → Bool) (some : 0 < s.configuration.source_blocks) (pos : 0 < s.configuration.symbol_size) (st : StandsBut late table object packets s) where
+  module _ (late : ℕ → Bool) (some : 0 < s.configuration.source_blocks) (pos : 0 < s.configuration.symbol_size) (st : StandsForButLate late table object packets s) where
     -- the object, where each block has an answer
     from_all : ((b : ℕ) → b < s.configuration.source_blocks → IsSome (s.answer b)) → result_of s ≡ Some object
     from_all each =
@@ -73,12 +73,12 @@ module _ (table : List Row) (object : List ℕ) (packets : List Packet) (s : Sta
 
     exactly : ((b : ℕ) → late b ≡ false) → IsObjectAnswer table s.configuration object packets (result_of s)
     exactly now = record {
-      whole = λ all. from_all (λ b below. has_answer b (s.held b) (s.answer b) (st.shape b below) (subst (λ l. BlockStands l (block_bytes s.configuration object b) b packets (s.held b) (s.answer b)) (now b) (st.block b below)) (all b below));
+      whole = λ all. from_all (λ b below. has_answer b (s.held b) (s.answer b) (st.shape b below) (subst (λ l. BlockStandsFor l (block_bytes s.configuration object b) b packets (s.held b) (s.answer b)) (now b) (st.block b below)) (all b below));
       only = λ h b below. (answered (late b) b (s.held b) (s.answer b) (st.shape b below) (st.block b below) (each_of h b below)).1;
     }
 
 -- no block without an answer is determined
-not_determined : (packets : List Packet) (block : List ℕ) (b : ℕ) (h : Held) (a : Option (List ℕ)) → BlockStands false block b packets h a → a ≡ None → AreHeldDetermining h → ⊥
+not_determined : (packets : List Packet) (block : List ℕ) (b : ℕ) (h : Held) (a : Option (List ℕ)) → BlockStandsFor false block b packets h a → a ≡ None → AreHeldDetermining h → ⊥
 not_determined packets block b h None st none d = st.1 refl (block_same h.row h.symbols (holds h) (has_id b packets) (λ e. ap is_some (st.0 e)) d)
 not_determined packets block b h (Some bytes) st none d = absurd (cc none)
 

@@ -9,7 +9,7 @@ use Rattle.rq_algebra.specs.Symbols.{slice_at, IsSymbol}
 use Rattle.rq_algebra.proofs.Sums.{add_twice, dot_add_column}
 use Rattle.rq_algebra.proofs.Solutions.{solves_same}
 use Rattle.rq_algebra.proofs.SymbolSums.{same_symbol, symbol_elements}
-use Rattle.rq_standard.specs.declared.row.Row.{Row}
+use Rattle.rq_standard.specs.declared.row.TableRow.{TableRow}
 use Rattle.rq_standard.specs.OctetField.{octets}
 use Rattle.rq_standard.specs.TableRows.{IsChecked, intermediate_symbols}
 use Rattle.rq_standard.specs.Packet.{Packet}
@@ -32,7 +32,7 @@ both_are : (o : Option (List ℕ)) (x y : List ℕ) → is_some o ≡ true → I
 both_are None x y some is_x is_y = absurd (cc some)
 both_are (Some z) x y some is_x is_y = sym is_x ∙ is_y
 
-module _ (h : Held) (x y : ℕ → List ℕ) (checked : IsChecked h.row) (fits : h.symbols ≤ h.row.source_symbols) (solves_x : SolvesHeld h x) (solves_y : SolvesHeld h y) where
+module _ (h : Held) (x y : ℕ → List ℕ) (checked : IsChecked h.row) (fits : h.symbols ≤ h.row.extended_symbols) (solves_x : SolvesHeld h x) (solves_y : SolvesHeld h y) where
   -- they have the same sums for all known ids
   same_sums : (i : ℕ) → known_ids h.row h.symbols (holds h) i ≡ true → tuple_sum h.row x i ≡ tuple_sum h.row y i
   same_sums i known =
@@ -41,12 +41,12 @@ module _ (h : Held) (x y : ℕ → List ℕ) (checked : IsChecked h.row) (fits :
       let from : (e : ℕ) → holds h e ≡ true → internal_id row k e ≡ i → tuple_sum row x i ≡ tuple_sum row y i =
       λ e came is. subst (λ n. tuple_sum row x n ≡ tuple_sum row y n) is (both_are (h.received e) (tuple_sum row x (internal_id row k e)) (tuple_sum row y (internal_id row k e)) came (solves_x.received e) (solves_y.received e)) in
       elim (cases_lt i k) [
-        | inl lt ↦ from i (sym (known_source row k i (holds h) lt) ∙ known) (ap (λ b. cond b i (i + row.source_symbols - k)) (lt-ltb i k lt))
-        | inr ge ↦ elim (cases_lt i row.source_symbols) [
+        | inl lt ↦ from i (sym (known_source row k i (holds h) lt) ∙ known) (ap (λ b. cond b i (i + row.extended_symbols - k)) (lt-ltb i k lt))
+        | inr ge ↦ elim (cases_lt i row.extended_symbols) [
           | inl lt ↦ solves_x.padding i ge lt ∙ sym (solves_y.padding i ge lt)
           | inr past ↦
-              let e : ℕ = i + k - row.source_symbols in
-              from e (sym (known_repair row k i (holds h) ge past) ∙ known) (ap (λ b. cond b e (e + row.source_symbols - k)) (le-ltb e k (omega arith)) ∙ omega arith)
+              let e : ℕ = i + k - row.extended_symbols in
+              from e (sym (known_repair row k i (holds h) ge past) ∙ known) (ap (λ b. cond b e (e + row.extended_symbols - k)) (le-ltb e k (omega arith)) ∙ omega arith)
         ]
       ]
 
@@ -80,13 +80,13 @@ module _ (h : Held) (x y : ℕ → List ℕ) (checked : IsChecked h.row) (fits :
 -- ---- packets of two objects
 
 -- a packet of a block that both make, or no packet of the block
-pub record IsShared (table : List Row) (c : Configuration) (one other : List ℕ) (b : ℕ) : Type 0 where
+pub record IsShared (table : List TableRow) (c : Configuration) (one other : List ℕ) (b : ℕ) : Type 0 where
   pub packet : Packet
   pub here : packet.id.block ≡ b
   pub is_one : IsPacketOf table c one packet
   pub is_other : IsPacketOf table c other packet
 
-module _ (table : List Row) (c : Configuration) (one other : List ℕ) (b : ℕ) where
+module _ (table : List TableRow) (c : Configuration) (one other : List ℕ) (b : ℕ) where
   shared_packet : (packets : List Packet) → AllByRecursion (IsPacketOf table c one) packets → AllByRecursion (IsPacketOf table c other) packets → IsShared table c one other b ⊎ ((e : ℕ) → has_id b packets e ≡ false)
   shared_packet [] is also = inr (λ e. refl)
   shared_packet (p ∷ packets) is also = elim (cases_eq p.id.block b) [
@@ -97,9 +97,9 @@ module _ (table : List Row) (c : Configuration) (one other : List ℕ) (b : ℕ)
     ]
   ]
 
-  module _ (packets : List Packet) (run : IsHonestRun table c one packets) (also : IsHonestRun table c other packets) (below : b < c.source_blocks) (aligned : IsAligned c) (checked : IsChecked (block_row table c b)) (fits : block_symbols c b ≤ (block_row table c b).source_symbols)
+  module _ (packets : List Packet) (run : IsHonestRun table c one packets) (also : IsHonestRun table c other packets) (below : b < c.source_blocks) (aligned : IsAligned c) (checked : IsChecked (block_row table c b)) (fits : block_symbols c b ≤ (block_row table c b).extended_symbols)
       (determined : DetermineBlock (block_row table c b) (block_symbols c b) (has_id b packets)) where
-    abbrev row : Row
+    abbrev row : TableRow
     row = block_row table c b
 
     -- what came of the block
@@ -139,7 +139,7 @@ pieces_same f g zero same = refl
 pieces_same f g (suc n) same = ap (λ xs. xs ++ f n) (pieces_same f g n (λ b l. same b (omega arith))) ∙ ap (λ ys. pieces g n ++ ys) (same n (omega arith))
 
 -- one object alone fits a list that determines each block
-pub one_object : (table : List Row) (c : Configuration) (one other : List ℕ) (packets : List Packet) → 0 < c.symbol_size → 0 < c.source_blocks → IsAligned c → ((b : ℕ) → b < c.source_blocks → IsChecked (block_row table c b)) → ((b : ℕ) → b < c.source_blocks → block_symbols c b ≤ (block_row table c b).source_symbols)
+pub one_object : (table : List TableRow) (c : Configuration) (one other : List ℕ) (packets : List Packet) → 0 < c.symbol_size → 0 < c.source_blocks → IsAligned c → ((b : ℕ) → b < c.source_blocks → IsChecked (block_row table c b)) → ((b : ℕ) → b < c.source_blocks → block_symbols c b ≤ (block_row table c b).extended_symbols)
     → IsHonestRun table c one packets → IsHonestRun table c other packets → IsAnswerable table c packets → other ≡ one
 one_object table c one other packets pos some aligned checked fits run also answerable =
     sym (whole_object c other some pos also.long)

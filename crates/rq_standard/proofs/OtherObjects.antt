@@ -9,7 +9,7 @@ use Rattle.rq_algebra.specs.Symbols.{add_symbols}
 use Rattle.rq_algebra.proofs.Placewise.{at-zeros, add_symbols_at}
 use Rattle.rq_algebra.proofs.Sums.{add_twice, mul_zero, dot_zero}
 use Rattle.rq_algebra.proofs.SymbolSums.{add_symbols_comm, add_zeros, length-add_symbols}
-use Rattle.rq_standard.specs.declared.row.Row.{Row}
+use Rattle.rq_standard.specs.declared.row.TableRow.{TableRow}
 use Rattle.rq_standard.specs.OctetField.{octets}
 use Rattle.rq_standard.specs.TableRows.{IsChecked, intermediate_symbols}
 use Rattle.rq_standard.specs.Packet.{Packet}
@@ -19,7 +19,7 @@ use Rattle.rq_standard.specs.Equations.{zero_symbol, symbol_coefficient, interna
 use Rattle.rq_standard.specs.Received.{or_later, payload_for, first_payload, has_id}
 use Rattle.rq_standard.specs.Headline.{IsNonsingular, IsEncodingSymbol, SolvesZeros, known_ids, block_row, block_source, IsPacketOf, HasNonsingularRows, IsAnswerable, IsObjectAnswer, IsHonestRun, IsOnlyObject}
 use Rattle.rq_standard.specs.Held.{Held, holds}
-use Rattle.rq_standard.specs.Standing.{State, IsHeldOf, BlockStands, AnswersObject, AnswersOnlyObject}
+use Rattle.rq_standard.specs.Standing.{State, IsHeldOf, BlockStandsFor, AnswersObject, AnswersOnlyObject}
 use Rattle.rq_standard.specs.Differences.{xor_bytes, HoldsNonsingularRows, IsDifference, MakesOthersFit, plain_sum}
 use Rattle.rq_standard.proofs.BlockCuts.{block_byte}
 use Rattle.rq_standard.proofs.Columns.{sum_symbol}
@@ -31,19 +31,19 @@ use Rattle.rq_standard.proofs.PlainCut.{length-block_bytes}
 use Rattle.rq_standard.proofs.Standing.{length-symbol_of_block, length-block_source, source_at}
 
 -- bytes of an object whose symbols with these ids, of each block, are zero
-pub record EncodesToZeros (table : List Row) (c : Configuration) (has : ℕ → ℕ → Bool) (bytes : List ℕ) : Type 0 where
+pub record EncodesToZeros (table : List TableRow) (c : Configuration) (has : ℕ → ℕ → Bool) (bytes : List ℕ) : Type 0 where
   pub long : length bytes ≡ c.transfer_length
   pub zeros : (b e : ℕ) → b < c.source_blocks → has b e ≡ true → IsEncodingSymbol (block_row table c b) c.symbol_size (block_source c bytes b) e (zero_symbol c.symbol_size)
 
 -- a block over a row of a table that has room for it
-pub record HasRow (row : Row) (k : ℕ) : Type 0 where
+pub record HasRow (row : TableRow) (k : ℕ) : Type 0 where
   pub checked : IsChecked row
-  pub fits : k ≤ row.source_symbols
+  pub fits : k ≤ row.extended_symbols
 
-pub row_of_shape : (table : List Row) (c : Configuration) (b : ℕ) (h : Held) → IsHeldOf table c b h → HasRow (block_row table c b) (block_symbols c b)
+pub row_of_shape : (table : List TableRow) (c : Configuration) (b : ℕ) (h : Held) → IsHeldOf table c b h → HasRow (block_row table c b) (block_symbols c b)
 row_of_shape table c b h shape = record {
   checked = subst IsChecked shape.row shape.checked;
-  fits = subst (λ (r : Row). block_symbols c b ≤ r.source_symbols) shape.row (subst (λ n. n ≤ h.row.source_symbols) shape.symbols shape.fits);
+  fits = subst (λ (r : TableRow). block_symbols c b ≤ r.extended_symbols) shape.row (subst (λ n. n ≤ h.row.extended_symbols) shape.symbols shape.fits);
 }
 
 -- ---- the xor of two objects
@@ -101,7 +101,7 @@ both-all : (P Q R : Packet → Type 0) (packets : List Packet) → ((p : Packet)
 both-all P Q R [] f h g = tt
 both-all P Q R (p ∷ packets) f h g = (f p h.0 g.0, both-all P Q R packets f h.1 g.1)
 
-module _ (table : List Row) (c : Configuration) (rows : (b : ℕ) → b < c.source_blocks → HasRow (block_row table c b) (block_symbols c b)) (nonsingular : HasNonsingularRows table c) where
+module _ (table : List TableRow) (c : Configuration) (rows : (b : ℕ) → b < c.source_blocks → HasRow (block_row table c b) (block_symbols c b)) (nonsingular : HasNonsingularRows table c) where
   -- the packets of an object are those of its xor with bytes whose symbols are zero there
   packet-xor : (object bytes : List ℕ) (has : ℕ → ℕ → Bool) → EncodesToZeros table c has bytes → (p : Packet) → IsPacketOf table c object p → has p.id.block p.id.esi ≡ true → IsPacketOf table c (xor_bytes object bytes) p
   packet-xor object bytes has z p pk came =
@@ -133,15 +133,15 @@ xor-same x y same i = sym (add_twice octets (get_or x i 0) (get_or y i 0)) ∙ a
 -- ---- bytes made of plain columns, one for each block
 
 -- a column for each block that solves what is known of it with all values zero
-pub record AreColumns (row : ℕ → Row) (k : ℕ → ℕ) (has : ℕ → ℕ → Bool) (count : ℕ) (columns : ℕ → ℕ → ℕ) : Type 0 where
+pub record AreColumns (row : ℕ → TableRow) (k : ℕ → ℕ) (has : ℕ → ℕ → Bool) (count : ℕ) (columns : ℕ → ℕ → ℕ) : Type 0 where
   pub elements : (b : ℕ) → b < count → IsColumn octets (intermediate_symbols (row b)) (columns b)
   pub solves : (b : ℕ) → b < count → SolvesZeros (row b) (known_ids (row b) (k b) (has b)) (columns b)
 
 -- the bytes that they make
-abbrev pub bytes_of : Configuration → (ℕ → Row) → (ℕ → ℕ → ℕ) → List ℕ
+abbrev pub bytes_of : Configuration → (ℕ → TableRow) → (ℕ → ℕ → ℕ) → List ℕ
 bytes_of c row columns = first_octets_object c (λ b e. plain_sum (row b) (columns b) e)
 
-module _ (c : Configuration) (row : ℕ → Row) (columns : ℕ → ℕ → ℕ) (pos : 0 < c.symbol_size) (some : 0 < c.source_blocks) (aligned : IsAligned c) where
+module _ (c : Configuration) (row : ℕ → TableRow) (columns : ℕ → ℕ → ℕ) (pos : 0 < c.symbol_size) (some : 0 < c.source_blocks) (aligned : IsAligned c) where
   pub length-bytes_of : length (bytes_of c row columns) ≡ c.transfer_length
   length-bytes_of = length-first_octets_object c (λ b e. plain_sum (row b) (columns b) e) pos some aligned
 
@@ -181,7 +181,7 @@ module _ (c : Configuration) (row : ℕ → Row) (columns : ℕ → ℕ → ℕ)
 
 -- ---- the only object
 
-module _ (table : List Row) (c : Configuration) (pos : 0 < c.symbol_size) (some : 0 < c.source_blocks) (aligned : IsAligned c) (rows : (b : ℕ) → b < c.source_blocks → HasRow (block_row table c b) (block_symbols c b)) where
+module _ (table : List TableRow) (c : Configuration) (pos : 0 < c.symbol_size) (some : 0 < c.source_blocks) (aligned : IsAligned c) (rows : (b : ℕ) → b < c.source_blocks → HasRow (block_row table c b) (block_symbols c b)) where
   -- where no other object makes the packets, they determine each block
   pub only_is_answerable : (object : List ℕ) (packets : List Packet) → IsHonestRun table c object packets → IsOnlyObject table c packets object → IsAnswerable table c packets
   only_is_answerable object packets fits only b below x is solves =
@@ -199,11 +199,11 @@ module _ (table : List Row) (c : Configuration) (pos : 0 < c.symbol_size) (some 
       let none = zero_bytes c row columns pos some aligned has are (xor-same object (bytes_of c row columns) (only (xor_bytes object (bytes_of c row columns)) (fits-xor table c rows fits.nonsingular object (bytes_of c row columns) packets fits encodes))) b below (fits.nonsingular b below) in
       λ j l. ap (λ t. cond t (x j) 0) (sym (eq-eqb b b refl)) ∙ none j l
     where
-      one_of : (t : Bool) (r : Row) → (t ≡ true → IsColumn octets (intermediate_symbols r) x) → IsColumn octets (intermediate_symbols r) (λ j. cond t (x j) 0)
+      one_of : (t : Bool) (r : TableRow) → (t ≡ true → IsColumn octets (intermediate_symbols r) x) → IsColumn octets (intermediate_symbols r) (λ j. cond t (x j) 0)
       one_of true r h = h refl
       one_of false r h = zeros_are_octets r
 
-      solves_one : (t : Bool) (r : Row) (known : ℕ → Bool) → (t ≡ true → SolvesZeros r known x) → SolvesZeros r known (λ j. cond t (x j) 0)
+      solves_one : (t : Bool) (r : TableRow) (known : ℕ → Bool) → (t ≡ true → SolvesZeros r known x) → SolvesZeros r known (λ j. cond t (x j) 0)
       solves_one true r known h = h refl
       solves_one false r known h = zeros_solve r known
 
@@ -220,7 +220,7 @@ answers_only s answer some pos aligned is table object packets st =
 -- ---- what a decoder's bytes are
 
 module _ (s : State) (pos : 0 < s.configuration.symbol_size) (some : 0 < s.configuration.source_blocks) (aligned : IsAligned s.configuration) where
-  abbrev row_at : ℕ → Row
+  abbrev row_at : ℕ → TableRow
   row_at b = (s.held b).row
 
   -- bytes of columns that are zero in answered blocks, and not all zero
@@ -270,5 +270,5 @@ module _ (s : State) (pos : 0 < s.configuration.symbol_size) (some : 0 < s.confi
             (λ i in_block. zero_source bytes b i (λ n. d.answered b n below (subst IsSome (sym is) refl)) in_block)
         by_answer b e below came None is =
             let c = s.configuration in
-            let reads = (subst (BlockStands (late b) (block_bytes c object b) b packets (s.held b)) is (st.block b below)).0 in
-            subst (λ (r : Row). IsEncodingSymbol r c.symbol_size (block_source c bytes b) e (zero_symbol c.symbol_size)) (st.shape b below).row (d.zeros b e below (held b below) (ap is_some (reads e) ∙ came))
+            let reads = (subst (BlockStandsFor (late b) (block_bytes c object b) b packets (s.held b)) is (st.block b below)).0 in
+            subst (λ (r : TableRow). IsEncodingSymbol r c.symbol_size (block_source c bytes b) e (zero_symbol c.symbol_size)) (st.shape b below).row (d.zeros b e below (held b below) (ap is_some (reads e) ∙ came))

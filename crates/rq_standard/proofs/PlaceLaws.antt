@@ -3,12 +3,12 @@ use Rattle.std.proofs.Common.{◌≡◌, ◌≢◌, ℕ, ◌+◌, ◌-◌, ◌*�
 use Rattle.std.proofs.lemmas.Bool.{cases_lt, ltb-true}
 use Rattle.std.proofs.Math.Nat.{mod-eq_of_lt, add-mod_right, mod-add-mod, lt_of_mul-lt-mul_left}
 use Rattle.std.specs.List.{All, range_with_len}
-use Rattle.rq_standard.specs.declared.row.Row.{Row}
+use Rattle.rq_standard.specs.declared.row.TableRow.{TableRow}
 use Rattle.std.proofs.lemmas.List.Elements.{All-nil, All-cons, All-append, All-map, All-take, All-weaker, filter_passes}
-use Rattle.rq_standard.specs.Tuple.{Tuple, tuple_of, places_of, lt_places, pi_places, pi_values}
-use Rattle.rq_standard.specs.TableRows.{IsChecked, lone_lt_symbols, pi_symbols, intermediate_symbols}
-use Rattle.rq_standard.specs.Equations.{ldpc_step, row_places}
-use Rattle.rq_standard.specs.TableLaws.{LdpcPlacesAreThree, PlacesAreBelow}
+use Rattle.rq_standard.specs.Tuple.{Tuple, tuple_of, enc_indices, lt_indices, pi_indices, pi_values}
+use Rattle.rq_standard.specs.TableRows.{IsChecked, b_of, pi_symbols, intermediate_symbols}
+use Rattle.rq_standard.specs.Equations.{ldpc_step, row_indices}
+use Rattle.rq_standard.specs.TableLaws.{LdpcRowsAreThree, IndicesAreBelow}
 
 -- the sum modulo m of two numbers below it
 sum_cases : (m x y : ℕ) → x < m → y < m → ((x + y) % m ≡ x + y) ⊎ ((m ≤ x + y) × ((x + y) % m ≡ x + y - m))
@@ -47,16 +47,16 @@ two_steps m x a hx some below odd =
     (sum_cases m x a hx below))
 
 -- the step of one of the first B symbols is below S
-step-lt : (row : Row) (i : ℕ) → IsChecked row → i < lone_lt_symbols row → ldpc_step row i < row.ldpc_symbols
+step-lt : (row : TableRow) (i : ℕ) → IsChecked row → i < b_of row → ldpc_step row i < row.ldpc_symbols
 step-lt row i checked lt =
     let s = row.ldpc_symbols in
     let some : 0 < s = omega (arith, checked.odd) in
     let whole : s * (i / s) + i % s ≡ i = omega arith in
-    let product : s * (i / s) < s * (s - 1) = omega (arith, whole, checked.few_lone) in
+    let product : s * (i / s) < s * (s - 1) = omega (arith, whole, checked.few_b) in
     let quotient : i / s < s - 1 = lt_of_mul-lt-mul_left s product in
     omega arith
 
-pub ldpc_places : LdpcPlacesAreThree
+pub ldpc_places : LdpcRowsAreThree
 ldpc_places row i checked lt =
     let s = row.ldpc_symbols in
     let a = ldpc_step row i in
@@ -80,12 +80,12 @@ every : (P : ℕ → Type 0) → ((x : ℕ) → P x) → (xs : List ℕ) → All
 every P holds [] = All-nil P
 every P holds (x ∷ xs) = All-cons P x xs (holds x) (every P holds xs)
 
-lt_below : (w p : ℕ) (t : Tuple) → 0 < w → All (λ place. place < w + p) (lt_places w t)
+lt_below : (w p : ℕ) (t : Tuple) → 0 < w → All (λ place. place < w + p) (lt_indices w t)
 lt_below w p t some =
     All-map (λ place. place < w + p) (λ j. (t.2 + t.1 * j) % w) (range_with_len 0 t.0)
     (every (λ j. (t.2 + t.1 * j) % w < w + p) (λ j. let lt : (t.2 + t.1 * j) % w < w = omega arith in omega arith) (range_with_len 0 t.0))
 
-pi_below : (w p p1 : ℕ) (t : Tuple) → All (λ place. place < w + p) (pi_places w p p1 t)
+pi_below : (w p p1 : ℕ) (t : Tuple) → All (λ place. place < w + p) (pi_indices w p p1 t)
 pi_below w p p1 t =
     let values = filter (λ value. ltb value p) (pi_values (t.3 * p1) p1 t) in
     All-map (λ place. place < w + p) (λ value. w + value) (take t.3 values)
@@ -93,24 +93,24 @@ pi_below w p p1 t =
     (All-weaker (λ value. ltb value p ≡ true) (λ value. w + value < w + p) (λ value passes. let lt = ltb-true value p passes in omega (arith, lt)) values
     (filter_passes (λ value. ltb value p) (pi_values (t.3 * p1) p1 t))))
 
-pub places_below : (w p p1 : ℕ) (t : Tuple) → 0 < w → All (λ place. place < w + p) (places_of w p p1 t)
-unfolding places_of
-places_below w p p1 t some = All-append (λ place. place < w + p) (lt_places w t) (pi_places w p p1 t) (lt_below w p t some) (pi_below w p p1 t)
+pub places_below : (w p p1 : ℕ) (t : Tuple) → 0 < w → All (λ place. place < w + p) (enc_indices w p p1 t)
+unfolding enc_indices
+places_below w p p1 t some = All-append (λ place. place < w + p) (lt_indices w t) (pi_indices w p p1 t) (lt_below w p t some) (pi_below w p p1 t)
 
-pub row_places_below : PlacesAreBelow
-row_places_below row x checked =
+pub row_indices_below : IndicesAreBelow
+row_indices_below row x checked =
     let w = row.lt_symbols in
     let sum : w + pi_symbols row ≡ intermediate_symbols row = omega (arith, checked.three_pi) in
-    All-weaker (λ place. place < w + pi_symbols row) (λ place. place < intermediate_symbols row) (λ place lt. omega (arith, sum)) (row_places row x)
-    (places_below w (pi_symbols row) row.p1 (tuple_of w row.systematic_index row.p1 x) (omega (arith, checked.some_lone)))
+    All-weaker (λ place. place < w + pi_symbols row) (λ place. place < intermediate_symbols row) (λ place lt. omega (arith, sum)) (row_indices row x)
+    (places_below w (pi_symbols row) row.p1 (tuple_of w row.systematic_index row.p1 x) (omega (arith, checked.some_b)))
 
 -- a checked row has three LDPC symbols and a lone LT symbol at least
-pub enough_lt : (row : Row) → IsChecked row → 4 ≤ row.lt_symbols
+pub enough_lt : (row : TableRow) → IsChecked row → 4 ≤ row.lt_symbols
 enough_lt row checked =
     ⊎_elim
     (λ (few : row.ldpc_symbols < 3).
     let one : row.ldpc_symbols ≡ 1 = omega (arith, checked.odd) in
-    let none : row.lt_symbols - 1 ≤ 0 = rw one at checked.few_lone in
-    absurd (omega (arith, none, one, checked.some_lone)))
-    (λ (enough : 3 ≤ row.ldpc_symbols). omega (arith, checked.some_lone))
+    let none : row.lt_symbols - 1 ≤ 0 = rw one at checked.few_b in
+    absurd (omega (arith, none, one, checked.some_b)))
+    (λ (enough : 3 ≤ row.ldpc_symbols). omega (arith, checked.some_b))
     (cases_lt row.ldpc_symbols 3)

@@ -3,14 +3,14 @@ use Rattle.std.proofs.Common.{◌≡◌, ℕ, zero, suc, ◌+◌, ◌≤◌, ◌
 use Rattle.std.specs.List.{list_all}
 use Rattle.std.proofs.lemmas.Bool.{and_parts, eqb-true, ltb-true, leb-true, le-leb, cases_Bool}
 use Rattle.std.proofs.lemmas.List.{length-take, take-append-le}
-use Rattle.rq_standard.specs.declared.row.Row.{Row}
-use Rattle.rq_standard.specs.declared.sizes.TheConstants.{P1_TABLE}
+use Rattle.rq_standard.specs.declared.row.TableRow.{TableRow}
+use Rattle.rq_standard.specs.declared.p1_table.TheConstants.{P1_TABLE}
 use Rattle.rq_standard.specs.TableRows.{first_failing_check, has_size, is_odd, fits_ldpc, fits_hdpc, fits_pi, fits_columns, fits_index, IsChecked, RowNumbers, row_of_numbers, rows_from, first_failure, first_refused, built_in_rows, IsTable, greatest_size, row_of, first_size, extended_size}
 
 -- ---- the checks
 
 -- a row that fails no check passes each
-record Passes (place : ℕ) (row : Row) : Type 0 where
+record Passes (place : ℕ) (row : TableRow) : Type 0 where
   size : has_size (slice_get P1_TABLE place) row ≡ true
   odd : is_odd row ≡ true
   ldpc : fits_ldpc row ≡ true
@@ -24,7 +24,7 @@ first_passed : (test : Bool) (check : ℕ) (rest : Option ℕ) → cond (not tes
 first_passed true check rest e = (refl, e)
 first_passed false check rest e = absurd (cc)
 
-passes : (place : ℕ) (row : Row) → first_failing_check place row ≡ None → Passes place row
+passes : (place : ℕ) (row : TableRow) → first_failing_check place row ≡ None → Passes place row
 unfolding first_failing_check
 passes place row e =
     let one = first_passed _ _ _ e in
@@ -36,18 +36,18 @@ passes place row e =
     let seven = first_passed _ _ _ six.1 in
     record { size = one.0; odd = two.0; ldpc = three.0; hdpc = four.0; pi = five.0; columns = six.0; index = seven.0 }
 
-pub passes_checked : (place : ℕ) (row : Row) → first_failing_check place row ≡ None → IsChecked row
+pub passes_checked : (place : ℕ) (row : TableRow) → first_failing_check place row ≡ None → IsChecked row
 passes_checked place row e =
     let p = passes place row e in
     let ldpc = and_parts _ _ p.ldpc in
     let hdpc = and_parts _ _ p.hdpc in
     let pi = and_parts _ _ p.pi in
-    let below : row.hdpc_symbols ≤ min row.source_symbols 255 = leb-true _ _ hdpc.1 in
+    let below : row.hdpc_symbols ≤ min row.extended_symbols 255 = leb-true _ _ hdpc.1 in
     record {
       odd = eqb-true _ _ p.odd;
-      some_lone = leb-true _ _ (and_parts _ _ ldpc.0).0;
-      few_lone = leb-true _ _ (and_parts _ _ ldpc.0).1;
-      lone_below = leb-true _ _ ldpc.1;
+      some_b = leb-true _ _ (and_parts _ _ ldpc.0).0;
+      few_b = leb-true _ _ (and_parts _ _ ldpc.0).1;
+      b_below = leb-true _ _ ldpc.1;
       two_hdpc = leb-true _ _ hdpc.0;
       hdpc_below = omega arith;
       few_hdpc = omega arith;
@@ -65,16 +65,16 @@ is_none_true None e = refl
 is_none_true (Some x) e = absurd (cc)
 
 -- each row passes the checks, from a place of a table on
-abbrev all_pass : ℕ → List Row → Bool
+abbrev all_pass : ℕ → List TableRow → Bool
 all_pass place [] = true
 all_pass place (row ∷ rows) = is_none (first_failing_check place row) && all_pass (place + 1) rows
 
-all_pass_at : (place : ℕ) (rows : List Row) → all_pass place rows ≡ true → (i : ℕ) (row : Row) → slice_get rows i ≡ Some row → first_failing_check (place + i) row ≡ None
+all_pass_at : (place : ℕ) (rows : List TableRow) → all_pass place rows ≡ true → (i : ℕ) (row : TableRow) → slice_get rows i ≡ Some row → first_failing_check (place + i) row ≡ None
 all_pass_at place [] e i row is = absurd (cc)
 all_pass_at place (first ∷ rows) e zero row is =
     let both = and_parts (is_none (first_failing_check place first)) (all_pass (place + 1) rows) e in
     let here : first ≡ row = cc in
-    subst (λ (r : Row). first_failing_check (place + 0) r ≡ None) here
+    subst (λ (r : TableRow). first_failing_check (place + 0) r ≡ None) here
     (subst (λ (n : ℕ). first_failing_check n first ≡ None) (let same : place ≡ place + 0 = omega arith in same) (is_none_true _ both.0))
 all_pass_at place (first ∷ rows) e (suc i) row is =
     let both = and_parts (is_none (first_failing_check place first)) (all_pass (place + 1) rows) e in
@@ -99,35 +99,35 @@ built_in_table = record {
 -- ---- look-ups
 
 -- a row of the table whose size is at least k
-abbrev Finds : List Row → ℕ → Row → Type 0
-Finds rows k row = (place : ℕ) × (slice_get rows place ≡ Some row) × (k ≤ row.source_symbols)
+abbrev Finds : List TableRow → ℕ → TableRow → Type 0
+Finds rows k row = (place : ℕ) × (slice_get rows place ≡ Some row) × (k ≤ row.extended_symbols)
 
-finds_here : (first : Row) (rest : List Row) (k : ℕ) (other : Row) → leb k first.source_symbols ≡ true → Finds (first ∷ rest) k (cond (leb k first.source_symbols) first other)
+finds_here : (first : TableRow) (rest : List TableRow) (k : ℕ) (other : TableRow) → leb k first.extended_symbols ≡ true → Finds (first ∷ rest) k (cond (leb k first.extended_symbols) first other)
 finds_here first rest k other e = rw e (zero, refl, leb-true _ _ e)
 
-finds_later : (first : Row) (rest : List Row) (k : ℕ) (other : Row) → leb k first.source_symbols ≡ false → Finds rest k other → Finds (first ∷ rest) k (cond (leb k first.source_symbols) first other)
+finds_later : (first : TableRow) (rest : List TableRow) (k : ℕ) (other : TableRow) → leb k first.extended_symbols ≡ false → Finds rest k other → Finds (first ∷ rest) k (cond (leb k first.extended_symbols) first other)
 finds_later first rest k other e found = rw e (suc found.0, found.1, found.2)
 
 -- a block that the greatest size holds has a row
-pub row_found : (rows : List Row) (k : ℕ) → k ≤ greatest_size rows → 0 < length rows → Finds rows k (row_of rows k)
+pub row_found : (rows : List TableRow) (k : ℕ) → k ≤ greatest_size rows → 0 < length rows → Finds rows k (row_of rows k)
 unfolding greatest_size row_of
 row_found [] k le some = absurd (omega arith)
 row_found (row ∷ []) k le some = finds_here row [] k _ (le-leb _ _ le)
 row_found (row ∷ next ∷ rest) k le some =
     ⊎_elim
-    (λ (here : leb k row.source_symbols ≡ true). finds_here row (next ∷ rest) k _ here)
-    (λ (later : leb k row.source_symbols ≡ false). finds_later row (next ∷ rest) k _ later (row_found (next ∷ rest) k le (omega arith)))
-    (cases_Bool (leb k row.source_symbols))
+    (λ (here : leb k row.extended_symbols ≡ true). finds_here row (next ∷ rest) k _ here)
+    (λ (later : leb k row.extended_symbols ≡ false). finds_later row (next ∷ rest) k _ later (row_found (next ∷ rest) k le (omega arith)))
+    (cases_Bool (leb k row.extended_symbols))
 
 pub length-built_in_rows : length built_in_rows ≡ 74
 unfolding built_in_rows rows_from
 length-built_in_rows = refl
 
-pub table_length : (rows : List Row) → IsTable rows → 74 ≤ length rows
+pub table_length : (rows : List TableRow) → IsTable rows → 74 ≤ length rows
 table_length rows table = omega (arith, length-take 74 rows, ap length table.built_in_first, length-built_in_rows)
 
 -- the row that a look-up in a checked table answers
-pub row_checked : (rows : List Row) (k : ℕ) → IsTable rows → k ≤ greatest_size rows → IsChecked (row_of rows k) × (k ≤ (row_of rows k).source_symbols)
+pub row_checked : (rows : List TableRow) (k : ℕ) → IsTable rows → k ≤ greatest_size rows → IsChecked (row_of rows k) × (k ≤ (row_of rows k).extended_symbols)
 row_checked rows k table le =
     let enough = table_length rows table in
     let found = row_found rows k le (omega arith) in
@@ -135,7 +135,7 @@ row_checked rows k table le =
 
 -- ---- tables of further rows
 
-all_pass-append : (place : ℕ) (xs ys : List Row) → all_pass place xs ≡ true → all_pass (place + length xs) ys ≡ true → all_pass place (xs ++ ys) ≡ true
+all_pass-append : (place : ℕ) (xs ys : List TableRow) → all_pass place xs ≡ true → all_pass (place + length xs) ys ≡ true → all_pass place (xs ++ ys) ≡ true
 all_pass-append place [] ys hx hy = subst (λ (n : ℕ). all_pass n ys ≡ true) (let same : place + 0 ≡ place = omega arith in same) hy
 all_pass-append place (x ∷ xs) ys hx hy =
     let both = and_parts (is_none (first_failing_check place x)) (all_pass (place + 1) xs) hx in
@@ -203,7 +203,7 @@ unfolding extended_size
 extended_size_found k = (λ some. first_size_below k 56403 P1_TABLE sizes_below some, λ le. first_size_found k P1_TABLE le (lit< tt))
 
 -- no block has many symbols
-pub greatest_below : (rows : List Row) → IsTable rows → greatest_size rows < 65536
+pub greatest_below : (rows : List TableRow) → IsTable rows → greatest_size rows < 65536
 greatest_below rows table =
     let h = row_checked rows (greatest_size rows) table (omega arith) in
     omega (arith, h.0.few_columns, h.1)

@@ -1,7 +1,7 @@
 -- The packets of source symbols carry them.
 use Rattle.std.proofs.Common.{◌≡◌, ℕ, ◌+◌, ◌-◌, ◌<◌, cond, List, length, ap, ◌∙◌, arith}
 use Rattle.std.proofs.lemmas.Bool.{lt-ltb}
-use Rattle.rq_standard.specs.declared.row.Row.{Row}
+use Rattle.rq_standard.specs.declared.row.TableRow.{TableRow}
 use Rattle.rq_standard.specs.TableRows.{IsTable, greatest_size}
 use Rattle.rq_standard.specs.Configuration.{Configuration, IsAccepted}
 use Rattle.rq_standard.specs.Cutting.{block_symbols, source_symbol}
@@ -12,7 +12,7 @@ use Rattle.rq_standard.proofs.BlockRows.{block_has_row}
 use Rattle.rq_standard.proofs.Columns.{source_sum}
 use Rattle.rq_standard.proofs.Standing.{length-block_source, source_at, source_sized}
 
-pub source_packet : (table : List Row) (c : Configuration) (object : List ℕ) (p : Packet) → IsTable table → IsAccepted (greatest_size table) c → IsPacketOf table c object p → p.id.esi < block_symbols c p.id.block → p.payload ≡ source_symbol c object p.id.block p.id.esi
+pub source_packet : (table : List TableRow) (c : Configuration) (object : List ℕ) (p : Packet) → IsTable table → IsAccepted (greatest_size table) c → IsPacketOf table c object p → p.id.esi < block_symbols c p.id.block → p.payload ≡ source_symbol c object p.id.block p.id.esi
 source_packet table c object p checked accepted is below =
     let b = p.id.block in
     let e = p.id.esi in
@@ -21,6 +21,6 @@ source_packet table c object p checked accepted is below =
     let column = is.symbol.column in
     let has = block_has_row table c checked accepted b is.block in
     let k = block_symbols c b in
-    let own : internal_id row (length source) e ≡ e = ap (λ n. internal_id row n e) (length-block_source c object b) ∙ ap (λ t. cond t e (e + row.source_symbols - k)) (lt-ltb e k below) in
+    let own : internal_id row (length source) e ≡ e = ap (λ n. internal_id row n e) (length-block_source c object b) ∙ ap (λ t. cond t e (e + row.extended_symbols - k)) (lt-ltb e k below) in
     is.symbol.is_sum ∙ ap (tuple_sum row column) own
     ∙ source_sum row c.symbol_size e source column has.checked is.symbol.is_only.is (source_sized c object b) (omega (arith, has.fits)) ∙ source_at c object b e below

@@ -1,7 +1,7 @@
 -- The degree of a number below 2^20, and the ranges of a tuple.
 use Rattle.std.proofs.Common.{◌≡◌, ℕ, zero, suc, ◌+◌, ◌-◌, ◌^◌, ◌≤◌, ◌<◌, true, false, ltb, List, [], ◌∷◌, length, get_or, refl, subst, arith, ⊎_elim, inl, inr, ◌⊎◌}
 use Rattle.std.proofs.lemmas.Bool.{cases_Bool, ltb-true, ltb-false}
-use Rattle.rq_standard.specs.declared.numbers.TheConstants.{DEGREE_STARTS}
+use Rattle.rq_standard.specs.declared.degrees.TheConstants.{DEGREE_STARTS}
 use Rattle.rq_standard.specs.Tuple.{first_above, IsBetween}
 
 -- either the first number is above v, or the others decide

@@ -1,7 +1,7 @@
 -- The equations of a block as a solver is handed them: a matrix of bits, and beside it one of octets for the HDPC equations.
 use Rattle.std.specs.Prelude.{◌≡◌, ℕ, ◌+◌, ◌<◌, false, List, length}
 use Rattle.rq_algebra.specs.Systems.{at, stacked}
-use Rattle.rq_standard.specs.declared.row.Row.{Row}
+use Rattle.rq_standard.specs.declared.row.TableRow.{TableRow}
 use Rattle.rq_standard.specs.BitTable.{BitTable}
 use Rattle.rq_standard.specs.TableRows.{intermediate_symbols}
 use Rattle.rq_standard.specs.Equations.{ldpc_coefficient, hdpc_coefficient, symbol_coefficient, equation_count}
@@ -11,7 +11,7 @@ abbrev pub with_octet_rows : ℕ → ℕ → (ℕ → ℕ → ℕ) → (ℕ → 
 with_octet_rows first count bits octet_rows = stacked first bits (stacked count octet_rows (λ i. bits (first + count + i)))
 
 -- the matrix of bits of a list of internal symbol ids: LDPC rows, as many rows of zeros as there are HDPC rows, and a row for each id
-pub record IsBinaryPart (row : Row) (ids : List ℕ) (m : BitTable) : Type 0 where
+pub record IsBinaryPart (row : TableRow) (ids : List ℕ) (m : BitTable) : Type 0 where
   pub height : m.height ≡ equation_count row ids
   pub width : m.width ≡ intermediate_symbols row
   pub boundary : m.boundary ≡ row.lt_symbols
@@ -21,7 +21,7 @@ pub record IsBinaryPart (row : Row) (ids : List ℕ) (m : BitTable) : Type 0 whe
   pub symbols : (i k : ℕ) → i < length ids → k < intermediate_symbols row → m.bit (row.ldpc_symbols + row.hdpc_symbols + i) k ≡ symbol_coefficient row (at ids i) k
 
 -- the same without rows for the HDPC equations: LDPC rows, and a row for each id
-pub record IsBinaryPartWithoutHdpc (row : Row) (ids : List ℕ) (m : BitTable) : Type 0 where
+pub record IsBinaryPartWithoutHdpc (row : TableRow) (ids : List ℕ) (m : BitTable) : Type 0 where
   pub height : m.height ≡ row.ldpc_symbols + length ids
   pub width : m.width ≡ intermediate_symbols row
   pub boundary : m.boundary ≡ row.lt_symbols
@@ -30,5 +30,5 @@ pub record IsBinaryPartWithoutHdpc (row : Row) (ids : List ℕ) (m : BitTable) :
   pub symbols : (i k : ℕ) → i < length ids → k < intermediate_symbols row → m.bit (row.ldpc_symbols + i) k ≡ symbol_coefficient row (at ids i) k
 
 -- the HDPC rows
-abbrev pub AreHdpcRows : Row → (ℕ → ℕ → ℕ) → Type 0
+abbrev pub AreHdpcRows : TableRow → (ℕ → ℕ → ℕ) → Type 0
 AreHdpcRows row entry = (i k : ℕ) → i < row.hdpc_symbols → k < intermediate_symbols row → entry i k ≡ hdpc_coefficient row i k

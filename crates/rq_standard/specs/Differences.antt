@@ -3,7 +3,7 @@ use Rattle.std.specs.Prelude.{◌≡◌, ◌≢◌, ℕ, ◌-◌, ◌*◌, ◌/�
 use Rattle.std.specs.List.{range_with_len}
 use Rattle.rq_algebra.specs.Symbols.{add_symbols}
 use Rattle.rq_algebra.specs.Systems.{dot}
-use Rattle.rq_standard.specs.declared.row.Row.{Row}
+use Rattle.rq_standard.specs.declared.row.TableRow.{TableRow}
 use Rattle.rq_standard.specs.OctetField.{octets}
 use Rattle.rq_standard.specs.Packet.{Packet}
 use Rattle.rq_standard.specs.Configuration.{Configuration}
@@ -12,7 +12,7 @@ use Rattle.rq_standard.specs.Equations.{zero_symbol, symbol_coefficient}
 use Rattle.rq_standard.specs.TableRows.{intermediate_symbols}
 use Rattle.rq_standard.specs.Headline.{IsNonsingular, IsEncodingSymbol, IsHonestRun, block_row, block_source}
 use Rattle.rq_standard.specs.Held.{holds, AreHeldDetermining}
-use Rattle.rq_standard.specs.Standing.{State, StandsBut, Stands, result_of}
+use Rattle.rq_standard.specs.Standing.{State, StandsForButLate, StandsFor, result_of}
 
 -- the xor of two objects, byte by byte
 abbrev pub xor_bytes : List ℕ → List ℕ → List ℕ
@@ -41,18 +41,18 @@ pub record IsDifference (s : State) (bytes : List ℕ) : Type 0 where
 
 -- Of a decoder that stands for a list, with no block late: none exactly where the object is answered.
 abbrev pub IsNoneWhereAnswered : State → Option (List ℕ) → Type 0
-IsNoneWhereAnswered s difference = (table : List Row) (object : List ℕ) (packets : List Packet) → Stands table object packets s → IsNone difference ↔ IsSome (result_of s)
+IsNoneWhereAnswered s difference = (table : List TableRow) (object : List ℕ) (packets : List Packet) → StandsFor table object packets s → IsNone difference ↔ IsSome (result_of s)
 
 -- of a decoder that stands for a list: bytes whose xor with any object that fits the list is another one that fits it
 abbrev pub MakesOthersFit : State → List ℕ → Type 0
 MakesOthersFit s bytes =
-    (late : ℕ → Bool) (table : List Row) (object other : List ℕ) (packets : List Packet)
-    → StandsBut late table object packets s → IsHonestRun table s.configuration other packets → IsHonestRun table s.configuration (xor_bytes other bytes) packets × (xor_bytes other bytes ≢ other)
+    (late : ℕ → Bool) (table : List TableRow) (object other : List ℕ) (packets : List Packet)
+    → StandsForButLate late table object packets s → IsHonestRun table s.configuration other packets → IsHonestRun table s.configuration (xor_bytes other bytes) packets × (xor_bytes other bytes ≢ other)
 
 -- ---- symbols of which only the first octet may be nonzero
 
 -- the octet that a plain column has for an internal symbol id
-abbrev pub plain_sum : Row → (ℕ → ℕ) → ℕ → ℕ
+abbrev pub plain_sum : TableRow → (ℕ → ℕ) → ℕ → ℕ
 plain_sum row column x = dot octets (intermediate_symbols row) (symbol_coefficient row x) column
 
 -- the block of k symbols that have these first octets: they stand where the first sub-block has the first byte of each symbol

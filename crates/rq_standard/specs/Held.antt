@@ -2,7 +2,7 @@
 use Rattle.std.specs.Prelude.{◌≡◌, ◌≢◌, ℕ, ◌+◌, ◌*◌, ◌<◌, ◌≤◌, Bool, List, length, Option, Some, None, IfSome, IsSome, MatchOption, is_some, if◌then◌else◌, ◌==◌, ◌⊎◌}
 use Rattle.rq_algebra.specs.Systems.{IsColumn, at}
 use Rattle.rq_algebra.specs.Symbols.{IsSymbolColumn, SolvesSymbols}
-use Rattle.rq_standard.specs.declared.row.Row.{Row}
+use Rattle.rq_standard.specs.declared.row.TableRow.{TableRow}
 use Rattle.rq_standard.specs.OctetField.{octets}
 use Rattle.rq_standard.specs.TableRows.{intermediate_symbols}
 use Rattle.rq_standard.specs.Configuration.{Configuration}
@@ -15,12 +15,12 @@ use Rattle.rq_standard.specs.Headline.{SolvesZeros, DetermineBlock, known_ids}
 pub record Held : Type 0 where
   pub configuration : Configuration
   pub number : ℕ
-  pub row : Row
+  pub row : TableRow
   pub symbols : ℕ
   pub received : ℕ → Option (List ℕ)
 
 -- nothing is held yet
-abbrev pub nothing_held : Configuration → ℕ → Row → ℕ → Held
+abbrev pub nothing_held : Configuration → ℕ → TableRow → ℕ → Held
 nothing_held c number row symbols = record { configuration = c; number = number; row = row; symbols = symbols; received = λ _. None }
 
 -- which ids are held
@@ -35,7 +35,7 @@ recorded h esi payload = record h { received = λ e. or_later (h.received e) (if
 pub record SolvesHeld (h : Held) (column : ℕ → List ℕ) : Type 0 where
   pub symbols : IsSymbolColumn octets h.configuration.symbol_size (intermediate_symbols h.row) column
   pub fixed : SolvesSymbols octets (h.row.ldpc_symbols + h.row.hdpc_symbols) (intermediate_symbols h.row) (fixed_equations h.row) column (λ _. zero_symbol h.configuration.symbol_size)
-  pub padding : (x : ℕ) → h.symbols ≤ x → x < h.row.source_symbols → tuple_sum h.row column x ≡ zero_symbol h.configuration.symbol_size
+  pub padding : (x : ℕ) → h.symbols ≤ x → x < h.row.extended_symbols → tuple_sum h.row column x ≡ zero_symbol h.configuration.symbol_size
   pub received : (e : ℕ) → IfSome (h.received e) (λ payload. payload ≡ tuple_sum h.row column (internal_id h.row h.symbols e))
 
 -- the ids that are held determine the block
@@ -43,7 +43,7 @@ abbrev pub AreHeldDetermining : Held → Type 0
 AreHeldDetermining h = DetermineBlock h.row h.symbols (holds h)
 
 -- a plain column that shows that known ids don't determine: it solves their equations with all values zero, and isn't all zeros
-pub record IsHomogeneous (row : Row) (known : ℕ → Bool) (column : List ℕ) : Type 0 where
+pub record IsHomogeneous (row : TableRow) (known : ℕ → Bool) (column : List ℕ) : Type 0 where
   pub count : length column ≡ intermediate_symbols row
   pub elements : IsColumn octets (intermediate_symbols row) (at column)
   pub solves : SolvesZeros row known (at column)

@@ -1,7 +1,7 @@
 -- Known internal symbol ids as a list, which has each of them at least once.
 use Rattle.std.specs.Prelude.{◌≡◌, ℕ, ◌<◌, Bool, true, List, length}
 use Rattle.rq_algebra.specs.Systems.{IsDetermined, at}
-use Rattle.rq_standard.specs.declared.row.Row.{Row}
+use Rattle.rq_standard.specs.declared.row.TableRow.{TableRow}
 use Rattle.rq_standard.specs.OctetField.{octets}
 use Rattle.rq_standard.specs.TableRows.{intermediate_symbols}
 use Rattle.rq_standard.specs.Equations.{equations, equation_count}
@@ -11,5 +11,5 @@ pub record IsListOf (known : ℕ → Bool) (ids : List ℕ) : Type 0 where
   pub place : (x : ℕ) → known x ≡ true → (j : ℕ) × (j < length ids) × (at ids j ≡ x)
 
 -- the equations of the listed ids have only the zero solution, as a system of so many rows
-abbrev pub HasDeterminedRows : Row → List ℕ → Type 0
+abbrev pub HasDeterminedRows : TableRow → List ℕ → Type 0
 HasDeterminedRows row ids = IsDetermined octets (equation_count row ids) (intermediate_symbols row) (equations row ids)

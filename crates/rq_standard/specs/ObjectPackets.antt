@@ -1,7 +1,7 @@
 -- The packets that an encoder makes of an object (RFC 6330, sections 4.4.2 and 5.3): source and repair symbols, block by block.
 use Rattle.std.specs.Prelude.{◌≡◌, ℕ, ◌+◌, List, map, flat_map}
 use Rattle.std.specs.List.{range_with_len, AllByRecursion}
-use Rattle.rq_standard.specs.declared.row.Row.{Row}
+use Rattle.rq_standard.specs.declared.row.TableRow.{TableRow}
 use Rattle.rq_standard.specs.Configuration.{Configuration}
 use Rattle.rq_standard.specs.Cutting.{block_symbols}
 use Rattle.rq_standard.specs.Packet.{SymbolId, Packet}
@@ -16,6 +16,6 @@ abbrev pub packet_ids : Configuration → ℕ → List SymbolId
 packet_ids c repair = flat_map (λ b. first_ids (block_symbols c b + repair) b) (range_with_len 0 c.source_blocks)
 
 -- the packets of all source symbols and of so many repair symbols, block by block
-pub record AreEncoded (table : List Row) (c : Configuration) (object : List ℕ) (repair : ℕ) (packets : List Packet) : Type 0 where
+pub record AreEncoded (table : List TableRow) (c : Configuration) (object : List ℕ) (repair : ℕ) (packets : List Packet) : Type 0 where
   pub ids : map (λ p. p.id) packets ≡ packet_ids c repair
   pub each : AllByRecursion (IsPacketOf table c object) packets

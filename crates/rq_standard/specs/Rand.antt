@@ -1,7 +1,7 @@
 -- The random generator (RFC 6330, section 5.3.5.1).
 use Rattle.std.specs.Prelude.{ℕ, ◌+◌, ◌/◌, ◌%◌, ◌^◌, List, slice_index}
 use Rattle.std.specs.Int.Bits.{bit_xor}
-use Rattle.rq_standard.specs.declared.mixing.TheConstants.{V0, V1, V2, V3}
+use Rattle.rq_standard.specs.declared.random_numbers.TheConstants.{V0, V1, V2, V3}
 
 -- the entry of a table of 256 numbers that y and i choose
 abbrev pub chosen_entry : List ℕ → ℕ → ℕ → ℕ

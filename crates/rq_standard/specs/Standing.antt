@@ -1,7 +1,7 @@
 -- What it means that a decoder of an object stands for a list of packets.
 use Rattle.std.specs.Prelude.{◌≡◌, ◌↔◌, ℕ, zero, suc, ◌<◌, ◌≤◌, ◌≢◌, ◌⊎◌, Bool, true, false, List, [], ◌∷◌, ◌++◌, length, take, Option, Some, None, option_map, IsSome, IfSome, MatchOption, if◌then◌else◌, ◌==◌}
 use Rattle.std.specs.List.{AllByRecursion}
-use Rattle.rq_standard.specs.declared.row.Row.{Row}
+use Rattle.rq_standard.specs.declared.row.TableRow.{TableRow}
 use Rattle.rq_standard.specs.TableRows.{IsChecked}
 use Rattle.rq_standard.specs.Packet.{Packet}
 use Rattle.rq_standard.specs.Configuration.{Configuration}
@@ -31,16 +31,16 @@ abbrev pub result_of : State → Option (List ℕ)
 result_of s = option_map (take s.configuration.transfer_length) (joined s.configuration.source_blocks s.answer)
 
 -- what is held is of block b of the configuration
-pub record IsHeldOf (table : List Row) (c : Configuration) (b : ℕ) (h : Held) : Type 0 where
+pub record IsHeldOf (table : List TableRow) (c : Configuration) (b : ℕ) (h : Held) : Type 0 where
   pub configuration : h.configuration ≡ c
   pub number : h.number ≡ b
   pub row : h.row ≡ block_row table c b
   pub symbols : h.symbols ≡ block_symbols c b
   pub checked : IsChecked h.row
-  pub fits : h.symbols ≤ h.row.source_symbols
+  pub fits : h.symbols ≤ h.row.extended_symbols
 
 -- what a decoder holds of a block before any packet
-abbrev pub new_held : List Row → Configuration → ℕ → Held
+abbrev pub new_held : List TableRow → Configuration → ℕ → Held
 new_held table c b = nothing_held c b (block_row table c b) (block_symbols c b)
 
 -- a block of no symbols is answered from the start
@@ -48,7 +48,7 @@ abbrev pub new_answer : Configuration → ℕ → Option (List ℕ)
 new_answer c b = if block_symbols c b == 0 then Some [] else None
 
 -- nothing is held of any block of the configuration
-pub record IsNewState (table : List Row) (c : Configuration) (s : State) : Type 0 where
+pub record IsNewState (table : List TableRow) (c : Configuration) (s : State) : Type 0 where
   pub configuration : s.configuration ≡ c
   pub held : (b : ℕ) → b < c.source_blocks → s.held b ≡ new_held table c b
   pub answer : (b : ℕ) → b < c.source_blocks → s.answer b ≡ new_answer c b
@@ -92,23 +92,23 @@ abbrev pub Stops : State → Packet → State → Type 0
 Stops old p new = StopsEarly old p new ⊎ Adds old p new
 
 -- What is held of a block, and its answer, after a list: answered and determined, or holding the first payloads and not determined. An answer can be late, where memory was refused while it was solved.
-abbrev pub BlockStands : Bool → List ℕ → ℕ → List Packet → Held → Option (List ℕ) → Type 0
-BlockStands late block b packets h (Some bytes) = (bytes ≡ block) × DetermineBlock h.row h.symbols (has_id b packets)
-BlockStands late block b packets h None = ((e : ℕ) → h.received e ≡ first_payload b packets e) × (late ≡ false → DetermineBlock h.row h.symbols (has_id b packets) → ⊥)
+abbrev pub BlockStandsFor : Bool → List ℕ → ℕ → List Packet → Held → Option (List ℕ) → Type 0
+BlockStandsFor late block b packets h (Some bytes) = (bytes ≡ block) × DetermineBlock h.row h.symbols (has_id b packets)
+BlockStandsFor late block b packets h None = ((e : ℕ) → h.received e ≡ first_payload b packets e) × (late ≡ false → DetermineBlock h.row h.symbols (has_id b packets) → ⊥)
 
 -- the decoder stands for the list of an honest run, but for blocks whose answers are late
-pub record StandsBut (late : ℕ → Bool) (table : List Row) (object : List ℕ) (packets : List Packet) (s : State) : Type 0 where
+pub record StandsForButLate (late : ℕ → Bool) (table : List TableRow) (object : List ℕ) (packets : List Packet) (s : State) : Type 0 where
   pub run : IsHonestRun table s.configuration object packets
   pub shape : (b : ℕ) → b < s.configuration.source_blocks → IsHeldOf table s.configuration b (s.held b)
-  pub block : (b : ℕ) → b < s.configuration.source_blocks → BlockStands (late b) (block_bytes s.configuration object b) b packets (s.held b) (s.answer b)
+  pub block : (b : ℕ) → b < s.configuration.source_blocks → BlockStandsFor (late b) (block_bytes s.configuration object b) b packets (s.held b) (s.answer b)
 
 -- the decoder stands for the list of an honest run
-abbrev pub Stands : List Row → List ℕ → List Packet → State → Type 0
-Stands = StandsBut (λ _. false)
+abbrev pub StandsFor : List TableRow → List ℕ → List Packet → State → Type 0
+StandsFor = StandsForButLate (λ _. false)
 
 -- before any packet it stands for the empty list
-abbrev pub StandsForNone : List Row → Configuration → State → Type 0
-StandsForNone table c new = (object : List ℕ) → IsHonestRun table c object [] → Stands table object [] new
+abbrev pub StandsForNone : List TableRow → Configuration → State → Type 0
+StandsForNone table c new = (object : List ℕ) → IsHonestRun table c object [] → StandsFor table object [] new
 
 -- with one block more that is late, or one less
 abbrev pub with_late : ℕ → Bool → (ℕ → Bool) → ℕ → Bool
@@ -117,45 +117,45 @@ with_late b now late n = if n == b then now else late n
 -- from a decoder that stands for a list, and a packet of the object, one that stands for the longer list
 abbrev pub StandsForMore : State → Packet → State → Type 0
 StandsForMore old p new =
-    (table : List Row) (object : List ℕ) (packets : List Packet)
-    → Stands table object packets old → IsPacketOf table old.configuration object p
-    → Stands table object (packets ++ p ∷ []) new
+    (table : List TableRow) (object : List ℕ) (packets : List Packet)
+    → StandsFor table object packets old → IsPacketOf table old.configuration object p
+    → StandsFor table object (packets ++ p ∷ []) new
 
 -- The same where blocks are late: the packet's own block isn't late any more.
-abbrev pub CatchesUp : State → Packet → State → Type 0
-CatchesUp old p new =
-    (table : List Row) (object : List ℕ) (packets : List Packet) (late : ℕ → Bool)
-    → StandsBut late table object packets old → IsPacketOf table old.configuration object p
-    → StandsBut (with_late p.id.block false late) table object (packets ++ p ∷ []) new
+abbrev pub AnswersLateBlock : State → Packet → State → Type 0
+AnswersLateBlock old p new =
+    (table : List TableRow) (object : List ℕ) (packets : List Packet) (late : ℕ → Bool)
+    → StandsForButLate late table object packets old → IsPacketOf table old.configuration object p
+    → StandsForButLate (with_late p.id.block false late) table object (packets ++ p ∷ []) new
 
 -- Where memory is refused, one that stands for the list, or for the longer one but for its block's answer.
-abbrev pub FallsBehind : State → Packet → State → Type 0
-FallsBehind old p new =
-    (table : List Row) (object : List ℕ) (packets : List Packet) (late : ℕ → Bool)
-    → StandsBut late table object packets old → IsPacketOf table old.configuration object p
-    → StandsBut late table object packets new ⊎ StandsBut (with_late p.id.block true late) table object (packets ++ p ∷ []) new
+abbrev pub LeavesBlockLate : State → Packet → State → Type 0
+LeavesBlockLate old p new =
+    (table : List TableRow) (object : List ℕ) (packets : List Packet) (late : ℕ → Bool)
+    → StandsForButLate late table object packets old → IsPacketOf table old.configuration object p
+    → StandsForButLate late table object packets new ⊎ StandsForButLate (with_late p.id.block true late) table object (packets ++ p ∷ []) new
 
 -- the same where the blocks are joined behind the packet: or one that stands for the longer list
-abbrev pub FallsBehindOrJoinsLate : State → Packet → State → Type 0
-FallsBehindOrJoinsLate old p new = FallsBehind old p new ⊎ CatchesUp old p new
+abbrev pub LeavesOrAnswersLateBlock : State → Packet → State → Type 0
+LeavesOrAnswersLateBlock old p new = LeavesBlockLate old p new ⊎ AnswersLateBlock old p new
 
 -- what a decoder that stands for a list answers: the object, exactly where the list determines it
 abbrev pub AnswersObject : State → Option (List ℕ) → Type 0
 AnswersObject s answer =
-    (table : List Row) (object : List ℕ) (packets : List Packet)
-    → Stands table object packets s
+    (table : List TableRow) (object : List ℕ) (packets : List Packet)
+    → StandsFor table object packets s
     → IsObjectAnswer table s.configuration object packets answer
 
 -- where blocks may be late, too, it answers the object or nothing
 abbrev pub AnswersNothingElse : State → Option (List ℕ) → Type 0
 AnswersNothingElse s answer =
-    (table : List Row) (object : List ℕ) (packets : List Packet) (late : ℕ → Bool)
-    → StandsBut late table object packets s
+    (table : List TableRow) (object : List ℕ) (packets : List Packet) (late : ℕ → Bool)
+    → StandsForButLate late table object packets s
     → IfSome answer (λ bytes. bytes ≡ object)
 
 -- No decoder can do better: where it stands for a list there is an answer exactly where no other object fits the list.
 abbrev pub AnswersOnlyObject : State → Option (List ℕ) → Type 0
 AnswersOnlyObject s answer =
-    (table : List Row) (object : List ℕ) (packets : List Packet)
-    → Stands table object packets s
+    (table : List TableRow) (object : List ℕ) (packets : List Packet)
+    → StandsFor table object packets s
     → IsSome answer ↔ IsOnlyObject table s.configuration packets object

@@ -1,56 +1,56 @@
 -- The table of systematic indices and parameters (RFC 6330, section 5.6): a row's sizes, the checks that a row passes, and the tables that may be used.
 use Rattle.std.specs.Prelude.{◌≡◌, ℕ, ◌+◌, ◌-◌, ◌*◌, ◌%◌, ◌<◌, ◌≤◌, min, Bool, false, not, ◌&&◌, if◌then◌else◌, ◌==◌, nat_lt, nat_le, List, [], ◌∷◌, slice_get, Option, None, Some, take}
-use Rattle.rq_standard.specs.declared.row.Row.{Row}
-use Rattle.rq_standard.specs.declared.numbers.TheConstants.{SYSTEMATIC_INDICES_AND_PARAMETERS}
-use Rattle.rq_standard.specs.declared.sizes.TheConstants.{P1_TABLE}
+use Rattle.rq_standard.specs.declared.row.TableRow.{TableRow}
+use Rattle.rq_standard.specs.declared.systematic_indices.TheConstants.{SYSTEMATIC_INDICES_AND_PARAMETERS}
+use Rattle.rq_standard.specs.declared.p1_table.TheConstants.{P1_TABLE}
 
 -- ---- sizes
 
 -- L, the number of intermediate symbols
-abbrev pub intermediate_symbols : Row → ℕ
-intermediate_symbols row = row.source_symbols + row.ldpc_symbols + row.hdpc_symbols
+abbrev pub intermediate_symbols : TableRow → ℕ
+intermediate_symbols row = row.extended_symbols + row.ldpc_symbols + row.hdpc_symbols
 
 -- P, the number of PI symbols: the intermediate symbols that are no LT symbols
-abbrev pub pi_symbols : Row → ℕ
+abbrev pub pi_symbols : TableRow → ℕ
 pi_symbols row = intermediate_symbols row - row.lt_symbols
 
 -- B, the number of LT symbols that are no LDPC symbols
-abbrev pub lone_lt_symbols : Row → ℕ
-lone_lt_symbols row = row.lt_symbols - row.ldpc_symbols
+abbrev pub b_of : TableRow → ℕ
+b_of row = row.lt_symbols - row.ldpc_symbols
 
 -- ---- the seven checks
 
 -- 1: K' and P1 are those at the row's place in the list of sizes
-abbrev pub has_size : Option (ℕ × ℕ) → Row → Bool
+abbrev pub has_size : Option (ℕ × ℕ) → TableRow → Bool
 has_size None row = false
-has_size (Some size) row = row.source_symbols == size.0 && row.p1 == size.1
+has_size (Some size) row = row.extended_symbols == size.0 && row.p1 == size.1
 
 -- 2: S is odd
-abbrev pub is_odd : Row → Bool
+abbrev pub is_odd : TableRow → Bool
 is_odd row = row.ldpc_symbols % 2 == 1
 
 -- 3: 1 <= B <= S*(S-1) and B <= K'
-abbrev pub fits_ldpc : Row → Bool
-fits_ldpc row = nat_le 1 (lone_lt_symbols row) && nat_le (lone_lt_symbols row) (row.ldpc_symbols * (row.ldpc_symbols - 1)) && nat_le (lone_lt_symbols row) row.source_symbols
+abbrev pub fits_ldpc : TableRow → Bool
+fits_ldpc row = nat_le 1 (b_of row) && nat_le (b_of row) (row.ldpc_symbols * (row.ldpc_symbols - 1)) && nat_le (b_of row) row.extended_symbols
 
 -- 4: 2 <= H <= min(K', 255)
-abbrev pub fits_hdpc : Row → Bool
-fits_hdpc row = nat_le 2 row.hdpc_symbols && nat_le row.hdpc_symbols (min row.source_symbols 255)
+abbrev pub fits_hdpc : TableRow → Bool
+fits_hdpc row = nat_le 2 row.hdpc_symbols && nat_le row.hdpc_symbols (min row.extended_symbols 255)
 
 -- 5: 3 <= P <= P1 <= 2*P
-abbrev pub fits_pi : Row → Bool
+abbrev pub fits_pi : TableRow → Bool
 fits_pi row = nat_le 3 (pi_symbols row) && nat_le (pi_symbols row) row.p1 && nat_le row.p1 (2 * pi_symbols row)
 
 -- 6: L < 65536
-abbrev pub fits_columns : Row → Bool
+abbrev pub fits_columns : TableRow → Bool
 fits_columns row = nat_lt (intermediate_symbols row) 65536
 
 -- 7: J <= 1000
-abbrev pub fits_index : Row → Bool
+abbrev pub fits_index : TableRow → Bool
 fits_index row = nat_le row.systematic_index 1000
 
 -- the first of the checks that a row fails at a place of a table
-unfoldable pub first_failing_check : ℕ → Row → Option ℕ
+unfoldable pub first_failing_check : ℕ → TableRow → Option ℕ
 first_failing_check place row =
     if not (has_size (slice_get P1_TABLE place) row) then Some 1
     else if not (is_odd row) then Some 2
@@ -62,13 +62,13 @@ first_failing_check place row =
     else None
 
 -- what checks 2 to 7 say of a row
-pub record IsChecked (row : Row) : Type 0 where
+pub record IsChecked (row : TableRow) : Type 0 where
   pub odd : row.ldpc_symbols % 2 ≡ 1
-  pub some_lone : 1 ≤ lone_lt_symbols row
-  pub few_lone : lone_lt_symbols row ≤ row.ldpc_symbols * (row.ldpc_symbols - 1)
-  pub lone_below : lone_lt_symbols row ≤ row.source_symbols
+  pub some_b : 1 ≤ b_of row
+  pub few_b : b_of row ≤ row.ldpc_symbols * (row.ldpc_symbols - 1)
+  pub b_below : b_of row ≤ row.extended_symbols
   pub two_hdpc : 2 ≤ row.hdpc_symbols
-  pub hdpc_below : row.hdpc_symbols ≤ row.source_symbols
+  pub hdpc_below : row.hdpc_symbols ≤ row.extended_symbols
   pub few_hdpc : row.hdpc_symbols ≤ 255
   pub three_pi : 3 ≤ pi_symbols row
   pub p1_above : pi_symbols row ≤ row.p1
@@ -88,7 +88,7 @@ p1_of None = 0
 p1_of (Some size) = size.1
 
 -- the row that numbers make at a place of a table, which decides its P1
-abbrev pub row_of_numbers : ℕ → RowNumbers → Row
+abbrev pub row_of_numbers : ℕ → RowNumbers → TableRow
 row_of_numbers place numbers = record {
   source_symbols = numbers.0;
   systematic_index = numbers.1;
@@ -99,12 +99,12 @@ row_of_numbers place numbers = record {
 }
 
 -- the rows that numbers make from a place of a table on
-unfoldable pub rows_from : ℕ → List RowNumbers → List Row
+unfoldable pub rows_from : ℕ → List RowNumbers → List TableRow
 rows_from place [] = []
 rows_from place (numbers ∷ rest) = row_of_numbers place numbers ∷ rows_from (place + 1) rest
 
 -- the rows that each table begins with
-unfoldable pub built_in_rows : List Row
+unfoldable pub built_in_rows : List TableRow
 built_in_rows = rows_from 0 SYSTEMATIC_INDICES_AND_PARAMETERS
 
 -- a failing check of numbers at a place, or else what comes after them
@@ -118,24 +118,24 @@ first_refused place [] = None
 first_refused place (numbers ∷ rest) = first_failure (first_failing_check (74 + place) (row_of_numbers (74 + place) numbers)) place (first_refused (place + 1) rest)
 
 -- A checked table: the built-in rows, and then rows that pass all checks at their places.
-pub record IsTable (rows : List Row) : Type 0 where
+pub record IsTable (rows : List TableRow) : Type 0 where
   pub built_in_first : take 74 rows ≡ built_in_rows
-  pub passes : (place : ℕ) (row : Row) → slice_get rows place ≡ Some row → first_failing_check place row ≡ None
+  pub passes : (place : ℕ) (row : TableRow) → slice_get rows place ≡ Some row → first_failing_check place row ≡ None
 
 -- the greatest size of a table
-unfoldable pub greatest_size : List Row → ℕ
+unfoldable pub greatest_size : List TableRow → ℕ
 greatest_size [] = 0
-greatest_size (row ∷ []) = row.source_symbols
+greatest_size (row ∷ []) = row.extended_symbols
 greatest_size (row ∷ rows) = greatest_size rows
 
 -- what stands where there is no row
-abbrev pub no_row : Row
+abbrev pub no_row : TableRow
 no_row = record { source_symbols = 0; systematic_index = 0; ldpc_symbols = 0; hdpc_symbols = 0; lt_symbols = 0; p1 = 0 }
 
 -- the row of a block of k symbols: the first whose size is at least k
-unfoldable pub row_of : List Row → ℕ → Row
+unfoldable pub row_of : List TableRow → ℕ → TableRow
 row_of [] k = no_row
-row_of (row ∷ rows) k = if nat_le k row.source_symbols then row else row_of rows k
+row_of (row ∷ rows) k = if nat_le k row.extended_symbols then row else row_of rows k
 
 -- the first size of a list that is at least k
 abbrev pub first_size : ℕ → List (ℕ × ℕ) → Option ℕ

@@ -1,7 +1,7 @@
 -- The degree, the tuple and the places of an internal symbol id (RFC 6330, sections 5.3.5.2 to 5.3.5.4).
 use Rattle.std.specs.Prelude.{ℕ, ◌+◌, ◌-◌, ◌*◌, ◌%◌, ◌^◌, ◌<◌, ◌≤◌, min, ◌++◌, if◌then◌else◌, ◌==◌, nat_lt, List, [], ◌∷◌, map, filter, take, slice_index}
 use Rattle.std.specs.List.{range_with_len}
-use Rattle.rq_standard.specs.declared.numbers.TheConstants.{DEGREE_STARTS}
+use Rattle.rq_standard.specs.declared.degrees.TheConstants.{DEGREE_STARTS}
 use Rattle.rq_standard.specs.Rand.{rand}
 
 -- the place of the first number of a list that is above v, or its length
@@ -53,17 +53,17 @@ pub record IsTuple (w p1 : ℕ) (t : Tuple) : Type 0 where
   pub pi_start_below : t.5 < p1
 
 -- the LT places of a tuple: (b + a*j) mod W for j below d
-abbrev pub lt_places : ℕ → Tuple → List ℕ
-lt_places w t = map (λ j. (t.2 + t.1 * j) % w) (range_with_len 0 t.0)
+abbrev pub lt_indices : ℕ → Tuple → List ℕ
+lt_indices w t = map (λ j. (t.2 + t.1 * j) % w) (range_with_len 0 t.0)
 
 -- the values (b1 + a1*j) mod P1 for j below n
 abbrev pub pi_values : ℕ → ℕ → Tuple → List ℕ
 pi_values n p1 t = map (λ j. (t.5 + t.4 * j) % p1) (range_with_len 0 n)
 
 -- The PI places of a tuple: the first d1 of the values that are below P. Of each P1 values that follow one another one is below P, so that these are enough.
-abbrev pub pi_places : ℕ → ℕ → ℕ → Tuple → List ℕ
-pi_places w p p1 t = map (λ value. w + value) (take t.3 (filter (λ value. nat_lt value p) (pi_values (t.3 * p1) p1 t)))
+abbrev pub pi_indices : ℕ → ℕ → ℕ → Tuple → List ℕ
+pi_indices w p p1 t = map (λ value. w + value) (take t.3 (filter (λ value. nat_lt value p) (pi_values (t.3 * p1) p1 t)))
 
 -- the places of a tuple in their order, each as often as it occurs
-unfoldable pub places_of : ℕ → ℕ → ℕ → Tuple → List ℕ
-places_of w p p1 t = lt_places w t ++ pi_places w p p1 t
+unfoldable pub enc_indices : ℕ → ℕ → ℕ → Tuple → List ℕ
+enc_indices w p p1 t = lt_indices w t ++ pi_indices w p p1 t

@@ -3,7 +3,7 @@
 /// A row of the table of section 5.6 of RFC 6330: the numbers of a source block of `source_symbols`
 /// symbols, padding included.
 #[derive(Clone, Copy, Debug, PartialEq, Eq)]
-pub struct Row {
+pub struct TableRow {
     /// K': the number of source symbols, padding included.
     pub source_symbols: u32,
     /// J: the systematic index.

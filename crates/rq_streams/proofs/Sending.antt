@@ -4,7 +4,7 @@ use Rattle.std.specs.Prelude.{MatchResult}
 use Rattle.rq_bytes.specs.declared.error.Error.{Error}
 use Rattle.rq_bytes.specs.declared.error.Error.TheVariants.{OutOfMemory}
 use Rattle.rq_bytes.specs.Refusals.{IsRefusal}
-use Rattle.rq_standard.specs.declared.row.Row.{Row}
+use Rattle.rq_standard.specs.declared.row.TableRow.{TableRow}
 use Rattle.rq_standard.specs.Headline.{HasNonsingularRows}
 use Rattle.rq_standard.specs.Packet.{Packet, packet_bytes}
 use Rattle.rq_standard.specs.TableRows.{greatest_size}
@@ -43,7 +43,7 @@ answered_with bytes = Ok (Some bytes)
 abbrev refused_by : Error → Wanted
 refused_by e = Err e
 
-module _ (table : List Row) (s repair : ℕ) (object : List ℕ) (c : Configuration) (parameters : wanted_parameters table (length object) s 10485760 ≡ Ok c) (taken : new_encoder (greatest_size table) c (length object) ≡ Ok tt) where
+module _ (table : List TableRow) (s repair : ℕ) (object : List ℕ) (c : Configuration) (parameters : wanted_parameters table (length object) s 10485760 ≡ Ok c) (taken : new_encoder (greatest_size table) c (length object) ≡ Ok tt) where
   configured : sent_configuration table s object ≡ Ok c
   configured = rw (parameters, taken) refl
 

@@ -8,7 +8,7 @@ use Rattle.std.proofs.lemmas.List.Elements.{All-contains, All-from_recursion}
 use Rattle.rq_bytes.specs.declared.error.Error.{Error}
 use Rattle.rq_bytes.specs.declared.error.Error.TheVariants.{PacketSizeZero, TransferLengthZero, TransferTooLong, MemoryRequirementTooSmall, TooManyBlocks, SymbolSizeZero, AlignmentZero, Misaligned, SourceBlocksZero, BlockOverTable}
 use Rattle.rq_bytes.specs.Refusals.{and_then}
-use Rattle.rq_standard.specs.declared.row.Row.{Row}
+use Rattle.rq_standard.specs.declared.row.TableRow.{TableRow}
 use Rattle.rq_standard.specs.Packet.{Packet}
 use Rattle.rq_standard.specs.Configuration.{Configuration, IsConfiguration, IsAccepted, largest_block}
 use Rattle.rq_standard.specs.Parameters.{alignment_for, symbol_size_for, fitting_block, most_sub_blocks, symbols_for, blocks_for, is_fitting, first_from, sub_blocks_for, parameters_for}
@@ -72,14 +72,14 @@ most_few : (large : Bool) (s : ℕ) → (large ≡ false → s < 64) → s < 2 ^
 most_few true s h small = omega arith
 most_few false s h small = omega (arith, h refl)
 
-few_sub_blocks : (table : List Row) (n s memory : ℕ) → s < 2 ^ 16 → sub_blocks_for table n s memory < 2 ^ 16
+few_sub_blocks : (table : List TableRow) (n s memory : ℕ) → s < 2 ^ 16 → sub_blocks_for table n s memory < 2 ^ 16
 unfolding sub_blocks_for
 few_sub_blocks table n s memory small =
     let end = first_from-end (is_fitting table s memory (div_ceil (symbols_for n s) (blocks_for table n s memory))) 1 (most_sub_blocks s) in
     omega (arith, end, most_few (leb 64 s) s (λ e. leb-false 64 s e) small)
 
 -- default parameters fit their bytes
-fits_by : (table : List Row) (n s : ℕ) (c : Configuration) → s < 2 ^ 16 → wanted_parameters table n s 10485760 ≡ Ok c → IsConfiguration c × (c.transfer_length ≡ n)
+fits_by : (table : List TableRow) (n s : ℕ) (c : Configuration) → s < 2 ^ 16 → wanted_parameters table n s 10485760 ≡ Ok c → IsConfiguration c × (c.transfer_length ≡ n)
 fits_by table n s c small h =
     let m : ℕ = 10485760 in
     let t = five_tests (eqb s 0) (eqb n 0) (ltb 942574504275 n) (eqb (fitting_block table s m (most_sub_blocks s)) 0) (ltb 255 (blocks_for table n s m)) PacketSizeZero TransferLengthZero TransferTooLong MemoryRequirementTooSmall TooManyBlocks (parameters_for table n s m) c h in
@@ -107,12 +107,12 @@ configured c = Ok c
 same_configuration : (c d : Configuration) → configured c ≡ configured d → c ≡ d
 same_configuration c d h = cc
 
-among : (table : List Row) (c : Configuration) (object : List ℕ) (all some : List Packet) → AllByRecursion (IsPacketOf table c object) all → AllByRecursion (Contains all) some → AllByRecursion (IsPacketOf table c object) some
+among : (table : List TableRow) (c : Configuration) (object : List ℕ) (all some : List Packet) → AllByRecursion (IsPacketOf table c object) all → AllByRecursion (Contains all) some → AllByRecursion (IsPacketOf table c object) some
 among table c object all [] honest h = tt
 among table c object all (p ∷ some) honest h = (All-contains (IsPacketOf table c object) all p (All-from_recursion (IsPacketOf table c object) all honest) h.0, among table c object all some honest h.1)
 
 -- the steps of a configuration that is sent
-sent_steps : (table : List Row) (s : ℕ) (object : List ℕ) (c : Configuration) → sent_configuration table s object ≡ Ok c → (wanted_parameters table (length object) s 10485760 ≡ Ok c) × (new_encoder (greatest_size table) c (length object) ≡ Ok tt)
+sent_steps : (table : List TableRow) (s : ℕ) (object : List ℕ) (c : Configuration) → sent_configuration table s object ≡ Ok c → (wanted_parameters table (length object) s 10485760 ≡ Ok c) × (new_encoder (greatest_size table) c (length object) ≡ Ok tt)
 sent_steps table s object c h =
     let p = both_ok (wanted_parameters table (length object) s 10485760) _ c h in
     let e = both_ok (new_encoder (greatest_size table) p.0 (length object)) _ c p.2 in
@@ -124,7 +124,7 @@ sent_steps table s object c h =
 same_stream : (xs ys : List ℕ) → written xs ≡ written ys → xs ≡ ys
 same_stream xs ys h = cc
 
-sent_by : (table : List Row) (s repair : ℕ) (object stream : List ℕ) (c : Configuration) → IsTable table → s < 2 ^ 16 → sent_configuration table s object ≡ Ok c → HasNonsingularRows table c → IsStreamSent table c repair object (Ok (Some stream)) → IsSentStream table repair object stream
+sent_by : (table : List TableRow) (s repair : ℕ) (object stream : List ℕ) (c : Configuration) → IsTable table → s < 2 ^ 16 → sent_configuration table s object ≡ Ok c → HasNonsingularRows table c → IsStreamSent table c repair object (Ok (Some stream)) → IsSentStream table repair object stream
 sent_by table s repair object stream c checked small configured_by nonsingular sent =
     let steps = sent_steps table s object c configured_by in
     let taken = both_ok (checked_configuration (greatest_size table) c) _ tt steps.1 in
@@ -143,17 +143,17 @@ sent_by table s repair object stream c checked small configured_by nonsingular s
       };
     }
 
-encoded_by : (table : List Row) (c : Configuration) (repair : ℕ) (object stream : List ℕ) (r : Result (Unit {0}) Error) → MatchResult r (λ _. IsStreamSent table c repair object (Ok (Some stream))) (λ e. written stream ≡ Err e) → IsStreamSent table c repair object (Ok (Some stream))
+encoded_by : (table : List TableRow) (c : Configuration) (repair : ℕ) (object stream : List ℕ) (r : Result (Unit {0}) Error) → MatchResult r (λ _. IsStreamSent table c repair object (Ok (Some stream))) (λ e. written stream ≡ Err e) → IsStreamSent table c repair object (Ok (Some stream))
 encoded_by table c repair object stream (Ok x) h = h
 encoded_by table c repair object stream (Err e) h = absurd (cc h)
 
-sends_by : (table : List Row) (s repair : ℕ) (object stream : List ℕ) (c : Configuration) → IsTable table → s < 2 ^ 16 → sent_configuration table s object ≡ Ok c → Sends table c repair object (Ok (Some stream)) → IsSentStream table repair object stream
+sends_by : (table : List TableRow) (s repair : ℕ) (object stream : List ℕ) (c : Configuration) → IsTable table → s < 2 ^ 16 → sent_configuration table s object ≡ Ok c → Sends table c repair object (Ok (Some stream)) → IsSentStream table repair object stream
 sends_by table s repair object stream c checked small is (inl singular) = absurd (cc singular.0)
 sends_by table s repair object stream c checked small is (inr sends) = sent_by table s repair object stream c checked small is sends.0 (encoded_by table c repair object stream (packets_refusal c repair) sends.1)
 
-by_configuration : (table : List Row) (s repair : ℕ) (object stream : List ℕ) (r : Result Configuration Error) → IsTable table → s < 2 ^ 16 → sent_configuration table s object ≡ r → MatchResult r (λ c. Sends table c repair object (Ok (Some stream))) (λ e. written stream ≡ Err e) → IsSentStream table repair object stream
+by_configuration : (table : List TableRow) (s repair : ℕ) (object stream : List ℕ) (r : Result Configuration Error) → IsTable table → s < 2 ^ 16 → sent_configuration table s object ≡ r → MatchResult r (λ c. Sends table c repair object (Ok (Some stream))) (λ e. written stream ≡ Err e) → IsSentStream table repair object stream
 by_configuration table s repair object stream (Ok c) checked small is h = sends_by table s repair object stream c checked small is h
 by_configuration table s repair object stream (Err e) checked small is h = absurd (cc h)
 
-pub sent_stream : (table : List Row) (s repair : ℕ) (object stream : List ℕ) → IsTable table → s < 2 ^ 16 → IsSent table s repair object (Ok (Some stream)) → IsSentStream table repair object stream
+pub sent_stream : (table : List TableRow) (s repair : ℕ) (object stream : List ℕ) → IsTable table → s < 2 ^ 16 → IsSent table s repair object (Ok (Some stream)) → IsSentStream table repair object stream
 sent_stream table s repair object stream checked small h = by_configuration table s repair object stream (sent_configuration table s object) checked small refl h

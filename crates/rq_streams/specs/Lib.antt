@@ -1,5 +1,5 @@
 pub mod Asked
-pub mod Counts
+pub mod Counted
 pub mod Ends
 pub mod Frames
 pub mod ReceivedStreams

@@ -1,7 +1,7 @@
 -- What a sender wrote is what a receiver takes, with any frames removed, repeated or moved.
 use Rattle.std.specs.Prelude.{◌≡◌, ℕ, ◌<◌, ◌^◌, List, Some, Ok, Contains}
 use Rattle.std.specs.List.{AllByRecursion}
-use Rattle.rq_standard.specs.declared.row.Row.{Row}
+use Rattle.rq_standard.specs.declared.row.TableRow.{TableRow}
 use Rattle.rq_standard.specs.TableRows.{IsTable}
 use Rattle.rq_standard.specs.Packet.{Packet}
 use Rattle.rq_standard.specs.Configuration.{Configuration}
@@ -11,7 +11,7 @@ use Rattle.rq_streams.specs.ReceivedStreams.{IsStreamOf}
 use Rattle.rq_streams.specs.Sent.{IsSent}
 
 -- A stream of an object's packets, each frame of which a receiver takes: any list of its packets is a stream of the object.
-pub record IsSentStream (table : List Row) (repair : ℕ) (object stream : List ℕ) : Type 0 where
+pub record IsSentStream (table : List TableRow) (repair : ℕ) (object stream : List ℕ) : Type 0 where
   pub configuration : Configuration
   pub packets : List Packet
   pub encoded : AreEncoded table configuration object repair packets
@@ -19,4 +19,4 @@ pub record IsSentStream (table : List Row) (repair : ℕ) (object stream : List 
   pub taken : (some : List Packet) → AllByRecursion (Contains packets) some → IsStreamOf table configuration object some (stream_of configuration some)
 
 abbrev pub SentStreamsAreTaken : Type 0
-SentStreamsAreTaken = (table : List Row) (packet_size repair : ℕ) (object stream : List ℕ) → IsTable table → packet_size < 2 ^ 16 → IsSent table packet_size repair object (Ok (Some stream)) → IsSentStream table repair object stream
+SentStreamsAreTaken = (table : List TableRow) (packet_size repair : ℕ) (object stream : List ℕ) → IsTable table → packet_size < 2 ^ 16 → IsSent table packet_size repair object (Ok (Some stream)) → IsSentStream table repair object stream

@@ -15,7 +15,7 @@ pub struct Counted<T> {
 }
 
 impl<T> Counted<T> {
-    ghost use Rattle.rq_streams.specs.Counts.{failed_count, inner_of};
+    ghost use Rattle.rq_streams.specs.Counted.{failed_count, inner_of};
 
     /// Counts the failed calls of a reader or a writer from now on.
     pub fn new(inner: T) -> Counted<T>
@@ -34,7 +34,7 @@ impl<T> Counted<T> {
 }
 
 impl<R: Read> Read for Counted<R> {
-    ghost use Rattle.rq_streams.specs.Counts.{failed_count, inner_of, one_more};
+    ghost use Rattle.rq_streams.specs.Counted.{failed_count, inner_of, one_more};
 
     ghost remaining = { λ c. R.remaining (inner_of c) };
 
@@ -53,7 +53,7 @@ impl<R: Read> Read for Counted<R> {
 }
 
 impl<W: Write> Write for Counted<W> {
-    ghost use Rattle.rq_streams.specs.Counts.{failed_count, inner_of, one_more, CountsWrite};
+    ghost use Rattle.rq_streams.specs.Counted.{failed_count, inner_of, one_more, CountsWrite};
 
     ghost contents = { λ c. W.contents (inner_of c) };
 

@@ -8,7 +8,7 @@ ghost use Rattle.rq_standard.specs.Standing.{StandsForMore};
 ghost use Rattle.rq_standard.specs.TableRows.{greatest_size};
 ghost use Rattle.rq_base.specs.RefusedInput.{checked_configuration};
 ghost use Rattle.raptorq.specs.Decoder.{state_of};
-ghost use Rattle.rq_streams.specs.Counts.{failed_count, inner_of};
+ghost use Rattle.rq_streams.specs.Counted.{failed_count, inner_of};
 ghost use Rattle.rq_streams.specs.Ends.{AfterRefusal, failed_calls};
 ghost use Rattle.rq_streams.specs.Frames.{frame_size, frame_refusal, frames_refusal};
 ghost use Rattle.rq_streams.specs.ReceivedStreams.{received_configuration, receive_refusal, StandsForFrames, AnswersStream, RefusesStream, RefusesFirst, ReceivesExactly, ReceivesWhereAnyCan};

@@ -3,7 +3,7 @@ ghost use Rattle.std.specs.Prelude.{◌≡◌, ◌+◌, ◌^◌, ◌-◌, ◌<�
 ghost use Rattle.std.specs.Io.KnownBytes.{Keeps, Appends, Consumes};
 ghost use Rattle.rq_bytes.specs.declared.error.Error.TheVariants.{OutOfMemory};
 ghost use Rattle.rq_streams.specs.declared.run.Stop.TheVariants.{Fault, Refused};
-ghost use Rattle.rq_streams.specs.Counts.{failed_count, inner_of};
+ghost use Rattle.rq_streams.specs.Counted.{failed_count, inner_of};
 ghost use Rattle.rq_streams.specs.Ends.{Ends, failed_calls};
 ghost use Rattle.raptorq.specs.Decoding.{shown};
 

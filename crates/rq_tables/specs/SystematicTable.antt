@@ -3,7 +3,7 @@ use Rattle.std.specs.Prelude.{ℕ, ◌++◌, List, Option, None, Some, Result, O
 use Rattle.rq_bytes.specs.declared.error.Error.{Error}
 use Rattle.rq_bytes.specs.declared.error.Error.TheVariants.{RowRefused, TooManySymbols}
 use Rattle.rq_bytes.specs.Refusals.{and_then}
-use Rattle.rq_standard.specs.declared.row.Row.{Row}
+use Rattle.rq_standard.specs.declared.row.TableRow.{TableRow}
 use Rattle.rq_standard.specs.TableRows.{RowNumbers, built_in_rows, rows_from, first_refused, extended_size}
 
 abbrev pub size_or_refusal : Option ℕ → Result ℕ Error
@@ -23,5 +23,5 @@ abbrev pub wanted_rows : List RowNumbers → Result (Unit {0}) Error
 wanted_rows rows = refusal_or_ok (first_refused 0 rows)
 
 -- the table of the built-in rows and these, unless one of these is refused
-abbrev pub wanted_table : List RowNumbers → Result (List Row) Error
+abbrev pub wanted_table : List RowNumbers → Result (List TableRow) Error
 wanted_table rows = and_then (wanted_rows rows) (λ _. Ok (built_in_rows ++ rows_from 74 rows))

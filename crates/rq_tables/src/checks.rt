@@ -2,16 +2,16 @@
 ghost use Rattle.std.specs.Prelude.{◌≡◌, ◌<◌, ◌^◌, slice_get};
 ghost use Rattle.rq_standard.specs.TableRows.{row_of_numbers, intermediate_symbols, has_size, fits_ldpc, fits_hdpc, fits_pi, first_failing_check};
 
-use rq_standard::row::Row;
-use rq_standard::sizes::P1_TABLE;
+use rq_standard::row::TableRow;
+use rq_standard::p1_table::P1_TABLE;
 
 // The row that numbers make at a place of a table, which decides its P1.
-pub(crate) fn row_at(place: usize, numbers: &(u32, u32, u32, u32, u32)) -> Row
+pub(crate) fn row_at(place: usize, numbers: &(u32, u32, u32, u32, u32)) -> TableRow
     ensures { result ≡ row_of_numbers place numbers.now }
 {
     let p1 = size_at(place).map_or(0, |(_, p1)| p1);
     let (source_symbols, systematic_index, ldpc_symbols, hdpc_symbols, lt_symbols) = *numbers;
-    Row {
+    TableRow {
         source_symbols,
         systematic_index,
         ldpc_symbols,
@@ -23,7 +23,7 @@ pub(crate) fn row_at(place: usize, numbers: &(u32, u32, u32, u32, u32)) -> Row
 
 // The first of the checks that a row fails at a place of a table.
 #[tactic(auto, unfolding(rq_standard::specs::TableRows::first_failing_check))]
-pub(crate) fn first_failing_check(place: usize, row: &Row) -> Option<u8>
+pub(crate) fn first_failing_check(place: usize, row: &TableRow) -> Option<u8>
     ensures { result ≡ first_failing_check place row.now }
 {
     if !has_size(place, row) {
@@ -52,30 +52,30 @@ fn size_at(place: usize) -> Option<(u32, u32)>
     P1_TABLE.get(place).copied()
 }
 
-fn has_size(place: usize, row: &Row) -> bool
+fn has_size(place: usize, row: &TableRow) -> bool
     ensures { result ≡ has_size (slice_get P1_TABLE place) row.now }
 {
     match size_at(place) {
-        Some((size, p1)) => row.source_symbols == size && row.p1 == p1,
+        Some((size, p1)) => row.extended_symbols == size && row.p1 == p1,
         None => false,
     }
 }
 
-fn fits_ldpc(row: &Row) -> bool
+fn fits_ldpc(row: &TableRow) -> bool
     ensures { result ≡ fits_ldpc row.now }
 {
     let ldpc = u64::from(row.ldpc_symbols);
     let lone = u64::from(row.lt_symbols).saturating_sub(ldpc);
-    1 <= lone && lone <= ldpc * ldpc.saturating_sub(1) && lone <= u64::from(row.source_symbols)
+    1 <= lone && lone <= ldpc * ldpc.saturating_sub(1) && lone <= u64::from(row.extended_symbols)
 }
 
-fn fits_hdpc(row: &Row) -> bool
+fn fits_hdpc(row: &TableRow) -> bool
     ensures { result ≡ fits_hdpc row.now }
 {
-    2 <= row.hdpc_symbols && row.hdpc_symbols <= row.source_symbols.min(255)
+    2 <= row.hdpc_symbols && row.hdpc_symbols <= row.extended_symbols.min(255)
 }
 
-fn fits_pi(row: &Row) -> bool
+fn fits_pi(row: &TableRow) -> bool
     ensures { result ≡ fits_pi row.now }
 {
     let pi = intermediate_symbols(row).saturating_sub(u64::from(row.lt_symbols));
@@ -83,9 +83,9 @@ fn fits_pi(row: &Row) -> bool
     3 <= pi && pi <= p1 && p1 <= 2 * pi
 }
 
-fn intermediate_symbols(row: &Row) -> u64
+fn intermediate_symbols(row: &TableRow) -> u64
     ensures sum { result ≡ intermediate_symbols row.now }
     ensures bound { result < 2 ^ 34 }
 {
-    u64::from(row.source_symbols) + u64::from(row.ldpc_symbols) + u64::from(row.hdpc_symbols)
+    u64::from(row.extended_symbols) + u64::from(row.ldpc_symbols) + u64::from(row.hdpc_symbols)
 }

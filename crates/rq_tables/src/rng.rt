@@ -2,7 +2,7 @@
 ghost use Rattle.std.specs.Prelude.{◌≡◌, ◌<◌};
 ghost use Rattle.rq_standard.specs.Rand.{rand, chosen_entry};
 
-use rq_standard::mixing::{V0, V1, V2, V3};
+use rq_standard::random_numbers::{V0, V1, V2, V3};
 
 /// Rand[y, i, m]: a number below `modulus` that depends on `y` and `i` alone otherwise. Sums wrap,
 /// as the standard's do.

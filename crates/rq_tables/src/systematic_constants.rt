@@ -1,16 +1,16 @@
 //! The table of systematic indices and parameters (RFC 6330, section 5.6).
 ghost use Rattle.std.specs.Prelude.{◌≡◌, ◌≤◌, ◌<◌, ◌+◌, ◌^◌, ◌++◌, ◌↔◌, List, length, vec_len, IsOk, IfOk, OnErr};
 ghost use Rattle.rq_bytes.specs.Refusals.{IsAnswer};
-ghost use Rattle.rq_standard.specs.declared.row.Row.{Row};
+ghost use Rattle.rq_standard.specs.declared.row.TableRow.{TableRow};
 ghost use Rattle.rq_standard.specs.TableRows.{IsTable, IsChecked, greatest_size, row_of, rows_from, built_in_rows, first_size, intermediate_symbols, pi_symbols};
 ghost use Rattle.rq_standard.specs.Parameters.{greatest_within};
 ghost use Rattle.rq_tables.specs.SystematicTable.{wanted_size, wanted_table, wanted_rows};
 
 use crate::checks::{first_failing_check, row_at};
 use rq_bytes::error::Error;
-pub use rq_standard::numbers::{MAX_SOURCE_SYMBOLS_PER_BLOCK, SYSTEMATIC_INDICES_AND_PARAMETERS};
-use rq_standard::row::Row;
-pub use rq_standard::sizes::P1_TABLE;
+pub use rq_standard::systematic_indices::{MAX_SOURCE_SYMBOLS_PER_BLOCK, SYSTEMATIC_INDICES_AND_PARAMETERS};
+use rq_standard::row::TableRow;
+pub use rq_standard::p1_table::P1_TABLE;
 use std::alloc::{AllocError, Global};
 use std::marker::Model;
 
@@ -40,11 +40,11 @@ fn first_size(least: u32, sizes: &[(u32, u32)]) -> Option<u32>
 /// it as the list of its rows.
 #[derive(Debug, Drop)]
 pub struct SystematicTable {
-    rows: Vec<Row>,
+    rows: Vec<TableRow>,
 }
 
 impl Model for SystematicTable {
-    ghost Value = { List Row };
+    ghost Value = { List TableRow };
 
     ghost view = { λ table. table.rows.items };
 
@@ -93,7 +93,7 @@ impl SystematicTable {
         ensures checked { IsTable self.now }
     {
         match self.rows.last() {
-            Some(row) => row.source_symbols,
+            Some(row) => row.extended_symbols,
             None => 0,
         }
     }
@@ -105,8 +105,8 @@ impl SystematicTable {
     {
         let mut greatest: u32 = 0;
         for row in &self.rows {
-            if u64::from(row.source_symbols) <= limit {
-                greatest = greatest.max(row.source_symbols);
+            if u64::from(row.extended_symbols) <= limit {
+                greatest = greatest.max(row.extended_symbols);
             }
         }
         greatest
@@ -114,14 +114,14 @@ impl SystematicTable {
 
     /// The row of a block of `source_symbols` symbols: the first whose size is at least that. A
     /// block of no symbols has the row of 10.
-    pub fn row(&self, source_symbols: u32) -> Row
+    pub fn row(&self, source_symbols: u32) -> TableRow
         requires { source_symbols ≤ greatest_size self.now }
         ensures row { result ≡ row_of self.now source_symbols }
         ensures checked { IsChecked result }
-        ensures holds { source_symbols ≤ result.source_symbols }
+        ensures holds { source_symbols ≤ result.extended_symbols }
     {
         for row in &self.rows {
-            if source_symbols <= row.source_symbols {
+            if source_symbols <= row.extended_symbols {
                 return *row;
             }
         }
@@ -166,7 +166,7 @@ impl SystematicTable {
         ensures { result ≡ intermediate_symbols (row_of self.now source_symbols) }
     {
         let row = self.row(source_symbols);
-        row.source_symbols + row.ldpc_symbols + row.hdpc_symbols
+        row.extended_symbols + row.ldpc_symbols + row.hdpc_symbols
     }
 
     /// P, the number of PI symbols of a block of `source_symbols` symbols.
@@ -175,7 +175,7 @@ impl SystematicTable {
         ensures { result ≡ pi_symbols (row_of self.now source_symbols) }
     {
         let row = self.row(source_symbols);
-        row.source_symbols + row.ldpc_symbols + row.hdpc_symbols - row.lt_symbols
+        row.extended_symbols + row.ldpc_symbols + row.hdpc_symbols - row.lt_symbols
     }
 
     /// P1 of a block of `source_symbols` symbols: the number beside K' in `P1_TABLE`.
@@ -211,7 +211,7 @@ fn check_rows(rows: &[(u32, u32, u32, u32, u32)]) -> Result<(), Error>
 }
 
 // Appends the rows that numbers make at the places that follow.
-fn push_rows(rows: &mut Vec<Row>, numbers: &[(u32, u32, u32, u32, u32)]) -> Result<(), AllocError>
+fn push_rows(rows: &mut Vec<TableRow>, numbers: &[(u32, u32, u32, u32, u32)]) -> Result<(), AllocError>
     ensures rows { IfOk result (λ _. rows.new.items ≡ rows.old.items ++ rows_from (vec_len rows.old) numbers.now) }
     ensures len { IfOk result (λ _. vec_len rows.new ≡ vec_len rows.old + length numbers.now) }
 {

@@ -2,7 +2,7 @@
 ghost use Rattle.std.specs.Prelude.{◌≡◌, ℕ, ◌*◌, ◌^◌, ◌<◌, ◌≤◌, true, [], ◌∷◌, ◌++◌, length, map, Ok, Some, None, IfSome, IfOk, IfErr, OnOk, OnErr, IsSome, not, if◌then◌else◌, ◌==◌, option_map, vec_items};
 ghost use Rattle.std.specs.Option.{ForSome};
 ghost use Rattle.rq_bytes.specs.Refusals.{IsAnswer};
-ghost use Rattle.rq_bytes.specs.Slab.{slab_of};
+ghost use Rattle.rq_bytes.specs.SymbolSlab.{slab_of};
 ghost use Rattle.rq_standard.specs.Configuration.{IsAligned};
 ghost use Rattle.rq_standard.specs.Cutting.{plain_symbol};
 ghost use Rattle.rq_standard.specs.Received.{or_later};
@@ -13,11 +13,11 @@ use crate::decoder::known::{known_symbol_ids, known_symbol_values};
 use crate::decoder::stopped::Stopped;
 use crate::solving::{homogeneous, solve};
 use crate::sub_blocks::{check_symbols, into_sub_blocks, size_at};
-use crate::sums::encoding_symbol;
+use crate::enc::encoding_symbol;
 use rq_base::base::{EncodingPacket, ObjectTransmissionInformation};
 use rq_bytes::error::Error;
 use rq_bytes::symbol_slab::SymbolSlab;
-use rq_standard::row::Row;
+use rq_standard::row::TableRow;
 use rq_tables::systematic_constants::SystematicTable;
 use std::alloc::{AllocError, Global};
 use std::collections::BTreeMap;
@@ -30,7 +30,7 @@ const SPARSE_MATRIX_THRESHOLD: u32 = 250;
 pub struct SourceBlockDecoder {
     config: ObjectTransmissionInformation,
     number: u8,
-    row: Row,
+    row: TableRow,
     symbols: u32,
     received: BTreeMap<u32, Vec<u8>>,
     missing: u32,
@@ -40,7 +40,7 @@ pub struct SourceBlockDecoder {
     pub ghost positive: { 0 < config.symbol_size },
     pub ghost aligned: { IsAligned config },
     pub ghost checked: { IsChecked row },
-    pub ghost fits: { symbols ≤ row.source_symbols },
+    pub ghost fits: { symbols ≤ row.extended_symbols },
     pub ghost few: { (e : ℕ) → has_payload received e ≡ true → e < 2 ^ 24 },
     pub ghost counted: { missing ≡ missing_count symbols (has_payload received) },
 }
@@ -123,7 +123,7 @@ impl SourceBlockDecoder {
     ) -> Result<SourceBlockDecoder, Error>
         ensures refused { IsAnswer (λ _. tt) result (checked_block (greatest_size table.now) config.now (div_ceil block_length config.now.symbol_size)) }
         ensures empty { IfOk result (λ d. held_of d ≡ empty_block table.now config.now number (div_ceil block_length config.now.symbol_size)) }
-        ensures row { IfOk result (λ d. IsChecked (held_of d).row × ((held_of d).symbols ≤ (held_of d).row.source_symbols)) }
+        ensures row { IfOk result (λ d. IsChecked (held_of d).row × ((held_of d).symbols ≤ (held_of d).row.extended_symbols)) }
     {
         check_symbols(config)?;
         let symbols = block_length.div_ceil(u64::from(config.symbol_size()));
@@ -146,7 +146,7 @@ impl SourceBlockDecoder {
         requires in_table { symbols ≤ greatest_size table.now }
         ensures empty { held_of result ≡ empty_block table.now config.now number symbols }
         ensures checked { IsChecked (held_of result).row }
-        ensures fits { (held_of result).symbols ≤ (held_of result).row.source_symbols }
+        ensures fits { (held_of result).symbols ≤ (held_of result).row.extended_symbols }
     {
         SourceBlockDecoder {
             config: *config,

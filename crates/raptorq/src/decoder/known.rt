@@ -1,7 +1,7 @@
 //! The equations that the decoder of a block knows.
 ghost use Rattle.std.specs.Prelude.{◌≡◌, ℕ, ◌^◌, ◌<◌, ◌≤◌, true, length, IfOk, IfErr};
 ghost use Rattle.std.specs.Option.{ForSome};
-ghost use Rattle.rq_bytes.specs.Slab.{slab_of};
+ghost use Rattle.rq_bytes.specs.SymbolSlab.{slab_of};
 ghost use Rattle.rq_standard.specs.Headline.{known_ids};
 ghost use Rattle.rq_standard.specs.Equations.{equation_count};
 ghost use Rattle.rq_standard.specs.IdLists.{IsListOf};
@@ -12,25 +12,25 @@ ghost use Rattle.raptorq.specs.Missing.{payload_of, has_payload};
 use crate::ids::{internal_symbol_id, padding_ids};
 use rq_bytes::error::Error;
 use rq_bytes::symbol_slab::SymbolSlab;
-use rq_standard::row::Row;
+use rq_standard::row::TableRow;
 use std::alloc::{AllocError, Global};
 use std::collections::BTreeMap;
 
 /// The internal symbol ids that are known: those of the padding, and then of what came.
 pub(crate) fn known_symbol_ids(
     alloc: Global,
-    row: &Row,
+    row: &TableRow,
     symbols: u32,
     received: &BTreeMap<u32, Vec<u8>>,
 ) -> Result<Vec<u32>, AllocError>
     requires checked { IsChecked row.now }
-    requires fits { symbols ≤ row.now.source_symbols }
+    requires fits { symbols ≤ row.now.extended_symbols }
     requires few { (e : ℕ) → has_payload received.now e ≡ true → e < 2 ^ 24 }
     ensures ids { IfOk result (λ ids. ids.items ≡ known_list row.now symbols received.now.entries) }
     ensures listed { IfOk result (λ ids. IsListOf (known_ids row.now symbols (has_payload received.now)) ids.items) }
     ensures few { IfOk result (λ ids. equation_count row.now ids.items < 2 ^ 31) }
 {
-    let count = (row.source_symbols - symbols) as usize + received.len();
+    let count = (row.extended_symbols - symbols) as usize + received.len();
     let mut ids = padding_ids(alloc, row, symbols, count)?;
     for esi in received.keys() {
         ids.push(internal_symbol_id(row, symbols, *esi))?;
@@ -42,13 +42,13 @@ pub(crate) fn known_symbol_ids(
 /// came.
 pub(crate) fn known_symbol_values(
     alloc: Global,
-    row: &Row,
+    row: &TableRow,
     symbols: u32,
     size: usize,
     received: &BTreeMap<u32, Vec<u8>>,
 ) -> Result<SymbolSlab, Error>
     requires checked { IsChecked row.now }
-    requires fits { symbols ≤ row.now.source_symbols }
+    requires fits { symbols ≤ row.now.extended_symbols }
     requires positive { 0 < size }
     requires small { size < 65536 }
     requires few { (e : ℕ) → has_payload received.now e ≡ true → e < 2 ^ 24 }
@@ -56,7 +56,7 @@ pub(crate) fn known_symbol_values(
     ensures values { IfOk result (λ values. values ≡ slab_of size (known_values row.now symbols size received.now.entries)) }
     ensures memory { IfErr result (λ e. e ≡ Error.OutOfMemory) }
 {
-    let padding = row.source_symbols - symbols;
+    let padding = row.extended_symbols - symbols;
     let mut place = (row.ldpc_symbols + row.hdpc_symbols + padding) as usize;
     let mut values = SymbolSlab::with_zeros(alloc, place + received.len(), size)?;
     for payload in received.values() {

@@ -118,7 +118,7 @@ pub struct Decoder {
 impl Decoder {
     ghost use Rattle.rq_standard.specs.Differences.{AreUnansweredDetermined, IsDifference, IsNoneWhereAnswered, MakesOthersFit};
     ghost use Rattle.rq_standard.specs.Standing.{IsNewState, Adds, Stops, StopsEarly, result_of};
-    ghost use Rattle.rq_standard.specs.Standing.{StandsForNone, StandsForMore, CatchesUp, FallsBehind, FallsBehindOrJoinsLate, AnswersObject, AnswersNothingElse, AnswersOnlyObject};
+    ghost use Rattle.rq_standard.specs.Standing.{StandsForNone, StandsForMore, AnswersLateBlock, LeavesBlockLate, LeavesOrAnswersLateBlock, AnswersObject, AnswersNothingElse, AnswersOnlyObject};
     ghost use Rattle.raptorq.specs.Decoding.{shown};
     ghost use Rattle.raptorq.specs.Stopping.{StopsAsTested, Takes, TakesAndJoins};
     ghost use Rattle.raptorq.specs.Refused.{packet_refusal};
@@ -189,8 +189,8 @@ impl Decoder {
 
         // From a decoder that stands for a list, one that stands for the longer list.
         ensures stands { OnOk result (StandsForMore (state_of self.old) packet (state_of self.new)) }
-        ensures catches_up { OnOk result (CatchesUp (state_of self.old) packet (state_of self.new)) }
-        ensures falls_behind { IfErr result (λ e. e ≡ Error.OutOfMemory → FallsBehind (state_of self.old) packet (state_of self.new)) }
+        ensures answers_late { OnOk result (AnswersLateBlock (state_of self.old) packet (state_of self.new)) }
+        ensures leaves_late { IfErr result (λ e. e ≡ Error.OutOfMemory → LeavesBlockLate (state_of self.old) packet (state_of self.new)) }
     {
         Ok(self.take(packet)?)
     }
@@ -302,8 +302,8 @@ impl Decoder {
 
         // From a decoder that stands for a list, one that stands for the longer list.
         ensures stands { OnOk result (StandsForMore (state_of self.old) packet (state_of self.new)) }
-        ensures catches_up { OnOk result (CatchesUp (state_of self.old) packet (state_of self.new)) }
-        ensures falls_behind { IfErr result (λ e. e ≡ Error.OutOfMemory → FallsBehindOrJoinsLate (state_of self.old) packet (state_of self.new)) }
+        ensures answers_late { OnOk result (AnswersLateBlock (state_of self.old) packet (state_of self.new)) }
+        ensures leaves_late { IfErr result (λ e. e ≡ Error.OutOfMemory → LeavesOrAnswersLateBlock (state_of self.old) packet (state_of self.new)) }
     {
         Ok(self.take_and_join(packet)?)
     }

@@ -1,7 +1,7 @@
 //! The encoder of one source block.
 ghost use Rattle.std.specs.Prelude.{◌≡◌, ◌+◌, ◌-◌, ◌/◌, ◌^◌, ◌<◌, ◌≤◌, All, length, IfOk, IfErr, OnOk, OnErr};
 ghost use Rattle.rq_bytes.specs.Refusals.{IsAnswer};
-ghost use Rattle.rq_bytes.specs.Slab.{symbol_in, symbols_in};
+ghost use Rattle.rq_bytes.specs.SymbolSlab.{symbol_in, symbols_in};
 ghost use Rattle.rq_standard.specs.Configuration.{IsAligned};
 ghost use Rattle.rq_standard.specs.Headline.{IsNonsingular, IsOnlyIntermediateColumn, IsEncodingSymbol};
 ghost use Rattle.rq_standard.specs.TableRows.{IsChecked, greatest_size, intermediate_symbols};
@@ -11,12 +11,12 @@ use crate::encoder::cache::SourceBlockEncodingPlanCache;
 use crate::encoder::plan::SourceBlockEncodingPlan;
 use crate::ids::internal_symbol_id;
 use crate::sub_blocks::{check_symbols, source_symbols};
-use crate::sums::encoding_symbol;
+use crate::enc::encoding_symbol;
 use rq_base::base::{EncodingPacket, ObjectTransmissionInformation, PayloadId};
 use rq_bytes::error::Error;
 use rq_bytes::symbol::Symbol;
 use rq_bytes::symbol_slab::SymbolSlab;
-use rq_standard::row::Row;
+use rq_standard::row::TableRow;
 use rq_tables::systematic_constants::SystematicTable;
 use std::alloc::{AllocError, Global};
 
@@ -24,13 +24,13 @@ use std::alloc::{AllocError, Global};
 #[derive(Debug, PartialEq, Eq, Drop)]
 pub struct SourceBlockEncoder {
     number: u8,
-    row: Row,
+    row: TableRow,
     source: Vec<Symbol>,
     intermediate: SymbolSlab,
     alloc: Global,
     pub ghost checked: { IsChecked row },
     pub ghost nonsingular: { IsNonsingular row },
-    pub ghost few: { length source.items ≤ row.source_symbols },
+    pub ghost few: { length source.items ≤ row.extended_symbols },
     pub ghost sized: { All (λ symbol. length symbol ≡ intermediate.symbol_size) source.items },
     pub ghost places: { intermediate_symbols row ≤ length (symbols_in intermediate) },
     pub ghost solved: { IsOnlyIntermediateColumn row intermediate.symbol_size source.items (symbol_in intermediate) },
@@ -165,7 +165,7 @@ impl SourceBlockEncoder {
     ) -> Result<SourceBlockEncoder, Error>
         requires positive { 0 < size }
         requires small { size < 65536 }
-        requires few { length source.items ≤ (plan_of plan.now).row.source_symbols }
+        requires few { length source.items ≤ (plan_of plan.now).row.extended_symbols }
         requires sized { All (λ symbol. length symbol ≡ size) source.items }
         ensures encoded { IfOk result (λ b. block_encoded_of b ≡ record { number = number; row = (plan_of plan.now).row; size = size; source = source.items }) }
         ensures memory { IfErr result (λ e. e ≡ Error.OutOfMemory) }

@@ -1,7 +1,7 @@
 //! Plans: what solves the equations of every block of one size.
 ghost use Rattle.std.specs.Prelude.{◌≡◌, ◌⊎◌, ◌<◌, ◌≤◌, All, length, map, None, Ok, IfOk, IfErr, OnOk};
 ghost use Rattle.rq_algebra.specs.Operations.{AreAllowed};
-ghost use Rattle.rq_bytes.specs.Slab.{slab_of, symbol_in, symbols_in};
+ghost use Rattle.rq_bytes.specs.SymbolSlab.{slab_of, symbol_in, symbols_in};
 ghost use Rattle.rq_bytes.specs.SymbolOps.{operation_of};
 ghost use Rattle.rq_standard.specs.Headline.{IsNonsingular, IsSingular, IsOnlyIntermediateColumn};
 ghost use Rattle.rq_standard.specs.TableRows.{IsChecked, row_of, intermediate_symbols};
@@ -15,7 +15,7 @@ use rq_bytes::operation_vector::SymbolOps;
 use rq_bytes::symbol::Symbol;
 use rq_bytes::symbol_slab::SymbolSlab;
 use rq_solver::replay::replay;
-use rq_standard::row::Row;
+use rq_standard::row::TableRow;
 use rq_tables::systematic_constants::SystematicTable;
 use std::alloc::{AllocError, Global};
 
@@ -25,10 +25,10 @@ use std::alloc::{AllocError, Global};
 pub struct SourceBlockEncodingPlan {
     operations: Vec<SymbolOps>,
     source_symbol_count: u16,
-    row: Row,
+    row: TableRow,
     pub ghost checked: { IsChecked row },
     pub ghost nonsingular: { IsNonsingular row },
-    pub ghost few: { source_symbol_count ≤ row.source_symbols },
+    pub ghost few: { source_symbol_count ≤ row.extended_symbols },
     pub ghost allowed: { AreAllowed (intermediate_symbols row) None (map operation_of operations.items) } by { AreAllowed-prop (intermediate_symbols row) None (map operation_of operations.items) },
     pub ghost finds: { IsPlanOf row (map operation_of operations.items) },
 }
@@ -62,17 +62,17 @@ impl SourceBlockEncodingPlan {
     /// The plan over a row of a table.
     ///
     /// Refuses [`Error::Singular`] where the row decides no intermediate symbols.
-    pub(crate) fn of_row(alloc: Global, source_symbol_count: u16, row: Row) -> Result<Self, Error>
+    pub(crate) fn of_row(alloc: Global, source_symbol_count: u16, row: TableRow) -> Result<Self, Error>
         requires checked { IsChecked row }
-        requires few { source_symbol_count ≤ row.source_symbols }
+        requires few { source_symbol_count ≤ row.extended_symbols }
         ensures count { IfOk result (λ p. (plan_of p).count ≡ source_symbol_count) }
         ensures row { IfOk result (λ p. (plan_of p).row ≡ row) }
         ensures plan { IfOk result (λ p. IsPlanOf row (plan_of p).operations) }
         ensures nonsingular { OnOk result (IsNonsingular row) }
         ensures refused { IfErr result (λ e. (e ≡ Error.OutOfMemory) ⊎ ((e ≡ Error.Singular) × IsSingular row)) }
     {
-        let ids = padding_ids(alloc, &row, 0, row.source_symbols as usize)?;
-        let count = (row.source_symbols + row.ldpc_symbols + row.hdpc_symbols) as usize;
+        let ids = padding_ids(alloc, &row, 0, row.extended_symbols as usize)?;
+        let count = row.intermediate_symbols() as usize;
         // The operations are the same whatever the size of the symbols.
         let values = SymbolSlab::with_zeros(alloc, count, 0)?;
         let Some((_symbols, operations)) = solve_recorded(alloc, &row, ids.as_slice(), values)?
@@ -94,7 +94,7 @@ impl SourceBlockEncodingPlan {
     }
 
     /// The row that the plan was made for.
-    pub(crate) fn row(&self) -> Row
+    pub(crate) fn row(&self) -> TableRow
         ensures row { result ≡ (plan_of self.now).row }
         ensures checked { IsChecked result }
         ensures nonsingular { IsNonsingular result }
@@ -111,7 +111,7 @@ impl SourceBlockEncodingPlan {
     ) -> Result<SymbolSlab, Error>
         requires positive { 0 < size }
         requires small { size < 65536 }
-        requires few { length source.now ≤ (plan_of self.now).row.source_symbols }
+        requires few { length source.now ≤ (plan_of self.now).row.extended_symbols }
         requires sized { All (λ symbol. length symbol ≡ size) source.now }
         ensures size { IfOk result (λ slab. slab.symbol_size ≡ size) }
         ensures places { IfOk result (λ slab. intermediate_symbols (plan_of self.now).row ≤ length (symbols_in slab)) }
@@ -144,20 +144,20 @@ impl Clone for SourceBlockEncodingPlan {
 // zeros for all others.
 fn source_values(
     alloc: Global,
-    row: &Row,
+    row: &TableRow,
     size: usize,
     source: &[Symbol],
 ) -> Result<SymbolSlab, Error>
     requires checked { IsChecked row.now }
     requires positive { 0 < size }
     requires small { size < 65536 }
-    requires few { length source.now ≤ row.now.source_symbols }
+    requires few { length source.now ≤ row.now.extended_symbols }
     requires sized { All (λ symbol. length symbol ≡ size) source.now }
     ensures values { IfOk result (λ slab. slab ≡ slab_of size (source_values row.now size source.now)) }
     ensures memory { IfErr result (λ e. e ≡ Error.OutOfMemory) }
 {
     let fixed = (row.ldpc_symbols + row.hdpc_symbols) as usize;
-    let count = fixed + row.source_symbols as usize;
+    let count = fixed + row.extended_symbols as usize;
     let mut values = SymbolSlab::with_zeros(alloc, count, size)?;
     let mut place = fixed;
     for symbol in source {

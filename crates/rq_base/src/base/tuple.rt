@@ -2,7 +2,7 @@
 ghost use Rattle.std.specs.Prelude.{◌≡◌, ℕ, ◌-◌, ◌≤◌, ◌<◌, ◌^◌, min};
 ghost use Rattle.rq_standard.specs.Tuple.{first_above, degree, IsBetween, tuple_of, IsTuple, multiplier_of, seed_of};
 
-use rq_standard::numbers::DEGREE_STARTS;
+use rq_standard::degrees::DEGREE_STARTS;
 use rq_tables::rng::rand;
 
 /// Deg[v]: the degree that a number below 2^20 stands for, at most `lt_symbols - 2`.

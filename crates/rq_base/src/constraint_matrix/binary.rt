@@ -1,21 +1,21 @@
 //! The binary rows of the constraint matrix (RFC 6330, sections 5.3.3.3 and 5.3.5.3).
 ghost use Rattle.std.specs.Prelude.{◌≡◌, ℕ, ◌+◌, ◌^◌, ◌<◌, ◌≤◌, All, length, false, IfOk, OnOk, IfErr};
 ghost use Rattle.rq_bytes.specs.declared.error.Error.TheVariants.{OutOfMemory};
-ghost use Rattle.rq_standard.specs.TableRows.{IsChecked, lone_lt_symbols};
-ghost use Rattle.rq_base.specs.BinaryRows.{HasRows, HasLoneColumns, HasLdpcRows, HasSymbolRows, FillsRow, IsZeroFrom};
+ghost use Rattle.rq_standard.specs.TableRows.{IsChecked, b_of};
+ghost use Rattle.rq_base.specs.BinaryRows.{HasRows, HasLdpc1Columns, HasLdpcRows, HasSymbolRows, FillsRow, IsZeroFrom};
 
-use crate::places::Places;
+use crate::indices::Indices;
 use rq_bytes::error::Error;
 use rq_bytes::octet::Octet;
 use rq_matrix::matrix::BinaryMatrix;
-use rq_standard::row::Row;
+use rq_standard::row::TableRow;
 use std::alloc::Global;
 
 /// The LDPC rows, then zeros up to row `first_symbol_row`, and from there on a row for each
 /// internal symbol id.
 pub(crate) fn binary_rows<T: BinaryMatrix>(
     alloc: Global,
-    row: &Row,
+    row: &TableRow,
     first_symbol_row: usize,
     internal_symbol_ids: &[u32],
 ) -> Result<T, Error>
@@ -26,23 +26,23 @@ pub(crate) fn binary_rows<T: BinaryMatrix>(
     ensures memory { IfErr result (λ e. e ≡ OutOfMemory) }
 {
     let mut matrix = zero_rows(alloc, row, first_symbol_row + internal_symbol_ids.len())?;
-    set_lone_columns(&mut matrix, row)?;
+    set_ldpc_1_columns(&mut matrix, row)?;
     set_ldpc_rows(&mut matrix, row)?;
     for (i, id) in internal_symbol_ids.iter().enumerate() {
-        flip_places(&mut matrix, first_symbol_row + i, Places::of_id(row, *id))?;
+        flip_places(&mut matrix, first_symbol_row + i, Indices::of_id(row, *id))?;
     }
     Ok(matrix)
 }
 
 // So many rows of zeros, of L columns each.
-fn zero_rows<T: BinaryMatrix>(alloc: Global, row: &Row, height: usize) -> Result<T, Error>
+fn zero_rows<T: BinaryMatrix>(alloc: Global, row: &TableRow, height: usize) -> Result<T, Error>
     requires checked { IsChecked row.now }
     requires fits { height < 2 ^ 31 }
     ensures shape { IfOk result (λ matrix. HasRows row.now height (T.content matrix)) }
     ensures zeros { IfOk result (λ matrix. IsZeroFrom row.now 0 (T.content matrix)) }
     ensures memory { IfErr result (λ e. e ≡ OutOfMemory) }
 {
-    let width = row.source_symbols + row.ldpc_symbols + row.hdpc_symbols;
+    let width = row.extended_symbols + row.ldpc_symbols + row.hdpc_symbols;
     T::new(
         alloc,
         height,
@@ -52,25 +52,25 @@ fn zero_rows<T: BinaryMatrix>(alloc: Global, row: &Row, height: usize) -> Result
 }
 
 // The places of the first B symbols, three in each column.
-fn set_lone_columns<T: BinaryMatrix>(matrix: &mut T, row: &Row) -> Result<(), Error>
+fn set_ldpc_1_columns<T: BinaryMatrix>(matrix: &mut T, row: &TableRow) -> Result<(), Error>
     requires checked { IsChecked row.now }
     requires room { row.now.ldpc_symbols ≤ (T.content matrix.old).height }
-    requires zeros { HasLoneColumns row.now (T.content matrix.old).height 0 (T.content matrix.old) }
-    ensures done { OnOk result (HasLoneColumns row.now (T.content matrix.old).height (lone_lt_symbols row.now) (T.content matrix.new)) }
+    requires zeros { HasLdpc1Columns row.now (T.content matrix.old).height 0 (T.content matrix.old) }
+    ensures done { OnOk result (HasLdpc1Columns row.now (T.content matrix.old).height (b_of row.now) (T.content matrix.new)) }
     ensures memory { IfErr result (λ e. e ≡ OutOfMemory) }
 {
     for column in 0..(row.lt_symbols - row.ldpc_symbols) as usize {
-        set_lone_column(matrix, row, column)?;
+        set_ldpc_1_column(matrix, row, column)?;
     }
     Ok(())
 }
 
-fn set_lone_column<T: BinaryMatrix>(matrix: &mut T, row: &Row, column: usize) -> Result<(), Error>
+fn set_ldpc_1_column<T: BinaryMatrix>(matrix: &mut T, row: &TableRow, column: usize) -> Result<(), Error>
     requires checked { IsChecked row.now }
     requires room { row.now.ldpc_symbols ≤ (T.content matrix.old).height }
-    requires lone { column < lone_lt_symbols row.now }
-    requires before { HasLoneColumns row.now (T.content matrix.old).height column (T.content matrix.old) }
-    ensures done { OnOk result (HasLoneColumns row.now (T.content matrix.old).height (column + 1) (T.content matrix.new)) }
+    requires lone { column < b_of row.now }
+    requires before { HasLdpc1Columns row.now (T.content matrix.old).height column (T.content matrix.old) }
+    ensures done { OnOk result (HasLdpc1Columns row.now (T.content matrix.old).height (column + 1) (T.content matrix.new)) }
     ensures memory { IfErr result (λ e. e ≡ OutOfMemory) }
 {
     let ldpc_symbols = row.ldpc_symbols as usize;
@@ -82,7 +82,7 @@ fn set_lone_column<T: BinaryMatrix>(matrix: &mut T, row: &Row, column: usize) ->
 }
 
 // The LDPC rows' other places: the row's own symbol, and two PI symbols.
-fn set_ldpc_rows<T: BinaryMatrix>(matrix: &mut T, row: &Row) -> Result<(), Error>
+fn set_ldpc_rows<T: BinaryMatrix>(matrix: &mut T, row: &TableRow) -> Result<(), Error>
     requires checked { IsChecked row.now }
     requires room { row.now.ldpc_symbols ≤ (T.content matrix.old).height }
     requires lone { HasLdpcRows row.now (T.content matrix.old).height 0 (T.content matrix.old) }
@@ -95,7 +95,7 @@ fn set_ldpc_rows<T: BinaryMatrix>(matrix: &mut T, row: &Row) -> Result<(), Error
     Ok(())
 }
 
-fn set_ldpc_row<T: BinaryMatrix>(matrix: &mut T, row: &Row, i: usize) -> Result<(), Error>
+fn set_ldpc_row<T: BinaryMatrix>(matrix: &mut T, row: &TableRow, i: usize) -> Result<(), Error>
     requires checked { IsChecked row.now }
     requires room { row.now.ldpc_symbols ≤ (T.content matrix.old).height }
     requires ldpc { i < row.now.ldpc_symbols }
@@ -104,7 +104,7 @@ fn set_ldpc_row<T: BinaryMatrix>(matrix: &mut T, row: &Row, i: usize) -> Result<
     ensures memory { IfErr result (λ e. e ≡ OutOfMemory) }
 {
     let lt_symbols = row.lt_symbols as usize;
-    let width = (row.source_symbols + row.ldpc_symbols + row.hdpc_symbols) as usize;
+    let width = row.intermediate_symbols() as usize;
     let pi_symbols = width - lt_symbols;
     matrix.set(i, lt_symbols - row.ldpc_symbols as usize + i, Octet::one())?;
     matrix.set(i, lt_symbols + i % pi_symbols, Octet::one())?;
@@ -113,7 +113,7 @@ fn set_ldpc_row<T: BinaryMatrix>(matrix: &mut T, row: &Row, i: usize) -> Result<
 }
 
 // Flips the bit of a row at each place, so that a place that comes twice cancels.
-fn flip_places<T: BinaryMatrix>(matrix: &mut T, i: usize, mut places: Places) -> Result<(), Error>
+fn flip_places<T: BinaryMatrix>(matrix: &mut T, i: usize, mut places: Indices) -> Result<(), Error>
     requires row { i < (T.content matrix.old).height }
     requires below { All (λ place. place < (T.content matrix.old).width) places }
     requires settable { (T.content matrix.old).indexed ≡ false }
@@ -121,7 +121,7 @@ fn flip_places<T: BinaryMatrix>(matrix: &mut T, i: usize, mut places: Places) ->
     ensures filled { OnOk result (FillsRow (T.content matrix.old) i places (T.content matrix.new)) }
     ensures memory { IfErr result (λ e. e ≡ OutOfMemory) }
 {
-    while let Some(place) = places.next_place() {
+    while let Some(place) = places.next_index() {
         let flipped = matrix.get(i, place) + Octet::one();
         matrix.set(i, place, flipped)?;
     }

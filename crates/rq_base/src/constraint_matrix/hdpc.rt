@@ -10,17 +10,17 @@ ghost use Rattle.rq_base.specs.HdpcPart.{IsHdpcPart, IsFilledFrom};
 use rq_bytes::error::Error;
 use rq_bytes::octet::Octet;
 use rq_parts::octet_matrix::DenseOctetMatrix;
-use rq_standard::row::Row;
+use rq_standard::row::TableRow;
 use rq_tables::rng::rand;
 use std::alloc::Global;
 
 /// The H rows of octets of the HDPC equations, over a row of a table.
-pub fn generate_hdpc_rows(alloc: Global, row: &Row) -> Result<DenseOctetMatrix, Error>
+pub fn generate_hdpc_rows(alloc: Global, row: &TableRow) -> Result<DenseOctetMatrix, Error>
     requires { IsChecked row.now }
     ensures part { IfOk result (IsHdpcPart row.now) }
     ensures memory { IfErr result (λ e. e ≡ OutOfMemory) }
 {
-    let last = row.source_symbols as usize + row.ldpc_symbols as usize - 1;
+    let last = row.extended_symbols as usize + row.ldpc_symbols as usize - 1;
     let mut matrix = last_columns(alloc, row)?;
     for column in (0..last).rev() {
         fill_column(&mut matrix, row, column);
@@ -29,13 +29,13 @@ pub fn generate_hdpc_rows(alloc: Global, row: &Row) -> Result<DenseOctetMatrix, 
 }
 
 // The rows with the columns from K'+S-1 on: the powers of alpha, and each HDPC symbol in its own row.
-fn last_columns(alloc: Global, row: &Row) -> Result<DenseOctetMatrix, Error>
+fn last_columns(alloc: Global, row: &TableRow) -> Result<DenseOctetMatrix, Error>
     requires { IsChecked row.now }
     ensures filled { IfOk result (IsFilledFrom row.now (before_hdpc row.now - 1)) }
     ensures memory { IfErr result (λ e. e ≡ OutOfMemory) }
 {
     let height = row.hdpc_symbols as usize;
-    let before_hdpc = row.source_symbols as usize + row.ldpc_symbols as usize;
+    let before_hdpc = row.extended_symbols as usize + row.ldpc_symbols as usize;
     let mut matrix = DenseOctetMatrix::new(alloc, height, before_hdpc + height, 0)?;
     for i in 0..height {
         matrix.set(i, before_hdpc - 1, Octet::alpha(i));
@@ -46,7 +46,7 @@ fn last_columns(alloc: Global, row: &Row) -> Result<DenseOctetMatrix, Error>
 
 // A column of the product of MT and GAMMA from the next one: alpha times that, and one more in the
 // two rows where MT's own column has a one.
-fn fill_column(matrix: &mut DenseOctetMatrix, row: &Row, column: usize)
+fn fill_column(matrix: &mut DenseOctetMatrix, row: &TableRow, column: usize)
     requires checked { IsChecked row.now }
     requires column { column + 1 < before_hdpc row.now }
     requires next { IsFilledFrom row.now (column + 1) matrix.old }

@@ -67,7 +67,7 @@ fn block_digest(alloc: Global, table: &SystematicTable, k: u32) -> Result<u64, E
     requires { k ≤ greatest_size table.now }
 {
     let row = table.row(k);
-    let ids = first_ids(alloc, row.source_symbols + 2)?;
+    let ids = first_ids(alloc, row.extended_symbols + 2)?;
     let (matrix, hdpc_rows) = generate_constraint_matrix::<DenseBinaryMatrix>(
         alloc,
         table,
@@ -76,7 +76,7 @@ fn block_digest(alloc: Global, table: &SystematicTable, k: u32) -> Result<u64, E
     )?;
     let digest = bits_digest(&matrix, 0);
     let digest = octets_digest(&hdpc_rows, matrix.width(), digest);
-    let ids = first_ids(alloc, row.source_symbols + row.hdpc_symbols)?;
+    let ids = first_ids(alloc, row.extended_symbols + row.hdpc_symbols)?;
     let plain = generate_constraint_matrix_no_hdpc::<DenseBinaryMatrix>(
         alloc,
         table,
@@ -92,7 +92,7 @@ fn matrices_of_blocks(rt: HostRuntime) -> Result<(), Fail> {
     for k in 1..111 {
         assert!(rt; k <= table.greatest());
         let digest = block_digest(rt.alloc(), &table, k)?;
-        let size = table.row(k).source_symbols;
+        let size = table.row(k).extended_symbols;
         assert!(rt; MATRIX_DIGESTS.contains(&(size, digest)), "{k}");
     }
     Ok(())

@@ -4,7 +4,7 @@ ghost use Rattle.std.specs.List.Sorted.{IsNonDecreasingBy, IsStableByKey};
 ghost use Rattle.std.specs.Ordering.{nat_cmp};
 ghost use Rattle.rq_bytes.specs.Refusals.{IsAnswer};
 ghost use Rattle.rq_bytes.specs.declared.error.Error.TheVariants.{OutOfMemory};
-ghost use Rattle.rq_parts.specs.Lists.{lists_of, IsStart, AreStartsOf};
+ghost use Rattle.rq_parts.specs.ImmutableListMap.{lists_of, IsStart, AreStartsOf};
 
 use rq_bytes::error::Error;
 use std::alloc::{AllocError, Global};
@@ -19,7 +19,7 @@ pub struct ImmutableListMapBuilder {
 }
 
 impl Model for ImmutableListMapBuilder {
-    ghost use Rattle.rq_parts.specs.Lists.{Pairs};
+    ghost use Rattle.rq_parts.specs.ImmutableListMap.{Pairs};
 
     ghost Value = { Pairs };
 
@@ -68,7 +68,7 @@ pub struct ImmutableListMap {
 
 impl Model for ImmutableListMap {
     ghost use Rattle.std.specs.Prelude.{ℕ, List, length};
-    ghost use Rattle.rq_parts.specs.Lists.{AreStarts, lists_between};
+    ghost use Rattle.rq_parts.specs.ImmutableListMap.{AreStarts, lists_between};
 
     ghost Value = { List (List ℕ) };
 

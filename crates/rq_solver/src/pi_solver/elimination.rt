@@ -2,7 +2,7 @@
 ghost use Rattle.std.specs.Prelude.{◌≡◌, ◌≢◌, ℕ, ◌<◌, ◌≤◌, length, IfSome, IfNone, IfOk};
 ghost use Rattle.std.specs.List.{range_with_len};
 ghost use Rattle.rq_algebra.specs.Systems.{at};
-ghost use Rattle.rq_parts.specs.OctetTable.{entry_of};
+ghost use Rattle.rq_parts.specs.DenseOctetMatrix.{entry_of};
 ghost use Rattle.rq_solver.specs.RowSteps.{AreRows};
 
 use rq_parts::octet_matrix::DenseOctetMatrix;

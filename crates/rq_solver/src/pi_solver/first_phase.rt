@@ -6,7 +6,7 @@ ghost use Rattle.rq_solver.specs.Cleared.{AreOctetRows, ClearsRows, HasPeeledPiv
 ghost use Rattle.rq_solver.specs.OperationCounts.{additions};
 ghost use Rattle.rq_solver.specs.OctetBatch.{batch_bound};
 ghost use Rattle.rq_solver.specs.Peeled.{ones_of};
-ghost use Rattle.rq_parts.specs.OctetTable.{HasOctets};
+ghost use Rattle.rq_parts.specs.DenseOctetMatrix.{HasOctets};
 
 mod hdpc;
 mod inactive;

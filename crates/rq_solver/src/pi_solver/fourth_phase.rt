@@ -6,7 +6,7 @@ ghost use Rattle.rq_solver.specs.Cleared.{FinishesPivots, PeelsRows, TakesBack, 
 ghost use Rattle.rq_solver.specs.OperationCounts.{additions};
 ghost use Rattle.rq_solver.specs.Peeled.{ones_of};
 ghost use Rattle.rq_solver.specs.RowSteps.{AreRows};
-ghost use Rattle.rq_parts.specs.OctetTable.{HasOctets};
+ghost use Rattle.rq_parts.specs.DenseOctetMatrix.{HasOctets};
 
 use super::first_phase::take_pivots;
 use super::ones::RowOnes;

@@ -18,7 +18,7 @@ pub(super) struct RowOnes {
 
 impl Model for RowOnes {
     ghost use Rattle.std.specs.Prelude.{ℕ, List};
-    ghost use Rattle.rq_parts.specs.Lists.{lists_between};
+    ghost use Rattle.rq_parts.specs.ImmutableListMap.{lists_between};
     ghost use Rattle.rq_solver.specs.Peeled.{AreAllBetween};
 
     ghost Value = { List (List ℕ) };

@@ -4,7 +4,7 @@ ghost use Rattle.rq_algebra.specs.Operations.{Reorder, FindsColumn};
 ghost use Rattle.rq_algebra.specs.Systems.{at, HasNullColumn};
 ghost use Rattle.rq_bytes.specs.SymbolOps.{operation_of};
 ghost use Rattle.rq_bytes.specs.declared.error.Error.TheVariants.{OutOfMemory};
-ghost use Rattle.rq_parts.specs.OctetTable.{entry_of, HasOctets};
+ghost use Rattle.rq_parts.specs.DenseOctetMatrix.{entry_of, HasOctets};
 ghost use Rattle.rq_standard.specs.ConstraintMatrix.{with_octet_rows};
 ghost use Rattle.rq_standard.specs.OctetField.{octets};
 ghost use Rattle.rq_solver.specs.Cleared.{AreOctetRows, AreRowsOfBits, HasPeeledPivots, LacksPivots, ListsRows, PeelsRows, SolvesInactive};

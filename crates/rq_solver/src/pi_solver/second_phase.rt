@@ -4,7 +4,7 @@ ghost use Rattle.rq_algebra.specs.Systems.{at};
 ghost use Rattle.rq_algebra.specs.Steps.{AddsRow, ScalesRow};
 ghost use Rattle.rq_standard.specs.OctetField.{octets};
 ghost use Rattle.rq_bytes.specs.declared.error.Error.TheVariants.{OutOfMemory};
-ghost use Rattle.rq_parts.specs.OctetTable.{entry_of, HasOctets};
+ghost use Rattle.rq_parts.specs.DenseOctetMatrix.{entry_of, HasOctets};
 ghost use Rattle.rq_solver.specs.Cleared.{ReducesBack};
 ghost use Rattle.rq_solver.specs.OperationCounts.{additions, triangle};
 ghost use Rattle.rq_solver.specs.Recorded.{ChangesRows};

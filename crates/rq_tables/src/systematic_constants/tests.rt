@@ -77,7 +77,7 @@ fn look_ups(rt: HostRuntime) -> Result<(), Fail> {
     assert_eq!(rt; table.num_intermediate_symbols(10), 27);
     assert_eq!(rt; table.num_pi_symbols(10), 10);
     assert_eq!(rt; table.calculate_p1(10), 11);
-    assert_eq!(rt; row.source_symbols, 10);
+    assert_eq!(rt; row.extended_symbols, 10);
     Ok(())
 }
 

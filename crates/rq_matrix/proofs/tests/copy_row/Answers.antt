@@ -3,7 +3,7 @@ use Rattle.std.proofs.Common.{◌≡◌, ℕ, ◌<◌, ◌≤◌, ◌++◌, ◌�
 use Rattle.std.proofs.lemmas.Bool.Decides.{eqb_tells}
 use Rattle.rq_standard.specs.BitTableSteps.{AreOnesOf, ones_at}
 use Rattle.rq_standard.proofs.BitTableLaws.{is_next_pair}
-use Rattle.rq_parts.specs.OctetTable.{OctetTable, row_at}
+use Rattle.rq_parts.specs.DenseOctetMatrix.{OctetTable, row_at}
 use Rattle.rq_matrix.proofs.tests.copy_row.Goals as goal
 
 pub loop-column-preserved : goal.loop-column-preserved

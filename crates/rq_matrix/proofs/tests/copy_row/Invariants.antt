@@ -1,7 +1,7 @@
 -- What the loops keep in `tests::copy_row`.
 use Rattle.std.proofs.Common.{◌≡◌, ℕ, ◌<◌, ◌≤◌, ◌++◌, length, slice_index}
 use Rattle.rq_standard.specs.BitTableSteps.{AreOnesOf, ones_at}
-use Rattle.rq_parts.specs.OctetTable.{row_at}
+use Rattle.rq_parts.specs.DenseOctetMatrix.{row_at}
 use Rattle.rq_matrix.proofs.tests.copy_row.Given as goal
 
 abbrev pub invariant-loop-column : goal.invariant-loop-column

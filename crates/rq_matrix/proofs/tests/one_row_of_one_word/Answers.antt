@@ -1,6 +1,6 @@
 -- What the check leaves to show of `tests::one_row_of_one_word`.
 use Rattle.std.proofs.Common.{◌≡◌, replicate, slice_index, ap, ◌∙◌}
-use Rattle.rq_parts.specs.OctetTable.{OctetTable, row_at}
+use Rattle.rq_parts.specs.DenseOctetMatrix.{OctetTable, row_at}
 use Rattle.rq_parts.proofs.Zeros.{zeros_everywhere}
 use Rattle.rq_matrix.proofs.tests.one_row_of_one_word.Goals as goal
 

@@ -3,7 +3,7 @@ use Rattle.std.proofs.Common.{length}
 use Rattle.rq_algebra.specs.Systems.{at}
 use Rattle.rq_algebra.proofs.Elimination.{ClearsColumn}
 use Rattle.rq_standard.specs.OctetField.{octets}
-use Rattle.rq_parts.specs.OctetTable.{entry_of}
+use Rattle.rq_parts.specs.DenseOctetMatrix.{entry_of}
 use Rattle.rq_solver.specs.Homogeneous.{KeepsZeros}
 use Rattle.rq_solver.proofs.null_column.clear_column.Given as goal
 

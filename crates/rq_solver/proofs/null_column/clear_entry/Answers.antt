@@ -2,7 +2,7 @@
 use Rattle.std.proofs.Common.{◌<◌, sym, ◌∙◌, subst, ℕ, length}
 use Rattle.rq_algebra.specs.Steps.{AddsRow}
 use Rattle.rq_standard.specs.OctetField.{octets}
-use Rattle.rq_parts.specs.OctetTable.{entry_of}
+use Rattle.rq_parts.specs.DenseOctetMatrix.{entry_of}
 use Rattle.rq_solver.proofs.Entries.{zero_adds}
 use Rattle.rq_solver.proofs.ZeroValues.{adds_row, added_keeps}
 use Rattle.rq_solver.proofs.null_column.clear_entry.Goals as goal

@@ -1,6 +1,6 @@
 -- What the loops keep in `null_column::free_column`.
 use Rattle.std.proofs.Common.{◌≡◌, map, take}
-use Rattle.rq_parts.specs.OctetTable.{entry_of}
+use Rattle.rq_parts.specs.DenseOctetMatrix.{entry_of}
 use Rattle.rq_solver.proofs.null_column.free_column.Given as goal
 
 abbrev pub invariant-loop-row : goal.invariant-loop-row

@@ -2,7 +2,7 @@
 use Rattle.std.proofs.Common.{◌≡◌, ℕ, ◌<◌, subst, length}
 use Rattle.rq_algebra.specs.Steps.{ScalesRow}
 use Rattle.rq_standard.specs.OctetField.{octets}
-use Rattle.rq_parts.specs.OctetTable.{entry_of}
+use Rattle.rq_parts.specs.DenseOctetMatrix.{entry_of}
 use Rattle.rq_solver.proofs.Entries.{one-div, inverse_nonzero}
 use Rattle.rq_solver.proofs.ZeroValues.{scales_row, scaled_keeps}
 use Rattle.rq_solver.proofs.null_column.scale_row.Goals as goal

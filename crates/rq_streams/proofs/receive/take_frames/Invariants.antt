@@ -2,8 +2,8 @@ use Rattle.std.proofs.Common.{◌≡◌, ℕ, List, []}
 use Rattle.std.specs.List.{AllByRecursion}
 use Rattle.std.specs.Slice.Iter.{chunks_size, chunks_rest}
 use Rattle.rq_standard.specs.Packet.{Packet}
-use Rattle.rq_standard.specs.declared.row.Row.{Row}
-use Rattle.rq_standard.specs.Standing.{Stands}
+use Rattle.rq_standard.specs.declared.row.TableRow.{TableRow}
+use Rattle.rq_standard.specs.Standing.{StandsFor}
 use Rattle.rq_standard.specs.Streams.{frames_of}
 use Rattle.raptorq.specs.Decoder.{state_of}
 use Rattle.rq_bytes.specs.Refusals.{first_refusal}
@@ -19,6 +19,6 @@ invariant-loop-frame l = let c = (state_of l.fn.decoder).configuration in record
   size : chunks_size l.frame-iterator ≡ frame_size c;
   configuration : (state_of l.decoder).configuration ≡ c;
   refused : frames_refusal c l.fn.frames ≡ first_refusal (frame_refusal c) (frames_in (frame_size c) (chunks_rest l.frame-iterator));
-  stands : (table : List Row) (object : List ℕ) (packets : List Packet) → Stands table object [] (state_of l.fn.decoder) → AllByRecursion (FillsFrame table c object) packets → l.fn.frames ≡ frames_of packets
+  stands : (table : List TableRow) (object : List ℕ) (packets : List Packet) → StandsFor table object [] (state_of l.fn.decoder) → AllByRecursion (FillsFrame table c object) packets → l.fn.frames ≡ frames_of packets
       → IsTaken table object packets (frames_in (frame_size c) (chunks_rest l.frame-iterator)) (state_of l.decoder);
 }

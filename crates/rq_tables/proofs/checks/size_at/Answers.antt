@@ -1,5 +1,5 @@
 use Rattle.std.proofs.Common.{◌∙◌}
-use Rattle.rq_standard.specs.declared.sizes.TheConstants.{P1_TABLE}
+use Rattle.rq_standard.specs.declared.p1_table.TheConstants.{P1_TABLE}
 use Rattle.rq_tables.proofs.Lookups.{copied-get}
 use Rattle.rq_tables.proofs.checks.size_at.Goals as goal
 

@@ -1,7 +1,7 @@
 use Rattle.std.proofs.Common.{◌≡◌, ℕ, ◌/◌, length, replicate, ap, ◌∙◌, arith}
 use Rattle.std.proofs.lemmas.List.{length-replicate}
 use Rattle.rq_bytes.specs.Ranges.{cut, with_range}
-use Rattle.rq_bytes.specs.Slab.{Slab, slab_of}
+use Rattle.rq_bytes.specs.SymbolSlab.{Slab, slab_of}
 use Rattle.raptorq.proofs.Listing.{slab_answered}
 use Rattle.raptorq.proofs.OctetSymbols.{octets_written}
 use Rattle.raptorq.proofs.decoder.block.octet_symbols.Goals as goal

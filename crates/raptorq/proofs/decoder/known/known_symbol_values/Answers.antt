@@ -11,7 +11,7 @@ use Rattle.raptorq.proofs.decoder.known.known_symbol_values.Goals as goal
 pub with_zeros-requires : goal.with_zeros-requires
 with_zeros-requires c =
     let count : c.len.result ≤ 2 ^ 24 = omega (arith, c.len.ensures.len, few_entries c.args.received.now (2 ^ 24) c.len.ensures.ordered c.requires.few) in
-    let n = c.args.row.now.ldpc_symbols + c.args.row.now.hdpc_symbols + (c.args.row.now.source_symbols - c.args.symbols) + c.len.result in
+    let n = c.args.row.now.ldpc_symbols + c.args.row.now.hdpc_symbols + (c.args.row.now.extended_symbols - c.args.symbols) + c.len.result in
     let few : n ≤ 2 ^ 25 = omega (arith, count, c.requires.checked.few_columns) in
     let small : c.args.size ≤ 65535 = omega (arith, c.requires.small) in
     let product : n * c.args.size ≤ 2 ^ 25 * 65535 = mul-le-mul few small in
@@ -34,7 +34,7 @@ copy_block_from-requires-clause-fits c =
 
 pub loop-payload-preserved : goal.loop-payload-preserved
 loop-payload-preserved c =
-    let zeros : ℕ = c.args.row.now.ldpc_symbols + c.args.row.now.hdpc_symbols + (c.args.row.now.source_symbols - c.args.symbols) in
+    let zeros : ℕ = c.args.row.now.ldpc_symbols + c.args.row.now.hdpc_symbols + (c.args.row.now.extended_symbols - c.args.symbols) in
     subst (λ d. FillsSoFar zeros c.args.size (values c.args.received.now) d c.next.new.self (c.loop-payload.place + 1) c.copy_block_from.new.self) (sym (map-append deref c.loop-payload.yielded (c.in-Some.payload ∷ [])))
     (fills_more c.args.received.now zeros c.args.size c.len.ensures.ordered c.requires.positive c.requires.sized (map deref c.loop-payload.yielded) c.loop-payload.payload-iterator c.next.new.self c.in-Some.payload.now c.as_slice.result.now c.loop-payload.place c.loop-payload.values
     c.loop-payload.invariant c.in-Some.ensures.steps c.as_slice.ensures.value c.copy_block_from.new.self c.copy_block_from.ensures)

@@ -5,7 +5,7 @@ use Rattle.std.proofs.lemmas.List.{nil_from_length}
 use Rattle.rq_bytes.specs.declared.error.Error.TheVariants.{OutOfMemory}
 use Rattle.rq_bytes.specs.Refusals.{IsRefusal, and_then, first_refusal}
 use Rattle.rq_bytes.proofs.RefusalFacts.{first_refusal-next, refusal_first, is_refused, answers_unrefused}
-use Rattle.rq_standard.specs.Standing.{Stands}
+use Rattle.rq_standard.specs.Standing.{StandsFor}
 use Rattle.raptorq.specs.Decoder.{state_of}
 use Rattle.raptorq.specs.Refused.{packet_refusal}
 use Rattle.raptorq.specs.Runs.{packets_of}
@@ -25,8 +25,8 @@ loop-step-preserved c =
       whole = next_whole c.args.steps.items c.loop-step.yielded (into_iter_items c.loop-step.step-iterator) (into_iter_items c.next.new.self) step kept.whole is;
       taken = kept.taken ∙ ap (λ l. first_refusal (packet_refusal k) (packets_of l)) is
           ∙ first_refusal-next (packet_refusal k) step.1 (packets_of (into_iter_items c.next.new.self)) _ (subst (λ d. packet_refusal d step.1 ≡ Ok _) same c.in_ok-add_new_packet.ensures.refused);
-      stands = λ object run. subst (λ ps. Stands table object ps (state_of c.add_new_packet.new.self)) (sym (packets_of-push c.loop-step.yielded step))
-          (c.in_ok-add_new_packet.ensures.stands table object (packets_of c.loop-step.yielded) (subst (Stands table object (packets_of c.loop-step.yielded)) (sym c.set_sparse_threshold.ensures) (kept.stands object run))
+      stands = λ object run. subst (λ ps. StandsFor table object ps (state_of c.add_new_packet.new.self)) (sym (packets_of-push c.loop-step.yielded step))
+          (c.in_ok-add_new_packet.ensures.stands table object (packets_of c.loop-step.yielded) (subst (StandsFor table object (packets_of c.loop-step.yielded)) (sym c.set_sparse_threshold.ensures) (kept.stands object run))
           (step_honest table k (state_of c.set_sparse_threshold.new.self).configuration object c.args.steps.items c.loop-step.yielded (into_iter_items c.next.new.self) step same (kept.whole ∙ ap (λ l. c.loop-step.yielded ++ l) is) run));
     }
 
@@ -42,7 +42,7 @@ returns-in_err-add_new_packet-clause-refused c =
     let p = err_from_is_err_and c.from_residual-in_err-add_new_packet.result c.from_residual-in_err-add_new_packet.ensures.1 in
     rw (p.1, p.2) (λ object run. subst (IsRefusal e) (sym c.in_ok-decoder.ensures.refused)
     (step_refused table k (state_of c.set_sparse_threshold.new.self) object c.args.steps.items c.loop-step.yielded (into_iter_items c.next.new.self) step e same (kept.whole ∙ ap (λ l. c.loop-step.yielded ++ l) is)
-    (subst (Stands table object (packets_of c.loop-step.yielded)) (sym c.set_sparse_threshold.ensures) (kept.stands object run)) run c.in_err-add_new_packet.ensures.refused))
+    (subst (StandsFor table object (packets_of c.loop-step.yielded)) (sym c.set_sparse_threshold.ensures) (kept.stands object run)) run c.in_err-add_new_packet.ensures.refused))
 
 pub returns-clause-headline : goal.returns-clause-headline
 returns-clause-headline c =
@@ -51,7 +51,7 @@ returns-clause-headline c =
     let none : into_iter_items c.loop-step.step-iterator ≡ [] = nil_from_length (into_iter_items c.loop-step.step-iterator) (omega (arith, c.in-None.ensures.steps.0)) in
     let all = ap packets_of (all_came c.args.steps.items c.loop-step.yielded (into_iter_items c.loop-step.step-iterator) kept.whole none) in
     IfOk-weaker c.get_result.result _ _
-    (λ r is. answers_exactly table c.args.config (packets_of c.args.steps.items) (state_of c.loop-step.decoder) _ kept.configuration (λ object run. subst (λ ps. Stands table object ps (state_of c.loop-step.decoder)) all (kept.stands object run)) is)
+    (λ r is. answers_exactly table c.args.config (packets_of c.args.steps.items) (state_of c.loop-step.decoder) _ kept.configuration (λ object run. subst (λ ps. StandsFor table object ps (state_of c.loop-step.decoder)) all (kept.stands object run)) is)
     c.get_result.ensures.object
 
 pub returns-clause-only_object : goal.returns-clause-only_object
@@ -61,7 +61,7 @@ returns-clause-only_object c =
     let none : into_iter_items c.loop-step.step-iterator ≡ [] = nil_from_length (into_iter_items c.loop-step.step-iterator) (omega (arith, c.in-None.ensures.steps.0)) in
     let all = ap packets_of (all_came c.args.steps.items c.loop-step.yielded (into_iter_items c.loop-step.step-iterator) kept.whole none) in
     IfOk-weaker c.get_result.result _ _
-    (λ r is. answers_where_any_can table c.args.config (packets_of c.args.steps.items) (state_of c.loop-step.decoder) _ kept.configuration (λ object run. subst (λ ps. Stands table object ps (state_of c.loop-step.decoder)) all (kept.stands object run)) is)
+    (λ r is. answers_where_any_can table c.args.config (packets_of c.args.steps.items) (state_of c.loop-step.decoder) _ kept.configuration (λ object run. subst (λ ps. StandsFor table object ps (state_of c.loop-step.decoder)) all (kept.stands object run)) is)
     c.get_result.ensures.only_object
 
 pub returns-in_err-add_new_packet-clause-in_order : goal.returns-in_err-add_new_packet-clause-in_order

@@ -9,7 +9,7 @@ loop-symbol-init c =
     let row = c.args.row.now in
     record {
       here = omega arith;
-      values = filled_none (row.ldpc_symbols + row.hdpc_symbols) row.source_symbols c.args.size c.args.source.now c.in_ok-values.values (slab_answered _ c.in_ok-values.values c.in_ok-values.ensures);
+      values = filled_none (row.ldpc_symbols + row.hdpc_symbols) row.extended_symbols c.args.size c.args.source.now c.in_ok-values.values (slab_answered _ c.in_ok-values.values c.in_ok-values.ensures);
     }
 
 pub copy_block_from-requires-clause-no_order : goal.copy_block_from-requires-clause-no_order
@@ -25,7 +25,7 @@ copy_block_from-requires-clause-fits c =
     let row = c.args.row.now in
     let kept = c.loop-symbol.invariant in
     let long : length c.symbol-item.result ≡ c.args.size = subst (λ s. length s ≡ c.args.size) (sym c.symbol-item.is) (All-get_or (λ s. length s ≡ c.args.size) c.args.source.now c.loop-symbol.symbol-index c.symbol-item.result c.loop-symbol-test.true c.requires.sized) in
-    filled_room (row.ldpc_symbols + row.hdpc_symbols) row.source_symbols c.args.size c.loop-symbol.symbol-index c.loop-symbol.place c.loop-symbol.values.symbol_size (length c.as_bytes.result.now) c.args.source.now c.loop-symbol.values
+    filled_room (row.ldpc_symbols + row.hdpc_symbols) row.extended_symbols c.args.size c.loop-symbol.symbol-index c.loop-symbol.place c.loop-symbol.values.symbol_size (length c.as_bytes.result.now) c.args.source.now c.loop-symbol.values
     kept.values kept.here c.loop-symbol-test.true c.requires.few c.requires.positive (ap (λ s. s.symbol_size) kept.values) (ap length c.as_bytes.ensures ∙ long)
 
 pub loop-symbol-preserved : goal.loop-symbol-preserved
@@ -37,11 +37,11 @@ loop-symbol-preserved c =
     let read : c.as_bytes.result.now ≡ get_or c.args.source.now c.loop-symbol.symbol-index c.as_bytes.result.now = bytes ∙ c.symbol-item.is ∙ ap (get_or c.args.source.now c.loop-symbol.symbol-index) (sym bytes) in
     record {
       here = omega (arith, kept.here);
-      values = filled_more (row.ldpc_symbols + row.hdpc_symbols) row.source_symbols c.args.size c.loop-symbol.symbol-index c.loop-symbol.place c.args.source.now c.loop-symbol.values c.copy_block_from.new.self c.as_bytes.result.now
+      values = filled_more (row.ldpc_symbols + row.hdpc_symbols) row.extended_symbols c.args.size c.loop-symbol.symbol-index c.loop-symbol.place c.args.source.now c.loop-symbol.values c.copy_block_from.new.self c.as_bytes.result.now
           kept.values kept.here c.loop-symbol-test.true c.requires.few c.requires.positive read (ap length bytes ∙ long) c.copy_block_from.ensures;
     }
 
 pub returns-clause-values : goal.returns-clause-values
 returns-clause-values c =
     let row = c.args.row.now in
-    filled_all (row.ldpc_symbols + row.hdpc_symbols) row.source_symbols c.args.size c.loop-symbol.symbol-index c.args.source.now c.loop-symbol.values c.loop-symbol.invariant.values (omega arith)
+    filled_all (row.ldpc_symbols + row.hdpc_symbols) row.extended_symbols c.args.size c.loop-symbol.symbol-index c.args.source.now c.loop-symbol.values c.loop-symbol.invariant.values (omega arith)

@@ -1,6 +1,6 @@
 use Rattle.std.proofs.Common.{ℕ, ◌-◌, ap, min, ◌∙◌}
 use Rattle.rq_standard.specs.Tuple.{degree, first_above}
-use Rattle.rq_standard.specs.declared.numbers.TheConstants.{DEGREE_STARTS}
+use Rattle.rq_standard.specs.declared.degrees.TheConstants.{DEGREE_STARTS}
 use Rattle.rq_standard.proofs.TupleLaws.{between}
 use Rattle.rq_base.proofs.base.tuple.deg.Goals as goal
 

@@ -1,5 +1,5 @@
 use Rattle.std.proofs.Common.{◌+◌, ◌-◌, set, ap, ◌∙◌, arith}
-use Rattle.rq_parts.specs.OctetTable.{row_at, with_row}
+use Rattle.rq_parts.specs.DenseOctetMatrix.{row_at, with_row}
 use Rattle.rq_standard.specs.Equations.{before_hdpc}
 use Rattle.rq_base.proofs.HdpcSteps.{rows_more}
 use Rattle.rq_base.proofs.constraint_matrix.hdpc.last_columns.Goals as goal

@@ -3,7 +3,7 @@ use Rattle.std.proofs.Common.{◌≡◌, List, ℕ, length, set, sym, ap, ◌∙
 use Rattle.rq_algebra.specs.Operations.{step, meant_at}
 use Rattle.rq_standard.specs.Rows.{row_sum}
 use Rattle.rq_standard.proofs.RowSymbols.{add_symbols-rows}
-use Rattle.rq_bytes.specs.Slab.{symbol_in}
+use Rattle.rq_bytes.specs.SymbolSlab.{symbol_in}
 use Rattle.rq_bytes.proofs.symbol_slab.SymbolSlab.add_assign.Goals as goal
 
 pub returns : goal.returns

@@ -5,7 +5,7 @@ use Rattle.rq_algebra.specs.Operations.{step, meant_at}
 use Rattle.rq_standard.specs.OctetField.{octets}
 use Rattle.rq_standard.specs.Rows.{row_sum, row_multiple}
 use Rattle.rq_standard.proofs.RowSymbols.{add_symbols-rows, scale-rows}
-use Rattle.rq_bytes.specs.Slab.{symbol_in}
+use Rattle.rq_bytes.specs.SymbolSlab.{symbol_in}
 use Rattle.rq_bytes.proofs.symbol_slab.SymbolSlab.fma.Goals as goal
 
 pub returns : goal.returns

@@ -2,7 +2,7 @@
 use Rattle.std.proofs.Common.{◌≡◌, ◌+◌, ◌<◌, ◌++◌, [], ◌∷◌, List, ℕ, length, map, take, ap, sym, ◌∙◌, arith, add-one}
 use Rattle.std.proofs.lemmas.List.{take_more, get_or-map, length-map}
 use Rattle.rq_bytes.specs.Ranges.{cut}
-use Rattle.rq_bytes.specs.Slab.{symbol_in}
+use Rattle.rq_bytes.specs.SymbolSlab.{symbol_in}
 use Rattle.rq_bytes.proofs.Cuts.{cut-append}
 use Rattle.rq_bytes.proofs.symbol_slab.SymbolSlab.gather.Goals as goal
 

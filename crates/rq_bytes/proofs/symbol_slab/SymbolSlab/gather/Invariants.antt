@@ -1,7 +1,7 @@
 -- What the loops keep in `symbol_slab::SymbolSlab::gather`.
 use Rattle.std.proofs.Common.{◌≡◌, ◌*◌, map, take, vec_len}
 use Rattle.rq_bytes.specs.Ranges.{cut}
-use Rattle.rq_bytes.specs.Slab.{symbol_in}
+use Rattle.rq_bytes.specs.SymbolSlab.{symbol_in}
 use Rattle.rq_bytes.proofs.symbol_slab.SymbolSlab.gather.Given as goal
 
 abbrev pub invariant-loop-place : goal.invariant-loop-place

@@ -1,7 +1,7 @@
 -- What the check leaves to show of `symbol_slab::SymbolSlab::into_symbols`.
 use Rattle.std.proofs.Common.{◌<◌, ◌++◌, [], ◌∷◌, List, ℕ, length, take, ap, sym, ◌∙◌, arith}
 use Rattle.std.proofs.lemmas.List.{take_more}
-use Rattle.rq_bytes.specs.Slab.{symbols_in}
+use Rattle.rq_bytes.specs.SymbolSlab.{symbols_in}
 use Rattle.rq_bytes.proofs.SlabFacts.{get_or-values_in}
 use Rattle.rq_bytes.proofs.symbol_slab.SymbolSlab.into_symbols.Goals as goal
 

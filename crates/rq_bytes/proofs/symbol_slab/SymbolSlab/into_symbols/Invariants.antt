@@ -1,6 +1,6 @@
 -- What the loops keep in `symbol_slab::SymbolSlab::into_symbols`.
 use Rattle.std.proofs.Common.{◌≡◌, take}
-use Rattle.rq_bytes.specs.Slab.{symbols_in}
+use Rattle.rq_bytes.specs.SymbolSlab.{symbols_in}
 use Rattle.rq_bytes.proofs.symbol_slab.SymbolSlab.into_symbols.Given as goal
 
 abbrev pub invariant-loop-i : goal.invariant-loop-i

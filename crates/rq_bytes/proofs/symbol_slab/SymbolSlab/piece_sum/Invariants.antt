@@ -1,7 +1,7 @@
 -- What the loops keep in `symbol_slab::SymbolSlab::piece_sum`.
 use Rattle.std.proofs.Common.{◌≡◌, length, take}
 use Rattle.rq_bytes.specs.Ranges.{range_of}
-use Rattle.rq_bytes.specs.Slab.{sum_in}
+use Rattle.rq_bytes.specs.SymbolSlab.{sum_in}
 use Rattle.rq_bytes.proofs.symbol_slab.SymbolSlab.piece_sum.Given as goal
 
 abbrev pub invariant-loop-src : goal.invariant-loop-src

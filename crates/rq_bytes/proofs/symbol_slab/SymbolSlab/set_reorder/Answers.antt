@@ -1,7 +1,7 @@
 -- What the check leaves to show of `symbol_slab::SymbolSlab::set_reorder`.
 use Rattle.std.proofs.Common.{Some, sym, ap, subst, unwrap_or}
 use Rattle.rq_algebra.specs.Operations.{step, IsOrder}
-use Rattle.rq_bytes.specs.Slab.{Slab}
+use Rattle.rq_bytes.specs.SymbolSlab.{Slab}
 use Rattle.rq_bytes.proofs.SlabFacts.{holds, count_is}
 use Rattle.rq_bytes.proofs.symbol_slab.SymbolSlab.set_reorder.Goals as goal
 

@@ -1,7 +1,7 @@
 -- What the check leaves to show of `symbol_slab::SymbolSlab::with_zeros`.
 use Rattle.std.proofs.Common.{List, ℕ, ap, sym, ◌∙◌, Ok}
 use Rattle.rq_bytes.specs.Ranges.{cut}
-use Rattle.rq_bytes.specs.Slab.{slab_of}
+use Rattle.rq_bytes.specs.SymbolSlab.{slab_of}
 use Rattle.rq_bytes.proofs.Cuts.{cut-replicate}
 use Rattle.rq_bytes.proofs.symbol_slab.SymbolSlab.with_zeros.Goals as goal
 

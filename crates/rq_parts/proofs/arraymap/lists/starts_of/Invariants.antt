@@ -1,6 +1,6 @@
 use Rattle.std.proofs.Common.{◌≡◌, ℕ, ◌<◌, length}
 use Rattle.std.specs.Prelude.{slice_index}
-use Rattle.rq_parts.specs.Lists.{IsStart}
+use Rattle.rq_parts.specs.ImmutableListMap.{IsStart}
 use Rattle.rq_parts.proofs.arraymap.lists.starts_of.Given as goal
 
 abbrev pub invariant-loop-key : goal.invariant-loop-key

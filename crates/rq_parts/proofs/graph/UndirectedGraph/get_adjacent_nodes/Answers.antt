@@ -1,5 +1,5 @@
 use Rattle.std.proofs.Common.{ℕ, map, sym, ap, ◌∙◌}
-use Rattle.rq_parts.specs.Lists.{values_of}
+use Rattle.rq_parts.specs.ImmutableListMap.{values_of}
 use Rattle.rq_parts.specs.UndirectedGraph.{Graph}
 use Rattle.rq_parts.proofs.KeyedLists.{pairs_of_key}
 use Rattle.rq_parts.proofs.graph.UndirectedGraph.get_adjacent_nodes.Goals as goal

@@ -2,7 +2,7 @@
 use Rattle.std.proofs.Common.{sym, subst, ◌∙◌}
 use Rattle.std.specs.List.{All}
 use Rattle.std.proofs.lemmas.List.{with_items_is}
-use Rattle.rq_parts.specs.OctetTable.{IsOctetRow}
+use Rattle.rq_parts.specs.DenseOctetMatrix.{IsOctetRow}
 use Rattle.rq_parts.proofs.octet_matrix.DenseOctetMatrix.fma_rows.Goals as goal
 
 pub invariant_of-self : goal.invariant_of-self

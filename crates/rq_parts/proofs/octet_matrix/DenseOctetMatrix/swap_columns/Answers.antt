@@ -3,7 +3,7 @@ use Rattle.std.proofs.Common.{◌<◌, ◌≤◌, ◌∙◌, ℕ, List, [], leng
 use Rattle.std.specs.List.{swap}
 use Rattle.std.proofs.lemmas.List.{get_or_read}
 use Rattle.std.proofs.lemmas.List.Elements.{All-set}
-use Rattle.rq_parts.specs.OctetTable.{OctetTable, IsOctetRow, columns_swapped}
+use Rattle.rq_parts.specs.DenseOctetMatrix.{OctetTable, IsOctetRow, columns_swapped}
 use Rattle.rq_parts.proofs.Rows.{mapped_until-next, mapped_until-more, mapped_until-end, length-mapped_until}
 use Rattle.rq_parts.proofs.octet_matrix.DenseOctetMatrix.swap_columns.Goals as goal
 

@@ -1,7 +1,7 @@
 -- What the loops keep in `octet_matrix::DenseOctetMatrix::swap_columns`.
 use Rattle.std.proofs.Common.{◌≡◌}
 use Rattle.std.specs.List.{All, swap}
-use Rattle.rq_parts.specs.OctetTable.{IsOctetRow}
+use Rattle.rq_parts.specs.DenseOctetMatrix.{IsOctetRow}
 use Rattle.rq_parts.proofs.Rows.{mapped_until}
 use Rattle.rq_parts.proofs.octet_matrix.DenseOctetMatrix.swap_columns.Given as goal
 

@@ -1,7 +1,7 @@
 -- What the check leaves to show of `octet_matrix::DenseOctetMatrix::swap_rows`.
 use Rattle.std.proofs.Common.{[], length, ap, sym, subst, arith}
 use Rattle.std.specs.List.{All}
-use Rattle.rq_parts.specs.OctetTable.{OctetTable, IsOctetRow}
+use Rattle.rq_parts.specs.DenseOctetMatrix.{OctetTable, IsOctetRow}
 use Rattle.rq_parts.proofs.Rows.{All-swap}
 use Rattle.rq_parts.proofs.octet_matrix.DenseOctetMatrix.swap_rows.Goals as goal
 

@@ -6,7 +6,7 @@ use Rattle.rq_standard.specs.ConstraintMatrix.{with_octet_rows}
 use Rattle.rq_standard.specs.OctetField.{octets}
 use Rattle.rq_bytes.specs.declared.operation_vector.SymbolOps.{SymbolOps}
 use Rattle.rq_bytes.specs.SymbolOps.{operation_of}
-use Rattle.rq_parts.specs.OctetTable.{entry_of}
+use Rattle.rq_parts.specs.DenseOctetMatrix.{entry_of}
 use Rattle.rq_solver.specs.Replay.{after_all}
 use Rattle.rq_solver.proofs.BitRows.{rows_of_bits, octet_rows, found_of_bits}
 use Rattle.rq_solver.proofs.PeelingLaws.{columns_below}

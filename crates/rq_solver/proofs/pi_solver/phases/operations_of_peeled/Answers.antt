@@ -10,7 +10,7 @@ use Rattle.rq_algebra.specs.Operations.{Operation, Reorder, FindsColumn}
 use Rattle.rq_algebra.specs.Systems.{HasNullColumn}
 use Rattle.rq_standard.specs.OctetField.{octets}
 use Rattle.rq_bytes.specs.SymbolOps.{operation_of}
-use Rattle.rq_parts.specs.OctetTable.{entry_of}
+use Rattle.rq_parts.specs.DenseOctetMatrix.{entry_of}
 use Rattle.rq_solver.specs.Cleared.{HasPeeledPivots, one_in, system_rows}
 use Rattle.rq_solver.proofs.OctetRows.{same_rows}
 use Rattle.rq_solver.proofs.SolutionLaws.{finds_same, null_same}

@@ -3,7 +3,7 @@ use Rattle.std.proofs.Common.{length}
 use Rattle.rq_standard.specs.ConstraintMatrix.{with_octet_rows}
 use Rattle.rq_solver.specs.RowWrites.{HoldsRows}
 use Rattle.rq_solver.proofs.pi_solver.rows.octet_rows.Given as goal
-use Rattle.rq_parts.specs.OctetTable.{entry_of}
+use Rattle.rq_parts.specs.DenseOctetMatrix.{entry_of}
 
 abbrev pub invariant-loop-row : goal.invariant-loop-row
 invariant-loop-row g l =

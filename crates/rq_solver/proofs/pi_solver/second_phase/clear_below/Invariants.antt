@@ -3,7 +3,7 @@ use Rattle.std.proofs.Common.{◌+◌, ◌≤◌}
 use Rattle.rq_solver.specs.OperationCounts.{additions}
 use Rattle.rq_solver.specs.Recorded.{ChangesRows}
 use Rattle.rq_solver.specs.RowSteps.{ClearsBelow}
-use Rattle.rq_parts.specs.OctetTable.{HasOctets}
+use Rattle.rq_parts.specs.DenseOctetMatrix.{HasOctets}
 use Rattle.rq_solver.proofs.pi_solver.second_phase.clear_below.Given as goal
 
 abbrev pub invariant-loop-i : goal.invariant-loop-i

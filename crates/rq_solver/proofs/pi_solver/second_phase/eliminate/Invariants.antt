@@ -4,7 +4,7 @@ use Rattle.std.specs.List.Sorted.{IsPermutation}
 use Rattle.rq_solver.specs.OperationCounts.{additions, triangle}
 use Rattle.rq_solver.specs.Recorded.{ChangesRows}
 use Rattle.rq_solver.specs.RowSteps.{AreRows, IsEchelon}
-use Rattle.rq_parts.specs.OctetTable.{HasOctets}
+use Rattle.rq_parts.specs.DenseOctetMatrix.{HasOctets}
 use Rattle.rq_solver.proofs.pi_solver.second_phase.eliminate.Given as goal
 
 abbrev pub invariant-loop-done : goal.invariant-loop-done

@@ -1,5 +1,5 @@
 use Rattle.std.proofs.Common.{◌∙◌, sym, ap, List}
-use Rattle.rq_standard.specs.declared.row.Row.{Row}
+use Rattle.rq_standard.specs.declared.row.TableRow.{TableRow}
 use Rattle.rq_standard.specs.Parameters.{greatest_within}
 use Rattle.rq_standard.specs.TableRows.{no_row}
 use Rattle.rq_tables.proofs.Lookups.{within_taken, within_left, within_end}
@@ -21,4 +21,4 @@ pub returns : goal.returns
 returns c =
     sym (within_end c.args.limit c.loop-row.greatest c.deref-row-items.result.now c.loop-row.row-index c.loop-row-test.false)
     ∙ c.loop-row.invariant
-    ∙ ap (λ (rows : List Row). greatest_within c.args.limit rows) (c.deref-row-items.ensures.value ∙ c.self.view_is)
+    ∙ ap (λ (rows : List TableRow). greatest_within c.args.limit rows) (c.deref-row-items.ensures.value ∙ c.self.view_is)

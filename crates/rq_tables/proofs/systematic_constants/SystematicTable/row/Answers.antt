@@ -1,5 +1,5 @@
 use Rattle.std.proofs.Common.{◌<◌, ◌∙◌, sym, ap, subst, refl, arith, length, List}
-use Rattle.rq_standard.specs.declared.row.Row.{Row}
+use Rattle.rq_standard.specs.declared.row.TableRow.{TableRow}
 use Rattle.rq_standard.specs.TableRows.{row_of, IsChecked, IsTable}
 use Rattle.rq_standard.proofs.RowLaws.{table_length, row_checked}
 use Rattle.rq_tables.proofs.Lookups.{row_here, row_later, greatest-drop}
@@ -18,7 +18,7 @@ pub returns-then-source_symbols-row-clause-row : goal.returns-then-source_symbol
 returns-then-source_symbols-row-clause-row c =
     sym (row_here c.deref-row-items.result.now c.args.source_symbols c.loop-row.row-index _ c.loop-row-test.true c.if-source_symbols-row.true)
     ∙ c.loop-row.invariant.same
-    ∙ ap (λ (rows : List Row). row_of rows c.args.source_symbols) (c.deref-row-items.ensures.value ∙ c.self.view_is)
+    ∙ ap (λ (rows : List TableRow). row_of rows c.args.source_symbols) (c.deref-row-items.ensures.value ∙ c.self.view_is)
 
 pub returns-then-source_symbols-row-clause-checked : goal.returns-then-source_symbols-row-clause-checked
 returns-then-source_symbols-row-clause-checked c =

@@ -1,5 +1,5 @@
 use Rattle.std.proofs.Common.{◌≡◌, ℕ, ◌++◌, ◌∙◌, sym, ap, subst, Ok, Option, Some, None, refl, List, vec_len, arith}
-use Rattle.rq_standard.specs.declared.row.Row.{Row}
+use Rattle.rq_standard.specs.declared.row.TableRow.{TableRow}
 use Rattle.rq_standard.specs.TableRows.{IsTable, built_in_rows, rows_from, first_refused}
 use Rattle.rq_standard.proofs.RowLaws.{further_table}
 use Rattle.rq_tables.specs.SystematicTable.{wanted_rows, refusal_or_ok}
@@ -19,7 +19,7 @@ made c =
     let first = made_built_in c.in_ok-all.all.items c.push_rows.new.rows.items (vec_len c.in_ok-all.all) c.in_ok-all.ensures.items c.in_ok-all.ensures.len c.in_ok-push_rows.ensures.rows in
     let count : vec_len c.push_rows.new.rows ≡ 74 = omega (arith, c.in_ok-all.ensures.len, c.in_ok-push_rows.ensures.len) in
     c.in_ok-push_rows-2.ensures.rows
-    ∙ ap (λ (rows : List Row). rows ++ rows_from (vec_len c.push_rows.new.rows) c.args.rows.now) first
+    ∙ ap (λ (rows : List TableRow). rows ++ rows_from (vec_len c.push_rows.new.rows) c.args.rows.now) first
     ∙ ap (λ (n : ℕ). built_in_rows ++ rows_from n c.args.rows.now) count
 
 pub invariant_of-result : goal.invariant_of-result

@@ -1,7 +1,7 @@
 use Rattle.std.proofs.Common.{◌≡◌, ℕ, ◌*◌, ◌<◌, length, get_or, set, replicate, ap, ◌∙◌, arith}
 use Rattle.rq_algebra.specs.Systems.{at}
 use Rattle.rq_standard.specs.Differences.{plain_sum}
-use Rattle.rq_standard.proofs.FirstOctets.{first_octets_below, all_octets, length-octets_below, no_octets, next_place, octet_written}
+use Rattle.rq_standard.proofs.FirstOctets.{first_octets_below, all_octets, length-octets_below, no_octets, next_index, octet_written}
 use Rattle.raptorq.proofs.OctetSymbols.{octet_column, octet_sum}
 use Rattle.raptorq.proofs.decoder.block.SourceBlockDecoder.first_octets.Goals as goal
 
@@ -23,7 +23,7 @@ overflow_mul-e c =
     let s = c.args.self.now in
     let below : c.loop-e.e < s.symbols = omega (arith, c.loop-e-test.true, c.loop-e.auto.e-end) in
     let octet = plain_sum s.row (at c.args.column.now) in
-    let place = next_place s.config s.symbols octet s.positive s.aligned c.loop-e.e below in
+    let place = next_index s.config s.symbols octet s.positive s.aligned c.loop-e.e below in
     record { fits = omega (arith, place, ap (λ n. c.loop-e.e * n) c.size_at-width.ensures, c.loop-e.block.ok.0, c.loop-e.block.small, ap length c.loop-e.invariant, length-octets_below s.config s.symbols octet c.loop-e.e) }
 
 pub index_mut-requires : goal.index_mut-requires
@@ -31,7 +31,7 @@ index_mut-requires c =
     let s = c.args.self.now in
     let octet = plain_sum s.row (at c.args.column.now) in
     let below : c.loop-e.e < s.symbols = omega (arith, c.loop-e-test.true, c.loop-e.auto.e-end) in
-    let place = next_place s.config s.symbols octet s.positive s.aligned c.loop-e.e below in
+    let place = next_index s.config s.symbols octet s.positive s.aligned c.loop-e.e below in
     omega (arith, place, ap (λ n. c.loop-e.e * n) c.size_at-width.ensures, c.loop-e.block.ok.0, ap length c.loop-e.invariant, length-octets_below s.config s.symbols octet c.loop-e.e)
 
 pub loop-e-preserved : goal.loop-e-preserved

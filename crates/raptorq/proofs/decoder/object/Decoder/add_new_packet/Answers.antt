@@ -1,4 +1,4 @@
-use Rattle.rq_standard.proofs.Standing.{stands_more, catches_up, falls_behind}
+use Rattle.rq_standard.proofs.Standing.{stands_more, answers_late, leaves_late}
 use Rattle.raptorq.specs.Decoder.{state_of}
 use Rattle.raptorq.proofs.Stops.{stops_early}
 use Rattle.raptorq.proofs.decoder.object.Decoder.add_new_packet.Goals as goal
@@ -6,8 +6,8 @@ use Rattle.raptorq.proofs.decoder.object.Decoder.add_new_packet.Goals as goal
 pub returns-in-Ok-clause-stands : goal.returns-in-Ok-clause-stands
 returns-in-Ok-clause-stands c = stands_more c.args.packet (state_of c.args.self.now) (state_of c.take.new.self) c.args.self.now.aligned c.in-Ok.ensures.takes
 
-pub returns-in-Ok-clause-catches_up : goal.returns-in-Ok-clause-catches_up
-returns-in-Ok-clause-catches_up c = catches_up c.args.packet (state_of c.args.self.now) (state_of c.take.new.self) c.args.self.now.aligned c.in-Ok.ensures.takes
+pub returns-in-Ok-clause-answers_late : goal.returns-in-Ok-clause-answers_late
+returns-in-Ok-clause-answers_late c = answers_late c.args.packet (state_of c.args.self.now) (state_of c.take.new.self) c.args.self.now.aligned c.in-Ok.ensures.takes
 
-pub returns-in-Err-clause-falls_behind : goal.returns-in-Err-clause-falls_behind
-returns-in-Err-clause-falls_behind c = λ memory. falls_behind c.args.packet (state_of c.args.self.now) (state_of c.take.new.self) (stops_early (state_of c.args.self.now) c.args.packet c.in-Err.stopped (state_of c.take.new.self) c.in-Err.ensures.takes)
+pub returns-in-Err-clause-leaves_late : goal.returns-in-Err-clause-leaves_late
+returns-in-Err-clause-leaves_late c = λ memory. leaves_late c.args.packet (state_of c.args.self.now) (state_of c.take.new.self) (stops_early (state_of c.args.self.now) c.args.packet c.in-Err.stopped (state_of c.take.new.self) c.in-Err.ensures.takes)

@@ -1,6 +1,6 @@
 use Rattle.rq_standard.proofs.ObjectAnswers.{answers_object}
 use Rattle.rq_standard.proofs.OtherObjects.{answers_only}
-use Rattle.rq_standard.proofs.Standing.{stands_more, catches_up}
+use Rattle.rq_standard.proofs.Standing.{stands_more, answers_late}
 use Rattle.raptorq.specs.Decoder.{state_of}
 use Rattle.raptorq.proofs.Stops.{late_or_not}
 use Rattle.raptorq.proofs.decoder.object.Decoder.decode.Goals as goal
@@ -18,8 +18,8 @@ returns-in-Ok-clause-only_object c =
 pub returns-in-Ok-clause-stands : goal.returns-in-Ok-clause-stands
 returns-in-Ok-clause-stands c = stands_more c.args.packet (state_of c.args.self.now) (state_of c.take_and_join.new.self) c.args.self.now.aligned c.in-Ok.ensures.takes.0
 
-pub returns-in-Ok-clause-catches_up : goal.returns-in-Ok-clause-catches_up
-returns-in-Ok-clause-catches_up c = catches_up c.args.packet (state_of c.args.self.now) (state_of c.take_and_join.new.self) c.args.self.now.aligned c.in-Ok.ensures.takes.0
+pub returns-in-Ok-clause-answers_late : goal.returns-in-Ok-clause-answers_late
+returns-in-Ok-clause-answers_late c = answers_late c.args.packet (state_of c.args.self.now) (state_of c.take_and_join.new.self) c.args.self.now.aligned c.in-Ok.ensures.takes.0
 
-pub returns-in-Err-clause-falls_behind : goal.returns-in-Err-clause-falls_behind
-returns-in-Err-clause-falls_behind c = λ memory. late_or_not (state_of c.args.self.now) c.args.packet c.in-Err.stopped (state_of c.take_and_join.new.self) c.args.self.now.aligned c.in-Err.ensures.takes
+pub returns-in-Err-clause-leaves_late : goal.returns-in-Err-clause-leaves_late
+returns-in-Err-clause-leaves_late c = λ memory. late_or_not (state_of c.args.self.now) c.args.packet c.in-Err.stopped (state_of c.take_and_join.new.self) c.args.self.now.aligned c.in-Err.ensures.takes

@@ -1,7 +1,7 @@
 use Rattle.std.proofs.Common.{◌≡◌, ◌<◌, get_or, length, sym, ap, ◌∙◌, arith}
 use Rattle.std.proofs.lemmas.Bool.{ltb-true}
 use Rattle.std.proofs.lemmas.Result.{IfOk-weaker}
-use Rattle.rq_bytes.specs.Slab.{symbol_in}
+use Rattle.rq_bytes.specs.SymbolSlab.{symbol_in}
 use Rattle.raptorq.proofs.Encodes.{source_encodes}
 use Rattle.raptorq.proofs.encoder.block.SourceBlockEncoder.payload.Goals as goal
 

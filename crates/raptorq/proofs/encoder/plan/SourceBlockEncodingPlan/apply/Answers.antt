@@ -1,6 +1,6 @@
 use Rattle.std.proofs.Common.{◌≡◌, map, sym, ap, ◌∙◌, subst}
 use Rattle.rq_algebra.specs.Symbols.{AreSymbols}
-use Rattle.rq_bytes.specs.Slab.{Slab, symbol_in}
+use Rattle.rq_bytes.specs.SymbolSlab.{Slab, symbol_in}
 use Rattle.rq_bytes.specs.SymbolOps.{operation_of}
 use Rattle.rq_solver.specs.Replay.{after_all}
 use Rattle.rq_standard.specs.Headline.{IsOnlyIntermediateColumn}

@@ -1,5 +1,5 @@
 use Rattle.std.proofs.Common.{ℕ, ◌+◌, ◌<◌, ◌≡◌, List, [], length, get_or, ap, ◌∙◌, arith}
-use Rattle.rq_parts.specs.Lists.{lists_between}
+use Rattle.rq_parts.specs.ImmutableListMap.{lists_between}
 use Rattle.rq_parts.proofs.KeyedLists.{list_read, length-lists}
 use Rattle.rq_parts.proofs.arraymap.lists.ImmutableListMap.get.Goals as goal
 

@@ -1,6 +1,6 @@
 use Rattle.std.proofs.Common.{ap, ◌∙◌, subst, length, ℕ, Ok, sym}
 use Rattle.std.proofs.lemmas.List.{length-map}
-use Rattle.rq_parts.specs.Lists.{AreStarts, lists_of}
+use Rattle.rq_parts.specs.ImmutableListMap.{AreStarts, lists_of}
 use Rattle.rq_parts.proofs.KeyedLists.{starts_hold, lists_stay}
 use Rattle.rq_parts.proofs.arraymap.lists.ImmutableListMapBuilder.build.Goals as goal
 

@@ -1,7 +1,7 @@
 -- What the check leaves to show of `pi_solver::first_phase::hdpc::add_first_row`.
 use Rattle.std.proofs.Common.{◌≡◌, ◌≢◌, ◌<◌, length, lit<, sym, ◌∙◌, arith, inl, inr}
 use Rattle.std.proofs.lemmas.Bool.{cases_eq}
-use Rattle.rq_parts.specs.OctetTable.{entry_of}
+use Rattle.rq_parts.specs.DenseOctetMatrix.{entry_of}
 use Rattle.rq_solver.proofs.Entries.{one-div, inverse_nonzero}
 use Rattle.rq_solver.proofs.OctetSums.{quotient_times, plus_quotient_times}
 use Rattle.rq_solver.proofs.OctetTurns.{combines_none, combines_more}

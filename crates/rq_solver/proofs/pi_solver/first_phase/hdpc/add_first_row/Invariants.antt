@@ -1,6 +1,6 @@
 -- What the loops keep in `pi_solver::first_phase::hdpc::add_first_row`.
 use Rattle.std.proofs.Common.{◌≡◌, ℕ, ◌+◌, ◌-◌, ◌<◌, ◌≤◌}
-use Rattle.rq_parts.specs.OctetTable.{entry_of}
+use Rattle.rq_parts.specs.DenseOctetMatrix.{entry_of}
 use Rattle.rq_solver.specs.OperationCounts.{additions}
 use Rattle.rq_solver.specs.OctetBatch.{CombinesOctets}
 use Rattle.rq_solver.proofs.pi_solver.first_phase.hdpc.add_first_row.Given as goal

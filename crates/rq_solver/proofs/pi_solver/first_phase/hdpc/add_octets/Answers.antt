@@ -1,7 +1,7 @@
 -- What the check leaves to show of `pi_solver::first_phase::hdpc::add_octets`.
 use Rattle.std.proofs.Common.{◌<◌, length, ap, ◌∙◌, arith}
 use Rattle.std.proofs.lemmas.List.{length-set}
-use Rattle.rq_parts.specs.OctetTable.{OctetTable}
+use Rattle.rq_parts.specs.DenseOctetMatrix.{OctetTable}
 use Rattle.rq_solver.proofs.Entries.{summed_row, summed_octets}
 use Rattle.rq_solver.proofs.OctetTurns.{combines_sum}
 use Rattle.rq_solver.proofs.pi_solver.first_phase.hdpc.add_octets.Goals as goal

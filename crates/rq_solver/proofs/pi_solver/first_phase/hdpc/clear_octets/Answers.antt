@@ -4,7 +4,7 @@ use Rattle.std.proofs.lemmas.Bool.{cases_lt}
 use Rattle.rq_algebra.specs.Systems.{at}
 use Rattle.rq_solver.specs.OperationCounts.{additions}
 use Rattle.rq_solver.proofs.CountLaws.{batch_sum, few_places, met_none, met_skipped, met_more}
-use Rattle.rq_parts.specs.OctetTable.{entry_of}
+use Rattle.rq_parts.specs.DenseOctetMatrix.{entry_of}
 use Rattle.rq_solver.specs.OctetBatch.{AreOctetsIn, HasPivotsBeside, ChangesOctets}
 use Rattle.rq_solver.proofs.OctetTurns.{copy_beside, changes_none, changes_combined, changes_more, clears_octets, clears_none}
 use Rattle.rq_solver.proofs.pi_solver.first_phase.hdpc.clear_octets.Goals as goal

@@ -1,6 +1,6 @@
 -- What the loops keep in `pi_solver::first_phase::hdpc::copy_of`.
 use Rattle.std.proofs.Common.{length}
-use Rattle.rq_parts.specs.OctetTable.{entry_of}
+use Rattle.rq_parts.specs.DenseOctetMatrix.{entry_of}
 use Rattle.rq_solver.specs.RowWrites.{HoldsRows}
 use Rattle.rq_solver.proofs.pi_solver.first_phase.hdpc.copy_of.Given as goal
 

@@ -1,7 +1,7 @@
 -- What the check leaves to show of `pi_solver::first_phase::hdpc::sum_rows`.
 use Rattle.std.proofs.Common.{◌≡◌, ◌<◌, length, refl, sym, ◌∙◌, arith}
 use Rattle.rq_standard.specs.OctetField.{octets}
-use Rattle.rq_parts.specs.OctetTable.{entry_of}
+use Rattle.rq_parts.specs.DenseOctetMatrix.{entry_of}
 use Rattle.rq_solver.proofs.OctetTurns.{combines_none, combines_more}
 use Rattle.rq_solver.proofs.OctetSums.{sum_of_one, sum_of_more}
 use Rattle.rq_solver.proofs.pi_solver.first_phase.hdpc.sum_rows.Goals as goal

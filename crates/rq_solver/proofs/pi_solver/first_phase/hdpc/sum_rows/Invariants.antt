@@ -2,7 +2,7 @@
 use Rattle.std.proofs.Common.{◌≡◌, ℕ, ◌+◌, ◌-◌, ◌<◌, ◌≤◌, length}
 use Rattle.rq_algebra.specs.Systems.{sum_below}
 use Rattle.rq_standard.specs.OctetField.{octets}
-use Rattle.rq_parts.specs.OctetTable.{entry_of}
+use Rattle.rq_parts.specs.DenseOctetMatrix.{entry_of}
 use Rattle.rq_solver.specs.OperationCounts.{additions}
 use Rattle.rq_solver.specs.OctetBatch.{CombinesOctets}
 use Rattle.rq_solver.proofs.pi_solver.first_phase.hdpc.sum_rows.Given as goal

@@ -1,7 +1,7 @@
 -- What the loops keep in `pi_solver::first_phase::inactive::fill_octets`.
 use Rattle.std.proofs.Common.{◌+◌, length}
 use Rattle.rq_algebra.specs.Systems.{at}
-use Rattle.rq_parts.specs.OctetTable.{entry_of}
+use Rattle.rq_parts.specs.DenseOctetMatrix.{entry_of}
 use Rattle.rq_solver.specs.RowWrites.{WritesRow}
 use Rattle.rq_solver.proofs.pi_solver.first_phase.inactive.fill_octets.Given as goal
 

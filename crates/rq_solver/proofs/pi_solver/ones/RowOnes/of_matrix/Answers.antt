@@ -1,6 +1,6 @@
 -- What the check leaves to show of `pi_solver::ones::RowOnes::of_matrix`.
 use Rattle.std.proofs.Common.{◌≡◌, ◌++◌, ◌∷◌, [], ◌∙◌, length, subst, arith, ℕ}
-use Rattle.rq_parts.specs.Lists.{lists_between}
+use Rattle.rq_parts.specs.ImmutableListMap.{lists_between}
 use Rattle.rq_solver.specs.Peeled.{AreOnesOfRows}
 use Rattle.rq_solver.proofs.RowLists.{between_next, ones_next}
 use Rattle.rq_solver.proofs.pi_solver.ones.RowOnes.of_matrix.Goals as goal

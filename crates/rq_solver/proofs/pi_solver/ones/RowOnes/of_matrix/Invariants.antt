@@ -1,5 +1,5 @@
 -- What the loops keep in `pi_solver::ones::RowOnes::of_matrix`.
-use Rattle.rq_parts.specs.Lists.{lists_between}
+use Rattle.rq_parts.specs.ImmutableListMap.{lists_between}
 use Rattle.rq_solver.specs.Peeled.{AreOnesOfRows, AreAllBetween}
 use Rattle.rq_solver.proofs.pi_solver.ones.RowOnes.of_matrix.Given as goal
 

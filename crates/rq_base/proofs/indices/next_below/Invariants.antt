@@ -1,7 +1,7 @@
 use Rattle.std.proofs.Common.{◌≡◌, ◌<◌}
-use Rattle.rq_base.specs.Places.{next_below}
+use Rattle.rq_base.specs.Indices.{next_below}
 use Rattle.rq_base.proofs.WalkLaws.{steps_to}
-use Rattle.rq_base.proofs.places.next_below.Given as goal
+use Rattle.rq_base.proofs.indices.next_below.Given as goal
 
 abbrev pub invariant-loop-value : goal.invariant-loop-value
 invariant-loop-value l = record {

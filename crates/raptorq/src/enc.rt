@@ -1,16 +1,16 @@
 //! The sum at the places of an internal symbol id.
 ghost use Rattle.std.specs.Prelude.{◌≡◌, ◌≤◌, length, IfOk};
 ghost use Rattle.rq_algebra.specs.Symbols.{IsSymbolColumn};
-ghost use Rattle.rq_bytes.specs.Slab.{symbol_in, symbols_in};
+ghost use Rattle.rq_bytes.specs.SymbolSlab.{symbol_in, symbols_in};
 ghost use Rattle.rq_standard.specs.Equations.{tuple_sum};
 ghost use Rattle.rq_standard.specs.OctetField.{octets};
 ghost use Rattle.rq_standard.specs.Rows.{row_sum};
 ghost use Rattle.rq_standard.specs.TableRows.{IsChecked, intermediate_symbols};
 
-use rq_base::places::Places;
+use rq_base::indices::Indices;
 use rq_bytes::octets;
 use rq_bytes::symbol_slab::SymbolSlab;
-use rq_standard::row::Row;
+use rq_standard::row::TableRow;
 use std::alloc::{AllocError, Global};
 
 // Adds a symbol of the same size.
@@ -25,7 +25,7 @@ fn add(sum: &mut Vec<u8>, term: &[u8])
 /// (RFC 6330, section 5.3.5.3).
 pub(crate) fn encoding_symbol(
     alloc: Global,
-    row: &Row,
+    row: &TableRow,
     intermediate: &SymbolSlab,
     internal_symbol_id: u32,
 ) -> Result<Vec<u8>, AllocError>
@@ -35,8 +35,8 @@ pub(crate) fn encoding_symbol(
     ensures sum { IfOk result (λ v. v.items ≡ tuple_sum row.now (symbol_in intermediate.now) internal_symbol_id) }
 {
     let mut symbol = vec![in alloc; 0u8; intermediate.symbol_size()]?;
-    let mut places = Places::of_id(row, internal_symbol_id);
-    while let Some(place) = places.next_place() {
+    let mut places = Indices::of_id(row, internal_symbol_id);
+    while let Some(place) = places.next_index() {
         add(&mut symbol, intermediate.get(place));
     }
     Ok(symbol)

@@ -1,17 +1,17 @@
 //! The places of an internal symbol id, one after another (RFC 6330, section 5.3.5.3).
 ghost use Rattle.std.specs.Prelude.{◌≡◌, ℕ, ◌+◌, ◌*◌, ◌%◌, ◌<◌, ◌≤◌, List, [], ◌∷◌, All, MatchOption};
 ghost use Rattle.rq_standard.specs.TableRows.{IsChecked, intermediate_symbols};
-ghost use Rattle.rq_standard.specs.Equations.{row_places};
-ghost use Rattle.rq_standard.specs.Tuple.{IsTuple, places_of};
-ghost use Rattle.rq_base.specs.Places.{next_below};
+ghost use Rattle.rq_standard.specs.Equations.{row_indices};
+ghost use Rattle.rq_standard.specs.Tuple.{IsTuple, enc_indices};
+ghost use Rattle.rq_base.specs.Indices.{next_below};
 
 use crate::base::intermediate_tuple;
-use rq_standard::row::Row;
+use rq_standard::row::TableRow;
 use std::marker::Model;
 
 /// The places that are left of the walk of a tuple. Contracts see it as their list.
 #[derive(Drop)]
-pub struct Places {
+pub struct Indices {
     lt_symbols: u32,
     lt_step: u32,
     lt_place: u32,
@@ -23,18 +23,18 @@ pub struct Places {
     pi_left: u32,
 }
 
-impl Model for Places {
+impl Model for Indices {
     ghost use Rattle.std.specs.Prelude.{ℕ, List};
-    ghost use Rattle.rq_base.specs.Places.{places_left, IsWalk};
+    ghost use Rattle.rq_base.specs.Indices.{indices_left, IsWalk};
 
     ghost Value = { List ℕ };
 
-    ghost view = { places_left };
+    ghost view = { indices_left };
 
     ghost invariant = { IsWalk };
 }
 
-impl Places {
+impl Indices {
     /// The walk of a tuple (d, a, b, d1, a1, b1), over a row of the table with W `lt_symbols`, P
     /// `pi_symbols` and P1 `p1`.
     pub fn new(
@@ -42,15 +42,15 @@ impl Places {
         lt_symbols: u32,
         pi_symbols: u32,
         p1: u32,
-    ) -> Places
+    ) -> Indices
         requires tuple { IsTuple lt_symbols p1 source_tuple }
         requires some_pi { 3 ≤ pi_symbols }
         requires p1_above { pi_symbols ≤ p1 }
         requires p1_near { p1 ≤ 2 * pi_symbols }
-        ensures { result ≡ places_of lt_symbols pi_symbols p1 source_tuple }
+        ensures { result ≡ enc_indices lt_symbols pi_symbols p1 source_tuple }
     {
         let (lt_left, lt_step, lt_place, pi_left, pi_step, pi_value) = source_tuple;
-        Places {
+        Indices {
             lt_symbols,
             lt_step,
             lt_place,
@@ -64,23 +64,23 @@ impl Places {
     }
 
     /// The places of an internal symbol id, over a row of a table.
-    pub fn of_id(row: &Row, internal_symbol_id: u32) -> Places
+    pub fn of_id(row: &TableRow, internal_symbol_id: u32) -> Indices
         requires { IsChecked row.now }
-        ensures value { result ≡ row_places row.now internal_symbol_id }
+        ensures value { result ≡ row_indices row.now internal_symbol_id }
         ensures below { All (λ place. place < intermediate_symbols row.now) result }
     {
-        let pi_symbols = row.source_symbols + row.ldpc_symbols + row.hdpc_symbols - row.lt_symbols;
+        let pi_symbols = row.extended_symbols + row.ldpc_symbols + row.hdpc_symbols - row.lt_symbols;
         let tuple = intermediate_tuple(
             internal_symbol_id,
             row.lt_symbols,
             row.systematic_index,
             row.p1,
         );
-        Places::new(tuple, row.lt_symbols, pi_symbols, row.p1)
+        Indices::new(tuple, row.lt_symbols, pi_symbols, row.p1)
     }
 
     /// The next place, if one is left.
-    pub fn next_place(&mut self) -> Option<usize>
+    pub fn next_index(&mut self) -> Option<usize>
         ensures { MatchOption result ((self.old ≡ []) × (self.new ≡ [])) (λ place. self.old ≡ place ∷ self.new) }
     {
         if self.lt_left > 0 {

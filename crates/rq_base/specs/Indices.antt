@@ -1,6 +1,6 @@
 -- What is left of a walk over the places of a tuple.
 use Rattle.std.specs.Prelude.{ℕ, zero, suc, ◌+◌, ◌%◌, ◌<◌, ◌≤◌, ◌*◌, List, [], ◌∷◌, ◌++◌, map, if◌then◌else◌, nat_lt}
-use Rattle.rq_base.specs.declared.places.Places.TheInside.{Inside}
+use Rattle.rq_base.specs.declared.indices.Indices.TheInside.{Inside}
 
 -- x, x + step, .. modulo m, n of them
 unfoldable pub walk : (m step x n : ℕ) → List ℕ
@@ -18,8 +18,8 @@ walk_below p m step x zero = []
 walk_below p m step x (suc n) = next_below p m step m x ∷ walk_below p m step ((next_below p m step m x + step) % m) n
 
 -- the places that are left: LT places, and then PI places
-abbrev pub places_left : Inside → List ℕ
-places_left s = walk s.lt_symbols s.lt_step s.lt_place s.lt_left ++ map (λ value. s.lt_symbols + value) (walk_below s.pi_symbols s.p1 s.pi_step s.pi_value s.pi_left)
+abbrev pub indices_left : Inside → List ℕ
+indices_left s = walk s.lt_symbols s.lt_step s.lt_place s.lt_left ++ map (λ value. s.lt_symbols + value) (walk_below s.pi_symbols s.p1 s.pi_step s.pi_value s.pi_left)
 
 -- steps and values are below their moduli, and P1 is at most twice P
 pub record IsWalk (s : Inside) : Type 0 where

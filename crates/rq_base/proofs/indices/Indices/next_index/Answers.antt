@@ -1,7 +1,7 @@
 use Rattle.std.proofs.Common.{◌≡◌, ◌++◌, ◌+◌, ◌∷◌, [], ◌∙◌, sym, ap, arith, List, ℕ, map, ◌-◌, ◌<◌, refl}
-use Rattle.rq_base.specs.Places.{walk, walk_below}
+use Rattle.rq_base.specs.Indices.{walk, walk_below}
 use Rattle.rq_base.proofs.WalkLaws.{walk-next, walk-none, walk_below-next, walk_below-none}
-use Rattle.rq_base.proofs.places.Places.next_place.Goals as goal
+use Rattle.rq_base.proofs.indices.Indices.next_index.Goals as goal
 
 pub returns-then-self-gt0 : goal.returns-then-self-gt0
 returns-then-self-gt0 c =

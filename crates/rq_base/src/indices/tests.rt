@@ -5,7 +5,7 @@
 //! the digests here.
 ghost use Rattle.std.specs.Prelude.{◌≤◌};
 
-use super::Places;
+use super::Indices;
 use rq_tables::rng::rand;
 use rq_tables::systematic_constants::SystematicTable;
 use std::test::Fail;
@@ -32,10 +32,10 @@ fn rand_digest(first: u32) -> u64
 }
 
 // The places of an id, taken into a digest.
-fn places_digest(places: Places, digest: u64) -> u64 {
+fn places_digest(places: Indices, digest: u64) -> u64 {
     let mut places = places;
     let mut digest = digest;
-    while let Some(place) = places.next_place() {
+    while let Some(place) = places.next_index() {
         digest = mixed(digest, place as u64);
     }
     digest
@@ -62,7 +62,7 @@ fn places_of_ids(rt: HostRuntime) -> Result<(), Fail> {
         let row = table.row(size);
         let mut digest = 0;
         for n in 0..200 {
-            digest = places_digest(Places::of_id(&row, id_of(n)), digest);
+            digest = places_digest(Indices::of_id(&row, id_of(n)), digest);
         }
         assert_eq!(rt; digest, wanted);
     }

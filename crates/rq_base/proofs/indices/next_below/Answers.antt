@@ -1,7 +1,7 @@
 use Rattle.std.proofs.Common.{◌∙◌, sym, arith, ap, ℕ}
-use Rattle.rq_base.specs.Places.{next_below}
+use Rattle.rq_base.specs.Indices.{next_below}
 use Rattle.rq_base.proofs.WalkLaws.{HasWalkEnds, next_step, next_here}
-use Rattle.rq_base.proofs.places.next_below.Goals as goal
+use Rattle.rq_base.proofs.indices.next_below.Goals as goal
 
 pub loop-value-preserved : goal.loop-value-preserved
 loop-value-preserved c =
