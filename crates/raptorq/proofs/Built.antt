@@ -9,7 +9,7 @@ use Rattle.rq_standard.specs.TableRows.{greatest_size}
 use Rattle.rq_base.specs.Defaults.{wanted_parameters}
 use Rattle.raptorq.specs.declared.encoder.Encoder.{Encoder}
 use Rattle.raptorq.specs.Building.{Settings, IsBuilt}
-use Rattle.raptorq.specs.Encoded.{encoded_of, IsEncoderOf}
+use Rattle.raptorq.specs.Encoder.{encoded_of, IsEncoderOf}
 use Rattle.raptorq.specs.Refused.{new_encoder}
 
 pub built : (table : List TableRow) (s : Settings) (object : List ℕ) (c : Configuration) (r : Result Encoder Error) → wanted_parameters table (length object) s.packet_size s.decoder_memory ≡ Ok c

@@ -10,7 +10,7 @@ use Rattle.std.proofs.Math.ListN.{get_or-map}
 use Rattle.rq_standard.specs.declared.row.TableRow.{TableRow}
 use Rattle.rq_standard.specs.TableRows.{row_of}
 use Rattle.raptorq.specs.declared.encoder.plan.SourceBlockEncodingPlan.{SourceBlockEncodingPlan}
-use Rattle.raptorq.specs.PlanCache.{holds_count, cached, IsPlanOver}
+use Rattle.raptorq.specs.SourceBlockEncodingPlanCache.{holds_count, cached, IsPlanOver}
 use Rattle.raptorq.proofs.Encodes.{at_any}
 
 -- ---- whether a count is held

@@ -17,8 +17,8 @@ use Rattle.rq_standard.specs.ObjectPackets.{first_ids, AreEncoded}
 use Rattle.rq_standard.proofs.PlainCut.{length-block_bytes}
 use Rattle.rq_standard.proofs.Standing.{length-block_source}
 use Rattle.rq_standard.proofs.BlockCuts.{block_symbols_few, symbols_before-first, symbols_before-next}
-use Rattle.raptorq.specs.Plans.{RefusesPlan}
-use Rattle.raptorq.specs.Encoded.{Encoded, IsEncoderOf, no_block}
+use Rattle.raptorq.specs.SourceBlockEncodingPlan.{RefusesPlan}
+use Rattle.raptorq.specs.Encoder.{Encoded, IsEncoderOf, no_block}
 use Rattle.raptorq.proofs.Encodes.{at_any}
 use Rattle.raptorq.proofs.Numbered.{mapped_through}
 use Rattle.raptorq.proofs.PlanLaws.{plan_refused}
@@ -26,9 +26,13 @@ use Rattle.raptorq.proofs.Ranges.{flat_map-push}
 use Rattle.raptorq.specs.declared.encoder.block.SourceBlockEncoder.{SourceBlockEncoder}
 use Rattle.rq_base.specs.RefusedInput.{checked_configuration}
 use Rattle.raptorq.specs.Refused.{new_encoder, RefusesEncoder}
-use Rattle.raptorq.specs.BlockEncoded.{BlockEncoded, block_encoded_of, IsBlockPacket, AreBlockPackets, new_block_encoded, bytes_of_block}
+use Rattle.raptorq.specs.SourceBlockEncoder.{BlockEncoded, block_encoded_of, IsBlockPacket, AreBlockPackets, new_block_encoded}
 
 -- ---- the bytes of a block
+
+-- the object's bytes in a block, without the zeros behind the object
+abbrev pub bytes_of_block : Configuration → List ℕ → ℕ → List ℕ
+bytes_of_block c object b = take (block_symbols c b * c.symbol_size) (drop (symbols_before c b * c.symbol_size) object)
 
 -- the object without the blocks before one
 abbrev pub from_block : Configuration → List ℕ → ℕ → List ℕ

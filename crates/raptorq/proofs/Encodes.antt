@@ -13,7 +13,7 @@ use Rattle.rq_standard.specs.TableRows.{IsChecked}
 use Rattle.rq_standard.specs.Equations.{zero_symbol, tuple_sum}
 use Rattle.rq_standard.proofs.Columns.{source_sum}
 use Rattle.rq_standard.proofs.Standing.{push-all}
-use Rattle.raptorq.specs.BlockEncoded.{BlockEncoded, IsBlockPacket, AreBlockPackets}
+use Rattle.raptorq.specs.SourceBlockEncoder.{BlockEncoded, IsBlockPacket, AreBlockPackets}
 use Rattle.raptorq.proofs.HeldEquations.{internal_below}
 use Rattle.rq_standard.specs.Headline.{IsOnlyIntermediateColumn, IsEncodingSymbol}
 

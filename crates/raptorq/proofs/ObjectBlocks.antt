@@ -17,8 +17,8 @@ use Rattle.rq_standard.specs.TableRows.{no_row}
 use Rattle.rq_standard.specs.Held.{Held, nothing_held}
 use Rattle.rq_standard.specs.Standing.{State, new_held, new_answer, IsNewState, AddsToBlock, RecordsInBlock, IsSameElsewhere, Adds, RecordsOnly, append_both, joined, result_of}
 use Rattle.rq_standard.proofs.ObjectAnswers.{joined_some, joined_each, some_of}
-use Rattle.raptorq.specs.Blocks.{held_of}
-use Rattle.raptorq.specs.Objects.{held_at, answer_at, answer_of}
+use Rattle.raptorq.specs.SourceBlockDecoder.{held_of}
+use Rattle.raptorq.specs.Decoder.{held_at, answer_at, answer_of}
 use Rattle.raptorq.specs.Refused.{block_refusal}
 use Rattle.raptorq.specs.Stopping.{TakesInBlock, Takes}
 use Rattle.raptorq.specs.declared.decoder.stopped.Stopped.{Stopped}

@@ -15,7 +15,7 @@ use Rattle.rq_standard.specs.TableRows.{greatest_size, row_of}
 use Rattle.rq_standard.specs.Headline.{IsSingular}
 use Rattle.rq_standard.specs.Configuration.{Configuration}
 use Rattle.raptorq.specs.BlockData.{RefusesBlock}
-use Rattle.raptorq.specs.Plans.{plan_refusal, RefusesPlan}
+use Rattle.raptorq.specs.SourceBlockEncodingPlan.{plan_refusal, RefusesPlan}
 use Rattle.raptorq.specs.Refused.{wanted_count}
 use Rattle.raptorq.proofs.Payloads.{same_items}
 

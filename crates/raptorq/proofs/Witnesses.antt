@@ -14,22 +14,22 @@ use Rattle.rq_standard.specs.Held.{Held, holds, AreHeldDetermining}
 use Rattle.rq_standard.proofs.BlockCuts.{pieces}
 use Rattle.rq_standard.proofs.Differences.{zeros_solve, zeros_are_octets}
 use Rattle.rq_standard.proofs.OtherObjects.{HasRow, is_difference}
-use Rattle.raptorq.specs.Blocks.{held_of}
-use Rattle.raptorq.specs.Objects.{held_at, answer_at}
+use Rattle.raptorq.specs.SourceBlockDecoder.{held_of}
+use Rattle.raptorq.specs.Decoder.{held_at, answer_at}
 use Rattle.raptorq.specs.Difference.{ShowsUnanswered, octets_of_column}
 use Rattle.raptorq.specs.declared.decoder.object.ObjectBlock.{ObjectBlock}
 use Rattle.raptorq.proofs.Numbered.{length-numbered, number_at}
 use Rattle.raptorq.proofs.ObjectBlocks.{state, number_of, held_here}
 
 -- a block's bytes, by what is held of it
-abbrev other_block_of : Configuration → List ObjectBlock → (ℕ → Option (List ℕ)) → ℕ → List ℕ
-other_block_of c items columns b = first_octets_block c (block_symbols c b) (plain_sum (held_at c items b).row (at (unwrap_or (columns b) [])))
+abbrev difference_block : Configuration → List ObjectBlock → (ℕ → Option (List ℕ)) → ℕ → List ℕ
+difference_block c items columns b = first_octets_block c (block_symbols c b) (plain_sum (held_at c items b).row (at (unwrap_or (columns b) [])))
 
 -- the first n blocks: what was found of each of them, and whether nothing was
 pub record DifferenceSoFar (c : Configuration) (items : List ObjectBlock) (n : ℕ) (none : Bool) (bytes : List ℕ) : Type 0 where
   pub columns : ℕ → Option (List ℕ)
   pub shows : (b : ℕ) → b < n → ShowsUnanswered (held_at c items b) (answer_at items b) (columns b)
-  pub appended : bytes ≡ pieces (other_block_of c items columns) n
+  pub appended : bytes ≡ pieces (difference_block c items columns) n
   pub told : MatchBool none ((b : ℕ) → b < n → columns b ≡ None) ((b : ℕ) × (b < n) × IsSome (columns b))
 
 pub nothing_found : (c : Configuration) (items : List ObjectBlock) (bytes : List ℕ) → bytes ≡ [] → DifferenceSoFar c items 0 true bytes
@@ -67,14 +67,14 @@ module _ (c : Configuration) (items : List ObjectBlock) (n : ℕ) (none : Bool) 
   one_found t block new flag same cut is grown =
       let next : n + 1 ≡ suc n = omega arith in
       let h = held_at c items n in
-      let own : block ≡ other_block_of c items with_one n = is ∙ ap (λ k. first_octets_block k h.symbols (plain_sum h.row (at (unwrap_or column [])))) same ∙ ap (λ k. first_octets_block c k (plain_sum h.row (at (unwrap_or column [])))) cut ∙ ap (λ o. first_octets_block c (block_symbols c n) (plain_sum h.row (at (unwrap_or o [])))) (sym here) in
+      let own : block ≡ difference_block c items with_one n = is ∙ ap (λ k. first_octets_block k h.symbols (plain_sum h.row (at (unwrap_or column [])))) same ∙ ap (λ k. first_octets_block c k (plain_sum h.row (at (unwrap_or column [])))) cut ∙ ap (λ o. first_octets_block c (block_symbols c n) (plain_sum h.row (at (unwrap_or o [])))) (sym here) in
       record {
         columns = with_one;
         shows = λ b below. elim (cases_lt b n) [
           | inl lt ↦ subst (ShowsUnanswered (held_at c items b) (answer_at items b)) (sym (before b lt)) (so.shows b lt)
           | inr past ↦ let same : n ≡ b = omega arith in subst (λ m. ShowsUnanswered (held_at c items m) (answer_at items m) (with_one m)) same (subst (ShowsUnanswered (held_at c items n) (answer_at items n)) (sym here) shows)
         ];
-        appended = grown ∙ ap (λ xs. xs ++ block) (so.appended ∙ pieces-same (other_block_of c items so.columns) (other_block_of c items with_one) n (λ b below. ap (λ o. first_octets_block c (block_symbols c b) (plain_sum (held_at c items b).row (at (unwrap_or o [])))) (sym (before b below)))) ∙ ap (λ xs. pieces (other_block_of c items with_one) n ++ xs) own ∙ ap (pieces (other_block_of c items with_one)) (sym next);
+        appended = grown ∙ ap (λ xs. xs ++ block) (so.appended ∙ pieces-same (difference_block c items so.columns) (difference_block c items with_one) n (λ b below. ap (λ o. first_octets_block c (block_symbols c b) (plain_sum (held_at c items b).row (at (unwrap_or o [])))) (sym (before b below)))) ∙ ap (λ xs. pieces (difference_block c items with_one) n ++ xs) own ∙ ap (pieces (difference_block c items with_one)) (sym next);
         told = subst (λ u. MatchBool u ((b : ℕ) → b < n + 1 → with_one b ≡ None) ((b : ℕ) × (b < n + 1) × IsSome (with_one b))) (sym flag) (told_more none column refl so.told);
       }
 

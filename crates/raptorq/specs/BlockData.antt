@@ -8,8 +8,8 @@ use Rattle.rq_standard.specs.Configuration.{Configuration}
 use Rattle.rq_standard.specs.Cutting.{symbol_of_block}
 use Rattle.rq_standard.specs.Headline.{IsSingular}
 use Rattle.rq_standard.specs.TableRows.{greatest_size, row_of}
-use Rattle.raptorq.specs.BlockEncoded.{BlockEncoded}
-use Rattle.raptorq.specs.Plans.{Plan}
+use Rattle.raptorq.specs.SourceBlockEncoder.{BlockEncoded}
+use Rattle.raptorq.specs.SourceBlockEncodingPlan.{Plan}
 use Rattle.raptorq.specs.Refused.{wanted_count}
 
 -- the block of these bytes

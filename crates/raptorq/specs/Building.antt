@@ -5,7 +5,7 @@ use Rattle.rq_standard.specs.declared.row.TableRow.{TableRow}
 use Rattle.rq_standard.specs.Headline.{HasNonsingularRows}
 use Rattle.rq_standard.specs.TableRows.{greatest_size}
 use Rattle.rq_base.specs.Defaults.{wanted_parameters}
-use Rattle.raptorq.specs.Encoded.{Encoded, IsEncoderOf}
+use Rattle.raptorq.specs.Encoder.{Encoded, IsEncoderOf}
 use Rattle.raptorq.specs.Refused.{new_encoder, RefusesEncoder}
 
 -- the memory of a decoder and the greatest size of a payload, in bytes

@@ -3,7 +3,7 @@ use Rattle.std.specs.Prelude.{◌≡◌, ℕ, Result, MatchResult, ⊤}
 use Rattle.std.specs.Borrow.{Fml, Bor, MutBor, follows_so}
 use mathlib.Core.Option.{none}
 use Rattle.rq_bytes.specs.declared.error.Error.{Error}
-use Rattle.raptorq.specs.PlanCache.{PlanCache, used}
+use Rattle.raptorq.specs.SourceBlockEncodingPlanCache.{PlanCache, used}
 use Rattle.raptorq.specs.declared.encoder.plan.SourceBlockEncodingPlan.{SourceBlockEncodingPlan}
 use Rattle.raptorq.specs.contracts.encoder.cache.SourceBlockEncodingPlanCache.{the_row}
 

@@ -6,9 +6,9 @@ ghost use Rattle.rq_standard.specs.Configuration.{IsAccepted, largest_block};
 ghost use Rattle.rq_standard.specs.Cutting.{block_symbols};
 ghost use Rattle.rq_standard.specs.Headline.{HasNonsingularRows, IsNonsingular, IsSingular};
 ghost use Rattle.rq_standard.specs.TableRows.{greatest_size, row_of};
-ghost use Rattle.raptorq.specs.Plans.{plan_of};
+ghost use Rattle.raptorq.specs.SourceBlockEncodingPlan.{plan_of};
 ghost use Rattle.raptorq.specs.BlockData.{IsPlanFor};
-ghost use Rattle.raptorq.specs.BlockEncoded.{block_encoded_of, new_block_encoded};
+ghost use Rattle.raptorq.specs.SourceBlockEncoder.{block_encoded_of, new_block_encoded};
 
 mod block;
 mod builder;
@@ -44,7 +44,7 @@ pub struct Encoder {
 
 impl Encoder {
     ghost use Rattle.raptorq.specs.Building.{default_settings, RefusesBuilding, IsBuilt};
-    ghost use Rattle.raptorq.specs.Encoded.{encoded_of, ArePacketsOf, IsEncoderOf, packets_refusal};
+    ghost use Rattle.raptorq.specs.Encoder.{encoded_of, ArePacketsOf, IsEncoderOf, packets_refusal};
     ghost use Rattle.raptorq.specs.Refused.{new_encoder, RefusesEncoder};
 
     /// The encoder of an object, in bytes.
@@ -134,7 +134,7 @@ impl Encoder {
 }
 
 impl Clone for Encoder {
-    ghost use Rattle.raptorq.specs.Encoded.{encoded_of};
+    ghost use Rattle.raptorq.specs.Encoder.{encoded_of};
 
     ghost is_clone = { λ a b. encoded_of b ≡ encoded_of a };
 

@@ -33,7 +33,7 @@ steps_up : (p m step x : ℕ) → p ≤ x → step ≤ p → steps_to p m step x
 steps_up p m step x le up = rw (le-ltb x p le, le-ltb p step up) refl
 
 -- a modulus, a step and a bound with which the walk ends
-pub record ReachesBelow (p m step : ℕ) : Type 0 where
+pub record HasWalkEnds (p m step : ℕ) : Type 0 where
   pub some : 1 ≤ step
   pub below : step < m
   pub bound : 1 ≤ p
@@ -41,7 +41,7 @@ pub record ReachesBelow (p m step : ℕ) : Type 0 where
   pub near : m ≤ 2 * p
 
 -- each step comes nearer
-pub nearer : (p m step x : ℕ) → ReachesBelow p m step → x < m → p ≤ x → steps_to p m step ((x + step) % m) < steps_to p m step x
+pub nearer : (p m step x : ℕ) → HasWalkEnds p m step → x < m → p ≤ x → steps_to p m step ((x + step) % m) < steps_to p m step x
 nearer p m step x ends hx le =
     ⊎_elim
     (λ (down : p < step).
@@ -61,7 +61,7 @@ nearer p m step x ends hx le =
     (cases_lt (x + step) m))
     (cases_lt p step)
 
-pub steps-lt : (p m step x : ℕ) → ReachesBelow p m step → x < m → steps_to p m step x < m
+pub steps-lt : (p m step x : ℕ) → HasWalkEnds p m step → x < m → steps_to p m step x < m
 steps-lt p m step x ends hx =
     ⊎_elim
     (λ (there : x < p). rw (steps_below p m step x there) (omega (arith, ends.below)))
@@ -84,7 +84,7 @@ unfolding next_below
 next_later p m step more x le = rw (le-ltb x p le) refl
 
 -- more steps than are needed change nothing
-next_enough : (p m step f g x : ℕ) → ReachesBelow p m step → x < m → steps_to p m step x < f → steps_to p m step x < g → next_below p m step f x ≡ next_below p m step g x
+next_enough : (p m step f g x : ℕ) → HasWalkEnds p m step → x < m → steps_to p m step x < f → steps_to p m step x < g → next_below p m step f x ≡ next_below p m step g x
 next_enough p m step zero g x ends hx hf hg = absurd (omega arith)
 next_enough p m step (suc f) zero x ends hx hf hg = absurd (omega arith)
 next_enough p m step (suc f) (suc g) x ends hx hf hg =
@@ -98,7 +98,7 @@ next_enough p m step (suc f) (suc g) x ends hx hf hg =
     (cases_lt x p)
 
 -- a step before the first value below p leads to the same
-pub next_step : (p m step x : ℕ) → ReachesBelow p m step → x < m → p ≤ x → next_below p m step m ((x + step) % m) ≡ next_below p m step m x
+pub next_step : (p m step x : ℕ) → HasWalkEnds p m step → x < m → p ≤ x → next_below p m step m ((x + step) % m) ≡ next_below p m step m x
 next_step p m step x ends hx le =
     let near = nearer p m step x ends hx le in
     let few = steps-lt p m step x ends hx in
@@ -108,7 +108,7 @@ next_step p m step x ends hx le =
     ∙ sym (next_later p m step (m - 1) x le)
     ∙ ap (λ (n : ℕ). next_below p m step n x) (sym fuel)
 
-pub next-lt : (p m step f x : ℕ) → ReachesBelow p m step → x < m → steps_to p m step x < f → next_below p m step f x < p
+pub next-lt : (p m step f x : ℕ) → HasWalkEnds p m step → x < m → steps_to p m step x < f → next_below p m step f x < p
 next-lt p m step zero x ends hx hf = absurd (omega arith)
 next-lt p m step (suc f) x ends hx hf =
     ⊎_elim
@@ -137,7 +137,7 @@ record Skips (p m step f x n : ℕ) : Type 0 where
   enough : n ≤ left + f
   splits : below_of p (walk m step x n) ≡ next_below p m step f x ∷ below_of p (walk m step ((next_below p m step f x + step) % m) left)
 
-skips : (p m step f x n : ℕ) → ReachesBelow p m step → x < m → steps_to p m step x < f → f ≤ n → Skips p m step f x n
+skips : (p m step f x n : ℕ) → HasWalkEnds p m step → x < m → steps_to p m step x < f → f ≤ n → Skips p m step f x n
 skips p m step zero x n ends hx hf hn = absurd (omega arith)
 skips p m step (suc f) x zero ends hx hf hn = absurd (omega arith)
 skips p m step (suc f) x (suc n) ends hx hf hn =
@@ -150,7 +150,7 @@ skips p m step (suc f) x (suc n) ends hx hf hn =
     let later : Skips p m step (suc f) x (suc n) = record { left = rest.left; enough = omega (arith, rest.enough); splits = walk_later p m step x n le ∙ rw (next_later p m step f x le) rest.splits } in later)
     (cases_lt x p)
 
-walk_below_is : (p m step n x count : ℕ) → ReachesBelow p m step → x < m → n * m ≤ count → take n (below_of p (walk m step x count)) ≡ walk_below p m step x n
+walk_below_is : (p m step n x count : ℕ) → HasWalkEnds p m step → x < m → n * m ≤ count → take n (below_of p (walk m step x count)) ≡ walk_below p m step x n
 unfolding walk_below
 walk_below_is p m step zero x count ends hx enough = refl
 walk_below_is p m step (suc n) x count ends hx enough =
@@ -174,7 +174,7 @@ pub walk_from : (m step x n : ℕ) → x < m → map (λ j. (x + step * j) % m) 
 walk_from m step x n lt =
     walk_is m step x 0 n ∙ ap (λ (y : ℕ). walk m step y n) (ap (λ (y : ℕ). y % m) (let same : x + step * 0 ≡ x = omega arith in same) ∙ mod-eq_of_lt lt)
 
-pub pi_walk : (p m step x n : ℕ) → ReachesBelow p m step → x < m → take n (filter (λ value. ltb value p) (map (λ j. (x + step * j) % m) (range_with_len 0 (n * m)))) ≡ walk_below p m step x n
+pub pi_walk : (p m step x n : ℕ) → HasWalkEnds p m step → x < m → take n (filter (λ value. ltb value p) (map (λ j. (x + step * j) % m) (range_with_len 0 (n * m)))) ≡ walk_below p m step x n
 pi_walk p m step x n ends hx = rw (walk_from m step x (n * m) hx) (walk_below_is p m step n x (n * m) ends hx (omega arith))
 
 -- ---- one place at a time

@@ -9,6 +9,7 @@ pub mod PackedRows
 pub mod PlaneFacts
 pub mod RangeFacts
 pub mod RangeLoans
+pub mod RefusalFacts
 pub mod SlabFacts
 pub mod SlabSums
 pub mod Steps

@@ -1,5 +1,5 @@
 -- What a call answers, against what it should: `wanted` is one function of the arguments that names the refusals in their order.
-use Rattle.std.specs.Prelude.{◌≡◌, ◌⊎◌, Result, Ok, Err}
+use Rattle.std.specs.Prelude.{◌≡◌, ◌⊎◌, List, [], ◌∷◌, Result, Ok, Err}
 use Rattle.rq_bytes.specs.declared.error.Error.{Error}
 use Rattle.rq_bytes.specs.declared.error.Error.TheVariants.{OutOfMemory}
 
@@ -22,3 +22,8 @@ Answers view (Err e) wanted = (e ≡ OutOfMemory) ⊎ (wanted ≡ Err e)
 abbrev pub and_then : {X Y : Type 0} → Result X Error → (X → Result Y Error) → Result Y Error
 and_then (Ok x) f = f x
 and_then (Err e) f = Err e
+
+-- the first refusal in a list
+abbrev pub first_refusal : {X : Type 0} → (X → Result (Unit {0}) Error) → List X → Result (Unit {0}) Error
+first_refusal refusal [] = Ok tt
+first_refusal refusal (x ∷ xs) = and_then (refusal x) (λ _. first_refusal refusal xs)

@@ -15,8 +15,9 @@ use Rattle.rq_standard.specs.OctetField.{octets}
 use Rattle.rq_standard.specs.TableRows.{IsChecked, intermediate_symbols}
 use Rattle.rq_standard.specs.Equations.{fixed_equations, symbol_coefficient, equations, equation_count, equation_values, zero_symbol, tuple_sum, internal_id, extended_ids}
 use Rattle.rq_standard.specs.Headline.{IsNonsingular, IsIntermediateColumn, IsEncodingSymbol, SolvesZeros, known_ids}
-use Rattle.rq_standard.specs.Differences.{plain_sum, first_octet}
+use Rattle.rq_standard.specs.Differences.{plain_sum}
 use Rattle.rq_standard.proofs.Columns.{sum_symbol, sum_at, only_column}
+use Rattle.rq_standard.proofs.FirstOctets.{first_octet}
 use Rattle.rq_standard.proofs.Known.{known_source, known_padding, known_repair, range_at}
 
 -- ---- symbols are added

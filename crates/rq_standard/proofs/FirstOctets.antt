@@ -1,5 +1,5 @@
 -- Symbols of which only the first octet may be nonzero: that octet stands before the object's padding, in every cutting.
-use Rattle.std.proofs.Common.{◌≡◌, ◌≢◌, ℕ, zero, suc, ◌+◌, ◌-◌, ◌*◌, ◌/◌, ◌%◌, ◌<◌, ◌≤◌, ◌⊎◌, cond, ltb, eqb, Bool, true, false, List, length, take, get_or, set, replicate, map, refl, sym, ap, ◌∙◌, subst, arith, inl, inr, length-append}
+use Rattle.std.proofs.Common.{◌≡◌, ◌≢◌, ℕ, zero, suc, ◌+◌, ◌-◌, ◌*◌, ◌/◌, ◌%◌, ◌<◌, ◌≤◌, ◌⊎◌, cond, ltb, eqb, Bool, true, false, List, ◌∷◌, length, take, get_or, set, replicate, map, refl, sym, ap, ◌∙◌, subst, arith, inl, inr, length-append}
 use Rattle.std.specs.Prelude.{◌&&◌}
 use Rattle.std.specs.List.{range_with_len}
 use Rattle.std.proofs.Math.Nat.{mul-le-mul_right, mul-mod_left}
@@ -11,10 +11,15 @@ use Rattle.std.proofs.lemmas.List.FromFn.{length-map-range_with_len, get_or-map-
 use Rattle.rq_algebra.proofs.Placewise.{at-zeros}
 use Rattle.rq_standard.specs.Configuration.{Configuration, IsAligned, total_symbols}
 use Rattle.rq_standard.specs.Cutting.{block_symbols, symbols_before, sub_block_size, sub_block_start, place_in_block, block_bytes, symbol_of_block, source_symbol}
-use Rattle.rq_standard.specs.Differences.{first_octet, first_octets_block}
+use Rattle.rq_standard.specs.Differences.{first_octets_block}
+use Rattle.rq_standard.specs.Equations.{zero_symbol}
 use Rattle.rq_standard.proofs.BlockCuts.{pieces, symbols_before-first, symbols_before-next, symbols_before-all}
 use Rattle.rq_standard.proofs.Interleaved.{IsSubBlock, at_byte, place_in, place_below, get_or-symbol_of_block}
 use Rattle.rq_standard.proofs.Standing.{length-symbol_of_block}
+
+-- a symbol of which only the first octet may be nonzero
+abbrev pub first_octet : ℕ → ℕ → List ℕ
+first_octet size octet = octet ∷ zero_symbol (size - 1)
 
 -- ---- where first octets stand
 

@@ -192,12 +192,12 @@ place_below c k e t pos rem here below =
     omega (arith, is, low, mul-le-mul_right k b.part.room)
 
 -- the sub-block that has a place of a block
-pub record HasSubBlock (c : Configuration) (k i o z : ℕ) : Type 0 where
+pub record HasBlockPlace (c : Configuration) (k i o z : ℕ) : Type 0 where
   pub part : IsSubBlock c o z
   pub low : o * k ≤ i
   pub high : i < o * k + k * z
 
-at_place : (c : Configuration) (k i : ℕ) → 0 < c.alignment → c.symbol_size % c.alignment ≡ 0 → i < k * c.symbol_size → (o : ℕ) × (z : ℕ) × HasSubBlock c k i o z
+at_place : (c : Configuration) (k i : ℕ) → 0 < c.alignment → c.symbol_size % c.alignment ≡ 0 → i < k * c.symbol_size → (o : ℕ) × (z : ℕ) × HasBlockPlace c k i o z
 at_place c k i pos rem below = elim (cases_lt i (larger_bytes c * k)) [
   | inl first ↦
       let m = (sub_block_parts c).larger_count in

@@ -8,7 +8,7 @@ use Rattle.rq_standard.specs.Cutting.{block_symbols, block_bytes}
 use Rattle.rq_standard.specs.Received.{has_id}
 use Rattle.rq_standard.specs.Headline.{DetermineBlock, block_row, IsObjectAnswer}
 use Rattle.rq_standard.specs.Held.{Held, holds, AreHeldDetermining}
-use Rattle.rq_standard.specs.Standing.{State, IsHeldOf, BlockStandsFor, StandsForButLate, append_both, joined, result_of, AnswersObject}
+use Rattle.rq_standard.specs.Standing.{State, IsHeldOf, BlockStandsFor, StandsForButLate, append_both, joined, result_of, AnswersObject, AnswersNothingElse}
 use Rattle.rq_standard.specs.Differences.{AreUnansweredDetermined, IsNoneWhereAnswered}
 use Rattle.rq_standard.proofs.BlockCuts.{pieces, whole_object}
 use Rattle.rq_standard.proofs.Known.{block_same}
@@ -103,7 +103,7 @@ none_where_answered s difference some pos told tells table object packets st = (
 )
 
 pub answers_object : (s : State) (r : Option (List ℕ)) → 0 < s.configuration.source_blocks → 0 < s.configuration.symbol_size → r ≡ result_of s → AnswersObject s r
-answers_object s r some pos is table object packets late st = (
-  the_object table object packets s late some pos st r is,
-  λ now. subst (IsObjectAnswer table s.configuration object packets) (sym is) (exactly table object packets s late some pos st now),
-)
+answers_object s r some pos is table object packets st = subst (IsObjectAnswer table s.configuration object packets) (sym is) (exactly table object packets s (λ _. false) some pos st (λ b. refl))
+
+pub answers_nothing_else : (s : State) (r : Option (List ℕ)) → 0 < s.configuration.source_blocks → 0 < s.configuration.symbol_size → r ≡ result_of s → AnswersNothingElse s r
+answers_nothing_else s r some pos is table object packets late st = the_object table object packets s late some pos st r is

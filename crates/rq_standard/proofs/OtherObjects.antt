@@ -20,15 +20,20 @@ use Rattle.rq_standard.specs.Received.{or_later, payload_for, first_payload, has
 use Rattle.rq_standard.specs.Headline.{IsNonsingular, IsEncodingSymbol, SolvesZeros, known_ids, block_row, block_source, IsPacketOf, HasNonsingularRows, IsAnswerable, IsObjectAnswer, IsHonestRun, IsOnlyObject}
 use Rattle.rq_standard.specs.Held.{Held, holds}
 use Rattle.rq_standard.specs.Standing.{State, IsHeldOf, BlockStandsFor, AnswersObject, AnswersOnlyObject}
-use Rattle.rq_standard.specs.Differences.{xor_bytes, EncodesToZeros, HoldsNonsingularRows, IsDifference, MakesOthersFit, plain_sum, first_octet}
+use Rattle.rq_standard.specs.Differences.{xor_bytes, HoldsNonsingularRows, IsDifference, MakesOthersFit, plain_sum}
 use Rattle.rq_standard.proofs.BlockCuts.{block_byte}
 use Rattle.rq_standard.proofs.Columns.{sum_symbol}
 use Rattle.rq_standard.proofs.Differences.{length-zero, add_zero_symbols, encoding-add, known_are_zeros, zeros_solve, zeros_are_octets, zeros_encode, no_change_is_zero, some_change}
-use Rattle.rq_standard.proofs.FirstOctets.{first_octets_object, zero_octets, length-first_octets_object, block_of_first_octets, symbol_of_object, object_at_first, first_is_before_end}
+use Rattle.rq_standard.proofs.FirstOctets.{first_octet, first_octets_object, zero_octets, length-first_octets_object, block_of_first_octets, symbol_of_object, object_at_first, first_is_before_end}
 use Rattle.rq_standard.proofs.Interleaved.{get_or-symbol_of_block}
 use Rattle.rq_standard.proofs.OneObject.{one_object}
 use Rattle.rq_standard.proofs.PlainCut.{length-block_bytes}
 use Rattle.rq_standard.proofs.Standing.{length-symbol_of_block, length-block_source, source_at}
+
+-- bytes of an object whose symbols with these ids, of each block, are zero
+pub record EncodesToZeros (table : List TableRow) (c : Configuration) (has : ℕ → ℕ → Bool) (bytes : List ℕ) : Type 0 where
+  pub long : length bytes ≡ c.transfer_length
+  pub zeros : (b e : ℕ) → b < c.source_blocks → has b e ≡ true → IsEncodingSymbol (block_row table c b) c.symbol_size (block_source c bytes b) e (zero_symbol c.symbol_size)
 
 -- a block over a row of a table that has room for it
 pub record HasRow (row : TableRow) (k : ℕ) : Type 0 where
@@ -206,7 +211,7 @@ module _ (table : List TableRow) (c : Configuration) (pos : 0 < c.symbol_size) (
 pub answers_only : (s : State) (answer : Option (List ℕ)) → 0 < s.configuration.source_blocks → 0 < s.configuration.symbol_size → IsAligned s.configuration → AnswersObject s answer → AnswersOnlyObject s answer
 answers_only s answer some pos aligned is table object packets st =
     let c = s.configuration in
-    let own = (is table object packets (λ _. false) st).1 (λ b. refl) in
+    let own = is table object packets st in
     let rows : (b : ℕ) → b < c.source_blocks → HasRow (block_row table c b) (block_symbols c b) = λ b below. row_of_shape table c b (s.held b) (st.shape b below) in (
       λ h other fits. one_object table c object other packets pos some aligned (λ b l. (rows b l).checked) (λ b l. (rows b l).fits) st.run fits (own.only h),
       λ only. subst IsSome (sym (own.whole (only_is_answerable table c pos some aligned rows object packets st.run only))) refl,

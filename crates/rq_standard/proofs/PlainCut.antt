@@ -7,7 +7,7 @@ use Rattle.std.proofs.lemmas.Bool.{le-ltb}
 use Rattle.std.proofs.lemmas.List.{length-take-le, drop-append-le, take-append-le, drop_at, take_all, get_or-take, get_or-drop, ext_get_or}
 use Rattle.std.proofs.lemmas.List.FromFn.{length-map-range_with_len, get_or-map-range_with_len}
 use Rattle.rq_standard.specs.Configuration.{Configuration}
-use Rattle.rq_standard.specs.Cutting.{block_symbols, sub_block_count, sub_block_parts, larger_bytes, sub_block_size, sub_block_start, place_in_block, block_bytes, symbol_of_block, plain_symbol, HasOneSubBlock}
+use Rattle.rq_standard.specs.Cutting.{block_symbols, sub_block_count, sub_block_parts, larger_bytes, sub_block_size, sub_block_start, place_in_block, block_bytes, symbol_of_block, plain_symbol}
 
 -- the n bytes from a place on, as a list made from a function of the place
 pub map-range_is_take : (xs : List ℕ) (f : ℕ → ℕ) (a n : ℕ) → a + n ≤ length xs → ((i : ℕ) → i < n → f i ≡ get_or xs (a + i) 0) → map f (range_with_len 0 n) ≡ take n (drop a xs)
@@ -43,6 +43,12 @@ pub plain_symbols-push : (f : ℕ → Option (List ℕ)) (size e : ℕ) (xs ys :
 plain_symbols-push f size e xs ys h l each last = below_more (λ k. f k ≡ Some (plain_symbol size (xs ++ ys) k)) e
     (λ k below. each k below ∙ ap (λ s. Some s) (sym (plain_symbol-append size k xs ys (let b : k + 1 ≤ e = omega arith in omega (arith, mul-le-mul_right size b)))))
     (last ∙ ap (λ s. Some s) (sym (plain_symbol-last size e xs ys h l)))
+
+-- a configuration whose blocks have one sub-block
+pub record HasOneSubBlock (c : Configuration) : Type 0 where
+  pub one : c.sub_blocks ≤ 1
+  pub aligned : c.symbol_size % c.alignment ≡ 0
+  pub alignment_positive : 0 < c.alignment
 
 one_sub_block : (n : ℕ) → n ≤ 1 → sub_block_count n ≡ 1
 unfolding sub_block_count

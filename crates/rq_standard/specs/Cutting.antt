@@ -1,5 +1,5 @@
 -- How an object is cut into source blocks, sub-blocks and symbols (RFC 6330, 4.4.1), by formulas of places.
-use Rattle.std.specs.Prelude.{◌≡◌, ℕ, zero, suc, ◌<◌, ◌≤◌, ◌%◌, ◌+◌, ◌-◌, ◌*◌, ◌/◌, min, List, map, take, drop, slice_index, if◌then◌else◌, nat_lt}
+use Rattle.std.specs.Prelude.{ℕ, zero, suc, ◌+◌, ◌-◌, ◌*◌, ◌/◌, min, List, map, take, drop, slice_index, if◌then◌else◌, nat_lt}
 use Rattle.std.specs.List.{range_with_len}
 use Rattle.rq_standard.specs.Partition.{Parts, parts_of}
 use Rattle.rq_standard.specs.Configuration.{Configuration, total_symbols}
@@ -70,9 +70,3 @@ plain_symbol size symbols e = take size (drop (e * size) symbols)
 -- source symbol e of block b of an object
 abbrev pub source_symbol : Configuration → List ℕ → ℕ → ℕ → List ℕ
 source_symbol c object b e = symbol_of_block c (block_symbols c b) (block_bytes c object b) e
-
--- a configuration whose blocks have one sub-block
-pub record HasOneSubBlock (c : Configuration) : Type 0 where
-  pub one : c.sub_blocks ≤ 1
-  pub aligned : c.symbol_size % c.alignment ≡ 0
-  pub alignment_positive : 0 < c.alignment

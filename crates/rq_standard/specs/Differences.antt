@@ -1,5 +1,5 @@
 -- What several objects that make the same packets differ by.
-use Rattle.std.specs.Prelude.{◌≡◌, ◌≢◌, ℕ, ◌-◌, ◌*◌, ◌/◌, ◌%◌, ◌<◌, Bool, true, List, ◌∷◌, length, map, slice_index, Option, None, IsNone, IsSome, ◌↔◌, if◌then◌else◌, ◌==◌, ◌&&◌, nat_lt}
+use Rattle.std.specs.Prelude.{◌≡◌, ◌≢◌, ℕ, ◌-◌, ◌*◌, ◌/◌, ◌%◌, ◌<◌, Bool, true, List, length, map, slice_index, Option, None, IsNone, IsSome, ◌↔◌, if◌then◌else◌, ◌==◌, ◌&&◌, nat_lt}
 use Rattle.std.specs.List.{range_with_len}
 use Rattle.rq_algebra.specs.Symbols.{add_symbols}
 use Rattle.rq_algebra.specs.Systems.{dot}
@@ -17,11 +17,6 @@ use Rattle.rq_standard.specs.Standing.{State, StandsForButLate, StandsFor, resul
 -- the xor of two objects, byte by byte
 abbrev pub xor_bytes : List ℕ → List ℕ → List ℕ
 xor_bytes = add_symbols octets
-
--- bytes of an object whose symbols with these ids, of each block, are zero
-pub record EncodesToZeros (table : List TableRow) (c : Configuration) (has : ℕ → ℕ → Bool) (bytes : List ℕ) : Type 0 where
-  pub long : length bytes ≡ c.transfer_length
-  pub zeros : (b e : ℕ) → b < c.source_blocks → has b e ≡ true → IsEncodingSymbol (block_row table c b) c.symbol_size (block_source c bytes b) e (zero_symbol c.symbol_size)
 
 -- ---- what a decoder answers
 
@@ -59,9 +54,6 @@ MakesOthersFit s bytes =
 -- the octet that a plain column has for an internal symbol id
 abbrev pub plain_sum : TableRow → (ℕ → ℕ) → ℕ → ℕ
 plain_sum row column x = dot octets (intermediate_symbols row) (symbol_coefficient row x) column
-
-abbrev pub first_octet : ℕ → ℕ → List ℕ
-first_octet size octet = octet ∷ zero_symbol (size - 1)
 
 -- the block of k symbols that have these first octets: they stand where the first sub-block has the first byte of each symbol
 unfoldable pub first_octets_block : Configuration → ℕ → (ℕ → ℕ) → List ℕ

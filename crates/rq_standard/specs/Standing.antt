@@ -139,14 +139,21 @@ LeavesBlockLate old p new =
 abbrev pub LeavesOrAnswersLateBlock : State → Packet → State → Type 0
 LeavesOrAnswersLateBlock old p new = LeavesBlockLate old p new ⊎ AnswersLateBlock old p new
 
--- what a decoder that stands for a list answers: the object and nothing else, and that exactly where the list determines it, unless a block is late
+-- what a decoder that stands for a list answers: the object, exactly where the list determines it
 abbrev pub AnswersObject : State → Option (List ℕ) → Type 0
 AnswersObject s answer =
+    (table : List TableRow) (object : List ℕ) (packets : List Packet)
+    → StandsFor table object packets s
+    → IsObjectAnswer table s.configuration object packets answer
+
+-- where blocks may be late, too, it answers the object or nothing
+abbrev pub AnswersNothingElse : State → Option (List ℕ) → Type 0
+AnswersNothingElse s answer =
     (table : List TableRow) (object : List ℕ) (packets : List Packet) (late : ℕ → Bool)
     → StandsForButLate late table object packets s
-    → IfSome answer (λ bytes. bytes ≡ object) × (((b : ℕ) → late b ≡ false) → IsObjectAnswer table s.configuration object packets answer)
+    → IfSome answer (λ bytes. bytes ≡ object)
 
--- No decoder can do better: where it stands for a list, with no block late, there is an answer exactly where no other object fits the list.
+-- No decoder can do better: where it stands for a list there is an answer exactly where no other object fits the list.
 abbrev pub AnswersOnlyObject : State → Option (List ℕ) → Type 0
 AnswersOnlyObject s answer =
     (table : List TableRow) (object : List ℕ) (packets : List Packet)

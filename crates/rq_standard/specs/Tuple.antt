@@ -39,7 +39,7 @@ tuple_of w j p1 x =
     let d = degree (rand y 0 (2 ^ 20)) w in
     (d, 1 + rand y 1 (w - 1), rand y 2 w, 2 + (if nat_lt d 4 then rand x 3 2 else 0), 1 + rand x 4 (p1 - 1), rand x 5 p1)
 
--- a tuple in the ranges that walks need
+-- the ranges of its numbers
 pub record IsTuple (w p1 : ℕ) (t : Tuple) : Type 0 where
   pub some : 1 ≤ t.0
   pub few : t.0 ≤ 30

@@ -16,7 +16,7 @@ use Rattle.rq_streams.specs.declared.run.Outcome.TheVariants.{Written, Incomplet
 use Rattle.rq_streams.specs.declared.run.Stop.{Stop}
 use Rattle.rq_streams.specs.declared.run.Stop.TheVariants.{Fault, Refused}
 use Rattle.rq_streams.specs.Ends.{Wanted, AnswersAs, EndsAs, Ends, AfterRefusal}
-use Rattle.rq_streams.specs.Frames.{frame_size, frame_refusal, first_refusal, frames_refusal}
+use Rattle.rq_streams.specs.Frames.{frame_size, frame_refusal, frames_refusal}
 use Rattle.rq_streams.specs.ReceivedStreams.{header_configuration, taken_configuration, received_configuration, receive_refusal}
 
 pub answers_of : {X Y : Type 0} (view : X → Y) (r : Result X Error) (wanted : Result Y Error) → IsAnswer view r wanted → Answers view r wanted
@@ -54,15 +54,6 @@ frame_refusal-whole c size frame p read is whole =
     ap (λ a. refused_by a (ltb (length frame) (frame_size c)) r) (read_is frame p read).0
     ∙ ap (λ b. refused_by false b r) (le-ltb (length frame) (frame_size c) (subst (λ n. n ≤ length frame) is whole))
     ∙ ap (packet_refusal c) (read_is frame p read).1
-
--- a frame that is taken leaves the refusal to those behind it
-pub first_refusal-next : (c : Configuration) (frame : List ℕ) (frames : List (List ℕ)) (x : Unit {0}) → frame_refusal c frame ≡ Ok x → first_refusal c (frame ∷ frames) ≡ first_refusal c frames
-first_refusal-next c frame frames x taken = ap (λ r. and_then r (λ _. first_refusal c frames)) taken
-
--- one that isn't ends them
-pub first_refusal-here : (c : Configuration) (frame : List ℕ) (frames : List (List ℕ)) (e : Error) → (e ≡ OutOfMemory) ⊎ (frame_refusal c frame ≡ Err e) → (e ≡ OutOfMemory) ⊎ (first_refusal c (frame ∷ frames) ≡ Err e)
-first_refusal-here c frame frames e (inl h) = inl h
-first_refusal-here c frame frames e (inr h) = inr (ap (λ r. and_then r (λ _. first_refusal c frames)) h)
 
 abbrev read_of : Configuration → Result Configuration Error
 read_of c = Ok c

@@ -11,7 +11,7 @@ use Rattle.rq_standard.specs.TableRows.{greatest_size}
 use Rattle.rq_standard.specs.Configuration.{Configuration, header_bytes}
 use Rattle.rq_standard.specs.Streams.{frames_of, stream_of}
 use Rattle.rq_base.specs.Defaults.{wanted_parameters}
-use Rattle.raptorq.specs.Encoded.{packets_refusal}
+use Rattle.raptorq.specs.Encoder.{packets_refusal}
 use Rattle.raptorq.specs.Refused.{new_encoder}
 use Rattle.rq_streams.specs.Ends.{Wanted}
 use Rattle.rq_streams.specs.Sent.{sent_configuration, IsStreamSent, Sends, IsSent}

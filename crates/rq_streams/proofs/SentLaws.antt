@@ -18,7 +18,7 @@ use Rattle.rq_standard.specs.TableRows.{greatest_size, IsTable}
 use Rattle.rq_base.specs.Defaults.{wanted_parameters}
 use Rattle.rq_base.specs.RefusedInput.{checked_configuration}
 use Rattle.raptorq.specs.Refused.{new_encoder}
-use Rattle.raptorq.specs.Encoded.{packets_refusal}
+use Rattle.raptorq.specs.Encoder.{packets_refusal}
 use Rattle.rq_streams.specs.Sent.{sent_configuration, IsStreamSent, Sends, IsSent}
 use Rattle.rq_streams.specs.SentStreams.{IsSentStream}
 

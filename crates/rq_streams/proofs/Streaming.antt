@@ -17,11 +17,13 @@ use Rattle.rq_standard.proofs.HeaderBytes.{configuration_of_bytes-header_bytes}
 use Rattle.rq_standard.proofs.BlockRows.{block_has_row, answerable_only}
 use Rattle.rq_base.specs.RefusedInput.{checked_configuration, read_packet}
 use Rattle.raptorq.proofs.Lists.{packet_refusal-packet}
-use Rattle.rq_streams.specs.Frames.{frame_size, frame_refusal, first_refusal, frames_refusal}
+use Rattle.rq_bytes.specs.Refusals.{first_refusal}
+use Rattle.rq_bytes.proofs.RefusalFacts.{first_refusal-next}
+use Rattle.rq_streams.specs.Frames.{frame_size, frame_refusal, frames_refusal}
 use Rattle.rq_streams.specs.ReceivedStreams.{header_configuration, FillsFrame, IsStreamOf, AnswersStream, RefusesStream, WantsDetermined, WantsOnlyObject}
 use Rattle.rq_streams.specs.Ends.{Wanted}
 use Rattle.rq_streams.proofs.Cutting.{frames_in-frames_of}
-use Rattle.rq_streams.proofs.Refusing.{frame_refusal-whole, first_refusal-next}
+use Rattle.rq_streams.proofs.Refusing.{frame_refusal-whole}
 use Rattle.rq_streams.proofs.Taking.{read_back, length-packet_bytes, all_fill}
 
 abbrev taken : Configuration → Result Configuration Error
@@ -77,13 +79,13 @@ frame_unrefused table c object p h =
     let read : read_packet (packet_bytes p) ≡ Ok p = ap (λ b. cond b (Err PacketTooShort) (Ok (packet_of_bytes (packet_bytes p)))) enough ∙ ap (λ q. Ok q) (read_back table c object p h) in
     frame_refusal-whole c (frame_size c) (packet_bytes p) p read refl whole ∙ packet_refusal-packet table c object p h.row h.source
 
-all_unrefused : (table : List TableRow) (c : Configuration) (object : List ℕ) (packets : List Packet) → AllByRecursion (FillsFrame table c object) packets → first_refusal c (map packet_bytes packets) ≡ Ok tt
+all_unrefused : (table : List TableRow) (c : Configuration) (object : List ℕ) (packets : List Packet) → AllByRecursion (FillsFrame table c object) packets → first_refusal (frame_refusal c) (map packet_bytes packets) ≡ Ok tt
 all_unrefused table c object [] h = refl
-all_unrefused table c object (p ∷ packets) h = first_refusal-next c (packet_bytes p) (map packet_bytes packets) tt (frame_unrefused table c object p h.0) ∙ all_unrefused table c object packets h.1
+all_unrefused table c object (p ∷ packets) h = first_refusal-next (frame_refusal c) (packet_bytes p) (map packet_bytes packets) tt (frame_unrefused table c object p h.0) ∙ all_unrefused table c object packets h.1
 
 -- no frame of a packet that fills it is refused
 pub frames_unrefused : (table : List TableRow) (c : Configuration) (object : List ℕ) (packets : List Packet) → AllByRecursion (FillsFrame table c object) packets → frames_refusal c (frames_of packets) ≡ Ok tt
-frames_unrefused table c object packets h = ap (first_refusal c) (frames_in-frames_of (frame_size c) packets (omega arith) (all_fill table c object packets h)) ∙ all_unrefused table c object packets h
+frames_unrefused table c object packets h = ap (first_refusal (frame_refusal c)) (frames_in-frames_of (frame_size c) packets (omega arith) (all_fill table c object packets h)) ∙ all_unrefused table c object packets h
 
 none_of : (a : Option (List ℕ)) → (IsSome a → ⊥) → a ≡ None
 none_of None h = refl

@@ -1,10 +1,10 @@
 -- The frames behind a stream's header, and why one of them is refused.
-use Rattle.std.specs.Prelude.{ℕ, ◌+◌, ◌*◌, List, [], ◌∷◌, length, take, drop, map, Result, Ok, Err, if◌then◌else◌, nat_lt}
+use Rattle.std.specs.Prelude.{ℕ, ◌+◌, ◌*◌, List, length, take, drop, map, Result, Ok, Err, if◌then◌else◌, nat_lt}
 use Rattle.std.specs.List.{range_with_len}
 use Rattle.std.specs.Int.{div_ceil}
 use Rattle.rq_bytes.specs.declared.error.Error.{Error}
 use Rattle.rq_bytes.specs.declared.error.Error.TheVariants.{PacketTooShort, WrongPayloadSize}
-use Rattle.rq_bytes.specs.Refusals.{and_then}
+use Rattle.rq_bytes.specs.Refusals.{first_refusal}
 use Rattle.rq_standard.specs.Packet.{packet_of_bytes}
 use Rattle.rq_standard.specs.Configuration.{Configuration}
 use Rattle.raptorq.specs.Refused.{packet_refusal}
@@ -24,11 +24,6 @@ frame_refusal c frame =
     else if nat_lt (length frame) (frame_size c) then Err WrongPayloadSize
     else packet_refusal c (packet_of_bytes frame)
 
--- the first refusal in the order of the frames
-abbrev pub first_refusal : Configuration → List (List ℕ) → Result (Unit {0}) Error
-first_refusal c [] = Ok tt
-first_refusal c (frame ∷ frames) = and_then (frame_refusal c frame) (λ _. first_refusal c frames)
-
--- the same of the bytes behind a header
+-- the first refusal of the frames behind a header
 abbrev pub frames_refusal : Configuration → List ℕ → Result (Unit {0}) Error
-frames_refusal c bytes = first_refusal c (frames_in (frame_size c) bytes)
+frames_refusal c bytes = first_refusal (frame_refusal c) (frames_in (frame_size c) bytes)

@@ -10,7 +10,7 @@ use Rattle.rq_standard.specs.Headline.{HasNonsingularRows}
 use Rattle.rq_standard.specs.Streams.{stream_of}
 use Rattle.rq_standard.specs.TableRows.{greatest_size}
 use Rattle.rq_base.specs.Defaults.{wanted_parameters}
-use Rattle.raptorq.specs.Encoded.{packets_refusal}
+use Rattle.raptorq.specs.Encoder.{packets_refusal}
 use Rattle.raptorq.specs.Refused.{new_encoder}
 use Rattle.rq_streams.specs.declared.run.Outcome.{Outcome}
 use Rattle.rq_streams.specs.declared.run.Stop.{Stop}

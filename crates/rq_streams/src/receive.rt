@@ -5,7 +5,7 @@ ghost use Rattle.rq_bytes.specs.Refusals.{Answers};
 ghost use Rattle.rq_standard.specs.Packet.{packet_of_bytes};
 ghost use Rattle.rq_standard.specs.Standing.{StandsForMore};
 ghost use Rattle.rq_standard.specs.TableRows.{greatest_size};
-ghost use Rattle.raptorq.specs.Objects.{state_of};
+ghost use Rattle.raptorq.specs.Decoder.{state_of};
 ghost use Rattle.rq_streams.specs.Counted.{failed_count, inner_of};
 ghost use Rattle.rq_streams.specs.Ends.{AfterRefusal, failed_calls};
 ghost use Rattle.rq_streams.specs.Frames.{frame_size, frame_refusal, frames_refusal};

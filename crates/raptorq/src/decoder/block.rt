@@ -100,7 +100,7 @@ impl SourceBlockDecoder {
     ghost use Rattle.rq_standard.specs.TableRows.{greatest_size, intermediate_symbols};
     ghost use Rattle.raptorq.specs.Known.{SolvesBlock, IsHeldSolution, rebuilt_symbol};
     ghost use Rattle.raptorq.specs.Refused.{checked_block, block_refusal};
-    ghost use Rattle.raptorq.specs.Blocks.{held_of, empty_block};
+    ghost use Rattle.raptorq.specs.SourceBlockDecoder.{held_of, empty_block};
     ghost use Rattle.raptorq.specs.Decoding.{DecodesFrom, DecodesFromUntil, shown};
     ghost use Rattle.raptorq.specs.Stopping.{StopsPacket};
     ghost use Rattle.std.specs.Iterator.{IsFinite};
@@ -189,10 +189,7 @@ impl SourceBlockDecoder {
         requires { (it : I.IntoIter) → I.into_iter_gives packets it → I.IntoIter.can_next it × IsFinite (I.IntoIter.remaining it) }
         ensures { DecodesFrom I.into_iter_gives I.IntoIter.next_gives packets (held_of self.old) (shown vec_items result) (held_of self.new) }
     {
-        match self.decode_until_stopped(packets) {
-            Ok(block) => Ok(block),
-            Err(stopped) => Err(stopped.refusal()),
-        }
+        Ok(self.decode_until_stopped(packets)?)
     }
 
     // The same, naming where the work stopped.
@@ -206,10 +203,10 @@ impl SourceBlockDecoder {
         for packet in packets {
             self.add(packet)?;
         }
-        match self.answer() {
-            Ok(block) => Ok(block),
-            Err(_) => Err(Stopped::NotSolved),
-        }
+        let Ok(block) = self.answer() else {
+            return Err(Stopped::NotSolved);
+        };
+        Ok(block)
     }
 
     /// An octet for each intermediate symbol, not all of them zero, that together solve the block's
@@ -344,7 +341,7 @@ impl SourceBlockDecoder {
 }
 
 impl Clone for SourceBlockDecoder {
-    ghost use Rattle.raptorq.specs.Blocks.{held_of};
+    ghost use Rattle.raptorq.specs.SourceBlockDecoder.{held_of};
 
     ghost is_clone = { λ a b. held_of b ≡ held_of a };
 

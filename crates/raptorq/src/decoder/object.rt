@@ -1,14 +1,14 @@
 //! The decoder of an object.
 ghost use Rattle.std.specs.Prelude.{◌≡◌, ◌≢◌, ◌↔◌, ℕ, ◌*◌, ◌<◌, List, [], length, Ok, Some, None, IfSome, IfOk, IfErr, OnOk, OnErr, ◌⊎◌, All, map, option_map, vec_items, is_some, IsSome};
 ghost use Rattle.std.specs.List.{range_with_len, AllByRecursion};
-ghost use Rattle.rq_bytes.specs.Refusals.{IsAnswer, IsRefusal};
+ghost use Rattle.rq_bytes.specs.Refusals.{Answers, IsAnswer, IsRefusal};
 ghost use Rattle.rq_standard.specs.Configuration.{IsAccepted, IsAligned, largest_block, total_symbols};
 ghost use Rattle.rq_standard.specs.Cutting.{block_symbols};
 ghost use Rattle.rq_standard.specs.Headline.{AnswersExactly, AnswersWhereAnyCan};
-ghost use Rattle.raptorq.specs.Runs.{packets_of, RefusesConfiguration};
+ghost use Rattle.raptorq.specs.Runs.{packets_of, run_refusal, RefusesConfiguration};
 ghost use Rattle.rq_standard.specs.TableRows.{greatest_size};
 ghost use Rattle.rq_base.specs.RefusedInput.{checked_configuration};
-ghost use Rattle.raptorq.specs.Blocks.{held_of};
+ghost use Rattle.raptorq.specs.SourceBlockDecoder.{held_of};
 
 use crate::blocks::block_symbols;
 use crate::decoder::block::SourceBlockDecoder;
@@ -29,7 +29,7 @@ impl ObjectBlock {
     ghost use Rattle.raptorq.specs.Difference.{ShowsUnanswered};
     ghost use Rattle.rq_standard.specs.Standing.{IsHeldOf, new_held, new_answer};
     ghost use Rattle.raptorq.specs.Stopping.{TakesInBlock};
-    ghost use Rattle.raptorq.specs.Objects.{answer_of};
+    ghost use Rattle.raptorq.specs.Decoder.{answer_of};
     ghost use Rattle.raptorq.specs.Refused.{block_refusal};
 
     /// A block that has no packets. It is answered where it has no symbols.
@@ -69,13 +69,11 @@ impl ObjectBlock {
             return Ok(());
         }
         self.decoder.add(packet)?;
-        match self.decoder.answer() {
-            Ok(answer) => {
-                self.answer = answer;
-                Ok(())
-            }
-            Err(_) => Err(Stopped::NotSolved),
-        }
+        let Ok(answer) = self.decoder.answer() else {
+            return Err(Stopped::NotSolved);
+        };
+        self.answer = answer;
+        Ok(())
     }
 
     /// A column of octets that shows that the block isn't determined, where it has no answer.
@@ -91,7 +89,7 @@ impl ObjectBlock {
 }
 
 impl Clone for ObjectBlock {
-    ghost use Rattle.raptorq.specs.Objects.{answer_of};
+    ghost use Rattle.raptorq.specs.Decoder.{answer_of};
 
     ghost is_clone = { λ a b. (held_of b.decoder ≡ held_of a.decoder) × (answer_of b ≡ answer_of a) };
 
@@ -120,11 +118,11 @@ pub struct Decoder {
 impl Decoder {
     ghost use Rattle.rq_standard.specs.Differences.{AreUnansweredDetermined, IsDifference, IsNoneWhereAnswered, MakesOthersFit};
     ghost use Rattle.rq_standard.specs.Standing.{IsNewState, Adds, Stops, StopsEarly, result_of};
-    ghost use Rattle.rq_standard.specs.Standing.{StandsForNone, StandsForMore, AnswersLateBlock, LeavesBlockLate, LeavesOrAnswersLateBlock, AnswersObject, AnswersOnlyObject};
+    ghost use Rattle.rq_standard.specs.Standing.{StandsForNone, StandsForMore, AnswersLateBlock, LeavesBlockLate, LeavesOrAnswersLateBlock, AnswersObject, AnswersNothingElse, AnswersOnlyObject};
     ghost use Rattle.raptorq.specs.Decoding.{shown};
     ghost use Rattle.raptorq.specs.Stopping.{StopsAsTested, Takes, TakesAndJoins};
     ghost use Rattle.raptorq.specs.Refused.{packet_refusal};
-    ghost use Rattle.raptorq.specs.Objects.{state_of};
+    ghost use Rattle.raptorq.specs.Decoder.{state_of};
 
     /// A decoder that stands for no packets.
     ///
@@ -195,10 +193,7 @@ impl Decoder {
         ensures answers_late { OnOk result (AnswersLateBlock (state_of self.old) packet (state_of self.new)) }
         ensures leaves_late { IfErr result (λ e. e ≡ Error.OutOfMemory → LeavesBlockLate (state_of self.old) packet (state_of self.new)) }
     {
-        match self.take(packet) {
-            Ok(()) => Ok(()),
-            Err(stopped) => Err(stopped.refusal()),
-        }
+        Ok(self.take(packet)?)
     }
 
     // Whether each block has an answer.
@@ -217,6 +212,7 @@ impl Decoder {
     pub fn get_result(&self) -> Result<Option<Vec<u8>>, Error>
         ensures value { IfOk result (λ r. option_map vec_items r ≡ result_of (state_of self.now)) }
         ensures object { IfOk result (λ r. AnswersObject (state_of self.now) (option_map vec_items r)) }
+        ensures nothing_else { IfOk result (λ r. AnswersNothingElse (state_of self.now) (option_map vec_items r)) }
         ensures only_object { IfOk result (λ r. AnswersOnlyObject (state_of self.now) (option_map vec_items r)) }
         ensures memory { IfErr result (λ e. e ≡ Error.OutOfMemory) }
     {
@@ -283,10 +279,10 @@ impl Decoder {
         ensures configuration { (state_of self.new).configuration ≡ (state_of self.old).configuration }
     {
         self.take(packet)?;
-        match self.get_result() {
-            Ok(object) => Ok(object),
-            Err(_) => Err(Stopped::NotJoined),
-        }
+        let Ok(object) = self.get_result() else {
+            return Err(Stopped::NotJoined);
+        };
+        Ok(object)
     }
 
     /// Takes a packet and answers the object, where each of its blocks is determined.
@@ -301,6 +297,7 @@ impl Decoder {
         ensures stops { IfErr result (λ e. e ≡ Error.OutOfMemory → Stops (state_of self.old) packet (state_of self.new)) }
         ensures value { IfOk result (λ r. option_map vec_items r ≡ result_of (state_of self.new)) }
         ensures object { IfOk result (λ r. AnswersObject (state_of self.new) (option_map vec_items r)) }
+        ensures nothing_else { IfOk result (λ r. AnswersNothingElse (state_of self.new) (option_map vec_items r)) }
         ensures only_object { IfOk result (λ r. AnswersOnlyObject (state_of self.new) (option_map vec_items r)) }
         ensures configuration { (state_of self.new).configuration ≡ (state_of self.old).configuration }
 
@@ -309,15 +306,12 @@ impl Decoder {
         ensures answers_late { OnOk result (AnswersLateBlock (state_of self.old) packet (state_of self.new)) }
         ensures leaves_late { IfErr result (λ e. e ≡ Error.OutOfMemory → LeavesOrAnswersLateBlock (state_of self.old) packet (state_of self.new)) }
     {
-        match self.take_and_join(packet) {
-            Ok(object) => Ok(object),
-            Err(stopped) => Err(stopped.refusal()),
-        }
+        Ok(self.take_and_join(packet)?)
     }
 }
 
 impl Clone for Decoder {
-    ghost use Rattle.raptorq.specs.Objects.{state_of};
+    ghost use Rattle.raptorq.specs.Decoder.{state_of};
 
     ghost is_clone = { λ a b. state_of b ≡ state_of a };
 
@@ -351,6 +345,7 @@ pub fn decode_all(
     config: ObjectTransmissionInformation,
     steps: Vec<(u32, EncodingPacket)>,
 ) -> Result<Option<Vec<u8>>, Error>
+    ensures in_order { Answers (λ _. tt) result (run_refusal table.now config (packets_of steps.items)) }
     ensures refused { IfErr result (RefusesConfiguration table.now config (packets_of steps.items)) }
     ensures headline { IfOk result (λ r. AnswersExactly table.now config (packets_of steps.items) (option_map vec_items r)) }
     ensures only_object { IfOk result (λ r. AnswersWhereAnyCan table.now config (packets_of steps.items) (option_map vec_items r)) }

@@ -18,12 +18,11 @@ pub(crate) enum Stopped {
     NotJoined,
 }
 
-impl Stopped {
-    /// The refusal that a caller sees.
-    pub(crate) fn refusal(self) -> Error
-        ensures { result ≡ refusal_of self }
-    {
-        match self {
+impl From<Stopped> for Error {
+    ghost from_gives = { λ stopped e. e ≡ refusal_of stopped };
+
+    fn from(stopped: Stopped) -> Error {
+        match stopped {
             Stopped::Refused(e) => e,
             Stopped::NotRecorded | Stopped::NotSolved | Stopped::NotJoined => Error::OutOfMemory,
         }

@@ -37,10 +37,10 @@ pub struct SourceBlockEncoder {
 }
 
 impl SourceBlockEncoder {
-    ghost use Rattle.raptorq.specs.BlockEncoded.{block_encoded_of, AreBlockPackets};
+    ghost use Rattle.raptorq.specs.SourceBlockEncoder.{block_encoded_of, AreBlockPackets};
     ghost use Rattle.raptorq.specs.BlockData.{block_of, block_by_plan, IsPlanFor, RefusesBlock, RefusesPlanned};
-    ghost use Rattle.raptorq.specs.PlanCache.{used};
-    ghost use Rattle.raptorq.specs.Plans.{plan_of};
+    ghost use Rattle.raptorq.specs.SourceBlockEncodingPlanCache.{used};
+    ghost use Rattle.raptorq.specs.SourceBlockEncodingPlan.{plan_of};
 
     /// The encoder of the source block of these bytes, in as many symbols as they are. Its plan is
     /// the one in the cache, or a new one, which is then put in.
@@ -241,7 +241,7 @@ fn source_symbol_count(
 }
 
 impl Clone for SourceBlockEncoder {
-    ghost use Rattle.raptorq.specs.BlockEncoded.{block_encoded_of};
+    ghost use Rattle.raptorq.specs.SourceBlockEncoder.{block_encoded_of};
 
     ghost is_clone = { λ a b. block_encoded_of b ≡ block_encoded_of a };
 

@@ -1,7 +1,7 @@
 //! Encoders by their parameters.
 ghost use Rattle.std.specs.Prelude.{◌≡◌, length, IfOk, IfErr};
 ghost use Rattle.raptorq.specs.Building.{default_settings, RefusesBuilding, IsBuilt};
-ghost use Rattle.raptorq.specs.Encoded.{encoded_of};
+ghost use Rattle.raptorq.specs.Encoder.{encoded_of};
 
 use crate::encoder::Encoder;
 use rq_base::base::ObjectTransmissionInformation;

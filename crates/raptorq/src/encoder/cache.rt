@@ -3,7 +3,7 @@ ghost use Rattle.std.specs.Prelude.{◌≡◌, ◌≤◌, ◌<◌, ◌==◌, [],
 ghost use Rattle.std.specs.VecDeque.{deque_len, deque_capacity};
 ghost use Rattle.std.specs.Borrow.{sem};
 ghost use Rattle.rq_bytes.specs.Refusals.{IsAnswer};
-ghost use Rattle.raptorq.specs.PlanCache.{holds_count, used, IsPlanOver};
+ghost use Rattle.raptorq.specs.SourceBlockEncodingPlanCache.{holds_count, used, IsPlanOver};
 
 use crate::encoder::plan::SourceBlockEncodingPlan;
 use rq_bytes::error::Error;
@@ -26,7 +26,7 @@ pub struct SourceBlockEncodingPlanCache {
 impl Model for SourceBlockEncodingPlanCache {
     ghost use Rattle.std.specs.Prelude.{◌≤◌, All, length, map};
     ghost use Rattle.std.specs.VecDeque.{deque_len, deque_capacity};
-    ghost use Rattle.raptorq.specs.PlanCache.{PlanCache, IsPlanOver};
+    ghost use Rattle.raptorq.specs.SourceBlockEncodingPlanCache.{PlanCache, IsPlanOver};
 
     ghost Value = { PlanCache };
 
@@ -37,7 +37,7 @@ impl Model for SourceBlockEncodingPlanCache {
 
 impl SourceBlockEncodingPlanCache {
     ghost use Rattle.raptorq.specs.CacheLends.{EndsUsed};
-    ghost use Rattle.raptorq.specs.Plans.{plan_of, RefusesPlan};
+    ghost use Rattle.raptorq.specs.SourceBlockEncodingPlan.{plan_of, RefusesPlan};
     ghost use Rattle.raptorq.specs.Planned.{IsPlanOf};
     ghost use Rattle.rq_standard.specs.TableRows.{row_of};
 

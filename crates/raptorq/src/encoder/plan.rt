@@ -34,7 +34,7 @@ pub struct SourceBlockEncodingPlan {
 }
 
 impl SourceBlockEncodingPlan {
-    ghost use Rattle.raptorq.specs.Plans.{plan_of, plan_refusal, RefusesPlan};
+    ghost use Rattle.raptorq.specs.SourceBlockEncodingPlan.{plan_of, plan_refusal, RefusesPlan};
 
     /// The plan of source blocks with so many source symbols, over their row of the table.
     ///
@@ -131,7 +131,7 @@ impl SourceBlockEncodingPlan {
 }
 
 impl Clone for SourceBlockEncodingPlan {
-    ghost use Rattle.raptorq.specs.Plans.{plan_of};
+    ghost use Rattle.raptorq.specs.SourceBlockEncodingPlan.{plan_of};
 
     ghost is_clone = { λ a b. plan_of b ≡ plan_of a };
 

@@ -5,8 +5,8 @@ use Rattle.rq_standard.specs.Cutting.{block_symbols}
 use Rattle.rq_standard.specs.Headline.{block_row, IsNonsingular}
 use Rattle.rq_standard.specs.TableRows.{row_of}
 use Rattle.rq_standard.proofs.BlockCuts.{block_symbols_few}
-use Rattle.raptorq.specs.BlockEncoded.{block_encoded_of, new_block_encoded}
-use Rattle.raptorq.specs.Plans.{plan_of}
+use Rattle.raptorq.specs.SourceBlockEncoder.{block_encoded_of, new_block_encoded}
+use Rattle.raptorq.specs.SourceBlockEncodingPlan.{plan_of}
 use Rattle.raptorq.proofs.EncodedBlocks.{from_first, block_front, block_behind, refuses_plan, refuses_block, encoded_is}
 use Rattle.raptorq.proofs.Numbered.{mapped_more}
 use Rattle.raptorq.proofs.encoder.block_encoders.Goals as goal

@@ -2,8 +2,8 @@ use Rattle.std.proofs.Common.{◌≡◌, ℕ, ◌<◌, map}
 use Rattle.std.specs.List.{range_with_len}
 use Rattle.rq_standard.specs.TableRows.{row_of}
 use Rattle.rq_standard.specs.Headline.{IsNonsingular, block_row}
-use Rattle.raptorq.specs.BlockEncoded.{block_encoded_of, new_block_encoded}
-use Rattle.raptorq.specs.Plans.{plan_of}
+use Rattle.raptorq.specs.SourceBlockEncoder.{block_encoded_of, new_block_encoded}
+use Rattle.raptorq.specs.SourceBlockEncodingPlan.{plan_of}
 use Rattle.raptorq.proofs.EncodedBlocks.{from_block}
 use Rattle.raptorq.proofs.encoder.block_encoders.Given as goal
 

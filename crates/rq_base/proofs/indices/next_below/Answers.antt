@@ -1,11 +1,11 @@
 use Rattle.std.proofs.Common.{◌∙◌, sym, arith, ap, ℕ}
 use Rattle.rq_base.specs.Indices.{next_below}
-use Rattle.rq_base.proofs.WalkLaws.{ReachesBelow, next_step, next_here}
+use Rattle.rq_base.proofs.WalkLaws.{HasWalkEnds, next_step, next_here}
 use Rattle.rq_base.proofs.indices.next_below.Goals as goal
 
 pub loop-value-preserved : goal.loop-value-preserved
 loop-value-preserved c =
-    let ends : ReachesBelow c.args.pi_symbols c.args.p1 c.args.step = record { some = c.requires.some_step; below = c.requires.step; bound = omega arith; above = c.requires.p1_above; near = c.requires.p1_near } in
+    let ends : HasWalkEnds c.args.pi_symbols c.args.p1 c.args.step = record { some = c.requires.some_step; below = c.requires.step; bound = omega arith; above = c.requires.p1_above; near = c.requires.p1_near } in
     let step = next_step c.args.pi_symbols c.args.p1 c.args.step c.loop-value.value ends c.loop-value.invariant.within c.loop-value-test.true in
     record {
       within = c.sum_modulo-value.ensures.below;

@@ -2,7 +2,7 @@ use Rattle.std.proofs.Common.{◌≡◌, Ok, sym, subst}
 use Rattle.std.proofs.lemmas.Result.{err_from_is_err_and}
 use Rattle.rq_bytes.specs.Refusals.{IsRefusal}
 use Rattle.rq_standard.specs.ObjectPackets.{AreEncoded}
-use Rattle.raptorq.specs.Encoded.{packets_refusal}
+use Rattle.raptorq.specs.Encoder.{packets_refusal}
 use Rattle.rq_streams.proofs.Sending.{sent_packets, sent_too_many}
 use Rattle.rq_streams.proofs.send.sent_stream.Goals as goal
 

@@ -1,7 +1,7 @@
 use Rattle.std.proofs.Common.{ap, ◌∙◌, map}
 use Rattle.std.proofs.lemmas.List.{length-map}
-use Rattle.raptorq.specs.BlockEncoded.{block_encoded_of}
-use Rattle.raptorq.specs.Encoded.{no_block}
+use Rattle.raptorq.specs.SourceBlockEncoder.{block_encoded_of}
+use Rattle.raptorq.specs.Encoder.{no_block}
 use Rattle.raptorq.proofs.EncodedBlocks.{number_of, by_places}
 use Rattle.raptorq.proofs.Numbered.{length-numbered}
 use Rattle.raptorq.proofs.encoder.Encoder.get_block_encoders.Goals as goal

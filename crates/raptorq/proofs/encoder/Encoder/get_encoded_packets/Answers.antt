@@ -4,8 +4,8 @@ use Rattle.std.specs.declared.alloc.AllocError.{AllocError}
 use Rattle.std.proofs.lemmas.Iterator.Adapters.{YieldsList-from_vec, fact_from_extend}
 use Rattle.rq_standard.specs.Cutting.{block_symbols}
 use Rattle.rq_standard.proofs.BlockCuts.{first_is_largest}
-use Rattle.raptorq.specs.BlockEncoded.{block_encoded_of}
-use Rattle.raptorq.specs.Encoded.{encoded_of}
+use Rattle.raptorq.specs.SourceBlockEncoder.{block_encoded_of}
+use Rattle.raptorq.specs.Encoder.{encoded_of}
 use Rattle.raptorq.proofs.EncodedBlocks.{number_of, count_of, encoded_more, encoded_all, block_at}
 use Rattle.raptorq.proofs.Numbered.{length-numbered, mapped_at, number_at}
 use Rattle.raptorq.proofs.encoder.Encoder.get_encoded_packets.Goals as goal

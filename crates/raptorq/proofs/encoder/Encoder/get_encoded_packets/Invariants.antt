@@ -1,4 +1,4 @@
-use Rattle.raptorq.specs.Encoded.{encoded_of}
+use Rattle.raptorq.specs.Encoder.{encoded_of}
 use Rattle.raptorq.proofs.EncodedBlocks.{AreEncodedSoFar}
 use Rattle.raptorq.proofs.encoder.Encoder.get_encoded_packets.Given as goal
 

@@ -1,8 +1,8 @@
 use Rattle.std.proofs.Common.{◌≡◌, length, refl, sym, ◌∙◌}
 use Rattle.std.proofs.lemmas.Result.{err_from_is_err_and}
 use Rattle.rq_standard.specs.TableRows.{greatest_size}
-use Rattle.raptorq.specs.BlockEncoded.{block_encoded_of, new_block_encoded}
-use Rattle.raptorq.specs.Encoded.{no_block}
+use Rattle.raptorq.specs.SourceBlockEncoder.{block_encoded_of, new_block_encoded}
+use Rattle.raptorq.specs.Encoder.{no_block}
 use Rattle.raptorq.proofs.EncodedBlocks.{new_encoder-taken, refuses_singular, new_counts, new_block}
 use Rattle.raptorq.proofs.Numbered.{new_numbers}
 use Rattle.raptorq.proofs.encoder.Encoder.new.Goals as goal

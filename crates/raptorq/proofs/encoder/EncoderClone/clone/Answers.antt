@@ -1,7 +1,7 @@
 use Rattle.std.proofs.Common.{◌≡◌, List, length, get_or, map, sym, ap, ◌∙◌}
 use Rattle.std.proofs.lemmas.Simd.{map-map}
-use Rattle.raptorq.specs.BlockEncoded.{BlockEncoded, block_encoded_of}
-use Rattle.raptorq.specs.Encoded.{Encoded, no_block}
+use Rattle.raptorq.specs.SourceBlockEncoder.{BlockEncoded, block_encoded_of}
+use Rattle.raptorq.specs.Encoder.{Encoded, no_block}
 use Rattle.raptorq.proofs.PlanLaws.{map-clones}
 use Rattle.raptorq.proofs.encoder.EncoderClone.clone.Goals as goal
 

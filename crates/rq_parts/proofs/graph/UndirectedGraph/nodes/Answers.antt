@@ -8,8 +8,8 @@ use Rattle.rq_parts.proofs.graph.UndirectedGraph.nodes.Goals as goal
 use Rattle.rq_parts.proofs.graph.UndirectedGraph.nodes.Goals.{then-not-is_last+in_ok-push, else-not-is_last}
 
 -- that a node is the last of a list
-abbrev Ends : List ℕ → ℕ → Type 0
-Ends nodes x = (0 < length nodes) × (get_or nodes (length nodes - 1) 0 ≡ x)
+abbrev EndsWith : List ℕ → ℕ → Type 0
+EndsWith nodes x = (0 < length nodes) × (get_or nodes (length nodes - 1) 0 ≡ x)
 
 pub loop-end-preserved : goal.loop-end-preserved
 loop-end-preserved c =
@@ -25,10 +25,10 @@ loop-end-preserved c =
       | then-not-is_last+in_ok-push w ↦
           subst (AreDistinctOf (nodes_of ends) (i + 1)) (sym (ap (λ (v : Vec ℕ Global). v.items) w.nodes-is ∙ w.in_ok-push.ensures.items))
           (distinct_more x rise (omega (arith, length-map ends first)) c.loop-end.invariant is
-          (λ there. let yes : c.is_last.result ≡ true = c.is_last.ensures.1 (subst (λ l. Ends l x) (sym c.as_slice.ensures.value) there) in let no = w.if-not-is_last.true in absurd (cc)))
+          (λ there. let yes : c.is_last.result ≡ true = c.is_last.ensures.1 (subst (λ l. EndsWith l x) (sym c.as_slice.ensures.value) there) in let no = w.if-not-is_last.true in absurd (cc)))
       | else-not-is_last w ↦
           subst (λ (v : Vec ℕ Global). AreDistinctOf (nodes_of ends) (i + 1) v.items) (sym w.nodes-is)
-          (distinct_known x c.loop-end.invariant is (subst (λ l. Ends l x) c.as_slice.ensures.value (c.is_last.ensures.0 w.if-not-is_last.false)))
+          (distinct_known x c.loop-end.invariant is (subst (λ l. EndsWith l x) c.as_slice.ensures.value (c.is_last.ensures.0 w.if-not-is_last.false)))
     ]
 
 pub returns-clause-all : goal.returns-clause-all

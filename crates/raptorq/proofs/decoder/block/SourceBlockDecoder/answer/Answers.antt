@@ -1,6 +1,6 @@
 use Rattle.std.proofs.Common.{sym, subst, ◌∙◌, arith}
 use Rattle.raptorq.specs.Missing.{payload_of}
-use Rattle.raptorq.specs.Blocks.{held_of}
+use Rattle.raptorq.specs.SourceBlockDecoder.{held_of}
 use Rattle.raptorq.specs.Known.{SolvesBlock}
 use Rattle.raptorq.proofs.Answered.{answer-none, answer-all, some_by}
 use Rattle.raptorq.proofs.MissingCounts.{missing_count-zero}

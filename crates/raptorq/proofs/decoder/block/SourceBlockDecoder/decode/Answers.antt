@@ -1,4 +1,4 @@
-use Rattle.raptorq.specs.Blocks.{held_of}
+use Rattle.raptorq.specs.SourceBlockDecoder.{held_of}
 use Rattle.raptorq.proofs.Taking.{decodes_seen}
 use Rattle.raptorq.proofs.decoder.block.SourceBlockDecoder.decode.Goals as goal
 

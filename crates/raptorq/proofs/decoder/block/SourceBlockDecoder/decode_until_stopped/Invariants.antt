@@ -1,5 +1,5 @@
 use Rattle.std.proofs.Common.{◌≡◌}
-use Rattle.raptorq.specs.Blocks.{held_of}
+use Rattle.raptorq.specs.SourceBlockDecoder.{held_of}
 use Rattle.raptorq.specs.Decoding.{all_recorded, AreTaken}
 use Rattle.raptorq.proofs.decoder.block.SourceBlockDecoder.decode_until_stopped.Given as goal
 

@@ -5,7 +5,7 @@ use Rattle.rq_standard.specs.Differences.{plain_sum}
 use Rattle.rq_standard.proofs.Differences.{zero_dot}
 use Rattle.rq_standard.proofs.FirstOctets.{zero_octets}
 use Rattle.rq_algebra.specs.Systems.{at}
-use Rattle.raptorq.specs.Blocks.{held_of}
+use Rattle.raptorq.specs.SourceBlockDecoder.{held_of}
 use Rattle.raptorq.specs.Difference.{octets_of_column}
 use Rattle.raptorq.proofs.decoder.block.SourceBlockDecoder.difference.Goals as goal
 

@@ -1,7 +1,7 @@
 use Rattle.std.proofs.Common.{◌≡◌, Some, refl, arith}
 use Rattle.std.specs.Prelude.{Result, Ok, Err, IfOk}
 use Rattle.rq_standard.proofs.PlainCut.{plain_block-push}
-use Rattle.raptorq.specs.Blocks.{held_of}
+use Rattle.raptorq.specs.SourceBlockDecoder.{held_of}
 use Rattle.raptorq.specs.Known.{rebuilt_symbol}
 use Rattle.raptorq.proofs.Answered.{length-rebuilt, rebuilt_block}
 use Rattle.raptorq.proofs.decoder.block.SourceBlockDecoder.rebuild.Goals as goal

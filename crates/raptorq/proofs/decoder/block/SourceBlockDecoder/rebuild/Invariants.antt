@@ -1,6 +1,6 @@
 use Rattle.std.proofs.Common.{◌≡◌, ℕ, ◌*◌, ◌<◌, length, Some}
 use Rattle.rq_standard.specs.Cutting.{plain_symbol}
-use Rattle.raptorq.specs.Blocks.{held_of}
+use Rattle.raptorq.specs.SourceBlockDecoder.{held_of}
 use Rattle.raptorq.specs.Known.{rebuilt_symbol}
 use Rattle.raptorq.proofs.decoder.block.SourceBlockDecoder.rebuild.Given as goal
 

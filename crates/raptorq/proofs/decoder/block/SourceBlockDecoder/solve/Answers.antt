@@ -2,7 +2,7 @@ use Rattle.std.proofs.Common.{◌≡◌, length, refl, sym, ap, ◌∙◌, arith
 use Rattle.std.proofs.lemmas.Result.{IfOk-weaker}
 use Rattle.rq_bytes.specs.SymbolSlab.{Slab}
 use Rattle.rq_standard.specs.Equations.{equation_count}
-use Rattle.raptorq.specs.Blocks.{held_of}
+use Rattle.raptorq.specs.SourceBlockDecoder.{held_of}
 use Rattle.raptorq.specs.Known.{known_list}
 use Rattle.raptorq.proofs.HeldEquations.{too_few, count_held, solves_block}
 use Rattle.raptorq.proofs.Listing.{length-known_list}

@@ -1,5 +1,5 @@
 use Rattle.rq_standard.proofs.Standing.{stands_more, answers_late, leaves_late}
-use Rattle.raptorq.specs.Objects.{state_of}
+use Rattle.raptorq.specs.Decoder.{state_of}
 use Rattle.raptorq.proofs.Stops.{stops_early}
 use Rattle.raptorq.proofs.decoder.object.Decoder.add_new_packet.Goals as goal
 

@@ -1,7 +1,7 @@
 use Rattle.rq_standard.proofs.ObjectAnswers.{answers_object}
 use Rattle.rq_standard.proofs.OtherObjects.{answers_only}
 use Rattle.rq_standard.proofs.Standing.{stands_more, answers_late}
-use Rattle.raptorq.specs.Objects.{state_of}
+use Rattle.raptorq.specs.Decoder.{state_of}
 use Rattle.raptorq.proofs.Stops.{late_or_not}
 use Rattle.raptorq.proofs.decoder.object.Decoder.decode.Goals as goal
 

@@ -3,9 +3,9 @@ use Rattle.std.specs.Prelude.{is_none, is_some, not, option_map, vec_items, ◌&
 use Rattle.rq_standard.specs.Differences.{IsDifference}
 use Rattle.rq_standard.proofs.ObjectAnswers.{none_where_answered}
 use Rattle.rq_standard.proofs.OtherObjects.{makes_others_fit}
-use Rattle.raptorq.specs.Blocks.{held_of}
+use Rattle.raptorq.specs.SourceBlockDecoder.{held_of}
 use Rattle.raptorq.specs.Difference.{ShowsUnanswered, octets_of_column}
-use Rattle.raptorq.specs.Objects.{state_of, held_at, answer_at}
+use Rattle.raptorq.specs.Decoder.{state_of, held_at, answer_at}
 use Rattle.raptorq.specs.declared.decoder.object.Decoder.{Decoder}
 use Rattle.raptorq.proofs.Numbered.{length-numbered}
 use Rattle.raptorq.proofs.ObjectBlocks.{number_of, held_here, answer_here}

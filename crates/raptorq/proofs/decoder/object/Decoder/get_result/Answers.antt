@@ -1,9 +1,9 @@
 use Rattle.std.proofs.Common.{◌≡◌, ℕ, false, List, Option, Some, None, refl, sym, ◌∙◌}
 use Rattle.std.specs.Prelude.{is_some}
 use Rattle.rq_standard.specs.Standing.{result_of}
-use Rattle.rq_standard.proofs.ObjectAnswers.{answers_object}
+use Rattle.rq_standard.proofs.ObjectAnswers.{answers_object, answers_nothing_else}
 use Rattle.rq_standard.proofs.OtherObjects.{answers_only}
-use Rattle.raptorq.specs.Objects.{state_of}
+use Rattle.raptorq.specs.Decoder.{state_of}
 use Rattle.raptorq.proofs.decoder.object.Decoder.get_result.Goals as goal
 
 not_some : (o : Option (List ℕ)) → is_some o ≡ false → None ≡ o
@@ -15,6 +15,11 @@ returns-then-not-is_complete-clause-object c =
     let s = c.args.self.now in
     answers_object (state_of s) None s.some s.positive (not_some (result_of (state_of s)) (sym c.is_complete.ensures ∙ c.if-not-is_complete.true))
 
+pub returns-then-not-is_complete-clause-nothing_else : goal.returns-then-not-is_complete-clause-nothing_else
+returns-then-not-is_complete-clause-nothing_else c =
+    let s = c.args.self.now in
+    answers_nothing_else (state_of s) None s.some s.positive (not_some (result_of (state_of s)) (sym c.is_complete.ensures ∙ c.if-not-is_complete.true))
+
 pub returns-then-not-is_complete-clause-only_object : goal.returns-then-not-is_complete-clause-only_object
 returns-then-not-is_complete-clause-only_object c =
     let s = c.args.self.now in
@@ -24,6 +29,11 @@ pub returns-clause-object : goal.returns-clause-object
 returns-clause-object c =
     let s = c.args.self.now in
     answers_object (state_of s) (Some c.in_ok-join.field-0.items) s.some s.positive c.in_ok-join.ensures
+
+pub returns-clause-nothing_else : goal.returns-clause-nothing_else
+returns-clause-nothing_else c =
+    let s = c.args.self.now in
+    answers_nothing_else (state_of s) (Some c.in_ok-join.field-0.items) s.some s.positive c.in_ok-join.ensures
 
 pub returns-clause-only_object : goal.returns-clause-only_object
 returns-clause-only_object c =

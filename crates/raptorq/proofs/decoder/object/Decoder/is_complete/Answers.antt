@@ -1,7 +1,7 @@
 use Rattle.std.proofs.Common.{◌≡◌, ◌<◌, sym, ap, ◌∙◌, subst, arith, length, get_or}
 use Rattle.std.specs.Prelude.{IsSome, not}
 use borrow.Author.Count.{below_more}
-use Rattle.raptorq.specs.Objects.{state_of, answer_at}
+use Rattle.raptorq.specs.Decoder.{state_of, answer_at}
 use Rattle.raptorq.proofs.Numbered.{length-numbered}
 use Rattle.raptorq.proofs.ObjectBlocks.{number_of, answer_here, not_complete, complete, none_shown, some_shown}
 use Rattle.raptorq.proofs.decoder.object.Decoder.is_complete.Goals as goal

@@ -1,6 +1,6 @@
 use Rattle.std.proofs.Common.{ℕ, ◌<◌}
 use Rattle.std.specs.Prelude.{IsSome}
-use Rattle.raptorq.specs.Objects.{answer_at}
+use Rattle.raptorq.specs.Decoder.{answer_at}
 use Rattle.raptorq.proofs.decoder.object.Decoder.is_complete.Given as goal
 
 -- the blocks so far have answers

@@ -1,7 +1,7 @@
 use Rattle.std.proofs.Common.{◌≡◌, ◌<◌, ◌++◌, take, Some, ap, ◌∙◌, arith, length, get_or}
 use Rattle.std.specs.Prelude.{option_map, vec_items}
 use Rattle.rq_standard.specs.Standing.{joined}
-use Rattle.raptorq.specs.Objects.{answer_at}
+use Rattle.raptorq.specs.Decoder.{answer_at}
 use Rattle.raptorq.proofs.Numbered.{length-numbered}
 use Rattle.raptorq.proofs.ObjectBlocks.{number_of, join_next, join_some, none_otherwise}
 use Rattle.raptorq.proofs.decoder.object.Decoder.join.Goals.{in-Some+in_ok-extend_from_slice, in_default}

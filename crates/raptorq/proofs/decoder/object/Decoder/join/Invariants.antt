@@ -1,6 +1,6 @@
 use Rattle.std.proofs.Common.{◌≡◌, Some}
 use Rattle.rq_standard.specs.Standing.{joined}
-use Rattle.raptorq.specs.Objects.{answer_at}
+use Rattle.raptorq.specs.Decoder.{answer_at}
 use Rattle.raptorq.proofs.decoder.object.Decoder.join.Given as goal
 
 -- the blocks so far are joined

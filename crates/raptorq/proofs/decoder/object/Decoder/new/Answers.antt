@@ -3,8 +3,8 @@ use Rattle.std.specs.List.{range_with_len}
 use borrow.Author.Count.{below_more}
 use Rattle.rq_standard.specs.Standing.{IsHeldOf, new_held, new_answer}
 use Rattle.rq_standard.proofs.Standing.{stands_new}
-use Rattle.raptorq.specs.Blocks.{held_of}
-use Rattle.raptorq.specs.Objects.{answer_of}
+use Rattle.raptorq.specs.SourceBlockDecoder.{held_of}
+use Rattle.raptorq.specs.Decoder.{answer_of}
 use Rattle.raptorq.proofs.Numbered.{mapped_more, new_numbers}
 use Rattle.raptorq.proofs.ObjectBlocks.{state, new_each, IsCut, new_state}
 use Rattle.raptorq.proofs.decoder.object.Decoder.new.Goals as goal

@@ -1,8 +1,8 @@
 use Rattle.std.proofs.Common.{◌≡◌, ℕ, ◌<◌, map}
 use Rattle.std.specs.List.{range_with_len}
 use Rattle.rq_standard.specs.Standing.{IsHeldOf, new_held, new_answer}
-use Rattle.raptorq.specs.Blocks.{held_of}
-use Rattle.raptorq.specs.Objects.{answer_of}
+use Rattle.raptorq.specs.SourceBlockDecoder.{held_of}
+use Rattle.raptorq.specs.Decoder.{answer_of}
 use Rattle.raptorq.proofs.decoder.object.Decoder.new.Given as goal
 
 -- the blocks so far

@@ -3,7 +3,7 @@ use Rattle.std.proofs.lemmas.List.Elements.{All-set}
 use Rattle.std.proofs.Math.Seq.{map-set_same}
 use Rattle.rq_standard.specs.Cutting.{block_symbols}
 use Rattle.raptorq.specs.Stopping.{Takes}
-use Rattle.raptorq.specs.Blocks.{held_of}
+use Rattle.raptorq.specs.SourceBlockDecoder.{held_of}
 use Rattle.raptorq.proofs.Numbered.{length-numbered, number_at}
 use Rattle.raptorq.proofs.ObjectBlocks.{state, number_of, block_of_packet, block_takes, IsCut, takes_at}
 use Rattle.raptorq.proofs.decoder.object.Decoder.take.Goals as goal

@@ -2,8 +2,8 @@ use Rattle.std.proofs.Common.{◌≡◌, ℕ, List, Option, None, get_or, map, a
 use Rattle.rq_standard.specs.Held.{Held, nothing_held}
 use Rattle.rq_standard.specs.Standing.{State}
 use Rattle.rq_standard.specs.TableRows.{no_row}
-use Rattle.raptorq.specs.Blocks.{held_of}
-use Rattle.raptorq.specs.Objects.{answer_of}
+use Rattle.raptorq.specs.SourceBlockDecoder.{held_of}
+use Rattle.raptorq.specs.Decoder.{answer_of}
 use Rattle.raptorq.proofs.ObjectBlocks.{same_numbers, same_each, IsCut}
 use Rattle.raptorq.proofs.PlanLaws.{map-clones}
 use Rattle.raptorq.proofs.decoder.object.DecoderClone.clone.Goals as goal

@@ -1,7 +1,7 @@
 use Rattle.std.proofs.Common.{◌≡◌, ◌≤◌, Ok, length, ap, ◌∙◌, subst}
 use Rattle.std.proofs.lemmas.Result.{err_from_is_err_and}
 use Rattle.rq_standard.specs.TableRows.{greatest_size}
-use Rattle.raptorq.specs.Plans.{RefusesPlan}
+use Rattle.raptorq.specs.SourceBlockEncodingPlan.{RefusesPlan}
 use Rattle.raptorq.specs.Refused.{wanted_count}
 use Rattle.raptorq.proofs.PlanLaws.{refuses_block}
 use Rattle.raptorq.proofs.encoder.block.SourceBlockEncoder.new.Goals as goal

@@ -1,6 +1,6 @@
 use Rattle.std.proofs.Common.{◌≡◌, ◌-◌, ◌∙◌, sym, subst, arith}
 use Rattle.rq_standard.specs.Headline.{IsEncodingSymbol}
-use Rattle.raptorq.specs.BlockEncoded.{block_encoded_of, AreBlockPackets}
+use Rattle.raptorq.specs.SourceBlockEncoder.{block_encoded_of, AreBlockPackets}
 use Rattle.raptorq.proofs.Encodes.{new_id-is, block_packets-none, block_packets-more}
 use Rattle.raptorq.proofs.encoder.block.SourceBlockEncoder.packets.Goals as goal
 

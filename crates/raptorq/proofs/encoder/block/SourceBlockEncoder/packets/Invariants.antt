@@ -1,5 +1,5 @@
 use Rattle.std.proofs.Common.{◌-◌}
-use Rattle.raptorq.specs.BlockEncoded.{block_encoded_of, AreBlockPackets}
+use Rattle.raptorq.specs.SourceBlockEncoder.{block_encoded_of, AreBlockPackets}
 use Rattle.raptorq.proofs.encoder.block.SourceBlockEncoder.packets.Given as goal
 
 -- the packets so far

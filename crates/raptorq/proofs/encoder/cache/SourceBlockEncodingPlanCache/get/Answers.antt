@@ -1,7 +1,7 @@
 use Rattle.std.proofs.Common.{sym, ap, ◌∙◌}
 use Rattle.std.specs.Prelude.{is_some}
 use Rattle.rq_standard.specs.TableRows.{row_of}
-use Rattle.raptorq.specs.PlanCache.{PlanCache}
+use Rattle.raptorq.specs.SourceBlockEncodingPlanCache.{PlanCache}
 use Rattle.raptorq.proofs.CacheLaws.{held_by, plan_found}
 use Rattle.raptorq.proofs.encoder.cache.SourceBlockEncodingPlanCache.get.Goals as goal
 

@@ -2,8 +2,8 @@ use Rattle.std.proofs.Common.{◌≡◌, ◌-◌, ℕ, List, true, false, length
 use Rattle.std.specs.Prelude.{is_some, slice_get}
 use Rattle.std.proofs.lemmas.List.{length-map}
 use Rattle.std.proofs.lemmas.Result.{err_from_is_err_and}
-use Rattle.raptorq.specs.Plans.{RefusesPlan}
-use Rattle.raptorq.specs.PlanCache.{PlanCache, holds_count, cached}
+use Rattle.raptorq.specs.SourceBlockEncodingPlan.{RefusesPlan}
+use Rattle.raptorq.specs.SourceBlockEncodingPlanCache.{PlanCache, holds_count, cached}
 use Rattle.raptorq.proofs.CacheLaws.{held_by, place_found, cached-held, new_last}
 use Rattle.raptorq.proofs.encoder.cache.SourceBlockEncodingPlanCache.hold.Goals as goal
 

@@ -1,6 +1,6 @@
 use Rattle.std.proofs.Common.{ap, ◌∙◌}
 use Rattle.std.specs.Prelude.{position, ◌==◌}
-use Rattle.raptorq.specs.PlanCache.{PlanCache}
+use Rattle.raptorq.specs.SourceBlockEncodingPlanCache.{PlanCache}
 use Rattle.raptorq.proofs.encoder.cache.SourceBlockEncodingPlanCache.place_of.Goals as goal
 
 pub returns : goal.returns

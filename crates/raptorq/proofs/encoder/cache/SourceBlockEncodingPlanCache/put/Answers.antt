@@ -2,7 +2,7 @@ use Rattle.std.proofs.Common.{◌∷◌, [], ◌++◌, All, Bool, true, false, c
 use Rattle.std.specs.Prelude.{nat_lt}
 use Rattle.std.specs.VecDeque.{deque_len}
 use Rattle.std.proofs.lemmas.List.Elements.{All-push, All-drop}
-use Rattle.raptorq.specs.PlanCache.{PlanCache, IsPlanOver}
+use Rattle.raptorq.specs.SourceBlockEncodingPlanCache.{PlanCache, IsPlanOver}
 use Rattle.raptorq.proofs.encoder.cache.SourceBlockEncodingPlanCache.put.Goals as goal
 
 pub invariant_of-self : goal.invariant_of-self

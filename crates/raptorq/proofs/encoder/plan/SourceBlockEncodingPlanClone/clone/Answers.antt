@@ -2,7 +2,7 @@ use Rattle.std.proofs.Common.{List, None, ap, sym, subst}
 use Rattle.rq_algebra.specs.Operations.{Operation, AreAllowed}
 use Rattle.rq_standard.specs.TableRows.{intermediate_symbols}
 use Rattle.raptorq.specs.Planned.{IsPlanOf}
-use Rattle.raptorq.specs.Plans.{Plan}
+use Rattle.raptorq.specs.SourceBlockEncodingPlan.{Plan}
 use Rattle.raptorq.proofs.PlanLaws.{same_operations}
 use Rattle.raptorq.proofs.encoder.plan.SourceBlockEncodingPlanClone.clone.Goals as goal
 

@@ -6,7 +6,7 @@ use Rattle.rq_standard.specs.Held.{Held, nothing_held}
 use Rattle.rq_standard.specs.Standing.{State}
 use Rattle.raptorq.specs.declared.decoder.object.ObjectBlock.{ObjectBlock}
 use Rattle.raptorq.specs.declared.decoder.object.Decoder.{Decoder}
-use Rattle.raptorq.specs.Blocks.{held_of}
+use Rattle.raptorq.specs.SourceBlockDecoder.{held_of}
 
 -- the answer of a block
 abbrev pub answer_of : ObjectBlock → Option (List ℕ)

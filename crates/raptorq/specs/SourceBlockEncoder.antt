@@ -1,9 +1,8 @@
 -- What the encoder of a block shows.
-use Rattle.std.specs.Prelude.{◌≡◌, ℕ, ◌*◌, ◌<◌, ◌^◌, List, map, take, drop}
+use Rattle.std.specs.Prelude.{◌≡◌, ℕ, ◌<◌, ◌^◌, List, map}
 use Rattle.std.specs.List.{range_with_len, AllByRecursion}
 use Rattle.rq_standard.specs.declared.row.TableRow.{TableRow}
 use Rattle.rq_standard.specs.Configuration.{Configuration}
-use Rattle.rq_standard.specs.Cutting.{block_symbols, symbols_before}
 use Rattle.rq_standard.specs.Headline.{block_row, block_source, IsEncodingSymbol}
 use Rattle.rq_standard.specs.Packet.{Packet}
 use Rattle.raptorq.specs.declared.encoder.block.SourceBlockEncoder.{SourceBlockEncoder}
@@ -21,10 +20,6 @@ block_encoded_of b = record { number = b.number; row = b.row; size = b.intermedi
 -- what is encoded of a block of this object, over this table
 abbrev pub new_block_encoded : List TableRow → Configuration → List ℕ → ℕ → BlockEncoded
 new_block_encoded table c object b = record { number = b; row = block_row table c b; size = c.symbol_size; source = block_source c object b }
-
--- the object's bytes in a block, without the zeros behind the object
-abbrev pub bytes_of_block : Configuration → List ℕ → ℕ → List ℕ
-bytes_of_block c object b = take (block_symbols c b * c.symbol_size) (drop (symbols_before c b * c.symbol_size) object)
 
 -- a packet of the block
 pub record IsBlockPacket (b : BlockEncoded) (p : Packet) : Type 0 where

@@ -8,7 +8,7 @@ use Rattle.rq_standard.specs.Configuration.{Configuration}
 use Rattle.rq_standard.specs.Packet.{Packet}
 use Rattle.rq_standard.specs.ObjectPackets.{AreEncoded}
 use Rattle.rq_standard.specs.Cutting.{block_symbols}
-use Rattle.raptorq.specs.BlockEncoded.{BlockEncoded, block_encoded_of, new_block_encoded}
+use Rattle.raptorq.specs.SourceBlockEncoder.{BlockEncoded, block_encoded_of, new_block_encoded}
 use Rattle.raptorq.specs.declared.encoder.Encoder.{Encoder}
 
 -- how an object is cut, and what is encoded of each of its blocks
