@@ -20,7 +20,7 @@ use Rattle.rq_standard.proofs.ObjectAnswers.{joined_some, joined_each, some_of}
 use Rattle.raptorq.specs.SourceBlockDecoder.{held_of}
 use Rattle.raptorq.specs.Decoder.{held_at, answer_at, answer_of}
 use Rattle.raptorq.specs.Refused.{block_refusal}
-use Rattle.raptorq.specs.Stopping.{TakesInBlock, Takes}
+use Rattle.raptorq.specs.Stopping.{AddsInBlockOrStops, AddsOrStops}
 use Rattle.raptorq.specs.declared.decoder.stopped.Stopped.{Stopped}
 use Rattle.raptorq.specs.declared.decoder.stopped.Stopped.TheVariants.{Refused, NotRecorded, NotSolved, NotJoined}
 use Rattle.raptorq.proofs.Numbered.{length-mapped, length-numbered}
@@ -109,7 +109,7 @@ module _ (c : Configuration) (items : List ObjectBlock) (p : Packet) (x y : Obje
       λ i. record { configuration = c; held = λ n. get_or (held_same i) n (nothing_held c n no_row 0); answer = λ n. get_or (answer_same i) n None }
 
   -- what the packet did to its block it did to the object's decoder
-  pub takes_at : (result : Result (Unit {0}) Stopped) → TakesInBlock (held_of x.decoder) (answer_of x) p result (held_of y.decoder) (answer_of y) → Takes (state c items) p result (state c (set items p.id.block y))
+  pub takes_at : (result : Result (Unit {0}) Stopped) → AddsInBlockOrStops (held_of x.decoder) (answer_of x) p result (held_of y.decoder) (answer_of y) → AddsOrStops (state c items) p result (state c (set items p.id.block y))
   takes_at (Ok u) so = adds_at so
   takes_at (Err NotSolved) so = records_at so
   takes_at (Err NotRecorded) so = stays_at so.0 so.1

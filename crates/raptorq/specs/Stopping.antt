@@ -31,25 +31,25 @@ StopsPacket NotSolved tested = ⊥
 StopsPacket NotJoined tested = ⊥
 
 -- What a packet of a block did to what is held and to its answer: where it wasn't recorded, nothing; where the block wasn't solved, it is recorded.
-abbrev pub TakesInBlock : Held → Option (List ℕ) → Packet → Result (Unit {0}) Stopped → Held → Option (List ℕ) → Type 0
-TakesInBlock old before p (Ok x) new after = AddsToBlock old before p new after
-TakesInBlock old before p (Err NotSolved) new after = RecordsInBlock old before p new after
-TakesInBlock old before p (Err NotRecorded) new after = (new ≡ old) × (after ≡ before)
-TakesInBlock old before p (Err NotJoined) new after = ⊥
-TakesInBlock old before p (Err (Refused e)) new after = ⊥
+abbrev pub AddsInBlockOrStops : Held → Option (List ℕ) → Packet → Result (Unit {0}) Stopped → Held → Option (List ℕ) → Type 0
+AddsInBlockOrStops old before p (Ok x) new after = AddsToBlock old before p new after
+AddsInBlockOrStops old before p (Err NotSolved) new after = RecordsInBlock old before p new after
+AddsInBlockOrStops old before p (Err NotRecorded) new after = (new ≡ old) × (after ≡ before)
+AddsInBlockOrStops old before p (Err NotJoined) new after = ⊥
+AddsInBlockOrStops old before p (Err (Refused e)) new after = ⊥
 
 -- the same of an object's decoder; a refused packet does nothing
-abbrev pub Takes : State → Packet → Result (Unit {0}) Stopped → State → Type 0
-Takes old p (Ok x) new = Adds old p new
-Takes old p (Err NotSolved) new = RecordsOnly old p new
-Takes old p (Err NotRecorded) new = new ≡ old
-Takes old p (Err NotJoined) new = ⊥
-Takes old p (Err (Refused e)) new = new ≡ old
+abbrev pub AddsOrStops : State → Packet → Result (Unit {0}) Stopped → State → Type 0
+AddsOrStops old p (Ok x) new = Adds old p new
+AddsOrStops old p (Err NotSolved) new = RecordsOnly old p new
+AddsOrStops old p (Err NotRecorded) new = new ≡ old
+AddsOrStops old p (Err NotJoined) new = ⊥
+AddsOrStops old p (Err (Refused e)) new = new ≡ old
 
 -- The same where the blocks are joined behind it: where they weren't joined, the packet's block has the answer that it can have.
-abbrev pub TakesAndJoins : State → Packet → Result (Option (List ℕ)) Stopped → State → Type 0
-TakesAndJoins old p (Ok answer) new = Adds old p new × (answer ≡ result_of new)
-TakesAndJoins old p (Err NotJoined) new = Adds old p new
-TakesAndJoins old p (Err NotSolved) new = RecordsOnly old p new
-TakesAndJoins old p (Err NotRecorded) new = new ≡ old
-TakesAndJoins old p (Err (Refused e)) new = new ≡ old
+abbrev pub AddsAndJoinsOrStops : State → Packet → Result (Option (List ℕ)) Stopped → State → Type 0
+AddsAndJoinsOrStops old p (Ok answer) new = Adds old p new × (answer ≡ result_of new)
+AddsAndJoinsOrStops old p (Err NotJoined) new = Adds old p new
+AddsAndJoinsOrStops old p (Err NotSolved) new = RecordsOnly old p new
+AddsAndJoinsOrStops old p (Err NotRecorded) new = new ≡ old
+AddsAndJoinsOrStops old p (Err (Refused e)) new = new ≡ old

@@ -28,7 +28,7 @@ struct ObjectBlock {
 impl ObjectBlock {
     ghost use Rattle.raptorq.specs.Difference.{ShowsUnanswered};
     ghost use Rattle.rq_standard.specs.Standing.{IsHeldOf, new_held, new_answer};
-    ghost use Rattle.raptorq.specs.Stopping.{TakesInBlock};
+    ghost use Rattle.raptorq.specs.Stopping.{AddsInBlockOrStops};
     ghost use Rattle.raptorq.specs.Decoder.{answer_of};
     ghost use Rattle.raptorq.specs.Refused.{block_refusal};
 
@@ -58,9 +58,9 @@ impl ObjectBlock {
 
     /// Takes a packet of the block, and answers the block where that is determined. An answered
     /// block takes nothing more.
-    fn take(&mut self, packet: EncodingPacket) -> Result<(), Stopped>
+    fn add_packet(&mut self, packet: EncodingPacket) -> Result<(), Stopped>
         requires { block_refusal (held_of self.old.decoder) packet ≡ Ok tt }
-        ensures takes { TakesInBlock (held_of self.old.decoder) (answer_of self.old) packet result (held_of self.new.decoder) (answer_of self.new) }
+        ensures adds { AddsInBlockOrStops (held_of self.old.decoder) (answer_of self.old) packet result (held_of self.new.decoder) (answer_of self.new) }
         ensures number { (held_of self.new.decoder).number ≡ (held_of self.old.decoder).number }
         ensures configuration { (held_of self.new.decoder).configuration ≡ (held_of self.old.decoder).configuration }
         ensures symbols { (held_of self.new.decoder).symbols ≡ (held_of self.old.decoder).symbols }
@@ -120,7 +120,7 @@ impl Decoder {
     ghost use Rattle.rq_standard.specs.Standing.{IsNewState, Adds, Stops, StopsEarly, result_of};
     ghost use Rattle.rq_standard.specs.Standing.{StandsForNone, StandsForMore, AnswersLateBlock, LeavesBlockLate, LeavesOrAnswersLateBlock, AnswersObject, AnswersNothingElse, AnswersOnlyObject};
     ghost use Rattle.raptorq.specs.Decoding.{shown};
-    ghost use Rattle.raptorq.specs.Stopping.{StopsAsTested, Takes, TakesAndJoins};
+    ghost use Rattle.raptorq.specs.Stopping.{StopsAsTested, AddsOrStops, AddsAndJoinsOrStops};
     ghost use Rattle.raptorq.specs.Refused.{packet_refusal};
     ghost use Rattle.raptorq.specs.Decoder.{state_of};
 
@@ -160,9 +160,9 @@ impl Decoder {
     }
 
     // Takes a packet, whoever sent it.
-    fn take(&mut self, packet: EncodingPacket) -> Result<(), Stopped>
+    fn add_to_block(&mut self, packet: EncodingPacket) -> Result<(), Stopped>
         ensures tested { StopsAsTested result (packet_refusal (state_of self.old).configuration packet) }
-        ensures takes { Takes (state_of self.old) packet result (state_of self.new) }
+        ensures adds { AddsOrStops (state_of self.old) packet result (state_of self.new) }
         ensures configuration { (state_of self.new).configuration ≡ (state_of self.old).configuration }
     {
         let number = packet.payload_id().source_block_number();
@@ -172,7 +172,7 @@ impl Decoder {
         if packet.data().len() != usize::from(self.config.symbol_size()) {
             return Err(Stopped::Refused(Error::WrongPayloadSize));
         }
-        self.blocks[usize::from(number)].take(packet)
+        self.blocks[usize::from(number)].add_packet(packet)
     }
 
     /// Takes a packet, and answers its block where that is determined.
@@ -193,7 +193,7 @@ impl Decoder {
         ensures answers_late { OnOk result (AnswersLateBlock (state_of self.old) packet (state_of self.new)) }
         ensures leaves_late { IfErr result (λ e. e ≡ Error.OutOfMemory → LeavesBlockLate (state_of self.old) packet (state_of self.new)) }
     {
-        Ok(self.take(packet)?)
+        Ok(self.add_to_block(packet)?)
     }
 
     // Whether each block has an answer.
@@ -273,12 +273,12 @@ impl Decoder {
     }
 
     // Takes a packet, and then joins the blocks where each has an answer.
-    fn take_and_join(&mut self, packet: EncodingPacket) -> Result<Option<Vec<u8>>, Stopped>
+    fn add_and_join(&mut self, packet: EncodingPacket) -> Result<Option<Vec<u8>>, Stopped>
         ensures tested { StopsAsTested result (packet_refusal (state_of self.old).configuration packet) }
-        ensures takes { TakesAndJoins (state_of self.old) packet (shown vec_items result) (state_of self.new) }
+        ensures adds { AddsAndJoinsOrStops (state_of self.old) packet (shown vec_items result) (state_of self.new) }
         ensures configuration { (state_of self.new).configuration ≡ (state_of self.old).configuration }
     {
-        self.take(packet)?;
+        self.add_to_block(packet)?;
         let Ok(object) = self.get_result() else {
             return Err(Stopped::NotJoined);
         };
@@ -306,7 +306,7 @@ impl Decoder {
         ensures answers_late { OnOk result (AnswersLateBlock (state_of self.old) packet (state_of self.new)) }
         ensures leaves_late { IfErr result (λ e. e ≡ Error.OutOfMemory → LeavesOrAnswersLateBlock (state_of self.old) packet (state_of self.new)) }
     {
-        Ok(self.take_and_join(packet)?)
+        Ok(self.add_and_join(packet)?)
     }
 }
 

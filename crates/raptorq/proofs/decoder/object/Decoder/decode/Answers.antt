@@ -7,19 +7,19 @@ use Rattle.raptorq.proofs.decoder.object.Decoder.decode.Goals as goal
 
 pub returns-in-Ok-clause-object : goal.returns-in-Ok-clause-object
 returns-in-Ok-clause-object c =
-    let new = c.take_and_join.new.self in
-    answers_object (state_of new) _ new.some new.positive c.in-Ok.ensures.takes.1
+    let new = c.add_and_join.new.self in
+    answers_object (state_of new) _ new.some new.positive c.in-Ok.ensures.adds.1
 
 pub returns-in-Ok-clause-only_object : goal.returns-in-Ok-clause-only_object
 returns-in-Ok-clause-only_object c =
-    let new = c.take_and_join.new.self in
-    answers_only (state_of new) _ new.some new.positive new.aligned (answers_object (state_of new) _ new.some new.positive c.in-Ok.ensures.takes.1)
+    let new = c.add_and_join.new.self in
+    answers_only (state_of new) _ new.some new.positive new.aligned (answers_object (state_of new) _ new.some new.positive c.in-Ok.ensures.adds.1)
 
 pub returns-in-Ok-clause-stands : goal.returns-in-Ok-clause-stands
-returns-in-Ok-clause-stands c = stands_more c.args.packet (state_of c.args.self.now) (state_of c.take_and_join.new.self) c.args.self.now.aligned c.in-Ok.ensures.takes.0
+returns-in-Ok-clause-stands c = stands_more c.args.packet (state_of c.args.self.now) (state_of c.add_and_join.new.self) c.args.self.now.aligned c.in-Ok.ensures.adds.0
 
 pub returns-in-Ok-clause-answers_late : goal.returns-in-Ok-clause-answers_late
-returns-in-Ok-clause-answers_late c = answers_late c.args.packet (state_of c.args.self.now) (state_of c.take_and_join.new.self) c.args.self.now.aligned c.in-Ok.ensures.takes.0
+returns-in-Ok-clause-answers_late c = answers_late c.args.packet (state_of c.args.self.now) (state_of c.add_and_join.new.self) c.args.self.now.aligned c.in-Ok.ensures.adds.0
 
 pub returns-in-Err-clause-leaves_late : goal.returns-in-Err-clause-leaves_late
-returns-in-Err-clause-leaves_late c = λ memory. late_or_not (state_of c.args.self.now) c.args.packet c.in-Err.stopped (state_of c.take_and_join.new.self) c.args.self.now.aligned c.in-Err.ensures.takes
+returns-in-Err-clause-leaves_late c = λ memory. late_or_not (state_of c.args.self.now) c.args.packet c.in-Err.stopped (state_of c.add_and_join.new.self) c.args.self.now.aligned c.in-Err.ensures.adds

@@ -2,11 +2,11 @@ use Rattle.std.proofs.Common.{◌≡◌, ◌<◌, length, set, sym, ap, ◌∙�
 use Rattle.std.proofs.lemmas.List.Elements.{All-set}
 use Rattle.std.proofs.Math.Seq.{map-set_same}
 use Rattle.rq_standard.specs.Cutting.{block_symbols}
-use Rattle.raptorq.specs.Stopping.{Takes}
+use Rattle.raptorq.specs.Stopping.{AddsOrStops}
 use Rattle.raptorq.specs.SourceBlockDecoder.{held_of}
 use Rattle.raptorq.proofs.Numbered.{length-numbered, number_at}
 use Rattle.raptorq.proofs.ObjectBlocks.{state, number_of, block_of_packet, block_takes, IsCut, takes_at}
-use Rattle.raptorq.proofs.decoder.object.Decoder.take.Goals as goal
+use Rattle.raptorq.proofs.decoder.object.Decoder.add_to_block.Goals as goal
 
 pub index_mut-requires : goal.index_mut-requires
 index_mut-requires c =
@@ -18,8 +18,8 @@ index_mut-requires c =
     let below : p.id.block < length items = omega (arith, sym here, c.from-2.ensures, c.if-number-source_blocks.false, c.source_blocks.ensures, count) in
     omega (arith, here, below, s.blocks.ok.0)
 
-pub take-requires : goal.take-requires
-take-requires c =
+pub add_packet-requires : goal.add_packet-requires
+add_packet-requires c =
     let s = c.args.self.now in
     let items = s.blocks.items in
     let p = c.args.packet in
@@ -35,22 +35,22 @@ invariant_of-self c =
     let p = c.args.packet in
     let x = c.index_mut.result.now in
     let at = block_of_packet items p s.config.source_blocks c.from-2.result x s.numbered (c.from-2.ensures ∙ c.source_block_number-number.ensures ∙ ap (λ i. i.block) c.payload_id.ensures) (omega (arith, c.from-2.ensures, c.if-number-source_blocks.false, c.source_blocks.ensures)) c.index_mut.ensures.value in
-    let y = c.take.new.self in
+    let y = c.add_packet.new.self in
     record {
       positive = s.positive;
       aligned = s.aligned;
       some = s.some;
-      numbered = map-set_same number_of items c.from-2.result y x (c.take.ensures.number ∙ ap number_of c.index_mut.ensures.value) ∙ s.numbered;
-      same = All-set (λ b. (held_of b.decoder).configuration ≡ s.config) items c.from-2.result y (c.take.ensures.configuration ∙ ap (λ b. (held_of b.decoder).configuration) at.is ∙ s.same p.id.block x at.below) s.same;
-      cut = All-set (λ b. IsCut s.config (held_of b.decoder)) items c.from-2.result y (c.take.ensures.symbols ∙ ap (λ b. (held_of b.decoder).symbols) at.is ∙ s.cut p.id.block x at.below ∙ ap (λ b. block_symbols s.config (held_of b.decoder).number) (sym at.is) ∙ ap (block_symbols s.config) (sym c.take.ensures.number)) s.cut;
+      numbered = map-set_same number_of items c.from-2.result y x (c.add_packet.ensures.number ∙ ap number_of c.index_mut.ensures.value) ∙ s.numbered;
+      same = All-set (λ b. (held_of b.decoder).configuration ≡ s.config) items c.from-2.result y (c.add_packet.ensures.configuration ∙ ap (λ b. (held_of b.decoder).configuration) at.is ∙ s.same p.id.block x at.below) s.same;
+      cut = All-set (λ b. IsCut s.config (held_of b.decoder)) items c.from-2.result y (c.add_packet.ensures.symbols ∙ ap (λ b. (held_of b.decoder).symbols) at.is ∙ s.cut p.id.block x at.below ∙ ap (λ b. block_symbols s.config (held_of b.decoder).number) (sym at.is) ∙ ap (block_symbols s.config) (sym c.add_packet.ensures.number)) s.cut;
     }
 
-pub returns-clause-takes : goal.returns-clause-takes
-returns-clause-takes c =
+pub returns-clause-adds : goal.returns-clause-adds
+returns-clause-adds c =
     let s = c.args.self.now in
     let items = s.blocks.items in
     let p = c.args.packet in
     let x = c.index_mut.result.now in
     let at = block_of_packet items p s.config.source_blocks c.from-2.result x s.numbered (c.from-2.ensures ∙ c.source_block_number-number.ensures ∙ ap (λ i. i.block) c.payload_id.ensures) (omega (arith, c.from-2.ensures, c.if-number-source_blocks.false, c.source_blocks.ensures)) c.index_mut.ensures.value in
-    let y = c.take.new.self in
-    subst (λ i. Takes (state s.config items) p c.take.result (state s.config (set items i y))) (sym at.here) (takes_at s.config items p x y at.below at.is c.take.result c.take.ensures.takes)
+    let y = c.add_packet.new.self in
+    subst (λ i. AddsOrStops (state s.config items) p c.add_packet.result (state s.config (set items i y))) (sym at.here) (takes_at s.config items p x y at.below at.is c.add_packet.result c.add_packet.ensures.takes)
