@@ -7,6 +7,7 @@ pub mod FinalTurns
 pub mod FreeColumns
 pub mod LinkLaws
 pub mod ListingLaws
+pub mod OctetBatchLaws
 pub mod OctetRows
 pub mod OctetSums
 pub mod OctetTurns

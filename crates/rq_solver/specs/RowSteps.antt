@@ -1,8 +1,8 @@
 -- Operations done to the rows of a matrix, as they are recorded for the values.
-use Rattle.std.specs.Prelude.{◌≡◌, ◌≢◌, ℕ, ◌+◌, ◌<◌, ◌≤◌, List, [], ◌∷◌, All, Contains, length}
+use Rattle.std.specs.Prelude.{◌≡◌, ◌≢◌, ℕ, ◌+◌, ◌<◌, ◌≤◌, List, [], ◌∷◌, Contains, length}
 use Rattle.rq_algebra.specs.Field.{Field}
 use Rattle.rq_algebra.specs.Arrangements.{ArePlaces}
-use Rattle.rq_algebra.specs.Systems.{at, HasElements}
+use Rattle.rq_algebra.specs.Systems.{at}
 use Rattle.rq_algebra.specs.Operations.{Operation, AddAssign, MulAssign, Fma, Reorder}
 use Rattle.rq_algebra.proofs.Elimination.{HasFirstPivots}
 use Rattle.rq_algebra.proofs.Changes.{with_at}

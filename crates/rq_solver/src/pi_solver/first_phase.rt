@@ -11,6 +11,7 @@ ghost use Rattle.rq_parts.specs.DenseOctetMatrix.{HasOctets};
 mod hdpc;
 mod inactive;
 pub(super) mod listing;
+mod octet_batch;
 
 use super::ones::RowOnes;
 use super::peeling::Peeling;
@@ -39,7 +40,7 @@ pub(super) fn clear_pivots(
     ensures few { IfOk result (λ rows. additions rows.operations ≤ length ones.now * length peeling.now.rows.items + batch_bound (length hdpc.now.rows) (length peeling.now.places.items) (length peeling.now.rows.items)) }
     ensures err { IfErr result (λ e. e ≡ OutOfMemory) }
 {
-    let inactive = peeling.places.len() - peeling.rows.len();
+    let inactive = hdpc.width() - peeling.rows.len();
     let table = fill_inactive(alloc, ones, hdpc, first_hdpc, inactive, peeling)?;
     let mut recorded = RecordedRows::new(alloc, table);
     clear_rows(ones, listed, peeling, &mut recorded)?;

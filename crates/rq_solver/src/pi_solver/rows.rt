@@ -40,7 +40,7 @@ pub(crate) fn octet_rows<T: BinaryMatrix>(
 }
 
 /// Copies a row of octets to a row.
-pub(super) fn copy_octets(
+fn copy_octets(
     octets: &DenseOctetMatrix,
     from: usize,
     width: usize,

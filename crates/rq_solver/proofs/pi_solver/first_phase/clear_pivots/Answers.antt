@@ -17,9 +17,9 @@ returns-clause-cleared c =
     let rows = c.args.peeling.now.rows.items in
     let order = c.args.peeling.now.order.items in
     let places = c.args.peeling.now.places.items in
-    let inactive : ℕ = c.len.result - c.len-2.result in
-    let all : c.len.result ≡ length places = c.len.ensures ∙ c.args.peeling.now.places.ok.0 in
-    let many : c.len-2.result ≡ length rows = c.len-2.ensures ∙ c.args.peeling.now.rows.ok.0 in
+    let inactive : ℕ = c.width.result - c.len.result in
+    let all : c.width.result ≡ length places = c.width.ensures.width ∙ c.requires.hdpc.width_is in
+    let many : c.len.result ≡ length rows = c.len.ensures ∙ c.args.peeling.now.rows.ok.0 in
     let wide : length rows + inactive ≡ length places = omega (arith, all, many, c.requires.peeled.peeled.few) in
     peeled_pivots c.args.ones.now c.args.first_hdpc c.args.hdpc.now (length places) c.requires.peeled.bits c.requires.hdpc rows order places c.requires.peeled.peeled c.args.listed.now c.requires.listed
     c.new-recorded.result c.clear_rows.new.recorded c.clear_octets.new.recorded c.in_ok-clear_rows.ensures.cleared c.in_ok-clear_octets.ensures.cleared

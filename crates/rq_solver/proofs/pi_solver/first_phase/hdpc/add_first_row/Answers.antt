@@ -1,15 +1,19 @@
 -- What the check leaves to show of `pi_solver::first_phase::hdpc::add_first_row`.
-use Rattle.std.proofs.Common.{◌≡◌, ◌≢◌, ◌<◌, length, lit<, sym, ◌∙◌, arith, inl, inr}
+use Rattle.std.proofs.Common.{◌≡◌, ◌≢◌, ℕ, ◌<◌, ◌+◌, length, lit<, refl, sym, ap, ◌∙◌, subst, arith, inl, inr}
 use Rattle.std.proofs.lemmas.Bool.{cases_eq}
-use Rattle.rq_parts.specs.DenseOctetMatrix.{entry_of}
+use Rattle.rq_algebra.specs.Steps.{AddsRow, ScalesRow}
+use Rattle.rq_standard.specs.OctetField.{octets}
+use Rattle.rq_parts.specs.DenseOctetMatrix.{OctetTable}
+use Rattle.rq_solver.specs.OctetBatch.{octet_in, octets_from}
 use Rattle.rq_solver.proofs.Entries.{one-div, inverse_nonzero}
 use Rattle.rq_solver.proofs.OctetSums.{quotient_times, plus_quotient_times}
-use Rattle.rq_solver.proofs.OctetTurns.{combines_none, combines_more}
+use Rattle.rq_solver.proofs.OctetBatchLaws.{elements_beside, adds_beside, scales_beside, from_elements, from_adds, from_scales}
+use Rattle.rq_solver.proofs.OctetTurns.{combines_none, combines_more, combines_sum, combines_scaling}
 use Rattle.rq_solver.proofs.pi_solver.first_phase.hdpc.add_first_row.Goals as goal
-use Rattle.rq_solver.proofs.pi_solver.first_phase.hdpc.add_first_row.Goals.{then-byte-ne0+in_ok-add_octets, else-byte-ne0}
+use Rattle.rq_solver.proofs.pi_solver.first_phase.hdpc.add_first_row.Goals.{then-byte-ne0+in_ok-add_row, else-byte-ne0}
 
 pub returns-then-byte-eq0-clause-added : goal.returns-then-byte-eq0-clause-added
-returns-then-byte-eq0-clause-added c = combines_none c.args.first_hdpc c.args.current.now c.args.recorded.now c.requires.rows.shown c.requires.rows.octets
+returns-then-byte-eq0-clause-added c = combines_none c.args.first_hdpc (length c.args.batch.now.table.rows) c.args.batch.now.table.width (octets_from c.args.column (octet_in c.args.batch.now)) c.args.recorded.now c.requires.rows.octets
 
 pub returns-then-byte-eq0-clause-alone : goal.returns-then-byte-eq0-clause-alone
 returns-then-byte-eq0-clause-alone c = λ some. absurd (some (sym c.get-lead.ensures ∙ sym c.byte.ensures ∙ c.if-byte-eq0.true))
@@ -17,94 +21,111 @@ returns-then-byte-eq0-clause-alone c = λ some. absurd (some (sym c.get-lead.ens
 pub loop-row-init : goal.loop-row-init
 loop-row-init c = record {
   few = omega arith;
+  table = refl;
   lead = sym c.get-lead.ensures;
   cleared = λ i some l. absurd (omega arith);
-  combined = combines_none c.args.first_hdpc c.args.current.now c.args.recorded.now c.requires.rows.shown c.requires.rows.octets;
+  combined = combines_none c.args.first_hdpc (length c.args.batch.now.table.rows) c.args.batch.now.table.width (octets_from c.args.column (octet_in c.args.batch.now)) c.args.recorded.now c.requires.rows.octets;
 }
 
 pub loop-row-preserved : goal.loop-row-preserved
 loop-row-preserved c =
-    let was = c.loop-row.current in
+    let start = c.args.batch.now in
+    let was = c.loop-row.batch in
     let row = c.loop-row.row in
     let column = c.args.column in
+    let first = c.args.first_hdpc in
     let lead = c.get-lead.result in
     let v = c.loop-row.invariant in
-    let height = v.combined.height in
-    let in_width : column < was.width = omega (arith, v.combined.width, c.requires.column) in
-    let in_rows : row < length was.rows = omega arith in
+    let count = length start.table.rows in
+    let width = start.table.width in
+    let same : was.table ≡ start.table = v.table in
+    let in_rows : row < count = omega arith in
+    let in_width : column < width = c.requires.column in
     elim c.if-byte-ne0.branch [
-      | then-byte-ne0+in_ok-add_octets w ↦
-          let now = w.add_octets.new.current in
-          let added = w.in_ok-add_octets.ensures.sum in
+      | then-byte-ne0+in_ok-add_row w ↦
+          let now = w.add_first.new.self in
+          let scalar = w.div-scalar.result in
+          let added : AddsRow octets count width row 0 scalar (octet_in was) (octet_in now) = subst (λ (x : ℕ). AddsRow octets count width row 0 x (octet_in was) (octet_in now)) w.byte-factor.ensures (adds_beside start was same now row 0 w.byte-factor.result w.add_first.ensures.sum) in
           let small : lead < 256 = rw c.byte.ensures at c.byte.type_inv in
           let nonzero : lead ≢ 0 = (λ e. c.if-byte-eq0.false (c.byte.ensures ∙ e)) in
-          let is_octet : entry_of was row column < 256 = v.combined.octets.elements row column in_rows in_width in
-          let zero : entry_of now row column ≡ 0 = added.at_dest column in_width ∙ rw (v.lead, w.div.ensures, c.get-octet.ensures) (plus_quotient_times (entry_of was row column) lead is_octet small nonzero) in
-          rw (w.current-is, w.recorded-is) (record {
-            few = (let more = w.in_ok-add_octets.ensures.few in let so_far = v.few in omega (arith, more, so_far, c.loop-row.auto.row));
+          let is_octet : octet_in was row column < 256 = elements_beside start was same c.height-row-end.ensures.octets row column in_rows in_width in
+          let zero : octet_in now row column ≡ 0 = added.at_dest column in_width ∙ rw (v.lead, w.div-scalar.ensures, c.get-octet.ensures) (plus_quotient_times (octet_in was row column) lead is_octet small nonzero) in
+          rw (w.batch-is, w.recorded-is) (record {
+            few = (let more = w.in_ok-add_row.ensures.counted in let so_far = v.few in omega (arith, more, so_far, c.loop-row.auto.row));
+            table = w.add_first.ensures.table ∙ same;
             lead = added.elsewhere 0 column (omega arith) in_width (λ e. omega (arith, e)) ∙ v.lead;
             cleared = λ i some l. elim (cases_eq i row) [ inl e ↦ rw e zero | inr d ↦ added.elsewhere i column (omega arith) in_width d ∙ v.cleared i some (omega arith) ];
-            combined = combines_more c.args.first_hdpc c.args.current.now was now c.args.recorded.now c.loop-row.recorded w.add_octets.new.recorded v.combined w.in_ok-add_octets.ensures.added;
+            combined = combines_more first count width (octets_from column (octet_in start)) (octets_from column (octet_in was)) (octets_from column (octet_in now)) c.args.recorded.now c.loop-row.recorded w.add_row.new.self v.combined
+                (combines_sum first count width (octets_from column (octet_in was)) (octets_from column (octet_in now)) c.loop-row.recorded w.add_row.new.self
+                (from_elements column (octet_in was) count width (elements_beside start was same c.height-row-end.ensures.octets))
+                row (first + row) scalar in_rows refl 0 first (omega arith) (omega arith)
+                (from_adds column count width row scalar (octet_in was) (octet_in now) 0 added) w.in_ok-add_row.ensures.added);
           })
       | else-byte-ne0 w ↦
-          let zero : entry_of was row column ≡ 0 = sym c.get-octet.ensures ∙ sym c.byte-in-loop-row.ensures ∙ w.if-byte-ne0.false in
-          rw (w.current-is, w.recorded-is) (record {
+          let zero : octet_in was row column ≡ 0 = sym c.get-octet.ensures ∙ sym c.byte-in-loop-row.ensures ∙ w.if-byte-ne0.false in
+          rw (w.batch-is, w.recorded-is) (record {
             few = (let so_far = v.few in omega (arith, so_far));
+            table = same;
             lead = v.lead;
             cleared = λ i some l. elim (cases_eq i row) [ inl e ↦ rw e zero | inr d ↦ v.cleared i some (omega arith) ];
             combined = v.combined;
           })
     ]
 
-pub multiply_octets-requires-clause-scalar : goal.multiply_octets-requires-clause-scalar
-multiply_octets-requires-clause-scalar c =
+pub multiply_row-requires-clause-nonzero : goal.multiply_row-requires-clause-nonzero
+multiply_row-requires-clause-nonzero c =
     let lead = c.get-lead.result in
     let small : lead < 256 = rw c.byte.ensures at c.byte.type_inv in
     let nonzero : lead ≢ 0 = (λ e. c.if-byte-eq0.false (c.byte.ensures ∙ e)) in
-    rw (c.div-then-byte-ne1.ensures, c.one.ensures, one-div lead small nonzero) (inverse_nonzero lead small nonzero)
+    rw (c.div-scalar-then-byte-ne1.ensures, c.one.ensures, one-div lead small nonzero) (inverse_nonzero lead small nonzero)
 
-pub returns-in_ok-multiply_octets-clause-alone : goal.returns-in_ok-multiply_octets-clause-alone
-returns-in_ok-multiply_octets-clause-alone c = λ some.
-    let was = c.loop-row.current in
+pub returns-in_ok-multiply_row-clause-alone : goal.returns-in_ok-multiply_row-clause-alone
+returns-in_ok-multiply_row-clause-alone c = λ some.
+    let start = c.args.batch.now in
+    let was = c.loop-row.batch in
     let column = c.args.column in
     let lead = c.get-lead.result in
     let v = c.loop-row.invariant in
-    let height = v.combined.height in
-    let scaled = c.in_ok-multiply_octets.ensures.scaled in
-    let still = c.in_ok-multiply_octets.ensures.multiplied.height in
-    let in_width : column < was.width = omega (arith, v.combined.width, c.requires.column) in
+    let same : was.table ≡ start.table = v.table in
+    let now = c.multiply_first.new.self in
+    let scaled = subst (λ (x : ℕ). ScalesRow octets (length start.table.rows) start.table.width 0 x (octet_in was) (octet_in now)) c.byte-factor-then-byte-ne1.ensures (scales_beside start was same now 0 c.byte-factor-then-byte-ne1.result c.multiply_first.ensures.multiple) in
     let small : lead < 256 = rw c.byte.ensures at c.byte.type_inv in
     let nonzero : lead ≢ 0 = (λ e. c.if-byte-eq0.false (c.byte.ensures ∙ e)) in
     record {
-      one = scaled.at_dest column in_width ∙ rw (v.lead, c.div-then-byte-ne1.ensures, c.one.ensures) (quotient_times 1 lead (lit< tt) small nonzero);
+      one = scaled.at_dest column c.requires.column ∙ rw (v.lead, c.div-scalar-then-byte-ne1.ensures, c.one.ensures) (quotient_times 1 lead (lit< tt) small nonzero);
       zeros = λ i first l.
-          let in_rows : i < length was.rows = omega (arith, still, l) in
-          scaled.elsewhere i column in_rows in_width (λ e. omega (arith, e, first)) ∙ v.cleared i first (omega (arith, in_rows));
+          let in_rows : i < length start.table.rows = rw (c.multiply_first.ensures.table ∙ same) at l in
+          scaled.elsewhere i column in_rows c.requires.column (λ e. omega (arith, e, first)) ∙ v.cleared i first (omega (arith, in_rows, c.loop-row.auto.row-end));
     }
+
+pub returns-in_ok-multiply_row-clause-added : goal.returns-in_ok-multiply_row-clause-added
+returns-in_ok-multiply_row-clause-added c =
+    let start = c.args.batch.now in
+    let was = c.loop-row.batch in
+    let now = c.multiply_first.new.self in
+    let column = c.args.column in
+    let first = c.args.first_hdpc in
+    let scalar = c.div-scalar-then-byte-ne1.result in
+    let count = length start.table.rows in
+    let width = start.table.width in
+    let v = c.loop-row.invariant in
+    combines_more first count width (octets_from column (octet_in start)) (octets_from column (octet_in was)) (octets_from column (octet_in now)) c.args.recorded.now c.loop-row.recorded c.multiply_row.new.self v.combined
+    (combines_scaling first count width (octets_from column (octet_in was)) (octets_from column (octet_in now)) c.loop-row.recorded c.multiply_row.new.self
+    (from_elements column (octet_in was) count width (elements_beside start was v.table c.height-row-end.ensures.octets))
+    0 first scalar (omega arith) (omega arith)
+    (from_scales column count width 0 scalar (octet_in was) (octet_in now) (subst (λ (x : ℕ). ScalesRow octets count width 0 x (octet_in was) (octet_in now)) c.byte-factor-then-byte-ne1.ensures (scales_beside start was v.table now 0 c.byte-factor-then-byte-ne1.result c.multiply_first.ensures.multiple))) c.in_ok-multiply_row.ensures.multiplied)
+
+pub returns-in_ok-multiply_row-clause-few : goal.returns-in_ok-multiply_row-clause-few
+returns-in_ok-multiply_row-clause-few c = let so_far = c.loop-row.invariant.few in let more = c.in_ok-multiply_row.ensures.counted in omega (arith, so_far, more, c.loop-row.auto.row-end)
+
+pub returns-else-byte-ne1-clause-few : goal.returns-else-byte-ne1-clause-few
+returns-else-byte-ne1-clause-few c = let so_far = c.loop-row.invariant.few in omega (arith, so_far, c.loop-row.auto.row-end)
 
 pub returns-else-byte-ne1-clause-alone : goal.returns-else-byte-ne1-clause-alone
 returns-else-byte-ne1-clause-alone c = λ some.
     let v = c.loop-row.invariant in
-    let height = v.combined.height in
+    let same = ap (λ (t : OctetTable). length t.rows) v.table in
     record {
       one = v.lead ∙ sym c.byte-2.ensures ∙ c.if-byte-ne1.false;
-      zeros = λ i first l. v.cleared i first (omega (arith, l));
+      zeros = λ i first l. v.cleared i first (omega (arith, l, same, c.height-row-end.ensures.height, c.loop-row.auto.row-end));
     }
-
-pub returns-in_ok-multiply_octets-clause-added : goal.returns-in_ok-multiply_octets-clause-added
-returns-in_ok-multiply_octets-clause-added c =
-    combines_more c.args.first_hdpc c.args.current.now c.loop-row.current c.multiply_octets.new.current c.args.recorded.now c.loop-row.recorded c.multiply_octets.new.recorded
-    c.loop-row.invariant.combined c.in_ok-multiply_octets.ensures.multiplied
-
-pub returns-in_ok-multiply_octets-clause-few : goal.returns-in_ok-multiply_octets-clause-few
-returns-in_ok-multiply_octets-clause-few c =
-    let so_far = c.loop-row.invariant.few in
-    let same = c.in_ok-multiply_octets.ensures.few in
-    let height = c.loop-row.invariant.combined.height in
-    omega (arith, so_far, same, height, c.loop-row.auto.row-end, c.requires.some)
-
-pub returns-else-byte-ne1-clause-few : goal.returns-else-byte-ne1-clause-few
-returns-else-byte-ne1-clause-few c =
-    let so_far = c.loop-row.invariant.few in
-    let height = c.loop-row.invariant.combined.height in
-    omega (arith, so_far, height, c.loop-row.auto.row-end, c.requires.some)

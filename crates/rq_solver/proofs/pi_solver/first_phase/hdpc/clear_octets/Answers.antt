@@ -1,12 +1,13 @@
 -- What the check leaves to show of `pi_solver::first_phase::hdpc::clear_octets`.
-use Rattle.std.proofs.Common.{◌≡◌, ◌≢◌, ℕ, ◌+◌, ◌-◌, ◌<◌, ◌≤◌, length, refl, sym, ap, ◌∙◌, arith, inl, inr}
+use Rattle.std.proofs.Common.{◌≡◌, ◌≢◌, ℕ, ◌+◌, ◌-◌, ◌<◌, ◌≤◌, length, refl, sym, ap, ◌∙◌, subst, arith, inl, inr}
 use Rattle.std.proofs.lemmas.Bool.{cases_lt}
 use Rattle.rq_algebra.specs.Systems.{at}
 use Rattle.rq_solver.specs.OperationCounts.{additions}
 use Rattle.rq_solver.proofs.CountLaws.{batch_sum, few_places, met_none, met_skipped, met_more}
-use Rattle.rq_parts.specs.DenseOctetMatrix.{entry_of}
-use Rattle.rq_solver.specs.OctetBatch.{AreOctetsIn, HasPivotsBeside, ChangesOctets}
-use Rattle.rq_solver.proofs.OctetTurns.{copy_beside, changes_none, changes_combined, changes_more, clears_octets, clears_none}
+use Rattle.rq_parts.specs.DenseOctetMatrix.{OctetTable, entry_of}
+use Rattle.rq_solver.specs.OctetBatch.{AreOctetsIn, HasPivotsBeside, ChangesOctets, CombinesOctets, octet_in, octets_from}
+use Rattle.rq_solver.proofs.OctetBatchLaws.{from_column}
+use Rattle.rq_solver.proofs.OctetTurns.{octets_still, beside_still, in_width, changes_none, changes_same, changes_combined, changes_more, clears_octets, clears_none}
 use Rattle.rq_solver.proofs.pi_solver.first_phase.hdpc.clear_octets.Goals as goal
 use Rattle.rq_solver.proofs.pi_solver.first_phase.hdpc.clear_octets.Goals.{then-height-eq0-via-then-height-eq0, then-height-eq0-via-else-height-eq0+then-are_zeros_at_pivots}
 
@@ -23,20 +24,36 @@ returns-then-height-eq0-clause-cleared c =
 
 pub loop-column-init : goal.loop-column-init
 loop-column-init c =
-    let summed = c.in_ok-sum_rows.ensures.summed in
+    let hdpc = c.args.hdpc.now in
     record {
-      changed = changes_none c.args.peeling.now.rows.items c.args.peeling.now.order.items c.args.peeling.now.places.items c.args.first_hdpc c.sum_rows.new.current c.sum_rows.new.recorded summed.octets summed.performs.octets;
+      table = refl;
+      changed = changes_none c.args.peeling.now.rows.items c.args.peeling.now.order.items c.args.peeling.now.places.items c.args.first_hdpc (length hdpc.rows) hdpc.width (octets_from 0 (octet_in c.in_ok-batch.batch)) c.sum_rows.new.recorded c.in_ok-sum_rows.ensures.summed.performs.octets;
       few = (0, met_none (length c.args.peeling.now.rows.items) (at c.args.peeling.now.places.items), (omega arith));
-      cleared = λ k l. absurd (omega arith);
     }
 
-pub clear_column-requires-clause-pivots : goal.clear_column-requires-clause-pivots
-clear_column-requires-clause-pivots c =
+pub clear_column-requires : goal.clear_column-requires
+clear_column-requires c =
+    let rows = c.args.peeling.now.rows.items in
+    let order = c.args.peeling.now.order.items in
+    let places = c.args.peeling.now.places.items in
     let hdpc = c.args.hdpc.now in
     let summed = c.in_ok-sum_rows.ensures.summed in
-    let changed = c.loop-column.invariant.changed in
-    copy_beside c.args.peeling.now.rows.items c.args.peeling.now.order.items c.args.peeling.now.places.items c.args.first_hdpc (entry_of hdpc) (length hdpc.rows) hdpc.width c.in_ok-current.current c.loop-column.current c.args.recorded.now c.loop-column.recorded
-    c.in_ok-current.ensures.copied c.requires.order c.requires.few c.requires.pivots c.requires.apart (changed.width ∙ summed.width) (changed.height ∙ summed.height) (changed.performs.height ∙ summed.performs.height)
+    let v = c.loop-column.invariant in
+    let old = c.args.recorded.now in
+    let now = c.loop-column.recorded in
+    let clone : c.in_ok-sums.sums ≡ hdpc = c.in_ok-sums.ensures.cases in
+    let table = v.table ∙ c.in_ok-batch.ensures.table in
+    let count : length c.loop-column.batch.table.rows ≡ length hdpc.rows = ap (λ (t : OctetTable). length t.rows) table ∙ c.in_ok-sum_rows.ensures.height ∙ ap (λ (t : OctetTable). length t.rows) clone in
+    let width : c.loop-column.batch.table.width ≡ hdpc.width = ap (λ (t : OctetTable). t.width) table ∙ c.in_ok-sum_rows.ensures.width ∙ ap (λ (t : OctetTable). t.width) clone in
+    let heights : length now.table.rows ≡ length old.table.rows = v.changed.performs.height ∙ summed.performs.height in
+    let are : AreOctetsIn c.args.first_hdpc (length hdpc.rows) old = record { within = c.requires.height; fits = c.requires.fits; octets = c.requires.octets } in
+    let beside : HasPivotsBeside rows order places c.args.first_hdpc (length hdpc.rows) hdpc.width old = record { columns = c.requires.order; few = c.requires.few; pivots = c.requires.pivots; apart = c.requires.apart } in
+    record {
+      rows = rw count (octets_still c.args.first_hdpc (length hdpc.rows) old now are heights v.changed.performs.octets);
+      pivots = rw (count, width) (beside_still rows order places c.args.first_hdpc (length hdpc.rows) hdpc.width old now beside heights);
+      some = omega (arith, count, c.height.ensures, c.if-height-eq0.false);
+      column = omega (arith, width, c.loop-column-test.true, c.end_of_pivots-column-end.ensures.within, c.requires.order.place_count);
+    }
 
 pub loop-column-preserved : goal.loop-column-preserved
 loop-column-preserved c =
@@ -45,19 +62,27 @@ loop-column-preserved c =
     let places = c.args.peeling.now.places.items in
     let first = c.args.first_hdpc in
     let hdpc = c.args.hdpc.now in
-    let start = c.sum_rows.new.current in
-    let old = c.sum_rows.new.recorded in
-    let summed = c.in_ok-sum_rows.ensures.summed in
-    let beside : HasPivotsBeside rows order places first start old =
-    copy_beside rows order places first (entry_of hdpc) (length hdpc.rows) hdpc.width c.in_ok-current.current start c.args.recorded.now old
-    c.in_ok-current.ensures.copied c.requires.order c.requires.few c.requires.pivots c.requires.apart summed.width summed.height summed.performs.height in
-    let v = c.loop-column.invariant in
+    let start = c.in_ok-batch.batch in
+    let was = c.loop-column.batch in
+    let now = c.clear_column.new.batch in
+    let cur = c.sum_rows.new.recorded in
+    let mid = c.loop-column.recorded in
+    let new = c.clear_column.new.recorded in
     let column = c.loop-column.column in
-    let height : length c.loop-column.current.rows ≡ length start.rows = v.changed.height in
+    let count = length hdpc.rows in
+    let width = hdpc.width in
+    let v = c.loop-column.invariant in
+    let clone : c.in_ok-sums.sums ≡ hdpc = c.in_ok-sums.ensures.cases in
+    let height : length was.table.rows ≡ count = ap (λ (t : OctetTable). length t.rows) (v.table ∙ c.in_ok-batch.ensures.table) ∙ c.in_ok-sum_rows.ensures.height ∙ ap (λ (t : OctetTable). length t.rows) clone in
+    let beside : HasPivotsBeside rows order places first count width cur =
+    beside_still rows order places first count width c.args.recorded.now cur (record { columns = c.requires.order; few = c.requires.few; pivots = c.requires.pivots; apart = c.requires.apart }) c.in_ok-sum_rows.ensures.summed.performs.height in
+    let turn : ChangesOctets rows order first count (octets_from column (octet_in was)) (octets_from (column + 1) (octet_in now)) mid new =
+    subst (λ (n : ℕ). ChangesOctets rows order first n (octets_from column (octet_in was)) (octets_from (column + 1) (octet_in now)) mid new) height c.in_ok-clear_column.ensures.changed in
     let fresh : (q : ℕ) → q < column → at places q ≢ at places column = (λ (q : ℕ) (l : q < column) (e : at places q ≡ at places column).
     let same : q ≡ column = sym (c.requires.order.placed q (omega (arith, c.end_of_pivots-column-end.ensures.within, c.requires.order.place_count))).1 ∙ ap (at order) e ∙ (c.requires.order.placed column (omega (arith, c.end_of_pivots-column-end.ensures.within, c.requires.order.place_count))).1 in
     omega (arith, same, l)) in
     record {
+      table = c.clear_column.ensures.table ∙ v.table;
       few = elim (cases_lt (at places column) (length rows)) [
         | inl pivot ↦
             let more = c.in_ok-clear_column.ensures.few in
@@ -68,9 +93,7 @@ loop-column-preserved c =
             let so_far = v.few.2 in
             (v.few.0, met_skipped (length rows) (at places) column v.few.0 v.few.1, omega (arith, more, so_far, height))
       ];
-      changed = changes_more rows order places first start c.loop-column.current c.clear_column.new.current old c.loop-column.recorded c.clear_column.new.recorded
-          beside c.loop-column.invariant.changed c.in_ok-clear_column.ensures.changed;
-      cleared = c.in_ok-clear_column.ensures.cleared c.loop-column.invariant.cleared;
+      changed = changes_more rows order places first count width (octets_from 0 (octet_in start)) (octets_from column (octet_in was)) (octets_from (column + 1) (octet_in now)) cur mid new beside v.changed turn;
     }
 
 pub returns-clause-cleared : goal.returns-clause-cleared
@@ -80,32 +103,37 @@ returns-clause-cleared c =
     let places = c.args.peeling.now.places.items in
     let first = c.args.first_hdpc in
     let hdpc = c.args.hdpc.now in
-    let copy = c.in_ok-current.current in
-    let start = c.sum_rows.new.current in
-    let end = c.loop-column.current in
+    let sums = c.sum_rows.new.rows in
+    let start = c.in_ok-batch.batch in
+    let end = c.loop-column.batch in
     let old = c.args.recorded.now in
     let cur = c.sum_rows.new.recorded in
     let new = c.loop-column.recorded in
-    let holds = c.in_ok-current.ensures.copied in
-    let are : AreOctetsIn first copy old = record { within = rw holds.height_is c.requires.height; fits = rw holds.height_is c.requires.fits; shown = holds.octets; octets = c.requires.octets } in
-    let beside : HasPivotsBeside rows order places first copy old =
-    copy_beside rows order places first (entry_of hdpc) (length hdpc.rows) hdpc.width copy copy old old holds c.requires.order c.requires.few c.requires.pivots c.requires.apart refl refl refl in
-    let summed : ChangesOctets rows order first copy start old cur = changes_combined rows order places first copy start old cur are beside c.in_ok-sum_rows.ensures.summed in
-    let changed : ChangesOctets rows order first copy end old new = changes_more rows order places first copy start end old cur new beside summed c.loop-column.invariant.changed in
+    let count = length hdpc.rows in
+    let width = hdpc.width in
+    let clone : c.in_ok-sums.sums ≡ hdpc = c.in_ok-sums.ensures.cases in
+    let summed : CombinesOctets first count width (entry_of hdpc) (entry_of sums) old cur =
+    subst (λ (t : OctetTable). CombinesOctets first (length t.rows) t.width (entry_of t) (entry_of sums) old cur) clone c.in_ok-sum_rows.ensures.summed in
+    let heights : length sums.rows ≡ count = c.in_ok-sum_rows.ensures.height ∙ ap (λ (t : OctetTable). length t.rows) clone in
+    let widths : sums.width ≡ width = c.in_ok-sum_rows.ensures.width ∙ ap (λ (t : OctetTable). t.width) clone in
+    let beside : HasPivotsBeside rows order places first count width old = record { columns = c.requires.order; few = c.requires.few; pivots = c.requires.pivots; apart = c.requires.apart } in
     let last : c.loop-column.column ≡ c.end_of_pivots-column-end.result = omega (arith, c.loop-column.auto.column-end) in
-    clears_octets rows order places first (entry_of hdpc) (length hdpc.rows) hdpc.width copy end old new c.loop-column.column c.requires.order c.requires.few holds changed
-    (rw last c.end_of_pivots-column-end.ensures.last) c.loop-column.invariant.cleared
+    let begun : ChangesOctets rows order first count (entry_of hdpc) (octets_from 0 (octet_in start)) old cur =
+    changes_same rows order places first count width (entry_of hdpc) (entry_of sums) (octets_from 0 (octet_in start)) old cur
+    (λ i p l n. sym (from_column 0 (octet_in start) i (at order p) (omega arith) ∙ c.in_ok-batch.ensures.octets i (at order p) (rw heights l) (rw widths (in_width rows order places first count width old beside p n))))
+    (changes_combined rows order places first count width (entry_of hdpc) (entry_of sums) old cur beside summed) in
+    let changed = changes_more rows order places first count width (entry_of hdpc) (octets_from 0 (octet_in start)) (octets_from c.loop-column.column (octet_in end)) old cur new beside begun c.loop-column.invariant.changed in
+    clears_octets rows order places first count width (entry_of hdpc) (octet_in end) old new c.loop-column.column beside c.requires.hdpc_octets.elements changed
+    (rw last c.end_of_pivots-column-end.ensures.last)
 
 pub returns-clause-few : goal.returns-clause-few
 returns-clause-few c =
     let hdpc = c.args.hdpc.now in
     let few = c.loop-column.invariant.few in
     let summed = c.in_ok-sum_rows.ensures.few in
-    let holds = c.in_ok-current.ensures.copied in
-    let height : length c.sum_rows.new.current.rows ≡ length hdpc.rows = c.in_ok-sum_rows.ensures.summed.height ∙ holds.height_is in
     let met = few_places few.0 (length c.args.peeling.now.rows.items) few.1.which few.1.are in
     let done : c.loop-column.column ≤ hdpc.width = omega (arith, c.loop-column.auto.column-end, c.end_of_pivots-column-end.ensures.within, c.requires.order.place_count) in
     let all = batch_sum (length hdpc.rows - 1) (length hdpc.rows) hdpc.width c.loop-column.column few.0 (length c.args.peeling.now.rows.items) done met in
-    let so_far = rw height at few.2 in
-    let first : additions c.sum_rows.new.recorded.operations ≤ additions c.args.recorded.now.operations + (length hdpc.rows - 1) = rw holds.height_is at summed in
+    let so_far = few.2 in
+    let first : additions c.sum_rows.new.recorded.operations ≤ additions c.args.recorded.now.operations + (length hdpc.rows - 1) = rw c.in_ok-sums.ensures.cases at summed in
     omega (arith, all, so_far, first)

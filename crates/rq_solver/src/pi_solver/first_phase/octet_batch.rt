@@ -1,0 +1,90 @@
+//! The octets of HDPC rows that are cleared together.
+ghost use Rattle.std.specs.Prelude.{◌≡◌, ℕ, ◌<◌, length, IfOk, IfErr};
+ghost use Rattle.rq_algebra.specs.Steps.{AddsRow, ScalesRow};
+ghost use Rattle.rq_bytes.specs.declared.error.Error.TheVariants.{OutOfMemory};
+ghost use Rattle.rq_parts.specs.DenseOctetMatrix.{entry_of, HasOctets};
+ghost use Rattle.rq_standard.specs.OctetField.{octets};
+ghost use Rattle.rq_solver.specs.OctetBatch.{octet_in};
+
+use rq_bytes::error::Error;
+use rq_bytes::octet::Octet;
+use rq_parts::octet_matrix::DenseOctetMatrix;
+use std::alloc::Global;
+use std::marker::Model;
+
+/// What HDPC rows have in the columns that weren't worked on yet: of their sum, which the first row
+/// of a table has, each row has a multiple, and each but the first has its own octets besides. So a
+/// step among the rows changes one factor, and not a row of as many octets as there are columns.
+#[derive(Drop)]
+pub(super) struct OctetBatch {
+    table: DenseOctetMatrix,
+    factors: Vec<u8>,
+}
+
+impl Model for OctetBatch {
+    ghost use Rattle.rq_solver.specs.OctetBatch.{Batch, IsBatch};
+
+    ghost Value = { Batch };
+
+    ghost view = { λ b. record { table = b.table; factors = b.factors.items } };
+
+    ghost invariant = { λ b. IsBatch (record { table = b.table; factors = b.factors.items }) };
+}
+
+impl OctetBatch {
+    /// The rows of a table, the first of which is the sum of what the rows were.
+    pub(super) fn new(alloc: Global, table: DenseOctetMatrix) -> Result<OctetBatch, Error>
+        requires some { 0 < length table.rows }
+        requires octets { HasOctets table }
+        ensures table { IfOk result (λ batch. batch.table ≡ table) }
+        ensures octets { IfOk result (λ batch. (i k : ℕ) → i < length table.rows → k < table.width → octet_in batch i k ≡ entry_of table i k) }
+        ensures err { IfErr result (λ e. e ≡ OutOfMemory) }
+    {
+        let mut factors = vec![in alloc; 0; table.height()]?;
+        factors[0] = 1;
+        Ok(OctetBatch { table, factors })
+    }
+
+    /// The number of rows.
+    pub(super) fn height(&self) -> usize
+        ensures height { result ≡ length self.now.table.rows }
+        ensures octets { HasOctets self.now.table }
+    {
+        self.table.height()
+    }
+
+    /// What a row has in a column.
+    pub(super) fn get(&self, row: usize, column: usize) -> Octet
+        requires row { row < length self.now.table.rows }
+        requires column { column < self.now.table.width }
+        ensures { result ≡ octet_in self.now row column }
+    {
+        let own = if row == 0 {
+            Octet::zero()
+        } else {
+            self.table.get(row, column)
+        };
+        own + Octet::new(self.factors[row]) * self.table.get(0, column)
+    }
+
+    /// Adds a multiple of the first row to another one.
+    pub(super) fn add_first(&mut self, dest: usize, scalar: u8)
+        requires other { 0 < dest }
+        requires dest { dest < length self.old.table.rows }
+        ensures table { self.new.table ≡ self.old.table }
+        ensures sum { AddsRow octets (length self.old.table.rows) self.old.table.width dest 0 scalar (octet_in self.old) (octet_in self.new) }
+    {
+        let product = Octet::new(scalar) * Octet::new(self.factors[0]);
+        self.factors[dest] ^= product.byte();
+    }
+
+    /// Multiplies the first row.
+    pub(super) fn multiply_first(&mut self, scalar: u8)
+        requires { 0 < length self.old.table.rows }
+        ensures table { self.new.table ≡ self.old.table }
+        ensures multiple { ScalesRow octets (length self.old.table.rows) self.old.table.width 0 scalar (octet_in self.old) (octet_in self.new) }
+    {
+        let product = Octet::new(scalar) * Octet::new(self.factors[0]);
+        self.factors[0] = product.byte();
+    }
+}
