@@ -93,7 +93,7 @@ pieces_apart p q s ne =
 
 -- ---- several pieces
 
-cut-join : {X : Type 0} (k m s : ℕ) (ys zs : List X) → length ys ≡ k * s → cut (k + m) s (ys ++ zs) ≡ cut k s ys ++ cut m s zs
+pub cut-join : {X : Type 0} (k m s : ℕ) (ys zs : List X) → length ys ≡ k * s → cut (k + m) s (ys ++ zs) ≡ cut k s ys ++ cut m s zs
 cut-join zero m s [] zs long = ap (λ n. cut n s zs) (omega arith)
 cut-join zero m s (y ∷ ys) zs long = absurd (omega arith)
 cut-join (suc k) m s ys zs long =

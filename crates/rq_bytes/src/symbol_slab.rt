@@ -6,9 +6,9 @@ ghost use Rattle.rq_algebra.specs.Operations.{AddAssign, MulAssign, Fma, Reorder
 ghost use Rattle.rq_algebra.specs.Symbols.{AreSymbols};
 ghost use Rattle.rq_standard.specs.OctetField.{octets};
 ghost use Rattle.std.specs.Borrow.{sem};
-ghost use Rattle.rq_bytes.specs.Ranges.{range_of, whole_symbols, with_range};
+ghost use Rattle.rq_bytes.specs.Ranges.{range_of, cut, whole_symbols, with_range};
 ghost use Rattle.rq_bytes.specs.Refusals.{IsAnswer};
-ghost use Rattle.rq_bytes.specs.SymbolSlab.{slab_of, after, after_all, HasPlace, Allows, symbol_in, symbols_in, sum_in, with_sum, same_slab};
+ghost use Rattle.rq_bytes.specs.SymbolSlab.{slab_of, among_zeros, after, after_all, HasPlace, Allows, symbol_in, symbols_in, sum_in, with_sum, same_slab};
 
 use crate::error::Error;
 use crate::factor::Factor;
@@ -60,6 +60,26 @@ impl SymbolSlab {
         })
     }
 
+    /// So many symbols of zeros, in a buffer with room for so many octets.
+    pub fn with_room(
+        alloc: Global,
+        count: usize,
+        symbol_size: usize,
+        room: usize,
+    ) -> Result<Self, Error>
+        requires { count * symbol_size < 2 ^ 64 }
+        ensures { IsAnswer (λ slab. slab) result (Ok (slab_of symbol_size (replicate count (replicate symbol_size 0)))) }
+    {
+        let mut data = Vec::with_capacity(alloc, room)?;
+        data.resize(count * symbol_size, 0)?;
+        Ok(SymbolSlab {
+            data,
+            symbol_size,
+            count,
+            order: None,
+        })
+    }
+
     /// These symbols, each of that size.
     pub fn from_symbols(
         alloc: Global,
@@ -77,6 +97,42 @@ impl SymbolSlab {
             data,
             symbol_size,
             count: symbols.len(),
+            order: None,
+        })
+    }
+
+    /// The symbols that these bytes are, one after another.
+    pub fn from_bytes(bytes: Vec<u8>, count: usize, symbol_size: usize) -> Self
+        requires { length bytes.items ≡ count * symbol_size }
+        ensures { result ≡ slab_of symbol_size (cut count symbol_size bytes.items) }
+    {
+        SymbolSlab {
+            data: bytes,
+            symbol_size,
+            count,
+            order: None,
+        }
+    }
+
+    /// A slab of so many symbols that has these from `start` on, and zeros in all other places.
+    /// Where an order is set, it isn't taken over.
+    pub fn among_zeros(&self, start: usize, count: usize) -> Result<Self, Error>
+        requires fits { start + length self.now.values ≤ count }
+        requires room { (count + length self.now.values) * self.now.symbol_size < 2 ^ 64 }
+        ensures { IsAnswer (λ slab. slab) result (Ok (slab_of self.now.symbol_size (among_zeros self.now.symbol_size start count self.now.values))) }
+    {
+        let size = self.symbol_size;
+        // More than is filled: an allocator that takes this buffer from the system and is handed it
+        // back then keeps as much for the next block, whose pages it needs not ask for anew.
+        let room = count * size + self.data.len();
+        let mut data = Vec::with_capacity(*self.data.allocator(), room)?;
+        data.resize(start * size, 0)?;
+        data.extend_from_slice(self.data.as_slice())?;
+        data.resize(count * size, 0)?;
+        Ok(SymbolSlab {
+            data,
+            symbol_size: size,
+            count,
             order: None,
         })
     }
@@ -130,6 +186,23 @@ impl SymbolSlab {
 
     /// Adds several symbols to another one, in one pass over its octets.
     pub fn add_all(&mut self, dest: usize, sources: &[usize])
+        requires dest { HasPlace self.old dest }
+        requires sources { All (λ src. Allows self.old (AddAssign dest src)) sources.now }
+        ensures { self.new ≡ after_all (map (λ src. AddAssign dest src) sources.now) self.old }
+    {
+        // A few sources whose number is known need no loop over them in each piece.
+        match sources {
+            [a] => self.add_sources(dest, &[*a]),
+            [a, b] => self.add_sources(dest, &[*a, *b]),
+            [a, b, c] => self.add_sources(dest, &[*a, *b, *c]),
+            [a, b, c, d] => self.add_sources(dest, &[*a, *b, *c, *d]),
+            _ => self.add_sources(dest, sources),
+        }
+    }
+
+    /// The same, made anew for each number of sources that is known.
+    #[inline(always)]
+    fn add_sources(&mut self, dest: usize, sources: &[usize])
         requires dest { HasPlace self.old dest }
         requires sources { All (λ src. Allows self.old (AddAssign dest src)) sources.now }
         ensures { self.new ≡ after_all (map (λ src. AddAssign dest src) sources.now) self.old }

@@ -1,11 +1,11 @@
--- What the check leaves to show of `symbol_slab::SymbolSlab::add_all`.
+-- What the check leaves to show of `symbol_slab::SymbolSlab::add_sources`.
 use Rattle.std.proofs.Common.{◌≡◌, ◌-◌, ◌<◌, ℕ, ap, length, ◌∙◌, arith}
 use Rattle.std.proofs.lemmas.List.Elements.{All-weaker}
 use Rattle.rq_algebra.specs.Operations.{AddAssign, meant_at}
 use Rattle.rq_bytes.specs.SymbolSlab.{Slab, Allows, symbol_in, with_sum}
 use Rattle.rq_bytes.proofs.SlabFacts.{holds, meant_below, size_is, length-range_at}
 use Rattle.rq_bytes.proofs.SlabSums.{others_of, goes_on, with_sum-all}
-use Rattle.rq_bytes.proofs.symbol_slab.SymbolSlab.add_all.Goals as goal
+use Rattle.rq_bytes.proofs.symbol_slab.SymbolSlab.add_sources.Goals as goal
 
 pub returns : goal.returns
 returns c =
