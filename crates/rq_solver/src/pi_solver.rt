@@ -14,6 +14,7 @@ pub(crate) mod elimination;
 mod first_phase;
 mod fourth_phase;
 mod links;
+mod next_row;
 mod ones;
 mod peeling;
 #[cfg(test)]

@@ -58,8 +58,15 @@ impl RowDegrees {
         Ok(())
     }
 
-    /// A row that has least active columns but has some.
-    pub(super) fn next_row(&mut self) -> Option<usize>
+    /// How many active columns a row has.
+    pub(super) fn degree(&self, row: usize) -> usize
+        requires { row < self.now }
+    {
+        self.degrees[row]
+    }
+
+    /// A row that has one active column.
+    pub(super) fn next_single(&mut self) -> Option<usize>
         ensures row { IfSome result (λ row. row < self.old) }
         ensures rows { self.new ≡ self.old }
     {
@@ -68,11 +75,11 @@ impl RowDegrees {
                 return Some(row);
             }
         }
-        self.least()
+        None
     }
 
-    // The first row of least positive degree, where no row has degree 1.
-    fn least(&self) -> Option<usize>
+    /// A row of least positive degree, where no row has degree 1.
+    pub(super) fn least(&self) -> Option<usize>
         ensures { IfSome result (λ row. row < self.now) }
     {
         let mut least = None;

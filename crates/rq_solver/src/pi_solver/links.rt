@@ -1,5 +1,5 @@
 //! The rows that have ones in a column.
-ghost use Rattle.std.specs.Prelude.{◌≡◌, ◌<◌, length, All, IfOk, IfErr};
+ghost use Rattle.std.specs.Prelude.{◌≡◌, ◌<◌, length, All, IfSome, IfOk, IfErr};
 ghost use Rattle.rq_bytes.specs.declared.error.Error.TheVariants.{OutOfMemory};
 
 use crate::pi_solver::degrees::RowDegrees;
@@ -85,5 +85,22 @@ impl ColumnLinks {
             next = link.next;
         }
         Ok(())
+    }
+
+    /// A row that has a one in a column and has two active columns.
+    pub(super) fn row_of_two(&self, column: usize, degrees: &RowDegrees) -> Option<usize>
+        requires column { column < self.now.columns }
+        requires rows { self.now.rows ≡ degrees.now }
+        ensures { IfSome result (λ row. row < degrees.now) }
+    {
+        let mut next = self.last[column];
+        while let Some(place) = next {
+            let link = self.links[place];
+            if degrees.degree(link.row) == 2 {
+                return Some(link.row);
+            }
+            next = link.next;
+        }
+        None
     }
 }

@@ -6,9 +6,14 @@ ghost use Rattle.rq_solver.specs.Peeled.{IsPeeled, IsActive, HasNoActive, TakesR
 use crate::pi_solver::columns::ColumnOrder;
 use crate::pi_solver::degrees::RowDegrees;
 use crate::pi_solver::links::ColumnLinks;
+use crate::pi_solver::next_row::next_row;
 use crate::pi_solver::ones::RowOnes;
 use rq_bytes::error::Error;
+use rq_parts::graph::ConnectedComponentGraph;
 use std::alloc::Global;
+
+/// For how many columns there are sets at most.
+const MOST_NODES: usize = 65535;
 
 /// Columns with pivots among rows of bits, and the order of all columns: pivots' first, in the
 /// order in which they were chosen, then the inactive ones.
@@ -36,9 +41,12 @@ pub(super) fn peel(
     let links = ColumnLinks::of_rows(alloc, ones, width)?;
     let mut degrees = RowDegrees::new(alloc, ones, boundary)?;
     let mut columns = ColumnOrder::new(alloc, width, boundary)?;
+    let nodes = boundary.min(MOST_NODES);
+    let mut graph = ConnectedComponentGraph::new(alloc, nodes)?;
     let mut rows = Vec::with_capacity(alloc, boundary)?;
     for _ in 0..boundary {
-        let Some(row) = degrees.next_row() else {
+        let next = next_row(ones, &links, &columns, nodes, &mut degrees, &mut graph);
+        let Some(row) = next else {
             break;
         };
         if take_row(ones.row(row), &links, &mut degrees, &mut columns)? {

@@ -1,10 +1,16 @@
 -- What the check leaves to show of `pi_solver::peeling::peel`.
-use Rattle.std.proofs.Common.{◌≡◌, ◌<◌, ℕ, [], ◌∷◌, ◌++◌, All, length, sym, ap, ◌∙◌, arith, Vec, Global}
+use Rattle.std.proofs.Common.{Result, Ok, Err, ◌≡◌, ◌<◌, ℕ, [], ◌∷◌, ◌++◌, All, length, sym, ap, ◌∙◌, arith, Vec, Global}
 use Rattle.std.proofs.lemmas.List.FromFn.{length-range_with_len}
+use Rattle.std.proofs.lemmas.List.{length-replicate}
+use Rattle.rq_parts.specs.ConnectedComponentGraph.{Components}
 use Rattle.rq_solver.specs.Peeled.{ones_of, TakesRow, IsOrderOf}
 use Rattle.rq_solver.proofs.PeelingLaws.{peeled_none, peeled_next, peeled_all}
 use Rattle.rq_solver.proofs.pi_solver.peeling.peel.Goals as goal
 use Rattle.rq_solver.proofs.pi_solver.peeling.peel.Goals.{then-branch+in_ok-push, else-branch}
+
+abbrev node_count : {E : Type 0} → Result Components E → ℕ
+node_count (Ok g) = length g.labels
+node_count (Err e) = 0
 
 pub loop-init : goal.loop-init
 loop-init c =
@@ -13,13 +19,14 @@ loop-init c =
       so = peeled_none c.args.ones.now c.args.width c.args.boundary;
       width = length-range_with_len 0 c.args.width;
       degrees = c.in_ok-degrees.ensures.rows;
+      graph = sym (ap node_count c.in_ok-graph.ensures) ∙ length-replicate c.min-nodes.result 0;
     })
 
 pub loop-preserved : goal.loop-preserved
 loop-preserved c =
     let v = c.loop.invariant in
     let lists = c.args.ones.now in
-    let degrees = c.take_row.ensures.degrees ∙ c.next_row.ensures.rows ∙ v.degrees in
+    let degrees = c.take_row.ensures.degrees ∙ c.next_row-next.ensures.rows ∙ v.degrees in
     elim c.if-branch.branch [
       | then-branch+in_ok-push w ↦
           let takes : TakesRow (ones_of lists c.in-Some.row) c.loop.columns c.take_row.new.columns = rw (sym c.row.ensures) (c.in_ok-take_row.ensures.taken w.if-branch.true) in
@@ -30,11 +37,12 @@ loop-preserved c =
             so = peeled_next lists c.loop.rows.items c.loop.columns c.take_row.new.columns columns v.so c.in-Some.row (omega (arith, c.in-Some.ensures.row, v.degrees)) takes;
             width = takes.width ∙ v.width;
             degrees = degrees;
+            graph = c.next_row-next.ensures.graph;
           })
       | else-branch w ↦
           let left = c.in_ok-take_row.ensures.left w.if-branch.false in
           let rows : c.if-branch.rows.items ≡ c.loop.rows.items = ap (λ (v : Vec ℕ Global). v.items) w.rows-is in
-          rw (rows, left) (record { so = v.so; width = v.width; degrees = degrees })
+          rw (rows, left) (record { so = v.so; width = v.width; degrees = degrees; graph = c.next_row-next.ensures.graph })
     ]
 
 pub returns-clause-peeled : goal.returns-clause-peeled

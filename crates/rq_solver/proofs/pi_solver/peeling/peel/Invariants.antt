@@ -8,4 +8,5 @@ invariant-loop l = record {
   so : IsPeeledSo l.ones l.rows.items l.columns;
   width : length l.columns.order ≡ l.width;
   degrees : l.degrees ≡ length l.ones;
+  graph : length l.graph.labels ≡ l.nodes;
 }

@@ -1,6 +1,6 @@
--- What the loops keep in `pi_solver::degrees::RowDegrees::next_row`.
+-- What the loops keep in `pi_solver::degrees::RowDegrees::next_single`.
 use Rattle.std.proofs.Common.{◌≡◌, ◌<◌, All, length}
-use Rattle.rq_solver.proofs.pi_solver.degrees.RowDegrees.next_row.Given as goal
+use Rattle.rq_solver.proofs.pi_solver.degrees.RowDegrees.next_single.Given as goal
 
 abbrev pub invariant-loop-row : goal.invariant-loop-row
 invariant-loop-row l = record {

@@ -1,0 +1,86 @@
+//! The row that is peeled next.
+ghost use Rattle.std.specs.Prelude.{◌≡◌, ◌<◌, ◌≤◌, length, All, IfSome};
+
+use crate::pi_solver::columns::ColumnOrder;
+use crate::pi_solver::degrees::RowDegrees;
+use crate::pi_solver::links::ColumnLinks;
+use crate::pi_solver::ones::RowOnes;
+use rq_parts::graph::ConnectedComponentGraph;
+
+/// A row that has least active columns but has some. Where rows have two at least, it is one of
+/// the rows of two that join most columns (RFC 6330, section 5.4.2.2): with one of these inactive
+/// all the others get pivots.
+pub(super) fn next_row(
+    ones: &RowOnes,
+    links: &ColumnLinks,
+    columns: &ColumnOrder,
+    nodes: usize,
+    degrees: &mut RowDegrees,
+    graph: &mut ConnectedComponentGraph,
+) -> Option<usize>
+    requires columns { All (λ row. All (λ column. column < length columns.now.order) row) ones.now }
+    requires links { links.now ≡ record { rows = degrees.old; columns = length columns.now.order } }
+    requires rows { degrees.old ≡ length ones.now }
+    requires nodes { nodes ≤ length columns.now.order }
+    requires graph { length graph.old.labels ≡ nodes }
+    ensures row { IfSome result (λ row. row < degrees.old) }
+    ensures rows { degrees.new ≡ degrees.old }
+    ensures graph { length graph.new.labels ≡ nodes }
+{
+    if let Some(row) = degrees.next_single() {
+        return Some(row);
+    }
+    let row = degrees.least()?;
+    if degrees.degree(row) != 2 {
+        return Some(row);
+    }
+    join_columns(ones, columns, nodes, degrees, graph);
+    let Some(column) = graph.get_node_in_largest_connected_component(0, nodes) else {
+        return Some(row);
+    };
+    links.row_of_two(column, degrees).or(Some(row))
+}
+
+/// Joins the columns of each row that has two active ones.
+fn join_columns(
+    ones: &RowOnes,
+    columns: &ColumnOrder,
+    nodes: usize,
+    degrees: &RowDegrees,
+    graph: &mut ConnectedComponentGraph,
+)
+    requires columns { All (λ row. All (λ column. column < length columns.now.order) row) ones.now }
+    requires rows { degrees.now ≡ length ones.now }
+    requires graph { length graph.old.labels ≡ nodes }
+    ensures { length graph.new.labels ≡ nodes }
+{
+    graph.reset();
+    for row in 0..ones.height() {
+        if degrees.degree(row) == 2 {
+            join_pair(ones.row(row), columns, nodes, graph);
+        }
+    }
+}
+
+/// Joins the first two active columns of a row, if both are nodes.
+fn join_pair(
+    row: &[usize],
+    columns: &ColumnOrder,
+    nodes: usize,
+    graph: &mut ConnectedComponentGraph,
+)
+    requires columns { All (λ column. column < length columns.now.order) row.now }
+    requires graph { length graph.old.labels ≡ nodes }
+    ensures { length graph.new.labels ≡ nodes }
+{
+    let mut first = None;
+    for column in row {
+        if columns.is_active(*column) && *column < nodes {
+            if let Some(other) = first {
+                graph.add_edge(other, *column);
+                return;
+            }
+            first = Some(*column);
+        }
+    }
+}
