@@ -67,6 +67,7 @@ fn assert_symbols(rt: &impl Abort, slab: SymbolSlab, expected: &[u8]) -> Result<
 }
 
 #[test]
+#[tactic(auto, unfolding(rq_algebra::specs::Operations::step))]
 fn an_order_moves_no_symbol(rt: HostRuntime) -> Result<(), Error> {
     let mut slab = three(rt.alloc())?;
     assert_eq!(rt; slab.get(1), [1].as_slice());
@@ -83,10 +84,18 @@ fn an_order_moves_no_symbol(rt: HostRuntime) -> Result<(), Error> {
     assert_symbols(&rt, slab, &[2, 0, 1])
 }
 
+// The symbols [1], [2].
+fn one_and_two(alloc: Global) -> Result<SymbolSlab, Error>
+    ensures { IfOk result (λ slab. (slab.order ≡ None) × (length slab.values ≡ 2) × (slab.symbol_size ≡ 1)) }
+{
+    let mut slab = SymbolSlab::with_zeros(alloc, 2, 1)?;
+    slab.copy_block_from(0, &[1, 2]);
+    Ok(slab)
+}
+
 #[test]
 fn a_multiple_is_added(rt: HostRuntime) -> Result<(), Error> {
-    let mut slab = SymbolSlab::with_zeros(rt.alloc(), 2, 1)?;
-    slab.copy_block_from(0, &[1, 2]);
+    let mut slab = one_and_two(rt.alloc())?;
     slab.fma(0, 1, &Octet::new(3));
     assert_eq!(rt; slab.get(0), [7].as_slice());
     Ok(())

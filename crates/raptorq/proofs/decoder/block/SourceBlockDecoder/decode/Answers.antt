@@ -1,13 +1,16 @@
+use Rattle.std.proofs.lemmas.Result.{err_from_is_err_and}
 use Rattle.raptorq.specs.SourceBlockDecoder.{held_of}
 use Rattle.raptorq.proofs.Taking.{decodes_seen}
 use Rattle.raptorq.proofs.decoder.block.SourceBlockDecoder.decode.Goals as goal
 
-pub returns-in-Err : goal.returns-in-Err
-returns-in-Err g c =
-    let seen = c.in-Err.ensures in
+pub returns-in_err-decode_until_stopped : goal.returns-in_err-decode_until_stopped
+returns-in_err-decode_until_stopped g c =
+    let seen = c.in_err-decode_until_stopped.ensures in
+    let stopped = c.in_err-decode_until_stopped.field-0.0 in
+    let p = err_from_is_err_and c.from_residual.result c.from_residual.ensures.1 in
     record {
       iterator = seen.iterator;
       packets = seen.packets;
       made = seen.made;
-      decodes = rw (c.refusal.ensures) (decodes_seen g.I.IntoIter.Iterator.next_gives seen.iterator (held_of c.args.self.now) seen.packets c.in-Err.stopped (held_of c.decode_until_stopped.new.self) seen.decodes);
+      decodes = rw (p.1, p.2) (decodes_seen g.I.IntoIter.Iterator.next_gives seen.iterator (held_of c.args.self.now) seen.packets stopped (held_of c.decode_until_stopped.new.self) seen.decodes);
     }

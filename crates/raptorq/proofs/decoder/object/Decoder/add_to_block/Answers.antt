@@ -53,4 +53,4 @@ returns-clause-adds c =
     let x = c.index_mut.result.now in
     let at = block_of_packet items p s.config.source_blocks c.from-2.result x s.numbered (c.from-2.ensures ∙ c.source_block_number-number.ensures ∙ ap (λ i. i.block) c.payload_id.ensures) (omega (arith, c.from-2.ensures, c.if-number-source_blocks.false, c.source_blocks.ensures)) c.index_mut.ensures.value in
     let y = c.add_packet.new.self in
-    subst (λ i. AddsOrStops (state s.config items) p c.add_packet.result (state s.config (set items i y))) (sym at.here) (takes_at s.config items p x y at.below at.is c.add_packet.result c.add_packet.ensures.takes)
+    subst (λ i. AddsOrStops (state s.config items) p c.add_packet.result (state s.config (set items i y))) (sym at.here) (takes_at s.config items p x y at.below at.is c.add_packet.result c.add_packet.ensures.adds)

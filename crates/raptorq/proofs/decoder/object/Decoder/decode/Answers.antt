@@ -1,25 +1,33 @@
-use Rattle.rq_standard.proofs.ObjectAnswers.{answers_object}
+use Rattle.std.proofs.lemmas.Result.{err_from_is_err_and}
+use Rattle.rq_standard.proofs.ObjectAnswers.{answers_object, answers_nothing_else}
 use Rattle.rq_standard.proofs.OtherObjects.{answers_only}
 use Rattle.rq_standard.proofs.Standing.{stands_more, answers_late}
 use Rattle.raptorq.specs.Decoder.{state_of}
 use Rattle.raptorq.proofs.Stops.{late_or_not}
 use Rattle.raptorq.proofs.decoder.object.Decoder.decode.Goals as goal
 
-pub returns-in-Ok-clause-object : goal.returns-in-Ok-clause-object
-returns-in-Ok-clause-object c =
+pub returns-clause-object : goal.returns-clause-object
+returns-clause-object c =
     let new = c.add_and_join.new.self in
-    answers_object (state_of new) _ new.some new.positive c.in-Ok.ensures.adds.1
+    answers_object (state_of new) _ new.some new.positive c.in_ok-add_and_join.ensures.adds.1
 
-pub returns-in-Ok-clause-only_object : goal.returns-in-Ok-clause-only_object
-returns-in-Ok-clause-only_object c =
+pub returns-clause-nothing_else : goal.returns-clause-nothing_else
+returns-clause-nothing_else c =
     let new = c.add_and_join.new.self in
-    answers_only (state_of new) _ new.some new.positive new.aligned (answers_object (state_of new) _ new.some new.positive c.in-Ok.ensures.adds.1)
+    answers_nothing_else (state_of new) _ new.some new.positive c.in_ok-add_and_join.ensures.adds.1
 
-pub returns-in-Ok-clause-stands : goal.returns-in-Ok-clause-stands
-returns-in-Ok-clause-stands c = stands_more c.args.packet (state_of c.args.self.now) (state_of c.add_and_join.new.self) c.args.self.now.aligned c.in-Ok.ensures.adds.0
+pub returns-clause-only_object : goal.returns-clause-only_object
+returns-clause-only_object c =
+    let new = c.add_and_join.new.self in
+    answers_only (state_of new) _ new.some new.positive new.aligned (answers_object (state_of new) _ new.some new.positive c.in_ok-add_and_join.ensures.adds.1)
 
-pub returns-in-Ok-clause-answers_late : goal.returns-in-Ok-clause-answers_late
-returns-in-Ok-clause-answers_late c = answers_late c.args.packet (state_of c.args.self.now) (state_of c.add_and_join.new.self) c.args.self.now.aligned c.in-Ok.ensures.adds.0
+pub returns-clause-stands : goal.returns-clause-stands
+returns-clause-stands c = stands_more c.args.packet (state_of c.args.self.now) (state_of c.add_and_join.new.self) c.args.self.now.aligned c.in_ok-add_and_join.ensures.adds.0
 
-pub returns-in-Err-clause-leaves_late : goal.returns-in-Err-clause-leaves_late
-returns-in-Err-clause-leaves_late c = λ memory. late_or_not (state_of c.args.self.now) c.args.packet c.in-Err.stopped (state_of c.add_and_join.new.self) c.args.self.now.aligned c.in-Err.ensures.adds
+pub returns-clause-answers_late : goal.returns-clause-answers_late
+returns-clause-answers_late c = answers_late c.args.packet (state_of c.args.self.now) (state_of c.add_and_join.new.self) c.args.self.now.aligned c.in_ok-add_and_join.ensures.adds.0
+
+pub returns-in_err-add_and_join-clause-leaves_late : goal.returns-in_err-add_and_join-clause-leaves_late
+returns-in_err-add_and_join-clause-leaves_late c =
+    let p = err_from_is_err_and c.from_residual.result c.from_residual.ensures.1 in
+    rw p.1 (λ memory. late_or_not (state_of c.args.self.now) c.args.packet c.in_err-add_and_join.field-0.0 (state_of c.add_and_join.new.self) c.args.self.now.aligned c.in_err-add_and_join.ensures.adds)

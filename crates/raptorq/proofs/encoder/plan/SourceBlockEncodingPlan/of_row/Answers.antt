@@ -31,7 +31,7 @@ solve_recorded-requires-clause-count c =
     let ids : c.as_slice.result.now ≡ extended_ids row = c.as_slice.ensures.value ∙ extended_ids_are row c.in_ok-ids.ids.items c.in_ok-ids.ensures in
     let values = slab_answered _ c.in_ok-values.values c.in_ok-values.ensures in
     let count : intermediate_symbols row ≡ equation_count row c.as_slice.result.now = sym (ap (equation_count row) ids ∙ count_source row) in
-    ap (λ (s : Slab). length s.values) values ∙ length-replicate (intermediate_symbols row) _ ∙ count
+    ap (λ (s : Slab). length s.values) values ∙ length-replicate c.intermediate_symbols-count.result _ ∙ c.intermediate_symbols-count.ensures.value ∙ count
 
 pub returns-in_default-clause-refused : goal.returns-in_default-clause-refused
 returns-in_default-clause-refused c =
