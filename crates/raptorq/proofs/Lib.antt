@@ -23,4 +23,5 @@ pub mod Stops
 pub mod Summing
 pub mod Taking
 pub mod Undetermined
+pub mod Waiting
 pub mod Witnesses

@@ -1,13 +1,14 @@
 //! How the bytes of a source block and of its symbols lie in one another (RFC 6330, 4.4.1.2).
 ghost use Rattle.std.specs.Prelude.{◌≡◌, ℕ, ◌+◌, ◌*◌, ◌^◌, ◌<◌, ◌≤◌, ◌++◌, length, map, slice_index, slice_range, IfOk, OnOk, vec_len};
 ghost use Rattle.std.specs.List.{flat_map, range_with_len};
+ghost use Rattle.rq_bytes.specs.SymbolSlab.{slab_of};
 ghost use Rattle.rq_standard.specs.Configuration.{IsAligned};
 ghost use Rattle.rq_standard.specs.Cutting.{sub_block_size, symbol_of_block, plain_symbol};
 ghost use Rattle.raptorq.specs.Refused.{checked_symbols};
 
 use rq_base::base::{ObjectTransmissionInformation, partition};
 use rq_bytes::error::Error;
-use rq_bytes::symbol::Symbol;
+use rq_bytes::symbol_slab::SymbolSlab;
 use std::alloc::{AllocError, Global};
 
 /// Tests that symbols are cut in whole units of the alignment.
@@ -67,28 +68,28 @@ fn append_padded(
     symbol.resize(whole, 0)
 }
 
-/// A source symbol of a block of so many. The block may end before its last symbol does: the rest
-/// are zeros.
-pub(crate) fn source_symbol(
-    alloc: Global,
+// Appends a source symbol of a block of so many. The block may end before its last symbol does: the
+// rest are zeros.
+fn append_source_symbol(
+    bytes: &mut Vec<u8>,
     config: &ObjectTransmissionInformation,
     block: &[u8],
     symbols: u32,
     e: u32,
-) -> Result<Symbol, AllocError>
-    requires { IsAligned config.now }
-    ensures { IfOk result (λ symbol. symbol ≡ symbol_of_block config.now symbols block.now e) }
+) -> Result<(), AllocError>
+    requires aligned { IsAligned config.now }
+    requires room { vec_len bytes.old + config.now.symbol_size < 2 ^ 64 }
+    ensures { OnOk result (bytes.new.items ≡ bytes.old.items ++ symbol_of_block config.now symbols block.now e) }
 {
     let size = usize::from(config.symbol_size());
-    let mut symbol = Vec::with_capacity(alloc, size)?;
     let mut start = 0;
     while start < size {
         let width = size_at(config, start);
         let place = start * symbols as usize + width * e as usize;
-        append_padded(&mut symbol, block, place, width)?;
+        append_padded(bytes, block, place, width)?;
         start += width;
     }
-    Ok(Symbol::new(symbol))
+    Ok(())
 }
 
 /// The source symbols of a block of so many, which may end before its last symbol does.
@@ -97,15 +98,17 @@ pub(crate) fn source_symbols(
     config: &ObjectTransmissionInformation,
     block: &[u8],
     symbols: u32,
-) -> Result<Vec<Symbol>, AllocError>
+) -> Result<SymbolSlab, AllocError>
     requires { IsAligned config.now }
-    ensures { IfOk result (λ v. v.items ≡ map (symbol_of_block config.now symbols block.now) (range_with_len 0 symbols)) }
+    ensures small { OnOk result (config.now.symbol_size < 65536) }
+    ensures symbols { IfOk result (λ slab. slab ≡ slab_of config.now.symbol_size (map (symbol_of_block config.now symbols block.now) (range_with_len 0 symbols))) }
 {
-    let mut source = Vec::with_capacity(alloc, symbols as usize)?;
+    let size = usize::from(config.symbol_size());
+    let mut bytes = Vec::with_capacity(alloc, symbols as usize * size)?;
     for e in 0..symbols {
-        source.push(source_symbol(alloc, config, block, symbols, e)?)?;
+        append_source_symbol(&mut bytes, config, block, symbols, e)?;
     }
-    Ok(source)
+    Ok(SymbolSlab::from_bytes(bytes, symbols as usize, size))
 }
 
 // Appends a sub-block: each symbol's bytes from `start` on.

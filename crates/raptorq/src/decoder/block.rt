@@ -5,6 +5,7 @@ ghost use Rattle.rq_bytes.specs.Refusals.{IsAnswer};
 ghost use Rattle.rq_bytes.specs.SymbolSlab.{slab_of};
 ghost use Rattle.rq_standard.specs.Configuration.{IsAligned};
 ghost use Rattle.rq_standard.specs.Cutting.{plain_symbol};
+ghost use Rattle.rq_standard.specs.Held.{CanAnswer};
 ghost use Rattle.rq_standard.specs.Received.{or_later};
 ghost use Rattle.rq_standard.specs.TableRows.{IsChecked};
 ghost use Rattle.raptorq.specs.Missing.{payload_of, has_payload, missing_count};
@@ -24,7 +25,8 @@ use std::alloc::{AllocError, Global};
 use std::collections::BTreeMap;
 
 /// Puts the symbols of one source block together again.
-#[derive(Debug, PartialEq, Eq, Drop)]
+#[derive(Drop)]
+#[derive_where(Debug, PartialEq, Eq)]
 pub struct SourceBlockDecoder {
     config: ObjectTransmissionInformation,
     number: u8,
@@ -33,6 +35,9 @@ pub struct SourceBlockDecoder {
     received: BTreeMap<u32, Vec<u8>>,
     missing: u32,
     sparse_threshold: u32,
+    // What is held was found not to determine the block.
+    #[derive_where(skip)]
+    undetermined: bool,
     alloc: Global,
     pub ghost sized: { (e : ℕ) → ForSome (payload_of received e) (λ payload. length payload ≡ config.symbol_size) },
     pub ghost positive: { 0 < config.symbol_size },
@@ -41,6 +46,7 @@ pub struct SourceBlockDecoder {
     pub ghost fits: { symbols ≤ row.extended_symbols },
     pub ghost few: { (e : ℕ) → has_payload received e ≡ true → e < 2 ^ 24 },
     pub ghost counted: { missing ≡ missing_count symbols (has_payload received) },
+    pub ghost waits: { undetermined ≡ true → ¬ CanAnswer (record { configuration = config; number = number; row = row; symbols = symbols; received = payload_of received }) },
 }
 
 // Keeps a payload, unless one of its id is there. Answers whether it was kept.
@@ -154,6 +160,7 @@ impl SourceBlockDecoder {
             received: BTreeMap::new(alloc),
             missing: symbols,
             sparse_threshold: SPARSE_MATRIX_THRESHOLD,
+            undetermined: false,
             alloc,
         }
     }
@@ -241,12 +248,27 @@ impl SourceBlockDecoder {
             return Err(Stopped::NotRecorded);
         };
         self.missing -= u32::from(kept & is_source);
+        self.undetermined &= !kept;
         Ok(())
     }
 
     /// The block, where all its source symbols came or what came determines it. Nothing that is
-    /// held changes.
-    pub(crate) fn answer(&self) -> Result<Option<Vec<u8>>, Error>
+    /// held changes. What was found not to determine the block isn't solved again.
+    pub(crate) fn answer(&mut self) -> Result<Option<Vec<u8>>, Error>
+        ensures block { IfOk result (λ r. IsBlockAnswer (held_of self.old) (option_map vec_items r)) }
+        ensures same { held_of self.new ≡ held_of self.old }
+        ensures memory { IfErr result (λ e. e ≡ Error.OutOfMemory) }
+    {
+        if self.undetermined {
+            return Ok(None);
+        }
+        let block = self.find_answer()?;
+        self.undetermined = block.is_none();
+        Ok(block)
+    }
+
+    // The same, solved whatever was found before.
+    fn find_answer(&self) -> Result<Option<Vec<u8>>, Error>
         ensures block { IfOk result (λ r. IsBlockAnswer (held_of self.now) (option_map vec_items r)) }
         ensures memory { IfErr result (λ e. e ≡ Error.OutOfMemory) }
     {
@@ -354,6 +376,7 @@ impl Clone for SourceBlockDecoder {
             received: self.received.clone()?,
             missing: self.missing,
             sparse_threshold: self.sparse_threshold,
+            undetermined: self.undetermined,
             alloc: self.alloc,
         })
     }

@@ -58,7 +58,11 @@ pub(crate) fn known_symbol_values(
 {
     let padding = row.extended_symbols - symbols;
     let mut place = (row.ldpc_symbols + row.hdpc_symbols + padding) as usize;
-    let mut values = SymbolSlab::with_zeros(alloc, place + received.len(), size)?;
+    let count = place + received.len();
+    // Room for the block that is answered too: an allocator that is handed this buffer back then
+    // keeps as much for the next block.
+    let room = (count + symbols as usize) * size;
+    let mut values = SymbolSlab::with_room(alloc, count, size, room)?;
     for payload in received.values() {
         values.copy_block_from(place, payload.as_slice());
         place += 1;

@@ -1,5 +1,5 @@
 //! The encoder of one source block.
-ghost use Rattle.std.specs.Prelude.{◌≡◌, ◌+◌, ◌-◌, ◌/◌, ◌^◌, ◌<◌, ◌≤◌, All, length, IfOk, IfErr, OnOk, OnErr};
+ghost use Rattle.std.specs.Prelude.{◌≡◌, ◌+◌, ◌-◌, ◌/◌, ◌^◌, ◌<◌, ◌≤◌, All, length, None, IfOk, IfErr, OnOk, OnErr};
 ghost use Rattle.rq_bytes.specs.Refusals.{IsAnswer};
 ghost use Rattle.rq_bytes.specs.SymbolSlab.{symbol_in, symbols_in};
 ghost use Rattle.rq_standard.specs.Configuration.{IsAligned};
@@ -14,7 +14,6 @@ use crate::ids::internal_symbol_id;
 use crate::sub_blocks::{check_symbols, source_symbols};
 use rq_base::base::{EncodingPacket, ObjectTransmissionInformation, PayloadId};
 use rq_bytes::error::Error;
-use rq_bytes::symbol::Symbol;
 use rq_bytes::symbol_slab::SymbolSlab;
 use rq_standard::row::TableRow;
 use rq_tables::systematic_constants::SystematicTable;
@@ -25,15 +24,16 @@ use std::alloc::{AllocError, Global};
 pub struct SourceBlockEncoder {
     number: u8,
     row: TableRow,
-    source: Vec<Symbol>,
+    source: SymbolSlab,
     intermediate: SymbolSlab,
     alloc: Global,
     pub ghost checked: { IsChecked row },
     pub ghost nonsingular: { IsNonsingular row },
-    pub ghost few: { length source.items ≤ row.extended_symbols },
-    pub ghost sized: { All (λ symbol. length symbol ≡ intermediate.symbol_size) source.items },
+    pub ghost unordered: { source.order ≡ None },
+    pub ghost few: { length source.values ≤ row.extended_symbols },
+    pub ghost sized: { All (λ symbol. length symbol ≡ intermediate.symbol_size) source.values },
     pub ghost places: { intermediate_symbols row ≤ length (symbols_in intermediate) },
-    pub ghost solved: { IsOnlyIntermediateColumn row intermediate.symbol_size source.items (symbol_in intermediate) },
+    pub ghost solved: { IsOnlyIntermediateColumn row intermediate.symbol_size source.values (symbol_in intermediate) },
 }
 
 impl SourceBlockEncoder {
@@ -120,8 +120,7 @@ impl SourceBlockEncoder {
     {
         let count = u32::from(plan.source_symbol_count());
         let source = source_symbols(alloc, config, block, count)?;
-        let size = usize::from(config.symbol_size());
-        SourceBlockEncoder::planned(alloc, number, size, source, plan)
+        SourceBlockEncoder::planned(alloc, number, source, plan)
     }
 
     /// The packets of the source symbols.
@@ -159,19 +158,18 @@ impl SourceBlockEncoder {
     pub(crate) fn planned(
         alloc: Global,
         number: u8,
-        size: usize,
-        source: Vec<Symbol>,
+        source: SymbolSlab,
         plan: &SourceBlockEncodingPlan,
     ) -> Result<SourceBlockEncoder, Error>
-        requires positive { 0 < size }
-        requires small { size < 65536 }
-        requires few { length source.items ≤ (plan_of plan.now).row.extended_symbols }
-        requires sized { All (λ symbol. length symbol ≡ size) source.items }
-        ensures encoded { IfOk result (λ b. block_encoded_of b ≡ record { number = number; row = (plan_of plan.now).row; size = size; source = source.items }) }
+        requires unordered { source.order ≡ None }
+        requires small { source.symbol_size < 65536 }
+        requires few { length source.values ≤ (plan_of plan.now).row.extended_symbols }
+        requires sized { All (λ symbol. length symbol ≡ source.symbol_size) source.values }
+        ensures encoded { IfOk result (λ b. block_encoded_of b ≡ record { number = number; row = (plan_of plan.now).row; size = source.symbol_size; source = source.values }) }
         ensures memory { IfErr result (λ e. e ≡ Error.OutOfMemory) }
     {
         let row = plan.row();
-        let intermediate = plan.apply(alloc, size, source.as_slice())?;
+        let intermediate = plan.apply(&source)?;
         Ok(SourceBlockEncoder {
             number,
             row,
@@ -193,8 +191,8 @@ impl SourceBlockEncoder {
         requires { esi < 2 ^ 24 }
         ensures { IfOk result (λ v. let b = block_encoded_of self.now in IsEncodingSymbol b.row b.size b.source esi v.items) }
     {
-        if let Some(symbol) = self.source.get(esi as usize) {
-            return Vec::from_slice(self.alloc, symbol.as_bytes());
+        if esi < self.symbols() {
+            return Vec::from_slice(self.alloc, self.source.get(esi as usize));
         }
         let id = internal_symbol_id(&self.row, self.symbols(), esi);
         encoding_symbol(self.alloc, &self.row, &self.intermediate, id)

@@ -12,7 +12,6 @@ use crate::ids::padding_ids;
 use crate::solving::solve_recorded;
 use rq_bytes::error::Error;
 use rq_bytes::operation_vector::SymbolOps;
-use rq_bytes::symbol::Symbol;
 use rq_bytes::symbol_slab::SymbolSlab;
 use rq_solver::replay::replay;
 use rq_standard::row::TableRow;
@@ -107,22 +106,15 @@ impl SourceBlockEncodingPlan {
     }
 
     /// The intermediate symbols of a block with these source symbols.
-    pub(crate) fn apply(
-        &self,
-        alloc: Global,
-        size: usize,
-        source: &[Symbol],
-    ) -> Result<SymbolSlab, Error>
-        requires positive { 0 < size }
-        requires small { size < 65536 }
-        requires few { length source.now ≤ (plan_of self.now).row.extended_symbols }
-        requires sized { All (λ symbol. length symbol ≡ size) source.now }
-        ensures size { IfOk result (λ slab. slab.symbol_size ≡ size) }
+    pub(crate) fn apply(&self, source: &SymbolSlab) -> Result<SymbolSlab, Error>
+        requires small { source.now.symbol_size < 65536 }
+        requires few { length source.now.values ≤ (plan_of self.now).row.extended_symbols }
+        ensures size { IfOk result (λ slab. slab.symbol_size ≡ source.now.symbol_size) }
         ensures places { IfOk result (λ slab. intermediate_symbols (plan_of self.now).row ≤ length (symbols_in slab)) }
-        ensures column { IfOk result (λ slab. IsOnlyIntermediateColumn (plan_of self.now).row size source.now (symbol_in slab)) }
+        ensures column { IfOk result (λ slab. IsOnlyIntermediateColumn (plan_of self.now).row source.now.symbol_size source.now.values (symbol_in slab)) }
         ensures memory { IfErr result (λ e. e ≡ Error.OutOfMemory) }
     {
-        let mut symbols = source_values(alloc, &self.row, size, source)?;
+        let mut symbols = source_values(&self.row, source)?;
         // What counts them says that they have one size.
         let _count = symbols.len();
         replay(self.operations.as_slice(), &mut symbols)?;
@@ -146,27 +138,13 @@ impl Clone for SourceBlockEncodingPlan {
 
 // The values of the equations that decide a block's intermediate symbols: its source symbols, and
 // zeros for all others.
-fn source_values(
-    alloc: Global,
-    row: &TableRow,
-    size: usize,
-    source: &[Symbol],
-) -> Result<SymbolSlab, Error>
+fn source_values(row: &TableRow, source: &SymbolSlab) -> Result<SymbolSlab, Error>
     requires checked { IsChecked row.now }
-    requires positive { 0 < size }
-    requires small { size < 65536 }
-    requires few { length source.now ≤ row.now.extended_symbols }
-    requires sized { All (λ symbol. length symbol ≡ size) source.now }
-    ensures values { IfOk result (λ slab. slab ≡ slab_of size (source_values row.now size source.now)) }
+    requires small { source.now.symbol_size < 65536 }
+    requires few { length source.now.values ≤ row.now.extended_symbols }
+    ensures values { IfOk result (λ slab. slab ≡ slab_of source.now.symbol_size (source_values row.now source.now.symbol_size source.now.values)) }
     ensures memory { IfErr result (λ e. e ≡ Error.OutOfMemory) }
 {
     let fixed = (row.ldpc_symbols + row.hdpc_symbols) as usize;
-    let count = fixed + row.extended_symbols as usize;
-    let mut values = SymbolSlab::with_zeros(alloc, count, size)?;
-    let mut place = fixed;
-    for symbol in source {
-        values.copy_block_from(place, symbol.as_bytes());
-        place += 1;
-    }
-    Ok(values)
+    Ok(source.among_zeros(fixed, fixed + row.extended_symbols as usize)?)
 }

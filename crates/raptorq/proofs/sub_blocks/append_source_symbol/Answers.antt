@@ -1,52 +1,56 @@
-use Rattle.std.proofs.Common.{◌≡◌, ◌+◌, ◌*◌, ◌<◌, length, map, get_or, refl, ap, ◌∙◌, arith}
+use Rattle.std.proofs.Common.{◌≡◌, ◌+◌, ◌*◌, ◌<◌, ◌++◌, append-nil, append_assoc, length, map, get_or, refl, sym, ap, ◌∙◌, arith}
+use Rattle.std.proofs.lemmas.List.{length-append}
 use Rattle.std.specs.List.{range_with_len}
 use Rattle.std.specs.Vec.{vec_len}
 use Rattle.std.proofs.lemmas.List.FromFn.{length-map-range_with_len}
 use Rattle.rq_standard.specs.Cutting.{place_in_block, symbol_of_block}
 use Rattle.raptorq.proofs.Interleaving.{reaches_none, reaches_more, symbol_more, place_fits, width_within}
-use Rattle.raptorq.proofs.sub_blocks.source_symbol.Goals as goal
+use Rattle.raptorq.proofs.sub_blocks.append_source_symbol.Goals as goal
 
 pub loop-start-init : goal.loop-start-init
-loop-start-init c = record { at = reaches_none c.args.config.now c.requires; so_far = c.in_ok-symbol.ensures.items }
+loop-start-init c = record { at = reaches_none c.args.config.now c.requires.aligned; so_far = sym (append-nil c.args.bytes.now.items) }
 
 pub overflow_mul-place-in-loop-start : goal.overflow_mul-place-in-loop-start
 overflow_mul-place-in-loop-start c =
     let k = c.args.config.now in
-    let w = width_within k c.loop-start.start c.size_at-width.result c.from-size.result c.requires c.loop-start.invariant.at c.loop-start-test.true (c.from-size.ensures ∙ c.symbol_size.ensures) c.size_at-width.ensures in
+    let w = width_within k c.loop-start.start c.size_at-width.result c.from-size.result c.requires.aligned c.loop-start.invariant.at c.loop-start-test.true (c.from-size.ensures ∙ c.symbol_size.ensures) c.size_at-width.ensures in
     let fits = place_fits c.loop-start.start c.size_at-width.result c.args.symbols c.args.e c.from-size.result w.1 (omega (arith, c.from-size.ensures, c.symbol_size.type_inv)) c.ranges.symbols.fits c.ranges.e.fits in
     omega (arith, fits)
 
 pub overflow_add-place : goal.overflow_add-place
 overflow_add-place c =
     let k = c.args.config.now in
-    let w = width_within k c.loop-start.start c.size_at-width.result c.from-size.result c.requires c.loop-start.invariant.at c.loop-start-test.true (c.from-size.ensures ∙ c.symbol_size.ensures) c.size_at-width.ensures in
+    let w = width_within k c.loop-start.start c.size_at-width.result c.from-size.result c.requires.aligned c.loop-start.invariant.at c.loop-start-test.true (c.from-size.ensures ∙ c.symbol_size.ensures) c.size_at-width.ensures in
     let fits = place_fits c.loop-start.start c.size_at-width.result c.args.symbols c.args.e c.from-size.result w.1 (omega (arith, c.from-size.ensures, c.symbol_size.type_inv)) c.ranges.symbols.fits c.ranges.e.fits in
     omega (arith, fits)
 
 pub append_padded-requires-clause-place : goal.append_padded-requires-clause-place
 append_padded-requires-clause-place c =
     let k = c.args.config.now in
-    let w = width_within k c.loop-start.start c.size_at-width.result c.from-size.result c.requires c.loop-start.invariant.at c.loop-start-test.true (c.from-size.ensures ∙ c.symbol_size.ensures) c.size_at-width.ensures in
+    let w = width_within k c.loop-start.start c.size_at-width.result c.from-size.result c.requires.aligned c.loop-start.invariant.at c.loop-start-test.true (c.from-size.ensures ∙ c.symbol_size.ensures) c.size_at-width.ensures in
     let fits = place_fits c.loop-start.start c.size_at-width.result c.args.symbols c.args.e c.from-size.result w.1 (omega (arith, c.from-size.ensures, c.symbol_size.type_inv)) c.ranges.symbols.fits c.ranges.e.fits in
     omega (arith, fits)
 
 pub append_padded-requires-clause-room : goal.append_padded-requires-clause-room
 append_padded-requires-clause-room c =
     let k = c.args.config.now in
-    let w = width_within k c.loop-start.start c.size_at-width.result c.from-size.result c.requires c.loop-start.invariant.at c.loop-start-test.true (c.from-size.ensures ∙ c.symbol_size.ensures) c.size_at-width.ensures in
-    let long : vec_len c.loop-start.symbol ≡ c.loop-start.start = c.loop-start.symbol.ok.0 ∙ ap length c.loop-start.invariant.so_far ∙ length-map-range_with_len _ 0 c.loop-start.start in
-    omega (arith, long, w.1, c.from-size.ensures, c.symbol_size.type_inv)
+    let w = width_within k c.loop-start.start c.size_at-width.result c.from-size.result c.requires.aligned c.loop-start.invariant.at c.loop-start-test.true (c.from-size.ensures ∙ c.symbol_size.ensures) c.size_at-width.ensures in
+    let old = c.args.bytes.now in
+    let part = map (λ t. get_or c.args.block.now (place_in_block k c.args.symbols c.args.e t) 0) (range_with_len 0 c.loop-start.start) in
+    let long : vec_len c.loop-start.bytes ≡ vec_len old + c.loop-start.start =
+    c.loop-start.bytes.ok.0 ∙ ap length c.loop-start.invariant.so_far ∙ length-append old.items part ∙ omega (arith, old.ok.0, length-map-range_with_len (λ t. get_or c.args.block.now (place_in_block k c.args.symbols c.args.e t) 0) 0 c.loop-start.start) in
+    omega (arith, long, w.1, c.from-size.ensures, c.symbol_size.ensures, c.requires.room)
 
 pub overflow_add-start : goal.overflow_add-start
 overflow_add-start c =
     let k = c.args.config.now in
-    let w = width_within k c.loop-start.start c.size_at-width.result c.from-size.result c.requires c.loop-start.invariant.at c.loop-start-test.true (c.from-size.ensures ∙ c.symbol_size.ensures) c.size_at-width.ensures in
+    let w = width_within k c.loop-start.start c.size_at-width.result c.from-size.result c.requires.aligned c.loop-start.invariant.at c.loop-start-test.true (c.from-size.ensures ∙ c.symbol_size.ensures) c.size_at-width.ensures in
     omega (arith, w.1)
 
 pub loop-start-smaller : goal.loop-start-smaller
 loop-start-smaller c =
     let k = c.args.config.now in
-    let w = width_within k c.loop-start.start c.size_at-width.result c.from-size.result c.requires c.loop-start.invariant.at c.loop-start-test.true (c.from-size.ensures ∙ c.symbol_size.ensures) c.size_at-width.ensures in
+    let w = width_within k c.loop-start.start c.size_at-width.result c.from-size.result c.requires.aligned c.loop-start.invariant.at c.loop-start-test.true (c.from-size.ensures ∙ c.symbol_size.ensures) c.size_at-width.ensures in
     omega (arith, w.0, w.1)
 
 pub loop-start-preserved : goal.loop-start-preserved
@@ -54,10 +58,17 @@ loop-start-preserved c =
     let k = c.args.config.now in
     let size : c.from-size.result ≡ k.symbol_size = c.from-size.ensures ∙ c.symbol_size.ensures in
     let below : c.loop-start.start < k.symbol_size = omega (arith, c.loop-start-test.true, size) in
+    let place = c.loop-start.start * c.args.symbols + c.size_at-width.result * c.args.e in
     let at = c.loop-start.invariant.at in record {
-      at = reaches_more k c.loop-start.start c.size_at-width.result c.requires at below c.size_at-width.ensures;
-      so_far = symbol_more k c.args.symbols c.args.e c.loop-start.start c.size_at-width.result (c.loop-start.start * c.args.symbols + c.size_at-width.result * c.args.e) c.args.block.now c.loop-start.symbol.items c.append_padded.new.symbol.items
-          c.requires at below c.size_at-width.ensures refl c.loop-start.invariant.so_far c.in_ok-append_padded.ensures;
+      at = reaches_more k c.loop-start.start c.size_at-width.result c.requires.aligned at below c.size_at-width.ensures;
+      so_far =
+          let old = c.args.bytes.now.items in
+          let parts = map (λ t. get_or c.args.block.now (place_in_block k c.args.symbols c.args.e t) 0) (range_with_len 0 c.loop-start.start) in
+          let part = map (λ i. get_or c.args.block.now (place + i) 0) (range_with_len 0 c.size_at-width.result) in
+          c.in_ok-append_padded.ensures
+          ∙ ap (λ l. l ++ part) c.loop-start.invariant.so_far
+          ∙ append_assoc old parts part
+          ∙ ap (λ l. old ++ l) (symbol_more k c.args.symbols c.args.e c.loop-start.start c.size_at-width.result place c.args.block.now parts (parts ++ part) c.requires.aligned at below c.size_at-width.ensures refl refl refl);
     }
 
 pub returns : goal.returns
@@ -65,4 +76,4 @@ unfolding symbol_of_block
 returns c =
     let k = c.args.config.now in
     let all : c.loop-start.start ≡ k.symbol_size = omega (arith, c.loop-start-test.false, c.loop-start.invariant.at.within, c.from-size.ensures, c.symbol_size.ensures) in
-    c.new.ensures ∙ c.loop-start.invariant.so_far ∙ ap (λ n. map (λ t. get_or c.args.block.now (place_in_block k c.args.symbols c.args.e t) 0) (range_with_len 0 n)) all
+    c.loop-start.invariant.so_far ∙ ap (λ n. c.args.bytes.now.items ++ map (λ t. get_or c.args.block.now (place_in_block k c.args.symbols c.args.e t) 0) (range_with_len 0 n)) all

@@ -8,10 +8,20 @@ use Rattle.raptorq.proofs.Came.{FillsSoFar, fills_none, fills_whole, fills_room,
 use Rattle.raptorq.proofs.Listing.{few_entries, slab_answered}
 use Rattle.raptorq.proofs.decoder.known.known_symbol_values.Goals as goal
 
-pub with_zeros-requires : goal.with_zeros-requires
-with_zeros-requires c =
+pub overflow_mul-room : goal.overflow_mul-room
+overflow_mul-room c =
     let count : c.len.result ≤ 2 ^ 24 = omega (arith, c.len.ensures.len, few_entries c.args.received.now (2 ^ 24) c.len.ensures.ordered c.requires.few) in
-    let n = c.args.row.now.ldpc_symbols + c.args.row.now.hdpc_symbols + (c.args.row.now.extended_symbols - c.args.symbols) + c.len.result in
+    let fixed = c.args.row.now.ldpc_symbols + c.args.row.now.hdpc_symbols + (c.args.row.now.extended_symbols - c.args.symbols) in
+    let n = fixed + c.len.result + c.args.symbols in
+    let few : n ≤ 2 ^ 26 = omega (arith, count, c.requires.checked.few_columns, c.requires.fits) in
+    let product : n * c.args.size ≤ 2 ^ 26 * 65535 = mul-le-mul few (let small : c.args.size ≤ 65535 = omega (arith, c.requires.small) in small) in
+    record { fits = omega (arith, product) }
+
+pub with_room-requires : goal.with_room-requires
+with_room-requires c =
+    let count : c.len.result ≤ 2 ^ 24 = omega (arith, c.len.ensures.len, few_entries c.args.received.now (2 ^ 24) c.len.ensures.ordered c.requires.few) in
+    let fixed = c.args.row.now.ldpc_symbols + c.args.row.now.hdpc_symbols + (c.args.row.now.extended_symbols - c.args.symbols) in
+    let n = fixed + c.len.result in
     let few : n ≤ 2 ^ 25 = omega (arith, count, c.requires.checked.few_columns) in
     let small : c.args.size ≤ 65535 = omega (arith, c.requires.small) in
     let product : n * c.args.size ≤ 2 ^ 25 * 65535 = mul-le-mul few small in

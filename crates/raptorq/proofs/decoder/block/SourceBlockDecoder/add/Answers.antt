@@ -3,6 +3,8 @@ use Rattle.std.specs.Prelude.{is_some}
 use Rattle.raptorq.specs.Missing.{payload_of}
 use Rattle.raptorq.proofs.Payloads.{sized-more, few-more}
 use Rattle.raptorq.proofs.MissingCounts.{missing_count-same, missing_count-step, missing-after}
+use Rattle.raptorq.specs.SourceBlockDecoder.{held_of}
+use Rattle.raptorq.proofs.Waiting.{waits-same, waits-repeat}
 use Rattle.raptorq.proofs.decoder.block.SourceBlockDecoder.add.Goals as goal
 
 pub invariant_of-self : goal.invariant_of-self
@@ -14,6 +16,7 @@ invariant_of-self c = record {
   fits = c.args.self.now.fits;
   few = λ e came. c.args.self.now.few e (sym (ap is_some (c.in_default.ensures.err e)) ∙ came);
   counted = c.args.self.now.counted ∙ missing_count-same c.args.self.now.symbols _ _ (λ e below. sym (ap is_some (c.in_default.ensures.err e)));
+  waits = λ still. waits-same (held_of c.args.self.now) (payload_of c.keep_first.new.received) c.in_default.ensures.err (c.args.self.now.waits still);
 }
 
 pub overflow_sub-self : goal.overflow_sub-self
@@ -30,4 +33,5 @@ invariant_of-self-2 c =
       fits = c.args.self.now.fits;
       few = few-more (payload_of c.args.self.now.received) (payload_of c.keep_first.new.received) c.encoding_symbol_id-esi.result c.split-id.result.1.items (2 ^ 24) c.args.self.now.few c.encoding_symbol_id-esi.ensures.below c.in-Ok.ensures.ok;
       counted = (missing-after c.args.self.now.missing _ _ c.from.result _ c.args.self.now.counted c.from.ensures (missing_count-step c.args.self.now.symbols c.encoding_symbol_id-esi.result (payload_of c.args.self.now.received) (payload_of c.keep_first.new.received) c.in-Ok.kept c.split-id.result.1.items c.in-Ok.ensures.kept c.in-Ok.ensures.ok)).1;
+      waits = waits-repeat (held_of c.args.self.now) (payload_of c.keep_first.new.received) c.encoding_symbol_id-esi.result c.split-id.result.1.items c.args.self.now.undetermined c.in-Ok.kept c.args.self.now.waits c.in-Ok.ensures.kept c.in-Ok.ensures.ok;
     }

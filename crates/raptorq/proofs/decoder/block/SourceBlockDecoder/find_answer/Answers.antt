@@ -4,7 +4,7 @@ use Rattle.raptorq.specs.SourceBlockDecoder.{held_of}
 use Rattle.raptorq.specs.Known.{SolvesBlock}
 use Rattle.raptorq.proofs.Answered.{answer-none, answer-all, some_by}
 use Rattle.raptorq.proofs.MissingCounts.{missing_count-zero}
-use Rattle.raptorq.proofs.decoder.block.SourceBlockDecoder.answer.Goals as goal
+use Rattle.raptorq.proofs.decoder.block.SourceBlockDecoder.find_answer.Goals as goal
 
 pub join-requires-clause-all : goal.join-requires-clause-all
 join-requires-clause-all c = λ e below. some_by (payload_of c.args.self.now.received e) (missing_count-zero c.args.self.now.symbols _ (sym c.args.self.now.counted ∙ c.if-self-eq0.true) e below)

@@ -2,19 +2,25 @@ use Rattle.std.proofs.Common.{◌≡◌, All, length, sym, ap, ◌∙◌, subst,
 use Rattle.std.specs.List.{range_with_len}
 use Rattle.std.proofs.lemmas.List.Elements.{All-map}
 use Rattle.std.proofs.lemmas.List.FromFn.{length-map-range_with_len}
+use Rattle.rq_bytes.specs.SymbolSlab.{Slab, slab_of}
 use Rattle.rq_standard.specs.Cutting.{symbol_of_block}
 use Rattle.rq_standard.proofs.Standing.{length-symbol_of_block}
 use Rattle.raptorq.proofs.encoder.block.SourceBlockEncoder.of_block.Goals as goal
 
+pub planned-requires-clause-unordered : goal.planned-requires-clause-unordered
+planned-requires-clause-unordered c = ap (λ (s : Slab). s.order) c.in_ok-source.ensures.symbols
+
+pub planned-requires-clause-small : goal.planned-requires-clause-small
+planned-requires-clause-small c = omega (arith, c.in_ok-source.ensures.small, ap (λ (s : Slab). s.symbol_size) c.in_ok-source.ensures.symbols)
+
 pub planned-requires-clause-few : goal.planned-requires-clause-few
 planned-requires-clause-few c =
     let cut = symbol_of_block c.args.config.now c.from-count.result c.args.block.now in
-    omega (arith, ap length c.in_ok-source.ensures, length-map-range_with_len cut 0 c.from-count.result, c.from-count.ensures, c.source_symbol_count.ensures, c.args.plan.now.few)
+    omega (arith, ap (λ (s : Slab). length s.values) c.in_ok-source.ensures.symbols, length-map-range_with_len cut 0 c.from-count.result, c.from-count.ensures, c.source_symbol_count.ensures, c.args.plan.now.few)
 
 pub planned-requires-clause-sized : goal.planned-requires-clause-sized
 planned-requires-clause-sized c =
     let config = c.args.config.now in
     let cut = symbol_of_block config c.from-count.result c.args.block.now in
-    let size : c.from-size.result ≡ config.symbol_size = c.from-size.ensures ∙ c.symbol_size.ensures in
-    subst (All (λ s. length s ≡ c.from-size.result)) (sym c.in_ok-source.ensures)
-    (All-map (λ s. length s ≡ c.from-size.result) cut (range_with_len 0 c.from-count.result) (λ k d below. length-symbol_of_block config c.from-count.result c.args.block.now _ ∙ sym size))
+    subst (λ (s : Slab). All (λ x. length x ≡ s.symbol_size) s.values) (sym c.in_ok-source.ensures.symbols)
+    (All-map (λ s. length s ≡ config.symbol_size) cut (range_with_len 0 c.from-count.result) (λ k d below. length-symbol_of_block config c.from-count.result c.args.block.now _))

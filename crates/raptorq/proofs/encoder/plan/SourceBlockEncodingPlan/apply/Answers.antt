@@ -12,10 +12,11 @@ use Rattle.raptorq.proofs.encoder.plan.SourceBlockEncodingPlan.apply.Goals as go
 pub returns-clause-column : goal.returns-clause-column
 returns-clause-column c =
     let plan = c.args.self.now in
-    let source = c.args.source.now in
+    let source = c.args.source.now.values in
+    let size = c.args.source.now.symbol_size in
     let operations = map operation_of plan.operations.items in
     let values = c.in_ok-symbols.ensures.values in
-    let are = source_are_symbols plan.row c.args.size source c.requires.few c.len-count.result (subst (λ (s : Slab). AreSymbols octets s.symbol_size c.len-count.result s.values) values c.len-count.ensures.symbols) in
-    let made : c.replay.new.symbols ≡ planned plan.row operations c.args.size source =
+    let are = source_are_symbols plan.row size source c.requires.few c.len-count.result (subst (λ (s : Slab). AreSymbols octets s.symbol_size c.len-count.result s.values) values c.len-count.ensures.symbols) in
+    let made : c.replay.new.symbols ≡ planned plan.row operations size source =
     c.in_ok-replay.ensures.ok ∙ ap (λ ops. after_all (map operation_of ops) c.in_ok-symbols.symbols) c.as_slice.ensures.value ∙ ap (λ (s : Slab). after_all operations s) values in
-    subst (λ (s : Slab). IsOnlyIntermediateColumn plan.row c.args.size source (symbol_in s)) (sym made) (plan.finds.column c.args.size source c.requires.few are)
+    subst (λ (s : Slab). IsOnlyIntermediateColumn plan.row size source (symbol_in s)) (sym made) (plan.finds.column size source c.requires.few are)
