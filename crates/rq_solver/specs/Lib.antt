@@ -6,6 +6,7 @@ pub mod OperationCounts
 pub mod OctetBatch
 pub mod Peeled
 pub mod PhaseCounts
+pub mod Phases
 pub mod Recorded
 pub mod Replay
 pub mod RowSteps

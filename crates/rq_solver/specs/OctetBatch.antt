@@ -8,6 +8,7 @@ use Rattle.rq_solver.specs.Cleared.{IsCleared}
 use Rattle.rq_solver.specs.Peeled.{IsOrderOf}
 use Rattle.rq_solver.specs.Recorded.{Recorded, Performs}
 use Rattle.rq_solver.specs.RowSteps.{AreRows, rows_after}
+use Rattle.rq_solver.specs.declared.pi_solver.peeling.Peeling.{Peeling}
 
 -- ---- what the rows have
 
@@ -91,3 +92,17 @@ pub record ChangesOctets (rows order : List ℕ) (first count : ℕ) (was now : 
   pub performs : Performs steps old new
   pub elsewhere : (m : ℕ → ℕ → ℕ) (r k : ℕ) → ((i : ℕ) → i < count → first + i ≢ r) → rows_after octets steps m r k ≡ m r k
   pub shown : (m : ℕ → ℕ → ℕ) → PivotsAreCleared rows order m → AreShown rows order first count was m → AreShown rows order first count now (rows_after octets steps m)
+
+-- ---- the same of a batch
+
+-- the rows of a batch stand from row `first` on, and the pivots are those of other rows
+abbrev pub StandsBeside : Peeling → ℕ → Batch → Recorded → Type 0
+StandsBeside peeling first batch state = HasPivotsBeside peeling.rows.items peeling.order.items peeling.places.items first (length batch.table.rows) batch.table.width state
+
+-- from this column on the batch shows what steps among its rows did, and it shows nothing of the columns before
+abbrev pub CombinesFrom : ℕ → ℕ → Batch → Batch → Recorded → Recorded → Type 0
+CombinesFrom column first was now old new = CombinesOctets first (length was.table.rows) was.table.width (octets_from column (octet_in was)) (octets_from column (octet_in now)) old new
+
+-- the rows had 0 in the pivots' columns before this one, and have 0 in this one too, if it has a pivot
+abbrev pub ClearsColumn : Peeling → ℕ → ℕ → Batch → Batch → Recorded → Recorded → Type 0
+ClearsColumn peeling column first was now old new = ChangesOctets peeling.rows.items peeling.order.items first (length was.table.rows) (octets_from column (octet_in was)) (octets_from (column + 1) (octet_in now)) old new

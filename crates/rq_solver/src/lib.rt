@@ -4,5 +4,3 @@
 pub mod null_column;
 pub mod pi_solver;
 pub mod replay;
-#[cfg(test)]
-mod tests;

@@ -17,8 +17,6 @@ mod links;
 mod next_row;
 mod ones;
 mod peeling;
-#[cfg(test)]
-mod peeling_tests;
 mod phases;
 mod recorded;
 mod row_selection;

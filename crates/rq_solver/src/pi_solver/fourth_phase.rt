@@ -98,7 +98,7 @@ fn saves_additions(
     }
     // The row's own pivot isn't taken.
     let inactive = peeling.places.len() - peeling.rows.len();
-    cost < recorded.weight(row, inactive).saturating_add(2)
+    recorded.has_entries(row, inactive, cost.saturating_sub(1))
 }
 
 /// Adds to the pivots' rows, the first first, multiples of reduced rows, each of which has 1 in its

@@ -12,6 +12,7 @@ ghost use Rattle.rq_solver.specs.OperationCounts.{additions};
 ghost use Rattle.rq_solver.specs.PhaseCounts.{AreCountsOf, total_of};
 ghost use Rattle.rq_solver.specs.Peeled.{AreOnesOfRows, IsOrderOf, IsPeeled};
 ghost use Rattle.rq_solver.specs.RowSteps.{AreRows};
+ghost use Rattle.rq_solver.specs.Phases.{FindsOrder, IsAttempt, SolvesLeft};
 
 use super::counts::{OperationCounts, Phase};
 use super::first_phase::clear_pivots;
@@ -49,7 +50,7 @@ pub(super) fn operations_of_peeled(
     requires peeled { IsPeeled width ones.now peeling.now.rows.items peeling.now.order.items peeling.now.places.items }
     requires hdpc { AreOctetRows ones.now first_hdpc width hdpc.now }
     requires few_hdpc { length hdpc.now.rows ≤ width }
-    ensures found { IfOk result (λ attempt. (bit : ℕ → ℕ → ℕ) → AreOnesOfRows (length ones.now) width bit ones.now → let rows = with_octet_rows first_hdpc (length hdpc.now.rows) bit (entry_of hdpc.now) in MatchOption attempt.operations (HasNullColumn octets (length ones.now) width rows) (λ ops. FindsColumn octets (length ones.now) width rows (map operation_of ops.items))) }
+    ensures found { IfOk result (λ attempt. IsAttempt width ones.now first_hdpc hdpc.now attempt.operations) }
     ensures counted { IfOk result (λ attempt. IfSome attempt.operations (λ ops. AreCountsOf attempt.counts (map operation_of ops.items))) }
     ensures few { IfOk result (λ attempt. total_of attempt.counts.additions ≤ 2 * width * length ones.now) }
     ensures err { IfErr result (λ e. e ≡ OutOfMemory) }
@@ -89,7 +90,7 @@ fn rows_of_columns(
     requires listed { ListsRows (length recorded.old.table.rows) peeling.now.rows.items listed.old }
     requires wide { length peeling.now.places.items ≤ length peeling.now.rows.items + recorded.old.table.width }
     requires octets { HasOctets recorded.old.table }
-    ensures found { IfOk result (λ answer. (system : ℕ → ℕ → ℕ) → HasPeeledPivots (length recorded.old.table.rows) (length peeling.now.places.items) system peeling.now.rows.items peeling.now.order.items (drop (length peeling.now.rows.items) listed.old) recorded.old → MatchOption answer (HasNullColumn octets (length recorded.old.table.rows) (length peeling.now.places.items) system) (λ order. FindsColumn octets (length recorded.old.table.rows) (length peeling.now.places.items) system (recorded.new.operations ++ Reorder order.items ∷ []))) }
+    ensures found { IfOk result (FindsOrder peeling.now (drop (length peeling.now.rows.items) listed.old) recorded.old recorded.new) }
     ensures few { OnOk result (additions recorded.new.operations ≤ additions recorded.old.operations + (length peeling.now.places.items - length peeling.now.rows.items) * (length listed.old - 1) + 2 * (length peeling.now.rows.items * most)) }
     ensures err { IfErr result (λ e. e ≡ OutOfMemory) }
 {
@@ -120,7 +121,7 @@ fn solve_inactive(
     requires wide { length peeling.now.places.items ≤ length peeling.now.rows.items + recorded.old.table.width }
     requires octets { HasOctets recorded.old.table }
     ensures permuted { IsPermutation left.old left.new }
-    ensures solved { IfOk result (λ found. MatchBool found (SolvesInactive ones.now peeling.now.rows.items peeling.now.order.items left.old left.new inactive recorded.old recorded.new) (LacksPivots left.old left.new inactive recorded.old recorded.new)) }
+    ensures solved { IfOk result (SolvesLeft ones.now peeling.now inactive left.old left.new recorded.old recorded.new) }
     ensures few { OnOk result (additions recorded.new.operations ≤ additions recorded.old.operations + inactive * (length left.old + length peeling.now.rows.items - 1) + 2 * (length peeling.now.rows.items * most)) }
     ensures err { IfErr result (λ e. e ≡ OutOfMemory) }
 {

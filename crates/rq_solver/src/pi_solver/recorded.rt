@@ -64,18 +64,21 @@ impl RecordedRows {
         self.table.get(row, column)
     }
 
-    /// In how many of the first inactive columns a row has an entry that isn't 0.
-    pub(super) fn weight(&self, row: usize, count: usize) -> usize
+    /// Whether a row has so many entries that aren't 0, or more, in the first inactive columns.
+    pub(super) fn has_entries(&self, row: usize, count: usize, wanted: usize) -> bool
         requires row { row < length self.now.table.rows }
         requires count { count ≤ self.now.table.width }
     {
-        let mut weight = 0usize;
+        let mut found = 0usize;
         for column in 0..count {
+            if found >= wanted {
+                return true;
+            }
             if self.table.get(row, column).byte() != 0 {
-                weight = weight.saturating_add(1);
+                found = found.saturating_add(1);
             }
         }
-        weight
+        found >= wanted
     }
 
     /// Adds a multiple of a row to another one.

@@ -5,7 +5,7 @@ ghost use Rattle.rq_bytes.specs.declared.error.Error.TheVariants.{OutOfMemory};
 ghost use Rattle.rq_parts.specs.DenseOctetMatrix.{entry_of, HasOctets};
 ghost use Rattle.rq_solver.specs.Cleared.{ClearsOctets};
 ghost use Rattle.rq_solver.specs.OperationCounts.{additions};
-ghost use Rattle.rq_solver.specs.OctetBatch.{batch_bound, octet_in, octets_from, AreOctetsIn, ChangesOctets, CombinesOctets, HasPivotsBeside, HasZeros, IsFirstAlone, SumsRows};
+ghost use Rattle.rq_solver.specs.OctetBatch.{batch_bound, octet_in, AreOctetsIn, ClearsColumn, CombinesFrom, CombinesOctets, HasZeros, IsFirstAlone, StandsBeside, SumsRows};
 ghost use Rattle.rq_solver.specs.Peeled.{IsOrderOf};
 ghost use Rattle.rq_solver.specs.RowSteps.{AreRows};
 
@@ -127,11 +127,11 @@ fn clear_column(
     recorded: &mut RecordedRows,
 ) -> Result<(), Error>
     requires rows { AreOctetsIn first_hdpc (length batch.old.table.rows) recorded.old }
-    requires pivots { HasPivotsBeside peeling.now.rows.items peeling.now.order.items peeling.now.places.items first_hdpc (length batch.old.table.rows) batch.old.table.width recorded.old }
+    requires pivots { StandsBeside peeling.now first_hdpc batch.old recorded.old }
     requires some { 0 < length batch.old.table.rows }
     requires column { column < batch.old.table.width }
     ensures table { batch.new.table ≡ batch.old.table }
-    ensures changed { OnOk result (ChangesOctets peeling.now.rows.items peeling.now.order.items first_hdpc (length batch.old.table.rows) (octets_from column (octet_in batch.old)) (octets_from (column + 1) (octet_in batch.new)) recorded.old recorded.new) }
+    ensures changed { OnOk result (ClearsColumn peeling.now column first_hdpc batch.old batch.new recorded.old recorded.new) }
     ensures few { OnOk result (additions recorded.new.operations ≤ additions recorded.old.operations + (length batch.old.table.rows - 1) + length batch.old.table.rows) }
     ensures idle { OnOk result (length peeling.now.rows.items ≤ at peeling.now.places.items column → additions recorded.new.operations ≤ additions recorded.old.operations + (length batch.old.table.rows - 1)) }
     ensures err { IfErr result (λ e. e ≡ OutOfMemory) }
@@ -157,7 +157,7 @@ fn add_first_row(
     requires column { column < batch.old.table.width }
     ensures table { batch.new.table ≡ batch.old.table }
     ensures alone { OnOk result (octet_in batch.old 0 column ≢ 0 → IsFirstAlone column batch.new) }
-    ensures added { OnOk result (CombinesOctets first_hdpc (length batch.old.table.rows) batch.old.table.width (octets_from column (octet_in batch.old)) (octets_from column (octet_in batch.new)) recorded.old recorded.new) }
+    ensures added { OnOk result (CombinesFrom column first_hdpc batch.old batch.new recorded.old recorded.new) }
     ensures few { OnOk result (additions recorded.new.operations ≤ additions recorded.old.operations + (length batch.old.table.rows - 1)) }
     ensures err { IfErr result (λ e. e ≡ OutOfMemory) }
 {
@@ -192,9 +192,9 @@ fn add_pivot(
     recorded: &mut RecordedRows,
 ) -> Result<(), Error>
     requires rows { AreOctetsIn first_hdpc (length batch.now.table.rows) recorded.old }
-    requires pivots { HasPivotsBeside peeling.now.rows.items peeling.now.order.items peeling.now.places.items first_hdpc (length batch.now.table.rows) batch.now.table.width recorded.old }
+    requires pivots { StandsBeside peeling.now first_hdpc batch.now recorded.old }
     requires place { place < length peeling.now.rows.items }
-    ensures changed { OnOk result (let column = at peeling.now.order.items place in ChangesOctets peeling.now.rows.items peeling.now.order.items first_hdpc (length batch.now.table.rows) (octets_from column (octet_in batch.now)) (octets_from (column + 1) (octet_in batch.now)) recorded.old recorded.new) }
+    ensures changed { OnOk result (ClearsColumn peeling.now (at peeling.now.order.items place) first_hdpc batch.now batch.now recorded.old recorded.new) }
     ensures few { OnOk result (additions recorded.new.operations ≤ additions recorded.old.operations + length batch.now.table.rows) }
     ensures err { IfErr result (λ e. e ≡ OutOfMemory) }
 {

@@ -1,7 +1,7 @@
--- What the loops keep in `tests::bits_at`.
+-- What the loops keep in `solver::mirrored_bits`.
 use Rattle.std.proofs.Common.{◌≡◌, ◌<◌, ◌+◌, ℕ, false}
 use Rattle.rq_standard.specs.TableRows.{intermediate_symbols}
-use Rattle.rq_solver.proofs.tests.bits_at.Given as goal
+use Rattle.rq_solver_tests.proofs.solver.mirrored_bits.Given as goal
 
 abbrev pub invariant-loop-i : goal.invariant-loop-i
 invariant-loop-i g l =

@@ -2,16 +2,16 @@
 ghost use Rattle.std.specs.Prelude.{◌≡◌, ℕ, ◌+◌, ◌≤◌, ◌<◌, false, None, length, IfOk};
 ghost use Rattle.rq_standard.specs.TableRows.{IsChecked, greatest_size, intermediate_symbols};
 
-use crate::pi_solver::{
-    FirstPhaseRowSelectionStats, IntermediateSymbolDecoder, fused_inverse_mul_symbols,
-};
-use crate::replay::replay;
 use rq_bytes::error::Error;
 use rq_bytes::octet::Octet;
 use rq_bytes::operation_vector::SymbolOps;
 use rq_bytes::symbol_slab::SymbolSlab;
 use rq_matrix::matrix::{BinaryMatrix, DenseBinaryMatrix};
 use rq_parts::octet_matrix::DenseOctetMatrix;
+use rq_solver::pi_solver::{
+    FirstPhaseRowSelectionStats, IntermediateSymbolDecoder, fused_inverse_mul_symbols,
+};
+use rq_solver::replay::replay;
 use rq_standard::row::TableRow;
 use rq_tables::systematic_constants::SystematicTable;
 use std::alloc::Global;
@@ -225,6 +225,31 @@ fn rows_of_least_degree_take_few_additions(rt: HostRuntime) -> Result<(), Error>
             "at {i}"
         );
     }
+    Ok(())
+}
+
+#[test]
+fn rows_of_two_ones_are_taken_before_longer_ones(rt: HostRuntime) -> Result<(), Error> {
+    let table = SystematicTable::built_in(rt.alloc())?;
+    assert!(rt; 10 <= table.greatest());
+    let row = table.row(10);
+    assert_eq!(rt; width_of(&row), 27);
+    let mut ones = Vec::new(rt.alloc());
+    for k in 0..17 {
+        ones.push((0, k))?;
+    }
+    for k in 1..17 {
+        ones.push((bit_row(k), k - 1))?;
+        ones.push((bit_row(k), k))?;
+    }
+    let bits: DenseBinaryMatrix = bits_at(rt.alloc(), &row, ones.as_slice())?;
+    let hdpc = octets_from(rt.alloc(), &row, 17, 10)?;
+    let symbols = numbered(rt.alloc())?;
+    let mut solver = IntermediateSymbolDecoder::new(rt.alloc(), &table, bits, hdpc, symbols, 10);
+    assert!(rt; solver.execute()?.is_some());
+    // One column is inactive: a row of the chain takes one other at most, the long row all, and
+    // each that one.
+    assert!(rt; solver.get_symbol_add_ops() <= 48);
     Ok(())
 }
 

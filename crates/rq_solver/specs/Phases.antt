@@ -1,0 +1,31 @@
+-- What the phases answer together.
+use Rattle.std.specs.Prelude.{ℕ, ◌∷◌, ◌++◌, [], Bool, List, Option, Vec, MatchBool, MatchOption, length, map}
+use Rattle.std.specs.Global.{Global}
+use Rattle.rq_algebra.specs.Operations.{Reorder, FindsColumn}
+use Rattle.rq_algebra.specs.Systems.{HasNullColumn}
+use Rattle.rq_bytes.specs.SymbolOps.{operation_of}
+use Rattle.rq_bytes.specs.declared.operation_vector.SymbolOps.{SymbolOps}
+use Rattle.rq_standard.specs.ConstraintMatrix.{with_octet_rows}
+use Rattle.rq_standard.specs.OctetField.{octets}
+use Rattle.rq_parts.specs.DenseOctetMatrix.{OctetTable, entry_of}
+use Rattle.rq_solver.specs.Cleared.{HasPeeledPivots, LacksPivots, SolvesInactive}
+use Rattle.rq_solver.specs.Peeled.{AreOnesOfRows}
+use Rattle.rq_solver.specs.Recorded.{Recorded}
+use Rattle.rq_solver.specs.declared.pi_solver.peeling.Peeling.{Peeling}
+
+-- operations that solve these rows of bits, but the HDPC rows in the places from `first` on; or none, and the rows have a null column
+abbrev pub IsAttempt : ℕ → List (List ℕ) → ℕ → OctetTable → Option (Vec SymbolOps Global) → Type 0
+IsAttempt width lists first hdpc answer = (bit : ℕ → ℕ → ℕ) → AreOnesOfRows (length lists) width bit lists
+    → let rows = with_octet_rows first (length hdpc.rows) bit (entry_of hdpc) in
+    MatchOption answer (HasNullColumn octets (length lists) width rows) (λ ops. FindsColumn octets (length lists) width rows (map operation_of ops.items))
+
+-- where the rows had the pivots of a peeling, what was recorded solves them, read in an order; or there is none, and they have a null column
+abbrev pub FindsOrder : Peeling → List ℕ → Recorded → Recorded → Option (Vec ℕ Global) → Type 0
+FindsOrder peeling left old new answer = (system : ℕ → ℕ → ℕ)
+    → HasPeeledPivots (length old.table.rows) (length peeling.places.items) system peeling.rows.items peeling.order.items left old
+    → MatchOption answer (HasNullColumn octets (length old.table.rows) (length peeling.places.items) system) (λ order. FindsColumn octets (length old.table.rows) (length peeling.places.items) system (new.operations ++ Reorder order.items ∷ []))
+
+-- whether the inactive columns have pivots among the rows that are left, and what was done
+abbrev pub SolvesLeft : List (List ℕ) → Peeling → ℕ → List ℕ → List ℕ → Recorded → Recorded → Bool → Type 0
+SolvesLeft lists peeling count left reduced old new found =
+    MatchBool found (SolvesInactive lists peeling.rows.items peeling.order.items left reduced count old new) (LacksPivots left reduced count old new)

@@ -1,0 +1,5 @@
+//! Tests of the solver by its public calls.
+#![tactic(auto)]
+
+#[cfg(test)]
+mod solver;
