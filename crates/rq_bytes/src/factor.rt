@@ -5,7 +5,7 @@ ghost use Rattle.rq_standard.specs.Rows.{row_sum, row_multiple};
 ghost use Rattle.rq_bytes.specs.HalfProducts.{half_byte};
 
 use crate::octet::Octet;
-use crate::products::product;
+use crate::products::{doubled_lanes, product};
 use std::marker::Model;
 use std::simd::prelude::*;
 
@@ -99,6 +99,10 @@ impl Factor {
         ensures octet { self.now < 256 }
         ensures multiple { octets.new ≡ row_multiple self.now octets.old }
     {
+        if self.octet == 2 {
+            double(octets);
+            return;
+        }
         let blocks = octets.len() / LANES;
         for block in 0..blocks {
             let at = LANES * block;
@@ -138,6 +142,21 @@ impl Factor {
         let low = self.low.swizzle_dyn_within::<16>(lanes & u8x32::splat(15));
         let high = self.high.swizzle_dyn_within::<16>(lanes >> u8x32::splat(4));
         low ^ high
+    }
+}
+
+// Multiplies a row by x, as most multiplications of a plan do. No half is looked up for it.
+fn double(octets: &mut [u8])
+    ensures { octets.new ≡ row_multiple 2 octets.old }
+{
+    let blocks = octets.len() / LANES;
+    for block in 0..blocks {
+        let at = LANES * block;
+        let multiple = doubled_lanes(u8x32::from_slice(&octets[at..]));
+        multiple.copy_to_slice(&mut octets[at..]);
+    }
+    for i in LANES * blocks..octets.len() {
+        octets[i] = product(2, octets[i]);
     }
 }
 

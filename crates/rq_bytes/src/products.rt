@@ -58,6 +58,15 @@ pub(crate) fn plane_products(scalar: u8, lanes: u8x32) -> u8x32
     sum
 }
 
+/// The products of x and each lane.
+#[inline(always)]
+pub(crate) fn doubled_lanes(lanes: u8x32) -> u8x32
+    requires { length lanes ≡ 32 }
+    ensures { result ≡ map (λ x. octet_mul 2 x) lanes }
+{
+    (lanes + lanes) ^ plane(lanes, 7, 29)
+}
+
 // An octet in the lanes that have a bit set, and 0 in the others.
 #[inline(always)]
 fn plane(lanes: u8x32, k: u8, term: u8) -> u8x32

@@ -3,6 +3,7 @@ use Rattle.std.proofs.Common.{ℕ, ◌+◌, ◌*◌, refl, sym, ap, ◌∙◌, a
 use Rattle.std.proofs.lemmas.Simd.{length-chunk}
 use lib.Lanes.{chunk, put_chunk}
 use Rattle.rq_standard.specs.Octets.{octet_mul}
+use Rattle.rq_standard.specs.Rows.{row_multiple}
 use Rattle.rq_bytes.proofs.ZipUpto.{step_one, step_store, at_end, zip2-left}
 use Rattle.rq_bytes.proofs.factor.Factor.multiply.Goals as goal
 
@@ -28,6 +29,9 @@ loop-i-preserved c =
     let i = c.loop-i.i in
     ap (set c.loop-i.octets i) (c.product.ensures ∙ ap (λ (a : ℕ). octet_mul a (get_or c.loop-i.octets i 0)) c.self.view_is)
     ∙ step_one f i c.loop-i.octets c.args.octets.now c.args.octets.now 0 0 c.loop-i.invariant (omega arith) (omega arith)
+
+pub returns-then-self-eq2-clause-multiple : goal.returns-then-self-eq2-clause-multiple
+returns-then-self-eq2-clause-multiple c = c.double.ensures ∙ ap (λ (a : ℕ). row_multiple a c.args.octets.now) (sym c.if-self-eq2.true ∙ c.self.view_is)
 
 pub returns-clause-multiple : goal.returns-clause-multiple
 returns-clause-multiple c =
