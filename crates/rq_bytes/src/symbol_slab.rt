@@ -200,7 +200,7 @@ impl SymbolSlab {
         }
     }
 
-    /// The same, made anew for each number of sources that is known.
+    // The same, made anew for each number of sources that is known.
     #[inline(always)]
     fn add_sources(&mut self, dest: usize, sources: &[usize])
         requires dest { HasPlace self.old dest }

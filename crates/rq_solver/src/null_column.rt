@@ -43,9 +43,9 @@ pub fn homogeneous_column<T: BinaryMatrix>(
     Ok(Some(column))
 }
 
-/// Gives each column a pivot, the leftmost first: a row with 1 there, where the others have 0. The
-/// list of the rows is put in the order of the pivots. Answers the column where no row that is
-/// left can be one.
+// Gives each column a pivot, the leftmost first: a row with 1 there, where the others have 0. The
+// list of the rows is put in the order of the pivots. Answers the column where no row that is
+// left can be one.
 fn reduce(matrix: &mut DenseOctetMatrix, rows: &mut [usize], width: usize) -> Option<usize>
     requires width { width ≡ matrix.old.width }
     requires rows { AreRows rows.old matrix.old }
@@ -65,7 +65,7 @@ fn reduce(matrix: &mut DenseOctetMatrix, rows: &mut [usize], width: usize) -> Op
     None
 }
 
-/// Multiplies a row so that it has 1 in the column, where it isn't 0.
+// Multiplies a row so that it has 1 in the column, where it isn't 0.
 fn scale_row(matrix: &mut DenseOctetMatrix, row: usize, column: usize)
     requires row { row < length matrix.old.rows }
     requires column { column < matrix.old.width }
@@ -78,8 +78,8 @@ fn scale_row(matrix: &mut DenseOctetMatrix, row: usize, column: usize)
     matrix.mul_assign_row(row, &scalar);
 }
 
-/// Adds multiples of a column's pivot, which has 1 there and stands at its number in the list, to
-/// the other rows, so that they have 0 there.
+// Adds multiples of a column's pivot, which has 1 there and stands at its number in the list, to
+// the other rows, so that they have 0 there.
 fn clear_column(matrix: &mut DenseOctetMatrix, rows: &[usize], column: usize)
     requires rows { AreRows rows.now matrix.old }
     requires pivot { column < length rows.now }
@@ -95,7 +95,7 @@ fn clear_column(matrix: &mut DenseOctetMatrix, rows: &[usize], column: usize)
     }
 }
 
-/// Adds to a row what it has in the column times another row.
+// Adds to a row what it has in the column times another row.
 fn clear_entry(matrix: &mut DenseOctetMatrix, dest: usize, src: usize, column: usize)
     requires two { dest ≢ src }
     requires dest { dest < length matrix.old.rows }
@@ -111,8 +111,8 @@ fn clear_entry(matrix: &mut DenseOctetMatrix, dest: usize, src: usize, column: u
     }
 }
 
-/// The column with 1 in the first place without a pivot: before it stands what the pivots' rows
-/// have there, and behind it are zeros.
+// The column with 1 in the first place without a pivot: before it stands what the pivots' rows
+// have there, and behind it are zeros.
 fn free_column(
     alloc: Global,
     matrix: &DenseOctetMatrix,

@@ -29,8 +29,8 @@ pub fn replay(ops: &[SymbolOps], symbols: &mut SymbolSlab) -> Result<(), Error>
     Ok(())
 }
 
-/// Performs the operation at `start`, and with an addition those that follow it and add to the same
-/// symbol, as far as there is room for their sources. Returns how many operations these are.
+// Performs the operation at `start`, and with an addition those that follow it and add to the same
+// symbol, as far as there is room for their sources. Returns how many operations these are.
 fn perform_next(
     ops: &[SymbolOps],
     start: usize,
@@ -57,8 +57,8 @@ fn perform_next(
     Ok(1)
 }
 
-/// Writes the sources of the additions to `dest` that follow each other from `start` on, as far as
-/// there is room. Returns how many these are.
+// Writes the sources of the additions to `dest` that follow each other from `start` on, as far as
+// there is room. Returns how many these are.
 fn read_sources(ops: &[SymbolOps], start: usize, dest: usize, sources: &mut [usize]) -> usize
     requires { start ≤ length ops.now }
     ensures room { result ≤ length sources.new }
@@ -75,7 +75,7 @@ fn read_sources(ops: &[SymbolOps], start: usize, dest: usize, sources: &mut [usi
     most
 }
 
-/// The source of an addition to `to`. `None` for any other operation.
+// The source of an addition to `to`. `None` for any other operation.
 fn source_of(op: &SymbolOps, to: usize) -> Option<usize>
     ensures { IfSome result (λ src. operation_of op.now ≡ AddAssign to src) }
 {

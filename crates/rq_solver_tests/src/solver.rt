@@ -17,7 +17,7 @@ use rq_tables::systematic_constants::SystematicTable;
 use std::alloc::Global;
 use std::process::Abort;
 
-/// The number of equations and columns of a square system over a row.
+// The number of equations and columns of a square system over a row.
 fn width_of(row: &TableRow) -> usize
     requires { IsChecked row.now }
     ensures width { result ≡ intermediate_symbols row.now }
@@ -26,7 +26,7 @@ fn width_of(row: &TableRow) -> usize
     row.intermediate_symbols() as usize
 }
 
-/// Bits of zeros.
+// Bits of zeros.
 fn zero_bits<T: BinaryMatrix>(alloc: Global, row: &TableRow) -> Result<T, Error>
     requires { IsChecked row.now }
     ensures height { IfOk result (λ bits. (T.content bits).height ≡ intermediate_symbols row.now) }
@@ -39,7 +39,7 @@ fn zero_bits<T: BinaryMatrix>(alloc: Global, row: &TableRow) -> Result<T, Error>
     T::new(alloc, width, width, width - row.lt_symbols as usize)
 }
 
-/// Bits with ones from the upper right to the lower left, but none in the HDPC rows.
+// Bits with ones from the upper right to the lower left, but none in the HDPC rows.
 fn mirrored_bits<T: BinaryMatrix>(alloc: Global, row: &TableRow) -> Result<T, Error>
     requires { IsChecked row.now }
     ensures height { IfOk result (λ bits. (T.content bits).height ≡ intermediate_symbols row.now) }
@@ -60,7 +60,7 @@ fn mirrored_bits<T: BinaryMatrix>(alloc: Global, row: &TableRow) -> Result<T, Er
     Ok(bits)
 }
 
-/// HDPC rows with twos on the same line, and a 1 first.
+// HDPC rows with twos on the same line, and a 1 first.
 fn mirrored_octets(alloc: Global, row: &TableRow) -> Result<DenseOctetMatrix, Error>
     requires { IsChecked row.now }
     ensures height { IfOk result (λ octets. length octets.rows ≡ row.now.hdpc_symbols) }
@@ -76,7 +76,7 @@ fn mirrored_octets(alloc: Global, row: &TableRow) -> Result<DenseOctetMatrix, Er
     Ok(octets)
 }
 
-/// Bits of which the ones stand at pairs of a row and a column, but none in the HDPC rows.
+// Bits of which the ones stand at pairs of a row and a column, but none in the HDPC rows.
 fn bits_at<T: BinaryMatrix>(
     alloc: Global,
     row: &TableRow,
@@ -101,7 +101,7 @@ fn bits_at<T: BinaryMatrix>(
     Ok(bits)
 }
 
-/// HDPC rows of which the first `count` have a 1 each, in the columns from `start` on.
+// HDPC rows of which the first `count` have a 1 each, in the columns from `start` on.
 fn octets_from(
     alloc: Global,
     row: &TableRow,
@@ -122,14 +122,14 @@ fn octets_from(
     Ok(octets)
 }
 
-/// The row in which the k-th row of bits stands beside 10 HDPC rows behind 7 others.
+// The row in which the k-th row of bits stands beside 10 HDPC rows behind 7 others.
 fn bit_row(k: usize) -> usize
     requires { k < 1000 }
 {
     if k < 7 { k } else { k + 10 }
 }
 
-/// Symbols of one octet each, the number of their place.
+// Symbols of one octet each, the number of their place.
 fn numbered(alloc: Global) -> Result<SymbolSlab, Error>
     ensures order { IfOk result (λ slab. slab.order ≡ None) }
     ensures count { IfOk result (λ slab. length slab.values ≡ 27) }
@@ -143,7 +143,7 @@ fn numbered(alloc: Global) -> Result<SymbolSlab, Error>
     Ok(symbols)
 }
 
-/// Rows of bits with a one each in the columns from 10 on.
+// Rows of bits with a one each in the columns from 10 on.
 fn late_ones(alloc: Global) -> Result<Vec<(usize, usize)>, Error> {
     let mut ones = Vec::new(alloc);
     for k in 0..17 {

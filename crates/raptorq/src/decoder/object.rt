@@ -32,7 +32,7 @@ impl ObjectBlock {
     ghost use Rattle.raptorq.specs.Decoder.{answer_of};
     ghost use Rattle.raptorq.specs.Refused.{block_refusal};
 
-    /// A block that has no packets. It is answered where it has no symbols.
+    // A block that has no packets. It is answered where it has no symbols.
     fn new(
         alloc: Global,
         table: &SystematicTable,
@@ -56,8 +56,8 @@ impl ObjectBlock {
         ObjectBlock { decoder, answer }
     }
 
-    /// Takes a packet of the block, and answers the block where that is determined. An answered
-    /// block takes nothing more.
+    // Takes a packet of the block, and answers the block where that is determined. An answered
+    // block takes nothing more.
     fn add_packet(&mut self, packet: EncodingPacket) -> Result<(), Stopped>
         requires { block_refusal (held_of self.old.decoder) packet ≡ Ok tt }
         ensures adds { AddsInBlockOrStops (held_of self.old.decoder) (answer_of self.old) packet result (held_of self.new.decoder) (answer_of self.new) }
@@ -76,7 +76,7 @@ impl ObjectBlock {
         Ok(())
     }
 
-    /// A column of octets that shows that the block isn't determined, where it has no answer.
+    // A column of octets that shows that the block isn't determined, where it has no answer.
     fn homogeneous(&self) -> Result<Option<Vec<u8>>, Error>
         ensures shown { IfOk result (λ column. ShowsUnanswered (held_of self.now.decoder) (answer_of self.now) (option_map vec_items column)) }
         ensures memory { IfErr result (λ e. e ≡ Error.OutOfMemory) }

@@ -39,7 +39,7 @@ impl PhaseCounts {
         }
     }
 
-    /// Counts one more in a phase.
+    // Counts one more in a phase.
     fn count(self, phase: Phase) -> PhaseCounts
         requires { self.first + self.second + self.fourth + 1 < 2 ^ 64 }
         ensures { result.first + result.second + result.fourth ≡ self.first + self.second + self.fourth + 1 }

@@ -48,8 +48,8 @@ pub(super) fn clear_pivots(
     Ok(recorded)
 }
 
-/// Adds to each listed row the rows of the other pivots in whose columns it has ones. The pivots'
-/// rows come first in the list, in their order.
+// Adds to each listed row the rows of the other pivots in whose columns it has ones. The pivots'
+// rows come first in the list, in their order.
 fn clear_rows(
     ones: &RowOnes,
     listed: &[usize],

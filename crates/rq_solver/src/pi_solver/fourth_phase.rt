@@ -38,7 +38,7 @@ pub(super) fn take_back(
     Ok(marks)
 }
 
-/// The same, with a mark for each of the rows.
+// The same, with a mark for each of the rows.
 fn take_back_rows(
     ones: &RowOnes,
     peeling: &Peeling,
@@ -68,9 +68,9 @@ fn take_back_rows(
     Ok(())
 }
 
-/// Whether a row has `most` ones at most, and more entries in the inactive columns than it would
-/// take to take back the pivots' rows and to take them again, beside the ones that it was handed in
-/// with.
+// Whether a row has `most` ones at most, and more entries in the inactive columns than it would
+// take to take back the pivots' rows and to take them again, beside the ones that it was handed in
+// with.
 fn saves_additions(
     ones: &RowOnes,
     row: usize,

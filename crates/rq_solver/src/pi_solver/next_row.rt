@@ -41,7 +41,7 @@ pub(super) fn next_row(
     links.row_of_two(column, degrees).or(Some(row))
 }
 
-/// Joins the columns of each row that has two active ones.
+// Joins the columns of each row that has two active ones.
 fn join_columns(
     ones: &RowOnes,
     columns: &ColumnOrder,
@@ -62,7 +62,7 @@ fn join_columns(
     }
 }
 
-/// Joins the first two active columns of a row, if both are nodes.
+// Joins the first two active columns of a row, if both are nodes.
 fn join_pair(
     row: &[usize],
     columns: &ColumnOrder,

@@ -75,8 +75,8 @@ pub(super) fn operations_of_peeled(
     })
 }
 
-/// Gives the inactive columns pivots among the rows behind the pivots', and lists for each column
-/// the row that has its pivot. `None` where a column is left without one.
+// Gives the inactive columns pivots among the rows behind the pivots', and lists for each column
+// the row that has its pivot. `None` where a column is left without one.
 fn rows_of_columns(
     alloc: Global,
     ones: &RowOnes,
@@ -103,8 +103,8 @@ fn rows_of_columns(
     Ok(Some(rows_at(alloc, listed, peeling.places.as_slice())?))
 }
 
-/// The second phase among the rows that are left, and then the fourth for the pivots' rows. False
-/// where an inactive column is left without a pivot.
+// The second phase among the rows that are left, and then the fourth for the pivots' rows. False
+// where an inactive column is left without a pivot.
 fn solve_inactive(
     ones: &RowOnes,
     peeling: &Peeling,
@@ -146,7 +146,7 @@ fn solve_inactive(
     Ok(true)
 }
 
-/// The listed rows that stand at some places.
+// The listed rows that stand at some places.
 fn rows_at(alloc: Global, listed: &[usize], places: &[usize]) -> Result<Vec<usize>, Error>
     requires { (k : ℕ) → k < length places.now → at places.now k < length listed.now }
     ensures rows { IfOk result (λ rows. rows.items ≡ map (at listed.now) places.now) }

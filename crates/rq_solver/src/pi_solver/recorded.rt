@@ -141,7 +141,7 @@ impl RecordedRows {
     }
 }
 
-/// The operation that adds a multiple of a symbol.
+// The operation that adds a multiple of a symbol.
 fn addition(dest: usize, src: usize, scalar: Octet) -> SymbolOps
     ensures { operation_of result ≡ sum_step dest src scalar }
 {

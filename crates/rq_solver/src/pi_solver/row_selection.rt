@@ -147,7 +147,7 @@ impl FirstPhaseRowSelectionStats {
     }
 }
 
-/// Counts the ones of the rows from a first one on.
+// Counts the ones of the rows from a first one on.
 fn count_rows<T: BinaryMatrix>(
     ones_per_row: &mut [usize],
     first: usize,

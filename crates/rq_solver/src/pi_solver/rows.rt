@@ -39,7 +39,7 @@ pub(crate) fn octet_rows<T: BinaryMatrix>(
     Ok(rows)
 }
 
-/// Copies a row of octets to a row.
+// Copies a row of octets to a row.
 fn copy_octets(
     octets: &DenseOctetMatrix,
     from: usize,
@@ -60,7 +60,7 @@ fn copy_octets(
     }
 }
 
-/// Copies the columns of a row of bits before the boundary to a row of zeros.
+// Copies the columns of a row of bits before the boundary to a row of zeros.
 fn copy_leading_bits<T: BinaryMatrix>(
     bits: &T,
     row: usize,
@@ -80,7 +80,7 @@ fn copy_leading_bits<T: BinaryMatrix>(
     }
 }
 
-/// Copies the columns of a row of bits from the boundary on to a row of zeros.
+// Copies the columns of a row of bits from the boundary on to a row of zeros.
 fn copy_dense_bits<T: BinaryMatrix>(
     bits: &T,
     row: usize,

@@ -69,7 +69,7 @@ pub(super) fn reduce_back(
     Ok(())
 }
 
-/// Multiplies a row so that it has 1 in the column, where it isn't 0.
+// Multiplies a row so that it has 1 in the column, where it isn't 0.
 fn scale_row(recorded: &mut RecordedRows, row: usize, column: usize) -> Result<(), Error>
     requires row { row < length recorded.old.table.rows }
     requires column { column < recorded.old.table.width }
@@ -90,8 +90,8 @@ fn scale_row(recorded: &mut RecordedRows, row: usize, column: usize) -> Result<(
     Ok(())
 }
 
-/// Adds multiples of the pivot's row, which has 1 in its column, to the rows behind it, so that
-/// they have 0 there.
+// Adds multiples of the pivot's row, which has 1 in its column, to the rows behind it, so that
+// they have 0 there.
 fn clear_below(recorded: &mut RecordedRows, rows: &[usize], pivot: usize) -> Result<(), Error>
     requires rows { AreRows rows.now recorded.old.table }
     requires pivot { pivot < length rows.now }
@@ -109,7 +109,7 @@ fn clear_below(recorded: &mut RecordedRows, rows: &[usize], pivot: usize) -> Res
     Ok(())
 }
 
-/// Adds to a row what it has in the column times another row.
+// Adds to a row what it has in the column times another row.
 fn clear_entry(
     recorded: &mut RecordedRows,
     dest: usize,

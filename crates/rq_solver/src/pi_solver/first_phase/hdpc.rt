@@ -52,7 +52,7 @@ pub(super) fn clear_octets(
     Ok(())
 }
 
-/// Whether all rows have 0 in the pivots' columns.
+// Whether all rows have 0 in the pivots' columns.
 fn are_zeros_at_pivots(hdpc: &DenseOctetMatrix, peeling: &Peeling) -> bool
     requires order { IsOrderOf hdpc.now.width peeling.now.order.items peeling.now.places.items }
     requires few { length peeling.now.rows.items ≤ hdpc.now.width }
@@ -66,7 +66,7 @@ fn are_zeros_at_pivots(hdpc: &DenseOctetMatrix, peeling: &Peeling) -> bool
     true
 }
 
-/// Whether all rows have 0 in a column.
+// Whether all rows have 0 in a column.
 fn is_zero_column(octets: &DenseOctetMatrix, column: usize) -> bool
     requires { column < octets.now.width }
     ensures { IsTrue result → HasZeros column (length octets.now.rows) octets.now }
@@ -79,7 +79,7 @@ fn is_zero_column(octets: &DenseOctetMatrix, column: usize) -> bool
     true
 }
 
-/// One more than the greatest column that has a pivot, and 0 where none has.
+// One more than the greatest column that has a pivot, and 0 where none has.
 fn end_of_pivots(peeling: &Peeling) -> usize
     ensures within { result ≤ length peeling.now.places.items }
     ensures last { (k : ℕ) → result ≤ k → k < length peeling.now.places.items → length peeling.now.rows.items ≤ at peeling.now.places.items k }
@@ -93,7 +93,7 @@ fn end_of_pivots(peeling: &Peeling) -> usize
     end
 }
 
-/// Adds the other HDPC rows to the first.
+// Adds the other HDPC rows to the first.
 fn sum_rows(
     rows: &mut DenseOctetMatrix,
     first_hdpc: usize,
@@ -117,8 +117,8 @@ fn sum_rows(
     Ok(())
 }
 
-/// Gives the HDPC rows 0 in a column, if it has a pivot. They have 0 in the pivots' columns before
-/// it, and keep that.
+// Gives the HDPC rows 0 in a column, if it has a pivot. They have 0 in the pivots' columns before
+// it, and keep that.
 fn clear_column(
     batch: &mut OctetBatch,
     column: usize,
@@ -144,8 +144,8 @@ fn clear_column(
     Ok(())
 }
 
-/// Adds multiples of the first HDPC row to the others, so that these have 0 in the column, and
-/// multiplies it so that it has 1 there. Where it has 0, nothing is done.
+// Adds multiples of the first HDPC row to the others, so that these have 0 in the column, and
+// multiplies it so that it has 1 there. Where it has 0, nothing is done.
 fn add_first_row(
     batch: &mut OctetBatch,
     column: usize,
@@ -183,7 +183,7 @@ fn add_first_row(
     Ok(())
 }
 
-/// Adds multiples of a pivot's row to the HDPC rows, so that they have 0 in its column.
+// Adds multiples of a pivot's row to the HDPC rows, so that they have 0 in its column.
 fn add_pivot(
     batch: &OctetBatch,
     place: usize,

@@ -42,8 +42,8 @@ pub(super) fn fill_inactive(
     Ok(tails)
 }
 
-/// The least number of octets, from this one on, that fills whole vectors: rows of such a length are
-/// added without octets that are left over.
+// The least number of octets, from this one on, that fills whole vectors: rows of such a length are
+// added without octets that are left over.
 fn whole_vectors(octets: usize) -> usize
     requires { octets < 2 ^ 63 }
     ensures whole { result % 32 ≡ 0 }
@@ -53,7 +53,7 @@ fn whole_vectors(octets: usize) -> usize
     octets + (LANES - octets % LANES) % LANES
 }
 
-/// Sets the entries of a row to those of a row of octets in the inactive columns.
+// Sets the entries of a row to those of a row of octets in the inactive columns.
 fn fill_octets(
     octets: &DenseOctetMatrix,
     from: usize,
@@ -76,7 +76,7 @@ fn fill_octets(
     }
 }
 
-/// Sets the ones of a row of zeros that are in inactive columns.
+// Sets the ones of a row of zeros that are in inactive columns.
 fn fill_bits(ones: &RowOnes, row: usize, peeling: &Peeling, tails: &mut DenseOctetMatrix)
     requires peeled { PeelsRows ones.now peeling.now }
     requires row { row < length ones.now }

@@ -33,7 +33,7 @@ pub(crate) fn rows_in_order(
     Ok(listed)
 }
 
-/// Lists rows, the first ones.
+// Lists rows, the first ones.
 fn list_rows(rows: &[usize], listed: &mut Vec<usize>, is_listed: &mut [bool]) -> Result<(), Error>
     requires rows { ArePlaces (length rows.now) (length is_listed.old) (at rows.now) }
     requires marked { IsMarked listed.old.items is_listed.old }
@@ -48,7 +48,7 @@ fn list_rows(rows: &[usize], listed: &mut Vec<usize>, is_listed: &mut [bool]) ->
     Ok(())
 }
 
-/// Lists the rows of a range that aren't listed yet.
+// Lists the rows of a range that aren't listed yet.
 fn list_range(
     start: usize,
     end: usize,
@@ -68,7 +68,7 @@ fn list_range(
     Ok(())
 }
 
-/// Lists a row, if it isn't listed yet.
+// Lists a row, if it isn't listed yet.
 fn list_row(row: usize, listed: &mut Vec<usize>, is_listed: &mut [bool]) -> Result<(), Error>
     requires row { row < length is_listed.old }
     requires marked { IsMarked listed.old.items is_listed.old }
