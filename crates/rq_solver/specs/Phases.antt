@@ -1,5 +1,5 @@
 -- What the phases answer together.
-use Rattle.std.specs.Prelude.{ℕ, ◌∷◌, ◌++◌, [], Bool, List, Option, Vec, MatchBool, MatchOption, length, map}
+use Rattle.std.specs.Prelude.{ℕ, ◌∷◌, ◌++◌, [], Bool, List, Option, Vec, MatchBool, MatchOption, drop, length, map}
 use Rattle.std.specs.Global.{Global}
 use Rattle.rq_algebra.specs.Operations.{Reorder, FindsColumn}
 use Rattle.rq_algebra.specs.Systems.{HasNullColumn}
@@ -8,7 +8,7 @@ use Rattle.rq_bytes.specs.declared.operation_vector.SymbolOps.{SymbolOps}
 use Rattle.rq_standard.specs.ConstraintMatrix.{with_octet_rows}
 use Rattle.rq_standard.specs.OctetField.{octets}
 use Rattle.rq_parts.specs.DenseOctetMatrix.{OctetTable, entry_of}
-use Rattle.rq_solver.specs.Cleared.{HasPeeledPivots, LacksPivots, SolvesInactive}
+use Rattle.rq_solver.specs.Cleared.{HasPeeledPivots, LacksPivots, SolvesInactive, system_rows}
 use Rattle.rq_solver.specs.Peeled.{AreOnesOfRows}
 use Rattle.rq_solver.specs.Recorded.{Recorded}
 use Rattle.rq_solver.specs.declared.pi_solver.peeling.Peeling.{Peeling}
@@ -18,6 +18,11 @@ abbrev pub IsAttempt : ℕ → List (List ℕ) → ℕ → OctetTable → Option
 IsAttempt width lists first hdpc answer = (bit : ℕ → ℕ → ℕ) → AreOnesOfRows (length lists) width bit lists
     → let rows = with_octet_rows first (length hdpc.rows) bit (entry_of hdpc) in
     MatchOption answer (HasNullColumn octets (length lists) width rows) (λ ops. FindsColumn octets (length lists) width rows (map operation_of ops.items))
+
+-- what was recorded gives the rows of bits, and the HDPC rows in the places from `first` on, the pivots of a peeling; the others are listed behind its rows
+abbrev pub ClearsPivots : List (List ℕ) → ℕ → OctetTable → Peeling → List ℕ → Recorded → Type 0
+ClearsPivots lists first hdpc peeling listed state =
+    HasPeeledPivots (length lists) (length peeling.places.items) (system_rows lists first hdpc) peeling.rows.items peeling.order.items (drop (length peeling.rows.items) listed) state
 
 -- where the rows had the pivots of a peeling, what was recorded solves them, read in an order; or there is none, and they have a null column
 abbrev pub FindsOrder : Peeling → List ℕ → Recorded → Recorded → Option (Vec ℕ Global) → Type 0

@@ -1,15 +1,20 @@
 -- The solver's own: rows that are worked on, and the operations that were recorded for them.
-use Rattle.std.specs.Prelude.{◌≡◌, ℕ, ◌<◌, ◌==◌, if◌then◌else◌, List, ◌++◌, All, length}
+use Rattle.std.specs.Prelude.{◌≡◌, ℕ, ◌+◌, ◌<◌, ◌≤◌, ◌==◌, if◌then◌else◌, List, ◌++◌, All, length}
 use Rattle.std.specs.List.{range_with_len}
 use Rattle.rq_algebra.specs.Operations.{Operation, AddAssign, Fma}
 use Rattle.rq_standard.specs.OctetField.{octets}
 use Rattle.rq_parts.specs.DenseOctetMatrix.{OctetTable, entry_of, HasOctets}
+use Rattle.rq_solver.specs.OperationCounts.{additions}
 use Rattle.rq_solver.specs.RowSteps.{rows_after, IsStepAmong}
 
 -- what the rows have in the inactive columns, and what was recorded
 pub record Recorded : Type 0 where
   pub table : OctetTable
   pub operations : List Operation
+
+-- so many additions more were recorded at most
+abbrev pub AddsAtMost : ℕ → Recorded → Recorded → Type 0
+AddsAtMost n old new = additions new.operations ≤ additions old.operations + n
 
 -- a multiple of a row is added
 abbrev pub sum_step : ℕ → ℕ → ℕ → Operation

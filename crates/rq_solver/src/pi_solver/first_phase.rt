@@ -2,10 +2,12 @@
 //! pivots' columns.
 ghost use Rattle.std.specs.Prelude.{◌≡◌, ◌≢◌, ℕ, ◌+◌, ◌*◌, ◌<◌, ◌≤◌, drop, length, IfOk, OnOk, IfErr};
 ghost use Rattle.rq_bytes.specs.declared.error.Error.TheVariants.{OutOfMemory};
+ghost use Rattle.rq_solver.specs.Recorded.{AddsAtMost};
 ghost use Rattle.rq_solver.specs.Cleared.{AreOctetRows, ClearsRows, HasPeeledPivots, ListsRows, PeelsRows, TakesPivots, system_rows};
 ghost use Rattle.rq_solver.specs.OperationCounts.{additions};
 ghost use Rattle.rq_solver.specs.OctetBatch.{batch_bound};
 ghost use Rattle.rq_solver.specs.Peeled.{ones_of};
+ghost use Rattle.rq_solver.specs.Phases.{ClearsPivots};
 ghost use Rattle.rq_parts.specs.DenseOctetMatrix.{HasOctets};
 
 mod hdpc;
@@ -36,7 +38,7 @@ pub(super) fn clear_pivots(
     requires peeled { PeelsRows ones.now peeling.now }
     requires hdpc { AreOctetRows ones.now first_hdpc (length peeling.now.places.items) hdpc.now }
     requires listed { ListsRows (length ones.now) peeling.now.rows.items listed.now }
-    ensures cleared { IfOk result (HasPeeledPivots (length ones.now) (length peeling.now.places.items) (system_rows ones.now first_hdpc hdpc.now) peeling.now.rows.items peeling.now.order.items (drop (length peeling.now.rows.items) listed.now)) }
+    ensures cleared { IfOk result (ClearsPivots ones.now first_hdpc hdpc.now peeling.now listed.now) }
     ensures few { IfOk result (λ rows. additions rows.operations ≤ length ones.now * length peeling.now.rows.items + batch_bound (length hdpc.now.rows) (length peeling.now.places.items) (length peeling.now.rows.items)) }
     ensures err { IfErr result (λ e. e ≡ OutOfMemory) }
 {
@@ -61,7 +63,7 @@ fn clear_rows(
     requires height { length recorded.old.table.rows ≡ length ones.now }
     requires octets { HasOctets recorded.old.table }
     ensures cleared { OnOk result (ClearsRows ones.now peeling.now.rows.items peeling.now.order.items listed.now (length listed.now) recorded.old recorded.new) }
-    ensures few { OnOk result (additions recorded.new.operations ≤ additions recorded.old.operations + length listed.now * length peeling.now.rows.items) }
+    ensures few { OnOk result (AddsAtMost (length listed.now * length peeling.now.rows.items) recorded.old recorded.new) }
     ensures err { IfErr result (λ e. e ≡ OutOfMemory) }
 {
     for row in listed {
@@ -82,8 +84,8 @@ pub(super) fn take_pivots(
     requires height { length recorded.old.table.rows ≡ length ones.now }
     requires octets { HasOctets recorded.old.table }
     ensures taken { OnOk result (TakesPivots peeling.now.rows.items peeling.now.order.items row (ones_of ones.now row) recorded.old recorded.new) }
-    ensures few { OnOk result (additions recorded.new.operations ≤ additions recorded.old.operations + length peeling.now.rows.items) }
-    ensures each { OnOk result (additions recorded.new.operations ≤ additions recorded.old.operations + length (ones_of ones.now row)) }
+    ensures few { OnOk result (AddsAtMost (length peeling.now.rows.items) recorded.old recorded.new) }
+    ensures each { OnOk result (AddsAtMost (length (ones_of ones.now row)) recorded.old recorded.new) }
     ensures err { IfErr result (λ e. e ≡ OutOfMemory) }
 {
     for column in ones.row(row) {

@@ -2,6 +2,7 @@
 ghost use Rattle.std.specs.Prelude.{◌≡◌, ◌≢◌, ℕ, ◌+◌, ◌-◌, ◌*◌, ◌<◌, ◌≤◌, true, false, length, slice_index_or, IsTrue, IfOk, OnOk, IfErr};
 ghost use Rattle.rq_algebra.specs.Systems.{at};
 ghost use Rattle.rq_bytes.specs.declared.error.Error.TheVariants.{OutOfMemory};
+ghost use Rattle.rq_solver.specs.Recorded.{AddsAtMost};
 ghost use Rattle.rq_solver.specs.Cleared.{FinishesPivots, PeelsRows, TakesBack, TakesReduced};
 ghost use Rattle.rq_solver.specs.OperationCounts.{additions};
 ghost use Rattle.rq_solver.specs.Peeled.{ones_of};
@@ -30,7 +31,7 @@ pub(super) fn take_back(
     ensures taken { IfOk result (λ marks. TakesBack ones.now peeling.now.rows.items peeling.now.order.items marks.items 0 recorded.old recorded.new) }
     ensures long { IfOk result (λ marks. length marks.items ≡ length peeling.now.rows.items) }
     ensures short { IfOk result (λ marks. (p : ℕ) → p < length peeling.now.rows.items → slice_index_or marks.items p false ≡ true → length (ones_of ones.now (at peeling.now.rows.items p)) ≤ most) }
-    ensures few { OnOk result (additions recorded.new.operations ≤ additions recorded.old.operations + length peeling.now.rows.items * most) }
+    ensures few { OnOk result (AddsAtMost (length peeling.now.rows.items * most) recorded.old recorded.new) }
     ensures err { IfErr result (λ e. e ≡ OutOfMemory) }
 {
     let mut marks = vec![in recorded.allocator(); false; peeling.rows.len()]?;
@@ -53,7 +54,7 @@ fn take_back_rows(
     requires long { length marks.old ≡ length peeling.now.rows.items }
     ensures taken { OnOk result (TakesBack ones.now peeling.now.rows.items peeling.now.order.items marks.new 0 recorded.old recorded.new) }
     ensures short { OnOk result ((p : ℕ) → p < length peeling.now.rows.items → slice_index_or marks.new p false ≡ true → length (ones_of ones.now (at peeling.now.rows.items p)) ≤ most) }
-    ensures few { OnOk result (additions recorded.new.operations ≤ additions recorded.old.operations + length peeling.now.rows.items * most) }
+    ensures few { OnOk result (AddsAtMost (length peeling.now.rows.items * most) recorded.old recorded.new) }
     ensures err { IfErr result (λ e. e ≡ OutOfMemory) }
 {
     for done in 0..marks.len() {
@@ -123,7 +124,7 @@ pub(super) fn finish_pivots(
     requires long { length marks.now ≡ length peeling.now.rows.items }
     requires short { (p : ℕ) → p < length peeling.now.rows.items → slice_index_or marks.now p false ≡ true → length (ones_of ones.now (at peeling.now.rows.items p)) ≤ most }
     ensures finished { OnOk result (FinishesPivots ones.now peeling.now.rows.items peeling.now.order.items reduced.now marks.now inactive (length peeling.now.rows.items) recorded.old recorded.new) }
-    ensures few { OnOk result (additions recorded.new.operations ≤ additions recorded.old.operations + length peeling.now.rows.items * (inactive + most)) }
+    ensures few { OnOk result (AddsAtMost (length peeling.now.rows.items * (inactive + most)) recorded.old recorded.new) }
     ensures err { IfErr result (λ e. e ≡ OutOfMemory) }
 {
     for place in 0..peeling.rows.len() {
@@ -153,7 +154,7 @@ pub(super) fn take_reduced_rows(
     requires width { inactive ≤ recorded.old.table.width }
     requires octets { HasOctets recorded.old.table }
     ensures taken { OnOk result (TakesReduced reduced.now row start inactive inactive recorded.old recorded.new) }
-    ensures few { OnOk result (additions recorded.new.operations ≤ additions recorded.old.operations + (inactive - start)) }
+    ensures few { OnOk result (AddsAtMost (inactive - start) recorded.old recorded.new) }
     ensures err { IfErr result (λ e. e ≡ OutOfMemory) }
 {
     for f in start..inactive {

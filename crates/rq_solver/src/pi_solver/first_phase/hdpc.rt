@@ -3,6 +3,7 @@ ghost use Rattle.std.specs.Prelude.{◌≡◌, ◌≢◌, ℕ, ◌+◌, ◌-◌,
 ghost use Rattle.rq_algebra.specs.Systems.{at};
 ghost use Rattle.rq_bytes.specs.declared.error.Error.TheVariants.{OutOfMemory};
 ghost use Rattle.rq_parts.specs.DenseOctetMatrix.{entry_of, HasOctets};
+ghost use Rattle.rq_solver.specs.Recorded.{AddsAtMost};
 ghost use Rattle.rq_solver.specs.Cleared.{ClearsOctets};
 ghost use Rattle.rq_solver.specs.OperationCounts.{additions};
 ghost use Rattle.rq_solver.specs.OctetBatch.{batch_bound, octet_in, AreOctetsIn, ClearsColumn, CombinesFrom, CombinesOctets, HasZeros, IsFirstAlone, StandsBeside, SumsRows};
@@ -37,7 +38,7 @@ pub(super) fn clear_octets(
     requires apart { (i p : ℕ) → i < length hdpc.now.rows → p < length peeling.now.rows.items → first_hdpc + i ≢ at peeling.now.rows.items p }
     requires octets { HasOctets recorded.old.table }
     ensures cleared { OnOk result (ClearsOctets peeling.now.rows.items peeling.now.order.items (entry_of hdpc.now) first_hdpc (length hdpc.now.rows) recorded.old recorded.new) }
-    ensures few { OnOk result (additions recorded.new.operations ≤ additions recorded.old.operations + batch_bound (length hdpc.now.rows) hdpc.now.width (length peeling.now.rows.items)) }
+    ensures few { OnOk result (AddsAtMost (batch_bound (length hdpc.now.rows) hdpc.now.width (length peeling.now.rows.items)) recorded.old recorded.new) }
     ensures err { IfErr result (λ e. e ≡ OutOfMemory) }
 {
     if hdpc.height() == 0 || are_zeros_at_pivots(hdpc, peeling) {
@@ -106,7 +107,7 @@ fn sum_rows(
     ensures height { OnOk result (length rows.new.rows ≡ length rows.old.rows) }
     ensures sum { OnOk result (SumsRows rows.old rows.new) }
     ensures summed { OnOk result (CombinesOctets first_hdpc (length rows.old.rows) rows.old.width (entry_of rows.old) (entry_of rows.new) recorded.old recorded.new) }
-    ensures few { OnOk result (additions recorded.new.operations ≤ additions recorded.old.operations + (length rows.old.rows - 1)) }
+    ensures few { OnOk result (AddsAtMost (length rows.old.rows - 1) recorded.old recorded.new) }
     ensures err { IfErr result (λ e. e ≡ OutOfMemory) }
 {
     for row in 1..rows.height() {
@@ -132,7 +133,7 @@ fn clear_column(
     requires column { column < batch.old.table.width }
     ensures table { batch.new.table ≡ batch.old.table }
     ensures changed { OnOk result (ClearsColumn peeling.now column first_hdpc batch.old batch.new recorded.old recorded.new) }
-    ensures few { OnOk result (additions recorded.new.operations ≤ additions recorded.old.operations + (length batch.old.table.rows - 1) + length batch.old.table.rows) }
+    ensures few { OnOk result (AddsAtMost ((length batch.old.table.rows - 1) + length batch.old.table.rows) recorded.old recorded.new) }
     ensures idle { OnOk result (length peeling.now.rows.items ≤ at peeling.now.places.items column → additions recorded.new.operations ≤ additions recorded.old.operations + (length batch.old.table.rows - 1)) }
     ensures err { IfErr result (λ e. e ≡ OutOfMemory) }
 {
@@ -158,7 +159,7 @@ fn add_first_row(
     ensures table { batch.new.table ≡ batch.old.table }
     ensures alone { OnOk result (octet_in batch.old 0 column ≢ 0 → IsFirstAlone column batch.new) }
     ensures added { OnOk result (CombinesFrom column first_hdpc batch.old batch.new recorded.old recorded.new) }
-    ensures few { OnOk result (additions recorded.new.operations ≤ additions recorded.old.operations + (length batch.old.table.rows - 1)) }
+    ensures few { OnOk result (AddsAtMost (length batch.old.table.rows - 1) recorded.old recorded.new) }
     ensures err { IfErr result (λ e. e ≡ OutOfMemory) }
 {
     let lead = batch.get(0, column);
@@ -195,7 +196,7 @@ fn add_pivot(
     requires pivots { StandsBeside peeling.now first_hdpc batch.now recorded.old }
     requires place { place < length peeling.now.rows.items }
     ensures changed { OnOk result (ClearsColumn peeling.now (at peeling.now.order.items place) first_hdpc batch.now batch.now recorded.old recorded.new) }
-    ensures few { OnOk result (additions recorded.new.operations ≤ additions recorded.old.operations + length batch.now.table.rows) }
+    ensures few { OnOk result (AddsAtMost (length batch.now.table.rows) recorded.old recorded.new) }
     ensures err { IfErr result (λ e. e ≡ OutOfMemory) }
 {
     let column = peeling.order[place];
