@@ -67,7 +67,6 @@ fn assert_symbols(rt: &impl Abort, slab: SymbolSlab, expected: &[u8]) -> Result<
 }
 
 #[test]
-#[tactic(auto, unfolding(rq_algebra::specs::Operations::step))]
 fn an_order_moves_no_symbol(rt: HostRuntime) -> Result<(), Error> {
     let mut slab = three(rt.alloc())?;
     assert_eq!(rt; slab.get(1), [1].as_slice());
@@ -78,9 +77,6 @@ fn an_order_moves_no_symbol(rt: HostRuntime) -> Result<(), Error> {
     assert_symbols(&rt, slab, &[1, 2])?;
     let mut slab = three(rt.alloc())?;
     slab.set_reorder([2, 0, 1].to_vec(rt.alloc())?);
-    assert_eq!(rt; slab.get(0), [2].as_slice());
-    assert_eq!(rt; slab.get(1), [0].as_slice());
-    assert_eq!(rt; slab.get(2), [1].as_slice());
     assert_symbols(&rt, slab, &[2, 0, 1])
 }
 
