@@ -1,5 +1,5 @@
 -- What the check leaves to show of `symbol_slab::SymbolSlab::among_zeros`.
-use Rattle.std.proofs.Common.{◌≡◌, ◌+◌, ◌-◌, ◌*◌, ◌≤◌, ℕ, List, [], ◌++◌, length, take, replicate, Ok, sym, ap, ◌∙◌, arith}
+use Rattle.std.proofs.Common.{◌+◌, ◌-◌, ◌*◌, ◌≤◌, [], ◌++◌, length, take, replicate, Ok, sym, ap, ◌∙◌, arith}
 use Rattle.std.proofs.Math.Nat.{mul-le-mul_right}
 use Rattle.rq_bytes.specs.SymbolSlab.{Slab, slab_of, among_zeros}
 use Rattle.rq_bytes.proofs.SlabFacts.{holds, count_is, size_is, zeros_around, filled_around}

@@ -1,5 +1,5 @@
 -- What the check leaves to show of `symbol_slab::SymbolSlab::with_room`.
-use Rattle.std.proofs.Common.{◌≡◌, ◌+◌, ◌-◌, ◌*◌, ◌++◌, [], List, ℕ, take, replicate, ap, sym, ◌∙◌, Ok, arith}
+use Rattle.std.proofs.Common.{◌≡◌, ◌-◌, ◌*◌, ◌++◌, [], List, ℕ, take, replicate, ap, sym, ◌∙◌, Ok, arith}
 use Rattle.std.proofs.lemmas.List.{take_all}
 use Rattle.rq_bytes.specs.Ranges.{cut}
 use Rattle.rq_bytes.specs.SymbolSlab.{slab_of}
