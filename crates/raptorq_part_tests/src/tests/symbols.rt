@@ -93,8 +93,7 @@ fn one_and_two(alloc: Global) -> Result<SymbolSlab, Error>
 fn a_multiple_is_added(rt: HostRuntime) -> Result<(), Error> {
     let mut slab = one_and_two(rt.alloc())?;
     slab.fma(0, 1, &Octet::new(3));
-    assert_eq!(rt; slab.get(0), [7].as_slice());
-    Ok(())
+    assert_symbols(&rt, slab, &[7, 2])
 }
 
 #[test]
