@@ -63,7 +63,7 @@ all_came all done rest whole none = sym (whole ∙ ap (λ l. done ++ l) none ∙
 module _ (table : List TableRow) (c : Configuration) (all : List Packet) (s : State) (r : Option (List ℕ)) (same : s.configuration ≡ c) (stands : (object : List ℕ) → IsHonestRun table c object all → StandsFor table object all s) where
   -- the answer after the whole list
   pub answers_exactly : AnswersObject s r → AnswersExactly table c all r
-  answers_exactly is object run = subst (λ k. IsObjectAnswer table k object all r) same (is table object all (stands object run))
+  answers_exactly is object run = subst (λ k. IsObjectAnswer table k object all r) same (is table object all (λ _. false) (stands object run) (λ b. refl))
 
   -- an answer exactly where no other object fits the list
   pub answers_where_any_can : AnswersOnlyObject s r → AnswersWhereAnyCan table c all r

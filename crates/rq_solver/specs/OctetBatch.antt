@@ -104,5 +104,5 @@ abbrev pub CombinesFrom : ℕ → ℕ → Batch → Batch → Recorded → Recor
 CombinesFrom column first was now old new = CombinesOctets first (length was.table.rows) was.table.width (octets_from column (octet_in was)) (octets_from column (octet_in now)) old new
 
 -- the rows had 0 in the pivots' columns before this one, and have 0 in this one too, if it has a pivot
-abbrev pub ClearsColumn : Peeling → ℕ → ℕ → Batch → Batch → Recorded → Recorded → Type 0
-ClearsColumn peeling column first was now old new = ChangesOctets peeling.rows.items peeling.order.items first (length was.table.rows) (octets_from column (octet_in was)) (octets_from (column + 1) (octet_in now)) old new
+abbrev pub ClearsPivotColumn : Peeling → ℕ → ℕ → Batch → Batch → Recorded → Recorded → Type 0
+ClearsPivotColumn peeling column first was now old new = ChangesOctets peeling.rows.items peeling.order.items first (length was.table.rows) (octets_from column (octet_in was)) (octets_from (column + 1) (octet_in now)) old new

@@ -85,7 +85,7 @@ impl<T: BinaryMatrix> IntermediateSymbolDecoder<T> {
         )
     }
 
-    /// The same over a row of a table.
+    /// A solver of the equations of a block, over the block's row of a table.
     pub fn of_row(
         alloc: Global,
         row: &TableRow,
@@ -108,8 +108,8 @@ impl<T: BinaryMatrix> IntermediateSymbolDecoder<T> {
     }
 
     /// How many symbols were added, counting multiples that were added: at most twice the number of
-    /// equations for each intermediate symbol. Zero until the solver has run, or where it found no
-    /// memory.
+    /// equations for each intermediate symbol. Zero until the operations are found, or it is found
+    /// that there are none.
     pub fn get_symbol_add_ops(&self) -> u64
         ensures counted { result ≡ sum (solver_state self.now).additions }
         ensures few { result ≤ 2 * (solver_state self.now).width * (solver_state self.now).height }

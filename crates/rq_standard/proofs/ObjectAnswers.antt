@@ -103,7 +103,7 @@ none_where_answered s difference some pos told tells table object packets st = (
 )
 
 pub answers_object : (s : State) (r : Option (List ℕ)) → 0 < s.configuration.source_blocks → 0 < s.configuration.symbol_size → r ≡ result_of s → AnswersObject s r
-answers_object s r some pos is table object packets st = subst (IsObjectAnswer table s.configuration object packets) (sym is) (exactly table object packets s (λ _. false) some pos st (λ b. refl))
+answers_object s r some pos is table object packets late st none = subst (IsObjectAnswer table s.configuration object packets) (sym is) (exactly table object packets s late some pos st none)
 
 pub answers_nothing_else : (s : State) (r : Option (List ℕ)) → 0 < s.configuration.source_blocks → 0 < s.configuration.symbol_size → r ≡ result_of s → AnswersNothingElse s r
 answers_nothing_else s r some pos is table object packets late st = the_object table object packets s late some pos st r is

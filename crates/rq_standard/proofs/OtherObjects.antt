@@ -211,7 +211,7 @@ module _ (table : List TableRow) (c : Configuration) (pos : 0 < c.symbol_size) (
 pub answers_only : (s : State) (answer : Option (List ℕ)) → 0 < s.configuration.source_blocks → 0 < s.configuration.symbol_size → IsAligned s.configuration → AnswersObject s answer → AnswersOnlyObject s answer
 answers_only s answer some pos aligned is table object packets st =
     let c = s.configuration in
-    let own = is table object packets st in
+    let own = is table object packets (λ _. false) st (λ b. refl) in
     let rows : (b : ℕ) → b < c.source_blocks → HasRow (block_row table c b) (block_symbols c b) = λ b below. row_of_shape table c b (s.held b) (st.shape b below) in (
       λ h other fits. one_object table c object other packets pos some aligned (λ b l. (rows b l).checked) (λ b l. (rows b l).fits) st.run fits (own.only h),
       λ only. subst IsSome (sym (own.whole (only_is_answerable table c pos some aligned rows object packets st.run only))) refl,

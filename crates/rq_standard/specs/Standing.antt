@@ -139,11 +139,11 @@ LeavesBlockLate old p new =
 abbrev pub LeavesOrAnswersLateBlock : State → Packet → State → Type 0
 LeavesOrAnswersLateBlock old p new = LeavesBlockLate old p new ⊎ AnswersLateBlock old p new
 
--- what a decoder that stands for a list answers: the object, exactly where the list determines it
+-- what a decoder that stands for a list, with no block late, answers: the object, exactly where the list determines it
 abbrev pub AnswersObject : State → Option (List ℕ) → Type 0
 AnswersObject s answer =
-    (table : List TableRow) (object : List ℕ) (packets : List Packet)
-    → StandsFor table object packets s
+    (table : List TableRow) (object : List ℕ) (packets : List Packet) (late : ℕ → Bool)
+    → StandsForButLate late table object packets s → ((b : ℕ) → late b ≡ false)
     → IsObjectAnswer table s.configuration object packets answer
 
 -- where blocks may be late, too, it answers the object or nothing

@@ -227,7 +227,7 @@ impl Decoder {
         ensures { let c = (state_of self.now).configuration in result ≡ total_symbols c * c.symbol_size }
     {
         let size = u64::from(self.config.symbol_size());
-        (self.config.transfer_length().div_ceil(size) * size) as usize
+        (self.config.total_symbols() * size) as usize
     }
 
     // The blocks one after another, without the zeros behind the object.
@@ -338,7 +338,7 @@ fn set_sparse_thresholds(blocks: &mut [ObjectBlock], value: u32)
 /// that is set before it ([`Decoder::set_sparse_threshold`]).
 ///
 /// Refuses what [`Decoder::new`] refuses, and then as [`Decoder::decode`] does, the first refused
-/// packet deciding.
+/// packet deciding. [`Error::OutOfMemory`] may come before a packet that is refused.
 pub fn decode_all(
     alloc: Global,
     table: &SystematicTable,

@@ -80,10 +80,12 @@ impl SourceBlockEncoder {
         Ok(encoder)
     }
 
-    /// The same over a table, by a plan of its row for so many source symbols.
+    /// The encoder of a source block, by a plan of the table's row for its number of source symbols.
     ///
-    /// Refuses the same but for the last, and then [`Error::PlanMismatch`] where the plan was made
-    /// for another number of source symbols or another row.
+    /// Refuses, in this order, [`Error::SymbolSizeZero`], [`Error::AlignmentZero`],
+    /// [`Error::Misaligned`], [`Error::WrongDataLength`] where the block isn't whole symbols,
+    /// [`Error::BlockOverTable`], and [`Error::PlanMismatch`] where the plan was made for another
+    /// number of source symbols or another row.
     pub fn with_encoding_plan(
         alloc: Global,
         source_block_number: u8,

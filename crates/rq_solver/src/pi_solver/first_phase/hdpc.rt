@@ -6,7 +6,7 @@ ghost use Rattle.rq_parts.specs.DenseOctetMatrix.{entry_of, HasOctets};
 ghost use Rattle.rq_solver.specs.Recorded.{AddsAtMost};
 ghost use Rattle.rq_solver.specs.Cleared.{ClearsOctets};
 ghost use Rattle.rq_solver.specs.OperationCounts.{additions};
-ghost use Rattle.rq_solver.specs.OctetBatch.{batch_bound, octet_in, AreOctetsIn, ClearsColumn, CombinesFrom, CombinesOctets, HasZeros, IsFirstAlone, StandsBeside, SumsRows};
+ghost use Rattle.rq_solver.specs.OctetBatch.{batch_bound, octet_in, AreOctetsIn, ClearsPivotColumn, CombinesFrom, CombinesOctets, HasZeros, IsFirstAlone, StandsBeside, SumsRows};
 ghost use Rattle.rq_solver.specs.Peeled.{IsOrderOf};
 ghost use Rattle.rq_solver.specs.RowSteps.{AreRows};
 
@@ -132,7 +132,7 @@ fn clear_column(
     requires some { 0 < length batch.old.table.rows }
     requires column { column < batch.old.table.width }
     ensures table { batch.new.table ≡ batch.old.table }
-    ensures changed { OnOk result (ClearsColumn peeling.now column first_hdpc batch.old batch.new recorded.old recorded.new) }
+    ensures changed { OnOk result (ClearsPivotColumn peeling.now column first_hdpc batch.old batch.new recorded.old recorded.new) }
     ensures few { OnOk result (AddsAtMost ((length batch.old.table.rows - 1) + length batch.old.table.rows) recorded.old recorded.new) }
     ensures idle { OnOk result (length peeling.now.rows.items ≤ at peeling.now.places.items column → additions recorded.new.operations ≤ additions recorded.old.operations + (length batch.old.table.rows - 1)) }
     ensures err { IfErr result (λ e. e ≡ OutOfMemory) }
@@ -195,7 +195,7 @@ fn add_pivot(
     requires rows { AreOctetsIn first_hdpc (length batch.now.table.rows) recorded.old }
     requires pivots { StandsBeside peeling.now first_hdpc batch.now recorded.old }
     requires place { place < length peeling.now.rows.items }
-    ensures changed { OnOk result (ClearsColumn peeling.now (at peeling.now.order.items place) first_hdpc batch.now batch.now recorded.old recorded.new) }
+    ensures changed { OnOk result (ClearsPivotColumn peeling.now (at peeling.now.order.items place) first_hdpc batch.now batch.now recorded.old recorded.new) }
     ensures few { OnOk result (AddsAtMost (length batch.now.table.rows) recorded.old recorded.new) }
     ensures err { IfErr result (λ e. e ≡ OutOfMemory) }
 {

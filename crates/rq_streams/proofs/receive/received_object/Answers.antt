@@ -80,5 +80,5 @@ returns-clause-answer c =
     let fill : AllByRecursion (FillsFrame table c.in_ok-decoder.decoder.config object) packets = subst (λ d. AllByRecursion (FillsFrame table d object) packets) (sym here) (stream_fills table k object packets bytes s) in
     let none : IsHonestRun table c.in_ok-config.config object [] = subst (λ d. IsHonestRun table d object []) (sym same) (record { long = s.run.long; nonsingular = s.run.nonsingular; honest = tt }) in
     let end = c.in_ok-add_frames.ensures.stands table object packets (c.in_ok-decoder.ensures.stands object none) fill (take_rest bytes 12 ∙ stream_frames table k object packets bytes s) in
-    subst (λ d. IsObjectAnswer table d object packets (option_map (vec_items {X = ℕ} {Z = Global}) r)) (c.in_ok-add_frames.ensures.configuration ∙ here) (is table object packets end))
+    subst (λ d. IsObjectAnswer table d object packets (option_map (vec_items {X = ℕ} {Z = Global}) r)) (c.in_ok-add_frames.ensures.configuration ∙ here) (is table object packets (λ _. false) end (λ b. refl)))
     c.get_result.ensures.object
