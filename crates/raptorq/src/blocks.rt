@@ -17,8 +17,11 @@ pub(crate) fn block_symbols(config: &ObjectTransmissionInformation, number: u8) 
     requires number { number < config.now.source_blocks }
     ensures { result ≡ block_symbols config.now number }
 {
+    let symbols = config
+        .transfer_length()
+        .div_ceil(u64::from(config.symbol_size()));
     let (larger, smaller, larger_count, _) = partition(
-        config.total_symbols() as u32,
+        symbols as u32,
         u32::from(config.source_blocks()),
     );
     if u32::from(number) < larger_count {
@@ -47,7 +50,12 @@ pub fn calculate_block_offsets(
     if config.source_blocks() == 0 {
         return Err(Error::SourceBlocksZero);
     }
-    if config.largest_block() > u64::from(MAX_SOURCE_SYMBOLS_PER_BLOCK) {
+    let symbols = config
+        .transfer_length()
+        .div_ceil(u64::from(config.symbol_size()));
+    if symbols.div_ceil(u64::from(config.source_blocks()))
+        > u64::from(MAX_SOURCE_SYMBOLS_PER_BLOCK)
+    {
         return Err(Error::TooManySymbols);
     }
     Ok(block_offsets(alloc, config)?)

@@ -227,7 +227,7 @@ impl Decoder {
         ensures { let c = (state_of self.now).configuration in result ≡ total_symbols c * c.symbol_size }
     {
         let size = u64::from(self.config.symbol_size());
-        (self.config.total_symbols() * size) as usize
+        (self.config.transfer_length().div_ceil(size) * size) as usize
     }
 
     // The blocks one after another, without the zeros behind the object.
