@@ -199,7 +199,7 @@ module _ (h : Held) (m : Payloads) (fits : h.symbols ≤ h.row.extended_symbols)
       let has : (e : ℕ) → holds h e ≡ has_payload m e = λ e. ap is_some (same e) in
       record {
         determined = block_same h.row h.symbols (has_payload m) (holds h) (λ e. sym (has e)) (determined_by h.row (known_ids h.row h.symbols (has_payload m)) (known_list h.row h.symbols m.entries) (known_listed h.row h.symbols h.configuration.symbol_size m fits ordered).listed s.determined);
-        places = s.places;
+        enough = s.enough;
         size_is = s.size_is;
         symbols = s.symbols;
         only = λ column z. s.only column z.symbols (values_solved column z);

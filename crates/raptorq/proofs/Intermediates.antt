@@ -134,7 +134,7 @@ module _ (row : TableRow) (operations : List Operation) (finds : FindsColumn oct
   -- operations that find the column of a row's equations are its plan
   pub plan_is : IsPlanOf row operations
   plan_is = record {
-    places = λ size source fits. places_count (planned row operations size source) (intermediate_symbols row)
+    enough = λ size source fits. places_count (planned row operations size source) (intermediate_symbols row)
         (found_places (equation_count row (extended_ids row)) (intermediate_symbols row) (equations row (extended_ids row)) operations finds (slab_of size (source_values row size source)));
     column = λ size source fits are. record { is = plan_column size source fits are; only = plan_only size source fits are };
   }

@@ -1,4 +1,4 @@
--- Octets as symbols of one octet each, and the sums at the places of ids.
+-- Octets as symbols of one octet each, and the sums at the indices of ids.
 use Rattle.std.proofs.Common.{◌≡◌, ℕ, ◌+◌, ◌<◌, List, [], ◌∷◌, ◌++◌, length, map, drop, refl, sym, ap, ◌∙◌, subst, arith, append-nil}
 use Rattle.std.proofs.lemmas.List.{length-map, get_or-map, nil_from_length, length-drop}
 use Rattle.rq_algebra.specs.Systems.{at, IsColumn}

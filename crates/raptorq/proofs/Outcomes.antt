@@ -4,7 +4,7 @@ use Rattle.std.proofs.lemmas.List.{length-map}
 use Rattle.rq_algebra.specs.Operations.{Operation}
 use Rattle.rq_algebra.specs.Symbols.{IsSymbol, AreSymbols, SolvesSymbols, symbol_at}
 use Rattle.rq_algebra.proofs.Found.{finds_determined, found_are_symbols}
-use Rattle.rq_algebra.proofs.Solutions.{null_not_determined}
+use Rattle.rq_algebra.proofs.Solutions.{homogeneous_not_determined}
 use Rattle.rq_bytes.specs.SymbolSlab.{Slab, HasPlace, symbols_in}
 use Rattle.rq_bytes.specs.SymbolOps.{operation_of}
 use Rattle.rq_bytes.specs.declared.operation_vector.SymbolOps.{SymbolOps}
@@ -38,7 +38,7 @@ places_count slab (suc n) places = has_count slab.values slab.symbol_size slab.o
 module _ (row : TableRow) (ids : List ℕ) (bits : BitTable) (hdpc : OctetTable) (handed : Slab) (part : IsBinaryPart row ids bits) (octet_part : IsHdpcPart row hdpc) (are : AreEquations row bits hdpc handed) where
   -- what a solver finds solves the block's equations; where there is nothing, the ids don't determine the block
   pub recorded_outcome : (answer : Option (Slab × Vec SymbolOps Global)) → IsOutcome (solver_of row bits hdpc handed) handed answer → SolvesByOperations row ids handed answer
-  recorded_outcome None null = λ d. null_not_determined octets (equation_count row ids) (intermediate_symbols row) (equations row ids) (null_of_equations row ids bits hdpc part octet_part.rows handed are null) d
+  recorded_outcome None null = λ d. homogeneous_not_determined octets (equation_count row ids) (intermediate_symbols row) (equations row ids) (null_of_equations row ids bits hdpc part octet_part.rows handed are null) d
   recorded_outcome (Some found) solution = solution_of_equations row ids bits hdpc part octet_part.rows handed are found.0 (map operation_of found.1.items) solution
 
 -- the solution is the block's
@@ -46,7 +46,7 @@ pub solution_found : (row : TableRow) (ids : List ℕ) (handed slab : Slab) (ope
     → solver.IsSolution (equation_count row ids) (intermediate_symbols row) (equations row ids) handed slab operations → IsBlockSolution row ids handed.symbol_size handed.values slab
 solution_found row ids handed slab operations symbols_are s = record {
   determined = finds_determined octets (equation_count row ids) (intermediate_symbols row) (equations row ids) operations s.finds;
-  places = places_count slab (intermediate_symbols row) s.places;
+  enough = places_count slab (intermediate_symbols row) s.places;
   size_is = ap (λ (g : Slab). g.symbol_size) s.made;
   symbols = λ k l. subst (IsSymbol octets handed.symbol_size) (sym (s.reads k)) (found_are_symbols octets (equation_count row ids) (intermediate_symbols row) (equations row ids) operations s.finds handed.symbol_size handed.values symbols_are k l);
   only = λ column is solves k l. s.only handed.symbol_size handed.values column symbols_are is solves k l ∙ sym (s.reads k);

@@ -1,4 +1,4 @@
--- The sum at the places of an id, place by place.
+-- The sum at the indices of an id, one after another.
 use Rattle.std.proofs.Common.{◌≡◌, ℕ, ◌<◌, ◌≤◌, List, [], ◌∷◌, ◌++◌, length, replicate, get_or, Option, Some, None, refl, sym, ap, ◌∙◌, arith, append_assoc, append-nil}
 use Rattle.std.proofs.lemmas.List.{length-map}
 use Rattle.rq_algebra.specs.Symbols.{add_symbols, symbols, IsSymbolColumn}
@@ -42,7 +42,7 @@ one_summed size p all left rest column sum term new so next is long added = reco
 pub length-sum : (xs ys : List ℕ) → length ys ≡ length xs → length (row_sum xs ys) ≡ length xs
 length-sum xs ys same = ap length (sym (add_symbols-rows xs ys same)) ∙ length-add_symbols octets 0 (length xs) xs ys refl same
 
--- the sum at all places
+-- the sum at all indices
 pub all_summed : (row : TableRow) (slab : Slab) (id : ℕ) (left sum : List ℕ) → IsChecked row → IsSymbolColumn octets slab.symbol_size (intermediate_symbols row) (symbol_in slab) → left ≡ [] → SumsSoFar slab.symbol_size (row_indices row id) left (symbol_in slab) sum → sum ≡ tuple_sum row (symbol_in slab) id
 all_summed row slab id left sum checked are none so =
     let whole : row_indices row id ≡ so.done = so.whole ∙ ap (λ l. so.done ++ l) none ∙ append-nil so.done in

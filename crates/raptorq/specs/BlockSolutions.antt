@@ -15,7 +15,7 @@ use Rattle.rq_solver.specs.Solving as solver
 -- the intermediate symbols in a slab, from the values of the equations
 pub record IsBlockSolution (row : TableRow) (ids : List ℕ) (size : ℕ) (values : List (List ℕ)) (slab : Slab) : Type 0 where
   pub determined : HasDeterminedRows row ids
-  pub places : intermediate_symbols row ≤ length (symbols_in slab)
+  pub enough : intermediate_symbols row ≤ length (symbols_in slab)
   pub size_is : slab.symbol_size ≡ size
   pub symbols : IsSymbolColumn octets size (intermediate_symbols row) (symbol_in slab)
   -- a column that solves the equations is the one found

@@ -22,7 +22,7 @@ known_values row k size entries = replicate (row.ldpc_symbols + row.hdpc_symbols
 -- the intermediate symbols of what is held
 pub record IsHeldSolution (h : Held) (slab : Slab) : Type 0 where
   pub determined : AreHeldDetermining h
-  pub places : intermediate_symbols h.row ≤ length (symbols_in slab)
+  pub enough : intermediate_symbols h.row ≤ length (symbols_in slab)
   pub size_is : slab.symbol_size ≡ h.configuration.symbol_size
   pub symbols : IsSymbolColumn octets h.configuration.symbol_size (intermediate_symbols h.row) (symbol_in slab)
   pub only : (column : ℕ → List ℕ) → SolvesHeld h column → (k : ℕ) → k < intermediate_symbols h.row → column k ≡ symbol_in slab k

@@ -20,5 +20,5 @@ planned row operations size source = after_all operations (slab_of size (source_
 
 -- The operations make the intermediate symbols of any block of the row, from any source symbols of one size.
 pub record IsPlanOf (row : TableRow) (operations : List Operation) : Type 0 where
-  pub places : (size : ℕ) (source : List (List ℕ)) → length source ≤ row.extended_symbols → intermediate_symbols row ≤ length (symbols_in (planned row operations size source))
+  pub enough : (size : ℕ) (source : List (List ℕ)) → length source ≤ row.extended_symbols → intermediate_symbols row ≤ length (symbols_in (planned row operations size source))
   pub column : (size : ℕ) (source : List (List ℕ)) → length source ≤ row.extended_symbols → AreSymbols octets size (length source) source → IsOnlyIntermediateColumn row size source (symbol_in (planned row operations size source))

@@ -1,4 +1,4 @@
-//! The sum at the places of an internal symbol id.
+//! The sum at the indices of an internal symbol id.
 ghost use Rattle.std.specs.Prelude.{◌≡◌, ◌≤◌, length, IfOk};
 ghost use Rattle.rq_algebra.specs.Symbols.{IsSymbolColumn};
 ghost use Rattle.rq_bytes.specs.SymbolSlab.{symbol_in, symbols_in};
@@ -21,7 +21,7 @@ fn add(sum: &mut Vec<u8>, term: &[u8])
     octets::add_assign(sum.as_mut_slice(), term);
 }
 
-/// The encoding symbol of an internal symbol id: the sum of the intermediate symbols at its places
+/// The encoding symbol of an internal symbol id: the sum of the intermediate symbols at its indices
 /// (RFC 6330, section 5.3.5.3).
 pub(crate) fn encoding_symbol(
     alloc: Global,
@@ -30,14 +30,14 @@ pub(crate) fn encoding_symbol(
     internal_symbol_id: u32,
 ) -> Result<Vec<u8>, AllocError>
     requires checked { IsChecked row.now }
-    requires places { intermediate_symbols row.now ≤ length (symbols_in intermediate.now) }
+    requires enough { intermediate_symbols row.now ≤ length (symbols_in intermediate.now) }
     requires symbols { IsSymbolColumn octets intermediate.now.symbol_size (intermediate_symbols row.now) (symbol_in intermediate.now) }
     ensures sum { IfOk result (λ v. v.items ≡ tuple_sum row.now (symbol_in intermediate.now) internal_symbol_id) }
 {
     let mut symbol = vec![in alloc; 0u8; intermediate.symbol_size()]?;
-    let mut places = Indices::of_id(row, internal_symbol_id);
-    while let Some(place) = places.next_index() {
-        add(&mut symbol, intermediate.get(place));
+    let mut indices = Indices::of_id(row, internal_symbol_id);
+    while let Some(index) = indices.next_index() {
+        add(&mut symbol, intermediate.get(index));
     }
     Ok(symbol)
 }

@@ -10,7 +10,7 @@ use rq_bytes::error::Error;
 use rq_bytes::operation_vector::SymbolOps;
 use rq_bytes::symbol_slab::SymbolSlab;
 use rq_matrix::matrix::DenseBinaryMatrix;
-use rq_solver::null_column::homogeneous_column;
+use rq_solver::homogeneous::homogeneous_column;
 use rq_solver::pi_solver::IntermediateSymbolDecoder;
 use rq_standard::row::TableRow;
 use std::alloc::Global;

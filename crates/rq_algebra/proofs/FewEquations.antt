@@ -1,9 +1,9 @@
--- A system with fewer rows than unknowns has a null column, and so has one that is zero but in few rows on some of the columns.
+-- A system with fewer rows than unknowns has a homogeneous column, and so has one that is zero but in few rows on some of the columns.
 use Rattle.std.proofs.Common.{◌≡◌, ◌≢◌, ℕ, zero, suc, ◌<◌, Bool, true, false, cond, eqb, sym, ap, ◌∙◌, refl, arith, inl, inr}
 use Rattle.std.proofs.lemmas.Bool.{cases_eq, eq-eqb, ne_eqb}
 use Rattle.rq_algebra.specs.Field.{Field}
 use Rattle.rq_algebra.specs.Arrangements.{ArePlaces, IsFewOn}
-use Rattle.rq_algebra.specs.Systems.{dot, HasNullColumn, HasElements}
+use Rattle.rq_algebra.specs.Systems.{dot, HasHomogeneousColumn, HasElements}
 use Rattle.rq_algebra.proofs.Sums.{sum_same, mul_zero, zero_mul, redo_mul, dot_same, dot_fma, dot-suc, dot_zero, dot_one, dot_below_size}
 use Rattle.rq_algebra.proofs.Changes.{find_place, find_nonzero, with_at, with_at_same, with_at_other, without, without_below, without_onto}
 use Rattle.rq_algebra.proofs.Places.{sum_places, spread, spread_at, spread_off}
@@ -17,8 +17,8 @@ module _ (F : Field) where
   pub dot_with_at : (n : ℕ) (r y : ℕ → ℕ) (z : ℕ) → dot F (suc n) r (with_at y n z) ≡ F.add (dot F n r y) (F.mul (r n) z)
   dot_with_at n r y z = cc (dot-suc F n r (with_at y n z), dot_same F n r r (with_at y n z) y (λ k l. refl) (λ k l. with_at_other y n z k (omega arith)), with_at_same y n z n refl)
 
-  -- where a column of the rows is zero, it alone is a null column
-  null_of_zero : (n height : ℕ) (a : ℕ → ℕ → ℕ) → ((i : ℕ) → i < height → a i n ≡ 0) → HasNullColumn F height (suc n) a
+  -- where a column of the rows is zero, it alone is a homogeneous column
+  null_of_zero : (n height : ℕ) (a : ℕ → ℕ → ℕ) → ((i : ℕ) → i < height → a i n ≡ 0) → HasHomogeneousColumn F height (suc n) a
   null_of_zero n height a empty = record {
     column = with_at (λ _. 0) n 1;
     is_column = λ k l. elim (cases_eq k n) [ inl e ↦ rw (with_at_same {X = ℕ} (λ _. 0) n 1 k e) F.one_below | inr d ↦ rw (with_at_other {X = ℕ} (λ _. 0) n 1 k d) (omega (arith, F.one_below)) ];
@@ -42,7 +42,7 @@ module _ (F : Field) where
     unfolding entry cleared
     other_row i = cc (dot_with_at n (a i) y entry, dot_fma F n (F.mul (a i n) (F.inverse (a p n))) (a i) (a p) y, F.mul_assoc (a i n) (F.inverse (a p n)) (dot F n (a p) y))
 
-  null_step : (n h : ℕ) (a : ℕ → ℕ → ℕ) (p : ℕ) → p < suc h → a p n ≢ 0 → ((i k : ℕ) → i < suc h → k < suc n → a i k < F.size) → HasNullColumn F h n (λ i. cleared a n p (without p h i)) → HasNullColumn F (suc h) (suc n) a
+  null_step : (n h : ℕ) (a : ℕ → ℕ → ℕ) (p : ℕ) → p < suc h → a p n ≢ 0 → ((i k : ℕ) → i < suc h → k < suc n → a i k < F.size) → HasHomogeneousColumn F h n (λ i. cleared a n p (without p h i)) → HasHomogeneousColumn F (suc h) (suc n) a
   unfolding entry
   null_step n h a p in_rows nonzero elements null = let z : ℕ = entry n h a p in_rows nonzero elements null.column in record {
     column = with_at null.column n z;
@@ -59,7 +59,7 @@ module _ (F : Field) where
     };
   }
 
-  pub few_rows : (width height : ℕ) (a : ℕ → ℕ → ℕ) → height < width → HasElements F height width a → HasNullColumn F height width a
+  pub few_rows : (width height : ℕ) (a : ℕ → ℕ → ℕ) → height < width → HasElements F height width a → HasHomogeneousColumn F height width a
   few_rows zero height a few elements = absurd (omega arith)
   few_rows (suc n) zero a few elements = null_of_zero n zero a (λ i l. absurd (omega arith))
   few_rows (suc n) (suc h) a few elements =
@@ -70,12 +70,12 @@ module _ (F : Field) where
             (λ i k l m. unfold cleared in F.add_below _ _ (elements (without q.0 h i) k (without_below q.0 h i l) (omega arith)) (F.mul_below _ _)))
       ]
 
-  -- on n + 1 of the columns only n of the rows are not zero: then a null column stands there
-  pub null_of_few : (height width n : ℕ) (a : ℕ → ℕ → ℕ) (rows columns : ℕ → ℕ) → HasElements F height width a → IsFewOn height width n a rows columns → HasNullColumn F height width a
+  -- on n + 1 of the columns only n of the rows are not zero: then a homogeneous column stands there
+  pub null_of_few : (height width n : ℕ) (a : ℕ → ℕ → ℕ) (rows columns : ℕ → ℕ) → HasElements F height width a → IsFewOn height width n a rows columns → HasHomogeneousColumn F height width a
   unfolding dot
   null_of_few height width n a rows columns elements few =
       let are : ArePlaces (suc n) width columns = few.columns_are in
-      let null : HasNullColumn F n (suc n) (λ p j. a (rows p) (columns j)) = few_rows (suc n) n (λ p j. a (rows p) (columns j)) (omega arith) (λ p j l m. elements (rows p) (columns j) (few.rows_below p l) (are.below j m)) in
+      let null : HasHomogeneousColumn F n (suc n) (λ p j. a (rows p) (columns j)) = few_rows (suc n) n (λ p j. a (rows p) (columns j)) (omega arith) (λ p j l m. elements (rows p) (columns j) (few.rows_below p l) (are.below j m)) in
       let x : ℕ → ℕ = spread (suc n) columns null.column in
       let says : (i : ℕ) → i < height → dot F width (a i) x ≡ dot F (suc n) (λ j. a i (columns j)) null.column = (λ (i : ℕ) (l : i < height).
       sum_places F (suc n) width (λ k. F.mul (a i k) (x k)) columns are (λ k m free. cc (spread_off (suc n) columns null.column k free, mul_zero F (a i k)))
@@ -106,7 +106,7 @@ all_places F (suc h) places are i l = elim (find_place (suc h) places i) [
       let a : ℕ → ℕ → ℕ = λ r k. cond (eqb (places k) (without i h r)) 1 0 in
       let one : (r k : ℕ) → places k ≡ without i h r → a r k ≡ 1 = λ r k e. rw (eq-eqb (places k) (without i h r) e) in
       let off : (r k : ℕ) → places k ≢ without i h r → a r k ≡ 0 = λ r k d. rw (ne_eqb (places k) (without i h r) d) in
-      let n : HasNullColumn F h (suc h) a = few_rows F (suc h) h a (omega arith) (λ r k m o. small (eqb (places k) (without i h r))) in
+      let n : HasHomogeneousColumn F h (suc h) a = few_rows F (suc h) h a (omega arith) (λ r k m o. small (eqb (places k) (without i h r))) in
       let m = without_onto i h (places n.place) l (are.below n.place n.in_width) (free n.place n.in_width) in
       absurd (n.nonzero (cc (
         n.solves.at m.0 m.1,

@@ -2,7 +2,7 @@
 use Rattle.std.proofs.Common.{◌≡◌, ℕ, ◌<◌, List, [], ◌∷◌, ◌++◌, None, replicate, get_or, sym, ap, ◌∙◌, refl, arith}
 use Rattle.std.proofs.lemmas.List.Elements.{All-from_get_or}
 use Rattle.rq_algebra.specs.Field.{Field}
-use Rattle.rq_algebra.specs.Systems.{dot, IsColumn, HasNullColumn, at}
+use Rattle.rq_algebra.specs.Systems.{dot, IsColumn, HasHomogeneousColumn, at}
 use Rattle.rq_algebra.specs.Operations.{Operation, Reorder, Space, Store, step, run, plain, unordered, read, IsOrder, found_by, FindsColumn}
 use Rattle.rq_algebra.proofs.Elimination.{HasPivots, ReadsPivots}
 use Rattle.rq_algebra.specs.Following.{Follows}
@@ -51,8 +51,8 @@ module _ (F : Field) (height width : ℕ) (original a : ℕ → ℕ → ℕ) (op
     };
   }
 
--- operations that follow rows take a null column back to the original ones
-pub null_back : (F : Field) (height width : ℕ) (original a : ℕ → ℕ → ℕ) (operations : List Operation) → Follows F height width original a operations → HasNullColumn F height width a → HasNullColumn F height width original
+-- operations that follow rows take a homogeneous column back to the original ones
+pub null_back : (F : Field) (height width : ℕ) (original a : ℕ → ℕ → ℕ) (operations : List Operation) → Follows F height width original a operations → HasHomogeneousColumn F height width a → HasHomogeneousColumn F height width original
 null_back F height width original a operations follows n = record {
   column = n.column;
   is_column = n.is_column;

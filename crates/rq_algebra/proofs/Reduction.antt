@@ -3,7 +3,7 @@ use Rattle.std.proofs.Common.{◌≡◌, ◌≢◌, ℕ, suc, ◌+◌, ◌<◌, 
 use Rattle.std.proofs.lemmas.Bool.{cases_eq, cases_lt}
 use Rattle.rq_algebra.specs.Field.{Field}
 use Rattle.rq_algebra.specs.Arrangements.{ArePlaces, IsFewOn, exchange}
-use Rattle.rq_algebra.specs.Systems.{HasNullColumn, HasElements}
+use Rattle.rq_algebra.specs.Systems.{HasHomogeneousColumn, HasElements}
 use Rattle.rq_algebra.specs.Steps.{AddsRow, ScalesRow}
 use Rattle.rq_algebra.proofs.Elimination.{HasPivots, HasFirstPivots, ClearsColumn}
 use Rattle.rq_algebra.proofs.Sums.{add_zero, mul_zero, zero_mul, mul_one}
@@ -126,7 +126,7 @@ few_of_zeros F height width n a rows columns rows_are columns_are fits zeros = r
 }
 
 -- a column in which the rows that are left are zero
-pub null_of_stuck : (F : Field) (height width done : ℕ) (a : ℕ → ℕ → ℕ) (rows columns : ℕ → ℕ) → HasElements F height width a → ArePlaces height height rows → ArePlaces (suc done) width columns → done ≤ height → HasFirstPivots height done a rows columns → ((i : ℕ) → done ≤ i → i < height → a (rows i) (columns done) ≡ 0) → HasNullColumn F height width a
+pub null_of_stuck : (F : Field) (height width done : ℕ) (a : ℕ → ℕ → ℕ) (rows columns : ℕ → ℕ) → HasElements F height width a → ArePlaces height height rows → ArePlaces (suc done) width columns → done ≤ height → HasFirstPivots height done a rows columns → ((i : ℕ) → done ≤ i → i < height → a (rows i) (columns done) ≡ 0) → HasHomogeneousColumn F height width a
 null_of_stuck F height width done a rows columns elements rows_are columns_are fits first stuck =
     null_of_few F height width done a rows columns elements (few_of_zeros F height width done a rows columns rows_are columns_are fits (λ i j l m o. elim (cases_eq j done) [
       | inl e ↦ rw e (stuck i l m)

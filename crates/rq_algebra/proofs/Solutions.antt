@@ -3,7 +3,7 @@ use Rattle.std.proofs.Common.{◌≡◌, ◌≢◌, ◌↔◌, ℕ, ◌<◌, sym
 use Rattle.std.proofs.lemmas.Bool.{cases_eq}
 use Rattle.rq_algebra.specs.Field.{Field}
 use Rattle.rq_algebra.specs.Arrangements.{ArePlaces, EquationsStandIn, RowsStandIn}
-use Rattle.rq_algebra.specs.Systems.{dot, Solves, IsColumn, IsDetermined, HasNullColumn}
+use Rattle.rq_algebra.specs.Systems.{dot, Solves, IsColumn, IsDetermined, HasHomogeneousColumn}
 use Rattle.rq_algebra.specs.Steps.{AddsRow, ScalesRow, AddsValue, ScalesValue, SameSolutions}
 use Rattle.rq_algebra.proofs.Sums.{add_again, dot_same, dot_fma, dot_mul_row, dot_below_size, undo_mul, dot_add_column}
 use Rattle.rq_algebra.proofs.FewEquations.{all_places, dot_places}
@@ -94,9 +94,9 @@ pub determined_stays : (F : Field) (width old_height new_height : ℕ) (old new 
 determined_stays F width old_height new_height old new stand determined x elements s =
     determined x elements (solves_standing F width old_height new_height old new x (λ _. 0) (λ _. 0) (λ i l. let m = stand i l in (m.0, m.1, m.2, refl)) s)
 
--- a null column refutes it
-pub null_not_determined : (F : Field) (height width : ℕ) (a : ℕ → ℕ → ℕ) → HasNullColumn F height width a → IsDetermined F height width a → ⊥
-null_not_determined F height width a n determined = n.nonzero (determined n.column n.is_column n.solves n.place n.in_width)
+-- a homogeneous column refutes it
+pub homogeneous_not_determined : (F : Field) (height width : ℕ) (a : ℕ → ℕ → ℕ) → HasHomogeneousColumn F height width a → IsDetermined F height width a → ⊥
+homogeneous_not_determined F height width a n determined = n.nonzero (determined n.column n.is_column n.solves n.place n.in_width)
 
 -- a solution of a determined system is the only one
 pub determined_unique : (F : Field) (height width : ℕ) (a : ℕ → ℕ → ℕ) (x y v : ℕ → ℕ) → IsDetermined F height width a → IsColumn F width x → IsColumn F width y → Solves F height width a x v → Solves F height width a y v → (k : ℕ) → k < width → x k ≡ y k

@@ -1,7 +1,7 @@
 -- Small systems over the field of two elements, which show what the definitions mean, and why the laws have their premises.
 use Rattle.std.specs.Prelude.{◌≡◌, ◌≢◌, ℕ, List, [], ◌∷◌, map, Some, None}
 use Rattle.rq_algebra.specs.Arrangements.{exchange}
-use Rattle.rq_algebra.specs.Systems.{dot, Solves, IsDetermined, HasNullColumn, at, stacked, rows_of}
+use Rattle.rq_algebra.specs.Systems.{dot, Solves, IsDetermined, HasHomogeneousColumn, at, stacked, rows_of}
 use Rattle.rq_algebra.specs.Steps.{AddsRow, AddsValue, ScalesRow, ScalesValue, SameSolutions}
 use Rattle.rq_algebra.specs.Operations.{Operation, AddAssign, MulAssign, Fma, Reorder, Space, plain, unordered, run, values_in, IsAllowed, FindsColumn, found_by}
 use Rattle.rq_algebra.specs.Symbols.{symbols, symbol_at}
@@ -27,9 +27,9 @@ TriangleIsSolved = Solves two 2 2 triangular (at (1 ∷ 1 ∷ [])) (at (0 ∷ 1 
 abbrev pub TriangleIsDetermined : Type 0
 TriangleIsDetermined = IsDetermined two 2 2 triangular
 
--- (1, 1) is a null column of the repeated equation
-abbrev pub RepeatedHasNullColumn : Type 0
-RepeatedHasNullColumn = HasNullColumn two 2 2 repeated
+-- (1, 1) is a homogeneous column of the repeated equation
+abbrev pub RepeatedHasHomogeneousColumn : Type 0
+RepeatedHasHomogeneousColumn = HasHomogeneousColumn two 2 2 repeated
 
 abbrev pub RepeatedIsNotDetermined : Type 0
 RepeatedIsNotDetermined = ¬ IsDetermined two 2 2 repeated
@@ -97,9 +97,9 @@ AddingNeedsTwoRows = AddsRow two 1 1 0 0 1 single empty × AddsValue two 1 0 0 1
 abbrev pub ScalingNeedsNonzero : Type 0
 ScalingNeedsNonzero = ScalesRow two 1 1 0 0 single empty × ScalesValue two 1 0 0 (at (1 ∷ [])) (at (0 ∷ [])) × (¬ SameSolutions two 1 1 single (at (1 ∷ [])) empty (at (0 ∷ [])))
 
--- as many equations as unknowns may determine, so only fewer never do: one equation of the two leaves a null column
+-- as many equations as unknowns may determine, so only fewer never do: one equation of the two leaves a homogeneous column
 abbrev pub OneEquationIsTooFew : Type 0
-OneEquationIsTooFew = HasNullColumn two 1 2 triangular
+OneEquationIsTooFew = HasHomogeneousColumn two 1 2 triangular
 
 -- the operations find the column of a system with more equations than unknowns, and of values that contradict they make no solution
 abbrev pub FoundNeedsAsManyEquations : Type 0

@@ -1,7 +1,7 @@
 -- The laws of recorded operations, as statements: functions of `operations` have them as contracts.
 use Rattle.std.specs.Prelude.{◌≡◌, ◌≢◌, ℕ, ◌<◌, List, [], ◌∷◌, ◌++◌}
 use Rattle.rq_algebra.specs.Field.{Field}
-use Rattle.rq_algebra.specs.Systems.{IsDetermined, HasNullColumn, at}
+use Rattle.rq_algebra.specs.Systems.{IsDetermined, HasHomogeneousColumn, at}
 use Rattle.rq_algebra.specs.Steps.{AddsRow, ScalesRow}
 use Rattle.rq_algebra.specs.Operations.{Operation, AddAssign, MulAssign, Fma, FindsColumn, Store, run, plain}
 use Rattle.rq_algebra.specs.Following.{Follows, Extends}
@@ -27,11 +27,11 @@ MulAssignExtends =
     → dest < height → scalar < F.size → scalar ≢ 0 → ScalesRow F height width dest scalar a b
     → Extends F height width a operations b (operations ++ MulAssign dest scalar ∷ [])
 
--- a null column of the rows that follow is one of the original rows
-abbrev pub NullColumnGoesBack : Type 0
-NullColumnGoesBack =
+-- a homogeneous column of the rows that follow is one of the original rows
+abbrev pub HomogeneousColumnGoesBack : Type 0
+HomogeneousColumnGoesBack =
     (F : Field) (height width : ℕ) (original rows : ℕ → ℕ → ℕ) (operations : List Operation)
-    → Follows F height width original rows operations → HasNullColumn F height width rows → HasNullColumn F height width original
+    → Follows F height width original rows operations → HasHomogeneousColumn F height width rows → HasHomogeneousColumn F height width original
 
 abbrev pub FoundIsDetermined : Type 0
 FoundIsDetermined =

@@ -2,7 +2,7 @@
 use Rattle.std.specs.Prelude.{◌≡◌, ◌≢◌, ℕ, ◌+◌, ◌<◌, ◌↔◌, List, length}
 use Rattle.rq_algebra.specs.Field.{Field}
 use Rattle.rq_algebra.specs.Arrangements.{ArePlaces, EquationsStandIn, IdsStandIn, IsFewOn, RowsStandIn, exchange}
-use Rattle.rq_algebra.specs.Systems.{sum_below, dot, Solves, IsColumn, IsDetermined, HasNullColumn, HasElements, stacked, rows_of}
+use Rattle.rq_algebra.specs.Systems.{sum_below, dot, Solves, IsColumn, IsDetermined, HasHomogeneousColumn, HasElements, stacked, rows_of}
 use Rattle.rq_algebra.specs.Steps.{AddsRow, ScalesRow, AddsValue, ScalesValue, SameSolutions}
 
 abbrev pub SumIsLinear : Type 0
@@ -87,19 +87,19 @@ DeterminedHasOneSolution =
     → Solves F height width rows x values → Solves F height width rows y values
     → (k : ℕ) → k < width → x k ≡ y k
 
-abbrev pub NullColumnRefutesDetermined : Type 0
-NullColumnRefutesDetermined = (F : Field) (height width : ℕ) (rows : ℕ → ℕ → ℕ) → HasNullColumn F height width rows → ¬ IsDetermined F height width rows
+abbrev pub HomogeneousColumnRefutesDetermined : Type 0
+HomogeneousColumnRefutesDetermined = (F : Field) (height width : ℕ) (rows : ℕ → ℕ → ℕ) → HasHomogeneousColumn F height width rows → ¬ IsDetermined F height width rows
 
-abbrev pub FewEquationsHaveNullColumn : Type 0
-FewEquationsHaveNullColumn =
+abbrev pub FewEquationsHaveHomogeneousColumn : Type 0
+FewEquationsHaveHomogeneousColumn =
     (F : Field) (width height : ℕ) (rows : ℕ → ℕ → ℕ)
-    → height < width → HasElements F height width rows → HasNullColumn F height width rows
+    → height < width → HasElements F height width rows → HasHomogeneousColumn F height width rows
 
 -- the same where on n + 1 of the columns only n of the rows are not zero
-abbrev pub FewOnColumnsHaveNullColumn : Type 0
-FewOnColumnsHaveNullColumn =
+abbrev pub FewOnColumnsHaveHomogeneousColumn : Type 0
+FewOnColumnsHaveHomogeneousColumn =
     (F : Field) (height width n : ℕ) (a : ℕ → ℕ → ℕ) (rows columns : ℕ → ℕ)
-    → HasElements F height width a → IsFewOn height width n a rows columns → HasNullColumn F height width a
+    → HasElements F height width a → IsFewOn height width n a rows columns → HasHomogeneousColumn F height width a
 
 -- a column solves two systems that are stacked where it solves both
 abbrev pub StackedIsBoth : Type 0

@@ -24,7 +24,7 @@ abbrev pub IsDetermined : Field → ℕ → ℕ → (ℕ → ℕ → ℕ) → Ty
 IsDetermined F height width rows = (column : ℕ → ℕ) → IsColumn F width column → Solves F height width rows column (λ _. 0) → (k : ℕ) → k < width → column k ≡ 0
 
 -- a column that is not zero solves the rows with all values zero
-pub record HasNullColumn (F : Field) (height width : ℕ) (rows : ℕ → ℕ → ℕ) : Type 0 where
+pub record HasHomogeneousColumn (F : Field) (height width : ℕ) (rows : ℕ → ℕ → ℕ) : Type 0 where
   pub column : ℕ → ℕ
   pub is_column : IsColumn F width column
   pub place : ℕ

@@ -1,12 +1,12 @@
 //! What the definitions mean, and why the laws have their premises, in small systems over the field
 //! of two elements.
-ghost use Rattle.rq_algebra.specs.Examples.{TriangleIsSolved, TriangleIsDetermined, RepeatedHasNullColumn, RepeatedIsNotDetermined, RowsStack, PlacesAreExchanged, OperationsRun, PlacesAreReadThroughTheOrder, OrdersAreReplaced, SymbolsAreAdded, OneValueIsNotAdded, RepeatsCancel, TurnedIsFound, AddingNeedsTwoRows, ScalingNeedsNonzero, OneEquationIsTooFew, FoundNeedsAsManyEquations, SumNeedsPlacesAndElements};
+ghost use Rattle.rq_algebra.specs.Examples.{TriangleIsSolved, TriangleIsDetermined, RepeatedHasHomogeneousColumn, RepeatedIsNotDetermined, RowsStack, PlacesAreExchanged, OperationsRun, PlacesAreReadThroughTheOrder, OrdersAreReplaced, SymbolsAreAdded, OneValueIsNotAdded, RepeatsCancel, TurnedIsFound, AddingNeedsTwoRows, ScalingNeedsNonzero, OneEquationIsTooFew, FoundNeedsAsManyEquations, SumNeedsPlacesAndElements};
 
 /// Two equations that are determined, and two that are not.
 pub fn equations()
     ensures solved { TriangleIsSolved }
     ensures determined { TriangleIsDetermined }
-    ensures null_column { RepeatedHasNullColumn }
+    ensures homogeneous_column { RepeatedHasHomogeneousColumn }
     ensures not_determined { RepeatedIsNotDetermined }
 {}
 

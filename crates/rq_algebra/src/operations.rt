@@ -1,5 +1,5 @@
 //! The laws of recorded operations.
-ghost use Rattle.rq_algebra.specs.OperationLaws.{NothingFollows, AddAssignExtends, FmaExtends, MulAssignExtends, NullColumnGoesBack, FoundIsDetermined, OperationsKeepZeros};
+ghost use Rattle.rq_algebra.specs.OperationLaws.{NothingFollows, AddAssignExtends, FmaExtends, MulAssignExtends, HomogeneousColumnGoesBack, FoundIsDetermined, OperationsKeepZeros};
 
 /// An operation that does to the values what was done to the rows keeps what the rows say of a
 /// column.
@@ -8,7 +8,7 @@ pub fn following()
     ensures add_assign { AddAssignExtends }
     ensures fma { FmaExtends }
     ensures mul_assign { MulAssignExtends }
-    ensures back { NullColumnGoesBack }
+    ensures back { HomogeneousColumnGoesBack }
 {}
 
 /// Where operations find the column of a system, it is determined.

@@ -1,5 +1,5 @@
 //! The laws of linear systems.
-ghost use Rattle.rq_algebra.specs.SystemLaws.{SumIsLinear, DotIsLinearInRow, DotIsLinearInColumn, ProductActsInTurn, AddingKeepsSolutions, ScalingKeepsSolutions, RowOrderKeepsSolutions, ColumnOrderKeepsSolutions, ExchangeIsAnOrder, DeterminedStays, DeterminedByIds, NewSolvesOld, DeterminedHasOneSolution, NullColumnRefutesDetermined, StackedIsBoth, FewEquationsHaveNullColumn, FewOnColumnsHaveNullColumn};
+ghost use Rattle.rq_algebra.specs.SystemLaws.{SumIsLinear, DotIsLinearInRow, DotIsLinearInColumn, ProductActsInTurn, AddingKeepsSolutions, ScalingKeepsSolutions, RowOrderKeepsSolutions, ColumnOrderKeepsSolutions, ExchangeIsAnOrder, DeterminedStays, DeterminedByIds, NewSolvesOld, DeterminedHasOneSolution, HomogeneousColumnRefutesDetermined, StackedIsBoth, FewEquationsHaveHomogeneousColumn, FewOnColumnsHaveHomogeneousColumn};
 
 /// Sums and products are linear.
 pub fn linear()
@@ -25,13 +25,13 @@ pub fn determined()
     ensures by_ids { DeterminedByIds }
     ensures solves_old { NewSolvesOld }
     ensures one_solution { DeterminedHasOneSolution }
-    ensures refuted { NullColumnRefutesDetermined }
+    ensures refuted { HomogeneousColumnRefutesDetermined }
 {}
 
 /// Fewer equations than unknowns never determine.
 pub fn few_equations()
-    ensures of_all { FewEquationsHaveNullColumn }
-    ensures on_columns { FewOnColumnsHaveNullColumn }
+    ensures of_all { FewEquationsHaveHomogeneousColumn }
+    ensures on_columns { FewOnColumnsHaveHomogeneousColumn }
 {}
 
 /// A column solves two systems that stand one below the other where it solves both.

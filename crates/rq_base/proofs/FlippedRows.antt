@@ -1,4 +1,4 @@
--- A row of bits that is flipped at one place after another.
+-- A row of bits that is flipped at one index after another.
 use Rattle.std.proofs.Common.{◌≡◌, ◌≢◌, ℕ, ◌+◌, ◌%◌, ◌<◌, ◌≤◌, ◌⊎◌, List, [], ◌∷◌, length, All, refl, sym, ap, ◌∙◌, subst, arith, inl, inr}
 use Rattle.std.proofs.lemmas.Bool.{cases_eq}
 use Rattle.std.proofs.lemmas.List.Elements.{All-head, All-tail}
@@ -14,22 +14,22 @@ use Rattle.rq_standard.specs.Equations.{row_indices, symbol_coefficient}
 use Rattle.rq_base.specs.BinaryRows.{HasLdpcRows, HasSymbolRows, FillsRow}
 use Rattle.rq_base.proofs.BitRows.{same_shape, rows_stay}
 
--- what is left to flip of the places of a row
-pub record IsFlipping (old : BitTable) (i : ℕ) (places left : List ℕ) (new : BitTable) : Type 0 where
+-- what is left to flip of the indices of a row
+pub record IsFlipping (old : BitTable) (i : ℕ) (indices left : List ℕ) (new : BitTable) : Type 0 where
   pub shape : HasSameShape old new
   pub small : (k : ℕ) → k < old.width → new.bit i k < 2
-  pub parity : (k : ℕ) → k < old.width → (new.bit i k + parity left k) % 2 ≡ parity places k
+  pub parity : (k : ℕ) → k < old.width → (new.bit i k + parity left k) % 2 ≡ parity indices k
   pub other_rows : (a k : ℕ) → a < old.height → k < old.width → a ≢ i → new.bit a k ≡ old.bit a k
-  pub below : All (λ place. place < old.width) left
+  pub below : All (λ index. index < old.width) left
 
-small_parity : (places : List ℕ) (k : ℕ) → parity places k < 2
-small_parity places k = elim (parity_cases places k) [ inl e ↦ omega arith | inr e ↦ omega arith ]
+small_parity : (indices : List ℕ) (k : ℕ) → parity indices k < 2
+small_parity indices k = elim (parity_cases indices k) [ inl e ↦ omega arith | inr e ↦ omega arith ]
 
-pub flips_all : (m : BitTable) (i : ℕ) (places : List ℕ) → ((k : ℕ) → k < m.width → m.bit i k ≡ 0) → All (λ place. place < m.width) places → IsFlipping m i places places m
-flips_all m i places zeros below = record {
+pub flips_all : (m : BitTable) (i : ℕ) (indices : List ℕ) → ((k : ℕ) → k < m.width → m.bit i k ≡ 0) → All (λ index. index < m.width) indices → IsFlipping m i indices indices m
+flips_all m i indices zeros below = record {
   shape = record { height = refl; width = refl; boundary = refl; indexed = refl };
   small = λ k hk. let zero = zeros k hk in omega arith;
-  parity = λ k hk. let zero = zeros k hk in let small = small_parity places k in omega arith;
+  parity = λ k hk. let zero = zeros k hk in let small = small_parity indices k in omega arith;
   other_rows = λ a k ha hk d. refl;
   below = below;
 }
@@ -54,30 +54,30 @@ flip_small b c lt e = elim (flip_cases b lt) [
 ]
 
 pub flips_more :
-    {old middle new : BitTable} {i place octet one : ℕ} {places left rest : List ℕ} → i < old.height → IsFlipping old i places left middle → left ≡ place ∷ rest
-    → SetsBit middle i place octet new → octet ≡ bit_xor (middle.bit i place) one → one ≡ 1 → IsFlipping old i places rest new
-flips_more {old} {middle} {new} {i} {place} {octet} {one} {places} {left} {rest} row flipping e set is is_one =
-    let below : All (λ p. p < old.width) (place ∷ rest) = subst (All (λ p. p < old.width)) e flipping.below in
-    let wide : place < old.width = All-head (λ p. p < old.width) place rest below in
+    {old middle new : BitTable} {i index octet one : ℕ} {indices left rest : List ℕ} → i < old.height → IsFlipping old i indices left middle → left ≡ index ∷ rest
+    → SetsBit middle i index octet new → octet ≡ bit_xor (middle.bit i index) one → one ≡ 1 → IsFlipping old i indices rest new
+flips_more {old} {middle} {new} {i} {index} {octet} {one} {indices} {left} {rest} row flipping e set is is_one =
+    let below : All (λ p. p < old.width) (index ∷ rest) = subst (All (λ p. p < old.width)) e flipping.below in
+    let wide : index < old.width = All-head (λ p. p < old.width) index rest below in
     let tall = flipping.shape.height in
     let same_width = flipping.shape.width in
-    let flipped : new.bit i place ≡ bit_of (bit_xor (middle.bit i place) 1) =
-    set.here ∙ ap bit_of is ∙ ap (λ n. bit_of (bit_xor (middle.bit i place) n)) is_one in
-    let there : (k : ℕ) → k < old.width → k ≢ place → new.bit i k ≡ middle.bit i k = λ k hk d. set.other_columns k (omega arith) d in
-    let more : (k : ℕ) → parity left k ≡ (unit place k + parity rest k) % 2 = λ k. (ap (λ l. parity l k) e ∙ parity-cons place rest k) in
+    let flipped : new.bit i index ≡ bit_of (bit_xor (middle.bit i index) 1) =
+    set.here ∙ ap bit_of is ∙ ap (λ n. bit_of (bit_xor (middle.bit i index) n)) is_one in
+    let there : (k : ℕ) → k < old.width → k ≢ index → new.bit i k ≡ middle.bit i k = λ k hk d. set.other_columns k (omega arith) d in
+    let more : (k : ℕ) → parity left k ≡ (unit index k + parity rest k) % 2 = λ k. (ap (λ l. parity l k) e ∙ parity-cons index rest k) in
     record {
       shape = same_shape flipping.shape set.shape;
-      small = λ k hk. elim (cases_eq k place) [
-        | inl same ↦ subst (λ n. n < 2) (sym (ap (new.bit i) same)) (flip_small (middle.bit i place) (new.bit i place) (flipping.small place wide) flipped)
+      small = λ k hk. elim (cases_eq k index) [
+        | inl same ↦ subst (λ n. n < 2) (sym (ap (new.bit i) same)) (flip_small (middle.bit i index) (new.bit i index) (flipping.small index wide) flipped)
         | inr other ↦ subst (λ n. n < 2) (sym (there k hk other)) (flipping.small k hk)
       ];
-      parity = λ k hk. elim (cases_eq k place) [
+      parity = λ k hk. elim (cases_eq k index) [
         | inl same ↦
-            flip_parity (middle.bit i k) (new.bit i k) (parity left k) (parity rest k) (unit place k) (flipping.small k hk)
-            (ap (new.bit i) same ∙ flipped ∙ ap (λ n. bit_of (bit_xor (middle.bit i n) 1)) (sym same)) (unit_same place k (sym same)) (more k)
+            flip_parity (middle.bit i k) (new.bit i k) (parity left k) (parity rest k) (unit index k) (flipping.small k hk)
+            (ap (new.bit i) same ∙ flipped ∙ ap (λ n. bit_of (bit_xor (middle.bit i n) 1)) (sym same)) (unit_same index k (sym same)) (more k)
             ∙ flipping.parity k hk
         | inr other ↦
-            let zero = unit_other place k (λ s. other (sym s)) in
+            let zero = unit_other index k (λ s. other (sym s)) in
             let left_is = more k in
             let same = there k hk other in
             let small = small_parity rest k in
@@ -85,12 +85,12 @@ flips_more {old} {middle} {new} {i} {place} {octet} {one} {places} {left} {rest}
             keeps ∙ flipping.parity k hk
       ];
       other_rows = λ a k ha hk d. set.other_rows a k (omega arith) (omega arith) d ∙ flipping.other_rows a k ha hk d;
-      below = All-tail (λ p. p < old.width) place rest below;
+      below = All-tail (λ p. p < old.width) index rest below;
     }
 
-pub flips_none : {old new : BitTable} {i : ℕ} {places left : List ℕ} → IsFlipping old i places left new → left ≡ [] → FillsRow old i places new
+pub flips_none : {old new : BitTable} {i : ℕ} {indices left : List ℕ} → IsFlipping old i indices left new → left ≡ [] → FillsRow old i indices new
 unfolding parity
-flips_none {old} {new} {i} {places} {left} flipping e = record {
+flips_none {old} {new} {i} {indices} {left} flipping e = record {
   shape = flipping.shape;
   here = λ k hk.
       let small = flipping.small k hk in
@@ -112,9 +112,9 @@ symbols_none {row} {first} {ids} {m} after rows = record {
 }
 
 pub symbols_more :
-    {row : TableRow} {first i : ℕ} {ids places : List ℕ} {old new : BitTable} → row.ldpc_symbols ≤ first → i < length ids → HasSymbolRows row first ids i old
-    → FillsRow old (first + i) places new → places ≡ row_indices row (at ids i) → HasSymbolRows row first ids (i + 1) new
-symbols_more {row} {first} {i} {ids} {places} {old} {new} after lt rows fills is =
+    {row : TableRow} {first i : ℕ} {ids indices : List ℕ} {old new : BitTable} → row.ldpc_symbols ≤ first → i < length ids → HasSymbolRows row first ids i old
+    → FillsRow old (first + i) indices new → indices ≡ row_indices row (at ids i) → HasSymbolRows row first ids (i + 1) new
+symbols_more {row} {first} {i} {ids} {indices} {old} {new} after lt rows fills is =
     let tall = rows.shape.height in
     let wide = rows.shape.width in
     let there : (a k : ℕ) → a < first + length ids → k < intermediate_symbols row → a ≢ first + i → new.bit a k ≡ old.bit a k = λ a k ha hk d. fills.other_rows a k (omega arith) (omega arith) d in

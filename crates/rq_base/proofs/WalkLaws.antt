@@ -1,4 +1,4 @@
--- The walk over the PI places ends, and gives the places of the definition.
+-- The walk over the PI indices ends, and gives the indices of the definition.
 use Rattle.std.proofs.Common.{◌≡◌, ℕ, zero, suc, ◌+◌, ◌-◌, ◌*◌, ◌%◌, ◌≤◌, ◌<◌, cond, ltb, List, [], ◌∷◌, map, take, filter, refl, sym, ap, ◌∙◌, arith, ⊎_elim}
 use Rattle.std.proofs.lemmas.Bool.{lt-ltb, le-ltb, cases_lt}
 use Rattle.std.proofs.Math.Nat.{mod-eq_of_lt, add-mod_right, mod-add-mod}
@@ -177,7 +177,7 @@ walk_from m step x n lt =
 pub pi_walk : (p m step x n : ℕ) → HasWalkEnds p m step → x < m → take n (filter (λ value. ltb value p) (map (λ j. (x + step * j) % m) (range_with_len 0 (n * m)))) ≡ walk_below p m step x n
 pi_walk p m step x n ends hx = rw (walk_from m step x (n * m) hx) (walk_below_is p m step n x (n * m) ends hx (omega arith))
 
--- ---- one place at a time
+-- ---- one index at a time
 
 pub walk-next : (m step x n : ℕ) → 0 < n → walk m step x n ≡ x ∷ walk m step ((x + step) % m) (n - 1)
 unfolding walk

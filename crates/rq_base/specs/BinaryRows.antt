@@ -42,8 +42,8 @@ pub record HasSymbolRows (row : TableRow) (first : ℕ) (ids : List ℕ) (done :
   pub symbols : (i k : ℕ) → i < done → k < intermediate_symbols row → m.bit (first + i) k ≡ symbol_coefficient row (at ids i) k
   pub rest : IsZeroFrom row (first + done) m
 
--- in one row, the bits are how often each place is listed, modulo 2; the other rows are as they were
-pub record FillsRow (old : BitTable) (i : ℕ) (places : List ℕ) (new : BitTable) : Type 0 where
+-- in one row, the bits are how often each index is listed, modulo 2; the other rows are as they were
+pub record FillsRow (old : BitTable) (i : ℕ) (indices : List ℕ) (new : BitTable) : Type 0 where
   pub shape : HasSameShape old new
-  pub here : (k : ℕ) → k < old.width → new.bit i k ≡ parity places k
+  pub here : (k : ℕ) → k < old.width → new.bit i k ≡ parity indices k
   pub other_rows : (a k : ℕ) → a < old.height → k < old.width → a ≢ i → new.bit a k ≡ old.bit a k

@@ -39,11 +39,11 @@ pub fn enc_indices<F: FnMut(usize)>(
     requires p1_near { p1 ≤ 2 * pi_symbols }
     requires callable { CallableAlong (λ p x. F.pre p x) (λ p x q. F.step p x tt q) f (enc_indices lt_symbols pi_symbols p1 source_tuple) }
     ensures calls { (last : F) × FoldsTo (λ p x q. F.step p x tt q) f (enc_indices lt_symbols pi_symbols p1 source_tuple) last }
-    ensures below { All (λ place. place < lt_symbols + pi_symbols) (enc_indices lt_symbols pi_symbols p1 source_tuple) }
+    ensures below { All (λ index. index < lt_symbols + pi_symbols) (enc_indices lt_symbols pi_symbols p1 source_tuple) }
 {
-    let mut places = Indices::new(source_tuple, lt_symbols, pi_symbols, p1);
-    while let Some(place) = places.next_index() {
-        f(place);
+    let mut indices = Indices::new(source_tuple, lt_symbols, pi_symbols, p1);
+    while let Some(index) = indices.next_index() {
+        f(index);
     }
 }
 

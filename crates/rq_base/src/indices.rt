@@ -15,7 +15,7 @@ use std::marker::Model;
 pub struct Indices {
     lt_symbols: u32,
     lt_step: u32,
-    lt_place: u32,
+    lt_value: u32,
     lt_left: u32,
     pi_symbols: u32,
     p1: u32,
@@ -50,11 +50,11 @@ impl Indices {
         requires p1_near { p1 ≤ 2 * pi_symbols }
         ensures { result ≡ enc_indices lt_symbols pi_symbols p1 source_tuple }
     {
-        let (lt_left, lt_step, lt_place, pi_left, pi_step, pi_value) = source_tuple;
+        let (lt_left, lt_step, lt_value, pi_left, pi_step, pi_value) = source_tuple;
         Indices {
             lt_symbols,
             lt_step,
-            lt_place,
+            lt_value,
             lt_left,
             pi_symbols,
             p1,
@@ -68,7 +68,7 @@ impl Indices {
     pub fn of_id(row: &TableRow, internal_symbol_id: u32) -> Indices
         requires { IsChecked row.now }
         ensures value { result ≡ row_indices row.now internal_symbol_id }
-        ensures below { All (λ place. place < intermediate_symbols row.now) result }
+        ensures below { All (λ index. index < intermediate_symbols row.now) result }
     {
         let tuple = intermediate_tuple(
             internal_symbol_id,
@@ -81,13 +81,13 @@ impl Indices {
 
     /// The next index, if one is left.
     pub fn next_index(&mut self) -> Option<usize>
-        ensures { MatchOption result ((self.old ≡ []) × (self.new ≡ [])) (λ place. self.old ≡ place ∷ self.new) }
+        ensures { MatchOption result ((self.old ≡ []) × (self.new ≡ [])) (λ index. self.old ≡ index ∷ self.new) }
     {
         if self.lt_left > 0 {
-            let place = self.lt_place;
+            let index = self.lt_value;
             self.lt_left -= 1;
-            self.lt_place = sum_modulo(place, self.lt_step, self.lt_symbols);
-            return Some(place as usize);
+            self.lt_value = sum_modulo(index, self.lt_step, self.lt_symbols);
+            return Some(index as usize);
         }
         if self.pi_left == 0 {
             return None;

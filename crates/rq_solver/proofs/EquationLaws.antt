@@ -2,7 +2,7 @@
 use Rattle.std.proofs.Common.{None, ◌≤◌, ◌≡◌, ℕ, ◌+◌, ◌-◌, ◌<◌, List, length, sym, ap, ◌∙◌, arith, inl, inr}
 use Rattle.std.proofs.lemmas.Bool.{cases_lt}
 use Rattle.rq_algebra.specs.Operations.{Operation}
-use Rattle.rq_algebra.specs.Systems.{stacked, rows_of, HasNullColumn}
+use Rattle.rq_algebra.specs.Systems.{stacked, rows_of, HasHomogeneousColumn}
 use Rattle.rq_algebra.proofs.Stacks.{stacked_above, stacked_below}
 use Rattle.rq_standard.specs.declared.row.TableRow.{TableRow}
 use Rattle.rq_standard.specs.BitTable.{BitTable}
@@ -73,7 +73,7 @@ module _ (row : TableRow) (ids : List ℕ) (bits : BitTable) (hdpc : OctetTable)
         let solved = rw count at solution in
         is_solution (equation_count row ids) (intermediate_symbols row) (equations row ids) operations (finds_same octets (equation_count row ids) (intermediate_symbols row) _ (equations row ids) equations_same operations solved.finds) handed slab are.order solved.made
 
-    pub null_of_equations : HasNullColumn octets (length handed.values) (intermediate_symbols row) (with_octet_rows row.ldpc_symbols row.hdpc_symbols bits.bit (entry_of hdpc)) → HasNullColumn octets (equation_count row ids) (intermediate_symbols row) (equations row ids)
+    pub null_of_equations : HasHomogeneousColumn octets (length handed.values) (intermediate_symbols row) (with_octet_rows row.ldpc_symbols row.hdpc_symbols bits.bit (entry_of hdpc)) → HasHomogeneousColumn octets (equation_count row ids) (intermediate_symbols row) (equations row ids)
     null_of_equations null = null_same octets (equation_count row ids) (intermediate_symbols row) _ (equations row ids) equations_same (rw count at null)
 
 -- what a solver asks, from what the generator of both matrices says of them

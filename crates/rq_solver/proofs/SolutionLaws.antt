@@ -1,7 +1,7 @@
 -- What a solver answers, from operations that find the column.
 use Rattle.std.proofs.Common.{◌≡◌, ◌<◌, ℕ, List, Option, None, Some, IfSome, IfOk, Result, Vec, Global, refl, sym, ap, ◌∙◌, subst, arith}
 use Rattle.rq_algebra.specs.Field.{Field}
-use Rattle.rq_algebra.specs.Systems.{HasNullColumn, at}
+use Rattle.rq_algebra.specs.Systems.{HasHomogeneousColumn, at}
 use Rattle.rq_algebra.specs.Operations.{Operation, Reorder, Store, step, run, read, unordered, FindsColumn, found_by}
 use Rattle.rq_algebra.specs.Symbols.{symbols}
 use Rattle.rq_algebra.proofs.Solutions.{solves_same}
@@ -28,7 +28,7 @@ module _ (F : Field) (height width : ℕ) (a b : ℕ → ℕ → ℕ) (same : Sa
     solves = λ square v e. solves_same F height width a b _ (at v) (at v) same (λ i l. refl) (finds.solves square v e);
   }
 
-  pub null_same : HasNullColumn F height width a → HasNullColumn F height width b
+  pub null_same : HasHomogeneousColumn F height width a → HasHomogeneousColumn F height width b
   null_same null = record {
     column = null.column;
     is_column = null.is_column;

@@ -1,7 +1,7 @@
 -- What a solver is handed, and what it answers.
 use Rattle.std.specs.Prelude.{◌≡◌, ℕ, ◌+◌, ◌<◌, ◌≤◌, false, List, Option, None, Some, Vec, length, map, replicate, sum}
 use Rattle.std.specs.Global.{Global}
-use Rattle.rq_algebra.specs.Systems.{HasNullColumn}
+use Rattle.rq_algebra.specs.Systems.{HasHomogeneousColumn}
 use Rattle.rq_algebra.specs.Operations.{Operation, FindsColumn, found_by}
 use Rattle.rq_algebra.specs.Symbols.{symbols, AreSymbols, IsSymbolColumn, SolvesSymbols, symbol_at}
 use Rattle.rq_standard.specs.declared.row.TableRow.{TableRow}
@@ -74,5 +74,5 @@ pub record IsSolution (height width : ℕ) (rows : ℕ → ℕ → ℕ) (handed 
 
 -- the answer for a solver that was handed these symbols: the solution, or else the rows don't determine it
 abbrev pub IsOutcome : Solver → Slab → Option (Slab × Vec SymbolOps Global) → Type 0
-IsOutcome solver handed None = HasNullColumn octets solver.height solver.width solver.rows
+IsOutcome solver handed None = HasHomogeneousColumn octets solver.height solver.width solver.rows
 IsOutcome solver handed (Some found) = IsSolution solver.height solver.width solver.rows handed found.0 (map operation_of found.1.items)

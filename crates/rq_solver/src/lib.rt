@@ -1,6 +1,6 @@
 //! The solver: a block's intermediate symbols from its equations.
 #![tactic(auto)]
 
-pub mod null_column;
+pub mod homogeneous;
 pub mod pi_solver;
 pub mod replay;

@@ -27,7 +27,7 @@ use crate::replay::replay;
 use counts::OperationCounts;
 use ones::RowOnes;
 use peeling::peel;
-use phases::{Attempt, operations_of_peeled};
+use phases::{Attempt, find_operations};
 pub use row_selection::FirstPhaseRowSelectionStats;
 use rq_bytes::error::Error;
 use rq_bytes::operation_vector::SymbolOps;
@@ -162,7 +162,7 @@ impl<T: BinaryMatrix> IntermediateSymbolDecoder<T> {
         let width = self.matrix.width();
         let ones = RowOnes::of_matrix(self.alloc, &self.matrix, self.boundary)?;
         let peeling = peel(self.alloc, &ones, width, self.boundary)?;
-        let Attempt { operations, counts } = operations_of_peeled(
+        let Attempt { operations, counts } = find_operations(
             self.alloc,
             &ones,
             &self.hdpc,

@@ -8,7 +8,7 @@ use Rattle.rq_algebra.specs.Systems.{sum_below, dot, Solves, at, rows_of}
 use Rattle.rq_algebra.specs.Parities.{parity}
 use Rattle.rq_algebra.proofs.Stacks.{stacked_above, stacked_below}
 use Rattle.rq_algebra.proofs.FewEquations.{few_rows}
-use Rattle.rq_algebra.proofs.Solutions.{null_not_determined}
+use Rattle.rq_algebra.proofs.Solutions.{homogeneous_not_determined}
 use Rattle.rq_algebra.proofs.Sums.{sum_below_size}
 use Rattle.rq_standard.specs.declared.row.TableRow.{TableRow}
 use Rattle.rq_standard.specs.OctetField.{octets}
@@ -176,7 +176,7 @@ equations_below row ids i k =
 -- fewer equations than intermediate symbols determine nothing
 pub few_not_determining : (row : TableRow) (ids : List ℕ) → equation_count row ids < intermediate_symbols row → HasDeterminedRows row ids → ⊥
 few_not_determining row ids few d =
-    null_not_determined octets (equation_count row ids) (intermediate_symbols row) (equations row ids)
+    homogeneous_not_determined octets (equation_count row ids) (intermediate_symbols row) (equations row ids)
     (few_rows octets (intermediate_symbols row) (equation_count row ids) (equations row ids) few (λ i k _ _. equations_below row ids i k)) d
 
 -- before any symbol came

@@ -61,7 +61,7 @@ pub record IsOnlyIntermediateColumn (row : TableRow) (size : ℕ) (source : List
   pub is : IsIntermediateColumn row size source column
   pub only : (other : ℕ → List ℕ) → IsIntermediateColumn row size source other → (k : ℕ) → k < intermediate_symbols row → other k ≡ column k
 
--- the payload of an encoding symbol id, source or repair: the sum, at the places of its tuple, of the block's only intermediate symbols
+-- the payload of an encoding symbol id, source or repair: the sum, at the indices of its tuple, of the block's only intermediate symbols
 pub record IsEncodingSymbol (row : TableRow) (size : ℕ) (source : List (List ℕ)) (esi : ℕ) (payload : List ℕ) : Type 0 where
   pub column : ℕ → List ℕ
   pub is_only : IsOnlyIntermediateColumn row size source column

@@ -18,4 +18,4 @@ LdpcRowsAreThree =
 
 -- each index of an internal symbol id is that of one of the L intermediate symbols
 abbrev pub IndicesAreBelow : Type 0
-IndicesAreBelow = (row : TableRow) (x : ℕ) → IsChecked row → All (λ place. place < intermediate_symbols row) (row_indices row x)
+IndicesAreBelow = (row : TableRow) (x : ℕ) → IsChecked row → All (λ k. k < intermediate_symbols row) (row_indices row x)

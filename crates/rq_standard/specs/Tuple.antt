@@ -4,7 +4,7 @@ use Rattle.std.specs.List.{range_with_len}
 use Rattle.rq_standard.specs.declared.degrees.TheConstants.{DEGREE_STARTS}
 use Rattle.rq_standard.specs.Rand.{rand}
 
--- the place of the first number of a list that is above v, or its length
+-- the index of the first number of a list that is above v, or its length
 abbrev pub first_above : ℕ → List ℕ → ℕ
 first_above v [] = 0
 first_above v (start ∷ starts) = if nat_lt v start then 0 else 1 + first_above v starts

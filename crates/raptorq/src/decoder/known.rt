@@ -57,15 +57,15 @@ pub(crate) fn known_symbol_values(
     ensures memory { IfErr result (λ e. e ≡ Error.OutOfMemory) }
 {
     let padding = row.extended_symbols - symbols;
-    let mut place = (row.ldpc_symbols + row.hdpc_symbols + padding) as usize;
-    let count = place + received.len();
+    let mut index = (row.ldpc_symbols + row.hdpc_symbols + padding) as usize;
+    let count = index + received.len();
     // Room for the block that is answered too: an allocator that is handed this buffer back then
     // keeps as much for the next block.
     let room = (count + symbols as usize) * size;
     let mut values = SymbolSlab::with_room(alloc, count, size, room)?;
     for payload in received.values() {
-        values.copy_block_from(place, payload.as_slice());
-        place += 1;
+        values.copy_block_from(index, payload.as_slice());
+        index += 1;
     }
     Ok(values)
 }

@@ -32,7 +32,7 @@ pub struct SourceBlockEncoder {
     pub ghost unordered: { source.order ≡ None },
     pub ghost few: { length source.values ≤ row.extended_symbols },
     pub ghost sized: { All (λ symbol. length symbol ≡ intermediate.symbol_size) source.values },
-    pub ghost places: { intermediate_symbols row ≤ length (symbols_in intermediate) },
+    pub ghost enough: { intermediate_symbols row ≤ length (symbols_in intermediate) },
     pub ghost solved: { IsOnlyIntermediateColumn row intermediate.symbol_size source.values (symbol_in intermediate) },
 }
 

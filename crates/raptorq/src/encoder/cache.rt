@@ -63,15 +63,15 @@ impl SourceBlockEncodingPlanCache {
         ensures row { IfOk result (λ p. (plan_of p.now).row ≡ row_of self.old.table count) }
         ensures plan { IfOk result (λ p. IsPlanOf (row_of self.old.table count) (plan_of p.now).operations) }
     {
-        let place = self.hold(count)?;
-        Ok(&self.plans[place])
+        let index = self.hold(count)?;
+        Ok(&self.plans[index])
     }
 
     /// Whether the plan of so many source symbols is held.
     pub fn contains(&self, count: u16) -> bool
         ensures { result ≡ holds_count self.now.counts count }
     {
-        self.place_of(count).is_some()
+        self.index_of(count).is_some()
     }
 
     /// The number of plans that are held.
@@ -95,19 +95,19 @@ impl SourceBlockEncodingPlanCache {
         ensures count { IfSome result (λ p. (plan_of p.now).count ≡ count) }
         ensures row { IfSome result (λ p. (plan_of p.now).row ≡ row_of self.now.table count) }
     {
-        let place = self.place_of(count)?;
-        Some(&self.plans[place])
+        let index = self.index_of(count)?;
+        Some(&self.plans[index])
     }
 
-    // Makes the plan of so many source symbols where none is held, and answers its place.
+    // Makes the plan of so many source symbols where none is held, and answers its index.
     fn hold(&mut self, count: u16) -> Result<usize, Error>
         ensures used { OnOk result (self.new ≡ used self.old count) }
-        ensures place { IfOk result (λ place. slice_get self.new.counts place ≡ Some count) }
+        ensures index { IfOk result (λ index. slice_get self.new.counts index ≡ Some count) }
         ensures refused { IfErr result (λ e. (holds_count self.old.counts count ≡ false) × RefusesPlan self.old.table count e) }
         ensures unchanged { OnErr result (self.new ≡ self.old) }
     {
-        if let Some(place) = self.place_of(count) {
-            return Ok(place);
+        if let Some(index) = self.index_of(count) {
+            return Ok(index);
         }
         let plan = SourceBlockEncodingPlan::generate(self.alloc, &self.table, count)?;
         self.put(plan);
@@ -115,7 +115,7 @@ impl SourceBlockEncodingPlanCache {
     }
 
     // Where the plan of so many source symbols is.
-    fn place_of(&self, count: u16) -> Option<usize>
+    fn index_of(&self, count: u16) -> Option<usize>
         ensures { result ≡ position (λ n. n == count) self.now.counts }
     {
         place_in(&self.plans, count)
@@ -142,7 +142,7 @@ fn place_in(plans: &VecDeque<SourceBlockEncodingPlan>, count: u16) -> Option<usi
         .position(|held| held == count)
 }
 
-// Drops the oldest plan where there is no place for one more.
+// Drops the oldest plan where there is no room for one more.
 fn make_room(plans: &mut VecDeque<SourceBlockEncodingPlan>)
     requires { deque_len plans.old ≤ 64 }
     ensures items { plans.new.items ≡ (if nat_lt (deque_len plans.old) 64 then plans.old.items else drop 1 plans.old.items) }

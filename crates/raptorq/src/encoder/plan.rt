@@ -110,7 +110,7 @@ impl SourceBlockEncodingPlan {
         requires small { source.now.symbol_size < 65536 }
         requires few { length source.now.values ≤ (plan_of self.now).row.extended_symbols }
         ensures size { IfOk result (λ slab. slab.symbol_size ≡ source.now.symbol_size) }
-        ensures places { IfOk result (λ slab. intermediate_symbols (plan_of self.now).row ≤ length (symbols_in slab)) }
+        ensures enough { IfOk result (λ slab. intermediate_symbols (plan_of self.now).row ≤ length (symbols_in slab)) }
         ensures column { IfOk result (λ slab. IsOnlyIntermediateColumn (plan_of self.now).row source.now.symbol_size source.now.values (symbol_in slab)) }
         ensures memory { IfErr result (λ e. e ≡ Error.OutOfMemory) }
     {

@@ -19,7 +19,7 @@ fn steps_of_the_dense_matrix(rt: HostRuntime) -> Result<(), Fail> {
     Ok(())
 }
 
-// Exchanges, an addition, a frozen column and the columns left out.
+// Exchanges, an addition, an inactive column and the columns left out.
 fn steps<T: BinaryMatrix>(rt: &impl Abort, alloc: Global) -> Result<(), Error> {
     let mut matrix = T::new(alloc, 3, 70, 5)?;
     matrix.set(0, 3, Octet::one())?;
@@ -104,7 +104,7 @@ fn lists_are_replaced(rt: HostRuntime) -> Result<(), Fail> {
 
 // That the boundary is 2 is shown by the call behind it, which asks for the boundary.
 #[test]
-fn a_frozen_column_keeps_its_bits(rt: HostRuntime) -> Result<(), Fail> {
+fn an_inactive_column_keeps_its_bits(rt: HostRuntime) -> Result<(), Fail> {
     let mut matrix = DenseBinaryMatrix::new(rt.alloc(), 2, 3, 0)?;
     matrix.set(0, 2, Octet::one())?;
     matrix.set(1, 1, Octet::one())?;

@@ -67,16 +67,16 @@ fn multiplier(systematic_index: u32) -> u32
     }
 }
 
-// The place of the first number above `v`, or the length.
+// The index of the first number above `v`, or the length.
 fn first_above(v: u32, starts: &[u32; 31]) -> u32
     ensures { result ≡ first_above v starts.now }
 {
-    let mut place = 0;
+    let mut index = 0;
     for start in starts {
         if v < *start {
-            return place;
+            return index;
         }
-        place += 1;
+        index += 1;
     }
-    place
+    index
 }

@@ -29,7 +29,7 @@ pub(crate) fn binary_rows<T: BinaryMatrix>(
     set_ldpc_1_columns(&mut matrix, row)?;
     set_ldpc_rows(&mut matrix, row)?;
     for (i, id) in internal_symbol_ids.iter().enumerate() {
-        flip_places(&mut matrix, first_symbol_row + i, Indices::of_id(row, *id))?;
+        flip_indices(&mut matrix, first_symbol_row + i, Indices::of_id(row, *id))?;
     }
     Ok(matrix)
 }
@@ -111,18 +111,18 @@ fn set_ldpc_row<T: BinaryMatrix>(matrix: &mut T, row: &TableRow, i: usize) -> Re
     Ok(())
 }
 
-// Flips the bit of a row at each place, so that a place that comes twice cancels.
-fn flip_places<T: BinaryMatrix>(matrix: &mut T, i: usize, mut places: Indices) -> Result<(), Error>
+// Flips the bit of a row at each index, so that a index that comes twice cancels.
+fn flip_indices<T: BinaryMatrix>(matrix: &mut T, i: usize, mut indices: Indices) -> Result<(), Error>
     requires row { i < (T.content matrix.old).height }
-    requires below { All (λ place. place < (T.content matrix.old).width) places }
+    requires below { All (λ index. index < (T.content matrix.old).width) indices }
     requires settable { (T.content matrix.old).indexed ≡ false }
     requires zeros { (k : ℕ) → k < (T.content matrix.old).width → (T.content matrix.old).bit i k ≡ 0 }
-    ensures filled { OnOk result (FillsRow (T.content matrix.old) i places (T.content matrix.new)) }
+    ensures filled { OnOk result (FillsRow (T.content matrix.old) i indices (T.content matrix.new)) }
     ensures memory { IfErr result (λ e. e ≡ OutOfMemory) }
 {
-    while let Some(place) = places.next_index() {
-        let flipped = matrix.get(i, place) + Octet::one();
-        matrix.set(i, place, flipped)?;
+    while let Some(index) = indices.next_index() {
+        let flipped = matrix.get(i, index) + Octet::one();
+        matrix.set(i, index, flipped)?;
     }
     Ok(())
 }

@@ -5,7 +5,7 @@ ghost use Rattle.rq_bytes.specs.declared.error.Error.TheVariants.{OutOfMemory};
 ghost use Rattle.rq_solver.specs.Peeled.{IsOrderOf, IsActive, first_columns, ExchangesColumns, EndsActive};
 ghost use Rattle.rq_algebra.specs.Systems.{at};
 
-use crate::pi_solver::elimination::numbers_below;
+use crate::pi_solver::elimination::identity_order;
 use rq_bytes::error::Error;
 use std::alloc::Global;
 use std::marker::Model;
@@ -38,8 +38,8 @@ impl ColumnOrder {
         ensures err { IfErr result (λ e. e ≡ OutOfMemory) }
     {
         Ok(ColumnOrder {
-            order: numbers_below(alloc, width)?,
-            places: numbers_below(alloc, width)?,
+            order: identity_order(alloc, width)?,
+            places: identity_order(alloc, width)?,
             pivots: 0,
             end: boundary,
         })

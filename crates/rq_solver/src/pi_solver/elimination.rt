@@ -8,15 +8,15 @@ ghost use Rattle.rq_solver.specs.RowSteps.{AreRows};
 use rq_parts::octet_matrix::DenseOctetMatrix;
 use std::alloc::{AllocError, Global};
 
-/// The numbers below n.
-pub(crate) fn numbers_below(alloc: Global, n: usize) -> Result<Vec<usize>, AllocError>
-    ensures { IfOk result (λ numbers. numbers.items ≡ range_with_len 0 n) }
+/// The first n indices in their order.
+pub(crate) fn identity_order(alloc: Global, n: usize) -> Result<Vec<usize>, AllocError>
+    ensures { IfOk result (λ order. order.items ≡ range_with_len 0 n) }
 {
-    let mut numbers = Vec::with_capacity(alloc, n)?;
+    let mut order = Vec::with_capacity(alloc, n)?;
     for i in 0..n {
-        numbers.push(i)?;
+        order.push(i)?;
     }
-    Ok(numbers)
+    Ok(order)
 }
 
 /// Where a row stands that isn't 0 in the column, from `start` on.

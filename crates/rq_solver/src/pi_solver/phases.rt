@@ -1,7 +1,7 @@
 //! The phases of the solver, one after another (RFC 6330, section 5.4.2).
 ghost use Rattle.std.specs.Prelude.{◌≡◌, ℕ, ◌+◌, ◌<◌, ◌≤◌, ◌*◌, ◌-◌, ◌∷◌, ◌++◌, [], Contains, IsPermutation, drop, length, map, IfOk, OnOk, IfErr, IfSome, MatchBool, MatchOption};
 ghost use Rattle.rq_algebra.specs.Operations.{Reorder, FindsColumn};
-ghost use Rattle.rq_algebra.specs.Systems.{at, HasNullColumn};
+ghost use Rattle.rq_algebra.specs.Systems.{at, HasHomogeneousColumn};
 ghost use Rattle.rq_bytes.specs.SymbolOps.{operation_of};
 ghost use Rattle.rq_bytes.specs.declared.error.Error.TheVariants.{OutOfMemory};
 ghost use Rattle.rq_parts.specs.DenseOctetMatrix.{entry_of, HasOctets};
@@ -38,7 +38,7 @@ pub(super) struct Attempt {
 
 /// Looks for the operations that solve rows: those of bits, but the HDPC rows in the places from
 /// `first_hdpc` on.
-pub(super) fn operations_of_peeled(
+pub(super) fn find_operations(
     alloc: Global,
     ones: &RowOnes,
     hdpc: &DenseOctetMatrix,

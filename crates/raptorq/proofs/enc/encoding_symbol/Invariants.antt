@@ -5,13 +5,13 @@ use Rattle.rq_standard.specs.TableRows.{intermediate_symbols}
 use Rattle.raptorq.proofs.Summing.{SumsSoFar}
 use Rattle.raptorq.proofs.enc.encoding_symbol.Given as goal
 
--- the places so far are summed
-abbrev pub invariant-loop-place : goal.invariant-loop-place
-invariant-loop-place l = record {
-  sums : SumsSoFar l.fn.intermediate.symbol_size (row_indices l.fn.row l.fn.internal_symbol_id) l.places (symbol_in l.fn.intermediate) l.symbol.items;
-  below : All (λ p. p < intermediate_symbols l.fn.row) l.places;
+-- the indices so far are summed
+abbrev pub invariant-loop-index : goal.invariant-loop-index
+invariant-loop-index l = record {
+  sums : SumsSoFar l.fn.intermediate.symbol_size (row_indices l.fn.row l.fn.internal_symbol_id) l.indices (symbol_in l.fn.intermediate) l.symbol.items;
+  below : All (λ p. p < intermediate_symbols l.fn.row) l.indices;
   long : length l.symbol.items ≡ l.fn.intermediate.symbol_size;
 }
 
-abbrev pub decreases-loop-place : goal.decreases-loop-place
-decreases-loop-place l = length l.places
+abbrev pub decreases-loop-index : goal.decreases-loop-index
+decreases-loop-index l = length l.indices

@@ -3,9 +3,9 @@ use Rattle.std.proofs.Common.{◌≡◌, refl, arith}
 use Rattle.rq_algebra.specs.Field.{Field}
 use Rattle.rq_algebra.specs.Systems.{sum_below, dot, IsDetermined}
 use Rattle.rq_algebra.specs.Two.{two}
-use Rattle.rq_algebra.specs.Examples.{triangular, repeated, RepeatedHasNullColumn}
+use Rattle.rq_algebra.specs.Examples.{triangular, repeated, RepeatedHasHomogeneousColumn}
 use Rattle.rq_algebra.proofs.Sums.{add_zero, zero_mul}
-use Rattle.rq_algebra.proofs.Solutions.{null_not_determined}
+use Rattle.rq_algebra.proofs.Solutions.{homogeneous_not_determined}
 use Rattle.rq_algebra.proofs.SmallCases.{below_two, dot-two}
 use Rattle.rq_algebra.proofs.examples.equations.Goals as goal
 
@@ -16,9 +16,9 @@ triangle_determined F x elements s =
     let first : x 0 ≡ 0 = cc (s.at 0 (omega arith), dot-two F (triangular 0) x, F.one_mul (x 0) (elements 0 (omega arith)), F.one_mul (x 1) (elements 1 (omega arith)), last, add_zero F (x 0)) in
     below_two (λ k. x k ≡ 0) first last
 
-null_column : RepeatedHasNullColumn
+homogeneous_column : RepeatedHasHomogeneousColumn
 unfolding dot sum_below
-null_column = record {
+homogeneous_column = record {
   column = λ _. 1;
   is_column = λ k l. omega arith;
   place = 0;
@@ -32,6 +32,6 @@ unfolding dot sum_below
 returns c = record {
   solved = record { at = below_two _ refl refl };
   determined = triangle_determined two;
-  null_column = null_column;
-  not_determined = null_not_determined two 2 2 repeated null_column;
+  homogeneous_column = homogeneous_column;
+  not_determined = homogeneous_not_determined two 2 2 repeated homogeneous_column;
 }

@@ -1,4 +1,4 @@
--- Few equations have a null column.
+-- Few equations have a homogeneous column.
 use Rattle.rq_algebra.proofs.FewEquations.{few_rows, null_of_few}
 use Rattle.rq_algebra.proofs.systems.few_equations.Goals as goal
 

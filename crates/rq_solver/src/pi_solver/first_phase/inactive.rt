@@ -28,18 +28,18 @@ pub(super) fn fill_inactive(
     requires peeled { PeelsRows ones.now peeling.now }
     requires hdpc { AreOctetRows ones.now first_hdpc (length peeling.now.places.items) hdpc.now }
     requires inactive { length peeling.now.rows.items + inactive ≡ length peeling.now.places.items }
-    ensures tails { IfOk result (HasLeading (length ones.now) inactive (length ones.now) (λ r f. system_rows ones.now first_hdpc hdpc.now r (at peeling.now.order.items (length peeling.now.rows.items + f)))) }
+    ensures entries { IfOk result (HasLeading (length ones.now) inactive (length ones.now) (λ r f. system_rows ones.now first_hdpc hdpc.now r (at peeling.now.order.items (length peeling.now.rows.items + f)))) }
     ensures err { IfErr result (λ e. e ≡ OutOfMemory) }
 {
-    let mut tails = DenseOctetMatrix::new(alloc, ones.height(), whole_vectors(inactive), 0)?;
+    let mut entries = DenseOctetMatrix::new(alloc, ones.height(), whole_vectors(inactive), 0)?;
     for row in 0..ones.height() {
         if row >= first_hdpc && row - first_hdpc < hdpc.height() {
-            fill_octets(hdpc, row - first_hdpc, peeling, inactive, row, &mut tails);
+            fill_octets(hdpc, row - first_hdpc, peeling, inactive, row, &mut entries);
         } else {
-            fill_bits(ones, row, peeling, &mut tails);
+            fill_bits(ones, row, peeling, &mut entries);
         }
     }
-    Ok(tails)
+    Ok(entries)
 }
 
 // The least number of octets, from this one on, that fills whole vectors: rows of such a length are
@@ -60,37 +60,37 @@ fn fill_octets(
     peeling: &Peeling,
     inactive: usize,
     row: usize,
-    tails: &mut DenseOctetMatrix,
+    entries: &mut DenseOctetMatrix,
 )
     requires order { IsOrderOf octets.now.width peeling.now.order.items peeling.now.places.items }
     requires inactive { length peeling.now.rows.items + inactive ≡ octets.now.width }
     requires from { from < length octets.now.rows }
-    requires row { row < length tails.old.rows }
-    requires width { inactive ≤ tails.old.width }
-    requires octets { HasOctets tails.old }
-    ensures { WritesRow row 0 inactive (λ f. entry_of octets.now from (at peeling.now.order.items (length peeling.now.rows.items + f))) tails.old tails.new }
+    requires row { row < length entries.old.rows }
+    requires width { inactive ≤ entries.old.width }
+    requires octets { HasOctets entries.old }
+    ensures { WritesRow row 0 inactive (λ f. entry_of octets.now from (at peeling.now.order.items (length peeling.now.rows.items + f))) entries.old entries.new }
 {
     for f in 0..inactive {
         let column = peeling.order[peeling.rows.len() + f];
-        tails.set(row, f, Octet::new(octets.get(from, column).byte()));
+        entries.set(row, f, Octet::new(octets.get(from, column).byte()));
     }
 }
 
 // Sets the ones of a row of zeros that are in inactive columns.
-fn fill_bits(ones: &RowOnes, row: usize, peeling: &Peeling, tails: &mut DenseOctetMatrix)
+fn fill_bits(ones: &RowOnes, row: usize, peeling: &Peeling, entries: &mut DenseOctetMatrix)
     requires peeled { PeelsRows ones.now peeling.now }
     requires row { row < length ones.now }
-    requires height { length tails.old.rows ≡ length ones.now }
-    requires width { length peeling.now.places.items ≤ length peeling.now.rows.items + tails.old.width }
-    requires octets { HasOctets tails.old }
-    requires zeros { (f : ℕ) → f < length peeling.now.places.items - length peeling.now.rows.items → entry_of tails.old row f ≡ 0 }
-    ensures { WritesRow row 0 (length peeling.now.places.items - length peeling.now.rows.items) (λ f. one_in ones.now row (at peeling.now.order.items (length peeling.now.rows.items + f))) tails.old tails.new }
+    requires height { length entries.old.rows ≡ length ones.now }
+    requires width { length peeling.now.places.items ≤ length peeling.now.rows.items + entries.old.width }
+    requires octets { HasOctets entries.old }
+    requires zeros { (f : ℕ) → f < length peeling.now.places.items - length peeling.now.rows.items → entry_of entries.old row f ≡ 0 }
+    ensures { WritesRow row 0 (length peeling.now.places.items - length peeling.now.rows.items) (λ f. one_in ones.now row (at peeling.now.order.items (length peeling.now.rows.items + f))) entries.old entries.new }
 {
     let pivots = peeling.rows.len();
     for column in ones.row(row) {
         let place = peeling.places[*column];
         if place >= pivots {
-            tails.set(row, place - pivots, Octet::one());
+            entries.set(row, place - pivots, Octet::one());
         }
     }
 }

@@ -34,20 +34,20 @@ loop-payload-init c =
 
 pub copy_block_from-requires-clause-whole : goal.copy_block_from-requires-clause-whole
 copy_block_from-requires-clause-whole c =
-    fills_whole c.args.received.now _ c.args.size c.len.ensures.ordered c.requires.positive c.requires.sized (map deref c.loop-payload.yielded) c.loop-payload.payload-iterator c.next.new.self c.in-Some.payload.now c.as_slice.result.now c.loop-payload.place c.loop-payload.values
+    fills_whole c.args.received.now _ c.args.size c.len.ensures.ordered c.requires.positive c.requires.sized (map deref c.loop-payload.yielded) c.loop-payload.payload-iterator c.next.new.self c.in-Some.payload.now c.as_slice.result.now c.loop-payload.index c.loop-payload.values
     c.loop-payload.invariant c.in-Some.ensures.steps c.as_slice.ensures.value
 
 pub copy_block_from-requires-clause-fits : goal.copy_block_from-requires-clause-fits
 copy_block_from-requires-clause-fits c =
-    fills_room c.args.received.now _ c.args.size c.len.ensures.ordered c.requires.positive c.requires.sized (map deref c.loop-payload.yielded) c.loop-payload.payload-iterator c.next.new.self c.in-Some.payload.now c.as_slice.result.now c.loop-payload.place c.loop-payload.values
+    fills_room c.args.received.now _ c.args.size c.len.ensures.ordered c.requires.positive c.requires.sized (map deref c.loop-payload.yielded) c.loop-payload.payload-iterator c.next.new.self c.in-Some.payload.now c.as_slice.result.now c.loop-payload.index c.loop-payload.values
     c.loop-payload.invariant c.in-Some.ensures.steps c.as_slice.ensures.value
 
 pub loop-payload-preserved : goal.loop-payload-preserved
 loop-payload-preserved c =
     let zeros : ℕ = c.args.row.now.ldpc_symbols + c.args.row.now.hdpc_symbols + (c.args.row.now.extended_symbols - c.args.symbols) in
-    subst (λ d. FillsSoFar zeros c.args.size (values c.args.received.now) d c.next.new.self (c.loop-payload.place + 1) c.copy_block_from.new.self) (sym (map-append deref c.loop-payload.yielded (c.in-Some.payload ∷ [])))
-    (fills_more c.args.received.now zeros c.args.size c.len.ensures.ordered c.requires.positive c.requires.sized (map deref c.loop-payload.yielded) c.loop-payload.payload-iterator c.next.new.self c.in-Some.payload.now c.as_slice.result.now c.loop-payload.place c.loop-payload.values
+    subst (λ d. FillsSoFar zeros c.args.size (values c.args.received.now) d c.next.new.self (c.loop-payload.index + 1) c.copy_block_from.new.self) (sym (map-append deref c.loop-payload.yielded (c.in-Some.payload ∷ [])))
+    (fills_more c.args.received.now zeros c.args.size c.len.ensures.ordered c.requires.positive c.requires.sized (map deref c.loop-payload.yielded) c.loop-payload.payload-iterator c.next.new.self c.in-Some.payload.now c.as_slice.result.now c.loop-payload.index c.loop-payload.values
     c.loop-payload.invariant c.in-Some.ensures.steps c.as_slice.ensures.value c.copy_block_from.new.self c.copy_block_from.ensures)
 
 pub returns-clause-values : goal.returns-clause-values
-returns-clause-values c = fills_all c.args.row.now c.args.symbols c.args.size c.args.received.now (map deref c.loop-payload.yielded) c.loop-payload.payload-iterator c.loop-payload.place c.loop-payload.values c.loop-payload.invariant c.in-None.ensures.steps.0
+returns-clause-values c = fills_all c.args.row.now c.args.symbols c.args.size c.args.received.now (map deref c.loop-payload.yielded) c.loop-payload.payload-iterator c.loop-payload.index c.loop-payload.values c.loop-payload.invariant c.in-None.ensures.steps.0

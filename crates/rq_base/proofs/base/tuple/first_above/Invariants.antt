@@ -4,6 +4,6 @@ use Rattle.rq_base.proofs.base.tuple.first_above.Given as goal
 
 abbrev pub invariant-loop-start : goal.invariant-loop-start
 invariant-loop-start l = record {
-  rest : l.place + first_above l.v (drop l.start-index l.starts) ≡ first_above l.v l.starts;
-  count : l.place ≡ l.start-index;
+  rest : l.index + first_above l.v (drop l.start-index l.starts) ≡ first_above l.v l.starts;
+  count : l.index ≡ l.start-index;
 }

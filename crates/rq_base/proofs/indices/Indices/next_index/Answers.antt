@@ -8,15 +8,15 @@ returns-then-self-gt0 c =
     let s = c.self.inside in
     let later = map (λ value. s.lt_symbols + value) (walk_below s.pi_symbols s.p1 s.pi_step s.pi_value s.pi_left) in
     sym c.self.view_is
-    ∙ ap (λ (xs : List ℕ). xs ++ later) (walk-next s.lt_symbols s.lt_step s.lt_place s.lt_left c.if-self-gt0.true)
-    ∙ ap (λ (y : ℕ). s.lt_place ∷ (walk s.lt_symbols s.lt_step y (s.lt_left - 1) ++ later)) (sym c.sum_modulo-self-inside.ensures.value)
+    ∙ ap (λ (xs : List ℕ). xs ++ later) (walk-next s.lt_symbols s.lt_step s.lt_value s.lt_left c.if-self-gt0.true)
+    ∙ ap (λ (y : ℕ). s.lt_value ∷ (walk s.lt_symbols s.lt_step y (s.lt_left - 1) ++ later)) (sym c.sum_modulo-self-inside.ensures.value)
 
 pub returns-then-self-eq0 : goal.returns-then-self-eq0
 returns-then-self-eq0 c =
     let s = c.self.inside in
     let none : c.args.self.now ≡ [] =
     sym c.self.view_is
-    ∙ rw (walk-none s.lt_symbols s.lt_step s.lt_place s.lt_left (omega arith), walk_below-none s.pi_symbols s.p1 s.pi_step s.pi_value s.pi_left c.if-self-eq0.true) refl in
+    ∙ rw (walk-none s.lt_symbols s.lt_step s.lt_value s.lt_left (omega arith), walk_below-none s.pi_symbols s.p1 s.pi_step s.pi_value s.pi_left c.if-self-eq0.true) refl in
     (none, none)
 
 pub returns : goal.returns
@@ -24,4 +24,4 @@ returns c =
     let s = c.self.inside in
     let some : 0 < s.pi_left = omega (arith, c.if-self-eq0.false) in
     sym c.self.view_is
-    ∙ rw (walk-none s.lt_symbols s.lt_step s.lt_place s.lt_left (omega arith), walk_below-next s.pi_symbols s.p1 s.pi_step s.pi_value s.pi_left some, c.sum_modulo-self-inside-2.ensures.value, c.next_below-value.ensures.value) refl
+    ∙ rw (walk-none s.lt_symbols s.lt_step s.lt_value s.lt_left (omega arith), walk_below-next s.pi_symbols s.p1 s.pi_step s.pi_value s.pi_left some, c.sum_modulo-self-inside-2.ensures.value, c.next_below-value.ensures.value) refl

@@ -1,7 +1,7 @@
 -- What the check leaves to show of `pi_solver::IntermediateSymbolDecoder::execute`.
 use Rattle.std.proofs.Common.{List, None, length, map, sym, ap, ◌∙◌, subst}
 use Rattle.rq_algebra.specs.Operations.{AreAllowed, FindsColumn}
-use Rattle.rq_algebra.specs.Systems.{HasNullColumn}
+use Rattle.rq_algebra.specs.Systems.{HasHomogeneousColumn}
 use Rattle.rq_standard.specs.ConstraintMatrix.{with_octet_rows}
 use Rattle.rq_standard.specs.OctetField.{octets}
 use Rattle.rq_bytes.specs.declared.operation_vector.SymbolOps.{SymbolOps}
@@ -18,13 +18,13 @@ peel-requires-clause-columns g c =
     let m = g.T.BinaryMatrix.content c.args.self.now.matrix in
     rw c.width-width.ensures.width (columns_below m.height m.width m.bit c.in_ok-ones.ones c.in_ok-ones.ensures.ones)
 
-pub operations_of_peeled-requires-clause-bits : goal.operations_of_peeled-requires-clause-bits
-operations_of_peeled-requires-clause-bits g c =
+pub find_operations-requires-clause-bits : goal.find_operations-requires-clause-bits
+find_operations-requires-clause-bits g c =
     let m = g.T.BinaryMatrix.content c.args.self.now.matrix in
     rw c.width-width.ensures.width (rows_of_bits m.height m.width m.bit c.in_ok-ones.ones c.in_ok-ones.ensures.ones (g.met.T.BinaryMatrix.is_table c.args.self.now.matrix).bits)
 
-pub operations_of_peeled-requires-clause-hdpc : goal.operations_of_peeled-requires-clause-hdpc
-operations_of_peeled-requires-clause-hdpc g c =
+pub find_operations-requires-clause-hdpc : goal.find_operations-requires-clause-hdpc
+find_operations-requires-clause-hdpc g c =
     let solver = c.args.self.now in
     let m = g.T.BinaryMatrix.content solver.matrix in
     rw c.width-width.ensures.width (octet_rows m.height m.width m.bit c.in_ok-ones.ones c.in_ok-ones.ensures.ones solver.first_hdpc solver.hdpc solver.octet_columns solver.within solver.empty)
@@ -47,7 +47,7 @@ returns-in_default-operations-clause-solved g c =
     let m = g.T.BinaryMatrix.content solver.matrix in
     let width = c.width-width.ensures.width in
     if_some solver.symbols c.in-Some.symbols _ (sym c.in-Some.ensures.value)
-    (found_of_bits m.height m.width m.bit c.in_ok-ones.ones c.in_ok-ones.ensures.ones (λ height columns bit. HasNullColumn octets height columns (with_octet_rows solver.first_hdpc (length solver.hdpc.rows) bit (entry_of solver.hdpc))) c.width-width.result width (rw c.in_default-operations.is at c.in_ok-operations.ensures.found))
+    (found_of_bits m.height m.width m.bit c.in_ok-ones.ones c.in_ok-ones.ensures.ones (λ height columns bit. HasHomogeneousColumn octets height columns (with_octet_rows solver.first_hdpc (length solver.hdpc.rows) bit (entry_of solver.hdpc))) c.width-width.result width (rw c.in_default-operations.is at c.in_ok-operations.ensures.found))
 
 pub returns-clause-solved : goal.returns-clause-solved
 returns-clause-solved g c =

@@ -23,7 +23,7 @@ returns-clause-cleared c =
     let wide : length rows + inactive ≡ length places = omega (arith, all, many, c.requires.peeled.peeled.few) in
     peeled_pivots c.args.ones.now c.args.first_hdpc c.args.hdpc.now (length places) c.requires.peeled.bits c.requires.hdpc rows order places c.requires.peeled.peeled c.args.listed.now c.requires.listed
     c.new-recorded.result c.clear_rows.new.recorded c.clear_octets.new.recorded c.in_ok-clear_rows.ensures.cleared c.in_ok-clear_octets.ensures.cleared
-    inactive wide (ap (λ (s : Recorded). s.operations) c.new-recorded.ensures) (rw c.new-recorded.ensures c.in_ok-table.ensures.tails)
+    inactive wide (ap (λ (s : Recorded). s.operations) c.new-recorded.ensures) (rw c.new-recorded.ensures c.in_ok-table.ensures.entries)
 
 pub returns-clause-few : goal.returns-clause-few
 returns-clause-few c =

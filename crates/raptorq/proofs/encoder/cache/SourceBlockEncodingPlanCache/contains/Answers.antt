@@ -3,4 +3,4 @@ use Rattle.raptorq.proofs.CacheLaws.{held_by}
 use Rattle.raptorq.proofs.encoder.cache.SourceBlockEncodingPlanCache.contains.Goals as goal
 
 pub returns : goal.returns
-returns c = c.is_some.ensures ∙ held_by c.args.self.now.counts c.args.count c.place_of.result c.place_of.ensures
+returns c = c.is_some.ensures ∙ held_by c.args.self.now.counts c.args.count c.index_of.result c.index_of.ensures

@@ -5,20 +5,20 @@ use Rattle.raptorq.specs.SourceBlockEncodingPlanCache.{PlanCache}
 use Rattle.raptorq.proofs.CacheLaws.{held_by, plan_found}
 use Rattle.raptorq.proofs.encoder.cache.SourceBlockEncodingPlanCache.get.Goals as goal
 
-pub returns-in_err-place-clause-held : goal.returns-in_err-place-clause-held
-returns-in_err-place-clause-held c = ap is_some c.from_residual.ensures ∙ sym (ap is_some c.in_err-place.was) ∙ held_by c.args.self.now.counts c.args.count c.place_of.result c.place_of.ensures
+pub returns-in_err-index-clause-held : goal.returns-in_err-index-clause-held
+returns-in_err-index-clause-held c = ap is_some c.from_residual.ensures ∙ sym (ap is_some c.in_err-index.was) ∙ held_by c.args.self.now.counts c.args.count c.index_of.result c.index_of.ensures
 
 pub returns-clause-held : goal.returns-clause-held
-returns-clause-held c = sym (ap is_some c.in_ok-place.was) ∙ held_by c.args.self.now.counts c.args.count c.place_of.result c.place_of.ensures
+returns-clause-held c = sym (ap is_some c.in_ok-index.was) ∙ held_by c.args.self.now.counts c.args.count c.index_of.result c.index_of.ensures
 
 pub returns-clause-count : goal.returns-clause-count
 returns-clause-count c =
     let shown = ap (λ (s : PlanCache). s.counts) c.self.view_is in
-    let found = plan_found c.self.inside.table c.self.inside.plans.items c.args.self.now.counts c.args.count c.in_ok-place.place c.index.result.now shown c.self.invariant.0 (sym c.place_of.ensures ∙ c.in_ok-place.was) c.index.ensures in
+    let found = plan_found c.self.inside.table c.self.inside.plans.items c.args.self.now.counts c.args.count c.in_ok-index.index c.index.result.now shown c.self.invariant.0 (sym c.index_of.ensures ∙ c.in_ok-index.was) c.index.ensures in
     found.0
 
 pub returns-clause-row : goal.returns-clause-row
 returns-clause-row c =
     let shown = ap (λ (s : PlanCache). s.counts) c.self.view_is in
-    let found = plan_found c.self.inside.table c.self.inside.plans.items c.args.self.now.counts c.args.count c.in_ok-place.place c.index.result.now shown c.self.invariant.0 (sym c.place_of.ensures ∙ c.in_ok-place.was) c.index.ensures in
+    let found = plan_found c.self.inside.table c.self.inside.plans.items c.args.self.now.counts c.args.count c.in_ok-index.index c.index.result.now shown c.self.invariant.0 (sym c.index_of.ensures ∙ c.in_ok-index.was) c.index.ensures in
     found.1 ∙ ap (λ (s : PlanCache). row_of s.table c.args.count) c.self.view_is

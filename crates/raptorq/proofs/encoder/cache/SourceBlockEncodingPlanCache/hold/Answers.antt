@@ -10,31 +10,31 @@ use Rattle.raptorq.proofs.encoder.cache.SourceBlockEncodingPlanCache.hold.Goals 
 pub returns-in-Some-clause-used : goal.returns-in-Some-clause-used
 returns-in-Some-clause-used c =
     let cache = c.args.self.now in
-    let held : holds_count cache.counts c.args.count ≡ true = sym (held_by cache.counts c.args.count c.place_of.result c.place_of.ensures) ∙ ap is_some c.in-Some.is in
+    let held : holds_count cache.counts c.args.count ≡ true = sym (held_by cache.counts c.args.count c.index_of.result c.index_of.ensures) ∙ ap is_some c.in-Some.is in
     ap (λ (xs : List ℕ). let s : PlanCache = record { table = cache.table; counts = xs } in s) (sym (cached-held cache.counts c.args.count held))
 
-pub returns-in-Some-clause-place : goal.returns-in-Some-clause-place
-returns-in-Some-clause-place c = place_found c.args.self.now.counts c.args.count c.in-Some.place (sym c.place_of.ensures ∙ c.in-Some.is)
+pub returns-in-Some-clause-index : goal.returns-in-Some-clause-index
+returns-in-Some-clause-index c = place_found c.args.self.now.counts c.args.count c.in-Some.index (sym c.index_of.ensures ∙ c.in-Some.is)
 
 pub put-requires-clause-new : goal.put-requires-clause-new
 put-requires-clause-new c =
     let cache = c.args.self.now in
-    let new : holds_count cache.counts c.args.count ≡ false = sym (held_by cache.counts c.args.count c.place_of.result c.place_of.ensures) ∙ ap is_some c.in_default.is in
+    let new : holds_count cache.counts c.args.count ≡ false = sym (held_by cache.counts c.args.count c.index_of.result c.index_of.ensures) ∙ ap is_some c.in_default.is in
     ap (holds_count cache.counts) c.in_ok-plan.ensures.count ∙ new
 
 pub overflow_sub-result : goal.overflow_sub-result
 overflow_sub-result c =
     let cache = c.args.self.now in
-    let new : holds_count cache.counts c.args.count ≡ false = sym (held_by cache.counts c.args.count c.place_of.result c.place_of.ensures) ∙ ap is_some c.in_default.is in
+    let new : holds_count cache.counts c.args.count ≡ false = sym (held_by cache.counts c.args.count c.index_of.result c.index_of.ensures) ∙ ap is_some c.in_default.is in
     let used : c.put.new.self.counts ≡ cached cache.counts c.args.count = ap (λ (s : PlanCache). s.counts) c.put.ensures ∙ ap (cached cache.counts) c.in_ok-plan.ensures.count in
     let items = c.self-2.inside.plans.items in
     let long : c.len.result ≡ length (cached cache.counts c.args.count) = c.len.ensures ∙ c.self-2.inside.plans.ok.0 ∙ sym (length-map items (λ p. p.source_symbol_count)) ∙ ap (λ (s : PlanCache). length s.counts) c.self-2.view_is ∙ ap length used in
     (new_last cache.counts c.args.count c.len.result new long).0
 
-pub returns-clause-place : goal.returns-clause-place
-returns-clause-place c =
+pub returns-clause-index : goal.returns-clause-index
+returns-clause-index c =
     let cache = c.args.self.now in
-    let new : holds_count cache.counts c.args.count ≡ false = sym (held_by cache.counts c.args.count c.place_of.result c.place_of.ensures) ∙ ap is_some c.in_default.is in
+    let new : holds_count cache.counts c.args.count ≡ false = sym (held_by cache.counts c.args.count c.index_of.result c.index_of.ensures) ∙ ap is_some c.in_default.is in
     let used : c.put.new.self.counts ≡ cached cache.counts c.args.count = ap (λ (s : PlanCache). s.counts) c.put.ensures ∙ ap (cached cache.counts) c.in_ok-plan.ensures.count in
     let items = c.self-2.inside.plans.items in
     let long : c.len.result ≡ length (cached cache.counts c.args.count) = c.len.ensures ∙ c.self-2.inside.plans.ok.0 ∙ sym (length-map items (λ p. p.source_symbol_count)) ∙ ap (λ (s : PlanCache). length s.counts) c.self-2.view_is ∙ ap length used in
@@ -43,6 +43,6 @@ returns-clause-place c =
 pub returns-in_err-plan-clause-refused : goal.returns-in_err-plan-clause-refused
 returns-in_err-plan-clause-refused c =
     let cache = c.args.self.now in
-    let new : holds_count cache.counts c.args.count ≡ false = sym (held_by cache.counts c.args.count c.place_of.result c.place_of.ensures) ∙ ap is_some c.in_default.is in
+    let new : holds_count cache.counts c.args.count ≡ false = sym (held_by cache.counts c.args.count c.index_of.result c.index_of.ensures) ∙ ap is_some c.in_default.is in
     let p = err_from_is_err_and c.from_residual.result c.from_residual.ensures.1 in
     rw (p.1, p.2) (new, subst (λ (s : PlanCache). RefusesPlan s.table c.args.count c.in_err-plan.field-0.0) c.self.view_is c.in_err-plan.ensures.refused)

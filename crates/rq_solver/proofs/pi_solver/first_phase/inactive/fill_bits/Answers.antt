@@ -14,7 +14,7 @@ loop-column-init c =
     let width = length c.args.peeling.now.places.items in
     let pivots = length c.args.peeling.now.rows.items in
     let wide : pivots + (width - pivots) ≡ width = omega (arith, peeled.few) in
-    ones_none width pivots c.args.peeling.now.order.items c.args.peeling.now.places.items peeled.columns c.row-column-items.result.now c.args.row c.args.tails.now (width - pivots) wide c.requires.octets c.requires.zeros
+    ones_none width pivots c.args.peeling.now.order.items c.args.peeling.now.places.items peeled.columns c.row-column-items.result.now c.args.row c.args.entries.now (width - pivots) wide c.requires.octets c.requires.zeros
 
 pub loop-column-preserved : goal.loop-column-preserved
 loop-column-preserved c =
@@ -26,8 +26,8 @@ loop-column-preserved c =
     let columns = c.row-column-items.result.now in
     let t = c.loop-column.column-index in
     let place = c.index-place.result.now in
-    let old = c.args.tails.now in
-    let table = c.loop-column.tails in
+    let old = c.args.entries.now in
+    let table = c.loop-column.entries in
     let v = c.loop-column.invariant in
     let peeled = c.requires.peeled.peeled in
     let inactive : ℕ = width - pivots in
@@ -43,6 +43,6 @@ loop-column-preserved c =
           let late : pivots ≤ place = omega (arith, many, w.if-place-pivots.true) in
           let inside : place - c.len-pivots.result < table.width = omega (arith, v.width, c.requires.width, (peeled.columns.placed (at columns t) in_width).0, is, many, late) in
           let sets = sets_entry table v.octets row (place - c.len-pivots.result) w.one.result (omega (arith, v.height, c.requires.height, c.requires.row)) inside (rw w.one.ensures (lit< tt)) w.set.new.self w.set.ensures in
-          rw w.tails-is (ones_more width pivots order places peeled.columns columns row old inactive wide t in_columns in_width table v once place is late w.set.new.self (rw (many, w.one.ensures) at sets))
-      | else-place-pivots w ↦ rw w.tails-is (ones_skipped width pivots order places peeled.columns columns row old inactive wide t in_columns in_width table v (omega (arith, is, many, w.if-place-pivots.false)))
+          rw w.entries-is (ones_more width pivots order places peeled.columns columns row old inactive wide t in_columns in_width table v once place is late w.set.new.self (rw (many, w.one.ensures) at sets))
+      | else-place-pivots w ↦ rw w.entries-is (ones_skipped width pivots order places peeled.columns columns row old inactive wide t in_columns in_width table v (omega (arith, is, many, w.if-place-pivots.false)))
     ]

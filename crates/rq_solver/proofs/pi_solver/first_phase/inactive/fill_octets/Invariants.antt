@@ -6,4 +6,4 @@ use Rattle.rq_solver.specs.RowWrites.{WritesRow}
 use Rattle.rq_solver.proofs.pi_solver.first_phase.inactive.fill_octets.Given as goal
 
 abbrev pub invariant-loop-f : goal.invariant-loop-f
-invariant-loop-f l = WritesRow l.row 0 l.f (λ f. entry_of l.octets l.from (at l.peeling.order.items (length l.peeling.rows.items + f))) l.fn.tails l.tails
+invariant-loop-f l = WritesRow l.row 0 l.f (λ f. entry_of l.octets l.from (at l.peeling.order.items (length l.peeling.rows.items + f))) l.fn.entries l.entries

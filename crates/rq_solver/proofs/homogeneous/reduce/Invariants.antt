@@ -1,7 +1,7 @@
--- What the loops keep in `null_column::reduce`.
+-- What the loops keep in `homogeneous::reduce`.
 use Rattle.rq_solver.specs.Homogeneous.{KeepsZeros}
 use Rattle.rq_solver.specs.RowSteps.{AreRows, IsReduced}
-use Rattle.rq_solver.proofs.null_column.reduce.Given as goal
+use Rattle.rq_solver.proofs.homogeneous.reduce.Given as goal
 
 abbrev pub invariant-loop-column : goal.invariant-loop-column
 invariant-loop-column l = record {

@@ -1,12 +1,12 @@
--- What the check leaves to show of `null_column::clear_column`.
+-- What the check leaves to show of `homogeneous::clear_column`.
 use Rattle.std.proofs.Common.{length, arith}
 use Rattle.rq_algebra.specs.Systems.{at}
 use Rattle.rq_algebra.proofs.Reduction.{clears_none, clears_pivot, clears_more}
 use Rattle.rq_standard.specs.OctetField.{octets}
 use Rattle.rq_parts.specs.DenseOctetMatrix.{entry_of}
 use Rattle.rq_solver.proofs.ZeroValues.{keeps_none, keeps_more}
-use Rattle.rq_solver.proofs.null_column.clear_column.Goals as goal
-use Rattle.rq_solver.proofs.null_column.clear_column.Goals.{then-i-column, else-i-column}
+use Rattle.rq_solver.proofs.homogeneous.clear_column.Goals as goal
+use Rattle.rq_solver.proofs.homogeneous.clear_column.Goals.{then-i-column, else-i-column}
 
 pub loop-i-init : goal.loop-i-init
 loop-i-init c = record {

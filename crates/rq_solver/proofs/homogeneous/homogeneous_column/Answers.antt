@@ -1,4 +1,4 @@
--- What the check leaves to show of `null_column::homogeneous_column`.
+-- What the check leaves to show of `homogeneous::homogeneous_column`.
 use Rattle.std.proofs.Common.{◌≡◌, ◌<◌, length, take, ap, ◌∙◌}
 use Rattle.std.specs.List.{range_with_len}
 use Rattle.std.proofs.lemmas.List.{with_items_is, length-take-le}
@@ -8,7 +8,7 @@ use Rattle.rq_parts.specs.DenseOctetMatrix.{entry_of}
 use Rattle.rq_standard.specs.ConstraintMatrix.{with_octet_rows}
 use Rattle.rq_solver.proofs.FreeColumns.{determined_rows, homogeneous_rows}
 use Rattle.rq_solver.proofs.Outcomes.{all_rows}
-use Rattle.rq_solver.proofs.null_column.homogeneous_column.Goals as goal
+use Rattle.rq_solver.proofs.homogeneous.homogeneous_column.Goals as goal
 
 pub reduce-requires-clause-rows : goal.reduce-requires-clause-rows
 reduce-requires-clause-rows g c = rw (c.as_mut_slice.ensures.value, c.in_ok-rows.ensures, c.height.ensures) (all_rows c.in_ok-matrix.matrix)
@@ -22,8 +22,8 @@ returns-in_default-clause-shown g c =
     let reduced = rw (c.in_default.is, c.width.ensures.width) at c.reduce.ensures.pivots in
     determined_rows content.height content.width wanted start c.reduce.new.matrix c.in_ok-matrix.ensures.rows c.reduce.new.rows c.reduce.ensures.keeps c.reduce.ensures.rows all reduced
 
-pub free_column-requires-clause-rows : goal.free_column-requires-clause-rows
-free_column-requires-clause-rows g c =
+pub column_of_pivots-requires-clause-rows : goal.column_of_pivots-requires-clause-rows
+column_of_pivots-requires-clause-rows g c =
     let same : c.deref.result.now ≡ c.reduce.new.rows = c.deref.ensures.value ∙ with_items_is c.in_ok-rows.rows c.reduce.new.rows (c.reduce.auto.rows ∙ c.as_mut_slice.ensures.len) in
     rw same (All-take (λ r. r < length c.reduce.new.matrix.rows) c.in-Some.free c.reduce.new.rows (All-from_get_or (λ r. r < length c.reduce.new.matrix.rows) c.reduce.new.rows 0 c.reduce.ensures.rows.below))
 

@@ -1,11 +1,11 @@
--- What the check leaves to show of `null_column::scale_row`.
+-- What the check leaves to show of `homogeneous::scale_row`.
 use Rattle.std.proofs.Common.{◌≡◌, ℕ, ◌<◌, subst, length}
 use Rattle.rq_algebra.specs.Steps.{ScalesRow}
 use Rattle.rq_standard.specs.OctetField.{octets}
 use Rattle.rq_parts.specs.DenseOctetMatrix.{entry_of}
 use Rattle.rq_solver.proofs.Entries.{one-div, inverse_nonzero}
 use Rattle.rq_solver.proofs.ZeroValues.{scales_row, scaled_keeps}
-use Rattle.rq_solver.proofs.null_column.scale_row.Goals as goal
+use Rattle.rq_solver.proofs.homogeneous.scale_row.Goals as goal
 
 module _ (c : goal.After-mul_assign_row) where
   entry : ℕ

@@ -1,8 +1,8 @@
--- What the check leaves to show of `null_column::reduce`.
+-- What the check leaves to show of `homogeneous::reduce`.
 use Rattle.std.proofs.Common.{◌<◌, ◌+◌, length, zero-add, arith}
 use Rattle.rq_solver.proofs.Turns.{swapped_rows, swapped_reduced, reduced_more}
 use Rattle.rq_solver.proofs.ZeroValues.{keeps_more}
-use Rattle.rq_solver.proofs.null_column.reduce.Goals as goal
+use Rattle.rq_solver.proofs.homogeneous.reduce.Goals as goal
 
 pub loop-column-preserved : goal.loop-column-preserved
 loop-column-preserved c =

@@ -1,11 +1,11 @@
--- What the loops keep in `null_column::clear_column`.
+-- What the loops keep in `homogeneous::clear_column`.
 use Rattle.std.proofs.Common.{length}
 use Rattle.rq_algebra.specs.Systems.{at}
 use Rattle.rq_algebra.proofs.Elimination.{ClearsColumn}
 use Rattle.rq_standard.specs.OctetField.{octets}
 use Rattle.rq_parts.specs.DenseOctetMatrix.{entry_of}
 use Rattle.rq_solver.specs.Homogeneous.{KeepsZeros}
-use Rattle.rq_solver.proofs.null_column.clear_column.Given as goal
+use Rattle.rq_solver.proofs.homogeneous.clear_column.Given as goal
 
 abbrev pub invariant-loop-i : goal.invariant-loop-i
 invariant-loop-i l = record {

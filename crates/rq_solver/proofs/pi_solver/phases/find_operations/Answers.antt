@@ -1,4 +1,4 @@
--- What the check leaves to show of `pi_solver::phases::operations_of_peeled`.
+-- What the check leaves to show of `pi_solver::phases::find_operations`.
 use Rattle.std.proofs.Common.{◌≡◌, ℕ, ◌+◌, ◌-◌, ◌*◌, ◌/◌, ◌≤◌, List, [], ◌∷◌, ◌++◌, length, map, drop, sym, ap, ◌∙◌, subst, arith}
 use Rattle.std.proofs.Math.Nat.{mul-le-mul_left}
 use Rattle.rq_algebra.specs.Systems.{at}
@@ -7,14 +7,14 @@ use Rattle.rq_solver.specs.OctetBatch.{batch_bound}
 use Rattle.rq_solver.proofs.CountLaws.{additions-order, few_in_all, few_places, few_together}
 use Rattle.rq_solver.proofs.PivotsCleared.{pivot_of_bits}
 use Rattle.rq_algebra.specs.Operations.{Operation, Reorder, FindsColumn}
-use Rattle.rq_algebra.specs.Systems.{HasNullColumn}
+use Rattle.rq_algebra.specs.Systems.{HasHomogeneousColumn}
 use Rattle.rq_standard.specs.OctetField.{octets}
 use Rattle.rq_bytes.specs.SymbolOps.{operation_of}
 use Rattle.rq_parts.specs.DenseOctetMatrix.{entry_of}
 use Rattle.rq_solver.specs.Cleared.{HasPeeledPivots, one_in, system_rows}
 use Rattle.rq_solver.proofs.OctetRows.{same_rows}
 use Rattle.rq_solver.proofs.SolutionLaws.{finds_same, null_same}
-use Rattle.rq_solver.proofs.pi_solver.phases.operations_of_peeled.Goals as goal
+use Rattle.rq_solver.proofs.pi_solver.phases.find_operations.Goals as goal
 
 pub returns-in_default-clause-found : goal.returns-in_default-clause-found
 returns-in_default-clause-found c = λ bit are.
@@ -30,7 +30,7 @@ returns-in_default-clause-found c = λ bit are.
     let peeled : HasPeeledPivots height (length places) system rows order (drop (length rows) c.as_mut_slice-rows.result.now) c.in_ok-recorded.recorded =
     subst (λ (l : List ℕ). HasPeeledPivots height (length places) system rows order (drop (length rows) l) c.in_ok-recorded.recorded) listed cleared in
     let found = rw (cleared.height_is, c.in_default.is) at c.in_ok-found.ensures.found in
-    let null : HasNullColumn octets height c.args.width system = rw c.requires.peeled.columns.place_count at (found system peeled) in
+    let null : HasHomogeneousColumn octets height c.args.width system = rw c.requires.peeled.columns.place_count at (found system peeled) in
     null_same octets height c.args.width system _ (same_rows c.args.first_hdpc (length hdpc.rows) (entry_of hdpc) height c.args.width (one_in lists) bit (λ i k l m. (are.each i l).once k (omega arith) m)) null
 
 pub returns-clause-found : goal.returns-clause-found

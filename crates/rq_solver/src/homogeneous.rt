@@ -9,7 +9,7 @@ ghost use Rattle.rq_solver.specs.Homogeneous.{ShowsHomogeneousRows, KeepsZeros, 
 ghost use Rattle.rq_solver.specs.RowSteps.{AreRows, IsReduced};
 ghost use Rattle.rq_standard.specs.OctetField.{octets};
 
-use crate::pi_solver::elimination::{find_pivot, numbers_below};
+use crate::pi_solver::elimination::{find_pivot, identity_order};
 use crate::pi_solver::rows::octet_rows;
 use rq_bytes::error::Error;
 use rq_bytes::octet::Octet;
@@ -35,11 +35,11 @@ pub fn homogeneous_column<T: BinaryMatrix>(
     ensures memory { IfErr result (λ e. e ≡ OutOfMemory) }
 {
     let mut matrix = octet_rows(alloc, bits, boundary, hdpc, first_hdpc)?;
-    let mut rows = numbers_below(alloc, matrix.height())?;
+    let mut rows = identity_order(alloc, matrix.height())?;
     let Some(free) = reduce(&mut matrix, rows.as_mut_slice(), bits.width()) else {
         return Ok(None);
     };
-    let column = free_column(alloc, &matrix, &rows[..free], bits.width())?;
+    let column = column_of_pivots(alloc, &matrix, &rows[..free], bits.width())?;
     Ok(Some(column))
 }
 
@@ -113,7 +113,7 @@ fn clear_entry(matrix: &mut DenseOctetMatrix, dest: usize, src: usize, column: u
 
 // The column with 1 in the first place without a pivot: before it stands what the pivots' rows
 // have there, and behind it are zeros.
-fn free_column(
+fn column_of_pivots(
     alloc: Global,
     matrix: &DenseOctetMatrix,
     pivots: &[usize],

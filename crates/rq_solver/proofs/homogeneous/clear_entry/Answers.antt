@@ -1,11 +1,11 @@
--- What the check leaves to show of `null_column::clear_entry`.
+-- What the check leaves to show of `homogeneous::clear_entry`.
 use Rattle.std.proofs.Common.{◌<◌, sym, ◌∙◌, subst, ℕ, length}
 use Rattle.rq_algebra.specs.Steps.{AddsRow}
 use Rattle.rq_standard.specs.OctetField.{octets}
 use Rattle.rq_parts.specs.DenseOctetMatrix.{entry_of}
 use Rattle.rq_solver.proofs.Entries.{zero_adds}
 use Rattle.rq_solver.proofs.ZeroValues.{adds_row, added_keeps}
-use Rattle.rq_solver.proofs.null_column.clear_entry.Goals as goal
+use Rattle.rq_solver.proofs.homogeneous.clear_entry.Goals as goal
 
 pub returns-then-byte-ne0-clause-keeps : goal.returns-then-byte-ne0-clause-keeps
 returns-then-byte-ne0-clause-keeps c =
