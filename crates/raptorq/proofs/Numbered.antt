@@ -30,3 +30,11 @@ module _ {X : Type 0} (number : X → ℕ) (n : ℕ) (xs : List X) (numbered : m
 
   pub number_at : (i : ℕ) (x : X) → i < n → x ≡ get_or xs i x → number x ≡ i
   number_at = mapped_at number (λ i. i) n xs (numbered ∙ sym (map-id (range_with_len 0 n)))
+
+-- the element that a loop over a list, as it was handed out, is at
+pub record IsTurn {X : Type 0} (xs : List X) (i : ℕ) (x : X) : Type 0 where
+  pub below : i < length xs
+  pub is : x ≡ get_or xs i x
+
+pub turn_of : {X : Type 0} (xs lent : List X) (i : ℕ) (x : X) → lent ≡ xs → i < length lent → x ≡ get_or lent i x → IsTurn xs i x
+turn_of xs lent i x same below is = record { below = omega (arith, ap length same, below); is = is ∙ ap (λ l. get_or l i x) same }

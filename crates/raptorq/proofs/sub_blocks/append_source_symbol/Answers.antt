@@ -1,4 +1,4 @@
-use Rattle.std.proofs.Common.{◌≡◌, ◌+◌, ◌*◌, ◌<◌, ◌++◌, append-nil, append_assoc, length, map, get_or, refl, sym, ap, ◌∙◌, arith}
+use Rattle.std.proofs.Common.{◌≡◌, ◌+◌, ◌*◌, ◌<◌, ◌≤◌, ◌++◌, append-nil, append_assoc, length, map, get_or, refl, sym, ap, ◌∙◌, arith}
 use Rattle.std.proofs.lemmas.List.{length-append}
 use Rattle.std.specs.List.{range_with_len}
 use Rattle.std.specs.Vec.{vec_len}
@@ -6,35 +6,32 @@ use Rattle.std.proofs.lemmas.List.FromFn.{length-map-range_with_len}
 use Rattle.rq_standard.specs.Cutting.{place_in_block, symbol_of_block}
 use Rattle.raptorq.proofs.Interleaving.{reaches_none, reaches_more, symbol_more, place_fits, width_within}
 use Rattle.raptorq.proofs.sub_blocks.append_source_symbol.Goals as goal
+use Rattle.raptorq.proofs.sub_blocks.append_source_symbol.Goals.{After-size_at-width}
+
+module _ (c : After-size_at-width) where
+  -- the sub-block has bytes, and ends within the symbol
+  within : (0 < c.size_at-width.result) × (c.loop-start.start + c.size_at-width.result ≤ c.from-size.result)
+  within = width_within c.args.config.now c.loop-start.start c.size_at-width.result c.from-size.result c.requires.aligned c.loop-start.invariant.at c.loop-start-test.true (c.from-size.ensures ∙ c.symbol_size.ensures) c.size_at-width.ensures
+
+  fits : c.loop-start.start * c.args.symbols + c.size_at-width.result * c.args.e + c.size_at-width.result < 18446744073709551616
+  fits = place_fits c.loop-start.start c.size_at-width.result c.args.symbols c.args.e c.from-size.result within.1 (omega (arith, c.from-size.ensures, c.symbol_size.type_inv)) c.ranges.symbols.fits c.ranges.e.fits
 
 pub loop-start-init : goal.loop-start-init
 loop-start-init c = record { at = reaches_none c.args.config.now c.requires.aligned; so_far = sym (append-nil c.args.bytes.now.items) }
 
 pub overflow_mul-place-in-loop-start : goal.overflow_mul-place-in-loop-start
-overflow_mul-place-in-loop-start c =
-    let k = c.args.config.now in
-    let w = width_within k c.loop-start.start c.size_at-width.result c.from-size.result c.requires.aligned c.loop-start.invariant.at c.loop-start-test.true (c.from-size.ensures ∙ c.symbol_size.ensures) c.size_at-width.ensures in
-    let fits = place_fits c.loop-start.start c.size_at-width.result c.args.symbols c.args.e c.from-size.result w.1 (omega (arith, c.from-size.ensures, c.symbol_size.type_inv)) c.ranges.symbols.fits c.ranges.e.fits in
-    omega (arith, fits)
+overflow_mul-place-in-loop-start c = omega (arith, fits (goal.at.overflow_mul-place-in-loop-start c).After-size_at-width)
 
 pub overflow_add-place : goal.overflow_add-place
-overflow_add-place c =
-    let k = c.args.config.now in
-    let w = width_within k c.loop-start.start c.size_at-width.result c.from-size.result c.requires.aligned c.loop-start.invariant.at c.loop-start-test.true (c.from-size.ensures ∙ c.symbol_size.ensures) c.size_at-width.ensures in
-    let fits = place_fits c.loop-start.start c.size_at-width.result c.args.symbols c.args.e c.from-size.result w.1 (omega (arith, c.from-size.ensures, c.symbol_size.type_inv)) c.ranges.symbols.fits c.ranges.e.fits in
-    omega (arith, fits)
+overflow_add-place c = omega (arith, fits (goal.at.overflow_add-place c).After-size_at-width)
 
 pub append_padded-requires-clause-place : goal.append_padded-requires-clause-place
-append_padded-requires-clause-place c =
-    let k = c.args.config.now in
-    let w = width_within k c.loop-start.start c.size_at-width.result c.from-size.result c.requires.aligned c.loop-start.invariant.at c.loop-start-test.true (c.from-size.ensures ∙ c.symbol_size.ensures) c.size_at-width.ensures in
-    let fits = place_fits c.loop-start.start c.size_at-width.result c.args.symbols c.args.e c.from-size.result w.1 (omega (arith, c.from-size.ensures, c.symbol_size.type_inv)) c.ranges.symbols.fits c.ranges.e.fits in
-    omega (arith, fits)
+append_padded-requires-clause-place c = omega (arith, fits (goal.at.append_padded-requires-clause-place c).After-size_at-width)
 
 pub append_padded-requires-clause-room : goal.append_padded-requires-clause-room
 append_padded-requires-clause-room c =
     let k = c.args.config.now in
-    let w = width_within k c.loop-start.start c.size_at-width.result c.from-size.result c.requires.aligned c.loop-start.invariant.at c.loop-start-test.true (c.from-size.ensures ∙ c.symbol_size.ensures) c.size_at-width.ensures in
+    let w = within (goal.at.append_padded-requires-clause-room c).After-size_at-width in
     let old = c.args.bytes.now in
     let part = map (λ t. get_or c.args.block.now (place_in_block k c.args.symbols c.args.e t) 0) (range_with_len 0 c.loop-start.start) in
     let long : vec_len c.loop-start.bytes ≡ vec_len old + c.loop-start.start =
@@ -43,14 +40,12 @@ append_padded-requires-clause-room c =
 
 pub overflow_add-start : goal.overflow_add-start
 overflow_add-start c =
-    let k = c.args.config.now in
-    let w = width_within k c.loop-start.start c.size_at-width.result c.from-size.result c.requires.aligned c.loop-start.invariant.at c.loop-start-test.true (c.from-size.ensures ∙ c.symbol_size.ensures) c.size_at-width.ensures in
+    let w = within (goal.at.overflow_add-start c).After-size_at-width in
     omega (arith, w.1)
 
 pub loop-start-smaller : goal.loop-start-smaller
 loop-start-smaller c =
-    let k = c.args.config.now in
-    let w = width_within k c.loop-start.start c.size_at-width.result c.from-size.result c.requires.aligned c.loop-start.invariant.at c.loop-start-test.true (c.from-size.ensures ∙ c.symbol_size.ensures) c.size_at-width.ensures in
+    let w = within (goal.at.loop-start-smaller c).After-size_at-width in
     omega (arith, w.0, w.1)
 
 pub loop-start-preserved : goal.loop-start-preserved

@@ -7,40 +7,41 @@ use Rattle.rq_standard.proofs.BlockCuts.{first_is_largest}
 use Rattle.raptorq.specs.SourceBlockEncoder.{block_encoded_of}
 use Rattle.raptorq.specs.Encoder.{encoded_of}
 use Rattle.raptorq.proofs.EncodedBlocks.{number_of, count_of, encoded_more, encoded_all, block_at}
-use Rattle.raptorq.proofs.Numbered.{length-numbered, mapped_at, number_at}
+use Rattle.raptorq.proofs.Numbered.{IsTurn, turn_of, length-numbered, mapped_at, number_at}
 use Rattle.raptorq.proofs.encoder.Encoder.get_encoded_packets.Goals as goal
+use Rattle.raptorq.proofs.encoder.Encoder.get_encoded_packets.Goals.{After-symbols}
 
 abbrev ok_of : Unit {0} → Result (Unit {0}) AllocError
 ok_of u = Ok u
 
+-- the block of this turn is its encoder's, and has the symbols of its number
+module _ (c : After-symbols) where
+  turn : IsTurn c.args.self.now.blocks.items c.loop-block.block-index c.block-item.result
+  turn = turn_of c.args.self.now.blocks.items _ _ _ c.deref-block-items.ensures.value c.loop-block-test.true c.block-item.is
+
+  within : c.loop-block.block-index < c.args.self.now.config.source_blocks
+  within = omega (arith, turn.below, length-numbered number_of c.args.self.now.config.source_blocks c.args.self.now.blocks.items c.args.self.now.numbered)
+
+  count : count_of c.block-item.result ≡ block_symbols c.args.self.now.config c.loop-block.block-index
+  count = mapped_at count_of (block_symbols c.args.self.now.config) c.args.self.now.config.source_blocks c.args.self.now.blocks.items c.args.self.now.counted _ _ within turn.is
+
 pub packets-requires-clause-ids : goal.packets-requires-clause-ids
 packets-requires-clause-ids c =
-    let s = c.args.self.now in
-    let items = s.blocks.items in
-    let x = c.block-item.result in
-    let n = c.loop-block.block-index in
-    let same = c.deref-block-items.ensures.value in
-    let below : n < length items = omega (arith, ap length same, c.loop-block-test.true) in
-    let is : x ≡ get_or items n x = c.block-item.is ∙ ap (λ l. get_or l n x) same in
-    let within : n < s.config.source_blocks = omega (arith, below, length-numbered number_of s.config.source_blocks items s.numbered) in
-    omega (arith, c.symbols.ensures, mapped_at count_of (block_symbols s.config) s.config.source_blocks items s.counted n x within is, first_is_largest s.config n within, c.block_symbols.ensures, c.if-largest-from.false, c.from-largest.ensures, c.from.ensures)
+    let at = (goal.at.packets-requires-clause-ids c).After-symbols in
+    omega (arith, c.symbols.ensures, count at, first_is_largest c.args.self.now.config c.loop-block.block-index (within at), c.block_symbols.ensures, c.if-largest-from.false, c.from-largest.ensures, c.from.ensures)
 
 pub loop-block-preserved : goal.loop-block-preserved
 loop-block-preserved c =
+    let at = (goal.at.loop-block-preserved c).After-symbols in
     let s = c.args.self.now in
     let items = s.blocks.items in
     let x = c.block-item.result in
     let n = c.loop-block.block-index in
-    let same = c.deref-block-items.ensures.value in
-    let below : n < length items = omega (arith, ap length same, c.loop-block-test.true) in
-    let is : x ≡ get_or items n x = c.block-item.is ∙ ap (λ l. get_or l n x) same in
-    let within : n < s.config.source_blocks = omega (arith, below, length-numbered number_of s.config.source_blocks items s.numbered) in
-    let count = mapped_at count_of (block_symbols s.config) s.config.source_blocks items s.counted n x within is in
     let more = c.in_ok-packets.field-0.items in
     let grown : c.extend.new.self.items ≡ c.loop-block.packets.items ++ more = fact_from_extend (λ p. p) (ok_of c.in_ok-extend.field-0) c.in_ok-extend.ensures.ran (λ it made. YieldsList-from_vec more made.0 (made.1 ∙ c.in_ok-packets.field-0.ok.0))
     (λ xs are grows. grows.0 ∙ ap (λ l. c.loop-block.packets.items ++ l) (sym (map-id xs) ∙ are)) in
-    encoded_more (encoded_of s) c.args.repair_packets_per_block n (c.symbols.result + c.args.repair_packets_per_block - 0) (block_encoded_of x) c.loop-block.packets.items more c.extend.new.self.items within
-    (block_at s.config items n x below is) (number_at number_of s.config.source_blocks items s.numbered n x within is) count (omega (arith, c.symbols.ensures)) c.loop-block.invariant c.in_ok-packets.ensures.packets grown
+    encoded_more (encoded_of s) c.args.repair_packets_per_block n (c.symbols.result + c.args.repair_packets_per_block - 0) (block_encoded_of x) c.loop-block.packets.items more c.extend.new.self.items (within at)
+    (block_at s.config items n x (turn at).below (turn at).is) (number_at number_of s.config.source_blocks items s.numbered n x (within at) (turn at).is) (count at) (omega (arith, c.symbols.ensures)) c.loop-block.invariant c.in_ok-packets.ensures.packets grown
 
 pub returns-clause-packets : goal.returns-clause-packets
 returns-clause-packets c =

@@ -5,27 +5,39 @@ use Rattle.rq_standard.specs.Cutting.{block_symbols}
 use Rattle.raptorq.specs.Stopping.{AddsOrStops}
 use Rattle.raptorq.specs.SourceBlockDecoder.{held_of}
 use Rattle.raptorq.proofs.Numbered.{length-numbered, number_at}
-use Rattle.raptorq.proofs.ObjectBlocks.{state, number_of, block_of_packet, block_takes, IsCut, takes_at}
+use Rattle.raptorq.proofs.ObjectBlocks.{state, number_of, IsBlockOf, block_of_packet, block_takes, IsCut, takes_at}
 use Rattle.raptorq.proofs.decoder.object.Decoder.add_to_block.Goals as goal
+use Rattle.raptorq.proofs.decoder.object.Decoder.add_to_block.Goals.{After-from-2, After-index_mut}
+
+-- the packet's block number, which is below the number of blocks
+module _ (c : After-from-2) where
+  number : c.from-2.result ≡ c.args.packet.id.block
+  number = c.from-2.ensures ∙ c.source_block_number-number.ensures ∙ ap (λ i. i.block) c.payload_id.ensures
+
+  below : c.from-2.result < c.args.self.now.config.source_blocks
+  below = omega (arith, c.from-2.ensures, c.if-number-source_blocks.false, c.source_blocks.ensures)
+
+module _ (c : After-index_mut) where
+  block : IsBlockOf c.args.self.now.blocks.items c.args.packet c.from-2.result c.index_mut.result.now
+  block =
+      let at = (goal.at.After-index_mut c).After-from-2 in
+      block_of_packet c.args.self.now.blocks.items c.args.packet c.args.self.now.config.source_blocks c.from-2.result c.index_mut.result.now c.args.self.now.numbered (number at) (below at) c.index_mut.ensures.value
 
 pub index_mut-requires : goal.index_mut-requires
 index_mut-requires c =
     let s = c.args.self.now in
-    let items = s.blocks.items in
-    let p = c.args.packet in
-    let here : c.from-2.result ≡ p.id.block = c.from-2.ensures ∙ c.source_block_number-number.ensures ∙ ap (λ i. i.block) c.payload_id.ensures in
-    let count = length-numbered number_of s.config.source_blocks items s.numbered in
-    let below : p.id.block < length items = omega (arith, sym here, c.from-2.ensures, c.if-number-source_blocks.false, c.source_blocks.ensures, count) in
-    omega (arith, here, below, s.blocks.ok.0)
+    let within = below (goal.at.index_mut-requires c).After-from-2 in
+    let count = length-numbered number_of s.config.source_blocks s.blocks.items s.numbered in
+    omega (arith, within, count, s.blocks.ok.0)
 
 pub add_packet-requires : goal.add_packet-requires
 add_packet-requires c =
     let s = c.args.self.now in
-    let items = s.blocks.items in
     let p = c.args.packet in
     let x = c.index_mut.result.now in
-    let at = block_of_packet items p s.config.source_blocks c.from-2.result x s.numbered (c.from-2.ensures ∙ c.source_block_number-number.ensures ∙ ap (λ i. i.block) c.payload_id.ensures) (omega (arith, c.from-2.ensures, c.if-number-source_blocks.false, c.source_blocks.ensures)) c.index_mut.ensures.value in
-    block_takes s.config (held_of x.decoder) p (ap (λ b. (held_of b.decoder).configuration) at.is ∙ s.same p.id.block x at.below) (number_at number_of s.config.source_blocks items s.numbered p.id.block x (omega (arith, at.here, c.from-2.ensures, c.if-number-source_blocks.false, c.source_blocks.ensures)) at.is)
+    let at = block (goal.at.add_packet-requires c).After-index_mut in
+    let within = below (goal.at.add_packet-requires c).After-from-2 in
+    block_takes s.config (held_of x.decoder) p (ap (λ b. (held_of b.decoder).configuration) at.is ∙ s.same p.id.block x at.below) (number_at number_of s.config.source_blocks s.blocks.items s.numbered p.id.block x (omega (arith, at.here, within)) at.is)
     (sym (ap length c.data.ensures) ∙ c.if-data-from.false ∙ c.from.ensures ∙ c.symbol_size.ensures)
 
 pub invariant_of-self : goal.invariant_of-self
@@ -34,7 +46,7 @@ invariant_of-self c =
     let items = s.blocks.items in
     let p = c.args.packet in
     let x = c.index_mut.result.now in
-    let at = block_of_packet items p s.config.source_blocks c.from-2.result x s.numbered (c.from-2.ensures ∙ c.source_block_number-number.ensures ∙ ap (λ i. i.block) c.payload_id.ensures) (omega (arith, c.from-2.ensures, c.if-number-source_blocks.false, c.source_blocks.ensures)) c.index_mut.ensures.value in
+    let at = block (goal.at.invariant_of-self c).After-index_mut in
     let y = c.add_packet.new.self in
     record {
       positive = s.positive;
@@ -47,10 +59,8 @@ invariant_of-self c =
 
 pub returns-clause-adds : goal.returns-clause-adds
 returns-clause-adds c =
-    let s = c.args.self.now in
-    let items = s.blocks.items in
-    let p = c.args.packet in
-    let x = c.index_mut.result.now in
-    let at = block_of_packet items p s.config.source_blocks c.from-2.result x s.numbered (c.from-2.ensures ∙ c.source_block_number-number.ensures ∙ ap (λ i. i.block) c.payload_id.ensures) (omega (arith, c.from-2.ensures, c.if-number-source_blocks.false, c.source_blocks.ensures)) c.index_mut.ensures.value in
+    let k = c.args.self.now.config in
+    let items = c.args.self.now.blocks.items in
+    let at = block (goal.at.returns-clause-adds c).After-index_mut in
     let y = c.add_packet.new.self in
-    subst (λ i. AddsOrStops (state s.config items) p c.add_packet.result (state s.config (set items i y))) (sym at.here) (takes_at s.config items p x y at.below at.is c.add_packet.result c.add_packet.ensures.adds)
+    subst (λ i. AddsOrStops (state k items) c.args.packet c.add_packet.result (state k (set items i y))) (sym at.here) (takes_at k items c.args.packet c.index_mut.result.now y at.below at.is c.add_packet.result c.add_packet.ensures.adds)

@@ -1,28 +1,25 @@
 use Rattle.std.proofs.Common.{◌≡◌, ℕ, ◌<◌, ◌++◌, Bool, true, false, List, length, get_or, take, Option, Some, None, Vec, Global, refl, sym, ap, ◌∙◌, subst, arith}
 use Rattle.std.specs.Prelude.{is_none, is_some, not, option_map, vec_items, ◌&&◌}
-use Rattle.rq_standard.specs.Differences.{IsDifference}
+use Rattle.rq_standard.specs.Differences.{AreUnansweredDetermined, IsDifference}
 use Rattle.rq_standard.proofs.ObjectAnswers.{none_where_answered}
 use Rattle.rq_standard.proofs.OtherObjects.{makes_others_fit}
 use Rattle.raptorq.specs.SourceBlockDecoder.{held_of}
 use Rattle.raptorq.specs.Difference.{ShowsUnanswered, octets_of_column}
 use Rattle.raptorq.specs.Decoder.{state_of, held_at, answer_at}
 use Rattle.raptorq.specs.declared.decoder.object.Decoder.{Decoder}
-use Rattle.raptorq.proofs.Numbered.{length-numbered}
+use Rattle.raptorq.proofs.Numbered.{length-numbered, turn_of}
 use Rattle.raptorq.proofs.ObjectBlocks.{number_of, held_here, answer_here}
 use Rattle.raptorq.proofs.Witnesses.{DifferenceSoFar, nothing_found, one_found, all_determined, some_undetermined, difference_found, block_has_row, block_is_cut}
 use Rattle.raptorq.proofs.decoder.object.Decoder.difference.Goals as goal
+use Rattle.raptorq.proofs.decoder.object.Decoder.difference.Goals.{After-loop-block, After-truncate}
 
--- all blocks were taken
-whole : (s : Decoder) (n : ℕ) (none : Bool) (bytes : List ℕ) → n ≡ s.config.source_blocks → DifferenceSoFar s.config s.blocks.items n none bytes → DifferenceSoFar s.config s.blocks.items s.config.source_blocks none bytes
-whole s n none bytes all so = subst (λ m. DifferenceSoFar s.config s.blocks.items m none bytes) all so
-
-found : (s : Decoder) (bytes new : List ℕ) (n : ℕ) (none : Bool) → n ≡ s.config.source_blocks → none ≡ false → DifferenceSoFar s.config s.blocks.items n none bytes → new ≡ take s.config.transfer_length bytes → IsDifference (state_of s) new
-found s bytes new n none all some so cut =
+found : (s : Decoder) (bytes new : List ℕ) → DifferenceSoFar s.config s.blocks.items s.config.source_blocks false bytes → new ≡ take s.config.transfer_length bytes → IsDifference (state_of s) new
+found s bytes new so cut =
     subst (IsDifference (state_of s)) (sym cut)
     (difference_found s.config s.blocks.items bytes s.positive s.some s.aligned
     (λ b below. block_has_row s.config s.blocks.items s.numbered s.cut b below)
     (λ b below. block_is_cut s.config s.blocks.items s.numbered s.cut b below)
-    (whole s n false bytes all (subst (λ t. DifferenceSoFar s.config s.blocks.items n t bytes) some so)))
+    so)
 
 -- whether there is a column
 told_of : (t : Bool) (o : Option (Vec ℕ Global)) → is_some o ≡ not t → t ≡ is_none (option_map vec_items o)
@@ -40,56 +37,60 @@ loop-block-preserved c =
     let items = s.blocks.items in
     let x = c.block-item.result in
     let n = c.loop-block.block-index in
-    let same = c.deref-block-items.ensures.value in
-    let below : n < length items = omega (arith, ap length same, c.loop-block-test.true) in
-    let is : x ≡ get_or items n x = c.block-item.is ∙ ap (λ l. get_or l n x) same in
-    let in_object : n < s.config.source_blocks = omega (arith, below, length-numbered number_of s.config.source_blocks items s.numbered) in
-    let held = held_here s.config items n x below is in
+    let t = turn_of items _ n x c.deref-block-items.ensures.value c.loop-block-test.true c.block-item.is in
+    let in_object : n < s.config.source_blocks = omega (arith, t.below, length-numbered number_of s.config.source_blocks items s.numbered) in
+    let held = held_here s.config items n x t.below t.is in
     let column = option_map vec_items c.in_ok-column.column in
     let shows : ShowsUnanswered (held_at s.config items n) (answer_at items n) column =
-    subst (λ h. ShowsUnanswered h (answer_at items n) column) (sym held) (subst (λ a. ShowsUnanswered (held_of x.decoder) a column) (sym (answer_here items n x below is)) c.in_ok-column.ensures.shown) in
+    subst (λ h. ShowsUnanswered h (answer_at items n) column) (sym held) (subst (λ a. ShowsUnanswered (held_of x.decoder) a column) (sym (answer_here items n x t.below t.is)) c.in_ok-column.ensures.shown) in
     one_found s.config items n c.loop-block.determined c.loop-block.bytes.items column c.loop-block.invariant shows (c.loop-block.determined && c.is_none.result) c.in_ok-difference.field-0.items c.extend_from_slice.new.self.items
     (ap (λ t. c.loop-block.determined && t) (told_of c.is_none.result c.in_ok-column.column c.is_none.ensures))
-    (ap (λ h. h.configuration) held ∙ ap (λ b. (held_of b.decoder).configuration) is ∙ s.same n x below)
+    (ap (λ h. h.configuration) held ∙ ap (λ b. (held_of b.decoder).configuration) t.is ∙ s.same n x t.below)
     (block_is_cut s.config items s.numbered s.cut n in_object)
     (c.in_ok-difference.ensures.block ∙ ap (λ h. octets_of_column h column) (sym held))
     (c.in_ok-extend_from_slice.ensures.items ∙ ap (λ l. c.loop-block.bytes.items ++ l) c.as_slice.ensures.value)
 
+-- the blocks were all taken
+module _ (c : After-loop-block) where
+  all : c.loop-block.block-index ≡ c.args.self.now.config.source_blocks
+  all = omega (arith, c.loop-block-test.false, c.loop-block.auto.block-index-end, ap length c.deref-block-items.ensures.value, length-numbered number_of c.args.self.now.config.source_blocks c.args.self.now.blocks.items c.args.self.now.numbered)
+
+  taken : (t : Bool) → c.loop-block.determined ≡ t → DifferenceSoFar c.args.self.now.config c.args.self.now.blocks.items c.args.self.now.config.source_blocks t c.loop-block.bytes.items
+  taken t is =
+      let s = c.args.self.now in
+      let bytes = c.loop-block.bytes.items in
+      subst (λ n. DifferenceSoFar s.config s.blocks.items n t bytes) all (subst (λ d. DifferenceSoFar s.config s.blocks.items c.loop-block.block-index d bytes) is c.loop-block.invariant)
+
+  is_determined : c.loop-block.determined ≡ true → AreUnansweredDetermined (state_of c.args.self.now)
+  is_determined is = all_determined c.args.self.now.config c.args.self.now.blocks.items c.loop-block.bytes.items (taken true is)
+
+  undetermined : c.loop-block.determined ≡ false → AreUnansweredDetermined (state_of c.args.self.now) → ⊥
+  undetermined is = some_undetermined c.args.self.now.config c.args.self.now.blocks.items c.loop-block.bytes.items (taken false is)
+
+module _ (c : After-truncate) where
+  difference : IsDifference (state_of c.args.self.now) c.truncate.new.self.items
+  difference = found c.args.self.now c.loop-block.bytes.items _ (taken (goal.at.After-truncate c).After-loop-block false c.if-determined.false) (c.truncate.ensures.items ∙ ap (λ n. take n c.loop-block.bytes.items) c.transfer_length.ensures.value)
+
 pub returns-then-determined-clause-exactly : goal.returns-then-determined-clause-exactly
-returns-then-determined-clause-exactly c =
-    let s = c.args.self.now in
-    let all : c.loop-block.block-index ≡ s.config.source_blocks = omega (arith, c.loop-block-test.false, c.loop-block.auto.block-index-end, ap length c.deref-block-items.ensures.value, length-numbered number_of s.config.source_blocks s.blocks.items s.numbered) in
-    (λ _. all_determined s.config s.blocks.items c.loop-block.bytes.items (whole s c.loop-block.block-index true c.loop-block.bytes.items all (subst (λ t. DifferenceSoFar s.config s.blocks.items c.loop-block.block-index t c.loop-block.bytes.items) c.if-determined.true c.loop-block.invariant)), λ _. refl)
+returns-then-determined-clause-exactly c = (λ _. is_determined (goal.at.returns-then-determined-clause-exactly c).After-loop-block c.if-determined.true, λ _. refl)
 
 pub returns-clause-exactly : goal.returns-clause-exactly
-returns-clause-exactly c =
-    let s = c.args.self.now in
-    let all : c.loop-block.block-index ≡ s.config.source_blocks = omega (arith, c.loop-block-test.false, c.loop-block.auto.block-index-end, ap length c.deref-block-items.ensures.value, length-numbered number_of s.config.source_blocks s.blocks.items s.numbered) in
-    (λ none. absurd (cc none), λ determined. absurd (some_undetermined s.config s.blocks.items c.loop-block.bytes.items (whole s c.loop-block.block-index false c.loop-block.bytes.items all (subst (λ t. DifferenceSoFar s.config s.blocks.items c.loop-block.block-index t c.loop-block.bytes.items) c.if-determined.false c.loop-block.invariant)) determined))
+returns-clause-exactly c = (λ none. absurd (cc none), λ determined. absurd (undetermined (goal.at.returns-clause-exactly c).After-loop-block c.if-determined.false determined))
 
 pub returns-then-determined-clause-answered : goal.returns-then-determined-clause-answered
 returns-then-determined-clause-answered c =
     let s = c.args.self.now in
-    let all : c.loop-block.block-index ≡ s.config.source_blocks = omega (arith, c.loop-block-test.false, c.loop-block.auto.block-index-end, ap length c.deref-block-items.ensures.value, length-numbered number_of s.config.source_blocks s.blocks.items s.numbered) in
-    none_where_answered (state_of s) None s.some s.positive
-    (λ _. all_determined s.config s.blocks.items c.loop-block.bytes.items (whole s c.loop-block.block-index true c.loop-block.bytes.items all (subst (λ t. DifferenceSoFar s.config s.blocks.items c.loop-block.block-index t c.loop-block.bytes.items) c.if-determined.true c.loop-block.invariant))) (λ _. refl)
+    none_where_answered (state_of s) None s.some s.positive (λ _. is_determined (goal.at.returns-then-determined-clause-answered c).After-loop-block c.if-determined.true) (λ _. refl)
 
 pub returns-clause-answered : goal.returns-clause-answered
 returns-clause-answered c =
     let s = c.args.self.now in
-    let all : c.loop-block.block-index ≡ s.config.source_blocks = omega (arith, c.loop-block-test.false, c.loop-block.auto.block-index-end, ap length c.deref-block-items.ensures.value, length-numbered number_of s.config.source_blocks s.blocks.items s.numbered) in
-    none_where_answered (state_of s) (Some c.truncate.new.self.items) s.some s.positive (λ none. absurd (cc none))
-    (λ determined. absurd (some_undetermined s.config s.blocks.items c.loop-block.bytes.items (whole s c.loop-block.block-index false c.loop-block.bytes.items all (subst (λ t. DifferenceSoFar s.config s.blocks.items c.loop-block.block-index t c.loop-block.bytes.items) c.if-determined.false c.loop-block.invariant)) determined))
+    none_where_answered (state_of s) (Some c.truncate.new.self.items) s.some s.positive (λ none. absurd (cc none)) (λ determined. absurd (undetermined (goal.at.returns-clause-answered c).After-loop-block c.if-determined.false determined))
 
 pub returns-clause-bytes : goal.returns-clause-bytes
-returns-clause-bytes c =
-    let s = c.args.self.now in
-    let all : c.loop-block.block-index ≡ s.config.source_blocks = omega (arith, c.loop-block-test.false, c.loop-block.auto.block-index-end, ap length c.deref-block-items.ensures.value, length-numbered number_of s.config.source_blocks s.blocks.items s.numbered) in
-    found s c.loop-block.bytes.items c.truncate.new.self.items c.loop-block.block-index c.loop-block.determined all c.if-determined.false c.loop-block.invariant (c.truncate.ensures.items ∙ ap (λ n. take n c.loop-block.bytes.items) c.transfer_length.ensures.value)
+returns-clause-bytes c = difference (goal.at.returns-clause-bytes c).After-truncate
 
 pub returns-clause-fits : goal.returns-clause-fits
 returns-clause-fits c =
     let s = c.args.self.now in
-    let all : c.loop-block.block-index ≡ s.config.source_blocks = omega (arith, c.loop-block-test.false, c.loop-block.auto.block-index-end, ap length c.deref-block-items.ensures.value, length-numbered number_of s.config.source_blocks s.blocks.items s.numbered) in
-    makes_others_fit (state_of s) s.positive s.some s.aligned c.truncate.new.self.items
-    (found s c.loop-block.bytes.items c.truncate.new.self.items c.loop-block.block-index c.loop-block.determined all c.if-determined.false c.loop-block.invariant (c.truncate.ensures.items ∙ ap (λ n. take n c.loop-block.bytes.items) c.transfer_length.ensures.value))
+    makes_others_fit (state_of s) s.positive s.some s.aligned c.truncate.new.self.items (difference (goal.at.returns-clause-fits c).After-truncate)

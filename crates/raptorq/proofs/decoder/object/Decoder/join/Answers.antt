@@ -1,24 +1,23 @@
-use Rattle.std.proofs.Common.{◌≡◌, ◌<◌, ◌++◌, take, Some, ap, ◌∙◌, arith, length, get_or}
+use Rattle.std.proofs.Common.{◌≡◌, ◌++◌, take, Some, ap, ◌∙◌, arith, length}
 use Rattle.std.specs.Prelude.{option_map, vec_items}
 use Rattle.rq_standard.specs.Standing.{joined}
 use Rattle.raptorq.specs.Decoder.{answer_at}
-use Rattle.raptorq.proofs.Numbered.{length-numbered}
+use Rattle.raptorq.proofs.Numbered.{length-numbered, turn_of}
 use Rattle.raptorq.proofs.ObjectBlocks.{number_of, join_next, join_some, none_otherwise}
 use Rattle.raptorq.proofs.decoder.object.Decoder.join.Goals.{in-Some+in_ok-extend_from_slice, in_default}
 use Rattle.raptorq.proofs.decoder.object.Decoder.join.Goals as goal
 
 pub loop-block-preserved : goal.loop-block-preserved
 loop-block-preserved c =
-    let items = c.args.self.now.blocks.items in
+    let s = c.args.self.now in
+    let items = s.blocks.items in
     let x = c.block-item.result in
     let n = c.loop-block.block-index in
-    let same = c.deref-block-items.ensures.value in
-    let below : n < length items = omega (arith, ap length same, c.loop-block-test.true) in
-    let is : x ≡ get_or items n x = c.block-item.is ∙ ap (λ l. get_or l n x) same in
+    let t = turn_of items _ n x c.deref-block-items.ensures.value c.loop-block-test.true c.block-item.is in
     elim c.match-block.branch [
-      | in-Some+in_ok-extend_from_slice w ↦ join_next items n x c.loop-block.object.items w.in-Some.bytes.items c.match-block.object.items below is (ap (option_map vec_items) w.in-Some.is) c.loop-block.invariant
+      | in-Some+in_ok-extend_from_slice w ↦ join_next items n x c.loop-block.object.items w.in-Some.bytes.items c.match-block.object.items t.below t.is (ap (option_map vec_items) w.in-Some.is) c.loop-block.invariant
           (ap (λ o. o.items) w.object-is ∙ w.in_ok-extend_from_slice.ensures.items ∙ ap (λ l. c.loop-block.object.items ++ l) w.as_slice.ensures.value)
-      | in_default w ↦ absurd (join_some c.args.self.now.config items n x c.requires (omega (arith, below, length-numbered number_of c.args.self.now.config.source_blocks items c.args.self.now.numbered)) below is (none_otherwise x.answer (λ v e. w.in_default.not-Some v e)))
+      | in_default w ↦ absurd (join_some s.config items n x c.requires (omega (arith, t.below, length-numbered number_of s.config.source_blocks items s.numbered)) t.below t.is (none_otherwise x.answer (λ v e. w.in_default.not-Some v e)))
     ]
 
 pub returns : goal.returns
