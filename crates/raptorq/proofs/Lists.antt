@@ -1,5 +1,5 @@
 -- A list of an object's packets, taken one by one.
-use Rattle.std.proofs.Common.{◌≡◌, ◌↔◌, ℕ, false, ◌<◌, List, [], ◌∷◌, ◌++◌, length, Ok, Option, refl, sym, ap, ◌∙◌, subst, append_assoc, append-nil, eq-eqb}
+use Rattle.std.proofs.Common.{◌≡◌, ◌↔◌, ℕ, false, List, [], ◌∷◌, ◌++◌, length, Ok, Option, refl, sym, ap, ◌∙◌, subst, append_assoc, append-nil, eq-eqb}
 use Rattle.std.specs.Prelude.{IsSome}
 use Rattle.std.specs.List.{AllByRecursion}
 use Rattle.std.proofs.lemmas.Bool.{lt-ltb}

@@ -1,6 +1,6 @@
 -- A block of which was found that what is held doesn't determine it.
 use Rattle.std.proofs.Common.{◌≡◌, inl, inr, ℕ, List, Bool, true, false, not, ◌&&◌, Option, None, Some, Vec, Global, cond, eqb, refl, sym, ap, ◌∙◌, subst}
-use Rattle.std.specs.Prelude.{IsNone, IsSome, is_some, option_map, vec_items}
+use Rattle.std.specs.Prelude.{IsNone, is_some, option_map, vec_items}
 use Rattle.std.proofs.lemmas.Bool.{cases_eq, ne_eqb}
 use Rattle.rq_standard.specs.Held.{Held, CanAnswer, IsBlockAnswer}
 use Rattle.rq_standard.specs.Received.{or_later}

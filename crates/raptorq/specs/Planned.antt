@@ -1,5 +1,5 @@
 -- What recorded operations make of a block's source symbols.
-use Rattle.std.specs.Prelude.{◌≡◌, ℕ, ◌+◌, ◌-◌, ◌<◌, ◌≤◌, List, ◌++◌, length, replicate}
+use Rattle.std.specs.Prelude.{ℕ, ◌+◌, ◌-◌, ◌≤◌, List, ◌++◌, length, replicate}
 use Rattle.rq_algebra.specs.Operations.{Operation}
 use Rattle.rq_algebra.specs.Symbols.{AreSymbols}
 use Rattle.rq_bytes.specs.SymbolSlab.{Slab, slab_of, symbol_in, symbols_in}

@@ -39,9 +39,7 @@ append_padded-requires-clause-room c =
     omega (arith, long, w.1, c.from-size.ensures, c.symbol_size.ensures, c.requires.room)
 
 pub overflow_add-start : goal.overflow_add-start
-overflow_add-start c =
-    let w = within (goal.at.overflow_add-start c).After-size_at-width in
-    omega (arith, w.1)
+overflow_add-start c = omega (arith, (within (goal.at.overflow_add-start c).After-size_at-width).1)
 
 pub loop-start-smaller : goal.loop-start-smaller
 loop-start-smaller c =
@@ -50,11 +48,11 @@ loop-start-smaller c =
 
 pub loop-start-preserved : goal.loop-start-preserved
 loop-start-preserved c =
+    let at = c.loop-start.invariant.at in
     let k = c.args.config.now in
-    let size : c.from-size.result ≡ k.symbol_size = c.from-size.ensures ∙ c.symbol_size.ensures in
-    let below : c.loop-start.start < k.symbol_size = omega (arith, c.loop-start-test.true, size) in
     let place = c.loop-start.start * c.args.symbols + c.size_at-width.result * c.args.e in
-    let at = c.loop-start.invariant.at in record {
+    let below : c.loop-start.start < k.symbol_size = omega (arith, c.loop-start-test.true, c.from-size.ensures, c.symbol_size.ensures) in
+    record {
       at = reaches_more k c.loop-start.start c.size_at-width.result c.requires.aligned at below c.size_at-width.ensures;
       so_far =
           let old = c.args.bytes.now.items in

@@ -67,17 +67,13 @@ module _ (c : In-None) where
 
 pub returns-clause-headline : goal.returns-clause-headline
 returns-clause-headline c =
-    let stands = stands_for_all (goal.at.returns-clause-headline c).In-None in
-    IfOk-weaker c.get_result.result _ _
-    (λ r is. answers_exactly c.args.table.now c.args.config (packets_of c.args.steps.items) (state_of c.loop-step.decoder) _ c.loop-step.invariant.configuration stands is)
-    c.get_result.ensures.object
+    IfOk-weaker c.get_result.result _ _ (λ r is. answers_exactly c.args.table.now c.args.config (packets_of c.args.steps.items) (state_of c.loop-step.decoder) _ c.loop-step.invariant.configuration
+    (stands_for_all (goal.at.returns-clause-headline c).In-None) is) c.get_result.ensures.object
 
 pub returns-clause-only_object : goal.returns-clause-only_object
 returns-clause-only_object c =
-    let stands = stands_for_all (goal.at.returns-clause-only_object c).In-None in
-    IfOk-weaker c.get_result.result _ _
-    (λ r is. answers_where_any_can c.args.table.now c.args.config (packets_of c.args.steps.items) (state_of c.loop-step.decoder) _ c.loop-step.invariant.configuration stands is)
-    c.get_result.ensures.only_object
+    IfOk-weaker c.get_result.result _ _ (λ r is. answers_where_any_can c.args.table.now c.args.config (packets_of c.args.steps.items) (state_of c.loop-step.decoder) _ c.loop-step.invariant.configuration
+    (stands_for_all (goal.at.returns-clause-only_object c).In-None) is) c.get_result.ensures.only_object
 
 pub returns-in_err-add_new_packet-clause-in_order : goal.returns-in_err-add_new_packet-clause-in_order
 returns-in_err-add_new_packet-clause-in_order c =

@@ -1,4 +1,4 @@
-use Rattle.std.proofs.Common.{◌≡◌, ◌+◌, ◌-◌, ◌≤◌, ◌++◌, List, ℕ, length, replicate, ap, ◌∙◌, arith}
+use Rattle.std.proofs.Common.{◌≡◌, ◌+◌, ◌-◌, ◌++◌, length, replicate, ap, ◌∙◌, arith}
 use Rattle.rq_bytes.specs.SymbolSlab.{slab_of}
 use Rattle.rq_standard.specs.Equations.{zero_symbol}
 use Rattle.raptorq.proofs.Listing.{slab_answered}

@@ -1,4 +1,4 @@
-use Rattle.std.proofs.Common.{◌≡◌, ℕ, ◌<◌, ◌++◌, Bool, true, false, List, length, get_or, take, Option, Some, None, Vec, Global, refl, sym, ap, ◌∙◌, subst, arith}
+use Rattle.std.proofs.Common.{◌≡◌, ℕ, ◌<◌, ◌++◌, Bool, true, false, List, length, take, Option, Some, None, Vec, Global, refl, sym, ap, ◌∙◌, subst, arith}
 use Rattle.std.specs.Prelude.{is_none, is_some, not, option_map, vec_items, ◌&&◌}
 use Rattle.rq_standard.specs.Differences.{AreUnansweredDetermined, IsDifference}
 use Rattle.rq_standard.proofs.ObjectAnswers.{none_where_answered}

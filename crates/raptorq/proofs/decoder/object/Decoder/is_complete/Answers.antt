@@ -1,4 +1,4 @@
-use Rattle.std.proofs.Common.{◌≡◌, ◌<◌, sym, ap, ◌∙◌, subst, arith, length}
+use Rattle.std.proofs.Common.{sym, ap, ◌∙◌, subst, arith, length}
 use Rattle.std.specs.Prelude.{IsSome, not}
 use borrow.Author.Count.{below_more}
 use Rattle.raptorq.specs.Decoder.{state_of, answer_at}

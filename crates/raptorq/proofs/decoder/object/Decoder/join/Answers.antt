@@ -10,14 +10,13 @@ use Rattle.raptorq.proofs.decoder.object.Decoder.join.Goals as goal
 pub loop-block-preserved : goal.loop-block-preserved
 loop-block-preserved c =
     let s = c.args.self.now in
-    let items = s.blocks.items in
     let x = c.block-item.result in
     let n = c.loop-block.block-index in
-    let t = turn_of items _ n x c.deref-block-items.ensures.value c.loop-block-test.true c.block-item.is in
+    let t = turn_of s.blocks.items _ n x c.deref-block-items.ensures.value c.loop-block-test.true c.block-item.is in
     elim c.match-block.branch [
-      | in-Some+in_ok-extend_from_slice w ↦ join_next items n x c.loop-block.object.items w.in-Some.bytes.items c.match-block.object.items t.below t.is (ap (option_map vec_items) w.in-Some.is) c.loop-block.invariant
+      | in-Some+in_ok-extend_from_slice w ↦ join_next s.blocks.items n x c.loop-block.object.items w.in-Some.bytes.items c.match-block.object.items t.below t.is (ap (option_map vec_items) w.in-Some.is) c.loop-block.invariant
           (ap (λ o. o.items) w.object-is ∙ w.in_ok-extend_from_slice.ensures.items ∙ ap (λ l. c.loop-block.object.items ++ l) w.as_slice.ensures.value)
-      | in_default w ↦ absurd (join_some s.config items n x c.requires (omega (arith, t.below, length-numbered number_of s.config.source_blocks items s.numbered)) t.below t.is (none_otherwise x.answer (λ v e. w.in_default.not-Some v e)))
+      | in_default w ↦ absurd (join_some s.config s.blocks.items n x c.requires (omega (arith, t.below, length-numbered number_of s.config.source_blocks s.blocks.items s.numbered)) t.below t.is (none_otherwise x.answer (λ v e. w.in_default.not-Some v e)))
     ]
 
 pub returns : goal.returns

@@ -1,8 +1,8 @@
-use Rattle.std.proofs.Common.{◌≡◌, All, length, sym, ap, ◌∙◌, subst, arith}
+use Rattle.std.proofs.Common.{◌≡◌, All, length, sym, ap, subst, arith}
 use Rattle.std.specs.List.{range_with_len}
 use Rattle.std.proofs.lemmas.List.Elements.{All-map}
 use Rattle.std.proofs.lemmas.List.FromFn.{length-map-range_with_len}
-use Rattle.rq_bytes.specs.SymbolSlab.{Slab, slab_of}
+use Rattle.rq_bytes.specs.SymbolSlab.{Slab}
 use Rattle.rq_standard.specs.Cutting.{symbol_of_block}
 use Rattle.rq_standard.proofs.Standing.{length-symbol_of_block}
 use Rattle.raptorq.proofs.encoder.block.SourceBlockEncoder.of_block.Goals as goal

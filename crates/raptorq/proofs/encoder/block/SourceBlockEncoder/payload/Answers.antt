@@ -1,4 +1,4 @@
-use Rattle.std.proofs.Common.{◌≡◌, ◌<◌, [], Option, List, ℕ, get_or, length, None, sym, ap, ◌∙◌, subst, arith}
+use Rattle.std.proofs.Common.{◌≡◌, ◌<◌, [], Option, List, ℕ, get_or, length, sym, ap, ◌∙◌, subst, arith}
 use Rattle.std.proofs.lemmas.Result.{IfOk-weaker}
 use Rattle.rq_algebra.specs.Operations.{IsPlace, meant_at}
 use Rattle.rq_bytes.specs.SymbolSlab.{symbol_in}
