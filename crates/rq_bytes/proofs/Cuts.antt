@@ -3,7 +3,7 @@ use Rattle.std.proofs.Common.{◌≡◌, ℕ, zero, suc, ◌+◌, ◌-◌, ◌*�
 use Rattle.std.proofs.Math.Nat.{mul-le-mul_right}
 use Rattle.std.proofs.lemmas.Bool.{cases_lt}
 use Rattle.std.proofs.Math.Seq.{take-append_seam, drop-append_seam, drop-append-add, take-append-add}
-use Rattle.std.proofs.lemmas.List.{take-take, drop-take, drop-drop, take-append-le, length-append, take-append-drop, take-replicate, drop-replicate, take_all, length-take-le, length-drop, append_assoc}
+use Rattle.std.proofs.lemmas.List.{take-take, drop-take, drop-drop, take-append-le, length-append, take-append-drop, take-replicate, drop-replicate, take_all, set_split, length-take-le, length-drop, append_assoc}
 use Rattle.rq_bytes.specs.Ranges.{range_of, with_range, cut, joined_pieces}
 
 pub length-cut : {X : Type 0} (n s : ℕ) (xs : List X) → length (cut n s xs) ≡ n
@@ -40,24 +40,6 @@ get_or-cut (suc n) s (suc p) xs lt long =
     ap (λ zs. range_of zs (suc p * s) s) (sym (take-append-drop s xs))
     ∙ ap (λ k. range_of (first ++ rest) k s) (let split : suc p * s ≡ length first + p * s = omega arith in split)
     ∙ ap (take s) (drop-append-add first rest (p * s)))
-
--- another piece in its place
-pub cut-with_range : {X : Type 0} (n s p : ℕ) (xs ys : List X) → p < n → length ys ≡ s → length xs ≡ n * s → cut n s (with_range xs (p * s) ys) ≡ set (cut n s xs) p ys
-cut-with_range zero s p xs ys lt size long = absurd (omega arith)
-cut-with_range (suc n) s zero xs ys lt size long =
-    ap (λ k. cut (suc n) s (with_range xs k ys)) (let none : 0 * s ≡ 0 = omega arith in none)
-    ∙ cut-append_one n s ys (drop (0 + length ys) xs) size
-    ∙ ap (λ k. ys ∷ cut n s (drop k xs)) (let same : 0 + length ys ≡ s = omega arith in same)
-cut-with_range (suc n) s (suc p) xs ys lt size long =
-    let first = take s xs in
-    let rest = drop s xs in
-    let few : length first ≡ s = length-take-le s xs (omega arith) in
-    let left : length rest ≡ n * s = length-drop s xs ∙ omega arith in
-    ap (λ zs. cut (suc n) s (with_range zs (suc p * s) ys)) (sym (take-append-drop s xs))
-    ∙ ap (λ k. cut (suc n) s (with_range (first ++ rest) k ys)) (let split : suc p * s ≡ s + p * s = omega arith in split)
-    ∙ ap (cut (suc n) s) (with_range-append first rest s (p * s) ys few)
-    ∙ cut-append_one n s first (with_range rest (p * s) ys) few
-    ∙ ap (λ zs. first ∷ zs) (cut-with_range n s p rest ys (omega arith) size left)
 
 pub cut-replicate : {X : Type 0} (n s : ℕ) (x : X) → cut n s (replicate (n * s) x) ≡ replicate n (replicate s x)
 cut-replicate zero s x = refl
@@ -148,6 +130,14 @@ cut-with_ranges (suc n) s (suc p) k xs ys le size long =
     ∙ ap (λ ws. first ∷ ws) (cut-with_ranges n s p k rest ys (omega arith) size left)
     ∙ ap (λ i. (first ∷ take p (cut n s rest)) ++ (zs ++ drop i (first ∷ cut n s rest)))
     (let same : suc (p + length zs) ≡ suc p + length zs = omega arith in same)
+
+-- another piece in its place
+pub cut-with_range : {X : Type 0} (n s p : ℕ) (xs ys : List X) → p < n → length ys ≡ s → length xs ≡ n * s → cut n s (with_range xs (p * s) ys) ≡ set (cut n s xs) p ys
+cut-with_range n s p xs ys lt size long =
+    cut-with_ranges n s p 1 xs ys (omega arith) (omega (arith, size)) long
+    ∙ ap (λ y. with_range (cut n s xs) p (y ∷ [])) (take_all s ys (omega (arith, size)))
+    ∙ ap (λ k. take p (cut n s xs) ++ ys ∷ drop k (cut n s xs)) (let next : p + 1 ≡ suc p = omega arith in next)
+    ∙ sym (set_split (cut n s xs) p ys (omega (arith, length-cut n s xs)))
 
 pub joined-cut : {X : Type 0} (n s : ℕ) (xs : List X) → length xs ≡ n * s → joined_pieces (cut n s xs) ≡ xs
 joined-cut zero s [] long = refl

@@ -244,3 +244,7 @@ filled_around size start count n all bytes one two three long fits length_two fi
     ∙ ap (λ xs. xs ++ replicate (count * size - all) 0) (take_all (count * size) two (omega (arith, long_two, sizes)) ∙ two_is)
     ∙ ap (λ k. (zeros ++ bytes) ++ replicate k 0) (let left : count * size - all ≡ rest * size = omega (arith, length_two, long_two, sizes) in left)
     ∙ append_assoc zeros bytes (replicate (rest * size) 0)
+
+-- a symbol ends within its slab's buffer
+pub symbol_within : (inside : Inside) (i a : ℕ) → the_invariant inside → meant_at (the_view inside).order i < length (the_view inside).values → a ≡ meant_at (the_view inside).order i * (the_view inside).symbol_size → a + inside.symbol_size ≤ length inside.data.items
+symbol_within inside i a invariant below start = within_slice (holds inside (the_view inside) refl invariant) (meant_at (the_view inside).order i) a inside.data.items below start refl

@@ -1,5 +1,7 @@
 -- A list of which the first i elements are made by f from them and those of another.
 use Rattle.std.proofs.Common.{◌≡◌, ℕ, zero, suc, ◌+◌, ◌<◌, ◌≤◌, List, [], ◌∷◌, length, get_or, set, take, map, refl, sym, ap, ◌∙◌, arith, add-one}
+use Rattle.std.proofs.lemmas.Simd.{length-chunk}
+use Rattle.std.specs.Int.Bits.{bit_xor}
 use lib.Lanes.{zip2, chunk, put_chunk}
 
 abbrev pub zip_upto : {A B : Type 0} → (A → B → A) → ℕ → List A → List B → List A
@@ -82,3 +84,36 @@ pub zip2-left : {A B : Type 0} (g : A → A) (xs : List A) (ys : List B) → len
 zip2-left g [] ys e = refl
 zip2-left g (x ∷ xs) [] e = absurd (omega arith)
 zip2-left g (x ∷ xs) (y ∷ ys) e = ap (λ zs. g x ∷ zs) (zip2-left g xs ys (omega arith))
+
+-- ---- a list whose own elements a loop makes by g
+
+module _ (g : ℕ → ℕ) (now xs : List ℕ) (i : ℕ) (so_far : now ≡ zip_upto (λ x _. g x) i xs xs) where
+  same_length : length now ≡ length xs
+  same_length = ap length so_far ∙ length-zip_upto (λ x _. g x) i xs xs
+
+  pub made_one : (y : ℕ) → y ≡ g (get_or now i 0) → i < length xs → set now i y ≡ zip_upto (λ x _. g x) (i + 1) xs xs
+  made_one y is lt = ap (set now i) is ∙ step_one (λ x _. g x) i now xs xs 0 0 so_far lt (omega arith)
+
+  pub made_store : (n j : ℕ) (made : List ℕ) → made ≡ map g (chunk i n now) → i + n ≤ length xs → j ≡ i + n → put_chunk i now made ≡ zip_upto (λ x _. g x) j xs xs
+  made_store n j made is le e =
+      let few = length-chunk i n now (omega (arith, same_length)) in
+      ap (put_chunk i now) (is ∙ sym (zip2-left g (chunk i n now) (chunk i n xs) (length-chunk i n xs le ∙ sym few)))
+      ∙ step_store (λ x _. g x) n i j now xs xs so_far le (omega arith) e
+
+  pub made_all : i ≡ length xs → now ≡ map g xs
+  made_all all = at_end (λ x _. g x) i now xs xs so_far (omega arith) all ∙ zip2-left g xs xs refl
+
+-- ---- a list to which a loop adds what g makes of another's
+
+module _ (g : ℕ → ℕ) (now xs ys : List ℕ) (i : ℕ) (so_far : now ≡ zip_upto (λ x y. bit_xor x (g y)) i xs ys) (long : length xs ≤ length ys) where
+  pub added_one : (y : ℕ) → y ≡ g (get_or ys i 0) → i < length xs → set now i (bit_xor (get_or now i 0) y) ≡ zip_upto (λ x y. bit_xor x (g y)) (i + 1) xs ys
+  added_one y is lt = ap (λ p. set now i (bit_xor (get_or now i 0) p)) is ∙ step_one (λ x y. bit_xor x (g y)) i now xs ys 0 0 so_far lt long
+
+  pub added_store : (n j : ℕ) (made : List ℕ) → made ≡ map g (chunk i n ys) → i + n ≤ length xs → j ≡ i + n → put_chunk i now (zip2 bit_xor (chunk i n now) made) ≡ zip_upto (λ x y. bit_xor x (g y)) j xs ys
+  added_store n j made is le e =
+      ap (λ t. put_chunk i now (zip2 bit_xor (chunk i n now) t)) is
+      ∙ ap (put_chunk i now) (zip2-map_right bit_xor g (chunk i n now) (chunk i n ys))
+      ∙ step_store (λ x y. bit_xor x (g y)) n i j now xs ys so_far le long e
+
+  pub added_all : i ≡ length xs → now ≡ zip2 bit_xor xs (map g ys)
+  added_all all = at_end (λ x y. bit_xor x (g y)) i now xs ys so_far long all ∙ sym (zip2-map_right bit_xor g xs ys)

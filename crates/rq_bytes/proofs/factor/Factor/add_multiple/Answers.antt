@@ -1,10 +1,8 @@
 -- What the check leaves to show of `factor::Factor::add_multiple`.
-use Rattle.std.proofs.Common.{ℕ, ◌+◌, ◌*◌, ap, sym, ◌∙◌, arith, set, get_or}
+use Rattle.std.proofs.Common.{ℕ, ◌+◌, ◌*◌, ap, ◌∙◌, arith, get_or}
 use Rattle.std.proofs.lemmas.Simd.{length-chunk}
-use Rattle.std.specs.Int.Bits.{bit_xor}
-use lib.Lanes.{zip2, chunk, put_chunk}
 use Rattle.rq_standard.specs.Octets.{octet_mul}
-use Rattle.rq_bytes.proofs.ZipUpto.{step_one, step_store, at_end, zip2-map_right}
+use Rattle.rq_bytes.proofs.ZipUpto.{added_one, added_store, added_all}
 use Rattle.rq_bytes.proofs.factor.Factor.add_multiple.Goals as goal
 
 pub lane_products-multiple-requires : goal.lane_products-multiple-requires
@@ -12,28 +10,11 @@ lane_products-multiple-requires c = length-chunk (32 * c.loop-block.block) 32 c.
 
 pub loop-block-preserved : goal.loop-block-preserved
 loop-block-preserved c =
-    let s = c.args.self.now in
-    let f = λ (x y : ℕ). bit_xor x (octet_mul s y) in
-    let b = c.loop-block.block in
-    let at = 32 * b in
-    let now = c.loop-block.octets in
-    let other = c.args.other.now in
-    ap (λ t. put_chunk at now (zip2 bit_xor (chunk at 32 now) t)) (c.lane_products-multiple.ensures.products)
-    ∙ ap (put_chunk at now) (zip2-map_right bit_xor (octet_mul s) (chunk at 32 now) (chunk at 32 other))
-    ∙ step_store f 32 at (32 * (b + 1)) now c.args.octets.now other c.loop-block.invariant (omega arith) (omega arith) (omega arith)
+    added_store (octet_mul c.args.self.now) c.loop-block.octets c.args.octets.now c.args.other.now _ c.loop-block.invariant (omega arith) 32 (32 * (c.loop-block.block + 1)) _ c.lane_products-multiple.ensures.products (omega arith) (omega arith)
 
 pub loop-i-preserved : goal.loop-i-preserved
 loop-i-preserved c =
-    let f = λ (x y : ℕ). bit_xor x (octet_mul c.args.self.now y) in
-    let i = c.loop-i.i in
-    ap (λ p. set c.loop-i.octets i (bit_xor (get_or c.loop-i.octets i 0) p)) (c.product.ensures ∙ ap (λ (a : ℕ). octet_mul a (get_or c.args.other.now i 0)) c.self.view_is)
-    ∙ step_one f i c.loop-i.octets c.args.octets.now c.args.other.now 0 0 c.loop-i.invariant (omega arith) (omega arith)
+    added_one (octet_mul c.args.self.now) c.loop-i.octets c.args.octets.now c.args.other.now c.loop-i.i c.loop-i.invariant (omega arith) _ (c.product.ensures ∙ ap (λ (a : ℕ). octet_mul a (get_or c.args.other.now c.loop-i.i 0)) c.self.view_is) (omega arith)
 
 pub returns-clause-sum : goal.returns-clause-sum
-returns-clause-sum c =
-    let s = c.args.self.now in
-    let f = λ (x y : ℕ). bit_xor x (octet_mul s y) in
-    let old = c.args.octets.now in
-    let other = c.args.other.now in
-    at_end f c.loop-i.i c.loop-i.octets old other c.loop-i.invariant (omega arith) (omega arith)
-    ∙ sym (zip2-map_right bit_xor (octet_mul s) old other)
+returns-clause-sum c = added_all (octet_mul c.args.self.now) c.loop-i.octets c.args.octets.now c.args.other.now c.loop-i.i c.loop-i.invariant (omega arith) (omega arith)

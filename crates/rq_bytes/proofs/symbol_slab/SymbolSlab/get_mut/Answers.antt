@@ -1,26 +1,23 @@
 -- What the check leaves to show of `symbol_slab::SymbolSlab::get_mut`.
-use Rattle.std.proofs.Common.{length, ◌≡◌, ◌+◌, ◌-◌, refl, ◌∙◌, ap, subst, arith}
+use Rattle.std.proofs.Common.{length, ◌≡◌, ◌+◌, ◌-◌, ◌≤◌, refl, ◌∙◌, ap, subst, arith}
 use Rattle.rq_algebra.specs.Operations.{meant_at}
 use Rattle.rq_bytes.specs.Ranges.{range_of}
 use Rattle.rq_bytes.specs.SymbolSlab.{Slab, symbol_in}
 use Rattle.rq_bytes.specs.SlabLends.{with_octets, IsSymbolWrite}
 use Rattle.rq_bytes.specs.contracts.symbol_slab.SymbolSlab.{the_view}
-use Rattle.rq_bytes.proofs.SlabFacts.{holds, range_in, length-range_at, within_slice, octets_written, symbol_written}
+use Rattle.rq_bytes.proofs.SlabFacts.{holds, range_in, length-range_at, symbol_within, octets_written, symbol_written}
 use Rattle.rq_bytes.proofs.symbol_slab.SymbolSlab.get_mut.Goals as goal
+use Rattle.rq_bytes.proofs.symbol_slab.SymbolSlab.get_mut.Goals.{After-start_of-start}
+
+module _ (c : After-start_of-start) where
+  fits : c.start_of-start.result + c.self.inside.symbol_size ≤ length c.self.inside.data.items
+  fits = symbol_within c.self.inside c.args.i c.start_of-start.result c.self.invariant c.start_of-start.ensures.below c.start_of-start.ensures.start
 
 pub overflow_add-start : goal.overflow_add-start
-overflow_add-start c =
-    let d = c.start_of-start in
-    let slab = the_view c.self.inside in
-    let fits = within_slice (holds c.self.inside slab refl c.self.invariant) (meant_at slab.order c.args.i) d.result c.self.inside.data.items d.ensures.below d.ensures.start refl in
-    record { fits = omega (arith, fits, c.self.inside.data.small, c.self.inside.data.ok) }
+overflow_add-start c = record { fits = omega (arith, fits (goal.at.overflow_add-start c).After-start_of-start, c.self.inside.data.small, c.self.inside.data.ok) }
 
 pub slice_mut-requires-clause-in_bounds : goal.slice_mut-requires-clause-in_bounds
-slice_mut-requires-clause-in_bounds c =
-    let d = c.start_of-start in
-    let slab = the_view c.self.inside in
-    let fits = within_slice (holds c.self.inside slab refl c.self.invariant) (meant_at slab.order c.args.i) d.result c.self.inside.data.items d.ensures.below d.ensures.start refl in
-    omega (arith, fits, c.self.inside.data.ok)
+slice_mut-requires-clause-in_bounds c = omega (arith, fits (goal.at.slice_mut-requires-clause-in_bounds c).After-start_of-start, c.self.inside.data.ok)
 
 pub returns : goal.returns
 returns c =

@@ -4,7 +4,7 @@ use Rattle.rq_algebra.specs.Operations.{meant_at}
 use Rattle.rq_bytes.specs.SymbolSlab.{Slab, symbol_in}
 use Rattle.rq_bytes.specs.SlabLends.{with_octets, IsSymbolWrite}
 use Rattle.rq_bytes.specs.contracts.symbol_slab.SymbolSlab.{the_view}
-use Rattle.rq_bytes.proofs.SlabFacts.{holds, apart, range_in, length-range_at, within_slice, octets_written, symbol_written}
+use Rattle.rq_bytes.proofs.SlabFacts.{holds, apart, range_in, length-range_at, symbol_within, octets_written, symbol_written}
 use Rattle.rq_bytes.proofs.symbol_slab.SymbolSlab.get_pair_mut.Goals as goal
 
 pub get_range_pair-requires-clause-apart : goal.get_range_pair-requires-clause-apart
@@ -16,18 +16,10 @@ get_range_pair-requires-clause-apart c =
     apart (holds c.self.inside slab refl c.self.invariant) (meant_at slab.order c.args.dest) (meant_at slab.order c.args.src) d.result s.result two d.ensures.start s.ensures.start
 
 pub get_range_pair-requires-clause-dest_within : goal.get_range_pair-requires-clause-dest_within
-get_range_pair-requires-clause-dest_within c =
-    let d = c.start_of-dest_start in
-    let slab = the_view c.self.inside in
-    let fits = within_slice (holds c.self.inside slab refl c.self.invariant) (meant_at slab.order c.args.dest) d.result c.self.inside.data.items d.ensures.below d.ensures.start refl in
-    omega (arith, fits, c.self.inside.data.ok)
+get_range_pair-requires-clause-dest_within c = omega (arith, symbol_within c.self.inside c.args.dest _ c.self.invariant c.start_of-dest_start.ensures.below c.start_of-dest_start.ensures.start, c.self.inside.data.ok)
 
 pub get_range_pair-requires-clause-src_within : goal.get_range_pair-requires-clause-src_within
-get_range_pair-requires-clause-src_within c =
-    let s = c.start_of-src_start in
-    let slab = the_view c.self.inside in
-    let fits = within_slice (holds c.self.inside slab refl c.self.invariant) (meant_at slab.order c.args.src) s.result c.self.inside.data.items s.ensures.below s.ensures.start refl in
-    omega (arith, fits, c.self.inside.data.ok)
+get_range_pair-requires-clause-src_within c = omega (arith, symbol_within c.self.inside c.args.src _ c.self.invariant c.start_of-src_start.ensures.below c.start_of-src_start.ensures.start, c.self.inside.data.ok)
 
 pub returns : goal.returns
 returns c =
