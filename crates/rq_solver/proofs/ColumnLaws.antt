@@ -1,5 +1,5 @@
 -- Columns in an order of which two are exchanged, and what becomes of the active ones.
-use Rattle.std.proofs.Common.{◌≡◌, ◌≢◌, ℕ, ◌+◌, ◌-◌, ◌<◌, ◌≤◌, List, [], ◌∷◌, ◌++◌, length, set, refl, sym, ap, ◌∙◌, zero-add, arith, inl, inr}
+use Rattle.std.proofs.Common.{◌≡◌, ◌≢◌, ℕ, ◌+◌, ◌-◌, ◌<◌, ◌≤◌, List, [], ◌∷◌, ◌++◌, length, set, refl, sym, ap, ◌∙◌, subst, zero-add, arith, inl, inr}
 use Rattle.std.proofs.lemmas.Bool.{cases_eq}
 use Rattle.std.proofs.lemmas.List.{get_or-set_other, length-set, map-id}
 use Rattle.std.proofs.lemmas.Grind.{get_or-set_at}
@@ -109,25 +109,28 @@ module _ (column place other : ℕ) (old mid new : ColumnState) (active : IsActi
             ]
       ]
 
+  -- the active places are fewer by that one
+  ends : (pivots end : ℕ) → ((x : ℕ) → pivots ≤ x → x < end → (x ≢ other) × (old.pivots ≤ x) × (x < old.end)) → new ≡ record mid { pivots = pivots; end = end } → EndsActive column old new
+  ends pivots end inner is = rw is (record { width = ex.width; before = before_kept; left = λ k l still. let i = inner (at mid.places k) still.from still.below in left_of k l i.0 i.1 i.2 })
+
   -- the column goes behind the pivots
   pub ends_by_pivot : old.pivots ≡ other → new ≡ record mid { pivots = mid.pivots + 1 } → EndsActive column old new
-  ends_by_pivot next is =
-      rw is
-      (record {
-        width = ex.width;
-        before = before_kept;
-        left = λ k l still. let from = still.from in let under = still.below in left_of k l (λ e. omega (arith, e, ex.pivots)) (omega (arith, ex.pivots)) (omega (arith, ex.end));
-      })
+  ends_by_pivot next = ends (mid.pivots + 1) mid.end (λ x from under. (λ e. omega (arith, e, ex.pivots), omega (arith, ex.pivots), omega (arith, ex.end)))
 
   -- the column goes before the inactive ones
   pub ends_by_inactivation : old.end ≡ other + 1 → new ≡ record mid { end = mid.end - 1 } → EndsActive column old new
-  ends_by_inactivation next is =
-      rw is
-      (record {
-        width = ex.width;
-        before = before_kept;
-        left = λ k l still. let from = still.from in let under = still.below in left_of k l (λ e. omega (arith, e, ex.end)) (omega (arith, ex.pivots)) (omega (arith, ex.end));
-      })
+  ends_by_inactivation next = ends mid.pivots (mid.end - 1) (λ x from under. (λ e. omega (arith, e, ex.end), omega (arith, ex.pivots), omega (arith, ex.end)))
+
+-- ---- what was read of the columns that callers see
+
+module _ (inside old : ColumnState) (same : inside ≡ old) (are : IsColumnState inside) where
+  pub state_was : IsColumnState old
+  state_was = subst IsColumnState same are
+
+  pub place_was : (column place : ℕ) → column < length old.order → (column < length inside.places → place ≡ at inside.places column) → at old.places column ≡ place
+  place_was column place l read =
+      let places = ap (λ (s : ColumnState). s.places) same in
+      sym (read (omega (arith, ap length places, l, state_was.columns.place_count)) ∙ ap (λ (xs : List ℕ). at xs column) places)
 
 -- ---- columns in their own order
 

@@ -1,5 +1,5 @@
 -- A row takes the rows of pivots, one by one, and so does one row after another.
-use Rattle.std.proofs.Common.{◌≡◌, ◌≢◌, ℕ, ◌+◌, ◌<◌, ◌≤◌, ◌⊎◌, Bool, List, [], ◌∷◌, ◌++◌, Contains, length, take, drop, refl, sym, ap, ◌∙◌, subst, arith, inl, inr, if◌then◌else◌, ◌==◌, lit<}
+use Rattle.std.proofs.Common.{◌≡◌, ◌≢◌, ℕ, ◌+◌, ◌<◌, ◌≤◌, ◌⊎◌, Bool, List, All, [], ◌∷◌, ◌++◌, Contains, length, take, drop, refl, sym, ap, ◌∙◌, subst, arith, inl, inr, if◌then◌else◌, ◌==◌, lit<}
 use Rattle.std.specs.List.{count_by}
 use Rattle.std.proofs.lemmas.Bool.{cases_eq, eq-eqb, ne_eqb}
 use Rattle.std.proofs.lemmas.List.{take_more, take-append-drop, length-take-le}
@@ -9,13 +9,21 @@ use Rattle.rq_algebra.specs.Arrangements.{ArePlaces}
 use Rattle.rq_algebra.specs.Systems.{at}
 use Rattle.rq_algebra.proofs.Sums.{add_zero, mul_zero}
 use Rattle.rq_standard.specs.OctetField.{octets}
-use Rattle.rq_solver.specs.Cleared.{IsCleared, TakesPivots}
-use Rattle.rq_solver.specs.Peeled.{IsOrderOf}
+use Rattle.rq_solver.specs.Cleared.{AreRowsOfBits, IsCleared, TakesPivots}
+use Rattle.rq_solver.specs.Peeled.{IsOrderOf, ones_of}
 use Rattle.rq_solver.specs.Recorded.{Recorded, sum_step, Performs}
 use Rattle.rq_solver.specs.RowSteps.{rows_after}
 use Rattle.rq_parts.specs.DenseOctetMatrix.{HasOctets}
 use Rattle.rq_solver.proofs.StepColumns.{rows_after-none, rows_after-next}
 use Rattle.rq_solver.proofs.Performing.{sum_step-here, sum_step-elsewhere, performs_none, performs_more}
+
+-- the columns in which a row of bits has ones
+pub record AreColumnsOfRow (width : ℕ) (columns : List ℕ) : Type 0 where
+  pub within : All (λ k. k < width) columns
+  pub once : (k : ℕ) → k < width → count_by (λ x. x == k) columns ≤ 1
+
+pub columns_of_row : (width row : ℕ) (lists : List (List ℕ)) (columns : List ℕ) → AreRowsOfBits width lists → row < length lists → columns ≡ ones_of lists row → AreColumnsOfRow width columns
+columns_of_row width row lists columns bits l is = subst (AreColumnsOfRow width) (sym is) (record { within = bits.within row l; once = λ k. bits.once row k l })
 
 -- ---- tests of numbers, and places of a list that are counted
 

@@ -140,7 +140,7 @@ fn clear_column(
     add_first_row(batch, column, first_hdpc, recorded)?;
     let place = peeling.places[column];
     if place < peeling.rows.len() {
-        add_pivot(batch, place, first_hdpc, peeling, recorded)?;
+        add_pivot(peeling, place, batch, first_hdpc, recorded)?;
     }
     Ok(())
 }
@@ -186,10 +186,10 @@ fn add_first_row(
 
 // Adds multiples of a pivot's row to the HDPC rows, so that they have 0 in its column.
 fn add_pivot(
-    batch: &OctetBatch,
-    place: usize,
-    first_hdpc: usize,
     peeling: &Peeling,
+    place: usize,
+    batch: &OctetBatch,
+    first_hdpc: usize,
     recorded: &mut RecordedRows,
 ) -> Result<(), Error>
     requires rows { AreOctetsIn first_hdpc (length batch.now.table.rows) recorded.old }

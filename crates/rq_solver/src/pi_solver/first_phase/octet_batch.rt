@@ -1,6 +1,7 @@
 //! The octets of HDPC rows that are cleared together.
 ghost use Rattle.std.specs.Prelude.{◌≡◌, ℕ, ◌<◌, length, IfOk, IfErr};
 ghost use Rattle.rq_algebra.specs.Steps.{AddsRow, ScalesRow};
+ghost use Rattle.rq_algebra.specs.Systems.{at};
 ghost use Rattle.rq_bytes.specs.declared.error.Error.TheVariants.{OutOfMemory};
 ghost use Rattle.rq_parts.specs.DenseOctetMatrix.{entry_of, HasOctets};
 ghost use Rattle.rq_standard.specs.OctetField.{octets};
@@ -74,8 +75,7 @@ impl OctetBatch {
         ensures table { self.new.table ≡ self.old.table }
         ensures sum { AddsRow octets (length self.old.table.rows) self.old.table.width dest 0 scalar (octet_in self.old) (octet_in self.new) }
     {
-        let product = Octet::new(scalar) * Octet::new(self.factors[0]);
-        self.factors[dest] ^= product.byte();
+        self.factors[dest] ^= self.first_multiple(scalar);
     }
 
     /// Multiplies the first row.
@@ -84,7 +84,14 @@ impl OctetBatch {
         ensures table { self.new.table ≡ self.old.table }
         ensures multiple { ScalesRow octets (length self.old.table.rows) self.old.table.width 0 scalar (octet_in self.old) (octet_in self.new) }
     {
-        let product = Octet::new(scalar) * Octet::new(self.factors[0]);
-        self.factors[0] = product.byte();
+        self.factors[0] = self.first_multiple(scalar);
+    }
+
+    // The first row's factor, multiplied.
+    fn first_multiple(&self, scalar: u8) -> u8
+        requires { 0 < length self.now.table.rows }
+        ensures { result ≡ octets.mul scalar (at self.now.factors 0) }
+    {
+        (Octet::new(scalar) * Octet::new(self.factors[0])).byte()
     }
 }

@@ -5,7 +5,7 @@ use Rattle.std.proofs.lemmas.List.{get_or_read}
 use Rattle.rq_algebra.specs.Systems.{at}
 use Rattle.rq_solver.specs.Peeled.{ones_of}
 use Rattle.rq_solver.proofs.CountLaws.{few_places, met_none, met_skipped, met_more, twice_counted}
-use Rattle.rq_solver.proofs.PivotTurns.{takes_none, takes_skipped, takes_more}
+use Rattle.rq_solver.proofs.PivotTurns.{columns_of_row, takes_none, takes_skipped, takes_more}
 use Rattle.rq_solver.proofs.pi_solver.first_phase.take_pivots.Goals as goal
 use Rattle.rq_solver.proofs.pi_solver.first_phase.take_pivots.Goals.{then-place-len+then-index-row+in_ok-add_row, else-place-len, else-place-len-via-then-place-len+else-index-row, else-place-len-via-else-place-len}
 
@@ -30,16 +30,15 @@ loop-column-preserved c =
     let cur = c.loop-column.recorded in
     let peeled = c.requires.peeled.peeled in
     let in_columns : t < length columns = c.loop-column-test.true in
-    let within : All (λ k. k < width) columns = subst (λ (l : List ℕ). All (λ k. k < width) l) (sym c.row-column-items.ensures) (c.requires.peeled.bits.within row c.requires.row) in
-    let once : (k : ℕ) → k < width → count_by (λ x. x == k) columns ≤ 1 = subst (λ (l : List ℕ). (k : ℕ) → k < width → count_by (λ x. x == k) l ≤ 1) (sym c.row-column-items.ensures) (λ k. c.requires.peeled.bits.once row k c.requires.row) in
-    let in_width : at columns t < width = within t 0 in_columns in
+    let are = columns_of_row width row c.args.ones.now columns c.requires.peeled.bits c.requires.row c.row-column-items.ensures in
+    let in_width : at columns t < width = are.within t 0 in_columns in
     let place : at places (at columns t) ≡ j = sym (get_or_read places (at columns t) j in_width c.index-place.ensures 0) in
     let many = c.len.ensures ∙ c.args.peeling.now.rows.ok.0 in
     let v = c.loop-column.invariant in
     let met : ℕ → ℕ = λ q. at places (at columns q) in
     let fresh : (q : ℕ) → q < t → met q ≢ met t = (λ (q : ℕ) (l : q < t) (e : met q ≡ met t).
-    let same : at columns q ≡ at columns t = sym (peeled.columns.placed (at columns q) (within q 0 (omega arith))).1 ∙ ap (at order) e ∙ (peeled.columns.placed (at columns t) in_width).1 in
-    twice_counted columns q t l in_columns same (once (at columns t) in_width)) in
+    let same : at columns q ≡ at columns t = sym (peeled.columns.placed (at columns q) (are.within q 0 (omega arith))).1 ∙ ap (at order) e ∙ (peeled.columns.placed (at columns t) in_width).1 in
+    twice_counted columns q t l in_columns same (are.once (at columns t) in_width)) in
     elim c.if-place-len.branch [
       | then-place-len+then-index-row+in_ok-add_row w ↦
           let in_rows : j < length rows = omega (arith, many, w.if-place-len.true) in
@@ -50,7 +49,7 @@ loop-column-preserved c =
             few =
                 let added = w.in_ok-add_row.ensures.counted in
                 (v.few.0 + 1, met_more (length rows) met t v.few.0 v.few.1 (rw place in_rows) fresh, (let so_far = v.few.2 in omega (arith, added, so_far)));
-            taken = takes_more rows order row columns places width peeled.columns peeled.few t in_columns in_width old cur v.taken once _ peeled.in_rows j place in_rows (λ e. w.if-index-row.true (tested ∙ e))
+            taken = takes_more rows order row columns places width peeled.columns peeled.few t in_columns in_width old cur v.taken are.once _ peeled.in_rows j place in_rows (λ e. w.if-index-row.true (tested ∙ e))
                 w.add_row.new.self (rw (read, w.one.ensures) at w.in_ok-add_row.ensures.added);
           })
       | else-place-len w ↦ rw w.recorded-is (record {

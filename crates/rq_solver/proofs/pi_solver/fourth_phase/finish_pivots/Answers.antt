@@ -15,11 +15,8 @@ loop-place-init c = record {
 
 pub loop-place-preserved : goal.loop-place-preserved
 loop-place-preserved c =
-    let lists = c.args.ones.now in
-    let rows = c.args.peeling.now.rows.items in
-    let order = c.args.peeling.now.order.items in
-    let places = c.args.peeling.now.places.items in
-    let bits = c.requires.peeled.bits in
+    let p = c.args.peeling.now in
+    let rows = p.rows.items in
     let peeled = c.requires.peeled.peeled in
     let reduced = c.args.reduced.now in
     let marks = c.args.marks.now in
@@ -29,7 +26,7 @@ loop-place-preserved c =
     let cur = c.loop-place.recorded in
     let mid = c.take_reduced_rows.new.recorded in
     let v = c.loop-place.invariant in
-    let in_rows : t < length rows = omega (arith, c.loop-place-test.true, c.len-place-end.ensures, c.args.peeling.now.rows.ok.0) in
+    let in_rows : t < length rows = omega (arith, c.loop-place-test.true, c.len-place-end.ensures, p.rows.ok.0) in
     let in_marks : t < length marks = omega (arith, in_rows, c.requires.long) in
     let read : c.index-row.result.now ≡ at rows t = get_or_read rows t c.index-row.result.now in_rows c.index-row.ensures 0 in
     let turn = rw read at c.in_ok-take_reduced_rows.ensures.taken in
@@ -38,14 +35,14 @@ loop-place-preserved c =
     let sums = c.in_ok-take_reduced_rows.ensures.few in
     elim c.if-marks-place.branch [
       | then-marks-place+in_ok-take_pivots w ↦ rw w.recorded-is (record {
-        finished = finish_again lists rows order places _ bits peeled reduced marks count t in_rows old cur mid v.finished turn in_table apart c.requires.width w.take_pivots.new.recorded (rw read at w.in_ok-take_pivots.ensures.taken) w.if-marks-place.true;
+        finished = finish_again c.args.ones.now rows p.order.items p.places.items _ c.requires.peeled.bits peeled reduced marks count t in_rows old cur mid v.finished turn in_table apart c.requires.width w.take_pivots.new.recorded (rw read at w.in_ok-take_pivots.ensures.taken) w.if-marks-place.true;
         few =
             let each = rw read at w.in_ok-take_pivots.ensures.each in
             let short = c.requires.short t in_rows w.if-marks-place.true in
             one_turn_more (count + c.args.most) _ _ _ t v.few (omega (arith, sums, each, short));
       })
       | else-marks-place w ↦ rw w.recorded-is (record {
-        finished = finish_plain lists rows order places _ bits peeled reduced marks count t in_rows old cur mid v.finished turn in_table apart c.requires.width w.if-marks-place.false;
+        finished = finish_plain c.args.ones.now rows p.order.items p.places.items _ c.requires.peeled.bits peeled reduced marks count t in_rows old cur mid v.finished turn in_table apart c.requires.width w.if-marks-place.false;
         few = one_turn_more (count + c.args.most) _ _ _ t v.few (omega (arith, sums));
       })
     ]

@@ -15,44 +15,7 @@ use Rattle.rq_solver.specs.Cleared.{HasPeeledPivots, one_in, system_rows}
 use Rattle.rq_solver.proofs.OctetRows.{same_rows}
 use Rattle.rq_solver.proofs.SolutionLaws.{finds_same, null_same}
 use Rattle.rq_solver.proofs.pi_solver.phases.find_operations.Goals as goal
-
-pub returns-in_default-clause-found : goal.returns-in_default-clause-found
-returns-in_default-clause-found c = λ bit are.
-    let lists = c.args.ones.now in
-    let hdpc = c.args.hdpc.now in
-    let height = length lists in
-    let system = system_rows lists c.args.first_hdpc hdpc in
-    let rows = c.args.peeling.now.rows.items in
-    let order = c.args.peeling.now.order.items in
-    let places = c.args.peeling.now.places.items in
-    let cleared = c.in_ok-recorded.ensures.cleared in
-    let listed = c.as_slice.ensures.value ∙ sym c.as_mut_slice-rows.ensures.value in
-    let peeled : HasPeeledPivots height (length places) system rows order (drop (length rows) c.as_mut_slice-rows.result.now) c.in_ok-recorded.recorded =
-    subst (λ (l : List ℕ). HasPeeledPivots height (length places) system rows order (drop (length rows) l) c.in_ok-recorded.recorded) listed cleared in
-    let found = rw (cleared.height_is, c.in_default.is) at c.in_ok-found.ensures.found in
-    let null : HasHomogeneousColumn octets height c.args.width system = rw c.requires.peeled.columns.place_count at (found system peeled) in
-    null_same octets height c.args.width system _ (same_rows c.args.first_hdpc (length hdpc.rows) (entry_of hdpc) height c.args.width (one_in lists) bit (λ i k l m. (are.each i l).once k (omega arith) m)) null
-
-pub returns-clause-found : goal.returns-clause-found
-returns-clause-found c = λ bit are.
-    let lists = c.args.ones.now in
-    let hdpc = c.args.hdpc.now in
-    let height = length lists in
-    let system = system_rows lists c.args.first_hdpc hdpc in
-    let rows = c.args.peeling.now.rows.items in
-    let order = c.args.peeling.now.order.items in
-    let places = c.args.peeling.now.places.items in
-    let cleared = c.in_ok-recorded.ensures.cleared in
-    let listed = c.as_slice.ensures.value ∙ sym c.as_mut_slice-rows.ensures.value in
-    let peeled : HasPeeledPivots height (length places) system rows order (drop (length rows) c.as_mut_slice-rows.result.now) c.in_ok-recorded.recorded =
-    subst (λ (l : List ℕ). HasPeeledPivots height (length places) system rows order (drop (length rows) l) c.in_ok-recorded.recorded) listed cleared in
-    let found = rw (cleared.height_is, c.in-Some.is) at c.in_ok-found.ensures.found in
-    let finds : FindsColumn octets height c.args.width system (c.rows_of_columns.new.recorded.operations ++ Reorder c.in-Some.order.items ∷ []) = rw c.requires.peeled.columns.place_count at (found system peeled) in
-    let steps : List Operation = c.rows_of_columns.new.recorded.operations in
-    let recorded : map operation_of c.into_operations.result.items ≡ steps ++ Reorder c.in-Some.order.items ∷ [] =
-    c.into_operations.ensures ∙ c.in_ok-push.ensures.recorded ∙ ap (λ (l : List Operation). l ++ Reorder c.in-Some.order.items ∷ []) c.into_operations-operations.ensures in
-    rw recorded
-    (finds_same octets height c.args.width system _ (same_rows c.args.first_hdpc (length hdpc.rows) (entry_of hdpc) height c.args.width (one_in lists) bit (λ i k l m. (are.each i l).once k (omega arith) m)) (c.rows_of_columns.new.recorded.operations ++ Reorder c.in-Some.order.items ∷ []) finds)
+use Rattle.rq_solver.proofs.pi_solver.phases.find_operations.Goals.{After-into_operations-operations}
 
 -- what was recorded in all phases
 few_of : (M width h p most recorded phases : ℕ) → p ≤ width → p + h ≤ M → 2 * most + h ≤ width → recorded ≤ M * p + batch_bound h width p → phases ≤ recorded + ((width - p) * (M - 1) + 2 * (p * most)) → phases ≤ 2 * width * M
@@ -61,47 +24,58 @@ few_of M width h p most recorded phases fits rows columns first second =
     let all : M * p + batch_bound h width p + (width - p) * (M - 1) + p * (2 * most) ≤ 2 * width * M = rw back at (few_in_all p (width - p) h M (2 * most) rows (rw back columns)) in
     omega (arith, all, first, second)
 
-pub returns-in_default-clause-few : goal.returns-in_default-clause-few
-returns-in_default-clause-few c =
-    let height = length c.args.ones.now in
-    let width = c.args.width in
+module _ (c : After-into_operations-operations) where
+  peeled : HasPeeledPivots (length c.args.ones.now) (length c.args.peeling.now.places.items) (system_rows c.args.ones.now c.args.first_hdpc c.args.hdpc.now) c.args.peeling.now.rows.items c.args.peeling.now.order.items
+      (drop (length c.args.peeling.now.rows.items) c.as_mut_slice-rows.result.now) c.in_ok-recorded.recorded
+  peeled =
+      let rows = c.args.peeling.now.rows.items in
+      let listed = c.as_slice.ensures.value ∙ sym c.as_mut_slice-rows.ensures.value in
+      subst (λ (l : List ℕ). HasPeeledPivots (length c.args.ones.now) (length c.args.peeling.now.places.items) (system_rows c.args.ones.now c.args.first_hdpc c.args.hdpc.now) rows c.args.peeling.now.order.items (drop (length rows) l) c.in_ok-recorded.recorded) listed c.in_ok-recorded.ensures.cleared
+
+  few : additions c.into_operations-operations.result ≤ 2 * c.args.width * length c.args.ones.now
+  few =
+      let height = length c.args.ones.now in
+      let width = c.args.width in
+      let hdpc = c.args.hdpc.now in
+      let rows = c.args.peeling.now.rows.items in
+      let pivots = c.requires.peeled in
+      let listed = c.as_mut_slice-rows.result.now in
+      let most_ones : ℕ = (width - c.height-3.result) / 2 in
+      let room : 2 * most_ones + length hdpc.rows ≤ width = omega (arith, c.requires.few_hdpc, c.height-3.ensures) in
+      let listed_is : c.in_ok-listed.listed.items ≡ listed = sym c.as_mut_slice-rows.ensures.value in
+      let fewer : length listed ≤ height = rw (← listed_is) (few_places (length c.in_ok-listed.listed.items) height (at c.in_ok-listed.listed.items) (rw c.height.ensures at c.in_ok-listed.ensures.listed.are)) in
+      let together : length rows + length hdpc.rows ≤ height =
+      few_together (length rows) (length hdpc.rows) c.args.first_hdpc height (at rows) pivots.in_rows c.requires.hdpc.within (λ i p l n. pivot_of_bits c.args.ones.now c.args.first_hdpc hdpc width c.requires.bits c.requires.hdpc rows c.args.peeling.now.order.items c.args.peeling.now.places.items pivots p i n l) in
+      let most : (width - length rows) * (length listed - 1) ≤ (width - length rows) * (height - 1) = mul-le-mul_left (width - length rows) (omega arith) in
+      let first : additions c.in_ok-recorded.recorded.operations ≤ height * length rows + batch_bound (length hdpc.rows) width (length rows) = rw pivots.columns.place_count at c.in_ok-recorded.ensures.few in
+      let second : additions c.rows_of_columns.new.recorded.operations ≤ additions c.in_ok-recorded.recorded.operations + (width - length rows) * (length listed - 1) + 2 * (length rows * most_ones) = rw pivots.columns.place_count at c.in_ok-found.ensures.few in
+      let same : additions c.into_operations-operations.result ≡ additions c.rows_of_columns.new.recorded.operations = ap additions c.into_operations-operations.ensures in
+      few_of height width (length hdpc.rows) (length rows) most_ones (additions c.in_ok-recorded.recorded.operations) (additions c.into_operations-operations.result) pivots.few together room first (omega (arith, most, second, same))
+
+pub returns-in_default-clause-found : goal.returns-in_default-clause-found
+returns-in_default-clause-found c = λ bit are.
+    let lists = c.args.ones.now in
     let hdpc = c.args.hdpc.now in
-    let rows = c.args.peeling.now.rows.items in
-    let peeled = c.requires.peeled in
-    let listed = c.as_mut_slice-rows.result.now in
-    let most_ones : ℕ = (width - c.height-3.result) / 2 in
-    let room : 2 * most_ones + length hdpc.rows ≤ width = omega (arith, c.requires.few_hdpc, c.height-3.ensures) in
-    let listed_is : c.in_ok-listed.listed.items ≡ listed = sym c.as_mut_slice-rows.ensures.value in
-    let fewer : length listed ≤ height = rw (← listed_is) (few_places (length c.in_ok-listed.listed.items) height (at c.in_ok-listed.listed.items) (rw c.height.ensures at c.in_ok-listed.ensures.listed.are)) in
-    let together : length rows + length hdpc.rows ≤ height =
-    few_together (length rows) (length hdpc.rows) c.args.first_hdpc height (at rows) peeled.in_rows c.requires.hdpc.within (λ i p l n. pivot_of_bits c.args.ones.now c.args.first_hdpc hdpc width c.requires.bits c.requires.hdpc rows c.args.peeling.now.order.items c.args.peeling.now.places.items peeled p i n l) in
-    let most : (width - length rows) * (length listed - 1) ≤ (width - length rows) * (height - 1) = mul-le-mul_left (width - length rows) (omega arith) in
-    let first : additions c.in_ok-recorded.recorded.operations ≤ height * length rows + batch_bound (length hdpc.rows) width (length rows) = rw peeled.columns.place_count at c.in_ok-recorded.ensures.few in
-    let second : additions c.rows_of_columns.new.recorded.operations ≤ additions c.in_ok-recorded.recorded.operations + (width - length rows) * (length listed - 1) + 2 * (length rows * most_ones) = rw peeled.columns.place_count at c.in_ok-found.ensures.few in
-    let same : additions c.into_operations-operations.result ≡ additions c.rows_of_columns.new.recorded.operations = ap additions c.into_operations-operations.ensures in
-    let all = few_of height width (length hdpc.rows) (length rows) most_ones (additions c.in_ok-recorded.recorded.operations) (additions c.into_operations-operations.result) peeled.few together room first (omega (arith, most, second, same)) in
-    let counted = c.counts.ensures.additions_are in
-    omega (arith, counted, all)
+    let found = rw (c.in_ok-recorded.ensures.cleared.height_is, c.in_default.is) at c.in_ok-found.ensures.found in
+    let null : HasHomogeneousColumn octets (length lists) c.args.width (system_rows lists c.args.first_hdpc hdpc) = rw c.requires.peeled.columns.place_count at (found _ (peeled (goal.at.returns-in_default-clause-found c).After-into_operations-operations)) in
+    null_same octets (length lists) c.args.width _ _ (same_rows c.args.first_hdpc (length hdpc.rows) (entry_of hdpc) (length lists) c.args.width (one_in lists) bit (λ i k l m. (are.each i l).once k (omega arith) m)) null
+
+pub returns-clause-found : goal.returns-clause-found
+returns-clause-found c = λ bit are.
+    let lists = c.args.ones.now in
+    let hdpc = c.args.hdpc.now in
+    let steps : List Operation = c.rows_of_columns.new.recorded.operations in
+    let order = Reorder c.in-Some.order.items ∷ [] in
+    let found = rw (c.in_ok-recorded.ensures.cleared.height_is, c.in-Some.is) at c.in_ok-found.ensures.found in
+    let finds : FindsColumn octets (length lists) c.args.width (system_rows lists c.args.first_hdpc hdpc) (steps ++ order) = rw c.requires.peeled.columns.place_count at (found _ (peeled (goal.at.returns-clause-found c).After-into_operations-operations)) in
+    let recorded : map operation_of c.into_operations.result.items ≡ steps ++ order = c.into_operations.ensures ∙ c.in_ok-push.ensures.recorded ∙ ap (λ (l : List Operation). l ++ order) c.into_operations-operations.ensures in
+    rw recorded
+    (finds_same octets (length lists) c.args.width _ _ (same_rows c.args.first_hdpc (length hdpc.rows) (entry_of hdpc) (length lists) c.args.width (one_in lists) bit (λ i k l m. (are.each i l).once k (omega arith) m)) (steps ++ order) finds)
+
+pub returns-in_default-clause-few : goal.returns-in_default-clause-few
+returns-in_default-clause-few c = omega (arith, c.counts.ensures.additions_are, few (goal.at.returns-in_default-clause-few c).After-into_operations-operations)
 
 pub returns-clause-few : goal.returns-clause-few
 returns-clause-few c =
-    let height = length c.args.ones.now in
-    let width = c.args.width in
-    let hdpc = c.args.hdpc.now in
-    let rows = c.args.peeling.now.rows.items in
-    let peeled = c.requires.peeled in
-    let listed = c.as_mut_slice-rows.result.now in
-    let most_ones : ℕ = (width - c.height-3.result) / 2 in
-    let room : 2 * most_ones + length hdpc.rows ≤ width = omega (arith, c.requires.few_hdpc, c.height-3.ensures) in
-    let listed_is : c.in_ok-listed.listed.items ≡ listed = sym c.as_mut_slice-rows.ensures.value in
-    let fewer : length listed ≤ height = rw (← listed_is) (few_places (length c.in_ok-listed.listed.items) height (at c.in_ok-listed.listed.items) (rw c.height.ensures at c.in_ok-listed.ensures.listed.are)) in
-    let together : length rows + length hdpc.rows ≤ height =
-    few_together (length rows) (length hdpc.rows) c.args.first_hdpc height (at rows) peeled.in_rows c.requires.hdpc.within (λ i p l n. pivot_of_bits c.args.ones.now c.args.first_hdpc hdpc width c.requires.bits c.requires.hdpc rows c.args.peeling.now.order.items c.args.peeling.now.places.items peeled p i n l) in
-    let most : (width - length rows) * (length listed - 1) ≤ (width - length rows) * (height - 1) = mul-le-mul_left (width - length rows) (omega arith) in
-    let first : additions c.in_ok-recorded.recorded.operations ≤ height * length rows + batch_bound (length hdpc.rows) width (length rows) = rw peeled.columns.place_count at c.in_ok-recorded.ensures.few in
-    let second : additions c.rows_of_columns.new.recorded.operations ≤ additions c.in_ok-recorded.recorded.operations + (width - length rows) * (length listed - 1) + 2 * (length rows * most_ones) = rw peeled.columns.place_count at c.in_ok-found.ensures.few in
-    let same : additions c.into_operations-operations.result ≡ additions c.rows_of_columns.new.recorded.operations = ap additions c.into_operations-operations.ensures in
     let pushed : additions c.push.new.self ≡ additions c.into_operations-operations.result = ap additions c.in_ok-push.ensures.recorded ∙ additions-order c.into_operations-operations.result c.in-Some.order.items in
-    let all = few_of height width (length hdpc.rows) (length rows) most_ones (additions c.in_ok-recorded.recorded.operations) (additions c.into_operations-operations.result) peeled.few together room first (omega (arith, most, second, same)) in
-    let counted = c.counts-2.ensures.additions_are in
-    omega (arith, counted, all, pushed)
+    omega (arith, c.counts-2.ensures.additions_are, pushed, few (goal.at.returns-clause-few c).After-into_operations-operations)

@@ -4,33 +4,29 @@ use Rattle.std.proofs.lemmas.List.{get_or_read}
 use Rattle.rq_algebra.specs.Systems.{at}
 use Rattle.rq_algebra.proofs.Places.{exchange_right}
 use Rattle.rq_solver.specs.Peeled.{ColumnState, IsColumnState}
-use Rattle.rq_solver.proofs.ColumnLaws.{ends_by_pivot}
+use Rattle.rq_solver.specs.contracts.pi_solver.columns.ColumnOrder.{the_view}
+use Rattle.rq_solver.proofs.ColumnLaws.{state_was, place_was, ends_by_pivot}
 use Rattle.rq_solver.proofs.pi_solver.columns.ColumnOrder.take_pivot.Goals as goal
 
 module _ (c : goal.After-self-1) where
-  state : IsColumnState c.args.self.now
-  state = subst IsColumnState c.self.view_is c.self.invariant
-
-  next : c.self.inside.pivots ≡ c.args.self.now.pivots
-  next = ap (λ (s : ColumnState). s.pivots) c.self.view_is
-
   here : at c.args.self.now.places c.args.column ≡ c.index-place.result.now
-  here =
-      let places = ap (λ (s : ColumnState). s.places) c.self.view_is in
-      let bound : c.args.column < length c.self.inside.places.items = omega (arith, ap length places, c.requires.column, state.columns.place_count) in
-      sym (get_or_read c.self.inside.places.items _ _ bound c.index-place.ensures 0 ∙ ap (λ (l : List ℕ). at l c.args.column) places)
+  here = place_was (the_view c.self.inside) c.args.self.now c.self.view_is c.self.invariant c.args.column _ c.requires.column (λ l. get_or_read _ _ _ l c.index-place.ensures 0)
 
 pub returns-clause-ended : goal.returns-clause-ended
 returns-clause-ended c =
-    ends_by_pivot c.args.column c.index-place.result.now c.self.inside.pivots c.args.self.now c.exchange.new.self _ c.requires.active (here c) c.exchange.ensures (omega (arith, next c)) (omega (arith, next c, c.requires.active)) (state c).within
-    (sym (next c)) (ap (λ (s : ColumnState). record s { pivots = s.pivots + 1 }) c.self-2.view_is)
+    let next = ap (λ (s : ColumnState). s.pivots) c.self.view_is in
+    let state = state_was (the_view c.self.inside) c.args.self.now c.self.view_is c.self.invariant in
+    ends_by_pivot c.args.column c.index-place.result.now c.self.inside.pivots c.args.self.now c.exchange.new.self _ c.requires.active (here c) c.exchange.ensures (omega (arith, next)) (omega (arith, next, c.requires.active)) state.within
+    (sym next) (ap (λ (s : ColumnState). record s { pivots = s.pivots + 1 }) c.self-2.view_is)
 
 pub returns-clause-here : goal.returns-clause-here
 returns-clause-here c =
+    let next = ap (λ (s : ColumnState). s.pivots) c.self.view_is in
+    let state = state_was (the_view c.self.inside) c.args.self.now c.self.view_is c.self.invariant in
     let old = c.args.self.now in
     let order : c.self-2.inside.order.items ≡ c.exchange.new.self.order = ap (λ (s : ColumnState). s.order) c.self-2.view_is in
-    let place = (state c).columns.placed c.args.column c.requires.column in
+    let place = state.columns.placed c.args.column c.requires.column in
     ap (λ (l : List ℕ). at l old.pivots) order
-    ∙ c.exchange.ensures.order old.pivots (omega (arith, c.requires.active, (state c).within))
-    ∙ ap (at old.order) (exchange_right c.index-place.result.now c.self.inside.pivots old.pivots (sym (next c)) ∙ sym (here c))
+    ∙ c.exchange.ensures.order old.pivots (omega (arith, c.requires.active, state.within))
+    ∙ ap (at old.order) (exchange_right c.index-place.result.now c.self.inside.pivots old.pivots (sym next) ∙ sym (here c))
     ∙ place.1

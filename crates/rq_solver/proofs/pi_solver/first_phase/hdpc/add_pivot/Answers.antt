@@ -10,17 +10,15 @@ use Rattle.rq_solver.proofs.pi_solver.first_phase.hdpc.add_pivot.Goals.{then-byt
 
 pub loop-row-init : goal.loop-row-init
 loop-row-init c =
-    let rows = c.args.peeling.now.rows.items in
-    let order = c.args.peeling.now.order.items in
-    let places = c.args.peeling.now.places.items in
+    let p = c.args.peeling.now in
     let batch = c.args.batch.now in
-    let column = at order c.args.place in
+    let column = at p.order.items c.args.place in
     let before = octets_from column (octet_in batch) in
     record {
       few = omega arith;
-      changed = changes_same rows order places c.args.first_hdpc (length batch.table.rows) batch.table.width before before (with_zeros column 0 before) c.args.recorded.now c.args.recorded.now
-          (λ i p l n. sym (same_behind column 0 before i (at order p) (omega arith)))
-          (changes_none rows order places c.args.first_hdpc (length batch.table.rows) batch.table.width before c.args.recorded.now c.requires.rows.octets);
+      changed = changes_same p.rows.items p.order.items p.places.items c.args.first_hdpc (length batch.table.rows) batch.table.width before before (with_zeros column 0 before) c.args.recorded.now c.args.recorded.now
+          (λ i q l n. sym (same_behind column 0 before i (at p.order.items q) (omega arith)))
+          (changes_none p.rows.items p.order.items p.places.items c.args.first_hdpc (length batch.table.rows) batch.table.width before c.args.recorded.now c.requires.rows.octets);
     }
 
 pub add_row-requires-clause-two : goal.add_row-requires-clause-two
@@ -71,11 +69,9 @@ loop-row-preserved c =
 
 pub returns-clause-changed : goal.returns-clause-changed
 returns-clause-changed c =
-    let rows = c.args.peeling.now.rows.items in
-    let order = c.args.peeling.now.order.items in
-    let places = c.args.peeling.now.places.items in
-    let batch = c.args.batch.now in
-    let column = at order c.args.place in
-    let all : c.loop-row.row ≡ length batch.table.rows = omega (arith, c.loop-row.auto.row-end) in
-    column_cleared rows order places c.args.first_hdpc (length batch.table.rows) batch.table.width column (octet_in batch) (octets_from column (octet_in batch)) c.args.recorded.now c.loop-row.recorded
+    let p = c.args.peeling.now in
+    let table = c.args.batch.now.table in
+    let column = at p.order.items c.args.place in
+    let all : c.loop-row.row ≡ length table.rows = omega (arith, c.loop-row.auto.row-end) in
+    column_cleared p.rows.items p.order.items p.places.items c.args.first_hdpc (length table.rows) table.width column (octet_in c.args.batch.now) (octets_from column (octet_in c.args.batch.now)) c.args.recorded.now c.loop-row.recorded
     (rw all at c.loop-row.invariant.changed)

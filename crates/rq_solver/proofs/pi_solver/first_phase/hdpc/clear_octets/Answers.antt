@@ -33,9 +33,7 @@ loop-column-init c =
 
 pub clear_column-requires : goal.clear_column-requires
 clear_column-requires c =
-    let rows = c.args.peeling.now.rows.items in
-    let order = c.args.peeling.now.order.items in
-    let places = c.args.peeling.now.places.items in
+    let p = c.args.peeling.now in
     let hdpc = c.args.hdpc.now in
     let summed = c.in_ok-sum_rows.ensures.summed in
     let v = c.loop-column.invariant in
@@ -47,10 +45,10 @@ clear_column-requires c =
     let width : c.loop-column.batch.table.width ≡ hdpc.width = ap (λ (t : OctetTable). t.width) table ∙ c.in_ok-sum_rows.ensures.width ∙ ap (λ (t : OctetTable). t.width) clone in
     let heights : length now.table.rows ≡ length old.table.rows = v.changed.performs.height ∙ summed.performs.height in
     let are : AreOctetsIn c.args.first_hdpc (length hdpc.rows) old = record { within = c.requires.height; fits = c.requires.fits; octets = c.requires.octets } in
-    let beside : HasPivotsBeside rows order places c.args.first_hdpc (length hdpc.rows) hdpc.width old = record { columns = c.requires.order; few = c.requires.few; pivots = c.requires.pivots; apart = c.requires.apart } in
+    let beside : HasPivotsBeside p.rows.items p.order.items p.places.items c.args.first_hdpc (length hdpc.rows) hdpc.width old = record { columns = c.requires.order; few = c.requires.few; pivots = c.requires.pivots; apart = c.requires.apart } in
     record {
       rows = rw count (octets_still c.args.first_hdpc (length hdpc.rows) old now are heights v.changed.performs.octets);
-      pivots = rw (count, width) (beside_still rows order places c.args.first_hdpc (length hdpc.rows) hdpc.width old now beside heights);
+      pivots = rw (count, width) (beside_still p.rows.items p.order.items p.places.items c.args.first_hdpc (length hdpc.rows) hdpc.width old now beside heights);
       some = omega (arith, count, c.height.ensures, c.if-height-eq0.false);
       column = omega (arith, width, c.loop-column-test.true, c.end_of_pivots-column-end.ensures.within, c.requires.order.place_count);
     }
@@ -98,9 +96,7 @@ loop-column-preserved c =
 
 pub returns-clause-cleared : goal.returns-clause-cleared
 returns-clause-cleared c =
-    let rows = c.args.peeling.now.rows.items in
-    let order = c.args.peeling.now.order.items in
-    let places = c.args.peeling.now.places.items in
+    let p = c.args.peeling.now in
     let first = c.args.first_hdpc in
     let hdpc = c.args.hdpc.now in
     let sums = c.sum_rows.new.rows in
@@ -116,14 +112,14 @@ returns-clause-cleared c =
     subst (λ (t : OctetTable). CombinesOctets first (length t.rows) t.width (entry_of t) (entry_of sums) old cur) clone c.in_ok-sum_rows.ensures.summed in
     let heights : length sums.rows ≡ count = c.in_ok-sum_rows.ensures.height ∙ ap (λ (t : OctetTable). length t.rows) clone in
     let widths : sums.width ≡ width = c.in_ok-sum_rows.ensures.width ∙ ap (λ (t : OctetTable). t.width) clone in
-    let beside : HasPivotsBeside rows order places first count width old = record { columns = c.requires.order; few = c.requires.few; pivots = c.requires.pivots; apart = c.requires.apart } in
+    let beside : HasPivotsBeside p.rows.items p.order.items p.places.items first count width old = record { columns = c.requires.order; few = c.requires.few; pivots = c.requires.pivots; apart = c.requires.apart } in
     let last : c.loop-column.column ≡ c.end_of_pivots-column-end.result = omega (arith, c.loop-column.auto.column-end) in
-    let begun : ChangesOctets rows order first count (entry_of hdpc) (octets_from 0 (octet_in start)) old cur =
-    changes_same rows order places first count width (entry_of hdpc) (entry_of sums) (octets_from 0 (octet_in start)) old cur
-    (λ i p l n. sym (from_column 0 (octet_in start) i (at order p) (omega arith) ∙ c.in_ok-batch.ensures.octets i (at order p) (rw heights l) (rw widths (in_width rows order places first count width old beside p n))))
-    (changes_combined rows order places first count width (entry_of hdpc) (entry_of sums) old cur beside summed) in
-    let changed = changes_more rows order places first count width (entry_of hdpc) (octets_from 0 (octet_in start)) (octets_from c.loop-column.column (octet_in end)) old cur new beside begun c.loop-column.invariant.changed in
-    clears_octets rows order places first count width (entry_of hdpc) (octet_in end) old new c.loop-column.column beside c.requires.hdpc_octets.elements changed
+    let begun : ChangesOctets p.rows.items p.order.items first count (entry_of hdpc) (octets_from 0 (octet_in start)) old cur =
+    changes_same p.rows.items p.order.items p.places.items first count width (entry_of hdpc) (entry_of sums) (octets_from 0 (octet_in start)) old cur
+    (λ i q l n. sym (from_column 0 (octet_in start) i (at p.order.items q) (omega arith) ∙ c.in_ok-batch.ensures.octets i (at p.order.items q) (rw heights l) (rw widths (in_width p.rows.items p.order.items p.places.items first count width old beside q n))))
+    (changes_combined p.rows.items p.order.items p.places.items first count width (entry_of hdpc) (entry_of sums) old cur beside summed) in
+    let changed = changes_more p.rows.items p.order.items p.places.items first count width (entry_of hdpc) (octets_from 0 (octet_in start)) (octets_from c.loop-column.column (octet_in end)) old cur new beside begun c.loop-column.invariant.changed in
+    clears_octets p.rows.items p.order.items p.places.items first count width (entry_of hdpc) (octet_in end) old new c.loop-column.column beside c.requires.hdpc_octets.elements changed
     (rw last c.end_of_pivots-column-end.ensures.last)
 
 pub returns-clause-few : goal.returns-clause-few

@@ -4,6 +4,7 @@ use Rattle.std.specs.List.{count_by}
 use Rattle.std.proofs.lemmas.List.{get_or_read}
 use Rattle.rq_algebra.specs.Systems.{at}
 use Rattle.rq_solver.proofs.TailWrites.{ones_none, ones_skipped, ones_more}
+use Rattle.rq_solver.proofs.PivotTurns.{columns_of_row}
 use Rattle.rq_solver.proofs.Writes.{sets_entry}
 use Rattle.rq_solver.proofs.pi_solver.first_phase.inactive.fill_bits.Goals as goal
 use Rattle.rq_solver.proofs.pi_solver.first_phase.inactive.fill_bits.Goals.{then-place-pivots, else-place-pivots}
@@ -33,9 +34,8 @@ loop-column-preserved c =
     let inactive : ℕ = width - pivots in
     let wide : pivots + inactive ≡ width = omega (arith, peeled.few) in
     let in_columns : t < length columns = c.loop-column-test.true in
-    let within : All (λ k. k < width) columns = subst (λ (l : List ℕ). All (λ k. k < width) l) (sym c.row-column-items.ensures) (c.requires.peeled.bits.within row c.requires.row) in
-    let once : (k : ℕ) → k < width → count_by (λ x. x == k) columns ≤ 1 = subst (λ (l : List ℕ). (k : ℕ) → k < width → count_by (λ x. x == k) l ≤ 1) (sym c.row-column-items.ensures) (λ k. c.requires.peeled.bits.once row k c.requires.row) in
-    let in_width : at columns t < width = within t 0 in_columns in
+    let are = columns_of_row width row c.args.ones.now columns c.requires.peeled.bits c.requires.row c.row-column-items.ensures in
+    let in_width : at columns t < width = are.within t 0 in_columns in
     let is : at places (at columns t) ≡ place = sym (get_or_read places (at columns t) place in_width c.index-place.ensures 0) in
     let many : c.len-pivots.result ≡ pivots = c.len-pivots.ensures ∙ c.args.peeling.now.rows.ok.0 in
     elim c.if-place-pivots.branch [
@@ -43,6 +43,6 @@ loop-column-preserved c =
           let late : pivots ≤ place = omega (arith, many, w.if-place-pivots.true) in
           let inside : place - c.len-pivots.result < table.width = omega (arith, v.width, c.requires.width, (peeled.columns.placed (at columns t) in_width).0, is, many, late) in
           let sets = sets_entry table v.octets row (place - c.len-pivots.result) w.one.result (omega (arith, v.height, c.requires.height, c.requires.row)) inside (rw w.one.ensures (lit< tt)) w.set.new.self w.set.ensures in
-          rw w.entries-is (ones_more width pivots order places peeled.columns columns row old inactive wide t in_columns in_width table v once place is late w.set.new.self (rw (many, w.one.ensures) at sets))
+          rw w.entries-is (ones_more width pivots order places peeled.columns columns row old inactive wide t in_columns in_width table v are.once place is late w.set.new.self (rw (many, w.one.ensures) at sets))
       | else-place-pivots w ↦ rw w.entries-is (ones_skipped width pivots order places peeled.columns columns row old inactive wide t in_columns in_width table v (omega (arith, is, many, w.if-place-pivots.false)))
     ]

@@ -1,10 +1,8 @@
 -- What the check leaves to show of `pi_solver::first_phase::octet_batch::OctetBatch::multiply_first`.
-use Rattle.std.proofs.Common.{◌≡◌, ℕ, ◌<◌, List, length, set, refl, sym, ap, ◌∙◌, arith}
-use Rattle.std.proofs.lemmas.List.{get_or_read, get_or-set_same, get_or-set_other}
+use Rattle.std.proofs.Common.{◌≡◌, ℕ, ◌<◌, List, length, set, sym, ap, ◌∙◌, arith}
+use Rattle.std.proofs.lemmas.List.{get_or-set_same, get_or-set_other}
 use Rattle.rq_algebra.specs.Systems.{at}
-use Rattle.rq_standard.specs.OctetField.{octets}
 use Rattle.rq_solver.specs.OctetBatch.{Batch}
-use Rattle.rq_solver.proofs.Entries.{mul_is}
 use Rattle.rq_solver.proofs.OctetBatchLaws.{factor_scales}
 use Rattle.rq_solver.proofs.pi_solver.first_phase.octet_batch.OctetBatch.multiply_first.Goals as goal
 
@@ -12,15 +10,8 @@ pub returns-clause-multiple : goal.returns-clause-multiple
 returns-clause-multiple c =
     let old = c.args.self.now in
     let inside = c.self.inside.factors.items in
-    let factors : old.factors ≡ inside = sym (ap (λ (b : Batch). b.factors) c.self.view_is) in
-    let many : length inside ≡ length old.table.rows = c.self.invariant.count ∙ ap (λ (b : Batch). length b.table.rows) c.self.view_is in
-    let some : 0 < length inside = omega (arith, many, c.requires) in
-    let lead : c.index.result.now ≡ at inside 0 = get_or_read inside 0 c.index.result.now some c.index.ensures 0 in
-    let small : c.args.scalar < 256 = omega arith in
-    let below : at inside 0 < 256 = omega (arith, lead) in
-    let product : c.byte.result ≡ octets.mul c.args.scalar (at inside 0) =
-    c.byte.ensures ∙ rw (c.new.ensures, c.new-2.ensures ∙ lead) at c.mul-product.ensures ∙ sym (mul_is c.args.scalar (at inside 0) small below) in
-    let now : Batch = record { table = c.self.inside.table; factors = set inside 0 c.byte.result } in
+    let some : 0 < length inside = omega (arith, c.self.invariant.count, ap (λ (b : Batch). length b.table.rows) c.self.view_is, c.requires) in
+    let now : Batch = record { table = c.self.inside.table; factors = set inside 0 c.first_multiple.result } in
     factor_scales old now (ap (λ (b : Batch). b.table) c.self.view_is) c.args.scalar (length old.table.rows) old.table.width
-    (get_or-set_same inside 0 _ 0 some ∙ rw (product, factors) refl)
-    (λ i d. get_or-set_other inside 0 i _ 0 d ∙ ap (λ (l : List ℕ). at l i) (sym factors))
+    (get_or-set_same inside 0 _ 0 some ∙ c.first_multiple.ensures)
+    (λ i d. get_or-set_other inside 0 i _ 0 d ∙ ap (λ (b : Batch). at b.factors i) c.self.view_is)
