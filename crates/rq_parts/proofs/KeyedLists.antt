@@ -112,3 +112,7 @@ start_is pairs key start within parted = record {
   before = λ k lt. ltb-true _ _ (parted.0 k (0, 0) (omega arith) lt);
   after = λ k from lt. ltb-false _ _ (parted.1 k (0, 0) from lt);
 }
+
+-- a key's list begins and ends where the starts say
+pub key_within : (starts values : List ℕ) (lists : List (List ℕ)) (key : ℕ) → lists_between starts values ≡ lists → key < length lists → key + 1 < length starts
+key_within starts values lists key e lt = omega (arith, ap length e, length-lists starts values)

@@ -10,6 +10,7 @@ use Rattle.rq_standard.specs.Rows.{row_sum}
 use Rattle.rq_matrix.specs.BitRows.{bit_in, word_count}
 use Rattle.rq_matrix.proofs.RowLaws.{packed_bit-sum, word_inside}
 use Rattle.rq_matrix.proofs.matrix.DenseBinaryMatrixBinaryMatrix.add_assign_rows.Goals as goal
+use Rattle.rq_matrix.proofs.matrix.DenseBinaryMatrixBinaryMatrix.add_assign_rows.Goals.{After-add_row}
 
 -- the rows after an addition
 abbrev added : List (List ℕ) → ℕ → ℕ → List (List ℕ)
@@ -18,19 +19,22 @@ added rows dest src = set rows dest (row_sum (get_or rows dest []) (get_or rows 
 length-sum : (rows : List (List ℕ)) (dest src n : ℕ) → dest < length rows → src < length rows → All (λ row. length row ≡ n) rows → length (row_sum (get_or rows dest []) (get_or rows src [])) ≡ n
 length-sum rows dest src n dest_in src_in full = length-zip2 bit_xor (get_or rows dest []) (get_or rows src []) (full dest [] dest_in ∙ sym (full src [] src_in)) ∙ full dest [] dest_in
 
+module _ (c : After-add_row) where
+  items : c.add_row.new.rows ≡ added c.args.self.now.rows.items c.args.dest c.args.src
+  items = c.add_row.ensures ∙ ap (λ (l : List (List ℕ)). added l c.args.dest c.args.src) c.as_mut_slice.ensures.value
+
 pub invariant_of-self : goal.invariant_of-self
 invariant_of-self c =
     let old = c.args.self.now in
     let rows = old.rows.items in
     let dest = c.args.dest in
-    let src = c.args.src in
-    let items = with_items_is old.rows c.add_row.new.rows (c.add_row.auto.rows ∙ c.as_mut_slice.ensures.len) ∙ c.add_row.ensures ∙ ap (λ (l : List (List ℕ)). added l dest src) c.as_mut_slice.ensures.value in
+    let is = with_items_is old.rows c.add_row.new.rows (c.add_row.auto.rows ∙ c.as_mut_slice.ensures.len) ∙ items (goal.at.invariant_of-self c).After-add_row in
     record {
-      height_fits = subst (λ (l : List (List ℕ)). length l < 2 ^ 31) (sym items) (subst (λ n. n < 2 ^ 31) (sym (length-set rows dest (row_sum (get_or rows dest []) (get_or rows src [])))) old.height_fits);
+      height_fits = subst (λ (l : List (List ℕ)). length l < 2 ^ 31) (sym is) (subst (λ n. n < 2 ^ 31) (sym (length-set rows dest (row_sum (get_or rows dest []) (get_or rows c.args.src [])))) old.height_fits);
       width_fits = old.width_fits;
       within = old.within;
-      full = subst (All (λ row. length row ≡ word_count old.width)) (sym items)
-          (All-set (λ row. length row ≡ word_count old.width) rows dest (row_sum (get_or rows dest []) (get_or rows src [])) (length-sum rows dest src (word_count old.width) c.requires.dest c.requires.src old.full) old.full);
+      full = subst (All (λ row. length row ≡ word_count old.width)) (sym is)
+          (All-set (λ row. length row ≡ word_count old.width) rows dest (row_sum (get_or rows dest []) (get_or rows c.args.src [])) (length-sum rows dest c.args.src (word_count old.width) c.requires.dest c.requires.src old.full) old.full);
     }
 
 pub returns-clause-ok : goal.returns-clause-ok
@@ -40,17 +44,17 @@ returns-clause-ok c =
     let dest = c.args.dest in
     let src = c.args.src in
     let sum = row_sum (get_or rows dest []) (get_or rows src []) in
-    let items = with_items_is old.rows c.add_row.new.rows (c.add_row.auto.rows ∙ c.as_mut_slice.ensures.len) ∙ c.add_row.ensures ∙ ap (λ (l : List (List ℕ)). added l dest src) c.as_mut_slice.ensures.value in
+    let is = with_items_is old.rows c.add_row.new.rows (c.add_row.auto.rows ∙ c.as_mut_slice.ensures.len) ∙ items (goal.at.returns-clause-ok c).After-add_row in
     let long = old.full dest [] c.requires.dest in
     let both = old.full src [] c.requires.src ∙ sym long in
     let is_sum = λ (k : ℕ) (below : k < old.width).
-    ap (λ (l : List (List ℕ)). bit_in l dest k) items
+    ap (λ (l : List (List ℕ)). bit_in l dest k) is
     ∙ ap (λ r. packed_bit r k) (get_or-set_same rows dest sum [] c.requires.dest)
     ∙ packed_bit-sum (get_or rows dest []) (get_or rows src []) k both (subst (λ n. k / 64 < n) (sym long) (word_inside old.width k below))
     in
     record {
-      shape = record { height = ap length items ∙ length-set rows dest sum; width = refl; boundary = refl; indexed = refl };
+      shape = record { height = ap length is ∙ length-set rows dest sum; width = refl; boundary = refl; indexed = refl };
       sum = λ k _ below. is_sum k below;
       before = λ k _ below. inr (is_sum k below);
-      other_rows = λ a k _ _ other. ap (λ (l : List (List ℕ)). bit_in l a k) items ∙ ap (λ r. packed_bit r k) (get_or-set_other rows dest a sum [] other);
+      other_rows = λ a k _ _ other. ap (λ (l : List (List ℕ)). bit_in l a k) is ∙ ap (λ r. packed_bit r k) (get_or-set_other rows dest a sum [] other);
     }

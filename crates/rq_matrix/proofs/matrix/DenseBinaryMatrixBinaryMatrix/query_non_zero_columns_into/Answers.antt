@@ -33,8 +33,6 @@ returns-clause-ok c =
 
 pub returns-clause-ascending : goal.returns-clause-ascending
 returns-clause-ascending c =
-    let row = get_or c.args.self.now.rows.items c.args.row [] in
-    let width = c.args.self.now.width in
-    let start = c.args.start_col in
     let kept = c.loop-column.invariant in
-    subst IsStrictlyIncreasing (places c.loop-column.out.items _ c.loop-column.yielded c.loop-column.column-iterator kept.whole c.in-None.ensures.steps.0 kept.columns) (places-ascend row start width)
+    subst IsStrictlyIncreasing (places c.loop-column.out.items _ c.loop-column.yielded c.loop-column.column-iterator kept.whole c.in-None.ensures.steps.0 kept.columns)
+    (places-ascend (get_or c.args.self.now.rows.items c.args.row []) c.args.self.now.width c.args.start_col)

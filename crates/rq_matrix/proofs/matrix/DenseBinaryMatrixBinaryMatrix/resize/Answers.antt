@@ -7,6 +7,7 @@ use Rattle.rq_bytes.specs.BinaryOctetVec.{packed_bit}
 use Rattle.rq_matrix.specs.BitRows.{bit_in, word_count}
 use Rattle.rq_matrix.proofs.RowLaws.{packed_bit-take, word_inside, word_count-le}
 use Rattle.rq_matrix.proofs.matrix.DenseBinaryMatrixBinaryMatrix.resize.Goals as goal
+use Rattle.rq_matrix.proofs.matrix.DenseBinaryMatrixBinaryMatrix.resize.Goals.{After-truncate_rows}
 
 -- the first rows, each with the words that so many columns need
 abbrev leading : List (List ℕ) → ℕ → ℕ → List (List ℕ)
@@ -29,33 +30,32 @@ leading-bit rows height width i k le row column =
     ∙ packed_bit-take (get_or (take height rows) i []) (word_count width) k (word_inside width k column)
     ∙ ap (λ r. packed_bit r k) (get_or-take height rows i [] row)
 
+module _ (c : After-truncate_rows) where
+  items : c.truncate_rows.new.rows ≡ leading c.args.self.now.rows.items c.args.new_height c.args.new_width
+  items = c.truncate_rows.ensures ∙ ap (map (λ row. take (word_count c.args.new_width) row)) (c.as_mut_slice.ensures.value ∙ c.truncate.ensures.items)
+
 pub invariant_of-self : goal.invariant_of-self
 invariant_of-self c =
     let old = c.args.self.now in
-    let rows = old.rows.items in
     let height = c.args.new_height in
-    let width = c.args.new_width in
-    let items = with_items_is c.truncate.new.self c.truncate_rows.new.rows (c.truncate_rows.auto.rows ∙ c.as_mut_slice.ensures.len)
-    ∙ c.truncate_rows.ensures ∙ ap (map (λ row. take (word_count width) row)) (c.as_mut_slice.ensures.value ∙ c.truncate.ensures.items) in
+    let is = with_items_is c.truncate.new.self c.truncate_rows.new.rows (c.truncate_rows.auto.rows ∙ c.as_mut_slice.ensures.len) ∙ items (goal.at.invariant_of-self c).After-truncate_rows in
     record {
-      height_fits = subst (λ (l : List (List ℕ)). length l < 2 ^ 31) (sym items) (omega (arith, length-leading rows height width c.requires.height, old.height_fits, c.requires.height));
+      height_fits = subst (λ (l : List (List ℕ)). length l < 2 ^ 31) (sym is) (omega (arith, length-leading old.rows.items height c.args.new_width c.requires.height, old.height_fits, c.requires.height));
       width_fits = omega (arith, old.width_fits, c.requires.width);
       within = omega (arith, c.min-self.ensures);
-      full = subst (All (λ row. length row ≡ word_count width)) (sym items) (leading-full rows height width old.width c.requires.height c.requires.width old.full);
+      full = subst (All (λ row. length row ≡ word_count c.args.new_width)) (sym is) (leading-full old.rows.items height c.args.new_width old.width c.requires.height c.requires.width old.full);
     }
 
 pub returns-clause-ok : goal.returns-clause-ok
 returns-clause-ok c =
-    let old = c.args.self.now in
-    let rows = old.rows.items in
+    let rows = c.args.self.now.rows.items in
     let height = c.args.new_height in
     let width = c.args.new_width in
-    let items = with_items_is c.truncate.new.self c.truncate_rows.new.rows (c.truncate_rows.auto.rows ∙ c.as_mut_slice.ensures.len)
-    ∙ c.truncate_rows.ensures ∙ ap (map (λ row. take (word_count width) row)) (c.as_mut_slice.ensures.value ∙ c.truncate.ensures.items) in
+    let is = with_items_is c.truncate.new.self c.truncate_rows.new.rows (c.truncate_rows.auto.rows ∙ c.as_mut_slice.ensures.len) ∙ items (goal.at.returns-clause-ok c).After-truncate_rows in
     record {
-      height = ap length items ∙ length-leading rows height width c.requires.height;
+      height = ap length is ∙ length-leading rows height width c.requires.height;
       width = refl;
       boundary = c.min-self.ensures;
       indexed = refl;
-      bits = λ i k row column. ap (λ (l : List (List ℕ)). bit_in l i k) items ∙ leading-bit rows height width i k c.requires.height row column;
+      bits = λ i k row column. ap (λ (l : List (List ℕ)). bit_in l i k) is ∙ leading-bit rows height width i k c.requires.height row column;
     }

@@ -1,9 +1,10 @@
 -- What the check leaves to show of `iterators::DenseBits::skip_zeros`.
-use Rattle.std.proofs.Common.{◌≡◌, ◌+◌, ◌-◌, ◌*◌, ◌<◌, ap, sym, subst, ◌∙◌, get_or, arith}
+use Rattle.std.proofs.Common.{◌≡◌, ℕ, ◌+◌, ◌-◌, ◌*◌, ◌<◌, ap, sym, subst, ◌∙◌, get_or, arith}
 use Rattle.std.specs.Int.{bit_at}
 use Rattle.rq_parts.specs.BitPairs.{bit_pairs, ones_among, BeginsWithOne}
 use Rattle.rq_parts.proofs.BitPairs.{ZerosAhead, bit_pairs-none, ones_among-pass, begins_with_one}
 use Rattle.rq_parts.proofs.iterators.DenseBits.skip_zeros.Goals as goal
+use Rattle.rq_parts.proofs.iterators.DenseBits.skip_zeros.Goals.{After-min-count}
 
 pub returns-then-zeros-eq0-clause-first : goal.returns-then-zeros-eq0-clause-first
 returns-then-zeros-eq0-clause-first c =
@@ -16,33 +17,39 @@ returns-then-zeros-eq0-clause-first c =
     begins_with_one b.words.now b.word b.bit b.column b.end within.bit_below c.loop-self-test.true
     (ap (bit_at (get_or b.words.now b.word 0)) (sym here) ∙ c.zeros_in_word-zeros.ensures.one below)
 
+module _ (c : After-min-count) where
+  pass : ones_among (bit_pairs c.loop-self.self-inside.words.now (64 * c.loop-self.self-inside.word + c.loop-self.self-inside.bit) c.loop-self.self-inside.column (c.loop-self.self-inside.end - c.loop-self.self-inside.column))
+      ≡ ones_among (bit_pairs c.loop-self.self-inside.words.now (64 * c.loop-self.self-inside.word + c.loop-self.self-inside.bit + c.min-count.result) (c.loop-self.self-inside.column + c.min-count.result) (c.loop-self.self-inside.end - (c.loop-self.self-inside.column + c.min-count.result)))
+  pass =
+      let b = c.loop-self.self-inside in
+      let zeros = c.zeros_in_word-zeros in
+      let ahead : ZerosAhead (get_or b.words.now b.word 0) b.bit zeros.result = record { zero = zeros.ensures.zeros; one = zeros.ensures.one } in
+      ones_among-pass b.words.now b.word b.bit b.column b.end zeros.result c.min-count.result ahead zeros.ensures.within (omega arith) (omega arith)
+
+  -- what a place of the bits behind them says of the ones that are left
+  left : (n : ℕ) → n ≡ 64 * c.loop-self.self-inside.word + c.loop-self.self-inside.bit + c.min-count.result
+      → ones_among (bit_pairs c.loop-self.self-inside.words.now n (c.loop-self.self-inside.column + c.min-count.result) (c.loop-self.self-inside.end - (c.loop-self.self-inside.column + c.min-count.result)))
+      ≡ ones_among (bit_pairs c.loop-self.self-inside.words.now (64 * c.loop-self.self-inside.word + c.loop-self.self-inside.bit) c.loop-self.self-inside.column (c.loop-self.self-inside.end - c.loop-self.self-inside.column))
+  left n is =
+      let b = c.loop-self.self-inside in
+      ap (λ m. ones_among (bit_pairs b.words.now m (b.column + c.min-count.result) (b.end - (b.column + c.min-count.result)))) is ∙ sym pass
+
 pub loop-self-preserved-then-self-eq-WORD_BITS : goal.loop-self-preserved-then-self-eq-WORD_BITS
 loop-self-preserved-then-self-eq-WORD_BITS c =
-    let b = c.loop-self.self-inside in
-    let count = c.min-count.result in
-    let within = c.loop-self.invariant.within in
-    let ahead : ZerosAhead (get_or b.words.now b.word 0) b.bit c.zeros_in_word-zeros.result = record { zero = c.zeros_in_word-zeros.ensures.zeros; one = c.zeros_in_word-zeros.ensures.one } in
-    let pass = ones_among-pass b.words.now b.word b.bit b.column b.end c.zeros_in_word-zeros.result count ahead c.zeros_in_word-zeros.ensures.within (omega arith) (omega arith) in
+    let at = (goal.at.loop-self-preserved-then-self-eq-WORD_BITS c).After-min-count in
     let last = c.if-self-eq-WORD_BITS.true in
-    let place : 64 * (b.word + 1) + 0 ≡ 64 * b.word + b.bit + count = omega arith in
     record {
-      within = record { range = omega arith; bit_below = omega arith; within = omega (arith, within.within) };
-      ones = ap (λ n. ones_among (bit_pairs b.words.now n (b.column + count) (b.end - (b.column + count)))) place ∙ sym pass ∙ c.loop-self.invariant.ones;
+      within = record { range = omega arith; bit_below = omega arith; within = omega (arith, c.loop-self.invariant.within.within) };
+      ones = left at _ (omega arith) ∙ c.loop-self.invariant.ones;
     }
 
 pub loop-self-preserved : goal.loop-self-preserved
 loop-self-preserved c =
-    let b = c.loop-self.self-inside in
-    let count = c.min-count.result in
-    let within = c.loop-self.invariant.within in
-    let ahead : ZerosAhead (get_or b.words.now b.word 0) b.bit c.zeros_in_word-zeros.result = record { zero = c.zeros_in_word-zeros.ensures.zeros; one = c.zeros_in_word-zeros.ensures.one } in
-    let pass = ones_among-pass b.words.now b.word b.bit b.column b.end c.zeros_in_word-zeros.result count ahead c.zeros_in_word-zeros.ensures.within (omega arith) (omega arith) in
     let inside = c.if-self-eq-WORD_BITS.false in
     let most = c.zeros_in_word-zeros.ensures.within in
-    let place : 64 * b.word + (b.bit + count) ≡ 64 * b.word + b.bit + count = omega arith in
     record {
-      within = record { range = omega arith; bit_below = omega arith; within = omega (arith, within.within) };
-      ones = ap (λ n. ones_among (bit_pairs b.words.now n (b.column + count) (b.end - (b.column + count)))) place ∙ sym pass ∙ c.loop-self.invariant.ones;
+      within = record { range = omega arith; bit_below = omega arith; within = omega (arith, c.loop-self.invariant.within.within) };
+      ones = left (goal.at.loop-self-preserved c).After-min-count _ (omega arith) ∙ c.loop-self.invariant.ones;
     }
 
 pub returns-clause-first : goal.returns-clause-first

@@ -1,29 +1,22 @@
 use Rattle.std.proofs.Common.{ℕ, ◌+◌, ◌<◌, ◌≡◌, List, [], length, get_or, ap, ◌∙◌, arith}
 use Rattle.rq_parts.specs.ImmutableListMap.{lists_between}
-use Rattle.rq_parts.proofs.KeyedLists.{list_read, length-lists}
+use Rattle.rq_parts.proofs.KeyedLists.{list_read, key_within}
 use Rattle.rq_parts.proofs.arraymap.lists.ImmutableListMap.get.Goals as goal
 
-room : (starts values : List ℕ) (lists : List (List ℕ)) (key : ℕ) → lists_between starts values ≡ lists → key < length lists → key + 1 < length starts
-room starts values lists key e lt = omega (arith, ap length e, length-lists starts values)
-
 pub bounds-starts-key : goal.bounds-starts-key
-bounds-starts-key c =
-    let enough = room _ _ _ c.args.key c.self.view_is c.requires in
-    omega (arith, enough, ap length c.as_slice-starts.ensures.value, c.from-key.ensures)
+bounds-starts-key c = omega (arith, key_within _ _ _ c.args.key c.self.view_is c.requires, ap length c.as_slice-starts.ensures.value, c.from-key.ensures)
 
 pub bounds-starts-key-2 : goal.bounds-starts-key-2
-bounds-starts-key-2 c =
-    let enough = room _ _ _ c.args.key c.self.view_is c.requires in
-    omega (arith, enough, ap length c.as_slice-starts.ensures.value, c.from-key.ensures)
+bounds-starts-key-2 c = omega (arith, key_within _ _ _ c.args.key c.self.view_is c.requires, ap length c.as_slice-starts.ensures.value, c.from-key.ensures)
 
 pub part-requires-clause-order : goal.part-requires-clause-order
 part-requires-clause-order c =
-    let enough = room _ _ _ c.args.key c.self.view_is c.requires in
+    let enough = key_within _ _ _ c.args.key c.self.view_is c.requires in
     rw (c.as_slice-starts.ensures.value, c.from-key.ensures) (c.self.invariant.rise c.args.key enough)
 
 pub returns : goal.returns
 returns c =
-    let enough = room _ _ _ c.args.key c.self.view_is c.requires in
+    let enough = key_within _ _ _ c.args.key c.self.view_is c.requires in
     c.part.ensures
     ∙ rw (c.as_slice-starts.ensures.value, c.as_slice.ensures.value, c.from-key.ensures) (list_read c.self.inside.starts.items c.self.inside.values.items c.args.key enough)
     ∙ ap (λ lists. get_or lists c.args.key []) c.self.view_is

@@ -1,8 +1,8 @@
 -- What the check leaves to show of `pi_solver::columns::ColumnOrder::inactivate`.
-use Rattle.std.proofs.Common.{◌≡◌, ℕ, ◌-◌, ◌+◌, ◌<◌, List, length, sym, ap, ◌∙◌, subst, arith}
+use Rattle.std.proofs.Common.{◌≡◌, ◌-◌, ◌+◌, ap, arith}
 use Rattle.std.proofs.lemmas.List.{get_or_read}
 use Rattle.rq_algebra.specs.Systems.{at}
-use Rattle.rq_solver.specs.Peeled.{ColumnState, IsColumnState}
+use Rattle.rq_solver.specs.Peeled.{ColumnState}
 use Rattle.rq_solver.specs.contracts.pi_solver.columns.ColumnOrder.{the_view}
 use Rattle.rq_solver.proofs.ColumnLaws.{state_was, place_was, ends_by_inactivation}
 use Rattle.rq_solver.proofs.pi_solver.columns.ColumnOrder.inactivate.Goals as goal

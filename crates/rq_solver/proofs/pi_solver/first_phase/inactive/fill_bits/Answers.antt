@@ -1,6 +1,5 @@
 -- What the check leaves to show of `pi_solver::first_phase::inactive::fill_bits`.
-use Rattle.std.proofs.Common.{◌≡◌, ◌+◌, ◌-◌, ◌<◌, ◌≤◌, ◌==◌, lit<, ℕ, List, All, length, sym, ◌∙◌, subst, arith}
-use Rattle.std.specs.List.{count_by}
+use Rattle.std.proofs.Common.{◌≡◌, ◌+◌, ◌-◌, ◌<◌, ◌≤◌, lit<, ℕ, length, sym, ◌∙◌, arith}
 use Rattle.std.proofs.lemmas.List.{get_or_read}
 use Rattle.rq_algebra.specs.Systems.{at}
 use Rattle.rq_solver.proofs.TailWrites.{ones_none, ones_skipped, ones_more}

@@ -1,5 +1,5 @@
 -- What the check leaves to show of `pi_solver::first_phase::octet_batch::OctetBatch::multiply_first`.
-use Rattle.std.proofs.Common.{◌≡◌, ℕ, ◌<◌, List, length, set, sym, ap, ◌∙◌, arith}
+use Rattle.std.proofs.Common.{◌<◌, length, set, ap, ◌∙◌, arith}
 use Rattle.std.proofs.lemmas.List.{get_or-set_same, get_or-set_other}
 use Rattle.rq_algebra.specs.Systems.{at}
 use Rattle.rq_solver.specs.OctetBatch.{Batch}
