@@ -42,9 +42,7 @@ pub overflow_add-start : goal.overflow_add-start
 overflow_add-start c = omega (arith, (within (goal.at.overflow_add-start c).After-size_at-width).1)
 
 pub loop-start-smaller : goal.loop-start-smaller
-loop-start-smaller c =
-    let w = within (goal.at.loop-start-smaller c).After-size_at-width in
-    omega (arith, w.0, w.1)
+loop-start-smaller c = omega (arith, (within (goal.at.loop-start-smaller c).After-size_at-width).0, (within (goal.at.loop-start-smaller c).After-size_at-width).1)
 
 pub loop-start-preserved : goal.loop-start-preserved
 loop-start-preserved c =

@@ -35,4 +35,4 @@ pub returns-clause-ascending : goal.returns-clause-ascending
 returns-clause-ascending c =
     let kept = c.loop-column.invariant in
     subst IsStrictlyIncreasing (places c.loop-column.out.items _ c.loop-column.yielded c.loop-column.column-iterator kept.whole c.in-None.ensures.steps.0 kept.columns)
-    (places-ascend (get_or c.args.self.now.rows.items c.args.row []) c.args.self.now.width c.args.start_col)
+    (places-ascend (get_or c.args.self.now.rows.items c.args.row []) c.args.start_col c.args.self.now.width)

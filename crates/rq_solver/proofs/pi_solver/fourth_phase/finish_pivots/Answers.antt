@@ -15,8 +15,10 @@ loop-place-init c = record {
 
 pub loop-place-preserved : goal.loop-place-preserved
 loop-place-preserved c =
+    let v = c.loop-place.invariant in
     let p = c.args.peeling.now in
     let rows = p.rows.items in
+    let sums = c.in_ok-take_reduced_rows.ensures.few in
     let peeled = c.requires.peeled.peeled in
     let reduced = c.args.reduced.now in
     let marks = c.args.marks.now in
@@ -25,14 +27,12 @@ loop-place-preserved c =
     let old = c.args.recorded.now in
     let cur = c.loop-place.recorded in
     let mid = c.take_reduced_rows.new.recorded in
-    let v = c.loop-place.invariant in
     let in_rows : t < length rows = omega (arith, c.loop-place-test.true, c.len-place-end.ensures, p.rows.ok.0) in
     let in_marks : t < length marks = omega (arith, in_rows, c.requires.long) in
     let read : c.index-row.result.now ≡ at rows t = get_or_read rows t c.index-row.result.now in_rows c.index-row.ensures 0 in
     let turn = rw read at c.in_ok-take_reduced_rows.ensures.taken in
     let in_table : (p : ℕ) → p < length rows → at rows p < length old.table.rows = (λ (p : ℕ) (l : p < length rows). rw c.requires.height (peeled.in_rows.below p l)) in
     let apart : (p f : ℕ) → p < length rows → f < count → at rows p ≢ at reduced f = (λ (p f : ℕ) (l : p < length rows) (n : f < count). c.requires.apart p f l (omega (arith, c.requires.many))) in
-    let sums = c.in_ok-take_reduced_rows.ensures.few in
     elim c.if-marks-place.branch [
       | then-marks-place+in_ok-take_pivots w ↦ rw w.recorded-is (record {
         finished = finish_again c.args.ones.now rows p.order.items p.places.items _ c.requires.peeled.bits peeled reduced marks count t in_rows old cur mid v.finished turn in_table apart c.requires.width w.take_pivots.new.recorded (rw read at w.in_ok-take_pivots.ensures.taken) w.if-marks-place.true;

@@ -1,5 +1,4 @@
-use Rattle.std.proofs.Common.{ℕ, ◌+◌, ◌<◌, ◌≡◌, List, [], length, get_or, ap, ◌∙◌, arith}
-use Rattle.rq_parts.specs.ImmutableListMap.{lists_between}
+use Rattle.std.proofs.Common.{[], length, get_or, ap, ◌∙◌, arith}
 use Rattle.rq_parts.proofs.KeyedLists.{list_read, key_within}
 use Rattle.rq_parts.proofs.arraymap.lists.ImmutableListMap.get.Goals as goal
 

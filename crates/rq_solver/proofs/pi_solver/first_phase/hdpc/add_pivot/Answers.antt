@@ -29,9 +29,7 @@ add_row-requires-clause-two c =
 
 pub loop-row-preserved : goal.loop-row-preserved
 loop-row-preserved c =
-    let rows = c.args.peeling.now.rows.items in
-    let order = c.args.peeling.now.order.items in
-    let places = c.args.peeling.now.places.items in
+    let p = c.args.peeling.now in
     let first = c.args.first_hdpc in
     let place = c.args.place in
     let row = c.loop-row.row in
@@ -42,28 +40,28 @@ loop-row-preserved c =
     let cur = c.loop-row.recorded in
     let v = c.loop-row.invariant in
     let beside = c.requires.pivots in
-    let here : ℕ = at order place in
+    let here : ℕ = at p.order.items place in
     let before = octets_from here (octet_in batch) in
-    let in_order : place < length order = omega (arith, beside.columns.order_count, beside.few, c.requires.place) in
-    let column : c.index-column.result.now ≡ here = get_or_read order place c.index-column.result.now in_order c.index-column.ensures 0 in
+    let in_order : place < length p.order.items = omega (arith, beside.columns.order_count, beside.few, c.requires.place) in
+    let column : c.index-column.result.now ≡ here = get_or_read p.order.items place c.index-column.result.now in_order c.index-column.ensures 0 in
     let in_rows : row < count = omega arith in
     let scalar_is : c.get-scalar.result ≡ before row here = c.get-scalar.ensures ∙ ap (octet_in batch row) column ∙ sym (from_column here (octet_in batch) row here (omega arith)) in
-    let still : HasPivotsBeside rows order places first count width cur = beside_still rows order places first count width old cur beside v.changed.performs.height in
+    let still : HasPivotsBeside p.rows.items p.order.items p.places.items first count width cur = beside_still p.rows.items p.order.items p.places.items first count width old cur beside v.changed.performs.height in
     elim c.if-byte-ne0.branch [
       | then-byte-ne0+in_ok-add_row w ↦
           let small : c.get-scalar.result < 256 = rw c.byte.ensures at c.byte.type_inv in
-          let read : w.index.result.now ≡ at rows place = get_or_read rows place w.index.result.now c.requires.place w.index.ensures 0 in
+          let read : w.index.result.now ≡ at p.rows.items place = get_or_read p.rows.items place w.index.result.now c.requires.place w.index.ensures 0 in
           rw w.recorded-is (record {
             few = (let more = w.in_ok-add_row.ensures.counted in let so_far = v.few in omega (arith, more, so_far));
-            changed = changes_more rows order places first count width before (with_zeros here row before) (with_zeros here (row + 1) before) old cur w.add_row.new.self beside v.changed
-                (changes_pivot rows order places first count width before cur w.add_row.new.self still row place c.get-scalar.result in_rows c.requires.place small scalar_is (rw read at w.in_ok-add_row.ensures.added));
+            changed = changes_more p.rows.items p.order.items p.places.items first count width before (with_zeros here row before) (with_zeros here (row + 1) before) old cur w.add_row.new.self beside v.changed
+                (changes_pivot p.rows.items p.order.items p.places.items first count width before cur w.add_row.new.self still row place c.get-scalar.result in_rows c.requires.place small scalar_is (rw read at w.in_ok-add_row.ensures.added));
           })
       | else-byte-ne0 w ↦
           let none : before row here ≡ 0 = sym scalar_is ∙ sym c.byte.ensures ∙ w.if-byte-ne0.false in
           rw w.recorded-is (record {
             few = (let so_far = v.few in omega (arith, so_far));
-            changed = changes_same rows order places first count width before (with_zeros here row before) (with_zeros here (row + 1) before) old cur
-                (zeros_skipped rows order places first count width before cur cur still row place 0 in_rows c.requires.place none) v.changed;
+            changed = changes_same p.rows.items p.order.items p.places.items first count width before (with_zeros here row before) (with_zeros here (row + 1) before) old cur
+                (zeros_skipped p.rows.items p.order.items p.places.items first count width before cur cur still row place 0 in_rows c.requires.place none) v.changed;
           })
     ]
 

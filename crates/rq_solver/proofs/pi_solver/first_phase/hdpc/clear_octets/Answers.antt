@@ -55,9 +55,8 @@ clear_column-requires c =
 
 pub loop-column-preserved : goal.loop-column-preserved
 loop-column-preserved c =
-    let rows = c.args.peeling.now.rows.items in
-    let order = c.args.peeling.now.order.items in
-    let places = c.args.peeling.now.places.items in
+    let p = c.args.peeling.now in
+    let v = c.loop-column.invariant in
     let first = c.args.first_hdpc in
     let hdpc = c.args.hdpc.now in
     let start = c.in_ok-batch.batch in
@@ -69,37 +68,37 @@ loop-column-preserved c =
     let column = c.loop-column.column in
     let count = length hdpc.rows in
     let width = hdpc.width in
-    let v = c.loop-column.invariant in
     let clone : c.in_ok-sums.sums ≡ hdpc = c.in_ok-sums.ensures.cases in
     let height : length was.table.rows ≡ count = ap (λ (t : OctetTable). length t.rows) (v.table ∙ c.in_ok-batch.ensures.table) ∙ c.in_ok-sum_rows.ensures.height ∙ ap (λ (t : OctetTable). length t.rows) clone in
-    let beside : HasPivotsBeside rows order places first count width cur =
-    beside_still rows order places first count width c.args.recorded.now cur (record { columns = c.requires.order; few = c.requires.few; pivots = c.requires.pivots; apart = c.requires.apart }) c.in_ok-sum_rows.ensures.summed.performs.height in
-    let turn : ChangesOctets rows order first count (octets_from column (octet_in was)) (octets_from (column + 1) (octet_in now)) mid new =
-    subst (λ (n : ℕ). ChangesOctets rows order first n (octets_from column (octet_in was)) (octets_from (column + 1) (octet_in now)) mid new) height c.in_ok-clear_column.ensures.changed in
-    let fresh : (q : ℕ) → q < column → at places q ≢ at places column = (λ (q : ℕ) (l : q < column) (e : at places q ≡ at places column).
-    let same : q ≡ column = sym (c.requires.order.placed q (omega (arith, c.end_of_pivots-column-end.ensures.within, c.requires.order.place_count))).1 ∙ ap (at order) e ∙ (c.requires.order.placed column (omega (arith, c.end_of_pivots-column-end.ensures.within, c.requires.order.place_count))).1 in
+    let beside : HasPivotsBeside p.rows.items p.order.items p.places.items first count width cur =
+    beside_still p.rows.items p.order.items p.places.items first count width c.args.recorded.now cur (record { columns = c.requires.order; few = c.requires.few; pivots = c.requires.pivots; apart = c.requires.apart }) c.in_ok-sum_rows.ensures.summed.performs.height in
+    let turn : ChangesOctets p.rows.items p.order.items first count (octets_from column (octet_in was)) (octets_from (column + 1) (octet_in now)) mid new =
+    subst (λ (n : ℕ). ChangesOctets p.rows.items p.order.items first n (octets_from column (octet_in was)) (octets_from (column + 1) (octet_in now)) mid new) height c.in_ok-clear_column.ensures.changed in
+    let fresh : (q : ℕ) → q < column → at p.places.items q ≢ at p.places.items column = (λ (q : ℕ) (l : q < column) (e : at p.places.items q ≡ at p.places.items column).
+    let same : q ≡ column = sym (c.requires.order.placed q (omega (arith, c.end_of_pivots-column-end.ensures.within, c.requires.order.place_count))).1 ∙ ap (at p.order.items) e ∙ (c.requires.order.placed column (omega (arith, c.end_of_pivots-column-end.ensures.within, c.requires.order.place_count))).1 in
     omega (arith, same, l)) in
     record {
       table = c.clear_column.ensures.table ∙ v.table;
-      few = elim (cases_lt (at places column) (length rows)) [
+      few = elim (cases_lt (at p.places.items column) (length p.rows.items)) [
         | inl pivot ↦
             let more = c.in_ok-clear_column.ensures.few in
             let so_far = v.few.2 in
-            (v.few.0 + 1, met_more (length rows) (at places) column v.few.0 v.few.1 pivot fresh, omega (arith, more, so_far, height))
+            (v.few.0 + 1, met_more (length p.rows.items) (at p.places.items) column v.few.0 v.few.1 pivot fresh, omega (arith, more, so_far, height))
         | inr other ↦
             let more = c.in_ok-clear_column.ensures.idle other in
             let so_far = v.few.2 in
-            (v.few.0, met_skipped (length rows) (at places) column v.few.0 v.few.1, omega (arith, more, so_far, height))
+            (v.few.0, met_skipped (length p.rows.items) (at p.places.items) column v.few.0 v.few.1, omega (arith, more, so_far, height))
       ];
-      changed = changes_more rows order places first count width (octets_from 0 (octet_in start)) (octets_from column (octet_in was)) (octets_from (column + 1) (octet_in now)) cur mid new beside v.changed turn;
+      changed = changes_more p.rows.items p.order.items p.places.items first count width (octets_from 0 (octet_in start)) (octets_from column (octet_in was)) (octets_from (column + 1) (octet_in now)) cur mid new beside v.changed turn;
     }
 
 pub returns-clause-cleared : goal.returns-clause-cleared
 returns-clause-cleared c =
     let p = c.args.peeling.now in
-    let first = c.args.first_hdpc in
     let hdpc = c.args.hdpc.now in
+    let first = c.args.first_hdpc in
     let sums = c.sum_rows.new.rows in
+    let clone : c.in_ok-sums.sums ≡ hdpc = c.in_ok-sums.ensures.cases in
     let start = c.in_ok-batch.batch in
     let end = c.loop-column.batch in
     let old = c.args.recorded.now in
@@ -107,7 +106,6 @@ returns-clause-cleared c =
     let new = c.loop-column.recorded in
     let count = length hdpc.rows in
     let width = hdpc.width in
-    let clone : c.in_ok-sums.sums ≡ hdpc = c.in_ok-sums.ensures.cases in
     let summed : CombinesOctets first count width (entry_of hdpc) (entry_of sums) old cur =
     subst (λ (t : OctetTable). CombinesOctets first (length t.rows) t.width (entry_of t) (entry_of sums) old cur) clone c.in_ok-sum_rows.ensures.summed in
     let heights : length sums.rows ≡ count = c.in_ok-sum_rows.ensures.height ∙ ap (λ (t : OctetTable). length t.rows) clone in

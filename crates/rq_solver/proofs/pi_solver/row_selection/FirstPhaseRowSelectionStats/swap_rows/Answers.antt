@@ -8,12 +8,9 @@ use Rattle.rq_solver.proofs.pi_solver.row_selection.FirstPhaseRowSelectionStats.
 
 pub returns-clause-counted : goal.returns-clause-counted
 returns-clause-counted c =
-    let old = c.args.self.now in
     let s = c.self.inside in
-    let i = c.args.i in
-    let j = c.args.j in
     let swapped =
     ap (λ (ones : List ℕ). record { start_row = s.start_row; start_col = s.start_col; end_col = s.end_col; ones = ones }) c.swap.ensures.items
-    ∙ ap (λ (t : RowCounts). record t { ones = swap t.ones i j }) c.self.view_is
+    ∙ ap (λ (t : RowCounts). record t { ones = swap t.ones c.args.i c.args.j }) c.self.view_is
     in
-    subst (KeepsCounts (λ m n. SwapsRows m i j n) old) (sym swapped) (rows_swapped old i j c.requires.first.0 c.requires.first.1 c.requires.second.0 c.requires.second.1)
+    subst (KeepsCounts (λ m n. SwapsRows m c.args.i c.args.j n) c.args.self.now) (sym swapped) (rows_swapped c.args.self.now c.args.i c.args.j c.requires.first.0 c.requires.first.1 c.requires.second.0 c.requires.second.1)
