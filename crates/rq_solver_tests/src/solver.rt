@@ -39,43 +39,6 @@ fn zero_bits<T: BinaryMatrix>(alloc: Global, row: &TableRow) -> Result<T, Error>
     T::new(alloc, width, width, width - row.lt_symbols as usize)
 }
 
-// Bits with ones from the upper right to the lower left, but none in the HDPC rows.
-fn mirrored_bits<T: BinaryMatrix>(alloc: Global, row: &TableRow) -> Result<T, Error>
-    requires { IsChecked row.now }
-    ensures height { IfOk result (λ bits. (T.content bits).height ≡ intermediate_symbols row.now) }
-    ensures width { IfOk result (λ bits. (T.content bits).width ≡ intermediate_symbols row.now) }
-    ensures boundary { IfOk result (λ bits. (T.content bits).boundary ≡ row.now.lt_symbols) }
-    ensures indexed { IfOk result (λ bits. (T.content bits).indexed ≡ false) }
-    ensures zeros { IfOk result (λ bits. (i k : ℕ) → i < row.now.hdpc_symbols → k < intermediate_symbols row.now → (T.content bits).bit (row.now.ldpc_symbols + i) k ≡ 0) }
-{
-    let mut bits: T = zero_bits(alloc, row)?;
-    let width = width_of(row);
-    let first = row.ldpc_symbols as usize;
-    let after = first + row.hdpc_symbols as usize;
-    for i in 0..width {
-        if i < first || i >= after {
-            bits.set(i, width - 1 - i, Octet::one())?;
-        }
-    }
-    Ok(bits)
-}
-
-// HDPC rows with twos on the same line, and a 1 first.
-fn mirrored_octets(alloc: Global, row: &TableRow) -> Result<DenseOctetMatrix, Error>
-    requires { IsChecked row.now }
-    ensures height { IfOk result (λ octets. length octets.rows ≡ row.now.hdpc_symbols) }
-    ensures width { IfOk result (λ octets. octets.width ≡ intermediate_symbols row.now) }
-{
-    let width = width_of(row);
-    let first = row.ldpc_symbols as usize;
-    let mut octets = DenseOctetMatrix::new(alloc, row.hdpc_symbols as usize, width, 0)?;
-    octets.set(0, 0, Octet::one());
-    for i in 0..row.hdpc_symbols as usize {
-        octets.set(i, width - 1 - first - i, Octet::new(2));
-    }
-    Ok(octets)
-}
-
 // Bits of which the ones stand at pairs of a row and a column, but none in the HDPC rows.
 fn bits_at<T: BinaryMatrix>(
     alloc: Global,
@@ -101,25 +64,54 @@ fn bits_at<T: BinaryMatrix>(
     Ok(bits)
 }
 
-// HDPC rows of which the first `count` have a 1 each, in the columns from `start` on.
-fn octets_from(
+// HDPC rows with these octets, each with its row and its column before it.
+fn octets_at(
     alloc: Global,
     row: &TableRow,
-    start: usize,
-    count: usize,
+    entries: &[(usize, usize, u8)],
 ) -> Result<DenseOctetMatrix, Error>
     requires { IsChecked row.now }
     ensures height { IfOk result (λ octets. length octets.rows ≡ row.now.hdpc_symbols) }
     ensures width { IfOk result (λ octets. octets.width ≡ intermediate_symbols row.now) }
 {
     let height = row.hdpc_symbols as usize;
-    let mut octets = DenseOctetMatrix::new(alloc, height, width_of(row), 0)?;
-    for i in 0..count.min(height) {
-        if start < width_of(row) - i {
-            octets.set(i, start + i, Octet::one());
+    let width = width_of(row);
+    let mut octets = DenseOctetMatrix::new(alloc, height, width, 0)?;
+    for (i, k, octet) in entries {
+        if *i < height && *k < width {
+            octets.set(*i, *k, Octet::new(*octet));
         }
     }
     Ok(octets)
+}
+
+// A solver over the built-in row of 10, of these ones and octets and of numbered symbols.
+fn numbered_solver(
+    rt: &impl Abort,
+    alloc: Global,
+    ones: &[(usize, usize)],
+    octets: &[(usize, usize, u8)],
+) -> Result<IntermediateSymbolDecoder<DenseBinaryMatrix>, Error> {
+    let table = SystematicTable::built_in(alloc)?;
+    assert!(rt; 10 <= table.greatest());
+    let row = table.row(10);
+    assert_eq!(rt; width_of(&row), 27);
+    let bits = bits_at(alloc, &row, ones)?;
+    let hdpc = octets_at(alloc, &row, octets)?;
+    let symbols = numbered(alloc)?;
+    Ok(IntermediateSymbolDecoder::new(
+        alloc, &table, bits, hdpc, symbols, 10,
+    ))
+}
+
+// Symbols of one octet each.
+fn assert_octets(rt: &impl Abort, slab: SymbolSlab, expected: &[u8]) -> Result<(), Error> {
+    let found = slab.into_symbols()?;
+    assert_eq!(rt; found.len(), expected.len());
+    for k in 0..found.len() {
+        assert_eq!(rt; found[k].as_bytes(), [expected[k]].as_slice(), "at {k}");
+    }
+    Ok(())
 }
 
 // The row in which the k-th row of bits stands beside 10 HDPC rows behind 7 others.
@@ -152,59 +144,56 @@ fn late_ones(alloc: Global) -> Result<Vec<(usize, usize)>, Error> {
     Ok(ones)
 }
 
+// A 1 in each of the first `count` HDPC rows, in the columns from `start` on.
+fn diagonal(
+    alloc: Global,
+    start: usize,
+    count: usize,
+) -> Result<Vec<(usize, usize, u8)>, Error>
+    requires start { start < 1000 }
+    requires count { count < 1000 }
+{
+    let mut octets = Vec::new(alloc);
+    for i in 0..count {
+        octets.push((i, start + i, 1))?;
+    }
+    Ok(octets)
+}
+
 #[test]
 fn hdpc_rows_determine_what_is_left(rt: HostRuntime) -> Result<(), Error> {
-    let table = SystematicTable::built_in(rt.alloc())?;
-    assert!(rt; 10 <= table.greatest());
-    let row = table.row(10);
-    assert_eq!(rt; width_of(&row), 27);
     let ones = late_ones(rt.alloc())?;
-    let bits: DenseBinaryMatrix = bits_at(rt.alloc(), &row, ones.as_slice())?;
-    let hdpc = octets_from(rt.alloc(), &row, 0, 10)?;
-    let symbols = numbered(rt.alloc())?;
-    let solved = fused_inverse_mul_symbols(rt.alloc(), &table, bits, hdpc, symbols, 10)?;
-    let (slab, _) = solved.expect(&rt, "the equations have one solution");
+    let octets = diagonal(rt.alloc(), 0, 10)?;
+    let mut solver = numbered_solver(&rt, rt.alloc(), ones.as_slice(), octets.as_slice())?;
+    let (slab, _) = solver
+        .execute()?
+        .expect(&rt, "the equations have one solution");
     let expected = [
         7, 8, 9, 10, 11, 12, 13, 14, 15, 16, 0, 1, 2, 3, 4, 5, 6, 17, 18, 19, 20, 21, 22, 23, 24,
         25, 26,
     ];
-    let found = slab.into_symbols()?;
-    assert_eq!(rt; found.len(), expected.len());
-    for k in 0..found.len() {
-        assert_eq!(rt; found[k].as_bytes(), [expected[k]].as_slice(), "at {k}");
-    }
-    Ok(())
+    assert_octets(&rt, slab, &expected)
 }
 
 #[test]
 fn nothing_is_answered_without_the_last_hdpc_row(rt: HostRuntime) -> Result<(), Error> {
-    let table = SystematicTable::built_in(rt.alloc())?;
-    assert!(rt; 10 <= table.greatest());
-    let row = table.row(10);
-    assert_eq!(rt; width_of(&row), 27);
     let ones = late_ones(rt.alloc())?;
-    let bits: DenseBinaryMatrix = bits_at(rt.alloc(), &row, ones.as_slice())?;
-    let hdpc = octets_from(rt.alloc(), &row, 0, 9)?;
-    let symbols = numbered(rt.alloc())?;
-    assert!(rt; fused_inverse_mul_symbols(rt.alloc(), &table, bits, hdpc, symbols, 10)?.is_none());
+    let octets = diagonal(rt.alloc(), 0, 9)?;
+    let mut solver = numbered_solver(&rt, rt.alloc(), ones.as_slice(), octets.as_slice())?;
+    assert!(rt; solver.execute()?.is_none());
+    assert!(rt; matches!(solver.execute(), Err(Error::AlreadyExecuted)));
     Ok(())
 }
 
 #[test]
 fn rows_of_least_degree_take_few_additions(rt: HostRuntime) -> Result<(), Error> {
-    let table = SystematicTable::built_in(rt.alloc())?;
-    assert!(rt; 10 <= table.greatest());
-    let row = table.row(10);
-    assert_eq!(rt; width_of(&row), 27);
     let mut ones = Vec::new(rt.alloc());
     for k in 0..17 {
         ones.push((bit_row(k), 0))?;
         ones.push((bit_row(k), (k + 9) % 17))?;
     }
-    let bits: DenseBinaryMatrix = bits_at(rt.alloc(), &row, ones.as_slice())?;
-    let hdpc = octets_from(rt.alloc(), &row, 17, 10)?;
-    let symbols = numbered(rt.alloc())?;
-    let mut solver = IntermediateSymbolDecoder::new(rt.alloc(), &table, bits, hdpc, symbols, 10);
+    let octets = diagonal(rt.alloc(), 17, 10)?;
+    let mut solver = numbered_solver(&rt, rt.alloc(), ones.as_slice(), octets.as_slice())?;
     let (slab, _) = solver
         .execute()?
         .expect(&rt, "the equations have one solution");
@@ -230,10 +219,6 @@ fn rows_of_least_degree_take_few_additions(rt: HostRuntime) -> Result<(), Error>
 
 #[test]
 fn rows_of_two_ones_are_taken_before_longer_ones(rt: HostRuntime) -> Result<(), Error> {
-    let table = SystematicTable::built_in(rt.alloc())?;
-    assert!(rt; 10 <= table.greatest());
-    let row = table.row(10);
-    assert_eq!(rt; width_of(&row), 27);
     let mut ones = Vec::new(rt.alloc());
     for k in 0..17 {
         ones.push((0, k))?;
@@ -242,10 +227,8 @@ fn rows_of_two_ones_are_taken_before_longer_ones(rt: HostRuntime) -> Result<(), 
         ones.push((bit_row(k), k - 1))?;
         ones.push((bit_row(k), k))?;
     }
-    let bits: DenseBinaryMatrix = bits_at(rt.alloc(), &row, ones.as_slice())?;
-    let hdpc = octets_from(rt.alloc(), &row, 17, 10)?;
-    let symbols = numbered(rt.alloc())?;
-    let mut solver = IntermediateSymbolDecoder::new(rt.alloc(), &table, bits, hdpc, symbols, 10);
+    let octets = diagonal(rt.alloc(), 17, 10)?;
+    let mut solver = numbered_solver(&rt, rt.alloc(), ones.as_slice(), octets.as_slice())?;
     assert!(rt; solver.execute()?.is_some());
     // One column is inactive: a row of the chain takes one other at most, the long row all, and
     // each that one.
@@ -253,46 +236,32 @@ fn rows_of_two_ones_are_taken_before_longer_ones(rt: HostRuntime) -> Result<(), 
     Ok(())
 }
 
+// Row i is the unknown 26 - i, and twice that in the HDPC rows, the first of which adds the unknown
+// 0.
 #[test]
 fn equations_are_solved(rt: HostRuntime) -> Result<(), Error> {
     let table = SystematicTable::built_in(rt.alloc())?;
     assert!(rt; 10 <= table.greatest());
     let row = table.row(10);
-    let bits: DenseBinaryMatrix = mirrored_bits(rt.alloc(), &row)?;
-    let hdpc = mirrored_octets(rt.alloc(), &row)?;
     assert_eq!(rt; width_of(&row), 27);
-    let mut symbols = SymbolSlab::with_zeros(rt.alloc(), 27, 1)?;
-    let values = [
-        1, 2, 3, 4, 5, 6, 7, 8, 9, 10, 11, 12, 13, 14, 15, 16, 17, 18, 19, 20, 21, 22, 23, 24, 25,
-        26, 27,
-    ];
-    symbols.copy_block_from(0, &values);
+    let mut ones = Vec::new(rt.alloc());
+    for i in 0..27 {
+        ones.push((i, 26 - i))?;
+    }
+    let mut octets = vec![in rt.alloc(); (0, 0, 1)]?;
+    for i in 0..10 {
+        octets.push((i, 19 - i, 2))?;
+    }
+    let bits: DenseBinaryMatrix = bits_at(rt.alloc(), &row, ones.as_slice())?;
+    let hdpc = octets_at(rt.alloc(), &row, octets.as_slice())?;
+    let symbols = numbered(rt.alloc())?;
     let solved = fused_inverse_mul_symbols(rt.alloc(), &table, bits, hdpc, symbols, 10)?;
     let (slab, _) = solved.expect(&rt, "the equations have one solution");
     let expected = [
-        27, 26, 25, 24, 23, 22, 21, 20, 19, 18, 134, 8, 137, 7, 136, 6, 139, 5, 138, 135, 7, 6, 5,
-        4, 3, 2, 1,
+        26, 25, 24, 23, 22, 21, 20, 19, 18, 17, 8, 137, 7, 136, 6, 139, 5, 138, 4, 128, 6, 5, 4, 3,
+        2, 1, 0,
     ];
-    let found = slab.into_symbols()?;
-    assert_eq!(rt; found.len(), expected.len());
-    for k in 0..found.len() {
-        assert_eq!(rt; found[k].as_bytes(), [expected[k]].as_slice(), "at {k}");
-    }
-    Ok(())
-}
-
-#[test]
-fn a_solver_runs_once(rt: HostRuntime) -> Result<(), Error> {
-    let table = SystematicTable::built_in(rt.alloc())?;
-    assert!(rt; 10 <= table.greatest());
-    let row = table.row(10);
-    let bits: DenseBinaryMatrix = zero_bits(rt.alloc(), &row)?;
-    let hdpc = mirrored_octets(rt.alloc(), &row)?;
-    let symbols = SymbolSlab::with_zeros(rt.alloc(), width_of(&row), 1)?;
-    let mut solver = IntermediateSymbolDecoder::new(rt.alloc(), &table, bits, hdpc, symbols, 10);
-    assert!(rt; solver.execute()?.is_none());
-    assert!(rt; matches!(solver.execute(), Err(Error::AlreadyExecuted)));
-    Ok(())
+    assert_octets(&rt, slab, &expected)
 }
 
 #[test]
