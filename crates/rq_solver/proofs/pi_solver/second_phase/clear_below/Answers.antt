@@ -15,18 +15,17 @@ loop-i-init c = record {
 
 pub loop-i-preserved : goal.loop-i-preserved
 loop-i-preserved c =
+    let v = c.loop-i.invariant in
     let rows = c.args.rows.now in
     let pivot = c.args.pivot in
-    let t = c.loop-i.i in
     let old = c.args.recorded.now in
     let cur = c.loop-i.recorded in
     let new = c.clear_entry.new.recorded in
-    let v = c.loop-i.invariant in
-    let in_rows : t < length rows = c.loop-i-test.true in
-    let more = changes_among (at rows t ∷ at rows pivot ∷ []) rows (two_among rows t pivot in_rows c.requires.pivot) cur new c.in_ok-clear_entry.ensures.steps in
+    let in_rows : c.loop-i.i < length rows = c.loop-i-test.true in
+    let more = changes_among (at rows c.loop-i.i ∷ at rows pivot ∷ []) rows (two_among rows c.loop-i.i pivot in_rows c.requires.pivot) cur new c.in_ok-clear_entry.ensures.steps in
     record {
       steps = changes_more rows old cur new v.steps more;
-      cleared = below_more rows pivot c.requires.pivot t old.table cur.table new.table c.requires.rows (omega (arith, c.loop-i.auto.i)) in_rows c.requires.column v.steps.performs.height v.steps.performs.width v.cleared c.in_ok-clear_entry.ensures.added;
+      cleared = below_more rows pivot c.requires.pivot c.loop-i.i old.table cur.table new.table c.requires.rows (omega (arith, c.loop-i.auto.i)) in_rows c.requires.column v.steps.performs.height v.steps.performs.width v.cleared c.in_ok-clear_entry.ensures.added;
       few = (let one = c.in_ok-clear_entry.ensures.few in let so_far = v.few in omega (arith, one, so_far));
       octets = c.in_ok-clear_entry.ensures.octets;
     }

@@ -20,19 +20,18 @@ pub loop-column-preserved : goal.loop-column-preserved
 loop-column-preserved c =
     let p = c.args.peeling.now in
     let width = length p.places.items in
+    let v = c.loop-column.invariant in
     let pivots = length p.rows.items in
-    let row = c.args.row in
     let columns = c.row-column-items.result.now in
     let t = c.loop-column.column-index in
     let place = c.index-place.result.now in
     let old = c.args.entries.now in
     let table = c.loop-column.entries in
-    let v = c.loop-column.invariant in
     let peeled = c.requires.peeled.peeled in
     let inactive : ℕ = width - pivots in
     let wide : pivots + inactive ≡ width = omega (arith, peeled.few) in
     let in_columns : t < length columns = c.loop-column-test.true in
-    let are = columns_of_row width row c.args.ones.now columns c.requires.peeled.bits c.requires.row c.row-column-items.ensures in
+    let are = columns_of_row width c.args.row c.args.ones.now columns c.requires.peeled.bits c.requires.row c.row-column-items.ensures in
     let in_width : at columns t < width = are.within t 0 in_columns in
     let is : at p.places.items (at columns t) ≡ place = sym (get_or_read p.places.items (at columns t) place in_width c.index-place.ensures 0) in
     let many : c.len-pivots.result ≡ pivots = c.len-pivots.ensures ∙ p.rows.ok.0 in
@@ -40,7 +39,7 @@ loop-column-preserved c =
       | then-place-pivots w ↦
           let late : pivots ≤ place = omega (arith, many, w.if-place-pivots.true) in
           let inside : place - c.len-pivots.result < table.width = omega (arith, v.width, c.requires.width, (peeled.columns.placed (at columns t) in_width).0, is, many, late) in
-          let sets = sets_entry table v.octets row (place - c.len-pivots.result) w.one.result (omega (arith, v.height, c.requires.height, c.requires.row)) inside (rw w.one.ensures (lit< tt)) w.set.new.self w.set.ensures in
-          rw w.entries-is (ones_more width pivots p.order.items p.places.items peeled.columns columns row old inactive wide t in_columns in_width table v are.once place is late w.set.new.self (rw (many, w.one.ensures) at sets))
-      | else-place-pivots w ↦ rw w.entries-is (ones_skipped width pivots p.order.items p.places.items peeled.columns columns row old inactive wide t in_columns in_width table v (omega (arith, is, many, w.if-place-pivots.false)))
+          let sets = sets_entry table v.octets c.args.row (place - c.len-pivots.result) w.one.result (omega (arith, v.height, c.requires.height, c.requires.row)) inside (rw w.one.ensures (lit< tt)) w.set.new.self w.set.ensures in
+          rw w.entries-is (ones_more width pivots p.order.items p.places.items peeled.columns columns c.args.row old inactive wide t in_columns in_width table v are.once place is late w.set.new.self (rw (many, w.one.ensures) at sets))
+      | else-place-pivots w ↦ rw w.entries-is (ones_skipped width pivots p.order.items p.places.items peeled.columns columns c.args.row old inactive wide t in_columns in_width table v (omega (arith, is, many, w.if-place-pivots.false)))
     ]
