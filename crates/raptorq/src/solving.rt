@@ -40,8 +40,9 @@ pub(crate) fn solve(
     }
 }
 
-/// The same, with the operations that made them. The values may have any size, 0 too, where the
-/// operations alone are wanted.
+/// The intermediate symbols that have these values at a block's equations, and the operations that
+/// made them. The values may have any size, 0 too, where the operations alone are wanted. `None`
+/// where the equations don't determine the symbols.
 pub(crate) fn solve_recorded(
     alloc: Global,
     row: &TableRow,

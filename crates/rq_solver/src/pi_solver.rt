@@ -85,7 +85,8 @@ impl<T: BinaryMatrix> IntermediateSymbolDecoder<T> {
         )
     }
 
-    /// A solver of the equations of a block, over the block's row of a table.
+    /// A solver of the equations of a block, over the block's row of a table: a matrix of bits, the
+    /// HDPC rows, and a symbol for each equation.
     pub fn of_row(
         alloc: Global,
         row: &TableRow,
@@ -117,15 +118,16 @@ impl<T: BinaryMatrix> IntermediateSymbolDecoder<T> {
         self.counts.additions.total()
     }
 
-    /// How many symbols were multiplied, counting multiples that were added.
+    /// How many symbols were multiplied, counting multiples that were added. Zero until the operations
+    /// are found, or it is found that there are none.
     pub fn get_symbol_mul_ops(&self) -> u64
         ensures { result ≡ sum (solver_state self.now).multiplications }
     {
         self.counts.multiplications.total()
     }
 
-    /// How many symbols each of the five phases added (RFC 6330, sections 5.4.2.2 to 5.4.2.6). The
-    /// third and the fifth have nothing to do.
+    /// How many symbols each of the five phases added, counting multiples that were added (RFC 6330,
+    /// sections 5.4.2.2 to 5.4.2.6). The third and the fifth have nothing to do.
     pub fn get_symbol_add_ops_by_phase(&self) -> [u64; 5]
         ensures counted { result ≡ (solver_state self.now).additions }
         ensures third { slice_index result 2 ≡ 0 }
@@ -134,7 +136,8 @@ impl<T: BinaryMatrix> IntermediateSymbolDecoder<T> {
         self.counts.additions.by_phase()
     }
 
-    /// How many symbols each of the five phases multiplied.
+    /// How many symbols each of the five phases multiplied, counting multiples that were added (RFC
+    /// 6330, sections 5.4.2.2 to 5.4.2.6). The third and the fifth have nothing to do.
     pub fn get_symbol_mul_ops_by_phase(&self) -> [u64; 5]
         ensures counted { result ≡ (solver_state self.now).multiplications }
         ensures third { slice_index result 2 ≡ 0 }
@@ -179,8 +182,9 @@ impl<T: BinaryMatrix> IntermediateSymbolDecoder<T> {
     }
 }
 
-/// Solves the equations of a block with so many source symbols, as a solver's `new` and `execute`
-/// do.
+/// Solves the equations of a block with so many source symbols, which are a matrix of bits, the HDPC
+/// rows, and a symbol for each equation: the slab with the intermediate symbols, and the operations
+/// that made it. `None` where the equations don't determine the symbols.
 pub fn fused_inverse_mul_symbols<T: BinaryMatrix>(
     alloc: Global,
     table: &SystematicTable,

@@ -99,9 +99,7 @@ fn numbered_solver(
     let bits = bits_at(alloc, &row, ones)?;
     let hdpc = octets_at(alloc, &row, octets)?;
     let symbols = numbered(alloc)?;
-    Ok(IntermediateSymbolDecoder::new(
-        alloc, &table, bits, hdpc, symbols, 10,
-    ))
+    Ok(IntermediateSymbolDecoder::new(alloc, &table, bits, hdpc, symbols, 10))
 }
 
 // Symbols of one octet each.
@@ -145,11 +143,7 @@ fn late_ones(alloc: Global) -> Result<Vec<(usize, usize)>, Error> {
 }
 
 // A 1 in each of the first `count` HDPC rows, in the columns from `start` on.
-fn diagonal(
-    alloc: Global,
-    start: usize,
-    count: usize,
-) -> Result<Vec<(usize, usize, u8)>, Error>
+fn diagonal(alloc: Global, start: usize, count: usize) -> Result<Vec<(usize, usize, u8)>, Error>
     requires start { start < 1000 }
     requires count { count < 1000 }
 {

@@ -124,7 +124,7 @@ impl Decoder {
     ghost use Rattle.raptorq.specs.Refused.{packet_refusal};
     ghost use Rattle.raptorq.specs.Decoder.{state_of};
 
-    /// A decoder that stands for no packets.
+    /// The decoder of an object in this configuration, before any packet.
     ///
     /// Refuses what [`ObjectTransmissionInformation::check`] refuses.
     pub fn new(

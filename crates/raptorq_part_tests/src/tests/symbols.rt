@@ -73,6 +73,8 @@ fn an_order_moves_no_symbol(rt: HostRuntime) -> Result<(), Error> {
     slab.set_reorder([2, 0, 1].to_vec(rt.alloc())?);
     assert_eq!(rt; slab.len(), 3);
     assert_eq!(rt; slab.symbol_size(), 1);
+    assert_eq!(rt; slab.get(0), [2].as_slice());
+    assert_eq!(rt; slab.get(1), [0].as_slice());
     slab.set_reorder([1, 2].to_vec(rt.alloc())?);
     assert_symbols(&rt, slab, &[1, 2])?;
     let mut slab = three(rt.alloc())?;
