@@ -20,11 +20,11 @@ pub loop-column-preserved : goal.loop-column-preserved
 loop-column-preserved c =
     let p = c.args.peeling.now in
     let width = length p.places.items in
-    let v = c.loop-column.invariant in
     let pivots = length p.rows.items in
     let columns = c.row-column-items.result.now in
     let t = c.loop-column.column-index in
     let place = c.index-place.result.now in
+    let v = c.loop-column.invariant in
     let old = c.args.entries.now in
     let table = c.loop-column.entries in
     let peeled = c.requires.peeled.peeled in

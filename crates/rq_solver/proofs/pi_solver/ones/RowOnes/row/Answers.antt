@@ -1,6 +1,5 @@
 -- What the check leaves to show of `pi_solver::ones::RowOnes::row`.
-use Rattle.std.proofs.Common.{ℕ, ◌+◌, ◌<◌, ◌≡◌, List, length, ap, ◌∙◌, arith}
-use Rattle.rq_parts.specs.ImmutableListMap.{lists_between}
+use Rattle.std.proofs.Common.{ℕ, List, length, ap, ◌∙◌, arith}
 use Rattle.rq_parts.proofs.KeyedLists.{list_read, key_within}
 use Rattle.rq_solver.specs.Peeled.{ones_of}
 use Rattle.rq_solver.proofs.pi_solver.ones.RowOnes.row.Goals as goal
