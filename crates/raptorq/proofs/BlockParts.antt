@@ -1,8 +1,9 @@
 -- How many symbols a block has, by the parts of a partition.
 use Rattle.std.proofs.Common.{◌≡◌, ℕ, ◌*◌, ◌<◌, ◌≤◌, sym, ap, ◌∙◌, arith}
 use Rattle.std.proofs.Math.Nat.{mul-le-mul}
+use Rattle.std.proofs.lemmas.Grind.{div_ceil_times}
 use Rattle.rq_standard.specs.Partition.{parts_of}
-use Rattle.rq_standard.specs.Configuration.{Configuration, total_symbols}
+use Rattle.rq_standard.specs.Configuration.{Configuration, total_symbols, largest_block}
 use Rattle.rq_standard.specs.Cutting.{block_symbols}
 use Rattle.rq_standard.proofs.BlockCuts.{larger_block, smaller_block}
 
@@ -21,3 +22,10 @@ smaller_part c b parts is past below = ap (λ p. p.1) is ∙ sym (smaller_block 
 -- the bytes of a block are few
 pub product_small : (n size : ℕ) → n ≤ 65535 → size ≤ 65535 → n * size ≤ 4294967296
 product_small n size few small = omega (arith, mul-le-mul few small)
+
+-- an object has few symbols, where its largest block has
+pub few_symbols : (c : Configuration) → 0 < c.source_blocks → c.source_blocks ≤ 255 → largest_block c < 65536 → total_symbols c ≤ 4294967295
+few_symbols c some blocks few = omega (arith, (div_ceil_times (total_symbols c) c.source_blocks some).0, mul-le-mul (few_blocks few) blocks)
+  where
+    few_blocks : largest_block c < 65536 → largest_block c ≤ 65535
+    few_blocks below = omega arith

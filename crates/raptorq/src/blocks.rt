@@ -17,13 +17,8 @@ pub(crate) fn block_symbols(config: &ObjectTransmissionInformation, number: u8) 
     requires number { number < config.now.source_blocks }
     ensures { result ≡ block_symbols config.now number }
 {
-    let symbols = config
-        .transfer_length()
-        .div_ceil(u64::from(config.symbol_size()));
-    let (larger, smaller, larger_count, _) = partition(
-        symbols as u32,
-        u32::from(config.source_blocks()),
-    );
+    let blocks = u32::from(config.source_blocks());
+    let (larger, smaller, larger_count, _) = partition(config.total_symbols() as u32, blocks);
     if u32::from(number) < larger_count {
         larger
     } else {
@@ -50,12 +45,7 @@ pub fn calculate_block_offsets(
     if config.source_blocks() == 0 {
         return Err(Error::SourceBlocksZero);
     }
-    let symbols = config
-        .transfer_length()
-        .div_ceil(u64::from(config.symbol_size()));
-    if symbols.div_ceil(u64::from(config.source_blocks()))
-        > u64::from(MAX_SOURCE_SYMBOLS_PER_BLOCK)
-    {
+    if config.largest_block() > u64::from(MAX_SOURCE_SYMBOLS_PER_BLOCK) {
         return Err(Error::TooManySymbols);
     }
     Ok(block_offsets(alloc, config)?)

@@ -19,8 +19,8 @@ abbrev pub new_packet : ℕ → ℕ → List ℕ → Result Packet Error
 new_packet b e payload = and_then (new_id b e) (λ id. Ok (record { id = id; payload = payload }))
 
 -- the configuration of these numbers: F, T, Z, N and Al
-abbrev pub configuration_with : ℕ → ℕ → ℕ → ℕ → ℕ → Configuration
-configuration_with length size blocks sub_blocks alignment = record { transfer_length = length; symbol_size = size; source_blocks = blocks; sub_blocks = sub_blocks; alignment = alignment }
+abbrev pub configuration_of : ℕ → ℕ → ℕ → ℕ → ℕ → Configuration
+configuration_of length size blocks sub_blocks alignment = record { transfer_length = length; symbol_size = size; source_blocks = blocks; sub_blocks = sub_blocks; alignment = alignment }
 
 -- a configuration, whatever the table
 abbrev pub new_configuration : Configuration → Result Configuration Error

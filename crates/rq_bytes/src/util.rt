@@ -27,16 +27,16 @@ pub fn get_both_indices<T>(vector: &mut [T], i: usize, j: usize) -> (&mut T, &mu
 
 /// Lends the `len` elements from each of two places on for writing. The two ranges have no place in
 /// common.
-pub fn get_both_ranges<T>(vector: &mut [T], i: usize, j: usize, len: usize) -> (&mut [T], &mut [T])
+pub fn get_both_ranges<T>(slice: &mut [T], i: usize, j: usize, len: usize) -> (&mut [T], &mut [T])
     requires apart { (i + len ≤ j) ⊎ (j + len ≤ i) }
-    requires first { i + len ≤ length vector.old }
-    requires second { j + len ≤ length vector.old }
-    ensures* writes_back { sem 𝓛 (LendsBoth (Array T.row 0) (Array T.row 0) (Array T.row 0) vector.entry result (λ x y. with_range (with_range vector.old i x) j y)) }
-    ensures first { result.0.now ≡ range_of vector.old i len }
-    ensures second { result.1.now ≡ range_of vector.old j len }
+    requires first { i + len ≤ length slice.old }
+    requires second { j + len ≤ length slice.old }
+    ensures* writes_back { sem 𝓛 (LendsBoth (Array T.row 0) (Array T.row 0) (Array T.row 0) slice.entry result (λ x y. with_range (with_range slice.old i x) j y)) }
+    ensures first { result.0.now ≡ range_of slice.old i len }
+    ensures second { result.1.now ≡ range_of slice.old j len }
 {
     // What becomes of a part of a part is not known, so both are made at once.
-    let start = vector.as_mut_ptr();
+    let start = slice.as_mut_ptr();
     unsafe {
         (
             from_raw_parts_mut(start.add(i), len),

@@ -226,8 +226,7 @@ impl Decoder {
     fn padded_length(&self) -> usize
         ensures { let c = (state_of self.now).configuration in result ≡ total_symbols c * c.symbol_size }
     {
-        let size = u64::from(self.config.symbol_size());
-        (self.config.transfer_length().div_ceil(size) * size) as usize
+        (self.config.total_symbols() * u64::from(self.config.symbol_size())) as usize
     }
 
     // The blocks one after another, without the zeros behind the object.

@@ -1,5 +1,5 @@
 //! The object transmission information (RFC 6330, 3.3.2 and 3.3.3).
-ghost use Rattle.std.specs.Prelude.{◌≡◌, ◌<◌, Result, Ok, OnOk, slice_index};
+ghost use Rattle.std.specs.Prelude.{◌≡◌, ◌*◌, ◌^◌, ◌<◌, Result, Ok, OnOk, slice_index};
 ghost use Rattle.rq_standard.specs.Configuration.{Configuration, IsConfiguration, IsAccepted, total_symbols, largest_block, header_bytes, configuration_of_bytes};
 ghost use Rattle.rq_standard.specs.TableRows.{greatest_size};
 ghost use Rattle.std.specs.Int.{div_ceil};
@@ -44,7 +44,7 @@ impl Model for ObjectTransmissionInformation {
 }
 
 impl ObjectTransmissionInformation {
-    ghost use Rattle.rq_base.specs.RefusedInput.{configuration_with, new_configuration, checked_configuration};
+    ghost use Rattle.rq_base.specs.RefusedInput.{configuration_of, new_configuration, checked_configuration};
 
     /// A configuration: the transfer length in bytes, the symbol size in bytes, the number of
     /// source blocks, the number of sub-blocks (0 is read as 1) and the symbol alignment in bytes.
@@ -60,7 +60,7 @@ impl ObjectTransmissionInformation {
         sub_blocks: u16,
         alignment: u8,
     ) -> Result<ObjectTransmissionInformation, Error>
-        ensures { result ≡ new_configuration (configuration_with transfer_length symbol_size source_blocks sub_blocks alignment) }
+        ensures { result ≡ new_configuration (configuration_of transfer_length symbol_size source_blocks sub_blocks alignment) }
     {
         if transfer_length > MAX_TRANSFER_LENGTH {
             return Err(Error::TransferTooLong);
@@ -161,7 +161,8 @@ impl ObjectTransmissionInformation {
     /// Kt: the number of source symbols of the object, F divided by T and rounded up.
     pub fn total_symbols(&self) -> u64
         requires { 0 < self.now.symbol_size }
-        ensures { result ≡ total_symbols self.now }
+        ensures value { result ≡ total_symbols self.now }
+        ensures bytes { result * self.now.symbol_size < 2 ^ 41 }
     {
         total_symbols(self.transfer_length, self.symbol_size)
     }
