@@ -1,9 +1,10 @@
 -- The bits of an ascending list of ones.
-use Rattle.std.proofs.Common.{◌≡◌, ◌≢◌, ℕ, zero, suc, ◌+◌, ◌-◌, ◌<◌, ◌≤◌, ◌==◌, List, [], ◌∷◌, ◌++◌, length, get_or, cond, refl, sym, ap, ◌∙◌, inl, inr, arith, if◌then◌else◌, Option, None, Some, Result, Ok, Err, IfOk, IfErr, zero-add}
+use Rattle.std.proofs.Common.{◌≡◌, ◌≢◌, ℕ, zero, suc, ◌+◌, ◌-◌, ◌<◌, ◌≤◌, ◌==◌, List, [], ◌∷◌, ◌++◌, length, get_or, cond, refl, sym, ap, ◌∙◌, inl, inr, arith, if◌then◌else◌, All, Option, None, Some, Result, Ok, Err, IfOk, IfErr, zero-add}
 use Rattle.std.specs.List.Sorted.{IsStrictlyIncreasing, IsBinarySearchResult}
 use Rattle.std.specs.Ordering.{nat_cmp}
 use Rattle.std.proofs.lemmas.List.Sorted.{searched}
 use Rattle.std.specs.List.{insert, remove}
+use Rattle.std.proofs.lemmas.List.Elements.{All-cons}
 use Rattle.std.proofs.lemmas.Bool.{cases_lt}
 use Rattle.std.proofs.lemmas.Bool.Decides.{eqb_tells}
 use Rattle.std.proofs.lemmas.List.Sums.{sum_by-cons, sum_by-append, sum_by-insert, sum_by-remove}
@@ -28,6 +29,9 @@ module _ (x : ℕ) (xs : List ℕ) where
   pub listed-other : (k : ℕ) → k ≢ x → listed_bit (x ∷ xs) k ≡ listed_bit xs k
   listed-other k other =
       sum_by-cons (λ one. cond (one == k) 1 0) x xs ∙ ap (λ n. n + listed_bit xs k) (test-other x k (λ same. other (sym same))) ∙ zero-add (listed_bit xs k)
+
+  listed_more : (k : ℕ) → listed_bit (x ∷ xs) k ≡ cond (x == k) 1 0 + listed_bit xs k
+  listed_more k = sum_by-cons (λ one. cond (one == k) 1 0) x xs
 
   pub rises-tail : IsStrictlyIncreasing (x ∷ xs) → IsStrictlyIncreasing xs
   rises-tail up j l =
@@ -60,16 +64,16 @@ rises-join xs ys front back between k l =
     elim (cases_lt (k + 1) (length xs)) [
       | inl inside ↦ omega (arith, front k inside, get_or_append_left xs ys 0 k (omega arith), get_or_append_left xs ys 0 (k + 1) inside)
       | inr past ↦ elim (cases_lt k (length xs)) [
-          | inl last ↦
-              let here : get_or (xs ++ ys) k 0 ≡ get_or xs (length xs - 1) 0 = get_or_append_left xs ys 0 k last ∙ ap (λ n. get_or xs n 0) {y = length xs - 1} (omega arith) in
-              let next : get_or (xs ++ ys) (k + 1) 0 ≡ get_or ys 0 0 = get_or-append_right xs ys (k + 1) 0 past ∙ ap (λ n. get_or ys n 0) {y = 0} (omega arith) in
-              omega (arith, here, next, between (omega arith) (omega (arith, length-append xs ys)))
-          | inr behind ↦
-              let n = k - length xs in
-              let here = get_or-append_right xs ys k 0 behind in
-              let next : get_or (xs ++ ys) (k + 1) 0 ≡ get_or ys (n + 1) 0 = get_or-append_right xs ys (k + 1) 0 past ∙ ap (λ m. get_or ys m 0) {y = n + 1} (omega arith) in
-              omega (arith, here, next, back n (omega (arith, length-append xs ys)))
-        ]
+        | inl last ↦
+            let here : get_or (xs ++ ys) k 0 ≡ get_or xs (length xs - 1) 0 = get_or_append_left xs ys 0 k last ∙ ap (λ n. get_or xs n 0) {y = length xs - 1} (omega arith) in
+            let next : get_or (xs ++ ys) (k + 1) 0 ≡ get_or ys 0 0 = get_or-append_right xs ys (k + 1) 0 past ∙ ap (λ n. get_or ys n 0) {y = 0} (omega arith) in
+            omega (arith, here, next, between (omega arith) (omega (arith, length-append xs ys)))
+        | inr behind ↦
+            let n = k - length xs in
+            let here = get_or-append_right xs ys k 0 behind in
+            let next : get_or (xs ++ ys) (k + 1) 0 ≡ get_or ys (n + 1) 0 = get_or-append_right xs ys (k + 1) 0 past ∙ ap (λ m. get_or ys m 0) {y = n + 1} (omega arith) in
+            omega (arith, here, next, back n (omega (arith, length-append xs ys)))
+      ]
     ]
 
 pub rises-one : (x : ℕ) → IsStrictlyIncreasing (x ∷ [])
@@ -149,3 +153,10 @@ pub record IsFound (xs : List ℕ) (i : ℕ) (r : Result ℕ ℕ) : Type 0 where
 pub found_or_gap : (xs : List ℕ) (i : ℕ) (r : Result ℕ ℕ) → IsStrictlyIncreasing xs → IsBinarySearchResult (λ y. nat_cmp y i) xs r → IsFound xs i r
 found_or_gap xs i (Ok at) up is = let s = searched xs i (Ok at) is (rises-far xs up) in record { found = record { within = s.0; is = s.1 }; missing = tt }
 found_or_gap xs i (Err gap) up is = let s = searched xs i (Err gap) is (rises-far xs up) in record { found = tt; missing = record { within = s.0; before = s.1; behind = s.2 } }
+
+-- where no bit is set from n on, all ones are below n
+pub ones_below_all : (xs : List ℕ) (n : ℕ) → ((k : ℕ) → n ≤ k → listed_bit xs k ≡ 0) → All (λ one. one < n) xs
+ones_below_all [] n none = λ j d l. absurd (omega arith)
+ones_below_all (x ∷ xs) n none = All-cons (λ one. one < n) x xs
+    (elim (cases_lt x n) [ inl below ↦ below | inr above ↦ absurd (omega (arith, none x above, listed-self x xs x refl)) ])
+    (ones_below_all xs n (λ k above. omega (arith, none k above, listed_more x xs k)))

@@ -1,5 +1,8 @@
 //! Rows of bits of which the ones alone are stored.
-ghost use Rattle.std.specs.Prelude.{◌≡◌, ◌≢◌, ℕ, ◌+◌, ◌<◌, ◌≤◌, ◌↔◌, [], ◌∷◌, Ok, length, map, filter, slice_index, true, IfOk, IfErr, OnOk, OnErr};
+ghost use Rattle.std.specs.Prelude.{◌≡◌, ◌<◌, ◌↔◌, ◌==◌, [], length, map, slice_index, true, IfOk, IfErr, OnOk, OnErr};
+ghost use Rattle.std.proofs.Common.{rules};
+ghost use Rattle.std.specs.Cmp.Lexicographic.{pointwise};
+ghost use Rattle.std.specs.Cmp.Rules.{comparing};
 ghost use Rattle.std.specs.Iterator.{YieldsFirst, item_count};
 ghost use Rattle.std.specs.List.Sorted.{IsStrictlyIncreasing};
 ghost use Rattle.rq_bytes.specs.declared.error.Error.TheVariants.{OutOfMemory};
@@ -27,6 +30,30 @@ impl Model for SparseBinaryVec {
     ghost view = { λ row. row.elements.items };
 
     ghost invariant = { λ row. IsStrictlyIncreasing row.elements.items };
+}
+
+impl Clone for SparseBinaryVec {
+    ghost is_clone = { λ a b. b ≡ a };
+
+    fn clone(&self) -> Result<Self, AllocError> {
+        Ok(SparseBinaryVec {
+            elements: self.elements.clone()?,
+        })
+    }
+}
+
+impl PartialEq for SparseBinaryVec {
+    ghost eq = { pointwise ◌==◌ };
+
+    ghost laws = { Prim.search (comparing, rules) };
+
+    fn eq(&self, other: &SparseBinaryVec) -> bool {
+        self.elements == other.elements
+    }
+}
+
+impl Eq for SparseBinaryVec {
+    ghost laws = { Prim.search (comparing, rules) };
 }
 
 impl SparseBinaryVec {
@@ -118,6 +145,13 @@ impl SparseBinaryVec {
             self.elements.insert(gap, i as u16)?;
         }
         Ok(())
+    }
+
+    /// The indices that have a one.
+    pub(crate) fn as_slice(&self) -> &[u16]
+        ensures { result.now ≡ self.now }
+    {
+        self.elements.as_slice()
     }
 
     // Where an index is listed, or where it would go.

@@ -51,8 +51,8 @@ ended c = elim c.loop-i-test.branch [
 all_merged : (c : goal.Joined-added) → IsMerged c.args.row.now c.args.other.now c.extend_from_slice-2.new.self.items c.loop-i.added (length (drop c.loop-i.j c.args.other.now))
 all_merged c =
     subst (λ xs. IsMerged c.args.row.now c.args.other.now xs c.loop-i.added (length (drop c.loop-i.j c.args.other.now)))
-      (sym (c.in_ok-extend_from_slice-2.ensures.items ∙ ap (λ xs. c.extend_from_slice.new.self.items ++ xs) (rest_from c.args.other.now c.loop-i.j) ∙ ap (λ xs. xs ++ drop c.loop-i.j c.args.other.now) (c.in_ok-extend_from_slice.ensures.items ∙ ap (λ xs. c.loop-i.sum.items ++ xs) (rest_from c.args.row.now c.loop-i.i))))
-      (merges_all c.args.row.now c.args.other.now c.loop-i.sum.items c.loop-i.added (drop c.loop-i.i c.args.row.now) (drop c.loop-i.j c.args.other.now) c.loop-i.invariant.merges (ended c))
+    (sym (c.in_ok-extend_from_slice-2.ensures.items ∙ ap (λ xs. c.extend_from_slice.new.self.items ++ xs) (rest_from c.args.other.now c.loop-i.j) ∙ ap (λ xs. xs ++ drop c.loop-i.j c.args.other.now) (c.in_ok-extend_from_slice.ensures.items ∙ ap (λ xs. c.loop-i.sum.items ++ xs) (rest_from c.args.row.now c.loop-i.i))))
+    (merges_all c.args.row.now c.args.other.now c.loop-i.sum.items c.loop-i.added (drop c.loop-i.i c.args.row.now) (drop c.loop-i.j c.args.other.now) c.loop-i.invariant.merges (ended c))
 
 pub returns-clause-increasing : goal.returns-clause-increasing
 returns-clause-increasing c = (all_merged c).rises
@@ -62,12 +62,12 @@ returns-clause-sum c = (all_merged c).bits
 
 pub returns-clause-added : goal.returns-clause-added
 returns-clause-added c = (
-    λ is. (all_merged c).some (elim c.if-added.branch [
-      | then-added w ↦ inl w.if-added.true
-      | else-added w ↦ inr (grind (arith, is, w.result-is, length-drop c.loop-i.j c.args.other.now))
-    ]),
-    λ h. elim ((all_merged c).none h) [
-      | inl e ↦ elim c.if-added.branch [ then-added w ↦ w.result-is ∙ w.if-added.true | else-added w ↦ absurd (false≢true (sym w.if-added.false ∙ e)) ]
-      | inr some ↦ elim c.if-added.branch [ then-added w ↦ w.result-is ∙ w.if-added.true | else-added w ↦ grind (arith, some, w.result-is, length-drop c.loop-i.j c.args.other.now) ]
-    ],
-  )
+  λ is. (all_merged c).some (elim c.if-added.branch [
+    | then-added w ↦ inl w.if-added.true
+    | else-added w ↦ inr (grind (arith, is, w.result-is, length-drop c.loop-i.j c.args.other.now))
+  ]),
+  λ h. elim ((all_merged c).none h) [
+    | inl e ↦ elim c.if-added.branch [ then-added w ↦ w.result-is ∙ w.if-added.true | else-added w ↦ absurd (false≢true (sym w.if-added.false ∙ e)) ]
+    | inr some ↦ elim c.if-added.branch [ then-added w ↦ w.result-is ∙ w.if-added.true | else-added w ↦ grind (arith, some, w.result-is, length-drop c.loop-i.j c.args.other.now) ]
+  ],
+)
