@@ -7,6 +7,7 @@ mod octets;
 mod packets;
 mod parameters;
 mod records;
+mod sparse_rows;
 mod symbols;
 mod tables;
 mod tuples;

@@ -1,5 +1,5 @@
 -- The columns of a row of bits, each with its bit.
-use Rattle.std.specs.Prelude.{◌≡◌, ℕ, zero, suc, ◌==◌, List, [], ◌∷◌, filter}
+use Rattle.std.specs.Prelude.{◌≡◌, ℕ, zero, suc, ◌==◌, List, [], ◌∷◌, filter, map, slice_index, not, nat_lt, ◌&&◌}
 use Rattle.rq_bytes.specs.BinaryOctetVec.{packed_bit}
 
 -- so many columns from a first one on, with the bits of packed words from one of them on
@@ -15,3 +15,7 @@ ones_among pairs = filter (λ p. p.1 == 1) pairs
 abbrev pub BeginsWithOne : List (ℕ × ℕ) → Type 0
 BeginsWithOne [] = Unit {0}
 BeginsWithOne (pair ∷ pairs) = pair.1 ≡ 1
+
+-- the columns that a list has for the ones of a row, as far as they lie in a range, each with the octet 1
+abbrev pub sparse_pairs : List ℕ → List ℕ → ℕ → ℕ → List (ℕ × ℕ)
+sparse_pairs ones columns start end = filter (λ p. not (nat_lt p.0 start) && nat_lt p.0 end) (map (λ one. (slice_index columns one, 1)) ones)

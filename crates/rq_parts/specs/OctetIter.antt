@@ -3,7 +3,7 @@ use Rattle.std.specs.Prelude.{ℕ, ◌+◌, ◌-◌, ◌*◌, ◌<◌, ◌≤◌
 use Rattle.rq_parts.specs.BitPairs.{bit_pairs, ones_among}
 use Rattle.rq_parts.specs.declared.iterators.DenseBits.TheInside.{Inside}
 use Rattle.rq_parts.specs.declared.iterators.Left.{Left}
-use Rattle.rq_parts.specs.declared.iterators.Left.TheVariants.{Columns, Ones}
+use Rattle.rq_parts.specs.declared.iterators.Left.TheVariants.{Columns, Ones, Sparse}
 
 -- the columns that are left, with the bits from the present one on
 abbrev pub bits_left : Inside → List (ℕ × ℕ)
@@ -15,7 +15,8 @@ pub record IsWithinWords (b : Inside) : Type 0 where
   pub bit_below : b.bit < 64
   pub within : 64 * b.word + b.bit + (b.end - b.column) ≤ 64 * length b.words.now
 
--- the columns that are left, or those of them that have a one
+-- the columns that are left, those of them that have a one, or those of a sparse row
 abbrev pub pairs_left : Left → List (ℕ × ℕ)
 pairs_left (Columns bits) = bits
 pairs_left (Ones bits) = ones_among bits
+pairs_left (Sparse ones) = ones

@@ -1,10 +1,11 @@
 //! Iterators over the octets of a row.
-ghost use Rattle.std.specs.Prelude.{◌≡◌, ℕ, ◌+◌, ◌-◌, ◌*◌, ◌<◌, ◌≤◌, [], ◌∷◌, length, MatchOption, IfOk, IfErr};
+ghost use Rattle.std.specs.Prelude.{◌≡◌, ℕ, ◌+◌, ◌-◌, ◌*◌, ◌<◌, ◌≤◌, [], ◌∷◌, All, length, MatchOption, IfOk, IfErr};
 ghost use Rattle.std.specs.Int.{bit_at};
 ghost use Rattle.std.specs.Iterator.{YieldsFirst, item_count};
 ghost use Rattle.rq_bytes.specs.declared.error.Error.TheVariants.{OutOfMemory};
-ghost use Rattle.rq_parts.specs.BitPairs.{bit_pairs, ones_among, BeginsWithOne};
+ghost use Rattle.rq_parts.specs.BitPairs.{bit_pairs, ones_among, sparse_pairs, BeginsWithOne};
 
+use crate::sparse_vec::SparseBinaryVec;
 use rq_bytes::error::Error;
 use rq_bytes::octet::Octet;
 use std::alloc::Global;
@@ -35,6 +36,7 @@ impl<'a> Model for OctetIter<'a> {
 enum Left<'a> {
     Columns(DenseBits<'a>),
     Ones(DenseBits<'a>),
+    Sparse(SparseOnes<'a>),
 }
 
 impl<'a> OctetIter<'a> {
@@ -74,6 +76,28 @@ impl<'a> OctetIter<'a> {
         }
     }
 
+    /// The columns from `start_col` on and before `end_col` that have a one, in a row whose column k is
+    /// the k-th of `physical_col_to_logical`.
+    pub fn new_sparse(
+        start_col: usize,
+        end_col: usize,
+        sparse_elements: &'a SparseBinaryVec,
+        physical_col_to_logical: &'a [u16],
+    ) -> OctetIter<'a>
+        requires range { start_col ≤ end_col }
+        requires known { All (λ one. one < length physical_col_to_logical.now) sparse_elements.now }
+        ensures { result ≡ sparse_pairs sparse_elements.now physical_col_to_logical.now start_col end_col }
+    {
+        OctetIter {
+            left: Left::Sparse(SparseOnes {
+                start: start_col,
+                end: end_col,
+                ones: sparse_elements.as_slice(),
+                columns: physical_col_to_logical,
+            }),
+        }
+    }
+
     /// The pairs that are left, in memory of their own.
     pub fn clone(&self, alloc: Global) -> Result<ClonedOctetIter, Error>
         ensures ok { IfOk result (λ pairs. pairs ≡ self.now) }
@@ -96,6 +120,7 @@ impl<'a> OctetIter<'a> {
             left: match &self.left {
                 Left::Columns(bits) => Left::Columns(bits.again()),
                 Left::Ones(bits) => Left::Ones(bits.again()),
+                Left::Sparse(ones) => Left::Sparse(ones.again()),
             },
         }
     }
@@ -112,6 +137,7 @@ impl Iterator for OctetIter<'_> {
         match &mut self.left {
             Left::Columns(bits) => bits.next_column(),
             Left::Ones(bits) => bits.next_one(),
+            Left::Sparse(ones) => ones.next_one(),
         }
     }
 }
@@ -252,4 +278,54 @@ fn zeros_in_word(word: u64, bit: usize) -> usize
 {
     let zeros = (word >> bit).trailing_zeros() as usize;
     zeros.min(WORD_BITS - bit)
+}
+
+// The ones of a sparse row that are left, in the columns that a list has for them, as far as these lie
+// in a range. Contracts see the list of the pairs that are left.
+#[derive(Debug, Drop)]
+struct SparseOnes<'a> {
+    start: usize,
+    end: usize,
+    ones: &'a [u16],
+    columns: &'a [u16],
+}
+
+impl<'a> Model for SparseOnes<'a> {
+    ghost use Rattle.std.specs.Prelude.{ℕ, List, All, ◌<◌, length};
+
+    ghost Value = { List (ℕ × ℕ) };
+
+    ghost use Rattle.rq_parts.specs.BitPairs.{sparse_pairs};
+
+    ghost view = { λ s. sparse_pairs s.ones.now s.columns.now s.start s.end };
+
+    ghost invariant = { λ s. All (λ one. one < length s.columns.now) s.ones.now };
+}
+
+impl<'a> SparseOnes<'a> {
+    // The next column in the range.
+    fn next_one(&mut self) -> Option<(usize, Octet)>
+        ensures { MatchOption result ((self.old ≡ []) × (self.new ≡ [])) (λ p. self.old ≡ p ∷ self.new) }
+    {
+        while let Some((one, rest)) = self.ones.split_first() {
+            let column = usize::from(self.columns[usize::from(*one)]);
+            self.ones = rest;
+            if column >= self.start && column < self.end {
+                return Some((column, Octet::one()));
+            }
+        }
+        None
+    }
+
+    // A copy of the ones that are left.
+    fn again(&self) -> SparseOnes<'a>
+        ensures { result ≡ self.now }
+    {
+        SparseOnes {
+            start: self.start,
+            end: self.end,
+            ones: self.ones,
+            columns: self.columns,
+        }
+    }
 }

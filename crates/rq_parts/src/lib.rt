@@ -5,3 +5,4 @@ pub mod arraymap;
 pub mod graph;
 pub mod iterators;
 pub mod octet_matrix;
+pub mod sparse_vec;

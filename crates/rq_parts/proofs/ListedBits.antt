@@ -1,0 +1,162 @@
+-- The bits of an ascending list of ones.
+use Rattle.std.proofs.Common.{◌≡◌, ◌≢◌, ℕ, zero, suc, ◌+◌, ◌-◌, ◌<◌, ◌≤◌, ◌==◌, List, [], ◌∷◌, ◌++◌, length, get_or, cond, refl, sym, ap, ◌∙◌, inl, inr, arith, if◌then◌else◌, All, Option, None, Some, Result, Ok, Err, IfOk, IfErr, zero-add}
+use Rattle.std.specs.List.Sorted.{IsStrictlyIncreasing, IsBinarySearchResult}
+use Rattle.std.specs.Ordering.{nat_cmp}
+use Rattle.std.proofs.lemmas.List.Sorted.{searched}
+use Rattle.std.specs.List.{insert, remove}
+use Rattle.std.proofs.lemmas.List.Elements.{All-cons}
+use Rattle.std.proofs.lemmas.Bool.{cases_lt}
+use Rattle.std.proofs.lemmas.Bool.Decides.{eqb_tells}
+use Rattle.std.proofs.lemmas.List.Sums.{sum_by-cons, sum_by-append, sum_by-insert, sum_by-remove}
+use Rattle.std.proofs.lemmas.List.{get_or_append_left, length-append}
+use Rattle.std.proofs.Math.Seq.{get_or-append_right}
+use Rattle.rq_parts.specs.SparseBinaryVec.{listed_bit, listed_octet, SetsListed, IsListed, IsGap}
+use Rattle.rq_standard.specs.BitTableSteps.{bit_of}
+
+test-self : (x k : ℕ) → x ≡ k → ◌≡◌ {A = ℕ} (cond (x == k) 1 0) 1
+test-self x k same = elim (eqb_tells x k) [ inl e ↦ ap (λ b. cond b 1 0) e.0 | inr e ↦ absurd (e.1 same) ]
+
+test-other : (x k : ℕ) → x ≢ k → ◌≡◌ {A = ℕ} (cond (x == k) 1 0) 0
+test-other x k other = elim (eqb_tells x k) [ inl e ↦ absurd (other e.1) | inr e ↦ ap (λ b. cond b 1 0) e.0 ]
+
+nonzero_bit : (octet : ℕ) → octet ≢ 0 → bit_of octet ≡ 1
+nonzero_bit octet some = elim (eqb_tells octet 0) [ inl e ↦ absurd (some e.1) | inr e ↦ ap (λ b. if b then 0 else 1) e.0 ]
+
+module _ (x : ℕ) (xs : List ℕ) where
+  pub listed-self : (k : ℕ) → k ≡ x → listed_bit (x ∷ xs) k ≡ 1 + listed_bit xs k
+  listed-self k same = sum_by-cons (λ one. cond (one == k) 1 0) x xs ∙ ap (λ n. n + listed_bit xs k) (test-self x k (sym same))
+
+  pub listed-other : (k : ℕ) → k ≢ x → listed_bit (x ∷ xs) k ≡ listed_bit xs k
+  listed-other k other =
+      sum_by-cons (λ one. cond (one == k) 1 0) x xs ∙ ap (λ n. n + listed_bit xs k) (test-other x k (λ same. other (sym same))) ∙ zero-add (listed_bit xs k)
+
+  listed_more : (k : ℕ) → listed_bit (x ∷ xs) k ≡ cond (x == k) 1 0 + listed_bit xs k
+  listed_more k = sum_by-cons (λ one. cond (one == k) 1 0) x xs
+
+  pub rises-tail : IsStrictlyIncreasing (x ∷ xs) → IsStrictlyIncreasing xs
+  rises-tail up j l =
+      let same : get_or (x ∷ xs) (suc j + 1) 0 ≡ get_or (x ∷ xs) (suc (j + 1)) 0 = ap (λ n. get_or (x ∷ xs) n 0) {y = suc (j + 1)} (omega arith) in
+      omega (arith, same, up (suc j) (omega arith))
+
+rises-next : (xs : List ℕ) → IsStrictlyIncreasing xs → (j : ℕ) → suc j < length xs → get_or xs j 0 < get_or xs (suc j) 0
+rises-next xs up j l =
+    let same : get_or xs (suc j) 0 ≡ get_or xs (j + 1) 0 = ap (λ n. get_or xs n 0) (omega arith) in
+    omega (arith, same, up j (omega arith))
+
+-- no bit is set below the first one
+pub listed-below : (xs : List ℕ) (k : ℕ) → IsStrictlyIncreasing xs → (0 < length xs → k < get_or xs 0 0) → listed_bit xs k ≡ 0
+listed-below [] k up first = refl
+listed-below (x ∷ xs) k up first =
+    listed-other x xs k (λ same. omega (arith, same, first (omega arith)))
+    ∙ listed-below xs k (rises-tail x xs up) (λ some. omega (arith, up 0 (omega arith), first (omega arith)))
+
+module _ (x : ℕ) (xs : List ℕ) (up : IsStrictlyIncreasing (x ∷ xs)) where
+  pub listed-behind : listed_bit xs x ≡ 0
+  listed-behind = listed-below xs x (rises-tail x xs up) (λ some. up 0 (omega arith))
+
+  pub listed-first : listed_bit (x ∷ xs) x ≡ 1
+  listed-first = listed-self x xs x refl ∙ ap (λ n. 1 + n) listed-behind
+
+-- ---- two rows one after the other
+
+pub rises-join : (xs ys : List ℕ) → IsStrictlyIncreasing xs → IsStrictlyIncreasing ys → (0 < length xs → 0 < length ys → get_or xs (length xs - 1) 0 < get_or ys 0 0) → IsStrictlyIncreasing (xs ++ ys)
+rises-join xs ys front back between k l =
+    elim (cases_lt (k + 1) (length xs)) [
+      | inl inside ↦ omega (arith, front k inside, get_or_append_left xs ys 0 k (omega arith), get_or_append_left xs ys 0 (k + 1) inside)
+      | inr past ↦ elim (cases_lt k (length xs)) [
+        | inl last ↦
+            let here : get_or (xs ++ ys) k 0 ≡ get_or xs (length xs - 1) 0 = get_or_append_left xs ys 0 k last ∙ ap (λ n. get_or xs n 0) {y = length xs - 1} (omega arith) in
+            let next : get_or (xs ++ ys) (k + 1) 0 ≡ get_or ys 0 0 = get_or-append_right xs ys (k + 1) 0 past ∙ ap (λ n. get_or ys n 0) {y = 0} (omega arith) in
+            omega (arith, here, next, between (omega arith) (omega (arith, length-append xs ys)))
+        | inr behind ↦
+            let n = k - length xs in
+            let here = get_or-append_right xs ys k 0 behind in
+            let next : get_or (xs ++ ys) (k + 1) 0 ≡ get_or ys (n + 1) 0 = get_or-append_right xs ys (k + 1) 0 past ∙ ap (λ m. get_or ys m 0) {y = n + 1} (omega arith) in
+            omega (arith, here, next, back n (omega (arith, length-append xs ys)))
+      ]
+    ]
+
+pub rises-one : (x : ℕ) → IsStrictlyIncreasing (x ∷ [])
+rises-one x k l = absurd (omega arith)
+
+pub last-more : (xs : List ℕ) (x : ℕ) → get_or (xs ++ x ∷ []) (length (xs ++ x ∷ []) - 1) 0 ≡ x
+last-more xs x =
+    let long = length-append xs (x ∷ []) in
+    get_or-append_right xs (x ∷ []) (length (xs ++ x ∷ []) - 1) 0 (omega arith) ∙ ap (λ n. get_or (x ∷ []) n 0) {y = 0} (omega arith)
+
+pub listed-append : (xs ys : List ℕ) (k : ℕ) → listed_bit (xs ++ ys) k ≡ listed_bit xs k + listed_bit ys k
+listed-append xs ys k = sum_by-append (λ one. cond (one == k) 1 0) xs ys
+
+-- ---- what a search finds
+
+-- the first one is below all others
+rises-head : (x : ℕ) (xs : List ℕ) → IsStrictlyIncreasing (x ∷ xs) → (j : ℕ) → j < length xs → x < get_or xs j 0
+rises-head x xs up zero l = up 0 (omega arith)
+rises-head x xs up (suc j) l = omega (arith, rises-head x xs up j (omega arith), rises-next xs (rises-tail x xs up) j l)
+
+listed-at : (xs : List ℕ) (at : ℕ) → IsStrictlyIncreasing xs → at < length xs → listed_bit xs (get_or xs at 0) ≡ 1
+listed-at [] at up l = absurd (omega arith)
+listed-at (x ∷ xs) zero up l = listed-first x xs up
+listed-at (x ∷ xs) (suc at) up l = listed-other x xs (get_or xs at 0) (λ same. omega (arith, same, rises-head x xs up at (omega arith))) ∙ listed-at xs at (rises-tail x xs up) (omega arith)
+
+listed-none : (xs : List ℕ) (i : ℕ) → ((k : ℕ) → k < length xs → get_or xs k 0 ≢ i) → listed_bit xs i ≡ 0
+listed-none [] i none = refl
+listed-none (x ∷ xs) i none = listed-other x xs i (λ same. none 0 (omega arith) (sym same)) ∙ listed-none xs i (λ k l. none (suc k) (omega arith))
+
+pub listed-gap : (xs : List ℕ) (i gap : ℕ) → IsGap xs i gap → listed_bit xs i ≡ 0
+listed-gap xs i gap found = listed-none xs i (λ k l same. elim (cases_lt k gap) [ inl before ↦ omega (arith, same, found.before k before) | inr behind ↦ omega (arith, same, found.behind k behind l) ])
+
+pub sets-nothing : (xs : List ℕ) (i : ℕ) → listed_bit xs i ≡ 0 → SetsListed xs i 0 xs
+sets-nothing xs i none = record { here = none; elsewhere = λ k other. refl }
+
+pub sets-again : (xs : List ℕ) (i octet : ℕ) → octet ≢ 0 → listed_bit xs i ≡ 1 → SetsListed xs i octet xs
+sets-again xs i octet some one = record { here = one ∙ sym (nonzero_bit octet some); elsewhere = λ k other. refl }
+
+pub listed-found : (xs : List ℕ) (i at : ℕ) → IsStrictlyIncreasing xs → IsListed xs i at → listed_bit xs i ≡ 1
+listed-found xs i at up found = ap (listed_bit xs) (sym found.is) ∙ listed-at xs at up found.within
+
+pub sets-removed : (xs : List ℕ) (i at : ℕ) → IsStrictlyIncreasing xs → IsListed xs i at → SetsListed xs i 0 (remove xs at)
+sets-removed xs i at up found =
+    let taken : (k : ℕ) → listed_bit (remove xs at) k + cond (get_or xs at 0 == k) 1 0 ≡ listed_bit xs k = λ k. sum_by-remove (λ one. cond (one == k) 1 0) xs at 0 found.within in
+    let one = listed-found xs i at up found in
+    record {
+      here = omega (arith, taken i, one, test-self (get_or xs at 0) i found.is);
+      elsewhere = λ k other. omega (arith, taken k, test-other (get_or xs at 0) k (λ same. other (sym same ∙ found.is)));
+    }
+
+pub sets-inserted : (xs : List ℕ) (i gap octet : ℕ) → octet ≢ 0 → IsGap xs i gap → SetsListed xs i octet (insert xs gap i)
+sets-inserted xs i gap octet some found =
+    let put : (k : ℕ) → listed_bit (insert xs gap i) k ≡ listed_bit xs k + cond (i == k) 1 0 = λ k. sum_by-insert (λ one. cond (one == k) 1 0) xs gap i in
+    record {
+      here = omega (arith, put i, listed-gap xs i gap found, test-self i i refl) ∙ sym (nonzero_bit octet some);
+      elsewhere = λ k other. omega (arith, put k, test-other i k (λ same. other (sym same)));
+    }
+
+pub octet-listed : (xs : List ℕ) (i : ℕ) → listed_bit xs i ≡ 1 → Some 1 ≡ listed_octet xs i
+octet-listed xs i one = ap (λ n. if n == 0 then None else Some 1) (sym one)
+
+pub octet-none : (xs : List ℕ) (i : ℕ) → listed_bit xs i ≡ 0 → None ≡ listed_octet xs i
+octet-none xs i none = ap (λ n. if n == 0 then None else Some 1) (sym none)
+
+rises-far : (xs : List ℕ) → IsStrictlyIncreasing xs → (i j : ℕ) → i ≤ j → j < length xs → get_or xs i 0 ≤ get_or xs j 0
+rises-far [] up i j le l = absurd (omega arith)
+rises-far (x ∷ xs) up zero zero le l = omega arith
+rises-far (x ∷ xs) up zero (suc j) le l = omega (arith, rises-head x xs up j (omega arith))
+rises-far (x ∷ xs) up (suc i) zero le l = absurd (omega arith)
+rises-far (x ∷ xs) up (suc i) (suc j) le l = rises-far xs (rises-tail x xs up) i j (omega arith) (omega arith)
+
+-- where an index is listed, or where it would go
+pub record IsFound (xs : List ℕ) (i : ℕ) (r : Result ℕ ℕ) : Type 0 where
+  pub found : IfOk r (IsListed xs i)
+  pub missing : IfErr r (IsGap xs i)
+
+pub found_or_gap : (xs : List ℕ) (i : ℕ) (r : Result ℕ ℕ) → IsStrictlyIncreasing xs → IsBinarySearchResult (λ y. nat_cmp y i) xs r → IsFound xs i r
+found_or_gap xs i (Ok at) up is = let s = searched xs i (Ok at) is (rises-far xs up) in record { found = record { within = s.0; is = s.1 }; missing = tt }
+found_or_gap xs i (Err gap) up is = let s = searched xs i (Err gap) is (rises-far xs up) in record { found = tt; missing = record { within = s.0; before = s.1; behind = s.2 } }
+
+-- where no bit is set from n on, all ones are below n
+pub ones_below_all : (xs : List ℕ) (n : ℕ) → ((k : ℕ) → n ≤ k → listed_bit xs k ≡ 0) → All (λ one. one < n) xs
+ones_below_all [] n none = λ j d l. absurd (omega arith)
+ones_below_all (x ∷ xs) n none = All-cons (λ one. one < n) x xs
+    (elim (cases_lt x n) [ inl below ↦ below | inr above ↦ absurd (omega (arith, none x above, listed-self x xs x refl)) ])
+    (ones_below_all xs n (λ k above. omega (arith, none k above, listed_more x xs k)))

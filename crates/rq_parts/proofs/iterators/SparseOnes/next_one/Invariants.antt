@@ -1,0 +1,10 @@
+use Rattle.std.proofs.Common.{◌≡◌, ◌<◌, All, length}
+use Rattle.rq_parts.specs.BitPairs.{sparse_pairs}
+use Rattle.rq_parts.proofs.SparsePairs.{IsLeft}
+use Rattle.rq_parts.proofs.iterators.SparseOnes.next_one.Given as goal
+
+abbrev pub invariant-loop-one : goal.invariant-loop-one
+invariant-loop-one l = let s = l.self-inside in IsLeft l.fn.self s.ones.now s.columns.now s.start s.end
+
+abbrev pub decreases-loop-one : goal.decreases-loop-one
+decreases-loop-one l = length l.self-inside.ones.now

@@ -1,0 +1,230 @@
+//! Rows of bits of which the ones alone are stored.
+ghost use Rattle.std.specs.Prelude.{◌≡◌, ◌<◌, ◌↔◌, ◌==◌, [], length, map, slice_index, true, IfOk, IfErr, OnOk, OnErr};
+ghost use Rattle.std.proofs.Common.{rules};
+ghost use Rattle.std.specs.Cmp.Lexicographic.{pointwise};
+ghost use Rattle.std.specs.Cmp.Rules.{comparing};
+ghost use Rattle.std.specs.Iterator.{YieldsFirst, item_count};
+ghost use Rattle.std.specs.List.Sorted.{IsStrictlyIncreasing};
+ghost use Rattle.rq_bytes.specs.declared.error.Error.TheVariants.{OutOfMemory};
+ghost use Rattle.rq_parts.specs.SparseBinaryVec.{listed_octet, SetsListed, IsListedSum, HasOtherOne, IsListed, IsGap};
+
+use rq_bytes::error::Error;
+use rq_bytes::octet::Octet;
+use std::alloc::{AllocError, Global};
+use std::cmp::Ordering;
+use std::marker::Model;
+
+/// A row of bits as the ascending list of the indices that have a one, each below 65536. Contracts
+/// see this list.
+#[derive(Debug, Drop)]
+pub struct SparseBinaryVec {
+    elements: Vec<u16>,
+}
+
+impl Model for SparseBinaryVec {
+    ghost use Rattle.std.specs.Prelude.{List, ℕ};
+    ghost use Rattle.std.specs.List.Sorted.{IsStrictlyIncreasing};
+
+    ghost Value = { List ℕ };
+
+    ghost view = { λ row. row.elements.items };
+
+    ghost invariant = { λ row. IsStrictlyIncreasing row.elements.items };
+}
+
+impl Clone for SparseBinaryVec {
+    ghost is_clone = { λ a b. b ≡ a };
+
+    fn clone(&self) -> Result<Self, AllocError> {
+        Ok(SparseBinaryVec {
+            elements: self.elements.clone()?,
+        })
+    }
+}
+
+impl PartialEq for SparseBinaryVec {
+    ghost eq = { pointwise ◌==◌ };
+
+    ghost laws = { Prim.search (comparing, rules) };
+
+    fn eq(&self, other: &SparseBinaryVec) -> bool {
+        self.elements == other.elements
+    }
+}
+
+impl Eq for SparseBinaryVec {
+    ghost laws = { Prim.search (comparing, rules) };
+}
+
+impl SparseBinaryVec {
+    /// A row of zeros, with room for so many ones.
+    pub fn with_capacity(alloc: Global, capacity: usize) -> Result<SparseBinaryVec, Error>
+        ensures ok { IfOk result (λ row. row ≡ []) }
+        ensures err { IfErr result (λ e. e ≡ OutOfMemory) }
+    {
+        Ok(SparseBinaryVec {
+            elements: Vec::with_capacity(alloc, capacity)?,
+        })
+    }
+
+    /// The number of ones.
+    pub fn len(&self) -> usize
+        ensures { result ≡ length self.now }
+    {
+        self.elements.len()
+    }
+
+    /// The i-th one, in ascending order: its index and the octet 1.
+    pub fn get_by_raw_index(&self, i: usize) -> (usize, Octet)
+        requires { i < length self.now }
+        ensures { result ≡ (slice_index self.now i, 1) }
+    {
+        (usize::from(self.elements[i]), Octet::one())
+    }
+
+    /// Adds a row, and answers whether it has a one where this row had none. A refusal leaves the
+    /// row as it was.
+    pub fn add_assign(&mut self, other: &SparseBinaryVec) -> Result<bool, Error>
+        ensures sum { OnOk result (IsListedSum self.old other.now self.new) }
+        ensures added { IfOk result (λ added. (added ≡ true) ↔ HasOtherOne self.old other.now) }
+        ensures refused { OnErr result (self.new ≡ self.old) }
+        ensures err { IfErr result (λ e. e ≡ OutOfMemory) }
+    {
+        let alloc = *self.elements.allocator();
+        let (sum, added) = merged(alloc, &self.elements, &other.elements)?;
+        self.elements = sum;
+        Ok(added)
+    }
+
+    /// Sets the bit at an index to 0, and answers the octet 1 where it was 1.
+    pub fn remove(&mut self, i: usize) -> Option<Octet>
+        requires { i < 65536 }
+        ensures removed { SetsListed self.old i 0 self.new }
+        ensures value { result ≡ listed_octet self.old i }
+    {
+        match self.find(i) {
+            Ok(at) => {
+                self.elements.remove(at);
+                Some(Octet::one())
+            }
+            Err(_) => None,
+        }
+    }
+
+    /// The octet 1 where the bit at an index is 1.
+    pub fn get(&self, i: usize) -> Option<Octet>
+        requires { i < 65536 }
+        ensures { result ≡ listed_octet self.now i }
+    {
+        match self.find(i) {
+            Ok(_) => Some(Octet::one()),
+            Err(_) => None,
+        }
+    }
+
+    /// The ones in ascending order, each as its index and the octet 1.
+    pub fn keys_values(&self) -> KeysValues<'_>
+        ensures { result ≡ map (λ one. (one, 1)) self.now }
+    {
+        KeysValues {
+            elements: &self.elements,
+        }
+    }
+
+    /// Sets the bit at an index to 0 for the octet 0, and else to 1. A refusal leaves the row as it
+    /// was.
+    pub fn insert(&mut self, i: usize, value: Octet) -> Result<(), Error>
+        requires { i < 65536 }
+        ensures ok { OnOk result (SetsListed self.old i value self.new) }
+        ensures refused { OnErr result (self.new ≡ self.old) }
+        ensures err { IfErr result (λ e. e ≡ OutOfMemory) }
+    {
+        if value.byte() == 0 {
+            self.remove(i);
+        } else if let Err(gap) = self.find(i) {
+            self.elements.insert(gap, i as u16)?;
+        }
+        Ok(())
+    }
+
+    /// The indices that have a one.
+    pub(crate) fn as_slice(&self) -> &[u16]
+        ensures { result.now ≡ self.now }
+    {
+        self.elements.as_slice()
+    }
+
+    // Where an index is listed, or where it would go.
+    fn find(&self, i: usize) -> Result<usize, usize>
+        requires { i < 65536 }
+        ensures increasing { IsStrictlyIncreasing self.now }
+        ensures found { IfOk result (IsListed self.now i) }
+        ensures missing { IfErr result (IsGap self.now i) }
+    {
+        self.elements.binary_search(&(i as u16))
+    }
+}
+
+// The indices that one of two ascending lists has and the other hasn't, in ascending order, and
+// whether the second list had one of them.
+fn merged(alloc: Global, row: &[u16], other: &[u16]) -> Result<(Vec<u16>, bool), AllocError>
+    requires row { IsStrictlyIncreasing row.now }
+    requires other { IsStrictlyIncreasing other.now }
+    ensures increasing { IfOk result (λ r. IsStrictlyIncreasing r.0.items) }
+    ensures sum { IfOk result (λ r. IsListedSum row.now other.now r.0.items) }
+    ensures added { IfOk result (λ r. (r.1 ≡ true) ↔ HasOtherOne row.now other.now) }
+{
+    let mut sum = Vec::with_capacity(alloc, row.len() + other.len())?;
+    let mut added = false;
+    let mut i = 0;
+    let mut j = 0;
+    while i < row.len() && j < other.len() {
+        match row[i].cmp(&other[j]) {
+            Ordering::Less => {
+                sum.push(row[i])?;
+                i += 1;
+            }
+            Ordering::Equal => {
+                i += 1;
+                j += 1;
+            }
+            Ordering::Greater => {
+                sum.push(other[j])?;
+                added = true;
+                j += 1;
+            }
+        }
+    }
+    sum.extend_from_slice(&row[i..])?;
+    sum.extend_from_slice(&other[j..])?;
+    Ok((sum, added || j < other.len()))
+}
+
+/// The ones of a row that are left, in ascending order, each as its index and the octet 1. Contracts
+/// see the list of these pairs.
+#[derive(Debug, Drop)]
+pub struct KeysValues<'a> {
+    elements: &'a [u16],
+}
+
+impl<'a> Model for KeysValues<'a> {
+    ghost use Rattle.std.specs.Prelude.{ℕ, List, map};
+
+    ghost Value = { List (ℕ × ℕ) };
+
+    ghost view = { λ s. map (λ one. (one, 1)) s.elements.now };
+}
+
+impl Iterator for KeysValues<'_> {
+    type Item = (usize, Octet);
+
+    ghost next_gives = { YieldsFirst (λ s. s) };
+
+    ghost remaining = { item_count (λ s. s) };
+
+    fn next(&mut self) -> Option<(usize, Octet)> {
+        let (one, rest) = self.elements.split_first()?;
+        self.elements = rest;
+        Some((usize::from(*one), Octet::one()))
+    }
+}
