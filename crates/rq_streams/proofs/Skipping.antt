@@ -1,15 +1,18 @@
 -- Which frames of a mixed stream are skipped: those that hold no packet.
-use Rattle.std.proofs.Common.{◌≡◌, ℕ, ◌+◌, ◌<◌, ◌≤◌, Bool, true, false, cond, ltb, List, [], ◌∷◌, ◌++◌, length, map, take, drop, Some, None, refl, sym, ap, ◌∙◌, subst, arith, append-nil, length-append}
+use Rattle.std.proofs.Common.{◌≡◌, ℕ, ◌+◌, ◌<◌, ◌≤◌, Bool, true, false, cond, ltb, List, [], ◌∷◌, ◌++◌, length, map, take, drop, Some, None, refl, sym, ap, ◌∙◌, subst, arith, eq-eqb, Ok, length-append}
 use Rattle.std.specs.Prelude.{not, ◌||◌, slice_index, filter_map, count_by, flat_map}
 use Rattle.std.specs.List.{AllByRecursion, cons_option}
 use Rattle.std.specs.Int.{w32, from_be_bytes}
-use Rattle.std.proofs.lemmas.Bool.{lt-ltb, le-ltb}
+use Rattle.std.proofs.lemmas.Bool.{lt-ltb, le-ltb, ltb-false}
+use Rattle.std.proofs.lemmas.List.{length-drop}
+use Rattle.std.proofs.lemmas.List.Sums.{sum_by-cons}
 use Rattle.rq_standard.specs.Packet.{Packet, IsSymbolId, id_bytes, packet_bytes, packet_of_bytes, id_of_bytes}
 use Rattle.rq_standard.specs.Configuration.{Configuration}
 use Rattle.rq_standard.specs.declared.row.TableRow.{TableRow}
 use Rattle.rq_standard.specs.TableRows.{IsChecked}
 use Rattle.rq_standard.specs.Headline.{block_row, IsPacketOf}
 use Rattle.rq_standard.proofs.PacketBytes.{id_of_bytes-id_bytes, packet_of_bytes-packet_bytes}
+use Rattle.raptorq.specs.Refused.{packet_refusal}
 use Rattle.raptorq.proofs.Lists.{length-payload}
 use Rattle.rq_streams.specs.Frames.{frame_size, frames_in, is_skipped, kept_packet, kept_packets, skipped_count}
 use Rattle.rq_streams.specs.MixedStreams.{Frame, Holds, Other, frame_bytes, packets_among, others_among, IsOtherFrame, rest_count, other_count}
@@ -53,6 +56,26 @@ is_skipped-other c bytes h =
 is_skipped-short : (c : Configuration) (bytes : List ℕ) → length bytes < frame_size c → is_skipped c bytes ≡ true
 is_skipped-short c bytes h = ap (λ b. b || not (ltb (packet_of_bytes bytes).id.block c.source_blocks)) (lt-ltb (length bytes) (frame_size c) h)
 
+-- one frame more
+pub skipped_count-cons : (c : Configuration) (frame : List ℕ) (frames : List (List ℕ)) → skipped_count c (frame ∷ frames) ≡ cond (is_skipped c frame) 1 0 + skipped_count c frames
+skipped_count-cons c frame frames = sum_by-cons (λ x. cond (is_skipped c x) 1 0) frame frames
+
+-- what is kept is known and whole
+kept_by : (short known : Bool) (q p : Packet) → Some p ≡ cond (short || not known) None (Some q) → (short ≡ false) × (known ≡ true) × (p ≡ q)
+kept_by true known q p h = absurd (cc h)
+kept_by false false q p h = absurd (cc h)
+kept_by false true q p h = (refl, refl, cc)
+
+-- a packet that is kept isn't refused
+pub packet_refusal-kept : (c : Configuration) (frame : List ℕ) (p : Packet) → length frame ≤ frame_size c → Some p ≡ kept_packet c frame → packet_refusal c p ≡ Ok tt
+unfolding packet_of_bytes
+packet_refusal-kept c frame p long kept =
+    let q = packet_of_bytes frame in
+    let known = kept_by (ltb (length frame) (frame_size c)) (ltb q.id.block c.source_blocks) q p kept in
+    let payload : length q.payload ≡ c.symbol_size = length-drop 4 frame ∙ omega (arith, long, ltb-false (length frame) (frame_size c) known.0) in
+    let fits = eq-eqb (length q.payload) c.symbol_size payload in
+    ap (packet_refusal c) known.2 ∙ rw (known.1, fits) refl
+
 -- ---- the frames of a mixed stream
 
 module _ (table : List TableRow) (c : Configuration) (object : List ℕ) where
@@ -68,7 +91,7 @@ module _ (table : List TableRow) (c : Configuration) (object : List ℕ) where
 
   skipped_rest : (rest : List ℕ) → length rest < frame_size c → skipped_count c (rest_frames rest) ≡ rest_count rest
   skipped_rest [] short = refl
-  skipped_rest (b ∷ rest) short = ap (λ s. cond s 1 0 + 0) (is_skipped-short c (b ∷ rest) short)
+  skipped_rest (b ∷ rest) short = skipped_count-cons c (b ∷ rest) [] ∙ ap (λ s. cond s 1 0 + skipped_count c []) (is_skipped-short c (b ∷ rest) short)
 
   kept_all : (frames : List Frame) (rest : List ℕ) → AllByRecursion (FillsFrame table c object) (packets_among frames) → AllByRecursion (IsOtherFrame c) (others_among frames) → length rest < frame_size c → kept_packets c (map frame_bytes frames ++ rest_frames rest) ≡ packets_among frames
   kept_all [] rest fill others short = kept_rest rest short
@@ -83,11 +106,11 @@ module _ (table : List TableRow) (c : Configuration) (object : List ℕ) where
   skipped_all : (frames : List Frame) (rest : List ℕ) → AllByRecursion (FillsFrame table c object) (packets_among frames) → AllByRecursion (IsOtherFrame c) (others_among frames) → length rest < frame_size c → skipped_count c (map frame_bytes frames ++ rest_frames rest) ≡ other_count frames rest
   skipped_all [] rest fill others short = skipped_rest rest short ∙ omega arith
   skipped_all (Holds p ∷ frames) rest fill others short =
-      let left = skipped_count c (map frame_bytes frames ++ rest_frames rest) in
-      ap (λ s. cond s 1 0 + left) (is_skipped-packet table c object p fill.0) ∙ omega (arith, skipped_all frames rest fill.1 others short)
+      let left = map frame_bytes frames ++ rest_frames rest in
+      skipped_count-cons c (packet_bytes p) left ∙ ap (λ s. cond s 1 0 + skipped_count c left) (is_skipped-packet table c object p fill.0) ∙ omega (arith, skipped_all frames rest fill.1 others short)
   skipped_all (Other bytes ∷ frames) rest fill others short =
-      let left = skipped_count c (map frame_bytes frames ++ rest_frames rest) in
-      ap (λ s. cond s 1 0 + left) (is_skipped-other c bytes others.0) ∙ omega (arith, skipped_all frames rest fill others.1 short)
+      let left = map frame_bytes frames ++ rest_frames rest in
+      skipped_count-cons c bytes left ∙ ap (λ s. cond s 1 0 + skipped_count c left) (is_skipped-other c bytes others.0) ∙ omega (arith, skipped_all frames rest fill others.1 short)
 
   -- the packets that are kept of a mixed stream are those among its frames
   pub kept_packets-mixed : (frames : List Frame) (rest : List ℕ) → AllByRecursion (FillsFrame table c object) (packets_among frames) → AllByRecursion (IsOtherFrame c) (others_among frames) → length rest < frame_size c → kept_packets c (frames_in (frame_size c) (flat_map frame_bytes frames ++ rest)) ≡ packets_among frames

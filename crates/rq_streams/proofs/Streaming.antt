@@ -1,8 +1,10 @@
 -- Of a mixed stream nothing is refused, and its packets are what is kept.
-use Rattle.std.proofs.Common.{◌≡◌, ℕ, ◌+◌, ◌%◌, ◌<◌, ◌≤◌, false, cond, ltb, eqb, List, [], ◌∷◌, ◌++◌, length, take, drop, Result, Ok, Err, Option, Some, None, refl, sym, ap, ◌∙◌, subst, arith, eq-eqb, length-append}
-use Rattle.std.specs.Prelude.{IsSome, flat_map}
+use Rattle.std.proofs.Common.{◌≡◌, ℕ, ◌+◌, ◌%◌, ◌<◌, ◌≤◌, false, cond, ltb, eqb, List, [], ◌∷◌, ◌++◌, length, take, drop, Result, Ok, Err, Option, Some, None, refl, sym, ap, ◌∙◌, subst, arith, inl, eq-eqb, length-append}
+use Rattle.std.specs.Prelude.{IsSome, IfSome, flat_map}
 use Rattle.std.specs.List.{AllByRecursion}
 use Rattle.std.proofs.lemmas.Bool.{le-ltb, ne_eqb}
+use Rattle.std.proofs.lemmas.Result.{IfOk-weaker}
+use Rattle.std.proofs.KnownBytes.{Keeps-refl}
 use Rattle.std.proofs.lemmas.List.{take_at, drop_at}
 use Rattle.rq_bytes.specs.declared.error.Error.{Error}
 use Rattle.rq_bytes.specs.declared.error.Error.TheVariants.{HeaderTooShort}
@@ -18,8 +20,10 @@ use Rattle.rq_streams.specs.declared.run.Outcome.{Outcome}
 use Rattle.rq_streams.specs.declared.run.Stop.{Stop}
 use Rattle.rq_streams.specs.Frames.{frame_size, frames_in, kept_packets, skipped_count, skipped_in}
 use Rattle.rq_streams.specs.MixedStreams.{Frame, frame_bytes, packets_among, other_count, IsMixedStream}
-use Rattle.rq_streams.specs.ReceivedStreams.{header_configuration, WantsDetermined, WantsOnlyObject}
-use Rattle.rq_streams.specs.Ends.{Wanted, Ends}
+use Rattle.rq_streams.specs.declared.run.Stop.TheVariants.{Refused}
+use Rattle.rq_streams.specs.ReceivedStreams.{header_configuration, WantsDetermined, WantsOnlyObject, AnswersStream, RefusesStream, CountsSkipped, ReceivesExactly, ReceivesWhereAnyCan, CountsOthers}
+use Rattle.rq_streams.specs.Ends.{Wanted, Ends, outcome_of}
+use Rattle.rq_streams.proofs.Refusing.{if_some_all, if_some_more}
 use Rattle.rq_streams.proofs.Skipping.{FillsFrame, kept_packets-mixed, skipped_count-mixed}
 
 abbrev taken : Configuration → Result Configuration Error
@@ -106,9 +110,31 @@ module _ (table : List TableRow) (c : Configuration) (object : List ℕ) (frames
       let same = answerable_only table c object (packets_among frames) s.checked s.accepted s.run in
       record { only = λ o. w.determined (same.1 o); others = λ no. w.undetermined (λ d. no (same.0 d)) }
 
--- whatever is wanted, where anything is
-pub wants_all : (table : List TableRow) (c : Configuration) (object : List ℕ) (packets : List Packet) (P : Wanted → Type 0) → ((w : Wanted) → P w) → WantsDetermined table c object packets P
-wants_all table c object packets P all = record {
-  determined = λ d. all (Ok (Some object));
-  undetermined = λ u. all (Ok None);
-}
+-- ---- a run that reads this input, and behind whose writer this stood before and after
+
+module _ (table : List TableRow) (result : Result (Outcome × ℕ) Stop) (input old new : Option (List ℕ)) where
+  -- whatever is wanted, where it stopped before
+  pub receives_stopped : ((wanted : Wanted) → Ends (outcome_of result) old new wanted) → ReceivesExactly table result input old new
+  receives_stopped ends = if_some_all input _ (λ bytes c object frames rest s. record {
+    determined = λ d. ends (Ok (Some object));
+    undetermined = λ u. ends (Ok None);
+  })
+
+  -- what is wanted, where it ended with an answer
+  pub receives_by : (bytes : List ℕ) (answer : Option (List ℕ)) → IfSome input (λ xs. bytes ≡ xs) → AnswersStream table bytes answer → Ends (outcome_of result) old new (Ok answer) → ReceivesExactly table result input old new
+  receives_by bytes answer read answers ends = if_some_more input (λ xs. bytes ≡ xs) _ (λ xs is c object frames rest s.
+    wants_by table c object frames rest xs s answer (outcome_of result) old new (answers c object frames rest (subst (IsMixedStream table c object frames rest) (sym is) s)) ends) read
+
+  -- no receiver can do better
+  pub receives_where_any_can : ReceivesExactly table result input old new → ReceivesWhereAnyCan table result input old new
+  receives_where_any_can wants = if_some_more input _ _ (λ bytes w c object frames rest s. wants_where_any_can table c object frames rest bytes s (Ends (outcome_of result) old new) (w c object frames rest s)) wants
+
+  -- the frames that are skipped are the others
+  pub counts_others : CountsSkipped result input → CountsOthers table result input
+  counts_others counted = if_some_more input _ _ (λ bytes n c object frames rest s. IfOk-weaker result _ _ (λ ended is. is ∙ stream_skipped table c object frames rest bytes s) n) counted
+
+-- a mixed stream is refused for want of memory alone, and then nothing is written
+pub receives_refused : (table : List TableRow) (e : Error) (input old : Option (List ℕ)) (bytes : List ℕ) → IfSome input (λ xs. bytes ≡ xs) → RefusesStream table bytes e → ReceivesExactly table (Err (Refused e)) input old old
+receives_refused table e input old bytes read refuses = if_some_more input (λ xs. bytes ≡ xs) _ (λ xs is c object frames rest s.
+    let memory = refuses c object frames rest (subst (IsMixedStream table c object frames rest) (sym is) s) in
+    record { determined = λ d. (inl memory, Keeps-refl old); undetermined = λ u. (inl memory, Keeps-refl old) }) read

@@ -8,6 +8,7 @@ use Rattle.rq_standard.specs.Headline.{IsPacketOf}
 use Rattle.rq_standard.specs.Standing.{State, StandsFor, StandsForMore}
 use Rattle.raptorq.proofs.Lists.{all_at}
 use Rattle.rq_streams.specs.Frames.{is_skipped, kept_packet, kept_packets, skipped_count}
+use Rattle.rq_streams.proofs.Skipping.{skipped_count-cons}
 
 -- The frames so far are taken or skipped: the packets of these and of those that are left are the packets of all.
 pub record AreTaken (c : Configuration) (all left : List (List ℕ)) (skipped : ℕ) (old now : State) : Type 0 where
@@ -43,7 +44,7 @@ taken_packet c all before after frame p skipped old now new same cut kept t adds
     record {
       done = t.done ++ p ∷ [];
       whole = whole ∙ sym (append_assoc t.done (p ∷ []) (kept_packets c after));
-      counted = t.counted ∙ ap (λ fs. skipped + skipped_count c fs) cut ∙ ap (λ b. skipped + (cond b 1 0 + skipped_count c after)) (kept_by (is_skipped c frame) (packet_of_bytes frame) p kept) ∙ omega arith;
+      counted = t.counted ∙ ap (λ fs. skipped + skipped_count c fs) cut ∙ ap (λ n. skipped + n) (skipped_count-cons c frame after) ∙ ap (λ b. skipped + (cond b 1 0 + skipped_count c after)) (kept_by (is_skipped c frame) (packet_of_bytes frame) p kept) ∙ omega arith;
       stands = λ table object st honest.
       let here : IsPacketOf table c object p = all_at (IsPacketOf table c object) t.done (kept_packets c after) p (subst (AllByRecursion (IsPacketOf table c object)) whole honest) in
       adds table object t.done (t.stands table object st honest) (subst (λ k. IsPacketOf table k object p) (sym same) here);
@@ -55,7 +56,7 @@ pub taken_skipped : (c : Configuration) (all before after : List (List ℕ)) (fr
 taken_skipped c all before after frame skipped more old now cut none count t = record {
   done = t.done;
   whole = t.whole ∙ ap (λ fs. t.done ++ kept_packets c fs) cut ∙ ap (λ o. t.done ++ cons_option o (kept_packets c after)) (sym none);
-  counted = t.counted ∙ ap (λ fs. skipped + skipped_count c fs) cut ∙ ap (λ b. skipped + (cond b 1 0 + skipped_count c after)) (skipped_by (is_skipped c frame) (packet_of_bytes frame) none) ∙ omega (arith, count);
+  counted = t.counted ∙ ap (λ fs. skipped + skipped_count c fs) cut ∙ ap (λ n. skipped + n) (skipped_count-cons c frame after) ∙ ap (λ b. skipped + (cond b 1 0 + skipped_count c after)) (skipped_by (is_skipped c frame) (packet_of_bytes frame) none) ∙ omega (arith, count);
   stands = t.stands;
 }
 

@@ -35,11 +35,11 @@ pub record IsStreamOf (table : List TableRow) (c : Configuration) (object : List
   pub spelled : bytes ≡ stream_of c packets
 
 -- a decoder that stood for no packets stands for those of the frames that aren't skipped, where they are the object's
-abbrev pub StandsForFrames : State → List ℕ → State → Type 0
-StandsForFrames old bytes new =
+abbrev pub StandsForFrames : Configuration → State → List ℕ → State → Type 0
+StandsForFrames c old bytes new =
     (table : List TableRow) (object : List ℕ)
-    → let packets = kept_packets old.configuration (frames_in (frame_size old.configuration) bytes) in
-    StandsFor table object [] old → AllByRecursion (IsPacketOf table old.configuration object) packets
+    → let packets = kept_packets c (frames_in (frame_size c) bytes) in
+    StandsFor table object [] old → AllByRecursion (IsPacketOf table c object) packets
     → StandsFor table object packets new
 
 -- the object of a mixed stream, exactly where the packets among its frames determine it

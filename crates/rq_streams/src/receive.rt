@@ -61,7 +61,7 @@ fn add_frames(
     ensures skipped { IfOk result (λ n. n ≡ skipped_count config.now (frames_in (frame_size config.now) frames.now)) }
     ensures memory { IfErr result (λ e. e ≡ Error.OutOfMemory) }
     ensures configuration { (state_of decoder.new).configuration ≡ (state_of decoder.old).configuration }
-    ensures stands { OnOk result (StandsForFrames (state_of decoder.old) frames.now (state_of decoder.new)) }
+    ensures stands { OnOk result (StandsForFrames config.now (state_of decoder.old) frames.now (state_of decoder.new)) }
 {
     let size = 4 + usize::from(config.symbol_size());
     let mut skipped = 0;
