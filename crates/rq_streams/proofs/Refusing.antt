@@ -1,13 +1,12 @@
 -- How a run ends with what was refused or made.
-use Rattle.std.proofs.Common.{◌≡◌, ℕ, List, Option, Some, None, Result, Ok, Err, Bool, true, false, cond, ltb, length, take, refl, sym, ap, ◌∙◌, subst, ◌⊎◌, inl, inr}
+use Rattle.std.proofs.Common.{◌≡◌, ℕ, List, Option, Some, None, Result, Ok, Err, refl, sym, ap, subst, ◌⊎◌, inl, inr}
 use Rattle.std.specs.Prelude.{IfSome}
 use Rattle.std.proofs.KnownBytes.{Keeps-refl}
 use Rattle.rq_bytes.specs.declared.error.Error.{Error}
-use Rattle.rq_bytes.specs.declared.error.Error.TheVariants.{OutOfMemory, HeaderTooShort}
-use Rattle.rq_bytes.specs.Refusals.{IsRefusal, Answers, and_then}
-use Rattle.rq_standard.specs.Configuration.{Configuration, configuration_of_bytes}
+use Rattle.rq_bytes.specs.declared.error.Error.TheVariants.{OutOfMemory}
+use Rattle.rq_bytes.specs.Refusals.{and_then}
+use Rattle.rq_standard.specs.Configuration.{Configuration}
 use Rattle.rq_base.specs.RefusedInput.{checked_configuration}
-use Rattle.rq_streams.specs.declared.run.Outcome.{Outcome}
 use Rattle.rq_streams.specs.declared.run.Stop.{Stop}
 use Rattle.rq_streams.specs.declared.run.Stop.TheVariants.{Fault, Refused}
 use Rattle.rq_streams.specs.Ends.{Wanted, Ends, AfterRefusal}

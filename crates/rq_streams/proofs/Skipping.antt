@@ -1,8 +1,7 @@
 -- Which frames of a mixed stream are skipped: those that hold no packet.
-use Rattle.std.proofs.Common.{◌≡◌, ℕ, ◌+◌, ◌<◌, ◌≤◌, Bool, true, false, cond, ltb, List, [], ◌∷◌, ◌++◌, length, map, take, drop, Some, None, refl, sym, ap, ◌∙◌, subst, arith, eq-eqb, Ok, length-append}
-use Rattle.std.specs.Prelude.{not, ◌||◌, slice_index, filter_map, count_by, flat_map}
+use Rattle.std.proofs.Common.{◌≡◌, ℕ, ◌+◌, ◌<◌, ◌≤◌, Bool, true, false, cond, ltb, List, [], ◌∷◌, ◌++◌, length, map, Some, None, refl, ap, ◌∙◌, arith, eq-eqb, Ok, length-append}
+use Rattle.std.specs.Prelude.{not, ◌||◌, slice_index, flat_map}
 use Rattle.std.specs.List.{AllByRecursion, cons_option}
-use Rattle.std.specs.Int.{w32, from_be_bytes}
 use Rattle.std.proofs.lemmas.Bool.{lt-ltb, le-ltb, ltb-false}
 use Rattle.std.proofs.lemmas.List.{length-drop}
 use Rattle.std.proofs.lemmas.List.Sums.{sum_by-cons}

@@ -1,5 +1,5 @@
 -- Of a mixed stream nothing is refused, and its packets are what is kept.
-use Rattle.std.proofs.Common.{◌≡◌, ℕ, ◌+◌, ◌%◌, ◌<◌, ◌≤◌, false, cond, ltb, eqb, List, [], ◌∷◌, ◌++◌, length, take, drop, Result, Ok, Err, Option, Some, None, refl, sym, ap, ◌∙◌, subst, arith, inl, eq-eqb, length-append}
+use Rattle.std.proofs.Common.{◌≡◌, ℕ, ◌+◌, ◌%◌, ◌<◌, false, cond, ltb, eqb, List, [], ◌∷◌, ◌++◌, length, take, drop, Result, Ok, Err, Option, Some, None, refl, sym, ap, ◌∙◌, subst, arith, inl, eq-eqb, length-append}
 use Rattle.std.specs.Prelude.{IsSome, IfSome, flat_map}
 use Rattle.std.specs.List.{AllByRecursion}
 use Rattle.std.proofs.lemmas.Bool.{le-ltb, ne_eqb}
@@ -123,7 +123,7 @@ module _ (table : List TableRow) (result : Result (Outcome × ℕ) Stop) (input 
   -- what is wanted, where it ended with an answer
   pub receives_by : (bytes : List ℕ) (answer : Option (List ℕ)) → IfSome input (λ xs. bytes ≡ xs) → AnswersStream table bytes answer → Ends (outcome_of result) old new (Ok answer) → ReceivesExactly table result input old new
   receives_by bytes answer read answers ends = if_some_more input (λ xs. bytes ≡ xs) _ (λ xs is c object frames rest s.
-    wants_by table c object frames rest xs s answer (outcome_of result) old new (answers c object frames rest (subst (IsMixedStream table c object frames rest) (sym is) s)) ends) read
+      wants_by table c object frames rest xs s answer (outcome_of result) old new (answers c object frames rest (subst (IsMixedStream table c object frames rest) (sym is) s)) ends) read
 
   -- no receiver can do better
   pub receives_where_any_can : ReceivesExactly table result input old new → ReceivesWhereAnyCan table result input old new

@@ -1,5 +1,5 @@
 -- Packets of an object, taken frame by frame.
-use Rattle.std.proofs.Common.{◌≡◌, ℕ, ◌+◌, true, false, cond, Bool, List, [], ◌∷◌, ◌++◌, Option, Some, None, refl, sym, ap, ◌∙◌, subst, arith, append_assoc, append-nil}
+use Rattle.std.proofs.Common.{◌≡◌, ℕ, ◌+◌, true, false, cond, Bool, List, [], ◌∷◌, ◌++◌, Some, None, refl, sym, ap, ◌∙◌, subst, arith, append_assoc, append-nil}
 use Rattle.std.specs.List.{AllByRecursion, cons_option}
 use Rattle.rq_standard.specs.Packet.{Packet, packet_of_bytes}
 use Rattle.rq_standard.specs.Configuration.{Configuration}
@@ -46,8 +46,8 @@ taken_packet c all before after frame p skipped old now new same cut kept t adds
       whole = whole ∙ sym (append_assoc t.done (p ∷ []) (kept_packets c after));
       counted = t.counted ∙ ap (λ fs. skipped + skipped_count c fs) cut ∙ ap (λ n. skipped + n) (skipped_count-cons c frame after) ∙ ap (λ b. skipped + (cond b 1 0 + skipped_count c after)) (kept_by (is_skipped c frame) (packet_of_bytes frame) p kept) ∙ omega arith;
       stands = λ table object st honest.
-      let here : IsPacketOf table c object p = all_at (IsPacketOf table c object) t.done (kept_packets c after) p (subst (AllByRecursion (IsPacketOf table c object)) whole honest) in
-      adds table object t.done (t.stands table object st honest) (subst (λ k. IsPacketOf table k object p) (sym same) here);
+          let here : IsPacketOf table c object p = all_at (IsPacketOf table c object) t.done (kept_packets c after) p (subst (AllByRecursion (IsPacketOf table c object)) whole honest) in
+          adds table object t.done (t.stands table object st honest) (subst (λ k. IsPacketOf table k object p) (sym same) here);
     }
 
 -- one frame skipped

@@ -1,5 +1,5 @@
 -- What a receiver refuses and skips of any bytes, and what it answers over a mixed stream of an object's packets.
-use Rattle.std.specs.Prelude.{◌≡◌, ℕ, List, [], length, take, drop, Option, Result, Ok, Err, Some, None, IfSome, IfOk, if◌then◌else◌, nat_lt}
+use Rattle.std.specs.Prelude.{◌≡◌, ℕ, List, [], length, take, Option, Result, Ok, Err, Some, None, IfSome, IfOk, if◌then◌else◌, nat_lt}
 use Rattle.std.specs.List.{AllByRecursion}
 use Rattle.rq_bytes.specs.declared.error.Error.{Error}
 use Rattle.rq_bytes.specs.declared.error.Error.TheVariants.{HeaderTooShort, OutOfMemory}

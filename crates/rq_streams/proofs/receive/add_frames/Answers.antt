@@ -1,4 +1,4 @@
-use Rattle.std.proofs.Common.{◌≡◌, ◌+◌, ◌≤◌, ◌∷◌, min, length, Ok, sym, ap, ◌∙◌, subst, arith, refl, length-append}
+use Rattle.std.proofs.Common.{◌≡◌, ◌+◌, ◌≤◌, ◌∷◌, min, length, sym, ap, ◌∙◌, subst, arith, refl, length-append}
 use Rattle.std.specs.Slice.Iter.{chunks_rest}
 use Rattle.std.proofs.lemmas.Result.{err_from_is_err_and}
 use Rattle.raptorq.specs.Decoder.{state_of}
