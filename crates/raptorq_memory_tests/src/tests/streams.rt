@@ -86,8 +86,9 @@ where
     let mut writer = Counted::new(writer);
     let ended = match asked {
         Job::Send { size, repair } => {
-            run_send(alloc, &table, &mut reader, &mut writer, size, repair)
-                .map(|outcome| (outcome, 0))
+            run_send(alloc, &table, &mut reader, &mut writer, size, repair).map(|outcome| (
+                outcome, 0,
+            ))
         }
         Job::Receive => run_receive(alloc, &table, &mut reader, &mut writer),
     };

@@ -12,41 +12,25 @@ use Rattle.rq_streams.proofs.receive.add_frames.Goals as goal
 
 pub loop-frame-preserved-in-Continue-branch-3 : goal.loop-frame-preserved-in-Continue-branch-3
 loop-frame-preserved-in-Continue-branch-3 c =
-    let k = c.args.config.now in
-    let size = frame_size k in
     let kept = c.loop-frame.invariant in
     let step = c.in-Some.ensures.steps in
-    let before = chunks_rest c.loop-frame.frame-iterator in
-    let after = chunks_rest c.next.new.self in
-    let frame = c.in-Some.frame.now in
-    let cut : frames_in size before ≡ frame ∷ frames_in size after = frames_in-next size before frame after (omega arith) step.1.0 (step.1.1 ∙ ap (λ n. min n (length before)) kept.size) step.1.2 in
+    let added = c.in_ok-add_new_packet-in-Some-2.ensures in
     record {
       wide = kept.wide;
       size = step.0 ∙ kept.size;
-      configuration = c.in_ok-add_new_packet-in-Some-2.ensures.configuration ∙ kept.configuration;
-      few = omega (arith, kept.few, ap length step.1.0, length-append frame after);
-      taken = taken_packet k (frames_in size c.args.frames.now) (frames_in size before) (frames_in size after) frame c.in-Some-2.packet c.loop-frame.skipped (state_of c.args.decoder.now) (state_of c.loop-frame.decoder) (state_of c.add_new_packet.new.self)
-          kept.configuration cut (sym c.in-Some-2.is ∙ c.in_ok-packet.ensures.packet) kept.taken c.in_ok-add_new_packet-in-Some-2.ensures.stands;
+      configuration = added.configuration ∙ kept.configuration;
+      taken = taken_packet _ _ _ _ c.in-Some.frame.now _ _ _ _ kept.size step.1 kept.taken c.in-Some-2.packet _ kept.configuration (sym c.in-Some-2.is ∙ c.in_ok-packet.ensures.packet) added.stands;
     }
 
 pub loop-frame-preserved : goal.loop-frame-preserved
 loop-frame-preserved c =
-    let k = c.args.config.now in
-    let size = frame_size k in
     let kept = c.loop-frame.invariant in
     let step = c.in-Some.ensures.steps in
-    let before = chunks_rest c.loop-frame.frame-iterator in
-    let after = chunks_rest c.next.new.self in
-    let frame = c.in-Some.frame.now in
-    let long = step.1.1 ∙ ap (λ n. min n (length before)) kept.size in
-    let cut : frames_in size before ≡ frame ∷ frames_in size after = frames_in-next size before frame after (omega arith) step.1.0 long step.1.2 in
     record {
       wide = kept.wide;
       size = step.0 ∙ kept.size;
       configuration = kept.configuration;
-      few = omega (arith, kept.few, long, step.1.2, ap length step.1.0, length-append frame after);
-      taken = taken_skipped k (frames_in size c.args.frames.now) (frames_in size before) (frames_in size after) frame c.loop-frame.skipped (c.loop-frame.skipped + 1) (state_of c.args.decoder.now) (state_of c.loop-frame.decoder)
-          cut (sym c.in-None-2.is ∙ c.in_ok-packet.ensures.packet) refl kept.taken;
+      taken = taken_skipped _ _ _ _ c.in-Some.frame.now _ _ _ _ kept.size step.1 kept.taken (sym c.in-None-2.is ∙ c.in_ok-packet.ensures.packet);
     }
 
 pub returns-in_err-add_new_packet-in-Some-2-clause-memory : goal.returns-in_err-add_new_packet-in-Some-2-clause-memory
@@ -62,13 +46,7 @@ returns-in_err-add_new_packet-in-Some-2-clause-memory c =
     rw (p.1, p.2) (subst (IsRefusal {Y = Unit {0}} e) taken c.in_err-add_new_packet-in-Some-2.ensures.refused)
 
 pub returns-clause-skipped : goal.returns-clause-skipped
-returns-clause-skipped c =
-    let size = frame_size c.args.config.now in
-    let rest = chunks_rest c.loop-frame.frame-iterator in
-    taken_count c.args.config.now (frames_in size c.args.frames.now) (frames_in size rest) c.loop-frame.skipped (state_of c.args.decoder.now) (state_of c.loop-frame.decoder) (frames_in-none size rest c.in-None.ensures.steps.1.0) c.loop-frame.invariant.taken
+returns-clause-skipped c = taken_count _ _ _ _ _ _ c.in-None.ensures.steps.1.0 c.loop-frame.invariant.taken
 
 pub returns-clause-stands : goal.returns-clause-stands
-returns-clause-stands c =
-    let size = frame_size c.args.config.now in
-    let rest = chunks_rest c.loop-frame.frame-iterator in
-    taken_all c.args.config.now (frames_in size c.args.frames.now) (frames_in size rest) c.loop-frame.skipped (state_of c.args.decoder.now) (state_of c.loop-frame.decoder) (frames_in-none size rest c.in-None.ensures.steps.1.0) c.loop-frame.invariant.taken
+returns-clause-stands c = taken_all _ _ _ _ _ _ c.in-None.ensures.steps.1.0 c.loop-frame.invariant.taken
