@@ -3,7 +3,6 @@ use Rattle.std.proofs.Common.{◌≡◌, ℕ, ◌+◌, ◌%◌, ◌<◌, false, 
 use Rattle.std.specs.Prelude.{IsSome, IfSome, flat_map}
 use Rattle.std.specs.List.{AllByRecursion}
 use Rattle.std.proofs.lemmas.Bool.{le-ltb, ne_eqb}
-use Rattle.std.proofs.lemmas.Result.{IfOk-weaker}
 use Rattle.std.proofs.KnownBytes.{Keeps-refl}
 use Rattle.std.proofs.lemmas.List.{take_at, drop_at}
 use Rattle.rq_bytes.specs.declared.error.Error.{Error}
@@ -21,7 +20,7 @@ use Rattle.rq_streams.specs.declared.run.Stop.{Stop}
 use Rattle.rq_streams.specs.Frames.{frame_size, frames_in, kept_packets, skipped_count, skipped_in}
 use Rattle.rq_streams.specs.MixedStreams.{Frame, frame_bytes, packets_among, other_count, IsMixedStream}
 use Rattle.rq_streams.specs.declared.run.Stop.TheVariants.{Refused}
-use Rattle.rq_streams.specs.ReceivedStreams.{header_configuration, WantsDetermined, WantsOnlyObject, AnswersStream, RefusesStream, CountsSkipped, ReceivesExactly, ReceivesWhereAnyCan, CountsOthers}
+use Rattle.rq_streams.specs.ReceivedStreams.{header_configuration, WantsDetermined, WantsOnlyObject, AnswersStream, RefusesStream, ReceivesExactly, ReceivesWhereAnyCan, CountsOthers}
 use Rattle.rq_streams.specs.Ends.{Wanted, Ends, outcome_of}
 use Rattle.rq_streams.proofs.Refusing.{if_some_all, if_some_more}
 use Rattle.rq_streams.proofs.Skipping.{FillsFrame, kept_packets-mixed, skipped_count-mixed}
@@ -120,21 +119,27 @@ module _ (table : List TableRow) (result : Result (Outcome × ℕ) Stop) (input 
     undetermined = λ u. ends (Ok None);
   })
 
-  -- what is wanted, where it ended with an answer
-  pub receives_by : (bytes : List ℕ) (answer : Option (List ℕ)) → IfSome input (λ xs. bytes ≡ xs) → AnswersStream table bytes answer → Ends (outcome_of result) old new (Ok answer) → ReceivesExactly table result input old new
-  receives_by bytes answer read answers ends = if_some_more input (λ xs. bytes ≡ xs) _ (λ xs is c object frames rest s.
-      wants_by table c object frames rest xs s answer (outcome_of result) old new (answers c object frames rest (subst (IsMixedStream table c object frames rest) (sym is) s)) ends) read
-
   -- no receiver can do better
   pub receives_where_any_can : ReceivesExactly table result input old new → ReceivesWhereAnyCan table result input old new
   receives_where_any_can wants = if_some_more input _ _ (λ bytes w c object frames rest s. wants_where_any_can table c object frames rest bytes s (Ends (outcome_of result) old new) (w c object frames rest s)) wants
 
-  -- the frames that are skipped are the others
-  pub counts_others : CountsSkipped result input → CountsOthers table result input
-  counts_others counted = if_some_more input _ _ (λ bytes n c object frames rest s. IfOk-weaker result _ _ (λ ended is. is ∙ stream_skipped table c object frames rest bytes s) n) counted
+-- where these bytes were read
+module _ (table : List TableRow) (input : Option (List ℕ)) (read bytes : List ℕ) (same : bytes ≡ read) (all : IfSome input (λ xs. read ≡ xs)) where
+  mixed_before : (c : Configuration) (object : List ℕ) (frames : List Frame) (rest xs : List ℕ) → read ≡ xs → IsMixedStream table c object frames rest xs → IsMixedStream table c object frames rest bytes
+  mixed_before c object frames rest xs is s = subst (IsMixedStream table c object frames rest) (sym (same ∙ is)) s
 
--- a mixed stream is refused for want of memory alone, and then nothing is written
-pub receives_refused : (table : List TableRow) (e : Error) (input old : Option (List ℕ)) (bytes : List ℕ) → IfSome input (λ xs. bytes ≡ xs) → RefusesStream table bytes e → ReceivesExactly table (Err (Refused e)) input old old
-receives_refused table e input old bytes read refuses = if_some_more input (λ xs. bytes ≡ xs) _ (λ xs is c object frames rest s.
-    let memory = refuses c object frames rest (subst (IsMixedStream table c object frames rest) (sym is) s) in
-    record { determined = λ d. (inl memory, Keeps-refl old); undetermined = λ u. (inl memory, Keeps-refl old) }) read
+  -- what is wanted, where it ended with an answer
+  pub receives_by : (result : Result (Outcome × ℕ) Stop) (old new answer : Option (List ℕ)) → AnswersStream table bytes answer → Ends (outcome_of result) old new (Ok answer) → ReceivesExactly table result input old new
+  receives_by result old new answer answers ends = if_some_more input (λ xs. read ≡ xs) _ (λ xs is c object frames rest s.
+      wants_by table c object frames rest xs s answer (outcome_of result) old new (answers c object frames rest (mixed_before c object frames rest xs is s)) ends) all
+
+  -- a refusal for want of memory, and then nothing is written
+  pub receives_refused : (e : Error) (old : Option (List ℕ)) → RefusesStream table bytes e → ReceivesExactly table (Err (Refused e)) input old old
+  receives_refused e old refuses = if_some_more input (λ xs. read ≡ xs) _ (λ xs is c object frames rest s.
+      let memory = refuses c object frames rest (mixed_before c object frames rest xs is s) in
+      record { determined = λ d. (inl memory, Keeps-refl old); undetermined = λ u. (inl memory, Keeps-refl old) }) all
+
+  -- the frames that are skipped are the others
+  pub counts_others : (outcome : Outcome) (skipped : ℕ) → skipped ≡ skipped_in bytes → CountsOthers table (Ok (outcome, skipped)) input
+  counts_others outcome skipped counted = if_some_more input (λ xs. read ≡ xs) _ (λ xs is c object frames rest s.
+      counted ∙ stream_skipped table c object frames rest bytes (mixed_before c object frames rest xs is s)) all

@@ -1,11 +1,8 @@
-use Rattle.std.proofs.Common.{◌≡◌, ◌+◌, ◌≤◌, ◌∷◌, min, length, sym, ap, ◌∙◌, subst, arith, refl, length-append}
-use Rattle.std.specs.Slice.Iter.{chunks_rest}
+use Rattle.std.proofs.Common.{◌≤◌, length, sym, ap, ◌∙◌, subst, arith}
 use Rattle.std.proofs.lemmas.Result.{err_from_is_err_and}
-use Rattle.raptorq.specs.Decoder.{state_of}
 use Rattle.raptorq.specs.Refused.{packet_refusal}
 use Rattle.rq_bytes.specs.Refusals.{IsRefusal}
-use Rattle.rq_streams.specs.Frames.{frame_size, frames_in}
-use Rattle.rq_streams.proofs.Cutting.{frames_in-next, frames_in-none}
+use Rattle.rq_streams.specs.Frames.{frame_size}
 use Rattle.rq_streams.proofs.Skipping.{packet_refusal-kept}
 use Rattle.rq_streams.proofs.Taking.{taken_packet, taken_skipped, taken_count, taken_all}
 use Rattle.rq_streams.proofs.receive.add_frames.Goals as goal
