@@ -90,21 +90,21 @@ module _ (table : List TableRow) (c : Configuration) (object : List ℕ) (frames
   stream_packets = ap (λ xs. kept_packets c (frames_in (frame_size c) xs)) behind ∙ kept_packets-mixed table c object frames rest stream_fills s.others s.short
 
   -- and what is skipped are the other frames
-  pub stream_skipped : skipped_in bytes ≡ other_count frames rest
+  stream_skipped : skipped_in bytes ≡ other_count frames rest
   stream_skipped =
       ap (λ d. skipped_count d (frames_in (frame_size d) (drop 12 bytes))) spelled_configuration
       ∙ ap (λ xs. skipped_count c (frames_in (frame_size c) xs)) behind
       ∙ skipped_count-mixed table c object frames rest stream_fills s.others s.short
 
   -- what is answered is what is wanted
-  pub wants_by : (answer : Option (List ℕ)) (result : Result Outcome Stop) (old new : Option (List ℕ)) → IsObjectAnswer table c object (packets_among frames) answer → Ends result old new (Ok answer) → WantsDetermined table c object (packets_among frames) (Ends result old new)
+  wants_by : (answer : Option (List ℕ)) (result : Result Outcome Stop) (old new : Option (List ℕ)) → IsObjectAnswer table c object (packets_among frames) answer → Ends result old new (Ok answer) → WantsDetermined table c object (packets_among frames) (Ends result old new)
   wants_by answer result old new a ends = record {
     determined = λ d. subst (λ x. Ends result old new (Ok x)) (a.whole d) ends;
     undetermined = λ u. subst (λ x. Ends result old new (Ok x)) (none_of answer (λ some. u (a.only some))) ends;
   }
 
   -- an object is determined exactly where no other one fits
-  pub wants_where_any_can : (P : Wanted → Type 0) → WantsDetermined table c object (packets_among frames) P → WantsOnlyObject table c object (packets_among frames) P
+  wants_where_any_can : (P : Wanted → Type 0) → WantsDetermined table c object (packets_among frames) P → WantsOnlyObject table c object (packets_among frames) P
   wants_where_any_can P w =
       let same = answerable_only table c object (packets_among frames) s.checked s.accepted s.run in
       record { only = λ o. w.determined (same.1 o); others = λ no. w.undetermined (λ d. no (same.0 d)) }

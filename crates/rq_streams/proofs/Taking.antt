@@ -20,16 +20,6 @@ pub record AreTaken (c : Configuration) (bytes left : List ℕ) (skipped : ℕ) 
   pub few : skipped + length left ≤ length bytes
   pub stands : (table : List TableRow) (object : List ℕ) → StandsFor table object [] old → AllByRecursion (IsPacketOf table c object) (kept_packets c (frames_in (frame_size c) bytes)) → StandsFor table object done now
 
--- before the first frame
-pub taken_none : (c : Configuration) (bytes : List ℕ) (s : State) → AreTaken c bytes bytes 0 s s
-taken_none c bytes s = record {
-  done = [];
-  whole = refl;
-  counted = omega arith;
-  few = omega arith;
-  stands = λ table object st honest. st;
-}
-
 kept_by : (skipped : Bool) (q p : Packet) → Some p ≡ cond skipped None (Some q) → skipped ≡ false
 kept_by true q p h = absurd (cc h)
 kept_by false q p h = refl
