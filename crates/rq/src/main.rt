@@ -31,14 +31,15 @@ fn asked(rt: &HostRuntime) -> Result<Option<Job>, Error> {
     }
 }
 
-// Does the job over the built-in table.
-fn run(rt: &HostRuntime, asked: Job) -> Result<Outcome, Stop> {
+// Does the job over the built-in table, and answers how many frames were skipped beside the outcome.
+fn run(rt: &HostRuntime, asked: Job) -> Result<(Outcome, u64), Stop> {
     let table = SystematicTable::built_in(rt.alloc())?;
     let mut reader = Counted::new(rt.stdin());
     let mut writer = Counted::new(rt.stdout());
     match asked {
         Job::Send { size, repair } => {
-            run_send(rt.alloc(), &table, &mut reader, &mut writer, size, repair)
+            let sent = run_send(rt.alloc(), &table, &mut reader, &mut writer, size, repair)?;
+            Ok((sent, 0))
         }
         Job::Receive => run_receive(rt.alloc(), &table, &mut reader, &mut writer),
     }

@@ -1,12 +1,12 @@
 -- How bytes are cut into frames.
-use Rattle.std.proofs.Common.{◌≡◌, ℕ, zero, suc, ◌+◌, ◌-◌, ◌*◌, ◌/◌, ◌%◌, ◌<◌, ◌≤◌, min, List, [], ◌∷◌, ◌++◌, length, take, drop, map, arith, refl, sym, ap, ◌∙◌, inl, inr, append-nil, length-append}
+use Rattle.std.proofs.Common.{◌≡◌, ℕ, zero, suc, ◌+◌, ◌-◌, ◌*◌, ◌/◌, ◌%◌, ◌<◌, ◌≤◌, min, List, [], ◌∷◌, ◌++◌, length, take, drop, map, arith, refl, sym, ap, ◌∙◌, inl, inr, append-nil, append_assoc, length-append}
+use Rattle.std.specs.Prelude.{flat_map}
 use Rattle.std.specs.List.{range_with_len, AllByRecursion}
 use Rattle.std.specs.Int.{div_ceil}
 use Rattle.std.proofs.lemmas.Bool.{cases_lt}
 use Rattle.std.proofs.Math.Nat.{add-div_right, add-mod_right, div-eq_of_lt, mod-eq_of_lt, zero-div, zero-mod, zero-mul}
 use Rattle.std.proofs.lemmas.List.{take_at, drop_at, take_all, drop_all, drop-drop}
-use Rattle.rq_standard.specs.Packet.{Packet, packet_bytes}
-use Rattle.rq_standard.specs.Streams.{frames_of}
+use Rattle.rq_streams.specs.MixedStreams.{Frame, frame_bytes}
 use Rattle.rq_streams.specs.Frames.{frames_in}
 
 -- the first part and what is behind it
@@ -71,10 +71,22 @@ frames_in-none size bytes none =
     let count : div_ceil (length bytes) size ≡ 0 = ap (λ m. div_ceil m size) none ∙ ap (λ m. m + min 1 (0 % size)) (zero-div size) ∙ ap (λ m. 0 + min 1 m) (zero-mod size) ∙ omega arith in
     ap (λ m. map (part size bytes) (range_with_len 0 m)) count
 
--- the frames of packets that fill them
-pub frames_in-frames_of : (size : ℕ) (packets : List Packet) → 0 < size → AllByRecursion (λ p. length (packet_bytes p) ≡ size) packets → frames_in size (frames_of packets) ≡ map packet_bytes packets
-frames_in-frames_of size [] positive fill = frames_in-none size [] refl
-frames_in-frames_of size (p ∷ packets) positive fill =
-    let both = length-append (packet_bytes p) (frames_of packets) in
-    frames_in-next size (frames_of (p ∷ packets)) (packet_bytes p) (frames_of packets) positive refl (omega (arith, both, fill.0)) (omega (arith, both, fill.0))
-    ∙ ap (λ fs. packet_bytes p ∷ fs) (frames_in-frames_of size packets positive fill.1)
+-- a rest is a frame by itself, where it isn't empty
+abbrev pub rest_frames : List ℕ → List (List ℕ)
+rest_frames [] = []
+rest_frames (b ∷ rest) = (b ∷ rest) ∷ []
+
+-- the frames of a mixed stream
+pub frames_in-mixed : (size : ℕ) (frames : List Frame) (rest : List ℕ) → 0 < size → AllByRecursion (λ f. length (frame_bytes f) ≡ size) frames → length rest < size → frames_in size (flat_map frame_bytes frames ++ rest) ≡ map frame_bytes frames ++ rest_frames rest
+frames_in-mixed size [] [] positive long short = frames_in-none size [] refl
+frames_in-mixed size [] (b ∷ rest) positive long short =
+    let whole = b ∷ rest in
+    frames_in-next size whole whole [] positive (sym (append-nil whole)) (omega arith) (omega arith)
+    ∙ ap (λ fs. whole ∷ fs) (frames_in-none size [] refl)
+frames_in-mixed size (f ∷ frames) rest positive long short =
+    let behind = flat_map frame_bytes frames ++ rest in
+    let all = flat_map frame_bytes (f ∷ frames) ++ rest in
+    let is : all ≡ frame_bytes f ++ behind = append_assoc (frame_bytes f) (flat_map frame_bytes frames) rest in
+    let size_is : length all ≡ length (frame_bytes f) + length behind = ap length is ∙ length-append (frame_bytes f) behind in
+    frames_in-next size all (frame_bytes f) behind positive is (omega (arith, size_is, long.0)) (omega (arith, size_is, long.0))
+    ∙ ap (λ fs. frame_bytes f ∷ fs) (frames_in-mixed size frames rest positive long.1 short)

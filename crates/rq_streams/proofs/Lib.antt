@@ -1,8 +1,10 @@
 pub mod Bytes
 pub mod Cutting
+pub mod Skipping
 pub mod Refusing
 pub mod Taking
 pub mod Streaming
 pub mod Sending
 pub mod Wording
 pub mod SentLaws
+pub mod Unmixed

@@ -1,78 +1,81 @@
--- An object's packets, taken frame by frame.
-use Rattle.std.proofs.Common.{◌≡◌, ℕ, List, [], ◌∷◌, ◌++◌, length, map, refl, sym, ap, ◌∙◌, subst, arith, append_assoc, append-nil, length-append}
-use Rattle.std.specs.List.{AllByRecursion}
-use Rattle.rq_standard.specs.Packet.{Packet, id_bytes, packet_bytes, packet_of_bytes}
+-- Packets of an object, taken frame by frame.
+use Rattle.std.proofs.Common.{◌≡◌, ℕ, ◌+◌, ◌<◌, ◌≤◌, min, length, length-append, true, false, cond, Bool, Option, List, [], ◌∷◌, ◌++◌, Some, None, refl, sym, ap, ◌∙◌, subst, arith, append_assoc, append-nil}
+use Rattle.std.specs.List.{AllByRecursion, cons_option}
+use Rattle.rq_standard.specs.Packet.{Packet, packet_of_bytes}
 use Rattle.rq_standard.specs.Configuration.{Configuration}
 use Rattle.rq_standard.specs.declared.row.TableRow.{TableRow}
 use Rattle.rq_standard.specs.Headline.{IsPacketOf}
-use Rattle.rq_standard.specs.Standing.{State, StandsFor}
-use Rattle.rq_standard.specs.Streams.{frames_of}
-use Rattle.rq_standard.proofs.PacketBytes.{id_of_bytes-id_bytes, packet_of_bytes-packet_bytes}
-use Rattle.raptorq.proofs.Lists.{all_at, length-payload}
-use Rattle.rq_streams.specs.Frames.{frame_size, frames_in}
-use Rattle.rq_streams.specs.ReceivedStreams.{FillsFrame}
-use Rattle.rq_streams.proofs.Cutting.{frames_in-frames_of}
+use Rattle.rq_standard.specs.Standing.{State, StandsFor, StandsForMore}
+use Rattle.raptorq.proofs.Lists.{all_at}
+use Rattle.rq_streams.specs.Frames.{frame_size, frames_in, is_skipped, kept_packet, kept_packets, skipped_count}
+use Rattle.rq_streams.specs.ReceivedStreams.{StandsForFrames}
+use Rattle.rq_streams.proofs.Cutting.{frames_in-next, frames_in-none}
+use Rattle.rq_streams.proofs.Skipping.{skipped_count-cons}
 
--- The packets so far are taken, and the frames that are left are the others'.
-pub record IsTaken (table : List TableRow) (object : List ℕ) (packets : List Packet) (frames : List (List ℕ)) (s : State) : Type 0 where
+-- The frames so far are taken or skipped: the packets of these and of those that are left are the packets of all, and few enough are skipped.
+pub record AreTaken (c : Configuration) (bytes left : List ℕ) (skipped : ℕ) (old now : State) : Type 0 where
   pub done : List Packet
-  pub more : List Packet
-  pub whole : packets ≡ done ++ more
-  pub left : frames ≡ map packet_bytes more
-  pub stands : StandsFor table object done s
+  pub whole : kept_packets c (frames_in (frame_size c) bytes) ≡ done ++ kept_packets c (frames_in (frame_size c) left)
+  pub counted : skipped_count c (frames_in (frame_size c) bytes) ≡ skipped + skipped_count c (frames_in (frame_size c) left)
+  pub few : skipped + length left ≤ length bytes
+  pub stands : (table : List TableRow) (object : List ℕ) → StandsFor table object [] old → AllByRecursion (IsPacketOf table c object) (kept_packets c (frames_in (frame_size c) bytes)) → StandsFor table object done now
 
-pub length-packet_bytes : (table : List TableRow) (c : Configuration) (object : List ℕ) (p : Packet) → FillsFrame table c object p → length (packet_bytes p) ≡ frame_size c
-length-packet_bytes table c object p h =
-    let four : length (id_bytes p.id) ≡ 4 = refl in
-    length-append (id_bytes p.id) p.payload ∙ rw (four, length-payload table c object p h.row h.source) refl
+kept_by : (skipped : Bool) (q p : Packet) → Some p ≡ cond skipped None (Some q) → skipped ≡ false
+kept_by true q p h = absurd (cc h)
+kept_by false q p h = refl
 
-pub all_fill : (table : List TableRow) (c : Configuration) (object : List ℕ) (packets : List Packet) → AllByRecursion (FillsFrame table c object) packets → AllByRecursion (λ p. length (packet_bytes p) ≡ frame_size c) packets
-all_fill table c object [] h = tt
-all_fill table c object (p ∷ packets) h = (length-packet_bytes table c object p h.0, all_fill table c object packets h.1)
+skipped_by : (skipped : Bool) (q : Packet) → None ≡ cond skipped None (Some q) → skipped ≡ true
+skipped_by true q h = refl
+skipped_by false q h = absurd (cc h)
 
--- before the first frame
-pub taken_none : (table : List TableRow) (c : Configuration) (object : List ℕ) (packets : List Packet) (bytes : List ℕ) (s : State) → AllByRecursion (FillsFrame table c object) packets → bytes ≡ frames_of packets → StandsFor table object [] s → IsTaken table object packets (frames_in (frame_size c) bytes) s
-taken_none table c object packets bytes s fill is st = record {
-  done = [];
-  more = packets;
-  whole = refl;
-  left = ap (frames_in (frame_size c)) is ∙ frames_in-frames_of (frame_size c) packets (omega arith) (all_fill table c object packets fill);
-  stands = st;
-}
+-- a frame is cut off: it is as long as it can be
+abbrev pub IsCut : ℕ → List ℕ → List ℕ → List ℕ → Type 0
+IsCut size before frame after = (before ≡ frame ++ after) × (length frame ≡ min size (length before)) × (0 < length before)
 
-pub read_back : (table : List TableRow) (c : Configuration) (object : List ℕ) (p : Packet) → FillsFrame table c object p → packet_of_bytes (packet_bytes p) ≡ p
-read_back table c object p h = packet_of_bytes-packet_bytes p (id_of_bytes-id_bytes p.id h.id)
+module _ (c : Configuration) (bytes before after frame : List ℕ) (size skipped : ℕ) (old now : State) (wide : size ≡ frame_size c) (is : IsCut size before frame after) (t : AreTaken c bytes before skipped old now) where
+  cut : frames_in (frame_size c) before ≡ frame ∷ frames_in (frame_size c) after
+  cut = frames_in-next (frame_size c) before frame after (omega arith) is.0 (is.1 ∙ ap (λ n. min n (length before)) wide) is.2
 
-abbrev Adds_frame : List TableRow → List ℕ → List ℕ → State → State → Type 0
-Adds_frame table object frame old new = (done : List Packet) → StandsFor table object done old → IsPacketOf table old.configuration object (packet_of_bytes frame) → StandsFor table object (done ++ packet_of_bytes frame ∷ []) new
+  longer : length before ≡ length frame + length after
+  longer = ap length is.0 ∙ length-append frame after
 
-next_by : (table : List TableRow) (c : Configuration) (object : List ℕ) (packets done more : List Packet) (frame : List ℕ) (frames : List (List ℕ)) (old new : State) → old.configuration ≡ c → AllByRecursion (FillsFrame table c object) packets → packets ≡ done ++ more → frame ∷ frames ≡ map packet_bytes more
-    → StandsFor table object done old → Adds_frame table object frame old new → IsTaken table object packets frames new
-next_by table c object packets done [] frame frames old new same fill whole left st adds = absurd (cc left)
-next_by table c object packets done (p ∷ more) frame frames old new same fill whole left st adds =
-    let here : FillsFrame table c object p = all_at (FillsFrame table c object) done more p (subst (AllByRecursion (FillsFrame table c object)) whole fill) in
-    let first : frame ≡ packet_bytes p = cc in
-    let rest : frames ≡ map packet_bytes more = cc in
-    let is : packet_of_bytes frame ≡ p = ap packet_of_bytes first ∙ read_back table c object p here in
-    let source : IsPacketOf table old.configuration object (packet_of_bytes frame) = subst (λ q. IsPacketOf table old.configuration object q) (sym is) (subst (λ k. IsPacketOf table k object p) (sym same) here.source) in
-    record {
-      done = done ++ p ∷ [];
-      more = more;
-      whole = whole ∙ sym (append_assoc done (p ∷ []) more);
-      left = rest;
-      stands = subst (λ q. StandsFor table object (done ++ q ∷ []) new) is (adds done st source);
-    }
+  counted_next : (b : Bool) → is_skipped c frame ≡ b → skipped_count c (frames_in (frame_size c) bytes) ≡ skipped + (cond b 1 0 + skipped_count c (frames_in (frame_size c) after))
+  counted_next b h = t.counted ∙ ap (λ fs. skipped + skipped_count c fs) cut ∙ ap (λ n. skipped + n) (skipped_count-cons c frame (frames_in (frame_size c) after)) ∙ ap (λ d. skipped + (cond d 1 0 + skipped_count c (frames_in (frame_size c) after))) h
 
--- one frame more
-pub taken_next : (table : List TableRow) (c : Configuration) (object : List ℕ) (packets : List Packet) (frame : List ℕ) (frames all : List (List ℕ)) (old new : State) → old.configuration ≡ c → AllByRecursion (FillsFrame table c object) packets → all ≡ frame ∷ frames
-    → IsTaken table object packets all old → Adds_frame table object frame old new → IsTaken table object packets frames new
-taken_next table c object packets frame frames all old new same fill is t adds =
-    next_by table c object packets t.done t.more frame frames old new same fill t.whole (sym is ∙ t.left) t.stands adds
+  whole_next : (o : Option Packet) → o ≡ kept_packet c frame → kept_packets c (frames_in (frame_size c) bytes) ≡ t.done ++ cons_option o (kept_packets c (frames_in (frame_size c) after))
+  whole_next o kept = t.whole ∙ ap (λ fs. t.done ++ kept_packets c fs) cut ∙ ap (λ d. t.done ++ cons_option d (kept_packets c (frames_in (frame_size c) after))) (sym kept)
 
-all_by : (table : List TableRow) (object : List ℕ) (packets done more : List Packet) (s : State) → packets ≡ done ++ more → [] ≡ map packet_bytes more → StandsFor table object done s → StandsFor table object packets s
-all_by table object packets done [] s whole left st = subst (λ ps. StandsFor table object ps s) (sym (whole ∙ append-nil done)) st
-all_by table object packets done (p ∷ more) s whole left st = absurd (cc left)
+  -- one packet more
+  pub taken_packet : (p : Packet) (new : State) → now.configuration ≡ c → Some p ≡ kept_packet c frame → StandsForMore now p new → AreTaken c bytes after skipped old new
+  taken_packet p new same kept adds =
+      let more = kept_packets c (frames_in (frame_size c) after) in
+      record {
+        done = t.done ++ p ∷ [];
+        whole = whole_next (Some p) kept ∙ sym (append_assoc t.done (p ∷ []) more);
+        counted = counted_next false (kept_by (is_skipped c frame) (packet_of_bytes frame) p kept) ∙ omega arith;
+        few = omega (arith, t.few, longer);
+        stands = λ table object st honest.
+            let here : IsPacketOf table c object p = all_at (IsPacketOf table c object) t.done more p (subst (AllByRecursion (IsPacketOf table c object)) (whole_next (Some p) kept) honest) in
+            adds table object t.done (t.stands table object st honest) (subst (λ k. IsPacketOf table k object p) (sym same) here);
+      }
+
+  -- one frame skipped
+  pub taken_skipped : None ≡ kept_packet c frame → AreTaken c bytes after (skipped + 1) old now
+  taken_skipped none = record {
+    done = t.done;
+    whole = whole_next None none;
+    counted = counted_next true (skipped_by (is_skipped c frame) (packet_of_bytes frame) none) ∙ omega arith;
+    few = omega (arith, t.few, is.1, is.2, wide, longer);
+    stands = t.stands;
+  }
 
 -- behind the last frame
-pub taken_all : (table : List TableRow) (object : List ℕ) (packets : List Packet) (frames : List (List ℕ)) (s : State) → frames ≡ [] → IsTaken table object packets frames s → StandsFor table object packets s
-taken_all table object packets frames s none t = all_by table object packets t.done t.more s t.whole (sym none ∙ t.left) t.stands
+module _ (c : Configuration) (bytes left : List ℕ) (skipped : ℕ) (old now : State) (none : length left ≡ 0) (t : AreTaken c bytes left skipped old now) where
+  no_frames : frames_in (frame_size c) left ≡ []
+  no_frames = frames_in-none (frame_size c) left none
+
+  pub taken_count : skipped ≡ skipped_count c (frames_in (frame_size c) bytes)
+  taken_count = sym (t.counted ∙ ap (λ fs. skipped + skipped_count c fs) no_frames ∙ omega arith)
+
+  pub taken_all : StandsForFrames c old bytes now
+  taken_all table object st honest = subst (λ ps. StandsFor table object ps now) (sym (t.whole ∙ ap (λ fs. t.done ++ kept_packets c fs) no_frames ∙ append-nil t.done)) (t.stands table object st honest)

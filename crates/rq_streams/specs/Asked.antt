@@ -19,10 +19,14 @@ abbrev pub AsksFor : Job → List (List ℕ) → Type 0
 AsksFor (Send size repair) words = (s : List ℕ) × (r : List ℕ) × (words ≡ codes "send" ∷ s ∷ r ∷ []) × IsNumber 16 s size × IsNumber 32 r repair
 AsksFor Receive words = words ≡ codes "receive" ∷ []
 
+-- the status of a run that nothing stopped
+abbrev pub outcome_status : Outcome → ℕ
+outcome_status Written = 0
+outcome_status Incomplete = 2
+
 -- the status of a program that has run, or that nothing was asked of
-abbrev pub status_of : Option (Result Outcome Stop) → ℕ
-status_of (Some (Ok Written)) = 0
+abbrev pub status_of : Option (Result (Outcome × ℕ) Stop) → ℕ
+status_of (Some (Ok ended)) = outcome_status ended.0
 status_of (Some (Err Fault)) = 1
-status_of (Some (Ok Incomplete)) = 2
 status_of (Some (Err (Refused e))) = 3
 status_of None = 4

@@ -38,3 +38,8 @@ abbrev pub failed_calls : {X : Type 0} → Result X Stop → ℕ
 failed_calls (Ok x) = 0
 failed_calls (Err Fault) = 1
 failed_calls (Err (Refused e)) = 0
+
+-- the outcome alone, of a run that answers how many frames it skipped beside it
+abbrev pub outcome_of : Result (Outcome × ℕ) Stop → Result Outcome Stop
+outcome_of (Ok ended) = Ok ended.0
+outcome_of (Err stop) = Err stop

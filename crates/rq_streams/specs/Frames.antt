@@ -1,13 +1,9 @@
--- The frames behind a stream's header, and why one of them is refused.
-use Rattle.std.specs.Prelude.{ℕ, ◌+◌, ◌*◌, List, length, take, drop, map, Result, Ok, Err, if◌then◌else◌, nat_lt}
+-- The frames behind a stream's header, and which of them are skipped.
+use Rattle.std.specs.Prelude.{ℕ, ◌+◌, ◌*◌, List, length, take, drop, map, filter_map, count_by, Option, Some, None, if◌then◌else◌, Bool, not, ◌||◌, nat_lt}
 use Rattle.std.specs.List.{range_with_len}
 use Rattle.std.specs.Int.{div_ceil}
-use Rattle.rq_bytes.specs.declared.error.Error.{Error}
-use Rattle.rq_bytes.specs.declared.error.Error.TheVariants.{PacketTooShort, WrongPayloadSize}
-use Rattle.rq_bytes.specs.Refusals.{first_refusal}
-use Rattle.rq_standard.specs.Packet.{packet_of_bytes}
-use Rattle.rq_standard.specs.Configuration.{Configuration}
-use Rattle.raptorq.specs.Refused.{packet_refusal}
+use Rattle.rq_standard.specs.Packet.{Packet, packet_of_bytes}
+use Rattle.rq_standard.specs.Configuration.{Configuration, configuration_of_bytes}
 
 -- how long a frame is: a payload id and a symbol
 abbrev pub frame_size : Configuration → ℕ
@@ -17,13 +13,22 @@ frame_size c = 4 + c.symbol_size
 unfoldable pub frames_in : ℕ → List ℕ → List (List ℕ)
 frames_in size bytes = map (λ i. take size (drop (i * size) bytes)) (range_with_len 0 (div_ceil (length bytes) size))
 
--- whether a frame is taken: one that isn't whole is refused whatever it holds
-abbrev pub frame_refusal : Configuration → List ℕ → Result (Unit {0}) Error
-frame_refusal c frame =
-    if nat_lt (length frame) 4 then Err PacketTooShort
-    else if nat_lt (length frame) (frame_size c) then Err WrongPayloadSize
-    else packet_refusal c (packet_of_bytes frame)
+-- a frame is skipped that isn't whole, or whose block isn't one of the object's
+abbrev pub is_skipped : Configuration → List ℕ → Bool
+is_skipped c frame = nat_lt (length frame) (frame_size c) || not (nat_lt (packet_of_bytes frame).id.block c.source_blocks)
 
--- the first refusal of the frames behind a header
-abbrev pub frames_refusal : Configuration → List ℕ → Result (Unit {0}) Error
-frames_refusal c bytes = first_refusal (frame_refusal c) (frames_in (frame_size c) bytes)
+-- the packet of a frame, unless it is skipped
+abbrev pub kept_packet : Configuration → List ℕ → Option Packet
+kept_packet c frame = if is_skipped c frame then None else Some (packet_of_bytes frame)
+
+-- how many of some frames are skipped
+abbrev pub skipped_count : Configuration → List (List ℕ) → ℕ
+skipped_count c frames = count_by (is_skipped c) frames
+
+-- the packets of the others
+abbrev pub kept_packets : Configuration → List (List ℕ) → List Packet
+kept_packets c frames = filter_map (kept_packet c) frames
+
+-- how many frames of a stream are skipped: those behind the twelve bytes of its header
+abbrev pub skipped_in : List ℕ → ℕ
+skipped_in bytes = let c = configuration_of_bytes (take 12 bytes) in skipped_count c (frames_in (frame_size c) (drop 12 bytes))

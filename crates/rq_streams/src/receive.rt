@@ -2,14 +2,12 @@
 ghost use Rattle.std.specs.Prelude.{◌≡◌, ◌+◌, ◌^◌, ◌-◌, ◌<◌, ◌≤◌, ◌⊎◌, ◌↔◌, length, Ok, Err, OnOk, IfOk, IfErr, option_map, vec_items};
 ghost use Rattle.std.specs.Io.KnownBytes.{Keeps};
 ghost use Rattle.rq_bytes.specs.Refusals.{Answers};
-ghost use Rattle.rq_standard.specs.Packet.{packet_of_bytes};
-ghost use Rattle.rq_standard.specs.Standing.{StandsForMore};
 ghost use Rattle.rq_standard.specs.TableRows.{greatest_size};
 ghost use Rattle.raptorq.specs.Decoder.{state_of};
 ghost use Rattle.rq_streams.specs.Counted.{failed_count, inner_of};
 ghost use Rattle.rq_streams.specs.Ends.{AfterRefusal, failed_calls};
-ghost use Rattle.rq_streams.specs.Frames.{frame_size, frame_refusal, frames_refusal};
-ghost use Rattle.rq_streams.specs.ReceivedStreams.{header_configuration, receive_refusal, StandsForFrames, AnswersStream, RefusesStream, RefusesFirst, ReceivesExactly, ReceivesWhereAnyCan};
+ghost use Rattle.rq_streams.specs.Frames.{frame_size, frames_in, kept_packet, skipped_count, skipped_in};
+ghost use Rattle.rq_streams.specs.ReceivedStreams.{header_configuration, receive_refusal, StandsForFrames, AnswersStream, RefusesStream, RefusesFirst, CountsSkipped, ReceivesExactly, ReceivesWhereAnyCan, CountsOthers};
 
 use crate::counted::Counted;
 use crate::run::{Outcome, Stop, finish, read_all};
@@ -30,74 +28,90 @@ fn header_configuration(bytes: &[u8]) -> Result<ObjectTransmissionInformation, E
     }
 }
 
-// Hands a frame to the decoder.
-fn add_frame(alloc: Global, decoder: &mut Decoder, size: usize, frame: &[u8]) -> Result<(), Error>
-    requires { size ≡ frame_size (state_of decoder.old).configuration }
-    ensures refused { Answers (λ x. x) result (frame_refusal (state_of decoder.old).configuration frame.now) }
-    ensures configuration { (state_of decoder.new).configuration ≡ (state_of decoder.old).configuration }
-    ensures stands { OnOk result (StandsForMore (state_of decoder.old) (packet_of_bytes frame.now) (state_of decoder.new)) }
+// The packet of a frame of `size` bytes. A frame that is skipped has none.
+fn frame_packet(
+    alloc: Global,
+    config: &ObjectTransmissionInformation,
+    size: usize,
+    frame: &[u8],
+) -> Result<Option<EncodingPacket>, Error>
+    requires { size ≡ frame_size config.now }
+    ensures packet { IfOk result (λ packet. packet ≡ kept_packet config.now frame.now) }
+    ensures memory { IfErr result (λ e. e ≡ Error.OutOfMemory) }
 {
-    let packet = EncodingPacket::deserialize(alloc, frame)?;
     if frame.len() < size {
-        return Err(Error::WrongPayloadSize);
+        return Ok(None);
     }
-    decoder.add_new_packet(packet)
+    let packet = EncodingPacket::deserialize(alloc, frame)?;
+    if packet.payload_id().source_block_number() < config.source_blocks() {
+        Ok(Some(packet))
+    } else {
+        Ok(None)
+    }
 }
 
-// Hands the frames to the decoder, in order. The first refusal ends it.
+// Hands the packets of the frames to the decoder, in order, and answers how many frames are skipped.
 fn add_frames(
     alloc: Global,
     decoder: &mut Decoder,
-    symbol_size: u16,
+    config: &ObjectTransmissionInformation,
     frames: &[u8],
-) -> Result<(), Error>
-    requires { symbol_size ≡ (state_of decoder.old).configuration.symbol_size }
-    ensures refused { Answers (λ x. x) result (frames_refusal (state_of decoder.old).configuration frames.now) }
+) -> Result<u64, Error>
+    requires { config.now ≡ (state_of decoder.old).configuration }
+    ensures skipped { IfOk result (λ n. n ≡ skipped_count config.now (frames_in (frame_size config.now) frames.now)) }
+    ensures memory { IfErr result (λ e. e ≡ Error.OutOfMemory) }
     ensures configuration { (state_of decoder.new).configuration ≡ (state_of decoder.old).configuration }
-    ensures stands { OnOk result (StandsForFrames (state_of decoder.old) frames.now (state_of decoder.new)) }
+    ensures stands { OnOk result (StandsForFrames config.now (state_of decoder.old) frames.now (state_of decoder.new)) }
 {
-    let size = 4 + usize::from(symbol_size);
+    let size = 4 + usize::from(config.symbol_size());
+    let mut skipped = 0;
     for frame in frames.chunks(size) {
-        add_frame(alloc, decoder, size, frame)?;
+        match frame_packet(alloc, config, size, frame)? {
+            Some(packet) => decoder.add_new_packet(packet)?,
+            None => skipped += 1,
+        }
     }
-    Ok(())
+    Ok(skipped)
 }
 
-// The object of a stream, where its packets determine it.
+// The object of a stream, where its packets determine it, and how many frames are skipped.
 fn received_object(
     alloc: Global,
     table: &SystematicTable,
     bytes: &[u8],
-) -> Result<Option<Vec<u8>>, Error>
-    ensures refused { AfterRefusal (receive_refusal (greatest_size table.now) bytes.now) (Answers (option_map vec_items) result) }
-    ensures answer { IfOk result (λ r. AnswersStream table.now bytes.now (option_map vec_items r)) }
+) -> Result<(Option<Vec<u8>>, u64), Error>
+    ensures refused { AfterRefusal (receive_refusal (greatest_size table.now) bytes.now) (Answers (λ r. option_map vec_items r.0) result) }
+    ensures answer { IfOk result (λ r. AnswersStream table.now bytes.now (option_map vec_items r.0)) }
     ensures memory { IfErr result (RefusesStream table.now bytes.now) }
+    ensures skipped { IfOk result (λ r. r.1 ≡ skipped_in bytes.now) }
 {
     let config = header_configuration(bytes)?;
     let mut decoder = Decoder::new(alloc, table, config)?;
-    add_frames(alloc, &mut decoder, config.symbol_size(), &bytes[12..])?;
-    decoder.get_result()
+    let skipped = add_frames(alloc, &mut decoder, &config, &bytes[12..])?;
+    Ok((decoder.get_result()?, skipped))
 }
 
 /// Reads a stream and writes its object: the 12 bytes of a configuration, and then frames of a
-/// payload id and a symbol.
+/// payload id and a symbol. Answers how many frames it skipped beside the outcome.
 ///
-/// Over a stream of an object's packets, any number of times and in any order, the object is written
-/// exactly where they determine it, and else nothing. So it is for a stream of
-/// [`run_send`](crate::run_send) from which frames were removed, or in which they were repeated or
-/// moved.
+/// A frame that can't be used is skipped and counted: one whose block is none of the object's, and
+/// a last one that isn't whole. Frames are cut at the size of a payload id and a symbol, whatever
+/// they hold. A packet that came before isn't skipped.
 ///
-/// Refuses, in this order, [`Error::HeaderTooShort`] below 12 bytes, what
-/// [`ObjectTransmissionInformation::check`] refuses, and then the first refusal in the order of the
-/// frames: [`Error::PacketTooShort`] of a last one below 4 bytes, [`Error::WrongPayloadSize`] of
-/// another one that isn't whole, and [`Error::UnknownBlock`]. [`Error::OutOfMemory`] may come before
-/// any of them.
+/// Over a stream of an object's packets, any number of times and in any order, with any such frames
+/// between them and behind them, the object is written exactly where the packets determine it, and
+/// else nothing. So it is for a stream of [`run_send`](crate::run_send) from which frames were
+/// removed, or in which they were repeated or moved.
+///
+/// Refuses, in this order, [`Error::HeaderTooShort`] below 12 bytes, and what
+/// [`ObjectTransmissionInformation::check`] refuses. [`Error::OutOfMemory`] may come before any of
+/// them, and at any frame.
 pub fn run_receive<R: Read, W: Write>(
     alloc: Global,
     table: &SystematicTable,
     reader: &mut Counted<R>,
     writer: &mut Counted<W>,
-) -> Result<Outcome, Stop>
+) -> Result<(Outcome, u64), Stop>
     requires reads { failed_count reader.old < 2 ^ 64 - 1 }
     requires writes { failed_count writer.old < 2 ^ 64 - 1 }
 
@@ -113,16 +127,21 @@ pub fn run_receive<R: Read, W: Write>(
     ensures refused { RefusesFirst table.now result
         (R.remaining (inner_of reader.old)) (W.contents (inner_of writer.old)) (W.contents (inner_of writer.new)) }
 
-    // Of a stream of an object's packets the object, exactly where they determine it.
+    // Whatever is read, the frames that can't be used are counted.
+    ensures skipped { CountsSkipped result (R.remaining (inner_of reader.old)) }
+
+    // Of an object's packets among other frames the object, exactly where they determine it.
     ensures ends { ReceivesExactly table.now result
         (R.remaining (inner_of reader.old)) (W.contents (inner_of writer.old)) (W.contents (inner_of writer.new)) }
 
     // No receiver can do better: the object exactly where no other object fits the packets.
     ensures where_any_can { ReceivesWhereAnyCan table.now result
         (R.remaining (inner_of reader.old)) (W.contents (inner_of writer.old)) (W.contents (inner_of writer.new)) }
+
+    // The other frames are counted, and a rest that isn't empty.
+    ensures others { CountsOthers table.now result (R.remaining (inner_of reader.old)) }
 {
-    match read_all(alloc, reader) {
-        Ok(bytes) => finish(writer, received_object(alloc, table, bytes.as_slice())),
-        Err(stop) => Err(stop),
-    }
+    let bytes = read_all(alloc, reader)?;
+    let (object, skipped) = received_object(alloc, table, bytes.as_slice())?;
+    Ok((finish(writer, object)?, skipped))
 }

@@ -1,11 +1,10 @@
 //! How a run reads its input and writes what it made.
-ghost use Rattle.std.specs.Prelude.{◌≡◌, ◌+◌, ◌^◌, ◌-◌, ◌<◌, ◌≤◌, ◌⊎◌, ℕ, length, take, OnOk, OnErr, IfOk, IfErr, IfSome, Ok, Err, Some, None, vec_items};
+ghost use Rattle.std.specs.Prelude.{◌≡◌, ◌+◌, ◌^◌, ◌-◌, ◌<◌, ◌≤◌, ◌⊎◌, ℕ, length, take, OnOk, OnErr, IfOk, IfErr, IfSome, Ok, Err, Some, None, option_map, vec_items};
 ghost use Rattle.std.specs.Io.KnownBytes.{Keeps, Appends, Consumes};
 ghost use Rattle.rq_bytes.specs.declared.error.Error.TheVariants.{OutOfMemory};
 ghost use Rattle.rq_streams.specs.declared.run.Stop.TheVariants.{Fault, Refused};
 ghost use Rattle.rq_streams.specs.Counted.{failed_count, inner_of};
 ghost use Rattle.rq_streams.specs.Ends.{Ends, failed_calls};
-ghost use Rattle.raptorq.specs.Decoding.{shown};
 
 use crate::counted::Counted;
 use raptorq::error::Error;
@@ -98,21 +97,20 @@ fn write_out<W: Write>(writer: &mut Counted<W>, bytes: &[u8]) -> Result<(), Stop
     }
 }
 
-/// Writes what was made, or answers why nothing was.
+/// Writes what was made, where something was.
 pub(crate) fn finish<W: Write>(
     writer: &mut Counted<W>,
-    made: Result<Option<Vec<u8>>, Error>,
+    made: Option<Vec<u8>>,
 ) -> Result<Outcome, Stop>
     requires { failed_count writer.old < 2 ^ 64 - 1 }
     ensures counts { failed_count writer.new ≡ failed_count writer.old + failed_calls result }
-    ensures ends { Ends result (W.contents (inner_of writer.old)) (W.contents (inner_of writer.new)) (shown vec_items made) }
+    ensures ends { Ends result (W.contents (inner_of writer.old)) (W.contents (inner_of writer.new)) (Ok (option_map vec_items made)) }
 {
     match made {
-        Err(e) => Err(Stop::Refused(e)),
-        Ok(None) => Ok(Outcome::Incomplete),
-        Ok(Some(bytes)) => match write_out(writer, bytes.as_slice()) {
-            Ok(()) => Ok(Outcome::Written),
-            Err(stop) => Err(stop),
-        },
+        None => Ok(Outcome::Incomplete),
+        Some(bytes) => {
+            write_out(writer, bytes.as_slice())?;
+            Ok(Outcome::Written)
+        }
     }
 }

@@ -77,11 +77,7 @@ pub fn run_send<R: Read, W: Write>(
     ensures ends { SendsStream table.now packet_size repair result
         (R.remaining (inner_of reader.old)) (W.contents (inner_of writer.old)) (W.contents (inner_of writer.new)) }
 {
-    match read_all(alloc, reader) {
-        Ok(bytes) => {
-            let made = sent_stream(alloc, table, bytes.as_slice(), packet_size, repair);
-            finish(writer, made)
-        }
-        Err(stop) => Err(stop),
-    }
+    let object = read_all(alloc, reader)?;
+    let stream = sent_stream(alloc, table, object.as_slice(), packet_size, repair)?;
+    finish(writer, stream)
 }

@@ -69,7 +69,7 @@ fn receives(alloc: Global, table: &SystematicTable) -> Option<bool> {
     };
     let mut reader = Counted::new(STREAM.as_slice());
     let ended = run_receive(alloc, table, &mut reader, &mut Counted::new(&mut room));
-    is_refused(ended, &room, &OBJECT)
+    is_refused(ended.map(|(outcome, _)| outcome), &room, &OBJECT)
 }
 
 const RESERVE: usize = 9000;

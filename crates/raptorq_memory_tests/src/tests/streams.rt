@@ -76,7 +76,7 @@ fn run<R: Read, W: Write>(
     asked: Job,
     reader: R,
     writer: W,
-) -> Result<(Result<Outcome, Stop>, u64), Error>
+) -> Result<(Result<(Outcome, u64), Stop>, u64), Error>
 where
     R: Drop,
     W: Drop,
@@ -86,20 +86,22 @@ where
     let mut writer = Counted::new(writer);
     let ended = match asked {
         Job::Send { size, repair } => {
-            run_send(alloc, &table, &mut reader, &mut writer, size, repair)
+            run_send(alloc, &table, &mut reader, &mut writer, size, repair).map(|outcome| (
+                outcome, 0,
+            ))
         }
         Job::Receive => run_receive(alloc, &table, &mut reader, &mut writer),
     };
     Ok((ended, reader.failed().saturating_add(writer.failed())))
 }
 
-// A run over memory ends so, writes this, and meets no failed call.
+// A run over memory ends so, having skipped so many frames, writes this, and meets no failed call.
 fn run_ends(
     rt: &impl Abort,
     alloc: Global,
     asked: Job,
     input: &[u8],
-    wanted: Result<Outcome, Stop>,
+    wanted: Result<(Outcome, u64), Stop>,
     written: &[u8],
 ) -> Result<(), Error> {
     let mut out: Vec<u8> = Vec::new(alloc);
@@ -113,8 +115,8 @@ fn run_ends(
 #[test]
 fn sends(rt: HostRuntime) -> Result<(), Fail> {
     let two_bytes = Job::Send { size: 2, repair: 0 };
-    let cases: [(Job, &[u8], Result<Outcome, Stop>, &[u8]); 4] = [
-        (two_bytes, &OBJECT, Ok(Outcome::Written), &STREAM),
+    let cases: [(Job, &[u8], Result<(Outcome, u64), Stop>, &[u8]); 4] = [
+        (two_bytes, &OBJECT, Ok((Outcome::Written, 0)), &STREAM),
         (
             two_bytes,
             &[],
@@ -148,28 +150,45 @@ fn receives(rt: HostRuntime) -> Result<(), Fail> {
     let shuffled: [u8; 30] = [
         0, 0, 0, 0, 3, 0, 0, 2, 1, 0, 1, 1, 0, 0, 0, 1, 9, 0, 0, 0, 0, 0, 7, 8, 0, 0, 0, 1, 9, 0,
     ];
-    let other_block: [u8; 18] = [0, 0, 0, 0, 3, 0, 0, 2, 1, 0, 1, 1, 1, 0, 0, 0, 7, 8];
-    let cases: [(&[u8], Result<Outcome, Stop>, &[u8]); 8] = [
-        (&STREAM, Ok(Outcome::Written), &OBJECT),
-        (&shuffled, Ok(Outcome::Written), &OBJECT),
+    let repeated: [u8; 30] = [
+        0, 0, 0, 0, 3, 0, 0, 2, 1, 0, 1, 1, 0, 0, 0, 0, 7, 8, 0, 0, 0, 1, 9, 0, 0, 0, 0, 1, 9, 0,
+    ];
+    let cases: [(&[u8], Result<(Outcome, u64), Stop>, &[u8]); 6] = [
+        (&STREAM, Ok((Outcome::Written, 0)), &OBJECT),
+        (&shuffled, Ok((Outcome::Written, 0)), &OBJECT),
+        (&repeated, Ok((Outcome::Written, 0)), &OBJECT),
         (
             &STREAM[..11],
             Err(Stop::Refused(Error::HeaderTooShort)),
             &[],
         ),
-        (&STREAM[..12], Ok(Outcome::Incomplete), &[]),
-        (
-            &STREAM[..15],
-            Err(Stop::Refused(Error::PacketTooShort)),
-            &[],
-        ),
-        (
-            &STREAM[..17],
-            Err(Stop::Refused(Error::WrongPayloadSize)),
-            &[],
-        ),
-        (&STREAM[..18], Ok(Outcome::Incomplete), &[]),
-        (&other_block, Err(Stop::Refused(Error::UnknownBlock)), &[]),
+        (&STREAM[..12], Ok((Outcome::Incomplete, 0)), &[]),
+        (&STREAM[..18], Ok((Outcome::Incomplete, 0)), &[]),
+    ];
+    for (input, wanted, written) in cases {
+        run_ends(&rt, rt.alloc(), Job::Receive, input, wanted, written)?;
+    }
+    Ok(())
+}
+
+// Frames of a block that the object doesn't have, and a last frame that isn't whole.
+#[test]
+fn skips(rt: HostRuntime) -> Result<(), Fail> {
+    let damaged: [u8; 42] = [
+        0, 0, 0, 0, 3, 0, 0, 2, 1, 0, 1, 1, 1, 0, 0, 0, 170, 187, 0, 0, 0, 0, 7, 8, 1, 0, 0, 0,
+        170, 187, 0, 0, 0, 1, 9, 0, 1, 0, 0, 0, 170, 187,
+    ];
+    let longer: [u8; 25] = [
+        0, 0, 0, 0, 3, 0, 0, 2, 1, 0, 1, 1, 0, 0, 0, 0, 7, 8, 0, 0, 0, 1, 9, 0, 0,
+    ];
+    let other_block: [u8; 18] = [0, 0, 0, 0, 3, 0, 0, 2, 1, 0, 1, 1, 1, 0, 0, 0, 7, 8];
+    let cases: [(&[u8], Result<(Outcome, u64), Stop>, &[u8]); 6] = [
+        (&damaged, Ok((Outcome::Written, 3)), &OBJECT),
+        (&longer, Ok((Outcome::Written, 1)), &OBJECT),
+        (&STREAM[..15], Ok((Outcome::Incomplete, 1)), &[]),
+        (&STREAM[..17], Ok((Outcome::Incomplete, 1)), &[]),
+        (&STREAM[..23], Ok((Outcome::Incomplete, 1)), &[]),
+        (&other_block, Ok((Outcome::Incomplete, 1)), &[]),
     ];
     for (input, wanted, written) in cases {
         run_ends(&rt, rt.alloc(), Job::Receive, input, wanted, written)?;
@@ -186,12 +205,12 @@ fn receives_two_blocks(rt: HostRuntime) -> Result<(), Fail> {
     let empty: [u8; 12] = [0, 0, 0, 0, 0, 0, 0, 2, 2, 0, 1, 1];
     let longest: [u8; 12] = [0, 0, 0, 3, 226, 0, 0, 1, 2, 0, 1, 1];
     let longer: [u8; 12] = [0, 0, 0, 3, 227, 0, 0, 1, 2, 0, 1, 1];
-    let cases: [(&[u8], Result<Outcome, Stop>, &[u8]); 6] = [
-        (&packets[..24], Ok(Outcome::Written), &OBJECT),
-        (&packets[..18], Ok(Outcome::Incomplete), &[]),
-        (&packets, Err(Stop::Refused(Error::UnknownBlock)), &[]),
-        (&empty, Ok(Outcome::Written), &[]),
-        (&longest, Ok(Outcome::Incomplete), &[]),
+    let cases: [(&[u8], Result<(Outcome, u64), Stop>, &[u8]); 6] = [
+        (&packets[..24], Ok((Outcome::Written, 0)), &OBJECT),
+        (&packets[..18], Ok((Outcome::Incomplete, 0)), &[]),
+        (&packets, Ok((Outcome::Written, 1)), &OBJECT),
+        (&empty, Ok((Outcome::Written, 0)), &[]),
+        (&longest, Ok((Outcome::Incomplete, 0)), &[]),
         (&longer, Err(Stop::Refused(Error::BlockOverTable)), &[]),
     ];
     for (input, wanted, written) in cases {
@@ -268,10 +287,16 @@ fn asks(rt: HostRuntime) -> Result<(), Fail> {
 
 #[test]
 fn reports(rt: HostRuntime) -> Result<(), Fail> {
-    let cases: [(Option<Result<Outcome, Stop>>, &str, u8); 7] = [
-        (Some(Ok(Outcome::Written)), "", 0),
+    let cases: [(Option<Result<(Outcome, u64), Stop>>, &str, u8); 9] = [
+        (Some(Ok((Outcome::Written, 0))), "", 0),
+        (Some(Ok((Outcome::Written, 3))), "skipped 3\n", 0),
         (Some(Err(Stop::Fault)), "fault\n", 1),
-        (Some(Ok(Outcome::Incomplete)), "incomplete\n", 2),
+        (Some(Ok((Outcome::Incomplete, 0))), "incomplete\n", 2),
+        (
+            Some(Ok((Outcome::Incomplete, 1))),
+            "skipped 1\nincomplete\n",
+            2,
+        ),
         (
             Some(Err(Stop::Refused(Error::HeaderTooShort))),
             "refused 23\n",

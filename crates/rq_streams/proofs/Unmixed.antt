@@ -1,0 +1,43 @@
+-- A stream of an object's packets is a mixed stream with nothing skipped.
+use Rattle.std.proofs.Common.{◌≡◌, ℕ, List, [], ◌∷◌, ◌++◌, map, refl, sym, ap, ◌∙◌, subst, arith, append-nil, length}
+use Rattle.std.specs.Prelude.{flat_map}
+use Rattle.std.specs.List.{AllByRecursion}
+use Rattle.rq_standard.specs.Packet.{Packet, packet_bytes}
+use Rattle.rq_standard.specs.Configuration.{Configuration, header_bytes}
+use Rattle.rq_standard.specs.declared.row.TableRow.{TableRow}
+use Rattle.rq_standard.specs.Headline.{IsHonestRun}
+use Rattle.rq_standard.specs.Streams.{frames_of}
+use Rattle.rq_streams.specs.MixedStreams.{Frame, Holds, frame_bytes, packets_among, others_among, IsOtherFrame}
+use Rattle.rq_streams.specs.ReceivedStreams.{IsStreamOf}
+use Rattle.rq_streams.specs.SentStreams.{IsUnmixed}
+
+abbrev held : List Packet → List Frame
+held packets = map (λ p. Holds p) packets
+
+packets-held : (packets : List Packet) → packets_among (held packets) ≡ packets
+packets-held [] = refl
+packets-held (p ∷ packets) = ap (λ ps. p ∷ ps) (packets-held packets)
+
+others-held : (packets : List Packet) → others_among (held packets) ≡ []
+others-held [] = refl
+others-held (p ∷ packets) = others-held packets
+
+bytes-held : (packets : List Packet) → frames_of packets ≡ flat_map frame_bytes (held packets)
+bytes-held [] = refl
+bytes-held (p ∷ packets) = ap (λ xs. packet_bytes p ++ xs) (bytes-held packets)
+
+pub unmixed_stream : (table : List TableRow) (c : Configuration) (object : List ℕ) (packets : List Packet) (bytes : List ℕ) → IsStreamOf table c object packets bytes → IsUnmixed table c object packets bytes
+unmixed_stream table c object packets bytes s = record {
+  frames = held packets;
+  mixed = record {
+    checked = s.checked;
+    fits = s.fits;
+    accepted = s.accepted;
+    run = subst (IsHonestRun table c object) (sym (packets-held packets)) s.run;
+    others = subst (AllByRecursion (IsOtherFrame c)) (sym (others-held packets)) tt;
+    short = omega arith;
+    spelled = s.spelled ∙ ap (λ xs. header_bytes c ++ xs) (bytes-held packets ∙ sym (append-nil (flat_map frame_bytes (held packets))));
+  };
+  same = packets-held packets;
+  none = omega (arith, ap length (others-held packets));
+}
