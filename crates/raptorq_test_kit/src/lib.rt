@@ -1,8 +1,7 @@
-//! What several crates of tests need: packets, pseudorandom objects, digests, and memory taken away.
+//! What several crates of tests need: packets, pseudorandom objects and digests.
 #![tactic(auto)]
 
 pub mod answers;
 pub mod digests;
-pub mod memory;
 pub mod packets;
 pub mod sequence;
