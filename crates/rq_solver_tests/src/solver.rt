@@ -253,30 +253,44 @@ fn rows_of_two_ones_are_taken_before_longer_ones(rt: HostRuntime) -> Result<(), 
     Ok(())
 }
 
-#[test]
-fn equations_are_solved(rt: HostRuntime) -> Result<(), Error> {
-    let table = SystematicTable::built_in(rt.alloc())?;
-    assert!(rt; 10 <= table.greatest());
+// A solver of mirrored equations with values 1 to 27, over the row of ten symbols.
+pub(crate) fn mirrored_solver(
+    alloc: Global,
+) -> Result<Option<IntermediateSymbolDecoder<DenseBinaryMatrix>>, Error> {
+    let table = SystematicTable::built_in(alloc)?;
+    if table.greatest() < 10 {
+        return Ok(None);
+    }
     let row = table.row(10);
-    let bits: DenseBinaryMatrix = mirrored_bits(rt.alloc(), &row)?;
-    let hdpc = mirrored_octets(rt.alloc(), &row)?;
-    assert_eq!(rt; width_of(&row), 27);
-    let mut symbols = SymbolSlab::with_zeros(rt.alloc(), 27, 1)?;
+    if width_of(&row) != 27 {
+        return Ok(None);
+    }
+    let bits = mirrored_bits(alloc, &row)?;
+    let hdpc = mirrored_octets(alloc, &row)?;
+    let mut symbols = SymbolSlab::with_zeros(alloc, 27, 1)?;
     let values = [
         1, 2, 3, 4, 5, 6, 7, 8, 9, 10, 11, 12, 13, 14, 15, 16, 17, 18, 19, 20, 21, 22, 23, 24, 25,
         26, 27,
     ];
     symbols.copy_block_from(0, &values);
-    let solved = fused_inverse_mul_symbols(rt.alloc(), &table, bits, hdpc, symbols, 10)?;
+    Ok(Some(IntermediateSymbolDecoder::new(alloc, &table, bits, hdpc, symbols, 10)))
+}
+
+// Its solution.
+pub(crate) const MIRRORED: [u8; 27] = [
+    27, 26, 25, 24, 23, 22, 21, 20, 19, 18, 134, 8, 137, 7, 136, 6, 139, 5, 138, 135, 7, 6, 5, 4,
+    3, 2, 1,
+];
+
+#[test]
+fn equations_are_solved(rt: HostRuntime) -> Result<(), Error> {
+    let mut solver = mirrored_solver(rt.alloc())?.expect(&rt, "another row");
+    let solved = solver.execute()?;
     let (slab, _) = solved.expect(&rt, "the equations have one solution");
-    let expected = [
-        27, 26, 25, 24, 23, 22, 21, 20, 19, 18, 134, 8, 137, 7, 136, 6, 139, 5, 138, 135, 7, 6, 5,
-        4, 3, 2, 1,
-    ];
     let found = slab.into_symbols()?;
-    assert_eq!(rt; found.len(), expected.len());
+    assert_eq!(rt; found.len(), MIRRORED.len());
     for k in 0..found.len() {
-        assert_eq!(rt; found[k].as_bytes(), [expected[k]].as_slice(), "at {k}");
+        assert_eq!(rt; found[k].as_bytes(), [MIRRORED[k]].as_slice(), "at {k}");
     }
     Ok(())
 }

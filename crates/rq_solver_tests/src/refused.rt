@@ -1,0 +1,57 @@
+//! Solvers where memory is refused: first all of it, then less and less of it.
+use crate::solver::{MIRRORED, mirrored_solver};
+use rq_bytes::error::Error;
+use rq_bytes::symbol_slab::SymbolSlab;
+use rq_matrix::matrix::DenseBinaryMatrix;
+use rq_memory_kit::{Ending, Endings, Shortage};
+use rq_solver::pi_solver::IntermediateSymbolDecoder;
+use std::process::Abort;
+
+const RESERVE: usize = 16384;
+
+const ROUNDS: usize = 512;
+
+// Whether a slab has the solution.
+fn is_solution(slab: &SymbolSlab) -> bool {
+    slab.len() == MIRRORED.len()
+        && slab.symbol_size() == 1
+        && (0..MIRRORED.len()).all(|k| slab.get(k) == [MIRRORED[k]].as_slice())
+}
+
+// Runs a solver twice: the second time it refuses, whatever the first run answered.
+fn runs_once(solver: &mut IntermediateSymbolDecoder<DenseBinaryMatrix>) -> Ending {
+    let ended = match solver.execute() {
+        Ok(Some((slab, _))) if is_solution(&slab) => Ending::Answered,
+        Err(Error::OutOfMemory) => Ending::Refused,
+        _ => Ending::Other,
+    };
+    match solver.execute() {
+        Err(Error::AlreadyExecuted) => ended,
+        _ => Ending::Other,
+    }
+}
+
+#[test]
+fn solvers_are_refused_memory_in_turn(rt: HostRuntime) -> Result<(), Error> {
+    let alloc = rt.alloc();
+    let mut solvers = Vec::new(alloc);
+    for _ in 0..ROUNDS + 1 {
+        solvers.push(mirrored_solver(alloc)?.expect(&rt, "another row"))?;
+    }
+    let mut endings = Endings::new();
+    let mut shortage = Shortage::new(alloc, ROUNDS, RESERVE)?;
+    for _ in 0..ROUNDS {
+        if let Some(mut solver) = solvers.pop()
+            && shortage.ease(31)
+        {
+            endings.add(runs_once(&mut solver));
+        }
+    }
+    let is_whole = shortage.is_whole();
+    drop(shortage);
+    assert!(rt; is_whole);
+    assert!(rt; endings.are_both(), "not both endings, or another one");
+    let mut last = solvers.pop().expect(&rt, "no solver is left");
+    assert_eq!(rt; runs_once(&mut last), Ending::Answered);
+    Ok(())
+}
