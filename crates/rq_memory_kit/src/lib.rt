@@ -67,12 +67,12 @@ impl Shortage {
         })
     }
 
-    /// Takes again what was given back and leaves some bytes more than the last time. Answers
-    /// whether it did: not past its last round.
-    pub fn ease(&mut self, more: usize) -> bool {
+    /// Takes again what was given back and leaves some bytes more than the last time: past its last
+    /// round none.
+    pub fn ease(&mut self, more: usize) {
         take_small(self.alloc, &mut self.taken);
         let Some(reserve) = self.reserves.pop() else {
-            return false;
+            return;
         };
         drop(reserve);
         self.free = self.free.saturating_add(more);
@@ -80,7 +80,6 @@ impl Shortage {
         if let Ok(filler) = filler {
             let _ = self.taken.push(filler);
         }
-        true
     }
 
     /// Whether all memory could be taken.
@@ -101,7 +100,7 @@ pub enum Ending {
 }
 
 /// How often a call ended in each way.
-#[derive(Drop)]
+#[derive(Debug, Drop)]
 pub struct Endings {
     answered: u32,
     refused: u32,

@@ -41,16 +41,15 @@ fn solvers_are_refused_memory_in_turn(rt: HostRuntime) -> Result<(), Error> {
     let mut endings = Endings::new();
     let mut shortage = Shortage::new(alloc, ROUNDS, RESERVE)?;
     for _ in 0..ROUNDS {
-        if let Some(mut solver) = solvers.pop()
-            && shortage.ease(31)
-        {
+        if let Some(mut solver) = solvers.pop() {
             endings.add(runs_once(&mut solver));
         }
+        shortage.ease(31);
     }
     let is_whole = shortage.is_whole();
     drop(shortage);
     assert!(rt; is_whole);
-    assert!(rt; endings.are_both(), "not both endings, or another one");
+    assert!(rt; endings.are_both(), "{endings:?}");
     let mut last = solvers.pop().expect(&rt, "no solver is left");
     assert_eq!(rt; runs_once(&mut last), Ending::Answered);
     Ok(())

@@ -68,28 +68,28 @@ impl Objects {
     }
 }
 
-// A cache of the plans of 1 to 64 symbols.
+// A cache of the plans of 2 to 65 symbols.
 fn full_cache(alloc: Global) -> Result<SourceBlockEncodingPlanCache, Error> {
     let table = SystematicTable::built_in(alloc)?;
     let mut cache = SourceBlockEncodingPlanCache::new(alloc, &table)?;
-    for count in 1..65u16 {
+    for count in 2..66u16 {
         let _plan = cache.get_or_generate(count)?;
     }
     Ok(cache)
 }
 
-// How a call ended that asked a full cache for the plan of 65 symbols: only where it answered may
+// How a call ended that asked a full cache for the plan of one symbol: only where it answered may
 // that plan be held in place of the oldest.
 fn cache_ending(ended: Ending, was_held: bool, cache: &SourceBlockEncodingPlanCache) -> Ending {
     let is_held = was_held || ended == Ending::Answered;
-    if cache.len() == 64 && cache.contains(65) == is_held && cache.contains(1) != is_held {
+    if cache.len() == 64 && cache.contains(1) == is_held && cache.contains(2) != is_held {
         ended
     } else {
         Ending::Other
     }
 }
 
-/// The encoder of a block of 65 symbols, over a cache of the plans of 64 other blocks.
+/// The encoder of a block of one symbol, over a cache of the plans of 64 other blocks.
 #[derive(Drop)]
 pub struct Blocks {
     alloc: Global,
@@ -98,12 +98,12 @@ pub struct Blocks {
     encoder: SourceBlockEncoder,
 }
 
-const BLOCK: [u8; 65] = [9; 65];
+const BLOCK: [u8; 5] = [9; 5];
 
 impl Blocks {
     /// With ample memory.
     pub fn new(alloc: Global) -> Result<Blocks, Error> {
-        let config = ObjectTransmissionInformation::new(65, 1, 1, 1, 1)?;
+        let config = ObjectTransmissionInformation::new(5, 5, 1, 1, 1)?;
         let mut other = full_cache(alloc)?;
         let encoder = SourceBlockEncoder::new(alloc, 0, &config, &BLOCK, &mut other)?;
         Ok(Blocks {
@@ -116,13 +116,13 @@ impl Blocks {
 
     /// Makes the encoder.
     pub fn attempt(&mut self) -> Ending {
-        let was_held = self.cache.contains(65);
+        let was_held = self.cache.contains(1);
         let made = SourceBlockEncoder::new(self.alloc, 0, &self.config, &BLOCK, &mut self.cache);
         cache_ending(ending(made, &self.encoder), was_held, &self.cache)
     }
 }
 
-/// The plan of 65 symbols, from a cache of 64 others.
+/// The plan of one symbol, from a cache of 64 others.
 #[derive(Drop)]
 pub struct Plans {
     cache: SourceBlockEncodingPlanCache,
@@ -138,8 +138,8 @@ impl Plans {
 
     /// Asks for the plan.
     pub fn attempt(&mut self) -> Ending {
-        let was_held = self.cache.contains(65);
-        let lent = self.cache.get_or_generate(65).map(|_| ());
+        let was_held = self.cache.contains(1);
+        let lent = self.cache.get_or_generate(1).map(|_| ());
         cache_ending(ending(lent, &()), was_held, &self.cache)
     }
 }

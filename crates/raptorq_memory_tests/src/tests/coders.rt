@@ -30,22 +30,18 @@ fn encoders_are_refused_memory_in_turn(rt: HostRuntime) -> Result<(), Fail> {
     ];
     let mut shortage = Shortage::new(alloc, ROUNDS, RESERVE)?;
     for _ in 0..ROUNDS {
-        if shortage.ease(MORE) {
-            endings[0].add(rows.attempt());
-            endings[1].add(objects.attempt());
-            endings[2].add(objects.attempt_packets());
-            endings[3].add(blocks.attempt());
-            endings[4].add(plans.attempt());
-        }
+        endings[0].add(rows.attempt());
+        endings[1].add(objects.attempt());
+        endings[2].add(objects.attempt_packets());
+        endings[3].add(blocks.attempt());
+        endings[4].add(plans.attempt());
+        shortage.ease(MORE);
     }
     let is_whole = shortage.is_whole();
     drop(shortage);
     assert!(rt; is_whole);
     for (place, endings) in endings.iter().enumerate() {
-        assert!(rt;
-            endings.are_both(),
-            "not both endings, or another one: {place}"
-        );
+        assert!(rt; endings.are_both(), "{place}: {endings:?}");
     }
     assert_eq!(rt; rows.attempt(), Ending::Answered);
     assert_eq!(rt; objects.attempt(), Ending::Answered);
@@ -70,21 +66,17 @@ fn decoders_are_refused_memory_in_turn(rt: HostRuntime) -> Result<(), Fail> {
     ];
     let mut shortage = Shortage::new(alloc, ROUNDS, RESERVE)?;
     for _ in 0..ROUNDS {
-        if shortage.ease(MORE) {
-            endings[0].add(blocks.attempt());
-            endings[1].add(objects.attempt());
-            endings[2].add(results.attempt_object());
-            endings[3].add(results.attempt_difference());
-        }
+        endings[0].add(blocks.attempt());
+        endings[1].add(objects.attempt());
+        endings[2].add(results.attempt_object());
+        endings[3].add(results.attempt_difference());
+        shortage.ease(MORE);
     }
     let is_whole = shortage.is_whole();
     drop(shortage);
     assert!(rt; is_whole);
     for (place, endings) in endings.iter().enumerate() {
-        assert!(rt;
-            endings.are_both(),
-            "not both endings, or another one: {place}"
-        );
+        assert!(rt; endings.are_both(), "{place}: {endings:?}");
     }
     assert_eq!(rt; blocks.attempt(), Ending::Answered);
     assert_eq!(rt; objects.attempt(), Ending::Answered);

@@ -67,9 +67,11 @@ fn receives(alloc: Global, table: &SystematicTable) -> Ending {
     ending(ended, &room, &OBJECT)
 }
 
-const RESERVE: usize = 9000;
+const RESERVE: usize = 65536;
 
-const ROUNDS: usize = 300;
+const ROUNDS: usize = 512;
+
+const MORE: usize = 127;
 
 #[test]
 fn runs_are_refused_memory_in_turn(rt: HostRuntime) -> Result<(), Fail> {
@@ -78,19 +80,15 @@ fn runs_are_refused_memory_in_turn(rt: HostRuntime) -> Result<(), Fail> {
     let mut endings = [Endings::new(), Endings::new()];
     let mut shortage = Shortage::new(alloc, ROUNDS, RESERVE)?;
     for _ in 0..ROUNDS {
-        if shortage.ease(16) {
-            endings[0].add(sends(alloc, &table));
-            endings[1].add(receives(alloc, &table));
-        }
+        endings[0].add(sends(alloc, &table));
+        endings[1].add(receives(alloc, &table));
+        shortage.ease(MORE);
     }
     let is_whole = shortage.is_whole();
     drop(shortage);
     assert!(rt; is_whole);
     for (place, endings) in endings.iter().enumerate() {
-        assert!(rt;
-            endings.are_both(),
-            "not both endings, or another one: {place}"
-        );
+        assert!(rt; endings.are_both(), "{place}: {endings:?}");
     }
     assert_eq!(rt; sends(alloc, &table), Ending::Answered);
     assert_eq!(rt; receives(alloc, &table), Ending::Answered);
