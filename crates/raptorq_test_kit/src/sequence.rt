@@ -38,6 +38,13 @@ impl Choices {
         number.checked_rem(bound).unwrap_or(0)
     }
 
+    /// A place in a list of this length, and 0 where that is 0.
+    pub fn place(&mut self, length: usize) -> usize {
+        self.x = next(self.x);
+        let number = (self.x >> 33) as usize;
+        number.checked_rem(length).unwrap_or(0)
+    }
+
     /// Any byte.
     pub fn byte(&mut self) -> u8 {
         self.x = next(self.x);

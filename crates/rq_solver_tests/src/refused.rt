@@ -1,6 +1,7 @@
 //! Solvers where memory is refused: first all of it, then less and less of it.
 use crate::solver::{MIRRORED, mirrored_solver};
 use rq_bytes::error::Error;
+use rq_bytes::operation_vector::SymbolOps;
 use rq_bytes::symbol_slab::SymbolSlab;
 use rq_matrix::matrix::DenseBinaryMatrix;
 use rq_memory_kit::{Ending, Endings, Shortage};
@@ -18,16 +19,30 @@ fn is_solution(slab: &SymbolSlab) -> bool {
         && (0..MIRRORED.len()).all(|k| slab.get(k) == [MIRRORED[k]].as_slice())
 }
 
+// How the first run of a solver ended.
+fn ending(answer: Result<Option<(SymbolSlab, Vec<SymbolOps>)>, Error>) -> Ending {
+    match answer {
+        Ok(Some((slab, _operations))) => {
+            if is_solution(&slab) {
+                Ending::Answered
+            } else {
+                Ending::Other
+            }
+        }
+        Ok(None) => Ending::Other,
+        Err(Error::OutOfMemory) => Ending::Refused,
+        Err(_error) => Ending::Other,
+    }
+}
+
 // Runs a solver twice: the second time it refuses, whatever the first run answered.
 fn runs_once(solver: &mut IntermediateSymbolDecoder<DenseBinaryMatrix>) -> Ending {
-    let ended = match solver.execute() {
-        Ok(Some((slab, _))) if is_solution(&slab) => Ending::Answered,
-        Err(Error::OutOfMemory) => Ending::Refused,
-        _ => Ending::Other,
-    };
-    match solver.execute() {
-        Err(Error::AlreadyExecuted) => ended,
-        _ => Ending::Other,
+    let ended = ending(solver.execute());
+    let again = solver.execute();
+    if again.err() == Some(Error::AlreadyExecuted) {
+        ended
+    } else {
+        Ending::Other
     }
 }
 

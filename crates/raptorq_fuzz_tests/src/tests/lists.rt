@@ -9,20 +9,20 @@ use std::alloc::Global;
 use std::process::Abort;
 use std::test::Fail;
 
-const LISTS: u32 = 10_000;
+const LISTS: u32 = 100_000;
 
 // A packet of any block and any few bytes, of an id near the source symbols or among the last.
 fn forged(alloc: Global, choices: &mut Choices) -> Result<EncodingPacket, Error> {
     let esi = match choices.below(4) {
-        0 => 16777215 - choices.below(4),
+        0 => 16777215u32.saturating_sub(choices.below(4)),
         _ => choices.below(24),
     };
     let block = match choices.below(4) {
         0 => choices.byte(),
-        _ => choices.below(2) as u8,
+        _ => choices.byte() % 2,
     };
     let mut payload = Vec::new(alloc);
-    for _ in 0..1 + choices.below(2) {
+    for _ in 0..choices.below(2).saturating_add(1) {
         payload.push(choices.byte())?;
     }
     Ok(EncodingPacket::new(PayloadId::new(block, esi)?, payload))
@@ -36,7 +36,7 @@ fn next_packet(
     forgeries: u32,
     choices: &mut Choices,
 ) -> Result<(EncodingPacket, bool), Error> {
-    let place = choices.below(sent.packets.len() as u32) as usize;
+    let place = choices.place(sent.packets.len());
     match sent.packets.get(place) {
         Some(packet) if choices.below(8) >= forgeries => Ok((packet.clone()?, true)),
         _ => Ok((forged(alloc, choices)?, false)),
@@ -50,9 +50,8 @@ fn list(
     choices: &mut Choices,
 ) -> Result<Vec<(EncodingPacket, bool)>, Error> {
     let forgeries = choices.below(3);
-    let most = sent.packets.len() as u32;
     let mut list = Vec::new(alloc);
-    for _ in 0..choices.below(most.saturating_add(1)) {
+    for _ in 0..choices.place(sent.packets.len().saturating_add(1)) {
         list.push(next_packet(alloc, sent, forgeries, choices)?)?;
     }
     Ok(list)
@@ -138,24 +137,24 @@ fn any_lists(rt: HostRuntime) -> Result<(), Fail> {
     let table = SystematicTable::built_in(alloc)?;
     let objects = objects(alloc, &table)?;
     let mut choices = Choices::new(1);
-    let mut answers: u32 = 0;
-    let mut block_answers_: u32 = 0;
+    let mut answered_objects: u32 = 0;
+    let mut answered_blocks: u32 = 0;
     for _ in 0..LISTS {
-        let place = choices.below(objects.len() as u32) as usize;
+        let place = choices.place(objects.len());
         let sent = objects.get(place).ok_or("no object")?;
         let list = list(alloc, sent, &mut choices)?;
         let is_answered = object_answers(&rt, alloc, &table, sent, list.as_slice())?;
-        answers = answers.saturating_add(u32::from(is_answered));
+        answered_objects = answered_objects.saturating_add(u32::from(is_answered));
         let is_answered = block_answers(&rt, alloc, &table, sent, list.as_slice())?;
-        block_answers_ = block_answers_.saturating_add(u32::from(is_answered));
+        answered_blocks = answered_blocks.saturating_add(u32::from(is_answered));
     }
     assert!(rt;
-        answers > LISTS / 10 && answers < LISTS / 10 * 9,
-        "{answers}"
+        answered_objects > LISTS / 10 && answered_objects < LISTS / 10 * 9,
+        "{answered_objects}"
     );
     assert!(rt;
-        block_answers_ > LISTS / 10 && block_answers_ < LISTS / 10 * 9,
-        "{block_answers_}"
+        answered_blocks > LISTS / 10 && answered_blocks < LISTS / 10 * 9,
+        "{answered_blocks}"
     );
     Ok(())
 }
