@@ -12,23 +12,30 @@ const RESERVE: usize = 16384;
 
 const ROUNDS: usize = 512;
 
-// Whether a slab has the solution.
-fn is_solution(slab: &SymbolSlab) -> bool {
-    slab.len() == MIRRORED.len()
-        && slab.symbol_size() == 1
-        && (0..MIRRORED.len()).all(|k| slab.get(k) == [MIRRORED[k]].as_slice())
-}
-
-// How the first run of a solver ended.
-fn ending(answer: Result<Option<(SymbolSlab, Vec<SymbolOps>)>, Error>) -> Ending {
-    match answer {
-        Ok(Some((slab, _operations))) => {
-            if is_solution(&slab) {
+// How a slab with a solution is read: that takes memory too.
+fn reading(slab: SymbolSlab) -> Ending {
+    match slab.into_symbols() {
+        Ok(symbols) => {
+            let mut places = MIRRORED.iter();
+            let mut is_same = symbols.len() == MIRRORED.len();
+            for symbol in &symbols {
+                let octet = places.next().copied().unwrap_or(0);
+                is_same &= symbol.as_bytes() == [octet].as_slice();
+            }
+            if is_same {
                 Ending::Answered
             } else {
                 Ending::Other
             }
         }
+        Err(_error) => Ending::Refused,
+    }
+}
+
+// How the first run of a solver ended.
+fn ending(answer: Result<Option<(SymbolSlab, Vec<SymbolOps>)>, Error>) -> Ending {
+    match answer {
+        Ok(Some((slab, _operations))) => reading(slab),
         Ok(None) => Ending::Other,
         Err(Error::OutOfMemory) => Ending::Refused,
         Err(_error) => Ending::Other,
