@@ -7,5 +7,6 @@ mod decoding;
 mod determined;
 mod differences;
 mod plans;
+mod refusals;
 mod several_blocks;
 mod sub_blocks;

@@ -1,5 +1,6 @@
 //! Runs over streams, and runs and coders where memory is refused or calls fail.
 #![tactic(auto)]
 
+pub mod attempts;
 #[cfg(test)]
 mod tests;

@@ -2,4 +2,6 @@
 #![tactic(auto)]
 
 #[cfg(test)]
+mod refused;
+#[cfg(test)]
 mod solver;

@@ -230,32 +230,53 @@ fn rows_of_two_ones_are_taken_before_longer_ones(rt: HostRuntime) -> Result<(), 
     Ok(())
 }
 
-// Row i is the unknown 26 - i, and twice that in the HDPC rows, the first of which adds the unknown
-// 0.
+// Row i is the unknown 26 - i.
+fn mirrored_ones(alloc: Global) -> Result<Vec<(usize, usize)>, Error> {
+    let mut ones = Vec::new(alloc);
+    for i in 0..27 {
+        ones.push((i, 26 - i))?;
+    }
+    Ok(ones)
+}
+
+// HDPC rows of twice that unknown, the first of which adds the unknown 0.
+fn mirrored_octets(alloc: Global) -> Result<Vec<(usize, usize, u8)>, Error> {
+    let mut octets = vec![in alloc; (0, 0, 1)]?;
+    for i in 0..10 {
+        octets.push((i, 19 - i, 2))?;
+    }
+    Ok(octets)
+}
+
+// A solver of these rows.
+pub(crate) fn mirrored_solver(
+    rt: &impl Abort,
+    alloc: Global,
+) -> Result<IntermediateSymbolDecoder<DenseBinaryMatrix>, Error> {
+    let ones = mirrored_ones(alloc)?;
+    let octets = mirrored_octets(alloc)?;
+    numbered_solver(rt, alloc, ones.as_slice(), octets.as_slice())
+}
+
+// Their solution.
+pub(crate) const MIRRORED: [u8; 27] = [
+    26, 25, 24, 23, 22, 21, 20, 19, 18, 17, 8, 137, 7, 136, 6, 139, 5, 138, 4, 128, 6, 5, 4, 3, 2,
+    1, 0,
+];
+
 #[test]
 fn equations_are_solved(rt: HostRuntime) -> Result<(), Error> {
     let table = SystematicTable::built_in(rt.alloc())?;
     assert!(rt; 10 <= table.greatest());
     let row = table.row(10);
     assert_eq!(rt; width_of(&row), 27);
-    let mut ones = Vec::new(rt.alloc());
-    for i in 0..27 {
-        ones.push((i, 26 - i))?;
-    }
-    let mut octets = vec![in rt.alloc(); (0, 0, 1)]?;
-    for i in 0..10 {
-        octets.push((i, 19 - i, 2))?;
-    }
+    let ones = mirrored_ones(rt.alloc())?;
     let bits: DenseBinaryMatrix = bits_at(rt.alloc(), &row, ones.as_slice())?;
-    let hdpc = octets_at(rt.alloc(), &row, octets.as_slice())?;
+    let hdpc = octets_at(rt.alloc(), &row, mirrored_octets(rt.alloc())?.as_slice())?;
     let symbols = numbered(rt.alloc())?;
     let solved = fused_inverse_mul_symbols(rt.alloc(), &table, bits, hdpc, symbols, 10)?;
     let (slab, _) = solved.expect(&rt, "the equations have one solution");
-    let expected = [
-        26, 25, 24, 23, 22, 21, 20, 19, 18, 17, 8, 137, 7, 136, 6, 139, 5, 138, 4, 128, 6, 5, 4, 3,
-        2, 1, 0,
-    ];
-    assert_octets(&rt, slab, &expected)
+    assert_octets(&rt, slab, &MIRRORED)
 }
 
 #[test]

@@ -1,18 +1,13 @@
 //! Runs where memory is refused: first all of it, then less and less of it.
+use super::streams::{OBJECT, STREAM};
 use raptorq::error::Error;
 use raptorq::systematic_constants::SystematicTable;
-use raptorq_test_kit::memory::{Endings, take_memory, take_small};
+use rq_memory_kit::{Ending, Endings, Shortage};
 use rq_streams::{Counted, Outcome, Stop, run_receive, run_send};
 use std::alloc::Global;
 use std::io;
 use std::io::Write;
 use std::test::Fail;
-
-const OBJECT: [u8; 3] = [7, 8, 9];
-
-const STREAM: [u8; 24] = [
-    0, 0, 0, 0, 3, 0, 0, 2, 1, 0, 1, 1, 0, 0, 0, 0, 7, 8, 0, 0, 0, 1, 9, 0,
-];
 
 // A writer that takes no memory.
 #[derive(Drop)]
@@ -36,16 +31,16 @@ impl Write for Room {
     }
 }
 
-// Whether a run was refused memory and wrote nothing. `None` is for another ending.
-fn is_refused(ended: Result<Outcome, Stop>, room: &Room, wanted: &[u8]) -> Option<bool> {
+// Of a run that is refused memory nothing is written.
+fn ending(ended: Result<Outcome, Stop>, room: &Room, wanted: &[u8]) -> Ending {
     match ended {
-        Ok(Outcome::Written) if &room.bytes[..room.len.min(32)] == wanted => Some(false),
-        Err(Stop::Refused(Error::OutOfMemory)) if room.len == 0 => Some(true),
-        _ => None,
+        Ok(Outcome::Written) if &room.bytes[..room.len.min(32)] == wanted => Ending::Answered,
+        Err(Stop::Refused(Error::OutOfMemory)) if room.len == 0 => Ending::Refused,
+        _ => Ending::Other,
     }
 }
 
-fn sends(alloc: Global, table: &SystematicTable) -> Option<bool> {
+fn sends(alloc: Global, table: &SystematicTable) -> Ending {
     let mut room = Room {
         bytes: [0; 32],
         len: 0,
@@ -59,50 +54,43 @@ fn sends(alloc: Global, table: &SystematicTable) -> Option<bool> {
         2,
         0,
     );
-    is_refused(ended, &room, &STREAM)
+    ending(ended, &room, &STREAM)
 }
 
-fn receives(alloc: Global, table: &SystematicTable) -> Option<bool> {
+fn receives(alloc: Global, table: &SystematicTable) -> Ending {
     let mut room = Room {
         bytes: [0; 32],
         len: 0,
     };
     let mut reader = Counted::new(STREAM.as_slice());
     let ended = run_receive(alloc, table, &mut reader, &mut Counted::new(&mut room));
-    is_refused(ended.map(|(outcome, _)| outcome), &room, &OBJECT)
+    ending(ended.map(|(outcome, _)| outcome), &room, &OBJECT)
 }
 
-const RESERVE: usize = 9000;
+const RESERVE: usize = 65536;
+
+const ROUNDS: usize = 512;
+
+const MORE: usize = 127;
 
 #[test]
 fn runs_are_refused_memory_in_turn(rt: HostRuntime) -> Result<(), Fail> {
     let alloc = rt.alloc();
     let table = SystematicTable::built_in(alloc)?;
-    let mut reserves: Vec<Vec<u8>> = Vec::with_capacity(alloc, 300)?;
-    for _ in 0..300 {
-        reserves.push(Vec::with_capacity(alloc, RESERVE)?)?;
+    let mut endings = [Endings::new(), Endings::new()];
+    let mut shortage = Shortage::new(alloc, ROUNDS, RESERVE)?;
+    for _ in 0..ROUNDS {
+        endings[0].add(sends(alloc, &table));
+        endings[1].add(receives(alloc, &table));
+        shortage.ease(MORE);
     }
-    let mut blocks: Vec<Vec<u8>> = Vec::with_capacity(alloc, 1 << 20)?;
-    take_memory(alloc, &mut blocks);
-    let mut endings = Endings::new();
-    let mut budget: usize = 16;
-    for _ in 0..300 {
-        let reserve = reserves.pop();
-        drop(reserve);
-        let filler: Result<Vec<u8>, _> = Vec::with_capacity(alloc, RESERVE.saturating_sub(budget));
-        endings.add(sends(alloc, &table));
-        endings.add(receives(alloc, &table));
-        if let Ok(filler) = filler {
-            let _ = blocks.push(filler);
-        }
-        take_small(alloc, &mut blocks);
-        budget = budget.saturating_add(16);
+    let is_whole = shortage.is_whole();
+    drop(shortage);
+    assert!(rt; is_whole);
+    for (place, endings) in endings.iter().enumerate() {
+        assert!(rt; endings.are_both(), "{place}: {endings:?}");
     }
-    let full = blocks.capacity() == blocks.len();
-    drop(blocks);
-    assert!(rt; !full);
-    assert!(rt; endings.are_both(), "not both endings, or another one");
-    assert!(rt; sends(alloc, &table) == Some(false));
-    assert!(rt; receives(alloc, &table) == Some(false));
+    assert_eq!(rt; sends(alloc, &table), Ending::Answered);
+    assert_eq!(rt; receives(alloc, &table), Ending::Answered);
     Ok(())
 }

@@ -8,10 +8,10 @@ use std::io::{ErrorKind, Read, Write};
 use std::process::Abort;
 use std::test::Fail;
 
-const OBJECT: [u8; 3] = [7, 8, 9];
+pub(super) const OBJECT: [u8; 3] = [7, 8, 9];
 
 // The stream of that object at two bytes a symbol.
-const STREAM: [u8; 24] = [
+pub(super) const STREAM: [u8; 24] = [
     0, 0, 0, 0, 3, 0, 0, 2, 1, 0, 1, 1, 0, 0, 0, 0, 7, 8, 0, 0, 0, 1, 9, 0,
 ];
 
@@ -71,7 +71,8 @@ impl Write for Slow {
     }
 }
 
-fn run<R: Read, W: Write>(
+// Runs a job over the built-in table. Answers how it ended, and how many calls failed.
+pub(super) fn run<R: Read, W: Write>(
     alloc: Global,
     asked: Job,
     reader: R,

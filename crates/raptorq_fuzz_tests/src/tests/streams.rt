@@ -1,0 +1,156 @@
+//! Damaged streams.
+use super::model::{Model, configuration_refusal};
+use super::sent::{Sent, objects};
+use raptorq::error::Error;
+use raptorq::systematic_constants::SystematicTable;
+use raptorq::{EncodingPacket, ObjectTransmissionInformation};
+use raptorq_test_kit::sequence::Choices;
+use rq_streams::{Counted, Outcome, Stop, run_receive};
+use std::alloc::Global;
+use std::process::Abort;
+use std::test::Fail;
+
+const STREAMS: u32 = 100_000;
+
+// Some of an object's frames behind its header, moved and doubled.
+fn stream(alloc: Global, sent: &Sent, choices: &mut Choices) -> Result<Vec<u8>, Error> {
+    let mut bytes = Vec::from_slice(alloc, &sent.config.serialize())?;
+    let count = sent.frames.len();
+    for _ in 0..choices.place(count.saturating_mul(2)) {
+        if let Some(frame) = sent.frames.get(choices.place(count)) {
+            bytes.extend_from_slice(frame.as_slice())?;
+        }
+    }
+    Ok(bytes)
+}
+
+// One way to damage a stream: a bit flipped, a byte of the header changed, all of it, the end cut
+// off, or a byte more.
+fn damage(bytes: &mut Vec<u8>, choices: &mut Choices) -> Result<(), Error> {
+    let length = bytes.len();
+    let flipped = 1u8.wrapping_shl(choices.below(8));
+    match choices.below(6) {
+        0 | 1 => {
+            if let Some(byte) = bytes.get_mut(choices.place(length)) {
+                *byte ^= flipped;
+            }
+        }
+        2 => {
+            if let Some(byte) = bytes.get_mut(choices.place(12)) {
+                *byte = choices.byte();
+            }
+        }
+        3 => {
+            for byte in bytes.iter_mut().take(12) {
+                *byte = choices.byte();
+            }
+        }
+        4 => bytes.truncate(choices.place(length.saturating_add(1))),
+        _ => bytes.push(choices.byte())?,
+    }
+    Ok(())
+}
+
+// How a run over a stream ends, and what it writes.
+fn receive(
+    alloc: Global,
+    table: &SystematicTable,
+    bytes: &[u8],
+) -> (Result<(Outcome, u64), Stop>, Vec<u8>) {
+    let mut out = Vec::new(alloc);
+    let mut reader = Counted::new(bytes);
+    let ended = run_receive(alloc, table, &mut reader, &mut Counted::new(&mut out));
+    (ended, out)
+}
+
+// Hands the packets of the frames to the model, and counts the frames that can't be used.
+fn keep_frames(
+    alloc: Global,
+    model: &mut Model,
+    size: usize,
+    frames: &[u8],
+    sent: &Sent,
+) -> Result<u64, Error> {
+    let whole = size.saturating_add(4);
+    let mut skipped = 0u64;
+    for frame in frames.chunks(whole) {
+        if frame.len() < whole {
+            skipped = skipped.saturating_add(1);
+            continue;
+        }
+        let packet = EncodingPacket::deserialize(alloc, frame)?;
+        if model.refusal(&packet).is_some() {
+            skipped = skipped.saturating_add(1);
+        } else {
+            model.keep(&packet, sent.packets.contains(&packet))?;
+        }
+    }
+    Ok(skipped)
+}
+
+// A run over a stream ends as the model says.
+fn ends(
+    rt: &impl Abort,
+    alloc: Global,
+    table: &SystematicTable,
+    bytes: &[u8],
+    sent: &Sent,
+) -> Result<Option<Outcome>, Error> {
+    let (ended, out) = receive(alloc, table, bytes);
+    let Some(header) = bytes.first_chunk::<12>() else {
+        assert!(rt; ended == Err(Stop::Refused(Error::HeaderTooShort)) && out.is_empty());
+        return Ok(None);
+    };
+    let config = ObjectTransmissionInformation::deserialize(header);
+    if let Some(refusal) = configuration_refusal(&config) {
+        assert!(rt;
+            ended == Err(Stop::Refused(refusal)) && out.is_empty(),
+            "{bytes:?}"
+        );
+        return Ok(None);
+    }
+    let mut model = Model::new(alloc, config, 0, config.source_blocks());
+    let size = usize::from(config.symbol_size());
+    let frames = bytes.get(12..).unwrap_or(&[]);
+    let skipped = keep_frames(alloc, &mut model, size, frames, sent)?;
+    if ended == Ok((Outcome::Written, skipped)) {
+        assert!(rt; model.is_answered() != Some(false), "{bytes:?}");
+        assert!(rt; out.len() as u64 == config.transfer_length(), "{bytes:?}");
+        let is_sent = model.is_honest() && config == sent.config;
+        assert!(rt; !is_sent || out == sent.object, "{bytes:?}");
+        return Ok(Some(Outcome::Written));
+    }
+    assert!(rt;
+        ended == Ok((Outcome::Incomplete, skipped)) && out.is_empty(),
+        "{bytes:?}"
+    );
+    assert!(rt; model.is_answered() != Some(true), "{bytes:?}");
+    Ok(Some(Outcome::Incomplete))
+}
+
+#[test]
+fn damaged_streams(rt: HostRuntime) -> Result<(), Fail> {
+    let alloc = rt.alloc();
+    let table = SystematicTable::built_in(alloc)?;
+    let objects = objects(alloc, &table)?;
+    let mut choices = Choices::new(2);
+    let mut counts = [0u32; 3];
+    for _ in 0..STREAMS {
+        let place = choices.place(objects.len());
+        let sent = objects.get(place).ok_or("no object")?;
+        let mut bytes = stream(alloc, sent, &mut choices)?;
+        for _ in 0..choices.below(4) {
+            damage(&mut bytes, &mut choices)?;
+        }
+        let place = match ends(&rt, alloc, &table, bytes.as_slice(), sent)? {
+            Some(Outcome::Written) => 0,
+            Some(Outcome::Incomplete) => 1,
+            None => 2,
+        };
+        counts[place] = counts[place].saturating_add(1);
+    }
+    for count in counts {
+        assert!(rt; count > STREAMS / 20, "{counts:?}");
+    }
+    Ok(())
+}

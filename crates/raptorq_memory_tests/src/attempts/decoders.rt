@@ -1,0 +1,183 @@
+//! Decoders of ten symbols.
+use super::ending;
+use raptorq::error::Error;
+use raptorq::systematic_constants::SystematicTable;
+use raptorq::{
+    Decoder, Encoder, EncodingPacket, ObjectTransmissionInformation, SourceBlockDecoder,
+};
+use rq_memory_kit::Ending;
+use std::alloc::Global;
+
+/// The object of all of them.
+pub const OBJECT: [u8; 10] = [20, 21, 22, 23, 24, 25, 26, 27, 28, 29];
+
+/// Its configuration.
+pub fn one_block() -> Result<ObjectTransmissionInformation, Error> {
+    ObjectTransmissionInformation::new(10, 1, 1, 1, 1)
+}
+
+/// Its twelve packets, two of them repair packets.
+pub fn packets(alloc: Global) -> Result<Vec<EncodingPacket>, Error> {
+    let table = SystematicTable::built_in(alloc)?;
+    Encoder::new(alloc, &table, &OBJECT, one_block()?)?.get_encoded_packets(2)
+}
+
+// The packets from the third on but the last, which with it determine the object, and the last one
+// so many times.
+fn needed(
+    alloc: Global,
+    times: usize,
+) -> Result<(Vec<EncodingPacket>, Vec<EncodingPacket>), Error> {
+    let mut taken = packets(alloc)?;
+    let mut repeats = Vec::new(alloc);
+    if let Some(last) = taken.pop() {
+        for _ in 0..times {
+            repeats.push(last.clone()?)?;
+        }
+    }
+    Ok((taken.into_iter().skip(2).collect(alloc)?, repeats))
+}
+
+fn is_object(answer: &Option<Vec<u8>>) -> bool {
+    match answer {
+        Some(object) => object.as_slice() == OBJECT.as_slice(),
+        None => false,
+    }
+}
+
+/// `SourceBlockDecoder::decode` of the packet that completes the block.
+#[derive(Drop)]
+pub struct BlockAnswers {
+    decoder: SourceBlockDecoder,
+    before: SourceBlockDecoder,
+    recorded: SourceBlockDecoder,
+    repeats: Vec<EncodingPacket>,
+}
+
+impl BlockAnswers {
+    /// With ample memory, to be tried so many times.
+    pub fn new(alloc: Global, times: usize) -> Result<BlockAnswers, Error> {
+        let table = SystematicTable::built_in(alloc)?;
+        let (taken, mut repeats) = needed(alloc, times.saturating_add(1))?;
+        let mut before = SourceBlockDecoder::new(alloc, &table, 0, &one_block()?, 10)?;
+        before.decode(taken)?;
+        let mut recorded = before.clone()?;
+        recorded.decode(repeats.pop())?;
+        Ok(BlockAnswers {
+            decoder: before.clone()?,
+            before,
+            recorded,
+            repeats,
+        })
+    }
+
+    /// Hands in the packet. A refused one is recorded or not, and nothing else changes.
+    pub fn attempt(&mut self) -> Ending {
+        let was_recorded = self.decoder == self.recorded;
+        let answer = self.decoder.decode(self.repeats.pop());
+        let is_recorded = self.decoder == self.recorded;
+        match answer {
+            Ok(answer) if is_object(&answer) && is_recorded => Ending::Answered,
+            Err(Error::OutOfMemory) if is_recorded => Ending::Refused,
+            Err(Error::OutOfMemory) if !was_recorded && self.decoder == self.before => {
+                Ending::Refused
+            }
+            _ => Ending::Other,
+        }
+    }
+}
+
+/// `Decoder::decode` of the packet that completes the object.
+#[derive(Drop)]
+pub struct ObjectAnswers {
+    decoder: Decoder,
+    before: Decoder,
+    answered: Decoder,
+    repeats: Vec<EncodingPacket>,
+}
+
+impl ObjectAnswers {
+    /// With ample memory, to be tried so many times.
+    pub fn new(alloc: Global, times: usize) -> Result<ObjectAnswers, Error> {
+        let table = SystematicTable::built_in(alloc)?;
+        let (taken, mut repeats) = needed(alloc, times.saturating_add(1))?;
+        let mut before = Decoder::new(alloc, &table, one_block()?)?;
+        for packet in taken {
+            before.add_new_packet(packet)?;
+        }
+        let mut answered = before.clone()?;
+        if let Some(last) = repeats.pop() {
+            answered.add_new_packet(last)?;
+        }
+        Ok(ObjectAnswers {
+            decoder: before.clone()?,
+            before,
+            answered,
+            repeats,
+        })
+    }
+
+    /// Hands in the packet. One that is refused leaves the decoder as it was, or the packet
+    /// recorded and the block late, or the block answered.
+    pub fn attempt(&mut self) -> Ending {
+        let was_new = self.decoder == self.before;
+        let Some(packet) = self.repeats.pop() else {
+            return Ending::Other;
+        };
+        let answer = self.decoder.decode(packet);
+        let is_answered = self.decoder == self.answered;
+        match answer {
+            Ok(answer) if is_object(&answer) && is_answered => Ending::Answered,
+            Err(Error::OutOfMemory) if is_answered => Ending::Refused,
+            Err(Error::OutOfMemory) if was_new || self.decoder != self.before => {
+                match self.decoder.get_result() {
+                    Ok(None) => Ending::Refused,
+                    _ => Ending::Other,
+                }
+            }
+            _ => Ending::Other,
+        }
+    }
+}
+
+/// The answers of decoders that nothing is handed to: the object where it is answered, and else
+/// what is missing.
+#[derive(Drop)]
+pub struct Results {
+    answered: Decoder,
+    object: Option<Vec<u8>>,
+    unanswered: Decoder,
+    difference: Option<Vec<u8>>,
+}
+
+impl Results {
+    /// With ample memory.
+    pub fn new(alloc: Global) -> Result<Results, Error> {
+        let table = SystematicTable::built_in(alloc)?;
+        let (taken, repeats) = needed(alloc, 1)?;
+        let mut unanswered = Decoder::new(alloc, &table, one_block()?)?;
+        for packet in taken {
+            unanswered.add_new_packet(packet)?;
+        }
+        let mut answered = unanswered.clone()?;
+        for packet in repeats {
+            answered.add_new_packet(packet)?;
+        }
+        Ok(Results {
+            object: Some(Vec::from_slice(alloc, &OBJECT)?),
+            answered,
+            difference: unanswered.difference()?,
+            unanswered,
+        })
+    }
+
+    /// Asks for the object.
+    pub fn attempt_object(&self) -> Ending {
+        ending(self.answered.get_result(), &self.object)
+    }
+
+    /// Asks for the difference.
+    pub fn attempt_difference(&self) -> Ending {
+        ending(self.unanswered.difference(), &self.difference)
+    }
+}

@@ -1,0 +1,133 @@
+//! Memory that is taken away and given back little by little, and how calls end meanwhile.
+#![tactic(auto)]
+
+use std::alloc::{AllocError, Global};
+
+// How many blocks of memory can be taken.
+const ROOM: usize = 1 << 20;
+
+// Takes blocks of this size until there is none.
+fn take_all(alloc: Global, blocks: &mut Vec<Vec<u8>>, size: usize) {
+    for _ in 0..1_000_000 {
+        if blocks.len() >= blocks.capacity() {
+            return;
+        }
+        match Vec::with_capacity(alloc, size) {
+            Ok(block) => {
+                let _ = blocks.push(block);
+            }
+            Err(_) => return,
+        }
+    }
+}
+
+// Takes all small blocks that are free, as far as the list has room.
+fn take_small(alloc: Global, blocks: &mut Vec<Vec<u8>>) {
+    for i in 0..600usize {
+        take_all(alloc, blocks, 16 * (600 - i) - 8);
+    }
+}
+
+// Takes all memory that there is, in ever smaller blocks, as far as the list has room.
+fn take_memory(alloc: Global, blocks: &mut Vec<Vec<u8>>) {
+    let mut size: usize = 1 << 46;
+    for _ in 0..33 {
+        take_all(alloc, blocks, size);
+        size /= 2;
+    }
+    take_small(alloc, blocks);
+}
+
+/// All memory taken but some bytes, which become more round by round. What is dropped gives the
+/// memory back.
+#[derive(Drop)]
+pub struct Shortage {
+    alloc: Global,
+    taken: Vec<Vec<u8>>,
+    reserves: Vec<Vec<u8>>,
+    size: usize,
+    free: usize,
+}
+
+impl Shortage {
+    /// Takes all memory, and can ease so many times, each time to fewer free bytes than `size`.
+    pub fn new(alloc: Global, rounds: usize, size: usize) -> Result<Shortage, AllocError> {
+        let mut reserves: Vec<Vec<u8>> = Vec::with_capacity(alloc, rounds)?;
+        for _ in 0..rounds {
+            reserves.push(Vec::with_capacity(alloc, size)?)?;
+        }
+        let mut taken: Vec<Vec<u8>> = Vec::with_capacity(alloc, ROOM)?;
+        take_memory(alloc, &mut taken);
+        Ok(Shortage {
+            alloc,
+            taken,
+            reserves,
+            size,
+            free: 0,
+        })
+    }
+
+    /// Takes again what was given back and leaves some bytes more than the last time: past its last
+    /// round none.
+    pub fn ease(&mut self, more: usize) {
+        take_small(self.alloc, &mut self.taken);
+        let Some(reserve) = self.reserves.pop() else {
+            return;
+        };
+        drop(reserve);
+        self.free = self.free.saturating_add(more);
+        let filler = Vec::with_capacity(self.alloc, self.size.saturating_sub(self.free));
+        if let Ok(filler) = filler {
+            let _ = self.taken.push(filler);
+        }
+    }
+
+    /// Whether all memory could be taken.
+    pub fn is_whole(&self) -> bool {
+        self.taken.len() < self.taken.capacity()
+    }
+}
+
+/// How a call ended.
+#[derive(Clone, Copy, Debug, PartialEq, Eq, Drop)]
+pub enum Ending {
+    /// It answered what it answers with ample memory.
+    Answered,
+    /// It was refused memory, and what was lent to it is as it may be then.
+    Refused,
+    /// Anything else.
+    Other,
+}
+
+/// How often a call ended in each way.
+#[derive(Debug, Drop)]
+pub struct Endings {
+    answered: u32,
+    refused: u32,
+    others: u32,
+}
+
+impl Endings {
+    /// None so far.
+    pub fn new() -> Endings {
+        Endings {
+            answered: 0,
+            refused: 0,
+            others: 0,
+        }
+    }
+
+    /// Whether some calls were refused memory and some answered, and none ended otherwise.
+    pub fn are_both(&self) -> bool {
+        self.refused > 0 && self.answered > 0 && self.others == 0
+    }
+
+    /// Counts a call.
+    pub fn add(&mut self, ended: Ending) {
+        match ended {
+            Ending::Answered => self.answered = self.answered.saturating_add(1),
+            Ending::Refused => self.refused = self.refused.saturating_add(1),
+            Ending::Other => self.others = self.others.saturating_add(1),
+        }
+    }
+}

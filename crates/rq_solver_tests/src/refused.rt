@@ -1,0 +1,78 @@
+//! Solvers where memory is refused: first all of it, then less and less of it.
+use crate::solver::{MIRRORED, mirrored_solver};
+use rq_bytes::error::Error;
+use rq_bytes::operation_vector::SymbolOps;
+use rq_bytes::symbol_slab::SymbolSlab;
+use rq_matrix::matrix::DenseBinaryMatrix;
+use rq_memory_kit::{Ending, Endings, Shortage};
+use rq_solver::pi_solver::IntermediateSymbolDecoder;
+use std::process::Abort;
+
+const RESERVE: usize = 16384;
+
+const ROUNDS: usize = 512;
+
+// How a slab with a solution is read: that takes memory too.
+fn reading(slab: SymbolSlab) -> Ending {
+    match slab.into_symbols() {
+        Ok(symbols) => {
+            let mut places = MIRRORED.iter();
+            let mut is_same = symbols.len() == MIRRORED.len();
+            for symbol in &symbols {
+                let octet = places.next().copied().unwrap_or(0);
+                is_same &= symbol.as_bytes() == [octet].as_slice();
+            }
+            if is_same {
+                Ending::Answered
+            } else {
+                Ending::Other
+            }
+        }
+        Err(_error) => Ending::Refused,
+    }
+}
+
+// How the first run of a solver ended.
+fn ending(answer: Result<Option<(SymbolSlab, Vec<SymbolOps>)>, Error>) -> Ending {
+    match answer {
+        Ok(Some((slab, _operations))) => reading(slab),
+        Ok(None) => Ending::Other,
+        Err(Error::OutOfMemory) => Ending::Refused,
+        Err(_error) => Ending::Other,
+    }
+}
+
+// Runs a solver twice: the second time it refuses, whatever the first run answered.
+fn runs_once(solver: &mut IntermediateSymbolDecoder<DenseBinaryMatrix>) -> Ending {
+    let ended = ending(solver.execute());
+    let again = solver.execute();
+    if again.err() == Some(Error::AlreadyExecuted) {
+        ended
+    } else {
+        Ending::Other
+    }
+}
+
+#[test]
+fn solvers_are_refused_memory_in_turn(rt: HostRuntime) -> Result<(), Error> {
+    let alloc = rt.alloc();
+    let mut solvers = Vec::new(alloc);
+    for _ in 0..ROUNDS + 1 {
+        solvers.push(mirrored_solver(&rt, alloc)?)?;
+    }
+    let mut endings = Endings::new();
+    let mut shortage = Shortage::new(alloc, ROUNDS, RESERVE)?;
+    for _ in 0..ROUNDS {
+        if let Some(mut solver) = solvers.pop() {
+            endings.add(runs_once(&mut solver));
+        }
+        shortage.ease(31);
+    }
+    let is_whole = shortage.is_whole();
+    drop(shortage);
+    assert!(rt; is_whole);
+    assert!(rt; endings.are_both(), "{endings:?}");
+    let mut last = solvers.pop().expect(&rt, "no solver is left");
+    assert_eq!(rt; runs_once(&mut last), Ending::Answered);
+    Ok(())
+}
