@@ -100,7 +100,7 @@ pub enum Ending {
 }
 
 /// How often a call ended in each way.
-#[derive(Debug, Drop)]
+#[derive(Clone, Copy, Debug, Drop)]
 pub struct Endings {
     answered: u32,
     refused: u32,

@@ -1,4 +1,5 @@
 //! Coders where memory is refused: first all of it, then less and less of it.
+use super::assert_swept;
 use crate::attempts::decoders::{BlockAnswers, OBJECT, ObjectAnswers, Results, one_block, packets};
 use crate::attempts::encoders::{Blocks, Objects, Plans, Rows};
 use raptorq::error::Error;
@@ -21,13 +22,7 @@ fn encoders_are_refused_memory_in_turn(rt: HostRuntime) -> Result<(), Fail> {
     let objects = Objects::new(alloc)?;
     let mut blocks = Blocks::new(alloc)?;
     let mut plans = Plans::new(alloc)?;
-    let mut endings = [
-        Endings::new(),
-        Endings::new(),
-        Endings::new(),
-        Endings::new(),
-        Endings::new(),
-    ];
+    let mut endings = [Endings::new(); 5];
     let mut shortage = Shortage::new(alloc, ROUNDS, RESERVE)?;
     for _ in 0..ROUNDS {
         endings[0].add(rows.attempt());
@@ -37,12 +32,7 @@ fn encoders_are_refused_memory_in_turn(rt: HostRuntime) -> Result<(), Fail> {
         endings[4].add(plans.attempt());
         shortage.ease(MORE);
     }
-    let is_whole = shortage.is_whole();
-    drop(shortage);
-    assert!(rt; is_whole);
-    for (place, endings) in endings.iter().enumerate() {
-        assert!(rt; endings.are_both(), "{place}: {endings:?}");
-    }
+    assert_swept(&rt, shortage, endings.as_slice());
     assert_eq!(rt; rows.attempt(), Ending::Answered);
     assert_eq!(rt; objects.attempt(), Ending::Answered);
     assert_eq!(rt; objects.attempt_packets(), Ending::Answered);
@@ -58,12 +48,7 @@ fn decoders_are_refused_memory_in_turn(rt: HostRuntime) -> Result<(), Fail> {
     let mut blocks = BlockAnswers::new(alloc, ROUNDS + 1)?;
     let mut objects = ObjectAnswers::new(alloc, ROUNDS + 1)?;
     let results = Results::new(alloc)?;
-    let mut endings = [
-        Endings::new(),
-        Endings::new(),
-        Endings::new(),
-        Endings::new(),
-    ];
+    let mut endings = [Endings::new(); 4];
     let mut shortage = Shortage::new(alloc, ROUNDS, RESERVE)?;
     for _ in 0..ROUNDS {
         endings[0].add(blocks.attempt());
@@ -72,12 +57,7 @@ fn decoders_are_refused_memory_in_turn(rt: HostRuntime) -> Result<(), Fail> {
         endings[3].add(results.attempt_difference());
         shortage.ease(MORE);
     }
-    let is_whole = shortage.is_whole();
-    drop(shortage);
-    assert!(rt; is_whole);
-    for (place, endings) in endings.iter().enumerate() {
-        assert!(rt; endings.are_both(), "{place}: {endings:?}");
-    }
+    assert_swept(&rt, shortage, endings.as_slice());
     assert_eq!(rt; blocks.attempt(), Ending::Answered);
     assert_eq!(rt; objects.attempt(), Ending::Answered);
     assert_eq!(rt; results.attempt_object(), Ending::Answered);

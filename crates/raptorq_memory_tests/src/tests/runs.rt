@@ -1,4 +1,5 @@
 //! Runs where memory is refused: first all of it, then less and less of it.
+use super::assert_swept;
 use super::streams::{OBJECT, STREAM};
 use raptorq::error::Error;
 use raptorq::systematic_constants::SystematicTable;
@@ -77,19 +78,14 @@ const MORE: usize = 127;
 fn runs_are_refused_memory_in_turn(rt: HostRuntime) -> Result<(), Fail> {
     let alloc = rt.alloc();
     let table = SystematicTable::built_in(alloc)?;
-    let mut endings = [Endings::new(), Endings::new()];
+    let mut endings = [Endings::new(); 2];
     let mut shortage = Shortage::new(alloc, ROUNDS, RESERVE)?;
     for _ in 0..ROUNDS {
         endings[0].add(sends(alloc, &table));
         endings[1].add(receives(alloc, &table));
         shortage.ease(MORE);
     }
-    let is_whole = shortage.is_whole();
-    drop(shortage);
-    assert!(rt; is_whole);
-    for (place, endings) in endings.iter().enumerate() {
-        assert!(rt; endings.are_both(), "{place}: {endings:?}");
-    }
+    assert_swept(&rt, shortage, endings.as_slice());
     assert_eq!(rt; sends(alloc, &table), Ending::Answered);
     assert_eq!(rt; receives(alloc, &table), Ending::Answered);
     Ok(())
