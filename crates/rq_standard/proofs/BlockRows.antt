@@ -1,5 +1,5 @@
 -- The blocks of a configuration that coders take, over a checked table.
-use Rattle.std.proofs.Common.{◌≡◌, ◌↔◌, ℕ, ◌<◌, ◌≤◌, List, arith}
+use Rattle.std.proofs.Common.{◌↔◌, ℕ, ◌<◌, ◌≤◌, List, arith}
 use Rattle.rq_standard.specs.declared.row.TableRow.{TableRow}
 use Rattle.rq_standard.specs.TableRows.{IsTable, greatest_size}
 use Rattle.rq_standard.specs.Configuration.{Configuration, IsAccepted, IsAligned}

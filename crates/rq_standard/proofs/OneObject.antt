@@ -1,13 +1,12 @@
 -- Where the packets of an object determine each block, no other object makes them.
-use Rattle.std.proofs.Common.{◌≡◌, ℕ, zero, suc, ◌+◌, ◌-◌, ◌*◌, ◌<◌, ◌≤◌, ◌⊎◌, cond, eqb, Bool, true, false, List, [], ◌∷◌, ◌++◌, length, get_or, take, Option, Some, None, refl, sym, ap, ◌∙◌, subst, arith, inl, inr}
+use Rattle.std.proofs.Common.{◌≡◌, ℕ, zero, suc, ◌+◌, ◌-◌, ◌*◌, ◌<◌, ◌≤◌, ◌⊎◌, cond, eqb, true, false, List, [], ◌∷◌, ◌++◌, take, Option, Some, None, refl, sym, ap, ◌∙◌, subst, arith, inl, inr}
 use Rattle.std.specs.Prelude.{is_some, IfSome, ◌&&◌}
 use Rattle.std.specs.List.{AllByRecursion}
 use Rattle.std.proofs.lemmas.Bool.{cases_lt, cases_eq, lt-ltb, le-ltb, ne_eqb}
 use Rattle.std.proofs.lemmas.List.{nil_from_length}
-use Rattle.rq_algebra.specs.Systems.{dot, IsColumn, at}
-use Rattle.rq_algebra.specs.Symbols.{slice_at, IsSymbol}
+use Rattle.rq_algebra.specs.Systems.{dot, at}
+use Rattle.rq_algebra.specs.Symbols.{slice_at}
 use Rattle.rq_algebra.proofs.Sums.{add_twice, dot_add_column}
-use Rattle.rq_algebra.proofs.Solutions.{solves_same}
 use Rattle.rq_algebra.proofs.SymbolSums.{same_symbol, symbol_elements}
 use Rattle.rq_standard.specs.declared.row.TableRow.{TableRow}
 use Rattle.rq_standard.specs.OctetField.{octets}
@@ -16,13 +15,13 @@ use Rattle.rq_standard.specs.Packet.{Packet}
 use Rattle.rq_standard.specs.Configuration.{Configuration, IsAligned}
 use Rattle.rq_standard.specs.Cutting.{block_symbols, block_bytes}
 use Rattle.rq_standard.specs.Equations.{fixed_equations, symbol_coefficient, zero_symbol, internal_id, tuple_sum}
-use Rattle.rq_standard.specs.Received.{or_later, payload_for, first_payload, has_id}
-use Rattle.rq_standard.specs.Headline.{SolvesZeros, DetermineBlock, IsNonsingular, block_row, block_source, known_ids, IsEncodingSymbol, IsPacketOf, IsHonestRun, IsAnswerable}
+use Rattle.rq_standard.specs.Received.{or_later, first_payload, has_id}
+use Rattle.rq_standard.specs.Headline.{SolvesZeros, DetermineBlock, block_row, block_source, known_ids, IsEncodingSymbol, IsPacketOf, IsHonestRun, IsAnswerable}
 use Rattle.rq_standard.specs.Held.{Held, holds, SolvesHeld, AreHeldDetermining}
 use Rattle.rq_standard.proofs.BlockCuts.{pieces, whole_object}
 use Rattle.rq_standard.proofs.Columns.{sum_at, sum_same, source_sum, solves_held}
 use Rattle.rq_standard.proofs.Interleaved.{same_symbols}
-use Rattle.rq_standard.proofs.Known.{known_source, known_padding, known_repair, none_determined, block_same}
+use Rattle.rq_standard.proofs.Known.{known_source, known_repair, none_determined, block_same}
 use Rattle.rq_standard.proofs.PlainCut.{length-block_bytes}
 use Rattle.rq_standard.proofs.Standing.{held_with, held_symbol, length-block_source, source_at, source_sized}
 

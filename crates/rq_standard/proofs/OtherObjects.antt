@@ -1,5 +1,5 @@
 -- Two objects that make the same packets differ by one whose symbols for these packets are zero.
-use Rattle.std.proofs.Common.{◌≡◌, ◌≢◌, ◌↔◌, ℕ, ◌+◌, ◌*◌, ◌<◌, ◌≤◌, cond, eqb, Bool, true, false, List, [], ◌∷◌, length, get_or, Option, Some, None, refl, sym, ap, ◌∙◌, subst, arith, inl, inr}
+use Rattle.std.proofs.Common.{◌≡◌, ◌≢◌, ℕ, ◌+◌, ◌*◌, ◌<◌, ◌≤◌, cond, eqb, Bool, true, false, List, [], ◌∷◌, length, get_or, Option, Some, None, refl, sym, ap, ◌∙◌, subst, arith, inl, inr}
 use Rattle.std.specs.Prelude.{is_some, IsSome, ◌&&◌}
 use Rattle.std.specs.List.{AllByRecursion}
 use Rattle.std.proofs.lemmas.Bool.{cases_lt, eqb-true, eq-eqb}
@@ -17,7 +17,7 @@ use Rattle.rq_standard.specs.Configuration.{Configuration, IsAligned}
 use Rattle.rq_standard.specs.Cutting.{block_symbols, symbols_before, sub_block_size, place_in_block, block_bytes, symbol_of_block}
 use Rattle.rq_standard.specs.Equations.{zero_symbol, symbol_coefficient, internal_id}
 use Rattle.rq_standard.specs.Received.{or_later, payload_for, first_payload, has_id}
-use Rattle.rq_standard.specs.Headline.{IsNonsingular, IsEncodingSymbol, SolvesZeros, known_ids, block_row, block_source, IsPacketOf, HasNonsingularRows, IsAnswerable, IsObjectAnswer, IsHonestRun, IsOnlyObject}
+use Rattle.rq_standard.specs.Headline.{IsNonsingular, IsEncodingSymbol, SolvesZeros, known_ids, block_row, block_source, IsPacketOf, HasNonsingularRows, IsAnswerable, IsHonestRun, IsOnlyObject}
 use Rattle.rq_standard.specs.Held.{Held, holds}
 use Rattle.rq_standard.specs.Standing.{State, IsHeldOf, BlockStandsFor, AnswersObject, AnswersOnlyObject}
 use Rattle.rq_standard.specs.Differences.{xor_bytes, HoldsNonsingularRows, IsDifference, MakesOthersFit, plain_sum}

@@ -12,9 +12,9 @@ use Rattle.rq_standard.specs.Configuration.{Configuration, IsAligned}
 use Rattle.rq_standard.specs.Cutting.{block_symbols, block_bytes, symbol_of_block, source_symbol}
 use Rattle.rq_standard.specs.Equations.{zero_symbol}
 use Rattle.rq_standard.specs.Received.{or_later, first_payload, has_id}
-use Rattle.rq_standard.specs.Headline.{IsNonsingular, IsIntermediateColumn, IsEncodingSymbol, DetermineBlock, block_row, block_source, IsPacketOf, HasNonsingularRows}
+use Rattle.rq_standard.specs.Headline.{IsNonsingular, IsIntermediateColumn, IsEncodingSymbol, DetermineBlock, block_row, block_source, IsPacketOf}
 use Rattle.rq_standard.specs.Held.{Held, recorded, CanAnswer, IsBlockAnswer}
-use Rattle.rq_standard.specs.Standing.{State, IsHeldOf, new_held, new_answer, IsNewState, AddsToBlock, IsSameElsewhere, Adds, RecordsOnly, StopsEarly, BlockStandsFor, StandsForButLate, StandsFor, with_late, StandsForNone, StandsForMore, AnswersLateBlock, LeavesBlockLate}
+use Rattle.rq_standard.specs.Standing.{State, IsHeldOf, new_held, new_answer, IsNewState, AddsToBlock, IsSameElsewhere, Adds, RecordsOnly, StopsEarly, BlockStandsFor, StandsForButLate, with_late, StandsForNone, StandsForMore, AnswersLateBlock, LeavesBlockLate}
 use Rattle.rq_standard.proofs.Known.{block_more, block_same, block_of_source, none_determined}
 use Rattle.rq_standard.proofs.Columns.{source_sum, solves_held}
 use Rattle.rq_standard.proofs.Firsts.{first_payload-here, first_payload-elsewhere, first_payload-packet, has_id-push}

@@ -1,5 +1,5 @@
 -- What several objects that make the same packets differ by.
-use Rattle.std.specs.Prelude.{◌≡◌, ◌≢◌, ℕ, ◌-◌, ◌*◌, ◌/◌, ◌%◌, ◌<◌, Bool, true, List, length, map, slice_index, Option, None, IsNone, IsSome, ◌↔◌, if◌then◌else◌, ◌==◌, ◌&&◌, nat_lt}
+use Rattle.std.specs.Prelude.{◌≡◌, ◌≢◌, ℕ, ◌*◌, ◌/◌, ◌%◌, ◌<◌, Bool, true, List, length, map, slice_index, Option, None, IsNone, IsSome, ◌↔◌, if◌then◌else◌, ◌==◌, ◌&&◌, nat_lt}
 use Rattle.std.specs.List.{range_with_len}
 use Rattle.rq_algebra.specs.Symbols.{add_symbols}
 use Rattle.rq_algebra.specs.Systems.{dot}
@@ -10,7 +10,7 @@ use Rattle.rq_standard.specs.Configuration.{Configuration}
 use Rattle.rq_standard.specs.Cutting.{block_bytes, sub_block_size}
 use Rattle.rq_standard.specs.Equations.{zero_symbol, symbol_coefficient}
 use Rattle.rq_standard.specs.TableRows.{intermediate_symbols}
-use Rattle.rq_standard.specs.Headline.{IsNonsingular, IsEncodingSymbol, IsHonestRun, block_row, block_source}
+use Rattle.rq_standard.specs.Headline.{IsNonsingular, IsEncodingSymbol, IsHonestRun, block_source}
 use Rattle.rq_standard.specs.Held.{holds, AreHeldDetermining}
 use Rattle.rq_standard.specs.Standing.{State, StandsForButLate, StandsFor, result_of}
 

@@ -1,5 +1,5 @@
 -- The equations that decide the intermediate symbols of a block (RFC 6330, sections 5.3.3.3, 5.3.3.4 and 5.3.5.3), over a row of the table.
-use Rattle.std.specs.Prelude.{◌≡◌, ℕ, ◌+◌, ◌-◌, ◌*◌, ◌/◌, ◌%◌, Bool, true, false, ◌||◌, if◌then◌else◌, ◌==◌, nat_lt, nat_le, List, length, replicate, slice_index_or}
+use Rattle.std.specs.Prelude.{ℕ, ◌+◌, ◌-◌, ◌*◌, ◌/◌, ◌%◌, Bool, true, false, ◌||◌, if◌then◌else◌, ◌==◌, nat_lt, nat_le, List, length, replicate, slice_index_or}
 use Rattle.std.specs.List.{range_with_len}
 use Rattle.rq_algebra.specs.Systems.{sum_below, stacked, rows_of}
 use Rattle.rq_algebra.specs.Parities.{sum_listed, parity}
@@ -9,7 +9,7 @@ use Rattle.rq_standard.specs.OctetField.{octets}
 use Rattle.rq_standard.specs.Octets.{octet_power}
 use Rattle.rq_standard.specs.Rand.{rand}
 use Rattle.rq_standard.specs.Tuple.{tuple_of, enc_indices}
-use Rattle.rq_standard.specs.TableRows.{intermediate_symbols, pi_symbols, b_of}
+use Rattle.rq_standard.specs.TableRows.{pi_symbols, b_of}
 
 -- the coefficient 1 or 0
 abbrev pub one_if : Bool → ℕ

@@ -67,6 +67,7 @@ fn assert_symbols(rt: &impl Abort, slab: SymbolSlab, expected: &[u8]) -> Result<
 }
 
 #[test]
+#[tactic(auto, unfolding(rq_algebra::specs::Operations::step))]
 fn an_order_moves_no_symbol(rt: HostRuntime) -> Result<(), Error> {
     let mut slab = three(rt.alloc())?;
     assert_eq!(rt; slab.get(1), [1].as_slice());
