@@ -4,15 +4,8 @@ use crate::attempts::encoders::{Blocks, Objects, Plans, Rows};
 use raptorq::error::Error;
 use raptorq::systematic_constants::SystematicTable;
 use raptorq::{Decoder, EncodingPacket};
-use rq_memory_kit::{Ending, Endings, Shortage};
+use rq_memory_kit::{Ending, Endings, MORE, RESERVE, ROUNDS, Shortage, are_all_both};
 use std::test::Fail;
-
-const RESERVE: usize = 65536;
-
-const ROUNDS: usize = 512;
-
-// What a round of 128 bytes more leaves at last is nearly the reserve.
-const MORE: usize = 127;
 
 #[test]
 fn encoders_are_refused_memory_in_turn(rt: HostRuntime) -> Result<(), Fail> {
@@ -40,9 +33,7 @@ fn encoders_are_refused_memory_in_turn(rt: HostRuntime) -> Result<(), Fail> {
     let is_whole = shortage.is_whole();
     drop(shortage);
     assert!(rt; is_whole);
-    for (place, endings) in endings.iter().enumerate() {
-        assert!(rt; endings.are_both(), "{place}: {endings:?}");
-    }
+    assert!(rt; are_all_both(&endings), "{endings:?}");
     assert_eq!(rt; rows.attempt(), Ending::Answered);
     assert_eq!(rt; objects.attempt(), Ending::Answered);
     assert_eq!(rt; objects.attempt_packets(), Ending::Answered);
@@ -75,9 +66,7 @@ fn decoders_are_refused_memory_in_turn(rt: HostRuntime) -> Result<(), Fail> {
     let is_whole = shortage.is_whole();
     drop(shortage);
     assert!(rt; is_whole);
-    for (place, endings) in endings.iter().enumerate() {
-        assert!(rt; endings.are_both(), "{place}: {endings:?}");
-    }
+    assert!(rt; are_all_both(&endings), "{endings:?}");
     assert_eq!(rt; blocks.attempt(), Ending::Answered);
     assert_eq!(rt; objects.attempt(), Ending::Answered);
     assert_eq!(rt; results.attempt_object(), Ending::Answered);

@@ -2,7 +2,7 @@
 use super::streams::{OBJECT, STREAM};
 use raptorq::error::Error;
 use raptorq::systematic_constants::SystematicTable;
-use rq_memory_kit::{Ending, Endings, Shortage};
+use rq_memory_kit::{Ending, Endings, MORE, RESERVE, ROUNDS, Shortage, are_all_both};
 use rq_streams::{Counted, Outcome, Stop, run_receive, run_send};
 use std::alloc::Global;
 use std::io;
@@ -67,12 +67,6 @@ fn receives(alloc: Global, table: &SystematicTable) -> Ending {
     ending(ended, &room, &OBJECT)
 }
 
-const RESERVE: usize = 65536;
-
-const ROUNDS: usize = 512;
-
-const MORE: usize = 127;
-
 #[test]
 fn runs_are_refused_memory_in_turn(rt: HostRuntime) -> Result<(), Fail> {
     let alloc = rt.alloc();
@@ -87,9 +81,7 @@ fn runs_are_refused_memory_in_turn(rt: HostRuntime) -> Result<(), Fail> {
     let is_whole = shortage.is_whole();
     drop(shortage);
     assert!(rt; is_whole);
-    for (place, endings) in endings.iter().enumerate() {
-        assert!(rt; endings.are_both(), "{place}: {endings:?}");
-    }
+    assert!(rt; are_all_both(&endings), "{endings:?}");
     assert_eq!(rt; sends(alloc, &table), Ending::Answered);
     assert_eq!(rt; receives(alloc, &table), Ending::Answered);
     Ok(())
