@@ -1,5 +1,5 @@
 //! The tests, by what they are of.
-use rq_memory_kit::{Endings, Shortage};
+use rq_memory_kit::{Endings, Shortage, are_all_both};
 use std::process::Abort;
 
 mod coders;
@@ -13,7 +13,5 @@ fn assert_swept(rt: &impl Abort, shortage: Shortage, endings: &[Endings]) {
     let is_whole = shortage.is_whole();
     drop(shortage);
     assert!(rt; is_whole);
-    for (place, endings) in endings.iter().enumerate() {
-        assert!(rt; endings.are_both(), "{place}: {endings:?}");
-    }
+    assert!(rt; are_all_both(endings), "{endings:?}");
 }

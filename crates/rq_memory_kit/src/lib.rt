@@ -3,6 +3,15 @@
 
 use std::alloc::{AllocError, Global};
 
+/// In how many rounds calls are tried while memory is given back.
+pub const ROUNDS: usize = 512;
+
+/// What is given back at last, in bytes.
+pub const RESERVE: usize = 65536;
+
+/// How many bytes more each round leaves: in all of them nearly the reserve.
+pub const MORE: usize = 127;
+
 // How many blocks of memory can be taken.
 const ROOM: usize = 1 << 20;
 
@@ -130,4 +139,14 @@ impl Endings {
             Ending::Other => self.others = self.others.saturating_add(1),
         }
     }
+}
+
+/// Whether each of some calls was refused memory, and answered, and never ended otherwise.
+pub fn are_all_both(endings: &[Endings]) -> bool {
+    for ended in endings {
+        if !ended.are_both() {
+            return false;
+        }
+    }
+    true
 }

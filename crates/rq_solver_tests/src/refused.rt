@@ -4,13 +4,9 @@ use rq_bytes::error::Error;
 use rq_bytes::operation_vector::SymbolOps;
 use rq_bytes::symbol_slab::SymbolSlab;
 use rq_matrix::matrix::DenseBinaryMatrix;
-use rq_memory_kit::{Ending, Endings, Shortage};
+use rq_memory_kit::{Ending, Endings, MORE, RESERVE, ROUNDS, Shortage};
 use rq_solver::pi_solver::IntermediateSymbolDecoder;
 use std::process::Abort;
-
-const RESERVE: usize = 16384;
-
-const ROUNDS: usize = 512;
 
 // How a slab with a solution is read: that takes memory too.
 fn reading(slab: SymbolSlab) -> Ending {
@@ -66,7 +62,7 @@ fn solvers_are_refused_memory_in_turn(rt: HostRuntime) -> Result<(), Error> {
         if let Some(mut solver) = solvers.pop() {
             endings.add(runs_once(&mut solver));
         }
-        shortage.ease(31);
+        shortage.ease(MORE);
     }
     let is_whole = shortage.is_whole();
     drop(shortage);

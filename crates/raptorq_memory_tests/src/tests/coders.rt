@@ -5,15 +5,8 @@ use crate::attempts::encoders::{Blocks, Objects, Plans, Rows};
 use raptorq::error::Error;
 use raptorq::systematic_constants::SystematicTable;
 use raptorq::{Decoder, EncodingPacket};
-use rq_memory_kit::{Ending, Endings, Shortage};
+use rq_memory_kit::{Ending, Endings, MORE, RESERVE, ROUNDS, Shortage};
 use std::test::Fail;
-
-const RESERVE: usize = 65536;
-
-const ROUNDS: usize = 512;
-
-// What a round of 128 bytes more leaves at last is nearly the reserve.
-const MORE: usize = 127;
 
 #[test]
 fn encoders_are_refused_memory_in_turn(rt: HostRuntime) -> Result<(), Fail> {

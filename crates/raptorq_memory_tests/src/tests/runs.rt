@@ -3,7 +3,7 @@ use super::assert_swept;
 use super::streams::{OBJECT, STREAM};
 use raptorq::error::Error;
 use raptorq::systematic_constants::SystematicTable;
-use rq_memory_kit::{Ending, Endings, Shortage};
+use rq_memory_kit::{Ending, Endings, MORE, RESERVE, ROUNDS, Shortage};
 use rq_streams::{Counted, Outcome, Stop, run_receive, run_send};
 use std::alloc::Global;
 use std::io;
@@ -67,12 +67,6 @@ fn receives(alloc: Global, table: &SystematicTable) -> Ending {
     let ended = run_receive(alloc, table, &mut reader, &mut Counted::new(&mut room));
     ending(ended.map(|(outcome, _)| outcome), &room, &OBJECT)
 }
-
-const RESERVE: usize = 65536;
-
-const ROUNDS: usize = 512;
-
-const MORE: usize = 127;
 
 #[test]
 fn runs_are_refused_memory_in_turn(rt: HostRuntime) -> Result<(), Fail> {
