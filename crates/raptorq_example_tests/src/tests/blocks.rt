@@ -1,15 +1,14 @@
 //! Worked examples of repair packets.
+use raptorq::Encoder;
 use raptorq::error::Error;
-use raptorq::systematic_constants::SystematicTable;
-use raptorq::{Encoder, ObjectTransmissionInformation};
+use raptorq_test_kit::configurations::configured;
 use std::test::Fail;
 
 // The equations of three source symbols have one solution, and that of zeros is zero.
 #[test]
 fn packets_of_zeros(rt: HostRuntime) -> Result<(), Fail> {
     let alloc = rt.alloc();
-    let table = SystematicTable::built_in(alloc)?;
-    let config = ObjectTransmissionInformation::new(6, 2, 1, 1, 1)?;
+    let (table, config) = configured(alloc, (6, 2, 1, 1, 1))?;
     let encoder = Encoder::new(alloc, &table, &[0; 6], config)?;
     let packets = encoder.get_encoded_packets(3)?;
     assert_eq!(rt; packets.len(), 6);

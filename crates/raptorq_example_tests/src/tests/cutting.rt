@@ -2,6 +2,7 @@
 use raptorq::error::Error;
 use raptorq::systematic_constants::SystematicTable;
 use raptorq::{Encoder, ObjectTransmissionInformation, PayloadId, calculate_block_offsets};
+use raptorq_test_kit::configurations::configured;
 use std::alloc::Global;
 use std::test::Fail;
 
@@ -10,10 +11,7 @@ type Config = (u64, u16, u8, u16, u8);
 
 fn encoder(alloc: Global, config: Config, object: &[u8]) -> Result<Encoder, Error> {
     let (length, size, blocks, sub_blocks, alignment) = config;
-    let table = SystematicTable::built_in(alloc)?;
-    let information = ObjectTransmissionInformation::new(
-        length, size, blocks, sub_blocks, alignment,
-    )?;
+    let (table, information) = configured(alloc, (length, size, blocks, sub_blocks, alignment))?;
     Encoder::new(alloc, &table, object, information)
 }
 

@@ -1,7 +1,7 @@
 //! Worked examples of the coders.
 use raptorq::error::Error;
-use raptorq::systematic_constants::SystematicTable;
-use raptorq::{Decoder, Encoder, ObjectTransmissionInformation, SourceBlockDecoder};
+use raptorq::{Decoder, Encoder, SourceBlockDecoder};
+use raptorq_test_kit::configurations::configured;
 use raptorq_test_kit::packets::packet;
 use std::test::Fail;
 
@@ -9,8 +9,7 @@ use std::test::Fail;
 #[test]
 fn a_decoder_of_ten_symbols(rt: HostRuntime) -> Result<(), Fail> {
     let alloc = rt.alloc();
-    let table = SystematicTable::built_in(alloc)?;
-    let information = ObjectTransmissionInformation::new(10, 1, 1, 1, 1)?;
+    let (table, information) = configured(alloc, (10, 1, 1, 1, 1))?;
     let mut decoder = Decoder::new(alloc, &table, information)?;
     for esi in 0..9u8 {
         let answer = decoder.decode(packet(alloc, 0, u32::from(esi), &[esi + 20])?)?;
@@ -36,8 +35,7 @@ fn a_decoder_of_ten_symbols(rt: HostRuntime) -> Result<(), Fail> {
 #[test]
 fn an_object_there_and_back(rt: HostRuntime) -> Result<(), Fail> {
     let alloc = rt.alloc();
-    let table = SystematicTable::built_in(alloc)?;
-    let information = ObjectTransmissionInformation::new(3, 2, 1, 1, 1)?;
+    let (table, information) = configured(alloc, (3, 2, 1, 1, 1))?;
     let encoder = Encoder::new(alloc, &table, &[7, 8, 9], information)?;
     assert!(rt; encoder.get_config() == information);
     let packets = encoder.get_encoded_packets(0)?;
@@ -58,8 +56,7 @@ fn an_object_there_and_back(rt: HostRuntime) -> Result<(), Fail> {
 #[test]
 fn a_block_in_two_calls(rt: HostRuntime) -> Result<(), Fail> {
     let alloc = rt.alloc();
-    let table = SystematicTable::built_in(alloc)?;
-    let information = ObjectTransmissionInformation::new(4, 2, 1, 1, 1)?;
+    let (table, information) = configured(alloc, (4, 2, 1, 1, 1))?;
     let mut decoder = SourceBlockDecoder::new(alloc, &table, 0, &information, 4)?;
     let first = packet(alloc, 0, 0, &[7, 8])?;
     let other = packet(alloc, 1, 0, &[0, 0])?;

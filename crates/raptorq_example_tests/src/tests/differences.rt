@@ -2,6 +2,7 @@
 use raptorq::error::Error;
 use raptorq::systematic_constants::SystematicTable;
 use raptorq::{Decoder, Encoder, EncodingPacket, ObjectTransmissionInformation, PayloadId};
+use raptorq_test_kit::configurations::configured;
 use raptorq_test_kit::sequence::{bytes, next};
 use std::alloc::Global;
 use std::test::Fail;
@@ -43,8 +44,7 @@ fn makes_zeros(
 #[test]
 fn nine_packets_of_ten_symbols(rt: HostRuntime) -> Result<(), Fail> {
     let alloc = rt.alloc();
-    let table = SystematicTable::built_in(alloc)?;
-    let information = ObjectTransmissionInformation::new(10, 1, 1, 1, 1)?;
+    let (table, information) = configured(alloc, (10, 1, 1, 1, 1))?;
     for start in 10..100 {
         let mut decoder = nine_packets(alloc, &table, information, start)?;
         assert!(rt; decoder.get_result()?.is_none(), "from {start} on");

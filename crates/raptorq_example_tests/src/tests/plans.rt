@@ -7,6 +7,7 @@ use raptorq::{
     EncodingPacket, ObjectTransmissionInformation, SourceBlockEncoder, SourceBlockEncodingPlan,
     SourceBlockEncodingPlanCache,
 };
+use raptorq_test_kit::configurations::configured;
 use raptorq_test_kit::packets::packet;
 use std::alloc::Global;
 use std::test::Fail;
@@ -138,8 +139,7 @@ fn a_plan_made_held_and_handed_in(rt: HostRuntime) -> Result<(), Fail> {
 #[test]
 fn a_plan_of_another_count(rt: HostRuntime) -> Result<(), Fail> {
     let alloc = rt.alloc();
-    let table = SystematicTable::built_in(alloc)?;
-    let config = ObjectTransmissionInformation::new(6, 2, 1, 1, 1)?;
+    let (table, config) = configured(alloc, (6, 2, 1, 1, 1))?;
     let plan = SourceBlockEncodingPlan::generate(alloc, &table, 2)?;
     let refused = SourceBlockEncoder::with_encoding_plan(alloc, 0, &config, &[0; 6], &table, &plan);
     assert!(rt; refused == Err(Error::PlanMismatch));

@@ -6,6 +6,7 @@ use raptorq::{
     Decoder, Encoder, EncodingPacket, ObjectTransmissionInformation, SourceBlockDecoder,
     SourceBlockEncoder, SourceBlockEncodingPlan, SourceBlockEncodingPlanCache,
 };
+use raptorq_test_kit::configurations::configured;
 use raptorq_test_kit::packets::packet;
 use std::alloc::Global;
 use std::test::Fail;
@@ -127,8 +128,7 @@ fn packets(rt: HostRuntime) -> Result<(), Fail> {
 #[test]
 fn packets_of_a_block(rt: HostRuntime) -> Result<(), Fail> {
     let alloc = rt.alloc();
-    let table = SystematicTable::built_in(alloc)?;
-    let config = ObjectTransmissionInformation::new(4, 2, 1, 1, 1)?;
+    let (table, config) = configured(alloc, (4, 2, 1, 1, 1))?;
     let mut decoder = SourceBlockDecoder::new(alloc, &table, 3, &config, 4)?;
     assert!(rt;
         decoder

@@ -1,30 +1,27 @@
 //! Worked examples of objects of several blocks, of blocks of no symbols, and of no bytes.
 use raptorq::error::Error;
-use raptorq::systematic_constants::SystematicTable;
-use raptorq::{Decoder, Encoder, ObjectTransmissionInformation};
+use raptorq::{Decoder, Encoder};
+use raptorq_test_kit::configurations::configured;
 use raptorq_test_kit::packets::packet;
 use std::alloc::Global;
 use std::test::Fail;
 
 // Three bytes in five blocks of symbols of two bytes: three blocks have none.
 fn three_bytes(alloc: Global) -> Result<Decoder, Error> {
-    let table = SystematicTable::built_in(alloc)?;
-    let information = ObjectTransmissionInformation::new(3, 2, 5, 1, 1)?;
+    let (table, information) = configured(alloc, (3, 2, 5, 1, 1))?;
     Decoder::new(alloc, &table, information)
 }
 
 // Ten bytes in a block of three symbols and one of two.
 fn ten_bytes(alloc: Global) -> Result<Decoder, Error> {
-    let table = SystematicTable::built_in(alloc)?;
-    let information = ObjectTransmissionInformation::new(10, 2, 2, 1, 1)?;
+    let (table, information) = configured(alloc, (10, 2, 2, 1, 1))?;
     Decoder::new(alloc, &table, information)
 }
 
 #[test]
 fn blocks_of_no_symbols(rt: HostRuntime) -> Result<(), Fail> {
     let alloc = rt.alloc();
-    let table = SystematicTable::built_in(alloc)?;
-    let information = ObjectTransmissionInformation::new(3, 2, 5, 1, 1)?;
+    let (table, information) = configured(alloc, (3, 2, 5, 1, 1))?;
     let encoder = Encoder::new(alloc, &table, &[7, 8, 9], information)?;
     let packets = encoder.get_encoded_packets(0)?;
     let wanted = vec![in alloc;
@@ -60,8 +57,7 @@ fn packets_of_no_symbols(rt: HostRuntime) -> Result<(), Fail> {
 #[test]
 fn an_object_of_no_bytes(rt: HostRuntime) -> Result<(), Fail> {
     let alloc = rt.alloc();
-    let table = SystematicTable::built_in(alloc)?;
-    let information = ObjectTransmissionInformation::new(0, 2, 1, 1, 1)?;
+    let (table, information) = configured(alloc, (0, 2, 1, 1, 1))?;
     let encoder = Encoder::new(alloc, &table, &[], information)?;
     assert!(rt; encoder.get_encoded_packets(0)?.is_empty());
     let decoder = Decoder::new(alloc, &table, information)?;
@@ -151,8 +147,7 @@ fn clones(rt: HostRuntime) -> Result<(), Fail> {
 #[test]
 fn sparse_thresholds(rt: HostRuntime) -> Result<(), Fail> {
     let alloc = rt.alloc();
-    let table = SystematicTable::built_in(alloc)?;
-    let information = ObjectTransmissionInformation::new(20, 1, 2, 1, 1)?;
+    let (table, information) = configured(alloc, (20, 1, 2, 1, 1))?;
     let object: [u8; 20] = [3, 1, 4, 1, 5, 9, 2, 6, 5, 3, 5, 8, 9, 7, 9, 3, 2, 3, 8, 4];
     let packets = Encoder::new(alloc, &table, &object, information)?.get_encoded_packets(5)?;
     let mut decoder = Decoder::new(alloc, &table, information)?;

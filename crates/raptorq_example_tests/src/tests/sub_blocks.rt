@@ -1,8 +1,8 @@
 //! Blocks in sub-blocks: packets and answers of the Rust crate raptorq, for an object of 24 bytes
 //! in symbols of six with an alignment of two.
+use raptorq::SourceBlockDecoder;
 use raptorq::error::Error;
-use raptorq::systematic_constants::SystematicTable;
-use raptorq::{ObjectTransmissionInformation, SourceBlockDecoder};
+use raptorq_test_kit::configurations::configured;
 use raptorq_test_kit::packets::packet;
 use std::alloc::Global;
 use std::test::Fail;
@@ -13,8 +13,7 @@ const OBJECT: [u8; 24] = [
 ];
 
 fn decoder(alloc: Global, sub_blocks: u16, length: u64) -> Result<SourceBlockDecoder, Error> {
-    let table = SystematicTable::built_in(alloc)?;
-    let information = ObjectTransmissionInformation::new(24, 6, 1, sub_blocks, 2)?;
+    let (table, information) = configured(alloc, (24, 6, 1, sub_blocks, 2))?;
     SourceBlockDecoder::new(alloc, &table, 0, &information, length)
 }
 

@@ -57,17 +57,20 @@ fn list(
     Ok(list)
 }
 
+// A list of packets, each with whether it is the object's.
+#[derive(Drop)]
+struct Round<'a> {
+    table: &'a SystematicTable,
+    sent: &'a Sent,
+    list: &'a [(EncodingPacket, bool)],
+}
+
 // Hands a list to a decoder of the object. Answers whether it ended with an answer.
-fn object_answers(
-    rt: &impl Abort,
-    alloc: Global,
-    table: &SystematicTable,
-    sent: &Sent,
-    list: &[(EncodingPacket, bool)],
-) -> Result<bool, Error> {
-    let mut decoder = Decoder::new(alloc, table, sent.config)?;
+fn object_answers(rt: &impl Abort, alloc: Global, round: &Round<'_>) -> Result<bool, Error> {
+    let sent = round.sent;
+    let mut decoder = Decoder::new(alloc, round.table, sent.config)?;
     let mut model = Model::new(alloc, sent.config, 0, sent.config.source_blocks());
-    for (packet, is_honest) in list {
+    for (packet, is_honest) in round.list {
         match model.refusal(packet) {
             Some(refusal) => assert_eq!(rt; decoder.add_new_packet(packet.clone()?), Err(refusal)),
             None => {
@@ -89,21 +92,16 @@ fn object_answers(
 }
 
 // Hands the packets of a list to a decoder of one block, up to the first refused one.
-fn block_answers(
-    rt: &impl Abort,
-    alloc: Global,
-    table: &SystematicTable,
-    sent: &Sent,
-    list: &[(EncodingPacket, bool)],
-) -> Result<bool, Error> {
+fn block_answers(rt: &impl Abort, alloc: Global, round: &Round<'_>) -> Result<bool, Error> {
+    let sent = round.sent;
     let length = block_symbols(&sent.config, 0).saturating_mul(u64::from(
         sent.config.symbol_size(),
     ));
-    let mut decoder = SourceBlockDecoder::new(alloc, table, 0, &sent.config, length)?;
+    let mut decoder = SourceBlockDecoder::new(alloc, round.table, 0, &sent.config, length)?;
     let mut model = Model::new(alloc, sent.config, 0, 1);
     let mut packets = Vec::new(alloc);
     let mut refusal = None;
-    for (packet, is_honest) in list {
+    for (packet, is_honest) in round.list {
         packets.push(packet.clone()?)?;
         if refusal.is_none() {
             refusal = model.refusal(packet);
@@ -143,9 +141,14 @@ fn any_lists(rt: HostRuntime) -> Result<(), Fail> {
         let place = choices.place(objects.len());
         let sent = objects.get(place).ok_or("no object")?;
         let list = list(alloc, sent, &mut choices)?;
-        let is_answered = object_answers(&rt, alloc, &table, sent, list.as_slice())?;
+        let round = Round {
+            table: &table,
+            sent,
+            list: list.as_slice(),
+        };
+        let is_answered = object_answers(&rt, alloc, &round)?;
         answered_objects = answered_objects.saturating_add(u32::from(is_answered));
-        let is_answered = block_answers(&rt, alloc, &table, sent, list.as_slice())?;
+        let is_answered = block_answers(&rt, alloc, &round)?;
         answered_blocks = answered_blocks.saturating_add(u32::from(is_answered));
     }
     assert!(rt;
