@@ -135,10 +135,12 @@ sent_by table s repair object stream c checked small configured_by nonsingular s
       encoded = sent.encoded;
       whole = same_stream stream (stream_of c sent.packets) sent.spelled;
       taken = λ some of_it. record {
-        checked = checked;
-        fits = fits.0;
-        accepted = accepted_by (greatest_size table) c taken.1;
-        run = record { long = sym fits.1; nonsingular = nonsingular; honest = among table c object sent.packets some sent.encoded.each of_it };
+        stream_run = record {
+          checked = checked;
+          fits = fits.0;
+          accepted = accepted_by (greatest_size table) c taken.1;
+          run = record { long = sym fits.1; nonsingular = nonsingular; honest = among table c object sent.packets some sent.encoded.each of_it };
+        };
         spelled = refl;
       };
     }

@@ -68,7 +68,7 @@ module _ (table : List TableRow) (c : Configuration) (object : List ℕ) (frames
 
   -- the stream's configuration is in its header
   spelled_configuration : configuration_of_bytes (take 12 bytes) ≡ c
-  spelled_configuration = ap configuration_of_bytes header ∙ configuration_of_bytes-header_bytes c s.fits
+  spelled_configuration = ap configuration_of_bytes header ∙ configuration_of_bytes-header_bytes c s.stream_run.fits
 
   pub stream_header : header_configuration bytes ≡ Ok c
   stream_header =
@@ -83,7 +83,7 @@ module _ (table : List TableRow) (c : Configuration) (object : List ℕ) (frames
 
   -- each packet fills its frame
   stream_fills : AllByRecursion (FillsFrame table c object) (packets_among frames)
-  stream_fills = all_fills table c object (packets_among frames) s.checked s.accepted s.fits s.run.honest
+  stream_fills = all_fills table c object (packets_among frames) s.stream_run.checked s.stream_run.accepted s.stream_run.fits s.stream_run.run.honest
 
   -- the packets that are kept are those among the frames
   pub stream_packets : kept_packets c (frames_in (frame_size c) (drop 12 bytes)) ≡ packets_among frames
@@ -106,7 +106,7 @@ module _ (table : List TableRow) (c : Configuration) (object : List ℕ) (frames
   -- an object is determined exactly where no other one fits
   wants_where_any_can : (P : Wanted → Type 0) → WantsDetermined table c object (packets_among frames) P → WantsOnlyObject table c object (packets_among frames) P
   wants_where_any_can P w =
-      let same = answerable_only table c object (packets_among frames) s.checked s.accepted s.run in
+      let same = answerable_only table c object (packets_among frames) s.stream_run.checked s.stream_run.accepted s.stream_run.run in
       record { only = λ o. w.determined (same.1 o); others = λ no. w.undetermined (λ d. no (same.0 d)) }
 
 -- ---- a run that reads this input, and behind whose writer this stood before and after

@@ -13,7 +13,7 @@ use Rattle.rq_streams.proofs.Cutting.{frames_in-next, frames_in-none}
 use Rattle.rq_streams.proofs.Skipping.{skipped_count-cons}
 
 -- The frames so far are taken or skipped: the packets of these and of those that are left are the packets of all, and few enough are skipped.
-pub record AreTaken (c : Configuration) (bytes left : List ℕ) (skipped : ℕ) (old now : State) : Type 0 where
+pub record AreFramesTaken (c : Configuration) (bytes left : List ℕ) (skipped : ℕ) (old now : State) : Type 0 where
   pub done : List Packet
   pub whole : kept_packets c (frames_in (frame_size c) bytes) ≡ done ++ kept_packets c (frames_in (frame_size c) left)
   pub counted : skipped_count c (frames_in (frame_size c) bytes) ≡ skipped + skipped_count c (frames_in (frame_size c) left)
@@ -29,10 +29,10 @@ skipped_by true q h = refl
 skipped_by false q h = absurd (cc h)
 
 -- a frame is cut off: it is as long as it can be
-abbrev pub IsCut : ℕ → List ℕ → List ℕ → List ℕ → Type 0
-IsCut size before frame after = (before ≡ frame ++ after) × (length frame ≡ min size (length before)) × (0 < length before)
+abbrev pub IsFrameCut : ℕ → List ℕ → List ℕ → List ℕ → Type 0
+IsFrameCut size before frame after = (before ≡ frame ++ after) × (length frame ≡ min size (length before)) × (0 < length before)
 
-module _ (c : Configuration) (bytes before after frame : List ℕ) (size skipped : ℕ) (old now : State) (wide : size ≡ frame_size c) (is : IsCut size before frame after) (t : AreTaken c bytes before skipped old now) where
+module _ (c : Configuration) (bytes before after frame : List ℕ) (size skipped : ℕ) (old now : State) (wide : size ≡ frame_size c) (is : IsFrameCut size before frame after) (t : AreFramesTaken c bytes before skipped old now) where
   cut : frames_in (frame_size c) before ≡ frame ∷ frames_in (frame_size c) after
   cut = frames_in-next (frame_size c) before frame after (omega arith) is.0 (is.1 ∙ ap (λ n. min n (length before)) wide) is.2
 
@@ -46,7 +46,7 @@ module _ (c : Configuration) (bytes before after frame : List ℕ) (size skipped
   whole_next o kept = t.whole ∙ ap (λ fs. t.done ++ kept_packets c fs) cut ∙ ap (λ d. t.done ++ cons_option d (kept_packets c (frames_in (frame_size c) after))) (sym kept)
 
   -- one packet more
-  pub taken_packet : (p : Packet) (new : State) → now.configuration ≡ c → Some p ≡ kept_packet c frame → StandsForMore now p new → AreTaken c bytes after skipped old new
+  pub taken_packet : (p : Packet) (new : State) → now.configuration ≡ c → Some p ≡ kept_packet c frame → StandsForMore now p new → AreFramesTaken c bytes after skipped old new
   taken_packet p new same kept adds =
       let more = kept_packets c (frames_in (frame_size c) after) in
       record {
@@ -60,7 +60,7 @@ module _ (c : Configuration) (bytes before after frame : List ℕ) (size skipped
       }
 
   -- one frame skipped
-  pub taken_skipped : None ≡ kept_packet c frame → AreTaken c bytes after (skipped + 1) old now
+  pub taken_skipped : None ≡ kept_packet c frame → AreFramesTaken c bytes after (skipped + 1) old now
   taken_skipped none = record {
     done = t.done;
     whole = whole_next None none;
@@ -70,7 +70,7 @@ module _ (c : Configuration) (bytes before after frame : List ℕ) (size skipped
   }
 
 -- behind the last frame
-module _ (c : Configuration) (bytes left : List ℕ) (skipped : ℕ) (old now : State) (none : length left ≡ 0) (t : AreTaken c bytes left skipped old now) where
+module _ (c : Configuration) (bytes left : List ℕ) (skipped : ℕ) (old now : State) (none : length left ≡ 0) (t : AreFramesTaken c bytes left skipped old now) where
   no_frames : frames_in (frame_size c) left ≡ []
   no_frames = frames_in-none (frame_size c) left none
 

@@ -30,10 +30,7 @@ pub unmixed_stream : (table : List TableRow) (c : Configuration) (object : List 
 unmixed_stream table c object packets bytes s = record {
   frames = held packets;
   mixed = record {
-    checked = s.checked;
-    fits = s.fits;
-    accepted = s.accepted;
-    run = subst (IsHonestRun table c object) (sym (packets-held packets)) s.run;
+    stream_run = subst (IsStreamRun table c object) (sym (packets-held packets)) s.stream_run;
     others = subst (AllByRecursion (IsOtherFrame c)) (sym (others-held packets)) tt;
     short = omega arith;
     spelled = s.spelled ∙ ap (λ xs. header_bytes c ++ xs) (bytes-held packets ∙ sym (append-nil (flat_map frame_bytes (held packets))));

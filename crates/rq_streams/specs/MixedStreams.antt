@@ -34,12 +34,16 @@ pub record IsOtherFrame (c : Configuration) (bytes : List ℕ) : Type 0 where
   pub long : length bytes ≡ frame_size c
   pub unknown : c.source_blocks ≤ slice_index bytes 0
 
--- The bytes are a configuration that coders take over a checked table, then frames of packets of the object and other frames in any order, and then a rest shorter than a frame.
-pub record IsMixedStream (table : List TableRow) (c : Configuration) (object : List ℕ) (frames : List Frame) (rest bytes : List ℕ) : Type 0 where
+-- packets of the object, in a configuration that coders take over a checked table
+pub record IsStreamRun (table : List TableRow) (c : Configuration) (object : List ℕ) (packets : List Packet) : Type 0 where
   pub checked : IsTable table
   pub fits : IsConfiguration c
   pub accepted : IsAccepted (greatest_size table) c
-  pub run : IsHonestRun table c object (packets_among frames)
+  pub run : IsHonestRun table c object packets
+
+-- The bytes are a configuration, then frames of packets of the object and other frames in any order, and then a rest shorter than a frame.
+pub record IsMixedStream (table : List TableRow) (c : Configuration) (object : List ℕ) (frames : List Frame) (rest bytes : List ℕ) : Type 0 where
+  pub stream_run : IsStreamRun table c object (packets_among frames)
   pub others : AllByRecursion (IsOtherFrame c) (others_among frames)
   pub short : length rest < frame_size c
   pub spelled : bytes ≡ header_bytes c ++ (flat_map frame_bytes frames ++ rest)
@@ -52,3 +56,9 @@ rest_count (b ∷ rest) = 1
 -- how many frames of a mixed stream hold no packet, its rest being one of them
 abbrev pub other_count : List Frame → List ℕ → ℕ
 other_count frames rest = length (others_among frames) + rest_count rest
+
+-- P of each mixed stream that the bytes may be
+abbrev pub OverMixedStreams : List TableRow → List ℕ → (Configuration → List ℕ → List Frame → List ℕ → Type 0) → Type 0
+OverMixedStreams table bytes P =
+    (c : Configuration) (object : List ℕ) (frames : List Frame) (rest : List ℕ)
+    → IsMixedStream table c object frames rest bytes → P c object frames rest

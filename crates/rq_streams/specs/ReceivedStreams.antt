@@ -5,10 +5,10 @@ use Rattle.rq_bytes.specs.declared.error.Error.{Error}
 use Rattle.rq_bytes.specs.declared.error.Error.TheVariants.{HeaderTooShort, OutOfMemory}
 use Rattle.rq_bytes.specs.Refusals.{and_then}
 use Rattle.rq_standard.specs.Packet.{Packet}
-use Rattle.rq_standard.specs.Configuration.{Configuration, IsConfiguration, IsAccepted, configuration_of_bytes}
+use Rattle.rq_standard.specs.Configuration.{Configuration, configuration_of_bytes}
 use Rattle.rq_standard.specs.declared.row.TableRow.{TableRow}
-use Rattle.rq_standard.specs.TableRows.{IsTable, greatest_size}
-use Rattle.rq_standard.specs.Headline.{IsPacketOf, IsHonestRun, IsAnswerable, IsOnlyObject, IsObjectAnswer}
+use Rattle.rq_standard.specs.TableRows.{greatest_size}
+use Rattle.rq_standard.specs.Headline.{IsPacketOf, IsAnswerable, IsOnlyObject, IsObjectAnswer}
 use Rattle.rq_standard.specs.Standing.{State, StandsFor}
 use Rattle.rq_standard.specs.Streams.{stream_of}
 use Rattle.rq_base.specs.RefusedInput.{checked_configuration}
@@ -16,7 +16,7 @@ use Rattle.rq_streams.specs.declared.run.Outcome.{Outcome}
 use Rattle.rq_streams.specs.declared.run.Stop.{Stop}
 use Rattle.rq_streams.specs.Ends.{Wanted, Ends, AfterRefusal, outcome_of}
 use Rattle.rq_streams.specs.Frames.{frame_size, frames_in, kept_packets, skipped_in}
-use Rattle.rq_streams.specs.MixedStreams.{Frame, packets_among, other_count, IsMixedStream}
+use Rattle.rq_streams.specs.MixedStreams.{Frame, packets_among, other_count, IsStreamRun, OverMixedStreams}
 
 -- the configuration in a stream's header
 abbrev pub header_configuration : List ℕ → Result Configuration Error
@@ -26,12 +26,9 @@ header_configuration bytes = if nat_lt (length bytes) 12 then Err HeaderTooShort
 abbrev pub receive_refusal : ℕ → List ℕ → Result (Unit {0}) Error
 receive_refusal greatest bytes = and_then (header_configuration bytes) (checked_configuration greatest)
 
--- the bytes are a stream of packets of the object, in a configuration that coders take over a checked table
+-- the bytes are a stream of packets of the object
 pub record IsStreamOf (table : List TableRow) (c : Configuration) (object : List ℕ) (packets : List Packet) (bytes : List ℕ) : Type 0 where
-  pub checked : IsTable table
-  pub fits : IsConfiguration c
-  pub accepted : IsAccepted (greatest_size table) c
-  pub run : IsHonestRun table c object packets
+  pub stream_run : IsStreamRun table c object packets
   pub spelled : bytes ≡ stream_of c packets
 
 -- a decoder that stood for no packets stands for those of the frames that aren't skipped, where they are the object's
@@ -44,15 +41,11 @@ StandsForFrames c old bytes new =
 
 -- the object of a mixed stream, exactly where the packets among its frames determine it
 abbrev pub AnswersStream : List TableRow → List ℕ → Option (List ℕ) → Type 0
-AnswersStream table bytes answer =
-    (c : Configuration) (object : List ℕ) (frames : List Frame) (rest : List ℕ)
-    → IsMixedStream table c object frames rest bytes → IsObjectAnswer table c object (packets_among frames) answer
+AnswersStream table bytes answer = OverMixedStreams table bytes (λ c object frames rest. IsObjectAnswer table c object (packets_among frames) answer)
 
 -- a mixed stream is refused for want of memory alone
 abbrev pub RefusesStream : List TableRow → List ℕ → Error → Type 0
-RefusesStream table bytes e =
-    (c : Configuration) (object : List ℕ) (frames : List Frame) (rest : List ℕ)
-    → IsMixedStream table c object frames rest bytes → e ≡ OutOfMemory
+RefusesStream table bytes e = OverMixedStreams table bytes (λ c object frames rest. e ≡ OutOfMemory)
 
 -- P of the object where the packets determine it, and of no output where they don't
 pub record WantsDetermined (table : List TableRow) (c : Configuration) (object : List ℕ) (packets : List Packet) (P : Wanted → Type 0) : Type 0 where
@@ -77,20 +70,15 @@ CountsSkipped result input = IfSome input (λ bytes. IfOk result (λ ended. ende
 -- Of a mixed stream it writes the object, exactly where the packets among the frames determine it.
 abbrev pub ReceivesExactly : List TableRow → Result (Outcome × ℕ) Stop → Option (List ℕ) → Option (List ℕ) → Option (List ℕ) → Type 0
 ReceivesExactly table result input before after =
-    IfSome input (λ bytes.
-    (c : Configuration) (object : List ℕ) (frames : List Frame) (rest : List ℕ)
-    → IsMixedStream table c object frames rest bytes → WantsDetermined table c object (packets_among frames) (Ends (outcome_of result) before after))
+    IfSome input (λ bytes. OverMixedStreams table bytes (λ c object frames rest.
+    WantsDetermined table c object (packets_among frames) (Ends (outcome_of result) before after)))
 
 -- No receiver can do better: it writes the object exactly where no other object fits the packets.
 abbrev pub ReceivesWhereAnyCan : List TableRow → Result (Outcome × ℕ) Stop → Option (List ℕ) → Option (List ℕ) → Option (List ℕ) → Type 0
 ReceivesWhereAnyCan table result input before after =
-    IfSome input (λ bytes.
-    (c : Configuration) (object : List ℕ) (frames : List Frame) (rest : List ℕ)
-    → IsMixedStream table c object frames rest bytes → WantsOnlyObject table c object (packets_among frames) (Ends (outcome_of result) before after))
+    IfSome input (λ bytes. OverMixedStreams table bytes (λ c object frames rest.
+    WantsOnlyObject table c object (packets_among frames) (Ends (outcome_of result) before after)))
 
 -- Of a mixed stream it answers how many frames hold no packet, its rest being one of them.
 abbrev pub CountsOthers : List TableRow → Result (Outcome × ℕ) Stop → Option (List ℕ) → Type 0
-CountsOthers table result input =
-    IfSome input (λ bytes.
-    (c : Configuration) (object : List ℕ) (frames : List Frame) (rest : List ℕ)
-    → IsMixedStream table c object frames rest bytes → IfOk result (λ ended. ended.1 ≡ other_count frames rest))
+CountsOthers table result input = IfSome input (λ bytes. OverMixedStreams table bytes (λ c object frames rest. IfOk result (λ ended. ended.1 ≡ other_count frames rest)))

@@ -69,7 +69,7 @@ const RUNS: [(Job, &[u8], &[u8]); 2] = [
 fn ends(
     rt: &impl Abort,
     alloc: Global,
-    ended: &Result<Outcome, Stop>,
+    ended: &Result<(Outcome, u64), Stop>,
     failed: u64,
     is_fault: bool,
 ) -> Result<(), Error> {
@@ -79,7 +79,7 @@ fn ends(
         assert!(rt; *ended == Err(Stop::Fault) && failed == 1 && status == 1);
         assert_eq!(rt; said.as_slice(), b"fault\n".as_slice());
     } else {
-        assert!(rt; *ended == Ok(Outcome::Written) && failed == 0 && status == 0);
+        assert!(rt; *ended == Ok((Outcome::Written, 0)) && failed == 0 && status == 0);
         assert!(rt; said.is_empty());
     }
     Ok(())

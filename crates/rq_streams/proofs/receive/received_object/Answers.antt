@@ -28,7 +28,7 @@ returns-in_err-decoder-clause-memory c =
     let e = c.in_err-decoder.field-0.0 in
     let p = err_from_is_err_and c.from_residual-in_err-decoder.result c.from_residual-in_err-decoder.ensures.1 in
     rw (p.1, p.2) (λ k object frames rest s.
-    let accepted = ap (checked_configuration (greatest_size table)) (same_header table k object frames rest bytes s c.in_ok-config.config c.in_ok-config.ensures.value) ∙ accepted_unrefused (greatest_size table) k s.accepted in
+    let accepted = ap (checked_configuration (greatest_size table)) (same_header table k object frames rest bytes s c.in_ok-config.config c.in_ok-config.ensures.value) ∙ accepted_unrefused (greatest_size table) k s.stream_run.accepted in
     subst (IsRefusal {Y = Unit {0}} e) accepted c.in_err-decoder.ensures.refused)
 
 pub returns-clause-refused : goal.returns-clause-refused
@@ -49,8 +49,8 @@ returns-clause-answer c =
     let are : kept_packets config (frames_in (frame_size config) behind) ≡ packets =
     ap (λ d. kept_packets d (frames_in (frame_size d) behind)) same ∙ ap (λ xs. kept_packets k (frames_in (frame_size k) xs)) (take_rest bytes 12) ∙ stream_packets table k object frames rest bytes s
     in
-    let none : IsHonestRun table config object [] = subst (λ d. IsHonestRun table d object []) (sym same) (record { long = s.run.long; nonsingular = s.run.nonsingular; honest = tt }) in
-    let honest = subst (AllByRecursion (IsPacketOf table config object)) (sym are) (subst (λ d. AllByRecursion (IsPacketOf table d object) packets) (sym same) s.run.honest) in
+    let none : IsHonestRun table config object [] = subst (λ d. IsHonestRun table d object []) (sym same) (record { long = s.stream_run.run.long; nonsingular = s.stream_run.run.nonsingular; honest = tt }) in
+    let honest = subst (AllByRecursion (IsPacketOf table config object)) (sym are) (subst (λ d. AllByRecursion (IsPacketOf table d object) packets) (sym same) s.stream_run.run.honest) in
     let end = subst (λ ps. StandsFor table object ps (state_of c.add_frames.new.decoder)) are (c.in_ok-skipped.ensures.stands table object (c.in_ok-decoder.ensures.stands object none) honest) in
     subst (λ d. IsObjectAnswer table d object packets (option_map (vec_items {X = ℕ} {Z = Global}) c.in_ok-get_result.field-0)) (c.in_ok-skipped.ensures.configuration ∙ c.in_ok-decoder.ensures.state.configuration ∙ same)
     (c.in_ok-get_result.ensures.object table object packets (λ _. false) end (λ b. refl))
