@@ -18,7 +18,7 @@ use Rattle.rq_standard.specs.Equations.{equations, equation_count}
 use Rattle.rq_base.specs.HdpcPart.{IsHdpcPart}
 use Rattle.rq_solver.specs.Solving.{AreEquations, IsOutcome, solver_of}
 use Rattle.rq_solver.specs.Solving as solver
-use Rattle.rq_solver.proofs.EquationLaws.{are_equations, solution_of_equations, null_of_equations}
+use Rattle.rq_solver.proofs.EquationLaws.{are_equations, solution_of_equations, homogeneous_of_equations}
 use Rattle.raptorq.specs.BlockSolutions.{IsBlockSolution, SolvesByOperations}
 
 -- the matrices of a block's ids are equations for its values
@@ -38,7 +38,7 @@ places_count slab (suc n) places = has_count slab.values slab.symbol_size slab.o
 module _ (row : TableRow) (ids : List ℕ) (bits : BitTable) (hdpc : OctetTable) (handed : Slab) (part : IsBinaryPart row ids bits) (octet_part : IsHdpcPart row hdpc) (are : AreEquations row bits hdpc handed) where
   -- what a solver finds solves the block's equations; where there is nothing, the ids don't determine the block
   pub recorded_outcome : (answer : Option (Slab × Vec SymbolOps Global)) → IsOutcome (solver_of row bits hdpc handed) handed answer → SolvesByOperations row ids handed answer
-  recorded_outcome None null = λ d. homogeneous_not_determined octets (equation_count row ids) (intermediate_symbols row) (equations row ids) (null_of_equations row ids bits hdpc part octet_part.rows handed are null) d
+  recorded_outcome None null = λ d. homogeneous_not_determined octets (equation_count row ids) (intermediate_symbols row) (equations row ids) (homogeneous_of_equations row ids bits hdpc part octet_part.rows handed are null) d
   recorded_outcome (Some found) solution = solution_of_equations row ids bits hdpc part octet_part.rows handed are found.0 (map operation_of found.1.items) solution
 
 -- the solution is the block's

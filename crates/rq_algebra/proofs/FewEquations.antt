@@ -18,8 +18,8 @@ module _ (F : Field) where
   dot_with_at n r y z = cc (dot-suc F n r (with_at y n z), dot_same F n r r (with_at y n z) y (λ k l. refl) (λ k l. with_at_other y n z k (omega arith)), with_at_same y n z n refl)
 
   -- where a column of the rows is zero, it alone is a homogeneous column
-  null_of_zero : (n height : ℕ) (a : ℕ → ℕ → ℕ) → ((i : ℕ) → i < height → a i n ≡ 0) → HasHomogeneousColumn F height (suc n) a
-  null_of_zero n height a empty = record {
+  homogeneous_of_zero : (n height : ℕ) (a : ℕ → ℕ → ℕ) → ((i : ℕ) → i < height → a i n ≡ 0) → HasHomogeneousColumn F height (suc n) a
+  homogeneous_of_zero n height a empty = record {
     column = with_at (λ _. 0) n 1;
     is_column = λ k l. elim (cases_eq k n) [ inl e ↦ rw (with_at_same {X = ℕ} (λ _. 0) n 1 k e) F.one_below | inr d ↦ rw (with_at_other {X = ℕ} (λ _. 0) n 1 k d) (omega (arith, F.one_below)) ];
     place = n;
@@ -42,9 +42,9 @@ module _ (F : Field) where
     unfolding entry cleared
     other_row i = cc (dot_with_at n (a i) y entry, dot_fma F n (F.mul (a i n) (F.inverse (a p n))) (a i) (a p) y, F.mul_assoc (a i n) (F.inverse (a p n)) (dot F n (a p) y))
 
-  null_step : (n h : ℕ) (a : ℕ → ℕ → ℕ) (p : ℕ) → p < suc h → a p n ≢ 0 → ((i k : ℕ) → i < suc h → k < suc n → a i k < F.size) → HasHomogeneousColumn F h n (λ i. cleared a n p (without p h i)) → HasHomogeneousColumn F (suc h) (suc n) a
+  homogeneous_step : (n h : ℕ) (a : ℕ → ℕ → ℕ) (p : ℕ) → p < suc h → a p n ≢ 0 → ((i k : ℕ) → i < suc h → k < suc n → a i k < F.size) → HasHomogeneousColumn F h n (λ i. cleared a n p (without p h i)) → HasHomogeneousColumn F (suc h) (suc n) a
   unfolding entry
-  null_step n h a p in_rows nonzero elements null = let z : ℕ = entry n h a p in_rows nonzero elements null.column in record {
+  homogeneous_step n h a p in_rows nonzero elements null = let z : ℕ = entry n h a p in_rows nonzero elements null.column in record {
     column = with_at null.column n z;
     is_column = λ k l. elim (cases_eq k n) [ inl e ↦ rw (with_at_same null.column n z k e) (F.mul_below _ _) | inr d ↦ rw (with_at_other null.column n z k d) (null.is_column k (omega arith)) ];
     place = null.place;
@@ -61,19 +61,19 @@ module _ (F : Field) where
 
   pub few_rows : (width height : ℕ) (a : ℕ → ℕ → ℕ) → height < width → HasElements F height width a → HasHomogeneousColumn F height width a
   few_rows zero height a few elements = absurd (omega arith)
-  few_rows (suc n) zero a few elements = null_of_zero n zero a (λ i l. absurd (omega arith))
+  few_rows (suc n) zero a few elements = homogeneous_of_zero n zero a (λ i l. absurd (omega arith))
   few_rows (suc n) (suc h) a few elements =
       elim (find_nonzero (suc h) (λ i. a i n)) [
-        | inr empty ↦ null_of_zero n (suc h) a empty
-        | inl q ↦ null_step n h a q.0 q.1 q.2 elements
+        | inr empty ↦ homogeneous_of_zero n (suc h) a empty
+        | inl q ↦ homogeneous_step n h a q.0 q.1 q.2 elements
             (few_rows n h (λ i. cleared a n q.0 (without q.0 h i)) (omega arith)
             (λ i k l m. unfold cleared in F.add_below _ _ (elements (without q.0 h i) k (without_below q.0 h i l) (omega arith)) (F.mul_below _ _)))
       ]
 
   -- on n + 1 of the columns only n of the rows are not zero: then a homogeneous column stands there
-  pub null_of_few : (height width n : ℕ) (a : ℕ → ℕ → ℕ) (rows columns : ℕ → ℕ) → HasElements F height width a → IsFewOn height width n a rows columns → HasHomogeneousColumn F height width a
+  pub homogeneous_of_few : (height width n : ℕ) (a : ℕ → ℕ → ℕ) (rows columns : ℕ → ℕ) → HasElements F height width a → IsFewOn height width n a rows columns → HasHomogeneousColumn F height width a
   unfolding dot
-  null_of_few height width n a rows columns elements few =
+  homogeneous_of_few height width n a rows columns elements few =
       let are : ArePlaces (suc n) width columns = few.columns_are in
       let null : HasHomogeneousColumn F n (suc n) (λ p j. a (rows p) (columns j)) = few_rows (suc n) n (λ p j. a (rows p) (columns j)) (omega arith) (λ p j l m. elements (rows p) (columns j) (few.rows_below p l) (are.below j m)) in
       let x : ℕ → ℕ = spread (suc n) columns null.column in

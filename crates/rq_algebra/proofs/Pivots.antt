@@ -52,8 +52,8 @@ module _ (F : Field) (height width : ℕ) (original a : ℕ → ℕ → ℕ) (op
   }
 
 -- operations that follow rows take a homogeneous column back to the original ones
-pub null_back : (F : Field) (height width : ℕ) (original a : ℕ → ℕ → ℕ) (operations : List Operation) → Follows F height width original a operations → HasHomogeneousColumn F height width a → HasHomogeneousColumn F height width original
-null_back F height width original a operations follows n = record {
+pub homogeneous_back : (F : Field) (height width : ℕ) (original a : ℕ → ℕ → ℕ) (operations : List Operation) → Follows F height width original a operations → HasHomogeneousColumn F height width a → HasHomogeneousColumn F height width original
+homogeneous_back F height width original a operations follows n = record {
   column = n.column;
   is_column = n.is_column;
   place = n.place;

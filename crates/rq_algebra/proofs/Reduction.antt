@@ -8,7 +8,7 @@ use Rattle.rq_algebra.specs.Steps.{AddsRow, ScalesRow}
 use Rattle.rq_algebra.proofs.Elimination.{HasPivots, HasFirstPivots, ClearsColumn}
 use Rattle.rq_algebra.proofs.Sums.{add_zero, mul_zero, zero_mul, mul_one}
 use Rattle.rq_algebra.proofs.Places.{exchange_other, exchange_below, exchange_twice}
-use Rattle.rq_algebra.proofs.FewEquations.{all_places, null_of_few}
+use Rattle.rq_algebra.proofs.FewEquations.{all_places, homogeneous_of_few}
 
 -- the rows that one column clears, row by row
 module _ (F : Field) (height width count pivot column : ℕ) (rows : ℕ → ℕ) (rows_are : ArePlaces count height rows) (in_width : column < width) where
@@ -126,9 +126,9 @@ few_of_zeros F height width n a rows columns rows_are columns_are fits zeros = r
 }
 
 -- a column in which the rows that are left are zero
-pub null_of_stuck : (F : Field) (height width done : ℕ) (a : ℕ → ℕ → ℕ) (rows columns : ℕ → ℕ) → HasElements F height width a → ArePlaces height height rows → ArePlaces (suc done) width columns → done ≤ height → HasFirstPivots height done a rows columns → ((i : ℕ) → done ≤ i → i < height → a (rows i) (columns done) ≡ 0) → HasHomogeneousColumn F height width a
-null_of_stuck F height width done a rows columns elements rows_are columns_are fits first stuck =
-    null_of_few F height width done a rows columns elements (few_of_zeros F height width done a rows columns rows_are columns_are fits (λ i j l m o. elim (cases_eq j done) [
+pub homogeneous_of_stuck : (F : Field) (height width done : ℕ) (a : ℕ → ℕ → ℕ) (rows columns : ℕ → ℕ) → HasElements F height width a → ArePlaces height height rows → ArePlaces (suc done) width columns → done ≤ height → HasFirstPivots height done a rows columns → ((i : ℕ) → done ≤ i → i < height → a (rows i) (columns done) ≡ 0) → HasHomogeneousColumn F height width a
+homogeneous_of_stuck F height width done a rows columns elements rows_are columns_are fits first stuck =
+    homogeneous_of_few F height width done a rows columns elements (few_of_zeros F height width done a rows columns rows_are columns_are fits (λ i j l m o. elim (cases_eq j done) [
       | inl e ↦ rw e (stuck i l m)
       | inr d ↦ first.zeros i j m (omega arith) (omega arith)
     ]))

@@ -76,8 +76,8 @@ impl<'a> OctetIter<'a> {
         }
     }
 
-    /// The columns from `start_col` on and before `end_col` that have a one, in a row whose column k is
-    /// the k-th of `physical_col_to_logical`.
+    /// The columns from `start_col` on and before `end_col` that have a one: a one at index k of the
+    /// row stands in the column that `physical_col_to_logical` has at k.
     pub fn new_sparse(
         start_col: usize,
         end_col: usize,

@@ -67,9 +67,10 @@ impl SparseBinaryVec {
         })
     }
 
-    /// The number of ones.
+    /// The number of ones. They ascend, so that each index is listed once.
     pub fn len(&self) -> usize
-        ensures { result ≡ length self.now }
+        ensures count { result ≡ length self.now }
+        ensures increasing { IsStrictlyIncreasing self.now }
     {
         self.elements.len()
     }

@@ -14,7 +14,7 @@ use Rattle.rq_bytes.specs.SymbolSlab.{Slab}
 use Rattle.rq_parts.specs.DenseOctetMatrix.{OctetTable, entry_of}
 use Rattle.rq_solver.specs.Solving.{IsSolution, AreEquations}
 use Rattle.rq_solver.proofs.RowStepLaws.{SameEntries}
-use Rattle.rq_solver.proofs.SolutionLaws.{finds_same, null_same, is_solution}
+use Rattle.rq_solver.proofs.SolutionLaws.{finds_same, homogeneous_same, is_solution}
 
 module _ (row : TableRow) (ids : List ℕ) (bits : BitTable) (hdpc : OctetTable) (part : IsBinaryPart row ids bits) (are_hdpc : AreHdpcRows row (entry_of hdpc)) where
   handed_rows : ℕ → ℕ → ℕ
@@ -73,8 +73,8 @@ module _ (row : TableRow) (ids : List ℕ) (bits : BitTable) (hdpc : OctetTable)
         let solved = rw count at solution in
         is_solution (equation_count row ids) (intermediate_symbols row) (equations row ids) operations (finds_same octets (equation_count row ids) (intermediate_symbols row) _ (equations row ids) equations_same operations solved.finds) handed slab are.order solved.made
 
-    pub null_of_equations : HasHomogeneousColumn octets (length handed.values) (intermediate_symbols row) (with_octet_rows row.ldpc_symbols row.hdpc_symbols bits.bit (entry_of hdpc)) → HasHomogeneousColumn octets (equation_count row ids) (intermediate_symbols row) (equations row ids)
-    null_of_equations null = null_same octets (equation_count row ids) (intermediate_symbols row) _ (equations row ids) equations_same (rw count at null)
+    pub homogeneous_of_equations : HasHomogeneousColumn octets (length handed.values) (intermediate_symbols row) (with_octet_rows row.ldpc_symbols row.hdpc_symbols bits.bit (entry_of hdpc)) → HasHomogeneousColumn octets (equation_count row ids) (intermediate_symbols row) (equations row ids)
+    homogeneous_of_equations null = homogeneous_same octets (equation_count row ids) (intermediate_symbols row) _ (equations row ids) equations_same (rw count at null)
 
 -- what a solver asks, from what the generator of both matrices says of them
 pub are_equations : (row : TableRow) (ids : List ℕ) (bits : BitTable) (hdpc : OctetTable) (handed : Slab) → IsBinaryPart row ids bits → length hdpc.rows ≡ row.hdpc_symbols → hdpc.width ≡ intermediate_symbols row

@@ -12,8 +12,8 @@ use Rattle.rq_algebra.proofs.Elimination.{ReadsPivots, HasFirstPivots}
 use Rattle.rq_algebra.specs.Following.{Follows}
 use Rattle.rq_algebra.specs.Operations.{Operation, Reorder, FindsColumn}
 use Rattle.rq_algebra.specs.Systems.{at, stacked, HasElements, HasHomogeneousColumn}
-use Rattle.rq_algebra.proofs.FewEquations.{null_of_few}
-use Rattle.rq_algebra.proofs.Pivots.{finds_by_pivots, null_back}
+use Rattle.rq_algebra.proofs.FewEquations.{homogeneous_of_few}
+use Rattle.rq_algebra.proofs.Pivots.{finds_by_pivots, homogeneous_back}
 use Rattle.rq_algebra.proofs.Reduction.{pivots_of_first}
 use Rattle.rq_algebra.proofs.Runs.{follows_none}
 use Rattle.rq_algebra.proofs.Stacks.{stacked_above, stacked_below}
@@ -148,8 +148,8 @@ module _ (height width : ℕ) (system : ℕ → ℕ → ℕ) (rows order places 
       zeros = λ i l free j n. let b = behind i l free in rw (← b.3) (nothing_behind b.0 j b.1 b.2 n);
     }
 
-    pub null_of_peeled : HasHomogeneousColumn octets height width system
-    null_of_peeled = null_back octets height width system meant steps (steps_follow height width system steps among peeled.elements) (null_of_few octets height width (pivots + stuck.done) meant row_of (at order) (steps_elements height width system steps among peeled.elements) few)
+    pub homogeneous_of_peeled : HasHomogeneousColumn octets height width system
+    homogeneous_of_peeled = homogeneous_back octets height width system meant steps (steps_follow height width system steps among peeled.elements) (homogeneous_of_few octets height width (pivots + stuck.done) meant row_of (at order) (steps_elements height width system steps among peeled.elements) few)
 
   -- ---- all columns with pivots
 

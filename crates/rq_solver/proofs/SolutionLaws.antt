@@ -28,8 +28,8 @@ module _ (F : Field) (height width : ℕ) (a b : ℕ → ℕ → ℕ) (same : Sa
     solves = λ square v e. solves_same F height width a b _ (at v) (at v) same (λ i l. refl) (finds.solves square v e);
   }
 
-  pub null_same : HasHomogeneousColumn F height width a → HasHomogeneousColumn F height width b
-  null_same null = record {
+  pub homogeneous_same : HasHomogeneousColumn F height width a → HasHomogeneousColumn F height width b
+  homogeneous_same null = record {
     column = null.column;
     is_column = null.is_column;
     place = null.place;

@@ -175,7 +175,12 @@ fn nothing_is_answered_without_the_last_hdpc_row(rt: HostRuntime) -> Result<(), 
     let octets = diagonal(rt.alloc(), 0, 9)?;
     let mut solver = numbered_solver(&rt, rt.alloc(), ones.as_slice(), octets.as_slice())?;
     assert!(rt; solver.execute()?.is_none());
+    let additions = solver.get_symbol_add_ops_by_phase();
     assert!(rt; matches!(solver.execute(), Err(Error::AlreadyExecuted)));
+    assert_eq!(rt;
+        solver.get_symbol_add_ops_by_phase().as_slice(),
+        additions.as_slice()
+    );
     Ok(())
 }
 

@@ -5,9 +5,8 @@ use Rattle.std.specs.List.{AllByRecursion}
 use Rattle.rq_standard.specs.Packet.{Packet, packet_bytes}
 use Rattle.rq_standard.specs.Configuration.{Configuration, header_bytes}
 use Rattle.rq_standard.specs.declared.row.TableRow.{TableRow}
-use Rattle.rq_standard.specs.Headline.{IsHonestRun}
 use Rattle.rq_standard.specs.Streams.{frames_of}
-use Rattle.rq_streams.specs.MixedStreams.{Frame, Holds, frame_bytes, packets_among, others_among, IsOtherFrame}
+use Rattle.rq_streams.specs.MixedStreams.{Frame, Holds, frame_bytes, packets_among, others_among, IsOtherFrame, IsStreamRun}
 use Rattle.rq_streams.specs.ReceivedStreams.{IsStreamOf}
 use Rattle.rq_streams.specs.SentStreams.{IsUnmixed}
 

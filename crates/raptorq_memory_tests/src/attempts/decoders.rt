@@ -128,7 +128,11 @@ impl ObjectAnswers {
         let is_answered = self.decoder == self.answered;
         match answer {
             Ok(answer) if is_object(&answer) && is_answered => Ending::Answered,
-            Err(Error::OutOfMemory) if is_answered => Ending::Refused,
+            Err(Error::OutOfMemory) if is_answered => match self.decoder.get_result() {
+                Ok(object) if is_object(&object) => Ending::Refused,
+                Err(Error::OutOfMemory) => Ending::Refused,
+                _ => Ending::Other,
+            },
             Err(Error::OutOfMemory) if was_new || self.decoder != self.before => {
                 match self.decoder.get_result() {
                     Ok(None) => Ending::Refused,

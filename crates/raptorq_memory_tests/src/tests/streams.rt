@@ -1,4 +1,4 @@
-//! Runs over memory, calls that fail, and what the program says.
+//! Runs over memory, and what the program says.
 use raptorq::error::Error;
 use raptorq::systematic_constants::SystematicTable;
 use rq_streams::{Counted, Job, Outcome, Stop, job, report, run_receive, run_send};
@@ -15,59 +15,17 @@ pub(super) const STREAM: [u8; 24] = [
     0, 0, 0, 0, 3, 0, 0, 2, 1, 0, 1, 1, 0, 0, 0, 0, 7, 8, 0, 0, 0, 1, 9, 0,
 ];
 
-// A reader whose first call is interrupted.
+// A writer that takes nothing, and whose flush fails.
 #[derive(Drop)]
-struct Interrupted<'a> {
-    rest: &'a [u8],
-    fails: bool,
-}
+struct Full;
 
-impl<'a> Read for Interrupted<'a> {
-    fn read(&mut self, buf: &mut [u8]) -> io::Result<usize> {
-        if self.fails {
-            self.fails = false;
-            return Err(io::Error::from(ErrorKind::Interrupted));
-        }
-        self.rest.read(buf)
-    }
-}
-
-// A writer that takes a byte at a time, so many of them, and then none. Its flush may fail.
-#[derive(Drop)]
-struct Slow {
-    bytes: [u8; 32],
-    len: usize,
-    room: usize,
-    flushes: bool,
-}
-
-impl Slow {
-    fn new(room: usize, flushes: bool) -> Slow {
-        Slow {
-            bytes: [0; 32],
-            len: 0,
-            room,
-            flushes,
-        }
-    }
-}
-
-impl Write for Slow {
-    fn write(&mut self, buf: &[u8]) -> io::Result<usize> {
-        if self.len >= self.room.min(32) || buf.is_empty() {
-            return Ok(0);
-        }
-        self.bytes[self.len] = buf[0];
-        self.len += 1;
-        Ok(1)
+impl Write for Full {
+    fn write(&mut self, _buf: &[u8]) -> io::Result<usize> {
+        Ok(0)
     }
 
     fn flush(&mut self) -> io::Result<()> {
-        if self.flushes {
-            Ok(())
-        } else {
-            Err(io::Error::from(ErrorKind::Other))
-        }
+        Err(io::Error::from(ErrorKind::Other))
     }
 }
 
@@ -221,37 +179,6 @@ fn receives_two_blocks(rt: HostRuntime) -> Result<(), Fail> {
 }
 
 #[test]
-fn faults(rt: HostRuntime) -> Result<(), Fail> {
-    // Whether the first read is interrupted, how many bytes are taken, whether the flush passes,
-    // and what is written.
-    let cases: [(bool, usize, bool, &[u8]); 4] = [
-        (true, 32, true, &[]),
-        (false, 0, true, &[]),
-        (false, 2, true, &[0, 0]),
-        (false, 32, false, &STREAM),
-    ];
-    for (fails, room, flushes, written) in cases {
-        let rest: &[u8] = &OBJECT;
-        let mut out = Slow::new(room, flushes);
-        let asked = Job::Send { size: 2, repair: 0 };
-        let (ended, failed) = run(rt.alloc(), asked, Interrupted { rest, fails }, &mut out)?;
-        assert!(rt; ended == Err(Stop::Fault) && failed == 1);
-        assert_eq!(rt; &out.bytes[..out.len.min(32)], written);
-
-        let rest: &[u8] = &STREAM;
-        let mut out = Slow::new(room, flushes);
-        let (ended, failed) = run(
-            rt.alloc(),
-            Job::Receive,
-            Interrupted { rest, fails },
-            &mut out,
-        )?;
-        assert!(rt; ended == Err(Stop::Fault) && failed == 1);
-    }
-    Ok(())
-}
-
-#[test]
 fn asks(rt: HostRuntime) -> Result<(), Fail> {
     let cases: [(&str, Option<Job>); 9] = [
         (
@@ -319,7 +246,7 @@ fn reports(rt: HostRuntime) -> Result<(), Fail> {
         let mut out: Vec<u8> = Vec::new(rt.alloc());
         assert_eq!(rt; report(ended.as_ref(), &mut out), status);
         assert_eq!(rt; out.as_slice(), line.as_bytes());
-        assert_eq!(rt; report(ended.as_ref(), &mut Slow::new(0, false)), status);
+        assert_eq!(rt; report(ended.as_ref(), &mut Full), status);
     }
     Ok(())
 }

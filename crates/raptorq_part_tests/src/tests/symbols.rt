@@ -76,6 +76,7 @@ fn an_order_moves_no_symbol(rt: HostRuntime) -> Result<(), Error> {
     assert_eq!(rt; slab.symbol_size(), 1);
     assert_eq!(rt; slab.get(0), [2].as_slice());
     assert_eq!(rt; slab.get(1), [0].as_slice());
+    assert_eq!(rt; slab.get(2), [1].as_slice());
     slab.set_reorder([1, 2].to_vec(rt.alloc())?);
     assert_symbols(&rt, slab, &[1, 2])?;
     let mut slab = three(rt.alloc())?;
@@ -96,6 +97,7 @@ fn one_and_two(alloc: Global) -> Result<SymbolSlab, Error>
 fn a_multiple_is_added(rt: HostRuntime) -> Result<(), Error> {
     let mut slab = one_and_two(rt.alloc())?;
     slab.fma(0, 1, &Octet::new(3));
+    assert_eq!(rt; slab.get(0), [7].as_slice());
     assert_symbols(&rt, slab, &[7, 2])
 }
 

@@ -111,8 +111,12 @@ fn set_ldpc_row<T: BinaryMatrix>(matrix: &mut T, row: &TableRow, i: usize) -> Re
     Ok(())
 }
 
-// Flips the bit of a row at each index, so that a index that comes twice cancels.
-fn flip_indices<T: BinaryMatrix>(matrix: &mut T, i: usize, mut indices: Indices) -> Result<(), Error>
+// Flips the bit of a row at each index, so that an index that comes twice cancels.
+fn flip_indices<T: BinaryMatrix>(
+    matrix: &mut T,
+    i: usize,
+    mut indices: Indices,
+) -> Result<(), Error>
     requires row { i < (T.content matrix.old).height }
     requires below { All (λ index. index < (T.content matrix.old).width) indices }
     requires settable { (T.content matrix.old).indexed ≡ false }

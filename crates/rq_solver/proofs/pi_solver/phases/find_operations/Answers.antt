@@ -13,7 +13,7 @@ use Rattle.rq_bytes.specs.SymbolOps.{operation_of}
 use Rattle.rq_parts.specs.DenseOctetMatrix.{entry_of}
 use Rattle.rq_solver.specs.Cleared.{HasPeeledPivots, one_in, system_rows}
 use Rattle.rq_solver.proofs.OctetRows.{same_rows}
-use Rattle.rq_solver.proofs.SolutionLaws.{finds_same, null_same}
+use Rattle.rq_solver.proofs.SolutionLaws.{finds_same, homogeneous_same}
 use Rattle.rq_solver.proofs.pi_solver.phases.find_operations.Goals as goal
 use Rattle.rq_solver.proofs.pi_solver.phases.find_operations.Goals.{After-into_operations-operations}
 
@@ -58,7 +58,7 @@ returns-in_default-clause-found c = λ bit are.
     let hdpc = c.args.hdpc.now in
     let found = rw (c.in_ok-recorded.ensures.cleared.height_is, c.in_default.is) at c.in_ok-found.ensures.found in
     let null : HasHomogeneousColumn octets (length lists) c.args.width (system_rows lists c.args.first_hdpc hdpc) = rw c.requires.peeled.columns.place_count at (found _ (peeled (goal.at.returns-in_default-clause-found c).After-into_operations-operations)) in
-    null_same octets (length lists) c.args.width _ _ (same_rows c.args.first_hdpc (length hdpc.rows) (entry_of hdpc) (length lists) c.args.width (one_in lists) bit (λ i k l m. (are.each i l).once k (omega arith) m)) null
+    homogeneous_same octets (length lists) c.args.width _ _ (same_rows c.args.first_hdpc (length hdpc.rows) (entry_of hdpc) (length lists) c.args.width (one_in lists) bit (λ i k l m. (are.each i l).once k (omega arith) m)) null
 
 pub returns-clause-found : goal.returns-clause-found
 returns-clause-found c = λ bit are.

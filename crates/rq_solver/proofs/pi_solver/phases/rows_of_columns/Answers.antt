@@ -6,7 +6,7 @@ use borrow.Rule.Slice.PartMut.{put_mid}
 use Rattle.rq_algebra.specs.Systems.{at}
 use Rattle.rq_solver.specs.Cleared.{LacksPivots, SolvesInactive}
 use Rattle.rq_solver.proofs.ListingLaws.{placed_first, placed_after}
-use Rattle.rq_solver.proofs.PeeledOutcomes.{null_of_peeled, finds_by_peeled}
+use Rattle.rq_solver.proofs.PeeledOutcomes.{homogeneous_of_peeled, finds_by_peeled}
 use Rattle.rq_solver.proofs.pi_solver.phases.rows_of_columns.Goals as goal
 use Rattle.rq_solver.proofs.pi_solver.phases.rows_of_columns.Goals.{After-solve_inactive}
 
@@ -54,7 +54,7 @@ returns-then-not-branch-clause-found c = λ system peeled.
     let permuted : IsPermutation (drop (length p.rows.items) listed) reduced = subst (λ (l : List ℕ). IsPermutation l reduced) (rest at_rest) done.permuted in
     let lacks : LacksPivots (drop (length p.rows.items) listed) reduced inactive middle c.solve_inactive.new.recorded =
     subst (λ (l : List ℕ). LacksPivots l reduced inactive middle c.solve_inactive.new.recorded) (rest at_rest) (rw c.if-not-branch.true at done.solved) in
-    null_of_peeled (length middle.table.rows) (length p.places.items) system p.rows.items p.order.items p.places.items c.requires.peeled.peeled.columns (rw c.requires.height c.requires.peeled.peeled.in_rows) listed c.requires.listed inactive middle c.solve_inactive.new.recorded peeled
+    homogeneous_of_peeled (length middle.table.rows) (length p.places.items) system p.rows.items p.order.items p.places.items c.requires.peeled.peeled.columns (rw c.requires.height c.requires.peeled.peeled.in_rows) listed c.requires.listed inactive middle c.solve_inactive.new.recorded peeled
     (wide at_rest) (narrow at_rest) lacks.changes reduced permuted lacks.stuck
 
 pub returns-clause-found : goal.returns-clause-found
