@@ -94,6 +94,7 @@ fn one_and_two(alloc: Global) -> Result<SymbolSlab, Error>
 }
 
 #[test]
+#[tactic(auto, unfolding(rq_algebra::specs::Operations::step))]
 fn a_multiple_is_added(rt: HostRuntime) -> Result<(), Error> {
     let mut slab = one_and_two(rt.alloc())?;
     slab.fma(0, 1, &Octet::new(3));
