@@ -1,6 +1,7 @@
 //! Worked examples of objects of several blocks, of blocks of no symbols, and of no bytes.
 use raptorq::error::Error;
-use raptorq::{Decoder, Encoder};
+use raptorq::systematic_constants::SystematicTable;
+use raptorq::{Decoder, Encoder, ObjectTransmissionInformation};
 use raptorq_test_kit::configurations::configured;
 use raptorq_test_kit::packets::packet;
 use std::alloc::Global;
@@ -21,7 +22,8 @@ fn ten_bytes(alloc: Global) -> Result<Decoder, Error> {
 #[test]
 fn blocks_of_no_symbols(rt: HostRuntime) -> Result<(), Fail> {
     let alloc = rt.alloc();
-    let (table, information) = configured(alloc, (3, 2, 5, 1, 1))?;
+    let table = SystematicTable::built_in(alloc)?;
+    let information = ObjectTransmissionInformation::new(3, 2, 5, 1, 1)?;
     let encoder = Encoder::new(alloc, &table, &[7, 8, 9], information)?;
     let packets = encoder.get_encoded_packets(0)?;
     let wanted = vec![in alloc;
