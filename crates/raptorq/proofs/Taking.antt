@@ -1,7 +1,8 @@
 -- Packets that a block's decoder takes one after another.
-use Rattle.std.proofs.Common.{◌≡◌, Bool, cond, eqb, List, [], ◌∷◌, ◌++◌, length, Option, Some, Result, Ok, Err, refl, sym, ap, ◌∙◌, subst, inl, inr}
+use Rattle.std.proofs.Common.{◌≡◌, Bool, true, false, cond, eqb, List, [], ◌∷◌, ◌++◌, length, Option, Some, Result, Ok, Err, refl, sym, ap, ◌∙◌, subst, inl, inr}
 use Rattle.std.specs.Iterator.{Yields}
 use Rattle.std.specs.Prelude.{not}
+use Rattle.std.proofs.lemmas.Bool.{eqb-true}
 use Rattle.rq_bytes.specs.declared.error.Error.{Error}
 use Rattle.rq_bytes.specs.declared.error.Error.TheVariants.{OutOfMemory, UnknownBlock, WrongPayloadSize}
 use Rattle.rq_bytes.specs.Refusals.{IsRefusal}
@@ -24,6 +25,15 @@ configuration_kept h (p ∷ packets) = configuration_kept (recorded h p.id.esi p
 
 abbrev refused_by : Bool → Bool → Result (Unit {0}) Error
 refused_by b s = cond (not b) (Err UnknownBlock) (cond (not s) (Err WrongPayloadSize) (Ok tt))
+
+size_is_tested : (b s : Bool) → refused_by b s ≡ Ok tt → s ≡ true
+size_is_tested true true passed = refl
+size_is_tested true false passed = cc
+size_is_tested false s passed = cc
+
+-- a packet that is taken carries a symbol of the size
+pub taken_size : (h : Held) (p : Packet) → block_refusal h p ≡ Ok tt → length p.payload ≡ h.configuration.symbol_size
+taken_size h p passed = eqb-true (length p.payload) h.configuration.symbol_size (size_is_tested (eqb p.id.block h.number) (eqb (length p.payload) h.configuration.symbol_size) passed)
 
 -- what is refused stays the same
 pub refusal_kept : (h g : Held) (packets : List Packet) (p : Packet) → g ≡ all_recorded h packets → block_refusal g p ≡ block_refusal h p

@@ -51,7 +51,8 @@ impl Encoder {
     ///
     /// Refuses what [`ObjectTransmissionInformation::check`] refuses, then
     /// [`Error::WrongDataLength`] where the object hasn't the configuration's length, and then
-    /// [`Error::Singular`] where a block's row of the table decides no intermediate symbols.
+    /// [`Error::Singular`] where a block's row of the table doesn't determine the intermediate
+    /// symbols.
     pub fn new(
         alloc: Global,
         table: &SystematicTable,

@@ -2,6 +2,9 @@
 //!
 //! Its modules are those of the Rust crate of this name. Most stand in crates of their own below this
 //! one and are named again here, so that a user's line of `crates.txt` names `raptorq` alone.
+//!
+//! Beside what its own lines say, a call that takes memory refuses `Error::OutOfMemory` where there is
+//! none.
 #![tactic(auto)]
 
 mod blocks;

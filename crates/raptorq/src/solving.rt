@@ -32,7 +32,7 @@ pub(crate) fn solve(
     ensures solved { IfOk result (λ answer. SolvesListed row.now ids.now values.symbol_size values.values answer) }
     ensures memory { IfErr result (λ e. e ≡ Error.OutOfMemory) }
 {
-    // What counts them says that they have one size.
+    // What counts the values says that they have one size.
     let _symbols = values.len();
     match solve_recorded(alloc, row, ids, values)? {
         Some((intermediate, _operations)) => Ok(Some(intermediate)),

@@ -199,7 +199,8 @@ impl SourceBlockDecoder {
         Ok(self.decode_until_stopped(packets)?)
     }
 
-    // The same, naming where the work stopped.
+    // Takes packets until one is refused, and answers the block where it is determined. What stops it
+    // is named by the place of the work.
     fn decode_until_stopped<I: IntoIterator<Item = EncodingPacket>>(
         &mut self,
         packets: I,
@@ -228,8 +229,8 @@ impl SourceBlockDecoder {
         homogeneous(self.alloc, &self.row, ids.as_slice())
     }
 
-    /// Tests a packet and records its payload, unless one of its id came before.
-    pub(crate) fn add(&mut self, packet: EncodingPacket) -> Result<(), Stopped>
+    // Tests a packet and records it.
+    fn add(&mut self, packet: EncodingPacket) -> Result<(), Stopped>
         ensures taken { OnOk result (block_refusal (held_of self.old) packet ≡ Ok tt) }
         ensures stops { IfErr result (λ stopped. StopsPacket stopped (block_refusal (held_of self.old) packet)) }
         ensures ok { OnOk result (held_of self.new ≡ recorded (held_of self.old) packet.id.esi packet.payload) }
@@ -241,6 +242,16 @@ impl SourceBlockDecoder {
         if packet.data().len() != self.symbol_size() {
             return Err(Stopped::Refused(Error::WrongPayloadSize));
         }
+        self.record(packet)
+    }
+
+    /// Records the payload of a packet of the block, unless one of its id came before.
+    pub(crate) fn record(&mut self, packet: EncodingPacket) -> Result<(), Stopped>
+        requires { block_refusal (held_of self.old) packet ≡ Ok tt }
+        ensures stops { IfErr result (λ stopped. stopped ≡ Stopped.NotRecorded) }
+        ensures ok { OnOk result (held_of self.new ≡ recorded (held_of self.old) packet.id.esi packet.payload) }
+        ensures err { OnErr result (held_of self.new ≡ held_of self.old) }
+    {
         let (id, payload) = packet.split();
         let esi = id.encoding_symbol_id();
         let is_source = esi < self.symbols;
@@ -267,7 +278,8 @@ impl SourceBlockDecoder {
         Ok(block)
     }
 
-    // The same, solved whatever was found before.
+    // The block, where all its source symbols came or what came determines it: solved whatever was
+    // found before.
     fn find_answer(&self) -> Result<Option<Vec<u8>>, Error>
         ensures block { IfOk result (λ r. IsBlockAnswer (held_of self.now) (option_map vec_items r)) }
         ensures memory { IfErr result (λ e. e ≡ Error.OutOfMemory) }

@@ -18,7 +18,7 @@ use rq_bytes::error::Error;
 use rq_tables::systematic_constants::SystematicTable;
 use std::alloc::{AllocError, Global};
 
-/// A block of an object: its decoder, and its bytes once they are answered.
+// A block of an object: its decoder, and its bytes once they are answered.
 #[derive(Debug, PartialEq, Eq, Drop)]
 struct ObjectBlock {
     decoder: SourceBlockDecoder,
@@ -68,7 +68,7 @@ impl ObjectBlock {
         if self.answer.is_some() {
             return Ok(());
         }
-        self.decoder.add(packet)?;
+        self.decoder.record(packet)?;
         let Ok(answer) = self.decoder.answer() else {
             return Err(Stopped::NotSolved);
         };

@@ -45,11 +45,11 @@ impl SourceBlockEncoder {
     /// The encoder of the source block of these bytes, in as many symbols as they are. Its plan is
     /// the one in the cache, or a new one, which is then put in.
     ///
-    /// Refuses [`Error::SymbolSizeZero`], [`Error::AlignmentZero`] and [`Error::Misaligned`] for the
-    /// configuration, [`Error::WrongDataLength`] where the bytes are no whole symbols,
-    /// [`Error::BlockOverTable`] where the cache's table has no row for so many, and then
-    /// [`Error::Singular`] where that row decides no intermediate symbols. After each the cache is
-    /// as before.
+    /// Refuses, in this order, [`Error::SymbolSizeZero`], [`Error::AlignmentZero`],
+    /// [`Error::Misaligned`] where the alignment doesn't divide the symbol size,
+    /// [`Error::WrongDataLength`] where the bytes are no whole symbols, [`Error::BlockOverTable`]
+    /// where the cache's table has no row for so many, and [`Error::Singular`] where that row doesn't
+    /// determine the intermediate symbols. After a refusal the cache is as before.
     pub fn new(
         alloc: Global,
         source_block_number: u8,
@@ -83,9 +83,10 @@ impl SourceBlockEncoder {
     /// The encoder of a source block, by a plan of the table's row for its number of source symbols.
     ///
     /// Refuses, in this order, [`Error::SymbolSizeZero`], [`Error::AlignmentZero`],
-    /// [`Error::Misaligned`], [`Error::WrongDataLength`] where the block isn't whole symbols,
-    /// [`Error::BlockOverTable`], and [`Error::PlanMismatch`] where the plan was made for another
-    /// number of source symbols or another row.
+    /// [`Error::Misaligned`] where the alignment doesn't divide the symbol size,
+    /// [`Error::WrongDataLength`] where the block isn't whole symbols, [`Error::BlockOverTable`]
+    /// where the table has no row for so many, and [`Error::PlanMismatch`] where the plan was made
+    /// for another number of source symbols or another row.
     pub fn with_encoding_plan(
         alloc: Global,
         source_block_number: u8,
@@ -125,7 +126,7 @@ impl SourceBlockEncoder {
         SourceBlockEncoder::planned(alloc, number, source, plan)
     }
 
-    /// The packets of the source symbols.
+    /// The packets of the source symbols, in their order (RFC 6330, section 4.4.2).
     pub fn source_packets(&self) -> Result<Vec<EncodingPacket>, Error>
         ensures packets { let b = block_encoded_of self.now in IfOk result (λ v. AreBlockPackets b 0 (length b.source) v.items) }
         ensures memory { IfErr result (λ e. e ≡ Error.OutOfMemory) }

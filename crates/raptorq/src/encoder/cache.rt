@@ -55,7 +55,7 @@ impl SourceBlockEncodingPlanCache {
     /// The plan of source blocks with so many source symbols. It is made, and put in as the last,
     /// where none is held; what is held keeps its order.
     ///
-    /// Refuses what [`SourceBlockEncodingPlan::generate`] refuses, and is then as before.
+    /// Refuses what [`SourceBlockEncodingPlan::generate`] refuses. The cache is then as before.
     pub fn get_or_generate(&mut self, count: u16) -> Result<&SourceBlockEncodingPlan, Error>
         ensures* after { sem 𝓛 (EndsUsed self.entry count result) }
         ensures refused { IfErr result (λ e. (holds_count self.old.counts count ≡ false) × RefusesPlan self.old.table count e) }

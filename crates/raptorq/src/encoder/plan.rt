@@ -38,7 +38,7 @@ impl SourceBlockEncodingPlan {
     /// The plan of source blocks with so many source symbols, over their row of the table.
     ///
     /// Refuses [`Error::BlockOverTable`] where the table has no row for so many, and then
-    /// [`Error::Singular`] where that row decides no intermediate symbols.
+    /// [`Error::Singular`] where that row doesn't determine the intermediate symbols.
     pub fn generate(
         alloc: Global,
         table: &SystematicTable,
@@ -60,7 +60,7 @@ impl SourceBlockEncodingPlan {
 
     /// The plan over a row of a table.
     ///
-    /// Refuses [`Error::Singular`] where the row decides no intermediate symbols.
+    /// Refuses [`Error::Singular`] where the row doesn't determine the intermediate symbols.
     pub(crate) fn of_row(
         alloc: Global,
         source_symbol_count: u16,
@@ -115,7 +115,7 @@ impl SourceBlockEncodingPlan {
         ensures memory { IfErr result (λ e. e ≡ Error.OutOfMemory) }
     {
         let mut symbols = source_values(&self.row, source)?;
-        // What counts them says that they have one size.
+        // What counts the symbols says that they have one size.
         let _count = symbols.len();
         replay(self.operations.as_slice(), &mut symbols)?;
         Ok(symbols)
@@ -136,7 +136,7 @@ impl Clone for SourceBlockEncodingPlan {
     }
 }
 
-// The values of the equations that decide a block's intermediate symbols: its source symbols, and
+// The values of the equations that determine a block's intermediate symbols: its source symbols, and
 // zeros for all others.
 fn source_values(row: &TableRow, source: &SymbolSlab) -> Result<SymbolSlab, Error>
     requires checked { IsChecked row.now }

@@ -4,8 +4,9 @@ use Rattle.raptorq.specs.Missing.{payload_of}
 use Rattle.raptorq.proofs.Payloads.{sized-more, few-more}
 use Rattle.raptorq.proofs.MissingCounts.{missing_count-same, missing_count-step, missing-after}
 use Rattle.raptorq.specs.SourceBlockDecoder.{held_of}
+use Rattle.raptorq.proofs.Taking.{taken_size}
 use Rattle.raptorq.proofs.Waiting.{waits-same, waits-repeat}
-use Rattle.raptorq.proofs.decoder.block.SourceBlockDecoder.add.Goals as goal
+use Rattle.raptorq.proofs.decoder.block.SourceBlockDecoder.record.Goals as goal
 
 pub invariant_of-self : goal.invariant_of-self
 invariant_of-self c = record {
@@ -24,7 +25,7 @@ overflow_sub-self c = (missing-after c.args.self.now.missing _ _ c.from.result _
 
 pub invariant_of-self-2 : goal.invariant_of-self-2
 invariant_of-self-2 c =
-    let long : length c.split-id.result.1.items ≡ c.args.self.now.config.symbol_size = ap length (c.split-id.ensures.payload ∙ sym c.data.ensures) ∙ c.if-data-symbol_size.false ∙ c.symbol_size.ensures.value in
+    let long : length c.split-id.result.1.items ≡ c.args.self.now.config.symbol_size = ap length c.split-id.ensures.payload ∙ taken_size (held_of c.args.self.now) c.args.packet c.requires in
     record {
       sized = sized-more (payload_of c.args.self.now.received) (payload_of c.keep_first.new.received) c.encoding_symbol_id-esi.result c.split-id.result.1.items c.args.self.now.config.symbol_size c.args.self.now.sized long c.in-Ok.ensures.ok;
       positive = c.args.self.now.positive;
