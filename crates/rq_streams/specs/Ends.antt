@@ -1,13 +1,15 @@
 -- How a run ends.
-use Rattle.std.specs.Prelude.{◌≡◌, ℕ, List, take, Option, Some, None, Result, Ok, Err, ◌⊎◌}
+use Rattle.std.specs.Prelude.{◌≡◌, ◌↔◌, ℕ, ◌+◌, ◌<◌, List, take, Option, Some, None, Result, Ok, Err, ◌⊎◌}
 use Rattle.std.specs.Io.KnownBytes.{Keeps, Appends}
 use Rattle.rq_bytes.specs.declared.error.Error.{Error}
 use Rattle.rq_bytes.specs.declared.error.Error.TheVariants.{OutOfMemory}
 use Rattle.rq_bytes.specs.Refusals.{and_then}
+use Rattle.rq_streams.specs.declared.counted.Counted.{Counted}
 use Rattle.rq_streams.specs.declared.run.Outcome.{Outcome}
 use Rattle.rq_streams.specs.declared.run.Outcome.TheVariants.{Written, Incomplete}
 use Rattle.rq_streams.specs.declared.run.Stop.{Stop}
 use Rattle.rq_streams.specs.declared.run.Stop.TheVariants.{Fault, Refused}
+use Rattle.rq_streams.specs.Counted.{failed_count}
 
 -- what a run is to do: write these bytes, write nothing, or refuse
 abbrev pub Wanted : Type 0
@@ -38,6 +40,18 @@ abbrev pub failed_calls : {X : Type 0} → Result X Stop → ℕ
 failed_calls (Ok x) = 0
 failed_calls (Err Fault) = 1
 failed_calls (Err (Refused e)) = 0
+
+-- A run's reader and writer together count its failed calls.
+abbrev pub CountsFailures : {R W X : Type 0} → Counted R → Counted W → Result X Stop → Counted R → Counted W → Type 0
+CountsFailures reader writer result reader' writer' = failed_count reader' + failed_count writer' ≡ failed_count reader + failed_count writer + failed_calls result
+
+-- Its answer is a fault exactly where the count of one of them grew.
+abbrev pub FaultsWhereCounted : {R W X : Type 0} → Counted R → Counted W → Result X Stop → Counted R → Counted W → Type 0
+FaultsWhereCounted reader writer result reader' writer' = (result ≡ Err Fault) ↔ ((failed_count reader < failed_count reader') ⊎ (failed_count writer < failed_count writer'))
+
+-- Where a call of its reader failed, what stands behind its writer is as before.
+abbrev pub KeepsWhereUnread : {R : Type 0} → Counted R → Counted R → Option (List ℕ) → Option (List ℕ) → Type 0
+KeepsWhereUnread reader reader' before after = failed_count reader < failed_count reader' → Keeps before after
 
 -- the outcome alone, of a run that answers how many frames it skipped beside it
 abbrev pub outcome_of : Result (Outcome × ℕ) Stop → Result Outcome Stop

@@ -1,11 +1,10 @@
 //! A stream in, its object out.
-ghost use Rattle.std.specs.Prelude.{◌≡◌, ◌+◌, ◌^◌, ◌-◌, ◌<◌, ◌≤◌, ◌⊎◌, ◌↔◌, length, Ok, Err, OnOk, IfOk, IfErr, option_map, vec_items};
-ghost use Rattle.std.specs.Io.KnownBytes.{Keeps};
+ghost use Rattle.std.specs.Prelude.{◌≡◌, ◌^◌, ◌-◌, ◌<◌, ◌≤◌, length, OnOk, IfOk, IfErr, option_map, vec_items};
 ghost use Rattle.rq_bytes.specs.Refusals.{Answers};
 ghost use Rattle.rq_standard.specs.TableRows.{greatest_size};
 ghost use Rattle.raptorq.specs.Decoder.{state_of};
 ghost use Rattle.rq_streams.specs.Counted.{failed_count, inner_of};
-ghost use Rattle.rq_streams.specs.Ends.{AfterRefusal, failed_calls};
+ghost use Rattle.rq_streams.specs.Ends.{AfterRefusal, CountsFailures, FaultsWhereCounted, KeepsWhereUnread};
 ghost use Rattle.rq_streams.specs.Frames.{frame_size, frames_in, kept_packet, skipped_count, skipped_in};
 ghost use Rattle.rq_streams.specs.ReceivedStreams.{header_configuration, receive_refusal, StandsForFrames, AnswersStream, RefusesStream, RefusesFirst, CountsSkipped, ReceivesExactly, ReceivesWhereAnyCan, CountsOthers};
 
@@ -116,12 +115,9 @@ pub fn run_receive<R: Read, W: Write>(
     requires writes { failed_count writer.old < 2 ^ 64 - 1 }
 
     // The first failed call ends the run, and nothing else is a fault.
-    ensures counts { failed_count reader.new + failed_count writer.new
-        ≡ failed_count reader.old + failed_count writer.old + failed_calls result }
-    ensures fault { (result ≡ Err Stop.Fault) ↔ ((failed_count reader.old < failed_count reader.new)
-        ⊎ (failed_count writer.old < failed_count writer.new)) }
-    ensures unread { failed_count reader.old < failed_count reader.new
-        → Keeps (W.contents (inner_of writer.old)) (W.contents (inner_of writer.new)) }
+    ensures counts { CountsFailures reader.old writer.old result reader.new writer.new }
+    ensures fault { FaultsWhereCounted reader.old writer.old result reader.new writer.new }
+    ensures unread { KeepsWhereUnread reader.old reader.new (W.contents (inner_of writer.old)) (W.contents (inner_of writer.new)) }
 
     // Whatever is read, what is refused is its first refusal, and then nothing is written.
     ensures refused { RefusesFirst table.now result

@@ -1,10 +1,9 @@
 //! An object in, its stream out.
-ghost use Rattle.std.specs.Prelude.{◌≡◌, ◌+◌, ◌^◌, ◌-◌, ◌<◌, ◌⊎◌, ◌↔◌, Result, Ok, Err, option_map, vec_items};
-ghost use Rattle.std.specs.Io.KnownBytes.{Keeps};
+ghost use Rattle.std.specs.Prelude.{◌≡◌, ◌^◌, ◌-◌, ◌<◌, Ok, option_map, vec_items};
 ghost use Rattle.rq_bytes.specs.Refusals.{IsAnswer};
 ghost use Rattle.rq_standard.specs.Streams.{stream_of};
 ghost use Rattle.rq_streams.specs.Counted.{failed_count, inner_of};
-ghost use Rattle.rq_streams.specs.Ends.{AnswersAs, failed_calls};
+ghost use Rattle.rq_streams.specs.Ends.{AnswersAs, CountsFailures, FaultsWhereCounted, KeepsWhereUnread};
 ghost use Rattle.rq_streams.specs.Sent.{IsSent, SendsStream};
 
 use crate::counted::Counted;
@@ -66,12 +65,9 @@ pub fn run_send<R: Read, W: Write>(
     requires writes { failed_count writer.old < 2 ^ 64 - 1 }
 
     // The first failed call ends the run, and nothing else is a fault.
-    ensures counts { failed_count reader.new + failed_count writer.new
-        ≡ failed_count reader.old + failed_count writer.old + failed_calls result }
-    ensures fault { (result ≡ Err Stop.Fault) ↔ ((failed_count reader.old < failed_count reader.new)
-        ⊎ (failed_count writer.old < failed_count writer.new)) }
-    ensures unread { failed_count reader.old < failed_count reader.new
-        → Keeps (W.contents (inner_of writer.old)) (W.contents (inner_of writer.new)) }
+    ensures counts { CountsFailures reader.old writer.old result reader.new writer.new }
+    ensures fault { FaultsWhereCounted reader.old writer.old result reader.new writer.new }
+    ensures unread { KeepsWhereUnread reader.old reader.new (W.contents (inner_of writer.old)) (W.contents (inner_of writer.new)) }
 
     // The stream of what is read, or the first refusal in the written order.
     ensures ends { SendsStream table.now packet_size repair result
