@@ -200,7 +200,8 @@ impl SymbolSlab {
         }
     }
 
-    // The same, made anew for each number of sources that is known.
+    // Adds several symbols to another one, in one pass over its octets. It is made anew for each number
+    // of sources that is known.
     #[inline(always)]
     fn add_sources(&mut self, dest: usize, sources: &[usize])
         requires dest { HasPlace self.old dest }
