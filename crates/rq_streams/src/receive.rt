@@ -86,9 +86,10 @@ fn received_object(
     ensures memory { IfErr result (RefusesStream table.now bytes.items) }
     ensures skipped { IfOk result (λ r. r.1 ≡ skipped_in bytes.items) }
 {
-    let config = header_configuration(bytes.as_slice())?;
+    let stream = bytes.as_slice();
+    let config = header_configuration(stream)?;
     let mut decoder = Decoder::new(alloc, table, config)?;
-    let skipped = add_frames(alloc, &mut decoder, &config, &bytes.as_slice()[12..])?;
+    let skipped = add_frames(alloc, &mut decoder, &config, &stream[12..])?;
     drop(bytes);
     Ok((decoder.get_result()?, skipped))
 }
