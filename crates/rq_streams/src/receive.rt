@@ -73,20 +73,23 @@ fn add_frames(
     Ok(skipped)
 }
 
-// The object of a stream, where its packets determine it, and how many frames are skipped.
+// The object of a stream, where its packets determine it, and how many frames are skipped. The
+// stream goes before the object is put together, so that the two never stand side by side.
 fn received_object(
     alloc: Global,
     table: &SystematicTable,
-    bytes: &[u8],
+    bytes: Vec<u8>,
 ) -> Result<(Option<Vec<u8>>, u64), Error>
-    ensures refused { AfterRefusal (receive_refusal (greatest_size table.now) bytes.now) (Answers (λ r. option_map vec_items r.0) result) }
-    ensures answer { IfOk result (λ r. AnswersStream table.now bytes.now (option_map vec_items r.0)) }
-    ensures memory { IfErr result (RefusesStream table.now bytes.now) }
-    ensures skipped { IfOk result (λ r. r.1 ≡ skipped_in bytes.now) }
+    ensures refused { AfterRefusal (receive_refusal (greatest_size table.now) bytes.items) (Answers (λ r. option_map vec_items r.0) result) }
+    ensures answer { IfOk result (λ r. AnswersStream table.now bytes.items (option_map vec_items r.0)) }
+    ensures memory { IfErr result (RefusesStream table.now bytes.items) }
+    ensures skipped { IfOk result (λ r. r.1 ≡ skipped_in bytes.items) }
 {
-    let config = header_configuration(bytes)?;
+    let stream = bytes.as_slice();
+    let config = header_configuration(stream)?;
     let mut decoder = Decoder::new(alloc, table, config)?;
-    let skipped = add_frames(alloc, &mut decoder, &config, &bytes[12..])?;
+    let skipped = add_frames(alloc, &mut decoder, &config, &stream[12..])?;
+    drop(bytes);
     Ok((decoder.get_result()?, skipped))
 }
 
@@ -138,6 +141,6 @@ pub fn run_receive<R: Read, W: Write>(
     ensures others { CountsOthers table.now result (R.remaining (inner_of reader.old)) }
 {
     let bytes = read_all(alloc, reader)?;
-    let (object, skipped) = received_object(alloc, table, bytes.as_slice())?;
+    let (object, skipped) = received_object(alloc, table, bytes)?;
     Ok((finish(writer, object)?, skipped))
 }

@@ -45,8 +45,8 @@ impl From<AllocError> for Stop {
     }
 }
 
-// How many bytes are read at once.
-const CHUNK: usize = 4096;
+// How many bytes are read at once, as many as a pipe holds.
+const CHUNK: usize = 65536;
 
 /// All that is left to read. The first failed call ends it with a fault.
 pub(crate) fn read_all<R: Read>(alloc: Global, reader: &mut Counted<R>) -> Result<Vec<u8>, Stop>

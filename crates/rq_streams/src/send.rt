@@ -29,20 +29,23 @@ fn stream(
     Ok(bytes)
 }
 
-// The stream of an object.
+// The stream of an object. What isn't needed any more goes at once, so that the object, its encoder,
+// its packets and its stream never stand side by side.
 fn sent_stream(
     alloc: Global,
     table: &SystematicTable,
-    object: &[u8],
+    object: Vec<u8>,
     packet_size: u16,
     repair: u32,
 ) -> Result<Option<Vec<u8>>, Error>
-    ensures { AnswersAs (option_map vec_items) result (IsSent table.now packet_size repair object.now) }
+    ensures { AnswersAs (option_map vec_items) result (IsSent table.now packet_size repair object.items) }
 {
     let length = object.len() as u64;
     let config = ObjectTransmissionInformation::with_defaults(table, length, packet_size)?;
-    let encoder = Encoder::new(alloc, table, object, config)?;
+    let encoder = Encoder::new(alloc, table, object.as_slice(), config)?;
+    drop(object);
     let packets = encoder.get_encoded_packets(repair)?;
+    drop(encoder);
     Ok(Some(stream(alloc, &config, packets)?))
 }
 
@@ -74,6 +77,6 @@ pub fn run_send<R: Read, W: Write>(
         (R.remaining (inner_of reader.old)) (W.contents (inner_of writer.old)) (W.contents (inner_of writer.new)) }
 {
     let object = read_all(alloc, reader)?;
-    let stream = sent_stream(alloc, table, object.as_slice(), packet_size, repair)?;
+    let stream = sent_stream(alloc, table, object, packet_size, repair)?;
     finish(writer, stream)
 }

@@ -137,9 +137,10 @@ impl EncodingPacket {
         ensures value { IsAnswer (λ v. v.items) result (Ok (packet_bytes self.now)) }
         ensures read { IfOk result (λ v. packet_of_bytes v.items ≡ self.now) }
     {
-        let mut bytes = Vec::with_capacity(alloc, self.payload.len())?;
+        let payload = self.payload.as_bytes();
+        let mut bytes = Vec::with_capacity(alloc, 4 + payload.len())?;
         bytes.extend_from_slice(&self.payload_id.serialize())?;
-        bytes.extend_from_slice(self.payload.as_bytes())?;
+        bytes.extend_from_slice(payload)?;
         Ok(bytes)
     }
 

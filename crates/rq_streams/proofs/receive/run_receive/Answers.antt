@@ -1,4 +1,4 @@
-use Rattle.std.proofs.Common.{vec_items, ℕ, Ok, Err, Global}
+use Rattle.std.proofs.Common.{vec_items, ℕ, Ok, Err, Global, refl}
 use Rattle.std.specs.Prelude.{option_map}
 use Rattle.std.proofs.lemmas.Result.{err_from_is_err_and}
 use Rattle.rq_streams.specs.Counted.{inner_of}
@@ -16,18 +16,18 @@ returns-in_err-bytes-clause-ends g c =
 pub returns-in_err-object-clause-ends : goal.returns-in_err-object-clause-ends
 returns-in_err-object-clause-ends g c =
     let p = err_from_is_err_and c.from_residual-in_err-object.result c.from_residual-in_err-object.ensures.1 in
-    rw (p.1, p.2) (receives_refused c.args.table.now (g.R.Read.remaining (inner_of c.args.reader.now)) c.in_ok-bytes.bytes.items c.as_slice.result.now c.as_slice.ensures.value c.in_ok-bytes.ensures.bytes
+    rw (p.1, p.2) (receives_refused c.args.table.now (g.R.Read.remaining (inner_of c.args.reader.now)) c.in_ok-bytes.bytes.items c.in_ok-bytes.bytes.items refl c.in_ok-bytes.ensures.bytes
     c.in_err-object.field-0.0 (g.W.Write.contents (inner_of c.args.writer.now)) c.in_err-object.ensures.memory)
 
 pub returns-in_err-finish-clause-ends : goal.returns-in_err-finish-clause-ends
 returns-in_err-finish-clause-ends g c =
     let p = err_from_is_err_and c.from_residual-in_err-finish.result c.from_residual-in_err-finish.ensures.1 in
-    rw (p.1, p.2) (receives_by c.args.table.now (g.R.Read.remaining (inner_of c.args.reader.now)) c.in_ok-bytes.bytes.items c.as_slice.result.now c.as_slice.ensures.value c.in_ok-bytes.ensures.bytes
+    rw (p.1, p.2) (receives_by c.args.table.now (g.R.Read.remaining (inner_of c.args.reader.now)) c.in_ok-bytes.bytes.items c.in_ok-bytes.bytes.items refl c.in_ok-bytes.ensures.bytes
     (Err c.in_err-finish.field-0.0) (g.W.Write.contents (inner_of c.args.writer.now)) (g.W.Write.contents (inner_of c.finish.new.writer)) (option_map (vec_items {X = ℕ} {Z = Global}) c.in_ok-object.object) c.in_ok-object.ensures.answer c.in_err-finish.ensures.ends)
 
 pub returns-clause-ends : goal.returns-clause-ends
 returns-clause-ends g c =
-    receives_by c.args.table.now (g.R.Read.remaining (inner_of c.args.reader.now)) c.in_ok-bytes.bytes.items c.as_slice.result.now c.as_slice.ensures.value c.in_ok-bytes.ensures.bytes
+    receives_by c.args.table.now (g.R.Read.remaining (inner_of c.args.reader.now)) c.in_ok-bytes.bytes.items c.in_ok-bytes.bytes.items refl c.in_ok-bytes.ensures.bytes
     (Ok (c.in_ok-finish.field-0, c.in_ok-object.skipped)) _ _ (option_map (vec_items {X = ℕ} {Z = Global}) c.in_ok-object.object) c.in_ok-object.ensures.answer c.in_ok-finish.ensures.ends
 
 pub returns-in_err-bytes-clause-where_any_can : goal.returns-in_err-bytes-clause-where_any_can
@@ -44,5 +44,5 @@ returns-clause-where_any_can g c = receives_where_any_can c.args.table.now (Ok (
 
 pub returns-clause-others : goal.returns-clause-others
 returns-clause-others g c =
-    counts_others c.args.table.now (g.R.Read.remaining (inner_of c.args.reader.now)) c.in_ok-bytes.bytes.items c.as_slice.result.now c.as_slice.ensures.value c.in_ok-bytes.ensures.bytes
+    counts_others c.args.table.now (g.R.Read.remaining (inner_of c.args.reader.now)) c.in_ok-bytes.bytes.items c.in_ok-bytes.bytes.items refl c.in_ok-bytes.ensures.bytes
     c.in_ok-finish.field-0 c.in_ok-object.skipped c.in_ok-object.ensures.skipped
