@@ -40,6 +40,7 @@ impl PhaseCounts {
     }
 
     // Counts one more in a phase.
+    #[inline(always)]
     fn count(self, phase: Phase) -> PhaseCounts
         requires { self.first + self.second + self.fourth + 1 < 2 ^ 64 }
         ensures { result.first + result.second + result.fourth ≡ self.first + self.second + self.fourth + 1 }
@@ -151,6 +152,7 @@ impl OperationList {
     }
 
     /// Records an operation, and counts it.
+    #[inline(always)]
     pub(super) fn push(&mut self, operation: SymbolOps) -> Result<(), Error>
         ensures recorded { OnOk result (self.new ≡ self.old ++ operation_of operation ∷ []) }
         ensures err { IfErr result (λ e. e ≡ OutOfMemory) }

@@ -56,6 +56,7 @@ impl RecordedRows {
     }
 
     /// What a row has in an inactive column.
+    #[inline(always)]
     pub(super) fn get(&self, row: usize, column: usize) -> Octet
         requires row { row < length self.now.table.rows }
         requires column { column < self.now.table.width }
@@ -82,6 +83,7 @@ impl RecordedRows {
     }
 
     /// Adds a multiple of a row to another one.
+    #[inline(always)]
     pub(super) fn add_row(&mut self, dest: usize, src: usize, scalar: Octet) -> Result<(), Error>
         requires two { dest ≢ src }
         requires dest { dest < length self.old.table.rows }
@@ -113,6 +115,7 @@ impl RecordedRows {
     }
 
     /// Records that a multiple of a row is added to another one, of which no entry is read any more.
+    #[inline(always)]
     pub(super) fn record_sum(&mut self, dest: usize, src: usize, scalar: Octet) -> Result<(), Error>
         requires two { dest ≢ src }
         requires dest { dest < length self.old.table.rows }
@@ -142,6 +145,7 @@ impl RecordedRows {
 }
 
 // The operation that adds a multiple of a symbol.
+#[inline(always)]
 fn addition(dest: usize, src: usize, scalar: Octet) -> SymbolOps
     ensures { operation_of result ≡ sum_step dest src scalar }
 {
