@@ -1,5 +1,5 @@
 //! Rows that are worked on, with the operations that are recorded for them.
-ghost use Rattle.std.specs.Prelude.{◌≡◌, ◌≢◌, ◌+◌, ◌<◌, ◌≤◌, ◌∷◌, [], length, OnOk, IfErr};
+ghost use Rattle.std.specs.Prelude.{◌≡◌, ◌≢◌, ◌+◌, ◌<◌, ◌≤◌, ◌∷◌, [], length, IfOk, OnOk, IfErr};
 ghost use Rattle.rq_algebra.specs.Operations.{MulAssign};
 ghost use Rattle.rq_bytes.specs.declared.error.Error.TheVariants.{OutOfMemory};
 ghost use Rattle.rq_bytes.specs.SymbolOps.{operation_of};
@@ -33,14 +33,19 @@ impl Model for RecordedRows {
 }
 
 impl RecordedRows {
-    /// Rows to which nothing was done yet.
-    pub(super) fn new(alloc: Global, table: DenseOctetMatrix) -> RecordedRows
-        ensures { result ≡ record { table = table; operations = [] } }
+    /// Rows to which nothing was done yet, with room for so many operations.
+    pub(super) fn new(
+        alloc: Global,
+        table: DenseOctetMatrix,
+        room: usize,
+    ) -> Result<RecordedRows, Error>
+        ensures rows { IfOk result (λ rows. rows ≡ record { table = table; operations = [] }) }
+        ensures err { IfErr result (λ e. e ≡ OutOfMemory) }
     {
-        RecordedRows {
+        Ok(RecordedRows {
             table,
-            operations: OperationList::new(alloc),
-        }
+            operations: OperationList::with_room(alloc, room)?,
+        })
     }
 
     /// The allocator of what is recorded.
