@@ -246,16 +246,14 @@ impl<'a> DenseBits<'a> {
     {
         while self.column < self.end {
             let zeros = zeros_in_word(self.words[self.word], self.bit);
-            if zeros == 0 {
-                return;
-            }
             let count = zeros.min(self.end - self.column);
             self.column += count;
             self.bit += count;
-            if self.bit == WORD_BITS {
-                self.word += 1;
-                self.bit = 0;
+            if self.bit < WORD_BITS {
+                return;
             }
+            self.word += 1;
+            self.bit = 0;
         }
     }
 
