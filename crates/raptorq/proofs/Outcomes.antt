@@ -16,10 +16,10 @@ use Rattle.rq_standard.specs.OctetField.{octets}
 use Rattle.rq_standard.specs.TableRows.{intermediate_symbols}
 use Rattle.rq_standard.specs.Equations.{equations, equation_count}
 use Rattle.rq_base.specs.HdpcPart.{IsHdpcPart}
-use Rattle.rq_solver.specs.Solving.{AreEquations, IsOutcome, solver_of}
+use Rattle.rq_solver.specs.Solving.{AreEquations, FindsOperations, IsOutcome, solver_of}
 use Rattle.rq_solver.specs.Solving as solver
-use Rattle.rq_solver.proofs.EquationLaws.{are_equations, solution_of_equations, homogeneous_of_equations}
-use Rattle.raptorq.specs.BlockSolutions.{IsBlockSolution, SolvesByOperations}
+use Rattle.rq_solver.proofs.EquationLaws.{are_equations, finds_equations, solution_of_equations, homogeneous_of_equations}
+use Rattle.raptorq.specs.BlockSolutions.{FindsListed, IsBlockSolution, SolvesByOperations}
 
 -- the matrices of a block's ids are equations for its values
 pub handed_equations : (row : TableRow) (ids : List ℕ) (bits : BitTable) (hdpc : OctetTable) (handed : Slab) → IsBinaryPart row ids bits → IsHdpcPart row hdpc → length handed.values ≡ equation_count row ids → intermediate_symbols row ≤ equation_count row ids → handed.order ≡ None
@@ -40,6 +40,11 @@ module _ (row : TableRow) (ids : List ℕ) (bits : BitTable) (hdpc : OctetTable)
   pub recorded_outcome : (answer : Option (Slab × Vec SymbolOps Global)) → IsOutcome (solver_of row bits hdpc handed) handed answer → SolvesByOperations row ids handed answer
   recorded_outcome None null = λ d. homogeneous_not_determined octets (equation_count row ids) (intermediate_symbols row) (equations row ids) (homogeneous_of_equations row ids bits hdpc part octet_part.rows handed are null) d
   recorded_outcome (Some found) solution = solution_of_equations row ids bits hdpc part octet_part.rows handed are found.0 (map operation_of found.1.items) solution
+
+  -- the same of what finds operations alone
+  pub found_outcome : (answer : Option (Vec SymbolOps Global)) → FindsOperations (solver_of row bits hdpc handed) answer → FindsListed row ids answer
+  found_outcome None null = λ d. homogeneous_not_determined octets (equation_count row ids) (intermediate_symbols row) (equations row ids) (homogeneous_of_equations row ids bits hdpc part octet_part.rows handed are null) d
+  found_outcome (Some found) finds = finds_equations row ids bits hdpc part octet_part.rows handed are (map operation_of found.items) finds
 
 -- the solution is the block's
 pub solution_found : (row : TableRow) (ids : List ℕ) (handed slab : Slab) (operations : List Operation) → AreSymbols octets handed.symbol_size (equation_count row ids) handed.values

@@ -1,6 +1,7 @@
 -- What a solver finds of a block.
 use Rattle.std.specs.Prelude.{◌≡◌, ℕ, ◌<◌, ◌≤◌, List, length, map, Option, MatchOption, Vec}
 use Rattle.std.specs.Global.{Global}
+use Rattle.rq_algebra.specs.Operations.{FindsColumn}
 use Rattle.rq_algebra.specs.Symbols.{IsSymbolColumn, SolvesSymbols, symbol_at}
 use Rattle.rq_bytes.specs.SymbolSlab.{Slab, symbol_in, symbols_in}
 use Rattle.rq_bytes.specs.SymbolOps.{operation_of}
@@ -23,6 +24,12 @@ pub record IsBlockSolution (row : TableRow) (ids : List ℕ) (size : ℕ) (value
       → (k : ℕ) → k < intermediate_symbols row → column k ≡ symbol_in slab k
   -- where there are as many equations as intermediate symbols, it solves them
   pub solves : equation_count row ids ≡ intermediate_symbols row → SolvesSymbols octets (equation_count row ids) (intermediate_symbols row) (equations row ids) (symbol_in slab) (symbol_at values)
+
+-- the operations that find the intermediate symbols, exactly where the ids determine them
+abbrev pub FindsListed : TableRow → List ℕ → Option (Vec SymbolOps Global) → Type 0
+FindsListed row ids answer =
+    MatchOption answer (HasDeterminedRows row ids → ⊥)
+    (λ found. FindsColumn octets (equation_count row ids) (intermediate_symbols row) (equations row ids) (map operation_of found.items))
 
 -- the intermediate symbols, exactly where the ids determine them
 abbrev pub SolvesListed : TableRow → List ℕ → ℕ → List (List ℕ) → Option Slab → Type 0

@@ -3,7 +3,7 @@ ghost use Rattle.std.specs.Prelude.{◌≡◌, ◌^◌, ◌<◌, ◌≤◌, leng
 ghost use Rattle.rq_standard.specs.TableRows.{IsChecked, intermediate_symbols};
 ghost use Rattle.rq_standard.specs.Equations.{equation_count, equations};
 ghost use Rattle.rq_solver.specs.Homogeneous.{ShowsHomogeneous};
-ghost use Rattle.raptorq.specs.BlockSolutions.{SolvesListed, SolvesByOperations};
+ghost use Rattle.raptorq.specs.BlockSolutions.{FindsListed, SolvesListed, SolvesByOperations};
 
 use rq_base::constraint_matrix::generate_constraint_matrix_of_row;
 use rq_bytes::error::Error;
@@ -40,10 +40,8 @@ pub(crate) fn solve(
     }
 }
 
-/// The intermediate symbols that have these values at a block's equations, and the operations that
-/// made them. The values may have any size, 0 too, where the operations alone are wanted. `None`
-/// where the equations don't determine the symbols.
-pub(crate) fn solve_recorded(
+// The same, with the operations that made them.
+fn solve_recorded(
     alloc: Global,
     row: &TableRow,
     ids: &[u32],
@@ -59,6 +57,26 @@ pub(crate) fn solve_recorded(
 {
     let (matrix, hdpc) = generate_constraint_matrix_of_row::<DenseBinaryMatrix>(alloc, row, ids)?;
     IntermediateSymbolDecoder::of_row(alloc, row, matrix, hdpc, values).execute()
+}
+
+/// The operations that make the intermediate symbols from the values of the equations of a list of
+/// internal symbol ids, whatever these are. `None` where the ids don't determine them.
+pub(crate) fn find_operations(
+    alloc: Global,
+    row: &TableRow,
+    ids: &[u32],
+    values: SymbolSlab,
+) -> Result<Option<Vec<SymbolOps>>, Error>
+    requires checked { IsChecked row.now }
+    requires enough { intermediate_symbols row.now ≤ equation_count row.now ids.now }
+    requires fits { equation_count row.now ids.now < 2 ^ 31 }
+    requires count { length values.values ≡ equation_count row.now ids.now }
+    requires no_order { values.order ≡ None }
+    ensures found { IfOk result (FindsListed row.now ids.now) }
+    ensures memory { IfErr result (λ e. e ≡ Error.OutOfMemory) }
+{
+    let (matrix, hdpc) = generate_constraint_matrix_of_row::<DenseBinaryMatrix>(alloc, row, ids)?;
+    IntermediateSymbolDecoder::of_row(alloc, row, matrix, hdpc, values).find_operations()
 }
 
 /// A column that isn't all zeros and solves the equations of a list of internal symbol ids with all

@@ -2,6 +2,7 @@
 
 mod block_vectors;
 mod blocks;
+mod counts;
 mod indices;
 mod matrices;
 mod object_vectors;

@@ -62,7 +62,7 @@ const SECOND_HALF: [usize; 32] = [
 /// An octet by which rows are multiplied, with its products by all halves of a byte, so that each
 /// octet of a row is looked up by its halves. Contracts see the octet.
 #[derive(Drop)]
-pub(crate) struct Factor {
+pub struct Factor {
     octet: u8,
     low: u8x32,
     high: u8x32,
@@ -82,7 +82,7 @@ impl Model for Factor {
 impl Factor {
     /// The octet with its products.
     #[inline(always)]
-    pub(crate) fn new(scalar: &Octet) -> Self
+    pub fn new(scalar: &Octet) -> Self
         ensures { result ≡ scalar.now }
     {
         let octet = scalar.byte();
@@ -95,7 +95,7 @@ impl Factor {
     }
 
     /// Multiplies a row by the octet.
-    pub(crate) fn multiply(&self, octets: &mut [u8])
+    pub fn multiply(&self, octets: &mut [u8])
         ensures octet { self.now < 256 }
         ensures multiple { octets.new ≡ row_multiple self.now octets.old }
     {
@@ -115,7 +115,7 @@ impl Factor {
     }
 
     /// Adds the octet's multiple of a row to a row of the same length.
-    pub(crate) fn add_multiple(&self, octets: &mut [u8], other: &[u8])
+    pub fn add_multiple(&self, octets: &mut [u8], other: &[u8])
         requires { length other.now ≡ length octets.old }
         ensures octet { self.now < 256 }
         ensures sum { octets.new ≡ row_sum octets.old (row_multiple self.now other.now) }

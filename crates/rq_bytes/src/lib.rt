@@ -2,7 +2,7 @@
 #![tactic(auto)]
 
 pub mod error;
-mod factor;
+pub mod factor;
 pub mod gf2;
 mod logarithms;
 pub mod octet;

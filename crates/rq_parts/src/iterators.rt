@@ -133,6 +133,7 @@ impl Iterator for OctetIter<'_> {
 
     ghost remaining = { item_count (λ s. s) };
 
+    #[inline(always)]
     fn next(&mut self) -> Option<(usize, Octet)> {
         match &mut self.left {
             Left::Columns(bits) => bits.next_column(),
@@ -210,6 +211,7 @@ impl<'a> DenseBits<'a> {
     }
 
     // The next column.
+    #[inline(always)]
     fn next_column(&mut self) -> Option<(usize, Octet)>
         ensures { MatchOption result ((self.old ≡ []) × (self.new ≡ [])) (λ p. self.old ≡ p ∷ self.new) }
     {
@@ -228,6 +230,7 @@ impl<'a> DenseBits<'a> {
     }
 
     // The next column that has a one.
+    #[inline(always)]
     fn next_one(&mut self) -> Option<(usize, Octet)>
         ensures { MatchOption result ((ones_among self.old ≡ []) × (ones_among self.new ≡ [])) (λ p. ones_among self.old ≡ p ∷ ones_among self.new) }
     {
@@ -236,22 +239,21 @@ impl<'a> DenseBits<'a> {
     }
 
     // Passes over the columns before the next one that has a one.
+    #[inline(always)]
     fn skip_zeros(&mut self)
         ensures ones { ones_among self.new ≡ ones_among self.old }
         ensures first { BeginsWithOne self.new }
     {
         while self.column < self.end {
             let zeros = zeros_in_word(self.words[self.word], self.bit);
-            if zeros == 0 {
-                return;
-            }
             let count = zeros.min(self.end - self.column);
             self.column += count;
             self.bit += count;
-            if self.bit == WORD_BITS {
-                self.word += 1;
-                self.bit = 0;
+            if self.bit < WORD_BITS {
+                return;
             }
+            self.word += 1;
+            self.bit = 0;
         }
     }
 
@@ -270,6 +272,7 @@ impl<'a> DenseBits<'a> {
 }
 
 // The number of zeros from a bit of a word on and before the next one, or before the word's end.
+#[inline(always)]
 fn zeros_in_word(word: u64, bit: usize) -> usize
     requires { bit < 64 }
     ensures within { bit + result ≤ 64 }

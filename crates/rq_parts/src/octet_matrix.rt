@@ -6,6 +6,7 @@ ghost use Rattle.rq_bytes.specs.Refusals.{IsAnswer};
 ghost use Rattle.rq_parts.specs.DenseOctetMatrix.{HasOctets, IsOctetRow, row_at, with_row, sum_from, columns_swapped};
 
 use rq_bytes::error::Error;
+use rq_bytes::factor::Factor;
 use rq_bytes::octet::Octet;
 use rq_bytes::octets;
 use rq_bytes::octets::BinaryOctetVec;
@@ -182,7 +183,7 @@ impl Row {
         ensures multiple { self.new ≡ row_multiple scalar.now self.old }
         ensures octets { IsOctetRow (length self.old) self.new }
     {
-        octets::mulassign_scalar(self.octets.as_mut_slice(), scalar);
+        Factor::new(scalar).multiply(self.octets.as_mut_slice());
         octets::are_octets(self.octets.as_slice());
     }
 
@@ -244,7 +245,7 @@ fn add_octet_multiple(sum: &mut [u8], other: &[u8], scalar: &Octet)
     if scalar.byte() == 1 {
         octets::add_assign(sum, other);
     } else {
-        octets::fused_addassign_mul_scalar(sum, other, scalar);
+        Factor::new(scalar).add_multiple(sum, other);
     }
 }
 

@@ -1,7 +1,7 @@
 -- The rows that a solver is handed are the equations of the standard.
 use Rattle.std.proofs.Common.{None, ◌≤◌, ◌≡◌, ℕ, ◌+◌, ◌-◌, ◌<◌, List, length, sym, ap, ◌∙◌, arith, inl, inr}
 use Rattle.std.proofs.lemmas.Bool.{cases_lt}
-use Rattle.rq_algebra.specs.Operations.{Operation}
+use Rattle.rq_algebra.specs.Operations.{Operation, FindsColumn}
 use Rattle.rq_algebra.specs.Systems.{stacked, rows_of, HasHomogeneousColumn}
 use Rattle.rq_algebra.proofs.Stacks.{stacked_above, stacked_below}
 use Rattle.rq_standard.specs.declared.row.TableRow.{TableRow}
@@ -66,12 +66,16 @@ module _ (row : TableRow) (ids : List ℕ) (bits : BitTable) (hdpc : OctetTable)
     count : length handed.values ≡ equation_count row ids
     count = sym are.height ∙ part.height
 
+    -- what finds the column of the equations handed in finds that of the ids
+    pub finds_equations : (operations : List Operation) → FindsColumn octets (length handed.values) (intermediate_symbols row) (with_octet_rows row.ldpc_symbols row.hdpc_symbols bits.bit (entry_of hdpc)) operations
+        → FindsColumn octets (equation_count row ids) (intermediate_symbols row) (equations row ids) operations
+    finds_equations operations finds = finds_same octets (equation_count row ids) (intermediate_symbols row) _ (equations row ids) equations_same operations (rw count at finds)
+
     -- the outcome speaks of the equations of the ids
     pub solution_of_equations : (slab : Slab) (operations : List Operation) → IsSolution (length handed.values) (intermediate_symbols row) (with_octet_rows row.ldpc_symbols row.hdpc_symbols bits.bit (entry_of hdpc)) handed slab operations
         → IsSolution (equation_count row ids) (intermediate_symbols row) (equations row ids) handed slab operations
     solution_of_equations slab operations solution =
-        let solved = rw count at solution in
-        is_solution (equation_count row ids) (intermediate_symbols row) (equations row ids) operations (finds_same octets (equation_count row ids) (intermediate_symbols row) _ (equations row ids) equations_same operations solved.finds) handed slab are.order solved.made
+        is_solution (equation_count row ids) (intermediate_symbols row) (equations row ids) operations (finds_equations operations solution.finds) handed slab are.order solution.made
 
     pub homogeneous_of_equations : HasHomogeneousColumn octets (length handed.values) (intermediate_symbols row) (with_octet_rows row.ldpc_symbols row.hdpc_symbols bits.bit (entry_of hdpc)) → HasHomogeneousColumn octets (equation_count row ids) (intermediate_symbols row) (equations row ids)
     homogeneous_of_equations null = homogeneous_same octets (equation_count row ids) (intermediate_symbols row) _ (equations row ids) equations_same (rw count at null)

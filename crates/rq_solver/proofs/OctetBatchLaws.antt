@@ -71,11 +71,14 @@ module _ (column done : ℕ) (octet : ℕ → ℕ → ℕ) where
   pub same_behind : (i k : ℕ) → done ≤ i → with_zeros column done octet i k ≡ octet i k
   same_behind i k l = if_from i done _ _ l
 
--- where all rows have 0 in the column, only the columns behind it are left
-pub zeros_in_all : (column count : ℕ) (octet : ℕ → ℕ → ℕ) (i k : ℕ) → i < count → with_zeros column count (octets_from column octet) i k ≡ octets_from (column + 1) octet i k
-zeros_in_all column count octet i k l = elim (cases_eq k column) [
-  | inl e ↦ rw e (zero_here column count (octets_from column octet) i l ∙ sym (before_column (column + 1) octet i column (omega arith)))
-  | inr d ↦ same_beside column count (octets_from column octet) i k d ∙ elim (cases_lt k column) [
+-- where all rows have 0 in the column, those from place `done` on from the start, only the columns behind it are left
+pub zeros_in_all : (column done count : ℕ) (octet : ℕ → ℕ → ℕ) → ((i : ℕ) → done ≤ i → i < count → octet i column ≡ 0) → (i k : ℕ) → i < count → with_zeros column done (octets_from column octet) i k ≡ octets_from (column + 1) octet i k
+zeros_in_all column done count octet zeros i k l = elim (cases_eq k column) [
+  | inl e ↦ rw e (elim (cases_lt i done) [
+    | inl first ↦ zero_here column done (octets_from column octet) i first
+    | inr behind ↦ same_behind column done (octets_from column octet) i column behind ∙ from_column column octet i column (omega arith) ∙ zeros i behind l
+  ] ∙ sym (before_column (column + 1) octet i column (omega arith)))
+  | inr d ↦ same_beside column done (octets_from column octet) i k d ∙ elim (cases_lt k column) [
     | inl before ↦ before_column column octet i k before ∙ sym (before_column (column + 1) octet i k (omega (arith, before)))
     | inr from ↦ from_column column octet i k from ∙ sym (from_column (column + 1) octet i k (omega (arith, from, d)))
   ]

@@ -189,8 +189,10 @@ module _ (rows order places : List ℕ) (first count width : ℕ) where
   -- ---- one column after another
 
   -- all rows have 0 in the column
-  pub column_cleared : (column : ℕ) (octet was : ℕ → ℕ → ℕ) (old new : Recorded) → ChangesOctets rows order first count was (with_zeros column count (octets_from column octet)) old new → ChangesOctets rows order first count was (octets_from (column + 1) octet) old new
-  column_cleared column octet was old new changes = changes_same was (with_zeros column count (octets_from column octet)) (octets_from (column + 1) octet) old new (λ i p l n. zeros_in_all column count octet i (at order p) l) changes
+  pub column_cleared : (column done : ℕ) (octet was : ℕ → ℕ → ℕ) (old new : Recorded) → ((i : ℕ) → done ≤ i → i < count → octet i column ≡ 0)
+      → ChangesOctets rows order first count was (with_zeros column done (octets_from column octet)) old new → ChangesOctets rows order first count was (octets_from (column + 1) octet) old new
+  column_cleared column done octet was old new zeros changes =
+      changes_same was (with_zeros column done (octets_from column octet)) (octets_from (column + 1) octet) old new (λ i p l n. zeros_in_all column done count octet zeros i (at order p) l) changes
 
   -- the column has no pivot
   pub column_skipped : (column : ℕ) (octet was : ℕ → ℕ → ℕ) (old new : Recorded) → ((p : ℕ) → p < length rows → at order p ≢ column) → ChangesOctets rows order first count was (octets_from column octet) old new → ChangesOctets rows order first count was (octets_from (column + 1) octet) old new

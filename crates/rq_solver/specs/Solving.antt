@@ -1,5 +1,5 @@
 -- What a solver is handed, and what it answers.
-use Rattle.std.specs.Prelude.{◌≡◌, ℕ, ◌+◌, ◌<◌, ◌≤◌, false, List, Option, None, Some, Vec, length, map, replicate, sum}
+use Rattle.std.specs.Prelude.{◌≡◌, ℕ, ◌+◌, ◌<◌, ◌≤◌, false, List, Option, None, Some, MatchOption, Vec, length, map, replicate, sum}
 use Rattle.std.specs.Global.{Global}
 use Rattle.rq_algebra.specs.Systems.{HasHomogeneousColumn}
 use Rattle.rq_algebra.specs.Operations.{Operation, FindsColumn, found_by}
@@ -57,6 +57,11 @@ pub record CountsOperations (solver : Solver) (operations : List Operation) : Ty
 -- after it has run: no symbols and the same equations, whatever it counted
 abbrev pub IsSpent : Solver → Solver → Type 0
 IsSpent old new = new ≡ record old { symbols = None; additions = new.additions; multiplications = new.multiplications }
+
+-- the answer for a solver where operations alone are wanted: they find the column, or else the rows don't determine it
+abbrev pub FindsOperations : Solver → Option (Vec SymbolOps Global) → Type 0
+FindsOperations solver answer =
+    MatchOption answer (HasHomogeneousColumn octets solver.height solver.width solver.rows) (λ found. FindsColumn octets solver.height solver.width solver.rows (map operation_of found.items))
 
 -- the slab has the symbols that solve the rows, and the operations find them from any symbols
 pub record IsSolution (height width : ℕ) (rows : ℕ → ℕ → ℕ) (handed slab : Slab) (operations : List Operation) : Type 0 where

@@ -4,8 +4,8 @@ ghost use Rattle.std.specs.Option.{ForSome};
 ghost use Rattle.rq_standard.specs.TableRows.{greatest_size, row_of};
 ghost use Rattle.rq_bytes.specs.declared.error.Error.TheVariants.{AlreadyExecuted, OutOfMemory};
 ghost use Rattle.rq_bytes.specs.SymbolOps.{operation_of};
-ghost use Rattle.rq_solver.specs.PhaseCounts.{total_of};
-ghost use Rattle.rq_solver.specs.Solving.{AreEquations, CountsOperations, solver_of, IsOutcome, IsSpent};
+ghost use Rattle.rq_solver.specs.PhaseCounts.{AreCountsOf, total_of};
+ghost use Rattle.rq_solver.specs.Solving.{AreEquations, CountsOperations, FindsOperations, solver_of, IsOutcome, IsSpent};
 
 mod columns;
 mod counts;
@@ -162,23 +162,44 @@ impl<T: BinaryMatrix> IntermediateSymbolDecoder<T> {
         let Some(mut symbols) = self.symbols.take() else {
             return Err(Error::AlreadyExecuted);
         };
-        let width = self.matrix.width();
-        let ones = RowOnes::of_matrix(self.alloc, &self.matrix, self.boundary)?;
-        let peeling = peel(self.alloc, &ones, width, self.boundary)?;
-        let Attempt { operations, counts } = find_operations(
-            self.alloc,
-            &ones,
-            &self.hdpc,
-            self.first_hdpc,
-            width,
-            &peeling,
-        )?;
+        let Attempt { operations, counts } = self.attempt()?;
         self.counts = counts;
         let Some(operations) = operations else {
             return Ok(None);
         };
         replay(operations.as_slice(), &mut symbols)?;
         Ok(Some((symbols, operations)))
+    }
+
+    /// The operations that find the solution of the equations from any symbols, where those that
+    /// were handed in aren't wanted. `None` where the equations don't determine the symbols. This
+    /// may be asked at any time, counts nothing, and leaves the symbols as they are.
+    pub fn find_operations(&self) -> Result<Option<Vec<SymbolOps>>, Error>
+        ensures found { IfOk result (FindsOperations (solver_state self.now)) }
+        ensures memory { IfErr result (λ e. e ≡ OutOfMemory) }
+    {
+        let Attempt { operations, .. } = self.attempt()?;
+        Ok(operations)
+    }
+
+    // Looks for the operations.
+    fn attempt(&self) -> Result<Attempt, Error>
+        ensures found { IfOk result (λ attempt. FindsOperations (solver_state self.now) attempt.operations) }
+        ensures counted { IfOk result (λ attempt. IfSome attempt.operations (λ ops. AreCountsOf attempt.counts (map operation_of ops.items))) }
+        ensures few { IfOk result (λ attempt. total_of attempt.counts.additions ≤ 2 * (solver_state self.now).width * (solver_state self.now).height) }
+        ensures memory { IfErr result (λ e. e ≡ OutOfMemory) }
+    {
+        let width = self.matrix.width();
+        let ones = RowOnes::of_matrix(self.alloc, &self.matrix, self.boundary)?;
+        let peeling = peel(self.alloc, &ones, width, self.boundary)?;
+        find_operations(
+            self.alloc,
+            &ones,
+            &self.hdpc,
+            self.first_hdpc,
+            width,
+            &peeling,
+        )
     }
 }
 

@@ -9,7 +9,7 @@ ghost use Rattle.raptorq.specs.Allowed.{AreAllowed-prop};
 ghost use Rattle.raptorq.specs.Planned.{IsPlanOf, source_values};
 
 use crate::ids::padding_ids;
-use crate::solving::solve_recorded;
+use crate::solving::find_operations;
 use rq_bytes::error::Error;
 use rq_bytes::operation_vector::SymbolOps;
 use rq_bytes::symbol_slab::SymbolSlab;
@@ -76,10 +76,9 @@ impl SourceBlockEncodingPlan {
     {
         let ids = padding_ids(alloc, &row, 0, row.extended_symbols as usize)?;
         let count = row.intermediate_symbols() as usize;
-        // The operations are the same whatever the size of the symbols.
+        // The operations are the same whatever the symbols.
         let values = SymbolSlab::with_zeros(alloc, count, 0)?;
-        let Some((_symbols, operations)) = solve_recorded(alloc, &row, ids.as_slice(), values)?
-        else {
+        let Some(operations) = find_operations(alloc, &row, ids.as_slice(), values)? else {
             return Err(Error::Singular);
         };
         Ok(SourceBlockEncodingPlan {

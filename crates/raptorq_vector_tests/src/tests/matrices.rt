@@ -37,7 +37,7 @@ fn octets_digest(matrix: &DenseOctetMatrix, width: usize, digest: u64) -> u64
     digest
 }
 
-fn first_ids(alloc: Global, count: u32) -> Result<Vec<u32>, Error>
+pub(super) fn first_ids(alloc: Global, count: u32) -> Result<Vec<u32>, Error>
     ensures { IfOk result (λ ids. vec_len ids ≡ count) }
 {
     Ok((0..count).collect(alloc)?)

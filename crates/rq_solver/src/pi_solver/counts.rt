@@ -1,5 +1,5 @@
 //! How many operations the phases recorded.
-ghost use Rattle.std.specs.Prelude.{◌≡◌, ℕ, ◌+◌, ◌<◌, ◌^◌, ◌∷◌, [], ◌++◌, List, length, map, OnOk, IfErr};
+ghost use Rattle.std.specs.Prelude.{◌≡◌, ℕ, ◌+◌, ◌<◌, ◌^◌, ◌∷◌, [], ◌++◌, List, length, map, IfOk, OnOk, IfErr};
 ghost use Rattle.rq_bytes.specs.SymbolOps.{operation_of};
 ghost use Rattle.rq_bytes.specs.declared.error.Error.TheVariants.{OutOfMemory};
 ghost use Rattle.rq_solver.specs.OperationCounts.{additions, multiplications};
@@ -40,6 +40,7 @@ impl PhaseCounts {
     }
 
     // Counts one more in a phase.
+    #[inline(always)]
     fn count(self, phase: Phase) -> PhaseCounts
         requires { self.first + self.second + self.fourth + 1 < 2 ^ 64 }
         ensures { result.first + result.second + result.fourth ≡ self.first + self.second + self.fourth + 1 }
@@ -127,15 +128,17 @@ impl Model for OperationList {
 impl OperationList {
     ghost use Rattle.rq_solver.specs.PhaseCounts.{AreCountsOf};
 
-    /// Nothing is recorded yet, and the first phase begins.
-    pub(super) fn new(alloc: Global) -> OperationList
-        ensures { result ≡ [] }
+    /// Nothing is recorded yet, and the first phase begins. There is room for so many operations
+    /// before the list grows.
+    pub(super) fn with_room(alloc: Global, room: usize) -> Result<OperationList, Error>
+        ensures empty { IfOk result (λ list. list ≡ []) }
+        ensures err { IfErr result (λ e. e ≡ OutOfMemory) }
     {
-        OperationList {
-            operations: Vec::new(alloc),
+        Ok(OperationList {
+            operations: Vec::with_capacity(alloc, room)?,
             phase: Phase::First,
             counts: OperationCounts::none(),
-        }
+        })
     }
 
     /// The allocator of the list.
@@ -151,6 +154,7 @@ impl OperationList {
     }
 
     /// Records an operation, and counts it.
+    #[inline(always)]
     pub(super) fn push(&mut self, operation: SymbolOps) -> Result<(), Error>
         ensures recorded { OnOk result (self.new ≡ self.old ++ operation_of operation ∷ []) }
         ensures err { IfErr result (λ e. e ≡ OutOfMemory) }

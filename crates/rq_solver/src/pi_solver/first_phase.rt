@@ -44,7 +44,9 @@ pub(super) fn clear_pivots(
 {
     let inactive = hdpc.width() - peeling.rows.len();
     let table = fill_inactive(alloc, ones, hdpc, first_hdpc, inactive, peeling)?;
-    let mut recorded = RecordedRows::new(alloc, table);
+    // Blocks of all sizes take two to three operations for each one.
+    let room = ones.len().saturating_mul(3);
+    let mut recorded = RecordedRows::new(alloc, table, room)?;
     clear_rows(ones, listed, peeling, &mut recorded)?;
     clear_octets(hdpc, first_hdpc, peeling, &mut recorded)?;
     Ok(recorded)

@@ -65,6 +65,7 @@ impl RowOnes {
     }
 
     /// The columns of the ones of a row.
+    #[inline(always)]
     pub(super) fn row(&self, row: usize) -> &[usize]
         requires { row < length self.now }
         ensures { result.now ≡ ones_of self.now row }
@@ -74,6 +75,7 @@ impl RowOnes {
     }
 }
 
+#[inline(always)]
 fn part(columns: &[usize], start: usize, end: usize) -> &[usize]
     requires order { start ≤ end }
     requires within { end ≤ length columns.now }

@@ -1,5 +1,5 @@
 //! Rows that are worked on, with the operations that are recorded for them.
-ghost use Rattle.std.specs.Prelude.{◌≡◌, ◌≢◌, ◌+◌, ◌<◌, ◌≤◌, ◌∷◌, [], length, OnOk, IfErr};
+ghost use Rattle.std.specs.Prelude.{◌≡◌, ◌≢◌, ◌+◌, ◌<◌, ◌≤◌, ◌∷◌, [], length, IfOk, OnOk, IfErr};
 ghost use Rattle.rq_algebra.specs.Operations.{MulAssign};
 ghost use Rattle.rq_bytes.specs.declared.error.Error.TheVariants.{OutOfMemory};
 ghost use Rattle.rq_bytes.specs.SymbolOps.{operation_of};
@@ -33,14 +33,19 @@ impl Model for RecordedRows {
 }
 
 impl RecordedRows {
-    /// Rows to which nothing was done yet.
-    pub(super) fn new(alloc: Global, table: DenseOctetMatrix) -> RecordedRows
-        ensures { result ≡ record { table = table; operations = [] } }
+    /// Rows to which nothing was done yet, with room for so many operations.
+    pub(super) fn new(
+        alloc: Global,
+        table: DenseOctetMatrix,
+        room: usize,
+    ) -> Result<RecordedRows, Error>
+        ensures rows { IfOk result (λ rows. rows ≡ record { table = table; operations = [] }) }
+        ensures err { IfErr result (λ e. e ≡ OutOfMemory) }
     {
-        RecordedRows {
+        Ok(RecordedRows {
             table,
-            operations: OperationList::new(alloc),
-        }
+            operations: OperationList::with_room(alloc, room)?,
+        })
     }
 
     /// The allocator of what is recorded.
@@ -56,6 +61,7 @@ impl RecordedRows {
     }
 
     /// What a row has in an inactive column.
+    #[inline(always)]
     pub(super) fn get(&self, row: usize, column: usize) -> Octet
         requires row { row < length self.now.table.rows }
         requires column { column < self.now.table.width }
@@ -82,6 +88,7 @@ impl RecordedRows {
     }
 
     /// Adds a multiple of a row to another one.
+    #[inline(always)]
     pub(super) fn add_row(&mut self, dest: usize, src: usize, scalar: Octet) -> Result<(), Error>
         requires two { dest ≢ src }
         requires dest { dest < length self.old.table.rows }
@@ -113,6 +120,7 @@ impl RecordedRows {
     }
 
     /// Records that a multiple of a row is added to another one, of which no entry is read any more.
+    #[inline(always)]
     pub(super) fn record_sum(&mut self, dest: usize, src: usize, scalar: Octet) -> Result<(), Error>
         requires two { dest ≢ src }
         requires dest { dest < length self.old.table.rows }
@@ -142,6 +150,7 @@ impl RecordedRows {
 }
 
 // The operation that adds a multiple of a symbol.
+#[inline(always)]
 fn addition(dest: usize, src: usize, scalar: Octet) -> SymbolOps
     ensures { operation_of result ≡ sum_step dest src scalar }
 {

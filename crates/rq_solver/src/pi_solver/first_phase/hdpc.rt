@@ -137,10 +137,13 @@ fn clear_column(
     ensures idle { OnOk result (length peeling.now.rows.items ≤ at peeling.now.places.items column → additions recorded.new.operations ≤ additions recorded.old.operations + (length batch.old.table.rows - 1)) }
     ensures err { IfErr result (λ e. e ≡ OutOfMemory) }
 {
+    let lead = batch.get(0, column);
     add_first_row(batch, column, first_hdpc, recorded)?;
     let place = peeling.places[column];
     if place < peeling.rows.len() {
-        add_pivot(peeling, place, batch, first_hdpc, recorded)?;
+        // Where the first row wasn't 0 in the column, the others are now.
+        let count = if lead.byte() == 0 { batch.height() } else { 1 };
+        add_pivot(peeling, place, batch, count, first_hdpc, recorded)?;
     }
     Ok(())
 }
@@ -184,23 +187,27 @@ fn add_first_row(
     Ok(())
 }
 
-// Adds multiples of a pivot's row to the HDPC rows, so that they have 0 in its column.
+// Adds multiples of a pivot's row to the first HDPC rows, so that they have 0 in its column, as the
+// others do.
 fn add_pivot(
     peeling: &Peeling,
     place: usize,
     batch: &OctetBatch,
+    count: usize,
     first_hdpc: usize,
     recorded: &mut RecordedRows,
 ) -> Result<(), Error>
     requires rows { AreOctetsIn first_hdpc (length batch.now.table.rows) recorded.old }
     requires pivots { StandsBeside peeling.now first_hdpc batch.now recorded.old }
     requires place { place < length peeling.now.rows.items }
+    requires count { count ≤ length batch.now.table.rows }
+    requires zeros { (i : ℕ) → count ≤ i → i < length batch.now.table.rows → octet_in batch.now i (at peeling.now.order.items place) ≡ 0 }
     ensures changed { OnOk result (ClearsPivotColumn peeling.now (at peeling.now.order.items place) first_hdpc batch.now batch.now recorded.old recorded.new) }
     ensures few { OnOk result (AddsAtMost (length batch.now.table.rows) recorded.old recorded.new) }
     ensures err { IfErr result (λ e. e ≡ OutOfMemory) }
 {
     let column = peeling.order[place];
-    for row in 0..batch.height() {
+    for row in 0..count {
         let scalar = batch.get(row, column);
         if scalar.byte() != 0 {
             recorded.add_row(first_hdpc + row, peeling.rows[place], scalar)?;

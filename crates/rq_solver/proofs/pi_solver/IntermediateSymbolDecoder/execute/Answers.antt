@@ -1,41 +1,19 @@
 -- What the check leaves to show of `pi_solver::IntermediateSymbolDecoder::execute`.
 use Rattle.std.proofs.Common.{List, None, length, map, sym, ap, ◌∙◌, subst}
-use Rattle.rq_algebra.specs.Operations.{AreAllowed, FindsColumn}
-use Rattle.rq_algebra.specs.Systems.{HasHomogeneousColumn}
+use Rattle.rq_algebra.specs.Operations.{AreAllowed}
 use Rattle.rq_standard.specs.ConstraintMatrix.{with_octet_rows}
-use Rattle.rq_standard.specs.OctetField.{octets}
 use Rattle.rq_bytes.specs.declared.operation_vector.SymbolOps.{SymbolOps}
 use Rattle.rq_bytes.specs.SymbolOps.{operation_of}
 use Rattle.rq_parts.specs.DenseOctetMatrix.{entry_of}
 use Rattle.rq_solver.specs.Replay.{after_all}
-use Rattle.rq_solver.proofs.BitRows.{rows_of_bits, octet_rows, found_of_bits}
-use Rattle.rq_solver.proofs.PeelingLaws.{columns_below}
 use Rattle.rq_solver.proofs.SolutionLaws.{is_solution, if_some}
 use Rattle.rq_solver.proofs.pi_solver.IntermediateSymbolDecoder.execute.Goals as goal
-
-pub peel-requires-clause-columns : goal.peel-requires-clause-columns
-peel-requires-clause-columns g c =
-    let m = g.T.BinaryMatrix.content c.args.self.now.matrix in
-    rw c.width-width.ensures.width (columns_below m.height m.width m.bit c.in_ok-ones.ones c.in_ok-ones.ensures.ones)
-
-pub find_operations-requires-clause-bits : goal.find_operations-requires-clause-bits
-find_operations-requires-clause-bits g c =
-    let m = g.T.BinaryMatrix.content c.args.self.now.matrix in
-    rw c.width-width.ensures.width (rows_of_bits m.height m.width m.bit c.in_ok-ones.ones c.in_ok-ones.ensures.ones (g.met.T.BinaryMatrix.is_table c.args.self.now.matrix).bits)
-
-pub find_operations-requires-clause-hdpc : goal.find_operations-requires-clause-hdpc
-find_operations-requires-clause-hdpc g c =
-    let solver = c.args.self.now in
-    let m = g.T.BinaryMatrix.content solver.matrix in
-    rw c.width-width.ensures.width (octet_rows m.height m.width m.bit c.in_ok-ones.ones c.in_ok-ones.ensures.ones solver.first_hdpc solver.hdpc solver.octet_columns solver.within solver.empty)
 
 pub replay-requires : goal.replay-requires
 replay-requires g c =
     let solver = c.args.self.now in
-    let m = g.T.BinaryMatrix.content solver.matrix in
-    let width = c.width-width.ensures.width in
     let operations = map operation_of c.in-Some-operations.operations.items in
-    let finds = found_of_bits m.height m.width m.bit c.in_ok-ones.ones c.in_ok-ones.ensures.ones (λ height columns bit. FindsColumn octets height columns (with_octet_rows solver.first_hdpc (length solver.hdpc.rows) bit (entry_of solver.hdpc)) operations) c.width-width.result width (rw c.in-Some-operations.is at c.in_ok-operations.ensures.found) in
+    let finds = rw c.in-Some-operations.is at c.in_ok-operations.ensures.found in
     let handed = c.in-Some.symbols in
     let some = sym c.in-Some.ensures.value in
     subst (λ (l : List SymbolOps). AreAllowed (length handed.values) handed.order (map operation_of l)) (sym c.as_slice.ensures.value)
@@ -43,21 +21,16 @@ replay-requires g c =
 
 pub returns-in_default-operations-clause-solved : goal.returns-in_default-operations-clause-solved
 returns-in_default-operations-clause-solved g c =
-    let solver = c.args.self.now in
-    let m = g.T.BinaryMatrix.content solver.matrix in
-    let width = c.width-width.ensures.width in
-    if_some solver.symbols c.in-Some.symbols _ (sym c.in-Some.ensures.value)
-    (found_of_bits m.height m.width m.bit c.in_ok-ones.ones c.in_ok-ones.ensures.ones (λ height columns bit. HasHomogeneousColumn octets height columns (with_octet_rows solver.first_hdpc (length solver.hdpc.rows) bit (entry_of solver.hdpc))) c.width-width.result width (rw c.in_default-operations.is at c.in_ok-operations.ensures.found))
+    if_some c.args.self.now.symbols c.in-Some.symbols _ (sym c.in-Some.ensures.value) (rw c.in_default-operations.is at c.in_ok-operations.ensures.found)
 
 pub returns-clause-solved : goal.returns-clause-solved
 returns-clause-solved g c =
     let solver = c.args.self.now in
     let m = g.T.BinaryMatrix.content solver.matrix in
-    let width = c.width-width.ensures.width in
     let rows = with_octet_rows solver.first_hdpc (length solver.hdpc.rows) m.bit (entry_of solver.hdpc) in
     let handed = c.in-Some.symbols in
     let operations = map operation_of c.in-Some-operations.operations.items in
-    let finds = found_of_bits m.height m.width m.bit c.in_ok-ones.ones c.in_ok-ones.ensures.ones (λ height columns bit. FindsColumn octets height columns (with_octet_rows solver.first_hdpc (length solver.hdpc.rows) bit (entry_of solver.hdpc)) operations) c.width-width.result width (rw c.in-Some-operations.is at c.in_ok-operations.ensures.found) in
+    let finds = rw c.in-Some-operations.is at c.in_ok-operations.ensures.found in
     if_some solver.symbols handed _ (sym c.in-Some.ensures.value)
     (is_solution m.height m.width rows operations finds handed c.replay.new.symbols (solver.unordered handed (sym c.in-Some.ensures.value))
     (c.in_ok-replay.ensures.ok ∙ ap (λ (l : List SymbolOps). after_all (map operation_of l) handed) c.as_slice.ensures.value))

@@ -22,8 +22,8 @@ returns-clause-cleared c =
     let many : c.len.result ≡ length rows = c.len.ensures ∙ c.args.peeling.now.rows.ok.0 in
     let wide : length rows + inactive ≡ length places = omega (arith, all, many, c.requires.peeled.peeled.few) in
     peeled_pivots c.args.ones.now c.args.first_hdpc c.args.hdpc.now (length places) c.requires.peeled.bits c.requires.hdpc rows order places c.requires.peeled.peeled c.args.listed.now c.requires.listed
-    c.new-recorded.result c.clear_rows.new.recorded c.clear_octets.new.recorded c.in_ok-clear_rows.ensures.cleared c.in_ok-clear_octets.ensures.cleared
-    inactive wide (ap (λ (s : Recorded). s.operations) c.new-recorded.ensures) (rw c.new-recorded.ensures c.in_ok-table.ensures.entries)
+    c.in_ok-recorded.recorded c.clear_rows.new.recorded c.clear_octets.new.recorded c.in_ok-clear_rows.ensures.cleared c.in_ok-clear_octets.ensures.cleared
+    inactive wide (ap (λ (s : Recorded). s.operations) c.in_ok-recorded.ensures.rows) (rw c.in_ok-recorded.ensures.rows c.in_ok-table.ensures.entries)
 
 pub returns-clause-few : goal.returns-clause-few
 returns-clause-few c =
@@ -31,7 +31,7 @@ returns-clause-few c =
     let pivots = length c.args.peeling.now.rows.items in
     let few : length listed ≤ length c.args.ones.now = few_places (length listed) (length c.args.ones.now) (at listed) c.requires.listed.are in
     let most : length listed * pivots ≤ length c.args.ones.now * pivots = mul-le-mul_right pivots few in
-    let start : additions c.new-recorded.result.operations ≡ 0 = ap (λ (s : Recorded). additions s.operations) c.new-recorded.ensures in
+    let start : additions c.in_ok-recorded.recorded.operations ≡ 0 = ap (λ (s : Recorded). additions s.operations) c.in_ok-recorded.ensures.rows in
     let rows = c.in_ok-clear_rows.ensures.few in
     let batch = rw c.requires.hdpc.width_is at c.in_ok-clear_octets.ensures.few in
     omega (arith, most, start, rows, batch)

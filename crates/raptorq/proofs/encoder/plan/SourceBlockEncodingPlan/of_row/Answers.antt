@@ -7,26 +7,26 @@ use Rattle.rq_standard.specs.OctetField.{octets}
 use Rattle.rq_standard.specs.Equations.{equations, equation_count, extended_ids}
 use Rattle.rq_standard.specs.TableRows.{intermediate_symbols}
 use Rattle.rq_standard.proofs.Known.{nonsingular_rows}
-use Rattle.raptorq.specs.BlockSolutions.{SolvesByOperations}
+use Rattle.raptorq.specs.BlockSolutions.{FindsListed}
 use Rattle.raptorq.proofs.Intermediates.{count_source, extended_ids_are, plan_allowed, plan_nonsingular, plan_is}
 use Rattle.raptorq.proofs.Listing.{slab_answered}
 use Rattle.rq_standard.specs.IdLists.{HasDeterminedRows}
 use Rattle.raptorq.proofs.encoder.plan.SourceBlockEncodingPlan.of_row.Goals as goal
 
-pub solve_recorded-requires-clause-enough : goal.solve_recorded-requires-clause-enough
-solve_recorded-requires-clause-enough c =
+pub find_operations-requires-clause-enough : goal.find_operations-requires-clause-enough
+find_operations-requires-clause-enough c =
     let row = c.args.row in
     let ids : c.as_slice.result.now ≡ extended_ids row = c.as_slice.ensures.value ∙ extended_ids_are row c.in_ok-ids.ids.items c.in_ok-ids.ensures in
     omega (arith, ap (equation_count row) ids, count_source row)
 
-pub solve_recorded-requires-clause-fits : goal.solve_recorded-requires-clause-fits
-solve_recorded-requires-clause-fits c =
+pub find_operations-requires-clause-fits : goal.find_operations-requires-clause-fits
+find_operations-requires-clause-fits c =
     let row = c.args.row in
     let ids : c.as_slice.result.now ≡ extended_ids row = c.as_slice.ensures.value ∙ extended_ids_are row c.in_ok-ids.ids.items c.in_ok-ids.ensures in
     omega (arith, ap (equation_count row) ids, count_source row, c.requires.checked.few_columns)
 
-pub solve_recorded-requires-clause-count : goal.solve_recorded-requires-clause-count
-solve_recorded-requires-clause-count c =
+pub find_operations-requires-clause-count : goal.find_operations-requires-clause-count
+find_operations-requires-clause-count c =
     let row = c.args.row in
     let ids : c.as_slice.result.now ≡ extended_ids row = c.as_slice.ensures.value ∙ extended_ids_are row c.in_ok-ids.ids.items c.in_ok-ids.ensures in
     let values = slab_answered _ c.in_ok-values.values c.in_ok-values.ensures in
@@ -37,7 +37,7 @@ pub returns-in_default-clause-refused : goal.returns-in_default-clause-refused
 returns-in_default-clause-refused c =
     let row = c.args.row in
     let ids : c.as_slice.result.now ≡ extended_ids row = c.as_slice.ensures.value ∙ extended_ids_are row c.in_ok-ids.ids.items c.in_ok-ids.ensures in
-    let none = subst (SolvesByOperations row c.as_slice.result.now c.in_ok-values.values) c.in_default.is c.in_ok-_symbols.ensures.solved in
+    let none = subst (FindsListed row c.as_slice.result.now) c.in_default.is c.in_ok-operations.ensures.found in
     inr (refl, λ nonsingular. subst (λ l. HasDeterminedRows row l → ⊥) ids none (nonsingular_rows row nonsingular))
 
 pub invariant_of-result : goal.invariant_of-result
@@ -45,8 +45,8 @@ invariant_of-result c =
     let row = c.args.row in
     let ids : c.as_slice.result.now ≡ extended_ids row = c.as_slice.ensures.value ∙ extended_ids_are row c.in_ok-ids.ids.items c.in_ok-ids.ensures in
     let operations = map operation_of c.in-Some.operations.items in
-    let found = subst (SolvesByOperations row c.as_slice.result.now c.in_ok-values.values) c.in-Some.is c.in_ok-_symbols.ensures.solved in
-    let finds = subst (λ l. FindsColumn octets (equation_count row l) (intermediate_symbols row) (equations row l) operations) ids found.finds in
+    let found = subst (FindsListed row c.as_slice.result.now) c.in-Some.is c.in_ok-operations.ensures.found in
+    let finds = subst (λ l. FindsColumn octets (equation_count row l) (intermediate_symbols row) (equations row l) operations) ids found in
     record {
       checked = c.requires.checked;
       nonsingular = plan_nonsingular row operations finds;

@@ -44,7 +44,7 @@ loop-row-preserved c =
     let before = octets_from here (octet_in batch) in
     let in_order : place < length p.order.items = omega (arith, beside.columns.order_count, beside.few, c.requires.place) in
     let column : c.index-column.result.now ≡ here = get_or_read p.order.items place c.index-column.result.now in_order c.index-column.ensures 0 in
-    let in_rows : row < count = omega arith in
+    let in_rows : row < count = omega (arith, c.requires.count) in
     let scalar_is : c.get-scalar.result ≡ before row here = c.get-scalar.ensures ∙ ap (octet_in batch row) column ∙ sym (from_column here (octet_in batch) row here (omega arith)) in
     let still : HasPivotsBeside p.rows.items p.order.items p.places.items first count width cur = beside_still p.rows.items p.order.items p.places.items first count width old cur beside v.changed.performs.height in
     elim c.if-byte-ne0.branch [
@@ -70,6 +70,6 @@ returns-clause-changed c =
     let p = c.args.peeling.now in
     let table = c.args.batch.now.table in
     let column = at p.order.items c.args.place in
-    let all : c.loop-row.row ≡ length table.rows = omega (arith, c.loop-row.auto.row-end) in
-    column_cleared p.rows.items p.order.items p.places.items c.args.first_hdpc (length table.rows) table.width column (octet_in c.args.batch.now) (octets_from column (octet_in c.args.batch.now)) c.args.recorded.now c.loop-row.recorded
+    let all : c.loop-row.row ≡ c.args.count = omega (arith, c.loop-row.auto) in
+    column_cleared p.rows.items p.order.items p.places.items c.args.first_hdpc (length table.rows) table.width column c.args.count (octet_in c.args.batch.now) (octets_from column (octet_in c.args.batch.now)) c.args.recorded.now c.loop-row.recorded c.requires.zeros
     (rw all at c.loop-row.invariant.changed)

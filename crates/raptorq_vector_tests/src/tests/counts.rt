@@ -1,0 +1,85 @@
+//! How many operations are recorded for the equations of a block's first ids, as many as there are
+//! intermediate symbols.
+ghost use Rattle.std.specs.Prelude.{◌≤◌};
+ghost use Rattle.rq_standard.specs.TableRows.{greatest_size};
+
+use crate::tests::matrices::first_ids;
+use raptorq::constraint_matrix::generate_constraint_matrix;
+use raptorq::error::Error;
+use raptorq::matrix::{BinaryMatrix, DenseBinaryMatrix};
+use raptorq::operation_vector::SymbolOps;
+use raptorq::pi_solver::IntermediateSymbolDecoder;
+use raptorq::symbol_slab::SymbolSlab;
+use raptorq::systematic_constants::SystematicTable;
+use std::alloc::Global;
+use std::test::Fail;
+
+// A solver of these equations, with symbols of zeros.
+fn first_solver(
+    alloc: Global,
+    table: &SystematicTable,
+    k: u32,
+) -> Result<IntermediateSymbolDecoder<DenseBinaryMatrix>, Error>
+    requires { k ≤ greatest_size table.now }
+{
+    let ids = first_ids(alloc, table.row(k).extended_symbols)?;
+    let (bits, hdpc) = generate_constraint_matrix::<DenseBinaryMatrix>(
+        alloc,
+        table,
+        k,
+        ids.as_slice(),
+    )?;
+    let count = bits.height();
+    let symbols = SymbolSlab::with_zeros(alloc, count, 1)?;
+    Ok(IntermediateSymbolDecoder::new(alloc, table, bits, hdpc, symbols, k))
+}
+
+// The products among operations, but for those with 2: multiples that are added, and symbols that
+// are multiplied.
+fn products(operations: &[SymbolOps]) -> usize {
+    let mut count = 0usize;
+    for operation in operations {
+        let counts = match operation {
+            SymbolOps::FMA { .. } => true,
+            SymbolOps::MulAssign { scalar, .. } => scalar.byte() != 2,
+            _ => false,
+        };
+        if counts {
+            count = count.saturating_add(1);
+        }
+    }
+    count
+}
+
+// At most two additions for each entry of the matrix.
+#[test]
+fn additions_of_small_blocks(rt: HostRuntime) -> Result<(), Fail> {
+    let table = SystematicTable::built_in(rt.alloc())?;
+    for (k, most) in [(10, 1458), (101, 32768)] {
+        assert!(rt; k <= table.greatest());
+        let mut solver = first_solver(rt.alloc(), &table, k)?;
+        assert!(rt; solver.execute()?.is_some(), "{k}");
+        let additions = solver.get_symbol_add_ops();
+        assert!(rt; additions > 0 && additions <= most, "{k}");
+    }
+    Ok(())
+}
+
+// Few for the greatest block of the built-in table, by the solver's own count and in the list.
+#[test]
+fn operations_of_the_greatest_block(rt: HostRuntime) -> Result<(), Fail> {
+    let table = SystematicTable::built_in(rt.alloc())?;
+    assert!(rt; 497 <= table.greatest());
+    let mut solver = first_solver(rt.alloc(), &table, 497)?;
+    let found = solver
+        .find_operations()?
+        .expect(&rt, "the first ids determine the block");
+    assert_eq!(rt; solver.get_symbol_add_ops(), 0);
+    let (_symbols, operations) = solver
+        .execute()?
+        .expect(&rt, "the first ids determine the block");
+    assert!(rt; found == operations);
+    assert!(rt; solver.get_symbol_add_ops() <= 10_500);
+    assert!(rt; products(operations.as_slice()) <= 520);
+    Ok(())
+}
