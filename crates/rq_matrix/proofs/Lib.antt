@@ -1,5 +1,10 @@
+pub mod ColumnIndexLaws
+pub mod DenseTailLaws
 pub mod Ones
+pub mod Orders
 pub mod Pairs
 pub mod Places
 pub mod RowLaws
+pub mod SparseMatrixLaws
+pub mod SparseRowLaws
 pub mod Words

@@ -11,7 +11,7 @@ use Rattle.rq_matrix.specs.BitRows.{word_count}
 use Rattle.rq_matrix.proofs.Words.{packed_bit-lt}
 
 -- the sum of two bits
-sum_of_bits : (x y : ℕ) → x < 2 → y < 2 → (x + y) % 2 ≡ bit_xor x y
+pub sum_of_bits : (x y : ℕ) → x < 2 → y < 2 → (x + y) % 2 ≡ bit_xor x y
 sum_of_bits zero zero lt lt' = refl
 sum_of_bits zero (suc zero) lt lt' = refl
 sum_of_bits (suc zero) zero lt lt' = refl

@@ -1,5 +1,6 @@
 -- Rows of bits, 64 to a word, the bit in column k at place k mod 64 of word k / 64.
-use Rattle.std.specs.Prelude.{◌≡◌, ◌≢◌, ℕ, ◌+◌, ◌/◌, ◌<◌, ◌≤◌, List, [], length, slice_index_or}
+use Rattle.std.specs.Prelude.{◌≡◌, ◌≢◌, ℕ, ◌+◌, ◌/◌, ◌<◌, ◌≤◌, List, [], length, slice_index, slice_index_or, slice_set}
+use Rattle.std.specs.Int.Bits.{bit_xor}
 use Rattle.std.specs.Int.{bit_at}
 use Rattle.rq_bytes.specs.BinaryOctetVec.{packed_bit}
 use Rattle.rq_standard.specs.BitTableSteps.{SwapsPlaces}
@@ -12,6 +13,10 @@ word_count width = (width + 63) / 64
 pub record IsWordWith (old bit value new : ℕ) : Type 0 where
   pub here : bit_at new bit ≡ value
   pub elsewhere : (i : ℕ) → i < 64 → i ≢ bit → bit_at new i ≡ bit_at old i
+
+-- words of which one has another one added
+abbrev pub with_word_added : List ℕ → ℕ → ℕ → List ℕ
+with_word_added words dest src = slice_set words dest (bit_xor (slice_index words dest) (slice_index words src))
 
 -- the bit in row i and column k
 abbrev pub bit_in : List (List ℕ) → ℕ → ℕ → ℕ

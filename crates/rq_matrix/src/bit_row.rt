@@ -9,7 +9,7 @@ ghost use Rattle.rq_standard.specs.BitTableSteps.{ones_below, ones_between, AreB
 ghost use Rattle.rq_bytes.specs.BinaryOctetVec.{packed_bit};
 ghost use Rattle.rq_standard.specs.Rows.{row_sum};
 ghost use Rattle.rq_parts.specs.BitPairs.{bit_pairs, ones_among};
-ghost use Rattle.rq_matrix.specs.BitRows.{word_count, IsWordWith};
+ghost use Rattle.rq_matrix.specs.BitRows.{word_count, with_word_added, IsWordWith};
 
 use rq_bytes::error::Error;
 use rq_bytes::gf2::add_assign_binary;
@@ -62,7 +62,7 @@ impl Eq for BitRow {
 impl BitRow {
     /// A row of zeros.
     pub(crate) fn zero(alloc: Global, width: usize) -> Result<Self, AllocError>
-        requires { width < 65536 }
+        requires { width < 2 ^ 40 }
         ensures { IfOk result (λ row. row ≡ replicate (word_count width) 0) }
     {
         Ok(BitRow {
@@ -162,6 +162,16 @@ impl BitRow {
         ensures len { length self.new ≡ length self.old }
     {
         add_assign_binary(self.words.as_mut_slice(), other.words.as_slice());
+    }
+
+    /// Adds a word to another one.
+    pub(crate) fn add_word(&mut self, dest: usize, src: usize)
+        requires dest { dest < length self.old }
+        requires src { src < length self.old }
+        ensures { self.new ≡ with_word_added self.old dest src }
+    {
+        let word = self.words[src];
+        self.words[dest] ^= word;
     }
 
     /// Drops the words that so many columns don't need.

@@ -3,3 +3,4 @@
 
 mod bit_row;
 pub mod matrix;
+pub mod sparse_matrix;

@@ -373,9 +373,13 @@ impl BinaryMatrix for DenseBinaryMatrix {
     }
 }
 
-// So many rows of zeros.
-fn zero_rows(alloc: Global, height: usize, width: usize) -> Result<Vec<BitRow>, AllocError>
-    requires { width < 65536 }
+/// So many rows of zeros.
+pub(crate) fn zero_rows(
+    alloc: Global,
+    height: usize,
+    width: usize,
+) -> Result<Vec<BitRow>, AllocError>
+    requires { width < 2 ^ 40 }
     ensures { IfOk result (λ rows. rows.items ≡ replicate height (replicate (word_count width) 0)) }
 {
     let mut rows = Vec::with_capacity(alloc, height)?;

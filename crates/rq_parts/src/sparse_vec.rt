@@ -88,6 +88,7 @@ impl SparseBinaryVec {
     pub fn add_assign(&mut self, other: &SparseBinaryVec) -> Result<bool, Error>
         ensures sum { OnOk result (IsListedSum self.old other.now self.new) }
         ensures added { IfOk result (λ added. (added ≡ true) ↔ HasOtherOne self.old other.now) }
+        ensures increasing { IsStrictlyIncreasing self.new }
         ensures refused { OnErr result (self.new ≡ self.old) }
         ensures err { IfErr result (λ e. e ≡ OutOfMemory) }
     {
@@ -101,6 +102,7 @@ impl SparseBinaryVec {
     pub fn remove(&mut self, i: usize) -> Option<Octet>
         requires { i < 65536 }
         ensures removed { SetsListed self.old i 0 self.new }
+        ensures increasing { IsStrictlyIncreasing self.new }
         ensures value { result ≡ listed_octet self.old i }
     {
         match self.find(i) {
@@ -137,6 +139,7 @@ impl SparseBinaryVec {
     pub fn insert(&mut self, i: usize, value: Octet) -> Result<(), Error>
         requires { i < 65536 }
         ensures ok { OnOk result (SetsListed self.old i value self.new) }
+        ensures increasing { IsStrictlyIncreasing self.new }
         ensures refused { OnErr result (self.new ≡ self.old) }
         ensures err { IfErr result (λ e. e ≡ OutOfMemory) }
     {

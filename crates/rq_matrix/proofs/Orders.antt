@@ -1,0 +1,114 @@
+-- Orders: the first numbers in their own places, and two places exchanged.
+use Rattle.std.proofs.Common.{◌≡◌, ◌≢◌, ℕ, ◌+◌, ◌<◌, List, [], ◌∷◌, ◌++◌, length, get_or, set, refl, sym, ap, ◌∙◌, arith, inl, inr, zero-add, get_or-set_same, get_or-set_other, length-set}
+use Rattle.std.specs.List.{range_with_len, swap}
+use Rattle.std.proofs.lemmas.Bool.{cases_eq}
+use Rattle.std.proofs.lemmas.List.{map-id}
+use Rattle.std.proofs.lemmas.List.Edits.{swap_is, length-swap}
+use Rattle.std.proofs.lemmas.List.FromFn.{length-range_with_len, get_or-range_with_len, map-range_with_len_more}
+use Rattle.rq_matrix.specs.Orders.{Order, IsOrder, first_order, ExchangesPlaces}
+
+pub range_more : (n : ℕ) → range_with_len 0 (n + 1) ≡ range_with_len 0 n ++ n ∷ []
+range_more n = sym (map-id (range_with_len 0 (n + 1))) ∙ map-range_with_len_more (λ (x : ℕ). x) 0 n n (zero-add n) ∙ ap (λ (xs : List ℕ). xs ++ n ∷ []) (map-id (range_with_len 0 n))
+
+pub first_is_order : (n : ℕ) → IsOrder (first_order n)
+first_is_order n =
+    let all = length-range_with_len 0 n in
+    let own : (k : ℕ) → k < length (range_with_len 0 n) → get_or (range_with_len 0 n) k 0 ≡ k = λ k l. get_or-range_with_len 0 n k 0 (omega (arith, all)) ∙ zero-add k in
+    let placed : (k : ℕ) → k < length (range_with_len 0 n) → (get_or (range_with_len 0 n) k 0 < length (range_with_len 0 n)) × (get_or (range_with_len 0 n) (get_or (range_with_len 0 n) k 0) 0 ≡ k) = λ k l. (omega (arith, own k l), ap (λ j. get_or (range_with_len 0 n) j 0) (own k l) ∙ own k l) in
+    record { count = refl; ordered = placed; placed = placed }
+
+-- at two places stand two numbers
+pub order_apart : (o : Order) (i j : ℕ) → IsOrder o → i < length o.order → j < length o.order → i ≢ j → get_or o.order i 0 ≢ get_or o.order j 0
+order_apart o i j is in_i in_j other same = other (sym (is.ordered i in_i).1 ∙ ap (λ n. get_or o.places n 0) same ∙ (is.ordered j in_j).1)
+
+-- ---- two elements of a list exchanged
+
+module _ (xs : List ℕ) (i j : ℕ) (in_i : i < length xs) (in_j : j < length xs) where
+  pub swap_second : get_or (swap xs i j) j 0 ≡ get_or xs i 0
+  swap_second = ap (λ l. get_or l j 0) (sym (swap_is xs i j 0 in_i in_j)) ∙ get_or-set_same (set xs i (get_or xs j 0)) j (get_or xs i 0) 0 (omega (arith, length-set xs i (get_or xs j 0)))
+
+  pub swap_first : get_or (swap xs i j) i 0 ≡ get_or xs j 0
+  swap_first =
+      elim (cases_eq i j) [
+        | inl e ↦ ap (λ k. get_or (swap xs i j) k 0) e ∙ swap_second ∙ ap (λ k. get_or xs k 0) e
+        | inr d ↦
+            ap (λ l. get_or l i 0) (sym (swap_is xs i j 0 in_i in_j))
+            ∙ get_or-set_other (set xs i (get_or xs j 0)) j i (get_or xs i 0) 0 d
+            ∙ get_or-set_same xs i (get_or xs j 0) 0 in_i
+      ]
+
+  pub swap_other : (k : ℕ) → k ≢ i → k ≢ j → get_or (swap xs i j) k 0 ≡ get_or xs k 0
+  swap_other k not_i not_j =
+      ap (λ l. get_or l k 0) (sym (swap_is xs i j 0 in_i in_j))
+      ∙ get_or-set_other (set xs i (get_or xs j 0)) j k (get_or xs i 0) 0 not_j
+      ∙ get_or-set_other xs i k (get_or xs j 0) 0 not_i
+
+-- an order whose places i and j are exchanged
+abbrev pub swapped : Order → ℕ → ℕ → Order
+swapped o i j = record { order = swap o.order i j; places = swap o.places (get_or o.order i 0) (get_or o.order j 0) }
+
+module _ (o : Order) (is : IsOrder o) (i j : ℕ) (in_i : i < length o.order) (in_j : j < length o.order) where
+  first_in : get_or o.order i 0 < length o.places
+  first_in = omega (arith, is.count, (is.ordered i in_i).0)
+
+  second_in : get_or o.order j 0 < length o.places
+  second_in = omega (arith, is.count, (is.ordered j in_j).0)
+
+  pub swapped_exchanges : ExchangesPlaces i j o (swapped o i j)
+  swapped_exchanges = record {
+    count = length-swap o.order i j;
+    first = swap_first o.order i j in_i in_j;
+    second = swap_second o.order i j in_i in_j;
+    elsewhere = swap_other o.order i j in_i in_j;
+  }
+
+  pub swapped_is_order : IsOrder (swapped o i j)
+  swapped_is_order =
+      let order = o.order in
+      let places = o.places in
+      let first = get_or order i 0 in
+      let second = get_or order j 0 in
+      let new : List ℕ = swap order i j in
+      let back : List ℕ = swap places first second in
+      let same = length-swap order i j in
+      let back_at = λ (j : ℕ) (k : ℕ) (e : j ≡ k). ap (λ n. get_or back n 0) e in
+      let new_at = λ (j : ℕ) (k : ℕ) (e : j ≡ k). ap (λ n. get_or new n 0) e in
+      record {
+        count = length-swap places first second ∙ is.count ∙ sym same;
+        ordered = λ k l.
+            elim (cases_eq k i) [
+              | inl e ↦
+                  let here : get_or new k 0 ≡ second = new_at k i e ∙ swap_first order i j in_i in_j in
+                  (omega (arith, here, same, (is.ordered j in_j).0), back_at _ _ here ∙ swap_second places first second first_in second_in ∙ (is.ordered i in_i).1 ∙ sym e)
+              | inr d ↦ elim (cases_eq k j) [
+                | inl e ↦
+                    let here : get_or new k 0 ≡ first = new_at k j e ∙ swap_second order i j in_i in_j in
+                    (omega (arith, here, same, (is.ordered i in_i).0), back_at _ _ here ∙ swap_first places first second first_in second_in ∙ (is.ordered j in_j).1 ∙ sym e)
+                | inr f ↦
+                    let within : k < length order = omega (arith, same) in
+                    let here : get_or new k 0 ≡ get_or order k 0 = swap_other order i j in_i in_j k d f in
+                    let there = is.ordered k within in
+                    let not_first : get_or order k 0 ≢ first = λ g. d (sym there.1 ∙ ap (λ n. get_or places n 0) g ∙ (is.ordered i in_i).1) in
+                    let not_second : get_or order k 0 ≢ second = λ g. f (sym there.1 ∙ ap (λ n. get_or places n 0) g ∙ (is.ordered j in_j).1) in
+                    (omega (arith, here, same, there.0), back_at _ _ here ∙ swap_other places first second first_in second_in (get_or order k 0) not_first not_second ∙ there.1)
+              ]
+            ];
+        placed = λ k l.
+            let within : k < length order = omega (arith, same) in
+            let there = is.placed k within in
+            elim (cases_eq k first) [
+              | inl e ↦
+                  let here : get_or back k 0 ≡ j = back_at k first e ∙ swap_first places first second first_in second_in ∙ (is.ordered j in_j).1 in
+                  (omega (arith, here, same, in_j), new_at _ _ here ∙ swap_second order i j in_i in_j ∙ sym e)
+              | inr d ↦ elim (cases_eq k second) [
+                | inl e ↦
+                    let here : get_or back k 0 ≡ i = back_at k second e ∙ swap_second places first second first_in second_in ∙ (is.ordered i in_i).1 in
+                    (omega (arith, here, same, in_i), new_at _ _ here ∙ swap_first order i j in_i in_j ∙ sym e)
+                | inr f ↦
+                    let here : get_or back k 0 ≡ get_or places k 0 = swap_other places first second first_in second_in k d f in
+                    let not_i : get_or places k 0 ≢ i = λ g. d (sym there.1 ∙ ap (λ n. get_or order n 0) g) in
+                    let not_j : get_or places k 0 ≢ j = λ g. f (sym there.1 ∙ ap (λ n. get_or order n 0) g) in
+                    (omega (arith, here, same, there.0), new_at _ _ here ∙ swap_other order i j in_i in_j (get_or places k 0) not_i not_j ∙ there.1)
+              ]
+            ];
+      }

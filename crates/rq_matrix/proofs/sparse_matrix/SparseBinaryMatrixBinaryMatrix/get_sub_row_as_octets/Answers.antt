@@ -1,0 +1,18 @@
+-- What the check leaves to show of `sparse_matrix::SparseBinaryMatrix::get_sub_row_as_octets`.
+use Rattle.std.proofs.Common.{◌-◌, IfOk, sym, subst, ◌∙◌, arith}
+use Rattle.rq_standard.specs.BitTableSteps.{AreBitsOf}
+use Rattle.rq_matrix.specs.SparseBinaryMatrix.{sparse_bit}
+use Rattle.rq_matrix.proofs.SparseMatrixLaws.{octets-from, dense_place}
+use Rattle.rq_matrix.proofs.sparse_matrix.SparseBinaryMatrixBinaryMatrix.get_sub_row_as_octets.Goals as goal
+
+pub returns-clause-ok : goal.returns-clause-ok
+returns-clause-ok c =
+    let old = c.args.self.now in
+    let n = old.width - old.boundary in
+    let bit = sparse_bit old.width old.boundary old.rows.items old.row_order old.column_order old.tail c.args.row in
+    subst (λ start. IfOk c.part.result (AreBitsOf bit start old.width)) (sym c.requires.dense)
+    (octets-from c.in_ok-bits.bits bit n old.boundary old.width c.part.result (omega (arith, old.boundary_within))
+    (λ k below.
+    c.in_ok-bits.ensures.bits k (omega (arith, old.tail_columns))
+    ∙ dense_place old.width old.boundary old.rows.items old.row_order old.column_order old.tail c.args.row c.stored.result c.stored.ensures.value k old.tail_columns old.boundary_within (omega (arith, old.tail_columns)))
+    c.part.ensures.ok)

@@ -1,0 +1,247 @@
+//! The sparse matrix of bits.
+ghost use Rattle.std.specs.Prelude.{◌≡◌, ◌≢◌, ℕ, ◌+◌, ◌-◌, ◌^◌, ◌<◌, ◌≤◌, All, length, IfOk, IfErr, [], slice_index, slice_index_or};
+ghost use Rattle.std.specs.Prelude.{OnOk, OnErr};
+ghost use Rattle.std.specs.Option.{ForSome};
+ghost use Rattle.rq_bytes.specs.declared.error.Error.TheVariants.{OutOfMemory};
+ghost use Rattle.rq_matrix.specs.Orders.{IsOrder};
+ghost use Rattle.rq_matrix.specs.SparseRows.{IsSparseRow, IsColumnIndex};
+
+mod column_index;
+mod dense_tail;
+mod orders;
+mod rows;
+
+use crate::matrix::BinaryMatrix;
+use column_index::{column_index, indexed_rows, places_between};
+use dense_tail::DenseTail;
+use orders::{ColumnOrder, RowOrder};
+use rows::{add_row, count_between, empty_rows};
+use rq_bytes::error::Error;
+use rq_bytes::octet::Octet;
+use rq_bytes::octets::BinaryOctetVec;
+use rq_parts::arraymap::ImmutableListMap;
+use rq_parts::iterators::OctetIter;
+use rq_parts::sparse_vec::SparseBinaryVec;
+use std::alloc::{AllocError, Global};
+
+/// A matrix of bits of whose columns before the boundary the ones alone are stored; its dense columns
+/// are stored whole, 64 to a word. Rows and columns are exchanged in their orders alone.
+#[derive(Debug, Drop)]
+pub struct SparseBinaryMatrix {
+    height: usize,
+    width: usize,
+    boundary: usize,
+    rows: Vec<SparseBinaryVec>,
+    tail: DenseTail,
+    row_order: RowOrder,
+    column_order: ColumnOrder,
+    index: Option<ImmutableListMap>,
+    ghost rows_fit: { length rows.items < 2 ^ 31 },
+    ghost columns_fit: { length column_order.order < 65536 },
+    ghost height_within: { height ≤ length rows.items },
+    ghost width_within: { width ≤ length column_order.order },
+    ghost boundary_within: { boundary ≤ width },
+    ghost ordered: { length row_order.order ≡ length rows.items },
+    ghost rows_in_order: { IsOrder row_order },
+    ghost sparse: { All (IsSparseRow (length column_order.order)) rows.items },
+    ghost tail_rows: { tail.rows ≡ length rows.items },
+    ghost tail_columns: { tail.columns ≡ width - boundary },
+    ghost index_is: { ForSome index (IsColumnIndex (length column_order.order) rows.items) },
+}
+
+impl Clone for SparseBinaryMatrix {
+    ghost use Rattle.rq_matrix.specs.SparseBinaryMatrix.{IsCopy};
+
+    ghost is_clone = { IsCopy };
+
+    fn clone(&self) -> Result<Self, AllocError> {
+        let index = match &self.index {
+            Some(index) => Some(index.clone()?),
+            None => None,
+        };
+        Ok(SparseBinaryMatrix {
+            height: self.height,
+            width: self.width,
+            boundary: self.boundary,
+            rows: self.rows.clone()?,
+            tail: self.tail.clone()?,
+            row_order: self.row_order.clone()?,
+            column_order: self.column_order.clone()?,
+            index,
+        })
+    }
+}
+
+impl BinaryMatrix for SparseBinaryMatrix {
+    ghost use Rattle.rq_matrix.specs.SparseBinaryMatrix.{content_of};
+    ghost use Rattle.rq_matrix.specs.SparseTables.{is_table_of, copy_is_same};
+
+    ghost content = { content_of };
+
+    ghost is_table = { is_table_of };
+
+    ghost clone_is_same = { copy_is_same };
+
+    fn new(
+        alloc: Global,
+        height: usize,
+        width: usize,
+        trailing_dense_column_hint: usize,
+    ) -> Result<Self, Error> {
+        Ok(SparseBinaryMatrix {
+            height,
+            width,
+            boundary: width - trailing_dense_column_hint,
+            rows: empty_rows(alloc, height)?,
+            tail: DenseTail::new(alloc, height, trailing_dense_column_hint)?,
+            row_order: RowOrder::new(alloc, height)?,
+            column_order: ColumnOrder::new(alloc, width)?,
+            index: None,
+        })
+    }
+
+    fn set(&mut self, i: usize, j: usize, value: Octet) -> Result<(), Error> {
+        let row = self.row_order.stored(i);
+        if j < self.boundary {
+            let column = usize::from(self.column_order.stored(j));
+            self.rows[row].insert(column, value)?;
+        } else {
+            self.tail
+                .set(row, self.width - 1 - j, value != Octet::zero());
+        }
+        Ok(())
+    }
+
+    fn height(&self) -> usize {
+        self.height
+    }
+
+    fn width(&self) -> usize {
+        self.width
+    }
+
+    fn count_ones(&self, row: usize, start_col: usize, end_col: usize) -> usize {
+        let row = self.row_order.stored(row);
+        let columns = self.column_order.places();
+        count_between(&self.rows[row], columns, start_col, end_col)
+    }
+
+    fn get_row_iter(&self, row: usize, start_col: usize, end_col: usize) -> OctetIter<'_> {
+        let row = self.row_order.stored(row);
+        let columns = self.column_order.places();
+        OctetIter::new_sparse(start_col, end_col, &self.rows[row], columns)
+    }
+
+    fn get_ones_in_column(
+        &self,
+        col: usize,
+        start_row: usize,
+        end_row: usize,
+    ) -> Result<Vec<u32>, Error> {
+        let mut rows = Vec::new(*self.rows.allocator());
+        self.get_ones_in_column_into(col, start_row, end_row, &mut rows)?;
+        Ok(rows)
+    }
+
+    fn get_ones_in_column_into(
+        &self,
+        col: usize,
+        start_row: usize,
+        end_row: usize,
+        out: &mut Vec<u32>,
+    ) -> Result<(), Error> {
+        if let Some(index) = &self.index {
+            let stored = index.get(self.column_order.stored(col));
+            places_between(stored, self.row_order.places(), start_row, end_row, out)?;
+        }
+        Ok(())
+    }
+
+    fn get_sub_row_as_octets(&self, row: usize, _: usize) -> Result<BinaryOctetVec, Error> {
+        let alloc = *self.rows.allocator();
+        let bits = self.tail.row(alloc, self.row_order.stored(row))?;
+        bits.part(0, self.width - self.boundary)
+    }
+
+    fn query_non_zero_columns(&self, row: usize, start_col: usize) -> Result<Vec<usize>, Error> {
+        let mut columns = Vec::new(*self.rows.allocator());
+        self.query_non_zero_columns_into(row, start_col, &mut columns)?;
+        Ok(columns)
+    }
+
+    fn query_non_zero_columns_into(
+        &self,
+        row: usize,
+        start_col: usize,
+        out: &mut Vec<usize>,
+    ) -> Result<(), Error> {
+        let row = self.row_order.stored(row);
+        out.reserve(self.width - start_col)?;
+        out.clear();
+        for column in start_col..self.width {
+            if self.tail.get(row, self.width - 1 - column) == Octet::one() {
+                out.push_reserved(column);
+            }
+        }
+        Ok(())
+    }
+
+    fn get(&self, i: usize, j: usize) -> Octet {
+        let row = self.row_order.stored(i);
+        if j < self.boundary {
+            let column = usize::from(self.column_order.stored(j));
+            self.rows[row].get(column).unwrap_or(Octet::zero())
+        } else {
+            self.tail.get(row, self.width - 1 - j)
+        }
+    }
+
+    fn swap_rows(&mut self, i: usize, j: usize) {
+        self.row_order.swap(i, j);
+    }
+
+    fn swap_columns(&mut self, i: usize, j: usize, _: usize) {
+        self.column_order.swap(i, j);
+    }
+
+    fn enable_column_access_acceleration(&mut self) -> Result<(), Error> {
+        self.index = Some(column_index(&self.rows, self.column_order.len())?);
+        Ok(())
+    }
+
+    fn disable_column_access_acceleration(&mut self) {
+        self.index = None;
+    }
+
+    fn hint_column_dense_and_frozen(&mut self, i: usize) -> Result<(), Error> {
+        let rows = indexed_rows(&self.index, self.column_order.stored(i));
+        self.tail.push_column(*self.rows.allocator())?;
+        self.tail.set_ones(rows, self.width - 1 - i);
+        self.boundary = i;
+        Ok(())
+    }
+
+    fn add_assign_rows(&mut self, dest: usize, src: usize, start_col: usize) -> Result<(), Error> {
+        let dest = self.row_order.stored(dest);
+        let src = self.row_order.stored(src);
+        if start_col == self.boundary {
+            self.tail.add(dest, src);
+            return Ok(());
+        }
+        add_row(self.rows.as_mut_slice(), dest, src)?;
+        self.tail.add(dest, src);
+        Ok(())
+    }
+
+    fn resize(&mut self, new_height: usize, new_width: usize) -> Result<(), Error> {
+        if new_width == self.width {
+            self.height = new_height;
+            return Ok(());
+        }
+        self.tail = DenseTail::new(*self.rows.allocator(), self.rows.len(), 0)?;
+        self.height = new_height;
+        self.width = new_width;
+        self.boundary = new_width;
+        Ok(())
+    }
+}

@@ -1,0 +1,150 @@
+//! The dense columns of a sparse matrix.
+ghost use Rattle.std.specs.Prelude.{◌≡◌, ℕ, ◌+◌, ◌-◌, ◌*◌, ◌^◌, ◌<◌, ◌++◌, ◌∷◌, [], length, map, replicate, slice_index, slice_set, if◌then◌else◌, All, IfOk, OnOk, OnErr};
+ghost use Rattle.rq_bytes.specs.BinaryOctetVec.{packed_bit};
+ghost use Rattle.rq_matrix.specs.BitRows.{word_count, with_word_added};
+ghost use Rattle.rq_matrix.specs.DenseTails.{tail_bit, IsZeroTail, SetsTailBit, MarksRows, AddsTailRow, PushesColumn};
+
+use crate::bit_row::BitRow;
+use crate::matrix::zero_rows;
+use rq_bytes::octet::Octet;
+use std::alloc::{AllocError, Global};
+use std::marker::Model;
+
+const WORD_BITS: usize = 64;
+
+/// The last columns of the rows of a matrix, the last of them first, so that one more comes at the
+/// end. Each block holds 64 of them, in a word for each row. Contracts see the blocks.
+#[derive(Debug, Drop)]
+pub(super) struct DenseTail {
+    rows: usize,
+    columns: usize,
+    blocks: Vec<BitRow>,
+}
+
+impl Model for DenseTail {
+    ghost use Rattle.rq_matrix.specs.DenseTails.{Tail, IsTail};
+
+    ghost Value = { Tail };
+
+    ghost view = { λ t. record { rows = t.rows; columns = t.columns; blocks = t.blocks.items } };
+
+    ghost invariant = { λ t. IsTail (record { rows = t.rows; columns = t.columns; blocks = t.blocks.items }) };
+}
+
+impl Clone for DenseTail {
+    ghost is_clone = { λ a b. b ≡ a };
+
+    fn clone(&self) -> Result<Self, AllocError> {
+        Ok(DenseTail {
+            rows: self.rows,
+            columns: self.columns,
+            blocks: self.blocks.clone()?,
+        })
+    }
+}
+
+impl DenseTail {
+    /// So many rows and columns of zeros.
+    pub(super) fn new(alloc: Global, rows: usize, columns: usize) -> Result<DenseTail, AllocError>
+        requires rows { rows < 2 ^ 31 }
+        requires columns { columns < 65536 }
+        ensures { IfOk result (IsZeroTail rows columns) }
+    {
+        Ok(DenseTail {
+            rows,
+            columns,
+            blocks: zero_rows(
+                alloc,
+                (columns + WORD_BITS - 1) / WORD_BITS,
+                WORD_BITS * rows,
+            )?,
+        })
+    }
+
+    /// The bit of a row in a column.
+    pub(super) fn get(&self, row: usize, column: usize) -> Octet
+        requires row { row < self.now.rows }
+        requires column { column < self.now.columns }
+        ensures { result ≡ tail_bit self.now row column }
+    {
+        self.blocks[column / WORD_BITS].get(WORD_BITS * row + column % WORD_BITS)
+    }
+
+    /// Sets the bit of a row in a column.
+    pub(super) fn set(&mut self, row: usize, column: usize, one: bool)
+        requires row { row < self.old.rows }
+        requires column { column < self.old.columns }
+        ensures { SetsTailBit self.old row column (if one then 1 else 0) self.new }
+    {
+        self.blocks[column / WORD_BITS].set(WORD_BITS * row + column % WORD_BITS, one);
+    }
+
+    /// Sets the bits of some rows in a column.
+    pub(super) fn set_ones(&mut self, rows: &[u32], column: usize)
+        requires rows { All (λ row. row < self.old.rows) rows.now }
+        requires column { column < self.old.columns }
+        ensures { MarksRows self.old rows.now column self.new }
+    {
+        for row in rows {
+            self.set(*row as usize, column, true);
+        }
+    }
+
+    /// Adds a row to another one.
+    pub(super) fn add(&mut self, dest: usize, src: usize)
+        requires dest { dest < self.old.rows }
+        requires src { src < self.old.rows }
+        ensures { AddsTailRow self.old dest src self.new }
+    {
+        add_words(self.blocks.as_mut_slice(), dest, src);
+    }
+
+    /// Makes room for one more column, of zeros.
+    pub(super) fn push_column(&mut self, alloc: Global) -> Result<(), AllocError>
+        requires { self.old.columns < 65536 }
+        ensures ok { OnOk result (PushesColumn self.old self.new) }
+        ensures refused { OnErr result (self.new ≡ self.old) }
+    {
+        if self.columns / WORD_BITS >= self.blocks.len() {
+            self.push_block(alloc)?;
+        }
+        self.columns += 1;
+        Ok(())
+    }
+
+    // Makes room for 64 more columns.
+    fn push_block(&mut self, alloc: Global) -> Result<(), AllocError>
+        ensures ok { OnOk result (self.new ≡ record self.old { blocks = self.old.blocks ++ replicate self.old.rows 0 ∷ [] }) }
+        ensures refused { OnErr result (self.new ≡ self.old) }
+    {
+        let block = BitRow::zero(alloc, WORD_BITS * self.rows)?;
+        self.blocks.push(block)?;
+        Ok(())
+    }
+
+    /// The bits of a row, that of the last column at the end.
+    pub(super) fn row(&self, alloc: Global, row: usize) -> Result<BitRow, AllocError>
+        requires row { row < self.now.rows }
+        requires columns { self.now.columns < 65536 }
+        ensures len { IfOk result (λ bits. length bits ≡ word_count self.now.columns) }
+        ensures bits { IfOk result (λ bits. (k : ℕ) → k < self.now.columns → packed_bit bits k ≡ tail_bit self.now row (self.now.columns - 1 - k)) }
+    {
+        let mut bits = BitRow::zero(alloc, self.columns)?;
+        for column in 0..self.columns {
+            let bit = self.get(row, self.columns - 1 - column);
+            bits.set(column, bit == Octet::one());
+        }
+        Ok(bits)
+    }
+}
+
+// In each block adds the word of a row to that of another one.
+fn add_words(blocks: &mut [BitRow], dest: usize, src: usize)
+    requires dest { All (λ block. dest < length block) blocks.old }
+    requires src { All (λ block. src < length block) blocks.old }
+    ensures { blocks.new ≡ map (λ block. with_word_added block dest src) blocks.old }
+{
+    for block in 0..blocks.len() {
+        blocks[block].add_word(dest, src);
+    }
+}
