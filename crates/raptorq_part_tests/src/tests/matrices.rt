@@ -1,5 +1,5 @@
-//! Matrices of bits, at the dense matrix through the trait; the matrix of octets; and iterators over
-//! rows.
+//! Matrices of bits, the dense and the sparse one through the trait; the matrix of octets; and
+//! iterators over rows.
 ghost use Rattle.std.specs.Prelude.{◌≡◌, ℕ, ◌<◌, ◌≤◌, length, slice_index};
 ghost use Rattle.rq_parts.specs.DenseOctetMatrix.{row_at};
 
@@ -9,6 +9,7 @@ use raptorq::matrix::{BinaryMatrix, DenseBinaryMatrix};
 use raptorq::octet::Octet;
 use raptorq::octet_matrix::DenseOctetMatrix;
 use raptorq::octets::BinaryOctetVec;
+use raptorq::sparse_matrix::SparseBinaryMatrix;
 use std::alloc::Global;
 use std::process::Abort;
 use std::test::Fail;
@@ -16,6 +17,12 @@ use std::test::Fail;
 #[test]
 fn steps_of_the_dense_matrix(rt: HostRuntime) -> Result<(), Fail> {
     steps::<DenseBinaryMatrix>(&rt, rt.alloc())?;
+    Ok(())
+}
+
+#[test]
+fn steps_of_the_sparse_matrix(rt: HostRuntime) -> Result<(), Fail> {
+    steps::<SparseBinaryMatrix>(&rt, rt.alloc())?;
     Ok(())
 }
 
@@ -89,23 +96,35 @@ fn copy_row<T: BinaryMatrix>(matrix: &T, row: usize, end: usize, copy: &mut Dens
 
 #[test]
 fn lists_are_replaced(rt: HostRuntime) -> Result<(), Fail> {
-    let mut matrix = DenseBinaryMatrix::new(rt.alloc(), 2, 3, 1)?;
+    replaced_lists::<DenseBinaryMatrix>(&rt, rt.alloc())?;
+    replaced_lists::<SparseBinaryMatrix>(&rt, rt.alloc())?;
+    Ok(())
+}
+
+fn replaced_lists<T: BinaryMatrix>(rt: &impl Abort, alloc: Global) -> Result<(), Error> {
+    let mut matrix = T::new(alloc, 2, 3, 1)?;
     matrix.set(1, 0, Octet::one())?;
     matrix.set(0, 2, Octet::one())?;
     matrix.enable_column_access_acceleration()?;
-    let mut rows = vec![in rt.alloc(); 7]?;
+    let mut rows = vec![in alloc; 7]?;
     matrix.get_ones_in_column_into(0, 0, 2, &mut rows)?;
     assert_eq!(rt; rows.as_slice(), [1].as_slice());
-    let mut columns = vec![in rt.alloc(); 7]?;
+    let mut columns = vec![in alloc; 7]?;
     matrix.query_non_zero_columns_into(0, 2, &mut columns)?;
     assert_eq!(rt; columns.as_slice(), [2].as_slice());
     Ok(())
 }
 
-// That the boundary is 2 is shown by the call behind it, which asks for the boundary.
 #[test]
 fn an_inactive_column_keeps_its_bits(rt: HostRuntime) -> Result<(), Fail> {
-    let mut matrix = DenseBinaryMatrix::new(rt.alloc(), 2, 3, 0)?;
+    inactive_column::<DenseBinaryMatrix>(&rt, rt.alloc())?;
+    inactive_column::<SparseBinaryMatrix>(&rt, rt.alloc())?;
+    Ok(())
+}
+
+// That the boundary is 2 is shown by the call behind it, which asks for the boundary.
+fn inactive_column<T: BinaryMatrix>(rt: &impl Abort, alloc: Global) -> Result<(), Error> {
+    let mut matrix = T::new(alloc, 2, 3, 0)?;
     matrix.set(0, 2, Octet::one())?;
     matrix.set(1, 1, Octet::one())?;
     matrix.enable_column_access_acceleration()?;
@@ -120,10 +139,81 @@ fn an_inactive_column_keeps_its_bits(rt: HostRuntime) -> Result<(), Fail> {
             assert_eq!(rt; matrix.get(i, j).byte(), wanted, "at {i}, {j}");
         }
     }
-    let mut other = DenseBinaryMatrix::new(rt.alloc(), 2, 3, 0)?;
+    let mut other = T::new(alloc, 2, 3, 0)?;
     other.resize(2, 0)?;
     assert_eq!(rt; other.height(), 2);
     assert_eq!(rt; other.width(), 0);
+    Ok(())
+}
+
+#[test]
+fn inactive_columns_are_added(rt: HostRuntime) -> Result<(), Fail> {
+    added_columns::<DenseBinaryMatrix>(&rt, rt.alloc())?;
+    added_columns::<SparseBinaryMatrix>(&rt, rt.alloc())?;
+    Ok(())
+}
+
+// The rows 0 0 1 1 and 0 0 1 0, of which the first is added to the second from column 2 on.
+fn added_columns<T: BinaryMatrix>(rt: &impl Abort, alloc: Global) -> Result<(), Error> {
+    let mut matrix = T::new(alloc, 2, 4, 1)?;
+    matrix.set(0, 2, Octet::one())?;
+    matrix.set(0, 3, Octet::one())?;
+    matrix.set(1, 2, Octet::one())?;
+    matrix.enable_column_access_acceleration()?;
+    matrix.hint_column_dense_and_frozen(2)?;
+    matrix.add_assign_rows(1, 0, 2)?;
+    assert_eq!(rt; matrix.get(1, 2), Octet::zero());
+    assert_eq!(rt; matrix.get(1, 3), Octet::one());
+    Ok(())
+}
+
+#[test]
+fn each_column_is_indexed(rt: HostRuntime) -> Result<(), Fail> {
+    indexed_columns::<DenseBinaryMatrix>(&rt, rt.alloc())?;
+    indexed_columns::<SparseBinaryMatrix>(&rt, rt.alloc())?;
+    Ok(())
+}
+
+fn indexed_columns<T: BinaryMatrix>(rt: &impl Abort, alloc: Global) -> Result<(), Error> {
+    let mut wide = T::new(alloc, 1, 5, 0)?;
+    wide.set(0, 4, Octet::one())?;
+    wide.enable_column_access_acceleration()?;
+    assert_eq!(rt;
+        wide.get_ones_in_column(4, 0, 1)?.as_slice(),
+        [0].as_slice()
+    );
+    let mut zeros = T::new(alloc, 2, 3, 0)?;
+    zeros.enable_column_access_acceleration()?;
+    assert_eq!(rt; zeros.get_ones_in_column(0, 0, 2)?.len(), 0);
+    Ok(())
+}
+
+#[test]
+fn another_word_of_dense_columns(rt: HostRuntime) -> Result<(), Fail> {
+    another_word::<DenseBinaryMatrix>(&rt, rt.alloc())?;
+    another_word::<SparseBinaryMatrix>(&rt, rt.alloc())?;
+    Ok(())
+}
+
+// Of 64 dense columns the last, of two that become dense the first, and one that doesn't.
+fn another_word<T: BinaryMatrix>(rt: &impl Abort, alloc: Global) -> Result<(), Error> {
+    let mut matrix = T::new(alloc, 3, 130, 64)?;
+    matrix.set(0, 63, Octet::one())?;
+    matrix.set(1, 64, Octet::one())?;
+    matrix.set(2, 129, Octet::one())?;
+    matrix.enable_column_access_acceleration()?;
+    matrix.hint_column_dense_and_frozen(65)?;
+    matrix.hint_column_dense_and_frozen(64)?;
+    assert_eq!(rt;
+        matrix.query_non_zero_columns(1, 64)?.as_slice(),
+        [64].as_slice()
+    );
+    for i in 0..3 {
+        for j in 0..130 {
+            let wanted = u8::from((i, j) == (0, 63) || (i, j) == (1, 64) || (i, j) == (2, 129));
+            assert_eq!(rt; matrix.get(i, j).byte(), wanted, "at {i}, {j}");
+        }
+    }
     Ok(())
 }
 

@@ -12,8 +12,8 @@ use Rattle.rq_matrix.proofs.SparseMatrixLaws.{sets_listed, sets_tail}
 use Rattle.rq_matrix.proofs.sparse_matrix.SparseBinaryMatrixBinaryMatrix.set.Goals as goal
 
 -- not zero is one
-bit_is : (octet zero : ℕ) (ne : Bool) → zero ≡ 0 → ne ≡ not (octet == zero) → (if ne then 1 else 0) ≡ bit_of octet
-bit_is octet zero ne is same =
+bit_is : (octet none : ℕ) (ne : Bool) → none ≡ 0 → ne ≡ not (octet == none) → (if ne then 1 else 0) ≡ bit_of octet
+bit_is octet none ne is same =
     let now = same ∙ ap (λ z. not (octet == z)) is in
     ap (λ (b : Bool). if b then 1 else 0) now
     ∙ elim (eqb_tells octet 0) [ inl e ↦ ap (λ (b : Bool). if not b then 1 else 0) e.0 ∙ sym (ap (λ (b : Bool). if b then 0 else 1) e.0) | inr e ↦ ap (λ (b : Bool). if not b then 1 else 0) e.0 ∙ sym (ap (λ (b : Bool). if b then 0 else 1) e.0) ]
