@@ -5,6 +5,7 @@ pub mod Columns
 pub mod Differences
 pub mod FirstOctets
 pub mod Firsts
+pub mod FrameLaws
 pub mod HdpcLaws
 pub mod HeaderBytes
 pub mod Interleaved

@@ -10,16 +10,13 @@ use Rattle.rq_standard.specs.Packet.{Packet, packet_bytes}
 use Rattle.rq_standard.specs.TableRows.{greatest_size}
 use Rattle.rq_standard.specs.Configuration.{Configuration, header_bytes}
 use Rattle.rq_standard.specs.Streams.{frames_of, stream_of}
+use Rattle.rq_standard.proofs.FrameLaws.{frames_of-push}
 use Rattle.rq_base.specs.Defaults.{wanted_parameters}
 use Rattle.raptorq.specs.Encoder.{packets_refusal}
 use Rattle.raptorq.specs.Refused.{new_encoder}
 use Rattle.rq_streams.specs.Ends.{Wanted}
 use Rattle.rq_streams.specs.Sent.{sent_configuration, IsStreamSent, Sends, IsSent}
 use Rattle.rq_standard.specs.ObjectPackets.{AreEncoded}
-
-frames_of-push : (packets : List Packet) (p : Packet) → frames_of (packets ++ p ∷ []) ≡ frames_of packets ++ packet_bytes p
-frames_of-push [] p = append-nil (packet_bytes p)
-frames_of-push (q ∷ packets) p = ap (λ xs. packet_bytes q ++ xs) (frames_of-push packets p) ∙ sym (append_assoc (packet_bytes q) (frames_of packets) (packet_bytes p))
 
 abbrev pub made : List ℕ → Result (List ℕ) Error
 made xs = Ok xs

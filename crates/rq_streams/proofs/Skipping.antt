@@ -13,7 +13,8 @@ use Rattle.rq_standard.specs.Headline.{block_row, IsPacketOf}
 use Rattle.rq_standard.proofs.PacketBytes.{id_of_bytes-id_bytes, packet_of_bytes-packet_bytes}
 use Rattle.raptorq.specs.Refused.{packet_refusal}
 use Rattle.raptorq.proofs.Lists.{length-payload}
-use Rattle.rq_streams.specs.Frames.{frame_size, frames_in, is_skipped, kept_packet, kept_packets, skipped_count}
+use Rattle.rq_standard.specs.Streams.{frame_size, frames_in}
+use Rattle.rq_streams.specs.Frames.{is_skipped, kept_packet, kept_packets, skipped_count}
 use Rattle.rq_streams.specs.MixedStreams.{Frame, Holds, Other, frame_bytes, packets_among, others_among, IsOtherFrame, rest_count, other_count}
 use Rattle.rq_streams.proofs.Cutting.{rest_frames, frames_in-mixed}
 

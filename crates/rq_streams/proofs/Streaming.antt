@@ -17,7 +17,8 @@ use Rattle.rq_standard.proofs.BlockRows.{block_has_row, answerable_only}
 use Rattle.rq_base.specs.RefusedInput.{checked_configuration}
 use Rattle.rq_streams.specs.declared.run.Outcome.{Outcome}
 use Rattle.rq_streams.specs.declared.run.Stop.{Stop}
-use Rattle.rq_streams.specs.Frames.{frame_size, frames_in, kept_packets, skipped_count, skipped_in}
+use Rattle.rq_standard.specs.Streams.{frame_size, frames_in}
+use Rattle.rq_streams.specs.Frames.{kept_packets, skipped_count, skipped_in}
 use Rattle.rq_streams.specs.MixedStreams.{Frame, frame_bytes, packets_among, other_count, IsMixedStream}
 use Rattle.rq_streams.specs.declared.run.Stop.TheVariants.{Refused}
 use Rattle.rq_streams.specs.ReceivedStreams.{header_configuration, WantsDetermined, WantsOnlyObject, AnswersStream, RefusesStream, ReceivesExactly, ReceivesWhereAnyCan, CountsOthers}

@@ -7,9 +7,10 @@ use Rattle.rq_standard.specs.declared.row.TableRow.{TableRow}
 use Rattle.rq_standard.specs.Headline.{IsPacketOf}
 use Rattle.rq_standard.specs.Standing.{State, StandsFor, StandsForMore}
 use Rattle.raptorq.proofs.Lists.{all_at}
-use Rattle.rq_streams.specs.Frames.{frame_size, frames_in, is_skipped, kept_packet, kept_packets, skipped_count}
+use Rattle.rq_standard.specs.Streams.{frame_size, frames_in}
+use Rattle.rq_streams.specs.Frames.{is_skipped, kept_packet, kept_packets, skipped_count}
 use Rattle.rq_streams.specs.ReceivedStreams.{StandsForFrames}
-use Rattle.rq_streams.proofs.Cutting.{frames_in-next, frames_in-none}
+use Rattle.rq_standard.proofs.FrameLaws.{frames_in-next, frames_in-none}
 use Rattle.rq_streams.proofs.Skipping.{skipped_count-cons}
 
 -- The frames so far are taken or skipped: the packets of these and of those that are left are the packets of all, and few enough are skipped.

@@ -1,17 +1,8 @@
 -- The frames behind a stream's header, and which of them are skipped.
-use Rattle.std.specs.Prelude.{ℕ, ◌+◌, ◌*◌, List, length, take, drop, map, filter_map, count_by, Option, Some, None, if◌then◌else◌, Bool, not, ◌||◌, nat_lt}
-use Rattle.std.specs.List.{range_with_len}
-use Rattle.std.specs.Int.{div_ceil}
+use Rattle.std.specs.Prelude.{ℕ, List, length, take, drop, filter_map, count_by, Option, Some, None, if◌then◌else◌, Bool, not, ◌||◌, nat_lt}
 use Rattle.rq_standard.specs.Packet.{Packet, packet_of_bytes}
 use Rattle.rq_standard.specs.Configuration.{Configuration, configuration_of_bytes}
-
--- how long a frame is: a payload id and a symbol
-abbrev pub frame_size : Configuration → ℕ
-frame_size c = 4 + c.symbol_size
-
--- bytes cut into parts of this size, of which the last one may be shorter
-unfoldable pub frames_in : ℕ → List ℕ → List (List ℕ)
-frames_in size bytes = map (λ i. take size (drop (i * size) bytes)) (range_with_len 0 (div_ceil (length bytes) size))
+use Rattle.rq_standard.specs.Streams.{frame_size, frames_in}
 
 -- a frame is skipped that isn't whole, or whose block isn't one of the object's
 abbrev pub is_skipped : Configuration → List ℕ → Bool

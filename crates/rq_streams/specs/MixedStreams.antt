@@ -6,7 +6,7 @@ use Rattle.rq_standard.specs.TableRows.{IsTable, greatest_size}
 use Rattle.rq_standard.specs.Packet.{Packet, packet_bytes}
 use Rattle.rq_standard.specs.Configuration.{Configuration, IsConfiguration, IsAccepted, header_bytes}
 use Rattle.rq_standard.specs.Headline.{IsHonestRun}
-use Rattle.rq_streams.specs.Frames.{frame_size}
+use Rattle.rq_standard.specs.Streams.{frame_size}
 
 -- a frame of a packet, or other bytes in its place
 pub data Frame : Type 0 where

@@ -10,12 +10,12 @@ use Rattle.rq_standard.specs.declared.row.TableRow.{TableRow}
 use Rattle.rq_standard.specs.TableRows.{greatest_size}
 use Rattle.rq_standard.specs.Headline.{IsPacketOf, IsAnswerable, IsOnlyObject, IsObjectAnswer}
 use Rattle.rq_standard.specs.Standing.{State, StandsFor}
-use Rattle.rq_standard.specs.Streams.{stream_of}
+use Rattle.rq_standard.specs.Streams.{stream_of, frame_size, frames_in}
 use Rattle.rq_base.specs.RefusedInput.{checked_configuration}
 use Rattle.rq_streams.specs.declared.run.Outcome.{Outcome}
 use Rattle.rq_streams.specs.declared.run.Stop.{Stop}
 use Rattle.rq_streams.specs.Ends.{Wanted, Ends, AfterRefusal, outcome_of}
-use Rattle.rq_streams.specs.Frames.{frame_size, frames_in, kept_packets, skipped_in}
+use Rattle.rq_streams.specs.Frames.{kept_packets, skipped_in}
 use Rattle.rq_streams.specs.MixedStreams.{Frame, packets_among, other_count, IsStreamRun, OverMixedStreams}
 
 -- the configuration in a stream's header

@@ -4,8 +4,9 @@ ghost use Rattle.rq_bytes.specs.Refusals.{Answers};
 ghost use Rattle.rq_standard.specs.TableRows.{greatest_size};
 ghost use Rattle.raptorq.specs.Decoder.{state_of};
 ghost use Rattle.rq_streams.specs.Counted.{failed_count, inner_of};
+ghost use Rattle.rq_standard.specs.Streams.{frame_size, frames_in};
 ghost use Rattle.rq_streams.specs.Ends.{AfterRefusal, CountsFailures, FaultsWhereCounted, KeepsWhereUnread};
-ghost use Rattle.rq_streams.specs.Frames.{frame_size, frames_in, kept_packet, skipped_count, skipped_in};
+ghost use Rattle.rq_streams.specs.Frames.{kept_packet, skipped_count, skipped_in};
 ghost use Rattle.rq_streams.specs.ReceivedStreams.{header_configuration, receive_refusal, StandsForFrames, AnswersStream, RefusesStream, RefusesFirst, CountsSkipped, ReceivesExactly, ReceivesWhereAnyCan, CountsOthers};
 
 use crate::counted::Counted;

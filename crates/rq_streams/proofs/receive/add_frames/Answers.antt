@@ -2,7 +2,7 @@ use Rattle.std.proofs.Common.{◌≤◌, length, sym, ap, ◌∙◌, subst, arit
 use Rattle.std.proofs.lemmas.Result.{err_from_is_err_and}
 use Rattle.raptorq.specs.Refused.{packet_refusal}
 use Rattle.rq_bytes.specs.Refusals.{IsRefusal}
-use Rattle.rq_streams.specs.Frames.{frame_size}
+use Rattle.rq_standard.specs.Streams.{frame_size}
 use Rattle.rq_streams.proofs.Skipping.{packet_refusal-kept}
 use Rattle.rq_streams.proofs.Taking.{taken_packet, taken_skipped, taken_count, taken_all}
 use Rattle.rq_streams.proofs.receive.add_frames.Goals as goal

@@ -9,7 +9,8 @@ use Rattle.rq_standard.specs.Standing.{StandsFor}
 use Rattle.rq_standard.specs.TableRows.{greatest_size}
 use Rattle.rq_base.specs.RefusedInput.{checked_configuration}
 use Rattle.raptorq.specs.Decoder.{state_of}
-use Rattle.rq_streams.specs.Frames.{frame_size, frames_in, kept_packets}
+use Rattle.rq_standard.specs.Streams.{frame_size, frames_in}
+use Rattle.rq_streams.specs.Frames.{kept_packets}
 use Rattle.rq_streams.specs.MixedStreams.{packets_among}
 use Rattle.rq_streams.specs.ReceivedStreams.{receive_refusal, RefusesStream, AnswersStream}
 use Rattle.rq_streams.proofs.Refusing.{receive_refusal-read, answered_after}

@@ -1,0 +1,3 @@
+pub mod Encoded
+pub mod Ending
+pub mod Frames

@@ -1,0 +1,45 @@
+-- What decoding packets in a buffer ends with, over the built-in table.
+use Rattle.std.specs.Prelude.{◌≡◌, ◌≢◌, ◌⊎◌, ℕ, List, length, map, Option, Some, None, Result, Ok, Err}
+use Rattle.rq_bytes.specs.declared.error.Error.{Error}
+use Rattle.rq_bytes.specs.Error.{code_of}
+use Rattle.rq_bytes.specs.Refusals.{and_then, first_refusal}
+use Rattle.rq_standard.specs.Configuration.{Configuration, configuration_of_bytes}
+use Rattle.rq_standard.specs.Headline.{AnswersExactly, AnswersWhereAnyCan}
+use Rattle.rq_standard.specs.Packet.{Packet, packet_of_bytes}
+use Rattle.rq_standard.specs.Streams.{frame_size, frames_in}
+use Rattle.rq_standard.specs.TableRows.{built_in_rows}
+use Rattle.rq_base.specs.RefusedInput.{read_packet}
+use Rattle.raptorq.specs.Runs.{run_refusal}
+
+-- the packets that bytes spell: cut at the length of a payload id and a symbol, of which the last may be shorter
+abbrev pub packets_in : Configuration → List ℕ → List Packet
+packets_in c bytes = map packet_of_bytes (frames_in (frame_size c) bytes)
+
+-- the first of some frames that is shorter than an id is refused
+abbrev pub frames_refusal : List (List ℕ) → Result (Unit {0}) Error
+frames_refusal frames = first_refusal (λ frame. and_then (read_packet frame) (λ _. Ok tt)) frames
+
+-- what is refused: a last packet that is shorter than its id, the configuration, and then the packets in their order
+abbrev pub decoding_refusal : List ℕ → List ℕ → Result (Unit {0}) Error
+decoding_refusal header bytes =
+    let c = configuration_of_bytes header in
+    and_then (frames_refusal (frames_in (frame_size c) bytes)) (λ _. run_refusal built_in_rows c (packets_in c bytes))
+
+-- The numbers of a refusal: where nothing is refused, 0, 24 and 25 are none. 21 may stand in place of any.
+abbrev pub IsRefused : ℕ → Result (Unit {0}) Error → Type 0
+IsRefused number (Ok x) = (number ≡ 21) ⊎ (number ≡ 0) ⊎ (number ≡ 24) ⊎ (number ≡ 25)
+IsRefused number (Err e) = (number ≡ 21) ⊎ (number ≡ code_of e)
+
+-- P of what a call answers of any packets: the object that is written (0), one of another length than the buffer (24), or none (25)
+pub record Answered (number : ℕ) (before after : List ℕ) (P : Option (List ℕ) → Type 0) : Type 0 where
+  pub written : number ≡ 0 → P (Some after)
+  pub no_room : number ≡ 24 → (object : List ℕ) × P (Some object) × (length object ≢ length before)
+  pub incomplete : number ≡ 25 → P None
+
+-- the object of packets in a buffer, exactly where they determine it
+abbrev pub AnswersPackets : List ℕ → List ℕ → Option (List ℕ) → Type 0
+AnswersPackets header bytes answer = let c = configuration_of_bytes header in AnswersExactly built_in_rows c (packets_in c bytes) answer
+
+-- and exactly where no other object fits them
+abbrev pub AnswersWhereOthersCan : List ℕ → List ℕ → Option (List ℕ) → Type 0
+AnswersWhereOthersCan header bytes answer = let c = configuration_of_bytes header in AnswersWhereAnyCan built_in_rows c (packets_in c bytes) answer

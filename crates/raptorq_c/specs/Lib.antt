@@ -1,0 +1,4 @@
+pub mod Numbers
+pub mod Parameters
+pub mod Encoding
+pub mod Decoding

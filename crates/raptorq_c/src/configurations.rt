@@ -1,0 +1,144 @@
+//! Configurations: how an object is cut (RFC 6330, 3.3 and 4.3), as twelve bytes.
+ghost use Rattle.std.specs.Prelude.{◌≡◌, ◌≢◌, Result, Ok, Err, OnOk, OnErr};
+ghost use Rattle.rq_standard.specs.Configuration.{header_bytes, configuration_of_bytes};
+ghost use Rattle.rq_standard.specs.TableRows.{built_in_rows, greatest_size};
+ghost use Rattle.rq_base.specs.Defaults.{wanted_parameters};
+ghost use Rattle.rq_base.specs.RefusedInput.{configuration_of, new_configuration, checked_configuration};
+ghost use Rattle.raptorq_c.specs.Numbers.{number_of, IsNumber, IsWritten};
+ghost use Rattle.raptorq_c.specs.Parameters.{parameters_of};
+
+use crate::stop::{Stop, number};
+use raptorq::ObjectTransmissionInformation;
+use raptorq::systematic_constants::SystematicTable;
+use std::alloc::Global;
+
+/// The numbers of a configuration. In C it is `reamertan_parameters`.
+#[repr(C)]
+#[derive(Clone, Copy, Debug, PartialEq, Eq)]
+pub struct Parameters {
+    /// The length of the object, in bytes.
+    pub transfer_length: u64,
+    /// The size of a symbol, in bytes.
+    pub symbol_size: u16,
+    /// The number of sub-blocks of a source block; 0 is read as 1.
+    pub sub_blocks: u16,
+    /// The number of source blocks.
+    pub source_blocks: u8,
+    /// The symbol alignment, in bytes.
+    pub alignment: u8,
+}
+
+// Writes the configuration of an object's length that a packet size and a decoder's memory ask for.
+fn derive(
+    alloc: Global,
+    object_length: u64,
+    packet_size: u16,
+    decoder_memory: u64,
+    configuration: &mut [u8; 12],
+) -> Result<(), Stop>
+    ensures number { IsNumber (number_of result) (wanted_parameters built_in_rows object_length packet_size decoder_memory) }
+    ensures written { OnOk result (IsWritten header_bytes (wanted_parameters built_in_rows object_length packet_size decoder_memory) configuration.new) }
+    ensures kept { OnErr result (configuration.new ≡ configuration.old) }
+{
+    let table = SystematicTable::built_in(alloc)?;
+    let derived = ObjectTransmissionInformation::generate_encoding_parameters(
+        &table,
+        object_length,
+        packet_size,
+        decoder_memory,
+    )?;
+    *configuration = derived.serialize();
+    Ok(())
+}
+
+/// The configuration of an object of this length, in bytes, for packets of at most `packet_size`
+/// bytes of payload, and decoders each of whose sub-blocks fits so many bytes of memory. The numbers
+/// are those of `ObjectTransmissionInformation::generate_encoding_parameters`, and 10485760 is its
+/// default memory.
+#[unsafe(no_mangle)]
+pub extern "C" fn reamertan_derive_configuration(
+    alloc: Global,
+    object_length: u64,
+    packet_size: u16,
+    decoder_memory: u64,
+    configuration: &mut [u8; 12],
+) -> u8
+    ensures number { IsNumber result (wanted_parameters built_in_rows object_length packet_size decoder_memory) }
+    ensures written { result ≡ 0 → IsWritten header_bytes (wanted_parameters built_in_rows object_length packet_size decoder_memory) configuration.new }
+    ensures kept { result ≢ 0 → configuration.new ≡ configuration.old }
+{
+    number(derive(
+        alloc,
+        object_length,
+        packet_size,
+        decoder_memory,
+        configuration,
+    ))
+}
+
+// Writes the configuration of these numbers.
+fn write(parameters: &Parameters, configuration: &mut [u8; 12]) -> Result<(), Stop>
+    ensures number { IsNumber (number_of result) (new_configuration (parameters_of parameters.now)) }
+    ensures written { OnOk result (IsWritten header_bytes (new_configuration (parameters_of parameters.now)) configuration.new) }
+    ensures kept { OnErr result (configuration.new ≡ configuration.old) }
+{
+    let asked = ObjectTransmissionInformation::new(
+        parameters.transfer_length,
+        parameters.symbol_size,
+        parameters.source_blocks,
+        parameters.sub_blocks,
+        parameters.alignment,
+    )?;
+    *configuration = asked.serialize();
+    Ok(())
+}
+
+/// The twelve bytes of a configuration of these numbers, refused as
+/// `ObjectTransmissionInformation::new` refuses.
+#[unsafe(no_mangle)]
+pub extern "C" fn reamertan_write_configuration(
+    parameters: &Parameters,
+    configuration: &mut [u8; 12],
+) -> u8
+    ensures number { IsNumber result (new_configuration (parameters_of parameters.now)) }
+    ensures written { result ≡ 0 → IsWritten header_bytes (new_configuration (parameters_of parameters.now)) configuration.new }
+    ensures kept { result ≢ 0 → configuration.new ≡ configuration.old }
+{
+    number(write(parameters, configuration))
+}
+
+/// The numbers of the configuration that twelve bytes spell, whether or not coders take it.
+#[unsafe(no_mangle)]
+pub extern "C" fn reamertan_read_configuration(
+    configuration: &[u8; 12],
+    parameters: &mut Parameters,
+)
+    ensures { parameters_of parameters.new ≡ configuration_of_bytes configuration.now }
+{
+    let read = ObjectTransmissionInformation::deserialize(configuration);
+    *parameters = Parameters {
+        transfer_length: read.transfer_length(),
+        symbol_size: read.symbol_size(),
+        sub_blocks: read.sub_blocks(),
+        source_blocks: read.source_blocks(),
+        alignment: read.symbol_alignment(),
+    };
+}
+
+// Tests that coders take a configuration.
+fn check(alloc: Global, configuration: &[u8; 12]) -> Result<(), Stop>
+    ensures { IsNumber (number_of result) (checked_configuration (greatest_size built_in_rows) (configuration_of_bytes configuration.now)) }
+{
+    let table = SystematicTable::built_in(alloc)?;
+    ObjectTransmissionInformation::deserialize(configuration).check(&table)?;
+    Ok(())
+}
+
+/// Whether encoders and decoders take the configuration that twelve bytes spell:
+/// `ObjectTransmissionInformation::check`.
+#[unsafe(no_mangle)]
+pub extern "C" fn reamertan_check_configuration(alloc: Global, configuration: &[u8; 12]) -> u8
+    ensures { IsNumber result (checked_configuration (greatest_size built_in_rows) (configuration_of_bytes configuration.now)) }
+{
+    number(check(alloc, configuration))
+}

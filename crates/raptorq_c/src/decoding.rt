@@ -1,0 +1,78 @@
+//! Packets in, their object out.
+ghost use Rattle.std.specs.Prelude.{◌≡◌, ◌≢◌, ◌<◌, map, OnErr, IfOk};
+ghost use Rattle.rq_bytes.specs.Refusals.{Answers};
+ghost use Rattle.rq_standard.specs.Packet.{packet_of_bytes};
+ghost use Rattle.raptorq.specs.Runs.{packets_of};
+ghost use Rattle.rq_standard.specs.Streams.{frames_in};
+ghost use Rattle.raptorq_c.specs.Decoding.{decoding_refusal, frames_refusal, Answered, AnswersPackets, AnswersWhereOthersCan, IsRefused};
+ghost use Rattle.raptorq_c.specs.Numbers.{number_of};
+
+use crate::stop::{Stop, number};
+use raptorq::decoder::decode_all;
+use raptorq::encoder::SPARSE_MATRIX_THRESHOLD;
+use raptorq::error::Error;
+use raptorq::systematic_constants::SystematicTable;
+use raptorq::{EncodingPacket, ObjectTransmissionInformation};
+use std::alloc::Global;
+
+// The packets that frames of `size` bytes spell, each with the sparse threshold that is set before it.
+fn steps(alloc: Global, size: usize, bytes: &[u8]) -> Result<Vec<(u32, EncodingPacket)>, Error>
+    requires { 0 < size }
+    ensures packets { IfOk result (λ v. packets_of v.items ≡ map packet_of_bytes (frames_in size bytes.now)) }
+    ensures refused { Answers (λ _. tt) result (frames_refusal (frames_in size bytes.now)) }
+{
+    let mut steps = Vec::with_capacity(alloc, bytes.len() / size)?;
+    for frame in bytes.chunks(size) {
+        steps.push((
+            SPARSE_MATRIX_THRESHOLD,
+            EncodingPacket::deserialize(alloc, frame)?,
+        ))?;
+    }
+    Ok(steps)
+}
+
+// Fills a buffer of the caller's with the object of packets, where they determine it.
+fn decode(
+    alloc: Global,
+    configuration: &[u8; 12],
+    packets: &[u8],
+    object: &mut [u8],
+) -> Result<(), Stop>
+    ensures refused { IsRefused (number_of result) (decoding_refusal configuration.now packets.now) }
+    ensures headline { Answered (number_of result) object.old object.new (AnswersPackets configuration.now packets.now) }
+    ensures only_object { Answered (number_of result) object.old object.new (AnswersWhereOthersCan configuration.now packets.now) }
+    ensures kept { OnErr result (object.new ≡ object.old) }
+{
+    let table = SystematicTable::built_in(alloc)?;
+    let config = ObjectTransmissionInformation::deserialize(configuration);
+    let steps = steps(alloc, 4 + usize::from(config.symbol_size()), packets)?;
+    let Some(answer) = decode_all(alloc, &table, config, steps)? else {
+        return Err(Stop::Incomplete);
+    };
+    if object.len() != answer.len() {
+        return Err(Stop::WrongBuffer);
+    }
+    object.copy_from_slice(answer.as_slice());
+    Ok(())
+}
+
+/// Fills a buffer with the object of packets, in any order, each any number of times, where they
+/// determine it. The packets are cut at the length of a payload id and a symbol.
+///
+/// Refuses a last packet that is shorter than a payload id, then what `decode_all` refuses, then
+/// packets that don't determine the object, and then a buffer that hasn't the object's length. Want of
+/// memory may come before any of them.
+#[unsafe(no_mangle)]
+pub extern "C" fn reamertan_decode(
+    alloc: Global,
+    configuration: &[u8; 12],
+    packets: &[u8],
+    object: &mut [u8],
+) -> u8
+    ensures refused { IsRefused result (decoding_refusal configuration.now packets.now) }
+    ensures headline { Answered result object.old object.new (AnswersPackets configuration.now packets.now) }
+    ensures only_object { Answered result object.old object.new (AnswersWhereOthersCan configuration.now packets.now) }
+    ensures kept { result ≢ 0 → object.new ≡ object.old }
+{
+    number(decode(alloc, configuration, packets, object))
+}

@@ -1,0 +1,47 @@
+//! What ends a call without its result, and the numbers that calls answer.
+ghost use Rattle.std.specs.Prelude.{◌≡◌};
+ghost use Rattle.rq_bytes.specs.declared.error.Error.TheVariants.{OutOfMemory};
+ghost use Rattle.raptorq_c.specs.declared.stop.Stop.TheVariants.{Refused};
+ghost use Rattle.raptorq_c.specs.Numbers.{number_of};
+
+use raptorq::error::Error;
+use std::alloc::AllocError;
+
+/// What ends a call without its result.
+#[derive(Clone, Copy, Debug, PartialEq, Eq)]
+pub enum Stop {
+    /// The codec refuses.
+    Refused(Error),
+    /// The caller's buffer has another length than what is to be written.
+    WrongBuffer,
+    /// The packets don't determine the object.
+    Incomplete,
+}
+
+impl From<Error> for Stop {
+    ghost from_gives = { λ e s. s ≡ Refused e };
+
+    fn from(refusal: Error) -> Stop {
+        Stop::Refused(refusal)
+    }
+}
+
+impl From<AllocError> for Stop {
+    ghost from_gives = { λ _ s. s ≡ Refused OutOfMemory };
+
+    fn from(_refused: AllocError) -> Stop {
+        Stop::Refused(Error::OutOfMemory)
+    }
+}
+
+/// The number that a call answers: 0 where it is done.
+pub(crate) fn number(ended: Result<(), Stop>) -> u8
+    ensures { result ≡ number_of ended }
+{
+    match ended {
+        Ok(()) => 0,
+        Err(Stop::Refused(refusal)) => refusal.code(),
+        Err(Stop::WrongBuffer) => 24,
+        Err(Stop::Incomplete) => 25,
+    }
+}

@@ -1,0 +1,141 @@
+/* Reamertan: a RaptorQ erasure codec (RFC 6330) that is proved.
+ *
+ * An object is cut into source blocks, a block into source symbols of T bytes. A packet is a payload
+ * id of 4 bytes and a symbol, so 4 + T bytes. Any packets of a block that determine it give it back,
+ * whichever they are: mostly as many as it has source symbols.
+ *
+ * A configuration says how an object is cut. Sender and receiver need the same one. It crosses as the
+ * 12 bytes of RFC 6330, 3.3 (Common and Scheme-Specific FEC Object Transmission Information), which go
+ * before the packets in a stream. Any 12 bytes may be handed in.
+ *
+ * Each call reads and writes the caller's buffers alone, keeps no memory, and may be made from any
+ * thread, but not from a signal handler. No pointer may be null, also where a length is 0, and what a
+ * call writes may not overlap what it reads. A call that answers another number than REAMERTAN_DONE
+ * leaves the caller's buffers as they were.
+ *
+ * Link libraptorq_c.a and the C library's heap (README.md of the repository, "From C").
+ */
+#ifndef REAMERTAN_H
+#define REAMERTAN_H
+
+#include <stddef.h>
+#include <stdint.h>
+
+#ifdef __cplusplus
+extern "C" {
+#endif
+
+/* The bytes of a configuration, and of a payload id before its symbol. */
+#define REAMERTAN_CONFIGURATION_BYTES 12
+#define REAMERTAN_PAYLOAD_ID_BYTES 4
+
+/* The decoder's memory, in bytes, of a default configuration. */
+#define REAMERTAN_DEFAULT_DECODER_MEMORY 10485760
+
+/* What calls answer. The refusals have the numbers of the library's `Error::code`. */
+enum reamertan_answer {
+    /* The call did what it is for. */
+    REAMERTAN_DONE = 0,
+    /* The object is longer than 942574504275 bytes. */
+    REAMERTAN_TRANSFER_TOO_LONG = 1,
+    /* The symbol alignment is 0. */
+    REAMERTAN_ALIGNMENT_ZERO = 2,
+    /* The symbol alignment doesn't divide the symbol size. */
+    REAMERTAN_MISALIGNED = 3,
+    /* A source block has more than 56403 symbols. */
+    REAMERTAN_TOO_MANY_SYMBOLS = 4,
+    /* The symbol size is 0. */
+    REAMERTAN_SYMBOL_SIZE_ZERO = 5,
+    /* The number of source blocks is 0. */
+    REAMERTAN_SOURCE_BLOCKS_ZERO = 6,
+    /* A source block has more symbols than the table's greatest row, which is 497. */
+    REAMERTAN_BLOCK_OVER_TABLE = 7,
+    /* The object has another length than its configuration says. */
+    REAMERTAN_WRONG_DATA_LENGTH = 8,
+    /* A row of the table doesn't determine the intermediate symbols. */
+    REAMERTAN_SINGULAR = 9,
+    /* A block would need encoding symbol ids above 2^24 - 1. */
+    REAMERTAN_ESI_TOO_LARGE = 11,
+    /* A packet is shorter than its payload id. */
+    REAMERTAN_PACKET_TOO_SHORT = 12,
+    /* A packet's payload has another length than a symbol. */
+    REAMERTAN_WRONG_PAYLOAD_SIZE = 13,
+    /* A packet's source block is none of the object's. */
+    REAMERTAN_UNKNOWN_BLOCK = 14,
+    /* The packet size is 0. */
+    REAMERTAN_PACKET_SIZE_ZERO = 15,
+    /* The object's length is 0. */
+    REAMERTAN_TRANSFER_LENGTH_ZERO = 16,
+    /* No row of the table fits the decoder's memory. */
+    REAMERTAN_MEMORY_REQUIREMENT_TOO_SMALL = 17,
+    /* The object would need more than 255 source blocks. */
+    REAMERTAN_TOO_MANY_BLOCKS = 18,
+    /* malloc or realloc refused. */
+    REAMERTAN_OUT_OF_MEMORY = 21,
+    /* A buffer that is to be filled has another length than what is to be written. */
+    REAMERTAN_WRONG_BUFFER = 24,
+    /* The packets don't determine the object: more are needed. */
+    REAMERTAN_INCOMPLETE = 25
+};
+
+/* The numbers of a configuration. */
+struct reamertan_parameters {
+    uint64_t transfer_length; /* F: the object's length, in bytes */
+    uint16_t symbol_size;     /* T: in bytes */
+    uint16_t sub_blocks;      /* N: of a source block; 0 is read as 1 */
+    uint8_t source_blocks;    /* Z */
+    uint8_t alignment;        /* Al: in bytes */
+};
+
+/* Writes the configuration of an object of `object_length` bytes in packets of at most `packet_size`
+ * bytes of payload, each of whose sub-blocks fits `decoder_memory` bytes (RFC 6330, 4.3).
+ *
+ * Refuses, in this order: PACKET_SIZE_ZERO, TRANSFER_LENGTH_ZERO, TRANSFER_TOO_LONG,
+ * MEMORY_REQUIREMENT_TOO_SMALL, TOO_MANY_BLOCKS. OUT_OF_MEMORY may come before any. */
+uint8_t reamertan_derive_configuration(uint64_t object_length, uint16_t packet_size,
+                                       uint64_t decoder_memory,
+                                       uint8_t configuration[REAMERTAN_CONFIGURATION_BYTES]);
+
+/* Writes the configuration of these numbers.
+ *
+ * Refuses, in this order: TRANSFER_TOO_LONG, ALIGNMENT_ZERO, MISALIGNED, TOO_MANY_SYMBOLS. Whether
+ * coders take it is what `reamertan_check_configuration` says. */
+uint8_t reamertan_write_configuration(const struct reamertan_parameters *parameters,
+                                      uint8_t configuration[REAMERTAN_CONFIGURATION_BYTES]);
+
+/* Reads the numbers of any 12 bytes. */
+void reamertan_read_configuration(const uint8_t configuration[REAMERTAN_CONFIGURATION_BYTES],
+                                  struct reamertan_parameters *parameters);
+
+/* Whether coders take a configuration.
+ *
+ * Refuses, in this order: SYMBOL_SIZE_ZERO, ALIGNMENT_ZERO, MISALIGNED, SOURCE_BLOCKS_ZERO,
+ * BLOCK_OVER_TABLE. OUT_OF_MEMORY may come before any. */
+uint8_t reamertan_check_configuration(const uint8_t configuration[REAMERTAN_CONFIGURATION_BYTES]);
+
+/* Fills `packets` with the packets of an object: block by block those of its source symbols, and then
+ * of `repair` repair symbols. `packets_length` has to be what they take together:
+ * (Kt + Z * repair) * (4 + T) bytes, Kt being `object_length` / T, rounded up.
+ *
+ * Refuses, in this order: what `reamertan_check_configuration` refuses, WRONG_DATA_LENGTH, SINGULAR,
+ * ESI_TOO_LARGE, WRONG_BUFFER. OUT_OF_MEMORY may come before any. */
+uint8_t reamertan_encode(const uint8_t configuration[REAMERTAN_CONFIGURATION_BYTES],
+                         const uint8_t *object, size_t object_length, uint32_t repair,
+                         uint8_t *packets, size_t packets_length);
+
+/* Fills `object` with the object of packets, in any order, each any number of times, where they
+ * determine it. They lie one behind another in `packets`. `object_length` has to be the object's, F.
+ *
+ * Refuses, in this order: PACKET_TOO_SHORT where the last packet is shorter than its id, what
+ * `reamertan_check_configuration` refuses, of the first packet that is refused UNKNOWN_BLOCK or else
+ * WRONG_PAYLOAD_SIZE (the last packet may be cut short), INCOMPLETE, WRONG_BUFFER. OUT_OF_MEMORY may
+ * come before any. */
+uint8_t reamertan_decode(const uint8_t configuration[REAMERTAN_CONFIGURATION_BYTES],
+                         const uint8_t *packets, size_t packets_length, uint8_t *object,
+                         size_t object_length);
+
+#ifdef __cplusplus
+}
+#endif
+
+#endif

@@ -1,0 +1,133 @@
+//! The proved codec beside the crate `raptorq` 2.0.1, in one process: on 2,000 random configurations,
+//! losses and orders, packets are equal byte for byte and both answer at the same packet. Then both
+//! encode and decode in turn, and the median of the ratios of their times is printed (above 1 the
+//! proved one is faster).
+
+use std::hint::black_box;
+use std::time::Instant;
+
+struct Numbers(u64);
+
+impl Numbers {
+    fn below(&mut self, bound: u64) -> u64 {
+        self.0 = self.0.wrapping_mul(6364136223846793005).wrapping_add(1442695040888963407);
+        (self.0 >> 32) % bound
+    }
+
+    fn bytes(&mut self, count: usize) -> Vec<u8> {
+        (0..count).map(|_| self.below(256) as u8).collect()
+    }
+
+    fn shuffle<T>(&mut self, items: &mut [T]) {
+        for i in (1..items.len()).rev() {
+            items.swap(i, self.below(i as u64 + 1) as usize);
+        }
+    }
+}
+
+/// A configuration that both take: F, T, Z, N, Al.
+fn configuration(numbers: &mut Numbers) -> (u64, u16, u8, u16, u8) {
+    let alignment = 1 + numbers.below(8);
+    let units = 1 + numbers.below(8);
+    let size = alignment * units;
+    let sub_blocks = 1 + numbers.below(units);
+    let blocks = 1 + numbers.below(4);
+    let most = if numbers.below(20) == 0 { 497 } else { 60 };
+    let symbols = blocks * (1 + numbers.below(most));
+    let length = symbols * size - numbers.below(size);
+    (length, size as u16, blocks as u8, sub_blocks as u16, alignment as u8)
+}
+
+/// After which packet each decoder answers, and that the answer is the object.
+fn compare(numbers: &mut Numbers) {
+    let (f, t, z, n, al) = configuration(numbers);
+    let data = numbers.bytes(f as usize);
+    let ours = proved::ObjectTransmissionInformation::new(f, t, z, n, al);
+    let theirs = raptorq::ObjectTransmissionInformation::new(f, t, z, n, al);
+    assert_eq!(ours.serialize(), theirs.serialize());
+    let repair = numbers.below(20) as u32;
+    let made = proved::Encoder::new(&data, ours).get_encoded_packets(repair);
+    let packets: Vec<Vec<u8>> = made.iter().map(|packet| packet.serialize()).collect();
+    let crates = raptorq::Encoder::new(&data, theirs).get_encoded_packets(repair);
+    assert!(packets.iter().eq(&crates.iter().map(|packet| packet.serialize()).collect::<Vec<_>>()));
+
+    let mut came: Vec<&Vec<u8>> = packets.iter().filter(|_| numbers.below(10) > 0).collect();
+    numbers.shuffle(&mut came);
+    let mut first = proved::Decoder::new(ours);
+    let mut second = raptorq::Decoder::new(theirs);
+    for packet in came {
+        let here = first.decode(proved::EncodingPacket::deserialize(packet));
+        let there = second.decode(raptorq::EncodingPacket::deserialize(packet));
+        assert_eq!(here, there, "{f} {t} {z} {n} {al}");
+        if let Some(object) = here {
+            assert_eq!(object, data);
+            return;
+        }
+    }
+}
+
+fn nanoseconds(work: impl FnOnce()) -> f64 {
+    let start = Instant::now();
+    work();
+    start.elapsed().as_nanos() as f64
+}
+
+/// The median of the crate's time by the proved codec's, the two taking turns.
+fn ratio(mut ours: impl FnMut(), mut theirs: impl FnMut()) -> f64 {
+    let mut ratios: Vec<f64> = (0..41)
+        .map(|_| {
+            let here = nanoseconds(&mut ours);
+            nanoseconds(&mut theirs) / here
+        })
+        .collect();
+    ratios.sort_by(f64::total_cmp);
+    ratios[20]
+}
+
+fn measure(symbols: usize, size: u16) {
+    let data = Numbers(7).bytes(symbols * usize::from(size));
+    let repair = (symbols / 10) as u32;
+    let ours = proved::ObjectTransmissionInformation::new(data.len() as u64, size, 1, 1, 8);
+    let theirs = raptorq::ObjectTransmissionInformation::new(data.len() as u64, size, 1, 1, 8);
+    let encode = ratio(
+        || {
+            black_box(proved::Encoder::new(&data, ours).get_encoded_packets(repair));
+        },
+        || {
+            black_box(raptorq::Encoder::new(&data, theirs).get_encoded_packets(repair));
+        },
+    );
+    let packets = proved::Encoder::new(&data, ours).get_encoded_packets(repair + 1);
+    let kept = packets.iter().enumerate().filter(|(i, _)| i % 10 != 3 || *i >= symbols);
+    let came: Vec<Vec<u8>> = kept.map(|(_, packet)| packet.serialize()).collect();
+    let decode = ratio(
+        || {
+            let mut decoder = proved::Decoder::new(ours);
+            for packet in &came {
+                decoder.add_new_packet(proved::EncodingPacket::deserialize(packet));
+            }
+            black_box(decoder.get_result());
+        },
+        || {
+            let mut decoder = raptorq::Decoder::new(theirs);
+            for packet in &came {
+                decoder.add_new_packet(raptorq::EncodingPacket::deserialize(packet));
+            }
+            black_box(decoder.get_result());
+        },
+    );
+    println!("K = {symbols}, T = {size}: encode {encode:.2}, decode {decode:.2}");
+}
+
+fn main() {
+    let mut numbers = Numbers(2026);
+    for _ in 0..2_000 {
+        compare(&mut numbers);
+    }
+    println!("2000 configurations: the same packets, the same answers at the same packets");
+    for size in [1280, 64] {
+        for symbols in [10, 101, 248, 497] {
+            measure(symbols, size);
+        }
+    }
+}

@@ -1,0 +1,198 @@
+//! Packets and configurations.
+
+use crate::calls::{self, Configuration, Parameters};
+
+/// Which symbol of which source block a packet carries.
+#[derive(Clone, Debug, PartialEq, PartialOrd, Eq, Ord, Hash)]
+pub struct PayloadId {
+    source_block_number: u8,
+    encoding_symbol_id: u32,
+}
+
+impl PayloadId {
+    /// An id. Panics where the encoding symbol id doesn't fit 24 bits.
+    pub fn new(source_block_number: u8, encoding_symbol_id: u32) -> PayloadId {
+        assert!(encoding_symbol_id < 1 << 24, "EsiTooLarge");
+        PayloadId {
+            source_block_number,
+            encoding_symbol_id,
+        }
+    }
+
+    /// The id that four bytes spell.
+    pub fn deserialize(data: &[u8; 4]) -> PayloadId {
+        PayloadId {
+            source_block_number: data[0],
+            encoding_symbol_id: u32::from_be_bytes([0, data[1], data[2], data[3]]),
+        }
+    }
+
+    /// The four bytes that spell the id.
+    pub fn serialize(&self) -> [u8; 4] {
+        let id = self.encoding_symbol_id.to_be_bytes();
+        [self.source_block_number, id[1], id[2], id[3]]
+    }
+
+    /// The number of the source block.
+    pub fn source_block_number(&self) -> u8 {
+        self.source_block_number
+    }
+
+    /// The encoding symbol id.
+    pub fn encoding_symbol_id(&self) -> u32 {
+        self.encoding_symbol_id
+    }
+}
+
+/// A packet: an id, and the encoding symbol that it names.
+#[derive(Clone, Debug, PartialEq, PartialOrd, Eq, Ord, Hash)]
+pub struct EncodingPacket {
+    payload_id: PayloadId,
+    data: Vec<u8>,
+}
+
+impl EncodingPacket {
+    /// A packet of an id and its payload.
+    pub fn new(payload_id: PayloadId, data: Vec<u8>) -> EncodingPacket {
+        EncodingPacket { payload_id, data }
+    }
+
+    /// The packet that bytes spell. Panics below four bytes.
+    pub fn deserialize(data: &[u8]) -> EncodingPacket {
+        let (id, payload) = data.split_first_chunk().expect("PacketTooShort");
+        EncodingPacket::new(PayloadId::deserialize(id), payload.to_vec())
+    }
+
+    /// The bytes that spell the packet.
+    pub fn serialize(&self) -> Vec<u8> {
+        [&self.payload_id.serialize(), self.data.as_slice()].concat()
+    }
+
+    /// The packet's id.
+    pub fn payload_id(&self) -> &PayloadId {
+        &self.payload_id
+    }
+
+    /// The encoding symbol.
+    pub fn data(&self) -> &[u8] {
+        &self.data
+    }
+
+    /// The packet's id and its encoding symbol.
+    pub fn split(self) -> (PayloadId, Vec<u8>) {
+        (self.payload_id, self.data)
+    }
+}
+
+/// What encoder and decoder both know of an object: its length and how it is cut.
+#[derive(Copy, Clone, Debug, PartialEq, PartialOrd, Eq, Ord, Hash)]
+pub struct ObjectTransmissionInformation {
+    transfer_length: u64,
+    symbol_size: u16,
+    num_source_blocks: u8,
+    num_sub_blocks: u16,
+    symbol_alignment: u8,
+}
+
+impl ObjectTransmissionInformation {
+    /// A configuration. Panics where it is refused.
+    pub fn new(
+        transfer_length: u64,
+        symbol_size: u16,
+        source_blocks: u8,
+        sub_blocks: u16,
+        alignment: u8,
+    ) -> ObjectTransmissionInformation {
+        let asked = Parameters {
+            transfer_length,
+            symbol_size,
+            sub_blocks,
+            source_blocks,
+            alignment,
+        };
+        match calls::write(&asked) {
+            Ok(made) => Self::deserialize(&made),
+            Err(refusal) => panic!("{refusal}"),
+        }
+    }
+
+    /// The default configuration of an object. Panics where it is refused.
+    pub fn with_defaults(
+        transfer_length: u64,
+        max_packet_size: u16,
+    ) -> ObjectTransmissionInformation {
+        Self::derived(transfer_length, max_packet_size, 10 * 1024 * 1024)
+    }
+
+    pub(crate) fn derived(
+        transfer_length: u64,
+        max_packet_size: u16,
+        decoder_memory: u64,
+    ) -> ObjectTransmissionInformation {
+        match calls::derive(transfer_length, max_packet_size, decoder_memory) {
+            Ok(made) => Self::deserialize(&made),
+            Err(refusal) => panic!("{refusal}"),
+        }
+    }
+
+    /// The configuration that twelve bytes spell.
+    pub fn deserialize(data: &[u8; 12]) -> ObjectTransmissionInformation {
+        let read = calls::read(data);
+        ObjectTransmissionInformation {
+            transfer_length: read.transfer_length,
+            symbol_size: read.symbol_size,
+            num_source_blocks: read.source_blocks,
+            num_sub_blocks: read.sub_blocks,
+            symbol_alignment: read.alignment,
+        }
+    }
+
+    /// The twelve bytes that spell the configuration.
+    pub fn serialize(&self) -> [u8; 12] {
+        self.bytes()
+    }
+
+    /// The length of the object, in bytes.
+    pub fn transfer_length(&self) -> u64 {
+        self.transfer_length
+    }
+
+    /// The size of a symbol, in bytes.
+    pub fn symbol_size(&self) -> u16 {
+        self.symbol_size
+    }
+
+    /// The number of source blocks.
+    pub fn source_blocks(&self) -> u8 {
+        self.num_source_blocks
+    }
+
+    /// The number of sub-blocks in each source block.
+    pub fn sub_blocks(&self) -> u16 {
+        self.num_sub_blocks
+    }
+
+    /// The symbol alignment, in bytes.
+    pub fn symbol_alignment(&self) -> u8 {
+        self.symbol_alignment
+    }
+
+    /// The same with one source block, of so many symbols.
+    pub(crate) fn of_block(&self, symbols: u64) -> Configuration {
+        let block = ObjectTransmissionInformation {
+            transfer_length: symbols * u64::from(self.symbol_size),
+            num_source_blocks: 1,
+            ..*self
+        };
+        block.bytes()
+    }
+
+    // F in five bytes, a reserved zero, T in two, Z in one, N in two, Al in one.
+    fn bytes(&self) -> Configuration {
+        let [_, _, _, f @ ..] = self.transfer_length.to_be_bytes();
+        let t = self.symbol_size.to_be_bytes();
+        let n = self.num_sub_blocks.to_be_bytes();
+        let (z, al) = (self.num_source_blocks, self.symbol_alignment);
+        [f[0], f[1], f[2], f[3], f[4], 0, t[0], t[1], z, n[0], n[1], al]
+    }
+}

@@ -1,0 +1,133 @@
+//! The crate's examples and tests that touch public calls, over the proved codec.
+
+use raptorq::{
+    Decoder, Encoder, EncoderBuilder, EncodingPacket, ObjectTransmissionInformation, PayloadId,
+};
+
+/// A generator of numbers for tests: the high bits of a linear congruence.
+struct Numbers(u64);
+
+impl Numbers {
+    fn below(&mut self, bound: u64) -> u64 {
+        self.0 = self.0.wrapping_mul(6364136223846793005).wrapping_add(1442695040888963407);
+        (self.0 >> 32) % bound
+    }
+
+    fn bytes(&mut self, count: usize) -> Vec<u8> {
+        (0..count).map(|_| self.below(256) as u8).collect()
+    }
+
+    fn shuffle<T>(&mut self, items: &mut [T]) {
+        for i in (1..items.len()).rev() {
+            items.swap(i, self.below(i as u64 + 1) as usize);
+        }
+    }
+}
+
+fn answer(decoder: &mut Decoder, packets: Vec<EncodingPacket>) -> Option<Vec<u8>> {
+    packets.into_iter().find_map(|packet| decoder.decode(packet))
+}
+
+#[test]
+fn greatest_transfer_length() {
+    let config = ObjectTransmissionInformation::new(942574504275, 65535, 255, 1, 1);
+    assert_eq!(config.transfer_length(), 942574504275);
+}
+
+#[test]
+fn bytes_of_ids_packets_and_configurations() {
+    let mut numbers = Numbers(1);
+    let id = PayloadId::new(numbers.below(256) as u8, numbers.below(1 << 24) as u32);
+    assert_eq!(PayloadId::deserialize(&id.serialize()), id);
+    let packet = EncodingPacket::new(id, numbers.bytes(1));
+    assert_eq!(EncodingPacket::deserialize(&packet.serialize()), packet);
+    let config = ObjectTransmissionInformation::with_defaults(123_456, 1280);
+    assert_eq!(ObjectTransmissionInformation::deserialize(&config.serialize()), config);
+}
+
+#[test]
+fn a_builder_makes_the_default_encoder() {
+    let data = [0, 1, 2, 3];
+    let mut builder = EncoderBuilder::new();
+    builder.set_max_packet_size(1024);
+    assert_eq!(builder.build(&data), Encoder::with_defaults(&data, 1024));
+}
+
+#[test]
+fn source_packets_are_the_object_and_zeros() {
+    for padding in [0, 42] {
+        let data = Numbers(2).bytes(2048 - padding);
+        let packets = Encoder::with_defaults(&data, 1024).get_encoded_packets(0);
+        let sent: Vec<u8> = packets.iter().flat_map(|packet| packet.data().to_vec()).collect();
+        assert_eq!(sent.len(), 2048);
+        assert_eq!(sent[..data.len()], data);
+        assert!(sent[data.len()..].iter().all(|&byte| byte == 0));
+    }
+}
+
+#[test]
+fn expected_ids() {
+    let config = ObjectTransmissionInformation::new(6, 2, 1, 1, 1);
+    let packets = Encoder::new(&[0, 1, 2, 3, 4, 5], config).get_encoded_packets(4);
+    let ids: Vec<u32> = packets.iter().map(|p| p.payload_id().encoding_symbol_id()).collect();
+    assert_eq!(ids, [0, 1, 2, 3, 4, 5, 6]);
+    assert_eq!(packets[1], EncodingPacket::new(PayloadId::new(0, 1), vec![2, 3]));
+}
+
+#[test]
+fn random_erasure() {
+    let mut numbers = Numbers(3);
+    for _ in 0..8 {
+        let length = 1 + numbers.below(200_000) as usize;
+        let data = numbers.bytes(length);
+        let mtu = (length / 100) as u64 + 1 + numbers.below(8_000);
+        let encoder = Encoder::with_defaults(&data, mtu as u16);
+        let mut packets = encoder.get_encoded_packets(15);
+        numbers.shuffle(&mut packets);
+        packets.truncate(packets.len() - 10);
+        let mut decoder = Decoder::new(encoder.get_config());
+        assert_eq!(answer(&mut decoder, packets), Some(data));
+    }
+}
+
+#[test]
+fn sub_block_erasure() {
+    let mut numbers = Numbers(4);
+    let data = numbers.bytes(10_000);
+    let mut builder = EncoderBuilder::new();
+    builder.set_decoder_memory_requirement(5000);
+    builder.set_max_packet_size(500);
+    let encoder = builder.build(&data);
+    assert!(encoder.get_config().sub_blocks() > 2);
+
+    let mut decoder = Decoder::new(encoder.get_config());
+    let mut packets = encoder.get_encoded_packets(0);
+    let last = packets.pop().expect("some packets");
+    assert_eq!(answer(&mut decoder, packets), None);
+    assert_eq!(decoder.decode(last), Some(data.clone()));
+
+    let mut packets = encoder.get_encoded_packets(15);
+    numbers.shuffle(&mut packets);
+    packets.truncate(packets.len() - 10);
+    let mut decoder = Decoder::new(encoder.get_config());
+    assert_eq!(answer(&mut decoder, packets), Some(data));
+}
+
+#[test]
+fn round_trips_of_each_size() {
+    let mut numbers = Numbers(5);
+    for symbols in 1..=40 {
+        let data = numbers.bytes(symbols * 8);
+        let config = ObjectTransmissionInformation::new(data.len() as u64, 8, 1, 1, 8);
+        let mut packets = Encoder::new(&data, config).get_encoded_packets(4);
+        packets.remove(0);
+        let mut decoder = Decoder::new(config);
+        assert_eq!(answer(&mut decoder, packets), Some(data));
+    }
+}
+
+#[test]
+#[should_panic(expected = "Misaligned")]
+fn an_alignment_that_does_not_divide() {
+    ObjectTransmissionInformation::new(10, 10, 1, 1, 3);
+}
