@@ -10,6 +10,8 @@ mod configurations;
 mod decoding;
 mod encoding;
 mod stop;
+#[cfg(test)]
+mod tests;
 
 pub use configurations::{
     Parameters, reamertan_check_configuration, reamertan_derive_configuration,
