@@ -13,7 +13,7 @@
  * call writes may not overlap what it reads. A call that answers another number than REAMERTAN_DONE
  * leaves the caller's buffers as they were.
  *
- * Link libraptorq_c.a and the C library's heap (README.md of the repository, "From C").
+ * Link libraptorq_c.a, and behind it the toolchain's liblibc_c.a (`-lraptorq_c -llibc_c`), as examples/build does.
  */
 #ifndef REAMERTAN_H
 #define REAMERTAN_H
@@ -124,7 +124,9 @@ uint8_t reamertan_encode(const uint8_t configuration[REAMERTAN_CONFIGURATION_BYT
                          uint8_t *packets, size_t packets_length);
 
 /* Fills `object` with the object of packets, in any order, each any number of times, where they
- * determine it. They lie one behind another in `packets`. `object_length` has to be the object's, F.
+ * determine it. They lie one behind another in `packets`. `object_length` has to be the object's, F. What
+ * is written is the object where the packets are the object's: packets that were forged, or damaged but for
+ * their ids, give other bytes.
  *
  * Refuses, in this order: PACKET_TOO_SHORT where the last packet is shorter than its id, what
  * `reamertan_check_configuration` refuses, of the first packet that is refused UNKNOWN_BLOCK or else

@@ -1,8 +1,7 @@
 -- What encoding an object into a buffer ends with, over the built-in table.
-use Rattle.std.specs.Prelude.{◌≡◌, ◌≢◌, ℕ, List, length, Result, Ok, Err}
+use Rattle.std.specs.Prelude.{◌≡◌, ◌≢◌, ℕ, List, length, Ok, Err}
 use Rattle.rq_bytes.specs.declared.error.Error.{Error}
 use Rattle.rq_bytes.specs.Error.{code_of}
-use Rattle.rq_bytes.specs.Refusals.{and_then}
 use Rattle.rq_standard.specs.Configuration.{Configuration, configuration_of_bytes}
 use Rattle.rq_standard.specs.Headline.{HasNonsingularRows}
 use Rattle.rq_standard.specs.ObjectPackets.{AreEncoded}
@@ -12,23 +11,21 @@ use Rattle.rq_standard.specs.TableRows.{built_in_rows, greatest_size}
 use Rattle.raptorq.specs.Encoder.{packets_refusal}
 use Rattle.raptorq.specs.Refused.{new_encoder}
 
--- what is refused whatever the rows: of the configuration, of the object's length, and then of the number of packets
-abbrev pub encoding_refusal : Configuration → ℕ → ℕ → Result (Unit {0}) Error
-encoding_refusal c length_of_data repair = and_then (new_encoder (greatest_size built_in_rows) c length_of_data) (λ _. packets_refusal c repair)
-
 -- bytes of the packets of an object: those of its source symbols and of so many repair symbols, block by block
 pub record AreFramesOf (c : Configuration) (object : List ℕ) (repair : ℕ) (bytes : List ℕ) : Type 0 where
-  pub taken : encoding_refusal c (length object) repair ≡ Ok tt
+  pub taken : new_encoder (greatest_size built_in_rows) c (length object) ≡ Ok tt
+  pub enough : packets_refusal c repair ≡ Ok tt
   pub nonsingular : HasNonsingularRows built_in_rows c
   pub packets : List Packet
   pub encoded : AreEncoded built_in_rows c object repair packets
   pub spelled : bytes ≡ frames_of packets
 
--- Why no packets are written: for want of memory (21), for what is refused whatever the rows, for a singular row (9), or for room of another length (24).
+-- Why no packets are written: for want of memory (21), for the configuration or the object's length, for a singular row (9), for more packets than there are ids, or for room of another length (24).
 pub data StopsEncoding (c : Configuration) (object : List ℕ) (repair room : ℕ) (number : ℕ) : Type 0 where
   no_memory : number ≡ 21 → StopsEncoding c object repair room number
-  refused : (e : Error) → encoding_refusal c (length object) repair ≡ Err e → number ≡ code_of e → StopsEncoding c object repair room number
+  refused : (e : Error) → new_encoder (greatest_size built_in_rows) c (length object) ≡ Err e → number ≡ code_of e → StopsEncoding c object repair room number
   singular : new_encoder (greatest_size built_in_rows) c (length object) ≡ Ok tt → (HasNonsingularRows built_in_rows c → ⊥) → number ≡ 9 → StopsEncoding c object repair room number
+  too_many : (e : Error) → new_encoder (greatest_size built_in_rows) c (length object) ≡ Ok tt → HasNonsingularRows built_in_rows c → packets_refusal c repair ≡ Err e → number ≡ code_of e → StopsEncoding c object repair room number
   no_room : (bytes : List ℕ) → AreFramesOf c object repair bytes → room ≢ length bytes → number ≡ 24 → StopsEncoding c object repair room number
 
 -- the bytes in a buffer are packets of the object in the configuration of these twelve bytes

@@ -4,7 +4,7 @@ ghost use Rattle.rq_standard.specs.Configuration.{header_bytes, configuration_of
 ghost use Rattle.rq_standard.specs.TableRows.{built_in_rows, greatest_size};
 ghost use Rattle.rq_base.specs.Defaults.{wanted_parameters};
 ghost use Rattle.rq_base.specs.RefusedInput.{configuration_of, new_configuration, checked_configuration};
-ghost use Rattle.raptorq_c.specs.Numbers.{number_of, IsNumber, IsWritten};
+ghost use Rattle.raptorq_c.specs.Numbers.{number_of, refusal_number, IsNumber, IsWritten};
 ghost use Rattle.raptorq_c.specs.Parameters.{parameters_of};
 
 use crate::stop::{Stop, number};
@@ -78,7 +78,7 @@ pub extern "C" fn reamertan_derive_configuration(
 
 // Writes the configuration of these numbers.
 fn write(parameters: &Parameters, configuration: &mut [u8; 12]) -> Result<(), Stop>
-    ensures number { IsNumber (number_of result) (new_configuration (parameters_of parameters.now)) }
+    ensures number { number_of result ≡ refusal_number (new_configuration (parameters_of parameters.now)) }
     ensures written { OnOk result (IsWritten header_bytes (new_configuration (parameters_of parameters.now)) configuration.new) }
     ensures kept { OnErr result (configuration.new ≡ configuration.old) }
 {
@@ -100,7 +100,7 @@ pub extern "C" fn reamertan_write_configuration(
     parameters: &Parameters,
     configuration: &mut [u8; 12],
 ) -> u8
-    ensures number { IsNumber result (new_configuration (parameters_of parameters.now)) }
+    ensures number { result ≡ refusal_number (new_configuration (parameters_of parameters.now)) }
     ensures written { result ≡ 0 → IsWritten header_bytes (new_configuration (parameters_of parameters.now)) configuration.new }
     ensures kept { result ≢ 0 → configuration.new ≡ configuration.old }
 {

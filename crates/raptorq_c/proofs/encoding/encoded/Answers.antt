@@ -25,9 +25,12 @@ returns-in_err-packets-clause-stopped c =
     let object = c.args.object.now in
     let e = c.in_err-packets.field-0.0 in
     let p = err_from_is_err_and c.from_residual-in_err-packets.result c.from_residual-in_err-packets.ensures.1 in
-    let over = subst (λ rows. new_encoder (greatest_size rows) c.deserialize-config.result (length object) ≡ Ok tt) (sym (same_table built_in_rows _ c.in_ok-table.ensures)) c.in_ok-encoder.ensures.taken in
+    let table = sym (same_table built_in_rows _ c.in_ok-table.ensures) in
+    let over = subst (λ rows. new_encoder (greatest_size rows) c.deserialize-config.result (length object) ≡ Ok tt) table c.in_ok-encoder.ensures.taken in
     let taken = subst (λ d. new_encoder (greatest_size built_in_rows) d (length object) ≡ Ok tt) c.deserialize-config.ensures over in
-    rw (p.1, p.2) (stops_packets k object c.args.repair e taken (subst (λ d. IsRefusal e (packets_refusal d c.args.repair)) (c.in_ok-encoder.ensures.configuration ∙ c.deserialize-config.ensures) c.in_err-packets.ensures.refused))
+    let rows = subst (λ t. HasNonsingularRows t c.deserialize-config.result) table c.in_ok-encoder.ensures.nonsingular in
+    let nonsingular = subst (λ d. HasNonsingularRows built_in_rows d) c.deserialize-config.ensures rows in
+    rw (p.1, p.2) (stops_packets k object c.args.repair e taken nonsingular (subst (λ d. IsRefusal e (packets_refusal d c.args.repair)) (c.in_ok-encoder.ensures.configuration ∙ c.deserialize-config.ensures) c.in_err-packets.ensures.refused))
 
 pub returns-clause-packets : goal.returns-clause-packets
 returns-clause-packets c =
