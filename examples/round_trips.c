@@ -26,8 +26,10 @@ static int round_trip(int *answered)
         return 1;
     reamertan_read_configuration(configuration, &cut);
     uint32_t repair = below(8);
-    size_t size = REAMERTAN_PAYLOAD_ID_BYTES + cut.symbol_size;
-    size_t count = (length + cut.symbol_size - 1) / cut.symbol_size + cut.source_blocks * repair;
+    uint64_t bytes;
+    if (reamertan_packets_length(configuration, repair, &bytes) != REAMERTAN_DONE)
+        return 1;
+    size_t size = REAMERTAN_PAYLOAD_ID_BYTES + cut.symbol_size, count = bytes / size;
     uint8_t *object = malloc(length), *back = malloc(length), *packets = malloc(count * size);
     if (!object || !back || !packets)
         exit(1);

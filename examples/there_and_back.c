@@ -41,10 +41,16 @@ int main(int count, char **words)
     reamertan_read_configuration(configuration, &cut);
 
     /* A seventh of repair packets, so that more than enough is left of each block. */
-    size_t size = REAMERTAN_PAYLOAD_ID_BYTES + cut.symbol_size;
-    size_t source = (length + cut.symbol_size - 1) / cut.symbol_size;
-    uint32_t repair = (uint32_t)(source / cut.source_blocks / 7 + 4);
-    size_t packets = source + cut.source_blocks * (size_t)repair;
+    struct reamertan_range first;
+    answer = reamertan_block_range(configuration, 0, &first);
+    if (answer != REAMERTAN_DONE)
+        stop_at("block", answer);
+    uint32_t repair = (uint32_t)((first.end - first.start) / cut.symbol_size / 7 + 4);
+    uint64_t bytes;
+    answer = reamertan_packets_length(configuration, repair, &bytes);
+    if (answer != REAMERTAN_DONE)
+        stop_at("packets", answer);
+    size_t size = REAMERTAN_PAYLOAD_ID_BYTES + cut.symbol_size, packets = bytes / size;
     uint8_t *sent = room(packets * size), *came = room(packets * size), *back = room(length);
     answer = reamertan_encode(configuration, object, length, repair, sent, packets * size);
     if (answer != REAMERTAN_DONE)

@@ -87,6 +87,12 @@ struct reamertan_parameters {
     uint8_t alignment;        /* Al: in bytes */
 };
 
+/* Bytes of an object: from `start` on, up to `end`. */
+struct reamertan_range {
+    uint64_t start;
+    uint64_t end;
+};
+
 /* Writes the configuration of an object of `object_length` bytes in packets of at most `packet_size`
  * bytes of payload, each of whose sub-blocks fits `decoder_memory` bytes (RFC 6330, 4.3).
  *
@@ -113,9 +119,27 @@ void reamertan_read_configuration(const uint8_t configuration[REAMERTAN_CONFIGUR
  * BLOCK_OVER_TABLE. OUT_OF_MEMORY may come before any. */
 uint8_t reamertan_check_configuration(const uint8_t configuration[REAMERTAN_CONFIGURATION_BYTES]);
 
+/* Writes where source block `block` begins and where it ends in the object, in bytes (RFC 6330, 4.4.1.2).
+ * It has (end - start) / T source symbols. The last blocks can end past the object, which is filled up
+ * with zeros. The blocks have the numbers from 0 to Z - 1.
+ *
+ * Refuses, in this order: SYMBOL_SIZE_ZERO, SOURCE_BLOCKS_ZERO, TOO_MANY_SYMBOLS, UNKNOWN_BLOCK.
+ * OUT_OF_MEMORY may come before any. */
+uint8_t reamertan_block_range(const uint8_t configuration[REAMERTAN_CONFIGURATION_BYTES],
+                              uint8_t block, struct reamertan_range *range);
+
+/* Writes how many bytes the packets of an object take, those of its source symbols and of `repair`
+ * repair symbols a block: (Kt + Z * repair) * (4 + T), Kt being F / T, rounded up. It is the
+ * `packets_length` of `reamertan_encode`.
+ *
+ * Refuses, in this order: what `reamertan_check_configuration` refuses, ESI_TOO_LARGE. OUT_OF_MEMORY
+ * may come before any. */
+uint8_t reamertan_packets_length(const uint8_t configuration[REAMERTAN_CONFIGURATION_BYTES],
+                                 uint32_t repair, uint64_t *length);
+
 /* Fills `packets` with the packets of an object: block by block those of its source symbols, and then
- * of `repair` repair symbols. `packets_length` has to be what they take together:
- * (Kt + Z * repair) * (4 + T) bytes, Kt being `object_length` / T, rounded up.
+ * of `repair` repair symbols. `packets_length` has to be what they take together, as
+ * `reamertan_packets_length` says.
  *
  * Refuses, in this order: what `reamertan_check_configuration` refuses, WRONG_DATA_LENGTH, SINGULAR,
  * ESI_TOO_LARGE, WRONG_BUFFER. OUT_OF_MEMORY may come before any. */

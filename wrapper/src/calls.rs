@@ -16,6 +16,14 @@ pub struct Parameters {
     pub alignment: u8,
 }
 
+/// Bytes of an object.
+#[repr(C)]
+#[derive(Clone, Copy, Debug, Default)]
+pub struct Range {
+    pub start: u64,
+    pub end: u64,
+}
+
 /// A call's number that isn't 0.
 #[derive(Clone, Copy, Debug, PartialEq, Eq)]
 pub struct Refusal(pub u8);
@@ -74,6 +82,16 @@ unsafe extern "C" {
         parameters: *mut Parameters,
     );
     fn reamertan_check_configuration(configuration: *const Configuration) -> u8;
+    fn reamertan_block_range(
+        configuration: *const Configuration,
+        block: u8,
+        range: *mut Range,
+    ) -> u8;
+    fn reamertan_packets_length(
+        configuration: *const Configuration,
+        repair: u32,
+        length: *mut u64,
+    ) -> u8;
     fn reamertan_encode(
         configuration: *const Configuration,
         object: *const u8,
@@ -123,6 +141,20 @@ pub fn check(configuration: &Configuration) -> Result<(), Refusal> {
     // SAFETY: as above.
     let number = unsafe { reamertan_check_configuration(configuration) };
     answered(number, ())
+}
+
+pub fn block_range(configuration: &Configuration, block: u8) -> Result<Range, Refusal> {
+    let mut range = Range::default();
+    // SAFETY: as above.
+    let number = unsafe { reamertan_block_range(configuration, block, &mut range) };
+    answered(number, range)
+}
+
+pub fn packets_length(configuration: &Configuration, repair: u32) -> Result<u64, Refusal> {
+    let mut length = 0;
+    // SAFETY: as above.
+    let number = unsafe { reamertan_packets_length(configuration, repair, &mut length) };
+    answered(number, length)
 }
 
 pub fn encode(

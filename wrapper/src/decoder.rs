@@ -48,18 +48,19 @@ impl Decoder {
         if let Err(refusal) = calls::check(&config.serialize()) {
             panic!("{refusal}");
         }
-        let total = config.transfer_length().div_ceil(config.symbol_size().into());
-        let blocks = u64::from(config.source_blocks());
-        // The larger blocks come first (RFC 6330, 4.4.1.2).
-        let block = |number| Block {
-            symbols: total / blocks + u64::from(number < total % blocks),
-            ids: BTreeSet::new(),
-            packets: Vec::new(),
-            answer: None,
+        let symbol_size = u64::from(config.symbol_size());
+        let block = |number| match calls::block_range(&config.serialize(), number) {
+            Ok(range) => Block {
+                symbols: (range.end - range.start) / symbol_size,
+                ids: BTreeSet::new(),
+                packets: Vec::new(),
+                answer: None,
+            },
+            Err(refusal) => panic!("{refusal}"),
         };
         let mut made = Decoder {
             config,
-            blocks: (0..blocks).map(block).collect(),
+            blocks: (0..config.source_blocks()).map(block).collect(),
         };
         for empty in made.blocks.iter_mut().filter(|block| block.symbols == 0) {
             empty.answer = Some(Vec::new());

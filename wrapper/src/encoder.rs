@@ -82,12 +82,14 @@ impl Encoder {
     /// call encodes anew. Panics where there are no ids for so many.
     pub fn get_encoded_packets(&self, repair_packets_per_block: u32) -> Vec<EncodingPacket> {
         let size = usize::from(self.config.symbol_size());
-        let source = self.data.len().div_ceil(size);
-        let repair = usize::from(self.config.source_blocks()) * repair_packets_per_block as usize;
-        let mut bytes = vec![0; (source + repair) * (4 + size)];
         let configuration = self.config.serialize();
-        match calls::encode(&configuration, &self.data, repair_packets_per_block, &mut bytes) {
-            Ok(()) => bytes.chunks(4 + size).map(EncodingPacket::deserialize).collect(),
+        let encoded = calls::packets_length(&configuration, repair_packets_per_block).and_then(|length| {
+            let mut bytes = vec![0; length as usize];
+            calls::encode(&configuration, &self.data, repair_packets_per_block, &mut bytes)?;
+            Ok(bytes)
+        });
+        match encoded {
+            Ok(bytes) => bytes.chunks(4 + size).map(EncodingPacket::deserialize).collect(),
             Err(refusal) => panic!("{refusal}"),
         }
     }

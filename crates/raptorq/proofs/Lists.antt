@@ -1,5 +1,5 @@
 -- A list of an object's packets, taken one by one.
-use Rattle.std.proofs.Common.{◌≡◌, ◌↔◌, ℕ, false, List, [], ◌∷◌, ◌++◌, length, Ok, Option, refl, sym, ap, ◌∙◌, subst, append_assoc, append-nil, eq-eqb}
+use Rattle.std.proofs.Common.{◌≡◌, ◌↔◌, ℕ, false, List, [], ◌∷◌, ◌++◌, length, Ok, Option, refl, sym, ap, ◌∙◌, subst, append_assoc, append-nil, length-append, eq-eqb}
 use Rattle.std.specs.Prelude.{IsSome}
 use Rattle.std.specs.List.{AllByRecursion}
 use Rattle.std.proofs.lemmas.Bool.{lt-ltb}
@@ -7,7 +7,8 @@ use Rattle.std.proofs.lemmas.List.{map-append}
 use Rattle.rq_bytes.specs.declared.error.Error.{Error}
 use Rattle.rq_bytes.specs.declared.error.Error.TheVariants.{OutOfMemory}
 use Rattle.rq_bytes.specs.Refusals.{IsRefusal}
-use Rattle.rq_standard.specs.Packet.{Packet}
+use Rattle.rq_standard.specs.Packet.{Packet, id_bytes, packet_bytes}
+use Rattle.rq_standard.specs.Streams.{frame_size}
 use Rattle.rq_standard.specs.Configuration.{Configuration}
 use Rattle.rq_standard.specs.Headline.{IsHonestRun, IsOnlyObject, block_row, block_source, IsPacketOf, IsObjectAnswer, AnswersExactly, AnswersWhereAnyCan}
 use Rattle.rq_standard.specs.declared.row.TableRow.{TableRow}
@@ -27,6 +28,12 @@ pub length-payload : (table : List TableRow) (c : Configuration) (object : List 
 length-payload table c object p checked h =
     let row = block_row table c p.id.block in
     ap length h.symbol.is_sum ∙ (sum_symbol row c.symbol_size (internal_id row (length (block_source c object p.id.block)) p.id.esi) h.symbol.column checked h.symbol.is_only.is.symbols).size_is
+
+-- so it takes a frame
+pub length-packet_bytes : (table : List TableRow) (c : Configuration) (object : List ℕ) (p : Packet) → IsChecked (block_row table c p.id.block) → IsPacketOf table c object p → length (packet_bytes p) ≡ frame_size c
+length-packet_bytes table c object p checked h =
+    let four : length (id_bytes p.id) ≡ 4 = refl in
+    length-append (id_bytes p.id) p.payload ∙ rw (four, length-payload table c object p checked h) refl
 
 -- and isn't refused
 pub packet_refusal-packet : (table : List TableRow) (c : Configuration) (object : List ℕ) (p : Packet) → IsChecked (block_row table c p.id.block) → IsPacketOf table c object p → packet_refusal c p ≡ Ok tt

@@ -1,3 +1,4 @@
 pub mod Encoded
 pub mod Ending
 pub mod Frames
+pub mod PacketLengths

@@ -2,3 +2,4 @@ pub mod Numbers
 pub mod Parameters
 pub mod Encoding
 pub mod Decoding
+pub mod Sizes

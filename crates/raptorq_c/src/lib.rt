@@ -9,6 +9,7 @@
 mod configurations;
 mod decoding;
 mod encoding;
+mod sizes;
 mod stop;
 #[cfg(test)]
 mod tests;
@@ -19,3 +20,4 @@ pub use configurations::{
 };
 pub use decoding::reamertan_decode;
 pub use encoding::reamertan_encode;
+pub use sizes::{Range, reamertan_block_range, reamertan_packets_length};

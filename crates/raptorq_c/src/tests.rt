@@ -1,7 +1,8 @@
 //! Each call once: three bytes there and back, in the stream that the program `rq` writes of them.
 use crate::{
-    Parameters, reamertan_check_configuration, reamertan_decode, reamertan_derive_configuration,
-    reamertan_encode, reamertan_read_configuration, reamertan_write_configuration,
+    Parameters, Range, reamertan_block_range, reamertan_check_configuration, reamertan_decode,
+    reamertan_derive_configuration, reamertan_encode, reamertan_packets_length,
+    reamertan_read_configuration, reamertan_write_configuration,
 };
 use std::test::Fail;
 
@@ -38,5 +39,18 @@ fn there_and_back(rt: HostRuntime) -> Result<(), Fail> {
     assert!(rt; reamertan_decode(rt.alloc(), &HEADER, &packets, &mut object[..2]) == 24);
     assert!(rt; reamertan_decode(rt.alloc(), &HEADER, &packets, &mut object) == 0);
     assert!(rt; object == [7, 8, 9]);
+    Ok(())
+}
+
+#[test]
+fn sizes(rt: HostRuntime) -> Result<(), Fail> {
+    let mut range = Range { start: 0, end: 0 };
+    assert!(rt; reamertan_block_range(rt.alloc(), &HEADER, 1, &mut range) == 14);
+    assert!(rt; reamertan_block_range(rt.alloc(), &HEADER, 0, &mut range) == 0);
+    assert!(rt; range == Range { start: 0, end: 4 });
+    let mut length = 0;
+    assert!(rt; reamertan_packets_length(rt.alloc(), &HEADER, 1 << 24, &mut length) == 11);
+    assert!(rt; reamertan_packets_length(rt.alloc(), &HEADER, 2, &mut length) == 0);
+    assert!(rt; length == 24);
     Ok(())
 }

@@ -5,3 +5,4 @@ pub mod OctetEntries
 pub mod DefaultParameters
 pub mod WalkLaws
 pub mod CallLaws
+pub mod Accepted

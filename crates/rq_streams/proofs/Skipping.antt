@@ -12,7 +12,7 @@ use Rattle.rq_standard.specs.TableRows.{IsChecked}
 use Rattle.rq_standard.specs.Headline.{block_row, IsPacketOf}
 use Rattle.rq_standard.proofs.PacketBytes.{id_of_bytes-id_bytes, packet_of_bytes-packet_bytes}
 use Rattle.raptorq.specs.Refused.{packet_refusal}
-use Rattle.raptorq.proofs.Lists.{length-payload}
+use Rattle.raptorq.proofs.Lists.{length-packet_bytes}
 use Rattle.rq_standard.specs.Streams.{frame_size, frames_in}
 use Rattle.rq_streams.specs.Frames.{is_skipped, kept_packet, kept_packets, skipped_count}
 use Rattle.rq_streams.specs.MixedStreams.{Frame, Holds, Other, frame_bytes, packets_among, others_among, IsOtherFrame, rest_count, other_count}
@@ -24,18 +24,13 @@ pub record FillsFrame (table : List TableRow) (c : Configuration) (object : List
   pub id : IsSymbolId p.id
   pub row : IsChecked (block_row table c p.id.block)
 
-length-packet_bytes : (table : List TableRow) (c : Configuration) (object : List ℕ) (p : Packet) → FillsFrame table c object p → length (packet_bytes p) ≡ frame_size c
-length-packet_bytes table c object p h =
-    let four : length (id_bytes p.id) ≡ 4 = refl in
-    length-append (id_bytes p.id) p.payload ∙ rw (four, length-payload table c object p h.row h.source) refl
-
 read_back : (table : List TableRow) (c : Configuration) (object : List ℕ) (p : Packet) → FillsFrame table c object p → packet_of_bytes (packet_bytes p) ≡ p
 read_back table c object p h = packet_of_bytes-packet_bytes p (id_of_bytes-id_bytes p.id h.id)
 
 -- a packet's frame isn't skipped
 is_skipped-packet : (table : List TableRow) (c : Configuration) (object : List ℕ) (p : Packet) → FillsFrame table c object p → is_skipped c (packet_bytes p) ≡ false
 is_skipped-packet table c object p h =
-    let whole : ltb (length (packet_bytes p)) (frame_size c) ≡ false = le-ltb (length (packet_bytes p)) (frame_size c) (omega (arith, length-packet_bytes table c object p h)) in
+    let whole : ltb (length (packet_bytes p)) (frame_size c) ≡ false = le-ltb (length (packet_bytes p)) (frame_size c) (omega (arith, length-packet_bytes table c object p h.row h.source)) in
     let known : ltb (packet_of_bytes (packet_bytes p)).id.block c.source_blocks ≡ true = ap (λ (q : Packet). ltb q.id.block c.source_blocks) (read_back table c object p h) ∙ lt-ltb p.id.block c.source_blocks h.source.block in
     ap (λ b. b || not (ltb (packet_of_bytes (packet_bytes p)).id.block c.source_blocks)) whole ∙ ap (λ b. false || not b) known
 
@@ -82,7 +77,7 @@ module _ (table : List TableRow) (c : Configuration) (object : List ℕ) where
   -- each frame is as long as a frame
   all_long : (frames : List Frame) → AllByRecursion (FillsFrame table c object) (packets_among frames) → AllByRecursion (IsOtherFrame c) (others_among frames) → AllByRecursion (λ f. length (frame_bytes f) ≡ frame_size c) frames
   all_long [] fill others = tt
-  all_long (Holds p ∷ frames) fill others = (length-packet_bytes table c object p fill.0, all_long frames fill.1 others)
+  all_long (Holds p ∷ frames) fill others = (length-packet_bytes table c object p fill.0.row fill.0.source, all_long frames fill.1 others)
   all_long (Other bytes ∷ frames) fill others = (others.0.long, all_long frames fill others.1)
 
   kept_rest : (rest : List ℕ) → length rest < frame_size c → kept_packets c (rest_frames rest) ≡ []

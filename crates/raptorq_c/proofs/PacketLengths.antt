@@ -1,0 +1,66 @@
+-- How many bytes the packets of an object take.
+use Rattle.std.proofs.Common.{◌≡◌, ℕ, zero, suc, ◌+◌, ◌*◌, ◌≤◌, List, [], ◌∷◌, length, map, Result, Ok, sym, ap, ◌∙◌, arith, length-append}
+use Rattle.std.specs.List.{AllByRecursion}
+use Rattle.std.proofs.lemmas.List.{length-map}
+use Rattle.std.proofs.lemmas.List.FromFn.{length-map-range_with_len}
+use Rattle.rq_bytes.specs.declared.error.Error.{Error}
+use Rattle.rq_standard.specs.Configuration.{Configuration, IsAccepted, configuration_of_bytes, total_symbols}
+use Rattle.rq_standard.specs.Cutting.{block_symbols, symbols_before}
+use Rattle.rq_standard.specs.Headline.{IsPacketOf}
+use Rattle.rq_standard.specs.ObjectPackets.{first_ids}
+use Rattle.rq_standard.specs.Packet.{SymbolId, Packet, packet_bytes}
+use Rattle.rq_standard.specs.Streams.{frame_size, frames_of}
+use Rattle.rq_standard.specs.TableRows.{built_in_rows, greatest_size}
+use Rattle.rq_standard.proofs.BlockCuts.{symbols_before-first, symbols_before-next, symbols_before-all}
+use Rattle.rq_standard.proofs.BlockRows.{block_has_row}
+use Rattle.rq_standard.proofs.RowLaws.{built_in_table}
+use Rattle.rq_base.specs.RefusedInput.{checked_configuration}
+use Rattle.rq_base.proofs.Accepted.{both_ok, accepted_by}
+use Rattle.raptorq.proofs.EncodedBlocks.{ids_before, ids_next}
+use Rattle.raptorq.proofs.Lists.{length-packet_bytes}
+use Rattle.raptorq_c.specs.Encoding.{AreFramesOf, IsEncoding}
+use Rattle.raptorq_c.specs.Sizes.{bytes_of_packets, packets_length}
+
+module _ (c : Configuration) where
+  -- as many as the blocks' source symbols, and the repair symbols of each
+  count-ids : (repair n : ℕ) → n ≤ c.source_blocks → length (ids_before c repair n) ≡ symbols_before c n + n * repair
+  count-ids repair zero h = omega (arith, symbols_before-first c)
+  count-ids repair (suc n) h =
+      let next : suc n ≡ n + 1 = omega arith in
+      let ids = first_ids (block_symbols c n + repair) n in
+      let some : length ids ≡ block_symbols c n + repair = length-map-range_with_len (λ e. record { block = n; esi = e }) 0 (block_symbols c n + repair) in
+      let more : suc n * repair ≡ n * repair + repair = omega arith in
+      ap (λ m. length (ids_before c repair m)) next ∙ ap length (ids_next c repair n) ∙ length-append (ids_before c repair n) ids
+      ∙ omega (arith, count-ids repair n (omega arith), some, more, symbols_before-next c n (omega arith), ap (symbols_before c) next)
+
+  frames_long : (packets : List Packet) → AllByRecursion (λ p. length (packet_bytes p) ≡ frame_size c) packets → length (frames_of packets) ≡ length packets * frame_size c
+  frames_long [] all = omega arith
+  frames_long (p ∷ packets) all =
+      let more : length (p ∷ packets) * frame_size c ≡ frame_size c + length packets * frame_size c = omega arith in
+      length-append (packet_bytes p) (frames_of packets) ∙ omega (arith, all.0, frames_long packets all.1, more)
+
+  each_long : (object : List ℕ) → IsAccepted (greatest_size built_in_rows) c → (packets : List Packet) → AllByRecursion (IsPacketOf built_in_rows c object) packets → AllByRecursion (λ p. length (packet_bytes p) ≡ frame_size c) packets
+  each_long object accepted [] all = tt
+  each_long object accepted (p ∷ packets) all = (
+    length-packet_bytes built_in_rows c object p (block_has_row built_in_rows c built_in_table accepted p.id.block all.0.block).checked all.0,
+    each_long object accepted packets all.1,
+  )
+
+  pub encoding_length : (object : List ℕ) (repair : ℕ) (bytes : List ℕ) → AreFramesOf c object repair bytes → length bytes ≡ packets_length c repair
+  encoding_length object repair bytes h =
+      let checked = both_ok (checked_configuration (greatest_size built_in_rows) c) _ tt h.taken in
+      let accepted = accepted_by (greatest_size built_in_rows) c checked.1 in
+      let z = c.source_blocks in
+      let count : length h.packets ≡ total_symbols c + z * repair =
+          sym (length-map h.packets (λ (p : Packet). p.id)) ∙ ap length h.encoded.ids ∙ count-ids repair z (omega arith) ∙ ap (λ n. n + z * repair) (symbols_before-all c accepted.blocks_positive) in
+      ap length h.spelled ∙ frames_long h.packets (each_long object accepted h.packets h.encoded.each) ∙ ap (λ n. n * frame_size c) count
+
+abbrev wanted : ℕ → Result ℕ Error
+wanted n = Ok n
+
+-- so the call that says how many says this
+pub packets_room : (header object : List ℕ) (repair : ℕ) (bytes : List ℕ) → IsEncoding header object repair bytes → bytes_of_packets header repair ≡ wanted (length bytes)
+packets_room header object repair bytes h =
+    let c = configuration_of_bytes header in
+    let checked = (both_ok (checked_configuration (greatest_size built_in_rows) c) _ tt h.taken).1 in
+    rw (checked, h.enough) (ap wanted (sym (encoding_length c object repair bytes h)))

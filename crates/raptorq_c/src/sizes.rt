@@ -1,0 +1,104 @@
+//! How many bytes the blocks and the packets of an object take.
+ghost use Rattle.std.specs.Prelude.{◌≡◌, ◌≢◌, Ok, OnOk, OnErr};
+ghost use Rattle.raptorq_c.specs.Numbers.{number_of, IsNumber};
+ghost use Rattle.raptorq_c.specs.Sizes.{bytes_of_block, bytes_of_packets, range_of};
+
+use crate::stop::{Stop, number};
+use raptorq::error::Error;
+use raptorq::systematic_constants::SystematicTable;
+use raptorq::{ObjectTransmissionInformation, calculate_block_offsets};
+use std::alloc::Global;
+
+/// Where bytes begin, and where they end. In C it is `reamertan_range`.
+#[repr(C)]
+#[derive(Clone, Copy, Debug, PartialEq, Eq)]
+pub struct Range {
+    /// The place of the first byte.
+    pub start: u64,
+    /// The place behind the last byte.
+    pub end: u64,
+}
+
+// Writes where a source block begins and where it ends.
+fn block_range(
+    alloc: Global,
+    configuration: &[u8; 12],
+    block: u8,
+    range: &mut Range,
+) -> Result<(), Stop>
+    ensures number { IsNumber (number_of result) (bytes_of_block configuration.now block) }
+    ensures written { OnOk result (bytes_of_block configuration.now block ≡ Ok (range_of range.new)) }
+    ensures kept { OnErr result (range.new ≡ range.old) }
+{
+    let config = ObjectTransmissionInformation::deserialize(configuration);
+    let offsets = calculate_block_offsets(alloc, &[], &config)?;
+    let Some(&(start, end)) = offsets.get(usize::from(block)) else {
+        return Err(Stop::Refused(Error::UnknownBlock));
+    };
+    *range = Range {
+        start: start as u64,
+        end: end as u64,
+    };
+    Ok(())
+}
+
+/// Where a source block begins and where it ends in its object, in bytes (RFC 6330, 4.4.1.2): whole
+/// symbols, so the last blocks can end past the object.
+///
+/// Refuses what `calculate_block_offsets` refuses, and then a number that no source block has. Want
+/// of memory may come before any of them.
+#[unsafe(no_mangle)]
+pub extern "C" fn reamertan_block_range(
+    alloc: Global,
+    configuration: &[u8; 12],
+    block: u8,
+    range: &mut Range,
+) -> u8
+    ensures number { IsNumber result (bytes_of_block configuration.now block) }
+    ensures written { result ≡ 0 → bytes_of_block configuration.now block ≡ Ok (range_of range.new) }
+    ensures kept { result ≢ 0 → range.new ≡ range.old }
+{
+    number(block_range(alloc, configuration, block, range))
+}
+
+// Writes how many bytes the packets of an object take.
+fn packets_length(
+    alloc: Global,
+    configuration: &[u8; 12],
+    repair: u32,
+    length: &mut u64,
+) -> Result<(), Stop>
+    ensures number { IsNumber (number_of result) (bytes_of_packets configuration.now repair) }
+    ensures written { OnOk result (bytes_of_packets configuration.now repair ≡ Ok length.new) }
+    ensures kept { OnErr result (length.new ≡ length.old) }
+{
+    let table = SystematicTable::built_in(alloc)?;
+    let config = ObjectTransmissionInformation::deserialize(configuration);
+    config.check(&table)?;
+    let repair = u64::from(repair);
+    if config.largest_block() + repair > 1 << 24 {
+        return Err(Stop::Refused(Error::EsiTooLarge));
+    }
+    let packets = config.total_symbols() + u64::from(config.source_blocks()) * repair;
+    *length = packets * (4 + u64::from(config.symbol_size()));
+    Ok(())
+}
+
+/// How many bytes the packets of an object take, those of its source symbols and of so many repair
+/// symbols a block: what `reamertan_encode` fills.
+///
+/// Refuses what `ObjectTransmissionInformation::check` refuses, and then what
+/// `Encoder::get_encoded_packets` refuses. Want of memory may come before any of them.
+#[unsafe(no_mangle)]
+pub extern "C" fn reamertan_packets_length(
+    alloc: Global,
+    configuration: &[u8; 12],
+    repair: u32,
+    length: &mut u64,
+) -> u8
+    ensures number { IsNumber result (bytes_of_packets configuration.now repair) }
+    ensures written { result ≡ 0 → bytes_of_packets configuration.now repair ≡ Ok length.new }
+    ensures kept { result ≢ 0 → length.new ≡ length.old }
+{
+    number(packets_length(alloc, configuration, repair, length))
+}
