@@ -14,7 +14,7 @@ use Rattle.raptorq.specs.Encoder.{packets_refusal}
 use Rattle.raptorq.specs.Refused.{new_encoder, RefusesEncoder}
 use Rattle.raptorq_c.specs.Encoding.{AreFramesOf, StopsEncoding, no_memory, refused, singular, too_many}
 
-abbrev held : List TableRow → Result (List TableRow) Error
+abbrev pub held : List TableRow → Result (List TableRow) Error
 held rows = Ok rows
 
 pub same_table : (rows table : List TableRow) → held rows ≡ held table → rows ≡ table

@@ -2,3 +2,4 @@ pub mod Encoded
 pub mod Ending
 pub mod Frames
 pub mod PacketLengths
+pub mod Sized

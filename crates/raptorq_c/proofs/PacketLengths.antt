@@ -1,5 +1,5 @@
 -- How many bytes the packets of an object take.
-use Rattle.std.proofs.Common.{◌≡◌, ℕ, zero, suc, ◌+◌, ◌*◌, ◌≤◌, List, [], ◌∷◌, length, map, Result, Ok, sym, ap, ◌∙◌, arith, length-append}
+use Rattle.std.proofs.Common.{◌≡◌, ℕ, zero, suc, ◌+◌, ◌*◌, ◌≤◌, List, [], ◌∷◌, length, Result, Ok, sym, ap, ◌∙◌, arith, length-append}
 use Rattle.std.specs.List.{AllByRecursion}
 use Rattle.std.proofs.lemmas.List.{length-map}
 use Rattle.std.proofs.lemmas.List.FromFn.{length-map-range_with_len}
@@ -8,7 +8,7 @@ use Rattle.rq_standard.specs.Configuration.{Configuration, IsAccepted, configura
 use Rattle.rq_standard.specs.Cutting.{block_symbols, symbols_before}
 use Rattle.rq_standard.specs.Headline.{IsPacketOf}
 use Rattle.rq_standard.specs.ObjectPackets.{first_ids}
-use Rattle.rq_standard.specs.Packet.{SymbolId, Packet, packet_bytes}
+use Rattle.rq_standard.specs.Packet.{Packet, packet_bytes}
 use Rattle.rq_standard.specs.Streams.{frame_size, frames_of}
 use Rattle.rq_standard.specs.TableRows.{built_in_rows, greatest_size}
 use Rattle.rq_standard.proofs.BlockCuts.{symbols_before-first, symbols_before-next, symbols_before-all}
@@ -52,10 +52,10 @@ module _ (c : Configuration) where
       let accepted = accepted_by (greatest_size built_in_rows) c checked.1 in
       let z = c.source_blocks in
       let count : length h.packets ≡ total_symbols c + z * repair =
-          sym (length-map h.packets (λ (p : Packet). p.id)) ∙ ap length h.encoded.ids ∙ count-ids repair z (omega arith) ∙ ap (λ n. n + z * repair) (symbols_before-all c accepted.blocks_positive) in
+      sym (length-map h.packets (λ (p : Packet). p.id)) ∙ ap length h.encoded.ids ∙ count-ids repair z (omega arith) ∙ ap (λ n. n + z * repair) (symbols_before-all c accepted.blocks_positive) in
       ap length h.spelled ∙ frames_long h.packets (each_long object accepted h.packets h.encoded.each) ∙ ap (λ n. n * frame_size c) count
 
-abbrev wanted : ℕ → Result ℕ Error
+abbrev pub wanted : ℕ → Result ℕ Error
 wanted n = Ok n
 
 -- so the call that says how many says this

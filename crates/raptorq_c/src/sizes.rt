@@ -32,9 +32,10 @@ fn block_range(
 {
     let config = ObjectTransmissionInformation::deserialize(configuration);
     let offsets = calculate_block_offsets(alloc, &[], &config)?;
-    let Some(&(start, end)) = offsets.get(usize::from(block)) else {
+    if block >= config.source_blocks() {
         return Err(Stop::Refused(Error::UnknownBlock));
-    };
+    }
+    let (start, end) = offsets[usize::from(block)];
     *range = Range {
         start: start as u64,
         end: end as u64,
