@@ -48,7 +48,11 @@ fn main(rt: HostRuntime) -> Result<()> {
     let mut tallies = vec![in rt.alloc(); Tally::default(); offsets.len()]?;
     for round in 1..10 {
         turn(&packets, &mut random, &mut decoder, &mut tallies)?;
-        let open = note_whole(round, &offsets, &decoder.difference()?, &mut tallies);
+        note_whole(round, &offsets, &decoder.difference()?, &mut tallies);
+        let open = tallies
+            .iter()
+            .filter(|tally| tally.whole_after.is_none())
+            .count();
         println!(rt; "round {round}: {open} blocks could still be others")?;
         if open == 0 {
             break;
@@ -88,21 +92,17 @@ fn turn(
     Ok(())
 }
 
-// How many blocks could be others: those in which objects may differ by more than zeros.
+// Notes the blocks that can't be others any more: in which objects differ by zeros alone.
 fn note_whole(
     round: u32,
     offsets: &[(usize, usize)],
     difference: &Option<Vec<u8>>,
     tallies: &mut [Tally],
-) -> usize {
-    let mut open = 0;
+) {
     for (tally, &(start, end)) in tallies.iter_mut().zip(offsets) {
-        let bytes = difference.iter().flatten().skip(start).take(end - start);
-        if bytes.copied().any(|byte| byte != 0) {
-            open += 1;
-        } else if tally.whole_after.is_none() {
+        let mut bytes = difference.iter().flatten().take(end).skip(start);
+        if tally.whole_after.is_none() && bytes.all(|&byte| byte == 0) {
             tally.whole_after = Some(round);
         }
     }
-    open
 }
