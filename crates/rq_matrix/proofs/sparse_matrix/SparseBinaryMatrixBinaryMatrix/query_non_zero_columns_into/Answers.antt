@@ -20,11 +20,11 @@ rises-push bit start next places are up = rises-join places (next ∷ []) up (ri
 pub loop-column-preserved : goal.loop-column-preserved
 loop-column-preserved c =
     let old = c.args.self.now in
-    let bit = λ (k : ℕ). tail_bit old.tail c.stored-row.result (old.width - 1 - k) in
+    let bit = λ (k : ℕ). tail_bit old.tail c.stored_row-row.result (old.width - 1 - k) in
     let column = c.loop-column.column in
     let start = c.args.start_col in
     let kept = c.loop-column.invariant in
-    let small = tail-small old.tail c.stored-row.result (old.width - 1 - column) in
+    let small = tail-small old.tail c.stored_row-row.result (old.width - 1 - column) in
     elim c.if-eq.branch [
       | then-eq w ↦
           let one : bit column ≡ 1 = sym c.get.ensures ∙ eqb-true c.get.result c.one.result (sym c.eq.ensures ∙ w.if-eq.true) ∙ c.one.ensures in
@@ -51,8 +51,8 @@ pub returns-clause-ok : goal.returns-clause-ok
 returns-clause-ok c =
     let old = c.args.self.now in
     let start = c.args.start_col in
-    let bit = λ (k : ℕ). tail_bit old.tail c.stored-row.result (old.width - 1 - k) in
+    let bit = λ (k : ℕ). tail_bit old.tail c.stored_row-row.result (old.width - 1 - k) in
     let all : c.loop-column.column ≡ old.width = omega (arith, c.loop-column.auto.column-end (omega (arith, c.requires.dense, old.boundary_within)), c.loop-column-test.false) in
     places-same bit (sparse_bit old.width old.boundary old.rows.items old.row_order old.column_order old.tail c.args.row) start old.width c.loop-column.out.items
-    (λ k from _. dense_bit old.width old.boundary old.rows.items old.row_order old.column_order old.tail c.args.row c.stored-row.result c.stored-row.ensures.value k (omega (arith, c.requires.dense)))
+    (λ k from _. dense_bit old.width old.boundary old.rows.items old.row_order old.column_order old.tail c.args.row c.stored_row-row.result c.stored_row-row.ensures.value k (omega (arith, c.requires.dense)))
     (subst (λ end. ArePlacesOfOnes bit start end c.loop-column.out.items) all c.loop-column.invariant.places)
