@@ -1,7 +1,6 @@
 -- Orders: the first numbers in their own places, and two places exchanged.
-use Rattle.std.proofs.Common.{◌≡◌, ◌≢◌, ℕ, ◌+◌, ◌-◌, ◌<◌, List, length, get_or, set, refl, sym, ap, subst, ◌∙◌, arith, inl, inr, zero-add, get_or-set_same, get_or-set_other, length-set}
+use Rattle.std.proofs.Common.{◌≡◌, ◌≢◌, ℕ, ◌<◌, List, length, get_or, set, refl, sym, ap, subst, ◌∙◌, arith, inl, inr, zero-add, get_or-set_same, get_or-set_other, length-set}
 use Rattle.std.specs.Iterator.{DrainsIf}
-use Rattle.std.specs.declared.ops.Range.{Range}
 use Rattle.std.specs.List.{range_with_len, swap}
 use Rattle.std.proofs.iter.Yields.{nat_range_steps}
 use Rattle.std.proofs.lemmas.Iterator.{YieldsList-from_range, items_from_drains}

@@ -1,5 +1,5 @@
 -- What the check leaves to show of `sparse_matrix::SparseBinaryMatrix::get`.
-use Rattle.std.proofs.Common.{◌<◌, ℕ, List, [], Option, length, get_or, sym, ap, ◌∙◌, arith}
+use Rattle.std.proofs.Common.{ℕ, List, [], Option, get_or, sym, ap, ◌∙◌}
 use Rattle.std.specs.Prelude.{unwrap_or}
 use Rattle.std.proofs.lemmas.List.{get_or_read}
 use Rattle.rq_parts.specs.SparseBinaryVec.{listed_bit, listed_octet}

@@ -1,5 +1,5 @@
 -- What the check leaves to show of `sparse_matrix::SparseBinaryMatrix::swap_rows`.
-use Rattle.std.proofs.Common.{◌<◌, ℕ, refl, ap, arith}
+use Rattle.std.proofs.Common.{ℕ, refl, ap, arith}
 use Rattle.rq_matrix.proofs.Orders.{exchanges}
 use Rattle.rq_matrix.proofs.SparseMatrixLaws.{row_bit}
 use Rattle.rq_matrix.proofs.StoredRows.{with_orders}
