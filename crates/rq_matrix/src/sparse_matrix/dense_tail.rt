@@ -106,19 +106,10 @@ impl DenseTail {
         ensures refused { OnErr result (self.new ≡ self.old) }
     {
         if self.columns / WORD_BITS >= self.blocks.len() {
-            self.push_block(alloc)?;
+            let block = BitRow::zero(alloc, WORD_BITS * self.rows)?;
+            self.blocks.push(block)?;
         }
         self.columns += 1;
-        Ok(())
-    }
-
-    // Makes room for 64 more columns.
-    fn push_block(&mut self, alloc: Global) -> Result<(), AllocError>
-        ensures ok { OnOk result (self.new ≡ record self.old { blocks = self.old.blocks ++ replicate self.old.rows 0 ∷ [] }) }
-        ensures refused { OnErr result (self.new ≡ self.old) }
-    {
-        let block = BitRow::zero(alloc, WORD_BITS * self.rows)?;
-        self.blocks.push(block)?;
         Ok(())
     }
 

@@ -50,7 +50,6 @@ invariant_of-self-2 c =
 pub returns-clause-ok : goal.returns-clause-ok
 returns-clause-ok c =
     let old = c.args.self.now in
-    let rows = old.rows.items in
     let dest = c.stored_row-dest.result in
     let src = c.stored_row-src.result in
     let new = c.add_row.new.rows in
@@ -58,7 +57,7 @@ returns-clause-ok c =
     let value = c.as_mut_slice.ensures.value in
     let is = with_items_is old.rows new (c.add_row.auto.rows ∙ c.as_mut_slice.ensures.len) ∙ c.add_row.ensures.others ∙ ap (λ (l : List (List ℕ)). set l dest row) value in
     let sums = subst (λ (l : List (List ℕ)). IsListedSum (get_or l dest []) (get_or l src []) row) value c.in_ok-add_row.ensures.sum in
-    let whole = adds_whole old.height old.width old.boundary (is_some old.index) rows old.row_order old.column_order old.tail c.add-2.new.self c.args.dest c.args.src dest src old.rows_in_order (omega (arith, old.ordered, old.height_within)) c.requires.dest
+    let whole = adds_whole old.height old.width old.boundary (is_some old.index) old.rows.items old.row_order old.column_order old.tail c.add-2.new.self c.args.dest c.args.src dest src old.rows_in_order (omega (arith, old.ordered, old.height_within)) c.requires.dest
     c.stored_row-dest.ensures.value c.stored_row-src.ensures.value old.boundary_within old.tail_columns c.add-2.ensures (with_items old.rows new).items row c.stored_row-dest.ensures.below is sums in
     elim c.requires.start [
       | inl at ↦ absurd (c.if-start_col-self.false at)
