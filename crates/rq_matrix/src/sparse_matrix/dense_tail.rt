@@ -1,5 +1,5 @@
 //! The dense columns of a sparse matrix.
-ghost use Rattle.std.specs.Prelude.{◌≡◌, ℕ, ◌+◌, ◌-◌, ◌*◌, ◌^◌, ◌<◌, ◌++◌, ◌∷◌, [], length, map, replicate, slice_index, slice_set, if◌then◌else◌, All, IfOk, OnOk, OnErr};
+ghost use Rattle.std.specs.Prelude.{◌≡◌, ℕ, ◌+◌, ◌-◌, ◌*◌, ◌^◌, ◌<◌, length, map, if◌then◌else◌, All, IfOk, OnOk, OnErr};
 ghost use Rattle.rq_bytes.specs.BinaryOctetVec.{packed_bit};
 ghost use Rattle.rq_matrix.specs.BitRows.{word_count, with_word_added};
 ghost use Rattle.rq_matrix.specs.DenseTails.{tail_bit, IsZeroTail, SetsTailBit, MarksRows, AddsTailRow, PushesColumn};
