@@ -1,5 +1,5 @@
 -- What encoding ends with, by what the encoder says.
-use Rattle.std.proofs.Common.{◌≡◌, ℕ, List, length, Result, Ok, Err, refl, ap, inl, inr}
+use Rattle.std.proofs.Common.{◌≡◌, ℕ, List, length, Result, Ok, Err, refl, sym, ap, subst, inl, inr}
 use Rattle.rq_bytes.specs.declared.error.Error.{Error}
 use Rattle.rq_bytes.specs.Error.{code_of}
 use Rattle.rq_bytes.specs.Refusals.{IsRefusal}
@@ -17,8 +17,12 @@ use Rattle.raptorq_c.specs.Encoding.{AreFramesOf, StopsEncoding, no_memory, refu
 abbrev pub held : List TableRow → Result (List TableRow) Error
 held rows = Ok rows
 
-pub same_table : (rows table : List TableRow) → held rows ≡ held table → rows ≡ table
+same_table : (rows table : List TableRow) → held rows ≡ held table → rows ≡ table
 same_table rows table is = cc
+
+-- what holds over the table and of the configuration that were read holds over the built-in rows
+pub at_built_in : (P : List TableRow → Configuration → Type 0) (table : List TableRow) (read c : Configuration) → held built_in_rows ≡ held table → read ≡ c → P table read → P built_in_rows c
+at_built_in P table read c is same holds = subst (P built_in_rows) same (subst (λ rows. P rows read) (sym (same_table built_in_rows table is)) holds)
 
 module _ (c : Configuration) (object : List ℕ) (repair : ℕ) where
   refused_first : (e : Error) (r : Result (Unit {0}) Error) → new_encoder (greatest_size built_in_rows) c (length object) ≡ r → IsRefusal e r → (room : ℕ) → StopsEncoding c object repair room (code_of e)

@@ -1,11 +1,9 @@
 //! What ends a call without its result, and the numbers that calls answer.
 ghost use Rattle.std.specs.Prelude.{◌≡◌};
-ghost use Rattle.rq_bytes.specs.declared.error.Error.TheVariants.{OutOfMemory};
 ghost use Rattle.raptorq_c.specs.declared.stop.Stop.TheVariants.{Refused};
 ghost use Rattle.raptorq_c.specs.Numbers.{number_of};
 
 use raptorq::error::Error;
-use std::alloc::AllocError;
 
 /// What ends a call without its result.
 #[derive(Clone, Copy, Debug, PartialEq, Eq)]
@@ -23,14 +21,6 @@ impl From<Error> for Stop {
 
     fn from(refusal: Error) -> Stop {
         Stop::Refused(refusal)
-    }
-}
-
-impl From<AllocError> for Stop {
-    ghost from_gives = { λ _ s. s ≡ Refused OutOfMemory };
-
-    fn from(_refused: AllocError) -> Stop {
-        Stop::Refused(Error::OutOfMemory)
     }
 }
 

@@ -81,6 +81,7 @@ module _ (tail : Tail) (is : IsTail tail) (dest src : ℕ) (in_dest : dest < tai
     full = All-map (λ block. length block ≡ tail.rows) (λ block. with_word_added block dest src) tail.blocks
         (λ n d within. length-set (get_or tail.blocks n d) dest (bit_xor (get_or (get_or tail.blocks n d) dest 0) (get_or (get_or tail.blocks n d) src 0)) ∙ is.full n d within);
     enough = omega (arith, is.enough, length-map tail.blocks (λ block. with_word_added block dest src));
+    few = omega (arith, is.few, length-map tail.blocks (λ block. with_word_added block dest src));
     spare = λ row column in_row behind.
         elim (cases_eq row dest) [
           | inl e ↦
@@ -98,7 +99,7 @@ module _ (tail : Tail) (is : IsTail tail) (dest src : ℕ) (in_dest : dest < tai
 abbrev pub tail_widened : Tail → Tail
 tail_widened tail = record { rows = tail.rows; columns = tail.columns; blocks = tail.blocks ++ replicate tail.rows 0 ∷ [] }
 
-pub widened_bit : (tail : Tail) (row column : ℕ) → tail_bit (tail_widened tail) row column ≡ tail_bit tail row column
+widened_bit : (tail : Tail) (row column : ℕ) → tail_bit (tail_widened tail) row column ≡ tail_bit tail row column
 widened_bit tail row column =
     let blocks = tail.blocks in
     let zeros : List ℕ = replicate tail.rows 0 in
@@ -118,39 +119,35 @@ widened_bit tail row column =
           ]
     ]
 
-pub widened_is : (tail : Tail) → IsTail tail → IsTail (tail_widened tail)
-widened_is tail is = record {
-  fits = is.fits;
-  full = All-append (λ block. length block ≡ tail.rows) tail.blocks (replicate tail.rows 0 ∷ []) is.full
-      (All-cons (λ block. length block ≡ tail.rows) (replicate tail.rows 0) [] (length-replicate tail.rows 0) (λ n d l. absurd (omega arith)));
-  enough = omega (arith, is.enough, length-append tail.blocks (replicate tail.rows 0 ∷ []));
-  spare = λ row column in_row behind. widened_bit tail row column ∙ is.spare row column in_row behind;
-}
-
 -- the dense columns and one more
 abbrev pub tail_longer : Tail → Tail
 tail_longer tail = record { rows = tail.rows; columns = tail.columns + 1; blocks = tail.blocks }
 
-module _ (old mid : Tail) (is : IsTail old) (room : (mid ≡ tail_widened old) ⊎ ((mid ≡ old) × (old.columns / 64 < length old.blocks))) where
-  fits_one_more : IsTail mid × (mid.columns < 64 * length mid.blocks)
-  fits_one_more =
-      elim room [
-        | inl e ↦ subst (λ (t : Tail). IsTail t × (t.columns < 64 * length t.blocks)) (sym e) (widened_is old is, omega (arith, is.enough, length-append old.blocks (replicate old.rows 0 ∷ [])))
-        | inr e ↦ subst (λ (t : Tail). IsTail t × (t.columns < 64 * length t.blocks)) (sym e.0) (is, omega (arith, e.1))
-      ]
-
+-- they have room for it, or get some
+module _ (old mid : Tail) (is : IsTail old) (room : ((mid ≡ tail_widened old) × (length old.blocks ≤ old.columns / 64)) ⊎ ((mid ≡ old) × (old.columns / 64 < length old.blocks))) where
   pub longer_is : IsTail (tail_longer mid)
   longer_is =
-      let mid_is = fits_one_more.0 in
-      record { fits = mid_is.fits; full = mid_is.full; enough = omega (arith, fits_one_more.1); spare = λ row column in_row behind. mid_is.spare row column in_row (omega arith) }
+      let zeros : List ℕ = replicate old.rows 0 in
+      let long = length-append old.blocks (zeros ∷ []) in
+      elim room [
+        | inl e ↦
+            subst (λ (t : Tail). IsTail (tail_longer t)) (sym e.0) (record {
+              fits = is.fits;
+              full = All-append (λ block. length block ≡ old.rows) old.blocks (zeros ∷ []) is.full (All-cons (λ block. length block ≡ old.rows) zeros [] (length-replicate old.rows 0) (λ n d l. absurd (omega arith)));
+              enough = omega (arith, is.enough, long);
+              few = omega (arith, e.1, long);
+              spare = λ row column in_row behind. widened_bit old row column ∙ is.spare row column in_row (omega arith);
+            })
+        | inr e ↦ subst (λ (t : Tail). IsTail (tail_longer t)) (sym e.0) (record { fits = is.fits; full = is.full; enough = omega (arith, e.1); few = omega (arith, is.few); spare = λ row column in_row behind. is.spare row column in_row (omega arith) })
+      ]
 
   same_bits : (row column : ℕ) → tail_bit mid row column ≡ tail_bit old row column
-  same_bits row column = elim room [ inl e ↦ ap (λ (t : Tail). tail_bit t row column) e ∙ widened_bit old row column | inr e ↦ ap (λ (t : Tail). tail_bit t row column) e.0 ]
+  same_bits row column = elim room [ inl e ↦ ap (λ (t : Tail). tail_bit t row column) e.0 ∙ widened_bit old row column | inr e ↦ ap (λ (t : Tail). tail_bit t row column) e.0 ]
 
   pub longer_pushes : PushesColumn old (tail_longer mid)
   longer_pushes =
-      let rows : mid.rows ≡ old.rows = elim room [ inl e ↦ ap (λ (t : Tail). t.rows) e | inr e ↦ ap (λ (t : Tail). t.rows) e.0 ] in
-      let columns : mid.columns ≡ old.columns = elim room [ inl e ↦ ap (λ (t : Tail). t.columns) e | inr e ↦ ap (λ (t : Tail). t.columns) e.0 ] in
+      let rows : mid.rows ≡ old.rows = elim room [ inl e ↦ ap (λ (t : Tail). t.rows) e.0 | inr e ↦ ap (λ (t : Tail). t.rows) e.0 ] in
+      let columns : mid.columns ≡ old.columns = elim room [ inl e ↦ ap (λ (t : Tail). t.columns) e.0 | inr e ↦ ap (λ (t : Tail). t.columns) e.0 ] in
       record { rows = rows; columns = ap (λ n. n + 1) columns; zeros = λ r l. same_bits r old.columns ∙ is.spare r old.columns l (omega arith); bits = same_bits }
 
 -- ---- rows marked one after another

@@ -7,4 +7,5 @@ pub mod Places
 pub mod RowLaws
 pub mod SparseMatrixLaws
 pub mod SparseRowLaws
+pub mod StoredRows
 pub mod Words

@@ -1,14 +1,14 @@
 -- Orders: the first numbers in their own places, and two places exchanged.
-use Rattle.std.proofs.Common.{◌≡◌, ◌≢◌, ℕ, ◌+◌, ◌<◌, List, [], ◌∷◌, ◌++◌, length, get_or, set, refl, sym, ap, ◌∙◌, arith, inl, inr, zero-add, get_or-set_same, get_or-set_other, length-set}
+use Rattle.std.proofs.Common.{◌≡◌, ◌≢◌, ℕ, ◌<◌, List, length, get_or, set, refl, sym, ap, subst, ◌∙◌, arith, inl, inr, zero-add, get_or-set_same, get_or-set_other, length-set}
+use Rattle.std.specs.Iterator.{DrainsIf}
 use Rattle.std.specs.List.{range_with_len, swap}
+use Rattle.std.proofs.iter.Yields.{nat_range_steps}
+use Rattle.std.proofs.lemmas.Iterator.{YieldsList-from_range, items_from_drains}
 use Rattle.std.proofs.lemmas.Bool.{cases_eq}
 use Rattle.std.proofs.lemmas.List.{map-id}
 use Rattle.std.proofs.lemmas.List.Edits.{swap_is, length-swap}
-use Rattle.std.proofs.lemmas.List.FromFn.{length-range_with_len, get_or-range_with_len, map-range_with_len_more}
+use Rattle.std.proofs.lemmas.List.FromFn.{length-range_with_len, get_or-range_with_len}
 use Rattle.rq_matrix.specs.Orders.{Order, IsOrder, first_order, ExchangesPlaces}
-
-pub range_more : (n : ℕ) → range_with_len 0 (n + 1) ≡ range_with_len 0 n ++ n ∷ []
-range_more n = sym (map-id (range_with_len 0 (n + 1))) ∙ map-range_with_len_more (λ (x : ℕ). x) 0 n n (zero-add n) ∙ ap (λ (xs : List ℕ). xs ++ n ∷ []) (map-id (range_with_len 0 n))
 
 pub first_is_order : (n : ℕ) → IsOrder (first_order n)
 first_is_order n =
@@ -16,6 +16,13 @@ first_is_order n =
     let own : (k : ℕ) → k < length (range_with_len 0 n) → get_or (range_with_len 0 n) k 0 ≡ k = λ k l. get_or-range_with_len 0 n k 0 (omega (arith, all)) ∙ zero-add k in
     let placed : (k : ℕ) → k < length (range_with_len 0 n) → (get_or (range_with_len 0 n) k 0 < length (range_with_len 0 n)) × (get_or (range_with_len 0 n) (get_or (range_with_len 0 n) k 0) 0 ≡ k) = λ k l. (omega (arith, own k l), ap (λ j. get_or (range_with_len 0 n) j 0) (own k l) ∙ own k l) in
     record { count = refl; ordered = placed; placed = placed }
+
+-- the numbers that a range gives
+pub first_numbers : (count : ℕ) (xs : List ℕ) → DrainsIf nat_range_steps (Unit {0}) (record { start = 0; end = count }) xs → xs ≡ range_with_len 0 count
+first_numbers count xs drained = sym (map-id xs) ∙ items_from_drains xs drained (YieldsList-from_range 0 count count refl (omega arith))
+
+pub first_made : (count : ℕ) (numbers : List ℕ) (o : Order) → numbers ≡ range_with_len 0 count → o ≡ record { order = numbers; places = numbers } → o ≡ first_order count
+first_made count numbers o are made = made ∙ ap (λ (xs : List ℕ). let p : Order = record { order = xs; places = xs } in p) are
 
 -- at two places stand two numbers
 pub order_apart : (o : Order) (i j : ℕ) → IsOrder o → i < length o.order → j < length o.order → i ≢ j → get_or o.order i 0 ≢ get_or o.order j 0
@@ -44,7 +51,7 @@ module _ (xs : List ℕ) (i j : ℕ) (in_i : i < length xs) (in_j : j < length x
       ∙ get_or-set_other xs i k (get_or xs j 0) 0 not_i
 
 -- an order whose places i and j are exchanged
-abbrev pub swapped : Order → ℕ → ℕ → Order
+abbrev swapped : Order → ℕ → ℕ → Order
 swapped o i j = record { order = swap o.order i j; places = swap o.places (get_or o.order i 0) (get_or o.order j 0) }
 
 module _ (o : Order) (is : IsOrder o) (i j : ℕ) (in_i : i < length o.order) (in_j : j < length o.order) where
@@ -54,7 +61,7 @@ module _ (o : Order) (is : IsOrder o) (i j : ℕ) (in_i : i < length o.order) (i
   second_in : get_or o.order j 0 < length o.places
   second_in = omega (arith, is.count, (is.ordered j in_j).0)
 
-  pub swapped_exchanges : ExchangesPlaces i j o (swapped o i j)
+  swapped_exchanges : ExchangesPlaces i j o (swapped o i j)
   swapped_exchanges = record {
     count = length-swap o.order i j;
     first = swap_first o.order i j in_i in_j;
@@ -62,7 +69,7 @@ module _ (o : Order) (is : IsOrder o) (i j : ℕ) (in_i : i < length o.order) (i
     elsewhere = swap_other o.order i j in_i in_j;
   }
 
-  pub swapped_is_order : IsOrder (swapped o i j)
+  swapped_is_order : IsOrder (swapped o i j)
   swapped_is_order =
       let order = o.order in
       let places = o.places in
@@ -112,3 +119,8 @@ module _ (o : Order) (is : IsOrder o) (i j : ℕ) (in_i : i < length o.order) (i
               ]
             ];
       }
+
+  pub exchanges : (new : Order) (first second : ℕ) → first ≡ get_or o.order i 0 → second ≡ get_or o.order j 0 → ◌≡◌ {A = Order} new (record { order = swap o.order i j; places = swap o.places first second }) → ExchangesPlaces i j o new × IsOrder new
+  exchanges new first second at_i at_j is_new =
+      let now : new ≡ swapped o i j = is_new ∙ ap (λ n. let p : Order = record { order = swap o.order i j; places = swap o.places n second } in p) at_i ∙ ap (λ n. let p : Order = record { order = swap o.order i j; places = swap o.places (get_or o.order i 0) n } in p) at_j in
+      (subst (ExchangesPlaces i j o) (sym now) swapped_exchanges, subst IsOrder (sym now) swapped_is_order)

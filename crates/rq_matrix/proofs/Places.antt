@@ -1,6 +1,9 @@
 -- Places of ones, found one after another.
-use Rattle.std.proofs.Common.{◌≡◌, ℕ, suc, ◌+◌, ◌<◌, ◌≤◌, cond, List, [], ◌∷◌, ◌++◌, refl, sym, ap, ◌∙◌, arith, inl, inr, zero-add, add-zero}
-use Rattle.std.specs.Prelude.{◌==◌, count_by}
+use Rattle.std.proofs.Common.{◌≡◌, ℕ, suc, ◌+◌, ◌-◌, ◌<◌, ◌≤◌, ◌⊎◌, Bool, true, false, cond, List, [], ◌∷◌, ◌++◌, Vec, Global, length, vec_len, refl, sym, ap, subst, ◌∙◌, arith, inl, inr, zero-add, add-zero, eqb-true}
+use Rattle.std.specs.Prelude.{◌==◌, count_by, vec_capacity}
+use Rattle.std.specs.List.Sorted.{IsStrictlyIncreasing}
+use Rattle.std.proofs.lemmas.Bool.{eqb-false}
+use Rattle.rq_parts.proofs.ListedBits.{rises-join, rises-one}
 use Rattle.std.specs.List.{All}
 use Rattle.std.proofs.lemmas.List.Elements.{All-cons, All-append}
 use Rattle.std.proofs.lemmas.List.Sums.{sum_by-cons, sum_by-append}
@@ -47,3 +50,31 @@ places-push bit start next places from found one = record {
 
 pub places-none : (bit : ℕ → ℕ) (start : ℕ) → ArePlacesOfOnes bit start start []
 places-none bit start = record { within = λ i d lt. absurd (omega arith); once = λ k from below. absurd (omega arith) }
+
+-- ---- places that are looked at one after another
+
+-- the places before the next one, ascending, in a list with room for all
+pub record AreFound (bit : ℕ → ℕ) (start next end : ℕ) (out : Vec ℕ Global) : Type 0 where
+  pub places : ArePlacesOfOnes bit start next out.items
+  pub ascending : IsStrictlyIncreasing out.items
+  pub few : vec_len out + start ≤ next
+  pub room : end - start ≤ vec_capacity out
+
+rises-push : (bit : ℕ → ℕ) (start next : ℕ) (places : List ℕ) → ArePlacesOfOnes bit start next places → IsStrictlyIncreasing places → IsStrictlyIncreasing (places ++ next ∷ [])
+rises-push bit start next places are up = rises-join places (next ∷ []) up (rises-one next) (λ some one. (are.within (length places - 1) 0 (omega arith)).1)
+
+-- the next place is put behind them where its bit is a one
+pub found_next : (bit : ℕ → ℕ) (start next end : ℕ) (old now : Vec ℕ Global) → AreFound bit start next end old → start ≤ next → bit next < 2 → (octet one : ℕ) (same : Bool) → octet ≡ bit next → one ≡ 1 → same ≡ (octet == one)
+    → ((same ≡ true) × (now.items ≡ old.items ++ next ∷ []) × (vec_len now ≡ vec_len old + 1) × (vec_capacity now ≡ vec_capacity old)) ⊎ ((same ≡ false) × (now ≡ old)) → AreFound bit start (next + 1) end now
+found_next bit start next end old now found from small octet one same is_octet is_one told (inl (holds, items, len, capacity)) =
+    let set : bit next ≡ 1 = sym is_octet ∙ eqb-true octet one (sym told ∙ holds) ∙ is_one in
+    record {
+      places = subst (ArePlacesOfOnes bit start (next + 1)) (sym items) (places-push bit start next old.items from found.places set);
+      ascending = subst IsStrictlyIncreasing (sym items) (rises-push bit start next old.items found.places found.ascending);
+      few = omega (arith, len, found.few);
+      room = omega (arith, capacity, found.room);
+    }
+found_next bit start next end old now found from small octet one same is_octet is_one told (inr (fails, unchanged)) =
+    let clear : bit next ≡ 0 = omega (arith, small, λ (set : bit next ≡ 1). eqb-false octet one (sym told ∙ fails) (is_octet ∙ set ∙ sym is_one)) in
+    let kept : AreFound bit start next end now = subst (AreFound bit start next end) (sym unchanged) found in
+    record { places = places-skip bit start next now.items kept.places clear; ascending = kept.ascending; few = omega (arith, kept.few); room = kept.room }

@@ -14,11 +14,12 @@ pub record Tail : Type 0 where
 abbrev pub tail_bit : Tail → ℕ → ℕ → ℕ
 tail_bit tail row column = packed_bit (slice_index_or tail.blocks (column / 64) []) (64 * row + column % 64)
 
--- each block has a word for each row, and behind the columns there are no ones
+-- as many blocks as the columns need, each with a word for each row, and behind the columns no ones
 pub record IsTail (tail : Tail) : Type 0 where
   pub fits : tail.rows < 2 ^ 31
   pub full : All (λ block. length block ≡ tail.rows) tail.blocks
   pub enough : tail.columns ≤ 64 * length tail.blocks
+  pub few : 64 * length tail.blocks < tail.columns + 64
   pub spare : (row column : ℕ) → row < tail.rows → tail.columns ≤ column → tail_bit tail row column ≡ 0
 
 -- so many rows and columns without ones

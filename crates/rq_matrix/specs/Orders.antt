@@ -1,11 +1,20 @@
 -- Rows or columns in an order.
-use Rattle.std.specs.Prelude.{◌≡◌, ◌≢◌, ℕ, ◌<◌, List, length, slice_index}
+use Rattle.std.specs.Prelude.{◌≡◌, ◌≢◌, ℕ, ◌<◌, List, length, slice_index, refl}
+use Rattle.std.specs.Coded.{Coded, code_by, coded×, coded_list}
 use Rattle.std.specs.List.{range_with_len}
 
 -- what stands at each place of an order, and the place of each
-pub record Order : Type 0 where
-  pub order : List ℕ
-  pub places : List ℕ
+pub record Placed (N : Type 0) : Type 0 where
+  pub order : List N
+  pub places : List N
+
+-- it is stored as the pair of its lists
+abbrev pub placed_code : {N : Type 0} → Coded N → Coded (Placed N)
+placed_code {N} code =
+    code_by (List N × List N) (coded× (coded_list code) (coded_list code)) (λ o. (o.order, o.places)) (λ p. record { order = p.0; places = p.1 }) (λ _. refl)
+
+abbrev pub Order : Type 0
+Order = Placed ℕ
 
 -- each of the first numbers stands at one place
 pub record IsOrder (o : Order) : Type 0 where

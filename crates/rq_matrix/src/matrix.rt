@@ -35,6 +35,9 @@ pub trait BinaryMatrix: Clone {
         ensures ok { IfOk result (λ matrix. IsZeroTable height width trailing_dense_column_hint (content matrix)) }
         ensures err { IfErr result (λ e. e ≡ OutOfMemory) };
 
+    /// The allocator that `new` was handed.
+    fn allocator(&self) -> Global;
+
     /// Sets the bit in row i and column j to 0 for the octet 0, and else to 1.
     fn set(&mut self, i: usize, j: usize, value: Octet) -> Result<(), Error>
         requires row { i < (content self.old).height }
@@ -83,7 +86,12 @@ pub trait BinaryMatrix: Clone {
         requires range { start_row ≤ end_row }
         requires rows { end_row ≤ (content self.now).height }
         ensures ok { IfOk result (λ rows. ArePlacesOfOnes (λ row. (content self.now).bit row col) start_row end_row rows.items) }
-        ensures err { IfErr result (λ e. e ≡ OutOfMemory) };
+        ensures err { IfErr result (λ e. e ≡ OutOfMemory) }
+    {
+        let mut rows = Vec::new(self.allocator());
+        self.get_ones_in_column_into(col, start_row, end_row, &mut rows)?;
+        Ok(rows)
+    }
 
     /// Replaces a list by the rows from `start_row` on and before `end_row` that have a one in a
     /// column that isn't dense: each once, in any order. The columns are indexed. A refusal leaves
@@ -117,7 +125,12 @@ pub trait BinaryMatrix: Clone {
         requires dense { start_col ≡ (content self.now).boundary }
         ensures ok { IfOk result (λ columns. ArePlacesOfOnes ((content self.now).bit row) start_col (content self.now).width columns.items) }
         ensures ascending { IfOk result (λ columns. IsStrictlyIncreasing columns.items) }
-        ensures err { IfErr result (λ e. e ≡ OutOfMemory) };
+        ensures err { IfErr result (λ e. e ≡ OutOfMemory) }
+    {
+        let mut columns = Vec::new(self.allocator());
+        self.query_non_zero_columns_into(row, start_col, &mut columns)?;
+        Ok(columns)
+    }
 
     /// Replaces a list by the dense columns in which a row has a one, in ascending order;
     /// `start_col` is the first dense column. A refusal leaves the list as it was.
@@ -260,6 +273,10 @@ impl BinaryMatrix for DenseBinaryMatrix {
         })
     }
 
+    fn allocator(&self) -> Global {
+        *self.rows.allocator()
+    }
+
     fn set(&mut self, i: usize, j: usize, value: Octet) -> Result<(), Error> {
         self.rows[i].set(j, value != Octet::zero());
         Ok(())
@@ -281,17 +298,6 @@ impl BinaryMatrix for DenseBinaryMatrix {
         self.rows[row].ones(start_col, end_col)
     }
 
-    fn get_ones_in_column(
-        &self,
-        col: usize,
-        start_row: usize,
-        end_row: usize,
-    ) -> Result<Vec<u32>, Error> {
-        let mut rows = Vec::new(*self.rows.allocator());
-        self.get_ones_in_column_into(col, start_row, end_row, &mut rows)?;
-        Ok(rows)
-    }
-
     fn get_ones_in_column_into(
         &self,
         col: usize,
@@ -311,12 +317,6 @@ impl BinaryMatrix for DenseBinaryMatrix {
 
     fn get_sub_row_as_octets(&self, row: usize, start_col: usize) -> Result<BinaryOctetVec, Error> {
         self.rows[row].part(start_col, self.width)
-    }
-
-    fn query_non_zero_columns(&self, row: usize, start_col: usize) -> Result<Vec<usize>, Error> {
-        let mut columns = Vec::new(*self.rows.allocator());
-        self.query_non_zero_columns_into(row, start_col, &mut columns)?;
-        Ok(columns)
     }
 
     fn query_non_zero_columns_into(

@@ -14,7 +14,7 @@ mod rows;
 use crate::matrix::BinaryMatrix;
 use column_index::{column_index, indexed_rows, places_between};
 use dense_tail::DenseTail;
-use orders::{ColumnOrder, RowOrder};
+use orders::Order;
 use rows::{add_row, count_between, empty_rows};
 use rq_bytes::error::Error;
 use rq_bytes::octet::Octet;
@@ -33,8 +33,8 @@ pub struct SparseBinaryMatrix {
     boundary: usize,
     rows: Vec<SparseBinaryVec>,
     tail: DenseTail,
-    row_order: RowOrder,
-    column_order: ColumnOrder,
+    row_order: Order<u32>,
+    column_order: Order<u16>,
     index: Option<ImmutableListMap>,
     ghost rows_fit: { length rows.items < 2 ^ 31 },
     ghost columns_fit: { length column_order.order < 65536 },
@@ -43,10 +43,31 @@ pub struct SparseBinaryMatrix {
     ghost boundary_within: { boundary ≤ width },
     ghost ordered: { length row_order.order ≡ length rows.items },
     ghost rows_in_order: { IsOrder row_order },
+    ghost columns_in_order: { IsOrder column_order },
     ghost sparse: { All (IsSparseRow (length column_order.order)) rows.items },
     ghost tail_rows: { tail.rows ≡ length rows.items },
     ghost tail_columns: { tail.columns ≡ width - boundary },
     ghost index_is: { ForSome index (IsColumnIndex (length column_order.order) rows.items) },
+}
+
+impl SparseBinaryMatrix {
+    // The stored row that is the i-th.
+    fn stored_row(&self, i: usize) -> usize
+        requires { i < length self.now.row_order.order }
+        ensures value { result ≡ slice_index self.now.row_order.order i }
+        ensures below { result < length self.now.rows.items }
+    {
+        self.row_order.stored(i) as usize
+    }
+
+    // The stored column that is the k-th.
+    fn stored_column(&self, k: usize) -> u16
+        requires { k < length self.now.column_order.order }
+        ensures value { result ≡ slice_index self.now.column_order.order k }
+        ensures below { result < length self.now.column_order.order }
+    {
+        self.column_order.stored(k)
+    }
 }
 
 impl Clone for SparseBinaryMatrix {
@@ -94,16 +115,20 @@ impl BinaryMatrix for SparseBinaryMatrix {
             boundary: width - trailing_dense_column_hint,
             rows: empty_rows(alloc, height)?,
             tail: DenseTail::new(alloc, height, trailing_dense_column_hint)?,
-            row_order: RowOrder::new(alloc, height)?,
-            column_order: ColumnOrder::new(alloc, width)?,
+            row_order: Order::new((0..height as u32).collect(alloc)?)?,
+            column_order: Order::new((0..width as u16).collect(alloc)?)?,
             index: None,
         })
     }
 
+    fn allocator(&self) -> Global {
+        *self.rows.allocator()
+    }
+
     fn set(&mut self, i: usize, j: usize, value: Octet) -> Result<(), Error> {
-        let row = self.row_order.stored(i);
+        let row = self.stored_row(i);
         if j < self.boundary {
-            let column = usize::from(self.column_order.stored(j));
+            let column = usize::from(self.stored_column(j));
             self.rows[row].insert(column, value)?;
         } else {
             self.tail
@@ -121,26 +146,15 @@ impl BinaryMatrix for SparseBinaryMatrix {
     }
 
     fn count_ones(&self, row: usize, start_col: usize, end_col: usize) -> usize {
-        let row = self.row_order.stored(row);
+        let row = self.stored_row(row);
         let columns = self.column_order.places();
         count_between(&self.rows[row], columns, start_col, end_col)
     }
 
     fn get_row_iter(&self, row: usize, start_col: usize, end_col: usize) -> OctetIter<'_> {
-        let row = self.row_order.stored(row);
+        let row = self.stored_row(row);
         let columns = self.column_order.places();
         OctetIter::new_sparse(start_col, end_col, &self.rows[row], columns)
-    }
-
-    fn get_ones_in_column(
-        &self,
-        col: usize,
-        start_row: usize,
-        end_row: usize,
-    ) -> Result<Vec<u32>, Error> {
-        let mut rows = Vec::new(*self.rows.allocator());
-        self.get_ones_in_column_into(col, start_row, end_row, &mut rows)?;
-        Ok(rows)
     }
 
     fn get_ones_in_column_into(
@@ -151,22 +165,15 @@ impl BinaryMatrix for SparseBinaryMatrix {
         out: &mut Vec<u32>,
     ) -> Result<(), Error> {
         if let Some(index) = &self.index {
-            let stored = index.get(self.column_order.stored(col));
+            let stored = index.get(self.stored_column(col));
             places_between(stored, self.row_order.places(), start_row, end_row, out)?;
         }
         Ok(())
     }
 
     fn get_sub_row_as_octets(&self, row: usize, _: usize) -> Result<BinaryOctetVec, Error> {
-        let alloc = *self.rows.allocator();
-        let bits = self.tail.row(alloc, self.row_order.stored(row))?;
+        let bits = self.tail.row(self.allocator(), self.stored_row(row))?;
         bits.part(0, self.width - self.boundary)
-    }
-
-    fn query_non_zero_columns(&self, row: usize, start_col: usize) -> Result<Vec<usize>, Error> {
-        let mut columns = Vec::new(*self.rows.allocator());
-        self.query_non_zero_columns_into(row, start_col, &mut columns)?;
-        Ok(columns)
     }
 
     fn query_non_zero_columns_into(
@@ -175,7 +182,7 @@ impl BinaryMatrix for SparseBinaryMatrix {
         start_col: usize,
         out: &mut Vec<usize>,
     ) -> Result<(), Error> {
-        let row = self.row_order.stored(row);
+        let row = self.stored_row(row);
         out.reserve(self.width - start_col)?;
         out.clear();
         for column in start_col..self.width {
@@ -187,9 +194,9 @@ impl BinaryMatrix for SparseBinaryMatrix {
     }
 
     fn get(&self, i: usize, j: usize) -> Octet {
-        let row = self.row_order.stored(i);
+        let row = self.stored_row(i);
         if j < self.boundary {
-            let column = usize::from(self.column_order.stored(j));
+            let column = usize::from(self.stored_column(j));
             self.rows[row].get(column).unwrap_or(Octet::zero())
         } else {
             self.tail.get(row, self.width - 1 - j)
@@ -197,11 +204,15 @@ impl BinaryMatrix for SparseBinaryMatrix {
     }
 
     fn swap_rows(&mut self, i: usize, j: usize) {
-        self.row_order.swap(i, j);
+        let first = self.stored_row(i);
+        let second = self.stored_row(j);
+        self.row_order.swap(i, j, first, second);
     }
 
     fn swap_columns(&mut self, i: usize, j: usize, _: usize) {
-        self.column_order.swap(i, j);
+        let first = usize::from(self.stored_column(i));
+        let second = usize::from(self.stored_column(j));
+        self.column_order.swap(i, j, first, second);
     }
 
     fn enable_column_access_acceleration(&mut self) -> Result<(), Error> {
@@ -214,7 +225,8 @@ impl BinaryMatrix for SparseBinaryMatrix {
     }
 
     fn hint_column_dense_and_frozen(&mut self, i: usize) -> Result<(), Error> {
-        let rows = indexed_rows(&self.index, self.column_order.stored(i));
+        let column = self.stored_column(i);
+        let rows = indexed_rows(&self.index, column);
         self.tail.push_column(*self.rows.allocator())?;
         self.tail.set_ones(rows, self.width - 1 - i);
         self.boundary = i;
@@ -222,8 +234,8 @@ impl BinaryMatrix for SparseBinaryMatrix {
     }
 
     fn add_assign_rows(&mut self, dest: usize, src: usize, start_col: usize) -> Result<(), Error> {
-        let dest = self.row_order.stored(dest);
-        let src = self.row_order.stored(src);
+        let dest = self.stored_row(dest);
+        let src = self.stored_row(src);
         if start_col == self.boundary {
             self.tail.add(dest, src);
             return Ok(());
@@ -238,7 +250,7 @@ impl BinaryMatrix for SparseBinaryMatrix {
             self.height = new_height;
             return Ok(());
         }
-        self.tail = DenseTail::new(*self.rows.allocator(), self.rows.len(), 0)?;
+        self.tail = DenseTail::new(self.allocator(), self.rows.len(), 0)?;
         self.height = new_height;
         self.width = new_width;
         self.boundary = new_width;

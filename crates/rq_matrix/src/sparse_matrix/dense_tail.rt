@@ -1,5 +1,5 @@
 //! The dense columns of a sparse matrix.
-ghost use Rattle.std.specs.Prelude.{◌≡◌, ℕ, ◌+◌, ◌-◌, ◌*◌, ◌^◌, ◌<◌, ◌++◌, ◌∷◌, [], length, map, replicate, slice_index, slice_set, if◌then◌else◌, All, IfOk, OnOk, OnErr};
+ghost use Rattle.std.specs.Prelude.{◌≡◌, ℕ, ◌+◌, ◌-◌, ◌*◌, ◌^◌, ◌<◌, length, map, if◌then◌else◌, All, IfOk, OnOk, OnErr};
 ghost use Rattle.rq_bytes.specs.BinaryOctetVec.{packed_bit};
 ghost use Rattle.rq_matrix.specs.BitRows.{word_count, with_word_added};
 ghost use Rattle.rq_matrix.specs.DenseTails.{tail_bit, IsZeroTail, SetsTailBit, MarksRows, AddsTailRow, PushesColumn};
@@ -106,19 +106,10 @@ impl DenseTail {
         ensures refused { OnErr result (self.new ≡ self.old) }
     {
         if self.columns / WORD_BITS >= self.blocks.len() {
-            self.push_block(alloc)?;
+            let block = BitRow::zero(alloc, WORD_BITS * self.rows)?;
+            self.blocks.push(block)?;
         }
         self.columns += 1;
-        Ok(())
-    }
-
-    // Makes room for 64 more columns.
-    fn push_block(&mut self, alloc: Global) -> Result<(), AllocError>
-        ensures ok { OnOk result (self.new ≡ record self.old { blocks = self.old.blocks ++ replicate self.old.rows 0 ∷ [] }) }
-        ensures refused { OnErr result (self.new ≡ self.old) }
-    {
-        let block = BitRow::zero(alloc, WORD_BITS * self.rows)?;
-        self.blocks.push(block)?;
         Ok(())
     }
 

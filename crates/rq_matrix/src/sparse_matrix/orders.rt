@@ -1,161 +1,82 @@
-//! Rows and columns in an order.
-ghost use Rattle.std.specs.Prelude.{◌≡◌, ◌<◌, ◌^◌, length, slice_index, IfOk};
-ghost use Rattle.rq_matrix.specs.Orders.{IsOrder, first_order, ExchangesPlaces};
+//! Rows or columns in an order.
+ghost use Rattle.std.specs.Prelude.{◌≡◌, ◌<◌, length, slice_index_or, IfOk};
+ghost use Rattle.std.specs.List.{swap};
 
-use std::alloc::{AllocError, Global};
+use std::alloc::AllocError;
 use std::marker::Model;
 
-/// Rows in an order: which of the stored rows is the i-th, and where each stored row stands. Contracts
-/// see both lists.
-#[derive(Debug, Drop)]
-pub(super) struct RowOrder {
-    order: Vec<u32>,
-    places: Vec<u32>,
-}
-
-impl Model for RowOrder {
-    ghost use Rattle.rq_matrix.specs.Orders.{Order, IsOrder};
-
-    ghost Value = { Order };
-
-    ghost view = { λ o. record { order = o.order.items; places = o.places.items } };
-
-    ghost invariant = { λ o. IsOrder (record { order = o.order.items; places = o.places.items }) };
-}
-
-impl Clone for RowOrder {
-    ghost is_clone = { λ a b. b ≡ a };
-
-    fn clone(&self) -> Result<Self, AllocError> {
-        Ok(RowOrder {
-            order: self.order.clone()?,
-            places: self.places.clone()?,
-        })
-    }
-}
-
-impl RowOrder {
-    /// So many rows, each at its own place.
-    pub(super) fn new(alloc: Global, count: usize) -> Result<RowOrder, AllocError>
-        requires { count < 2 ^ 31 }
-        ensures { IfOk result (λ rows. rows ≡ first_order count) }
-    {
-        let mut order = Vec::with_capacity(alloc, count)?;
-        for row in 0..count {
-            order.push(row as u32)?;
-        }
-        let places = Vec::from_slice(alloc, order.as_slice())?;
-        Ok(RowOrder { order, places })
-    }
-
-    /// The stored row that is the i-th.
-    pub(super) fn stored(&self, i: usize) -> usize
-        requires { i < length self.now.order }
-        ensures value { result ≡ slice_index self.now.order i }
-        ensures below { result < length self.now.order }
-        ensures order { IsOrder self.now }
-    {
-        self.order[i] as usize
-    }
-
-    /// Where each stored row stands.
-    pub(super) fn places(&self) -> &[u32]
-        ensures value { result.now ≡ self.now.places }
-        ensures order { IsOrder self.now }
-    {
-        self.places.as_slice()
-    }
-
-    /// Exchanges the rows at two places.
-    pub(super) fn swap(&mut self, i: usize, j: usize)
-        requires first { i < length self.old.order }
-        requires second { j < length self.old.order }
-        ensures exchanged { ExchangesPlaces i j self.old self.new }
-        ensures order { IsOrder self.new }
-    {
-        let first = self.stored(i);
-        let second = self.stored(j);
-        self.order.swap(i, j);
-        self.places.swap(first, second);
-    }
-}
-
-/// Columns in an order: which of the stored columns is the k-th, and where each stored column stands.
+/// Rows or columns in an order: which of the stored ones stands at each place, and the place of each.
 /// Contracts see both lists.
 #[derive(Debug, Drop)]
-pub(super) struct ColumnOrder {
-    order: Vec<u16>,
-    places: Vec<u16>,
+pub(super) struct Order<N> {
+    order: Vec<N>,
+    places: Vec<N>,
 }
 
-impl Model for ColumnOrder {
-    ghost use Rattle.rq_matrix.specs.Orders.{Order, IsOrder};
+impl<N> Model for Order<N> {
+    ghost use Rattle.rq_matrix.specs.Orders.{Placed, placed_code};
 
-    ghost Value = { Order };
+    ghost Value = { Placed N };
+
+    ghost coded = { placed_code N.code };
 
     ghost view = { λ o. record { order = o.order.items; places = o.places.items } };
-
-    ghost invariant = { λ o. IsOrder (record { order = o.order.items; places = o.places.items }) };
 }
 
-impl Clone for ColumnOrder {
+impl<N: Copy> Clone for Order<N> {
     ghost is_clone = { λ a b. b ≡ a };
 
     fn clone(&self) -> Result<Self, AllocError> {
-        Ok(ColumnOrder {
-            order: self.order.clone()?,
-            places: self.places.clone()?,
+        let alloc = *self.order.allocator();
+        Ok(Order {
+            order: Vec::from_slice(alloc, self.order.as_slice())?,
+            places: Vec::from_slice(alloc, self.places.as_slice())?,
         })
     }
 }
 
-impl ColumnOrder {
-    /// So many columns, each at its own place.
-    pub(super) fn new(alloc: Global, count: usize) -> Result<ColumnOrder, AllocError>
-        requires { count < 65536 }
-        ensures { IfOk result (λ columns. columns ≡ first_order count) }
+impl<N: Copy> Order<N> {
+    /// The order of the first numbers, each at its own place.
+    pub(super) fn new(numbers: Vec<N>) -> Result<Order<N>, AllocError>
+        ensures { IfOk result (λ o. o ≡ record { order = numbers.items; places = numbers.items }) }
     {
-        let mut order = Vec::with_capacity(alloc, count)?;
-        for column in 0..count {
-            order.push(column as u16)?;
-        }
-        let places = Vec::from_slice(alloc, order.as_slice())?;
-        Ok(ColumnOrder { order, places })
+        let places = Vec::from_slice(*numbers.allocator(), numbers.as_slice())?;
+        Ok(Order {
+            order: numbers,
+            places,
+        })
     }
 
-    /// The number of columns.
+    /// How many there are.
     pub(super) fn len(&self) -> usize
         ensures { result ≡ length self.now.order }
     {
         self.order.len()
     }
 
-    /// The stored column that is the k-th.
-    pub(super) fn stored(&self, k: usize) -> u16
-        requires { k < length self.now.order }
-        ensures value { result ≡ slice_index self.now.order k }
-        ensures below { result < length self.now.order }
-        ensures order { IsOrder self.now }
+    /// The stored one at a place.
+    pub(super) fn stored(&self, place: usize) -> N
+        requires { place < length self.now.order }
+        ensures { (other : N) → result ≡ slice_index_or self.now.order place other }
     {
-        self.order[k]
+        self.order[place]
     }
 
-    /// Where each stored column stands.
-    pub(super) fn places(&self) -> &[u16]
-        ensures value { result.now ≡ self.now.places }
-        ensures order { IsOrder self.now }
+    /// The place of each stored one.
+    pub(super) fn places(&self) -> &[N]
+        ensures { result.now ≡ self.now.places }
     {
         self.places.as_slice()
     }
 
-    /// Exchanges the columns at two places.
-    pub(super) fn swap(&mut self, i: usize, j: usize)
-        requires first { i < length self.old.order }
-        requires second { j < length self.old.order }
-        ensures { ExchangesPlaces i j self.old self.new }
+    /// Exchanges what stands at two places: `first` at place i, and `second` at place j.
+    pub(super) fn swap(&mut self, i: usize, j: usize, first: usize, second: usize)
+        requires i { i < length self.old.order }
+        requires j { j < length self.old.order }
+        requires first { first < length self.old.places }
+        requires second { second < length self.old.places }
+        ensures { self.new ≡ record { order = swap self.old.order i j; places = swap self.old.places first second } }
     {
-        let first = usize::from(self.stored(i));
-        let second = usize::from(self.stored(j));
         self.order.swap(i, j);
         self.places.swap(first, second);
     }

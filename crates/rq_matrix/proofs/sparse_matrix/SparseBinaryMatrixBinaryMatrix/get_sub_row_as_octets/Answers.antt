@@ -14,5 +14,5 @@ returns-clause-ok c =
     (octets-from c.in_ok-bits.bits bit n old.boundary old.width c.part.result (omega (arith, old.boundary_within))
     (λ k below.
     c.in_ok-bits.ensures.bits k (omega (arith, old.tail_columns))
-    ∙ dense_place old.width old.boundary old.rows.items old.row_order old.column_order old.tail c.args.row c.stored.result c.stored.ensures.value k old.tail_columns old.boundary_within (omega (arith, old.tail_columns)))
+    ∙ dense_place old.width old.boundary old.rows.items old.row_order old.column_order old.tail c.args.row c.stored_row.result c.stored_row.ensures.value k old.tail_columns old.boundary_within (omega (arith, old.tail_columns)))
     c.part.ensures.ok)

@@ -10,15 +10,15 @@ use Rattle.rq_matrix.proofs.sparse_matrix.SparseBinaryMatrixBinaryMatrix.hint_co
 use Rattle.rq_matrix.proofs.sparse_matrix.SparseBinaryMatrixBinaryMatrix.hint_column_dense_and_frozen.Goals.{After-indexed_rows-rows}
 
 pub indexed_rows-rows-requires : goal.indexed_rows-rows-requires
-indexed_rows-rows-requires c = λ lists is. omega (arith, (c.args.self.now.index_is lists is).count, c.stored.ensures.below)
+indexed_rows-rows-requires c = λ lists is. omega (arith, (c.args.self.now.index_is lists is).count, c.stored_column-column.ensures.below)
 
 -- the rows that are listed have a one in the column
 module _ (c : After-indexed_rows-rows) where
-  listed : ArePlacesOfOnes (λ row. listed_bit (get_or c.args.self.now.rows.items row []) c.stored.result) 0 (length c.args.self.now.rows.items) c.indexed_rows-rows.result.now
+  listed : ArePlacesOfOnes (λ row. listed_bit (get_or c.args.self.now.rows.items row []) c.stored_column-column.result) 0 (length c.args.self.now.rows.items) c.indexed_rows-rows.result.now
   listed =
       let old = c.args.self.now in
       let some = some_of old.index c.requires.indexed in
-      subst (ArePlacesOfOnes (λ row. listed_bit (get_or old.rows.items row []) c.stored.result) 0 (length old.rows.items)) (sym (c.indexed_rows-rows.ensures some.0 some.1)) ((old.index_is some.0 some.1).each c.stored.result c.stored.ensures.below)
+      subst (ArePlacesOfOnes (λ row. listed_bit (get_or old.rows.items row []) c.stored_column-column.result) 0 (length old.rows.items)) (sym (c.indexed_rows-rows.ensures some.0 some.1)) ((old.index_is some.0 some.1).each c.stored_column-column.result c.stored_column-column.ensures.below)
 
 pub set_ones-requires-clause-rows : goal.set_ones-requires-clause-rows
 set_ones-requires-clause-rows c = λ k d l.
@@ -38,6 +38,7 @@ invariant_of-self-2 c =
       boundary_within = omega (arith, c.requires.last, old.boundary_within);
       ordered = old.ordered;
       rows_in_order = old.rows_in_order;
+      columns_in_order = old.columns_in_order;
       sparse = old.sparse;
       tail_rows = marks.rows ∙ pushes.rows ∙ old.tail_rows;
       tail_columns = omega (arith, marks.columns, pushes.columns, old.tail_columns, c.requires.last, old.boundary_within);
@@ -47,6 +48,6 @@ invariant_of-self-2 c =
 pub returns-clause-ok : goal.returns-clause-ok
 returns-clause-ok c =
     let old = c.args.self.now in
-    frozen old.height old.width old.boundary c.args.i c.stored.result (is_some old.index) old.rows.items old.row_order old.column_order old.tail c.push_column.new.self c.set_ones.new.self c.indexed_rows-rows.result.now old.rows_in_order
-    (omega (arith, old.ordered, old.height_within)) old.ordered old.tail_rows c.requires.last old.boundary_within old.tail_columns c.stored.ensures.value
-    (λ r. stored-small (length old.column_order.order) old.rows.items r c.stored.result old.sparse) (listed (goal.at.returns-clause-ok c).After-indexed_rows-rows) c.in_ok-push_column.ensures.ok c.set_ones.ensures
+    frozen old.height old.width old.boundary c.args.i c.stored_column-column.result (is_some old.index) old.rows.items old.row_order old.column_order old.tail c.push_column.new.self c.set_ones.new.self c.indexed_rows-rows.result.now old.rows_in_order
+    (omega (arith, old.ordered, old.height_within)) old.ordered old.tail_rows c.requires.last old.boundary_within old.tail_columns c.stored_column-column.ensures.value
+    (λ r. stored-small (length old.column_order.order) old.rows.items r c.stored_column-column.result old.sparse) (listed (goal.at.returns-clause-ok c).After-indexed_rows-rows) c.in_ok-push_column.ensures.ok c.set_ones.ensures

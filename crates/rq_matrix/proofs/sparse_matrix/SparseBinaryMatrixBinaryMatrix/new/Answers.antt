@@ -4,10 +4,10 @@ use Rattle.std.proofs.lemmas.Bool.{cases_lt}
 use Rattle.std.proofs.lemmas.List.{length-replicate}
 use Rattle.std.proofs.lemmas.List.FromFn.{length-range_with_len}
 use Rattle.rq_parts.specs.SparseBinaryVec.{listed_bit}
-use Rattle.rq_matrix.specs.Orders.{Order, IsOrder}
+use Rattle.rq_matrix.specs.Orders.{Order, IsOrder, first_order}
 use Rattle.rq_matrix.specs.SparseRows.{IsSparseRow}
 use Rattle.rq_matrix.specs.SparseTables.{bit-before, bit-from}
-use Rattle.rq_matrix.proofs.Orders.{first_is_order}
+use Rattle.rq_matrix.proofs.Orders.{first_is_order, first_made, first_numbers}
 use Rattle.rq_matrix.proofs.SparseRowLaws.{empty_rows_are, no_ones}
 use Rattle.rq_matrix.proofs.sparse_matrix.SparseBinaryMatrixBinaryMatrix.new.Goals as goal
 use Rattle.rq_matrix.proofs.sparse_matrix.SparseBinaryMatrixBinaryMatrix.new.Goals.{In_ok-new-3}
@@ -16,11 +16,17 @@ module _ (c : In_ok-new-3) where
   rows : length c.in_ok-empty_rows.field-0.items ≡ c.args.height
   rows = ap length c.in_ok-empty_rows.ensures.ok ∙ length-replicate c.args.height []
 
+  row_order : c.in_ok-new-2.field-0 ≡ first_order c.args.height
+  row_order = first_made c.args.height c.in_ok-collect.field-0.items c.in_ok-new-2.field-0 (c.in_ok-collect.ensures.ran.2.0 ∙ first_numbers c.args.height c.in_ok-collect.ensures.ran.0 c.in_ok-collect.ensures.ran.1) c.in_ok-new-2.ensures
+
+  column_order : c.in_ok-new-3.field-0 ≡ first_order c.args.width
+  column_order = first_made c.args.width c.in_ok-collect-2.field-0.items c.in_ok-new-3.field-0 (c.in_ok-collect-2.ensures.ran.2.0 ∙ first_numbers c.args.width c.in_ok-collect-2.ensures.ran.0 c.in_ok-collect-2.ensures.ran.1) c.in_ok-new-3.ensures
+
   ordered : length c.in_ok-new-2.field-0.order ≡ c.args.height
-  ordered = ap (λ (o : Order). length o.order) c.in_ok-new-2.ensures ∙ length-range_with_len 0 c.args.height
+  ordered = ap (λ (o : Order). length o.order) row_order ∙ length-range_with_len 0 c.args.height
 
   columns : length c.in_ok-new-3.field-0.order ≡ c.args.width
-  columns = ap (λ (o : Order). length o.order) c.in_ok-new-3.ensures ∙ length-range_with_len 0 c.args.width
+  columns = ap (λ (o : Order). length o.order) column_order ∙ length-range_with_len 0 c.args.width
 
 pub invariant_of-result : goal.invariant_of-result
 invariant_of-result c =
@@ -32,7 +38,8 @@ invariant_of-result c =
       width_within = omega (arith, columns c);
       boundary_within = omega arith;
       ordered = ordered c ∙ sym (rows c);
-      rows_in_order = subst IsOrder (sym c.in_ok-new-2.ensures) (first_is_order c.args.height);
+      rows_in_order = subst IsOrder (sym (row_order c)) (first_is_order c.args.height);
+      columns_in_order = subst IsOrder (sym (column_order c)) (first_is_order c.args.width);
       sparse = subst (All (IsSparseRow n)) (sym c.in_ok-empty_rows.ensures.ok) (empty_rows_are n c.args.height);
       tail_rows = c.in_ok-new.ensures.rows ∙ sym (rows c);
       tail_columns = omega (arith, c.in_ok-new.ensures.columns, c.requires.dense);

@@ -1,5 +1,5 @@
 -- What the check leaves to show of `sparse_matrix::SparseBinaryMatrix::set`.
-use Rattle.std.proofs.Common.{◌≡◌, ◌<◌, ◌≤◌, ◌^◌, ◌==◌, ℕ, Bool, not, [], length, sym, ap, subst, ◌∙◌, inl, inr, arith, length-set, if◌then◌else◌}
+use Rattle.std.proofs.Common.{◌≡◌, ◌<◌, ◌==◌, ℕ, Bool, false, not, [], length, set, refl, sym, ap, subst, ◌∙◌, inl, inr, arith, length-set, if◌then◌else◌}
 use Rattle.std.specs.Option.{is_some}
 use Rattle.std.proofs.lemmas.List.{get_or_read}
 use Rattle.std.proofs.lemmas.List.Elements.{All-set}
@@ -9,6 +9,7 @@ use Rattle.rq_parts.specs.SparseBinaryVec.{SetsListed}
 use Rattle.rq_matrix.specs.SparseRows.{IsSparseRow}
 use Rattle.rq_matrix.proofs.SparseRowLaws.{row_set}
 use Rattle.rq_matrix.proofs.SparseMatrixLaws.{sets_listed, sets_tail}
+use Rattle.rq_matrix.proofs.StoredRows.{with_rows}
 use Rattle.rq_matrix.proofs.sparse_matrix.SparseBinaryMatrixBinaryMatrix.set.Goals as goal
 
 -- not zero is one
@@ -22,42 +23,30 @@ pub invariant_of-self : goal.invariant_of-self
 invariant_of-self c =
     let old = c.args.self.now in
     let rows = old.rows.items in
-    let row = c.stored-row.result in
+    let row = c.stored_row-row.result in
     let new = c.insert.new.self in
     let columns = length old.column_order.order in
-    let in_rows : row < length rows = omega (arith, old.ordered, c.stored-row.ensures.below) in
-    let in_columns : c.from-column.result < columns = omega (arith, c.from-column.ensures, c.stored.ensures.below) in
+    let in_rows = c.stored_row-row.ensures.below in
+    let in_columns : c.from-column.result < columns = omega (arith, c.from-column.ensures, c.stored_column.ensures.below) in
     let read = get_or_read rows row c.index_mut.result.now in_rows c.index_mut.ensures.value [] in
     let was = subst (IsSparseRow columns) (sym read) (old.sparse row [] in_rows) in
     let now = row_set columns c.index_mut.result.now new c.from-column.result c.args.value c.insert.result was in_columns c.insert.ensures.ok c.insert.ensures.refused c.insert.ensures.increasing in
-    let long = sym (length-set rows row new) in
-    record {
-      rows_fit = subst (λ n. n < 2 ^ 31) long old.rows_fit;
-      columns_fit = old.columns_fit;
-      height_within = subst (λ n. old.height ≤ n) long old.height_within;
-      width_within = old.width_within;
-      boundary_within = old.boundary_within;
-      ordered = old.ordered ∙ long;
-      rows_in_order = old.rows_in_order;
-      sparse = All-set (IsSparseRow columns) rows row new now old.sparse;
-      tail_rows = old.tail_rows ∙ long;
-      tail_columns = old.tail_columns;
-      index_is = λ lists is. elim c.requires.settable [ inl off ↦ (let on = ap is_some is in cc) | inr from ↦ absurd (omega (arith, c.if-j-self.true)) ];
-    }
+    let off : is_some old.index ≡ false = elim c.requires.settable [ inl off ↦ off | inr from ↦ absurd (omega (arith, c.if-j-self.true)) ] in
+    with_rows old (set rows row new) old.tail off (sym (length-set rows row new)) (All-set (IsSparseRow columns) rows row new now old.sparse) refl refl
 
 pub returns-in_ok-insert-clause-ok : goal.returns-in_ok-insert-clause-ok
 returns-in_ok-insert-clause-ok c =
     let old = c.args.self.now in
     let rows = old.rows.items in
-    let row = c.stored-row.result in
-    let in_rows : row < length rows = omega (arith, old.ordered, c.stored-row.ensures.below) in
+    let row = c.stored_row-row.result in
+    let in_rows = c.stored_row-row.ensures.below in
     let read = get_or_read rows row c.index_mut.result.now in_rows c.index_mut.ensures.value [] in
     let sets = subst (λ l. SetsListed l c.from-column.result c.args.value c.insert.new.self) read c.in_ok-insert.ensures.ok in
-    sets_listed old.height old.width old.boundary (is_some old.index) rows old.row_order old.column_order old.tail c.args.i c.args.j row c.from-column.result c.args.value c.insert.new.self c.stored-row.ensures.order c.stored.ensures.order
-    (omega (arith, old.ordered, old.height_within)) c.requires.row old.ordered c.if-j-self.true (omega (arith, old.boundary_within, old.width_within)) c.stored-row.ensures.value (c.from-column.ensures ∙ c.stored.ensures.value) sets
+    sets_listed old.height old.width old.boundary (is_some old.index) rows old.row_order old.column_order old.tail c.args.i c.args.j row c.from-column.result c.args.value c.insert.new.self old.rows_in_order old.columns_in_order
+    (omega (arith, old.ordered, old.height_within)) c.requires.row old.ordered c.if-j-self.true (omega (arith, old.boundary_within, old.width_within)) c.stored_row-row.ensures.value (c.from-column.ensures ∙ c.stored_column.ensures.value) sets
 
 pub returns-else-j-self-clause-ok : goal.returns-else-j-self-clause-ok
 returns-else-j-self-clause-ok c =
     let old = c.args.self.now in
-    sets_tail old.height old.width old.boundary (is_some old.index) old.rows.items old.row_order old.column_order old.tail c.set.new.self c.args.i c.args.j c.stored-row.result c.args.value (if c.ne.result then 1 else 0) c.stored-row.ensures.order
-    (omega (arith, old.ordered, old.height_within)) c.requires.row c.if-j-self.false c.requires.column c.stored-row.ensures.value (bit_is c.args.value c.zero.result c.ne.result c.zero.ensures c.ne.ensures) c.set.ensures
+    sets_tail old.height old.width old.boundary (is_some old.index) old.rows.items old.row_order old.column_order old.tail c.set.new.self c.args.i c.args.j c.stored_row-row.result c.args.value (if c.ne.result then 1 else 0) old.rows_in_order
+    (omega (arith, old.ordered, old.height_within)) c.requires.row c.if-j-self.false c.requires.column c.stored_row-row.ensures.value (bit_is c.args.value c.zero.result c.ne.result c.zero.ensures c.ne.ensures) c.set.ensures

@@ -29,6 +29,7 @@ invariant_of-result c =
       boundary_within = old.boundary_within;
       ordered = ap (λ (o : Order). length o.order) row_order ∙ old.ordered ∙ ap length same;
       rows_in_order = subst IsOrder (sym row_order) old.rows_in_order;
+      columns_in_order = subst IsOrder columns old.columns_in_order;
       sparse = subst (λ (l : List (List ℕ)). All (IsSparseRow (length c.in_ok-clone-4.field-0.order)) l) same (subst (λ (o : Order). All (IsSparseRow (length o.order)) old.rows.items) columns old.sparse);
       tail_rows = ap (λ (t : Tail). t.rows) tail ∙ old.tail_rows ∙ ap length same;
       tail_columns = ap (λ (t : Tail). t.columns) tail ∙ old.tail_columns;
