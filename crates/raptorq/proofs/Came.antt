@@ -91,9 +91,9 @@ module _ (m : Payloads) (zeros size : ℕ) (ordered : IsOrdered nat_cmp m) (posi
       }
 
 -- all of them
-pub fills_all : (row : TableRow) (k size : ℕ) (m : Payloads) (done rest : List (Vec ℕ Global)) (place : ℕ) (slab : Slab) → FillsSoFar (row.ldpc_symbols + row.hdpc_symbols + (row.extended_symbols - k)) size (values m) done rest place slab → rest ≡ [] → slab ≡ slab_of size (known_values row k size m.entries)
-fills_all row k size m done rest place slab so none =
-    let zeros : ℕ = row.ldpc_symbols + row.hdpc_symbols + (row.extended_symbols - k) in
+pub fills_all : (row : TableRow) (k fixed size : ℕ) (m : Payloads) (done rest : List (Vec ℕ Global)) (place : ℕ) (slab : Slab) → FillsSoFar (fixed + (row.extended_symbols - k)) size (values m) done rest place slab → rest ≡ [] → slab ≡ slab_of size (known_values row k fixed size m.entries)
+fills_all row k fixed size m done rest place slab so none =
+    let zeros : ℕ = fixed + (row.extended_symbols - k) in
     let source = map vec_items (values m) in
     let all : done ≡ values m = sym (append-nil done) ∙ ap (λ r. done ++ r) (sym none) ∙ so.whole in
     let left : length (values m) - length source ≡ 0 = omega (arith, length-map (values m) vec_items) in

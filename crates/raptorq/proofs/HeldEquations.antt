@@ -15,14 +15,14 @@ use Rattle.rq_algebra.proofs.Stacks.{stacked_above, stacked_below}
 use Rattle.rq_standard.specs.declared.row.TableRow.{TableRow}
 use Rattle.rq_standard.specs.OctetField.{octets}
 use Rattle.rq_standard.specs.TableRows.{intermediate_symbols, IsChecked}
-use Rattle.rq_standard.specs.Equations.{fixed_equations, symbol_coefficient, equations, equation_count, zero_symbol, internal_id, tuple_sum}
+use Rattle.rq_standard.specs.Equations.{fixed_equations, symbol_coefficient, zero_symbol, internal_id, tuple_sum}
 use Rattle.rq_standard.specs.IdLists.{IsListOf, HasDeterminedRows}
 use Rattle.rq_standard.specs.Headline.{known_ids, DetermineBlock}
 use Rattle.rq_standard.specs.Held.{Held, holds, SolvesHeld, AreHeldDetermining}
 use Rattle.rq_standard.proofs.Known.{known_source, known_padding, known_repair, range_at, determined_by, determined_list, block_same, few_not_determining}
 use Rattle.rq_standard.proofs.Columns.{sum_at}
-use Rattle.raptorq.specs.Known.{known_list, known_values, IsHeldSolution, SolvesBlock}
-use Rattle.raptorq.specs.BlockSolutions.{IsBlockSolution, SolvesListed}
+use Rattle.raptorq.specs.Known.{known_list, known_values, IsHeldSolution}
+use Rattle.raptorq.specs.BlockSolutions.{IsBlockSolution, first_equations}
 use Rattle.rq_bytes.specs.SymbolSlab.{Slab, slab_of}
 use Rattle.raptorq.specs.Missing.{payload_of, has_payload}
 use Rattle.raptorq.proofs.Listing.{entry_payload, length-known_list, length-known_values}
@@ -77,10 +77,9 @@ pub record IsPayload (row : TableRow) (k : ℕ) (m : Payloads) (x : ℕ) (value 
 
 module _ (row : TableRow) (k size : ℕ) (m : Payloads) (fits : k ≤ row.extended_symbols) (ordered : IsOrdered nat_cmp m) where
   -- the ids and the values of the symbol equations, one by one
-  known_at : (j : ℕ) → j < length (known_list row k m.entries)
-      → IsPadding row k size j (at (known_list row k m.entries) j) (symbol_at (known_values row k size m.entries) (row.ldpc_symbols + row.hdpc_symbols + j)) ⊎ IsPayload row k m (at (known_list row k m.entries) j) (symbol_at (known_values row k size m.entries) (row.ldpc_symbols + row.hdpc_symbols + j))
-  known_at j below =
-      let f : ℕ = row.ldpc_symbols + row.hdpc_symbols in
+  known_at : (f j : ℕ) → j < length (known_list row k m.entries)
+      → IsPadding row k size j (at (known_list row k m.entries) j) (symbol_at (known_values row k f size m.entries) (f + j)) ⊎ IsPayload row k m (at (known_list row k m.entries) j) (symbol_at (known_values row k f size m.entries) (f + j))
+  known_at f j below =
       let pad : ℕ = row.extended_symbols - k in
       let ids : List ℕ = range_with_len k pad in
       let zeros : List (List ℕ) = replicate (f + pad) (zero_symbol size) in
@@ -126,7 +125,7 @@ module _ (row : TableRow) (k size : ℕ) (m : Payloads) (fits : k ≤ row.extend
   -- the ids are the known ones
   pub known_listed : IsListOf (known_ids row k (has_payload m)) (known_list row k m.entries)
   known_listed = record {
-    listed = λ j below. elim (known_at j below) [
+    listed = λ j below. elim (known_at 0 j below) [
       | inl p ↦ known_padding row k (at (known_list row k m.entries) j) (has_payload m) p.from p.below
       | inr p ↦ ap (known_ids row k (has_payload m)) p.id ∙ known_internal row k p.esi (has_payload m) fits ∙ ap is_some p.came
     ];
@@ -154,28 +153,27 @@ module _ (row : TableRow) (k size : ℕ) (m : Payloads) (fits : k ≤ row.extend
       let ids = known_list row k m.entries in
       few_not_determining row ids (omega (arith, length-known_list row k m.entries)) (determined_list row (known_ids row k (has_payload m)) ids known_listed d)
 
-  pub count_held : length (known_values row k size m.entries) ≡ equation_count row (known_list row k m.entries)
-  count_held = omega (arith, length-known_values row k size m.entries, length-known_list row k m.entries)
+  pub count_held : (fixed : ℕ) → length (known_values row k fixed size m.entries) ≡ fixed + length (known_list row k m.entries)
+  count_held fixed = omega (arith, length-known_values row k fixed size m.entries, length-known_list row k m.entries)
 
 -- ---- of a block
 
 module _ (h : Held) (m : Payloads) (fits : h.symbols ≤ h.row.extended_symbols) (ordered : IsOrdered nat_cmp m) (checked : IsChecked h.row) (same : (e : ℕ) → h.received e ≡ payload_of m e) where
-  -- a column that solves what is held solves the equations with their values
-  values_solved : (column : ℕ → List ℕ) → SolvesHeld h column
-      → SolvesSymbols octets (equation_count h.row (known_list h.row h.symbols m.entries)) (intermediate_symbols h.row) (equations h.row (known_list h.row h.symbols m.entries)) column (symbol_at (known_values h.row h.symbols h.configuration.symbol_size m.entries))
-  values_solved column z =
+  -- a column that solves what is held solves the first of the equations with their values
+  values_solved : (fixed : ℕ) → fixed ≤ h.row.ldpc_symbols + h.row.hdpc_symbols → (column : ℕ → List ℕ) → SolvesHeld h column
+      → SolvesSymbols octets (fixed + length (known_list h.row h.symbols m.entries)) (intermediate_symbols h.row) (first_equations h.row fixed (known_list h.row h.symbols m.entries)) column (symbol_at (known_values h.row h.symbols fixed h.configuration.symbol_size m.entries))
+  values_solved f few column z =
       let row = h.row in
       let k = h.symbols in
       let size = h.configuration.symbol_size in
-      let f : ℕ = row.ldpc_symbols + row.hdpc_symbols in
       let ids = known_list row k m.entries in
-      let values = known_values row k size m.entries in
+      let values = known_values row k f size m.entries in
       record {
         at_place = λ p. record {
           at = λ i below. elim (cases_lt i f) [
             | inl lt ↦
                 ap (λ (r : ℕ → ℕ). dot octets (intermediate_symbols row) r (slice_at p column)) (stacked_above f (fixed_equations row) (rows_of (symbol_coefficient row) ids) i lt)
-                ∙ (z.fixed.at_place p).at i lt
+                ∙ (z.fixed.at_place p).at i (omega arith)
                 ∙ ap (λ xs. at xs p) (sym (
                 get_or_append_left (replicate (f + (row.extended_symbols - k)) (zero_symbol size)) (map (λ e. e.1.items) m.entries) [] i (omega (arith, length-replicate (f + (row.extended_symbols - k)) (zero_symbol size)))
                 ∙ get_or-replicate (f + (row.extended_symbols - k)) i (zero_symbol size) [] (omega arith)))
@@ -185,7 +183,7 @@ module _ (h : Held) (m : Payloads) (fits : h.symbols ≤ h.row.extended_symbols)
                 rw (← e) (
                 ap (λ (r : ℕ → ℕ). dot octets (intermediate_symbols row) r (slice_at p column)) (stacked_below f (fixed_equations row) (rows_of (symbol_coefficient row) ids) j)
                 ∙ sym (sum_at row size (at ids j) column checked z.symbols p)
-                ∙ ap (λ xs. at xs p) (elim (known_at row k size m fits ordered j (omega arith)) [
+                ∙ ap (λ xs. at xs p) (elim (known_at row k size m fits ordered f j (omega arith)) [
                   | inl q ↦ z.padding (at ids j) q.from q.below ∙ sym q.is_zero
                   | inr q ↦ ap (tuple_sum row column) q.id ∙ sym (came_sum (h.received q.esi) (symbol_at values (f + j)) (tuple_sum row column (internal_id row k q.esi)) (same q.esi ∙ q.came) (z.received q.esi))
                 ]))
@@ -194,15 +192,16 @@ module _ (h : Held) (m : Payloads) (fits : h.symbols ≤ h.row.extended_symbols)
       }
 
   -- what a solver finds of them
-  pub held_solution : (slab : Slab) → IsBlockSolution h.row (known_list h.row h.symbols m.entries) h.configuration.symbol_size (known_values h.row h.symbols h.configuration.symbol_size m.entries) slab → IsHeldSolution h slab
-  held_solution slab s =
+  held_solution : (fixed : ℕ) → fixed ≤ h.row.ldpc_symbols + h.row.hdpc_symbols → (slab : Slab)
+      → IsBlockSolution h.row fixed (known_list h.row h.symbols m.entries) h.configuration.symbol_size (known_values h.row h.symbols fixed h.configuration.symbol_size m.entries) slab → IsHeldSolution h slab
+  held_solution fixed few slab s =
       let has : (e : ℕ) → holds h e ≡ has_payload m e = λ e. ap is_some (same e) in
       record {
         determined = block_same h.row h.symbols (has_payload m) (holds h) (λ e. sym (has e)) (determined_by h.row (known_ids h.row h.symbols (has_payload m)) (known_list h.row h.symbols m.entries) (known_listed h.row h.symbols h.configuration.symbol_size m fits ordered).listed s.determined);
         enough = s.enough;
         size_is = s.size_is;
         symbols = s.symbols;
-        only = λ column z. s.only column z.symbols (values_solved column z);
+        only = λ column z. s.only column z.symbols (values_solved fixed few column z);
       }
 
   -- where it finds nothing, the ids don't determine the block
@@ -212,10 +211,9 @@ module _ (h : Held) (m : Payloads) (fits : h.symbols ≤ h.row.extended_symbols)
   pub too_few : (h.row.extended_symbols - h.symbols) + length m.entries < h.row.extended_symbols → AreHeldDetermining h → ⊥
   too_few few d = few_held h.row h.symbols h.configuration.symbol_size m fits ordered few (block_same h.row h.symbols (holds h) (has_payload m) (λ e. ap is_some (same e)) d)
 
-  -- an answer of a solver over them
-  pub solves_block : (size : ℕ) (ids : List ℕ) (given : Slab) (answer : Option Slab) → size ≡ h.configuration.symbol_size → ids ≡ known_list h.row h.symbols m.entries → given ≡ slab_of size (known_values h.row h.symbols size m.entries)
-      → SolvesListed h.row ids given.symbol_size given.values answer → SolvesBlock h answer
-  solves_block size ids given None is listed values none = not_held (subst (λ l. HasDeterminedRows h.row l → ⊥) listed none)
-  solves_block size ids given (Some slab) is listed values some =
-      held_solution slab (subst (λ n. IsBlockSolution h.row (known_list h.row h.symbols m.entries) n (known_values h.row h.symbols n m.entries) slab) is
-      (subst (λ l. IsBlockSolution h.row l size (known_values h.row h.symbols size m.entries) slab) listed (subst (λ (g : Slab). IsBlockSolution h.row ids g.symbol_size g.values slab) values some)))
+  -- a solution that was found of them
+  pub solves_held : (fixed size : ℕ) (ids : List ℕ) (given slab : Slab) → fixed ≤ h.row.ldpc_symbols + h.row.hdpc_symbols → size ≡ h.configuration.symbol_size → ids ≡ known_list h.row h.symbols m.entries → given ≡ slab_of size (known_values h.row h.symbols fixed size m.entries)
+      → IsBlockSolution h.row fixed ids given.symbol_size given.values slab → IsHeldSolution h slab
+  solves_held fixed size ids given slab few is listed values found =
+      held_solution fixed few slab (subst (λ n. IsBlockSolution h.row fixed (known_list h.row h.symbols m.entries) n (known_values h.row h.symbols fixed n m.entries) slab) is
+      (subst (λ l. IsBlockSolution h.row fixed l size (known_values h.row h.symbols fixed size m.entries) slab) listed (subst (λ (g : Slab). IsBlockSolution h.row fixed ids g.symbol_size g.values slab) values found)))

@@ -74,10 +74,9 @@ put_symbol size front zeros n i ys some long at are =
 pub length-known_list : (row : TableRow) (k : ℕ) (done : List (ℕ × Vec ℕ Global)) → length (known_list row k done) ≡ row.extended_symbols - k + length done
 length-known_list row k done = length-append (range_with_len k (row.extended_symbols - k)) (map (λ e. internal_id row k e.0) done) ∙ omega (arith, length-range_with_len k (row.extended_symbols - k), length-map done (λ e. internal_id row k e.0))
 
-pub length-known_values : (row : TableRow) (k size : ℕ) (done : List (ℕ × Vec ℕ Global)) → length (known_values row k size done) ≡ row.ldpc_symbols + row.hdpc_symbols + (row.extended_symbols - k) + length done
-length-known_values row k size done =
-    length-append (replicate (row.ldpc_symbols + row.hdpc_symbols + (row.extended_symbols - k)) (zero_symbol size)) (map (λ e. e.1.items) done)
-    ∙ omega (arith, length-replicate (row.ldpc_symbols + row.hdpc_symbols + (row.extended_symbols - k)) (zero_symbol size), length-map done (λ e. e.1.items))
+pub length-known_values : (row : TableRow) (k fixed size : ℕ) (done : List (ℕ × Vec ℕ Global)) → length (known_values row k fixed size done) ≡ fixed + (row.extended_symbols - k) + length done
+length-known_values row k fixed size done =
+    length-append (replicate (fixed + (row.extended_symbols - k)) (zero_symbol size)) (map (λ e. e.1.items) done) ∙ omega (arith, length-replicate (fixed + (row.extended_symbols - k)) (zero_symbol size), length-map done (λ e. e.1.items))
 
 -- a payload is one whole symbol
 pub whole_piece : (piece size n : ℕ) → 0 < size → piece ≡ size → n ≡ size → n ≡ n / piece * piece

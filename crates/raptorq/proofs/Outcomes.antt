@@ -1,25 +1,34 @@
 -- What a solver's outcome says of a block's equations.
-use Rattle.std.proofs.Common.{◌≡◌, ℕ, zero, suc, ◌<◌, ◌≤◌, List, [], get_or, Option, None, Some, Vec, Global, length, map, sym, ap, ◌∙◌, subst, arith}
+use Rattle.std.proofs.Common.{◌≡◌, ℕ, zero, suc, ◌<◌, ◌≤◌, List, [], get_or, Option, None, Some, Vec, Global, length, map, refl, sym, ap, ◌+◌, ◌-◌, ◌∙◌, subst, arith, inl, inr}
+use Rattle.std.specs.Prelude.{MatchOption}
+use Rattle.std.proofs.lemmas.Bool.{cases_lt}
 use Rattle.std.proofs.lemmas.List.{length-map}
-use Rattle.rq_algebra.specs.Operations.{Operation}
-use Rattle.rq_algebra.specs.Symbols.{IsSymbol, AreSymbols, SolvesSymbols, symbol_at}
+use Rattle.rq_algebra.specs.Arrangements.{RowsStandIn}
+use Rattle.rq_algebra.specs.Operations.{Operation, FindsColumn}
+use Rattle.rq_algebra.specs.Symbols.{IsSymbol, AreSymbols}
+use Rattle.rq_algebra.specs.Systems.{stacked, rows_of}
 use Rattle.rq_algebra.proofs.Found.{finds_determined, found_are_symbols}
-use Rattle.rq_algebra.proofs.Solutions.{homogeneous_not_determined}
+use Rattle.rq_algebra.proofs.Solutions.{determined_stays, homogeneous_not_determined}
+use Rattle.rq_algebra.proofs.Stacks.{stacked_above, stacked_below}
 use Rattle.rq_bytes.specs.SymbolSlab.{Slab, HasPlace, symbols_in}
 use Rattle.rq_bytes.specs.SymbolOps.{operation_of}
 use Rattle.rq_bytes.specs.declared.operation_vector.SymbolOps.{SymbolOps}
 use Rattle.rq_parts.specs.DenseOctetMatrix.{OctetTable}
 use Rattle.rq_standard.specs.declared.row.TableRow.{TableRow}
 use Rattle.rq_standard.specs.BitTable.{BitTable}
-use Rattle.rq_standard.specs.ConstraintMatrix.{IsBinaryPart}
+use Rattle.rq_standard.specs.ConstraintMatrix.{IsBinaryPart, IsBinaryPartWithoutHdpc}
 use Rattle.rq_standard.specs.OctetField.{octets}
 use Rattle.rq_standard.specs.TableRows.{intermediate_symbols}
-use Rattle.rq_standard.specs.Equations.{equations, equation_count}
+use Rattle.rq_standard.specs.Equations.{equations, equation_count, fixed_equations, ldpc_coefficient, hdpc_coefficient, symbol_coefficient}
+use Rattle.rq_standard.specs.IdLists.{HasDeterminedRows}
 use Rattle.rq_base.specs.HdpcPart.{IsHdpcPart}
-use Rattle.rq_solver.specs.Solving.{AreEquations, FindsOperations, IsOutcome, solver_of}
-use Rattle.rq_solver.specs.Solving as solver
-use Rattle.rq_solver.proofs.EquationLaws.{are_equations, finds_equations, solution_of_equations, homogeneous_of_equations}
-use Rattle.raptorq.specs.BlockSolutions.{FindsListed, IsBlockSolution, SolvesByOperations}
+use Rattle.rq_solver.specs.Replay.{after_all}
+use Rattle.rq_solver.specs.Solving.{AreEquations, AreEquationsWithoutHdpc, FindsOperations, solver_of}
+use Rattle.rq_solver.proofs.EquationLaws.{are_equations, finds_equations, homogeneous_of_equations}
+use Rattle.rq_solver.proofs.RowStepLaws.{SameEntries}
+use Rattle.rq_solver.proofs.SolutionLaws.{finds_same, is_solution}
+use Rattle.raptorq.specs.BlockSolutions.{FindsFrom, IsBlockSolution, first_equations}
+use Rattle.raptorq.specs.declared.solving.Solution.{Solution}
 
 -- the matrices of a block's ids are equations for its values
 pub handed_equations : (row : TableRow) (ids : List ℕ) (bits : BitTable) (hdpc : OctetTable) (handed : Slab) → IsBinaryPart row ids bits → IsHdpcPart row hdpc → length handed.values ≡ equation_count row ids → intermediate_symbols row ≤ equation_count row ids → handed.order ≡ None
@@ -35,25 +44,94 @@ pub places_count : (slab : Slab) (n : ℕ) → ((k : ℕ) → k < n → HasPlace
 places_count slab zero places = omega arith
 places_count slab (suc n) places = has_count slab.values slab.symbol_size slab.order n (places n (omega arith))
 
+-- the operations that find the column of all equations, or else the ids don't determine the block
+abbrev pub FindsAll : TableRow → List ℕ → Option (Vec SymbolOps Global) → Type 0
+FindsAll row ids answer = MatchOption answer (HasDeterminedRows row ids → ⊥) (λ found. FindsColumn octets (equation_count row ids) (intermediate_symbols row) (equations row ids) (map operation_of found.items))
+
 module _ (row : TableRow) (ids : List ℕ) (bits : BitTable) (hdpc : OctetTable) (handed : Slab) (part : IsBinaryPart row ids bits) (octet_part : IsHdpcPart row hdpc) (are : AreEquations row bits hdpc handed) where
   -- what a solver finds solves the block's equations; where there is nothing, the ids don't determine the block
-  pub recorded_outcome : (answer : Option (Slab × Vec SymbolOps Global)) → IsOutcome (solver_of row bits hdpc handed) handed answer → SolvesByOperations row ids handed answer
-  recorded_outcome None null = λ d. homogeneous_not_determined octets (equation_count row ids) (intermediate_symbols row) (equations row ids) (homogeneous_of_equations row ids bits hdpc part octet_part.rows handed are null) d
-  recorded_outcome (Some found) solution = solution_of_equations row ids bits hdpc part octet_part.rows handed are found.0 (map operation_of found.1.items) solution
-
-  -- the same of what finds operations alone
-  pub found_outcome : (answer : Option (Vec SymbolOps Global)) → FindsOperations (solver_of row bits hdpc handed) answer → FindsListed row ids answer
+  pub found_outcome : (answer : Option (Vec SymbolOps Global)) → FindsOperations (solver_of row bits hdpc handed) answer → FindsAll row ids answer
   found_outcome None null = λ d. homogeneous_not_determined octets (equation_count row ids) (intermediate_symbols row) (equations row ids) (homogeneous_of_equations row ids bits hdpc part octet_part.rows handed are null) d
   found_outcome (Some found) finds = finds_equations row ids bits hdpc part octet_part.rows handed are (map operation_of found.items) finds
 
--- the solution is the block's
-pub solution_found : (row : TableRow) (ids : List ℕ) (handed slab : Slab) (operations : List Operation) → AreSymbols octets handed.symbol_size (equation_count row ids) handed.values
-    → solver.IsSolution (equation_count row ids) (intermediate_symbols row) (equations row ids) handed slab operations → IsBlockSolution row ids handed.symbol_size handed.values slab
-solution_found row ids handed slab operations symbols_are s = record {
-  determined = finds_determined octets (equation_count row ids) (intermediate_symbols row) (equations row ids) operations s.finds;
-  enough = places_count slab (intermediate_symbols row) s.places;
-  size_is = ap (λ (g : Slab). g.symbol_size) s.made;
-  symbols = λ k l. subst (IsSymbol octets handed.symbol_size) (sym (s.reads k)) (found_are_symbols octets (equation_count row ids) (intermediate_symbols row) (equations row ids) operations s.finds handed.symbol_size handed.values symbols_are k l);
-  only = λ column is solves k l. s.only handed.symbol_size handed.values column symbols_are is solves k l ∙ sym (s.reads k);
-  solves = λ square. subst (λ (column : ℕ → List ℕ). SolvesSymbols octets (equation_count row ids) (intermediate_symbols row) (equations row ids) column (symbol_at handed.values)) (λ i k. sym (s.reads k) i) (s.solves square handed.symbol_size handed.values symbols_are);
+-- ---- without HDPC equations
+
+-- what a solver asks of the matrix without them
+pub equations_without_hdpc : (row : TableRow) (ids : List ℕ) (bits : BitTable) (handed : Slab) → IsBinaryPartWithoutHdpc row ids bits → length handed.values ≡ row.ldpc_symbols + length ids → handed.order ≡ None → intermediate_symbols row ≤ row.ldpc_symbols + length ids
+    → AreEquationsWithoutHdpc row bits handed
+equations_without_hdpc row ids bits handed part count order enough = record {
+  width = part.width;
+  boundary = part.boundary;
+  indexed = part.indexed;
+  height = part.height ∙ sym count;
+  enough = omega (arith, count, enough);
+  order = order;
 }
+
+module _ (row : TableRow) (ids : List ℕ) (bits : BitTable) (part : IsBinaryPartWithoutHdpc row ids bits) where
+  symbol_rows : ℕ → ℕ → ℕ
+  symbol_rows = rows_of (symbol_coefficient row) ids
+
+  -- its rows are the first equations
+  same_without : SameEntries (row.ldpc_symbols + length ids) (intermediate_symbols row) bits.bit (first_equations row row.ldpc_symbols ids)
+  unfolding symbol_rows
+  same_without i k l m = elim (cases_lt i row.ldpc_symbols) [
+    | inl above ↦
+        part.ldpc i k above m
+        ∙ ap (λ (r : ℕ → ℕ). r k) (sym (stacked_above row.ldpc_symbols (fixed_equations row) symbol_rows i above ∙ stacked_above row.ldpc_symbols (ldpc_coefficient row) (hdpc_coefficient row) i above))
+    | inr below ↦
+        let j : ℕ = i - row.ldpc_symbols in
+        let is : row.ldpc_symbols + j ≡ i = omega arith in
+        rw (sym is) (part.symbols j k (omega arith) m ∙ ap (λ (r : ℕ → ℕ). r k) (sym (stacked_below row.ldpc_symbols (fixed_equations row) symbol_rows j)))
+  ]
+
+  -- what finds the column of the rows handed in finds that of the first equations
+  pub finds_without_hdpc : (height : ℕ) (operations : List Operation) → height ≡ row.ldpc_symbols + length ids → FindsColumn octets height (intermediate_symbols row) bits.bit operations
+      → FindsColumn octets (row.ldpc_symbols + length ids) (intermediate_symbols row) (first_equations row row.ldpc_symbols ids) operations
+  finds_without_hdpc height operations count finds =
+      finds_same octets (row.ldpc_symbols + length ids) (intermediate_symbols row) bits.bit (first_equations row row.ldpc_symbols ids) same_without operations (rw count at finds)
+
+-- ---- of any of the equations
+
+module _ (row : TableRow) (fixed : ℕ) (ids : List ℕ) (few : fixed ≤ row.ldpc_symbols + row.hdpc_symbols) where
+  all_fixed : ℕ
+  all_fixed = row.ldpc_symbols + row.hdpc_symbols
+
+  id_rows : ℕ → ℕ → ℕ
+  id_rows = rows_of (symbol_coefficient row) ids
+
+  -- the first equations are among all of them
+  first_stand : RowsStandIn (intermediate_symbols row) (fixed + length ids) (first_equations row fixed ids) (equation_count row ids) (equations row ids)
+  unfolding all_fixed id_rows
+  first_stand i l = elim (cases_lt i fixed) [
+    | inl above ↦ (i, (omega arith), λ k n. ap (λ (r : ℕ → ℕ). r k) (stacked_above all_fixed (fixed_equations row) id_rows i (omega arith) ∙ sym (stacked_above fixed (fixed_equations row) id_rows i above)))
+    | inr below ↦
+        let j : ℕ = i - fixed in
+        let is : i ≡ fixed + j = omega arith in (
+          all_fixed + j,
+          (omega arith),
+          λ k n. ap (λ (r : ℕ → ℕ). r k) (stacked_below all_fixed (fixed_equations row) id_rows j ∙ sym (ap (first_equations row fixed ids) is ∙ stacked_below fixed (fixed_equations row) id_rows j)),
+        )
+  ]
+
+  -- so all are determined where the first are
+  pub first_determine : (operations : List Operation) → FindsColumn octets (fixed + length ids) (intermediate_symbols row) (first_equations row fixed ids) operations → HasDeterminedRows row ids
+  first_determine operations finds =
+      determined_stays octets (intermediate_symbols row) (fixed + length ids) (equation_count row ids) (first_equations row fixed ids) (equations row ids) first_stand
+      (finds_determined octets (fixed + length ids) (intermediate_symbols row) (first_equations row fixed ids) operations finds)
+
+-- what the operations make of the values is the block's solution
+pub solution_found : (row : TableRow) (ids : List ℕ) (solution : Solution) (handed slab : Slab) → FindsFrom row ids solution → AreSymbols octets handed.symbol_size (solution.fixed + length ids) handed.values → handed.order ≡ None
+    → slab ≡ after_all (map operation_of solution.operations.items) handed → IsBlockSolution row solution.fixed ids handed.symbol_size handed.values slab
+solution_found row ids solution handed slab from symbols_are order made =
+    let height : ℕ = solution.fixed + length ids in
+    let rows = first_equations row solution.fixed ids in
+    let operations = map operation_of solution.operations.items in
+    let s = is_solution height (intermediate_symbols row) rows operations from.finds handed slab order made in
+    record {
+      determined = first_determine row solution.fixed ids from.few operations from.finds;
+      enough = places_count slab (intermediate_symbols row) s.places;
+      size_is = ap (λ (g : Slab). g.symbol_size) made;
+      symbols = λ k l. subst (IsSymbol octets handed.symbol_size) (sym (s.reads k)) (found_are_symbols octets height (intermediate_symbols row) rows operations from.finds handed.symbol_size handed.values symbols_are k l);
+      only = λ column is solves k l. s.only handed.symbol_size handed.values column symbols_are is solves k l ∙ sym (s.reads k);
+    }

@@ -15,9 +15,9 @@ use Rattle.rq_standard.specs.Held.{Held, SolvesHeld, AreHeldDetermining}
 abbrev pub known_list : TableRow → ℕ → List (ℕ × Vec ℕ Global) → List ℕ
 known_list row k entries = range_with_len k (row.extended_symbols - k) ++ map (λ e. internal_id row k e.0) entries
 
--- zeros for the LDPC and HDPC equations and for the padding, and the payloads
-abbrev pub known_values : TableRow → ℕ → ℕ → List (ℕ × Vec ℕ Global) → List (List ℕ)
-known_values row k size entries = replicate (row.ldpc_symbols + row.hdpc_symbols + (row.extended_symbols - k)) (zero_symbol size) ++ map (λ e. e.1.items) entries
+-- zeros for so many of the LDPC and HDPC equations and for the padding, and the payloads
+abbrev pub known_values : TableRow → ℕ → ℕ → ℕ → List (ℕ × Vec ℕ Global) → List (List ℕ)
+known_values row k fixed size entries = replicate (fixed + (row.extended_symbols - k)) (zero_symbol size) ++ map (λ e. e.1.items) entries
 
 -- the intermediate symbols of what is held
 pub record IsHeldSolution (h : Held) (slab : Slab) : Type 0 where

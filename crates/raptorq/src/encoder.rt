@@ -25,8 +25,8 @@ use rq_bytes::error::Error;
 use rq_tables::systematic_constants::SystematicTable;
 use std::alloc::{AllocError, Global};
 
-/// From how many symbols of an extended source block (K') on the Rust crate solves over a sparse
-/// matrix. Decoders begin with it as their threshold; so far all matrices here are dense.
+/// From how many symbols of an extended source block (K') on blocks are solved over a sparse matrix:
+/// by plans and encoders always, and by decoders until another threshold is set.
 pub const SPARSE_MATRIX_THRESHOLD: u32 = 250;
 
 /// Makes the packets of an object.

@@ -1,82 +1,119 @@
 //! The intermediate symbols of a block.
-ghost use Rattle.std.specs.Prelude.{◌≡◌, ◌^◌, ◌<◌, ◌≤◌, length, None, IfOk, IfErr};
+ghost use Rattle.std.specs.Prelude.{◌≡◌, ◌+◌, ◌^◌, ◌<◌, ◌≤◌, length, IfSome, IfOk, IfErr};
 ghost use Rattle.rq_standard.specs.TableRows.{IsChecked, intermediate_symbols};
 ghost use Rattle.rq_standard.specs.Equations.{equation_count, equations};
 ghost use Rattle.rq_solver.specs.Homogeneous.{ShowsHomogeneous};
-ghost use Rattle.raptorq.specs.BlockSolutions.{FindsListed, SolvesListed, SolvesByOperations};
+ghost use Rattle.raptorq.specs.BlockSolutions.{FindsFrom, FindsListed};
 
-use rq_base::constraint_matrix::generate_constraint_matrix_of_row;
+use rq_base::constraint_matrix::{
+    generate_constraint_matrix_no_hdpc_of_row, generate_constraint_matrix_of_row,
+};
 use rq_bytes::error::Error;
 use rq_bytes::operation_vector::SymbolOps;
 use rq_bytes::symbol_slab::SymbolSlab;
-use rq_matrix::matrix::DenseBinaryMatrix;
+use rq_matrix::matrix::{BinaryMatrix, DenseBinaryMatrix};
+use rq_matrix::sparse_matrix::SparseBinaryMatrix;
 use rq_solver::homogeneous::homogeneous_column;
 use rq_solver::pi_solver::IntermediateSymbolDecoder;
 use rq_standard::row::TableRow;
 use std::alloc::Global;
 
-/// The intermediate symbols that solve the equations of a list of internal symbol ids, with these
-/// values: zeros for the LDPC and HDPC equations, and then the symbols of the ids. `None` where the
-/// ids don't determine them.
-pub(crate) fn solve(
-    alloc: Global,
-    row: &TableRow,
-    ids: &[u32],
-    values: SymbolSlab,
-) -> Result<Option<SymbolSlab>, Error>
-    requires checked { IsChecked row.now }
-    requires enough { intermediate_symbols row.now ≤ equation_count row.now ids.now }
-    requires fits { equation_count row.now ids.now < 2 ^ 31 }
-    requires count { length values.values ≡ equation_count row.now ids.now }
-    requires no_order { values.order ≡ None }
-    ensures solved { IfOk result (λ answer. SolvesListed row.now ids.now values.symbol_size values.values answer) }
-    ensures memory { IfErr result (λ e. e ≡ Error.OutOfMemory) }
-{
-    // What counts the values says that they have one size.
-    let _symbols = values.len();
-    match solve_recorded(alloc, row, ids, values)? {
-        Some((intermediate, _operations)) => Ok(Some(intermediate)),
-        None => Ok(None),
-    }
+/// The operations that make the intermediate symbols from the values of equations: zeros for so many
+/// of the LDPC and HDPC equations, and then the symbols of the ids, whatever these are.
+#[derive(Drop)]
+pub(crate) struct Solution {
+    pub fixed: usize,
+    pub operations: Vec<SymbolOps>,
 }
 
-// The same, with the operations that made them.
-fn solve_recorded(
-    alloc: Global,
-    row: &TableRow,
-    ids: &[u32],
-    values: SymbolSlab,
-) -> Result<Option<(SymbolSlab, Vec<SymbolOps>)>, Error>
-    requires checked { IsChecked row.now }
-    requires enough { intermediate_symbols row.now ≤ equation_count row.now ids.now }
-    requires fits { equation_count row.now ids.now < 2 ^ 31 }
-    requires count { length values.values ≡ equation_count row.now ids.now }
-    requires no_order { values.order ≡ None }
-    ensures solved { IfOk result (λ answer. SolvesByOperations row.now ids.now values answer) }
-    ensures memory { IfErr result (λ e. e ≡ Error.OutOfMemory) }
-{
-    let (matrix, hdpc) = generate_constraint_matrix_of_row::<DenseBinaryMatrix>(alloc, row, ids)?;
-    IntermediateSymbolDecoder::of_row(alloc, row, matrix, hdpc, values).execute()
-}
-
-/// The operations that make the intermediate symbols from the values of the equations of a list of
-/// internal symbol ids, whatever these are. `None` where the ids don't determine them.
+/// What makes the intermediate symbols from the symbols of a list of internal symbol ids. `None`
+/// where the ids don't determine them. The matrix is sparse where the extended source block has so
+/// many symbols (K') or more, and dense else.
 pub(crate) fn find_operations(
     alloc: Global,
     row: &TableRow,
     ids: &[u32],
-    values: SymbolSlab,
-) -> Result<Option<Vec<SymbolOps>>, Error>
+    sparse_threshold: u32,
+) -> Result<Option<Solution>, Error>
     requires checked { IsChecked row.now }
     requires enough { intermediate_symbols row.now ≤ equation_count row.now ids.now }
     requires fits { equation_count row.now ids.now < 2 ^ 31 }
-    requires count { length values.values ≡ equation_count row.now ids.now }
-    requires no_order { values.order ≡ None }
     ensures found { IfOk result (FindsListed row.now ids.now) }
     ensures memory { IfErr result (λ e. e ≡ Error.OutOfMemory) }
 {
-    let (matrix, hdpc) = generate_constraint_matrix_of_row::<DenseBinaryMatrix>(alloc, row, ids)?;
-    IntermediateSymbolDecoder::of_row(alloc, row, matrix, hdpc, values).find_operations()
+    if row.extended_symbols >= sparse_threshold {
+        find_over::<SparseBinaryMatrix>(alloc, row, ids)
+    } else {
+        find_over::<DenseBinaryMatrix>(alloc, row, ids)
+    }
+}
+
+// The same over one kind of matrix: first without the HDPC equations, which are not needed where
+// enough symbols came, and cost the most.
+fn find_over<T: BinaryMatrix>(
+    alloc: Global,
+    row: &TableRow,
+    ids: &[u32],
+) -> Result<Option<Solution>, Error>
+    requires checked { IsChecked row.now }
+    requires enough { intermediate_symbols row.now ≤ equation_count row.now ids.now }
+    requires fits { equation_count row.now ids.now < 2 ^ 31 }
+    ensures found { IfOk result (FindsListed row.now ids.now) }
+    ensures memory { IfErr result (λ e. e ≡ Error.OutOfMemory) }
+{
+    if let Some(solution) = find_without_hdpc::<T>(alloc, row, ids)? {
+        return Ok(Some(solution));
+    }
+    find_with_hdpc::<T>(alloc, row, ids)
+}
+
+// By the LDPC equations and those of the ids alone, where they are as many as the intermediate
+// symbols. `None` says nothing of all equations.
+fn find_without_hdpc<T: BinaryMatrix>(
+    alloc: Global,
+    row: &TableRow,
+    ids: &[u32],
+) -> Result<Option<Solution>, Error>
+    requires checked { IsChecked row.now }
+    requires fits { equation_count row.now ids.now < 2 ^ 31 }
+    ensures found { IfOk result (λ answer. IfSome answer (FindsFrom row.now ids.now)) }
+    ensures memory { IfErr result (λ e. e ≡ Error.OutOfMemory) }
+{
+    let fixed = row.ldpc_symbols as usize;
+    let count = fixed + ids.len();
+    if count < row.intermediate_symbols() as usize {
+        return Ok(None);
+    }
+    let matrix = generate_constraint_matrix_no_hdpc_of_row::<T>(alloc, row, ids)?;
+    // The operations are the same whatever the symbols.
+    let values = SymbolSlab::with_zeros(alloc, count, 0)?;
+    let solver = IntermediateSymbolDecoder::of_row_no_hdpc(alloc, row, matrix, values);
+    let Some(operations) = solver.find_operations()? else {
+        return Ok(None);
+    };
+    Ok(Some(Solution { fixed, operations }))
+}
+
+// By all equations.
+fn find_with_hdpc<T: BinaryMatrix>(
+    alloc: Global,
+    row: &TableRow,
+    ids: &[u32],
+) -> Result<Option<Solution>, Error>
+    requires checked { IsChecked row.now }
+    requires enough { intermediate_symbols row.now ≤ equation_count row.now ids.now }
+    requires fits { equation_count row.now ids.now < 2 ^ 31 }
+    ensures found { IfOk result (FindsListed row.now ids.now) }
+    ensures memory { IfErr result (λ e. e ≡ Error.OutOfMemory) }
+{
+    let (matrix, hdpc) = generate_constraint_matrix_of_row::<T>(alloc, row, ids)?;
+    let fixed = (row.ldpc_symbols + row.hdpc_symbols) as usize;
+    let values = SymbolSlab::with_zeros(alloc, fixed + ids.len(), 0)?;
+    let solver = IntermediateSymbolDecoder::of_row(alloc, row, matrix, hdpc, values);
+    let Some(operations) = solver.find_operations()? else {
+        return Ok(None);
+    };
+    Ok(Some(Solution { fixed, operations }))
 }
 
 /// A column that isn't all zeros and solves the equations of a list of internal symbol ids with all

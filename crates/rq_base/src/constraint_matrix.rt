@@ -101,6 +101,21 @@ pub fn generate_constraint_matrix_no_hdpc<T: BinaryMatrix>(
     ensures memory { IfErr result (λ e. e ≡ OutOfMemory) }
 {
     let row = table.row(source_block_symbols);
+    generate_constraint_matrix_no_hdpc_of_row(alloc, &row, encoded_symbol_indices)
+}
+
+/// The matrix of the equations of a block over a row of a table, without the HDPC equations: the S
+/// LDPC rows, and a row for each internal symbol id.
+pub fn generate_constraint_matrix_no_hdpc_of_row<T: BinaryMatrix>(
+    alloc: Global,
+    row: &TableRow,
+    encoded_symbol_indices: &[u32],
+) -> Result<T, Error>
+    requires checked { IsChecked row.now }
+    requires fits { row.now.ldpc_symbols + length encoded_symbol_indices.now < 2 ^ 31 }
+    ensures bits { IfOk result (λ matrix. IsBinaryPartWithoutHdpc row.now encoded_symbol_indices.now (T.content matrix)) }
+    ensures memory { IfErr result (λ e. e ≡ OutOfMemory) }
+{
     let first_symbol_row = row.ldpc_symbols as usize;
-    binary_rows(alloc, &row, first_symbol_row, encoded_symbol_indices)
+    binary_rows(alloc, row, first_symbol_row, encoded_symbol_indices)
 }

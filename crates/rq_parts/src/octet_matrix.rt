@@ -44,6 +44,16 @@ impl DenseOctetMatrix {
         Ok(DenseOctetMatrix { width, elements })
     }
 
+    /// A matrix of no rows, so many columns wide.
+    pub fn without_rows(alloc: Global, width: usize) -> Self
+        ensures { result ≡ record { width = width; rows = [] } }
+    {
+        DenseOctetMatrix {
+            width,
+            elements: Vec::new(alloc),
+        }
+    }
+
     /// Adds to a row, from a column on, a multiple of a packed row that ends within it.
     pub fn fma_sub_row(
         &mut self,

@@ -94,3 +94,15 @@ are_equations row ids bits hdpc handed part rows columns count order enough = re
   hdpc_width = columns;
   zeros = part.zeros;
 }
+
+-- without HDPC rows the rows are those of bits
+bit_row_alone : (bits entry : ℕ → ℕ → ℕ) (i : ℕ) → with_octet_rows 0 0 bits entry i ≡ bits i
+bit_row_alone bits entry i =
+    let below : ℕ → ℕ → ℕ = λ j. bits (0 + 0 + j) in
+    let rest : ℕ → ℕ → ℕ = stacked 0 entry below in
+    let here : i ≡ 0 + i = omega arith in
+    let back : 0 + 0 + i ≡ i = omega arith in
+    ap (stacked 0 bits rest) here ∙ stacked_below 0 bits rest i ∙ ap rest here ∙ stacked_below 0 entry below i ∙ ap bits back
+
+pub bits_alone : (bits entry : ℕ → ℕ → ℕ) → with_octet_rows 0 0 bits entry ≡ bits
+bits_alone bits entry = λ p i. bit_row_alone bits entry i p

@@ -29,6 +29,15 @@ pub record AreEquations (row : TableRow) (bits : BitTable) (hdpc : OctetTable) (
   pub hdpc_width : hdpc.width ≡ intermediate_symbols row
   pub zeros : (i k : ℕ) → i < row.hdpc_symbols → k < intermediate_symbols row → bits.bit (row.ldpc_symbols + i) k ≡ 0
 
+-- the equations of a block of that row of the table but for those of HDPC: a matrix of bits, and a symbol for each equation
+pub record AreEquationsWithoutHdpc (row : TableRow) (bits : BitTable) (handed : Slab) : Type 0 where
+  pub width : bits.width ≡ intermediate_symbols row
+  pub boundary : bits.boundary ≡ row.lt_symbols
+  pub indexed : bits.indexed ≡ false
+  pub height : bits.height ≡ length handed.values
+  pub enough : intermediate_symbols row ≤ length handed.values
+  pub order : handed.order ≡ None
+
 -- a solver's equations, its symbols until it has run, and how often each of the five phases added symbols and multiplied them
 pub record Solver : Type 0 where
   pub height : ℕ
@@ -48,6 +57,10 @@ solver_of row bits hdpc handed = record {
   additions = replicate 5 0;
   multiplications = replicate 5 0;
 }
+
+-- a solver without HDPC equations that has not run
+abbrev pub solver_without_hdpc : TableRow → BitTable → Slab → Solver
+solver_without_hdpc row bits handed = record { height = length handed.values; width = intermediate_symbols row; rows = bits.bit; symbols = Some handed; additions = replicate 5 0; multiplications = replicate 5 0 }
 
 -- the phases' counts sum to those of the operations
 pub record CountsOperations (solver : Solver) (operations : List Operation) : Type 0 where

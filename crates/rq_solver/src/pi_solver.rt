@@ -5,7 +5,7 @@ ghost use Rattle.rq_standard.specs.TableRows.{greatest_size, row_of};
 ghost use Rattle.rq_bytes.specs.declared.error.Error.TheVariants.{AlreadyExecuted, OutOfMemory};
 ghost use Rattle.rq_bytes.specs.SymbolOps.{operation_of};
 ghost use Rattle.rq_solver.specs.PhaseCounts.{AreCountsOf, total_of};
-ghost use Rattle.rq_solver.specs.Solving.{AreEquations, CountsOperations, FindsOperations, solver_of, IsOutcome, IsSpent};
+ghost use Rattle.rq_solver.specs.Solving.{AreEquations, AreEquationsWithoutHdpc, CountsOperations, FindsOperations, solver_of, solver_without_hdpc, IsOutcome, IsSpent};
 
 mod columns;
 mod counts;
@@ -102,6 +102,41 @@ impl<T: BinaryMatrix> IntermediateSymbolDecoder<T> {
             matrix,
             hdpc,
             first_hdpc: row.ldpc_symbols as usize,
+            boundary: row.lt_symbols as usize,
+            symbols: Some(symbols),
+            counts: OperationCounts::none(),
+        }
+    }
+
+    /// A solver of the equations of a block with so many source symbols, but for those of HDPC: a
+    /// matrix of bits, and a symbol for each equation.
+    pub fn new_no_hdpc(
+        alloc: Global,
+        table: &SystematicTable,
+        matrix: T,
+        symbols: SymbolSlab,
+        num_source_symbols: u32,
+    ) -> Self
+        requires known { num_source_symbols ≤ greatest_size table.now }
+        requires equations { AreEquationsWithoutHdpc (row_of table.now num_source_symbols) (T.content matrix) symbols }
+        ensures { solver_state result ≡ solver_without_hdpc (row_of table.now num_source_symbols) (T.content matrix) symbols }
+    {
+        let row = table.row(num_source_symbols);
+        IntermediateSymbolDecoder::of_row_no_hdpc(alloc, &row, matrix, symbols)
+    }
+
+    /// A solver of the equations of a block but for those of HDPC, over the block's row of a table: a
+    /// matrix of bits, and a symbol for each equation.
+    pub fn of_row_no_hdpc(alloc: Global, row: &TableRow, matrix: T, symbols: SymbolSlab) -> Self
+        requires { AreEquationsWithoutHdpc row.now (T.content matrix) symbols }
+        ensures { solver_state result ≡ solver_without_hdpc row.now (T.content matrix) symbols }
+    {
+        let hdpc = DenseOctetMatrix::without_rows(alloc, matrix.width());
+        IntermediateSymbolDecoder {
+            alloc,
+            matrix,
+            hdpc,
+            first_hdpc: 0,
             boundary: row.lt_symbols as usize,
             symbols: Some(symbols),
             counts: OperationCounts::none(),
@@ -224,6 +259,31 @@ pub fn fused_inverse_mul_symbols<T: BinaryMatrix>(
         table,
         matrix,
         hdpc,
+        symbols,
+        num_source_symbols,
+    ).execute()
+}
+
+/// Solves the equations of a block with so many source symbols, but for those of HDPC: a matrix of
+/// bits, and a symbol for each equation. It answers the slab with the intermediate symbols, and the
+/// operations that made it. `None` where these equations don't determine the symbols; all equations
+/// may.
+pub fn fused_inverse_mul_symbols_no_hdpc<T: BinaryMatrix>(
+    alloc: Global,
+    table: &SystematicTable,
+    matrix: T,
+    symbols: SymbolSlab,
+    num_source_symbols: u32,
+) -> Result<Option<(SymbolSlab, Vec<SymbolOps>)>, Error>
+    requires known { num_source_symbols ≤ greatest_size table.now }
+    requires equations { AreEquationsWithoutHdpc (row_of table.now num_source_symbols) (T.content matrix) symbols }
+    ensures solved { IfOk result (IsOutcome (solver_without_hdpc (row_of table.now num_source_symbols) (T.content matrix) symbols) symbols) }
+    ensures memory { IfErr result (λ e. e ≡ OutOfMemory) }
+{
+    IntermediateSymbolDecoder::new_no_hdpc(
+        alloc,
+        table,
+        matrix,
         symbols,
         num_source_symbols,
     ).execute()

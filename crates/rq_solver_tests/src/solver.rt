@@ -10,6 +10,7 @@ use rq_matrix::matrix::{BinaryMatrix, DenseBinaryMatrix};
 use rq_parts::octet_matrix::DenseOctetMatrix;
 use rq_solver::pi_solver::{
     FirstPhaseRowSelectionStats, IntermediateSymbolDecoder, fused_inverse_mul_symbols,
+    fused_inverse_mul_symbols_no_hdpc,
 };
 use rq_solver::replay::replay;
 use rq_standard::row::TableRow;
@@ -60,6 +61,22 @@ fn bits_at<T: BinaryMatrix>(
         if *i < width && *k < width && (*i < first || *i >= after) {
             bits.set(*i, *k, Octet::one())?;
         }
+    }
+    Ok(bits)
+}
+
+// Bits of which the ones stand in the last column of the first row, and so on to the first one.
+fn mirrored_bits<T: BinaryMatrix>(alloc: Global, row: &TableRow) -> Result<T, Error>
+    requires { IsChecked row.now }
+    ensures height { IfOk result (λ bits. (T.content bits).height ≡ intermediate_symbols row.now) }
+    ensures width { IfOk result (λ bits. (T.content bits).width ≡ intermediate_symbols row.now) }
+    ensures boundary { IfOk result (λ bits. (T.content bits).boundary ≡ row.now.lt_symbols) }
+    ensures indexed { IfOk result (λ bits. (T.content bits).indexed ≡ false) }
+{
+    let mut bits: T = zero_bits(alloc, row)?;
+    let width = width_of(row);
+    for i in 0..width {
+        bits.set(i, width - 1 - i, Octet::one())?;
     }
     Ok(bits)
 }
@@ -282,6 +299,36 @@ fn equations_are_solved(rt: HostRuntime) -> Result<(), Error> {
     let solved = fused_inverse_mul_symbols(rt.alloc(), &table, bits, hdpc, symbols, 10)?;
     let (slab, _) = solved.expect(&rt, "the equations have one solution");
     assert_octets(&rt, slab, &MIRRORED)
+}
+
+#[test]
+fn equations_are_solved_without_hdpc(rt: HostRuntime) -> Result<(), Error> {
+    let table = SystematicTable::built_in(rt.alloc())?;
+    assert!(rt; 10 <= table.greatest());
+    let row = table.row(10);
+    assert_eq!(rt; width_of(&row), 27);
+    let bits: DenseBinaryMatrix = mirrored_bits(rt.alloc(), &row)?;
+    let symbols = numbered(rt.alloc())?;
+    let solved = fused_inverse_mul_symbols_no_hdpc(rt.alloc(), &table, bits, symbols, 10)?;
+    let (slab, _) = solved.expect(&rt, "the equations have one solution");
+    let expected = [
+        26, 25, 24, 23, 22, 21, 20, 19, 18, 17, 16, 15, 14, 13, 12, 11, 10, 9, 8, 7, 6, 5, 4, 3, 2,
+        1, 0,
+    ];
+    assert_octets(&rt, slab, &expected)
+}
+
+#[test]
+fn zeros_determine_nothing_without_hdpc(rt: HostRuntime) -> Result<(), Error> {
+    let table = SystematicTable::built_in(rt.alloc())?;
+    assert!(rt; 10 <= table.greatest());
+    let row = table.row(10);
+    assert_eq!(rt; width_of(&row), 27);
+    let bits: DenseBinaryMatrix = zero_bits(rt.alloc(), &row)?;
+    let symbols = numbered(rt.alloc())?;
+    let mut solver = IntermediateSymbolDecoder::new_no_hdpc(rt.alloc(), &table, bits, symbols, 10);
+    assert!(rt; solver.execute()?.is_none());
+    Ok(())
 }
 
 #[test]

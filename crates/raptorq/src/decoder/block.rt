@@ -14,11 +14,12 @@ use crate::decoder::known::{known_symbol_ids, known_symbol_values};
 use crate::decoder::stopped::Stopped;
 use crate::enc::encoding_symbol;
 use crate::encoder::SPARSE_MATRIX_THRESHOLD;
-use crate::solving::{homogeneous, solve};
+use crate::solving::{find_operations, homogeneous};
 use crate::sub_blocks::{check_symbols, into_sub_blocks, size_at};
 use rq_base::base::{EncodingPacket, ObjectTransmissionInformation};
 use rq_bytes::error::Error;
 use rq_bytes::symbol_slab::SymbolSlab;
+use rq_solver::replay::replay;
 use rq_standard::row::TableRow;
 use rq_tables::systematic_constants::SystematicTable;
 use std::alloc::{AllocError, Global};
@@ -165,10 +166,10 @@ impl SourceBlockDecoder {
         }
     }
 
-    /// Sets the sparse threshold: from how many symbols of an extended source block (K') on the Rust
-    /// crate solves over a sparse matrix. It is
-    /// [`SPARSE_MATRIX_THRESHOLD`](crate::encoder::SPARSE_MATRIX_THRESHOLD) at first. All matrices
-    /// here are dense so far, whatever is set, and what is held stays.
+    /// Sets the sparse threshold: from how many symbols of an extended source block (K') on the block
+    /// is solved over a sparse matrix, and not over a dense one. It is
+    /// [`SPARSE_MATRIX_THRESHOLD`](crate::encoder::SPARSE_MATRIX_THRESHOLD) at first. What is held
+    /// stays, and what is answered doesn't depend on it.
     pub fn set_sparse_threshold(&mut self, value: u32)
         ensures { held_of self.new ≡ held_of self.old }
     {
@@ -338,8 +339,27 @@ impl SourceBlockDecoder {
             return Ok(None);
         }
         let ids = known_symbol_ids(self.alloc, row, self.symbols, &self.received)?;
-        let values = known_symbol_values(self.alloc, row, self.symbols, size, &self.received)?;
-        solve(self.alloc, row, ids.as_slice(), values)
+        let Some(solution) = find_operations(
+            self.alloc,
+            row,
+            ids.as_slice(),
+            self.sparse_threshold,
+        )?
+        else {
+            return Ok(None);
+        };
+        let mut values = known_symbol_values(
+            self.alloc,
+            row,
+            self.symbols,
+            solution.fixed,
+            size,
+            &self.received,
+        )?;
+        // What counts the values says that they have one size.
+        let _symbols = values.len();
+        replay(solution.operations.as_slice(), &mut values)?;
+        Ok(Some(values))
     }
 
     // The block, from the source symbols that came and the intermediate symbols.

@@ -1,5 +1,5 @@
 //! The equations that the decoder of a block knows.
-ghost use Rattle.std.specs.Prelude.{◌≡◌, ℕ, ◌^◌, ◌<◌, ◌≤◌, true, length, IfOk, IfErr};
+ghost use Rattle.std.specs.Prelude.{◌≡◌, ℕ, ◌+◌, ◌^◌, ◌<◌, ◌≤◌, true, length, IfOk, IfErr};
 ghost use Rattle.std.specs.Option.{ForSome};
 ghost use Rattle.rq_bytes.specs.SymbolSlab.{slab_of};
 ghost use Rattle.rq_standard.specs.Headline.{known_ids};
@@ -38,26 +38,28 @@ pub(crate) fn known_symbol_ids(
     Ok(ids)
 }
 
-/// The values of the equations: zeros for those of LDPC and HDPC and for the padding, and then what
-/// came.
+/// The values of the equations: zeros for so many of those of LDPC and HDPC and for the padding, and
+/// then what came.
 pub(crate) fn known_symbol_values(
     alloc: Global,
     row: &TableRow,
     symbols: u32,
+    fixed: usize,
     size: usize,
     received: &BTreeMap<u32, Vec<u8>>,
 ) -> Result<SymbolSlab, Error>
     requires checked { IsChecked row.now }
     requires fits { symbols ≤ row.now.extended_symbols }
+    requires few_fixed { fixed ≤ row.now.ldpc_symbols + row.now.hdpc_symbols }
     requires positive { 0 < size }
     requires small { size < 65536 }
     requires few { (e : ℕ) → has_payload received.now e ≡ true → e < 2 ^ 24 }
     requires sized { (e : ℕ) → ForSome (payload_of received.now e) (λ payload. length payload ≡ size) }
-    ensures values { IfOk result (λ values. values ≡ slab_of size (known_values row.now symbols size received.now.entries)) }
+    ensures values { IfOk result (λ values. values ≡ slab_of size (known_values row.now symbols fixed size received.now.entries)) }
     ensures memory { IfErr result (λ e. e ≡ Error.OutOfMemory) }
 {
     let padding = row.extended_symbols - symbols;
-    let mut index = (row.ldpc_symbols + row.hdpc_symbols + padding) as usize;
+    let mut index = fixed + padding as usize;
     let count = index + received.len();
     // Room for the block that is answered too: an allocator that is handed this buffer back then
     // keeps as much for the next block.

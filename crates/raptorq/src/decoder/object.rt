@@ -150,9 +150,9 @@ impl Decoder {
     }
 
     /// Sets the sparse threshold of each block: from how many symbols of an extended source block
-    /// (K') on the Rust crate solves over a sparse matrix. It is
-    /// [`SPARSE_MATRIX_THRESHOLD`](crate::encoder::SPARSE_MATRIX_THRESHOLD) at first. All matrices
-    /// here are dense so far, whatever is set, and what is answered doesn't depend on it.
+    /// (K') on it is solved over a sparse matrix, and not over a dense one. It is
+    /// [`SPARSE_MATRIX_THRESHOLD`](crate::encoder::SPARSE_MATRIX_THRESHOLD) at first. What is
+    /// answered doesn't depend on it.
     pub fn set_sparse_threshold(&mut self, value: u32)
         ensures { state_of self.new ≡ state_of self.old }
     {

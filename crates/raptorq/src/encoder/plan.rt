@@ -8,6 +8,7 @@ ghost use Rattle.rq_standard.specs.TableRows.{IsChecked, row_of, intermediate_sy
 ghost use Rattle.raptorq.specs.Allowed.{AreAllowed-prop};
 ghost use Rattle.raptorq.specs.Planned.{IsPlanOf, source_values};
 
+use crate::encoder::SPARSE_MATRIX_THRESHOLD;
 use crate::ids::padding_ids;
 use crate::solving::find_operations;
 use rq_bytes::error::Error;
@@ -75,14 +76,12 @@ impl SourceBlockEncodingPlan {
         ensures refused { IfErr result (λ e. (e ≡ Error.OutOfMemory) ⊎ ((e ≡ Error.Singular) × IsSingular row)) }
     {
         let ids = padding_ids(alloc, &row, 0, row.extended_symbols as usize)?;
-        let count = row.intermediate_symbols() as usize;
-        // The operations are the same whatever the symbols.
-        let values = SymbolSlab::with_zeros(alloc, count, 0)?;
-        let Some(operations) = find_operations(alloc, &row, ids.as_slice(), values)? else {
+        let Some(solution) = find_operations(alloc, &row, ids.as_slice(), SPARSE_MATRIX_THRESHOLD)?
+        else {
             return Err(Error::Singular);
         };
         Ok(SourceBlockEncodingPlan {
-            operations,
+            operations: solution.operations,
             source_symbol_count,
             row,
         })

@@ -6,4 +6,4 @@ use Rattle.raptorq.proofs.decoder.known.known_symbol_values.Given as goal
 
 -- the payloads so far are filled in
 abbrev pub invariant-loop-payload : goal.invariant-loop-payload
-invariant-loop-payload l = FillsSoFar (l.fn.row.ldpc_symbols + l.fn.row.hdpc_symbols + (l.fn.row.extended_symbols - l.fn.symbols)) l.fn.size (values l.fn.received) (map deref l.yielded) l.payload-iterator l.index l.values
+invariant-loop-payload l = FillsSoFar (l.fn.fixed + (l.fn.row.extended_symbols - l.fn.symbols)) l.fn.size (values l.fn.received) (map deref l.yielded) l.payload-iterator l.index l.values
