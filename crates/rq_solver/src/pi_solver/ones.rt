@@ -76,7 +76,7 @@ impl RowOnes {
 }
 
 #[inline(always)]
-fn part(columns: &[usize], start: usize, end: usize) -> &[usize]
+pub(super) fn part(columns: &[usize], start: usize, end: usize) -> &[usize]
     requires order { start ≤ end }
     requires within { end ≤ length columns.now }
     ensures { result.now ≡ slice_range columns.now start end }
