@@ -12,7 +12,7 @@ use rq_bytes::error::Error;
 use rq_parts::graph::ConnectedComponentGraph;
 use std::alloc::Global;
 
-/// For how many columns there are sets at most.
+// For how many columns there are sets at most.
 const MOST_NODES: usize = 65535;
 
 /// Columns with pivots among rows of bits, and the order of all columns: pivots' first, in the
