@@ -86,7 +86,7 @@ impl ColumnRows {
         ensures err { IfErr result (λ e. e ≡ OutOfMemory) }
     {
         for row in self.rows_of(column) {
-            degrees.lower(*row, column)?;
+            degrees.lower(*row)?;
         }
         Ok(())
     }

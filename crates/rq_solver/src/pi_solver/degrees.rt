@@ -7,24 +7,22 @@ use rq_bytes::error::Error;
 use std::alloc::Global;
 use std::marker::Model;
 
-/// How many active columns each row has, their sum without carries, and the rows that came to have
-/// one alone. This advises which row to take next, and nothing else rests on it. Contracts see the
-/// number of rows.
+/// How many active columns each row has, and the rows that came to have one alone. This advises
+/// which row to take next, and nothing else rests on it. Contracts see the number of rows.
 #[derive(Drop)]
 pub(super) struct RowDegrees {
     degrees: Vec<usize>,
-    sums: Vec<usize>,
     singles: Vec<usize>,
 }
 
 impl Model for RowDegrees {
-    ghost use Rattle.std.specs.Prelude.{◌≡◌, ℕ, ◌<◌, All, length};
+    ghost use Rattle.std.specs.Prelude.{ℕ, ◌<◌, All, length};
 
     ghost Value = { ℕ };
 
     ghost view = { λ d. length d.degrees.items };
 
-    ghost invariant = { λ d. (length d.sums.items ≡ length d.degrees.items) × All (λ row. row < length d.degrees.items) d.singles.items };
+    ghost invariant = { λ d. All (λ row. row < length d.degrees.items) d.singles.items };
 }
 
 impl RowDegrees {
@@ -34,33 +32,26 @@ impl RowDegrees {
         ensures err { IfErr result (λ e. e ≡ OutOfMemory) }
     {
         let mut degrees = Vec::with_capacity(alloc, ones.height())?;
-        let mut sums = Vec::with_capacity(alloc, ones.height())?;
         let mut singles = Vec::with_capacity(alloc, ones.height())?;
         for row in 0..ones.height() {
             let columns = ones.row(row);
             let degree = columns.iter().filter(|column| **column < boundary).count();
             degrees.push(degree)?;
-            sums.push(sum_before(columns, boundary))?;
             if degree == 1 {
                 singles.push(row)?;
             }
         }
-        Ok(RowDegrees {
-            degrees,
-            sums,
-            singles,
-        })
+        Ok(RowDegrees { degrees, singles })
     }
 
-    /// A column of a row isn't active any more.
-    pub(super) fn lower(&mut self, row: usize, column: usize) -> Result<(), Error>
+    /// A row has one active column less.
+    pub(super) fn lower(&mut self, row: usize) -> Result<(), Error>
         requires { row < self.old }
         ensures rows { self.new ≡ self.old }
         ensures err { IfErr result (λ e. e ≡ OutOfMemory) }
     {
         let degree = self.degrees[row].saturating_sub(1);
         self.degrees[row] = degree;
-        self.sums[row] ^= column;
         if degree == 1 {
             self.singles.push(row)?;
         }
@@ -72,13 +63,6 @@ impl RowDegrees {
         requires { row < self.now }
     {
         self.degrees[row]
-    }
-
-    /// The other active column of a row that has two.
-    pub(super) fn other_column(&self, row: usize, column: usize) -> usize
-        requires { row < self.now }
-    {
-        self.sums[row] ^ column
     }
 
     /// A row that has one active column.
@@ -112,15 +96,4 @@ impl RowDegrees {
         }
         least
     }
-}
-
-// The sum of the columns before `boundary`, without carries.
-fn sum_before(columns: &[usize], boundary: usize) -> usize {
-    let mut sum = 0;
-    for column in columns {
-        if *column < boundary {
-            sum ^= *column;
-        }
-    }
-    sum
 }

@@ -5,7 +5,6 @@ use crate::pi_solver::column_rows::ColumnRows;
 use crate::pi_solver::columns::ColumnOrder;
 use crate::pi_solver::degrees::RowDegrees;
 use crate::pi_solver::ones::RowOnes;
-use crate::pi_solver::peeling::first_active;
 use rq_parts::graph::ConnectedComponentGraph;
 
 /// A row that has least active columns but has some. Where rows have two at least, it is one of
@@ -42,7 +41,7 @@ pub(super) fn next_row(
     column_rows.row_of_two(column, degrees).or(Some(row))
 }
 
-// Joins the active columns of each row that has two.
+// Joins the columns of each row that has two active ones.
 fn join_columns(
     ones: &RowOnes,
     columns: &ColumnOrder,
@@ -58,30 +57,30 @@ fn join_columns(
     graph.reset();
     for row in 0..ones.height() {
         if degrees.degree(row) == 2 {
-            join_pair(row, ones.row(row), columns, nodes, degrees, graph);
+            join_pair(ones.row(row), columns, nodes, graph);
         }
     }
 }
 
-// Joins the two active columns of a row, if both are nodes.
+// Joins the first two active columns of a row, if both are nodes.
 fn join_pair(
-    row: usize,
-    ones: &[usize],
+    row: &[usize],
     columns: &ColumnOrder,
     nodes: usize,
-    degrees: &RowDegrees,
     graph: &mut ConnectedComponentGraph,
 )
-    requires row { row < degrees.now }
-    requires columns { All (λ column. column < length columns.now.order) ones.now }
+    requires columns { All (λ column. column < length columns.now.order) row.now }
     requires graph { length graph.old.labels ≡ nodes }
     ensures { length graph.new.labels ≡ nodes }
 {
-    let Some(first) = first_active(ones, columns) else {
-        return;
-    };
-    let second = degrees.other_column(row, first);
-    if first < nodes && second < nodes {
-        graph.add_edge(first, second);
+    let mut first = None;
+    for column in row {
+        if columns.is_active(*column) && *column < nodes {
+            if let Some(other) = first {
+                graph.add_edge(other, *column);
+                return;
+            }
+            first = Some(*column);
+        }
     }
 }

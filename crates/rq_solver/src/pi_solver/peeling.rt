@@ -93,8 +93,8 @@ fn take_row(
     Ok(true)
 }
 
-/// The first active column of a row.
-pub(super) fn first_active(row: &[usize], columns: &ColumnOrder) -> Option<usize>
+// The first active column of a row.
+fn first_active(row: &[usize], columns: &ColumnOrder) -> Option<usize>
     requires { All (λ column. column < length columns.now.order) row.now }
     ensures column { IfSome result (Contains row.now) }
     ensures active { IfSome result (IsActive columns.now) }

@@ -5,6 +5,5 @@ use Rattle.rq_solver.proofs.pi_solver.degrees.RowDegrees.new.Given as goal
 abbrev pub invariant-loop-row : goal.invariant-loop-row
 invariant-loop-row l = record {
   count : length l.degrees.items ≡ l.row;
-  sums : length l.sums.items ≡ l.row;
   singles : All (λ row. row < l.row) l.singles.items;
 }

@@ -5,7 +5,6 @@ use Rattle.rq_solver.proofs.pi_solver.degrees.RowDegrees.next_single.Given as go
 abbrev pub invariant-loop-row : goal.invariant-loop-row
 invariant-loop-row l = record {
   rows : length l.self-inside.degrees.items ≡ l.fn.self;
-  sums : length l.self-inside.sums.items ≡ length l.self-inside.degrees.items;
   singles : All (λ row. row < length l.self-inside.degrees.items) l.self-inside.singles.items;
 }
 
