@@ -5,7 +5,6 @@ pub mod Entries
 pub mod EquationLaws
 pub mod FinalTurns
 pub mod FreeColumns
-pub mod LinkLaws
 pub mod ListingLaws
 pub mod OctetBatchLaws
 pub mod OctetRows

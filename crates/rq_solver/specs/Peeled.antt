@@ -1,12 +1,10 @@
 -- Columns that have pivots among rows of bits while no row is changed.
-use Rattle.std.specs.Prelude.{◌≡◌, ◌≢◌, ℕ, ◌+◌, ◌-◌, ◌<◌, ◌≤◌, Option, List, [], All, Contains, length, take, drop, slice_index_or}
+use Rattle.std.specs.Prelude.{◌≡◌, ◌≢◌, ℕ, ◌+◌, ◌-◌, ◌<◌, ◌≤◌, List, [], All, Contains, length, take, drop, slice_index_or}
 use Rattle.std.specs.List.{range_with_len}
-use Rattle.std.specs.Option.{ForSome}
 use Rattle.rq_algebra.specs.Arrangements.{ArePlaces, exchange}
 use Rattle.rq_algebra.specs.Systems.{at}
 use Rattle.rq_standard.specs.BitTableSteps.{ArePlacesOfOnes}
 use Rattle.rq_parts.specs.ImmutableListMap.{AreStarts}
-use Rattle.rq_solver.specs.declared.pi_solver.links.Link.{Link}
 
 -- the columns in which row i has its ones
 abbrev pub ones_of : List (List ℕ) → ℕ → List ℕ
@@ -107,9 +105,3 @@ pub record TakesRow (row : List ℕ) (old new : ColumnState) : Type 0 where
 pub record Size : Type 0 where
   pub rows : ℕ
   pub columns : ℕ
-
--- Links to rows below `height`, each of which leads to an earlier one if to any, and where each column begins.
-pub record AreLinks (height : ℕ) (links : List Link) (last : List (Option ℕ)) : Type 0 where
-  pub in_rows : All (λ link. link.row < height) links
-  pub earlier : (place : ℕ) (d : Link) → place < length links → ForSome (slice_index_or links place d).next (λ next. next < place)
-  pub known : All (λ place. ForSome place (λ k. k < length links)) last

@@ -7,13 +7,13 @@ ghost use Rattle.rq_bytes.specs.SymbolOps.{operation_of};
 ghost use Rattle.rq_solver.specs.PhaseCounts.{AreCountsOf, total_of};
 ghost use Rattle.rq_solver.specs.Solving.{AreEquations, AreEquationsWithoutHdpc, CountsOperations, FindsOperations, solver_of, solver_without_hdpc, IsOutcome, IsSpent};
 
+mod column_rows;
 mod columns;
 mod counts;
 mod degrees;
 pub(crate) mod elimination;
 mod first_phase;
 mod fourth_phase;
-mod links;
 mod next_row;
 mod ones;
 mod peeling;

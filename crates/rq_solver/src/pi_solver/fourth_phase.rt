@@ -99,7 +99,7 @@ fn saves_additions(
     }
     // The row's own pivot isn't taken.
     let inactive = peeling.places.len() - peeling.rows.len();
-    recorded.has_entries(row, inactive, cost.saturating_sub(1))
+    recorded.count_entries(row, inactive) >= cost.saturating_sub(1)
 }
 
 /// Adds to the pivots' rows, the first first, multiples of reduced rows, each of which has 1 in its

@@ -1,9 +1,9 @@
 //! The row that is peeled next.
 ghost use Rattle.std.specs.Prelude.{◌≡◌, ◌<◌, ◌≤◌, length, All, IfSome};
 
+use crate::pi_solver::column_rows::ColumnRows;
 use crate::pi_solver::columns::ColumnOrder;
 use crate::pi_solver::degrees::RowDegrees;
-use crate::pi_solver::links::ColumnLinks;
 use crate::pi_solver::ones::RowOnes;
 use rq_parts::graph::ConnectedComponentGraph;
 
@@ -12,14 +12,14 @@ use rq_parts::graph::ConnectedComponentGraph;
 /// all the others get pivots.
 pub(super) fn next_row(
     ones: &RowOnes,
-    links: &ColumnLinks,
+    column_rows: &ColumnRows,
     columns: &ColumnOrder,
     nodes: usize,
     degrees: &mut RowDegrees,
     graph: &mut ConnectedComponentGraph,
 ) -> Option<usize>
     requires columns { All (λ row. All (λ column. column < length columns.now.order) row) ones.now }
-    requires links { links.now ≡ record { rows = degrees.old; columns = length columns.now.order } }
+    requires column_rows { column_rows.now ≡ record { rows = degrees.old; columns = length columns.now.order } }
     requires rows { degrees.old ≡ length ones.now }
     requires nodes { nodes ≤ length columns.now.order }
     requires graph { length graph.old.labels ≡ nodes }
@@ -38,7 +38,7 @@ pub(super) fn next_row(
     let Some(column) = graph.get_node_in_largest_connected_component(0, nodes) else {
         return Some(row);
     };
-    links.row_of_two(column, degrees).or(Some(row))
+    column_rows.row_of_two(column, degrees).or(Some(row))
 }
 
 // Joins the columns of each row that has two active ones.

@@ -9,6 +9,9 @@ use rq_matrix::matrix::BinaryMatrix;
 use std::alloc::Global;
 use std::marker::Model;
 
+// How many ones there is room for a row: in blocks of all sizes rows have ten on average, or fewer.
+const USUAL_ONES: usize = 12;
+
 /// The columns of the ones of each row. Contracts see a list for each row.
 #[derive(Drop)]
 pub(super) struct RowOnes {
@@ -40,7 +43,7 @@ impl RowOnes {
         ensures err { IfErr result (λ e. e ≡ OutOfMemory) }
     {
         let mut starts = Vec::with_capacity(alloc, bits.height() + 1)?;
-        let mut columns = Vec::new(alloc);
+        let mut columns = Vec::with_capacity(alloc, USUAL_ONES * bits.height())?;
         let mut dense = Vec::new(alloc);
         starts.push(0)?;
         for row in 0..bits.height() {
@@ -76,7 +79,7 @@ impl RowOnes {
 }
 
 #[inline(always)]
-fn part(columns: &[usize], start: usize, end: usize) -> &[usize]
+pub(super) fn part(columns: &[usize], start: usize, end: usize) -> &[usize]
     requires order { start ≤ end }
     requires within { end ≤ length columns.now }
     ensures { result.now ≡ slice_range columns.now start end }

@@ -3,16 +3,16 @@ ghost use Rattle.std.specs.Prelude.{◌≡◌, false, ◌<◌, ◌≤◌, length
 ghost use Rattle.rq_bytes.specs.declared.error.Error.TheVariants.{OutOfMemory};
 ghost use Rattle.rq_solver.specs.Peeled.{IsPeeled, IsActive, HasNoActive, TakesRow, InactivatesRow};
 
+use crate::pi_solver::column_rows::ColumnRows;
 use crate::pi_solver::columns::ColumnOrder;
 use crate::pi_solver::degrees::RowDegrees;
-use crate::pi_solver::links::ColumnLinks;
 use crate::pi_solver::next_row::next_row;
 use crate::pi_solver::ones::RowOnes;
 use rq_bytes::error::Error;
 use rq_parts::graph::ConnectedComponentGraph;
 use std::alloc::Global;
 
-/// For how many columns there are sets at most.
+// For how many columns there are sets at most.
 const MOST_NODES: usize = 65535;
 
 /// Columns with pivots among rows of bits, and the order of all columns: pivots' first, in the
@@ -38,18 +38,25 @@ pub(super) fn peel(
     ensures peeled { IfOk result (λ p. IsPeeled width ones.now p.rows.items p.order.items p.places.items) }
     ensures err { IfErr result (λ e. e ≡ OutOfMemory) }
 {
-    let links = ColumnLinks::of_rows(alloc, ones, width)?;
+    let column_rows = ColumnRows::of_rows(alloc, ones, width)?;
     let mut degrees = RowDegrees::new(alloc, ones, boundary)?;
     let mut columns = ColumnOrder::new(alloc, width, boundary)?;
     let nodes = boundary.min(MOST_NODES);
     let mut graph = ConnectedComponentGraph::new(alloc, nodes)?;
     let mut rows = Vec::with_capacity(alloc, boundary)?;
     for _ in 0..boundary {
-        let next = next_row(ones, &links, &columns, nodes, &mut degrees, &mut graph);
+        let next = next_row(
+            ones,
+            &column_rows,
+            &columns,
+            nodes,
+            &mut degrees,
+            &mut graph,
+        );
         let Some(row) = next else {
             break;
         };
-        if take_row(ones.row(row), &links, &mut degrees, &mut columns)? {
+        if take_row(ones.row(row), &column_rows, &mut degrees, &mut columns)? {
             rows.push(row)?;
         }
     }
@@ -65,12 +72,12 @@ pub(super) fn peel(
 // there is one.
 fn take_row(
     row: &[usize],
-    links: &ColumnLinks,
+    column_rows: &ColumnRows,
     degrees: &mut RowDegrees,
     columns: &mut ColumnOrder,
 ) -> Result<bool, Error>
     requires columns { All (λ column. column < length columns.old.order) row.now }
-    requires links { links.now ≡ record { rows = degrees.old; columns = length columns.old.order } }
+    requires column_rows { column_rows.now ≡ record { rows = degrees.old; columns = length columns.old.order } }
     ensures taken { IfOk result (λ taken. IsTrue taken → TakesRow row.now columns.old columns.new) }
     ensures left { IfOk result (λ taken. (taken ≡ false) → columns.new ≡ columns.old) }
     ensures none { IfOk result (λ taken. (taken ≡ false) → HasNoActive row.now columns.old) }
@@ -81,8 +88,8 @@ fn take_row(
         return Ok(false);
     };
     columns.take_pivot(pivot);
-    links.lower_rows(pivot, degrees)?;
-    inactivate_columns(row, links, degrees, columns)?;
+    column_rows.lower_rows(pivot, degrees)?;
+    inactivate_columns(row, column_rows, degrees, columns)?;
     Ok(true)
 }
 
@@ -104,12 +111,12 @@ fn first_active(row: &[usize], columns: &ColumnOrder) -> Option<usize>
 // Makes the active columns of a row inactive.
 fn inactivate_columns(
     row: &[usize],
-    links: &ColumnLinks,
+    column_rows: &ColumnRows,
     degrees: &mut RowDegrees,
     columns: &mut ColumnOrder,
 ) -> Result<(), Error>
     requires columns { All (λ column. column < length columns.old.order) row.now }
-    requires links { links.now ≡ record { rows = degrees.old; columns = length columns.old.order } }
+    requires column_rows { column_rows.now ≡ record { rows = degrees.old; columns = length columns.old.order } }
     ensures inactive { OnOk result (InactivatesRow row.now columns.old columns.new) }
     ensures degrees { degrees.new ≡ degrees.old }
     ensures err { IfErr result (λ e. e ≡ OutOfMemory) }
@@ -117,7 +124,7 @@ fn inactivate_columns(
     for column in row {
         if columns.is_active(*column) {
             columns.inactivate(*column);
-            links.lower_rows(*column, degrees)?;
+            column_rows.lower_rows(*column, degrees)?;
         }
     }
     Ok(())

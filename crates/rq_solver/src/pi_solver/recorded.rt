@@ -70,21 +70,17 @@ impl RecordedRows {
         self.table.get(row, column)
     }
 
-    /// Whether a row has so many entries that aren't 0, or more, in the first inactive columns.
-    pub(super) fn has_entries(&self, row: usize, count: usize, wanted: usize) -> bool
+    /// How many of the first entries of a row aren't 0.
+    pub(super) fn count_entries(&self, row: usize, count: usize) -> usize
         requires row { row < length self.now.table.rows }
         requires count { count ≤ self.now.table.width }
+        ensures few { result ≤ count }
     {
-        let mut found = 0usize;
+        let mut found = 0;
         for column in 0..count {
-            if found >= wanted {
-                return true;
-            }
-            if self.table.get(row, column).byte() != 0 {
-                found = found.saturating_add(1);
-            }
+            found += (self.table.get(row, column).byte() != 0) as usize;
         }
-        found >= wanted
+        found
     }
 
     /// Adds a multiple of a row to another one.

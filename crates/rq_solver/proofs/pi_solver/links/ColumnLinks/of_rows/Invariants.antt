@@ -1,9 +1,0 @@
--- What the loops keep in `pi_solver::links::ColumnLinks::of_rows`.
-use Rattle.std.proofs.Common.{◌≡◌, length}
-use Rattle.rq_solver.proofs.pi_solver.links.ColumnLinks.of_rows.Given as goal
-
-abbrev pub invariant-loop-row : goal.invariant-loop-row
-invariant-loop-row l = record {
-  rows : l.links.rows ≡ length l.ones;
-  columns : l.links.columns ≡ l.width;
-}
