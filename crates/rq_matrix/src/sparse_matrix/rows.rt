@@ -10,14 +10,14 @@ use rq_bytes::util::get_both_indices;
 use rq_parts::sparse_vec::SparseBinaryVec;
 use std::alloc::Global;
 
-/// So many rows without ones.
+/// So many rows without ones, each with room for as many as most rows get.
 pub(super) fn empty_rows(alloc: Global, count: usize) -> Result<Vec<SparseBinaryVec>, Error>
     ensures ok { IfOk result (λ rows. rows.items ≡ replicate count []) }
     ensures err { IfErr result (λ e. e ≡ OutOfMemory) }
 {
     let mut rows = Vec::with_capacity(alloc, count)?;
     for _ in 0..count {
-        rows.push(SparseBinaryVec::with_capacity(alloc, 0)?)?;
+        rows.push(SparseBinaryVec::with_capacity(alloc, 12)?)?;
     }
     Ok(rows)
 }
