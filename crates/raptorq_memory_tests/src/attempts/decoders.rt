@@ -92,12 +92,14 @@ impl BlockAnswers {
 pub struct ObjectAnswers {
     decoder: Decoder,
     before: Decoder,
+    late: Option<Decoder>,
     answered: Decoder,
     repeats: Vec<EncodingPacket>,
 }
 
 impl ObjectAnswers {
-    /// With ample memory, to be tried so many times.
+    /// With ample memory, to be tried so many times. Only want of memory leaves the packet recorded
+    /// and the block late: `expect_late` takes a decoder in that state.
     pub fn new(alloc: Global, times: usize) -> Result<ObjectAnswers, Error> {
         let table = SystematicTable::built_in(alloc)?;
         let (taken, mut repeats) = needed(alloc, times.saturating_add(1))?;
@@ -112,9 +114,22 @@ impl ObjectAnswers {
         Ok(ObjectAnswers {
             decoder: before.clone()?,
             before,
+            late: None,
             answered,
             repeats,
         })
+    }
+
+    /// Takes a decoder that recorded the packet and whose block is late, to compare with.
+    pub fn expect_late(&mut self, late: Decoder) {
+        self.late = Some(late);
+    }
+
+    fn is_late(&self) -> bool {
+        match &self.late {
+            Some(late) => self.decoder == *late,
+            None => self.decoder != self.before,
+        }
     }
 
     /// Hands in the packet. One that is refused leaves the decoder as it was, or the packet
@@ -133,7 +148,7 @@ impl ObjectAnswers {
                 Err(Error::OutOfMemory) => Ending::Refused,
                 _ => Ending::Other,
             },
-            Err(Error::OutOfMemory) if was_new || self.decoder != self.before => {
+            Err(Error::OutOfMemory) if self.is_late() || (was_new && self.decoder == self.before) => {
                 match self.decoder.get_result() {
                     Ok(None) => Ending::Refused,
                     _ => Ending::Other,

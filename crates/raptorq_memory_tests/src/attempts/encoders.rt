@@ -78,11 +78,22 @@ fn full_cache(alloc: Global) -> Result<SourceBlockEncodingPlanCache, Error> {
     Ok(cache)
 }
 
+// Whether a cache holds the plans of 3 to 65 symbols.
+fn holds_later_plans(cache: &SourceBlockEncodingPlanCache) -> bool {
+    for count in 3..66u16 {
+        if !cache.contains(count) {
+            return false;
+        }
+    }
+    true
+}
+
 // How a call ended that asked a full cache for the plan of one symbol: only where it answered may
 // that plan be held in place of the oldest.
 fn cache_ending(ended: Ending, was_held: bool, cache: &SourceBlockEncodingPlanCache) -> Ending {
     let is_held = was_held || ended == Ending::Answered;
-    if cache.len() == 64 && cache.contains(1) == is_held && cache.contains(2) != is_held {
+    let is_exchanged = cache.contains(1) == is_held && cache.contains(2) != is_held;
+    if cache.len() == 64 && is_exchanged && holds_later_plans(cache) {
         ended
     } else {
         Ending::Other

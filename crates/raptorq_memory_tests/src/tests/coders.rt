@@ -6,6 +6,8 @@ use raptorq::error::Error;
 use raptorq::systematic_constants::SystematicTable;
 use raptorq::{Decoder, EncodingPacket};
 use rq_memory_kit::{Ending, Endings, MORE, RESERVE, ROUNDS, Shortage};
+use std::alloc::Global;
+use std::process::Abort;
 use std::test::Fail;
 
 #[test]
@@ -40,6 +42,9 @@ fn decoders_are_refused_memory_in_turn(rt: HostRuntime) -> Result<(), Fail> {
     let alloc = rt.alloc();
     let mut blocks = BlockAnswers::new(alloc, ROUNDS + 1)?;
     let mut objects = ObjectAnswers::new(alloc, ROUNDS + 1)?;
+    let packets = packets(alloc)?;
+    assert_eq!(rt; packets.len(), 12);
+    objects.expect_late(late(&rt, alloc, &packets[2..11], &packets[11])?);
     let results = Results::new(alloc)?;
     let mut endings = [Endings::new(); 4];
     let mut shortage = Shortage::new(alloc, ROUNDS, RESERVE)?;
@@ -67,26 +72,37 @@ fn take(decoder: &mut Decoder, packets: &[EncodingPacket]) -> Result<Option<Vec<
     Ok(answer)
 }
 
+// A decoder that took packets and then, without memory, the one that makes its block determined.
+fn late(
+    rt: &impl Abort,
+    alloc: Global,
+    taken: &[EncodingPacket],
+    last: &EncodingPacket,
+) -> Result<Decoder, Error> {
+    let table = SystematicTable::built_in(alloc)?;
+    let mut decoder = Decoder::new(alloc, &table, one_block()?)?;
+    assert!(rt; take(&mut decoder, taken)?.is_none());
+    let last = last.clone()?;
+    let shortage = Shortage::new(alloc, 0, 0)?;
+    let answer = decoder.add_new_packet(last);
+    let is_whole = shortage.is_whole();
+    drop(shortage);
+    assert!(rt; is_whole);
+    assert!(rt; answer == Err(Error::OutOfMemory));
+    Ok(decoder)
+}
+
 // The packet that made its block determined is recorded, though the block couldn't be solved: a
 // repeat of an older one answers it.
 #[test]
 fn a_packet_stays_recorded(rt: HostRuntime) -> Result<(), Fail> {
     let alloc = rt.alloc();
-    let table = SystematicTable::built_in(alloc)?;
     let packets = packets(alloc)?;
     assert_eq!(rt; packets.len(), 12);
     let source = (&packets[..9], &packets[9]);
     let repair = (&packets[2..11], &packets[11]);
     for (taken, last) in [source, repair] {
-        let mut decoder = Decoder::new(alloc, &table, one_block()?)?;
-        assert!(rt; take(&mut decoder, taken)?.is_none());
-        let last = last.clone()?;
-        let shortage = Shortage::new(alloc, 0, 0)?;
-        let answer = decoder.add_new_packet(last);
-        let is_whole = shortage.is_whole();
-        drop(shortage);
-        assert!(rt; is_whole);
-        assert!(rt; answer == Err(Error::OutOfMemory));
+        let mut decoder = late(&rt, alloc, taken, last)?;
         assert!(rt; decoder.get_result()?.is_none());
         let object = take(&mut decoder, taken)?.ok_or("no answer")?;
         assert_eq!(rt; object.as_slice(), OBJECT.as_slice());
