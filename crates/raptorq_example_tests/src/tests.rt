@@ -10,3 +10,4 @@ mod plans;
 mod refusals;
 mod several_blocks;
 mod sub_blocks;
+mod thresholds;

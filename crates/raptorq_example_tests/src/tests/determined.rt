@@ -1,15 +1,19 @@
 //! Whether packets determine a block of ten symbols, beside a rank count of the tests' own.
 use raptorq::error::Error;
 use raptorq::systematic_constants::SystematicTable;
-use raptorq::{Decoder, EncodingPacket, ObjectTransmissionInformation, PayloadId};
+use raptorq::{
+    Decoder, EncodingPacket, ObjectTransmissionInformation, PayloadId, SourceBlockDecoder,
+    SourceBlockEncoder, SourceBlockEncodingPlanCache,
+};
+use raptorq_test_kit::configurations::configured;
 use raptorq_test_kit::ten_symbols::Basis;
 use std::alloc::Global;
 use std::test::Fail;
 
-// Whether the ten encoding symbols from `start` on determine the block.
-fn determine(fixed: &Basis, start: u32) -> bool {
+// Whether so many encoding symbols from `start` on determine the block.
+fn determine(fixed: &Basis, start: u32, count: u32) -> bool {
     let mut basis = *fixed;
-    for i in 0..10 {
+    for i in 0..count {
         basis.add(10, start.saturating_add(i));
     }
     basis.is_whole()
@@ -38,11 +42,37 @@ fn ten_packets_that_follow_one_another(rt: HostRuntime) -> Result<(), Fail> {
     let fixed = Basis::new(10).ok_or("equations repeat each other")?;
     for start in 0..100 {
         let is_answered = are_answered(alloc, &table, start)?;
-        assert_eq!(rt; is_answered, determine(&fixed, start), "from {start} on");
+        assert_eq!(rt;
+            is_answered,
+            determine(&fixed, start, 10),
+            "from {start} on"
+        );
     }
     for start in 358..366 {
         assert!(rt; !are_answered(alloc, &table, start)?, "from {start} on");
-        assert!(rt; !determine(&fixed, start), "from {start} on");
+        assert!(rt; !determine(&fixed, start, 10), "from {start} on");
+    }
+    Ok(())
+}
+
+// Twenty repair packets, as many as the HDPC equations may be left out with.
+#[test]
+fn twenty_repair_packets(rt: HostRuntime) -> Result<(), Fail> {
+    let alloc = rt.alloc();
+    let (table, config) = configured(alloc, (10, 1, 1, 1, 1))?;
+    let fixed = Basis::new(10).ok_or("equations repeat each other")?;
+    let block = [3, 1, 4, 1, 5, 9, 2, 6, 5, 3];
+    let mut cache = SourceBlockEncodingPlanCache::new(alloc, &table)?;
+    let encoder = SourceBlockEncoder::new(alloc, 0, &config, &block, &mut cache)?;
+    for start in 0..200 {
+        let mut decoder = SourceBlockDecoder::new(alloc, &table, 0, &config, 10)?;
+        let answer = decoder.decode(encoder.repair_packets(start, 20)?)?;
+        let is_determined = determine(&fixed, start.saturating_add(10), 20);
+        assert_eq!(rt; answer.is_some(), is_determined, "from {start} on");
+        assert!(rt;
+            answer.is_none_or(|found| found.as_slice() == block.as_slice()),
+            "from {start} on"
+        );
     }
     Ok(())
 }
