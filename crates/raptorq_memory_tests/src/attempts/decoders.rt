@@ -148,12 +148,13 @@ impl ObjectAnswers {
                 Err(Error::OutOfMemory) => Ending::Refused,
                 _ => Ending::Other,
             },
-            Err(Error::OutOfMemory) if self.is_late() || (was_new && self.decoder == self.before) => {
-                match self.decoder.get_result() {
-                    Ok(None) => Ending::Refused,
-                    _ => Ending::Other,
+            Err(Error::OutOfMemory) if self.is_late() || (was_new && self.decoder == self.before) =>
+                {
+                    match self.decoder.get_result() {
+                        Ok(None) => Ending::Refused,
+                        _ => Ending::Other,
+                    }
                 }
-            }
             _ => Ending::Other,
         }
     }
