@@ -17,7 +17,7 @@ use Rattle.raptorq_c.specs.Encoding.{AreFramesOf, StopsEncoding, no_memory, refu
 abbrev pub held : List TableRow → Result (List TableRow) Error
 held rows = Ok rows
 
-same_table : (rows table : List TableRow) → held rows ≡ held table → rows ≡ table
+pub same_table : (rows table : List TableRow) → held rows ≡ held table → rows ≡ table
 same_table rows table is = cc
 
 -- what holds over the table and of the configuration that were read holds over the built-in rows
