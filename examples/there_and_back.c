@@ -1,70 +1,59 @@
-/* Cuts a file into packets, loses each tenth of them, and puts the file together again.
- * Called as: there_and_back FILE */
+/* Sends a file to a stream that lacks each tenth packet, and gets it back: there_and_back FILE STREAM */
 #include <stdio.h>
 #include <stdlib.h>
 #include <string.h>
 
 #include "reamertan.h"
 
-static void stop_at(const char *what, int number)
+static void must(int is_good, const char *what, int answer)
 {
-    fprintf(stderr, "%s: %d\n", what, number);
-    exit(1);
+    if (!is_good) {
+        fprintf(stderr, "%s: %d\n", what, answer);
+        exit(1);
+    }
 }
 
-static uint8_t *room(size_t length)
+static uint8_t *contents(const char *name, size_t *length)
 {
-    uint8_t *bytes = malloc(length ? length : 1);
-    if (!bytes)
-        stop_at("malloc", REAMERTAN_OUT_OF_MEMORY);
+    FILE *file = fopen(name, "rb");
+    must(file && fseek(file, 0, SEEK_END) == 0, name, 0);
+    *length = (size_t)ftell(file);
+    rewind(file);
+    uint8_t *bytes = malloc(*length + 1);
+    must(bytes && fread(bytes, 1, *length, file) == *length, name, 0);
+    fclose(file);
     return bytes;
 }
 
 int main(int count, char **words)
 {
-    FILE *file = count == 2 ? fopen(words[1], "rb") : NULL;
-    if (!file || fseek(file, 0, SEEK_END) != 0)
-        stop_at("there_and_back FILE", 1);
-    size_t length = (size_t)ftell(file);
-    rewind(file);
-    uint8_t *object = room(length);
-    if (fread(object, 1, length, file) != length)
-        stop_at("fread", 1);
-    fclose(file);
-
-    uint8_t configuration[REAMERTAN_CONFIGURATION_BYTES];
-    int answer = reamertan_derive_configuration(length, 1280, REAMERTAN_DEFAULT_DECODER_MEMORY,
-                                                configuration);
-    if (answer != REAMERTAN_DONE)
-        stop_at("configuration", answer);
+    must(count == 3, "there_and_back FILE STREAM", 0);
+    size_t length, came;
+    uint8_t header[REAMERTAN_CONFIGURATION_BYTES], *object = contents(words[1], &length);
+    int answer = reamertan_derive_configuration(length, 1280, REAMERTAN_DEFAULT_DECODER_MEMORY, header);
+    must(answer == REAMERTAN_DONE, "configuration", answer);
     struct reamertan_parameters cut;
-    reamertan_read_configuration(configuration, &cut);
-
-    /* A seventh of repair packets, so that more than enough is left of each block. */
-    struct reamertan_range first;
-    answer = reamertan_block_range(configuration, 0, &first);
-    if (answer != REAMERTAN_DONE)
-        stop_at("block", answer);
-    uint32_t repair = (uint32_t)((first.end - first.start) / cut.symbol_size / 7 + 4);
+    reamertan_read_configuration(header, &cut);
+    uint32_t repair = 60; /* of each block, which has at most 497 source symbols */
     uint64_t bytes;
-    answer = reamertan_packets_length(configuration, repair, &bytes);
-    if (answer != REAMERTAN_DONE)
-        stop_at("packets", answer);
-    size_t size = REAMERTAN_PAYLOAD_ID_BYTES + cut.symbol_size, packets = bytes / size;
-    uint8_t *sent = room(packets * size), *came = room(packets * size), *back = room(length);
-    answer = reamertan_encode(configuration, object, length, repair, sent, packets * size);
-    if (answer != REAMERTAN_DONE)
-        stop_at("encode", answer);
+    answer = reamertan_packets_length(header, repair, &bytes);
+    must(answer == REAMERTAN_DONE, "packets", answer);
+    uint8_t *packets = malloc(bytes);
+    must(packets != NULL, "malloc", REAMERTAN_OUT_OF_MEMORY);
+    answer = reamertan_encode(header, object, length, repair, packets, bytes);
+    must(answer == REAMERTAN_DONE, "encode", answer);
 
-    size_t kept = 0;
-    for (size_t i = 0; i < packets; i++)
-        if (i % 10 != 3)
-            memcpy(came + size * kept++, sent + size * i, size);
-    answer = reamertan_decode(configuration, came, kept * size, back, length);
-    if (answer != REAMERTAN_DONE)
-        stop_at("decode", answer);
-    printf("%zu packets sent, %zu came, the file is %s\n", packets, kept,
-           memcmp(object, back, length) == 0 ? "the same" : "another");
-    free(object), free(sent), free(came), free(back);
-    return 0;
+    FILE *file = fopen(words[2], "wb");
+    must(file && fwrite(header, sizeof header, 1, file) == 1, words[2], 0);
+    size_t size = REAMERTAN_PAYLOAD_ID_BYTES + cut.symbol_size;
+    for (size_t i = 0; i < bytes / size; i++)
+        must(i % 10 == 3 || fwrite(packets + size * i, size, 1, file) == 1, words[2], 0);
+    must(fclose(file) == 0, words[2], 0);
+
+    uint8_t *stream = contents(words[2], &came), *back = malloc(length);
+    must(back && came >= sizeof header, words[2], 0);
+    answer = reamertan_decode(stream, stream + sizeof header, came - sizeof header, back, length);
+    must(answer == REAMERTAN_DONE, "decode", answer);
+    printf("the file is %s\n", memcmp(object, back, length) == 0 ? "the same" : "another");
+    free(object), free(packets), free(stream), free(back);
 }

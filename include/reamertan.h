@@ -87,7 +87,7 @@ struct reamertan_parameters {
     uint8_t alignment;        /* Al: in bytes */
 };
 
-/* Bytes of an object: from `start` on, up to `end`. */
+/* Bytes of an object: from `start` on and before `end`. */
 struct reamertan_range {
     uint64_t start;
     uint64_t end;

@@ -81,16 +81,19 @@ impl Encoder {
     /// The packets of the source symbols of each block, and of so many repair symbols a block. Each
     /// call encodes anew. Panics where there are no ids for so many.
     pub fn get_encoded_packets(&self, repair_packets_per_block: u32) -> Vec<EncodingPacket> {
-        let size = usize::from(self.config.symbol_size());
-        let configuration = self.config.serialize();
-        let encoded = calls::packets_length(&configuration, repair_packets_per_block).and_then(|length| {
-            let mut bytes = vec![0; length as usize];
-            calls::encode(&configuration, &self.data, repair_packets_per_block, &mut bytes)?;
-            Ok(bytes)
-        });
-        match encoded {
-            Ok(bytes) => bytes.chunks(4 + size).map(EncodingPacket::deserialize).collect(),
+        let size = 4 + usize::from(self.config.symbol_size());
+        match self.encoded(repair_packets_per_block) {
+            Ok(bytes) => bytes.chunks(size).map(EncodingPacket::deserialize).collect(),
             Err(refusal) => panic!("{refusal}"),
         }
+    }
+
+    // The packets one behind another.
+    fn encoded(&self, repair_packets_per_block: u32) -> Result<Vec<u8>, calls::Refusal> {
+        let configuration = self.config.serialize();
+        let length = calls::packets_length(&configuration, repair_packets_per_block)?;
+        let mut bytes = vec![0; length as usize];
+        calls::encode(&configuration, &self.data, repair_packets_per_block, &mut bytes)?;
+        Ok(bytes)
     }
 }

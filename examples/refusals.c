@@ -1,0 +1,64 @@
+/* What calls refuse, each by its number, and that the caller's buffers are as they were then. */
+#include <stdio.h>
+#include <string.h>
+
+#include "reamertan.h"
+
+/* Three bytes in symbols of two, and their packets. */
+static const uint8_t HEADER[REAMERTAN_CONFIGURATION_BYTES] = {0, 0, 0, 0, 3, 0, 0, 2, 1, 0, 1, 1};
+static const uint8_t OBJECT[3] = {7, 8, 9};
+static const uint8_t PACKETS[12] = {0, 0, 0, 0, 7, 8, 0, 0, 0, 1, 9, 0};
+static const uint8_t UNTOUCHED[32] = {170, 170, 170, 170, 170, 170, 170, 170, 170, 170, 170};
+
+static _Alignas(8) uint8_t buffer[32];
+static int failures;
+
+static void expect(const char *what, int wanted, int answer)
+{
+    if (answer != wanted || memcmp(buffer, UNTOUCHED, sizeof buffer) != 0) {
+        fprintf(stderr, "%s: %d, not %d\n", what, answer, wanted);
+        failures++;
+    }
+    memcpy(buffer, UNTOUCHED, sizeof buffer);
+}
+
+static void configurations(void)
+{
+    struct reamertan_parameters long_one = {942574504276u, 2, 1, 1, 1}, unaligned = {3, 2, 1, 1, 0};
+    struct reamertan_parameters odd = {3, 3, 1, 1, 2}, large = {56404, 1, 1, 1, 1};
+    expect("too long", 1, reamertan_write_configuration(&long_one, buffer));
+    expect("alignment of 0", 2, reamertan_write_configuration(&unaligned, buffer));
+    expect("misaligned", 3, reamertan_write_configuration(&odd, buffer));
+    expect("too many symbols", 4, reamertan_write_configuration(&large, buffer));
+    expect("packets of 0 bytes", 15, reamertan_derive_configuration(3, 0, 1 << 20, buffer));
+    expect("no bytes", 16, reamertan_derive_configuration(0, 2, 1 << 20, buffer));
+    expect("derived too long", 1, reamertan_derive_configuration(942574504276u, 2, 1 << 20, buffer));
+    expect("no memory to fit", 17, reamertan_derive_configuration(3, 2, 1, buffer));
+    expect("too many blocks", 18, reamertan_derive_configuration(1000000, 1, 1 << 20, buffer));
+    uint8_t changed[REAMERTAN_CONFIGURATION_BYTES] = {0};
+    expect("symbols of 0 bytes", 5, reamertan_check_configuration(changed));
+    memcpy(changed, HEADER, sizeof changed), changed[8] = 0;
+    expect("no blocks", 6, reamertan_check_configuration(changed));
+    memcpy(changed, HEADER, sizeof changed), changed[3] = 255;
+    expect("over the table", 7, reamertan_check_configuration(changed));
+}
+
+int main(void)
+{
+    memcpy(buffer, UNTOUCHED, sizeof buffer);
+    configurations();
+    expect("no such block", 14, reamertan_block_range(HEADER, 1, (struct reamertan_range *)(void *)buffer));
+    expect("too many ids", 11, reamertan_packets_length(HEADER, 1 << 24, (uint64_t *)(void *)buffer));
+    expect("another length", 8, reamertan_encode(HEADER, OBJECT, 2, 0, buffer, 12));
+    expect("ids for none", 11, reamertan_encode(HEADER, OBJECT, 3, 1 << 24, buffer, 12));
+    expect("room for less", 24, reamertan_encode(HEADER, OBJECT, 3, 0, buffer, 11));
+    expect("room for more", 24, reamertan_encode(HEADER, OBJECT, 3, 0, buffer, 13));
+    expect("a cut id", 12, reamertan_decode(HEADER, PACKETS, 9, buffer, 3));
+    expect("a cut symbol", 13, reamertan_decode(HEADER, PACKETS, 11, buffer, 3));
+    expect("a foreign block", 14, reamertan_decode(HEADER, (const uint8_t[]){1, 0, 0, 0, 7, 8}, 6, buffer, 3));
+    expect("one packet of two", 25, reamertan_decode(HEADER, PACKETS, 6, buffer, 3));
+    expect("no packet", 25, reamertan_decode(HEADER, PACKETS, 0, buffer, 3));
+    expect("another buffer", 24, reamertan_decode(HEADER, PACKETS, 12, buffer, 2));
+    printf("%d calls answered otherwise than they may\n", failures);
+    return failures != 0;
+}
