@@ -92,7 +92,7 @@ fn turn(
     Ok(())
 }
 
-// Notes the blocks that can't be others any more: in which objects differ by zeros alone.
+// Notes the blocks that can't be others any more: where the difference is zeros.
 fn note_whole(
     round: u32,
     offsets: &[(usize, usize)],

@@ -169,7 +169,8 @@ impl SourceBlockDecoder {
     /// Sets the sparse threshold: from how many symbols of an extended source block (K') on the block
     /// is solved over a sparse matrix, and not over a dense one. It is
     /// [`SPARSE_MATRIX_THRESHOLD`](crate::encoder::SPARSE_MATRIX_THRESHOLD) at first. What is held
-    /// stays, and what is answered doesn't depend on it.
+    /// stays. Whether there is an answer doesn't depend on it, nor what is answered of an object's
+    /// packets.
     pub fn set_sparse_threshold(&mut self, value: u32)
         ensures { held_of self.new ≡ held_of self.old }
     {
@@ -356,7 +357,7 @@ impl SourceBlockDecoder {
             size,
             &self.received,
         )?;
-        // What counts the values says that they have one size.
+        // For the proof: the contract of `len` says that the values have one size.
         let _symbols = values.len();
         replay(solution.operations.as_slice(), &mut values)?;
         Ok(Some(values))

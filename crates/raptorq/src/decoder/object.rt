@@ -151,8 +151,8 @@ impl Decoder {
 
     /// Sets the sparse threshold of each block: from how many symbols of an extended source block
     /// (K') on it is solved over a sparse matrix, and not over a dense one. It is
-    /// [`SPARSE_MATRIX_THRESHOLD`](crate::encoder::SPARSE_MATRIX_THRESHOLD) at first. What is
-    /// answered doesn't depend on it.
+    /// [`SPARSE_MATRIX_THRESHOLD`](crate::encoder::SPARSE_MATRIX_THRESHOLD) at first.
+    /// Whether there is an answer doesn't depend on it, nor what is answered of an object's packets.
     pub fn set_sparse_threshold(&mut self, value: u32)
         ensures { state_of self.new ≡ state_of self.old }
     {

@@ -209,7 +209,7 @@ fn counts_over_the_table(rt: HostRuntime) -> Result<(), Fail> {
     let mut cache = SourceBlockEncodingPlanCache::new(alloc, &table)?;
     let _plan = cache.get_or_generate(10)?;
     assert!(rt; cache.get_or_generate(498).err() == Some(Error::BlockOverTable));
-    assert!(rt; cache.contains(10) && !cache.contains(498));
+    assert!(rt; cache.len() == 1 && cache.contains(10) && !cache.contains(498));
     let refused = SourceBlockEncodingPlan::generate(alloc, &table, 65535);
     assert!(rt; refused == Err(Error::BlockOverTable));
     Ok(())

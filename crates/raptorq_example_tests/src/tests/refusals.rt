@@ -166,7 +166,7 @@ fn singular_row(alloc: Global) -> Result<Option<(u32, SystematicTable)>, Error> 
 fn a_singular_row(rt: HostRuntime) -> Result<(), Fail> {
     let alloc = rt.alloc();
     let (index, table) = singular_row(alloc)?.ok_or("no row is singular")?;
-    // By a rank count outside: 550, 550 and 549 of 550 for the indices 0, 1 and 2.
+    // Its equations have rank 549, those of the indices 0 and 1 have 550, as many as unknowns.
     assert_eq!(rt; index, 2);
     let config = ObjectTransmissionInformation::new(511, 1, 1, 1, 1)?;
     let object = [7u8; 511];

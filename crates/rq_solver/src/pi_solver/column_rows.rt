@@ -57,7 +57,7 @@ impl ColumnRows {
         for column in columns {
             let place = self.starts[*column].saturating_sub(1);
             self.starts[*column] = place;
-            // It is, since each one was counted.
+            // The place is in range, since each one was counted.
             if place < self.rows.len() {
                 self.rows[place] = row;
             }
