@@ -43,10 +43,43 @@ static void configurations(void)
     expect("over the table", 7, reamertan_check_configuration(changed));
 }
 
+static void handles(void)
+{
+    struct reamertan_handle none = {0}, sender = {0}, receiver = {0};
+    uint8_t back[3], over[REAMERTAN_CONFIGURATION_BYTES] = {0};
+    expect("packets of none", 26, reamertan_write_packet(&none, 0, 0, buffer, 6));
+    expect("packets for none", 26, reamertan_add_packet(&none, PACKETS, 6));
+    expect("the object of none", 26, reamertan_write_object(&none, buffer, 3));
+    reamertan_close(&none);
+    expect("opened", 0, reamertan_open_encoder(HEADER, OBJECT, 3, &sender));
+    expect("opened with 2 bytes", 8, reamertan_open_encoder(HEADER, OBJECT, 2, &sender));
+    expect("packets for a sender", 26, reamertan_add_packet(&sender, PACKETS, 6));
+    expect("an id of 25 bits", 11, reamertan_write_packet(&sender, 1, 1 << 24, buffer, 6));
+    expect("of no block", 14, reamertan_write_packet(&sender, 1, 0, buffer, 6));
+    expect("room for 5", 24, reamertan_write_packet(&sender, 0, 0, buffer, 5));
+    expect("opened", 0, reamertan_open_decoder(HEADER, &receiver));
+    expect("symbols of 0 bytes", 5, reamertan_open_decoder(over, &receiver));
+    expect("packets of a receiver", 26, reamertan_write_packet(&receiver, 0, 0, buffer, 6));
+    expect("a cut id", 12, reamertan_add_packet(&receiver, PACKETS, 3));
+    expect("a foreign block", 14, reamertan_add_packet(&receiver, (const uint8_t[]){1, 0, 0, 0}, 4));
+    expect("a cut symbol", 13, reamertan_add_packet(&receiver, PACKETS, 5));
+    expect("no packet yet", 25, reamertan_write_object(&receiver, buffer, 3));
+    expect("one", 0, reamertan_add_packet(&receiver, PACKETS, 6));
+    expect("one of two", 25, reamertan_write_object(&receiver, buffer, 3));
+    expect("the other", 0, reamertan_add_packet(&receiver, PACKETS + 6, 6));
+    expect("another buffer", 24, reamertan_write_object(&receiver, buffer, 2));
+    expect("the object", 0, reamertan_write_object(&receiver, back, 3));
+    expect("its bytes", 0, memcmp(back, OBJECT, 3));
+    reamertan_close(&sender);
+    reamertan_close(&receiver);
+    expect("closed", 26, reamertan_write_object(&receiver, buffer, 3));
+}
+
 int main(void)
 {
     memcpy(buffer, UNTOUCHED, sizeof buffer);
     configurations();
+    handles();
     expect("no such block", 14, reamertan_block_range(HEADER, 1, (struct reamertan_range *)(void *)buffer));
     expect("too many ids", 11, reamertan_packets_length(HEADER, 1 << 24, (uint64_t *)(void *)buffer));
     expect("another length", 8, reamertan_encode(HEADER, OBJECT, 2, 0, buffer, 12));

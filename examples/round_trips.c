@@ -1,5 +1,6 @@
-/* Random objects there and back, with losses: as many as the first word says, from the seed that the
- * second word is. Ends with 0 where each that was answered was the object. */
+/* Random objects there and back, with losses, by buffers and by handles: as many as the first word says,
+ * from the seed that the second word is. Ends with 0 where each that was answered was the object, and both
+ * ways answered the same. */
 #include <stdio.h>
 #include <stdlib.h>
 #include <string.h>
@@ -13,6 +14,32 @@ static uint32_t below(uint32_t bound)
 {
     state = state * 6364136223846793005u + 1442695040888963407u;
     return (uint32_t)(state >> 32) % bound;
+}
+
+/* Whether handles make the same packets, and answer those that came in the same way. */
+static int by_handles(const uint8_t *configuration, const uint8_t *object, size_t length,
+                      const uint8_t *packets, size_t count, const uint8_t *came, size_t kept,
+                      size_t size, int answer, const uint8_t *back)
+{
+    struct reamertan_handle handle = {0};
+    uint8_t *made = malloc(size), *again = malloc(length);
+    if (!made || !again)
+        exit(1);
+    int good = reamertan_open_encoder(configuration, object, length, &handle) == REAMERTAN_DONE;
+    for (size_t i = 0; i < count; i++) {
+        const uint8_t *id = packets + size * i;
+        uint32_t esi = (uint32_t)id[1] << 16 | (uint32_t)id[2] << 8 | id[3];
+        good &= reamertan_write_packet(&handle, id[0], esi, made, size) == REAMERTAN_DONE
+                && memcmp(made, id, size) == 0;
+    }
+    good &= reamertan_open_decoder(configuration, &handle) == REAMERTAN_DONE;
+    for (size_t i = 0; i < kept; i++)
+        good &= reamertan_add_packet(&handle, came + size * i, size) == REAMERTAN_DONE;
+    good &= reamertan_write_object(&handle, again, length) == answer;
+    good &= answer != REAMERTAN_DONE || memcmp(again, back, length) == 0;
+    reamertan_close(&handle);
+    free(made), free(again);
+    return good;
 }
 
 /* Whether one object came back, or too little of it came. */
@@ -49,6 +76,7 @@ static int round_trip(int *answered)
     *answered += answer == REAMERTAN_DONE;
     good &= answer == REAMERTAN_DONE ? memcmp(object, back, length) == 0
                                      : answer == REAMERTAN_INCOMPLETE;
+    good &= by_handles(configuration, object, length, packets, count, came, kept, size, answer, back);
     free(object), free(back), free(packets), free(came);
     return good;
 }

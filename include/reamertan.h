@@ -8,16 +8,18 @@
  * 12 bytes of RFC 6330, 3.3 (Common and Scheme-Specific FEC Object Transmission Information), which go
  * before the packets in a stream. Any 12 bytes may be handed in.
  *
- * Each call reads and writes the caller's buffers alone, keeps no memory, and may be made from any
- * thread, but not from a signal handler. No pointer may be null, also where a length is 0, and what a
- * call writes may not overlap what it reads. A call that answers another number than REAMERTAN_DONE
- * leaves the caller's buffers as they were.
+ * Calls on buffers read and write these alone and keep no memory. Calls on a handle keep a coder in it
+ * between them, for those who send or receive packet by packet. No pointer may be null, also where a
+ * length is 0, and what a call writes may not overlap what it reads. A call that answers another number
+ * than REAMERTAN_DONE leaves the caller's buffers as they were. Calls may be made from any thread, but
+ * not from a signal handler.
  *
  * Link libraptorq_c.a, and behind it the toolchain's liblibc_c.a (`-lraptorq_c -llibc_c`), as examples/build does.
  */
 #ifndef REAMERTAN_H
 #define REAMERTAN_H
 
+#include <stdbool.h>
 #include <stddef.h>
 #include <stdint.h>
 
@@ -75,7 +77,9 @@ enum reamertan_answer {
     /* A buffer that is to be filled has another length than what is to be written. */
     REAMERTAN_WRONG_BUFFER = 24,
     /* The packets don't determine the object: more are needed. */
-    REAMERTAN_INCOMPLETE = 25
+    REAMERTAN_INCOMPLETE = 25,
+    /* The handle holds no coder, or one of the other kind. */
+    REAMERTAN_NO_CODER = 26
 };
 
 /* The numbers of a configuration. */
@@ -159,6 +163,63 @@ uint8_t reamertan_encode(const uint8_t configuration[REAMERTAN_CONFIGURATION_BYT
 uint8_t reamertan_decode(const uint8_t configuration[REAMERTAN_CONFIGURATION_BYTES],
                          const uint8_t *packets, size_t packets_length, uint8_t *object,
                          size_t object_length);
+
+/* A coder between calls: an encoder, a decoder, or none. It begins as zeros, `struct reamertan_handle
+ * handle = {0};`, which is none, and is then changed by the calls below alone. The caller doesn't copy it,
+ * except to move it: of the two only one is used from then on. It is used by one thread, and by one call
+ * at a time. What a call opened stays until `reamertan_close` frees it, or another call opens a coder in
+ * its place. A handle that isn't closed leaks its coder. */
+struct reamertan_handle {
+    bool full;
+    struct {
+        uint8_t *at;
+    } owned;
+};
+
+/* Makes the encoder of an object, which the handle holds from then on. A coder that it held is freed.
+ * The object's bytes aren't needed any more.
+ *
+ * Refuses, in this order: what `reamertan_check_configuration` refuses, WRONG_DATA_LENGTH, SINGULAR.
+ * OUT_OF_MEMORY may come before any. Where it refuses, the handle holds what it held. */
+uint8_t reamertan_open_encoder(const uint8_t configuration[REAMERTAN_CONFIGURATION_BYTES],
+                               const uint8_t *object, size_t object_length,
+                               struct reamertan_handle *handle);
+
+/* Fills `packet` with the packet of source block `block` and encoding symbol id `esi`: below the block's
+ * number of source symbols that of a source symbol, and else that of a repair symbol. `packet_length` has
+ * to be 4 + T.
+ *
+ * Refuses, in this order: NO_CODER where the handle holds no encoder, ESI_TOO_LARGE where `esi` is above
+ * 2^24 - 1, UNKNOWN_BLOCK, OUT_OF_MEMORY, WRONG_BUFFER. */
+uint8_t reamertan_write_packet(struct reamertan_handle *handle, uint8_t block, uint32_t esi,
+                               uint8_t *packet, size_t packet_length);
+
+/* Makes the decoder of an object, which the handle holds from then on. A coder that it held is freed.
+ *
+ * Refuses what `reamertan_check_configuration` refuses. OUT_OF_MEMORY may come before any. Where it
+ * refuses, the handle holds what it held. */
+uint8_t reamertan_open_decoder(const uint8_t configuration[REAMERTAN_CONFIGURATION_BYTES],
+                               struct reamertan_handle *handle);
+
+/* Takes a packet, 4 bytes of payload id and a symbol. A packet that was taken before changes nothing.
+ *
+ * Refuses, in this order: NO_CODER where the handle holds no decoder, PACKET_TOO_SHORT, UNKNOWN_BLOCK,
+ * WRONG_PAYLOAD_SIZE; the decoder then holds what it held. OUT_OF_MEMORY may come before any but the
+ * first, and then the packet may be taken or not; hand it in again. */
+uint8_t reamertan_add_packet(struct reamertan_handle *handle, const uint8_t *packet,
+                             size_t packet_length);
+
+/* Fills `object` with the object, where the packets that were taken determine it. `object_length` has to
+ * be the object's, F. What is written is the object where the packets are the object's: packets that were
+ * forged, or damaged but for their ids, give other bytes. The decoder stays as it is.
+ *
+ * Refuses, in this order: NO_CODER where the handle holds no decoder, INCOMPLETE, WRONG_BUFFER.
+ * OUT_OF_MEMORY may come before the last two. */
+uint8_t reamertan_write_object(struct reamertan_handle *handle, uint8_t *object,
+                               size_t object_length);
+
+/* Frees the coder that a handle holds, if any. The handle then holds none, and may be used again. */
+void reamertan_close(struct reamertan_handle *handle);
 
 #ifdef __cplusplus
 }

@@ -18,7 +18,7 @@ use Rattle.rq_standard.proofs.PlainCut.{length-block_bytes}
 use Rattle.rq_standard.proofs.Standing.{length-block_source}
 use Rattle.rq_standard.proofs.BlockCuts.{block_symbols_few, symbols_before-first, symbols_before-next}
 use Rattle.raptorq.specs.SourceBlockEncodingPlan.{RefusesPlan}
-use Rattle.raptorq.specs.Encoder.{Encoded, IsEncoderOf, no_block}
+use Rattle.raptorq.specs.Encoder.{Encoded, IsEncoderOf, IsPacketIn, no_block}
 use Rattle.raptorq.proofs.Encodes.{at_any}
 use Rattle.raptorq.proofs.Numbered.{mapped_through}
 use Rattle.raptorq.proofs.PlanLaws.{plan_refused}
@@ -89,6 +89,10 @@ module _ (table : List TableRow) (c : Configuration) (object : List ℕ) (b : �
   pub packets_of_block : (packets : List Packet) → AllByRecursion (IsBlockPacket (new_block_encoded table c object b)) packets → AllByRecursion (IsPacketOf table c object) packets
   packets_of_block [] all = tt
   packets_of_block (p ∷ packets) all = (packet_of_block p all.0, packets_of_block packets all.1)
+
+-- and so it is one of the object whose encoder it is
+pub packet_in : (e : Encoded) (n : ℕ) (b : BlockEncoded) (p : Packet) → n < e.configuration.source_blocks → b ≡ e.block n → IsBlockPacket b p → IsPacketIn e p
+packet_in e n b p below is packet = λ table object made. packet_of_block table e.configuration object n below p (subst (λ k. IsBlockPacket k p) (is ∙ made.block n below) packet)
 
 pub both_all : (P : Packet → Type 0) (xs ys : List Packet) → AllByRecursion P xs → AllByRecursion P ys → AllByRecursion P (xs ++ ys)
 both_all P [] ys all more = more

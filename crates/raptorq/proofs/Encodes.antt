@@ -8,11 +8,13 @@ use Rattle.std.proofs.lemmas.List.FromFn.{map-range_with_len_more}
 use Rattle.rq_bytes.specs.declared.error.Error.{Error}
 use Rattle.rq_standard.specs.Packet.{SymbolId, Packet}
 use Rattle.rq_base.specs.RefusedInput.{new_id}
+use Rattle.rq_standard.specs.Configuration.{Configuration}
 use Rattle.rq_standard.specs.declared.row.TableRow.{TableRow}
 use Rattle.rq_standard.specs.TableRows.{IsChecked}
 use Rattle.rq_standard.specs.Equations.{zero_symbol, tuple_sum}
 use Rattle.rq_standard.proofs.Columns.{source_sum}
 use Rattle.rq_standard.proofs.Standing.{push-all}
+use Rattle.raptorq.specs.Encoder.{id_in}
 use Rattle.raptorq.specs.SourceBlockEncoder.{BlockEncoded, IsBlockPacket, AreBlockPackets}
 use Rattle.raptorq.proofs.HeldEquations.{internal_below}
 use Rattle.rq_standard.specs.Headline.{IsOnlyIntermediateColumn, IsEncodingSymbol}
@@ -27,6 +29,13 @@ pub new_id-is : (b e : ℕ) (i : SymbolId) → e < 2 ^ 24 → new_id b e ≡ Ok 
 new_id-is b e i small h =
     let ok : new_id b e ≡ Ok (record { block = b; esi = e }) = rw (lt-ltb e (2 ^ 24) small) refl in
     id_of i (record { block = b; esi = e }) (sym h ∙ ok)
+
+-- and where the object has the block, it is the id that was asked for
+pub new_id-in : (c : Configuration) (n e : ℕ) (i : SymbolId) → i.block < c.source_blocks → e < 2 ^ 24 → n ≡ i.block → e ≡ i.esi → new_id n e ≡ id_in c i
+new_id-in c n e i below small number esi =
+    let new : new_id n e ≡ made (record { block = n; esi = e }) = rw (lt-ltb e (2 ^ 24) small) refl in
+    let known : id_in c i ≡ made i = rw (lt-ltb i.block c.source_blocks below) refl in
+    new ∙ (λ j. made (record { block = number j; esi = esi j })) ∙ sym known
 
 -- ---- packets of a block
 
@@ -57,16 +66,12 @@ block_packets-none b start packets none =
     subst (λ ps. AreBlockPackets b start (start - start) ps) (sym none) (subst (λ n. AreBlockPackets b start n []) (sym zero_count) (record { ids = refl; each = tt }))
 
 -- one packet more
-pub block_packets-more : (b : BlockEncoded) (start j : ℕ) (packets new : List Packet) (p : Packet) → start ≤ j → j < 2 ^ 24 → AreBlockPackets b start (j - start) packets → p.id ≡ record { block = b.number; esi = j } → IsEncodingSymbol b.row b.size b.source j p.payload → new ≡ packets ++ p ∷ []
+pub block_packets-more : (b : BlockEncoded) (start j : ℕ) (packets new : List Packet) (p : Packet) → start ≤ j → AreBlockPackets b start (j - start) packets → p.id ≡ record { block = b.number; esi = j } → IsBlockPacket b p → new ≡ packets ++ p ∷ []
     → AreBlockPackets b start (j + 1 - start) new
-block_packets-more b start j packets new p from small so named symbol grown =
+block_packets-more b start j packets new p from so named is grown =
     let count : j + 1 - start ≡ j - start + 1 = omega arith in
     let id : ℕ → SymbolId = λ e. record { block = b.number; esi = e } in
     subst (λ ps. AreBlockPackets b start (j + 1 - start) ps) (sym grown) (subst (λ n. AreBlockPackets b start n (packets ++ p ∷ [])) (sym count) (record {
       ids = map-append (λ (q : Packet). q.id) packets (p ∷ []) ∙ ap (λ is. is ++ p.id ∷ []) so.ids ∙ ap (λ i. map id (range_with_len start (j - start)) ++ i ∷ []) named ∙ sym (map-range_with_len_more id start (j - start) j (omega arith));
-      each = push-all (IsBlockPacket b) packets p so.each (record {
-        number = ap (λ (i : SymbolId). i.block) named;
-        esi = subst (λ (i : SymbolId). i.esi < 2 ^ 24) (sym named) small;
-        symbol = subst (λ (i : SymbolId). IsEncodingSymbol b.row b.size b.source i.esi p.payload) (sym named) symbol;
-      });
+      each = push-all (IsBlockPacket b) packets p so.each is;
     }))

@@ -1,12 +1,12 @@
 -- What a solver's outcome says of a block's equations.
-use Rattle.std.proofs.Common.{◌≡◌, ℕ, zero, suc, ◌<◌, ◌≤◌, List, [], get_or, Option, None, Some, Vec, Global, length, map, refl, sym, ap, ◌+◌, ◌-◌, ◌∙◌, subst, arith, inl, inr}
+use Rattle.std.proofs.Common.{◌≡◌, ℕ, zero, suc, ◌<◌, ◌≤◌, List, [], get_or, Option, None, Some, Vec, Global, length, map, sym, ap, ◌+◌, ◌-◌, ◌∙◌, subst, arith, inl, inr}
 use Rattle.std.specs.Prelude.{MatchOption}
 use Rattle.std.proofs.lemmas.Bool.{cases_lt}
 use Rattle.std.proofs.lemmas.List.{length-map}
 use Rattle.rq_algebra.specs.Arrangements.{RowsStandIn}
 use Rattle.rq_algebra.specs.Operations.{Operation, FindsColumn}
 use Rattle.rq_algebra.specs.Symbols.{IsSymbol, AreSymbols}
-use Rattle.rq_algebra.specs.Systems.{stacked, rows_of}
+use Rattle.rq_algebra.specs.Systems.{rows_of}
 use Rattle.rq_algebra.proofs.Found.{finds_determined, found_are_symbols}
 use Rattle.rq_algebra.proofs.Solutions.{determined_stays, homogeneous_not_determined}
 use Rattle.rq_algebra.proofs.Stacks.{stacked_above, stacked_below}
@@ -24,7 +24,7 @@ use Rattle.rq_standard.specs.IdLists.{HasDeterminedRows}
 use Rattle.rq_base.specs.HdpcPart.{IsHdpcPart}
 use Rattle.rq_solver.specs.Replay.{after_all}
 use Rattle.rq_solver.specs.Solving.{AreEquations, AreEquationsWithoutHdpc, FindsOperations, solver_of}
-use Rattle.rq_solver.proofs.EquationLaws.{are_equations, finds_equations, homogeneous_of_equations}
+use Rattle.rq_solver.proofs.EquationLaws.{binary_equations, are_equations, finds_equations, homogeneous_of_equations}
 use Rattle.rq_solver.proofs.RowStepLaws.{SameEntries}
 use Rattle.rq_solver.proofs.SolutionLaws.{finds_same, is_solution}
 use Rattle.raptorq.specs.BlockSolutions.{FindsFrom, IsBlockSolution, first_equations}
@@ -59,14 +59,7 @@ module _ (row : TableRow) (ids : List ℕ) (bits : BitTable) (hdpc : OctetTable)
 -- what a solver asks of the matrix without them
 pub equations_without_hdpc : (row : TableRow) (ids : List ℕ) (bits : BitTable) (handed : Slab) → IsBinaryPartWithoutHdpc row ids bits → length handed.values ≡ row.ldpc_symbols + length ids → handed.order ≡ None → intermediate_symbols row ≤ row.ldpc_symbols + length ids
     → AreEquationsWithoutHdpc row bits handed
-equations_without_hdpc row ids bits handed part count order enough = record {
-  width = part.width;
-  boundary = part.boundary;
-  indexed = part.indexed;
-  height = part.height ∙ sym count;
-  enough = omega (arith, count, enough);
-  order = order;
-}
+equations_without_hdpc row ids bits handed part count order enough = binary_equations row bits handed (row.ldpc_symbols + length ids) part.width part.boundary part.indexed part.height count order enough
 
 module _ (row : TableRow) (ids : List ℕ) (bits : BitTable) (part : IsBinaryPartWithoutHdpc row ids bits) where
   symbol_rows : ℕ → ℕ → ℕ

@@ -1,11 +1,12 @@
 -- What the encoder of an object shows.
 use Rattle.std.specs.Prelude.{◌≡◌, ℕ, ◌+◌, ◌<◌, ◌^◌, List, [], length, map, Result, Ok, Err, if◌then◌else◌, nat_lt, slice_index_or}
 use Rattle.rq_bytes.specs.declared.error.Error.{Error}
-use Rattle.rq_bytes.specs.declared.error.Error.TheVariants.{EsiTooLarge}
+use Rattle.rq_bytes.specs.declared.error.Error.TheVariants.{UnknownBlock, EsiTooLarge}
 use Rattle.rq_standard.specs.declared.row.TableRow.{TableRow}
 use Rattle.rq_standard.specs.TableRows.{no_row}
 use Rattle.rq_standard.specs.Configuration.{Configuration}
-use Rattle.rq_standard.specs.Packet.{Packet}
+use Rattle.rq_standard.specs.Packet.{SymbolId, Packet}
+use Rattle.rq_standard.specs.Headline.{IsPacketOf}
 use Rattle.rq_standard.specs.ObjectPackets.{AreEncoded}
 use Rattle.rq_standard.specs.Cutting.{block_symbols}
 use Rattle.raptorq.specs.SourceBlockEncoder.{BlockEncoded, block_encoded_of, new_block_encoded}
@@ -31,6 +32,14 @@ pub record IsEncoderOf (table : List TableRow) (object : List ℕ) (e : Encoded)
 -- the source packets of the object whose encoder it is, and so many repair packets a block
 abbrev pub ArePacketsOf : Encoded → ℕ → List Packet → Type 0
 ArePacketsOf e repair packets = (table : List TableRow) (object : List ℕ) → IsEncoderOf table object e → AreEncoded table e.configuration object repair packets
+
+-- a packet of the object whose encoder it is
+abbrev pub IsPacketIn : Encoded → Packet → Type 0
+IsPacketIn e p = (table : List TableRow) (object : List ℕ) → IsEncoderOf table object e → IsPacketOf table e.configuration object p
+
+-- an id, unless its block is none of the object's
+abbrev pub id_in : Configuration → SymbolId → Result SymbolId Error
+id_in c i = if nat_lt i.block c.source_blocks then Ok i else Err UnknownBlock
 
 -- whether packets of so many repair symbols a block have ids: the first block is the largest
 abbrev pub packets_refusal : Configuration → ℕ → Result (Unit {0}) Error

@@ -20,7 +20,7 @@ pub use block::SourceBlockEncoder;
 pub use builder::EncoderBuilder;
 pub use cache::SourceBlockEncodingPlanCache;
 pub use plan::SourceBlockEncodingPlan;
-use rq_base::base::{EncodingPacket, ObjectTransmissionInformation};
+use rq_base::base::{EncodingPacket, ObjectTransmissionInformation, PayloadId};
 use rq_bytes::error::Error;
 use rq_tables::systematic_constants::SystematicTable;
 use std::alloc::{AllocError, Global};
@@ -44,7 +44,7 @@ pub struct Encoder {
 
 impl Encoder {
     ghost use Rattle.raptorq.specs.Building.{default_settings, RefusesBuilding, IsBuilt};
-    ghost use Rattle.raptorq.specs.Encoder.{encoded_of, ArePacketsOf, IsEncoderOf, packets_refusal};
+    ghost use Rattle.raptorq.specs.Encoder.{encoded_of, ArePacketsOf, IsPacketIn, IsEncoderOf, id_in, packets_refusal};
     ghost use Rattle.raptorq.specs.Refused.{new_encoder, RefusesEncoder};
 
     /// The encoder of an object, in bytes.
@@ -108,6 +108,21 @@ impl Encoder {
         ensures { map block_encoded_of result.now ≡ map (encoded_of self.now).block (range_with_len 0 (encoded_of self.now).configuration.source_blocks) }
     {
         self.blocks.as_slice()
+    }
+
+    /// The packet of a payload id: that of any source symbol or repair symbol of any block (RFC
+    /// 6330, 4.4.2 and 5.3). Not in the Rust crate.
+    ///
+    /// Refuses [`Error::UnknownBlock`] where the id's block is none of the object's.
+    pub fn packet(&self, id: PayloadId) -> Result<EncodingPacket, Error>
+        ensures id { IsAnswer (λ p. p.id) result (id_in (encoded_of self.now).configuration id) }
+        ensures packet { IfOk result (IsPacketIn (encoded_of self.now)) }
+    {
+        let number = id.source_block_number();
+        if number >= self.config.source_blocks() {
+            return Err(Error::UnknownBlock);
+        }
+        self.blocks[usize::from(number)].packet(id.encoding_symbol_id())
     }
 
     /// The packets of each source block in the order of their encoding symbol ids: those of its

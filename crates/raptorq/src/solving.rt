@@ -41,79 +41,79 @@ pub(crate) fn find_operations(
     ensures found { IfOk result (FindsListed row.now ids.now) }
     ensures memory { IfErr result (λ e. e ≡ Error.OutOfMemory) }
 {
+    let listed = Listed { alloc, row, ids };
     if row.extended_symbols >= sparse_threshold {
-        find_over::<SparseBinaryMatrix>(alloc, row, ids)
+        listed.find_over::<SparseBinaryMatrix>()
     } else {
-        find_over::<DenseBinaryMatrix>(alloc, row, ids)
+        listed.find_over::<DenseBinaryMatrix>()
     }
 }
 
-// The same over one kind of matrix: first without the HDPC equations, which are not needed where
-// enough symbols came, and cost the most.
-fn find_over<T: BinaryMatrix>(
+// A list of internal symbol ids over a row, with as many equations as intermediate symbols or more.
+#[derive(Drop)]
+struct Listed<'a> {
     alloc: Global,
-    row: &TableRow,
-    ids: &[u32],
-) -> Result<Option<Solution>, Error>
-    requires checked { IsChecked row.now }
-    requires enough { intermediate_symbols row.now ≤ equation_count row.now ids.now }
-    requires fits { equation_count row.now ids.now < 2 ^ 31 }
-    ensures found { IfOk result (FindsListed row.now ids.now) }
-    ensures memory { IfErr result (λ e. e ≡ Error.OutOfMemory) }
-{
-    if let Some(solution) = find_without_hdpc::<T>(alloc, row, ids)? {
-        return Ok(Some(solution));
-    }
-    find_with_hdpc::<T>(alloc, row, ids)
+    row: &'a TableRow,
+    ids: &'a [u32],
+    ghost checked: { IsChecked row.now },
+    ghost enough: { intermediate_symbols row.now ≤ equation_count row.now ids.now },
+    ghost fits: { equation_count row.now ids.now < 2 ^ 31 },
 }
 
-// By the LDPC equations and those of the ids alone, where they are as many as the intermediate
-// symbols. `None` says nothing of all equations.
-fn find_without_hdpc<T: BinaryMatrix>(
-    alloc: Global,
-    row: &TableRow,
-    ids: &[u32],
-) -> Result<Option<Solution>, Error>
-    requires checked { IsChecked row.now }
-    requires fits { equation_count row.now ids.now < 2 ^ 31 }
-    ensures found { IfOk result (λ answer. IfSome answer (FindsFrom row.now ids.now)) }
-    ensures memory { IfErr result (λ e. e ≡ Error.OutOfMemory) }
-{
-    let fixed = row.ldpc_symbols as usize;
-    let count = fixed + ids.len();
-    if count < row.intermediate_symbols() as usize {
-        return Ok(None);
+impl Listed<'_> {
+    // Over one kind of matrix: first without the HDPC equations, which are not needed where enough
+    // symbols came, and cost the most.
+    fn find_over<T: BinaryMatrix>(&self) -> Result<Option<Solution>, Error>
+        ensures found { IfOk result (FindsListed self.now.row.now self.now.ids.now) }
+        ensures memory { IfErr result (λ e. e ≡ Error.OutOfMemory) }
+    {
+        if let Some(solution) = self.find_without_hdpc::<T>()? {
+            return Ok(Some(solution));
+        }
+        self.find_with_hdpc::<T>()
     }
-    let matrix = generate_constraint_matrix_no_hdpc_of_row::<T>(alloc, row, ids)?;
-    // The operations are the same whatever the symbols.
-    let values = SymbolSlab::with_zeros(alloc, count, 0)?;
-    let solver = IntermediateSymbolDecoder::of_row_no_hdpc(alloc, row, matrix, values);
-    let Some(operations) = solver.find_operations()? else {
-        return Ok(None);
-    };
-    Ok(Some(Solution { fixed, operations }))
-}
 
-// By all equations.
-fn find_with_hdpc<T: BinaryMatrix>(
-    alloc: Global,
-    row: &TableRow,
-    ids: &[u32],
-) -> Result<Option<Solution>, Error>
-    requires checked { IsChecked row.now }
-    requires enough { intermediate_symbols row.now ≤ equation_count row.now ids.now }
-    requires fits { equation_count row.now ids.now < 2 ^ 31 }
-    ensures found { IfOk result (FindsListed row.now ids.now) }
-    ensures memory { IfErr result (λ e. e ≡ Error.OutOfMemory) }
-{
-    let (matrix, hdpc) = generate_constraint_matrix_of_row::<T>(alloc, row, ids)?;
-    let fixed = (row.ldpc_symbols + row.hdpc_symbols) as usize;
-    let values = SymbolSlab::with_zeros(alloc, fixed + ids.len(), 0)?;
-    let solver = IntermediateSymbolDecoder::of_row(alloc, row, matrix, hdpc, values);
-    let Some(operations) = solver.find_operations()? else {
-        return Ok(None);
-    };
-    Ok(Some(Solution { fixed, operations }))
+    // By the LDPC equations and those of the ids alone, where they are as many as the intermediate
+    // symbols. `None` says nothing of all equations.
+    fn find_without_hdpc<T: BinaryMatrix>(&self) -> Result<Option<Solution>, Error>
+        ensures found { IfOk result (λ answer. IfSome answer (FindsFrom self.now.row.now self.now.ids.now)) }
+        ensures memory { IfErr result (λ e. e ≡ Error.OutOfMemory) }
+    {
+        let fixed = self.row.ldpc_symbols as usize;
+        let count = fixed + self.ids.len();
+        if count < self.row.intermediate_symbols() as usize {
+            return Ok(None);
+        }
+        let matrix = generate_constraint_matrix_no_hdpc_of_row::<T>(
+            self.alloc, self.row, self.ids,
+        )?;
+        // The operations are the same whatever the symbols.
+        let values = SymbolSlab::with_zeros(self.alloc, count, 0)?;
+        let solver = IntermediateSymbolDecoder::of_row_no_hdpc(
+            self.alloc, self.row, matrix, values,
+        );
+        let Some(operations) = solver.find_operations()? else {
+            return Ok(None);
+        };
+        Ok(Some(Solution { fixed, operations }))
+    }
+
+    // By all equations.
+    fn find_with_hdpc<T: BinaryMatrix>(&self) -> Result<Option<Solution>, Error>
+        ensures found { IfOk result (FindsListed self.now.row.now self.now.ids.now) }
+        ensures memory { IfErr result (λ e. e ≡ Error.OutOfMemory) }
+    {
+        let (matrix, hdpc) = generate_constraint_matrix_of_row::<T>(
+            self.alloc, self.row, self.ids,
+        )?;
+        let fixed = (self.row.ldpc_symbols + self.row.hdpc_symbols) as usize;
+        let values = SymbolSlab::with_zeros(self.alloc, fixed + self.ids.len(), 0)?;
+        let solver = IntermediateSymbolDecoder::of_row(self.alloc, self.row, matrix, hdpc, values);
+        let Some(operations) = solver.find_operations()? else {
+            return Ok(None);
+        };
+        Ok(Some(Solution { fixed, operations }))
+    }
 }
 
 /// A column that isn't all zeros and solves the equations of a list of internal symbol ids with all

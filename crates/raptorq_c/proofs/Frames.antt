@@ -21,6 +21,9 @@ read_by : (short : Bool) (q p : Packet) → short_or short q ≡ Ok p → p ≡ 
 read_by true q p h = absurd (cc h)
 read_by false q p h = cc h
 
+pub packet_read : (bytes : List ℕ) (p : Packet) → read_packet bytes ≡ Ok p → p ≡ packet_of_bytes bytes
+packet_read bytes p read = read_by _ (packet_of_bytes bytes) p read
+
 -- what is refused of a frame and of those behind it
 abbrev behind : Result Packet Error → List (List ℕ) → Result (Unit {0}) Error
 behind read frames = and_then {Y = Unit {0}} (and_then {Y = Unit {0}} read (λ _. Ok tt)) (λ _. frames_refusal frames)
@@ -35,7 +38,7 @@ module _ (size : ℕ) (all before frame after : List ℕ) (positive : 0 < size) 
       → read_in (frames_in size all) ≡ packets_of (done ++ (t, p) ∷ []) ++ read_in (frames_in size after)
   packets_next done t p read kept =
       let more = read_in (frames_in size after) in
-      kept ∙ ap (λ fs. packets_of done ++ read_in fs) cut ∙ ap (λ q. packets_of done ++ q ∷ more) (sym (read_by _ (packet_of_bytes frame) p read))
+      kept ∙ ap (λ fs. packets_of done ++ read_in fs) cut ∙ ap (λ q. packets_of done ++ q ∷ more) (sym (packet_read frame p read))
       ∙ sym (append_assoc (packets_of done) (p ∷ []) more) ∙ ap (λ ps. ps ++ more) (sym (packets_of-push done (t, p)))
 
   -- and it isn't refused

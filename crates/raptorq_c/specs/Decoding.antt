@@ -25,9 +25,13 @@ decoding_refusal header bytes =
     let c = configuration_of_bytes header in
     and_then (frames_refusal (frames_in (frame_size c) bytes)) (λ _. run_refusal built_in_rows c (packets_in c bytes))
 
--- The numbers of a refusal: where nothing is refused, 0, 24 and 25 are none. 21 may stand in place of any.
+-- the numbers of a call that fills a buffer with an answer, where there is one
+abbrev pub IsFilled : ℕ → Type 0
+IsFilled number = (number ≡ 0) ⊎ (number ≡ 24) ⊎ (number ≡ 25)
+
+-- The numbers of a refusal, where something is refused. 21 may stand in place of any.
 abbrev pub IsRefused : ℕ → Result (Unit {0}) Error → Type 0
-IsRefused number (Ok x) = (number ≡ 21) ⊎ (number ≡ 0) ⊎ (number ≡ 24) ⊎ (number ≡ 25)
+IsRefused number (Ok x) = (number ≡ 21) ⊎ IsFilled number
 IsRefused number (Err e) = (number ≡ 21) ⊎ (number ≡ code_of e)
 
 -- P of what a call answers of any packets: the object that is written (0), one of another length than the buffer (24), or none (25)

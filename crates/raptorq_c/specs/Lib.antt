@@ -3,3 +3,5 @@ pub mod Parameters
 pub mod Encoding
 pub mod Decoding
 pub mod Sizes
+pub mod Owned
+pub mod Handles

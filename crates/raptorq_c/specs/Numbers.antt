@@ -3,14 +3,15 @@ use Rattle.std.specs.Prelude.{◌≡◌, ◌⊎◌, ℕ, List, Result, Ok, Err}
 use Rattle.rq_bytes.specs.declared.error.Error.{Error}
 use Rattle.rq_bytes.specs.Error.{code_of}
 use Rattle.raptorq_c.specs.declared.stop.Stop.{Stop}
-use Rattle.raptorq_c.specs.declared.stop.Stop.TheVariants.{Refused, WrongBuffer, Incomplete}
+use Rattle.raptorq_c.specs.declared.stop.Stop.TheVariants.{Refused, WrongBuffer, Incomplete, NoCoder}
 
--- 0 where a call is done, the number of what the codec refuses, or one behind these
+-- 0 where a call is done, the number of what the codec refuses, or one above these
 abbrev pub number_of : Result (Unit {0}) Stop → ℕ
 number_of (Ok x) = 0
 number_of (Err (Refused e)) = code_of e
 number_of (Err WrongBuffer) = 24
 number_of (Err Incomplete) = 25
+number_of (Err NoCoder) = 26
 
 -- 0 where nothing is refused, else the refusal's number
 abbrev pub refusal_number : {Y : Type 0} → Result Y Error → ℕ

@@ -7,6 +7,7 @@ ghost use Rattle.rq_standard.specs.Streams.{frames_in};
 ghost use Rattle.raptorq_c.specs.Decoding.{decoding_refusal, frames_refusal, Answered, AnswersPackets, AnswersWhereOthersCan, IsRefused};
 ghost use Rattle.raptorq_c.specs.Numbers.{number_of};
 
+use crate::buffers::fill_answer;
 use crate::stop::{Stop, number};
 use raptorq::decoder::decode_all;
 use raptorq::encoder::SPARSE_MATRIX_THRESHOLD;
@@ -46,14 +47,8 @@ fn decode(
     let table = SystematicTable::built_in(alloc)?;
     let config = ObjectTransmissionInformation::deserialize(configuration);
     let steps = steps(alloc, 4 + usize::from(config.symbol_size()), packets)?;
-    let Some(answer) = decode_all(alloc, &table, config, steps)? else {
-        return Err(Stop::Incomplete);
-    };
-    if object.len() != answer.len() {
-        return Err(Stop::WrongBuffer);
-    }
-    object.copy_from_slice(answer.as_slice());
-    Ok(())
+    let answer = decode_all(alloc, &table, config, steps)?;
+    fill_answer(object, &answer)
 }
 
 /// Fills a buffer with the object of packets, in any order, each any number of times, where they

@@ -6,6 +6,7 @@ ghost use Rattle.raptorq_c.specs.Encoding.{IsEncoding, StopsAt};
 ghost use Rattle.raptorq_c.specs.Numbers.{number_of};
 ghost use Rattle.raptorq_c.specs.Sizes.{bytes_of_packets};
 
+use crate::buffers::fill;
 use crate::stop::{Stop, number};
 use raptorq::error::Error;
 use raptorq::systematic_constants::SystematicTable;
@@ -56,11 +57,7 @@ fn encode(
     ensures kept { OnErr result (packets.new ≡ packets.old) }
 {
     let bytes = encoded(alloc, configuration, object, repair)?;
-    if packets.len() != bytes.len() {
-        return Err(Stop::WrongBuffer);
-    }
-    packets.copy_from_slice(bytes.as_slice());
-    Ok(())
+    fill(packets, bytes.as_slice())
 }
 
 /// Fills a buffer with the packets of an object, each its payload id of 4 bytes and a symbol: block by

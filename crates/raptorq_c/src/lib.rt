@@ -2,22 +2,33 @@
 //!
 //! A configuration crosses as the twelve bytes that go before a stream's packets, an object and
 //! packets as buffers of the caller's, and an answer as a number: 0, that of a refusal, or one of the
-//! two behind them. No call keeps memory, and one that answers another number than 0 leaves the
-//! caller's buffers as they were.
+//! three above them. A call that answers another number than 0 leaves the caller's buffers as they
+//! were. Calls on buffers keep no memory. A handle holds an encoder or a decoder between calls, until
+//! it is closed.
 #![tactic(auto)]
 
+mod buffers;
+mod closing;
 mod configurations;
 mod decoding;
 mod encoding;
+mod handle;
+mod owned;
+mod receiving;
+mod sending;
 mod sizes;
 mod stop;
 #[cfg(test)]
 mod tests;
 
+pub use closing::reamertan_close;
 pub use configurations::{
     Parameters, reamertan_check_configuration, reamertan_derive_configuration,
     reamertan_read_configuration, reamertan_write_configuration,
 };
 pub use decoding::reamertan_decode;
 pub use encoding::reamertan_encode;
+pub use handle::Handle;
+pub use receiving::{reamertan_add_packet, reamertan_open_decoder, reamertan_write_object};
+pub use sending::{reamertan_open_encoder, reamertan_write_packet};
 pub use sizes::{Range, reamertan_block_range, reamertan_packets_length};

@@ -14,6 +14,8 @@ pub enum Stop {
     WrongBuffer,
     /// The packets don't determine the object.
     Incomplete,
+    /// The handle holds no coder, or one of the other kind.
+    NoCoder,
 }
 
 impl From<Error> for Stop {
@@ -33,5 +35,6 @@ pub(crate) fn number(ended: Result<(), Stop>) -> u8
         Err(Stop::Refused(refusal)) => refusal.code(),
         Err(Stop::WrongBuffer) => 24,
         Err(Stop::Incomplete) => 25,
+        Err(Stop::NoCoder) => 26,
     }
 }

@@ -1,9 +1,12 @@
 //! Each call once: three bytes there and back, in the stream that the program `rq` writes of them.
 use crate::{
-    Parameters, Range, reamertan_block_range, reamertan_check_configuration, reamertan_decode,
-    reamertan_derive_configuration, reamertan_encode, reamertan_packets_length,
-    reamertan_read_configuration, reamertan_write_configuration,
+    Handle, Parameters, Range, reamertan_add_packet, reamertan_block_range,
+    reamertan_check_configuration, reamertan_close, reamertan_decode,
+    reamertan_derive_configuration, reamertan_encode, reamertan_open_decoder,
+    reamertan_open_encoder, reamertan_packets_length, reamertan_read_configuration,
+    reamertan_write_configuration, reamertan_write_object, reamertan_write_packet,
 };
+use std::alloc::Global;
 use std::test::Fail;
 
 const HEADER: [u8; 12] = [0, 0, 0, 0, 3, 0, 0, 2, 1, 0, 1, 1];
@@ -52,5 +55,49 @@ fn sizes(rt: HostRuntime) -> Result<(), Fail> {
     assert!(rt; reamertan_packets_length(rt.alloc(), &HEADER, 1 << 24, &mut length) == 11);
     assert!(rt; reamertan_packets_length(rt.alloc(), &HEADER, 2, &mut length) == 0);
     assert!(rt; length == 24);
+    Ok(())
+}
+
+// What calls answer that open an encoder and write both packets of the three bytes.
+fn send(alloc: Global, handle: &mut Handle, packets: &mut [u8; 12]) -> [u8; 4] {
+    let (first, second) = packets.split_at_mut(6);
+    let none = reamertan_write_packet(alloc, handle, 0, 0, first);
+    let opened = reamertan_open_encoder(alloc, &HEADER, &[7, 8, 9], handle);
+    let source = reamertan_write_packet(alloc, handle, 0, 0, first);
+    let last = reamertan_write_packet(alloc, handle, 0, 1, second);
+    [none, opened, source, last]
+}
+
+// What calls answer that open a decoder, take both packets and write the object.
+fn receive(
+    alloc: Global,
+    handle: &mut Handle,
+    packets: &[u8; 12],
+    object: &mut [u8; 3],
+) -> [u8; 6] {
+    let none = reamertan_add_packet(alloc, handle, &packets[..6]);
+    let opened = reamertan_open_decoder(alloc, &HEADER, handle);
+    let first = reamertan_add_packet(alloc, handle, &packets[..6]);
+    let incomplete = reamertan_write_object(alloc, handle, object);
+    let second = reamertan_add_packet(alloc, handle, &packets[6..]);
+    let written = reamertan_write_object(alloc, handle, object);
+    [none, opened, first, incomplete, second, written]
+}
+
+#[test]
+fn handles(rt: HostRuntime) -> Result<(), Fail> {
+    let mut handle = Handle::empty();
+    let mut packets = [0; 12];
+    let mut object = [0; 3];
+    let sent = send(rt.alloc(), &mut handle, &mut packets);
+    let received = receive(rt.alloc(), &mut handle, &packets, &mut object);
+    reamertan_close(rt.alloc(), &mut handle);
+    let closed = reamertan_write_object(rt.alloc(), &mut handle, &mut object);
+    handle.let_go();
+    assert!(rt; sent == [26, 0, 0, 0]);
+    assert!(rt; packets == [0, 0, 0, 0, 7, 8, 0, 0, 0, 1, 9, 0]);
+    assert!(rt; received == [26, 0, 0, 25, 0, 0]);
+    assert!(rt; closed == 26);
+    assert!(rt; object == [7, 8, 9]);
     Ok(())
 }

@@ -9,5 +9,6 @@ mod differences;
 mod plans;
 mod refusals;
 mod several_blocks;
+mod singular;
 mod sub_blocks;
 mod thresholds;

@@ -1,6 +1,7 @@
 //! Runs over streams, and runs and coders where memory is refused or calls fail.
 #![tactic(auto)]
 
-pub mod attempts;
+#[cfg(test)]
+mod attempts;
 #[cfg(test)]
 mod tests;

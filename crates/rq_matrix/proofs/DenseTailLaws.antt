@@ -1,5 +1,5 @@
 -- The bits of dense columns: a row added to another one, one more block, and rows that are marked.
-use Rattle.std.proofs.Common.{◌≡◌, ◌≢◌, ℕ, ◌+◌, ◌*◌, ◌/◌, ◌%◌, ◌<◌, ◌≤◌, ◌⊎◌, List, [], ◌∷◌, ◌++◌, length, map, get_or, take, replicate, refl, sym, ap, subst, ◌∙◌, arith, inl, inr, get_or-set_same, get_or-set_other, length-set}
+use Rattle.std.proofs.Common.{◌≡◌, ◌≢◌, ℕ, ◌+◌, ◌-◌, ◌*◌, ◌/◌, ◌%◌, ◌<◌, ◌≤◌, ◌⊎◌, List, [], ◌∷◌, ◌++◌, length, map, get_or, take, replicate, refl, sym, ap, subst, ◌∙◌, arith, inl, inr, get_or-set_same, get_or-set_other, length-set}
 use Rattle.std.specs.Int.{bit_at}
 use Rattle.std.specs.Int.Bits.{bit_xor}
 use Rattle.std.proofs.Math.ListN.{get_or-eq_default}
@@ -12,7 +12,7 @@ use Rattle.rq_bytes.specs.BinaryOctetVec.{packed_bit}
 use Rattle.rq_parts.specs.SparseBinaryVec.{listed_bit}
 use Rattle.rq_parts.proofs.BitPairs.{packed_bit-at}
 use Rattle.rq_parts.proofs.ListedBits.{listed-append, listed-self, listed-other}
-use Rattle.rq_matrix.specs.BitRows.{with_word_added}
+use Rattle.rq_matrix.specs.BitRows.{with_word_added, IsLastOne}
 use Rattle.rq_matrix.specs.DenseTails.{Tail, tail_bit, IsTail, SetsTailBit, MarksRows, AddsTailRow, PushesColumn}
 use Rattle.rq_matrix.proofs.RowLaws.{sum_of_bits}
 use Rattle.rq_matrix.proofs.Words.{packed_bit-zeros}
@@ -149,6 +149,35 @@ module _ (old mid : Tail) (is : IsTail old) (room : ((mid ≡ tail_widened old) 
       let rows : mid.rows ≡ old.rows = elim room [ inl e ↦ ap (λ (t : Tail). t.rows) e.0 | inr e ↦ ap (λ (t : Tail). t.rows) e.0 ] in
       let columns : mid.columns ≡ old.columns = elim room [ inl e ↦ ap (λ (t : Tail). t.columns) e.0 | inr e ↦ ap (λ (t : Tail). t.columns) e.0 ] in
       record { rows = rows; columns = ap (λ n. n + 1) columns; zeros = λ r l. same_bits r old.columns ∙ is.spare r old.columns l (omega arith); bits = same_bits }
+
+-- ---- the last one of a row
+
+-- the bits that stand in one word
+tail_bit-at : (tail : Tail) (row block bit : ℕ) → bit < 64 → tail_bit tail row (64 * block + bit) ≡ bit_at (get_or (get_or tail.blocks block []) row 0) bit
+tail_bit-at tail row block bit below =
+    let quotient : (64 * block + bit) / 64 ≡ block = omega arith in
+    let remainder : (64 * block + bit) % 64 ≡ bit = omega arith in
+    ap (λ n. packed_bit (get_or tail.blocks n []) (64 * row + (64 * block + bit) % 64)) quotient
+    ∙ ap (λ n. packed_bit (get_or tail.blocks block []) (64 * row + n)) remainder
+    ∙ packed_bit-at (get_or tail.blocks block []) row bit below
+
+-- the last one of the word that holds the column before `next` is the last one before `end`, if there are none between
+pub last_one-word : (tail : Tail) (row next end bit word : ℕ) → 0 < next → word ≡ get_or (get_or tail.blocks ((next - 1) / 64) []) row 0 → IsLastOne (bit_at word) (next - 64 * ((next - 1) / 64)) bit → next ≤ end
+    → ((k : ℕ) → next ≤ k → k < end → tail_bit tail row k ≡ 0) → IsLastOne (tail_bit tail row) end (64 * ((next - 1) / 64) + bit)
+last_one-word tail row next end bit word some is last on none =
+    let block = (next - 1) / 64 in
+    let here = λ (k : ℕ) (below : k < 64). tail_bit-at tail row block k below ∙ ap (λ w. bit_at w k) (sym is) in
+    record {
+      below = omega (arith, last.below);
+      one = here bit (omega (arith, last.below)) ∙ last.one;
+      after = λ k past lt.
+          elim (cases_lt k next) [
+            | inl before ↦
+                let same : k ≡ 64 * block + (k - 64 * block) = omega arith in
+                ap (tail_bit tail row) same ∙ here (k - 64 * block) (omega arith) ∙ last.after (k - 64 * block) (omega arith) (omega arith)
+            | inr behind ↦ none k behind lt
+          ];
+    }
 
 -- ---- rows marked one after another
 

@@ -14,6 +14,16 @@ pub record IsWordWith (old bit value new : ℕ) : Type 0 where
   pub here : bit_at new bit ≡ value
   pub elsewhere : (i : ℕ) → i < 64 → i ≢ bit → bit_at new i ≡ bit_at old i
 
+-- the places before `end` have no ones
+abbrev pub HasNoOnes : (ℕ → ℕ) → ℕ → Type 0
+HasNoOnes bit end = (k : ℕ) → k < end → bit k ≡ 0
+
+-- the last of the places before `end` that have a one
+pub record IsLastOne (bit : ℕ → ℕ) (end place : ℕ) : Type 0 where
+  pub below : place < end
+  pub one : bit place ≡ 1
+  pub after : (k : ℕ) → place < k → k < end → bit k ≡ 0
+
 -- words of which one has another one added
 abbrev pub with_word_added : List ℕ → ℕ → ℕ → List ℕ
 with_word_added words dest src = slice_set words dest (bit_xor (slice_index words dest) (slice_index words src))

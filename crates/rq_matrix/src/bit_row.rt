@@ -1,5 +1,5 @@
 //! A row of bits, 64 to a word.
-ghost use Rattle.std.specs.Prelude.{◌≡◌, ◌≢◌, ℕ, ◌+◌, ◌-◌, ◌*◌, ◌/◌, ◌^◌, ◌<◌, ◌≤◌, ◌==◌, length, replicate, take, if◌then◌else◌, IfOk, IfErr};
+ghost use Rattle.std.specs.Prelude.{◌≡◌, ◌≢◌, ℕ, ◌+◌, ◌-◌, ◌*◌, ◌/◌, ◌^◌, ◌<◌, ◌≤◌, ◌==◌, length, replicate, take, slice_index, if◌then◌else◌, IfOk, IfErr, MatchOption};
 ghost use Rattle.std.proofs.Common.{rules};
 ghost use Rattle.std.specs.Cmp.Lexicographic.{pointwise};
 ghost use Rattle.std.specs.Cmp.Rules.{comparing};
@@ -9,7 +9,7 @@ ghost use Rattle.rq_standard.specs.BitTableSteps.{ones_below, ones_between, AreB
 ghost use Rattle.rq_bytes.specs.BinaryOctetVec.{packed_bit};
 ghost use Rattle.rq_standard.specs.Rows.{row_sum};
 ghost use Rattle.rq_parts.specs.BitPairs.{bit_pairs, ones_among};
-ghost use Rattle.rq_matrix.specs.BitRows.{word_count, with_word_added, IsWordWith};
+ghost use Rattle.rq_matrix.specs.BitRows.{word_count, with_word_added, IsWordWith, HasNoOnes, IsLastOne};
 
 use rq_bytes::error::Error;
 use rq_bytes::gf2::add_assign_binary;
@@ -174,6 +174,14 @@ impl BitRow {
         self.words[dest] ^= word;
     }
 
+    /// A word.
+    pub(crate) fn word(&self, i: usize) -> u64
+        requires { i < length self.now }
+        ensures { result ≡ slice_index self.now i }
+    {
+        self.words[i]
+    }
+
     /// Drops the words that so many columns don't need.
     pub(crate) fn truncate(&mut self, width: usize)
         requires { width < 65536 }
@@ -193,6 +201,16 @@ fn word_with(word: u64, bit: usize, one: bool) -> u64
     } else {
         word & !(1 << bit)
     }
+}
+
+/// The last of the bits before `end` that is set in a word.
+pub(crate) fn last_one(word: u64, end: usize) -> Option<usize>
+    requires some { 0 < end }
+    requires within { end ≤ 64 }
+    ensures { MatchOption result (HasNoOnes (bit_at word) end) (IsLastOne (bit_at word) end) }
+{
+    let bits = word & (u64::MAX >> (WORD_BITS - end));
+    Some(bits.checked_ilog2()? as usize)
 }
 
 // The number of ones among so many bits of a word from one on.

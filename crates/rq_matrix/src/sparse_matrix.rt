@@ -185,10 +185,10 @@ impl BinaryMatrix for SparseBinaryMatrix {
         let row = self.stored_row(row);
         out.reserve(self.width - start_col)?;
         out.clear();
-        for column in start_col..self.width {
-            if self.tail.get(row, self.width - 1 - column) == Octet::one() {
-                out.push_reserved(column);
-            }
+        let mut end = self.width - start_col;
+        while let Some(column) = self.tail.last_one(row, end) {
+            out.push_reserved(self.width - 1 - column);
+            end = column;
         }
         Ok(())
     }

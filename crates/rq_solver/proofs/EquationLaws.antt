@@ -1,5 +1,5 @@
 -- The rows that a solver is handed are the equations of the standard.
-use Rattle.std.proofs.Common.{None, ◌≤◌, ◌≡◌, ℕ, ◌+◌, ◌-◌, ◌<◌, List, length, sym, ap, ◌∙◌, arith, inl, inr}
+use Rattle.std.proofs.Common.{None, false, ◌≤◌, ◌≡◌, ℕ, ◌+◌, ◌-◌, ◌<◌, List, length, sym, ap, ◌∙◌, arith, inl, inr}
 use Rattle.std.proofs.lemmas.Bool.{cases_lt}
 use Rattle.rq_algebra.specs.Operations.{Operation, FindsColumn}
 use Rattle.rq_algebra.specs.Systems.{stacked, rows_of, HasHomogeneousColumn}
@@ -12,7 +12,7 @@ use Rattle.rq_standard.specs.OctetField.{octets}
 use Rattle.rq_standard.specs.TableRows.{intermediate_symbols}
 use Rattle.rq_bytes.specs.SymbolSlab.{Slab}
 use Rattle.rq_parts.specs.DenseOctetMatrix.{OctetTable, entry_of}
-use Rattle.rq_solver.specs.Solving.{IsSolution, AreEquations}
+use Rattle.rq_solver.specs.Solving.{IsSolution, AreEquations, AreEquationsWithoutHdpc}
 use Rattle.rq_solver.proofs.RowStepLaws.{SameEntries}
 use Rattle.rq_solver.proofs.SolutionLaws.{finds_same, homogeneous_same, is_solution}
 
@@ -64,7 +64,7 @@ module _ (row : TableRow) (ids : List ℕ) (bits : BitTable) (hdpc : OctetTable)
 
   module _ (handed : Slab) (are : AreEquations row bits hdpc handed) where
     count : length handed.values ≡ equation_count row ids
-    count = sym are.height ∙ part.height
+    count = sym are.binary.height ∙ part.height
 
     -- what finds the column of the equations handed in finds that of the ids
     pub finds_equations : (operations : List Operation) → FindsColumn octets (length handed.values) (intermediate_symbols row) (with_octet_rows row.ldpc_symbols row.hdpc_symbols bits.bit (entry_of hdpc)) operations
@@ -75,21 +75,28 @@ module _ (row : TableRow) (ids : List ℕ) (bits : BitTable) (hdpc : OctetTable)
     pub solution_of_equations : (slab : Slab) (operations : List Operation) → IsSolution (length handed.values) (intermediate_symbols row) (with_octet_rows row.ldpc_symbols row.hdpc_symbols bits.bit (entry_of hdpc)) handed slab operations
         → IsSolution (equation_count row ids) (intermediate_symbols row) (equations row ids) handed slab operations
     solution_of_equations slab operations solution =
-        is_solution (equation_count row ids) (intermediate_symbols row) (equations row ids) operations (finds_equations operations solution.finds) handed slab are.order solution.made
+        is_solution (equation_count row ids) (intermediate_symbols row) (equations row ids) operations (finds_equations operations solution.finds) handed slab are.binary.order solution.made
 
     pub homogeneous_of_equations : HasHomogeneousColumn octets (length handed.values) (intermediate_symbols row) (with_octet_rows row.ldpc_symbols row.hdpc_symbols bits.bit (entry_of hdpc)) → HasHomogeneousColumn octets (equation_count row ids) (intermediate_symbols row) (equations row ids)
     homogeneous_of_equations null = homogeneous_same octets (equation_count row ids) (intermediate_symbols row) _ (equations row ids) equations_same (rw count at null)
+
+-- a matrix of bits with so many rows, and as many symbols
+pub binary_equations : (row : TableRow) (bits : BitTable) (handed : Slab) (count : ℕ) → bits.width ≡ intermediate_symbols row → bits.boundary ≡ row.lt_symbols → bits.indexed ≡ false → bits.height ≡ count
+    → length handed.values ≡ count → handed.order ≡ None → intermediate_symbols row ≤ count → AreEquationsWithoutHdpc row bits handed
+binary_equations row bits handed count width boundary indexed height symbols order enough = record {
+  width = width;
+  boundary = boundary;
+  indexed = indexed;
+  height = height ∙ sym symbols;
+  enough = omega (arith, symbols, enough);
+  order = order;
+}
 
 -- what a solver asks, from what the generator of both matrices says of them
 pub are_equations : (row : TableRow) (ids : List ℕ) (bits : BitTable) (hdpc : OctetTable) (handed : Slab) → IsBinaryPart row ids bits → length hdpc.rows ≡ row.hdpc_symbols → hdpc.width ≡ intermediate_symbols row
     → length handed.values ≡ equation_count row ids → handed.order ≡ None → intermediate_symbols row ≤ equation_count row ids → AreEquations row bits hdpc handed
 are_equations row ids bits hdpc handed part rows columns count order enough = record {
-  width = part.width;
-  boundary = part.boundary;
-  indexed = part.indexed;
-  height = part.height ∙ sym count;
-  enough = omega (arith, count, enough);
-  order = order;
+  binary = binary_equations row bits handed (equation_count row ids) part.width part.boundary part.indexed part.height count order enough;
   hdpc_height = rows;
   hdpc_width = columns;
   zeros = part.zeros;

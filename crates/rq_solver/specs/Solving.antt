@@ -16,19 +16,6 @@ use Rattle.rq_parts.specs.DenseOctetMatrix.{OctetTable, entry_of}
 use Rattle.rq_solver.specs.OperationCounts.{additions, multiplications}
 use Rattle.rq_solver.specs.Replay.{after_all}
 
--- the equations of a block of that row of the table: a matrix of bits, in which the HDPC rows are zeros, the HDPC rows as octets, and a
--- symbol for each equation
-pub record AreEquations (row : TableRow) (bits : BitTable) (hdpc : OctetTable) (handed : Slab) : Type 0 where
-  pub width : bits.width ≡ intermediate_symbols row
-  pub boundary : bits.boundary ≡ row.lt_symbols
-  pub indexed : bits.indexed ≡ false
-  pub height : bits.height ≡ length handed.values
-  pub enough : intermediate_symbols row ≤ length handed.values
-  pub order : handed.order ≡ None
-  pub hdpc_height : length hdpc.rows ≡ row.hdpc_symbols
-  pub hdpc_width : hdpc.width ≡ intermediate_symbols row
-  pub zeros : (i k : ℕ) → i < row.hdpc_symbols → k < intermediate_symbols row → bits.bit (row.ldpc_symbols + i) k ≡ 0
-
 -- the equations of a block of that row of the table but for those of HDPC: a matrix of bits, and a symbol for each equation
 pub record AreEquationsWithoutHdpc (row : TableRow) (bits : BitTable) (handed : Slab) : Type 0 where
   pub width : bits.width ≡ intermediate_symbols row
@@ -37,6 +24,13 @@ pub record AreEquationsWithoutHdpc (row : TableRow) (bits : BitTable) (handed : 
   pub height : bits.height ≡ length handed.values
   pub enough : intermediate_symbols row ≤ length handed.values
   pub order : handed.order ≡ None
+
+-- all equations of a block of that row of the table: the matrix of bits has zeros in the HDPC rows, which are handed in as octets
+pub record AreEquations (row : TableRow) (bits : BitTable) (hdpc : OctetTable) (handed : Slab) : Type 0 where
+  pub binary : AreEquationsWithoutHdpc row bits handed
+  pub hdpc_height : length hdpc.rows ≡ row.hdpc_symbols
+  pub hdpc_width : hdpc.width ≡ intermediate_symbols row
+  pub zeros : (i k : ℕ) → i < row.hdpc_symbols → k < intermediate_symbols row → bits.bit (row.ldpc_symbols + i) k ≡ 0
 
 -- a solver's equations, its symbols until it has run, and how often each of the five phases added symbols and multiplied them
 pub record Solver : Type 0 where

@@ -1,6 +1,7 @@
 //! Tests of the solver and of replay.
 ghost use Rattle.std.specs.Prelude.{◌≡◌, ℕ, ◌+◌, ◌≤◌, ◌<◌, false, None, length, IfOk};
-ghost use Rattle.rq_standard.specs.TableRows.{IsChecked, greatest_size, intermediate_symbols};
+ghost use Rattle.rq_standard.specs.TableRows.{IsChecked, greatest_size, intermediate_symbols, row_of};
+ghost use Rattle.rq_solver_tests.specs.Squares.{IsSquareOf};
 
 use rq_bytes::error::Error;
 use rq_bytes::octet::Octet;
@@ -27,13 +28,24 @@ fn width_of(row: &TableRow) -> usize
     row.intermediate_symbols() as usize
 }
 
+// The built-in table, and its row of 10.
+fn row_of_ten(rt: &impl Abort, alloc: Global) -> Result<(SystematicTable, TableRow), Error>
+    ensures greatest { IfOk result (λ made. 10 ≤ greatest_size made.0) }
+    ensures row { IfOk result (λ made. made.1 ≡ row_of made.0 10) }
+    ensures checked { IfOk result (λ made. IsChecked made.1) }
+    ensures width { IfOk result (λ made. intermediate_symbols made.1 ≡ 27) }
+{
+    let table = SystematicTable::built_in(alloc)?;
+    assert!(rt; 10 <= table.greatest());
+    let row = table.row(10);
+    assert_eq!(rt; width_of(&row), 27);
+    Ok((table, row))
+}
+
 // Bits of zeros.
 fn zero_bits<T: BinaryMatrix>(alloc: Global, row: &TableRow) -> Result<T, Error>
     requires { IsChecked row.now }
-    ensures height { IfOk result (λ bits. (T.content bits).height ≡ intermediate_symbols row.now) }
-    ensures width { IfOk result (λ bits. (T.content bits).width ≡ intermediate_symbols row.now) }
-    ensures boundary { IfOk result (λ bits. (T.content bits).boundary ≡ row.now.lt_symbols) }
-    ensures indexed { IfOk result (λ bits. (T.content bits).indexed ≡ false) }
+    ensures square { IfOk result (λ bits. IsSquareOf row.now (T.content bits)) }
     ensures zeros { IfOk result (λ bits. (i k : ℕ) → i < intermediate_symbols row.now → k < intermediate_symbols row.now → (T.content bits).bit i k ≡ 0) }
 {
     let width = width_of(row);
@@ -47,10 +59,7 @@ fn bits_at<T: BinaryMatrix>(
     ones: &[(usize, usize)],
 ) -> Result<T, Error>
     requires { IsChecked row.now }
-    ensures height { IfOk result (λ bits. (T.content bits).height ≡ intermediate_symbols row.now) }
-    ensures width { IfOk result (λ bits. (T.content bits).width ≡ intermediate_symbols row.now) }
-    ensures boundary { IfOk result (λ bits. (T.content bits).boundary ≡ row.now.lt_symbols) }
-    ensures indexed { IfOk result (λ bits. (T.content bits).indexed ≡ false) }
+    ensures square { IfOk result (λ bits. IsSquareOf row.now (T.content bits)) }
     ensures zeros { IfOk result (λ bits. (i k : ℕ) → i < row.now.hdpc_symbols → k < intermediate_symbols row.now → (T.content bits).bit (row.now.ldpc_symbols + i) k ≡ 0) }
 {
     let mut bits: T = zero_bits(alloc, row)?;
@@ -68,10 +77,7 @@ fn bits_at<T: BinaryMatrix>(
 // Bits of which the ones stand in the last column of the first row, and so on to the first one.
 fn mirrored_bits<T: BinaryMatrix>(alloc: Global, row: &TableRow) -> Result<T, Error>
     requires { IsChecked row.now }
-    ensures height { IfOk result (λ bits. (T.content bits).height ≡ intermediate_symbols row.now) }
-    ensures width { IfOk result (λ bits. (T.content bits).width ≡ intermediate_symbols row.now) }
-    ensures boundary { IfOk result (λ bits. (T.content bits).boundary ≡ row.now.lt_symbols) }
-    ensures indexed { IfOk result (λ bits. (T.content bits).indexed ≡ false) }
+    ensures square { IfOk result (λ bits. IsSquareOf row.now (T.content bits)) }
 {
     let mut bits: T = zero_bits(alloc, row)?;
     let width = width_of(row);
@@ -109,10 +115,7 @@ fn numbered_solver(
     ones: &[(usize, usize)],
     octets: &[(usize, usize, u8)],
 ) -> Result<IntermediateSymbolDecoder<DenseBinaryMatrix>, Error> {
-    let table = SystematicTable::built_in(alloc)?;
-    assert!(rt; 10 <= table.greatest());
-    let row = table.row(10);
-    assert_eq!(rt; width_of(&row), 27);
+    let (table, row) = row_of_ten(rt, alloc)?;
     let bits = bits_at(alloc, &row, ones)?;
     let hdpc = octets_at(alloc, &row, octets)?;
     let symbols = numbered(alloc)?;
@@ -288,10 +291,7 @@ pub(crate) const MIRRORED: [u8; 27] = [
 
 #[test]
 fn equations_are_solved(rt: HostRuntime) -> Result<(), Error> {
-    let table = SystematicTable::built_in(rt.alloc())?;
-    assert!(rt; 10 <= table.greatest());
-    let row = table.row(10);
-    assert_eq!(rt; width_of(&row), 27);
+    let (table, row) = row_of_ten(&rt, rt.alloc())?;
     let ones = mirrored_ones(rt.alloc())?;
     let bits: DenseBinaryMatrix = bits_at(rt.alloc(), &row, ones.as_slice())?;
     let hdpc = octets_at(rt.alloc(), &row, mirrored_octets(rt.alloc())?.as_slice())?;
@@ -301,29 +301,25 @@ fn equations_are_solved(rt: HostRuntime) -> Result<(), Error> {
     assert_octets(&rt, slab, &MIRRORED)
 }
 
+// The numbers of the places, from the last one on.
+const REVERSED: [u8; 27] = [
+    26, 25, 24, 23, 22, 21, 20, 19, 18, 17, 16, 15, 14, 13, 12, 11, 10, 9, 8, 7, 6, 5, 4, 3, 2, 1,
+    0,
+];
+
 #[test]
 fn equations_are_solved_without_hdpc(rt: HostRuntime) -> Result<(), Error> {
-    let table = SystematicTable::built_in(rt.alloc())?;
-    assert!(rt; 10 <= table.greatest());
-    let row = table.row(10);
-    assert_eq!(rt; width_of(&row), 27);
+    let (table, row) = row_of_ten(&rt, rt.alloc())?;
     let bits: DenseBinaryMatrix = mirrored_bits(rt.alloc(), &row)?;
     let symbols = numbered(rt.alloc())?;
     let solved = fused_inverse_mul_symbols_no_hdpc(rt.alloc(), &table, bits, symbols, 10)?;
     let (slab, _) = solved.expect(&rt, "the equations have one solution");
-    let expected = [
-        26, 25, 24, 23, 22, 21, 20, 19, 18, 17, 16, 15, 14, 13, 12, 11, 10, 9, 8, 7, 6, 5, 4, 3, 2,
-        1, 0,
-    ];
-    assert_octets(&rt, slab, &expected)
+    assert_octets(&rt, slab, &REVERSED)
 }
 
 #[test]
 fn zeros_determine_nothing_without_hdpc(rt: HostRuntime) -> Result<(), Error> {
-    let table = SystematicTable::built_in(rt.alloc())?;
-    assert!(rt; 10 <= table.greatest());
-    let row = table.row(10);
-    assert_eq!(rt; width_of(&row), 27);
+    let (table, row) = row_of_ten(&rt, rt.alloc())?;
     let bits: DenseBinaryMatrix = zero_bits(rt.alloc(), &row)?;
     let symbols = numbered(rt.alloc())?;
     let mut solver = IntermediateSymbolDecoder::new_no_hdpc(rt.alloc(), &table, bits, symbols, 10);

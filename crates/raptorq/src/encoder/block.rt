@@ -37,7 +37,8 @@ pub struct SourceBlockEncoder {
 }
 
 impl SourceBlockEncoder {
-    ghost use Rattle.raptorq.specs.SourceBlockEncoder.{block_encoded_of, AreBlockPackets};
+    ghost use Rattle.rq_base.specs.RefusedInput.{new_id};
+    ghost use Rattle.raptorq.specs.SourceBlockEncoder.{block_encoded_of, IsBlockPacket, AreBlockPackets};
     ghost use Rattle.raptorq.specs.BlockData.{block_of, block_by_plan, IsPlanFor, RefusesBlock, RefusesPlanned};
     ghost use Rattle.raptorq.specs.SourceBlockEncodingPlanCache.{used};
     ghost use Rattle.raptorq.specs.SourceBlockEncodingPlan.{plan_of};
@@ -189,6 +190,18 @@ impl SourceBlockEncoder {
         self.source.len() as u32
     }
 
+    /// The packet of an encoding symbol id: below the number of source symbols that of a source
+    /// symbol, and else that of a repair symbol (RFC 6330, 4.4.2 and 5.3). Not in the Rust crate.
+    ///
+    /// Refuses [`Error::EsiTooLarge`] where the id doesn't fit 24 bits.
+    pub fn packet(&self, encoding_symbol_id: u32) -> Result<EncodingPacket, Error>
+        ensures id { IsAnswer (λ p. p.id) result (new_id (block_encoded_of self.now).number encoding_symbol_id) }
+        ensures packet { IfOk result (IsBlockPacket (block_encoded_of self.now)) }
+    {
+        let id = PayloadId::new(self.number, encoding_symbol_id)?;
+        Ok(EncodingPacket::new(id, self.payload(encoding_symbol_id)?))
+    }
+
     // The payload of an encoding symbol id: a source symbol, or a sum of intermediate symbols.
     fn payload(&self, esi: u32) -> Result<Vec<u8>, AllocError>
         requires { esi < 2 ^ 24 }
@@ -210,8 +223,7 @@ impl SourceBlockEncoder {
     {
         let mut packets = Vec::with_capacity(self.alloc, (end - start) as usize)?;
         for esi in start..end {
-            let payload = self.payload(esi)?;
-            packets.push(EncodingPacket::new(PayloadId::new(self.number, esi)?, payload))?;
+            packets.push(self.packet(esi)?)?;
         }
         Ok(packets)
     }

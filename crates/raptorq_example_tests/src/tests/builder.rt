@@ -2,18 +2,7 @@
 use raptorq::error::Error;
 use raptorq::systematic_constants::SystematicTable;
 use raptorq::{Encoder, EncoderBuilder, ObjectTransmissionInformation};
-use std::alloc::Global;
 use std::test::Fail;
-
-// The encoder of so many bytes of one value.
-fn built(alloc: Global, length: u32, packet_size: u16, memory: u64) -> Result<Encoder, Error> {
-    let table = SystematicTable::built_in(alloc)?;
-    let object = vec![in alloc; 7u8; length as usize]?;
-    let mut builder = EncoderBuilder::new();
-    builder.set_max_packet_size(packet_size);
-    builder.set_decoder_memory_requirement(memory);
-    builder.build(alloc, &table, object.as_slice())
-}
 
 #[test]
 fn defaults(rt: HostRuntime) -> Result<(), Fail> {
@@ -34,22 +23,12 @@ fn defaults(rt: HostRuntime) -> Result<(), Fail> {
 fn parameters(rt: HostRuntime) -> Result<(), Fail> {
     let table = SystematicTable::built_in(rt.alloc())?;
     let wanted = ObjectTransmissionInformation::generate_encoding_parameters(
-        &table, 10000, 500, 5000,
+        &table, 400, 500, 1000,
     )?;
-    assert!(rt; built(rt.alloc(), 10000, 500, 5000)?.get_config() == wanted);
-    Ok(())
-}
-
-#[test]
-fn refusals(rt: HostRuntime) -> Result<(), Fail> {
-    let cases = [
-        ((0, 1024, 10485760), Error::TransferLengthZero),
-        ((4, 0, 10485760), Error::PacketSizeZero),
-        ((0, 0, 10485760), Error::PacketSizeZero),
-        ((400, 500, 719), Error::MemoryRequirementTooSmall),
-    ];
-    for ((length, size, memory), wanted) in cases {
-        assert!(rt; built(rt.alloc(), length, size, memory) == Err(wanted));
-    }
+    let mut builder = EncoderBuilder::new();
+    builder.set_max_packet_size(500);
+    builder.set_decoder_memory_requirement(1000);
+    let encoder = builder.build(rt.alloc(), &table, &[7; 400])?;
+    assert!(rt; encoder.get_config() == wanted);
     Ok(())
 }

@@ -88,16 +88,8 @@ fn block_encoders(rt: HostRuntime) -> Result<(), Fail> {
         assert_eq!(rt; packets.len(), symbols, "{number}");
         assert!(rt; usize::from(packets[0].payload_id().source_block_number()) == number);
     }
-    Ok(())
-}
-
-#[test]
-fn wrong_lengths(rt: HostRuntime) -> Result<(), Fail> {
-    let object = [7u8; 121];
-    for length in [0, 119, 121] {
-        let refused = encoder(rt.alloc(), (120, 10, 10, 0, 2), &object[..length]);
-        assert!(rt; refused == Err(Error::WrongDataLength), "{length}");
-    }
+    let refused = self::encoder(alloc, (120, 10, 10, 0, 2), &object[..119]);
+    assert!(rt; refused == Err(Error::WrongDataLength));
     Ok(())
 }
 
@@ -117,32 +109,5 @@ fn offsets(rt: HostRuntime) -> Result<(), Fail> {
         let offsets = calculate_block_offsets(rt.alloc(), &[], &information)?;
         assert_eq!(rt; offsets.as_slice(), wanted, "{config:?}");
     }
-    Ok(())
-}
-
-// Configurations that only bytes can spell: each one removes a cause of the one before it.
-#[test]
-fn refused_offsets(rt: HostRuntime) -> Result<(), Fail> {
-    let cases: [([u8; 12], Error); 4] = [
-        ([1, 0, 0, 0, 0, 0, 0, 0, 0, 0, 0, 0], Error::SymbolSizeZero),
-        (
-            [1, 0, 0, 0, 0, 0, 0, 2, 0, 0, 0, 0],
-            Error::SourceBlocksZero,
-        ),
-        ([1, 0, 0, 0, 0, 0, 0, 2, 1, 0, 0, 0], Error::TooManySymbols),
-        (
-            [0, 0, 0, 220, 84, 0, 0, 1, 1, 0, 0, 0],
-            Error::TooManySymbols,
-        ),
-    ];
-    for (bytes, wanted) in cases {
-        let information = ObjectTransmissionInformation::deserialize(&bytes);
-        let refused = calculate_block_offsets(rt.alloc(), &[], &information);
-        assert!(rt; refused == Err(wanted), "{bytes:?}");
-    }
-    let largest = [0, 0, 0, 220, 83, 0, 0, 1, 1, 0, 0, 0];
-    let information = ObjectTransmissionInformation::deserialize(&largest);
-    let offsets = calculate_block_offsets(rt.alloc(), &[], &information)?;
-    assert_eq!(rt; offsets.as_slice(), [(0, 56403)].as_slice());
     Ok(())
 }

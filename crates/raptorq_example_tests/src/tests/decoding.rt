@@ -5,7 +5,7 @@ use raptorq_test_kit::configurations::configured;
 use raptorq_test_kit::packets::packet;
 use std::test::Fail;
 
-// Repeats are ignored, and refused packets are refused before and after the answer.
+// Repeats are ignored, and refused packets are refused after the answer too.
 #[test]
 fn a_decoder_of_ten_symbols(rt: HostRuntime) -> Result<(), Fail> {
     let alloc = rt.alloc();
@@ -23,12 +23,15 @@ fn a_decoder_of_ten_symbols(rt: HostRuntime) -> Result<(), Fail> {
         [20, 21, 22, 23, 24, 25, 26, 27, 28, 29].as_slice()
     );
     let before = decoder.clone()?;
-    let wide = decoder.decode(packet(alloc, 0, 0, &[1, 2])?);
-    assert!(rt; wide == Err(Error::WrongPayloadSize) && decoder == before);
-    let unknown = decoder.decode(packet(alloc, 1, 0, &[1])?);
-    assert!(rt; unknown == Err(Error::UnknownBlock) && decoder == before);
-    let both = decoder.decode(packet(alloc, 1, 0, &[1, 2])?);
-    assert!(rt; both == Err(Error::UnknownBlock) && decoder == before);
+    let cases: [(u8, &[u8], Error); 3] = [
+        (0, &[1, 2], Error::WrongPayloadSize),
+        (1, &[1], Error::UnknownBlock),
+        (1, &[1, 2], Error::UnknownBlock),
+    ];
+    for (block, payload, wanted) in cases {
+        let refused = decoder.decode(packet(alloc, block, 0, payload)?);
+        assert!(rt; refused == Err(wanted) && decoder == before, "{block}");
+    }
     Ok(())
 }
 
@@ -48,8 +51,6 @@ fn an_object_there_and_back(rt: HostRuntime) -> Result<(), Fail> {
     }
     let object = raptorq::decoder::decode_all(alloc, &table, information, steps)?;
     assert_eq!(rt; object.ok_or("no answer")?.as_slice(), [7, 8, 9].as_slice());
-    let longer = Encoder::new(alloc, &table, &[7, 8, 9, 10], information);
-    assert!(rt; longer == Err(Error::WrongDataLength));
     Ok(())
 }
 

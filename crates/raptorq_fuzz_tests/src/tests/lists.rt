@@ -57,10 +57,15 @@ fn list(
     Ok(list)
 }
 
+// From which size on blocks are solved over sparse matrices: all, those of more than ten symbols, as
+// where nothing is set, and none.
+const THRESHOLDS: [u32; 4] = [0, 11, 250, u32::MAX];
+
 // A list of packets, each with whether it is the object's.
 #[derive(Drop)]
 struct Round<'a> {
     table: &'a SystematicTable,
+    threshold: u32,
     sent: &'a Sent,
     list: &'a [(EncodingPacket, bool)],
 }
@@ -69,6 +74,7 @@ struct Round<'a> {
 fn object_answers(rt: &impl Abort, alloc: Global, round: &Round<'_>) -> Result<bool, Error> {
     let sent = round.sent;
     let mut decoder = Decoder::new(alloc, round.table, sent.config)?;
+    decoder.set_sparse_threshold(round.threshold);
     let mut model = Model::new(alloc, sent.config, 0, sent.config.source_blocks());
     for (packet, is_honest) in round.list {
         match model.refusal(packet) {
@@ -98,6 +104,7 @@ fn block_answers(rt: &impl Abort, alloc: Global, round: &Round<'_>) -> Result<bo
         sent.config.symbol_size(),
     ));
     let mut decoder = SourceBlockDecoder::new(alloc, round.table, 0, &sent.config, length)?;
+    decoder.set_sparse_threshold(round.threshold);
     let mut model = Model::new(alloc, sent.config, 0, 1);
     let mut packets = Vec::new(alloc);
     let mut refusal = None;
@@ -137,12 +144,13 @@ fn any_lists(rt: HostRuntime) -> Result<(), Fail> {
     let mut choices = Choices::new(1);
     let mut answered_objects: u32 = 0;
     let mut answered_blocks: u32 = 0;
-    for _ in 0..LISTS {
+    for number in 0..LISTS {
         let place = choices.place(objects.len());
         let sent = objects.get(place).ok_or("no object")?;
         let list = list(alloc, sent, &mut choices)?;
         let round = Round {
             table: &table,
+            threshold: THRESHOLDS[number as usize % 4],
             sent,
             list: list.as_slice(),
         };

@@ -1,5 +1,4 @@
-//! Hashes and orders of ids, packets and operations.
-use raptorq::PayloadId;
+//! Hashes and orders of packets, with their ids, and of operations.
 use raptorq::octet::Octet;
 use raptorq::operation_vector::SymbolOps;
 use raptorq_test_kit::packets::packet;
@@ -12,29 +11,18 @@ fn hash_of<T: Hash>(value: &T) -> u64 {
     state.finish()
 }
 
-// The block's number counts first.
-#[test]
-fn ids(rt: HostRuntime) -> Result<(), Fail> {
-    let id = PayloadId::new(1, 7)?;
-    assert!(rt; PayloadId::new(0, 9)? < id);
-    assert!(rt; id < PayloadId::new(1, 8)?);
-    assert_eq!(rt; hash_of(&id), hash_of(&id.clone()?));
-    assert!(rt; hash_of(&id) != hash_of(&PayloadId::new(7, 1)?));
-    Ok(())
-}
-
-// The id counts first, and then the payload, octet by octet.
+// The block's number counts first, then the symbol's, and then the payload, octet by octet.
 #[test]
 fn packets(rt: HostRuntime) -> Result<(), Fail> {
     let alloc = rt.alloc();
-    let first = packet(alloc, 0, 7, &[9])?;
-    let second = packet(alloc, 0, 7, &[9, 0])?;
-    let third = packet(alloc, 0, 8, &[1])?;
-    assert!(rt; first < second);
-    assert!(rt; second < third);
+    let first = packet(alloc, 0, 9, &[9])?;
+    let second = packet(alloc, 1, 7, &[9])?;
+    let third = packet(alloc, 1, 7, &[9, 0])?;
+    assert!(rt; first < second && second < third);
+    assert!(rt; third < packet(alloc, 1, 8, &[1])?);
     assert_eq!(rt; hash_of(&first), hash_of(&first.clone()?));
-    assert!(rt; hash_of(&first) != hash_of(&second));
-    assert!(rt; hash_of(&first) != hash_of(&third));
+    assert!(rt; hash_of(&second) != hash_of(&third));
+    assert!(rt; hash_of(&second) != hash_of(&packet(alloc, 7, 1, &[9])?));
     Ok(())
 }
 
@@ -51,8 +39,7 @@ fn operations(rt: HostRuntime) -> Result<(), Fail> {
         order: vec![in alloc; 1, 0]?,
     };
     assert!(rt; SymbolOps::AddAssign { dest: 6, src: 9 } < addition);
-    assert!(rt; addition < multiplication);
-    assert!(rt; multiplication < order);
+    assert!(rt; addition < multiplication && multiplication < order);
     assert_eq!(rt; hash_of(&order), hash_of(&order.clone()?));
     assert!(rt; hash_of(&addition) != hash_of(&SymbolOps::AddAssign { dest: 8, src: 7 }));
     Ok(())

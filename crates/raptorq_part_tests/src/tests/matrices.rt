@@ -14,19 +14,34 @@ use std::alloc::Global;
 use std::process::Abort;
 use std::test::Fail;
 
-#[test]
-fn steps_of_the_dense_matrix(rt: HostRuntime) -> Result<(), Fail> {
-    steps::<DenseBinaryMatrix>(&rt, rt.alloc())?;
-    Ok(())
+// What is asked of either matrix.
+fn asked<T: BinaryMatrix>(rt: &impl Abort, alloc: Global) -> Result<(), Error> {
+    steps::<T>(rt, alloc)?;
+    replaced_lists::<T>(rt, alloc)?;
+    inactive_column::<T>(rt, alloc)?;
+    added_columns::<T>(rt, alloc)?;
+    indexed_columns::<T>(rt, alloc)?;
+    another_word::<T>(rt, alloc)
 }
 
 #[test]
-fn steps_of_the_sparse_matrix(rt: HostRuntime) -> Result<(), Fail> {
-    steps::<SparseBinaryMatrix>(&rt, rt.alloc())?;
+fn the_dense_matrix_and_the_sparse_one(rt: HostRuntime) -> Result<(), Fail> {
+    asked::<DenseBinaryMatrix>(&rt, rt.alloc())?;
+    asked::<SparseBinaryMatrix>(&rt, rt.alloc())?;
     Ok(())
 }
 
-// Exchanges, an addition, an inactive column and the columns left out.
+// The ones of a matrix are at these places alone.
+fn assert_ones<T: BinaryMatrix>(rt: &impl Abort, matrix: &T, ones: &[(usize, usize)]) {
+    for i in 0..matrix.height() {
+        for j in 0..matrix.width() {
+            let wanted = u8::from(ones.contains(&(i, j)));
+            assert_eq!(rt; matrix.get(i, j).byte(), wanted, "at {i}, {j}");
+        }
+    }
+}
+
+// Exchanges, an addition and a copy.
 fn steps<T: BinaryMatrix>(rt: &impl Abort, alloc: Global) -> Result<(), Error> {
     let mut matrix = T::new(alloc, 3, 70, 5)?;
     matrix.set(0, 3, Octet::one())?;
@@ -36,26 +51,12 @@ fn steps<T: BinaryMatrix>(rt: &impl Abort, alloc: Global) -> Result<(), Error> {
     matrix.swap_columns(3, 10, 1);
     matrix.add_assign_rows(2, 1, 0)?;
     assert_eq!(rt; matrix.count_ones(2, 0, 65), 2);
-    assert_eq!(rt; matrix.get(2, 10), Octet::one());
-    assert_eq!(rt; matrix.get(2, 3), Octet::zero());
-    let mut rows = vec![in alloc; 9, 9]?;
-    let mut columns = vec![in alloc; 9]?;
-    matrix.enable_column_access_acceleration()?;
-    matrix.get_ones_in_column_into(64, 0, 3, &mut rows)?;
-    assert_eq!(rt; rows.len(), 2);
-    assert!(rt; rows.contains(&1));
-    assert_eq!(rt; matrix.get_ones_in_column(64, 2, 3)?.len(), 1);
-    matrix.hint_column_dense_and_frozen(64)?;
-    matrix.query_non_zero_columns_into(2, 64, &mut columns)?;
-    assert_eq!(rt; columns.as_slice(), [64, 69].as_slice());
-    assert_eq!(rt; matrix.query_non_zero_columns(0, 64)?.len(), 0);
-    assert_eq!(rt; matrix.get_sub_row_as_octets(2, 64)?.len(), 6);
-    matrix.disable_column_access_acceleration();
-    let mut left = matrix.clone()?;
-    left.resize(2, 0)?;
-    assert_eq!(rt; left.height(), 2);
-    assert_eq!(rt; left.width(), 0);
-    assert_eq!(rt; matrix.width(), 70);
+    assert_eq!(rt; matrix.get_sub_row_as_octets(2, 65)?.len(), 5);
+    assert_ones(
+        rt,
+        &matrix.clone()?,
+        &[(1, 10), (1, 64), (1, 69), (2, 10), (2, 64), (2, 69)],
+    );
     Ok(())
 }
 
@@ -94,13 +95,6 @@ fn copy_row<T: BinaryMatrix>(matrix: &T, row: usize, end: usize, copy: &mut Dens
     }
 }
 
-#[test]
-fn lists_are_replaced(rt: HostRuntime) -> Result<(), Fail> {
-    replaced_lists::<DenseBinaryMatrix>(&rt, rt.alloc())?;
-    replaced_lists::<SparseBinaryMatrix>(&rt, rt.alloc())?;
-    Ok(())
-}
-
 fn replaced_lists<T: BinaryMatrix>(rt: &impl Abort, alloc: Global) -> Result<(), Error> {
     let mut matrix = T::new(alloc, 2, 3, 1)?;
     matrix.set(1, 0, Octet::one())?;
@@ -115,13 +109,6 @@ fn replaced_lists<T: BinaryMatrix>(rt: &impl Abort, alloc: Global) -> Result<(),
     Ok(())
 }
 
-#[test]
-fn an_inactive_column_keeps_its_bits(rt: HostRuntime) -> Result<(), Fail> {
-    inactive_column::<DenseBinaryMatrix>(&rt, rt.alloc())?;
-    inactive_column::<SparseBinaryMatrix>(&rt, rt.alloc())?;
-    Ok(())
-}
-
 // That the boundary is 2 is shown by the call behind it, which asks for the boundary.
 fn inactive_column<T: BinaryMatrix>(rt: &impl Abort, alloc: Global) -> Result<(), Error> {
     let mut matrix = T::new(alloc, 2, 3, 0)?;
@@ -133,23 +120,12 @@ fn inactive_column<T: BinaryMatrix>(rt: &impl Abort, alloc: Global) -> Result<()
         matrix.query_non_zero_columns(0, 2)?.as_slice(),
         [2].as_slice()
     );
-    for i in 0..2 {
-        for j in 0..3 {
-            let wanted = u8::from((i, j) == (0, 2) || (i, j) == (1, 1));
-            assert_eq!(rt; matrix.get(i, j).byte(), wanted, "at {i}, {j}");
-        }
-    }
+    matrix.disable_column_access_acceleration();
+    assert_ones(rt, &matrix, &[(0, 2), (1, 1)]);
     let mut other = T::new(alloc, 2, 3, 0)?;
     other.resize(2, 0)?;
     assert_eq!(rt; other.height(), 2);
     assert_eq!(rt; other.width(), 0);
-    Ok(())
-}
-
-#[test]
-fn inactive_columns_are_added(rt: HostRuntime) -> Result<(), Fail> {
-    added_columns::<DenseBinaryMatrix>(&rt, rt.alloc())?;
-    added_columns::<SparseBinaryMatrix>(&rt, rt.alloc())?;
     Ok(())
 }
 
@@ -167,13 +143,6 @@ fn added_columns<T: BinaryMatrix>(rt: &impl Abort, alloc: Global) -> Result<(), 
     Ok(())
 }
 
-#[test]
-fn each_column_is_indexed(rt: HostRuntime) -> Result<(), Fail> {
-    indexed_columns::<DenseBinaryMatrix>(&rt, rt.alloc())?;
-    indexed_columns::<SparseBinaryMatrix>(&rt, rt.alloc())?;
-    Ok(())
-}
-
 fn indexed_columns<T: BinaryMatrix>(rt: &impl Abort, alloc: Global) -> Result<(), Error> {
     let mut wide = T::new(alloc, 1, 5, 0)?;
     wide.set(0, 4, Octet::one())?;
@@ -185,13 +154,6 @@ fn indexed_columns<T: BinaryMatrix>(rt: &impl Abort, alloc: Global) -> Result<()
     let mut zeros = T::new(alloc, 2, 3, 0)?;
     zeros.enable_column_access_acceleration()?;
     assert_eq!(rt; zeros.get_ones_in_column(0, 0, 2)?.len(), 0);
-    Ok(())
-}
-
-#[test]
-fn another_word_of_dense_columns(rt: HostRuntime) -> Result<(), Fail> {
-    another_word::<DenseBinaryMatrix>(&rt, rt.alloc())?;
-    another_word::<SparseBinaryMatrix>(&rt, rt.alloc())?;
     Ok(())
 }
 
@@ -208,12 +170,7 @@ fn another_word<T: BinaryMatrix>(rt: &impl Abort, alloc: Global) -> Result<(), E
         matrix.query_non_zero_columns(1, 64)?.as_slice(),
         [64].as_slice()
     );
-    for i in 0..3 {
-        for j in 0..130 {
-            let wanted = u8::from((i, j) == (0, 63) || (i, j) == (1, 64) || (i, j) == (2, 129));
-            assert_eq!(rt; matrix.get(i, j).byte(), wanted, "at {i}, {j}");
-        }
-    }
+    assert_ones(rt, &matrix, &[(0, 63), (1, 64), (2, 129)]);
     Ok(())
 }
 

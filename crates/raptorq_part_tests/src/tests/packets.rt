@@ -1,15 +1,8 @@
 //! Worked examples of packets, configurations and refusals.
 use raptorq::error::Error;
 use raptorq::systematic_constants::SystematicTable;
-use raptorq::{EncodingPacket, ObjectTransmissionInformation, PayloadId, partition};
+use raptorq::{EncodingPacket, ObjectTransmissionInformation, PayloadId};
 use std::test::Fail;
-
-#[test]
-fn parts(rt: HostRuntime) -> Result<(), Fail> {
-    assert!(rt; partition(12, 10) == (2, 1, 2, 8));
-    assert!(rt; partition(0, 5) == (0, 0, 0, 5));
-    Ok(())
-}
 
 #[test]
 fn headers(rt: HostRuntime) -> Result<(), Fail> {
@@ -18,7 +11,7 @@ fn headers(rt: HostRuntime) -> Result<(), Fail> {
     assert!(rt; bytes == [0, 0, 0, 0, 120, 0, 0, 10, 10, 0, 1, 2]);
     assert!(rt; ObjectTransmissionInformation::deserialize(&bytes) == information);
     let id = PayloadId::new(1, 66051)?;
-    assert!(rt; id.serialize() == [1, 1, 2, 3]);
+    assert!(rt; id.clone()?.serialize() == [1, 1, 2, 3]);
     assert!(rt; PayloadId::deserialize(&[1, 1, 2, 3]) == id);
     assert!(rt; PayloadId::new(0, 16777216) == Err(Error::EsiTooLarge));
     Ok(())
@@ -40,8 +33,10 @@ fn limits(rt: HostRuntime) -> Result<(), Fail> {
 
 #[test]
 fn short_packets(rt: HostRuntime) -> Result<(), Fail> {
-    let short = EncodingPacket::deserialize(rt.alloc(), &[1, 1, 2]);
-    assert!(rt; short == Err(Error::PacketTooShort));
+    for short in [&[], [1, 1, 2].as_slice()] {
+        let refused = EncodingPacket::deserialize(rt.alloc(), short);
+        assert!(rt; refused == Err(Error::PacketTooShort), "{short:?}");
+    }
     let bare = EncodingPacket::deserialize(rt.alloc(), &[1, 1, 2, 3])?;
     assert!(rt; *bare.payload_id() == PayloadId::new(1, 66051)?);
     assert!(rt; bare.data().is_empty());

@@ -17,13 +17,8 @@ fn payload_ids(rt: HostRuntime) -> Result<(), Fail> {
     );
     let record: PayloadIdRecord = serde_json::from_str(alloc, text.as_str())?;
     assert!(rt; record.into_value() == Ok(id));
-    Ok(())
-}
-
-#[test]
-fn encoding_symbol_id_too_large(rt: HostRuntime) -> Result<(), Fail> {
     let text = "{\"source_block_number\":0,\"encoding_symbol_id\":16777216}";
-    let record: PayloadIdRecord = serde_json::from_str(rt.alloc(), text)?;
+    let record: PayloadIdRecord = serde_json::from_str(alloc, text)?;
     assert!(rt; record.into_value() == Err(Error::EsiTooLarge));
     Ok(())
 }

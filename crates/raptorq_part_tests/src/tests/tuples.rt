@@ -1,23 +1,18 @@
-//! Random numbers, degrees, tuples and the indices of an id.
+//! Parts of a division, random numbers, degrees, tuples and the indices of an id.
 use raptorq::base::{deg, intermediate_tuple};
 use raptorq::constraint_matrix::enc_indices;
+use raptorq::partition;
 use raptorq::rng::rand;
 
 #[test]
-fn random_numbers(rt: HostRuntime) {
+fn numbers(rt: HostRuntime) {
+    assert!(rt; partition(12, 10) == (2, 1, 2, 8));
+    assert!(rt; partition(0, 5) == (0, 0, 0, 5));
     assert_eq!(rt; rand(0, 0, 1048576), 145433);
     assert_eq!(rt; rand(4294967295, 1, 1048576), 145433);
-}
-
-#[test]
-fn degrees(rt: HostRuntime) {
-    assert_eq!(rt; deg(5242, 17), 1);
-    assert_eq!(rt; deg(5243, 17), 2);
-    assert_eq!(rt; deg(1048575, 17), 15);
-}
-
-#[test]
-fn tuple_of_the_first_id(rt: HostRuntime) {
+    for (v, degree) in [(5242, 1), (5243, 2), (1048575, 15)] {
+        assert_eq!(rt; deg(v, 17), degree);
+    }
     assert_eq!(rt; intermediate_tuple(0, 17, 254, 11), (2, 4, 9, 2, 5, 1));
 }
 

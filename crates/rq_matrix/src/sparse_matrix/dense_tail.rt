@@ -1,10 +1,10 @@
 //! The dense columns of a sparse matrix.
-ghost use Rattle.std.specs.Prelude.{◌≡◌, ℕ, ◌+◌, ◌-◌, ◌*◌, ◌^◌, ◌<◌, length, map, if◌then◌else◌, All, IfOk, OnOk, OnErr};
+ghost use Rattle.std.specs.Prelude.{◌≡◌, ℕ, ◌+◌, ◌-◌, ◌*◌, ◌^◌, ◌<◌, ◌≤◌, length, map, if◌then◌else◌, All, IfOk, OnOk, OnErr, MatchOption};
 ghost use Rattle.rq_bytes.specs.BinaryOctetVec.{packed_bit};
-ghost use Rattle.rq_matrix.specs.BitRows.{word_count, with_word_added};
+ghost use Rattle.rq_matrix.specs.BitRows.{word_count, with_word_added, HasNoOnes, IsLastOne};
 ghost use Rattle.rq_matrix.specs.DenseTails.{tail_bit, IsZeroTail, SetsTailBit, MarksRows, AddsTailRow, PushesColumn};
 
-use crate::bit_row::BitRow;
+use crate::bit_row::{BitRow, last_one};
 use crate::matrix::zero_rows;
 use rq_bytes::octet::Octet;
 use std::alloc::{AllocError, Global};
@@ -68,6 +68,24 @@ impl DenseTail {
         ensures { result ≡ tail_bit self.now row column }
     {
         self.blocks[column / WORD_BITS].get(WORD_BITS * row + column % WORD_BITS)
+    }
+
+    /// The last column before `end` in which a row has a one.
+    pub(super) fn last_one(&self, row: usize, mut end: usize) -> Option<usize>
+        requires row { row < self.now.rows }
+        requires within { end ≤ self.now.columns }
+        ensures { MatchOption result (HasNoOnes (tail_bit self.now row) end) (IsLastOne (tail_bit self.now row) end) }
+    {
+        while end > 0 {
+            let block = (end - 1) / WORD_BITS;
+            let first = WORD_BITS * block;
+            let word = self.blocks[block].word(row);
+            if let Some(bit) = last_one(word, end - first) {
+                return Some(first + bit);
+            }
+            end = first;
+        }
+        None
     }
 
     /// Sets the bit of a row in a column.

@@ -1,4 +1,4 @@
-use Rattle.std.proofs.Common.{◌≡◌, ap, ◌∙◌, arith}
+use Rattle.std.proofs.Common.{◌∙◌, arith}
 use Rattle.raptorq.proofs.BlockParts.{parts_are, larger_part, smaller_part, few_symbols}
 use Rattle.raptorq.proofs.blocks.block_symbols.Goals as goal
 

@@ -1,5 +1,4 @@
-use Rattle.std.proofs.Common.{◌≡◌, ◌-◌, ◌∙◌, sym, subst, arith}
-use Rattle.rq_standard.specs.Headline.{IsEncodingSymbol}
+use Rattle.std.proofs.Common.{◌≡◌, ◌-◌, subst, arith}
 use Rattle.raptorq.specs.SourceBlockEncoder.{block_encoded_of, AreBlockPackets}
 use Rattle.raptorq.proofs.Encodes.{new_id-is, block_packets-none, block_packets-more}
 use Rattle.raptorq.proofs.encoder.block.SourceBlockEncoder.packets.Goals as goal
@@ -10,9 +9,8 @@ loop-esi-init c = block_packets-none (block_encoded_of c.args.self.now) c.args.s
 pub loop-esi-preserved : goal.loop-esi-preserved
 loop-esi-preserved c =
     let b = block_encoded_of c.args.self.now in
-    block_packets-more b c.args.start c.loop-esi.esi c.loop-esi.packets.items c.push.new.self.items c.new-in-loop-esi.result c.loop-esi.auto.esi (omega (arith, c.requires.ids)) c.loop-esi.invariant
-    (c.new-in-loop-esi.ensures.id ∙ new_id-is b.number c.loop-esi.esi c.in_ok-new.field-0 (omega (arith, c.requires.ids)) (sym c.in_ok-new.ensures))
-    (subst (λ ys. IsEncodingSymbol b.row b.size b.source c.loop-esi.esi ys) (sym c.new-in-loop-esi.ensures.payload) c.in_ok-payload.ensures) c.in_ok-push.ensures.items
+    block_packets-more b c.args.start c.loop-esi.esi c.loop-esi.packets.items c.push.new.self.items c.in_ok-packet.field-0 c.loop-esi.auto.esi c.loop-esi.invariant
+    (new_id-is b.number c.loop-esi.esi c.in_ok-packet.field-0.id (omega (arith, c.requires.ids)) c.in_ok-packet.ensures.id) c.in_ok-packet.ensures.packet c.in_ok-push.ensures.items
 
 pub returns-clause-packets : goal.returns-clause-packets
 returns-clause-packets c =

@@ -1,0 +1,69 @@
+-- A coder's box as the kit's calls on boxes see it, and how its coder goes.
+use Rattle.std.proofs.Common.{[], ◌∷◌, refl}
+use mir.Syntax.{Dict, impl, tcons, tnil, dnil, method}
+use mir.Raw.{raw as bare}
+use denote.Exit.{no}
+use denote.RattleType.{RattleType}
+use denote.Param.{layout, layouts, arg}
+use denote.Param.Laws.{Laws, arg_laws}
+use denote.Triple.Carry.{AllWithin}
+use denote.Triple.Clauses.{Ended, Lasts, lasts, at_exit}
+use denote.Triple.Walked.{Fit}
+use seplogic.Ra.Ura.{Ura}
+use prog.Model.{Model}
+use prog.Wired.{Wired}
+use types.Logic.{Logic}
+use contract.Running.{Running}
+use denote.Param.Glue.{Met}
+use borrow.Fn.Glue.{glue_by, glue_ps}
+use borrow.Fn.Impl.{via_longer, method_Known}
+use borrow.Fn.Kinds.{ended_of, stays, r_unit}
+use borrow.Fn.Run.{Over}
+use borrow.Fn.World.{World}
+use Rattle.std.specs.contracts.alloc.Global as global
+use Rattle.std.specs.contracts.impls.GlobalAllocator.TheImpl.{ghosts, dict}
+use Rattle.std.proofs.alloc.Global.TheLaws as heap_laws
+use Rattle.std_alloc.proofs.BoxSteps.Form as box
+use Rattle.raptorq_c.specs.contracts.owned.Coder as coder
+use Rattle.raptorq_c.proofs.owned.Coder.TheLaws as coder_laws
+use Rattle.raptorq_c.proofs.raptorq_c++owned++Coder+Destruct.drop.Kinds as drops
+use Rattle.raptorq_c.proofs.raptorq_c++owned++Coder+Destruct.drop.Reads as reads
+use Rattle.raptorq_c.proofs.raptorq_c++owned++Coder+Destruct.drop.Symbol as symbol
+use Rattle.raptorq_c.proofs.raptorq_c++owned++Coder+Destruct.drop.Met.{met}
+
+abbrev pub T : RattleType
+T = arg (bare (layout coder.the_row)) no coder.the_row
+
+abbrev pub A : RattleType
+A = arg (bare (layout global.the_row)) no global.the_row
+
+abbrev pub LT : Laws T
+LT = arg_laws (bare (layout coder.the_row)) no coder.the_row coder_laws.the_row_laws refl
+
+abbrev pub LA : Laws A
+LA = arg_laws (bare (layout global.the_row)) no global.the_row heap_laws.the_row_laws refl
+
+-- how the allocator goes, and a coder
+abbrev pub dd : Dict
+dd = impl ("raptorq_c::Destruct++none::drop" ∷ []) (tcons (layout A) tnil) dnil
+
+abbrev pub dx : Dict
+dx = impl ("raptorq_c::raptorq_c++owned++Coder+Destruct::drop" ∷ []) tnil dnil
+
+abbrev pub E : box.Bx
+E = record { row = T; laws = LT; al = record { row = A; laws = LA; g = ghosts; d = dict; drops = dd } }
+
+abbrev pub B : RattleType
+B = box.B E
+
+-- a coder goes by the drop that is derived of it
+abbrev over : Ended
+over = ended_of 0 drops.ps drops.r
+
+pub coder_glue : {M : Type 1} (𝓤 : Ura M) (𝓛 : Logic 𝓤) (𝓜 : Model 𝓤 𝓛.H) (𝓡 : Running 𝓤 𝓛.H 𝓜) → Wired 𝓡.env symbol.code → Met 𝓛 𝓜 𝓡 𝓡.env T dx
+coder_glue {M} 𝓤 𝓛 𝓜 𝓡 wired =
+    let world : World = record { M = M; 𝓤 = 𝓤; 𝓛 = 𝓛; 𝓜 = 𝓜; 𝓡 = 𝓡 } in
+    glue_by T LT world dx 𝓡.env (λ κs a. Lasts over tt a) (λ κs a. lasts over tt a) (λ κs a x ws. Fit over (stays drops.ps) tt a ws × reads.Learnt tt a x (at_exit over tt a ws)) (λ κs a. AllWithin 1 (κs.0, tt) (T.lives, tt) × Unit {0}) 0 tt (λ κs a h. ((h, tt), tt))
+    (via_longer 𝓛 (Over 𝓛 𝓜 𝓡 𝓡.env) 1 (glue_ps T LT) r_unit (λ κs a. Lasts over tt a) (λ κs a. lasts over tt a) (λ κs a x ws. Fit over (stays drops.ps) tt a ws × reads.Learnt tt a x (at_exit over tt a ws)) (λ κs a. AllWithin 1 (κs.0, tt) (T.lives, tt) × Unit {0})
+    (method dx 0 (layouts [] tt)) 0 tt (λ κs. tt) (λ κs a. reads.Asked tt a) (λ κs a p. (tt, tt))
+    (λ κs bd within a vss qs. method_Known 0 drops.ps drops.r reads.requires reads.ensures reads.Asked reads.Learnt reads.known world symbol.name (method dx 0 (layouts [] tt)) (symbol.as_method 𝓡.env wired (method dx 0 (layouts [] tt)) refl) (met 𝓤 𝓛 𝓜 𝓡 wired) ((tt, qs, tt, a, vss), tt)))

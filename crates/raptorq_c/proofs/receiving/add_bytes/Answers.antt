@@ -1,0 +1,14 @@
+use Rattle.std.proofs.Common.{◌≡◌, IfErr, OnOk, subst}
+use Rattle.rq_bytes.specs.declared.error.Error.TheVariants.{OutOfMemory}
+use Rattle.rq_standard.specs.Standing.{AnswersLateBlock, LeavesBlockLate}
+use Rattle.raptorq.specs.Decoder.{state_of}
+use Rattle.raptorq_c.proofs.Frames.{packet_read}
+use Rattle.raptorq_c.proofs.receiving.add_bytes.Goals as goal
+
+pub returns-clause-answers_late : goal.returns-clause-answers_late
+returns-clause-answers_late c =
+    subst (λ p. OnOk c.add_new_packet.result (AnswersLateBlock (state_of c.args.decoder.now) p (state_of c.add_new_packet.new.self))) (packet_read c.args.packet.now c.in_ok-deserialize.field-0 c.in_ok-deserialize.ensures) c.add_new_packet.ensures.answers_late
+
+pub returns-clause-leaves_late : goal.returns-clause-leaves_late
+returns-clause-leaves_late c =
+    subst (λ p. IfErr c.add_new_packet.result (λ e. e ≡ OutOfMemory → LeavesBlockLate (state_of c.args.decoder.now) p (state_of c.add_new_packet.new.self))) (packet_read c.args.packet.now c.in_ok-deserialize.field-0 c.in_ok-deserialize.ensures) c.add_new_packet.ensures.leaves_late

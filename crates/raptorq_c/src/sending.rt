@@ -1,0 +1,122 @@
+//! An encoder that C keeps: any packet of its object.
+ghost use Rattle.std.specs.Prelude.{◌≡◌, ◌≢◌, ◌↔◌, ◌⊎◌, length, Ok, None, IfSome, IsSomeAnd, IfOk, IfErr, OnOk, OnErr};
+ghost use Rattle.rq_bytes.specs.Refusals.{IsRefusal};
+ghost use Rattle.rq_standard.specs.Configuration.{configuration_of_bytes};
+ghost use Rattle.rq_standard.specs.Headline.{HasNonsingularRows};
+ghost use Rattle.rq_standard.specs.TableRows.{built_in_rows, greatest_size};
+ghost use Rattle.raptorq.specs.Encoder.{encoded_of, IsPacketIn};
+ghost use Rattle.raptorq.specs.Refused.{new_encoder, RefusesEncoder};
+ghost use Rattle.raptorq_c.specs.Handles.{coder_of, encoder_in, encoder_of, wanted_id, IsCodeWhere, IsEncoderIn, IsPacketAt, IsPacketNumber, HasNoRoom};
+ghost use Rattle.raptorq_c.specs.Numbers.{number_of, IsNumber};
+
+use crate::buffers::fill;
+use crate::handle::Handle;
+use crate::owned::Coder;
+use crate::stop::{Stop, number};
+use raptorq::error::Error;
+use raptorq::systematic_constants::SystematicTable;
+use raptorq::{Encoder, EncodingPacket, ObjectTransmissionInformation, PayloadId};
+use std::alloc::Global;
+
+// The encoder of an object in this configuration.
+fn sender(alloc: Global, configuration: &[u8; 12], object: &[u8]) -> Result<Box<Coder>, Error>
+    ensures refused { IfErr result (λ e. (e ≡ Error.OutOfMemory) ⊎ RefusesEncoder built_in_rows (configuration_of_bytes configuration.now) (length object.now) e) }
+    ensures taken { OnOk result (new_encoder (greatest_size built_in_rows) (configuration_of_bytes configuration.now) (length object.now) ≡ Ok tt) }
+    ensures nonsingular { OnOk result (HasNonsingularRows built_in_rows (configuration_of_bytes configuration.now)) }
+    ensures encoder { IfOk result (λ b. IsSomeAnd (encoder_in b.value) (IsEncoderIn (configuration_of_bytes configuration.now) object.now)) }
+{
+    let table = SystematicTable::built_in(alloc)?;
+    let config = ObjectTransmissionInformation::deserialize(configuration);
+    let encoder = Encoder::new(alloc, &table, object, config)?;
+    Ok(Coder::Sender(encoder).boxed(alloc)?)
+}
+
+fn open(
+    alloc: Global,
+    configuration: &[u8; 12],
+    object: &[u8],
+    handle: &mut Handle,
+) -> Result<(), Stop>
+    ensures refused { OnErr result ((number_of result ≡ 21) ⊎ IsCodeWhere (RefusesEncoder built_in_rows (configuration_of_bytes configuration.now) (length object.now)) (number_of result)) }
+    ensures taken { OnOk result (new_encoder (greatest_size built_in_rows) (configuration_of_bytes configuration.now) (length object.now) ≡ Ok tt) }
+    ensures nonsingular { OnOk result (HasNonsingularRows built_in_rows (configuration_of_bytes configuration.now)) }
+    ensures encoder { OnOk result (IsSomeAnd (encoder_of handle.new) (IsEncoderIn (configuration_of_bytes configuration.now) object.now)) }
+    ensures kept { OnErr result (coder_of handle.new ≡ coder_of handle.old) }
+{
+    handle.hold(alloc, sender(alloc, configuration, object)?);
+    Ok(())
+}
+
+/// Makes an encoder of an object in this configuration, which the handle then holds. What it held before
+/// is freed.
+///
+/// Refuses what `Encoder::new` refuses. Want of memory may come before any of that. Where it refuses,
+/// the handle holds what it held.
+#[unsafe(no_mangle)]
+pub extern "C" fn reamertan_open_encoder(
+    alloc: Global,
+    configuration: &[u8; 12],
+    object: &[u8],
+    handle: &mut Handle,
+) -> u8
+    ensures refused { result ≢ 0 → (result ≡ 21) ⊎ IsCodeWhere (RefusesEncoder built_in_rows (configuration_of_bytes configuration.now) (length object.now)) result }
+    ensures taken { result ≡ 0 → new_encoder (greatest_size built_in_rows) (configuration_of_bytes configuration.now) (length object.now) ≡ Ok tt }
+    ensures nonsingular { result ≡ 0 → HasNonsingularRows built_in_rows (configuration_of_bytes configuration.now) }
+    ensures encoder { result ≡ 0 → IsSomeAnd (encoder_of handle.new) (IsEncoderIn (configuration_of_bytes configuration.now) object.now) }
+    ensures kept { result ≢ 0 → coder_of handle.new ≡ coder_of handle.old }
+{
+    number(open(alloc, configuration, object, handle))
+}
+
+// The bytes of the packet of these numbers.
+fn packet_bytes(alloc: Global, encoder: &Encoder, block: u8, esi: u32) -> Result<Vec<u8>, Error>
+    ensures refused { IfErr result (λ e. IsRefusal e (wanted_id (encoded_of encoder.now).configuration block esi)) }
+    ensures taken { OnOk result (wanted_id (encoded_of encoder.now).configuration block esi ≡ Ok (record { block = block; esi = esi })) }
+    ensures packet { IfOk result (λ v. IsPacketAt (encoded_of encoder.now) block esi v.items) }
+{
+    let packet = encoder.packet(PayloadId::new(block, esi)?)?;
+    packet.serialize(alloc)
+}
+
+fn write(alloc: Global, coder: &Coder, block: u8, esi: u32, packet: &mut [u8]) -> Result<(), Stop>
+    ensures none { (number_of result ≡ 26) ↔ (encoder_in coder.now ≡ None) }
+    ensures number { IfSome (encoder_in coder.now) (λ e. IsPacketNumber (wanted_id e.configuration block esi) (number_of result)) }
+    ensures packet { OnOk result (IsSomeAnd (encoder_in coder.now) (λ e. IsPacketAt e block esi packet.new)) }
+    ensures no_room { number_of result ≡ 24 → IsSomeAnd (encoder_in coder.now) (λ e. HasNoRoom e block esi (length packet.old)) }
+    ensures kept { OnErr result (packet.new ≡ packet.old) }
+{
+    let Coder::Sender(encoder) = coder else {
+        return Err(Stop::NoCoder);
+    };
+    let bytes = packet_bytes(alloc, encoder, block, esi)?;
+    fill(packet, bytes.as_slice())
+}
+
+/// Fills a buffer with the packet of a source block's number and an encoding symbol id: the payload id
+/// of 4 bytes and a symbol.
+///
+/// Answers 26 where the handle holds no encoder. Refuses an id of more than 24 bits, then a number that
+/// no source block has, and then a buffer that hasn't the packet's length. Want of memory may come
+/// before the last.
+#[unsafe(no_mangle)]
+pub extern "C" fn reamertan_write_packet(
+    alloc: Global,
+    handle: &mut Handle,
+    block: u8,
+    esi: u32,
+    packet: &mut [u8],
+) -> u8
+    ensures none { (result ≡ 26) ↔ (encoder_of handle.old ≡ None) }
+    ensures number { IfSome (encoder_of handle.old) (λ e. IsPacketNumber (wanted_id e.configuration block esi) result) }
+    ensures packet { result ≡ 0 → IsSomeAnd (encoder_of handle.old) (λ e. IsPacketAt e block esi packet.new) }
+    ensures no_room { result ≡ 24 → IsSomeAnd (encoder_of handle.old) (λ e. HasNoRoom e block esi (length packet.old)) }
+    ensures kept { result ≢ 0 → packet.new ≡ packet.old }
+    ensures same { coder_of handle.new ≡ coder_of handle.old }
+{
+    let Some(coder) = handle.take(alloc) else {
+        return number(Err(Stop::NoCoder));
+    };
+    let ended = write(alloc, coder.as_ref(), block, esi, packet);
+    handle.put(coder);
+    number(ended)
+}
