@@ -42,20 +42,30 @@ static int by_handles(const uint8_t *configuration, const uint8_t *object, size_
     return good;
 }
 
+/* Draws a configuration and a number of repair packets a block until they are taken: less memory than
+ * some packets need is refused. Answers the object's length. */
+static size_t drawn(uint8_t *configuration, uint32_t *repair, uint64_t *bytes)
+{
+    for (;;) {
+        size_t length = 1 + below(2000);
+        uint16_t size = (uint16_t)(8 + below(120));
+        uint64_t memory = 1u << (8 + below(16));
+        *repair = below(8);
+        if (reamertan_derive_configuration(length, size, memory, configuration) == REAMERTAN_DONE
+            && reamertan_packets_length(configuration, *repair, bytes) == REAMERTAN_DONE)
+            return length;
+    }
+}
+
 /* Whether one object came back, or too little of it came. */
 static int round_trip(int *answered)
 {
     uint8_t configuration[REAMERTAN_CONFIGURATION_BYTES];
     struct reamertan_parameters cut;
-    size_t length = 1 + below(2000);
-    if (reamertan_derive_configuration(length, (uint16_t)(8 + below(120)), 1 << (8 + below(16)),
-                                       configuration) != REAMERTAN_DONE)
-        return 1;
-    reamertan_read_configuration(configuration, &cut);
-    uint32_t repair = below(8);
+    uint32_t repair;
     uint64_t bytes;
-    if (reamertan_packets_length(configuration, repair, &bytes) != REAMERTAN_DONE)
-        return 1;
+    size_t length = drawn(configuration, &repair, &bytes);
+    reamertan_read_configuration(configuration, &cut);
     size_t size = REAMERTAN_PAYLOAD_ID_BYTES + cut.symbol_size, count = bytes / size;
     uint8_t *object = malloc(length), *back = malloc(length), *packets = malloc(count * size);
     if (!object || !back || !packets)

@@ -54,6 +54,7 @@ int main(int count, char **words)
     must(back && came >= sizeof header, words[2], 0);
     answer = reamertan_decode(stream, stream + sizeof header, came - sizeof header, back, length);
     must(answer == REAMERTAN_DONE, "decode", answer);
-    printf("the file is %s\n", memcmp(object, back, length) == 0 ? "the same" : "another");
+    must(memcmp(object, back, length) == 0, "another file came back", answer);
+    puts("the file is the same");
     free(object), free(packets), free(stream), free(back);
 }
