@@ -55,8 +55,9 @@ fn inverse(octet: u8) -> u8 {
     power
 }
 
-fn flip(equation: &mut Equation, place: usize) {
-    equation[place % L] ^= 1;
+// Changes the coefficient at an index.
+fn flip(equation: &mut Equation, index: usize) {
+    equation[index % L] ^= 1;
 }
 
 // LDPC equation m (section 5.3.3.3).
@@ -114,26 +115,26 @@ fn degree(v: u32) -> u32 {
 }
 
 // The equation of an internal symbol id (sections 5.3.5.3 and 5.3.5.4). Of the eleven values of the
-// walk through P places one is passed over.
+// walk over the P PI symbols one is passed over.
 fn symbol_equation(id: u32) -> Equation {
     let y = (10267 * (J + 1)).wrapping_add(id.wrapping_mul(53591 + 997 * J));
     let degree = degree(rand(y, 0, 1 << 20));
     let step = 1 + rand(y, 1, 16);
-    let mut place = rand(y, 2, 17);
+    let mut index = rand(y, 2, 17);
     let mut equation = [0; 32];
     for _ in 0..degree {
-        flip(&mut equation, place as usize);
-        place = place.wrapping_add(step) % 17;
+        flip(&mut equation, index as usize);
+        index = index.wrapping_add(step) % 17;
     }
     let count = if degree < 4 { 2 + rand(id, 3, 2) } else { 2 };
     let step = 1 + rand(id, 4, 10);
-    let mut place = rand(id, 5, 11);
+    let mut index = rand(id, 5, 11);
     for _ in 0..count {
-        if place == 10 {
-            place = place.wrapping_add(step) % 11;
+        if index == 10 {
+            index = index.wrapping_add(step) % 11;
         }
-        flip(&mut equation, W + place as usize);
-        place = place.wrapping_add(step) % 11;
+        flip(&mut equation, W + index as usize);
+        index = index.wrapping_add(step) % 11;
     }
     equation
 }

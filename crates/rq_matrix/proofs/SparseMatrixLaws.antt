@@ -199,11 +199,11 @@ module _ (height width boundary : ℕ) (indexed : Bool) (rows : List (List ℕ))
 
 -- ---- the last sparse column becomes dense
 
-pub frozen : (height width boundary i column : ℕ) (indexed : Bool) (rows : List (List ℕ)) (row_order columns : Order) (tail mid new : Tail) (listed : List ℕ) → IsOrder row_order → height ≤ length row_order.order → length row_order.order ≡ length rows → tail.rows ≡ length rows
+pub made_dense : (height width boundary i column : ℕ) (indexed : Bool) (rows : List (List ℕ)) (row_order columns : Order) (tail mid new : Tail) (listed : List ℕ) → IsOrder row_order → height ≤ length row_order.order → length row_order.order ≡ length rows → tail.rows ≡ length rows
     → i + 1 ≡ boundary → boundary ≤ width → tail.columns ≡ width - boundary → column ≡ get_or columns.order i 0 → ((r : ℕ) → listed_bit (get_or rows r []) column < 2)
     → ArePlacesOfOnes (λ r. listed_bit (get_or rows r []) column) 0 (length rows) listed → PushesColumn tail mid → MarksRows mid listed (width - 1 - i) new
     → SetsBoundary (table height width boundary indexed rows row_order columns tail) i (table height width i indexed rows row_order columns new)
-frozen height width boundary i column indexed rows row_order columns tail mid new listed is_rows tall stored tail_rows last within count at_column small places pushes marks = record {
+made_dense height width boundary i column indexed rows row_order columns tail mid new listed is_rows tall stored tail_rows last within count at_column small places pushes marks = record {
   height = refl;
   width = refl;
   boundary = refl;

@@ -21,8 +21,8 @@ use std::alloc::{AllocError, Global};
 pub trait BinaryMatrix: Clone {
     ghost content: { Self → BitTable };
 
-    /// A matrix of zeros with so many rows, columns and dense columns, whose columns aren't
-    /// indexed.
+    /// A matrix of zeros with `height` rows and `width` columns, of which the last
+    /// `trailing_dense_column_hint` are dense. Its columns aren't indexed.
     fn new(
         alloc: Global,
         height: usize,

@@ -34,7 +34,7 @@ impl Model for UndirectedGraph {
 }
 
 impl UndirectedGraph {
-    /// A graph without edges, with memory for so many. The range of its nodes does nothing here.
+    /// A graph without edges, with memory for `edges`. The range of its nodes does nothing here.
     pub fn with_capacity(alloc: Global, _: u16, _: u16, edges: usize) -> Result<Self, Error>
         requires { 2 * edges < 2 ^ 64 }
         ensures { IsAnswer (λ g. g) result (Ok (record { ends = []; built = false })) }
@@ -122,6 +122,7 @@ impl Iterator for AdjacentIterator<'_> {
     }
 }
 
+// Puts the ends of edges in the order of the nodes that they begin at.
 fn order_by_node(ends: &mut [(u16, u16)])
     ensures sorted { IsNonDecreasingBy (λ end. end.0) ends.new }
     ensures same { IsPermutation ends.old ends.new }
@@ -137,6 +138,7 @@ fn first_from(ends: &[(u16, u16)], node: usize) -> usize
     ends.partition_point(|end| usize::from(end.0) < node)
 }
 
+// The ends from `start` on and before `end`.
 fn part(ends: &[(u16, u16)], start: usize, end: usize) -> &[(u16, u16)]
     requires order { start ≤ end }
     requires within { end ≤ length ends.now }
@@ -145,6 +147,7 @@ fn part(ends: &[(u16, u16)], start: usize, end: usize) -> &[(u16, u16)]
     &ends[start..end]
 }
 
+// Whether a node was the last to be listed, so that it isn't listed again.
 fn is_last(nodes: &[u16], node: u16) -> bool
     ensures { IsTrue result ↔ ((0 < length nodes.now) × (slice_index nodes.now (length nodes.now - 1) ≡ node)) }
 {

@@ -32,8 +32,8 @@ impl Model for DenseOctetMatrix {
 }
 
 impl DenseOctetMatrix {
-    /// A matrix of zeros with so many rows and columns. The last argument, how many columns are
-    /// dense, does nothing here: all are.
+    /// A matrix of zeros with `height` rows and `width` columns. The last argument, how many columns
+    /// are dense, does nothing here: all are.
     pub fn new(alloc: Global, height: usize, width: usize, _: usize) -> Result<Self, Error>
         ensures { IsAnswer (λ matrix. matrix) result (Ok (record { width = width; rows = replicate height (replicate width 0) })) }
     {
@@ -44,7 +44,7 @@ impl DenseOctetMatrix {
         Ok(DenseOctetMatrix { width, elements })
     }
 
-    /// A matrix of no rows, so many columns wide.
+    /// A matrix of no rows, `width` columns wide.
     pub fn without_rows(alloc: Global, width: usize) -> Self
         ensures { result ≡ record { width = width; rows = [] } }
     {

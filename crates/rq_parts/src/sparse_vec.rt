@@ -57,7 +57,7 @@ impl Eq for SparseBinaryVec {
 }
 
 impl SparseBinaryVec {
-    /// A row of zeros, with room for so many ones.
+    /// A row of zeros, with room for `capacity` ones.
     pub fn with_capacity(alloc: Global, capacity: usize) -> Result<SparseBinaryVec, Error>
         ensures ok { IfOk result (λ row. row ≡ []) }
         ensures err { IfErr result (λ e. e ≡ OutOfMemory) }

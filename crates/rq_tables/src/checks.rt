@@ -52,6 +52,7 @@ fn size_at(place: usize) -> Option<(u32, u32)>
     P1_TABLE.get(place).copied()
 }
 
+// The first check: a row has the K' and the P1 of its place.
 fn has_size(place: usize, row: &TableRow) -> bool
     ensures { result ≡ has_size (slice_get P1_TABLE place) row.now }
 {
@@ -61,6 +62,7 @@ fn has_size(place: usize, row: &TableRow) -> bool
     }
 }
 
+// The third check: 1 <= B <= S (S - 1), which keeps a symbol's three LDPC equations apart, and B <= K'.
 fn fits_ldpc(row: &TableRow) -> bool
     ensures { result ≡ fits_ldpc row.now }
 {
@@ -69,12 +71,14 @@ fn fits_ldpc(row: &TableRow) -> bool
     1 <= b && u64::from(b) <= ldpc * ldpc.saturating_sub(1) && b <= row.extended_symbols
 }
 
+// The fourth check: 2 <= H <= K', and alpha has H different powers, which is H <= 255.
 fn fits_hdpc(row: &TableRow) -> bool
     ensures { result ≡ fits_hdpc row.now }
 {
     2 <= row.hdpc_symbols && row.hdpc_symbols <= row.extended_symbols.min(255)
 }
 
+// The fifth check: 3 <= P <= P1 <= 2P, so that a walk modulo P1 soon meets a number below P.
 fn fits_pi(row: &TableRow) -> bool
     ensures { result ≡ fits_pi row.now }
 {

@@ -27,6 +27,7 @@ pub fn extended_source_block_symbols(source_symbols: u32) -> Result<u32, Error>
     first_size(source_symbols, &P1_TABLE).ok_or(Error::TooManySymbols)
 }
 
+// The first size that is at least this number.
 fn first_size(least: u32, sizes: &[(u32, u32)]) -> Option<u32>
     ensures { result ≡ first_size least sizes.now }
 {

@@ -100,6 +100,7 @@ impl Clone for ImmutableListMap {
     }
 }
 
+// The values from `start` on and before `end`.
 fn part(values: &[u32], start: usize, end: usize) -> &[u32]
     requires order { start ≤ end }
     requires within { end ≤ length values.now }
@@ -140,6 +141,7 @@ fn start_of(entries: &[(u16, u32)], key: usize) -> usize
     entries.partition_point(|entry| usize::from(entry.0) < key)
 }
 
+// The values of pairs, in the pairs' order.
 fn values_in_order(entries: &Vec<(u16, u32)>) -> Result<Vec<u32>, Error>
     ensures values { IfOk result (λ values. values.items ≡ map (λ entry. entry.1) entries.now.items) }
     ensures memory { IfErr result (λ e. e ≡ OutOfMemory) }

@@ -4,7 +4,7 @@ use Rattle.std.specs.Option.{is_some}
 use Rattle.rq_standard.specs.BitTableSteps.{ArePlacesOfOnes}
 use Rattle.rq_parts.specs.SparseBinaryVec.{listed_bit}
 use Rattle.rq_matrix.specs.SparseTables.{stored-small}
-use Rattle.rq_matrix.proofs.SparseMatrixLaws.{frozen}
+use Rattle.rq_matrix.proofs.SparseMatrixLaws.{made_dense}
 use Rattle.rq_matrix.proofs.SparseRowLaws.{some_of}
 use Rattle.rq_matrix.proofs.sparse_matrix.SparseBinaryMatrixBinaryMatrix.hint_column_dense_and_frozen.Goals as goal
 use Rattle.rq_matrix.proofs.sparse_matrix.SparseBinaryMatrixBinaryMatrix.hint_column_dense_and_frozen.Goals.{After-indexed_rows-rows}
@@ -48,6 +48,6 @@ invariant_of-self-2 c =
 pub returns-clause-ok : goal.returns-clause-ok
 returns-clause-ok c =
     let old = c.args.self.now in
-    frozen old.height old.width old.boundary c.args.i c.stored_column-column.result (is_some old.index) old.rows.items old.row_order old.column_order old.tail c.push_column.new.self c.set_ones.new.self c.indexed_rows-rows.result.now old.rows_in_order
+    made_dense old.height old.width old.boundary c.args.i c.stored_column-column.result (is_some old.index) old.rows.items old.row_order old.column_order old.tail c.push_column.new.self c.set_ones.new.self c.indexed_rows-rows.result.now old.rows_in_order
     (omega (arith, old.ordered, old.height_within)) old.ordered old.tail_rows c.requires.last old.boundary_within old.tail_columns c.stored_column-column.ensures.value
     (λ r. stored-small (length old.column_order.order) old.rows.items r c.stored_column-column.result old.sparse) (listed (goal.at.returns-clause-ok c).After-indexed_rows-rows) c.in_ok-push_column.ensures.ok c.set_ones.ensures
