@@ -54,6 +54,7 @@ fn seed(internal_symbol_id: u32, systematic_index: u32) -> u32
     ((start + u64::from(internal_symbol_id) * u64::from(multiplier)) % (1 << 32)) as u32
 }
 
+// The number A, by which y grows from one id to the next. It is made odd.
 fn multiplier(systematic_index: u32) -> u32
     requires { systematic_index ≤ 1000 }
     ensures value { result ≡ multiplier_of systematic_index }

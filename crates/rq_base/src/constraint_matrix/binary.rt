@@ -61,6 +61,7 @@ fn set_ldpc_1_columns<T: BinaryMatrix>(matrix: &mut T, row: &TableRow) -> Result
     Ok(())
 }
 
+// A column of G_LDPC,1: its ones are in three rows, each a step behind the one before.
 fn set_ldpc_1_column<T: BinaryMatrix>(
     matrix: &mut T,
     row: &TableRow,
@@ -95,6 +96,7 @@ fn set_ldpc_rows<T: BinaryMatrix>(matrix: &mut T, row: &TableRow) -> Result<(), 
     Ok(())
 }
 
+// One of these rows. The two PI symbols follow one another.
 fn set_ldpc_row<T: BinaryMatrix>(matrix: &mut T, row: &TableRow, i: usize) -> Result<(), Error>
     requires checked { IsChecked row.now }
     requires room { row.now.ldpc_symbols ≤ (T.content matrix.old).height }

@@ -20,12 +20,19 @@ pub fn generate_hdpc_rows(alloc: Global, row: &TableRow) -> Result<DenseOctetMat
     ensures part { IfOk result (IsHdpcPart row.now) }
     ensures memory { IfErr result (λ e. e ≡ OutOfMemory) }
 {
-    let last = row.extended_symbols as usize + row.ldpc_symbols as usize - 1;
+    let last = columns_before_hdpc(row) - 1;
     let mut matrix = last_columns(alloc, row)?;
     for column in (0..last).rev() {
         fill_column(&mut matrix, row, column);
     }
     Ok(matrix)
+}
+
+// How many columns stand before those of the HDPC symbols: L - H.
+fn columns_before_hdpc(row: &TableRow) -> usize
+    ensures { result ≡ before_hdpc row.now }
+{
+    row.intermediate_symbols() as usize - row.hdpc_symbols as usize
 }
 
 // The rows with the columns from K'+S-1 on: the powers of alpha, and each HDPC symbol in its own row.
@@ -35,8 +42,9 @@ fn last_columns(alloc: Global, row: &TableRow) -> Result<DenseOctetMatrix, Error
     ensures memory { IfErr result (λ e. e ≡ OutOfMemory) }
 {
     let height = row.hdpc_symbols as usize;
-    let before_hdpc = row.extended_symbols as usize + row.ldpc_symbols as usize;
-    let mut matrix = DenseOctetMatrix::new(alloc, height, before_hdpc + height, 0)?;
+    let before_hdpc = columns_before_hdpc(row);
+    let width = row.intermediate_symbols() as usize;
+    let mut matrix = DenseOctetMatrix::new(alloc, height, width, 0)?;
     for i in 0..height {
         matrix.set(i, before_hdpc - 1, Octet::alpha(i));
         matrix.set(i, before_hdpc + i, Octet::one());

@@ -8,6 +8,9 @@ pub loop-i-preserved : goal.loop-i-preserved
 loop-i-preserved c =
     let row = c.args.row.now in
     let i = c.loop-i.i in
-    rows_more row c.loop-i.matrix c.set.new.self c.set-in-loop-i.new.self i c.loop-i.invariant (omega arith) (omega arith)
-    (c.set.ensures ∙ ap (λ v. with_row c.loop-i.matrix i (set (row_at c.loop-i.matrix i) (before_hdpc row - 1) v)) c.alpha.ensures)
-    (c.set-in-loop-i.ensures ∙ ap (λ v. with_row c.set.new.self i (set (row_at c.set.new.self i) (before_hdpc row + i) v)) c.one.ensures)
+    let before = c.columns_before_hdpc-before_hdpc in
+    let old = c.loop-i.matrix in
+    let mid = c.set.new.self in
+    rows_more row c.loop-i.matrix c.set.new.self c.set-in-loop-i.new.self i c.loop-i.invariant (omega arith) (omega (arith, before.ensures))
+    (c.set.ensures ∙ ap (λ k. with_row old i (set (row_at old i) (k - 1) c.alpha.result)) before.ensures ∙ ap (λ v. with_row old i (set (row_at old i) (before_hdpc row - 1) v)) c.alpha.ensures)
+    (c.set-in-loop-i.ensures ∙ ap (λ k. with_row mid i (set (row_at mid i) (k + i) c.one.result)) before.ensures ∙ ap (λ v. with_row mid i (set (row_at mid i) (before_hdpc row + i) v)) c.one.ensures)
