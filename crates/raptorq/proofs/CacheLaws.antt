@@ -1,6 +1,6 @@
 -- The counts that a cache of plans holds.
 use Rattle.std.proofs.Common.{◌≡◌, ℕ, suc, ◌+◌, ◌-◌, ◌<◌, ◌≤◌, All, Bool, true, false, List, [], ◌∷◌, ◌++◌, Option, Some, None, length, drop, get_or, map, cond, refl, sym, ap, ◌∙◌, subst, arith, inl, inr}
-use Rattle.std.specs.Prelude.{is_some, slice_get, position, nat_lt, ◌==◌}
+use Rattle.std.specs.Prelude.{is_some, slice_get, position, nat_lt, ◌==◌, Ok}
 use Rattle.std.specs.List.{list_any, position_or_len}
 use Rattle.std.proofs.lemmas.Bool.{cases_lt, lt-ltb, le-ltb, eqb-true}
 use Rattle.std.proofs.lemmas.List.{length-append, length-map, get_or-append_right}
@@ -8,9 +8,10 @@ use Rattle.std.proofs.lemmas.List.Quantifiers.{position-Some}
 use Rattle.std.proofs.lemmas.Option.{slice_get_read, slice_get_within, get_or_from_slice_get}
 use Rattle.std.proofs.Math.ListN.{get_or-map}
 use Rattle.rq_standard.specs.declared.row.TableRow.{TableRow}
-use Rattle.rq_standard.specs.TableRows.{row_of}
+use Rattle.rq_standard.specs.TableRows.{greatest_size, row_of}
 use Rattle.raptorq.specs.declared.encoder.plan.SourceBlockEncodingPlan.{SourceBlockEncodingPlan}
-use Rattle.raptorq.specs.SourceBlockEncodingPlanCache.{holds_count, cached, IsPlanOver}
+use Rattle.raptorq.specs.SourceBlockEncodingPlan.{plan_refusal}
+use Rattle.raptorq.specs.SourceBlockEncodingPlanCache.{PlanCache, holds_count, cached, IsPlanOver}
 use Rattle.raptorq.proofs.Encodes.{at_any}
 
 -- ---- whether a count is held
@@ -33,6 +34,10 @@ module _ (p : ℕ → Bool) where
 is_some_if : (b : Bool) (n : ℕ) → is_some (cond b (Some n) None) ≡ b
 is_some_if true n = refl
 is_some_if false n = refl
+
+-- where a count is held
+abbrev pub held_at : ℕ → PlanCache → Option ℕ
+held_at count cache = position (λ n. n == count) cache.counts
 
 -- a count is held where it has a place
 pub held_by : (counts : List ℕ) (count : ℕ) (place : Option ℕ) → place ≡ position (λ n. n == count) counts → is_some place ≡ holds_count counts count
@@ -63,6 +68,22 @@ plan_found table plans counts count place p shown over found is =
     let here : place < length plans = omega (arith, length-map plans (λ (q : SourceBlockEncodingPlan). q.source_symbol_count)) in
     let same : p.source_symbol_count ≡ count = sym (count_at plans place p here is) ∙ get_or_from_slice_get (counts_in plans) place count 0 at in
     (same, (subst (IsPlanOver table) (sym is) (over place p here)).row ∙ ap (row_of table) same)
+
+-- a count that is held is one that the table has a row for
+pub held_known : (table : List TableRow) (plans : List SourceBlockEncodingPlan) (counts : List ℕ) (count place : ℕ) → counts_in plans ≡ counts → All (IsPlanOver table) plans → position (λ n. n == count) counts ≡ Some place → plan_refusal table count ≡ Ok tt
+held_known table plans counts count place shown over found =
+    let at : slice_get (counts_in plans) place ≡ Some count = ap (λ xs. slice_get xs place) shown ∙ place_found counts count place found in
+    let below = slice_get_within (counts_in plans) place count at in
+    let here : place < length plans = omega (arith, length-map plans (λ (q : SourceBlockEncodingPlan). q.source_symbol_count)) in
+    go plans over here at
+  where
+    go : (ps : List SourceBlockEncodingPlan) → All (IsPlanOver table) ps → place < length ps → slice_get (counts_in ps) place ≡ Some count → plan_refusal table count ≡ Ok tt
+    go [] over here at = absurd (omega arith)
+    go (p ∷ ps) over here at =
+        let held = get_or (p ∷ ps) place p in
+        let same : held.source_symbol_count ≡ count = sym (count_at (p ∷ ps) place held here (at_any (p ∷ ps) place p held here)) ∙ get_or_from_slice_get (counts_in (p ∷ ps)) place count 0 at in
+        let known : count ≤ greatest_size table = omega (arith, same, (over place p here).known) in
+        rw (le-ltb (greatest_size table) count known) refl
 
 -- ---- a use of a count
 

@@ -126,9 +126,9 @@ impl Encoder {
     }
 
     /// The packets of each source block in the order of their encoding symbol ids: those of its
-    /// source symbols, and then of so many repair symbols (RFC 6330, 4.4.2 and 5.3).
+    /// source symbols, and then of its repair symbols (RFC 6330, 4.4.2 and 5.3).
     ///
-    /// Refuses [`Error::EsiTooLarge`] where a block has no ids for so many, which end at 2^24.
+    /// Refuses [`Error::EsiTooLarge`] where a block would need encoding symbol ids above 2^24 - 1.
     pub fn get_encoded_packets(
         &self,
         repair_packets_per_block: u32,

@@ -202,7 +202,7 @@ impl SourceBlockDecoder {
     }
 
     // Takes packets until one is refused, and answers the block where it is determined. What stops it
-    // is named by the place of the work.
+    // says how far the work had come.
     fn decode_until_stopped<I: IntoIterator<Item = EncodingPacket>>(
         &mut self,
         packets: I,

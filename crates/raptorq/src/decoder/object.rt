@@ -244,7 +244,7 @@ impl Decoder {
         Ok(object)
     }
 
-    /// Why the object isn't answered: as many bytes as it has, whose xor with it makes the same
+    /// Why the object isn't answered: bytes as long as the object, whose xor with it makes the same
     /// packets as far as they are recorded, zeros in blocks that are answered. `None` where what is
     /// recorded of each block without an answer determines it. Not in the Rust crate.
     pub fn difference(&self) -> Result<Option<Vec<u8>>, Error>

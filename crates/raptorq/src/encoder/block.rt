@@ -43,13 +43,13 @@ impl SourceBlockEncoder {
     ghost use Rattle.raptorq.specs.SourceBlockEncodingPlanCache.{used};
     ghost use Rattle.raptorq.specs.SourceBlockEncodingPlan.{plan_of};
 
-    /// The encoder of the source block of these bytes, in as many symbols as they are. Its plan is
-    /// the one in the cache, or a new one, which is then put in.
+    /// The encoder of a source block, whose bytes are whole symbols. Its plan is the one in the
+    /// cache, or a new one, which is then put in.
     ///
     /// Refuses, in this order, [`Error::SymbolSizeZero`], [`Error::AlignmentZero`],
     /// [`Error::Misaligned`] where the alignment doesn't divide the symbol size,
     /// [`Error::WrongDataLength`] where the bytes are no whole symbols, [`Error::BlockOverTable`]
-    /// where the cache's table has no row for so many, and [`Error::Singular`] where that row doesn't
+    /// where the cache's table has no row for its symbols, and [`Error::Singular`] where that row doesn't
     /// determine the intermediate symbols. After a refusal the cache is as before.
     pub fn new(
         alloc: Global,
@@ -86,7 +86,7 @@ impl SourceBlockEncoder {
     /// Refuses, in this order, [`Error::SymbolSizeZero`], [`Error::AlignmentZero`],
     /// [`Error::Misaligned`] where the alignment doesn't divide the symbol size,
     /// [`Error::WrongDataLength`] where the block isn't whole symbols, [`Error::BlockOverTable`]
-    /// where the table has no row for so many, and [`Error::PlanMismatch`] where the plan was made
+    /// where the table has no row for its symbols, and [`Error::PlanMismatch`] where the plan was made
     /// for another number of source symbols or another row.
     pub fn with_encoding_plan(
         alloc: Global,
@@ -135,10 +135,10 @@ impl SourceBlockEncoder {
         self.packets(0, self.symbols())
     }
 
-    /// So many packets of repair symbols, from the repair symbol `start_repair_symbol` on, which
-    /// are numbered from 0.
+    /// The packets of `packets` repair symbols, from the repair symbol `start_repair_symbol` on,
+    /// which are numbered from 0.
     ///
-    /// Refuses [`Error::EsiTooLarge`] where there are not so many ids, which end at 2^24.
+    /// Refuses [`Error::EsiTooLarge`] where they would need encoding symbol ids above 2^24 - 1.
     pub fn repair_packets(
         &self,
         start_repair_symbol: u32,

@@ -1,5 +1,5 @@
 //! A cache of plans, which is lent to the encoders of source blocks.
-ghost use Rattle.std.specs.Prelude.{◌≡◌, ◌≤◌, ◌<◌, ◌==◌, [], false, drop, if◌then◌else◌, is_some, length, map, nat_lt, position, slice_get, IfSome, IfOk, IfErr, OnOk, OnErr};
+ghost use Rattle.std.specs.Prelude.{◌≡◌, ◌≤◌, ◌<◌, ◌==◌, [], false, drop, if◌then◌else◌, is_some, length, map, nat_lt, position, slice_get, Ok, IfSome, IfOk, IfErr, OnOk, OnErr};
 ghost use Rattle.std.specs.VecDeque.{deque_len, deque_capacity};
 ghost use Rattle.std.specs.Borrow.{sem};
 ghost use Rattle.rq_bytes.specs.Refusals.{IsAnswer};
@@ -37,7 +37,7 @@ impl Model for SourceBlockEncodingPlanCache {
 
 impl SourceBlockEncodingPlanCache {
     ghost use Rattle.raptorq.specs.CacheLends.{EndsUsed};
-    ghost use Rattle.raptorq.specs.SourceBlockEncodingPlan.{plan_of, RefusesPlan};
+    ghost use Rattle.raptorq.specs.SourceBlockEncodingPlan.{plan_of, plan_refusal, RefusesPlan};
     ghost use Rattle.raptorq.specs.Planned.{IsPlanOf};
     ghost use Rattle.rq_standard.specs.TableRows.{row_of};
 
@@ -52,13 +52,14 @@ impl SourceBlockEncodingPlanCache {
         })
     }
 
-    /// The plan of source blocks with so many source symbols. It is made, and put in as the last,
+    /// The plan of source blocks with `count` source symbols. It is made, and put in as the last,
     /// where none is held; what is held keeps its order.
     ///
     /// Refuses what [`SourceBlockEncodingPlan::generate`] refuses. The cache is then as before.
     pub fn get_or_generate(&mut self, count: u16) -> Result<&SourceBlockEncodingPlan, Error>
         ensures* after { sem 𝓛 (EndsUsed self.entry count result) }
         ensures refused { IfErr result (λ e. (holds_count self.old.counts count ≡ false) × RefusesPlan self.old.table count e) }
+        ensures taken { OnOk result (plan_refusal self.old.table count ≡ Ok tt) }
         ensures count { IfOk result (λ p. (plan_of p.now).count ≡ count) }
         ensures row { IfOk result (λ p. (plan_of p.now).row ≡ row_of self.old.table count) }
         ensures plan { IfOk result (λ p. IsPlanOf (row_of self.old.table count) (plan_of p.now).operations) }
@@ -67,11 +68,11 @@ impl SourceBlockEncodingPlanCache {
         Ok(&self.plans[index])
     }
 
-    /// Whether the plan of so many source symbols is held.
+    /// Whether the plan of source blocks with `count` source symbols is held.
     pub fn contains(&self, count: u16) -> bool
         ensures { result ≡ holds_count self.now.counts count }
     {
-        self.index_of(count).is_some()
+        index_of(&self.plans, count).is_some()
     }
 
     /// The number of plans that are held.
@@ -95,7 +96,7 @@ impl SourceBlockEncodingPlanCache {
         ensures count { IfSome result (λ p. (plan_of p.now).count ≡ count) }
         ensures row { IfSome result (λ p. (plan_of p.now).row ≡ row_of self.now.table count) }
     {
-        let index = self.index_of(count)?;
+        let index = index_of(&self.plans, count)?;
         Some(&self.plans[index])
     }
 
@@ -104,21 +105,15 @@ impl SourceBlockEncodingPlanCache {
         ensures used { OnOk result (self.new ≡ used self.old count) }
         ensures index { IfOk result (λ index. slice_get self.new.counts index ≡ Some count) }
         ensures refused { IfErr result (λ e. (holds_count self.old.counts count ≡ false) × RefusesPlan self.old.table count e) }
+        ensures taken { OnOk result (plan_refusal self.old.table count ≡ Ok tt) }
         ensures unchanged { OnErr result (self.new ≡ self.old) }
     {
-        if let Some(index) = self.index_of(count) {
+        if let Some(index) = index_of(&self.plans, count) {
             return Ok(index);
         }
         let plan = SourceBlockEncodingPlan::generate(self.alloc, &self.table, count)?;
         self.put(plan);
         Ok(self.plans.len() - 1)
-    }
-
-    // Where the plan of so many source symbols is.
-    fn index_of(&self, count: u16) -> Option<usize>
-        ensures { result ≡ position (λ n. n == count) self.now.counts }
-    {
-        place_in(&self.plans, count)
     }
 
     /// Puts in a new plan as the last one.
@@ -132,8 +127,8 @@ impl SourceBlockEncodingPlanCache {
     }
 }
 
-// Where the plan of so many source symbols is among plans.
-fn place_in(plans: &VecDeque<SourceBlockEncodingPlan>, count: u16) -> Option<usize>
+// Where the plan of so many source symbols is.
+fn index_of(plans: &VecDeque<SourceBlockEncodingPlan>, count: u16) -> Option<usize>
     ensures { result ≡ position (λ n. n == count) (map (λ p. p.source_symbol_count) plans.now.items) }
 {
     plans

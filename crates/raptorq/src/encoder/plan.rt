@@ -36,9 +36,10 @@ pub struct SourceBlockEncodingPlan {
 impl SourceBlockEncodingPlan {
     ghost use Rattle.raptorq.specs.SourceBlockEncodingPlan.{plan_of, plan_refusal, RefusesPlan};
 
-    /// The plan of source blocks with so many source symbols, over their row of the table.
+    /// The plan of source blocks with `source_symbol_count` source symbols, over their row of the
+    /// table.
     ///
-    /// Refuses [`Error::BlockOverTable`] where the table has no row for so many, and then
+    /// Refuses [`Error::BlockOverTable`] where the table has no row for these, and then
     /// [`Error::Singular`] where that row doesn't determine the intermediate symbols.
     pub fn generate(
         alloc: Global,
@@ -144,5 +145,5 @@ fn source_values(row: &TableRow, source: &SymbolSlab) -> Result<SymbolSlab, Erro
     ensures memory { IfErr result (λ e. e ≡ Error.OutOfMemory) }
 {
     let fixed = (row.ldpc_symbols + row.hdpc_symbols) as usize;
-    Ok(source.among_zeros(fixed, fixed + row.extended_symbols as usize)?)
+    Ok(source.among_zeros(fixed, row.intermediate_symbols() as usize)?)
 }

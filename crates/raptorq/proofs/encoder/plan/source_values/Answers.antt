@@ -5,7 +5,7 @@ use Rattle.raptorq.proofs.Listing.{slab_answered}
 use Rattle.raptorq.proofs.encoder.plan.source_values.Goals as goal
 
 pub among_zeros-requires-clause-fits : goal.among_zeros-requires-clause-fits
-among_zeros-requires-clause-fits c = omega (arith, c.requires.few)
+among_zeros-requires-clause-fits c = omega (arith, c.requires.few, c.intermediate_symbols.ensures.value)
 
 pub returns-clause-values : goal.returns-clause-values
 returns-clause-values c =
@@ -14,4 +14,4 @@ returns-clause-values c =
     let size = source.symbol_size in
     let fixed = row.ldpc_symbols + row.hdpc_symbols in
     slab_answered _ c.in_ok-among_zeros.field-0 c.in_ok-among_zeros.ensures
-    ∙ ap (λ k. slab_of size (replicate fixed (zero_symbol size) ++ (source.values ++ replicate (k - length source.values) (zero_symbol size)))) (let rest : fixed + row.extended_symbols - fixed ≡ row.extended_symbols = omega arith in rest)
+    ∙ ap (λ k. slab_of size (replicate fixed (zero_symbol size) ++ (source.values ++ replicate (k - length source.values) (zero_symbol size)))) (let rest : c.intermediate_symbols.result - fixed ≡ row.extended_symbols = omega (arith, c.intermediate_symbols.ensures.value) in rest)
