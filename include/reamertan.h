@@ -153,8 +153,8 @@ uint8_t reamertan_encode(const uint8_t configuration[REAMERTAN_CONFIGURATION_BYT
 
 /* Fills `object` with the object of packets, in any order, each any number of times, where they
  * determine it. They lie one behind another in `packets`. `object_length` has to be the object's, F. What
- * is written is the object where the packets are the object's: packets that were forged, or damaged but for
- * their ids, give other bytes.
+ * is written, and whether anything is, is said of packets of one object alone: others, forged or damaged,
+ * may give other bytes, INCOMPLETE or WRONG_BUFFER.
  *
  * Refuses, in this order: PACKET_TOO_SHORT where the last packet is shorter than its id, what
  * `reamertan_check_configuration` refuses, of the first packet that is refused UNKNOWN_BLOCK or else
@@ -201,11 +201,12 @@ uint8_t reamertan_write_packet(struct reamertan_handle *handle, uint8_t block, u
 uint8_t reamertan_open_decoder(const uint8_t configuration[REAMERTAN_CONFIGURATION_BYTES],
                                struct reamertan_handle *handle);
 
-/* Takes a packet, 4 bytes of payload id and a symbol. A packet that was taken before changes nothing.
+/* Takes a packet, 4 bytes of payload id and a symbol. A packet that was taken before changes nothing,
+ * unless memory was refused before: then its block is tried again.
  *
  * Refuses, in this order: NO_CODER where the handle holds no decoder, PACKET_TOO_SHORT, UNKNOWN_BLOCK,
  * WRONG_PAYLOAD_SIZE; the decoder then holds what it held. OUT_OF_MEMORY may come before any but the
- * first, and then the packet may be taken or not; hand it in again. */
+ * first, and then the packet may be taken or not, unless it is one to be refused; hand it in again. */
 uint8_t reamertan_add_packet(struct reamertan_handle *handle, const uint8_t *packet,
                              size_t packet_length);
 
@@ -214,7 +215,8 @@ uint8_t reamertan_add_packet(struct reamertan_handle *handle, const uint8_t *pac
  * forged, or damaged but for their ids, give other bytes. The decoder stays as it is.
  *
  * Refuses, in this order: NO_CODER where the handle holds no decoder, INCOMPLETE, WRONG_BUFFER.
- * OUT_OF_MEMORY may come before the last two. */
+ * OUT_OF_MEMORY may come before the last two. So a buffer of another length tells whether the object is
+ * complete: INCOMPLETE before, and WRONG_BUFFER after. The object is joined for that. */
 uint8_t reamertan_write_object(struct reamertan_handle *handle, uint8_t *object,
                                size_t object_length);
 
