@@ -1,5 +1,5 @@
 -- What handles hold, and what calls do to it.
-use Rattle.std.specs.Prelude.{◌≡◌, ◌≢◌, ◌⊎◌, ℕ, List, length, Option, Some, None, IfSome, IsSomeAnd, option_and_then, Result, Ok, Err}
+use Rattle.std.specs.Prelude.{◌≡◌, ◌≢◌, ◌⊎◌, ℕ, List, length, Option, Some, None, IfSome, IsSomeAnd, IsErr, option_and_then, Result, Ok, Err}
 use Rattle.rq_bytes.specs.declared.error.Error.{Error}
 use Rattle.rq_bytes.specs.Error.{code_of}
 use Rattle.rq_bytes.specs.Refusals.{and_then}
@@ -51,6 +51,7 @@ pub record IsAdded (old : State) (bytes : List ℕ) (number : ℕ) (new : State)
   pub stands : number ≡ 0 → StandsForMore old (packet_of_bytes bytes) new
   pub answers_late : number ≡ 0 → AnswersLateBlock old (packet_of_bytes bytes) new
   pub leaves_late : number ≡ 21 → LeavesBlockLate old (packet_of_bytes bytes) new
+  pub leaves_refused : number ≡ 21 → IsErr (bytes_refusal old.configuration bytes) → new ≡ old
 
 -- the id of a packet of these numbers, unless it has none
 abbrev pub wanted_id : Configuration → ℕ → ℕ → Result SymbolId Error

@@ -52,7 +52,7 @@ fn derive(
 }
 
 /// The configuration of an object of this length, in bytes, for packets of at most `packet_size`
-/// bytes of payload, and decoders each of whose sub-blocks fits so many bytes of memory. The numbers
+/// bytes of payload, and decoders each of whose sub-blocks fits `decoder_memory` bytes. The numbers
 /// are those of `ObjectTransmissionInformation::generate_encoding_parameters`, and 10485760 is its
 /// default memory.
 #[unsafe(no_mangle)]

@@ -61,7 +61,7 @@ fn encode(
 }
 
 /// Fills a buffer with the packets of an object, each its payload id of 4 bytes and a symbol: block by
-/// block those of the source symbols, and then of so many repair symbols (RFC 6330, 4.4.2 and 5.3).
+/// block those of the source symbols, and then of `repair` repair symbols (RFC 6330, 4.4.2 and 5.3).
 ///
 /// Refuses what `Encoder::new` refuses, then what `Encoder::get_encoded_packets` refuses, and then a
 /// buffer that hasn't the packets' length. Want of memory may come before any of them.

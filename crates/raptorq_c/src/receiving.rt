@@ -1,5 +1,5 @@
 //! A decoder that C keeps: packets one at a time, and the object once they determine it.
-ghost use Rattle.std.specs.Prelude.{◌≡◌, ◌≢◌, ◌↔◌, Ok, None, IfSome, IsSomeAnd, IfOk, IfErr, OnOk, OnErr};
+ghost use Rattle.std.specs.Prelude.{◌≡◌, ◌≢◌, ◌↔◌, Ok, None, IfSome, IsSomeAnd, IsErr, IfOk, IfErr, OnOk, OnErr};
 ghost use Rattle.rq_bytes.specs.Refusals.{Answers};
 ghost use Rattle.rq_standard.specs.Configuration.{configuration_of_bytes};
 ghost use Rattle.rq_standard.specs.Packet.{packet_of_bytes};
@@ -32,6 +32,7 @@ fn receiver(alloc: Global, configuration: &[u8; 12]) -> Result<Box<Coder>, Error
     Ok(Coder::Receiver(decoder).boxed(alloc)?)
 }
 
+// Puts a new decoder into the handle, once it is made.
 fn open(alloc: Global, configuration: &[u8; 12], handle: &mut Handle) -> Result<(), Stop>
     ensures number { IsNumber (number_of result) (checked_configuration (greatest_size built_in_rows) (configuration_of_bytes configuration.now)) }
     ensures new { OnOk result (IsSomeAnd (decoder_of handle.new) (IsNewState built_in_rows (configuration_of_bytes configuration.now))) }
@@ -70,10 +71,12 @@ fn add_bytes(alloc: Global, decoder: &mut Decoder, packet: &[u8]) -> Result<(), 
     ensures stands { OnOk result (StandsForMore (state_of decoder.old) (packet_of_bytes packet.now) (state_of decoder.new)) }
     ensures answers_late { OnOk result (AnswersLateBlock (state_of decoder.old) (packet_of_bytes packet.now) (state_of decoder.new)) }
     ensures leaves_late { IfErr result (λ e. e ≡ Error.OutOfMemory → LeavesBlockLate (state_of decoder.old) (packet_of_bytes packet.now) (state_of decoder.new)) }
+    ensures leaves_refused { OnErr result (IsErr (bytes_refusal (state_of decoder.old).configuration packet.now) → state_of decoder.new ≡ state_of decoder.old) }
 {
     decoder.add_new_packet(EncodingPacket::deserialize(alloc, packet)?)
 }
 
+// Takes a packet, where the coder is a decoder.
 fn add(alloc: Global, coder: &mut Coder, packet: &[u8]) -> Result<(), Stop>
     ensures none { (number_of result ≡ 26) ↔ (decoder_in coder.old ≡ None) }
     ensures added { Becomes (decoder_in coder.old) (decoder_in coder.new) (λ s t. IsAdded s packet.now (number_of result) t) }
@@ -88,7 +91,8 @@ fn add(alloc: Global, coder: &mut Coder, packet: &[u8]) -> Result<(), Stop>
 /// Takes a packet, a payload id of 4 bytes and a symbol.
 ///
 /// Answers 26 where the handle holds no decoder. Refuses bytes that are shorter than a payload id, and
-/// then what `Decoder::add_new_packet` refuses. Want of memory may come before any of them.
+/// then what `Decoder::add_new_packet` refuses. Want of memory may come before any of them, and a packet
+/// that isn't to be refused may then be recorded.
 #[unsafe(no_mangle)]
 pub extern "C" fn reamertan_add_packet(alloc: Global, handle: &mut Handle, packet: &[u8]) -> u8
     ensures none { (result ≡ 26) ↔ (decoder_of handle.old ≡ None) }
@@ -99,6 +103,7 @@ pub extern "C" fn reamertan_add_packet(alloc: Global, handle: &mut Handle, packe
     ensures stands { result ≡ 0 → Becomes (decoder_of handle.old) (decoder_of handle.new) (λ s t. StandsForMore s (packet_of_bytes packet.now) t) }
     ensures answers_late { result ≡ 0 → Becomes (decoder_of handle.old) (decoder_of handle.new) (λ s t. AnswersLateBlock s (packet_of_bytes packet.now) t) }
     ensures leaves_late { result ≡ 21 → Becomes (decoder_of handle.old) (decoder_of handle.new) (λ s t. LeavesBlockLate s (packet_of_bytes packet.now) t) }
+    ensures leaves_refused { result ≡ 21 → Becomes (decoder_of handle.old) (decoder_of handle.new) (λ s t. IsErr (bytes_refusal s.configuration packet.now) → t ≡ s) }
     ensures other { encoder_of handle.new ≡ encoder_of handle.old }
 {
     let Some(mut coder) = handle.take(alloc) else {
@@ -109,6 +114,7 @@ pub extern "C" fn reamertan_add_packet(alloc: Global, handle: &mut Handle, packe
     number(ended)
 }
 
+// Fills a buffer with the object, where the coder is a decoder.
 fn write(coder: &Coder, object: &mut [u8]) -> Result<(), Stop>
     ensures none { (number_of result ≡ 26) ↔ (decoder_in coder.now ≡ None) }
     ensures refused { IfSome (decoder_in coder.now) (λ _. IsRefused (number_of result) (Ok tt)) }

@@ -31,6 +31,7 @@ fn sender(alloc: Global, configuration: &[u8; 12], object: &[u8]) -> Result<Box<
     Ok(Coder::Sender(encoder).boxed(alloc)?)
 }
 
+// Puts a new encoder into the handle, once it is made.
 fn open(
     alloc: Global,
     configuration: &[u8; 12],
@@ -78,6 +79,7 @@ fn packet_bytes(alloc: Global, encoder: &Encoder, block: u8, esi: u32) -> Result
     packet.serialize(alloc)
 }
 
+// Fills a buffer with a packet, where the coder is an encoder.
 fn write(alloc: Global, coder: &Coder, block: u8, esi: u32, packet: &mut [u8]) -> Result<(), Stop>
     ensures none { (number_of result ≡ 26) ↔ (encoder_in coder.now ≡ None) }
     ensures number { IfSome (encoder_in coder.now) (λ e. IsPacketNumber (wanted_id e.configuration block esi) (number_of result)) }

@@ -85,7 +85,7 @@ fn packets_length(
     Ok(())
 }
 
-/// How many bytes the packets of an object take, those of its source symbols and of so many repair
+/// How many bytes the packets of an object take, those of its source symbols and of `repair` repair
 /// symbols a block: what `reamertan_encode` fills.
 ///
 /// Refuses what `ObjectTransmissionInformation::check` refuses, and then what

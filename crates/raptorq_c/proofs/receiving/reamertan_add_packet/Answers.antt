@@ -1,8 +1,9 @@
 use Rattle.std.proofs.Common.{◌≡◌, Option, Some, sym, ap, ◌∙◌}
+use Rattle.std.specs.Prelude.{IsErr}
 use Rattle.rq_standard.specs.Packet.{packet_of_bytes}
 use Rattle.rq_standard.specs.Standing.{State, AnswersLateBlock, LeavesBlockLate}
 use Rattle.raptorq_c.specs.declared.owned.Coder.{Coder}
-use Rattle.raptorq_c.specs.Handles.{coder_of, decoder_in, Becomes, IsAdded}
+use Rattle.raptorq_c.specs.Handles.{bytes_refusal, coder_of, decoder_in, Becomes, IsAdded}
 use Rattle.raptorq_c.specs.Numbers.{number_of}
 use Rattle.raptorq_c.proofs.Held.{becomes_weaker, of_coders}
 use Rattle.raptorq_c.proofs.receiving.reamertan_add_packet.Goals as goal
@@ -28,3 +29,8 @@ pub returns-clause-leaves_late : goal.returns-clause-leaves_late
 returns-clause-leaves_late c memory =
     let P = λ (s t : State). LeavesBlockLate s (packet_of_bytes c.args.packet.now) t in
     of_coders c.args.handle.now c.put.new.self c.as_mut.result.now c.add-ended.new.coder P (was c) c.put.ensures (follows c P (λ s t added. added.leaves_late (sym c.number-2.ensures ∙ memory)))
+
+pub returns-clause-leaves_refused : goal.returns-clause-leaves_refused
+returns-clause-leaves_refused c memory =
+    let P = λ (s t : State). IsErr (bytes_refusal s.configuration c.args.packet.now) → t ≡ s in
+    of_coders c.args.handle.now c.put.new.self c.as_mut.result.now c.add-ended.new.coder P (was c) c.put.ensures (follows c P (λ s t added. added.leaves_refused (sym c.number-2.ensures ∙ memory)))
