@@ -62,9 +62,21 @@ fn coders_of_blocks(rt: HostRuntime) -> Result<(), Fail> {
         let config = ObjectTransmissionInformation::deserialize(&bytes);
         let made = SourceBlockEncoder::new(alloc, 0, &config, &[7], &mut cache);
         assert!(rt; made == Err(wanted), "{wanted:?}");
+        assert!(rt; cache.len() == 0, "{wanted:?}");
         let made = SourceBlockDecoder::new(alloc, &table, 0, &config, u64::MAX);
         assert!(rt; made == Err(wanted), "{wanted:?}");
     }
+    Ok(())
+}
+
+// Three bytes are no whole symbols of two.
+#[test]
+fn block_of_other_bytes(rt: HostRuntime) -> Result<(), Fail> {
+    let alloc = rt.alloc();
+    let (table, config) = configured(alloc, (0, 2, 1, 1, 1))?;
+    let mut cache = SourceBlockEncodingPlanCache::new(alloc, &table)?;
+    let made = SourceBlockEncoder::new(alloc, 0, &config, &[7; 3], &mut cache);
+    assert!(rt; made == Err(Error::WrongDataLength) && cache.len() == 0);
     Ok(())
 }
 

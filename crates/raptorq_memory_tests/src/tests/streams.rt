@@ -215,7 +215,7 @@ fn asks(rt: HostRuntime) -> Result<(), Fail> {
 
 #[test]
 fn reports(rt: HostRuntime) -> Result<(), Fail> {
-    let cases: [(Option<Result<(Outcome, u64), Stop>>, &str, u8); 8] = [
+    let cases: [(Option<Result<(Outcome, u64), Stop>>, &str, u8); 10] = [
         (Some(Ok((Outcome::Written, 0))), "", 0),
         (Some(Ok((Outcome::Written, 3))), "skipped 3\n", 0),
         (Some(Err(Stop::Fault)), "fault\n", 1),
@@ -233,6 +233,16 @@ fn reports(rt: HostRuntime) -> Result<(), Fail> {
         (
             Some(Err(Stop::Refused(Error::OutOfMemory))),
             "refused 21\n",
+            3,
+        ),
+        (
+            Some(Err(Stop::Refused(Error::PacketTooShort))),
+            "refused 12\n",
+            3,
+        ),
+        (
+            Some(Err(Stop::Refused(Error::WrongPayloadSize))),
+            "refused 13\n",
             3,
         ),
         (None, "usage: rq send SIZE REPAIR | rq receive\n", 4),

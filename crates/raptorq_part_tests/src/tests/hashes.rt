@@ -1,4 +1,5 @@
-//! Hashes and orders of packets, with their ids, and of operations.
+//! Hashes and orders of ids, of packets and of operations.
+use raptorq::PayloadId;
 use raptorq::octet::Octet;
 use raptorq::operation_vector::SymbolOps;
 use raptorq_test_kit::packets::packet;
@@ -9,6 +10,17 @@ fn hash_of<T: Hash>(value: &T) -> u64 {
     let mut state = DefaultHasher::new();
     value.hash(&mut state);
     state.finish()
+}
+
+// The block's number counts first, and then the symbol's.
+#[test]
+fn ids(rt: HostRuntime) -> Result<(), Fail> {
+    let first = PayloadId::new(0, 9)?;
+    let second = PayloadId::new(1, 7)?;
+    assert!(rt; first < second && second < PayloadId::new(1, 8)?);
+    assert_eq!(rt; hash_of(&second), hash_of(&second.clone()?));
+    assert!(rt; hash_of(&second) != hash_of(&PayloadId::new(7, 1)?));
+    Ok(())
 }
 
 // The block's number counts first, then the symbol's, and then the payload, octet by octet.
