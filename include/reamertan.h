@@ -74,9 +74,11 @@ enum reamertan_answer {
     REAMERTAN_TOO_MANY_BLOCKS = 18,
     /* malloc or realloc refused. */
     REAMERTAN_OUT_OF_MEMORY = 21,
+    /* The packets of a block determine it, and no block fits all of them: some are damaged or forged. */
+    REAMERTAN_CONTRADICTION = 22,
     /* A buffer that is to be filled has another length than what is to be written. */
     REAMERTAN_WRONG_BUFFER = 24,
-    /* The packets don't determine the object: more are needed. */
+    /* The packets don't determine the object, or some of them contradict each other. */
     REAMERTAN_INCOMPLETE = 25,
     /* The handle holds no coder, or one of the other kind. */
     REAMERTAN_NO_CODER = 26
@@ -154,12 +156,13 @@ uint8_t reamertan_encode(const uint8_t configuration[REAMERTAN_CONFIGURATION_BYT
 /* Fills `object` with the object of packets, in any order, each any number of times, where they
  * determine it. They lie one behind another in `packets`. `object_length` has to be the object's, F. What
  * is written, and whether anything is, is said of packets of one object alone: others, forged or damaged,
- * may give other bytes, INCOMPLETE or WRONG_BUFFER.
+ * may give other bytes, CONTRADICTION, INCOMPLETE or WRONG_BUFFER.
  *
  * Refuses, in this order: PACKET_TOO_SHORT where the last packet is shorter than its id, what
  * `reamertan_check_configuration` refuses, of the first packet that is refused UNKNOWN_BLOCK or else
- * WRONG_PAYLOAD_SIZE (the last packet may be cut short), INCOMPLETE, WRONG_BUFFER. OUT_OF_MEMORY may
- * come before any. */
+ * WRONG_PAYLOAD_SIZE (the last packet may be cut short) or else CONTRADICTION,
+ * where with it those of its block, which has no answer yet, determine the block and no block fits them
+ * all, INCOMPLETE, WRONG_BUFFER. OUT_OF_MEMORY may come before any. */
 uint8_t reamertan_decode(const uint8_t configuration[REAMERTAN_CONFIGURATION_BYTES],
                          const uint8_t *packets, size_t packets_length, uint8_t *object,
                          size_t object_length);
@@ -205,14 +208,17 @@ uint8_t reamertan_open_decoder(const uint8_t configuration[REAMERTAN_CONFIGURATI
  * unless memory was refused before: then its block is tried again.
  *
  * Refuses, in this order: NO_CODER where the handle holds no decoder, PACKET_TOO_SHORT, UNKNOWN_BLOCK,
- * WRONG_PAYLOAD_SIZE; the decoder then holds what it held. OUT_OF_MEMORY may come before any but the
- * first, and then the packet may be taken or not, unless it is one to be refused; hand it in again. */
+ * WRONG_PAYLOAD_SIZE; the decoder then holds what it held. And then CONTRADICTION, where with the
+ * packet those of its block, which has no answer yet, determine the block and no block fits them all: it
+ * is taken, each later packet of its block is refused so too, and the object is never complete. OUT_OF_MEMORY may come before any but the first, and then the packet may be
+ * taken or not, unless it is one to be refused; hand it in again. */
 uint8_t reamertan_add_packet(struct reamertan_handle *handle, const uint8_t *packet,
                              size_t packet_length);
 
 /* Fills `object` with the object, where the packets that were taken determine it. `object_length` has to
  * be the object's, F. What is written is the object where the packets are the object's: packets that were
- * forged, or damaged but for their ids, give other bytes. The decoder stays as it is.
+ * forged, or damaged but for their ids, and don't contradict each other, give other bytes. The decoder
+ * stays as it is.
  *
  * Refuses, in this order: NO_CODER where the handle holds no decoder, INCOMPLETE, WRONG_BUFFER.
  * OUT_OF_MEMORY may come before the last two. So a buffer of another length tells whether the object is

@@ -28,6 +28,9 @@ pub struct Range {
 #[derive(Clone, Copy, Debug, PartialEq, Eq)]
 pub struct Refusal(pub u8);
 
+/// The packets contradict each other.
+pub const CONTRADICTION: Refusal = Refusal(22);
+
 /// The packets don't determine the object.
 pub const INCOMPLETE: Refusal = Refusal(25);
 

@@ -1,7 +1,7 @@
 //! The decoder.
 
 use crate::base::{EncodingPacket, ObjectTransmissionInformation};
-use crate::calls::{self, INCOMPLETE};
+use crate::calls::{self, CONTRADICTION, INCOMPLETE};
 use std::collections::BTreeSet;
 
 // What came of a block, and its bytes once they are determined.
@@ -29,7 +29,7 @@ impl Block {
         let mut bytes = vec![0; self.symbols as usize * usize::from(config.symbol_size())];
         match calls::decode(&config.of_block(self.symbols), &self.packets, &mut bytes) {
             Ok(()) => self.answer = Some(bytes),
-            Err(INCOMPLETE) => {}
+            Err(INCOMPLETE | CONTRADICTION) => {}
             Err(refusal) => panic!("{refusal}"),
         }
     }
@@ -84,7 +84,7 @@ impl Decoder {
         self.blocks[number].take(&self.config, packet);
     }
 
-    /// The object, where its packets determine it.
+    /// The object, where its packets determine it. None where some contradicted each other.
     pub fn get_result(&self) -> Option<Vec<u8>> {
         let mut object = Vec::new();
         for block in &self.blocks {

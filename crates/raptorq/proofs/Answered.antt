@@ -1,12 +1,13 @@
 -- What a decoder of a block answers.
-use Rattle.std.proofs.Common.{◌≡◌, ℕ, ◌*◌, ◌<◌, true, List, length, Option, Some, None, refl, sym, ap, ◌∙◌, subst, arith, inl, inr}
+use Rattle.std.proofs.Common.{◌≡◌, ℕ, ◌*◌, ◌<◌, true, List, length, Option, Some, None, refl, sym, ap, ◌∙◌, arith, inl, inr}
 use Rattle.std.specs.Prelude.{is_some, IsSome, IfSome, unwrap_or}
 use Rattle.std.specs.Option.{ForSome}
 use Rattle.rq_bytes.specs.SymbolSlab.{Slab, symbol_in}
 use Rattle.rq_standard.specs.Cutting.{symbol_of_block, plain_symbol}
 use Rattle.rq_standard.specs.TableRows.{IsChecked}
 use Rattle.rq_standard.specs.Equations.{tuple_sum, internal_id}
-use Rattle.rq_standard.specs.Held.{Held, holds, SolvesHeld, AreHeldDetermining, IsBlockWith, IsBlockAnswer}
+use Rattle.rq_standard.specs.Held.{Held, holds, SolvesHeld, HasSolution, AreHeldDetermining, IsBlockWith, IsBlockAnswer}
+use Rattle.rq_standard.specs.Received.{HasSourceSymbols}
 use Rattle.rq_standard.proofs.Columns.{sum_symbol, sum_same}
 use Rattle.raptorq.specs.Known.{IsHeldSolution, rebuilt_symbol}
 use Rattle.raptorq.specs.Missing.{missing_count}
@@ -17,38 +18,24 @@ pub some_by : (o : Option (List ℕ)) → is_some o ≡ true → IsSome o
 some_by None h = absurd (cc h)
 some_by (Some x) h = refl
 
-if_some : (o : Option (List ℕ)) (x y : List ℕ) → o ≡ Some x → x ≡ y → IfSome o (λ payload. payload ≡ y)
-if_some o x y is same = subst (λ r. IfSome r (λ payload. payload ≡ y)) (sym is) same
-
 -- a source symbol that came is the sum of any column that solves what is held
 came_source : (h : Held) (column : ℕ → List ℕ) (e : ℕ) (x : List ℕ) → SolvesHeld h column → e < h.symbols → h.received e ≡ Some x → x ≡ tuple_sum h.row column e
 came_source h column e x z below is = came_sum (h.received e) x (tuple_sum h.row column (internal_id h.row h.symbols e)) is (z.received e) ∙ ap (tuple_sum h.row column) (internal_below h.row h.symbols e below)
 
 -- ---- from all source symbols
 
+-- nothing is missing
+pub holds_source : (h : Held) (missing : ℕ) → missing ≡ missing_count h.symbols (holds h) → missing ≡ 0 → HasSourceSymbols h.symbols (holds h)
+holds_source h missing counted none = record { each = missing_count-zero h.symbols (holds h) (sym counted ∙ none) }
+
+pub answer-all : (h : Held) (block : List ℕ) → HasSourceSymbols h.symbols (holds h) → IsBlockWith h block → (AreHeldDetermining h → HasSolution h) → IsBlockAnswer h (Some block)
+answer-all h block all is solved = record { some = λ _. inl all; none = λ _. refl; block = is; solved = λ _. solved }
+
+-- ---- from the intermediate symbols
+
 -- a block cut into symbols that stand elsewhere one after another
 abbrev pub IsCutAs : (h : Held) (plain block : List ℕ) → Type 0
 IsCutAs h plain block = (e : ℕ) → e < h.symbols → symbol_of_block h.configuration h.symbols block e ≡ plain_symbol h.configuration.symbol_size plain e
-
-pub block_of_all : (h : Held) (size : ℕ) (plain block : List ℕ) → IsCutAs h plain block → size ≡ h.configuration.symbol_size → length block ≡ h.symbols * h.configuration.symbol_size → ((e : ℕ) → e < h.symbols → h.received e ≡ Some (plain_symbol size plain e)) → IsBlockWith h block
-block_of_all h size plain block same is long each =
-    let cut : (e : ℕ) → e < h.symbols → plain_symbol size plain e ≡ symbol_of_block h.configuration h.symbols block e = λ e below. ap (λ s. plain_symbol s plain e) is ∙ sym (same e below) in
-    record {
-      long = long;
-      each = λ e below. if_some (h.received e) (plain_symbol size plain e) (symbol_of_block h.configuration h.symbols block e) (each e below) (cut e below);
-      solved = λ d column z e below. sym (cut e below) ∙ came_source h column e (plain_symbol size plain e) z below (each e below);
-    }
-
--- nothing is missing
-pub answer-all : (h : Held) (missing size : ℕ) (plain block : List ℕ) → IsCutAs h plain block → missing ≡ missing_count h.symbols (holds h) → missing ≡ 0 → size ≡ h.configuration.symbol_size → length block ≡ h.symbols * h.configuration.symbol_size
-    → ((e : ℕ) → e < h.symbols → h.received e ≡ Some (plain_symbol size plain e)) → IsBlockAnswer h (Some block)
-answer-all h missing size plain block same counted none is long each = record {
-  some = λ _. inl (record { each = missing_count-zero h.symbols (holds h) (sym counted ∙ none) });
-  none = λ _. refl;
-  block = block_of_all h size plain block same is long each;
-}
-
--- ---- from the intermediate symbols
 
 rebuilt_length : (o : Option (List ℕ)) (sum : List ℕ) (size : ℕ) → ForSome o (λ payload. length payload ≡ size) → length sum ≡ size → length (unwrap_or o sum) ≡ size
 rebuilt_length None sum size sized long = long
@@ -89,4 +76,5 @@ answer-none h missing counted some undetermined = record {
     | inr d ↦ undetermined d
   ]);
   block = tt;
+  solved = λ s. absurd (cc s);
 }

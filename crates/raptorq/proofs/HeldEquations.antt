@@ -21,9 +21,8 @@ use Rattle.rq_standard.specs.Headline.{known_ids, DetermineBlock}
 use Rattle.rq_standard.specs.Held.{Held, holds, SolvesHeld, AreHeldDetermining}
 use Rattle.rq_standard.proofs.Known.{known_source, known_padding, known_repair, range_at, determined_by, determined_list, block_same, few_not_determining}
 use Rattle.rq_standard.proofs.Columns.{sum_at}
-use Rattle.raptorq.specs.Known.{known_list, known_values, IsHeldSolution}
-use Rattle.raptorq.specs.BlockSolutions.{IsBlockSolution, first_equations}
-use Rattle.rq_bytes.specs.SymbolSlab.{Slab, slab_of}
+use Rattle.raptorq.specs.Known.{known_list, known_values}
+use Rattle.raptorq.specs.BlockSolutions.{first_equations}
 use Rattle.raptorq.specs.Missing.{payload_of, has_payload}
 use Rattle.raptorq.proofs.Listing.{entry_payload, length-known_list, length-known_values}
 use Rattle.raptorq.proofs.Payloads.{is_eq-nat_cmp}
@@ -59,6 +58,9 @@ read_at (y ∷ xs) zero x h = same y x h where
   same y x h = cc
 read_at (y ∷ xs) (suc i) x h = read_at xs i x h
 
+payload_same : (x y : List ℕ) → Some x ≡ Some y → x ≡ y
+payload_same x y e = cc
+
 pub came_sum : (o : Option (List ℕ)) (x y : List ℕ) → o ≡ Some x → IfSome o (λ payload. payload ≡ y) → x ≡ y
 came_sum o x y is h = subst (λ r. IfSome r (λ payload. payload ≡ y)) is h
 
@@ -76,51 +78,79 @@ pub record IsPayload (row : TableRow) (k : ℕ) (m : Payloads) (x : ℕ) (value 
   pub id : x ≡ internal_id row k esi
 
 module _ (row : TableRow) (k size : ℕ) (m : Payloads) (fits : k ≤ row.extended_symbols) (ordered : IsOrdered nat_cmp m) where
+  -- the values before the payloads are zeros
+  pub zero_at : (f i : ℕ) → i < f + (row.extended_symbols - k) → symbol_at (known_values row k f size m.entries) i ≡ zero_symbol size
+  zero_at f i below =
+      let n : ℕ = f + (row.extended_symbols - k) in
+      get_or_append_left (replicate n (zero_symbol size)) (map (λ e. e.1.items) m.entries) [] i (omega (arith, length-replicate n (zero_symbol size))) ∙ get_or-replicate n i (zero_symbol size) [] below
+
+  -- an id of the padding
+  pub padding_at : (j : ℕ) → j < row.extended_symbols - k → at (known_list row k m.entries) j ≡ k + j
+  padding_at j below =
+      let n : ℕ = row.extended_symbols - k in
+      get_or_append_left (range_with_len k n) (map (λ e. internal_id row k e.0) m.entries) 0 j (omega (arith, length-range_with_len k n)) ∙ range_at k n j below
+
+  -- the id and the value of an entry
+  entry_id : (i e : ℕ) (v : Vec ℕ Global) → i < length m.entries → get_or m.entries i (e, v) ≡ (e, v) → at (known_list row k m.entries) (row.extended_symbols - k + i) ≡ internal_id row k e
+  entry_id i e v within is =
+      let n : ℕ = row.extended_symbols - k in
+      let named : List ℕ = map (λ x. internal_id row k x.0) m.entries in
+      get_or-append_right (range_with_len k n) named n (n + i) 0 (length-range_with_len k n) (omega arith)
+      ∙ ap (λ j. get_or named j 0) (let z : n + i - n ≡ i = omega arith in z)
+      ∙ get_or-map (λ x. internal_id row k x.0) m.entries i (e, v) 0 within ∙ ap (λ x. internal_id row k x.0) is
+
+  entry_value : (f i e : ℕ) (v : Vec ℕ Global) → i < length m.entries → get_or m.entries i (e, v) ≡ (e, v) → symbol_at (known_values row k f size m.entries) (f + (row.extended_symbols - k + i)) ≡ v.items
+  entry_value f i e v within is =
+      let n : ℕ = f + (row.extended_symbols - k) in
+      let values : List (List ℕ) = map (λ x. x.1.items) m.entries in
+      get_or-append_right (replicate n (zero_symbol size)) values n (f + (row.extended_symbols - k + i)) [] (length-replicate n (zero_symbol size)) (omega arith)
+      ∙ ap (λ j. get_or values j []) (let z : f + (row.extended_symbols - k + i) - n ≡ i = omega arith in z)
+      ∙ get_or-map (λ x. x.1.items) m.entries i (e, v) [] within ∙ ap (λ x. x.1.items) is
+
   -- the ids and the values of the symbol equations, one by one
-  known_at : (f j : ℕ) → j < length (known_list row k m.entries)
+  pub known_at : (f j : ℕ) → j < length (known_list row k m.entries)
       → IsPadding row k size j (at (known_list row k m.entries) j) (symbol_at (known_values row k f size m.entries) (f + j)) ⊎ IsPayload row k m (at (known_list row k m.entries) j) (symbol_at (known_values row k f size m.entries) (f + j))
   known_at f j below =
-      let pad : ℕ = row.extended_symbols - k in
-      let ids : List ℕ = range_with_len k pad in
-      let zeros : List (List ℕ) = replicate (f + pad) (zero_symbol size) in
-      let named : List ℕ = map (λ e. internal_id row k e.0) m.entries in
-      let values : List (List ℕ) = map (λ e. e.1.items) m.entries in
-      elim (cases_lt j pad) [
+      let n : ℕ = row.extended_symbols - k in
+      elim (cases_lt j n) [
         | inl lt ↦
-            let id : at (known_list row k m.entries) j ≡ k + j = get_or_append_left ids named 0 j (omega (arith, length-range_with_len k pad)) ∙ range_at k pad j lt in
-            inl (record {
-              from = omega (arith, id);
-              below = omega (arith, id);
-              is_zero = get_or_append_left zeros values [] (f + j) (omega (arith, length-replicate (f + pad) (zero_symbol size))) ∙ get_or-replicate (f + pad) (f + j) (zero_symbol size) [] (omega arith);
-            })
-        | inr past ↦ elim (slice_get_cases m.entries (j - pad)).1 [
-          | inl q ↦ inr (record {
-            esi = q.0.0;
-            came = entry_payload m (j - pad) q.0.0 q.0.1 ordered q.2 ∙ ap (λ v. Some v) (sym (
-                get_or-append_right zeros values (f + pad) (f + j) [] (length-replicate (f + pad) (zero_symbol size)) (omega arith)
-                ∙ ap (λ n. get_or values n []) (let e : f + j - (f + pad) ≡ j - pad = omega arith in e)
-                ∙ get_or-map (λ e. e.1.items) m.entries (j - pad) q.0 [] q.1 ∙ ap (λ e. e.1.items) q.3));
-            id = get_or-append_right ids named pad j 0 (length-range_with_len k pad) past ∙ get_or-map (λ e. internal_id row k e.0) m.entries (j - pad) q.0 0 q.1 ∙ ap (λ e. internal_id row k e.0) q.3;
-          })
+            let id = padding_at j lt in
+            inl (record { from = omega (arith, id); below = omega (arith, id); is_zero = zero_at f (f + j) (omega arith) })
+        | inr past ↦ elim (slice_get_cases m.entries (j - n)).1 [
+          | inl q ↦
+              let here : n + (j - n) ≡ j = omega arith in
+              let is : get_or m.entries (j - n) (q.0.0, q.0.1) ≡ (q.0.0, q.0.1) = q.3 in
+              inr (record {
+                esi = q.0.0;
+                came = entry_payload m (j - n) q.0.0 q.0.1 ordered q.2 ∙ ap (λ v. Some v) (sym (entry_value f (j - n) q.0.0 q.0.1 q.1 is) ∙ ap (λ i. symbol_at (known_values row k f size m.entries) (f + i)) here);
+                id = ap (at (known_list row k m.entries)) (sym here) ∙ entry_id (j - n) q.0.0 q.0.1 q.1 is;
+              })
           | inr q ↦ absurd (omega (arith, length-known_list row k m.entries, q.0))
         ]
       ]
 
-  -- an id that came has a place
-  place_came : (e : ℕ) → has_payload m e ≡ true → (j : ℕ) × (j < length (known_list row k m.entries)) × (at (known_list row k m.entries) j ≡ internal_id row k e)
-  place_came e came =
-      let pad : ℕ = row.extended_symbols - k in
-      let some = some_value (get nat_cmp m e) came in
+  -- what came has a place
+  pub place_of : (f e : ℕ) (x : List ℕ) → payload_of m e ≡ Some x
+      → (j : ℕ) × (j < length (known_list row k m.entries)) × (at (known_list row k m.entries) j ≡ internal_id row k e) × (symbol_at (known_values row k f size m.entries) (f + j) ≡ x)
+  place_of f e x came =
+      let some = some_value (get nat_cmp m e) (ap is_some came) in
       let q = place_from_lookup (is_at (nat_cmp e)) m.entries some.0 some.1 in
       let key : e ≡ q.1 = eqb-true e q.1 (sym (is_eq-nat_cmp e q.1) ∙ q.3) in
-      let within : q.0 < length m.entries = slice_get_within m.entries q.0 (q.1, some.0) q.2 in (
-        pad + q.0,
+      let within : q.0 < length m.entries = slice_get_within m.entries q.0 (q.1, some.0) q.2 in
+      let is = read_at m.entries q.0 (q.1, some.0) q.2 in
+      let held : some.0.items ≡ x = payload_same some.0.items x (sym (ap (option_map vec_items) some.1) ∙ came) in (
+        row.extended_symbols - k + q.0,
         (omega (arith, length-known_list row k m.entries, within)),
-        get_or-append_right (range_with_len k pad) (map (λ x. internal_id row k x.0) m.entries) pad (pad + q.0) 0 (length-range_with_len k pad) (omega arith)
-            ∙ ap (λ n. get_or (map (λ x. internal_id row k x.0) m.entries) n 0) (let z : pad + q.0 - pad ≡ q.0 = omega arith in z)
-            ∙ get_or-map (λ x. internal_id row k x.0) m.entries q.0 (q.1, some.0) 0 within
-            ∙ ap (λ x. internal_id row k x.0) (read_at m.entries q.0 (q.1, some.0) q.2) ∙ ap (internal_id row k) (sym key),
+        entry_id q.0 q.1 some.0 within is ∙ ap (internal_id row k) (sym key),
+        entry_value f q.0 q.1 some.0 within is ∙ held,
       )
+
+  -- an id that came has one
+  place_came : (e : ℕ) → has_payload m e ≡ true → (j : ℕ) × (j < length (known_list row k m.entries)) × (at (known_list row k m.entries) j ≡ internal_id row k e)
+  place_came e came =
+      let some = some_value (get nat_cmp m e) came in
+      let q = place_of 0 e some.0.items (ap (option_map vec_items) some.1) in
+      (q.0, q.1, q.2)
 
   -- the ids are the known ones
   pub known_listed : IsListOf (known_ids row k (has_payload m)) (known_list row k m.entries)
@@ -134,12 +164,7 @@ module _ (row : TableRow) (k size : ℕ) (m : Payloads) (fits : k ≤ row.extend
           let q = place_came x (sym (known_source row k x (has_payload m) below) ∙ known) in
           (q.0, q.1, q.2 ∙ internal_below row k x below)
       | inr above ↦ elim (cases_lt x row.extended_symbols) [
-        | inl below ↦ (
-          x - k,
-          (omega (arith, length-known_list row k m.entries)),
-          get_or_append_left (range_with_len k (row.extended_symbols - k)) (map (λ e. internal_id row k e.0) m.entries) 0 (x - k) (omega (arith, length-range_with_len k (row.extended_symbols - k)))
-              ∙ range_at k (row.extended_symbols - k) (x - k) (omega arith) ∙ omega arith,
-        )
+        | inl below ↦ (x - k, (omega (arith, length-known_list row k m.entries)), padding_at (x - k) (omega arith) ∙ omega arith)
         | inr past ↦
             let q = place_came (x + k - row.extended_symbols) (sym (known_repair row k x (has_payload m) above past) ∙ known) in
             (q.0, q.1, q.2 ∙ internal_above row k (x + k - row.extended_symbols) (omega arith) ∙ omega arith)
@@ -160,7 +185,7 @@ module _ (row : TableRow) (k size : ℕ) (m : Payloads) (fits : k ≤ row.extend
 
 module _ (h : Held) (m : Payloads) (fits : h.symbols ≤ h.row.extended_symbols) (ordered : IsOrdered nat_cmp m) (checked : IsChecked h.row) (same : (e : ℕ) → h.received e ≡ payload_of m e) where
   -- a column that solves what is held solves the first of the equations with their values
-  values_solved : (fixed : ℕ) → fixed ≤ h.row.ldpc_symbols + h.row.hdpc_symbols → (column : ℕ → List ℕ) → SolvesHeld h column
+  pub values_solved : (fixed : ℕ) → fixed ≤ h.row.ldpc_symbols + h.row.hdpc_symbols → (column : ℕ → List ℕ) → SolvesHeld h column
       → SolvesSymbols octets (fixed + length (known_list h.row h.symbols m.entries)) (intermediate_symbols h.row) (first_equations h.row fixed (known_list h.row h.symbols m.entries)) column (symbol_at (known_values h.row h.symbols fixed h.configuration.symbol_size m.entries))
   values_solved f few column z =
       let row = h.row in
@@ -174,9 +199,7 @@ module _ (h : Held) (m : Payloads) (fits : h.symbols ≤ h.row.extended_symbols)
             | inl lt ↦
                 ap (λ (r : ℕ → ℕ). dot octets (intermediate_symbols row) r (slice_at p column)) (stacked_above f (fixed_equations row) (rows_of (symbol_coefficient row) ids) i lt)
                 ∙ (z.fixed.at_place p).at i (omega arith)
-                ∙ ap (λ xs. at xs p) (sym (
-                get_or_append_left (replicate (f + (row.extended_symbols - k)) (zero_symbol size)) (map (λ e. e.1.items) m.entries) [] i (omega (arith, length-replicate (f + (row.extended_symbols - k)) (zero_symbol size)))
-                ∙ get_or-replicate (f + (row.extended_symbols - k)) i (zero_symbol size) [] (omega arith)))
+                ∙ ap (λ xs. at xs p) (sym (zero_at row k size m fits ordered f i (omega arith)))
             | inr past ↦
                 let j : ℕ = i - f in
                 let e : f + j ≡ i = omega arith in
@@ -191,29 +214,17 @@ module _ (h : Held) (m : Payloads) (fits : h.symbols ≤ h.row.extended_symbols)
         };
       }
 
-  -- what a solver finds of them
-  held_solution : (fixed : ℕ) → fixed ≤ h.row.ldpc_symbols + h.row.hdpc_symbols → (slab : Slab)
-      → IsBlockSolution h.row fixed (known_list h.row h.symbols m.entries) h.configuration.symbol_size (known_values h.row h.symbols fixed h.configuration.symbol_size m.entries) slab → IsHeldSolution h slab
-  held_solution fixed few slab s =
-      let has : (e : ℕ) → holds h e ≡ has_payload m e = λ e. ap is_some (same e) in
-      record {
-        determined = block_same h.row h.symbols (has_payload m) (holds h) (λ e. sym (has e)) (determined_by h.row (known_ids h.row h.symbols (has_payload m)) (known_list h.row h.symbols m.entries) (known_listed h.row h.symbols h.configuration.symbol_size m fits ordered).listed s.determined);
-        enough = s.enough;
-        size_is = s.size_is;
-        symbols = s.symbols;
-        only = λ column z. s.only column z.symbols (values_solved fixed few column z);
-      }
+  -- where it finds something, they do
+  pub is_held : HasDeterminedRows h.row (known_list h.row h.symbols m.entries) → AreHeldDetermining h
+  is_held d =
+      block_same h.row h.symbols (has_payload m) (holds h) (λ e. sym (ap is_some (same e)))
+      (determined_by h.row (known_ids h.row h.symbols (has_payload m)) (known_list h.row h.symbols m.entries) (known_listed h.row h.symbols h.configuration.symbol_size m fits ordered).listed d)
 
-  -- where it finds nothing, the ids don't determine the block
-  pub not_held : (HasDeterminedRows h.row (known_list h.row h.symbols m.entries) → ⊥) → AreHeldDetermining h → ⊥
-  not_held none d = none (determined_list h.row (known_ids h.row h.symbols (has_payload m)) (known_list h.row h.symbols m.entries) (known_listed h.row h.symbols h.configuration.symbol_size m fits ordered) (block_same h.row h.symbols (holds h) (has_payload m) (λ e. ap is_some (same e)) d))
+  -- and where they do, so do the rows
+  pub held_rows : AreHeldDetermining h → HasDeterminedRows h.row (known_list h.row h.symbols m.entries)
+  held_rows d =
+      determined_list h.row (known_ids h.row h.symbols (has_payload m)) (known_list h.row h.symbols m.entries) (known_listed h.row h.symbols h.configuration.symbol_size m fits ordered)
+      (block_same h.row h.symbols (holds h) (has_payload m) (λ e. ap is_some (same e)) d)
 
   pub too_few : (h.row.extended_symbols - h.symbols) + length m.entries < h.row.extended_symbols → AreHeldDetermining h → ⊥
   too_few few d = few_held h.row h.symbols h.configuration.symbol_size m fits ordered few (block_same h.row h.symbols (holds h) (has_payload m) (λ e. ap is_some (same e)) d)
-
-  -- a solution that was found of them
-  pub solves_held : (fixed size : ℕ) (ids : List ℕ) (given slab : Slab) → fixed ≤ h.row.ldpc_symbols + h.row.hdpc_symbols → size ≡ h.configuration.symbol_size → ids ≡ known_list h.row h.symbols m.entries → given ≡ slab_of size (known_values h.row h.symbols fixed size m.entries)
-      → IsBlockSolution h.row fixed ids given.symbol_size given.values slab → IsHeldSolution h slab
-  solves_held fixed size ids given slab few is listed values found =
-      held_solution fixed few slab (subst (λ n. IsBlockSolution h.row fixed (known_list h.row h.symbols m.entries) n (known_values h.row h.symbols fixed n m.entries) slab) is
-      (subst (λ l. IsBlockSolution h.row fixed l size (known_values h.row h.symbols fixed size m.entries) slab) listed (subst (λ (g : Slab). IsBlockSolution h.row fixed ids g.symbol_size g.values slab) values found)))

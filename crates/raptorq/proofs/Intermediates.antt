@@ -4,13 +4,13 @@ use Rattle.std.specs.List.{range_with_len}
 use Rattle.std.proofs.lemmas.Bool.{cases_lt}
 use Rattle.std.proofs.lemmas.List.{get_or_append_left, get_or-append_right, get_or-replicate, get_or_past, length-append, length-replicate}
 use Rattle.std.proofs.lemmas.List.FromFn.{length-range_with_len}
-use Rattle.std.proofs.lemmas.List.Elements.{All-from_get_or}
 use Rattle.rq_algebra.specs.Systems.{at}
 use Rattle.rq_algebra.specs.Operations.{Operation, AreAllowed, FindsColumn}
 use Rattle.rq_algebra.specs.Symbols.{IsSymbol, AreSymbols, SolvesSymbols, symbol_at, slice_at}
 use Rattle.rq_algebra.proofs.Stacks.{stacked_above, stacked_below}
 use Rattle.rq_algebra.proofs.Solutions.{solves_same}
 use Rattle.rq_algebra.proofs.Found.{finds_determined, found_are_symbols, found_only, found_solves}
+use Rattle.rq_algebra.proofs.SymbolSums.{zeros_are_symbol}
 use Rattle.rq_bytes.specs.SymbolOps.{operation_of}
 use Rattle.rq_bytes.specs.SymbolSlab.{slab_of, symbol_in}
 use Rattle.rq_solver.proofs.SolutionLaws.{found_places}
@@ -64,16 +64,10 @@ values_are row size i source fits below =
 
 -- ---- symbols
 
-zeros_are : (size : ℕ) → IsSymbol octets size (zero_symbol size)
-zeros_are size = record {
-  size_is = length-replicate {A = ℕ} size 0;
-  elements = All-from_get_or (λ x. x < 256) (zero_symbol size) 0 (λ k l. let e : get_or (zero_symbol size) k 0 ≡ 0 = get_or-replicate size k 0 0 (omega (arith, length-replicate {A = ℕ} size 0)) in omega arith);
-}
-
 module _ (row : TableRow) (size : ℕ) (source : List (List ℕ)) (fits : length source ≤ row.extended_symbols) where
   value_is : (i : ℕ) → AreSymbols octets size (length source) source → IsSymbol octets size (equation_values row size source i)
   value_is i are = elim (cases_lt i (row.ldpc_symbols + row.hdpc_symbols)) [
-    | inl lt ↦ subst (IsSymbol octets size) (sym (stacked_above (row.ldpc_symbols + row.hdpc_symbols) (λ _. zero_symbol size) (λ j. get_or source j (zero_symbol size)) i lt)) (zeros_are size)
+    | inl lt ↦ subst (IsSymbol octets size) (sym (stacked_above (row.ldpc_symbols + row.hdpc_symbols) (λ _. zero_symbol size) (λ j. get_or source j (zero_symbol size)) i lt)) (zeros_are_symbol octets size)
     | inr past ↦
         let f : ℕ = row.ldpc_symbols + row.hdpc_symbols in
         let j : ℕ = i - f in
@@ -81,7 +75,7 @@ module _ (row : TableRow) (size : ℕ) (source : List (List ℕ)) (fits : length
         let read : get_or source j (zero_symbol size) ≡ equation_values row size source i = sym (stacked_below f (λ _. zero_symbol size) (λ k. get_or source k (zero_symbol size)) j) ∙ ap (equation_values row size source) e in
         subst (IsSymbol octets size) read (elim (cases_lt j (length source)) [
           | inl here ↦ subst (IsSymbol octets size) (at_any source j [] (zero_symbol size) here) (are.each j here)
-          | inr none ↦ subst (IsSymbol octets size) (sym (get_or_past source j (zero_symbol size) none)) (zeros_are size)
+          | inr none ↦ subst (IsSymbol octets size) (sym (get_or_past source j (zero_symbol size) none)) (zeros_are_symbol octets size)
         ])
   ]
 

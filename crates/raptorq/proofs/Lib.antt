@@ -6,7 +6,9 @@ pub mod Came
 pub mod EncodedBlocks
 pub mod Encodes
 pub mod Filling
+pub mod HdpcSums
 pub mod HeldEquations
+pub mod HeldSolutions
 pub mod Interleaving
 pub mod Intermediates
 pub mod Listing

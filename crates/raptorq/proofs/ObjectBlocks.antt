@@ -14,7 +14,7 @@ use Rattle.rq_standard.specs.Packet.{Packet}
 use Rattle.rq_standard.specs.Configuration.{Configuration}
 use Rattle.rq_standard.specs.Cutting.{block_symbols}
 use Rattle.rq_standard.specs.TableRows.{no_row}
-use Rattle.rq_standard.specs.Held.{Held, nothing_held}
+use Rattle.rq_standard.specs.Held.{Held, nothing_held, IsContradictory}
 use Rattle.rq_standard.specs.Standing.{State, new_held, new_answer, IsNewState, AddsToBlock, RecordsInBlock, IsSameElsewhere, Adds, RecordsOnly, append_both, joined, result_of}
 use Rattle.rq_standard.proofs.ObjectAnswers.{joined_some, joined_each, some_of}
 use Rattle.raptorq.specs.SourceBlockDecoder.{held_of}
@@ -22,7 +22,7 @@ use Rattle.raptorq.specs.Decoder.{held_at, answer_at, answer_of}
 use Rattle.raptorq.specs.Refused.{block_refusal}
 use Rattle.raptorq.specs.Stopping.{AddsInBlockOrStops, AddsOrStops}
 use Rattle.raptorq.specs.declared.decoder.stopped.Stopped.{Stopped}
-use Rattle.raptorq.specs.declared.decoder.stopped.Stopped.TheVariants.{Refused, NotRecorded, NotSolved, NotJoined}
+use Rattle.raptorq.specs.declared.decoder.stopped.Stopped.TheVariants.{Refused, NotRecorded, NotSolved, Contradicted, NotJoined}
 use Rattle.raptorq.proofs.Numbered.{length-mapped, length-numbered}
 use Rattle.raptorq.specs.declared.decoder.object.ObjectBlock.{ObjectBlock}
 
@@ -112,6 +112,10 @@ module _ (c : Configuration) (items : List ObjectBlock) (p : Packet) (x y : Obje
   pub takes_at : (result : Result (Unit {0}) Stopped) → AddsInBlockOrStops (held_of x.decoder) (answer_of x) p result (held_of y.decoder) (answer_of y) → AddsOrStops (state c items) p result (state c (set items p.id.block y))
   takes_at (Ok u) so = adds_at so
   takes_at (Err NotSolved) so = records_at so
+  takes_at (Err Contradicted) so = record {
+    records = records_at so.0;
+    contradictory = subst IsContradictory (sym (held_here c (set items p.id.block y) p.id.block y (within items p.id.block y below) (after items p.id.block y below))) so.1;
+  }
   takes_at (Err NotRecorded) so = stays_at so.0 so.1
   takes_at (Err NotJoined) so = so
   takes_at (Err (Refused e)) so = absurd so

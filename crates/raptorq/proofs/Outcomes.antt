@@ -1,16 +1,17 @@
 -- What a solver's outcome says of a block's equations.
-use Rattle.std.proofs.Common.{◌≡◌, ℕ, zero, suc, ◌<◌, ◌≤◌, List, [], get_or, Option, None, Some, Vec, Global, length, map, sym, ap, ◌+◌, ◌-◌, ◌∙◌, subst, arith, inl, inr}
+use Rattle.std.proofs.Common.{◌≡◌, ℕ, zero, suc, ◌<◌, ◌≤◌, List, [], get_or, Option, None, Some, Vec, Global, length, map, replicate, sym, ap, ◌+◌, ◌-◌, ◌∙◌, subst, arith, inl, inr}
 use Rattle.std.specs.Prelude.{MatchOption}
 use Rattle.std.proofs.lemmas.Bool.{cases_lt}
 use Rattle.std.proofs.lemmas.List.{length-map}
 use Rattle.rq_algebra.specs.Arrangements.{RowsStandIn}
-use Rattle.rq_algebra.specs.Operations.{Operation, FindsColumn}
-use Rattle.rq_algebra.specs.Symbols.{IsSymbol, AreSymbols}
+use Rattle.rq_algebra.specs.Operations.{Operation, Store, run, unordered, found_by, IsUnread, FindsColumn}
+use Rattle.rq_algebra.specs.Symbols.{symbols, IsSymbol, IsSymbolColumn, AreSymbols, SolvesSymbols, symbol_at}
 use Rattle.rq_algebra.specs.Systems.{rows_of}
-use Rattle.rq_algebra.proofs.Found.{finds_determined, found_are_symbols}
+use Rattle.rq_algebra.proofs.Found.{finds_determined, found_are_symbols, found_leaves, found_fits}
 use Rattle.rq_algebra.proofs.Solutions.{determined_stays, homogeneous_not_determined}
 use Rattle.rq_algebra.proofs.Stacks.{stacked_above, stacked_below}
-use Rattle.rq_bytes.specs.SymbolSlab.{Slab, HasPlace, symbols_in}
+use Rattle.rq_algebra.proofs.SymbolColumns.{run_keeps_symbols}
+use Rattle.rq_bytes.specs.SymbolSlab.{Slab, HasPlace, store_of, symbol_in, symbols_in, IsZeroUnread}
 use Rattle.rq_bytes.specs.SymbolOps.{operation_of}
 use Rattle.rq_bytes.specs.declared.operation_vector.SymbolOps.{SymbolOps}
 use Rattle.rq_parts.specs.DenseOctetMatrix.{OctetTable}
@@ -26,7 +27,7 @@ use Rattle.rq_solver.specs.Replay.{after_all}
 use Rattle.rq_solver.specs.Solving.{AreEquations, AreEquationsWithoutHdpc, FindsOperations, solver_of}
 use Rattle.rq_solver.proofs.EquationLaws.{binary_equations, are_equations, finds_equations, homogeneous_of_equations}
 use Rattle.rq_solver.proofs.RowStepLaws.{SameEntries}
-use Rattle.rq_solver.proofs.SolutionLaws.{finds_same, is_solution}
+use Rattle.rq_solver.proofs.SolutionLaws.{order-found, finds_same, is_solution}
 use Rattle.raptorq.specs.BlockSolutions.{FindsFrom, IsBlockSolution, first_equations}
 use Rattle.raptorq.specs.declared.solving.Solution.{Solution}
 
@@ -113,6 +114,47 @@ module _ (row : TableRow) (fixed : ℕ) (ids : List ℕ) (few : fixed ≤ row.ld
       determined_stays octets (intermediate_symbols row) (fixed + length ids) (equation_count row ids) (first_equations row fixed ids) (equations row ids) first_stand
       (finds_determined octets (fixed + length ids) (intermediate_symbols row) (first_equations row fixed ids) operations finds)
 
+-- ---- what is left over of the values
+
+same_order : (o p : List ℕ) → Some o ≡ Some p → o ≡ p
+same_order o p e = cc
+
+module _ (height width : ℕ) (rows : ℕ → ℕ → ℕ) (operations : List Operation) (finds : FindsColumn octets height width rows operations) (handed slab : Slab) (are : AreSymbols octets handed.symbol_size height handed.values) (order : handed.order ≡ None) (made : slab ≡ after_all operations handed) where
+  left : List (List ℕ)
+  left = (run (symbols octets) operations (unordered handed.values)).values
+
+  left_is : slab.values ≡ left
+  unfolding left
+  left_is =
+      let start : store_of handed ≡ unordered handed.values = ap (λ (o : Option (List ℕ)). let t : Store (List ℕ) = record { values = handed.values; order = o } in t) order in
+      ap (λ (g : Slab). g.values) made ∙ ap (λ (t : Store (List ℕ)). (run (symbols octets) operations t).values) start
+
+  order_is : slab.order ≡ Some finds.order
+  order_is = ap (λ (g : Slab). g.order) made ∙ order-found height width rows operations finds handed
+
+  size_is : slab.symbol_size ≡ handed.symbol_size
+  size_is = ap (λ (g : Slab). g.symbol_size) made
+
+  count_is : length slab.values ≡ height
+  unfolding left
+  count_is = ap length left_is ∙ (run_keeps_symbols octets handed.symbol_size height operations (unordered handed.values) are).count_is
+
+  -- where a column of symbols solves the rows, all that isn't read is zeros
+  pub leaves_zeros : (column : ℕ → List ℕ) → IsSymbolColumn octets handed.symbol_size width column → SolvesSymbols octets height width rows column (symbol_at handed.values) → IsZeroUnread slab
+  unfolding left
+  leaves_zeros column is solves o set i unread =
+      let same : o ≡ finds.order = same_order o finds.order (sym set ∙ order_is) in
+      ap (λ (xs : List (List ℕ)). symbol_at xs i) left_is
+      ∙ found_leaves octets height width rows operations finds handed.symbol_size handed.values are column is solves i (subst (λ n. IsUnread n finds.order i) count_is (subst (λ l. IsUnread (length slab.values) l i) same unread))
+      ∙ ap (λ n. replicate {A = ℕ} n 0) (sym size_is)
+
+  -- and where that is zeros, the column that is found solves the rows
+  pub zeros_solve : IsZeroUnread slab → ((k : ℕ) → symbol_in slab k ≡ found_by (symbols octets) operations handed.values k) → SolvesSymbols octets height width rows (symbol_in slab) (symbol_at handed.values)
+  unfolding left
+  zeros_solve zeros reads = subst (λ (column : ℕ → List ℕ). SolvesSymbols octets height width rows column (symbol_at handed.values)) (λ j k. sym (reads k) j)
+      (found_fits octets height width rows operations finds handed.symbol_size handed.values are (λ i unread.
+      ap (λ (xs : List (List ℕ)). symbol_at xs i) (sym left_is) ∙ zeros finds.order order_is i (subst (λ n. IsUnread n finds.order i) (sym count_is) unread) ∙ ap (λ n. replicate {A = ℕ} n 0) size_is))
+
 -- what the operations make of the values is the block's solution
 pub solution_found : (row : TableRow) (ids : List ℕ) (solution : Solution) (handed slab : Slab) → FindsFrom row ids solution → AreSymbols octets handed.symbol_size (solution.fixed + length ids) handed.values → handed.order ≡ None
     → slab ≡ after_all (map operation_of solution.operations.items) handed → IsBlockSolution row solution.fixed ids handed.symbol_size handed.values slab
@@ -127,4 +169,6 @@ solution_found row ids solution handed slab from symbols_are order made =
       size_is = ap (λ (g : Slab). g.symbol_size) made;
       symbols = λ k l. subst (IsSymbol octets handed.symbol_size) (sym (s.reads k)) (found_are_symbols octets height (intermediate_symbols row) rows operations from.finds handed.symbol_size handed.values symbols_are k l);
       only = λ column is solves k l. s.only handed.symbol_size handed.values column symbols_are is solves k l ∙ sym (s.reads k);
+      leaves = leaves_zeros height (intermediate_symbols row) rows operations from.finds handed slab symbols_are order made;
+      solves = λ zeros. zeros_solve height (intermediate_symbols row) rows operations from.finds handed slab symbols_are order made zeros s.reads;
     }

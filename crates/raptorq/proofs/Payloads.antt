@@ -1,5 +1,5 @@
 -- The payloads that a map holds, after one more.
-use Rattle.std.proofs.Common.{◌≡◌, ℕ, ◌<◌, Bool, true, false, cond, eqb, List, [], ◌∷◌, length, Option, Some, None, refl, sym, ap, ◌∙◌, subst, inl, inr, vec_items, vec_len, arith}
+use Rattle.std.proofs.Common.{◌≡◌, ℕ, ◌<◌, Bool, true, false, cond, eqb, List, [], ◌∷◌, Option, Some, None, refl, sym, ap, ◌∙◌, subst, inl, inr, vec_items, vec_len, arith}
 use Rattle.std.specs.Prelude.{is_some, option_map, MatchOption, IsSomeAnd}
 use Rattle.std.specs.List.{AllZip}
 use Rattle.std.proofs.lemmas.Map.Entries.{lookup_clone}
@@ -35,15 +35,14 @@ kept_by None r true x has = absurd (cc (has refl))
 pub or_later-again : (f : ℕ → Option (List ℕ)) (k : ℕ) (x : List ℕ) → is_some (f k) ≡ true → (e : ℕ) → f e ≡ or_later (f e) (cond (eqb k e) (Some x) None)
 or_later-again f k x has e = kept_by (f e) (f k) (eqb k e) x (λ t. ap (λ n. is_some (f n)) (sym (eqb-true k e t)) ∙ has)
 
-sized_by : (o : Option (List ℕ)) (b : Bool) (x y : List ℕ) (size : ℕ) → ForSome o (λ payload. length payload ≡ size) → length x ≡ size → or_later o (cond b (Some x) None) ≡ Some y → length y ≡ size
-sized_by (Some z) b x y size all here is = all y is
-sized_by None true x y size all here is = let same : x ≡ y = cc in ap length (sym same) ∙ here
-sized_by None false x y size all here is = absurd (cc is)
+one_of : (P : List ℕ → Type 0) (o : Option (List ℕ)) (b : Bool) (x y : List ℕ) → ForSome o P → P x → or_later o (cond b (Some x) None) ≡ Some y → P y
+one_of P (Some z) b x y all here is = all y is
+one_of P None true x y all here is = let same : x ≡ y = cc in subst P same here
+one_of P None false x y all here is = absurd (cc is)
 
--- all payloads keep their size
-pub sized-more : (f g : ℕ → Option (List ℕ)) (k : ℕ) (x : List ℕ) (size : ℕ) → ((e : ℕ) → ForSome (f e) (λ payload. length payload ≡ size)) → length x ≡ size → ((e : ℕ) → g e ≡ or_later (f e) (cond (eqb k e) (Some x) None))
-    → (e : ℕ) → ForSome (g e) (λ payload. length payload ≡ size)
-sized-more f g k x size all here grown e y is = sized_by (f e) (eqb k e) x y size (all e) here (sym (grown e) ∙ is)
+-- what holds of all payloads, and of one more
+pub all-more : (P : List ℕ → Type 0) (f g : ℕ → Option (List ℕ)) (k : ℕ) (x : List ℕ) → ((e : ℕ) → ForSome (f e) P) → P x → ((e : ℕ) → g e ≡ or_later (f e) (cond (eqb k e) (Some x) None)) → (e : ℕ) → ForSome (g e) P
+all-more P f g k x all here grown e y is = one_of P (f e) (eqb k e) x y (all e) here (sym (grown e) ∙ is)
 
 -- an empty map holds nothing
 pub payload_of-empty : (m : BTreeMap ℕ (Vec ℕ Global)) → m.entries ≡ [] → (e : ℕ) → payload_of m e ≡ None

@@ -1,23 +1,109 @@
 -- What a decoder of an object stands for where the work on a packet stopped.
-use Rattle.std.proofs.Common.{◌⊎◌, Err, inl, inr}
-use Rattle.rq_standard.specs.Configuration.{IsAligned}
+use Rattle.std.proofs.Common.{◌≡◌, ◌≢◌, ◌⊎◌, ◌<◌, eqb, ltb, cond, Bool, true, false, length, Result, Ok, Err, sym, ◌∙◌, subst, refl, inl, inr}
+use Rattle.std.specs.Prelude.{not}
+use Rattle.std.proofs.lemmas.Bool.{ltb-true}
+use Rattle.rq_bytes.specs.declared.error.Error.{Error}
+use Rattle.rq_bytes.specs.declared.error.Error.TheVariants.{OutOfMemory, Contradiction, UnknownBlock, WrongPayloadSize}
+use Rattle.rq_standard.specs.Configuration.{Configuration, IsAligned}
 use Rattle.rq_standard.specs.Packet.{Packet}
-use Rattle.rq_standard.specs.Standing.{State, StopsEarly, LeavesBlockLate, AnswersLateBlock}
+use Rattle.rq_standard.specs.Standing.{State, StopsEarly, Stops, Contradicts, KeepsContradictions, IsHonestPacket, LeavesBlockLate, AnswersLateBlock}
+use Rattle.rq_standard.specs.TableRows.{IsChecked}
+use Rattle.rq_standard.proofs.Contradictions.{keeps_added, keeps_recorded, keeps_same, honest_fits}
 use Rattle.rq_standard.proofs.Standing.{answers_late, leaves_late}
-use Rattle.raptorq.specs.Stopping.{AddsOrStops, AddsAndJoinsOrStops}
+use Rattle.raptorq.specs.Refused.{packet_refusal, IsPacketRefusal}
+use Rattle.raptorq.specs.Stopping.{StopsAsTested, AddsOrStops, AddsAndJoinsOrStops, refusal_of}
 use Rattle.raptorq.specs.declared.decoder.stopped.Stopped.{Stopped}
-use Rattle.raptorq.specs.declared.decoder.stopped.Stopped.TheVariants.{Refused, NotRecorded, NotSolved, NotJoined}
+use Rattle.raptorq.specs.declared.decoder.stopped.Stopped.TheVariants.{Refused, NotRecorded, NotSolved, Contradicted, NotJoined}
+use Rattle.raptorq.proofs.Lists.{packet_refusal-packet}
+
+-- ---- what the tests say
+
+abbrev tests : Bool → Bool → Result (Unit {0}) Error
+tests b s = cond (not b) (Err UnknownBlock) (cond (not s) (Err WrongPayloadSize) (Ok tt))
+
+block_passes : (b s : Bool) → tests b s ≡ Ok tt → b ≡ true
+block_passes true s h = refl
+block_passes false s h = absurd (cc h)
+
+-- a packet that passes them is of one of the blocks
+pub passes_below : (c : Configuration) (p : Packet) → packet_refusal c p ≡ Ok tt → p.id.block < c.source_blocks
+passes_below c p h = ltb-true p.id.block c.source_blocks (block_passes (ltb p.id.block c.source_blocks) (eqb (length p.payload) c.symbol_size) h)
+
+never_contradiction : (b s : Bool) → tests b s ≡ Err Contradiction → ⊥
+never_contradiction true true h = absurd (cc h)
+never_contradiction true false h = absurd (cc h)
+never_contradiction false s h = absurd (cc h)
+
+-- what a caller sees is the tests' refusal, or comes where they refuse nothing
+pub refused_as_tested : (at : Stopped) (tested : Result (Unit {0}) Error) → StopsAsTested {X = Unit {0}} (Err at) tested → IsPacketRefusal (refusal_of at) tested
+refused_as_tested (Refused e) tested is = subst (IsPacketRefusal e) (sym is) refl
+refused_as_tested NotRecorded tested is = subst (IsPacketRefusal OutOfMemory) (sym is) (inl refl)
+refused_as_tested NotSolved tested is = subst (IsPacketRefusal OutOfMemory) (sym is) (inl refl)
+refused_as_tested Contradicted tested is = subst (IsPacketRefusal Contradiction) (sym is) (inr refl)
+refused_as_tested NotJoined tested is = subst (IsPacketRefusal OutOfMemory) (sym is) (inl refl)
+
+-- ---- what is held then
 
 -- nothing changed, or the packet is recorded
 pub stops_early : (old : State) (p : Packet) (at : Stopped) (new : State) → AddsOrStops old p (Err at) new → StopsEarly old p new
 stops_early old p (Refused e) new so = inl so
 stops_early old p NotRecorded new so = inl so
 stops_early old p NotSolved new so = inr so
+stops_early old p Contradicted new so = inr so.records
 stops_early old p NotJoined new so = absurd so
+
+-- where no blocks are joined, less can stop
+pub not_joined : (old : State) (p : Packet) (at : Stopped) (new : State) → AddsOrStops old p (Err at) new → AddsAndJoinsOrStops old p (Err at) new
+not_joined old p (Refused e) new so = so
+not_joined old p NotRecorded new so = so
+not_joined old p NotSolved new so = so
+not_joined old p Contradicted new so = so
+not_joined old p NotJoined new so = absurd so
+
+pub stops : (old : State) (p : Packet) (at : Stopped) (new : State) → AddsAndJoinsOrStops old p (Err at) new → Stops old p new
+stops old p (Refused e) new so = inl (inl so)
+stops old p NotRecorded new so = inl (inl so)
+stops old p NotSolved new so = inl (inr so)
+stops old p Contradicted new so = inl (inr so.records)
+stops old p NotJoined new so = inr so
+
+-- a refusal by the tests changes nothing
+pub unchanged : (old : State) (p : Packet) (at : Stopped) (new : State) → AddsAndJoinsOrStops old p (Err at) new → refusal_of at ≢ OutOfMemory → refusal_of at ≢ Contradiction → new ≡ old
+unchanged old p (Refused e) new so memory contradiction = so
+unchanged old p NotRecorded new so memory contradiction = so
+unchanged old p NotSolved new so memory contradiction = absurd (memory refl)
+unchanged old p Contradicted new so memory contradiction = absurd (contradiction refl)
+unchanged old p NotJoined new so memory contradiction = absurd (memory refl)
+
+pub contradicts : (old : State) (p : Packet) (at : Stopped) (new : State) → StopsAsTested {X = Unit {0}} (Err at) (packet_refusal old.configuration p) → AddsAndJoinsOrStops old p (Err at) new → refusal_of at ≡ Contradiction → Contradicts old p new
+contradicts old p (Refused e) new tested so is = absurd (never_contradiction (ltb p.id.block old.configuration.source_blocks) (eqb (length p.payload) old.configuration.symbol_size) (tested ∙ cc is))
+contradicts old p NotRecorded new tested so is = absurd (cc is)
+contradicts old p NotSolved new tested so is = absurd (cc is)
+contradicts old p Contradicted new tested so is = so
+contradicts old p NotJoined new tested so is = absurd (cc is)
+
+-- a contradiction stays
+pub keeps_stopped : (old : State) (p : Packet) (at : Stopped) (new : State) → AddsAndJoinsOrStops old p (Err at) new → KeepsContradictions old new
+keeps_stopped old p (Refused e) new so = keeps_same old new so
+keeps_stopped old p NotRecorded new so = keeps_same old new so
+keeps_stopped old p NotSolved new so = keeps_recorded old p new so
+keeps_stopped old p Contradicted new so = keeps_recorded old p new so.records
+keeps_stopped old p NotJoined new so = keeps_added old p new so
+
+-- a packet of the object finds no memory, at the worst
+pub honest_stops : (old : State) (p : Packet) (at : Stopped) (new : State) → StopsAsTested {X = Unit {0}} (Err at) (packet_refusal old.configuration p) → AddsAndJoinsOrStops old p (Err at) new → IsHonestPacket old p → refusal_of at ≡ OutOfMemory
+honest_stops old p (Refused e) new tested so honest =
+    let shape = honest.stands.shape p.id.block honest.of_object.block in
+    absurd (cc (tested, packet_refusal-packet honest.table old.configuration honest.object p (subst IsChecked shape.row shape.checked) honest.of_object))
+honest_stops old p NotRecorded new tested so honest = refl
+honest_stops old p NotSolved new tested so honest = refl
+honest_stops old p Contradicted new tested so honest = absurd (honest_fits old p new honest so)
+honest_stops old p NotJoined new tested so honest = refl
 
 -- where the blocks weren't joined, it stands for the longer list
 pub late_or_not : (old : State) (p : Packet) (at : Stopped) (new : State) → IsAligned old.configuration → AddsAndJoinsOrStops old p (Err at) new → LeavesBlockLate old p new ⊎ AnswersLateBlock old p new
 late_or_not old p (Refused e) new aligned so = inl (leaves_late p old new (inl so))
 late_or_not old p NotRecorded new aligned so = inl (leaves_late p old new (inl so))
 late_or_not old p NotSolved new aligned so = inl (leaves_late p old new (inr so))
+late_or_not old p Contradicted new aligned so = inl (leaves_late p old new (inr so.records))
 late_or_not old p NotJoined new aligned so = inr (answers_late p old new aligned so)

@@ -13,7 +13,7 @@ use Rattle.raptorq.specs.Refused.{block_refusal}
 use Rattle.raptorq.specs.Decoding.{all_recorded, AreTaken, StopsAtLast, Decodes, DecodesUntil}
 use Rattle.raptorq.specs.Stopping.{StopsPacket, refusal_of}
 use Rattle.raptorq.specs.declared.decoder.stopped.Stopped.{Stopped}
-use Rattle.raptorq.specs.declared.decoder.stopped.Stopped.TheVariants.{Refused, NotRecorded, NotSolved, NotJoined}
+use Rattle.raptorq.specs.declared.decoder.stopped.Stopped.TheVariants.{Refused, NotRecorded, NotSolved, Contradicted, NotJoined}
 
 number_kept : (h : Held) (packets : List Packet) → (all_recorded h packets).number ≡ h.number
 number_kept h [] = refl
@@ -63,6 +63,7 @@ module _ {T : Type 0} (steps : T → Option Packet → T → Type 0) (iterator :
   stopped h g new packets p after (Refused e) gave taken is same stops = stops_at h g new packets p after (StopsPacket (Refused e)) gave taken is same stops
   stopped h g new packets p after NotRecorded gave taken is same stops = stops_at h g new packets p after (StopsPacket NotRecorded) gave taken is same stops
   stopped h g new packets p after NotSolved gave taken is same stops = absurd stops
+  stopped h g new packets p after Contradicted gave taken is same stops = absurd stops
   stopped h g new packets p after NotJoined gave taken is same stops = absurd stops
 
   seen_at : (old : Held) (packets : List Packet) (new : Held) (Stops Seen : Result (Unit {0}) Error → Type 0) → ((tested : Result (Unit {0}) Error) → Stops tested → Seen tested) → StopsAtLast steps iterator old packets Stops new → StopsAtLast steps iterator old packets Seen new
@@ -72,7 +73,8 @@ module _ {T : Type 0} (steps : T → Option Packet → T → Type 0) (iterator :
   pub decodes_seen : (old : Held) (packets : List Packet) (at : Stopped) (new : Held) → DecodesUntil steps iterator old packets (Err at) new → Decodes steps iterator old packets (Err (refusal_of at)) new
   decodes_seen old packets (Refused e) new d = inr (seen_at old packets new (StopsPacket (Refused e)) (IsRefusal e) (λ tested is. subst (IsRefusal e) (sym is) refl) d)
   decodes_seen old packets NotRecorded new d = inr (seen_at old packets new (StopsPacket NotRecorded) (IsRefusal OutOfMemory) (λ tested is. subst (IsRefusal OutOfMemory) (sym is) refl) d)
-  decodes_seen old packets NotSolved new d = inl (d, refl)
+  decodes_seen old packets NotSolved new d = inl (d, inl refl)
+  decodes_seen old packets Contradicted new d = inl (d.0, inr (refl, d.1))
   decodes_seen old packets NotJoined new d = absurd d
 
 -- an iterator's next item, after those that it gave

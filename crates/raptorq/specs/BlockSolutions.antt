@@ -3,12 +3,12 @@ use Rattle.std.specs.Prelude.{◌≡◌, ℕ, ◌+◌, ◌<◌, ◌≤◌, List,
 use Rattle.rq_algebra.specs.Operations.{FindsColumn}
 use Rattle.rq_algebra.specs.Symbols.{IsSymbolColumn, SolvesSymbols, symbol_at}
 use Rattle.rq_algebra.specs.Systems.{stacked, rows_of}
-use Rattle.rq_bytes.specs.SymbolSlab.{Slab, symbol_in, symbols_in}
+use Rattle.rq_bytes.specs.SymbolSlab.{Slab, symbol_in, symbols_in, IsZeroUnread}
 use Rattle.rq_bytes.specs.SymbolOps.{operation_of}
 use Rattle.rq_standard.specs.declared.row.TableRow.{TableRow}
 use Rattle.rq_standard.specs.OctetField.{octets}
 use Rattle.rq_standard.specs.TableRows.{intermediate_symbols}
-use Rattle.rq_standard.specs.Equations.{fixed_equations, symbol_coefficient}
+use Rattle.rq_standard.specs.Equations.{fixed_equations, hdpc_coefficient, symbol_coefficient, zero_symbol}
 use Rattle.rq_standard.specs.IdLists.{HasDeterminedRows}
 use Rattle.raptorq.specs.declared.solving.Solution.{Solution}
 
@@ -19,6 +19,7 @@ first_equations row fixed ids = stacked fixed (fixed_equations row) (rows_of (sy
 -- the operations find the intermediate symbols from the values of these
 pub record FindsFrom (row : TableRow) (ids : List ℕ) (solution : Solution) : Type 0 where
   pub few : solution.fixed ≤ row.ldpc_symbols + row.hdpc_symbols
+  pub ldpc : row.ldpc_symbols ≤ solution.fixed
   pub enough : intermediate_symbols row ≤ solution.fixed + length ids
   pub finds : FindsColumn octets (solution.fixed + length ids) (intermediate_symbols row) (first_equations row solution.fixed ids) (map operation_of solution.operations.items)
 
@@ -36,3 +37,17 @@ pub record IsBlockSolution (row : TableRow) (fixed : ℕ) (ids : List ℕ) (size
   pub only : (column : ℕ → List ℕ) → IsSymbolColumn octets size (intermediate_symbols row) column
       → SolvesSymbols octets (fixed + length ids) (intermediate_symbols row) (first_equations row fixed ids) column (symbol_at values)
       → (k : ℕ) → k < intermediate_symbols row → column k ≡ symbol_in slab k
+  -- there is one exactly where the symbols that aren't read are zeros, and the one found then solves them
+  pub leaves : (column : ℕ → List ℕ) → IsSymbolColumn octets size (intermediate_symbols row) column
+      → SolvesSymbols octets (fixed + length ids) (intermediate_symbols row) (first_equations row fixed ids) column (symbol_at values)
+      → IsZeroUnread slab
+  pub solves : IsZeroUnread slab → SolvesSymbols octets (fixed + length ids) (intermediate_symbols row) (first_equations row fixed ids) (symbol_in slab) (symbol_at values)
+
+-- a column of symbols solves the HDPC equations
+abbrev pub SolvesHdpc : TableRow → ℕ → (ℕ → List ℕ) → Type 0
+SolvesHdpc row size column = SolvesSymbols octets row.hdpc_symbols (intermediate_symbols row) (hdpc_coefficient row) column (λ _. zero_symbol size)
+
+-- intermediate symbols in a slab, from the values of so many of the LDPC and HDPC equations and those of ids, solve all equations: nothing is left over of the values, and the HDPC equations are solved where they weren't among those
+pub record Fits (row : TableRow) (fixed : ℕ) (slab : Slab) : Type 0 where
+  pub unread : IsZeroUnread slab
+  pub hdpc : fixed < row.ldpc_symbols + row.hdpc_symbols → SolvesHdpc row slab.symbol_size (symbol_in slab)

@@ -3,14 +3,14 @@ use Rattle.std.specs.Prelude.{◌≡◌, ◌⊎◌, ℕ, List, [], ◌∷◌, �
 use Rattle.std.specs.List.{AllByRecursion}
 use Rattle.std.specs.Iterator.{Drains, Yields}
 use Rattle.rq_bytes.specs.declared.error.Error.{Error}
-use Rattle.rq_bytes.specs.declared.error.Error.TheVariants.{OutOfMemory}
+use Rattle.rq_bytes.specs.declared.error.Error.TheVariants.{OutOfMemory, Contradiction}
 use Rattle.rq_bytes.specs.Refusals.{IsRefusal}
 use Rattle.rq_standard.specs.Packet.{Packet}
-use Rattle.rq_standard.specs.Held.{Held, recorded, IsBlockAnswer}
+use Rattle.rq_standard.specs.Held.{Held, recorded, IsContradictory, IsBlockAnswer}
 use Rattle.raptorq.specs.Refused.{block_refusal}
 use Rattle.raptorq.specs.Stopping.{StopsPacket}
 use Rattle.raptorq.specs.declared.decoder.stopped.Stopped.{Stopped}
-use Rattle.raptorq.specs.declared.decoder.stopped.Stopped.TheVariants.{Refused, NotRecorded, NotSolved, NotJoined}
+use Rattle.raptorq.specs.declared.decoder.stopped.Stopped.TheVariants.{Refused, NotRecorded, NotSolved, Contradicted, NotJoined}
 
 -- an answer, its bytes seen as a list
 abbrev pub shown : {V E : Type 0} → (V → List ℕ) → Result (Option V) E → Result (Option (List ℕ)) E
@@ -42,15 +42,20 @@ pub record RecordsAll {T : Type 0} (steps : T → Option Packet → T → Type 0
   pub taken : AreTaken old packets
   pub holds : new ≡ all_recorded old packets
 
--- The packets are recorded and the block is answered where it is determined; or there is no memory for the answer, and they are recorded; or the last one is refused or finds no memory.
+-- why what is held has no answer: there is no memory for it, or it is contradictory
+abbrev pub IsUnanswered : Held → Error → Type 0
+IsUnanswered h e = (e ≡ OutOfMemory) ⊎ ((e ≡ Contradiction) × IsContradictory h)
+
+-- The packets are recorded and the block is answered where it is determined; or they are recorded, and there is no memory for the answer or they are contradictory; or the last one is refused or finds no memory.
 abbrev pub Decodes : {T : Type 0} → (T → Option Packet → T → Type 0) → T → Held → List Packet → Result (Option (List ℕ)) Error → Held → Type 0
 Decodes steps iterator old packets (Ok answer) new = RecordsAll steps iterator old packets new × IsBlockAnswer new answer
-Decodes steps iterator old packets (Err e) new = (RecordsAll steps iterator old packets new × (e ≡ OutOfMemory)) ⊎ StopsAtLast steps iterator old packets (IsRefusal e) new
+Decodes steps iterator old packets (Err e) new = (RecordsAll steps iterator old packets new × IsUnanswered new e) ⊎ StopsAtLast steps iterator old packets (IsRefusal e) new
 
 -- the same by the place where the call stopped
 abbrev pub DecodesUntil : {T : Type 0} → (T → Option Packet → T → Type 0) → T → Held → List Packet → Result (Option (List ℕ)) Stopped → Held → Type 0
 DecodesUntil steps iterator old packets (Ok answer) new = RecordsAll steps iterator old packets new × IsBlockAnswer new answer
 DecodesUntil steps iterator old packets (Err NotSolved) new = RecordsAll steps iterator old packets new
+DecodesUntil steps iterator old packets (Err Contradicted) new = RecordsAll steps iterator old packets new × IsContradictory new
 DecodesUntil steps iterator old packets (Err NotRecorded) new = StopsAtLast steps iterator old packets (StopsPacket NotRecorded) new
 DecodesUntil steps iterator old packets (Err (Refused e)) new = StopsAtLast steps iterator old packets (StopsPacket (Refused e)) new
 DecodesUntil steps iterator old packets (Err NotJoined) new = ⊥

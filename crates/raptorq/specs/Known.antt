@@ -19,12 +19,13 @@ known_list row k entries = range_with_len k (row.extended_symbols - k) ++ map (�
 abbrev pub known_values : TableRow → ℕ → ℕ → ℕ → List (ℕ × Vec ℕ Global) → List (List ℕ)
 known_values row k fixed size entries = replicate (fixed + (row.extended_symbols - k)) (zero_symbol size) ++ map (λ e. e.1.items) entries
 
--- the intermediate symbols of what is held
+-- the intermediate symbols of what is held: they solve it, and no others do
 pub record IsHeldSolution (h : Held) (slab : Slab) : Type 0 where
   pub determined : AreHeldDetermining h
   pub enough : intermediate_symbols h.row ≤ length (symbols_in slab)
   pub size_is : slab.symbol_size ≡ h.configuration.symbol_size
   pub symbols : IsSymbolColumn octets h.configuration.symbol_size (intermediate_symbols h.row) (symbol_in slab)
+  pub solves : SolvesHeld h (symbol_in slab)
   pub only : (column : ℕ → List ℕ) → SolvesHeld h column → (k : ℕ) → k < intermediate_symbols h.row → column k ≡ symbol_in slab k
 
 -- they are found exactly where the ids determine them

@@ -7,6 +7,7 @@ use Rattle.rq_standard.specs.Cutting.{block_symbols, source_symbol}
 use Rattle.rq_standard.specs.Joining.{symbols_of_block, joined_block}
 use Rattle.rq_standard.specs.Packet.{Packet}
 use Rattle.rq_standard.specs.Received.{has_id}
+use Rattle.rq_standard.specs.Held.{Held, holds, recorded, AreHeldDetermining, IsContradictory}
 use Rattle.rq_standard.specs.SameIds.{HasIdsOf, HaveSameIds}
 use Rattle.rq_standard.specs.Headline.{IsNonsingular, DetermineBlock, IsIntermediateColumn, IsOnlyIntermediateColumn, IsPacketOf, IsHonestRun, IsAnswerable, IsOnlyObject, AnswersExactly}
 
@@ -67,6 +68,19 @@ SameIdsAnswerTheSame =
     → IsHonestRun table c object one → IsHonestRun table c object other → HaveSameIds one other
     → AnswersExactly table c one answer → AnswersExactly table c other again
     → answer ≡ again
+
+-- ---- contradictions
+
+-- Whether what is held determines its block depends on the ids alone,
+abbrev pub DeterminedByIdsAlone : Type 0
+DeterminedByIdsAlone =
+    (one other : Held)
+    → one.row ≡ other.row → one.symbols ≡ other.symbols → ((e : ℕ) → holds one e ≡ holds other e)
+    → AreHeldDetermining one ↔ AreHeldDetermining other
+
+-- and what is contradictory stays so when more is recorded.
+abbrev pub ContradictionsStay : Type 0
+ContradictionsStay = (h : Held) (esi : ℕ) (payload : List ℕ) → IsContradictory h → IsContradictory (recorded h esi payload)
 
 -- ---- sub-blocks
 

@@ -1,7 +1,7 @@
 -- What coders refuse, in the order of the tests.
 use Rattle.std.specs.Prelude.{◌≡◌, ◌⊎◌, ℕ, ◌+◌, ◌/◌, ◌%◌, ◌^◌, List, length, Result, Ok, Err, if◌then◌else◌, ◌==◌, ◌&&◌, not, nat_lt}
 use Rattle.rq_bytes.specs.declared.error.Error.{Error}
-use Rattle.rq_bytes.specs.declared.error.Error.TheVariants.{SymbolSizeZero, AlignmentZero, Misaligned, BlockOverTable, UnknownBlock, WrongPayloadSize, WrongDataLength, Singular, EsiTooLarge}
+use Rattle.rq_bytes.specs.declared.error.Error.TheVariants.{OutOfMemory, Contradiction, SymbolSizeZero, AlignmentZero, Misaligned, BlockOverTable, UnknownBlock, WrongPayloadSize, WrongDataLength, Singular, EsiTooLarge}
 use Rattle.rq_bytes.specs.Refusals.{IsRefusal, and_then}
 use Rattle.rq_standard.specs.declared.row.TableRow.{TableRow}
 use Rattle.rq_standard.specs.TableRows.{greatest_size}
@@ -45,6 +45,11 @@ packet_refusal c p =
     if not (nat_lt p.id.block c.source_blocks) then Err UnknownBlock
     else if not (length p.payload == c.symbol_size) then Err WrongPayloadSize
     else Ok tt
+
+-- a packet that passes these tests may find no memory, or contradict what is held of its block
+abbrev pub IsPacketRefusal : Error → Result (Unit {0}) Error → Type 0
+IsPacketRefusal e (Ok x) = (e ≡ OutOfMemory) ⊎ (e ≡ Contradiction)
+IsPacketRefusal e (Err wanted) = e ≡ wanted
 
 -- whether the encoder of an object of this length is made
 abbrev pub new_encoder : ℕ → Configuration → ℕ → Result (Unit {0}) Error

@@ -1,18 +1,19 @@
 -- What a decoder has done of a packet where its work stopped.
-use Rattle.std.specs.Prelude.{◌≡◌, ℕ, List, Option, Result, Ok, Err}
+use Rattle.std.specs.Prelude.{◌≡◌, ⊤, ℕ, List, Option, Result, Ok, Err}
 use Rattle.rq_bytes.specs.declared.error.Error.{Error}
-use Rattle.rq_bytes.specs.declared.error.Error.TheVariants.{OutOfMemory}
-use Rattle.rq_standard.specs.Held.{Held}
+use Rattle.rq_bytes.specs.declared.error.Error.TheVariants.{OutOfMemory, Contradiction}
+use Rattle.rq_standard.specs.Held.{Held, IsContradictory}
 use Rattle.rq_standard.specs.Packet.{Packet}
-use Rattle.rq_standard.specs.Standing.{State, AddsToBlock, RecordsInBlock, Adds, RecordsOnly, result_of}
+use Rattle.rq_standard.specs.Standing.{State, AddsToBlock, RecordsInBlock, Adds, RecordsOnly, Contradicts, result_of}
 use Rattle.raptorq.specs.declared.decoder.stopped.Stopped.{Stopped}
-use Rattle.raptorq.specs.declared.decoder.stopped.Stopped.TheVariants.{Refused, NotRecorded, NotSolved, NotJoined}
+use Rattle.raptorq.specs.declared.decoder.stopped.Stopped.TheVariants.{Refused, NotRecorded, NotSolved, Contradicted, NotJoined}
 
 -- what a caller sees of it
 abbrev pub refusal_of : Stopped → Error
 refusal_of (Refused e) = e
 refusal_of NotRecorded = OutOfMemory
 refusal_of NotSolved = OutOfMemory
+refusal_of Contradicted = Contradiction
 refusal_of NotJoined = OutOfMemory
 
 -- the packet is refused exactly where the tests refuse it
@@ -20,6 +21,7 @@ abbrev pub StopsAsTested : {X : Type 0} → Result X Stopped → Result (Unit {0
 StopsAsTested (Err (Refused e)) tested = tested ≡ Err e
 StopsAsTested (Err NotRecorded) tested = tested ≡ Ok tt
 StopsAsTested (Err NotSolved) tested = tested ≡ Ok tt
+StopsAsTested (Err Contradicted) tested = tested ≡ Ok tt
 StopsAsTested (Err NotJoined) tested = tested ≡ Ok tt
 StopsAsTested (Ok x) tested = tested ≡ Ok tt
 
@@ -28,12 +30,22 @@ abbrev pub StopsPacket : Stopped → Result (Unit {0}) Error → Type 0
 StopsPacket (Refused e) tested = tested ≡ Err e
 StopsPacket NotRecorded tested = tested ≡ Ok tt
 StopsPacket NotSolved tested = ⊥
+StopsPacket Contradicted tested = ⊥
 StopsPacket NotJoined tested = ⊥
 
--- What a packet of a block did to what is held and to its answer: where it wasn't recorded, nothing; where the block wasn't solved, it is recorded.
+-- why what is held has no answer
+abbrev pub StopsAnswer : Stopped → Held → Type 0
+StopsAnswer NotSolved h = ⊤
+StopsAnswer Contradicted h = IsContradictory h
+StopsAnswer NotRecorded h = ⊥
+StopsAnswer NotJoined h = ⊥
+StopsAnswer (Refused e) h = ⊥
+
+-- What a packet of a block did to what is held and to its answer: where it wasn't recorded, nothing; where the block wasn't solved or is contradictory, it is recorded.
 abbrev pub AddsInBlockOrStops : Held → Option (List ℕ) → Packet → Result (Unit {0}) Stopped → Held → Option (List ℕ) → Type 0
 AddsInBlockOrStops old before p (Ok x) new after = AddsToBlock old before p new after
 AddsInBlockOrStops old before p (Err NotSolved) new after = RecordsInBlock old before p new after
+AddsInBlockOrStops old before p (Err Contradicted) new after = RecordsInBlock old before p new after × IsContradictory new
 AddsInBlockOrStops old before p (Err NotRecorded) new after = (new ≡ old) × (after ≡ before)
 AddsInBlockOrStops old before p (Err NotJoined) new after = ⊥
 AddsInBlockOrStops old before p (Err (Refused e)) new after = ⊥
@@ -42,6 +54,7 @@ AddsInBlockOrStops old before p (Err (Refused e)) new after = ⊥
 abbrev pub AddsOrStops : State → Packet → Result (Unit {0}) Stopped → State → Type 0
 AddsOrStops old p (Ok x) new = Adds old p new
 AddsOrStops old p (Err NotSolved) new = RecordsOnly old p new
+AddsOrStops old p (Err Contradicted) new = Contradicts old p new
 AddsOrStops old p (Err NotRecorded) new = new ≡ old
 AddsOrStops old p (Err NotJoined) new = ⊥
 AddsOrStops old p (Err (Refused e)) new = new ≡ old
@@ -51,5 +64,6 @@ abbrev pub AddsAndJoinsOrStops : State → Packet → Result (Option (List ℕ))
 AddsAndJoinsOrStops old p (Ok answer) new = Adds old p new × (answer ≡ result_of new)
 AddsAndJoinsOrStops old p (Err NotJoined) new = Adds old p new
 AddsAndJoinsOrStops old p (Err NotSolved) new = RecordsOnly old p new
+AddsAndJoinsOrStops old p (Err Contradicted) new = Contradicts old p new
 AddsAndJoinsOrStops old p (Err NotRecorded) new = new ≡ old
 AddsAndJoinsOrStops old p (Err (Refused e)) new = new ≡ old

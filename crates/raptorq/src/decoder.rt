@@ -1,5 +1,6 @@
 //! Decoders: packets in, blocks and objects out.
 mod block;
+mod fitting;
 mod known;
 mod object;
 mod stopped;

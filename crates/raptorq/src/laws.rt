@@ -1,5 +1,5 @@
 //! Laws of packets, blocks and answers: each is the contract of a function that does nothing.
-ghost use Rattle.raptorq.specs.Laws.{IntermediateSymbolsAreOnly, SourcePacketsAreSymbols, AnswerableIsOnlyObject, MorePacketsDetermine, MorePacketsAreAnswerable, AnswersStay, SameIdsAreAnswerable, SameIdsAnswerTheSame, JoiningUndoesCutting, CuttingUndoesJoining};
+ghost use Rattle.raptorq.specs.Laws.{IntermediateSymbolsAreOnly, SourcePacketsAreSymbols, AnswerableIsOnlyObject, MorePacketsDetermine, MorePacketsAreAnswerable, AnswersStay, SameIdsAreAnswerable, SameIdsAnswerTheSame, DeterminedByIdsAlone, ContradictionsStay, JoiningUndoesCutting, CuttingUndoesJoining};
 
 /// A block has no more than one column of intermediate symbols where its row isn't singular: any two
 /// are the same below L (RFC 6330, sections 5.3.3 and 5.4.2).
@@ -35,6 +35,14 @@ pub fn more_packets()
 pub fn order_and_repeats()
     ensures objects { SameIdsAreAnswerable }
     ensures answers { SameIdsAnswerTheSame }
+{}
+
+/// Whether what came of a block determines it depends on its encoding symbol ids alone, whatever they
+/// carry; what contradicts itself then contradicts itself with every packet more (RFC 6330, section
+/// 5.4.2).
+pub fn contradictions()
+    ensures ids { DeterminedByIdsAlone }
+    ensures stay { ContradictionsStay }
 {}
 
 /// Cutting a block of K symbols into sub-blocks and symbols loses nothing: joining its symbols by

@@ -1,21 +1,23 @@
 -- What calls on handles say, by what the coders say.
-use Rattle.std.proofs.Common.{◌≡◌, ◌≢◌, ◌⊎◌, ℕ, Bool, true, false, cond, List, length, Option, Some, None, Result, Ok, Err, sym, ap, ◌∙◌, subst, arith, inl, inr}
+use Rattle.std.proofs.Common.{◌≡◌, ◌≢◌, ◌⊎◌, ℕ, Bool, true, false, cond, List, length, Option, Some, None, Result, Ok, Err, refl, sym, ap, ◌∙◌, subst, arith, inl, inr}
 use Rattle.std.specs.Prelude.{IsErr, IfErr, OnErr, not, nat_lt, ◌==◌}
 use Rattle.rq_bytes.specs.declared.error.Error.{Error}
-use Rattle.rq_bytes.specs.declared.error.Error.TheVariants.{OutOfMemory, UnknownBlock, WrongPayloadSize}
+use Rattle.rq_bytes.specs.declared.error.Error.TheVariants.{OutOfMemory, Contradiction, UnknownBlock, WrongPayloadSize}
 use Rattle.rq_bytes.specs.Error.{code_of}
-use Rattle.rq_bytes.specs.Refusals.{IsAnswer, IsRefusal, and_then}
-use Rattle.rq_standard.specs.Configuration.{Configuration}
+use Rattle.rq_bytes.specs.Refusals.{and_then}
+use Rattle.rq_standard.specs.Configuration.{Configuration, configuration_of_bytes}
 use Rattle.rq_standard.specs.Packet.{Packet, packet_of_bytes}
-use Rattle.rq_standard.specs.Standing.{State, StopsEarly, LeavesBlockLate}
+use Rattle.rq_standard.specs.Standing.{State, StopsEarly, Contradicts, KeepsContradictions, IsHonestPacket, LeavesBlockLate}
+use Rattle.rq_standard.specs.Streams.{frame_size, frames_in}
+use Rattle.rq_standard.specs.TableRows.{built_in_rows}
 use Rattle.rq_base.specs.RefusedInput.{read_packet}
-use Rattle.raptorq.specs.Refused.{packet_refusal}
-use Rattle.raptorq_c.specs.Decoding.{Answered}
-use Rattle.raptorq_c.specs.Handles.{coder_of, decoder_in, decoder_of, Becomes, IsAdded, bytes_refusal}
-use Rattle.raptorq_c.specs.Numbers.{refusal_number}
+use Rattle.raptorq.specs.Refused.{packet_refusal, IsPacketRefusal}
+use Rattle.raptorq.specs.Runs.{run_refusal, AnswersRun}
+use Rattle.raptorq_c.specs.Decoding.{Answered, IsRefused, IsDecoded, decoding_refusal, frames_refusal, packets_in}
+use Rattle.raptorq_c.specs.Handles.{coder_of, decoder_in, decoder_of, Becomes, IsTakenNumber, IsAdded, bytes_refusal}
 use Rattle.raptorq_c.specs.declared.handle.Handle.{Handle}
 use Rattle.raptorq_c.specs.declared.owned.Coder.{Coder}
-use Rattle.raptorq_c.proofs.Ending.{code_positive, is_memory}
+use Rattle.raptorq_c.proofs.Ending.{code_positive, is_memory, is_contradiction}
 
 -- a refusal by a packet's block, and then by its payload's size
 abbrev refused_by : Bool → Bool → Result (Unit {0}) Error
@@ -38,33 +40,78 @@ becomes_weaker (Some x) (Some y) P Q more holds = more x y holds
 pub of_coders : (old new : Handle) (x y : Coder) (P : State → State → Type 0) → coder_of old ≡ Some x → coder_of new ≡ Some y → Becomes (decoder_in x) (decoder_in y) P → Becomes (decoder_of old) (decoder_of new) P
 of_coders old new x y P was is holds = rw (was, is) holds
 
--- what a decoder refuses of a packet isn't want of memory
-not_memory : (other_block other_size : Bool) (e : Error) → IsRefusal e (refused_by other_block other_size) → IsErr (refused_by other_block other_size) → e ≢ OutOfMemory
-not_memory true b e is err = λ memory. let same : UnknownBlock ≡ OutOfMemory = sym is ∙ memory in cc same
-not_memory false true e is err = λ memory. let same : WrongPayloadSize ≡ OutOfMemory = sym is ∙ memory in cc same
-not_memory false false e is err = let none : false ≡ true = err in absurd (cc none)
+-- what the tests refuse of a packet is neither want of memory nor a contradiction
+tested : (other_block other_size : Bool) (e : Error) → IsPacketRefusal e (refused_by other_block other_size) → IsErr (refused_by other_block other_size) → (e ≢ OutOfMemory) × (e ≢ Contradiction)
+tested true b e is err = (λ h. let same : UnknownBlock ≡ OutOfMemory = sym is ∙ h in cc same, λ h. let same : UnknownBlock ≡ Contradiction = sym is ∙ h in cc same)
+tested false true e is err = (λ h. let same : WrongPayloadSize ≡ OutOfMemory = sym is ∙ h in cc same, λ h. let same : WrongPayloadSize ≡ Contradiction = sym is ∙ h in cc same)
+tested false false e is err = let none : false ≡ true = err in absurd (cc none)
 
 -- a packet that is to be refused leaves a decoder as it was, whatever stopped it
-pub refused_whole : (c : Configuration) (bytes : List ℕ) (p : Packet) (r : Result (Unit {0}) Error) (old new : State) → read_packet bytes ≡ Ok p → IsAnswer (λ x. x) r (packet_refusal c p) → IfErr r (λ e. e ≢ OutOfMemory → new ≡ old)
+pub refused_whole : (c : Configuration) (bytes : List ℕ) (p : Packet) (r : Result (Unit {0}) Error) (old new : State) → read_packet bytes ≡ Ok p → IfErr r (λ e. IsPacketRefusal e (packet_refusal c p)) → IfErr r (λ e. e ≢ OutOfMemory → e ≢ Contradiction → new ≡ old)
     → OnErr r (IsErr (bytes_refusal c bytes) → new ≡ old)
 refused_whole c bytes p (Ok x) old new read answer same = tt
 refused_whole c bytes p (Err e) old new read answer same = λ refused.
     let is_err : IsErr (packet_refusal c p) = subst (λ (found : Result Packet Error). IsErr (and_then {Y = Unit {0}} found (packet_refusal c))) read refused in
-    same (not_memory (not (nat_lt p.id.block c.source_blocks)) (not (length p.payload == c.symbol_size)) e answer is_err)
+    let other = tested (not (nat_lt p.id.block c.source_blocks)) (not (length p.payload == c.symbol_size)) e answer is_err in
+    same other.0 other.1
+
+-- the number of what is refused of the bytes
+taken_number : (e : Error) (r : Result (Unit {0}) Error) → IsPacketRefusal e r → IsTakenNumber (code_of e) r
+taken_number e (Ok x) (inl memory) = inl (inr (ap code_of memory))
+taken_number e (Ok x) (inr contradiction) = inr (ap code_of contradiction, refl)
+taken_number e (Err w) same = inl (inl (ap code_of same))
 
 -- the bytes of a packet that a decoder refuses
-pub refused_bytes : (old new : State) (bytes : List ℕ) (e : Error) → (e ≡ OutOfMemory) ⊎ (bytes_refusal old.configuration bytes ≡ Err e) → (e ≢ OutOfMemory → new ≡ old) → (e ≡ OutOfMemory → StopsEarly old (packet_of_bytes bytes) new)
+pub refused_bytes : (old new : State) (bytes : List ℕ) (e : Error) → (e ≡ OutOfMemory) ⊎ IsPacketRefusal e (bytes_refusal old.configuration bytes) → (e ≢ OutOfMemory → e ≢ Contradiction → new ≡ old) → (e ≡ OutOfMemory → StopsEarly old (packet_of_bytes bytes) new)
+    → (e ≡ Contradiction → Contradicts old (packet_of_bytes bytes) new) → KeepsContradictions old new → (e ≡ Contradiction → IsHonestPacket old (packet_of_bytes bytes) → ⊥)
     → (e ≡ OutOfMemory → LeavesBlockLate old (packet_of_bytes bytes) new) → (IsErr (bytes_refusal old.configuration bytes) → new ≡ old) → IsAdded old bytes (code_of e) new
-refused_bytes old new bytes e why same stops late whole = record {
+refused_bytes old new bytes e why same stops contradiction keeps honest late whole = record {
   refused = elim why [
-    | inl memory ↦ inr (ap code_of memory)
-    | inr wanted ↦ inl (sym (ap refusal_number wanted))
+    | inl memory ↦ inl (inr (ap code_of memory))
+    | inr wanted ↦ taken_number e (bytes_refusal old.configuration bytes) wanted
   ];
-  unchanged = λ other not_memory. same (λ memory. not_memory (ap code_of memory));
+  unchanged = λ other not_memory not_contradiction. same (λ memory. not_memory (ap code_of memory)) (λ c. not_contradiction (ap code_of c));
   adds = λ zero. absurd (omega (arith, zero, code_positive e));
   stops = λ is. stops (is_memory e is);
+  contradiction = λ is. contradiction (is_contradiction e is);
+  goes_on = λ zero. absurd (omega (arith, zero, code_positive e));
+  keeps = keeps;
+  honest = λ is. honest (is_contradiction e is);
   stands = λ zero. absurd (omega (arith, zero, code_positive e));
   answers_late = λ zero. absurd (omega (arith, zero, code_positive e));
   leaves_late = λ is. late (is_memory e is);
   leaves_refused = λ is refused. whole refused;
 }
+
+-- ---- packets in a buffer
+
+-- what is refused where memory is wanting
+memory_number : (r : Result (Unit {0}) Error) → IsRefused 21 r
+memory_number (Ok x) = inl refl
+memory_number (Err w) = inl refl
+
+pub wants_memory : (header bytes : List ℕ) (e : Error) → e ≡ OutOfMemory → IsDecoded (code_of e) header bytes
+wants_memory header bytes e memory = inl (subst (λ n. IsRefused n (decoding_refusal header bytes)) (sym (ap code_of memory)) (memory_number (decoding_refusal header bytes)))
+
+-- a frame that is refused
+pub refused_frames : (header bytes : List ℕ) (e : Error) → (e ≡ OutOfMemory) ⊎ (frames_refusal (frames_in (frame_size (configuration_of_bytes header)) bytes) ≡ Err e) → IsDecoded (code_of e) header bytes
+refused_frames header bytes e (inl memory) = wants_memory header bytes e memory
+refused_frames header bytes e (inr wanted) =
+    let c = configuration_of_bytes header in
+    inl (subst (IsRefused (code_of e)) (sym (ap (λ r. and_then r (λ _. run_refusal built_in_rows c (packets_in c bytes))) wanted)) (inr refl))
+
+-- what is refused of the packets that they spell
+pub refused_run : (header bytes : List ℕ) (e : Error) → frames_refusal (frames_in (frame_size (configuration_of_bytes header)) bytes) ≡ Ok tt
+    → AnswersRun {X = Unit {0}} built_in_rows (configuration_of_bytes header) (packets_in (configuration_of_bytes header) bytes) (Err e) → IsDecoded (code_of e) header bytes
+refused_run header bytes e spelled (inl memory) = wants_memory header bytes e memory
+refused_run header bytes e spelled (inr (inl wanted)) =
+    let c = configuration_of_bytes header in
+    inl (subst (IsRefused (code_of e)) (sym (ap (λ r. and_then r (λ _. run_refusal built_in_rows c (packets_in c bytes))) spelled ∙ wanted)) (inr refl))
+refused_run header bytes e spelled (inr (inr contradiction)) = inr (ap code_of contradiction.0, record { spelled = spelled; accepted = contradiction.1; contradicted = contradiction.2 })
+
+-- nothing is refused of them
+pub filled_run : (header bytes : List ℕ) (number : ℕ) → frames_refusal (frames_in (frame_size (configuration_of_bytes header)) bytes) ≡ Ok tt
+    → run_refusal built_in_rows (configuration_of_bytes header) (packets_in (configuration_of_bytes header) bytes) ≡ Ok tt → IsRefused number (Ok tt) → IsDecoded number header bytes
+filled_run header bytes number spelled passed filled =
+    let c = configuration_of_bytes header in
+    inl (subst (IsRefused number) (sym (ap (λ r. and_then r (λ _. run_refusal built_in_rows c (packets_in c bytes))) spelled ∙ passed)) filled)

@@ -7,9 +7,9 @@ use Rattle.rq_standard.specs.Configuration.{Configuration, configuration_of_byte
 use Rattle.rq_standard.specs.Headline.{AnswersExactly, AnswersWhereAnyCan}
 use Rattle.rq_standard.specs.Packet.{Packet, packet_of_bytes}
 use Rattle.rq_standard.specs.Streams.{frame_size, frames_in}
-use Rattle.rq_standard.specs.TableRows.{built_in_rows}
-use Rattle.rq_base.specs.RefusedInput.{read_packet}
-use Rattle.raptorq.specs.Runs.{run_refusal}
+use Rattle.rq_standard.specs.TableRows.{built_in_rows, greatest_size}
+use Rattle.rq_base.specs.RefusedInput.{read_packet, checked_configuration}
+use Rattle.raptorq.specs.Runs.{run_refusal, ContradictedIn}
 
 -- the packets that bytes spell: cut at the length of a payload id and a symbol, of which the last may be shorter
 abbrev pub packets_in : Configuration → List ℕ → List Packet
@@ -33,6 +33,16 @@ IsFilled number = (number ≡ 0) ⊎ (number ≡ 24) ⊎ (number ≡ 25)
 abbrev pub IsRefused : ℕ → Result (Unit {0}) Error → Type 0
 IsRefused number (Ok x) = (number ≡ 21) ⊎ IsFilled number
 IsRefused number (Err e) = (number ≡ 21) ⊎ (number ≡ code_of e)
+
+-- the packets in a buffer contradict each other, and nothing is refused of the frames and of the configuration
+pub record ContradictsBuffer (header bytes : List ℕ) : Type 0 where
+  pub spelled : let c = configuration_of_bytes header in frames_refusal (frames_in (frame_size c) bytes) ≡ Ok tt
+  pub accepted : checked_configuration (greatest_size built_in_rows) (configuration_of_bytes header) ≡ Ok tt
+  pub contradicted : let c = configuration_of_bytes header in ContradictedIn built_in_rows c (packets_in c bytes)
+
+-- The numbers of a refusal, or of an answer, of packets in a buffer; 22 where they contradict each other.
+abbrev pub IsDecoded : ℕ → List ℕ → List ℕ → Type 0
+IsDecoded number header bytes = IsRefused number (decoding_refusal header bytes) ⊎ ((number ≡ 22) × ContradictsBuffer header bytes)
 
 -- P of what a call answers of any packets: the object that is written (0), one of another length than the buffer (24), or none (25)
 pub record Answered (number : ℕ) (before after : List ℕ) (P : Option (List ℕ) → Type 0) : Type 0 where

@@ -5,7 +5,7 @@ use Rattle.rq_bytes.specs.Error.{code_of}
 use Rattle.rq_bytes.specs.Refusals.{and_then}
 use Rattle.rq_standard.specs.Configuration.{Configuration}
 use Rattle.rq_standard.specs.Packet.{SymbolId, Packet, packet_bytes, packet_of_bytes}
-use Rattle.rq_standard.specs.Standing.{State, Adds, StopsEarly, StandsForMore, AnswersLateBlock, LeavesBlockLate}
+use Rattle.rq_standard.specs.Standing.{State, Adds, StopsEarly, Contradicts, IsBlockContradictory, KeepsContradictions, IsHonestPacket, StandsForMore, AnswersLateBlock, LeavesBlockLate}
 use Rattle.rq_standard.specs.TableRows.{built_in_rows}
 use Rattle.rq_base.specs.RefusedInput.{new_id, read_packet}
 use Rattle.raptorq.specs.Decoder.{state_of}
@@ -42,12 +42,20 @@ Becomes before after P = IfSome before (λ x. IsSomeAnd after (P x))
 abbrev pub bytes_refusal : Configuration → List ℕ → Result (Unit {0}) Error
 bytes_refusal c bytes = and_then (read_packet bytes) (packet_refusal c)
 
+-- The number of what is refused of them, or 21; where nothing is, it may be 22, that of a contradiction.
+abbrev pub IsTakenNumber : ℕ → Result (Unit {0}) Error → Type 0
+IsTakenNumber number wanted = IsNumber number wanted ⊎ ((number ≡ 22) × (wanted ≡ Ok tt))
+
 -- what the bytes of a packet do to a decoder: as the packet does, and where memory is refused for them, nothing
 pub record IsAdded (old : State) (bytes : List ℕ) (number : ℕ) (new : State) : Type 0 where
-  pub refused : IsNumber number (bytes_refusal old.configuration bytes)
-  pub unchanged : number ≢ 0 → number ≢ 21 → new ≡ old
+  pub refused : IsTakenNumber number (bytes_refusal old.configuration bytes)
+  pub unchanged : number ≢ 0 → number ≢ 21 → number ≢ 22 → new ≡ old
   pub adds : number ≡ 0 → Adds old (packet_of_bytes bytes) new
   pub stops : number ≡ 21 → StopsEarly old (packet_of_bytes bytes) new
+  pub contradiction : number ≡ 22 → Contradicts old (packet_of_bytes bytes) new
+  pub goes_on : number ≡ 0 → IsBlockContradictory old (packet_of_bytes bytes).id.block → ⊥
+  pub keeps : KeepsContradictions old new
+  pub honest : number ≡ 22 → IsHonestPacket old (packet_of_bytes bytes) → ⊥
   pub stands : number ≡ 0 → StandsForMore old (packet_of_bytes bytes) new
   pub answers_late : number ≡ 0 → AnswersLateBlock old (packet_of_bytes bytes) new
   pub leaves_late : number ≡ 21 → LeavesBlockLate old (packet_of_bytes bytes) new

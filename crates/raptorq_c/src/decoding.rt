@@ -4,7 +4,7 @@ ghost use Rattle.rq_bytes.specs.Refusals.{Answers};
 ghost use Rattle.rq_standard.specs.Packet.{packet_of_bytes};
 ghost use Rattle.raptorq.specs.Runs.{packets_of};
 ghost use Rattle.rq_standard.specs.Streams.{frames_in};
-ghost use Rattle.raptorq_c.specs.Decoding.{decoding_refusal, frames_refusal, Answered, AnswersPackets, AnswersWhereOthersCan, IsRefused};
+ghost use Rattle.raptorq_c.specs.Decoding.{frames_refusal, Answered, AnswersPackets, AnswersWhereOthersCan, IsDecoded};
 ghost use Rattle.raptorq_c.specs.Numbers.{number_of};
 
 use crate::buffers::fill_answer;
@@ -39,7 +39,7 @@ fn decode(
     packets: &[u8],
     object: &mut [u8],
 ) -> Result<(), Stop>
-    ensures refused { IsRefused (number_of result) (decoding_refusal configuration.now packets.now) }
+    ensures refused { IsDecoded (number_of result) configuration.now packets.now }
     ensures headline { Answered (number_of result) object.old object.new (AnswersPackets configuration.now packets.now) }
     ensures only_object { Answered (number_of result) object.old object.new (AnswersWhereOthersCan configuration.now packets.now) }
     ensures kept { OnErr result (object.new ≡ object.old) }
@@ -54,9 +54,9 @@ fn decode(
 /// Fills a buffer with the object of packets, in any order, each any number of times, where they
 /// determine it. The packets are cut at the length of a payload id and a symbol.
 ///
-/// Refuses a last packet that is shorter than a payload id, then what `decode_all` refuses, then
-/// packets that don't determine the object, and then a buffer that hasn't the object's length. Want of
-/// memory may come before any of them.
+/// Refuses a last packet that is shorter than a payload id, then what `decode_all` refuses, packets
+/// that contradict each other among it (22), then packets that don't determine the object, and then a
+/// buffer that hasn't the object's length. Want of memory may come before any of them.
 #[unsafe(no_mangle)]
 pub extern "C" fn reamertan_decode(
     alloc: Global,
@@ -64,7 +64,7 @@ pub extern "C" fn reamertan_decode(
     packets: &[u8],
     object: &mut [u8],
 ) -> u8
-    ensures refused { IsRefused result (decoding_refusal configuration.now packets.now) }
+    ensures refused { IsDecoded result configuration.now packets.now }
     ensures headline { Answered result object.old object.new (AnswersPackets configuration.now packets.now) }
     ensures only_object { Answered result object.old object.new (AnswersWhereOthersCan configuration.now packets.now) }
     ensures kept { result ≢ 0 → object.new ≡ object.old }

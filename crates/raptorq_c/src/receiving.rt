@@ -1,14 +1,15 @@
 //! A decoder that C keeps: packets one at a time, and the object once they determine it.
-ghost use Rattle.std.specs.Prelude.{◌≡◌, ◌≢◌, ◌↔◌, Ok, None, IfSome, IsSomeAnd, IsErr, IfOk, IfErr, OnOk, OnErr};
+ghost use Rattle.std.specs.Prelude.{◌≡◌, ◌≢◌, ◌↔◌, ◌⊎◌, Ok, None, IfSome, IsSomeAnd, IsErr, IfOk, IfErr, OnOk, OnErr};
 ghost use Rattle.rq_bytes.specs.Refusals.{Answers};
 ghost use Rattle.rq_standard.specs.Configuration.{configuration_of_bytes};
 ghost use Rattle.rq_standard.specs.Packet.{packet_of_bytes};
-ghost use Rattle.rq_standard.specs.Standing.{IsNewState, Adds, StopsEarly, StandsForNone, StandsForMore, AnswersLateBlock, LeavesBlockLate, AnswersObject, AnswersNothingElse, AnswersOnlyObject, result_of};
+ghost use Rattle.rq_standard.specs.Standing.{IsNewState, Adds, StopsEarly, Contradicts, IsBlockContradictory, KeepsContradictions, IsHonestPacket, StandsForNone, StandsForMore, AnswersLateBlock, LeavesBlockLate, AnswersObject, AnswersNothingElse, AnswersOnlyObject, result_of};
 ghost use Rattle.rq_standard.specs.TableRows.{built_in_rows, greatest_size};
 ghost use Rattle.rq_base.specs.RefusedInput.{checked_configuration};
 ghost use Rattle.raptorq.specs.Decoder.{state_of};
+ghost use Rattle.raptorq.specs.Refused.{IsPacketRefusal};
 ghost use Rattle.raptorq_c.specs.Decoding.{Answered, IsRefused};
-ghost use Rattle.raptorq_c.specs.Handles.{coder_of, decoder_in, decoder_of, encoder_in, encoder_of, bytes_refusal, Becomes, IsAdded};
+ghost use Rattle.raptorq_c.specs.Handles.{coder_of, decoder_in, decoder_of, encoder_in, encoder_of, bytes_refusal, Becomes, IsTakenNumber, IsAdded};
 ghost use Rattle.raptorq_c.specs.Numbers.{number_of, IsNumber};
 
 use crate::buffers::fill_answer;
@@ -64,10 +65,15 @@ pub extern "C" fn reamertan_open_decoder(
 
 // Takes the packet that bytes spell.
 fn add_bytes(alloc: Global, decoder: &mut Decoder, packet: &[u8]) -> Result<(), Error>
-    ensures refused { Answers (λ x. x) result (bytes_refusal (state_of decoder.old).configuration packet.now) }
-    ensures unchanged { IfErr result (λ e. e ≢ Error.OutOfMemory → state_of decoder.new ≡ state_of decoder.old) }
+    ensures taken { OnOk result (bytes_refusal (state_of decoder.old).configuration packet.now ≡ Ok tt) }
+    ensures refused { IfErr result (λ e. (e ≡ Error.OutOfMemory) ⊎ IsPacketRefusal e (bytes_refusal (state_of decoder.old).configuration packet.now)) }
+    ensures unchanged { IfErr result (λ e. e ≢ Error.OutOfMemory → e ≢ Error.Contradiction → state_of decoder.new ≡ state_of decoder.old) }
     ensures adds { OnOk result (Adds (state_of decoder.old) (packet_of_bytes packet.now) (state_of decoder.new)) }
     ensures stops { IfErr result (λ e. e ≡ Error.OutOfMemory → StopsEarly (state_of decoder.old) (packet_of_bytes packet.now) (state_of decoder.new)) }
+    ensures contradiction { IfErr result (λ e. e ≡ Error.Contradiction → Contradicts (state_of decoder.old) (packet_of_bytes packet.now) (state_of decoder.new)) }
+    ensures goes_on { OnOk result (IsBlockContradictory (state_of decoder.old) (packet_of_bytes packet.now).id.block → ⊥) }
+    ensures keeps { KeepsContradictions (state_of decoder.old) (state_of decoder.new) }
+    ensures honest { IfErr result (λ e. e ≡ Error.Contradiction → IsHonestPacket (state_of decoder.old) (packet_of_bytes packet.now) → ⊥) }
     ensures stands { OnOk result (StandsForMore (state_of decoder.old) (packet_of_bytes packet.now) (state_of decoder.new)) }
     ensures answers_late { OnOk result (AnswersLateBlock (state_of decoder.old) (packet_of_bytes packet.now) (state_of decoder.new)) }
     ensures leaves_late { IfErr result (λ e. e ≡ Error.OutOfMemory → LeavesBlockLate (state_of decoder.old) (packet_of_bytes packet.now) (state_of decoder.new)) }
@@ -91,15 +97,20 @@ fn add(alloc: Global, coder: &mut Coder, packet: &[u8]) -> Result<(), Stop>
 /// Takes a packet, a payload id of 4 bytes and a symbol.
 ///
 /// Answers 26 where the handle holds no decoder. Refuses bytes that are shorter than a payload id, and
-/// then what `Decoder::add_new_packet` refuses. Want of memory may come before any of them, and a packet
-/// that isn't to be refused may then be recorded.
+/// then what `Decoder::add_new_packet` refuses, a contradiction (22) last: the packet is then recorded.
+/// Want of memory may come before any of them, and a packet that isn't to be refused may then be
+/// recorded.
 #[unsafe(no_mangle)]
 pub extern "C" fn reamertan_add_packet(alloc: Global, handle: &mut Handle, packet: &[u8]) -> u8
     ensures none { (result ≡ 26) ↔ (decoder_of handle.old ≡ None) }
-    ensures refused { IfSome (decoder_of handle.old) (λ s. IsNumber result (bytes_refusal s.configuration packet.now)) }
-    ensures unchanged { result ≢ 0 → result ≢ 21 → decoder_of handle.new ≡ decoder_of handle.old }
+    ensures refused { IfSome (decoder_of handle.old) (λ s. IsTakenNumber result (bytes_refusal s.configuration packet.now)) }
+    ensures unchanged { result ≢ 0 → result ≢ 21 → result ≢ 22 → decoder_of handle.new ≡ decoder_of handle.old }
     ensures adds { result ≡ 0 → Becomes (decoder_of handle.old) (decoder_of handle.new) (λ s t. Adds s (packet_of_bytes packet.now) t) }
     ensures stops { result ≡ 21 → Becomes (decoder_of handle.old) (decoder_of handle.new) (λ s t. StopsEarly s (packet_of_bytes packet.now) t) }
+    ensures contradiction { result ≡ 22 → Becomes (decoder_of handle.old) (decoder_of handle.new) (λ s t. Contradicts s (packet_of_bytes packet.now) t) }
+    ensures goes_on { result ≡ 0 → IfSome (decoder_of handle.old) (λ s. IsBlockContradictory s (packet_of_bytes packet.now).id.block → ⊥) }
+    ensures keeps { Becomes (decoder_of handle.old) (decoder_of handle.new) KeepsContradictions }
+    ensures honest { result ≡ 22 → IfSome (decoder_of handle.old) (λ s. IsHonestPacket s (packet_of_bytes packet.now) → ⊥) }
     ensures stands { result ≡ 0 → Becomes (decoder_of handle.old) (decoder_of handle.new) (λ s t. StandsForMore s (packet_of_bytes packet.now) t) }
     ensures answers_late { result ≡ 0 → Becomes (decoder_of handle.old) (decoder_of handle.new) (λ s t. AnswersLateBlock s (packet_of_bytes packet.now) t) }
     ensures leaves_late { result ≡ 21 → Becomes (decoder_of handle.old) (decoder_of handle.new) (λ s t. LeavesBlockLate s (packet_of_bytes packet.now) t) }
@@ -133,8 +144,9 @@ fn write(coder: &Coder, object: &mut [u8]) -> Result<(), Stop>
 
 /// Fills a buffer with the object, where its packets determine it.
 ///
-/// Answers 26 where the handle holds no decoder, 25 where more packets are needed, and then 24 where
-/// the buffer hasn't the object's length. Want of memory may come before 25 and 24.
+/// Answers 26 where the handle holds no decoder, 25 where the packets don't determine the object or
+/// contradict each other, and then 24 where the buffer hasn't the object's length. Want of memory may come
+/// before 25 and 24.
 #[unsafe(no_mangle)]
 pub extern "C" fn reamertan_write_object(
     alloc: Global,

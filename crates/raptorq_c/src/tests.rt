@@ -101,3 +101,23 @@ fn handles(rt: HostRuntime) -> Result<(), Fail> {
     assert!(rt; object == [7, 8, 9]);
     Ok(())
 }
+
+// Of one source symbol: repair symbol 133 is zero, whatever that is.
+#[test]
+fn contradictions(rt: HostRuntime) -> Result<(), Fail> {
+    let header = [0, 0, 0, 0, 1, 0, 0, 1, 1, 0, 1, 1];
+    let packets = [0, 0, 0, 133, 1, 0, 0, 0, 0, 7];
+    let mut object = [9];
+    let decoded = reamertan_decode(rt.alloc(), &header, &packets, &mut object);
+    let mut handle = Handle::empty();
+    let opened = reamertan_open_decoder(rt.alloc(), &header, &mut handle);
+    let first = reamertan_add_packet(rt.alloc(), &mut handle, &packets[..5]);
+    let second = reamertan_add_packet(rt.alloc(), &mut handle, &packets[5..]);
+    let repeated = reamertan_add_packet(rt.alloc(), &mut handle, &packets[..5]);
+    let incomplete = reamertan_write_object(rt.alloc(), &mut handle, &mut object);
+    reamertan_close(rt.alloc(), &mut handle);
+    handle.let_go();
+    assert!(rt; [decoded, opened, first, second, repeated] == [22, 0, 0, 22, 22]);
+    assert!(rt; incomplete == 25 && object == [9]);
+    Ok(())
+}

@@ -2,6 +2,7 @@
 
 mod blocks;
 mod builder;
+mod contradictions;
 mod cutting;
 mod decoding;
 mod determined;

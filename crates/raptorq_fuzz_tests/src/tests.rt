@@ -1,5 +1,6 @@
 //! The tests, by what they hand in.
 
+mod forged;
 mod greatest;
 mod lists;
 mod model;

@@ -1,5 +1,6 @@
-//! Which encoding symbols determine a block of up to ten source symbols, by a rank count that shares
-//! no code with the library but the random generator.
+//! Which encoding symbols determine a block of up to ten source symbols, and whether their values
+//! contradict each other, by a rank count that shares no code with the library but the random
+//! generator.
 use raptorq::rng::rand;
 
 // The numbers of ten source symbols (RFC 6330, sections 5.3.3.3 and 5.6).
@@ -23,7 +24,7 @@ const DEGREES: [u32; 16] = [
     966438, 973160, 978921, 983914,
 ];
 
-// The coefficients of the intermediate symbols, and zeros up to a power of two.
+// The L coefficients of the intermediate symbols, and then up to five octets of the value.
 type Equation = [u8; 32];
 
 // Twice an octet.
@@ -159,6 +160,7 @@ pub struct Basis {
     // Each stands at the column of its first coefficient, a 1.
     rows: [Equation; 27],
     count: u32,
+    is_contradictory: bool,
 }
 
 impl Basis {
@@ -168,6 +170,7 @@ impl Basis {
         let mut basis = Basis {
             rows: [[0; 32]; 27],
             count: 0,
+            is_contradictory: false,
         };
         for m in 0..S {
             basis.take(&ldpc_equation(m));
@@ -187,12 +190,21 @@ impl Basis {
 
     /// Takes the equation of an encoding symbol of a block of so many source symbols.
     pub fn add(&mut self, symbols: u32, esi: u32) {
+        self.add_with_value(symbols, esi, &[]);
+    }
+
+    /// Takes it with the symbol's value: five octets of it, and zeros for those that aren't given.
+    pub fn add_with_value(&mut self, symbols: u32, esi: u32, value: &[u8]) {
         let padding = if esi < symbols {
             0
         } else {
             10u32.saturating_sub(symbols)
         };
-        self.take(&symbol_equation(esi.wrapping_add(padding)));
+        let mut equation = symbol_equation(esi.wrapping_add(padding));
+        for i in 0..value.len().min(32 - L) {
+            equation[L + i] = value[i];
+        }
+        self.take(&equation);
     }
 
     /// Whether the equations determine the intermediate symbols.
@@ -200,7 +212,13 @@ impl Basis {
         self.count == 27
     }
 
-    // Takes an equation in, where it isn't a sum of multiples of those here.
+    /// Whether no intermediate symbols solve all equations that were taken.
+    pub fn is_contradictory(&self) -> bool {
+        self.is_contradictory
+    }
+
+    // Takes an equation in, where its coefficients aren't a sum of multiples of those here. Where
+    // they are and the value isn't, it contradicts the equations here.
     fn take(&mut self, equation: &Equation) {
         let mut rest = *equation;
         for column in 0..L {
@@ -214,6 +232,9 @@ impl Basis {
                 let row = self.rows[column];
                 add(&mut rest, &row, scalar);
             }
+        }
+        for i in L..32 {
+            self.is_contradictory |= rest[i] != 0;
         }
     }
 }

@@ -4,12 +4,13 @@ use Rattle.std.specs.Prelude.{slice_index}
 use Rattle.rq_algebra.specs.Field.{Field}
 use Rattle.rq_algebra.specs.Arrangements.{ArePlaces}
 
--- row `rows p` has its only entry, a 1, in column `columns p`, for as many p as there are columns
+-- row `rows p` has its only entry, a 1, in column `columns p`, for as many p as there are columns, and the other rows are zeros
 pub record HasPivots (F : Field) (height width : ℕ) (a : ℕ → ℕ → ℕ) (rows columns : ℕ → ℕ) : Type 0 where
   pub in_rows : ArePlaces width height rows
   pub in_columns : ArePlaces width width columns
   pub ones : (p : ℕ) → p < width → a (rows p) (columns p) ≡ 1
   pub zeros : (p k : ℕ) → p < width → k < width → k ≢ columns p → a (rows p) k ≡ 0
+  pub rest : (i k : ℕ) → i < height → ((p : ℕ) → p < width → rows p ≢ i) → k < width → a i k ≡ 0
 
 -- the order maps each column to the row of its pivot
 pub record ReadsPivots (width : ℕ) (rows columns : ℕ → ℕ) (order : List ℕ) : Type 0 where

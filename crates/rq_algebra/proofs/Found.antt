@@ -5,15 +5,15 @@ use Rattle.std.proofs.lemmas.List.Elements.{All-get_or}
 use Rattle.std.proofs.Math.ListN.{get_or-map}
 use Rattle.rq_algebra.specs.Field.{Field}
 use Rattle.rq_algebra.specs.Systems.{IsDetermined, at}
-use Rattle.rq_algebra.specs.Operations.{Operation, Reorder, run, plain, unordered, AreAllowed, IsValues, found_by, FindsColumn}
+use Rattle.rq_algebra.specs.Operations.{Operation, Reorder, Store, run, plain, unordered, AreAllowed, IsValues, IsUnread, found_by, FindsColumn}
 use Rattle.rq_algebra.specs.Symbols.{symbols, IsSymbolColumn, AreSymbols, symbol_at, slice_at, SolvesSymbols}
 use Rattle.rq_algebra.proofs.Sums.{dot_same}
 use Rattle.rq_algebra.proofs.Solutions.{solves_same}
 use Rattle.rq_algebra.proofs.Runs.{zero_values, AreAllowed-middle}
-use Rattle.rq_algebra.proofs.Placewise.{place, place_linear, read-run_linear, at-zeros, zeros_stay}
+use Rattle.rq_algebra.proofs.Placewise.{place, place_linear, run_linear, read-run_linear, at-zeros, zeros_stay}
 use Rattle.rq_algebra.proofs.Pivots.{found-reorder}
 use Rattle.rq_algebra.proofs.SymbolColumns.{run_keeps_symbols}
-use Rattle.rq_algebra.proofs.SymbolSums.{symbol_elements, same_symbol}
+use Rattle.rq_algebra.proofs.SymbolSums.{symbol_elements, same_symbol, zeros_are_symbol}
 
 module _ (F : Field) (height width : ℕ) (rows : ℕ → ℕ → ℕ) (operations : List Operation) (finds : FindsColumn F height width rows operations) where
   -- the rows determine the column
@@ -57,5 +57,28 @@ module _ (F : Field) (height width : ℕ) (rows : ℕ → ℕ → ℕ) (operatio
     found_solves square = record {
       at_place = λ p. record {
         at = λ i l. dot_same F width (rows i) (rows i) _ _ (λ j m. refl) (λ k m. placewise p k) ∙ (finds.solves square (map (place p) values) (are_values p)).at i l ∙ values_at p i;
+      };
+    }
+
+    -- what the operations leave of the symbols has at each place what they leave of the elements there
+    left_placewise : (p i : ℕ) → at (symbol_at (run (symbols F) operations (unordered values)).values i) p ≡ at (run (plain F) operations (unordered (map (place p) values))).values i
+    left_placewise p i =
+        sym (get_or-map (place p) (run (symbols F) operations (unordered values)).values i [])
+        ∙ ap (λ (t : Store ℕ). at t.values i) (run_linear (symbols F) (plain F) (place p) (place_linear F p) operations (unordered values))
+
+    -- where a column of symbols solves the rows, they leave zeros in the symbols that the order doesn't read
+    pub found_leaves : (column : ℕ → List ℕ) → IsSymbolColumn F size width column → SolvesSymbols F height width rows column (symbol_at values) → (i : ℕ) → IsUnread height finds.order i → symbol_at (run (symbols F) operations (unordered values)).values i ≡ replicate size 0
+    found_leaves column is s i unread = same_symbol F size _ (replicate size 0) ((run_keeps_symbols F size height operations (unordered values) are).each i unread.0) (zeros_are_symbol F size) (λ p.
+        left_placewise p i
+        ∙ finds.leaves (map (place p) values) (are_values p) (slice_at p column) (λ j m. symbol_elements F size (column j) (is j m) p)
+        (solves_same F height width rows rows _ _ _ (λ i j m n. refl) (λ i m. sym (values_at p i)) (s.at_place p)) i unread
+        ∙ sym (at-zeros size p))
+
+    -- and where they leave zeros there, what they make of the values solves the rows
+    pub found_fits : ((i : ℕ) → IsUnread height finds.order i → symbol_at (run (symbols F) operations (unordered values)).values i ≡ replicate size 0) → SolvesSymbols F height width rows (found_by (symbols F) operations values) (symbol_at values)
+    found_fits zeros = record {
+      at_place = λ p. record {
+        at = λ i l. dot_same F width (rows i) (rows i) _ _ (λ j m. refl) (λ k m. placewise p k)
+            ∙ (finds.consistent (map (place p) values) (are_values p) (λ j unread. sym (left_placewise p j) ∙ ap (place p) (zeros j unread) ∙ at-zeros size p)).at i l ∙ values_at p i;
       };
     }

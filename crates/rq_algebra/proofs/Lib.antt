@@ -11,6 +11,7 @@ pub mod Reduction
 pub mod Runs
 pub mod SmallCases
 pub mod Solutions
+pub mod Squares
 pub mod Stacks
 pub mod Sums
 pub mod SymbolColumns

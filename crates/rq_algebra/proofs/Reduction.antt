@@ -103,15 +103,17 @@ module _ (F : Field) (height width count p : ℕ) (a b c : ℕ → ℕ → ℕ) 
     ];
   }
 
--- all columns have pivots
-pub pivots_of_first : (F : Field) (height width count : ℕ) (a : ℕ → ℕ → ℕ) (rows columns : ℕ → ℕ) → ArePlaces count height rows → width ≤ count → ArePlaces width width columns → HasFirstPivots count width a rows columns → HasPivots F height width a rows columns
-pivots_of_first F height width count a rows columns rows_are fits columns_are first = record {
+-- all columns have pivots, and the rows that aren't among the pivots' are zeros
+pub pivots_of_first : (F : Field) (height width count : ℕ) (a : ℕ → ℕ → ℕ) (rows columns : ℕ → ℕ) → ArePlaces count height rows → width ≤ count → ArePlaces width width columns → HasFirstPivots count width a rows columns
+    → ((i p : ℕ) → i < height → ((q : ℕ) → q < width → rows q ≢ i) → p < width → a i (columns p) ≡ 0) → HasPivots F height width a rows columns
+pivots_of_first F height width count a rows columns rows_are fits columns_are first rest = record {
   in_rows = record { below = λ i l. rows_are.below i (omega arith); apart = λ i j l m e. rows_are.apart i j (omega arith) (omega arith) e };
   in_columns = columns_are;
   ones = first.ones;
   zeros = λ p k l m d.
       let q = all_places F width columns columns_are k m in
       ap (λ (j : ℕ). a (rows p) j) (sym q.2) ∙ first.zeros p q.0 (omega arith) q.1 (λ e. d (sym q.2 ∙ ap columns (sym e)));
+  rest = λ i k l free m. let q = all_places F width columns columns_are k m in rw (← q.2) (rest i q.0 l free q.1);
 }
 
 -- on n + 1 columns the rows from the n-th on are zero

@@ -1,14 +1,14 @@
 -- Sums of symbols.
 use Rattle.std.proofs.Common.{◌≡◌, ℕ, zero, suc, ◌<◌, List, [], ◌∷◌, ◌++◌, All, map, length, replicate, sym, ap, ◌∙◌, refl, arith, inl, inr}
 use Rattle.std.proofs.lemmas.Bool.{cases_lt}
-use Rattle.std.proofs.lemmas.List.{length-map, get_or_past, ext_get_or}
+use Rattle.std.proofs.lemmas.List.{length-map, length-replicate, get_or_past, ext_get_or}
 use Rattle.std.proofs.lemmas.List.Elements.{All-get_or, All-from_get_or, All-head, All-tail}
 use Rattle.rq_algebra.specs.Field.{Field}
 use Rattle.rq_algebra.specs.Systems.{at, dot}
 use Rattle.rq_algebra.specs.Operations.{plain}
 use Rattle.rq_algebra.specs.Symbols.{add_symbols, symbols, IsSymbol, IsSymbolColumn, slice_at}
 use Rattle.rq_algebra.specs.Parities.{sum_listed, parity}
-use Rattle.rq_algebra.proofs.Placewise.{place, place_linear, add_symbols_at, scale_at, sum_listed-linear}
+use Rattle.rq_algebra.proofs.Placewise.{place, place_linear, add_symbols_at, scale_at, sum_listed-linear, at-zeros}
 use Rattle.rq_algebra.proofs.Parity.{sum_listed_is}
 
 module _ (F : Field) where
@@ -53,6 +53,9 @@ module _ (F : Field) (size : ℕ) where
 
   pub same_symbol : (xs ys : List ℕ) → IsSymbol F size xs → IsSymbol F size ys → ((p : ℕ) → at xs p ≡ at ys p) → xs ≡ ys
   same_symbol xs ys s t same = ext_get_or 0 xs ys (s.size_is ∙ sym t.size_is) (λ p l. same p)
+
+  pub zeros_are_symbol : IsSymbol F size (replicate size 0)
+  zeros_are_symbol = record { size_is = length-replicate size 0; elements = All-from_get_or (λ x. x < F.size) (replicate size 0) 0 (λ p l. rw (at-zeros size p) (omega (arith, F.one_below))) }
 
   pub length-add_symbols : (n : ℕ) (xs ys : List ℕ) → length xs ≡ n → length ys ≡ n → length (add_symbols F xs ys) ≡ n
   unfolding add_symbols

@@ -1,7 +1,7 @@
 -- Small systems over the field of two elements, which show what the definitions mean, and why the laws have their premises.
 use Rattle.std.specs.Prelude.{◌≡◌, ◌≢◌, ℕ, List, [], ◌∷◌, map, Some, None}
 use Rattle.rq_algebra.specs.Arrangements.{exchange}
-use Rattle.rq_algebra.specs.Systems.{dot, Solves, IsDetermined, HasHomogeneousColumn, at, stacked, rows_of}
+use Rattle.rq_algebra.specs.Systems.{dot, Solves, IsDetermined, HasHomogeneousColumn, HasSolution, at, stacked, rows_of}
 use Rattle.rq_algebra.specs.Steps.{AddsRow, AddsValue, ScalesRow, ScalesValue, SameSolutions}
 use Rattle.rq_algebra.specs.Operations.{Operation, AddAssign, MulAssign, Fma, Reorder, Space, plain, unordered, run, values_in, IsAllowed, FindsColumn, found_by}
 use Rattle.rq_algebra.specs.Symbols.{symbols, symbol_at}
@@ -100,6 +100,10 @@ ScalingNeedsNonzero = ScalesRow two 1 1 0 0 single empty × ScalesValue two 1 0 
 -- as many equations as unknowns may determine, so only fewer never do: one equation of the two leaves a homogeneous column
 abbrev pub OneEquationIsTooFew : Type 0
 OneEquationIsTooFew = HasHomogeneousColumn two 1 2 triangular
+
+-- an equation without an unknown isn't determined, and no column solves it with another value than zero
+abbrev pub SquareNeedsDetermined : Type 0
+SquareNeedsDetermined = (¬ IsDetermined two 1 1 empty) × (¬ HasSolution two 1 1 empty (at (1 ∷ [])))
 
 -- the operations find the column of a system with more equations than unknowns, and of values that contradict they make no solution
 abbrev pub FoundNeedsAsManyEquations : Type 0

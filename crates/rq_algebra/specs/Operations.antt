@@ -95,6 +95,10 @@ pub record IsValues (F : Field) (height : ℕ) (values : List ℕ) : Type 0 wher
 abbrev pub found_by : {X : Type 0} → Space X → List Operation → List X → ℕ → X
 found_by S operations values = read S (run S operations (unordered values))
 
+-- one of the values that the order doesn't read
+abbrev pub IsUnread : ℕ → List ℕ → ℕ → Type 0
+IsUnread height order i = (i < height) × All (λ k. k ≢ i) order
+
 -- the operations find the column from the values
 pub record FindsColumn (F : Field) (height width : ℕ) (rows : ℕ → ℕ → ℕ) (operations : List Operation) : Type 0 where
   pub allowed : AreAllowed height None operations
@@ -107,3 +111,7 @@ pub record FindsColumn (F : Field) (height width : ℕ) (rows : ℕ → ℕ → 
   pub only : (v : List ℕ) → IsValues F height v → (x : ℕ → ℕ) → IsColumn F width x → Solves F height width rows x (at v) → (k : ℕ) → k < width → x k ≡ found_by (plain F) operations v k
   -- where there are as many rows as columns, what they make of any values solves the rows
   pub solves : height ≡ width → (v : List ℕ) → IsValues F height v → Solves F height width rows (found_by (plain F) operations v) (at v)
+  -- where a column solves the rows with some values, the operations leave zeros in the values that the order doesn't read
+  pub leaves : (v : List ℕ) → IsValues F height v → (x : ℕ → ℕ) → IsColumn F width x → Solves F height width rows x (at v) → (i : ℕ) → IsUnread height order i → at (run (plain F) operations (unordered v)).values i ≡ 0
+  -- and where they leave zeros there, what they make of the values solves the rows
+  pub consistent : (v : List ℕ) → IsValues F height v → ((i : ℕ) → IsUnread height order i → at (run (plain F) operations (unordered v)).values i ≡ 0) → Solves F height width rows (found_by (plain F) operations v) (at v)

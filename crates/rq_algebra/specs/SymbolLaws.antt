@@ -1,9 +1,9 @@
 -- The laws of symbols and of listed places, as statements: functions of `symbols` have them as contracts.
-use Rattle.std.specs.Prelude.{◌≡◌, ℕ, ◌+◌, ◌<◌, ◌↔◌, List, ◌∷◌, All}
+use Rattle.std.specs.Prelude.{◌≡◌, ℕ, ◌+◌, ◌<◌, ◌↔◌, List, ◌∷◌, All, replicate}
 use Rattle.rq_algebra.specs.Field.{Field}
-use Rattle.rq_algebra.specs.Systems.{dot, IsColumn, IsDetermined, at, stacked}
-use Rattle.rq_algebra.specs.Operations.{Operation, Store, read, run, plain, found_by, FindsColumn}
-use Rattle.rq_algebra.specs.Symbols.{symbols, IsSymbol, IsSymbolColumn, AreSymbols, symbol_at, slice_at, store_at, SolvesSymbols}
+use Rattle.rq_algebra.specs.Systems.{dot, IsColumn, IsDetermined, HasElements, at, stacked}
+use Rattle.rq_algebra.specs.Operations.{Operation, Store, read, run, plain, unordered, found_by, IsUnread, FindsColumn}
+use Rattle.rq_algebra.specs.Symbols.{symbols, IsSymbol, IsSymbolColumn, AreSymbols, symbol_at, slice_at, store_at, SolvesSymbols, HasSymbolSolution}
 use Rattle.rq_algebra.specs.Parities.{sum_listed, parity}
 
 -- at each place, operations on symbols are the operations on the elements there
@@ -37,6 +37,28 @@ FoundSolves =
     (F : Field) (height width size : ℕ) (rows : ℕ → ℕ → ℕ) (operations : List Operation) (values : List (List ℕ))
     → FindsColumn F height width rows operations → AreSymbols F size height values
     → height ≡ width → SolvesSymbols F height width rows (found_by (symbols F) operations values) (symbol_at values)
+
+-- where a column of symbols solves the rows, the operations leave zeros in the symbols that the order doesn't read
+abbrev pub FoundLeavesZeros : Type 0
+FoundLeavesZeros =
+    (F : Field) (height width size : ℕ) (rows : ℕ → ℕ → ℕ) (operations : List Operation) (values : List (List ℕ)) (column : ℕ → List ℕ)
+    → (finds : FindsColumn F height width rows operations) → AreSymbols F size height values
+    → IsSymbolColumn F size width column → SolvesSymbols F height width rows column (symbol_at values)
+    → (i : ℕ) → IsUnread height finds.order i → symbol_at (run (symbols F) operations (unordered values)).values i ≡ replicate size 0
+
+-- and where they leave zeros there, what they make of the values solves the rows
+abbrev pub FoundFits : Type 0
+FoundFits =
+    (F : Field) (height width size : ℕ) (rows : ℕ → ℕ → ℕ) (operations : List Operation) (values : List (List ℕ))
+    → (finds : FindsColumn F height width rows operations) → AreSymbols F size height values
+    → ((i : ℕ) → IsUnread height finds.order i → symbol_at (run (symbols F) operations (unordered values)).values i ≡ replicate size 0)
+    → SolvesSymbols F height width rows (found_by (symbols F) operations values) (symbol_at values)
+
+-- a determined system of as many equations as unknowns has a solution in symbols, whatever the values
+abbrev pub DeterminedSquareHasSolutionInSymbols : Type 0
+DeterminedSquareHasSolutionInSymbols =
+    (F : Field) (n size : ℕ) (rows : ℕ → ℕ → ℕ) (values : ℕ → List ℕ)
+    → HasElements F n n rows → IsSymbolColumn F size n values → IsDetermined F n n rows → HasSymbolSolution F size n n rows values
 
 abbrev pub DeterminedHasOneSolutionInSymbols : Type 0
 DeterminedHasOneSolutionInSymbols =

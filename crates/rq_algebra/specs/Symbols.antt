@@ -40,6 +40,12 @@ slice_at place column k = at (column k) place
 pub record SolvesSymbols (F : Field) (height width : ℕ) (rows : ℕ → ℕ → ℕ) (column values : ℕ → List ℕ) : Type 0 where
   pub at_place : (p : ℕ) → Solves F height width rows (slice_at p column) (slice_at p values)
 
+-- a column of symbols solves the rows with some values
+pub record HasSymbolSolution (F : Field) (size height width : ℕ) (rows : ℕ → ℕ → ℕ) (values : ℕ → List ℕ) : Type 0 where
+  pub column : ℕ → List ℕ
+  pub are_symbols : IsSymbolColumn F size width column
+  pub solves : SolvesSymbols F height width rows column values
+
 -- a store of what each symbol has at one place
 abbrev pub store_at : ℕ → Store (List ℕ) → Store ℕ
 store_at place s = record { values = map (λ xs. at xs place) s.values; order = s.order }

@@ -2,7 +2,7 @@
 use Rattle.std.specs.Prelude.{◌≡◌, ◌≢◌, ℕ, ◌+◌, ◌<◌, ◌↔◌, List, length}
 use Rattle.rq_algebra.specs.Field.{Field}
 use Rattle.rq_algebra.specs.Arrangements.{ArePlaces, EquationsStandIn, IdsStandIn, IsFewOn, RowsStandIn, exchange}
-use Rattle.rq_algebra.specs.Systems.{sum_below, dot, Solves, IsColumn, IsDetermined, HasHomogeneousColumn, HasElements, stacked, rows_of}
+use Rattle.rq_algebra.specs.Systems.{sum_below, dot, Solves, IsColumn, IsDetermined, HasHomogeneousColumn, HasSolution, HasElements, stacked, rows_of}
 use Rattle.rq_algebra.specs.Steps.{AddsRow, ScalesRow, AddsValue, ScalesValue, SameSolutions}
 
 abbrev pub SumIsLinear : Type 0
@@ -100,6 +100,12 @@ abbrev pub FewOnColumnsHaveHomogeneousColumn : Type 0
 FewOnColumnsHaveHomogeneousColumn =
     (F : Field) (height width n : ℕ) (a : ℕ → ℕ → ℕ) (rows columns : ℕ → ℕ)
     → HasElements F height width a → IsFewOn height width n a rows columns → HasHomogeneousColumn F height width a
+
+-- a determined system of as many equations as unknowns has a solution, whatever the values
+abbrev pub DeterminedSquareHasSolution : Type 0
+DeterminedSquareHasSolution =
+    (F : Field) (n : ℕ) (rows : ℕ → ℕ → ℕ) (values : ℕ → ℕ)
+    → HasElements F n n rows → IsColumn F n values → IsDetermined F n n rows → HasSolution F n n rows values
 
 -- a column solves two systems that are stacked where it solves both
 abbrev pub StackedIsBoth : Type 0

@@ -32,6 +32,12 @@ pub record HasHomogeneousColumn (F : Field) (height width : ℕ) (rows : ℕ →
   pub nonzero : column place ≢ 0
   pub solves : Solves F height width rows column (λ _. 0)
 
+-- a column solves the rows with some values
+pub record HasSolution (F : Field) (height width : ℕ) (rows : ℕ → ℕ → ℕ) (values : ℕ → ℕ) : Type 0 where
+  pub column : ℕ → ℕ
+  pub is_column : IsColumn F width column
+  pub solves : Solves F height width rows column values
+
 -- the entries of a system are elements of the field
 abbrev pub HasElements : Field → ℕ → ℕ → (ℕ → ℕ → ℕ) → Type 0
 HasElements F height width rows = (i k : ℕ) → i < height → k < width → rows i k < F.size

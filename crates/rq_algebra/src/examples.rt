@@ -1,6 +1,6 @@
 //! What the definitions mean, and why the laws have their premises, in small systems over the field
 //! of two elements.
-ghost use Rattle.rq_algebra.specs.Examples.{TriangleIsSolved, TriangleIsDetermined, RepeatedHasHomogeneousColumn, RepeatedIsNotDetermined, RowsStack, PlacesAreExchanged, OperationsRun, PlacesAreReadThroughTheOrder, OrdersAreReplaced, SymbolsAreAdded, OneValueIsNotAdded, RepeatsCancel, TurnedIsFound, AddingNeedsTwoRows, ScalingNeedsNonzero, OneEquationIsTooFew, FoundNeedsAsManyEquations, SumNeedsPlacesAndElements};
+ghost use Rattle.rq_algebra.specs.Examples.{TriangleIsSolved, TriangleIsDetermined, RepeatedHasHomogeneousColumn, RepeatedIsNotDetermined, RowsStack, PlacesAreExchanged, OperationsRun, PlacesAreReadThroughTheOrder, OrdersAreReplaced, SymbolsAreAdded, OneValueIsNotAdded, RepeatsCancel, TurnedIsFound, AddingNeedsTwoRows, ScalingNeedsNonzero, OneEquationIsTooFew, SquareNeedsDetermined, FoundNeedsAsManyEquations, SumNeedsPlacesAndElements};
 
 /// Two equations that are determined, and two that are not.
 pub fn equations()
@@ -40,6 +40,7 @@ pub fn premises()
     ensures two_rows { AddingNeedsTwoRows }
     ensures nonzero { ScalingNeedsNonzero }
     ensures few { OneEquationIsTooFew }
+    ensures determined { SquareNeedsDetermined }
     ensures square { FoundNeedsAsManyEquations }
     ensures listed { SumNeedsPlacesAndElements }
 {}

@@ -1,5 +1,5 @@
 //! The laws of symbols, and of equations as lists of places.
-ghost use Rattle.rq_algebra.specs.SymbolLaws.{OperationsActPlacewise, OperationsKeepSymbols, FoundAreSymbols, OnlyFoundSolves, FoundSolves, DeterminedHasOneSolutionInSymbols, StackedIsBothInSymbols, SumIsDotOfParities, SymbolSumIsDotOfParities, SumIsSymbol};
+ghost use Rattle.rq_algebra.specs.SymbolLaws.{OperationsActPlacewise, OperationsKeepSymbols, FoundAreSymbols, OnlyFoundSolves, FoundSolves, FoundLeavesZeros, FoundFits, DeterminedSquareHasSolutionInSymbols, DeterminedHasOneSolutionInSymbols, StackedIsBothInSymbols, SumIsDotOfParities, SymbolSumIsDotOfParities, SumIsSymbol};
 
 /// Operations on symbols are, at each place of a symbol, operations on elements.
 pub fn operations()
@@ -12,11 +12,18 @@ pub fn found()
     ensures symbols { FoundAreSymbols }
     ensures only { OnlyFoundSolves }
     ensures solves { FoundSolves }
+    ensures leaves { FoundLeavesZeros }
+    ensures fits { FoundFits }
 {}
 
 /// A determined system has at most one solution in symbols.
 pub fn determined()
     ensures { DeterminedHasOneSolutionInSymbols }
+{}
+
+/// As many equations as unknowns that determine have a solution in symbols, whatever the values.
+pub fn square()
+    ensures { DeterminedSquareHasSolutionInSymbols }
 {}
 
 /// An equation as a list of places that may repeat is the equation of the parities.

@@ -1,5 +1,5 @@
 //! The laws of linear systems.
-ghost use Rattle.rq_algebra.specs.SystemLaws.{SumIsLinear, DotIsLinearInRow, DotIsLinearInColumn, ProductActsInTurn, AddingKeepsSolutions, ScalingKeepsSolutions, RowOrderKeepsSolutions, ColumnOrderKeepsSolutions, ExchangeIsAnOrder, DeterminedStays, DeterminedByIds, NewSolvesOld, DeterminedHasOneSolution, HomogeneousColumnRefutesDetermined, StackedIsBoth, FewEquationsHaveHomogeneousColumn, FewOnColumnsHaveHomogeneousColumn};
+ghost use Rattle.rq_algebra.specs.SystemLaws.{SumIsLinear, DotIsLinearInRow, DotIsLinearInColumn, ProductActsInTurn, AddingKeepsSolutions, ScalingKeepsSolutions, RowOrderKeepsSolutions, ColumnOrderKeepsSolutions, ExchangeIsAnOrder, DeterminedStays, DeterminedByIds, NewSolvesOld, DeterminedHasOneSolution, HomogeneousColumnRefutesDetermined, StackedIsBoth, FewEquationsHaveHomogeneousColumn, FewOnColumnsHaveHomogeneousColumn, DeterminedSquareHasSolution};
 
 /// Sums and products are linear.
 pub fn linear()
@@ -32,6 +32,11 @@ pub fn determined()
 pub fn few_equations()
     ensures of_all { FewEquationsHaveHomogeneousColumn }
     ensures on_columns { FewOnColumnsHaveHomogeneousColumn }
+{}
+
+/// As many equations as unknowns that determine have a solution, whatever the values.
+pub fn square()
+    ensures { DeterminedSquareHasSolution }
 {}
 
 /// A column solves two systems that stand one below the other where it solves both.

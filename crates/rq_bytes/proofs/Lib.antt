@@ -14,4 +14,6 @@ pub mod SlabFacts
 pub mod SlabSums
 pub mod Steps
 pub mod TableFacts
+pub mod UnreadFacts
+pub mod Zeros
 pub mod ZipUpto

@@ -1,10 +1,11 @@
 -- What callers see of a slab.
-use Rattle.std.specs.Prelude.{ℕ, ◌-◌, ◌++◌, Bool, List, length, fold, replicate, slice_set, Option, None, ◌==◌}
+use Rattle.std.specs.Prelude.{◌≡◌, ℕ, ◌-◌, ◌<◌, ◌++◌, Bool, true, false, List, Contains, length, fold, replicate, slice_index_or, slice_set, Option, None, ◌==◌}
 use Rattle.std.specs.Cmp.Lexicographic.{pointwise}
-use Rattle.std.specs.Option.{option_eq}
+use Rattle.std.specs.Option.{option_eq, ForSome}
 use Rattle.std.specs.Ordering.{eq_of_both, on}
-use Rattle.rq_algebra.specs.Operations.{Operation, Store, step, run, read, meant_at, values_in, IsPlace, IsAllowed}
-use Rattle.rq_algebra.specs.Symbols.{symbols, add_symbols}
+use Rattle.rq_algebra.specs.Operations.{Operation, Store, step, run, read, meant_at, values_in, IsPlace, IsAllowed, IsUnread}
+use Rattle.rq_algebra.specs.Systems.{at}
+use Rattle.rq_algebra.specs.Symbols.{symbols, add_symbols, symbol_at}
 use Rattle.rq_standard.specs.OctetField.{octets}
 use Rattle.rq_bytes.specs.Ranges.{range_of, with_range, joined_pieces}
 
@@ -58,6 +59,20 @@ abbrev pub with_sum : Slab → ℕ → List ℕ → ℕ → ℕ → Slab
 with_sum slab dest sources start n =
     let octets = with_range (symbol_in slab dest) start (range_of (sum_in slab dest sources) start n) in
     record slab { values = slice_set slab.values (meant_at slab.order dest) octets }
+
+-- each symbol that the order doesn't read is zeros
+abbrev pub IsZeroUnread : Slab → Type 0
+IsZeroUnread slab = ForSome slab.order (λ order. (i : ℕ) → IsUnread (length slab.values) order i → symbol_at slab.values i ≡ replicate slab.symbol_size 0)
+
+-- each symbol without a mark is zeros
+abbrev pub IsZeroUnmarked : Slab → List Bool → Type 0
+IsZeroUnmarked slab marks = (i : ℕ) → i < length slab.values → slice_index_or marks i false ≡ false → symbol_at slab.values i ≡ replicate slab.symbol_size 0
+
+-- of so many values those have a mark that the order reads
+pub record MarksRead (count : ℕ) (order : List ℕ) (marks : List Bool) : Type 0 where
+  pub count_is : length marks ≡ count
+  pub marked : (k : ℕ) → k < length order → slice_index_or marks (at order k) false ≡ true
+  pub only : (i : ℕ) → slice_index_or marks i false ≡ true → Contains order i
 
 -- whether two slabs have as many symbols of one size, one order, and the same octets
 abbrev pub same_slab : Slab → Slab → Bool

@@ -5,6 +5,7 @@ pub mod error;
 pub mod factor;
 pub mod gf2;
 mod logarithms;
+mod marks;
 pub mod octet;
 pub mod octets;
 pub mod operation_vector;

@@ -1,5 +1,5 @@
 //! Rows of octets and packed rows of bits.
-ghost use Rattle.std.specs.Prelude.{◌≡◌, ◌+◌, ◌*◌, ◌^◌, ◌<◌, All, length, vec_len};
+ghost use Rattle.std.specs.Prelude.{◌≡◌, ◌↔◌, ◌+◌, ◌*◌, ◌^◌, ◌<◌, All, length, replicate, true, vec_len};
 ghost use Rattle.rq_bytes.specs.BinaryOctetVec.{padding_of, packed_bits};
 ghost use Rattle.rq_standard.specs.Rows.{row_sum, row_multiple};
 
@@ -73,6 +73,24 @@ impl BinaryOctetVec {
 pub fn are_octets(octets: &[u8])
     ensures { All (λ x. x < 256) octets.now }
 {}
+
+/// Whether all octets are zeros.
+pub fn is_zero(octets: &[u8]) -> bool
+    ensures { (result ≡ true) ↔ (octets.now ≡ replicate (length octets.now) 0) }
+{
+    let blocks = octets.len() / LANES;
+    for block in 0..blocks {
+        if u8x32::from_slice(&octets[LANES * block..]).reduce_or() != 0 {
+            return false;
+        }
+    }
+    for i in LANES * blocks..octets.len() {
+        if octets[i] != 0 {
+            return false;
+        }
+    }
+    true
+}
 
 /// Adds a row to a row of the same length.
 pub fn add_assign(octets: &mut [u8], other: &[u8])

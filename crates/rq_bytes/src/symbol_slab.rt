@@ -1,5 +1,5 @@
 //! Symbols of one size in one buffer.
-ghost use Rattle.std.specs.Prelude.{◌≡◌, ◌≢◌, ◌⊎◌, ◌+◌, ◌-◌, ◌*◌, ◌/◌, ◌^◌, ◌<◌, ◌≤◌, length, map, replicate, All, Ok, None};
+ghost use Rattle.std.specs.Prelude.{◌≡◌, ◌≢◌, ◌↔◌, ◌⊎◌, ◌+◌, ◌-◌, ◌*◌, ◌/◌, ◌^◌, ◌<◌, ◌≤◌, length, map, replicate, true, All, Ok, None, IfOk};
 ghost use Rattle.std.proofs.Common.{rules};
 ghost use Rattle.std.specs.Cmp.Rules.{comparing};
 ghost use Rattle.rq_algebra.specs.Operations.{AddAssign, MulAssign, Fma, Reorder, IsOrder, meant_at};
@@ -8,10 +8,11 @@ ghost use Rattle.rq_standard.specs.OctetField.{octets};
 ghost use Rattle.std.specs.Borrow.{sem};
 ghost use Rattle.rq_bytes.specs.Ranges.{range_of, cut, whole_symbols, with_range};
 ghost use Rattle.rq_bytes.specs.Refusals.{IsAnswer};
-ghost use Rattle.rq_bytes.specs.SymbolSlab.{slab_of, among_zeros, after, after_all, HasPlace, Allows, symbol_in, symbols_in, sum_in, with_sum, same_slab};
+ghost use Rattle.rq_bytes.specs.SymbolSlab.{slab_of, among_zeros, after, after_all, HasPlace, Allows, symbol_in, symbols_in, sum_in, with_sum, same_slab, IsZeroUnread, IsZeroUnmarked};
 
 use crate::error::Error;
 use crate::factor::Factor;
+use crate::marks::marks_of;
 use crate::octet::Octet;
 use crate::octets;
 use crate::symbol::{Symbol, zeros};
@@ -346,6 +347,35 @@ impl SymbolSlab {
             count: places.len(),
             order: None,
         })
+    }
+
+    /// Whether each symbol that the order doesn't read is zeros, in all its octets. Where no order is
+    /// set, all symbols are read. After operations that find intermediate symbols (RFC 6330, section
+    /// 5.4.2) that is so exactly where some intermediate symbols solve all equations.
+    pub fn is_zero_unread(&self) -> Result<bool, AllocError>
+        ensures { IfOk result (λ zeros. (zeros ≡ true) ↔ IsZeroUnread self.now) }
+    {
+        match &self.order {
+            None => Ok(true),
+            Some(order) => {
+                let marks = marks_of(*self.data.allocator(), order.as_slice(), self.count)?;
+                Ok(self.is_zero_unmarked(marks.as_slice()))
+            }
+        }
+    }
+
+    // Whether each symbol without a mark is zeros.
+    fn is_zero_unmarked(&self, marks: &[bool]) -> bool
+        requires { length marks.now ≡ length self.now.values }
+        ensures { (result ≡ true) ↔ IsZeroUnmarked self.now marks.now }
+    {
+        let size = self.symbol_size;
+        for i in 0..self.count {
+            if !marks[i] && !octets::is_zero(range(self.data.as_slice(), i * size, size)) {
+                return false;
+            }
+        }
+        true
     }
 
     // Where the symbol that a place means begins in the buffer.

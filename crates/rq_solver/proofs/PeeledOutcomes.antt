@@ -22,7 +22,7 @@ use Rattle.rq_parts.specs.DenseOctetMatrix.{entry_of}
 use Rattle.rq_solver.specs.Cleared.{AreUnits, FinishesPivots, HasPeeledPivots, IsCleared, IsFinished, ListsRows, ReducesBack, TakesBack}
 use Rattle.rq_solver.specs.Peeled.{IsOrderOf}
 use Rattle.rq_solver.specs.Recorded.{Recorded, ChangesRows}
-use Rattle.rq_solver.specs.RowSteps.{IsStuck, IsStepAmong, rows_after}
+use Rattle.rq_solver.specs.RowSteps.{IsEchelon, IsStuck, IsStepAmong, rows_after}
 use Rattle.rq_solver.proofs.Performing.{below_range, changes_keep, shows_after}
 use Rattle.rq_solver.proofs.PivotTurns.{if_same, if_apart}
 use Rattle.rq_solver.proofs.PivotsCleared.{left_below, left_apart, pivot_or_left}
@@ -153,7 +153,7 @@ module _ (height width : ℕ) (system : ℕ → ℕ → ℕ) (rows order places 
 
   -- ---- all columns with pivots
 
-  module _ (lists : List (List ℕ)) (marks : List Bool) (returned reduced_state final : Recorded) (enough : inactive ≤ length reduced) (back : TakesBack lists rows order marks 0 last returned) (reduces : ReducesBack reduced inactive 0 returned reduced_state)
+  module _ (lists : List (List ℕ)) (marks : List Bool) (returned reduced_state final : Recorded) (echelon : IsEchelon reduced inactive last.table) (back : TakesBack lists rows order marks 0 last returned) (reduces : ReducesBack reduced inactive 0 returned reduced_state)
       (finishes : FinishesPivots lists rows order reduced marks inactive (length rows) reduced_state final)
       (placed : List ℕ) (long : (q : ℕ) → q < length reduced → at placed (length rows + q) ≡ at reduced q) (starts : (p : ℕ) → p < length rows → at placed p ≡ at rows p) where
     abbrev late_steps : List Operation
@@ -191,7 +191,7 @@ module _ (height width : ℕ) (system : ℕ → ℕ → ℕ) (rows order places 
     ended_is r k = rows_after-next octets steps late_steps system r k ∙ rows_after-next octets back.steps (reduces.steps ++ finishes.steps) meant r k ∙ rows_after-next octets reduces.steps finishes.steps given r k
 
     fits : (q : ℕ) → q < inactive → q < length reduced
-    fits q l = omega (arith, enough)
+    fits q l = omega (arith, echelon.fits)
 
     given_at : (r f : ℕ) → r < height → f < inactive → given r (at order (pivots + f)) ≡ entry_of returned.table r f
     given_at r f l n =
@@ -199,15 +199,15 @@ module _ (height width : ℕ) (system : ℕ → ℕ → ℕ) (rows order places 
         sym (shows_after back.steps last returned meant (λ g. at order (length rows + g)) inactive (rw changes.performs.width narrow) back.performs (λ i g o u. sym (inactive_at i g (rw tall at o) u)) r f (rw tall l) n)
 
     -- the rows that are left take no part in that
-    given_left : (q k : ℕ) → q < inactive → given (at reduced q) k ≡ meant (at reduced q) k
-    given_left q k l = back.elsewhere meant (at reduced q) k (λ p from n. apart p q n (fits q l))
+    given_left : (q k : ℕ) → q < length reduced → given (at reduced q) k ≡ meant (at reduced q) k
+    given_left q k l = back.elsewhere meant (at reduced q) k (λ p from n. apart p q n l)
 
     given_zero : (f p : ℕ) → f < inactive → p < pivots → given (at reduced f) (at order p) ≡ 0
-    given_zero f p l n = given_left f (at order p) l ∙ left_pivot (at reduced f) p (in_left f (fits f l)) n
+    given_zero f p l n = given_left f (at order p) (fits f l) ∙ left_pivot (at reduced f) p (in_left f (fits f l)) n
 
     -- the reduced rows stay
-    ended_reduced : (q k : ℕ) → q < inactive → ended (at reduced q) k ≡ between (at reduced q) k
-    ended_reduced q k l = ended_is (at reduced q) k ∙ finishes.elsewhere between (at reduced q) k (λ p n. apart p q n (fits q l))
+    ended_reduced : (q k : ℕ) → q < length reduced → ended (at reduced q) k ≡ between (at reduced q) k
+    ended_reduced q k l = ended_is (at reduced q) k ∙ finishes.elsewhere between (at reduced q) k (λ p n. apart p q n l)
 
     between_pivot : (r p : ℕ) → p < pivots → between r (at order p) ≡ given r (at order p)
     between_pivot r p l = reduces.kept given r (at order p) (λ f n. given_zero f p n l)
@@ -246,7 +246,7 @@ module _ (height width : ℕ) (system : ℕ → ℕ → ℕ) (rows order places 
           let f = inactive_place p l late in
           rw (← f.2) (
           ap (λ (r : ℕ). ended r (at order (pivots + f.0))) (of_left f.0)
-          ∙ ended_reduced f.0 (at order (pivots + f.0)) f.1
+          ∙ ended_reduced f.0 (at order (pivots + f.0)) (fits f.0 f.1)
           ∙ units f.0 f.0 (omega arith) f.1 f.1
           ∙ if_same f.0 f.0 1 0 refl)
     ]
@@ -260,13 +260,41 @@ module _ (height width : ℕ) (system : ℕ → ℕ → ℕ) (rows order places 
       | inr late ↦
           let q = inactive_place i l late in
           rw (← q.2) (
-          ap (λ (r : ℕ). ended r (at order p)) (of_left q.0) ∙ ended_reduced q.0 (at order p) q.1 ∙ elim (cases_lt p pivots) [
+          ap (λ (r : ℕ). ended r (at order p)) (of_left q.0) ∙ ended_reduced q.0 (at order p) (fits q.0 q.1) ∙ elim (cases_lt p pivots) [
             | inl first_p ↦ between_pivot (at reduced q.0) p first_p ∙ given_zero q.0 p q.1 first_p
             | inr late_p ↦
                 let f = inactive_place p n late_p in
                 let other : q.0 ≢ f.0 = (λ e. d (sym q.2 ∙ ap (λ (g : ℕ). pivots + g) e ∙ f.2)) in
                 rw (← f.2) (units q.0 f.0 (omega arith) q.1 f.1 ∙ if_apart q.0 f.0 1 0 other)
           ])
+    ]
+
+    -- the rows that are left behind the reduced ones are zeros
+    behind_apart : (t q : ℕ) → t < inactive → inactive ≤ q → q < length reduced → at reduced t ≢ at reduced q
+    behind_apart t q l late n e =
+        let z : 1 ≡ 0 = sym (echelon.ones t l) ∙ ap (λ (r : ℕ). entry_of last.table r t) e ∙ echelon.zeros q t n (omega arith) l in
+        absurd (omega (arith, z))
+
+    behind_zero : (q p : ℕ) → inactive ≤ q → q < length reduced → p < width → ended (at reduced q) (at order p) ≡ 0
+    behind_zero q p late l n =
+        ended_reduced q (at order p) l ∙ reduces.elsewhere given (at reduced q) (at order p) (λ t from m. behind_apart t q m late l) ∙ given_left q (at order p) l
+        ∙ elim (cases_lt p pivots) [
+          | inl early ↦ left_pivot (at reduced q) p (in_left q l) early
+          | inr late_p ↦
+              let f = inactive_place p n late_p in
+              rw (← f.2) (inactive_at (at reduced q) f.0 (reduced_below q l) f.1 ∙ echelon.zeros q f.0 l (omega (arith, f.1)) f.1)
+        ]
+
+    rest_zero : (i p : ℕ) → i < height → ((q : ℕ) → q < width → row_of q ≢ i) → p < width → ended i (at order p) ≡ 0
+    rest_zero i p l free n = elim (pivot_or_left height rows listed listing i l) [
+      | inl q ↦ absurd (free q.0 (omega (arith, q.1, wide)) (of_pivot q.0 q.1 ∙ q.2))
+      | inr c ↦
+          let d = Contains-permutation left reduced i permuted c in
+          let is : at reduced d.0 ≡ i = get_or_default reduced d.0 0 i d.1 ∙ d.2 in
+          elim (cases_lt d.0 inactive) [
+            | inl taken ↦ absurd (free (pivots + d.0) (omega (arith, wide)) (of_left d.0 ∙ is))
+            | inr late ↦ rw (← is) (behind_zero d.0 p late d.1 n)
+          ]
     ]
 
     row_below : (p : ℕ) → p < width → row_of p < height
@@ -302,4 +330,4 @@ module _ (height width : ℕ) (system : ℕ → ℕ → ℕ) (rows order places 
     pub finds_by_peeled : FindsColumn octets height width system (final.operations ++ Reorder (map (at placed) places) ∷ [])
     finds_by_peeled = rw all_recorded (
         let firsts : HasFirstPivots width width ended row_of (at order) = record { ones = row_one; zeros = row_zero } in
-        finds_by_pivots octets height width system ended all_steps (steps_follow height width system all_steps all_among peeled.elements) row_of (at order) (pivots_of_first octets height width width ended row_of (at order) all_rows_are (omega arith) (columns_apart width (omega arith)) firsts) (map (at placed) places) reads)
+        finds_by_pivots octets height width system ended all_steps (steps_follow height width system all_steps all_among peeled.elements) row_of (at order) (pivots_of_first octets height width width ended row_of (at order) all_rows_are (omega arith) (columns_apart width (omega arith)) firsts rest_zero) (map (at placed) places) reads)

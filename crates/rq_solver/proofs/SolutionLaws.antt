@@ -26,6 +26,8 @@ module _ (F : Field) (height width : ℕ) (a b : ℕ → ℕ → ℕ) (same : Sa
     count = finds.count;
     only = λ v e x is s. finds.only v e x is (solves_same F height width b a x (at v) (at v) (λ i k l m. sym (same i k l m)) (λ i l. refl) s);
     solves = λ square v e. solves_same F height width a b _ (at v) (at v) same (λ i l. refl) (finds.solves square v e);
+    leaves = λ v e x is s. finds.leaves v e x is (solves_same F height width b a x (at v) (at v) (λ i k l m. sym (same i k l m)) (λ i l. refl) s);
+    consistent = λ v e zeros. solves_same F height width a b _ (at v) (at v) same (λ i l. refl) (finds.consistent v e zeros);
   }
 
   pub homogeneous_same : HasHomogeneousColumn F height width a → HasHomogeneousColumn F height width b
@@ -46,7 +48,7 @@ symbol_in-after_all operations handed k unordered_is =
 
 module _ (height width : ℕ) (rows : ℕ → ℕ → ℕ) (operations : List Operation) (finds : FindsColumn octets height width rows operations) (handed : Slab) where
   -- operations that find the column end with an order of as many places as there are columns
-  order-found : (after_all operations handed).order ≡ Some finds.order
+  pub order-found : (after_all operations handed).order ≡ Some finds.order
   unfolding step
   order-found =
       ap (λ (l : List Operation). (run (symbols octets) l (store_of handed)).order) finds.ends

@@ -9,7 +9,7 @@ use Rattle.rq_standard.specs.OctetField.{octets}
 use Rattle.rq_parts.specs.DenseOctetMatrix.{OctetTable, entry_of, HasOctets}
 use Rattle.rq_solver.specs.Peeled.{ones_of, IsPeeled}
 use Rattle.rq_solver.specs.Recorded.{Recorded, ChangesRows, Performs, Records}
-use Rattle.rq_solver.specs.RowSteps.{IsStuck, rows_after, IsStepAmong}
+use Rattle.rq_solver.specs.RowSteps.{IsEchelon, IsStuck, rows_after, IsStepAmong}
 use Rattle.rq_solver.specs.declared.pi_solver.peeling.Peeling.{Peeling}
 
 -- ---- the rows
@@ -180,7 +180,7 @@ pub record SolvesInactive (lists : List (List ℕ)) (rows order left reduced : L
   pub last : Recorded
   pub marks : List Bool
   pub changes : ChangesRows left old middle
-  pub fits : count ≤ length reduced
+  pub echelon : IsEchelon reduced count middle.table
   pub back : TakesBack lists rows order marks 0 middle returned
   pub reduces : ReducesBack reduced count 0 returned last
   pub finishes : FinishesPivots lists rows order reduced marks count (length rows) last new

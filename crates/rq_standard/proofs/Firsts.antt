@@ -27,7 +27,7 @@ first_payload-here b packets p e h = first_payload-push b packets p e ∙ ap (λ
 pub first_payload-elsewhere : (b : ℕ) (packets : List Packet) (p : Packet) (e : ℕ) → p.id.block ≢ b → first_payload b (packets ++ p ∷ []) e ≡ first_payload b packets e
 first_payload-elsewhere b packets p e h = first_payload-push b packets p e ∙ ap (λ t. or_later (first_payload b packets e) (cond (t && eqb p.id.esi e) (Some p.payload) None)) (ne_eqb p.id.block b h) ∙ or_later-none (first_payload b packets e)
 
-stays : (a b : Option (List ℕ)) → is_some a ≡ true → is_some (or_later a b) ≡ true
+pub stays : (a b : Option (List ℕ)) → is_some a ≡ true → is_some (or_later a b) ≡ true
 stays None b h = absurd (cc h)
 stays (Some x) b h = refl
 

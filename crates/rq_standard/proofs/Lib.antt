@@ -2,6 +2,7 @@ pub mod BitTableLaws
 pub mod BlockCuts
 pub mod BlockRows
 pub mod Columns
+pub mod Contradictions
 pub mod Differences
 pub mod FirstOctets
 pub mod Firsts

@@ -56,7 +56,7 @@ by_option (Some x) P h = h x refl
 abbrev pub held_with : List TableRow → Configuration → ℕ → (ℕ → Option (List ℕ)) → Held
 held_with table c b received = record { configuration = c; number = b; row = block_row table c b; symbols = block_symbols c b; received = received }
 
-held_is : (table : List TableRow) (c : Configuration) (b : ℕ) (h : Held) → IsHeldOf table c b h → held_with table c b h.received ≡ h
+pub held_is : (table : List TableRow) (c : Configuration) (b : ℕ) (h : Held) → IsHeldOf table c b h → held_with table c b h.received ≡ h
 held_is table c b h shape = λ i. record { configuration = sym shape.configuration i; number = sym shape.number i; row = sym shape.row i; symbols = sym shape.symbols i; received = h.received }
 
 module _ (table : List TableRow) (c : Configuration) (object : List ℕ) (packets : List Packet) (b : ℕ) (received : ℕ → Option (List ℕ)) where
@@ -101,10 +101,10 @@ stands_answered table c object packets b late h column answer aligned nonsingula
     late column answer is (subst (λ g. IsBlockAnswer g answer) (sym same) ans))
 
 -- a packet more is recorded
-firsts_more : (packets : List Packet) (p : Packet) (old new : Held) → HoldsFirsts p.id.block packets old → new ≡ recorded old p.id.esi p.payload → HoldsFirsts p.id.block (packets ++ p ∷ []) new
+pub firsts_more : (packets : List Packet) (p : Packet) (old new : Held) → HoldsFirsts p.id.block packets old → new ≡ recorded old p.id.esi p.payload → HoldsFirsts p.id.block (packets ++ p ∷ []) new
 firsts_more packets p old new reads is e = ap (λ h. h.received e) is ∙ ap (λ o. or_later o (cond (eqb p.id.esi e) (Some p.payload) None)) (reads e) ∙ sym (first_payload-here p.id.block packets p e refl)
 
-recorded_shape : (table : List TableRow) (c : Configuration) (b : ℕ) (p : Packet) (old new : Held) → IsHeldOf table c b old → new ≡ recorded old p.id.esi p.payload → IsHeldOf table c b new
+pub recorded_shape : (table : List TableRow) (c : Configuration) (b : ℕ) (p : Packet) (old new : Held) → IsHeldOf table c b old → new ≡ recorded old p.id.esi p.payload → IsHeldOf table c b new
 recorded_shape table c b p old new shape is =
     subst (IsHeldOf table c b) (sym is) (record { configuration = shape.configuration; number = shape.number; row = shape.row; symbols = shape.symbols; checked = shape.checked; fits = shape.fits })
 

@@ -38,9 +38,19 @@ pub record SolvesHeld (h : Held) (column : ℕ → List ℕ) : Type 0 where
   pub padding : (x : ℕ) → h.symbols ≤ x → x < h.row.extended_symbols → tuple_sum h.row column x ≡ zero_symbol h.configuration.symbol_size
   pub received : (e : ℕ) → IfSome (h.received e) (λ payload. payload ≡ tuple_sum h.row column (internal_id h.row h.symbols e))
 
+-- there is one
+pub record HasSolution (h : Held) : Type 0 where
+  pub column : ℕ → List ℕ
+  pub solves : SolvesHeld h column
+
 -- the ids that are held determine the block
 abbrev pub AreHeldDetermining : Held → Type 0
 AreHeldDetermining h = DetermineBlock h.row h.symbols (holds h)
+
+-- what is held is contradictory: its ids determine the block, and no column solves all of it
+pub record IsContradictory (h : Held) : Type 0 where
+  pub determined : AreHeldDetermining h
+  pub unsolved : HasSolution h → ⊥
 
 -- a plain column that shows that known ids don't determine: it solves their equations with all values zero, and isn't all zeros
 pub record IsHomogeneous (row : TableRow) (known : ℕ → Bool) (column : List ℕ) : Type 0 where
@@ -67,8 +77,10 @@ pub record IsBlockWith (h : Held) (block : List ℕ) : Type 0 where
   -- where the ids determine it and a column solves all that is held, it is that column's block
   pub solved : AreHeldDetermining h → (column : ℕ → List ℕ) → SolvesHeld h column → (e : ℕ) → e < h.symbols → symbol_of_block h.configuration h.symbols block e ≡ tuple_sum h.row column e
 
--- what is answered
+-- what is answered, where what is held isn't contradictory
 pub record IsBlockAnswer (h : Held) (answer : Option (List ℕ)) : Type 0 where
   pub some : IsSome answer → CanAnswer h
   pub none : CanAnswer h → IsSome answer
   pub block : IfSome answer (IsBlockWith h)
+  -- a determined block is that of a column that solves all that is held
+  pub solved : IsSome answer → AreHeldDetermining h → HasSolution h

@@ -7,7 +7,7 @@ use Rattle.rq_standard.specs.Configuration.{Configuration}
 use Rattle.rq_standard.specs.Cutting.{block_symbols, block_bytes}
 use Rattle.rq_standard.specs.Received.{first_payload, has_id}
 use Rattle.rq_standard.specs.Headline.{DetermineBlock, block_row, IsPacketOf, IsHonestRun, IsObjectAnswer, IsOnlyObject}
-use Rattle.rq_standard.specs.Held.{Held, nothing_held, recorded, IsBlockAnswer}
+use Rattle.rq_standard.specs.Held.{Held, nothing_held, recorded, IsContradictory, IsBlockAnswer}
 
 -- what a decoder holds of each block, and which blocks it has answered
 pub record State : Type 0 where
@@ -82,6 +82,33 @@ pub record RecordsOnly (old : State) (p : Packet) (new : State) : Type 0 where
   pub here : RecordsInBlock (old.held p.id.block) (old.answer p.id.block) p (new.held p.id.block) (new.answer p.id.block)
   pub elsewhere : IsSameElsewhere old p.id.block new
 
+-- what a packet does that contradicts what its block holds, or comes after one that did: it is recorded, and the block has no answer
+pub record Contradicts (old : State) (p : Packet) (new : State) : Type 0 where
+  pub records : RecordsOnly old p new
+  pub contradictory : IsContradictory (new.held p.id.block)
+
+-- what is held of a block is contradictory, and it has no answer
+pub record IsBlockContradictory (s : State) (b : ℕ) : Type 0 where
+  pub below : b < s.configuration.source_blocks
+  pub unanswered : s.answer b ≡ None
+  pub contradictory : IsContradictory (s.held b)
+
+-- a block that was contradictory stays so
+abbrev pub KeepsContradictions : State → State → Type 0
+KeepsContradictions old new = (b : ℕ) → IsBlockContradictory old b → IsBlockContradictory new b
+
+-- what is held of a block after these packets, where it takes them all
+abbrev pub held_after : List TableRow → Configuration → ℕ → List Packet → Held
+held_after table c b packets = record { configuration = c; number = b; row = block_row table c b; symbols = block_symbols c b; received = first_payload b packets }
+
+-- of each block without an answer this is held
+abbrev pub HoldsRun : List TableRow → List Packet → State → Type 0
+HoldsRun table packets s = (b : ℕ) → b < s.configuration.source_blocks → s.answer b ≡ None → s.held b ≡ held_after table s.configuration b packets
+
+-- and so it is one packet later
+abbrev pub HoldsMore : State → Packet → State → Type 0
+HoldsMore old p new = (table : List TableRow) (packets : List Packet) → HoldsRun table packets old → HoldsRun table (packets ++ p ∷ []) new
+
 -- Where memory is refused for a packet: everything is as it was, or the packet is recorded and its block waits for its answer.
 abbrev pub StopsEarly : State → Packet → State → Type 0
 StopsEarly old p new = (new ≡ old) ⊎ RecordsOnly old p new
@@ -112,6 +139,15 @@ StandsForNone table c new = (object : List ℕ) → IsHonestRun table c object [
 -- with one block more that is late, or one less
 abbrev pub with_late : ℕ → Bool → (ℕ → Bool) → ℕ → Bool
 with_late b now late n = if n == b then now else late n
+
+-- a packet of the object whose packets the decoder stands for, blocks late or not
+pub record IsHonestPacket (old : State) (p : Packet) : Type 0 where
+  pub table : List TableRow
+  pub object : List ℕ
+  pub packets : List Packet
+  pub late : ℕ → Bool
+  pub stands : StandsForButLate late table object packets old
+  pub of_object : IsPacketOf table old.configuration object p
 
 -- from a decoder that stands for a list, and a packet of the object, one that stands for the longer list
 abbrev pub StandsForMore : State → Packet → State → Type 0

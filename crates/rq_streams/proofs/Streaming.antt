@@ -1,12 +1,12 @@
 -- Of a mixed stream nothing is refused, and its packets are what is kept.
-use Rattle.std.proofs.Common.{◌≡◌, ℕ, ◌+◌, ◌%◌, ◌<◌, false, cond, ltb, eqb, List, [], ◌∷◌, ◌++◌, length, take, drop, Result, Ok, Err, Option, Some, None, refl, sym, ap, ◌∙◌, subst, arith, inl, eq-eqb, length-append}
+use Rattle.std.proofs.Common.{◌≡◌, ℕ, ◌+◌, ◌%◌, ◌<◌, false, cond, ltb, eqb, List, [], ◌∷◌, ◌++◌, length, take, drop, Result, Ok, Err, Option, Some, None, refl, sym, ap, ◌∙◌, subst, arith, ◌⊎◌, inl, inr, eq-eqb, length-append}
 use Rattle.std.specs.Prelude.{IsSome, IfSome, flat_map}
 use Rattle.std.specs.List.{AllByRecursion}
 use Rattle.std.proofs.lemmas.Bool.{le-ltb, ne_eqb}
 use Rattle.std.proofs.KnownBytes.{Keeps-refl}
 use Rattle.std.proofs.lemmas.List.{take_at, drop_at}
 use Rattle.rq_bytes.specs.declared.error.Error.{Error}
-use Rattle.rq_bytes.specs.declared.error.Error.TheVariants.{HeaderTooShort}
+use Rattle.rq_bytes.specs.declared.error.Error.TheVariants.{HeaderTooShort, OutOfMemory}
 use Rattle.rq_standard.specs.Packet.{Packet}
 use Rattle.rq_standard.specs.Configuration.{Configuration, IsConfiguration, IsAccepted, largest_block, header_bytes, configuration_of_bytes}
 use Rattle.rq_standard.specs.declared.row.TableRow.{TableRow}
@@ -21,7 +21,7 @@ use Rattle.rq_standard.specs.Streams.{frame_size, frames_in}
 use Rattle.rq_streams.specs.Frames.{kept_packets, skipped_count, skipped_in}
 use Rattle.rq_streams.specs.MixedStreams.{Frame, frame_bytes, packets_among, other_count, IsMixedStream}
 use Rattle.rq_streams.specs.declared.run.Stop.TheVariants.{Refused}
-use Rattle.rq_streams.specs.ReceivedStreams.{header_configuration, WantsDetermined, WantsOnlyObject, AnswersStream, RefusesStream, ReceivesExactly, ReceivesWhereAnyCan, CountsOthers}
+use Rattle.rq_streams.specs.ReceivedStreams.{header_configuration, WantsDetermined, WantsOnlyObject, AnswersStream, RefusesStream, AfterFrames, RefusesFirst, ReceivesExactly, ReceivesWhereAnyCan, CountsOthers}
 use Rattle.rq_streams.specs.Ends.{Wanted, Ends, outcome_of}
 use Rattle.rq_streams.proofs.Refusing.{if_some_all, if_some_more}
 use Rattle.rq_streams.proofs.Skipping.{FillsFrame, kept_packets-mixed, skipped_count-mixed}
@@ -133,6 +133,13 @@ module _ (table : List TableRow) (input : Option (List ℕ)) (read bytes : List 
   pub receives_by : (result : Result (Outcome × ℕ) Stop) (old new answer : Option (List ℕ)) → AnswersStream table bytes answer → Ends (outcome_of result) old new (Ok answer) → ReceivesExactly table result input old new
   receives_by result old new answer answers ends = if_some_more input (λ xs. read ≡ xs) _ (λ xs is c object frames rest s.
       wants_by table c object frames rest xs s answer (outcome_of result) old new (answers c object frames rest (mixed_before c object frames rest xs is s)) ends) all
+
+  -- the first refusal, or that of packets that contradict each other, and then nothing is written
+  pub receives_first : (e : Error) (old : Option (List ℕ)) → AfterFrames table bytes (λ wanted. (e ≡ OutOfMemory) ⊎ (wanted ≡ Err e)) → RefusesFirst table (Err (Refused e)) input old old
+  receives_first e old after = if_some_more input (λ xs. read ≡ xs) _ (λ xs is. subst (λ ys. AfterFrames table ys (Ends (Err (Refused e)) old old)) (same ∙ is) (elim after [
+    | inl first ↦ inl (first.0, (first.1, Keeps-refl old))
+    | inr found ↦ inr (found.0, (found.1, Keeps-refl old))
+  ])) all
 
   -- a refusal for want of memory, and then nothing is written
   pub receives_refused : (e : Error) (old : Option (List ℕ)) → RefusesStream table bytes e → ReceivesExactly table (Err (Refused e)) input old old

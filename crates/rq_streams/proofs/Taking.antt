@@ -1,12 +1,18 @@
 -- Packets of an object, taken frame by frame.
-use Rattle.std.proofs.Common.{◌≡◌, ℕ, ◌+◌, ◌<◌, ◌≤◌, min, length, length-append, true, false, cond, Bool, Option, List, [], ◌∷◌, ◌++◌, Some, None, refl, sym, ap, ◌∙◌, subst, arith, append_assoc, append-nil}
+use Rattle.std.proofs.Common.{◌≡◌, ℕ, ◌+◌, ◌<◌, ◌≤◌, min, length, length-append, true, false, cond, Bool, Option, List, [], ◌∷◌, ◌++◌, Some, None, Ok, refl, sym, ap, ◌∙◌, subst, arith, append_assoc, append-nil}
 use Rattle.std.specs.List.{AllByRecursion, cons_option}
 use Rattle.rq_standard.specs.Packet.{Packet, packet_of_bytes}
 use Rattle.rq_standard.specs.Configuration.{Configuration}
 use Rattle.rq_standard.specs.declared.row.TableRow.{TableRow}
 use Rattle.rq_standard.specs.Headline.{IsPacketOf}
-use Rattle.rq_standard.specs.Standing.{State, StandsFor, StandsForMore}
-use Rattle.raptorq.proofs.Lists.{all_at}
+use Rattle.rq_standard.specs.Standing.{State, StandsFor, StandsForMore, Contradicts, IsHonestPacket, held_after, HoldsRun, HoldsMore}
+use Rattle.rq_standard.specs.Held.{IsContradictory}
+use Rattle.rq_standard.proofs.Contradictions.{contradicted_after}
+use Rattle.rq_bytes.specs.Refusals.{first_refusal}
+use Rattle.raptorq.specs.Refused.{packet_refusal}
+use Rattle.raptorq.specs.Runs.{ContradictedIn}
+use Rattle.raptorq.proofs.Stops.{passes_below}
+use Rattle.raptorq.proofs.Lists.{all_at, one_passes}
 use Rattle.rq_standard.specs.Streams.{frame_size, frames_in}
 use Rattle.rq_streams.specs.Frames.{is_skipped, kept_packet, kept_packets, skipped_count}
 use Rattle.rq_streams.specs.ReceivedStreams.{StandsForFrames}
@@ -19,6 +25,8 @@ pub record AreFramesTaken (c : Configuration) (bytes left : List ℕ) (skipped :
   pub whole : kept_packets c (frames_in (frame_size c) bytes) ≡ done ++ kept_packets c (frames_in (frame_size c) left)
   pub counted : skipped_count c (frames_in (frame_size c) bytes) ≡ skipped + skipped_count c (frames_in (frame_size c) left)
   pub few : skipped + length left ≤ length bytes
+  pub passed : first_refusal (packet_refusal c) done ≡ Ok tt
+  pub holds : (table : List TableRow) → HoldsRun table [] old → HoldsRun table done now
   pub stands : (table : List TableRow) (object : List ℕ) → StandsFor table object [] old → AllByRecursion (IsPacketOf table c object) (kept_packets c (frames_in (frame_size c) bytes)) → StandsFor table object done now
 
 kept_by : (skipped : Bool) (q p : Packet) → Some p ≡ cond skipped None (Some q) → skipped ≡ false
@@ -46,18 +54,50 @@ module _ (c : Configuration) (bytes before after frame : List ℕ) (size skipped
   whole_next : (o : Option Packet) → o ≡ kept_packet c frame → kept_packets c (frames_in (frame_size c) bytes) ≡ t.done ++ cons_option o (kept_packets c (frames_in (frame_size c) after))
   whole_next o kept = t.whole ∙ ap (λ fs. t.done ++ kept_packets c fs) cut ∙ ap (λ d. t.done ++ cons_option d (kept_packets c (frames_in (frame_size c) after))) (sym kept)
 
+  -- the frame's packet is the object's, where all are
+  honest_frame : (p : Packet) → now.configuration ≡ c → Some p ≡ kept_packet c frame → (table : List TableRow) (object : List ℕ) → AllByRecursion (IsPacketOf table c object) (kept_packets c (frames_in (frame_size c) bytes)) → IsPacketOf table now.configuration object p
+  honest_frame p same kept table object honest =
+      subst (λ k. IsPacketOf table k object p) (sym same)
+      (all_at (IsPacketOf table c object) t.done (kept_packets c (frames_in (frame_size c) after)) p (subst (AllByRecursion (IsPacketOf table c object)) (whole_next (Some p) kept) honest))
+
+  -- so it isn't refused
+  pub honest_packet : (p : Packet) → now.configuration ≡ c → Some p ≡ kept_packet c frame → (table : List TableRow) (object : List ℕ) → StandsFor table object [] old → AllByRecursion (IsPacketOf table c object) (kept_packets c (frames_in (frame_size c) bytes)) → IsHonestPacket now p
+  honest_packet p same kept table object st honest = record {
+    table = table;
+    object = object;
+    packets = t.done;
+    late = λ _. false;
+    stands = t.stands table object st honest;
+    of_object = honest_frame p same kept table object honest;
+  }
+
+  -- a packet that contradicts those before it
+  pub contradicts_frames : (p : Packet) (new : State) → now.configuration ≡ c → Some p ≡ kept_packet c frame → packet_refusal c p ≡ Ok tt → Contradicts now p new → (table : List TableRow) → HoldsRun table [] old → ContradictedIn table c (kept_packets c (frames_in (frame_size c) bytes))
+  contradicts_frames p new same kept passes contradicts table none =
+      let within = passes_below c p passes in
+      record {
+        front = t.done ++ p ∷ [];
+        rest = kept_packets c (frames_in (frame_size c) after);
+        whole = whole_next (Some p) kept ∙ sym (append_assoc t.done (p ∷ []) (kept_packets c (frames_in (frame_size c) after)));
+        passed = one_passes c t.done p t.passed passes;
+        block = p.id.block;
+        below = within;
+        contradictory = subst (λ (k : Configuration). IsContradictory (held_after table k p.id.block (t.done ++ p ∷ []))) same
+            (contradicted_after table t.done now p new (subst (λ (k : Configuration). p.id.block < k.source_blocks) (sym same) within) (t.holds table none) contradicts);
+      }
+
   -- one packet more
-  pub taken_packet : (p : Packet) (new : State) → now.configuration ≡ c → Some p ≡ kept_packet c frame → StandsForMore now p new → AreFramesTaken c bytes after skipped old new
-  taken_packet p new same kept adds =
+  pub taken_packet : (p : Packet) (new : State) → now.configuration ≡ c → Some p ≡ kept_packet c frame → packet_refusal c p ≡ Ok tt → HoldsMore now p new → StandsForMore now p new → AreFramesTaken c bytes after skipped old new
+  taken_packet p new same kept passes holds adds =
       let more = kept_packets c (frames_in (frame_size c) after) in
       record {
         done = t.done ++ p ∷ [];
         whole = whole_next (Some p) kept ∙ sym (append_assoc t.done (p ∷ []) more);
         counted = counted_next false (kept_by (is_skipped c frame) (packet_of_bytes frame) p kept) ∙ omega arith;
         few = omega (arith, t.few, longer);
-        stands = λ table object st honest.
-            let here : IsPacketOf table c object p = all_at (IsPacketOf table c object) t.done more p (subst (AllByRecursion (IsPacketOf table c object)) (whole_next (Some p) kept) honest) in
-            adds table object t.done (t.stands table object st honest) (subst (λ k. IsPacketOf table k object p) (sym same) here);
+        passed = one_passes c t.done p t.passed passes;
+        holds = λ table none. holds table t.done (t.holds table none);
+        stands = λ table object st honest. adds table object t.done (t.stands table object st honest) (honest_frame p same kept table object honest);
       }
 
   -- one frame skipped
@@ -67,6 +107,8 @@ module _ (c : Configuration) (bytes before after frame : List ℕ) (size skipped
     whole = whole_next None none;
     counted = counted_next true (skipped_by (is_skipped c frame) (packet_of_bytes frame) none) ∙ omega arith;
     few = omega (arith, t.few, is.1, is.2, wide, longer);
+    passed = t.passed;
+    holds = t.holds;
     stands = t.stands;
   }
 

@@ -1,17 +1,18 @@
 -- What a receiver refuses and skips of any bytes, and what it answers over a mixed stream of an object's packets.
-use Rattle.std.specs.Prelude.{◌≡◌, ℕ, List, [], length, take, Option, Result, Ok, Err, Some, None, IfSome, IfOk, if◌then◌else◌, nat_lt}
+use Rattle.std.specs.Prelude.{◌≡◌, ℕ, List, [], length, take, Option, Result, Ok, Err, Some, None, IfSome, IfOk, if◌then◌else◌, nat_lt, drop, ◌⊎◌}
 use Rattle.std.specs.List.{AllByRecursion}
 use Rattle.rq_bytes.specs.declared.error.Error.{Error}
-use Rattle.rq_bytes.specs.declared.error.Error.TheVariants.{HeaderTooShort, OutOfMemory}
+use Rattle.rq_bytes.specs.declared.error.Error.TheVariants.{HeaderTooShort, OutOfMemory, Contradiction}
 use Rattle.rq_bytes.specs.Refusals.{and_then}
 use Rattle.rq_standard.specs.Packet.{Packet}
 use Rattle.rq_standard.specs.Configuration.{Configuration, configuration_of_bytes}
 use Rattle.rq_standard.specs.declared.row.TableRow.{TableRow}
 use Rattle.rq_standard.specs.TableRows.{greatest_size}
 use Rattle.rq_standard.specs.Headline.{IsPacketOf, IsAnswerable, IsOnlyObject, IsObjectAnswer}
-use Rattle.rq_standard.specs.Standing.{State, StandsFor}
+use Rattle.rq_standard.specs.Standing.{State, StandsFor, HoldsRun}
 use Rattle.rq_standard.specs.Streams.{stream_of, frame_size, frames_in}
 use Rattle.rq_base.specs.RefusedInput.{checked_configuration}
+use Rattle.raptorq.specs.Runs.{ContradictedIn}
 use Rattle.rq_streams.specs.declared.run.Outcome.{Outcome}
 use Rattle.rq_streams.specs.declared.run.Stop.{Stop}
 use Rattle.rq_streams.specs.Ends.{Wanted, Ends, AfterRefusal, outcome_of}
@@ -39,6 +40,26 @@ StandsForFrames c old bytes new =
     StandsFor table object [] old → AllByRecursion (IsPacketOf table c object) packets
     → StandsFor table object packets new
 
+-- why frames aren't all taken by a decoder that held nothing: want of memory, or packets that contradict each other
+abbrev pub StopsFrames : Configuration → State → List ℕ → Error → Type 0
+StopsFrames c old bytes e = (e ≡ OutOfMemory) ⊎ ((e ≡ Contradiction) × ((table : List TableRow) → HoldsRun table [] old → ContradictedIn table c (kept_packets c (frames_in (frame_size c) bytes))))
+
+-- where they hold the object's packets, want of memory alone
+abbrev pub StopsHonestFrames : Configuration → State → List ℕ → Error → Type 0
+StopsHonestFrames c old bytes e =
+    (table : List TableRow) (object : List ℕ)
+    → StandsFor table object [] old → AllByRecursion (IsPacketOf table c object) (kept_packets c (frames_in (frame_size c) bytes))
+    → e ≡ OutOfMemory
+
+-- a stream isn't refused for its header, and the packets of its frames contradict each other
+pub record ContradictsItself (table : List TableRow) (bytes : List ℕ) : Type 0 where
+  pub accepted : receive_refusal (greatest_size table) bytes ≡ Ok tt
+  pub contradicted : let c = configuration_of_bytes (take 12 bytes) in ContradictedIn table c (kept_packets c (frames_in (frame_size c) (drop 12 bytes)))
+
+-- P of what is wanted of a stream: its first refusal, or else some answer, or the refusal of packets that contradict each other
+abbrev pub AfterFrames : List TableRow → List ℕ → (Wanted → Type 0) → Type 0
+AfterFrames table bytes P = AfterRefusal (receive_refusal (greatest_size table) bytes) P ⊎ (ContradictsItself table bytes × P (Err Contradiction))
+
 -- the object of a mixed stream, exactly where the packets among its frames determine it
 abbrev pub AnswersStream : List TableRow → List ℕ → Option (List ℕ) → Type 0
 AnswersStream table bytes answer = OverMixedStreams table bytes (λ c object frames rest. IsObjectAnswer table c object (packets_among frames) answer)
@@ -59,9 +80,9 @@ pub record WantsOnlyObject (table : List TableRow) (c : Configuration) (object :
 
 -- ---- a run that reads this input, and behind whose writer this stood before and after
 
--- Whatever it reads, what is refused is the stream's first refusal, and then nothing is written.
+-- Whatever it reads, what is refused is the stream's first refusal, or packets that contradict each other, and then nothing is written.
 abbrev pub RefusesFirst : List TableRow → Result (Outcome × ℕ) Stop → Option (List ℕ) → Option (List ℕ) → Option (List ℕ) → Type 0
-RefusesFirst table result input before after = IfSome input (λ bytes. AfterRefusal (receive_refusal (greatest_size table) bytes) (Ends (outcome_of result) before after))
+RefusesFirst table result input before after = IfSome input (λ bytes. AfterFrames table bytes (Ends (outcome_of result) before after))
 
 -- Whatever it reads, it answers how many frames are skipped.
 abbrev pub CountsSkipped : Result (Outcome × ℕ) Stop → Option (List ℕ) → Type 0

@@ -1,13 +1,12 @@
 //! A stream in, its object out.
 ghost use Rattle.std.specs.Prelude.{◌≡◌, ◌^◌, ◌-◌, ◌<◌, ◌≤◌, length, OnOk, IfOk, IfErr, option_map, vec_items};
 ghost use Rattle.rq_bytes.specs.Refusals.{Answers};
-ghost use Rattle.rq_standard.specs.TableRows.{greatest_size};
 ghost use Rattle.raptorq.specs.Decoder.{state_of};
 ghost use Rattle.rq_streams.specs.Counted.{failed_count, inner_of};
 ghost use Rattle.rq_standard.specs.Streams.{frame_size, frames_in};
-ghost use Rattle.rq_streams.specs.Ends.{AfterRefusal, CountsFailures, FaultsWhereCounted, KeepsWhereUnread};
+ghost use Rattle.rq_streams.specs.Ends.{CountsFailures, FaultsWhereCounted, KeepsWhereUnread};
 ghost use Rattle.rq_streams.specs.Frames.{kept_packet, skipped_count, skipped_in};
-ghost use Rattle.rq_streams.specs.ReceivedStreams.{header_configuration, receive_refusal, StandsForFrames, AnswersStream, RefusesStream, RefusesFirst, CountsSkipped, ReceivesExactly, ReceivesWhereAnyCan, CountsOthers};
+ghost use Rattle.rq_streams.specs.ReceivedStreams.{header_configuration, StandsForFrames, StopsFrames, StopsHonestFrames, AfterFrames, AnswersStream, RefusesStream, RefusesFirst, CountsSkipped, ReceivesExactly, ReceivesWhereAnyCan, CountsOthers};
 
 use crate::counted::Counted;
 use crate::run::{Outcome, Stop, finish, read_all};
@@ -59,7 +58,8 @@ fn add_frames(
 ) -> Result<u64, Error>
     requires { config.now ≡ (state_of decoder.old).configuration }
     ensures skipped { IfOk result (λ n. n ≡ skipped_count config.now (frames_in (frame_size config.now) frames.now)) }
-    ensures memory { IfErr result (λ e. e ≡ Error.OutOfMemory) }
+    ensures stops { IfErr result (StopsFrames config.now (state_of decoder.old) frames.now) }
+    ensures honest { IfErr result (StopsHonestFrames config.now (state_of decoder.old) frames.now) }
     ensures configuration { (state_of decoder.new).configuration ≡ (state_of decoder.old).configuration }
     ensures stands { OnOk result (StandsForFrames config.now (state_of decoder.old) frames.now (state_of decoder.new)) }
 {
@@ -81,7 +81,7 @@ fn received_object(
     table: &SystematicTable,
     bytes: Vec<u8>,
 ) -> Result<(Option<Vec<u8>>, u64), Error>
-    ensures refused { AfterRefusal (receive_refusal (greatest_size table.now) bytes.items) (Answers (λ r. option_map vec_items r.0) result) }
+    ensures refused { AfterFrames table.now bytes.items (Answers (λ r. option_map vec_items r.0) result) }
     ensures answer { IfOk result (λ r. AnswersStream table.now bytes.items (option_map vec_items r.0)) }
     ensures memory { IfErr result (RefusesStream table.now bytes.items) }
     ensures skipped { IfOk result (λ r. r.1 ≡ skipped_in bytes.items) }
@@ -106,9 +106,10 @@ fn received_object(
 /// else nothing. So it is for a stream of [`run_send`](crate::run_send) from which frames were
 /// removed, or in which they were repeated or moved.
 ///
-/// Refuses, in this order, [`Error::HeaderTooShort`] below 12 bytes, and what
-/// [`ObjectTransmissionInformation::check`] refuses. [`Error::OutOfMemory`] may come before any of
-/// them, and at any frame.
+/// Refuses, in this order, [`Error::HeaderTooShort`] below 12 bytes, what
+/// [`ObjectTransmissionInformation::check`] refuses, and [`Error::Contradiction`] at a frame where
+/// [`Decoder::add_new_packet`] refuses its packet so, and then nothing is written. [`Error::OutOfMemory`] may come before
+/// any of them, and at any frame.
 pub fn run_receive<R: Read, W: Write>(
     alloc: Global,
     table: &SystematicTable,
@@ -123,7 +124,8 @@ pub fn run_receive<R: Read, W: Write>(
     ensures fault { FaultsWhereCounted reader.old writer.old result reader.new writer.new }
     ensures unread { KeepsWhereUnread reader.old reader.new (W.contents (inner_of writer.old)) (W.contents (inner_of writer.new)) }
 
-    // Whatever is read, what is refused is its first refusal, and then nothing is written.
+    // Whatever is read, what is refused is its first refusal, or packets that contradict each other,
+    // and then nothing is written.
     ensures refused { RefusesFirst table.now result
         (R.remaining (inner_of reader.old)) (W.contents (inner_of writer.old)) (W.contents (inner_of writer.new)) }
 

@@ -1,15 +1,17 @@
 //! The decoder of one source block.
-ghost use Rattle.std.specs.Prelude.{◌≡◌, ℕ, ◌*◌, ◌^◌, ◌<◌, ◌≤◌, true, [], ◌∷◌, ◌++◌, length, map, Ok, Some, None, IfSome, IfOk, IfErr, OnOk, OnErr, IsSome, not, if◌then◌else◌, ◌==◌, option_map, vec_items};
+ghost use Rattle.std.specs.Prelude.{◌≡◌, ℕ, ◌*◌, ◌^◌, ◌<◌, ◌≤◌, true, false, [], ◌∷◌, ◌++◌, All, length, map, Ok, Some, None, IfSome, IfOk, IfErr, OnOk, OnErr, IsSome, not, if◌then◌else◌, ◌==◌, option_map, vec_items};
 ghost use Rattle.std.specs.Option.{ForSome};
 ghost use Rattle.rq_bytes.specs.Refusals.{IsAnswer};
 ghost use Rattle.rq_bytes.specs.SymbolSlab.{slab_of};
 ghost use Rattle.rq_standard.specs.Configuration.{IsAligned};
 ghost use Rattle.rq_standard.specs.Cutting.{plain_symbol};
-ghost use Rattle.rq_standard.specs.Held.{CanAnswer};
+ghost use Rattle.rq_standard.specs.Held.{CanAnswer, IsContradictory};
 ghost use Rattle.rq_standard.specs.Received.{or_later};
 ghost use Rattle.rq_standard.specs.TableRows.{IsChecked};
 ghost use Rattle.raptorq.specs.Missing.{payload_of, has_payload, missing_count};
+ghost use Rattle.raptorq.specs.declared.decoder.block.Found.TheVariants.{Undetermined, Contradictory};
 
+use crate::decoder::fitting::fits;
 use crate::decoder::known::{known_symbol_ids, known_symbol_values};
 use crate::decoder::stopped::Stopped;
 use crate::enc::encoding_symbol;
@@ -18,12 +20,35 @@ use crate::solving::{find_operations, homogeneous};
 use crate::sub_blocks::{check_symbols, into_sub_blocks, size_at};
 use rq_base::base::{EncodingPacket, ObjectTransmissionInformation};
 use rq_bytes::error::Error;
+use rq_bytes::octets;
 use rq_bytes::symbol_slab::SymbolSlab;
 use rq_solver::replay::replay;
 use rq_standard::row::TableRow;
 use rq_tables::systematic_constants::SystematicTable;
 use std::alloc::{AllocError, Global};
 use std::collections::BTreeMap;
+
+// What the last attempt to answer a block found of what is held.
+#[derive(Clone, Copy)]
+enum Found {
+    Nothing,
+    Undetermined,
+    Contradictory,
+}
+
+impl Found {
+    // What is still known once a payload came: with one more id what is held may determine the
+    // block, but what is contradictory stays so.
+    fn after_payload(self, kept: bool) -> Found
+        ensures undetermined { result ≡ Found.Undetermined → (self ≡ Found.Undetermined) × (kept ≡ false) }
+        ensures contradictory { result ≡ Found.Contradictory → self ≡ Found.Contradictory }
+    {
+        match self {
+            Found::Undetermined if kept => Found::Nothing,
+            found => found,
+        }
+    }
+}
 
 /// Puts the symbols of one source block together again.
 #[derive(Drop)]
@@ -36,18 +61,19 @@ pub struct SourceBlockDecoder {
     received: BTreeMap<u32, Vec<u8>>,
     missing: u32,
     sparse_threshold: u32,
-    // What is held was found not to determine the block.
     #[derive_where(skip)]
-    undetermined: bool,
+    found: Found,
     alloc: Global,
     pub ghost sized: { (e : ℕ) → ForSome (payload_of received e) (λ payload. length payload ≡ config.symbol_size) },
+    pub ghost bytes: { (e : ℕ) → ForSome (payload_of received e) (All (λ octet. octet < 256)) },
     pub ghost positive: { 0 < config.symbol_size },
     pub ghost aligned: { IsAligned config },
     pub ghost checked: { IsChecked row },
     pub ghost fits: { symbols ≤ row.extended_symbols },
     pub ghost few: { (e : ℕ) → has_payload received e ≡ true → e < 2 ^ 24 },
     pub ghost counted: { missing ≡ missing_count symbols (has_payload received) },
-    pub ghost waits: { undetermined ≡ true → ¬ CanAnswer (record { configuration = config; number = number; row = row; symbols = symbols; received = payload_of received }) },
+    pub ghost waits: { found ≡ Undetermined → ¬ CanAnswer (record { configuration = config; number = number; row = row; symbols = symbols; received = payload_of received }) },
+    pub ghost contradicted: { found ≡ Contradictory → IsContradictory (record { configuration = config; number = number; row = row; symbols = symbols; received = payload_of received }) },
 }
 
 // Keeps a payload, unless one of its id is there. Answers whether it was kept.
@@ -103,13 +129,14 @@ fn octet_symbols(alloc: Global, column: &[u8]) -> Result<SymbolSlab, Error>
 impl SourceBlockDecoder {
     ghost use Rattle.std.specs.Int.{div_ceil};
     ghost use Rattle.raptorq.specs.Difference.{octets_of_column};
-    ghost use Rattle.rq_standard.specs.Held.{recorded, ShowsUndetermined, IsBlockWith, IsBlockAnswer};
+    ghost use Rattle.rq_standard.specs.Held.{holds, recorded, ShowsUndetermined, IsBlockWith, IsBlockAnswer};
+    ghost use Rattle.rq_standard.specs.Received.{HasSourceSymbols};
     ghost use Rattle.rq_standard.specs.TableRows.{greatest_size, intermediate_symbols};
     ghost use Rattle.raptorq.specs.Known.{SolvesBlock, IsHeldSolution, rebuilt_symbol};
     ghost use Rattle.raptorq.specs.Refused.{checked_block, block_refusal};
     ghost use Rattle.raptorq.specs.SourceBlockDecoder.{held_of, empty_block};
-    ghost use Rattle.raptorq.specs.Decoding.{DecodesFrom, DecodesFromUntil, shown};
-    ghost use Rattle.raptorq.specs.Stopping.{StopsPacket};
+    ghost use Rattle.raptorq.specs.Decoding.{DecodesFrom, DecodesFromUntil, IsUnanswered, shown};
+    ghost use Rattle.raptorq.specs.Stopping.{StopsPacket, StopsAnswer};
     ghost use Rattle.std.specs.Iterator.{IsFinite};
 
     /// The decoder of the source block with this number, of this length in bytes, that holds
@@ -161,7 +188,7 @@ impl SourceBlockDecoder {
             received: BTreeMap::new(alloc),
             missing: symbols,
             sparse_threshold: SPARSE_MATRIX_THRESHOLD,
-            undetermined: false,
+            found: Found::Nothing,
             alloc,
         }
     }
@@ -191,6 +218,9 @@ impl SourceBlockDecoder {
     /// [`Error::WrongPayloadSize`] where its payload hasn't the size of a symbol. The packets
     /// before it stay recorded, and the rest isn't taken. The first payload of an encoding symbol
     /// id is kept.
+    ///
+    /// Refuses [`Error::Contradiction`] where what came determines the block and no block fits all
+    /// of it. The packets stay recorded, and each later call is refused so too.
     pub fn decode<I: IntoIterator<Item = EncodingPacket>>(
         &mut self,
         packets: I,
@@ -213,10 +243,7 @@ impl SourceBlockDecoder {
         for packet in packets {
             self.add(packet)?;
         }
-        let Ok(block) = self.answer() else {
-            return Err(Stopped::NotSolved);
-        };
-        Ok(block)
+        self.answer()
     }
 
     /// An octet for each intermediate symbol, not all of them zero, that together solve the block's
@@ -257,44 +284,67 @@ impl SourceBlockDecoder {
         let (id, payload) = packet.split();
         let esi = id.encoding_symbol_id();
         let is_source = esi < self.symbols;
+        // For the proof: the payload's bytes are octets.
+        octets::are_octets(payload.as_slice());
         let Ok(kept) = keep_first(&mut self.received, esi, payload) else {
             return Err(Stopped::NotRecorded);
         };
         self.missing -= u32::from(kept & is_source);
-        self.undetermined &= !kept;
+        self.found = self.found.after_payload(kept);
         Ok(())
     }
 
     /// The block, where all its source symbols came or what came determines it. Nothing that is
-    /// held changes. What was found not to determine the block isn't solved again.
-    pub(crate) fn answer(&mut self) -> Result<Option<Vec<u8>>, Error>
+    /// held changes. What was found to be contradictory, or not to determine the block, isn't
+    /// solved again.
+    pub(crate) fn answer(&mut self) -> Result<Option<Vec<u8>>, Stopped>
         ensures block { IfOk result (λ r. IsBlockAnswer (held_of self.old) (option_map vec_items r)) }
         ensures same { held_of self.new ≡ held_of self.old }
-        ensures memory { IfErr result (λ e. e ≡ Error.OutOfMemory) }
+        ensures stops { IfErr result (λ stopped. StopsAnswer stopped (held_of self.old)) }
     {
-        if self.undetermined {
-            return Ok(None);
+        match self.found {
+            Found::Undetermined => return Ok(None),
+            Found::Contradictory => return Err(Stopped::Contradicted),
+            Found::Nothing => {}
         }
-        let block = self.find_answer()?;
-        self.undetermined = block.is_none();
-        Ok(block)
+        match self.find_answer() {
+            Ok(Some(block)) => Ok(Some(block)),
+            Ok(None) => {
+                self.found = Found::Undetermined;
+                Ok(None)
+            }
+            Err(Error::Contradiction) => {
+                self.found = Found::Contradictory;
+                Err(Stopped::Contradicted)
+            }
+            Err(_) => Err(Stopped::NotSolved),
+        }
     }
 
     // The block, where all its source symbols came or what came determines it: solved whatever was
-    // found before.
+    // found before. Source symbols alone can't be contradictory.
     fn find_answer(&self) -> Result<Option<Vec<u8>>, Error>
         ensures block { IfOk result (λ r. IsBlockAnswer (held_of self.now) (option_map vec_items r)) }
-        ensures memory { IfErr result (λ e. e ≡ Error.OutOfMemory) }
+        ensures unanswered { IfErr result (IsUnanswered (held_of self.now)) }
     {
-        if self.missing == 0 {
-            let plain = join(self.alloc, self.symbols, self.symbol_size(), &self.received)?;
-            let block = into_sub_blocks(self.alloc, &self.config, self.symbols, plain)?;
-            return Ok(Some(block));
+        let all = self.missing == 0;
+        if all && self.received.len() == self.symbols as usize {
+            return Ok(Some(self.join_source()?));
         }
         match self.solve()? {
             Some(intermediate) => Ok(Some(self.rebuild(&intermediate)?)),
+            None if all => Ok(Some(self.join_source()?)),
             None => Ok(None),
         }
+    }
+
+    // The block, from its source symbols alone, all of which came.
+    fn join_source(&self) -> Result<Vec<u8>, AllocError>
+        requires { HasSourceSymbols (held_of self.now).symbols (holds (held_of self.now)) }
+        ensures { IfOk result (λ block. IsBlockWith (held_of self.now) block.items) }
+    {
+        let plain = join(self.alloc, self.symbols, self.symbol_size(), &self.received)?;
+        into_sub_blocks(self.alloc, &self.config, self.symbols, plain)
     }
 
     /// The block whose symbols begin with the octets that a column has for them, and go on with
@@ -332,10 +382,9 @@ impl SourceBlockDecoder {
     // The intermediate symbols, where what came determines them.
     fn solve(&self) -> Result<Option<SymbolSlab>, Error>
         ensures solved { IfOk result (λ r. SolvesBlock (held_of self.now) r) }
-        ensures memory { IfErr result (λ e. e ≡ Error.OutOfMemory) }
+        ensures unanswered { IfErr result (IsUnanswered (held_of self.now)) }
     {
         let row = &self.row;
-        let size = self.symbol_size();
         if self.received.len() < self.symbols as usize {
             return Ok(None);
         }
@@ -354,13 +403,17 @@ impl SourceBlockDecoder {
             row,
             self.symbols,
             solution.fixed,
-            size,
+            self.symbol_size(),
             &self.received,
         )?;
         // For the proof: the contract of `len` says that the values have one size.
         let _symbols = values.len();
         replay(solution.operations.as_slice(), &mut values)?;
-        Ok(Some(values))
+        if fits(self.alloc, row, &solution, &values)? {
+            Ok(Some(values))
+        } else {
+            Err(Error::Contradiction)
+        }
     }
 
     // The block, from the source symbols that came and the intermediate symbols.
@@ -409,7 +462,7 @@ impl Clone for SourceBlockDecoder {
             received: self.received.clone()?,
             missing: self.missing,
             sparse_threshold: self.sparse_threshold,
-            undetermined: self.undetermined,
+            found: self.found,
             alloc: self.alloc,
         })
     }

@@ -1,11 +1,11 @@
 //! The decoder of an object.
 ghost use Rattle.std.specs.Prelude.{◌≡◌, ◌≢◌, ◌↔◌, ℕ, ◌*◌, ◌<◌, List, [], length, Ok, Some, None, IfSome, IfOk, IfErr, OnOk, OnErr, ◌⊎◌, All, map, option_map, vec_items, is_some, IsSome};
 ghost use Rattle.std.specs.List.{range_with_len, AllByRecursion};
-ghost use Rattle.rq_bytes.specs.Refusals.{Answers, IsAnswer, IsRefusal};
+ghost use Rattle.rq_bytes.specs.Refusals.{IsAnswer};
 ghost use Rattle.rq_standard.specs.Configuration.{IsAccepted, IsAligned, largest_block, total_symbols};
 ghost use Rattle.rq_standard.specs.Cutting.{block_symbols};
 ghost use Rattle.rq_standard.specs.Headline.{AnswersExactly, AnswersWhereAnyCan};
-ghost use Rattle.raptorq.specs.Runs.{packets_of, run_refusal, RefusesConfiguration};
+ghost use Rattle.raptorq.specs.Runs.{packets_of, AnswersRun, RefusesConfiguration};
 ghost use Rattle.rq_standard.specs.TableRows.{greatest_size};
 ghost use Rattle.rq_base.specs.RefusedInput.{checked_configuration};
 ghost use Rattle.raptorq.specs.SourceBlockDecoder.{held_of};
@@ -69,10 +69,7 @@ impl ObjectBlock {
             return Ok(());
         }
         self.decoder.record(packet)?;
-        let Ok(answer) = self.decoder.answer() else {
-            return Err(Stopped::NotSolved);
-        };
-        self.answer = answer;
+        self.answer = self.decoder.answer()?;
         Ok(())
     }
 
@@ -117,11 +114,11 @@ pub struct Decoder {
 
 impl Decoder {
     ghost use Rattle.rq_standard.specs.Differences.{AreUnansweredDetermined, IsDifference, IsNoneWhereAnswered, MakesOthersFit};
-    ghost use Rattle.rq_standard.specs.Standing.{IsNewState, Adds, Stops, StopsEarly, result_of};
+    ghost use Rattle.rq_standard.specs.Standing.{IsNewState, Adds, Stops, StopsEarly, Contradicts, IsBlockContradictory, KeepsContradictions, IsHonestPacket, HoldsRun, HoldsMore, result_of};
     ghost use Rattle.rq_standard.specs.Standing.{StandsForNone, StandsForMore, AnswersLateBlock, LeavesBlockLate, LeavesOrAnswersLateBlock, AnswersObject, AnswersNothingElse, AnswersOnlyObject};
     ghost use Rattle.raptorq.specs.Decoding.{shown};
     ghost use Rattle.raptorq.specs.Stopping.{StopsAsTested, AddsOrStops, AddsAndJoinsOrStops};
-    ghost use Rattle.raptorq.specs.Refused.{packet_refusal};
+    ghost use Rattle.raptorq.specs.Refused.{packet_refusal, IsPacketRefusal};
     ghost use Rattle.raptorq.specs.Decoder.{state_of};
 
     /// The decoder of an object in this configuration, before any packet.
@@ -136,6 +133,7 @@ impl Decoder {
         ensures accepted { OnOk result (IsAccepted (greatest_size table.now) config) }
         ensures state { IfOk result (λ d. IsNewState table.now config (state_of d)) }
         ensures stands { IfOk result (λ d. StandsForNone table.now config (state_of d)) }
+        ensures holds { IfOk result (λ d. HoldsRun table.now [] (state_of d)) }
     {
         config.check(table)?;
         let mut blocks = Vec::with_capacity(alloc, usize::from(config.source_blocks()))?;
@@ -179,14 +177,28 @@ impl Decoder {
     ///
     /// Refuses, in this order, [`Error::UnknownBlock`] where the packet's block is none of the
     /// object's, and [`Error::WrongPayloadSize`] where its payload hasn't the size of a symbol.
+    /// Refuses [`Error::Contradiction`] where with the packet what came of its block, which has no
+    /// answer yet, determines it and no block fits all of it: the packet is recorded, each later
+    /// packet of the block is refused so too, and the object is never answered. Packets of one
+    /// object never contradict each other.
+    ///
     /// Where memory is refused after the packet was recorded, the next packet of its block tries to
     /// answer it again.
     pub fn add_new_packet(&mut self, packet: EncodingPacket) -> Result<(), Error>
-        ensures refused { IsAnswer (λ x. x) result (packet_refusal (state_of self.old).configuration packet) }
-        ensures unchanged { IfErr result (λ e. e ≢ Error.OutOfMemory → state_of self.new ≡ state_of self.old) }
+        ensures refused { IfErr result (λ e. IsPacketRefusal e (packet_refusal (state_of self.old).configuration packet)) }
+        ensures accepted { OnOk result (packet_refusal (state_of self.old).configuration packet ≡ Ok tt) }
+        ensures unchanged { IfErr result (λ e. e ≢ Error.OutOfMemory → e ≢ Error.Contradiction → state_of self.new ≡ state_of self.old) }
         ensures adds { OnOk result (Adds (state_of self.old) packet (state_of self.new)) }
         ensures stops { IfErr result (λ e. e ≡ Error.OutOfMemory → StopsEarly (state_of self.old) packet (state_of self.new)) }
         ensures configuration { (state_of self.new).configuration ≡ (state_of self.old).configuration }
+
+        // A contradiction: the packet is recorded, and so is each later one of its block, which is
+        // refused too.
+        ensures contradiction { IfErr result (λ e. e ≡ Error.Contradiction → Contradicts (state_of self.old) packet (state_of self.new)) }
+        ensures holds { OnOk result (HoldsMore (state_of self.old) packet (state_of self.new)) }
+        ensures goes_on { OnOk result (IsBlockContradictory (state_of self.old) packet.id.block → ⊥) }
+        ensures keeps { KeepsContradictions (state_of self.old) (state_of self.new) }
+        ensures honest { IfErr result (λ e. IsHonestPacket (state_of self.old) packet → e ≡ Error.OutOfMemory) }
 
         // From a decoder that stands for a list, one that stands for the longer list.
         ensures stands { OnOk result (StandsForMore (state_of self.old) packet (state_of self.new)) }
@@ -208,12 +220,13 @@ impl Decoder {
         true
     }
 
-    /// The object, where each of its blocks is determined.
+    /// The object, where each of its blocks is determined and none is contradictory.
     pub fn get_result(&self) -> Result<Option<Vec<u8>>, Error>
         ensures value { IfOk result (λ r. option_map vec_items r ≡ result_of (state_of self.now)) }
         ensures object { IfOk result (λ r. AnswersObject (state_of self.now) (option_map vec_items r)) }
         ensures nothing_else { IfOk result (λ r. AnswersNothingElse (state_of self.now) (option_map vec_items r)) }
         ensures only_object { IfOk result (λ r. AnswersOnlyObject (state_of self.now) (option_map vec_items r)) }
+        ensures contradicted { IfOk result (λ r. (b : ℕ) → IsBlockContradictory (state_of self.now) b → r ≡ None) }
         ensures memory { IfErr result (λ e. e ≡ Error.OutOfMemory) }
     {
         if !self.is_complete() {
@@ -289,9 +302,9 @@ impl Decoder {
     /// Refuses as [`Decoder::add_new_packet`] does. Where memory is refused for the object, the
     /// blocks stay answered, and [`Decoder::get_result`] tries again.
     pub fn decode(&mut self, packet: EncodingPacket) -> Result<Option<Vec<u8>>, Error>
-        ensures refused { IfErr result (λ e. IsRefusal e (packet_refusal (state_of self.old).configuration packet)) }
+        ensures refused { IfErr result (λ e. IsPacketRefusal e (packet_refusal (state_of self.old).configuration packet)) }
         ensures accepted { OnOk result (packet_refusal (state_of self.old).configuration packet ≡ Ok tt) }
-        ensures unchanged { IfErr result (λ e. e ≢ Error.OutOfMemory → state_of self.new ≡ state_of self.old) }
+        ensures unchanged { IfErr result (λ e. e ≢ Error.OutOfMemory → e ≢ Error.Contradiction → state_of self.new ≡ state_of self.old) }
         ensures adds { OnOk result (Adds (state_of self.old) packet (state_of self.new)) }
         ensures stops { IfErr result (λ e. e ≡ Error.OutOfMemory → Stops (state_of self.old) packet (state_of self.new)) }
         ensures value { IfOk result (λ r. option_map vec_items r ≡ result_of (state_of self.new)) }
@@ -299,6 +312,14 @@ impl Decoder {
         ensures nothing_else { IfOk result (λ r. AnswersNothingElse (state_of self.new) (option_map vec_items r)) }
         ensures only_object { IfOk result (λ r. AnswersOnlyObject (state_of self.new) (option_map vec_items r)) }
         ensures configuration { (state_of self.new).configuration ≡ (state_of self.old).configuration }
+
+        // A contradiction: the packet is recorded, and so is each later one of its block, which is
+        // refused too.
+        ensures contradiction { IfErr result (λ e. e ≡ Error.Contradiction → Contradicts (state_of self.old) packet (state_of self.new)) }
+        ensures holds { OnOk result (HoldsMore (state_of self.old) packet (state_of self.new)) }
+        ensures goes_on { OnOk result (IsBlockContradictory (state_of self.old) packet.id.block → ⊥) }
+        ensures keeps { KeepsContradictions (state_of self.old) (state_of self.new) }
+        ensures honest { IfErr result (λ e. IsHonestPacket (state_of self.old) packet → e ≡ Error.OutOfMemory) }
 
         // From a decoder that stands for a list, one that stands for the longer list.
         ensures stands { OnOk result (StandsForMore (state_of self.old) packet (state_of self.new)) }
@@ -337,14 +358,15 @@ fn set_sparse_thresholds(blocks: &mut [ObjectBlock], value: u32)
 /// that is set before it ([`Decoder::set_sparse_threshold`]).
 ///
 /// Refuses what [`Decoder::new`] refuses, and then as [`Decoder::decode`] does, the first refused
-/// packet deciding. [`Error::OutOfMemory`] may come before a packet that is refused.
+/// packet deciding. [`Error::OutOfMemory`], and [`Error::Contradiction`] where so many of the packets
+/// contradict each other, may come before a packet that is refused.
 pub fn decode_all(
     alloc: Global,
     table: &SystematicTable,
     config: ObjectTransmissionInformation,
     steps: Vec<(u32, EncodingPacket)>,
 ) -> Result<Option<Vec<u8>>, Error>
-    ensures in_order { Answers (λ _. tt) result (run_refusal table.now config (packets_of steps.items)) }
+    ensures in_order { AnswersRun table.now config (packets_of steps.items) result }
     ensures refused { IfErr result (RefusesConfiguration table.now config (packets_of steps.items)) }
     ensures headline { IfOk result (λ r. AnswersExactly table.now config (packets_of steps.items) (option_map vec_items r)) }
     ensures only_object { IfOk result (λ r. AnswersWhereAnyCan table.now config (packets_of steps.items) (option_map vec_items r)) }

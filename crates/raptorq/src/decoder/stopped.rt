@@ -14,6 +14,8 @@ pub(crate) enum Stopped {
     NotRecorded,
     /// It is recorded, and there was no memory to answer its block.
     NotSolved,
+    /// It is recorded, and what is held of its block is contradictory.
+    Contradicted,
     /// Its block has the answer that it can have, and there was no memory to join the blocks.
     NotJoined,
 }
@@ -24,6 +26,7 @@ impl From<Stopped> for Error {
     fn from(stopped: Stopped) -> Error {
         match stopped {
             Stopped::Refused(e) => e,
+            Stopped::Contradicted => Error::Contradiction,
             Stopped::NotRecorded | Stopped::NotSolved | Stopped::NotJoined => Error::OutOfMemory,
         }
     }

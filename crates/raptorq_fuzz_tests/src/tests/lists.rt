@@ -70,42 +70,77 @@ struct Round<'a> {
     list: &'a [(EncodingPacket, bool)],
 }
 
-// Hands a list to a decoder of the object. Answers whether it ended with an answer.
-fn object_answers(rt: &impl Abort, alloc: Global, round: &Round<'_>) -> Result<bool, Error> {
-    let sent = round.sent;
-    let mut decoder = Decoder::new(alloc, round.table, sent.config)?;
-    decoder.set_sparse_threshold(round.threshold);
-    let mut model = Model::new(alloc, sent.config, 0, sent.config.source_blocks());
-    for (packet, is_honest) in round.list {
-        match model.refusal(packet) {
-            Some(refusal) => assert_eq!(rt; decoder.add_new_packet(packet.clone()?), Err(refusal)),
-            None => {
-                model.keep(packet, *is_honest)?;
-                decoder.add_new_packet(packet.clone()?)?;
-            }
+// How many lists ended with an answer, and how many with a contradiction.
+#[derive(Debug, Drop)]
+struct Counts {
+    answered: u32,
+    contradictory: u32,
+}
+
+impl Counts {
+    fn new() -> Counts {
+        Counts {
+            answered: 0,
+            contradictory: 0,
         }
     }
-    let answer = decoder.get_result()?;
-    assert_eq!(rt; Some(answer.is_some()), model.is_answered());
-    match answer {
-        None => Ok(false),
-        Some(object) => {
-            assert!(rt; !model.is_honest() || object == sent.object);
-            assert_eq!(rt; object.len(), sent.object.len());
-            Ok(true)
+
+    // Counts a list: whether it ended with an answer, or its refusal.
+    fn add(&mut self, ended: Result<bool, Error>) {
+        match ended {
+            Ok(true) => self.answered = self.answered.saturating_add(1),
+            Ok(false) => {}
+            Err(_) => self.contradictory = self.contradictory.saturating_add(1),
         }
+    }
+
+    // Whether there are lists of all kinds.
+    fn are_some(&self) -> bool {
+        self.answered > LISTS / 10 && self.answered < LISTS / 10 * 9 && self.contradictory > 0
     }
 }
 
-// Hands the packets of a list to a decoder of one block, up to the first refused one.
-fn block_answers(rt: &impl Abort, alloc: Global, round: &Round<'_>) -> Result<bool, Error> {
+// Hands a list to a decoder of the object. Answers how it ended.
+fn object_ends(
+    rt: &impl Abort,
+    alloc: Global,
+    round: &Round<'_>,
+) -> Result<Result<bool, Error>, Error> {
     let sent = round.sent;
-    let length = block_symbols(&sent.config, 0).saturating_mul(u64::from(
-        sent.config.symbol_size(),
-    ));
-    let mut decoder = SourceBlockDecoder::new(alloc, round.table, 0, &sent.config, length)?;
+    let mut decoder = Decoder::new(alloc, round.table, sent.config)?;
     decoder.set_sparse_threshold(round.threshold);
-    let mut model = Model::new(alloc, sent.config, 0, 1);
+    let mut model = Model::new(alloc, sent.config, sent.config.source_blocks())?;
+    for (packet, is_honest) in round.list {
+        let refusal = match model.refusal(packet) {
+            None => model.take(packet, *is_honest)?,
+            refusal => refusal,
+        };
+        assert_eq!(rt; decoder.add_new_packet(packet.clone()?).err(), refusal);
+    }
+    let answer = decoder.get_result()?;
+    assert_eq!(rt; Some(answer.is_some()), model.is_answered());
+    let is_answered = answer.is_some();
+    if let Some(object) = answer {
+        assert!(rt; !model.is_honest() || object == sent.object);
+        assert_eq!(rt; object.len(), sent.object.len());
+    }
+    Ok(if model.is_contradictory() == Some(true) {
+        Err(Error::Contradiction)
+    } else {
+        Ok(is_answered)
+    })
+}
+
+// What a decoder of one block answers to the packets of a list, up to the first refused one.
+fn block_answer(
+    rt: &impl Abort,
+    alloc: Global,
+    round: &Round<'_>,
+    length: u64,
+    model: &mut Model,
+) -> Result<Result<Option<Vec<u8>>, Error>, Error> {
+    let mut decoder = SourceBlockDecoder::new(alloc, round.table, 0, &round.sent.config, length)?;
+    decoder.set_sparse_threshold(round.threshold);
     let mut packets = Vec::new(alloc);
     let mut refusal = None;
     for (packet, is_honest) in round.list {
@@ -117,23 +152,41 @@ fn block_answers(rt: &impl Abort, alloc: Global, round: &Round<'_>) -> Result<bo
             }
         }
     }
-    let mut answer = decoder.decode(packets);
-    if let Some(refusal) = refusal {
-        assert!(rt; answer == Err(refusal));
-        answer = decoder.decode(None);
+    let answer = decoder.decode(packets);
+    let Some(refusal) = refusal else {
+        return Ok(answer);
+    };
+    assert!(rt; answer == Err(refusal));
+    Ok(decoder.decode(None))
+}
+
+// Hands the packets of a list to a decoder of one block, up to the first refused one. Answers how
+// it ended.
+fn block_ends(
+    rt: &impl Abort,
+    alloc: Global,
+    round: &Round<'_>,
+) -> Result<Result<bool, Error>, Error> {
+    let sent = round.sent;
+    let length = block_symbols(&sent.config, 0).saturating_mul(u64::from(
+        sent.config.symbol_size(),
+    ));
+    let mut model = Model::new(alloc, sent.config, 1)?;
+    let answer = block_answer(rt, alloc, round, length, &mut model)?;
+    if model.is_contradictory() == Some(true) {
+        assert!(rt; answer == Err(Error::Contradiction));
+        return Ok(Err(Error::Contradiction));
     }
     let answer = answer?;
     assert_eq!(rt; Some(answer.is_some()), model.is_answered());
-    match answer {
-        None => Ok(false),
-        Some(block) => {
-            let count = block.len().min(sent.object.len());
-            let is_same = block.get(..count) == sent.object.as_slice().get(..count);
-            assert!(rt; !model.is_honest() || is_same);
-            assert!(rt; block.len() as u64 == length);
-            Ok(true)
-        }
-    }
+    let Some(block) = answer else {
+        return Ok(Ok(false));
+    };
+    let count = block.len().min(sent.object.len());
+    let is_same = block.get(..count) == sent.object.as_slice().get(..count);
+    assert!(rt; !model.is_honest() || is_same);
+    assert!(rt; block.len() as u64 == length);
+    Ok(Ok(true))
 }
 
 #[test]
@@ -142,8 +195,8 @@ fn any_lists(rt: HostRuntime) -> Result<(), Fail> {
     let table = SystematicTable::built_in(alloc)?;
     let objects = objects(alloc, &table)?;
     let mut choices = Choices::new(1);
-    let mut answered_objects: u32 = 0;
-    let mut answered_blocks: u32 = 0;
+    let mut object_counts = Counts::new();
+    let mut block_counts = Counts::new();
     for number in 0..LISTS {
         let place = choices.place(objects.len());
         let sent = objects.get(place).ok_or("no object")?;
@@ -154,18 +207,10 @@ fn any_lists(rt: HostRuntime) -> Result<(), Fail> {
             sent,
             list: list.as_slice(),
         };
-        let is_answered = object_answers(&rt, alloc, &round)?;
-        answered_objects = answered_objects.saturating_add(u32::from(is_answered));
-        let is_answered = block_answers(&rt, alloc, &round)?;
-        answered_blocks = answered_blocks.saturating_add(u32::from(is_answered));
+        object_counts.add(object_ends(&rt, alloc, &round)?);
+        block_counts.add(block_ends(&rt, alloc, &round)?);
     }
-    assert!(rt;
-        answered_objects > LISTS / 10 && answered_objects < LISTS / 10 * 9,
-        "{answered_objects}"
-    );
-    assert!(rt;
-        answered_blocks > LISTS / 10 && answered_blocks < LISTS / 10 * 9,
-        "{answered_blocks}"
-    );
+    assert!(rt; object_counts.are_some(), "{object_counts:?}");
+    assert!(rt; block_counts.are_some(), "{block_counts:?}");
     Ok(())
 }

@@ -1,4 +1,5 @@
-//! A plain model of decoders: what is refused, what is kept, and whether that determines each block.
+//! A plain model of decoders: what is refused, what is kept, whether that determines each block,
+//! and whether it contradicts itself.
 use raptorq::error::Error;
 use raptorq::{EncodingPacket, ObjectTransmissionInformation};
 use raptorq_test_kit::ten_symbols::Basis;
@@ -38,37 +39,111 @@ pub fn configuration_refusal(config: &ObjectTransmissionInformation) -> Option<E
     None
 }
 
+// What the packets of a block say together.
+#[derive(Clone, Copy, PartialEq, Eq, Drop)]
+enum Standing {
+    // They don't determine the block.
+    Undetermined,
+    // They determine it, and one block fits them all.
+    Answered,
+    // They determine it, and no block fits them all.
+    Contradictory,
+    // There are enough of them, of a block of more than ten symbols.
+    Unknown,
+}
+
+// What is kept of a block: the ids, and what they determine with their values, five octets of
+// them a basis.
+#[derive(Drop)]
+struct Block {
+    symbols: u32,
+    ids: Vec<u32>,
+    bases: Vec<Basis>,
+}
+
+impl Block {
+    fn new(alloc: Global, symbols: u64) -> Block {
+        Block {
+            symbols: u32::try_from(symbols).unwrap_or(u32::MAX),
+            ids: Vec::new(alloc),
+            bases: Vec::new(alloc),
+        }
+    }
+
+    // Keeps a packet, where it is the first of its id. Answers whether it is.
+    fn keep(&mut self, packet: &EncodingPacket) -> Result<bool, Error> {
+        let esi = packet.payload_id().encoding_symbol_id();
+        if self.ids.contains(&esi) {
+            return Ok(false);
+        }
+        if self.ids.is_empty() {
+            self.begin(packet)?;
+        }
+        self.ids.push(esi)?;
+        for (basis, value) in self.bases.iter_mut().zip(packet.data().chunks(5)) {
+            basis.add_with_value(self.symbols, esi, value);
+        }
+        Ok(true)
+    }
+
+    // Makes the bases that the packets are added to.
+    fn begin(&mut self, packet: &EncodingPacket) -> Result<(), Error> {
+        if let Some(basis) = Basis::new(self.symbols) {
+            for _ in packet.data().chunks(5) {
+                self.bases.push(basis)?;
+            }
+        }
+        Ok(())
+    }
+
+    fn standing(&self) -> Standing {
+        if self.ids.len() < self.symbols as usize {
+            return Standing::Undetermined;
+        }
+        match self.bases.first() {
+            None if self.ids.is_empty() => Standing::Answered,
+            None => Standing::Unknown,
+            Some(basis) if !basis.is_whole() => Standing::Undetermined,
+            Some(_) if self.is_contradictory() => Standing::Contradictory,
+            Some(_) => Standing::Answered,
+        }
+    }
+
+    fn is_contradictory(&self) -> bool {
+        self.bases.iter().any(|basis| basis.is_contradictory())
+    }
+}
+
 /// What a decoder of some blocks of an object holds.
 #[derive(Drop)]
 pub struct Model {
     config: ObjectTransmissionInformation,
-    first: u8,
-    count: u8,
-    kept: Vec<(u8, u32)>,
+    blocks: Vec<Block>,
     is_honest: bool,
 }
 
 impl Model {
-    /// Of so many blocks from one on.
+    /// Of so many blocks from the first one on.
     pub fn new(
         alloc: Global,
         config: ObjectTransmissionInformation,
-        first: u8,
         count: u8,
-    ) -> Model {
-        Model {
-            config,
-            first,
-            count,
-            kept: Vec::new(alloc),
-            is_honest: true,
+    ) -> Result<Model, Error> {
+        let mut blocks = Vec::new(alloc);
+        for number in 0..count {
+            blocks.push(Block::new(alloc, block_symbols(&config, number)))?;
         }
+        Ok(Model {
+            config,
+            blocks,
+            is_honest: true,
+        })
     }
 
-    /// The first refusal of a packet.
+    /// Why a packet is refused, whatever is kept.
     pub fn refusal(&self, packet: &EncodingPacket) -> Option<Error> {
         let number = packet.payload_id().source_block_number();
-        if number < self.first || number - self.first >= self.count {
+        if usize::from(number) >= self.blocks.len() {
             return Some(Error::UnknownBlock);
         }
         if packet.data().len() != usize::from(self.config.symbol_size()) {
@@ -79,13 +154,35 @@ impl Model {
 
     /// Keeps a packet that isn't refused, where it is the first of its id.
     pub fn keep(&mut self, packet: &EncodingPacket, is_honest: bool) -> Result<(), Error> {
-        let id = packet.payload_id();
-        let id = (id.source_block_number(), id.encoding_symbol_id());
-        if !self.kept.contains(&id) {
-            self.kept.push(id)?;
-            self.is_honest &= is_honest;
+        let number = packet.payload_id().source_block_number();
+        if let Some(block) = self.blocks.get_mut(usize::from(number)) {
+            if block.keep(packet)? {
+                self.is_honest &= is_honest;
+            }
         }
         Ok(())
+    }
+
+    /// Takes a packet that isn't refused as the decoder of the object does, of which an answered
+    /// block takes nothing more. Answers how that refuses it, as far as is known.
+    pub fn take(
+        &mut self,
+        packet: &EncodingPacket,
+        is_honest: bool,
+    ) -> Result<Option<Error>, Error> {
+        let number = packet.payload_id().source_block_number();
+        if self.standing(number) != Some(Standing::Answered) {
+            self.keep(packet, is_honest)?;
+        }
+        if self.standing(number) == Some(Standing::Contradictory) {
+            return Ok(Some(Error::Contradiction));
+        }
+        Ok(None)
+    }
+
+    fn standing(&self, number: u8) -> Option<Standing> {
+        let block = self.blocks.get(usize::from(number))?;
+        Some(block.standing())
     }
 
     /// Whether all that is kept is what was sent.
@@ -93,39 +190,31 @@ impl Model {
         self.is_honest
     }
 
-    /// Whether what is kept determines each block. `None` where that isn't known: of blocks of more
-    /// than ten symbols that have ids enough.
+    /// Whether what is kept determines each block and contradicts itself nowhere. `None` where that
+    /// isn't known.
     pub fn is_answered(&self) -> Option<bool> {
         let mut answered = Some(true);
-        for place in 0..self.count {
-            match self.is_determined(self.first.saturating_add(place)) {
-                Some(true) => {}
-                Some(false) => return Some(false),
-                None => answered = None,
+        for block in &self.blocks {
+            match block.standing() {
+                Standing::Answered => {}
+                Standing::Undetermined | Standing::Contradictory => return Some(false),
+                Standing::Unknown => answered = None,
             }
         }
         answered
     }
 
-    // Whether what is kept of a block determines it.
-    fn is_determined(&self, number: u8) -> Option<bool> {
-        let symbols = u32::try_from(block_symbols(&self.config, number)).unwrap_or(u32::MAX);
-        let count = self.kept.iter().filter(|id| id.0 == number).count();
-        if symbols == 0 {
-            return Some(true);
-        }
-        if count < symbols as usize {
-            return Some(false);
-        }
-        if symbols > 10 {
-            return None;
-        }
-        let mut basis = Basis::new(symbols)?;
-        for (block, esi) in &self.kept {
-            if *block == number {
-                basis.add(symbols, *esi);
+    /// Whether what is kept determines a block and contradicts itself there. `None` where that isn't
+    /// known.
+    pub fn is_contradictory(&self) -> Option<bool> {
+        let mut contradictory = Some(false);
+        for block in &self.blocks {
+            match block.standing() {
+                Standing::Answered | Standing::Undetermined => {}
+                Standing::Contradictory => return Some(true),
+                Standing::Unknown => contradictory = None,
             }
         }
-        Some(basis.is_whole())
+        contradictory
     }
 }

@@ -63,8 +63,9 @@ fn receive(
     (ended, out)
 }
 
-// Hands the packets of the frames to the model, and counts the frames that can't be used.
-fn keep_frames(
+// Hands the packets of the frames to the model, up to one that is known to contradict those before
+// it, and counts the frames that can't be used.
+fn take_frames(
     alloc: Global,
     model: &mut Model,
     size: usize,
@@ -79,27 +80,62 @@ fn keep_frames(
             continue;
         }
         let packet = EncodingPacket::deserialize(alloc, frame)?;
+        let is_honest = sent.packets.contains(&packet);
         if model.refusal(&packet).is_some() {
             skipped = skipped.saturating_add(1);
-        } else {
-            model.keep(&packet, sent.packets.contains(&packet))?;
+        } else if model.take(&packet, is_honest)?.is_some() {
+            return Ok(skipped);
         }
     }
     Ok(skipped)
 }
 
-// A run over a stream ends as the model says.
+// A run over frames ends as the model says, with an outcome or a contradiction.
+fn frames_end(
+    rt: &impl Abort,
+    alloc: Global,
+    config: ObjectTransmissionInformation,
+    (ended, out): (Result<(Outcome, u64), Stop>, Vec<u8>),
+    bytes: &[u8],
+    sent: &Sent,
+) -> Result<Result<Outcome, Error>, Error> {
+    let mut model = Model::new(alloc, config, config.source_blocks())?;
+    let size = usize::from(config.symbol_size());
+    let frames = bytes.get(12..).unwrap_or(&[]);
+    let skipped = take_frames(alloc, &mut model, size, frames, sent)?;
+    if ended == Err(Stop::Refused(Error::Contradiction)) {
+        let may_be = model.is_contradictory() != Some(false);
+        assert!(rt; may_be && out.is_empty(), "{bytes:?}");
+        return Ok(Err(Error::Contradiction));
+    }
+    assert!(rt; model.is_contradictory() != Some(true), "{bytes:?}");
+    if ended == Ok((Outcome::Written, skipped)) {
+        assert!(rt; model.is_answered() != Some(false), "{bytes:?}");
+        assert!(rt; out.len() as u64 == config.transfer_length(), "{bytes:?}");
+        let is_sent = model.is_honest() && config == sent.config;
+        assert!(rt; !is_sent || out == sent.object, "{bytes:?}");
+        return Ok(Ok(Outcome::Written));
+    }
+    assert!(rt;
+        ended == Ok((Outcome::Incomplete, skipped)) && out.is_empty(),
+        "{bytes:?}"
+    );
+    assert!(rt; model.is_answered() != Some(true), "{bytes:?}");
+    Ok(Ok(Outcome::Incomplete))
+}
+
+// A run over a stream ends as the model says, with an outcome or a refusal.
 fn ends(
     rt: &impl Abort,
     alloc: Global,
     table: &SystematicTable,
     bytes: &[u8],
     sent: &Sent,
-) -> Result<Option<Outcome>, Error> {
+) -> Result<Result<Outcome, Error>, Error> {
     let (ended, out) = receive(alloc, table, bytes);
     let Some(header) = bytes.first_chunk::<12>() else {
         assert!(rt; ended == Err(Stop::Refused(Error::HeaderTooShort)) && out.is_empty());
-        return Ok(None);
+        return Ok(Err(Error::HeaderTooShort));
     };
     let config = ObjectTransmissionInformation::deserialize(header);
     if let Some(refusal) = configuration_refusal(&config) {
@@ -107,25 +143,9 @@ fn ends(
             ended == Err(Stop::Refused(refusal)) && out.is_empty(),
             "{bytes:?}"
         );
-        return Ok(None);
+        return Ok(Err(refusal));
     }
-    let mut model = Model::new(alloc, config, 0, config.source_blocks());
-    let size = usize::from(config.symbol_size());
-    let frames = bytes.get(12..).unwrap_or(&[]);
-    let skipped = keep_frames(alloc, &mut model, size, frames, sent)?;
-    if ended == Ok((Outcome::Written, skipped)) {
-        assert!(rt; model.is_answered() != Some(false), "{bytes:?}");
-        assert!(rt; out.len() as u64 == config.transfer_length(), "{bytes:?}");
-        let is_sent = model.is_honest() && config == sent.config;
-        assert!(rt; !is_sent || out == sent.object, "{bytes:?}");
-        return Ok(Some(Outcome::Written));
-    }
-    assert!(rt;
-        ended == Ok((Outcome::Incomplete, skipped)) && out.is_empty(),
-        "{bytes:?}"
-    );
-    assert!(rt; model.is_answered() != Some(true), "{bytes:?}");
-    Ok(Some(Outcome::Incomplete))
+    frames_end(rt, alloc, config, (ended, out), bytes, sent)
 }
 
 #[test]
@@ -134,7 +154,7 @@ fn damaged_streams(rt: HostRuntime) -> Result<(), Fail> {
     let table = SystematicTable::built_in(alloc)?;
     let objects = objects(alloc, &table)?;
     let mut choices = Choices::new(2);
-    let mut counts = [0u32; 3];
+    let mut counts = [0u32; 4];
     for _ in 0..STREAMS {
         let place = choices.place(objects.len());
         let sent = objects.get(place).ok_or("no object")?;
@@ -143,14 +163,16 @@ fn damaged_streams(rt: HostRuntime) -> Result<(), Fail> {
             damage(&mut bytes, &mut choices)?;
         }
         let place = match ends(&rt, alloc, &table, bytes.as_slice(), sent)? {
-            Some(Outcome::Written) => 0,
-            Some(Outcome::Incomplete) => 1,
-            None => 2,
+            Ok(Outcome::Written) => 0,
+            Ok(Outcome::Incomplete) => 1,
+            Err(Error::Contradiction) => 2,
+            Err(_) => 3,
         };
         counts[place] = counts[place].saturating_add(1);
     }
-    for count in counts {
-        assert!(rt; count > STREAMS / 20, "{counts:?}");
+    for place in [0, 1, 3] {
+        assert!(rt; counts[place] > STREAMS / 20, "{counts:?}");
     }
+    assert!(rt; counts[2] > 0, "{counts:?}");
     Ok(())
 }

@@ -5,6 +5,7 @@ use crate::attempts::encoders::{Blocks, Objects, Plans, Rows};
 use raptorq::error::Error;
 use raptorq::systematic_constants::SystematicTable;
 use raptorq::{Decoder, EncodingPacket};
+use raptorq_test_kit::packets::packet;
 use rq_memory_kit::{Ending, Endings, MORE, RESERVE, ROUNDS, Shortage};
 use std::alloc::Global;
 use std::process::Abort;
@@ -107,5 +108,21 @@ fn a_packet_stays_recorded(rt: HostRuntime) -> Result<(), Fail> {
         let object = take(&mut decoder, taken)?.ok_or("no answer")?;
         assert_eq!(rt; object.as_slice(), OBJECT.as_slice());
     }
+    Ok(())
+}
+
+// Where memory was refused for a block, its next packet is tested with all that came: nine source
+// symbols, a repair symbol that isn't zero as they are, and the tenth source symbol, which is.
+#[test]
+fn a_late_contradiction(rt: HostRuntime) -> Result<(), Fail> {
+    let alloc = rt.alloc();
+    let mut zeros = Vec::new(alloc);
+    for esi in 0..9 {
+        zeros.push(packet(alloc, 0, esi, &[0])?)?;
+    }
+    let mut decoder = late(&rt, alloc, zeros.as_slice(), &packet(alloc, 0, 10, &[1])?)?;
+    let refused = decoder.decode(packet(alloc, 0, 9, &[0])?);
+    assert!(rt; refused == Err(Error::Contradiction));
+    assert!(rt; decoder.get_result()?.is_none());
     Ok(())
 }

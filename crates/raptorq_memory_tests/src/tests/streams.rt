@@ -178,6 +178,26 @@ fn receives_two_blocks(rt: HostRuntime) -> Result<(), Fail> {
     Ok(())
 }
 
+// Of one source symbol: repair symbol 133 is zero, whatever that is.
+#[test]
+fn contradicts(rt: HostRuntime) -> Result<(), Fail> {
+    let fitting: [u8; 22] = [
+        0, 0, 0, 0, 1, 0, 0, 1, 1, 0, 1, 1, 0, 0, 0, 133, 0, 0, 0, 0, 0, 7,
+    ];
+    let forged: [u8; 22] = [
+        0, 0, 0, 0, 1, 0, 0, 1, 1, 0, 1, 1, 0, 0, 0, 133, 1, 0, 0, 0, 0, 7,
+    ];
+    let cases: [(&[u8], Result<(Outcome, u64), Stop>, &[u8]); 3] = [
+        (&fitting, Ok((Outcome::Written, 0)), &[7]),
+        (&forged, Err(Stop::Refused(Error::Contradiction)), &[]),
+        (&forged[..17], Ok((Outcome::Incomplete, 0)), &[]),
+    ];
+    for (input, wanted, written) in cases {
+        run_ends(&rt, rt.alloc(), Job::Receive, input, wanted, written)?;
+    }
+    Ok(())
+}
+
 #[test]
 fn asks(rt: HostRuntime) -> Result<(), Fail> {
     let cases: [(&str, Option<Job>); 9] = [
@@ -213,9 +233,24 @@ fn asks(rt: HostRuntime) -> Result<(), Fail> {
     Ok(())
 }
 
+// What a run's end prints on standard error, and the status; a writer that is full changes neither.
+fn is_reported(
+    rt: &impl Abort,
+    alloc: Global,
+    ended: Option<Result<(Outcome, u64), Stop>>,
+    line: &str,
+    status: u8,
+) -> Result<(), Fail> {
+    let mut out: Vec<u8> = Vec::new(alloc);
+    assert_eq!(rt; report(ended.as_ref(), &mut out), status);
+    assert_eq!(rt; out.as_slice(), line.as_bytes());
+    assert_eq!(rt; report(ended.as_ref(), &mut Full), status);
+    Ok(())
+}
+
 #[test]
 fn reports(rt: HostRuntime) -> Result<(), Fail> {
-    let cases: [(Option<Result<(Outcome, u64), Stop>>, &str, u8); 10] = [
+    let cases: [(Option<Result<(Outcome, u64), Stop>>, &str, u8); 6] = [
         (Some(Ok((Outcome::Written, 0))), "", 0),
         (Some(Ok((Outcome::Written, 3))), "skipped 3\n", 0),
         (Some(Err(Stop::Fault)), "fault\n", 1),
@@ -225,33 +260,24 @@ fn reports(rt: HostRuntime) -> Result<(), Fail> {
             "skipped 1\nincomplete\n",
             2,
         ),
-        (
-            Some(Err(Stop::Refused(Error::HeaderTooShort))),
-            "refused 23\n",
-            3,
-        ),
-        (
-            Some(Err(Stop::Refused(Error::OutOfMemory))),
-            "refused 21\n",
-            3,
-        ),
-        (
-            Some(Err(Stop::Refused(Error::PacketTooShort))),
-            "refused 12\n",
-            3,
-        ),
-        (
-            Some(Err(Stop::Refused(Error::WrongPayloadSize))),
-            "refused 13\n",
-            3,
-        ),
         (None, "usage: rq send SIZE REPAIR | rq receive\n", 4),
     ];
     for (ended, line, status) in cases {
-        let mut out: Vec<u8> = Vec::new(rt.alloc());
-        assert_eq!(rt; report(ended.as_ref(), &mut out), status);
-        assert_eq!(rt; out.as_slice(), line.as_bytes());
-        assert_eq!(rt; report(ended.as_ref(), &mut Full), status);
+        is_reported(&rt, rt.alloc(), ended, line, status)?;
+    }
+    Ok(())
+}
+
+#[test]
+fn reports_refusals(rt: HostRuntime) -> Result<(), Fail> {
+    for (refusal, line) in [
+        (Error::PacketTooShort, "refused 12\n"),
+        (Error::WrongPayloadSize, "refused 13\n"),
+        (Error::OutOfMemory, "refused 21\n"),
+        (Error::Contradiction, "refused 22\n"),
+        (Error::HeaderTooShort, "refused 23\n"),
+    ] {
+        is_reported(&rt, rt.alloc(), Some(Err(Stop::Refused(refusal))), line, 3)?;
     }
     Ok(())
 }

@@ -1,25 +1,39 @@
-use Rattle.std.proofs.Common.{◌≡◌, ℕ, ◌+◌, List, Option, map, option_map, vec_items, ap, ◌∙◌, subst, arith}
+use Rattle.std.proofs.Common.{◌≡◌, ◌⊎◌, ℕ, ◌+◌, List, Option, Ok, Err, map, option_map, vec_items, sym, ap, ◌∙◌, subst, arith, inr}
+use Rattle.std.proofs.lemmas.Result.{err_from_is_err_and}
+use Rattle.rq_bytes.specs.declared.error.Error.TheVariants.{OutOfMemory}
 use Rattle.rq_standard.specs.declared.row.TableRow.{TableRow}
 use Rattle.rq_standard.specs.Configuration.{Configuration, configuration_of_bytes}
 use Rattle.rq_standard.specs.Headline.{AnswersExactly, AnswersWhereAnyCan}
 use Rattle.rq_standard.specs.Packet.{Packet, packet_of_bytes}
 use Rattle.rq_standard.specs.Streams.{frame_size, frames_in}
 use Rattle.rq_standard.specs.TableRows.{built_in_rows}
-use Rattle.raptorq.specs.Runs.{packets_of}
-use Rattle.raptorq_c.specs.Decoding.{Answered, packets_in}
+use Rattle.raptorq.specs.Runs.{packets_of, run_refusal, AnswersRun}
+use Rattle.raptorq_c.specs.Decoding.{Answered, frames_refusal, packets_in}
 use Rattle.raptorq_c.specs.Numbers.{number_of}
 use Rattle.raptorq_c.proofs.Encoded.{at_built_in}
-use Rattle.raptorq_c.proofs.Held.{answered_by}
+use Rattle.raptorq_c.proofs.Held.{answered_by, wants_memory, refused_frames, refused_run, filled_run}
 use Rattle.raptorq_c.proofs.decoding.decode.Goals as goal
-use Rattle.raptorq_c.proofs.decoding.decode.Goals.{In_ok-answer}
+use Rattle.raptorq_c.proofs.decoding.decode.Goals.{After-from, In_ok-steps, In_ok-answer}
 
--- the packets that were cut off are those that the buffer holds
-module _ (c : In_ok-answer) where
+-- frames are cut off at their size
+module _ (c : After-from) where
   long : 4 + c.from.result ≡ frame_size (configuration_of_bytes c.args.configuration.now)
   long = omega (arith, c.from.ensures, c.symbol_size.ensures, ap (λ (k : Configuration). k.symbol_size) c.deserialize-config.ensures)
 
+-- the packets that were cut off are those that the buffer holds
+module _ (c : In_ok-steps) where
+  sized : 4 + c.from.result ≡ frame_size (configuration_of_bytes c.args.configuration.now)
+  sized = long (goal.at.In_ok-steps c).After-from
+
+  spelled : frames_refusal (frames_in (frame_size (configuration_of_bytes c.args.configuration.now)) c.args.packets.now) ≡ Ok tt
+  spelled = ap (λ n. frames_refusal (frames_in n c.args.packets.now)) (sym sized) ∙ c.in_ok-steps.ensures.refused
+
   came : packets_of c.in_ok-steps.steps.items ≡ packets_in (configuration_of_bytes c.args.configuration.now) c.args.packets.now
-  came = c.in_ok-steps.ensures.packets ∙ ap (λ n. map packet_of_bytes (frames_in n c.args.packets.now)) long
+  came = c.in_ok-steps.ensures.packets ∙ ap (λ n. map packet_of_bytes (frames_in n c.args.packets.now)) sized
+
+module _ (c : In_ok-answer) where
+  abbrev read : In_ok-steps
+  read = (goal.at.In_ok-answer c).In_ok-steps
 
   -- what holds of what was read and cut off holds of what was handed in, and of what is answered of it
   filled : (P : List TableRow → Configuration → List Packet → Option (List ℕ) → Type 0) → P c.in_ok-table.table c.deserialize-config.result (packets_of c.in_ok-steps.steps.items) (option_map vec_items c.in_ok-answer.answer) → (number : ℕ) (after : List ℕ)
@@ -27,11 +41,39 @@ module _ (c : In_ok-answer) where
   filled P holds number after answered =
       let k = configuration_of_bytes c.args.configuration.now in
       let answer = option_map vec_items c.in_ok-answer.answer in
-      let read = at_built_in (λ rows d. P rows d (packets_of c.in_ok-steps.steps.items) answer) _ _ k c.in_ok-table.ensures c.deserialize-config.ensures holds in
-      answered_by (P built_in_rows k (packets_in k c.args.packets.now)) answer number c.args.object.now after (subst (λ ps. P built_in_rows k ps answer) came read) answered
+      let held = at_built_in (λ rows d. P rows d (packets_of c.in_ok-steps.steps.items) answer) _ _ k c.in_ok-table.ensures c.deserialize-config.ensures holds in
+      answered_by (P built_in_rows k (packets_in k c.args.packets.now)) answer number c.args.object.now after (subst (λ ps. P built_in_rows k ps answer) (came read) held) answered
 
 pub returns-clause-headline : goal.returns-clause-headline
 returns-clause-headline c = filled (goal.at.returns-clause-headline c).In_ok-answer AnswersExactly c.in_ok-answer.ensures.headline (number_of c.fill_answer.result) c.fill_answer.new.object c.fill_answer.ensures.answered
 
 pub returns-clause-only_object : goal.returns-clause-only_object
 returns-clause-only_object c = filled (goal.at.returns-clause-only_object c).In_ok-answer AnswersWhereAnyCan c.in_ok-answer.ensures.only_object (number_of c.fill_answer.result) c.fill_answer.new.object c.fill_answer.ensures.answered
+
+pub returns-in_err-table-clause-refused : goal.returns-in_err-table-clause-refused
+returns-in_err-table-clause-refused c =
+    let p = err_from_is_err_and c.from_residual.result c.from_residual.ensures.1 in
+    rw (p.1, p.2) (wants_memory c.args.configuration.now c.args.packets.now c.in_err-table.field-0.0 c.in_err-table.ensures)
+
+pub returns-in_err-steps-clause-refused : goal.returns-in_err-steps-clause-refused
+returns-in_err-steps-clause-refused c =
+    let e = c.in_err-steps.field-0.0 in
+    let sized = long (goal.at.returns-in_err-steps-clause-refused c).After-from in
+    let p = err_from_is_err_and c.from_residual-in_err-steps.result c.from_residual-in_err-steps.ensures.1 in
+    rw (p.1, p.2) (refused_frames c.args.configuration.now c.args.packets.now e (subst (λ n. (e ≡ OutOfMemory) ⊎ (frames_refusal (frames_in n c.args.packets.now) ≡ Err e)) sized c.in_err-steps.ensures.refused))
+
+pub returns-in_err-answer-clause-refused : goal.returns-in_err-answer-clause-refused
+returns-in_err-answer-clause-refused c =
+    let read = (goal.at.returns-in_err-answer-clause-refused c).In_ok-steps in
+    let k = configuration_of_bytes c.args.configuration.now in
+    let e = c.in_err-answer.field-0.0 in
+    let run = at_built_in (λ rows d. AnswersRun {X = Unit {0}} rows d (packets_of c.in_ok-steps.steps.items) (Err e)) _ _ k c.in_ok-table.ensures c.deserialize-config.ensures c.in_err-answer.ensures.in_order in
+    let p = err_from_is_err_and c.from_residual-in_err-answer.result c.from_residual-in_err-answer.ensures.1 in
+    rw (p.1, p.2) (refused_run c.args.configuration.now c.args.packets.now e (spelled read) (subst (λ ps. AnswersRun {X = Unit {0}} built_in_rows k ps (Err e)) (came read) run))
+
+pub returns-clause-refused : goal.returns-clause-refused
+returns-clause-refused c =
+    let read = (goal.at.returns-clause-refused c).In_ok-steps in
+    let k = configuration_of_bytes c.args.configuration.now in
+    let passed = at_built_in (λ rows d. run_refusal rows d (packets_of c.in_ok-steps.steps.items) ≡ Ok tt) _ _ k c.in_ok-table.ensures c.deserialize-config.ensures c.in_ok-answer.ensures.in_order in
+    filled_run c.args.configuration.now c.args.packets.now (number_of c.fill_answer.result) (spelled read) (subst (λ ps. run_refusal built_in_rows k ps ≡ Ok tt) (came read) passed) (inr c.fill_answer.ensures.number)

@@ -12,5 +12,5 @@ returns-in_err-add_bytes-in-Receiver-clause-added c =
     let new = state_of c.add_bytes.new.decoder in
     let ends = c.in_err-add_bytes-in-Receiver.ensures in
     let p = err_from_is_err_and c.from_residual.result c.from_residual.ensures.1 in
-    let added = refused_bytes (state_of c.in-Receiver.decoder) new bytes c.in_err-add_bytes-in-Receiver.field-0.0 ends.refused ends.unchanged ends.stops ends.leaves_late ends.leaves_refused in
+    let added = refused_bytes (state_of c.in-Receiver.decoder) new bytes c.in_err-add_bytes-in-Receiver.field-0.0 ends.refused ends.unchanged ends.stops ends.contradiction ends.keeps ends.honest ends.leaves_late ends.leaves_refused in
     rw (p.1, p.2) (subst (λ k. Becomes (decoder_in k) (Some new) (λ s t. IsAdded s bytes (code_of c.in_err-add_bytes-in-Receiver.field-0.0) t)) (sym c.in-Receiver.is) added)

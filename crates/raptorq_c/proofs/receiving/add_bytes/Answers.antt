@@ -1,10 +1,14 @@
 use Rattle.std.proofs.Common.{◌≡◌, IfErr, OnOk, subst}
 use Rattle.rq_bytes.specs.declared.error.Error.TheVariants.{OutOfMemory}
-use Rattle.rq_standard.specs.Standing.{AnswersLateBlock, LeavesBlockLate}
+use Rattle.rq_standard.specs.Standing.{StandsForMore, AnswersLateBlock, LeavesBlockLate}
 use Rattle.raptorq.specs.Decoder.{state_of}
 use Rattle.raptorq_c.proofs.Frames.{packet_read}
 use Rattle.raptorq_c.proofs.Held.{refused_whole}
 use Rattle.raptorq_c.proofs.receiving.add_bytes.Goals as goal
+
+pub returns-clause-stands : goal.returns-clause-stands
+returns-clause-stands c =
+    subst (λ p. OnOk c.add_new_packet.result (StandsForMore (state_of c.args.decoder.now) p (state_of c.add_new_packet.new.self))) (packet_read c.args.packet.now c.in_ok-deserialize.field-0 c.in_ok-deserialize.ensures) c.add_new_packet.ensures.stands
 
 pub returns-clause-answers_late : goal.returns-clause-answers_late
 returns-clause-answers_late c =

@@ -1,5 +1,5 @@
 -- One row is added to the other, and the order turns them round.
-use Rattle.std.proofs.Common.{◌≡◌, ◌≢◌, ℕ, [], ◌∷◌, refl, arith}
+use Rattle.std.proofs.Common.{◌≡◌, ◌≢◌, ℕ, ◌<◌, [], ◌∷◌, refl, arith}
 use Rattle.rq_algebra.specs.Arrangements.{exchange}
 use Rattle.rq_algebra.specs.Examples.{rows, turned}
 use Rattle.rq_algebra.specs.Two.{two}
@@ -26,4 +26,5 @@ returns c = finds_by_pivots two 2 2 turned exchanged (_ ∷ [])
       ones = below_two _ refl refl;
       zeros = λ p k l m d. below_two (λ q. k ≢ q → exchanged (exchange 0 1 q) k ≡ 0)
           (λ e. let f : k ≡ 1 = omega arith in rw f) (λ e. let f : k ≡ 0 = omega arith in rw f) p l d;
+      rest = λ i k l free. below_two (λ j. ((p : ℕ) → p < 2 → exchange 0 1 p ≢ j) → k < 2 → exchanged j k ≡ 0) (λ f. absurd (f 1 (omega arith) refl)) (λ f. absurd (f 0 (omega arith) refl)) i l free;
     } (1 ∷ 0 ∷ []) record { count = refl; reads = below_two _ refl refl }

@@ -1,11 +1,12 @@
 -- Small systems in which a law fails for want of a premise.
-use Rattle.std.proofs.Common.{◌≡◌, ℕ, ◌<◌, [], ◌∷◌, refl, arith}
+use Rattle.std.proofs.Common.{◌≡◌, ℕ, ◌<◌, [], ◌∷◌, sym, ◌∙◌, refl, arith}
 use Rattle.rq_algebra.specs.Systems.{sum_below, dot, Solves, at}
 use Rattle.rq_algebra.specs.Steps.{SameSolutions}
 use Rattle.rq_algebra.specs.Operations.{run, step}
 use Rattle.rq_algebra.specs.Parities.{sum_listed, parity}
 use Rattle.rq_algebra.specs.Two.{two}
 use Rattle.rq_algebra.specs.Examples.{triangular, single, empty, tall}
+use Rattle.rq_algebra.proofs.Sums.{dot_zero, zero_mul}
 use Rattle.rq_algebra.proofs.FewEquations.{few_rows}
 use Rattle.rq_algebra.proofs.Runs.{follows_none}
 use Rattle.rq_algebra.proofs.Pivots.{finds_by_pivots}
@@ -20,6 +21,10 @@ lost same =
     let e : ◌≡◌ {A = ℕ} 0 1 = (same.back (λ _. 0) zero_solves).at 0 (omega arith) in
     omega (arith, e)
 
+-- any column makes zero of an equation without an unknown
+unsolved : (x : ℕ → ℕ) → 0 ≡ dot two 1 (empty 0) x
+unsolved x = sym (dot_zero two 1 (empty 0) x (λ k l. below_one (λ j. two.mul (empty 0 j) (x j) ≡ 0) (zero_mul two (x 0)) k l))
+
 pub returns : goal.returns
 unfolding dot sum_below run step sum_listed parity
 returns c = record {
@@ -32,8 +37,13 @@ returns c = record {
       in_columns = record { below = λ i l. omega arith; apart = λ i j l m e. omega arith };
       ones = λ p l. refl;
       zeros = λ p k l m d. absurd (omega arith);
+      rest = λ i k l free m. let e : i ≡ 1 = omega (arith, free 0 (omega arith)) in rw e (below_one (λ j. tall 1 j ≡ 0) refl k m);
     } (0 ∷ []) record { count = refl; reads = λ p l. refl },
     λ s. let e : ◌≡◌ {A = ℕ} 0 1 = s.at 1 (omega arith) in omega (arith, e),
+  );
+  determined = (
+    λ determined. let e : ◌≡◌ {A = ℕ} 1 0 = determined (λ _. 1) (λ k l. omega arith) record { at = below_one (λ i. dot two 1 (empty i) (λ _. 1) ≡ 0) refl } 0 (omega arith) in omega (arith, e),
+    λ has. let e : 0 ≡ 1 = unsolved has.column ∙ has.solves.at 0 (omega arith) in omega (arith, e),
   );
   listed = (λ e. let z : ◌≡◌ {A = ℕ} 1 0 = e in omega (arith, z), λ e. let z : ◌≡◌ {A = ℕ} 2 0 = e in omega (arith, z));
 }

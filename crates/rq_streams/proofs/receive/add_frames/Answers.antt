@@ -1,46 +1,74 @@
-use Rattle.std.proofs.Common.{◌≤◌, length, sym, ap, ◌∙◌, subst, arith}
+use Rattle.std.proofs.Common.{◌≡◌, ◌≤◌, ◌⊎◌, length, sym, ap, ◌∙◌, subst, arith, inl, inr, Ok, Some}
 use Rattle.std.proofs.lemmas.Result.{err_from_is_err_and}
-use Rattle.raptorq.specs.Refused.{packet_refusal}
-use Rattle.rq_bytes.specs.Refusals.{IsRefusal}
+use Rattle.rq_bytes.specs.declared.error.Error.TheVariants.{OutOfMemory, Contradiction}
+use Rattle.raptorq.specs.Decoder.{state_of}
+use Rattle.raptorq.specs.Refused.{packet_refusal, IsPacketRefusal}
 use Rattle.rq_standard.specs.Streams.{frame_size}
+use Rattle.rq_streams.specs.Frames.{kept_packet}
 use Rattle.rq_streams.proofs.Skipping.{packet_refusal-kept}
-use Rattle.rq_streams.proofs.Taking.{taken_packet, taken_skipped, taken_count, taken_all}
+use Rattle.rq_streams.proofs.Taking.{taken_packet, taken_skipped, taken_count, taken_all, honest_packet, contradicts_frames}
 use Rattle.rq_streams.proofs.receive.add_frames.Goals as goal
+use Rattle.rq_streams.proofs.receive.add_frames.Goals.{In-Some-2}
+
+-- the frame's packet
+module _ (c : In-Some-2) where
+  kept : Some c.in-Some-2.packet ≡ kept_packet c.args.config.now c.in-Some.frame.now
+  kept = sym c.in-Some-2.is ∙ c.in_ok-packet.ensures.packet
+
+  passes : packet_refusal c.args.config.now c.in-Some-2.packet ≡ Ok tt
+  passes =
+      let short : length c.in-Some.frame.now ≤ frame_size c.args.config.now = omega (arith, c.in-Some.ensures.steps.1.1, c.loop-frame.invariant.size) in
+      packet_refusal-kept c.args.config.now c.in-Some.frame.now c.in-Some-2.packet short kept
 
 pub loop-frame-preserved-in-Continue-branch-3 : goal.loop-frame-preserved-in-Continue-branch-3
 loop-frame-preserved-in-Continue-branch-3 c =
-    let kept = c.loop-frame.invariant in
+    let at = (goal.at.loop-frame-preserved-in-Continue-branch-3 c).In-Some-2 in
+    let kept_so = c.loop-frame.invariant in
     let step = c.in-Some.ensures.steps in
     let added = c.in_ok-add_new_packet-in-Some-2.ensures in
     record {
-      wide = kept.wide;
-      size = step.0 ∙ kept.size;
-      configuration = added.configuration ∙ kept.configuration;
-      taken = taken_packet _ _ _ _ c.in-Some.frame.now _ _ _ _ kept.size step.1 kept.taken c.in-Some-2.packet _ kept.configuration (sym c.in-Some-2.is ∙ c.in_ok-packet.ensures.packet) added.stands;
+      wide = kept_so.wide;
+      size = step.0 ∙ kept_so.size;
+      configuration = added.configuration ∙ kept_so.configuration;
+      taken = taken_packet _ _ _ _ c.in-Some.frame.now _ _ _ _ kept_so.size step.1 kept_so.taken c.in-Some-2.packet _ kept_so.configuration (kept at) (passes at) added.holds added.stands;
     }
 
 pub loop-frame-preserved : goal.loop-frame-preserved
 loop-frame-preserved c =
-    let kept = c.loop-frame.invariant in
+    let kept_so = c.loop-frame.invariant in
     let step = c.in-Some.ensures.steps in
     record {
-      wide = kept.wide;
-      size = step.0 ∙ kept.size;
-      configuration = kept.configuration;
-      taken = taken_skipped _ _ _ _ c.in-Some.frame.now _ _ _ _ kept.size step.1 kept.taken (sym c.in-None-2.is ∙ c.in_ok-packet.ensures.packet);
+      wide = kept_so.wide;
+      size = step.0 ∙ kept_so.size;
+      configuration = kept_so.configuration;
+      taken = taken_skipped _ _ _ _ c.in-Some.frame.now _ _ _ _ kept_so.size step.1 kept_so.taken (sym c.in-None-2.is ∙ c.in_ok-packet.ensures.packet);
     }
 
-pub returns-in_err-add_new_packet-in-Some-2-clause-memory : goal.returns-in_err-add_new_packet-in-Some-2-clause-memory
-returns-in_err-add_new_packet-in-Some-2-clause-memory c =
-    let kept = c.loop-frame.invariant in
+pub returns-in_err-add_new_packet-in-Some-2-clause-stops : goal.returns-in_err-add_new_packet-in-Some-2-clause-stops
+returns-in_err-add_new_packet-in-Some-2-clause-stops c =
+    let at = (goal.at.returns-in_err-add_new_packet-in-Some-2-clause-stops c).In-Some-2 in
+    let kept_so = c.loop-frame.invariant in
     let step = c.in-Some.ensures.steps in
     let e = c.in_err-add_new_packet-in-Some-2.field-0.0 in
     let packet = c.in-Some-2.packet in
-    let frame = c.in-Some.frame.now in
-    let short : length frame ≤ frame_size c.args.config.now = omega (arith, step.1.1, kept.size) in
-    let taken = ap (λ k. packet_refusal k packet) kept.configuration ∙ packet_refusal-kept c.args.config.now frame packet short (sym c.in-Some-2.is ∙ c.in_ok-packet.ensures.packet) in
+    let refused : (e ≡ OutOfMemory) ⊎ (e ≡ Contradiction) = subst (IsPacketRefusal e) (ap (λ k. packet_refusal k packet) kept_so.configuration ∙ passes at) c.in_err-add_new_packet-in-Some-2.ensures.refused in
     let p = err_from_is_err_and c.from_residual-in_err-add_new_packet-in-Some-2.result c.from_residual-in_err-add_new_packet-in-Some-2.ensures.1 in
-    rw (p.1, p.2) (subst (IsRefusal {Y = Unit {0}} e) taken c.in_err-add_new_packet-in-Some-2.ensures.refused)
+    rw (p.1, p.2) (elim refused [
+      | inl memory ↦ inl memory
+      | inr contradiction ↦ inr (
+        contradiction,
+        contradicts_frames _ _ _ _ c.in-Some.frame.now _ _ _ _ kept_so.size step.1 kept_so.taken packet _ kept_so.configuration (kept at) (passes at)
+            (c.in_err-add_new_packet-in-Some-2.ensures.contradiction contradiction),
+      )
+    ])
+
+pub returns-in_err-add_new_packet-in-Some-2-clause-honest : goal.returns-in_err-add_new_packet-in-Some-2-clause-honest
+returns-in_err-add_new_packet-in-Some-2-clause-honest c =
+    let at = (goal.at.returns-in_err-add_new_packet-in-Some-2-clause-honest c).In-Some-2 in
+    let kept_so = c.loop-frame.invariant in
+    let p = err_from_is_err_and c.from_residual-in_err-add_new_packet-in-Some-2.result c.from_residual-in_err-add_new_packet-in-Some-2.ensures.1 in
+    rw (p.1, p.2) (λ table object st honest. c.in_err-add_new_packet-in-Some-2.ensures.honest
+    (honest_packet _ _ _ _ c.in-Some.frame.now _ _ _ _ kept_so.size c.in-Some.ensures.steps.1 kept_so.taken c.in-Some-2.packet kept_so.configuration (kept at) table object st honest))
 
 pub returns-clause-skipped : goal.returns-clause-skipped
 returns-clause-skipped c = taken_count _ _ _ _ _ _ c.in-None.ensures.steps.1.0 c.loop-frame.invariant.taken

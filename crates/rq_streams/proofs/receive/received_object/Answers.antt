@@ -1,4 +1,4 @@
-use Rattle.std.proofs.Common.{◌≡◌, ◌-◌, [], take, drop, length, sym, ap, ◌∙◌, subst, refl, vec_items, ℕ, false, Global}
+use Rattle.std.proofs.Common.{◌≡◌, ◌-◌, [], take, drop, length, sym, ap, ◌∙◌, subst, refl, vec_items, ℕ, false, Global, List, Ok, Err, None, inl, inr}
 use Rattle.std.specs.Prelude.{option_map}
 use Rattle.std.specs.List.{AllByRecursion}
 use Rattle.std.proofs.lemmas.List.{take_rest}
@@ -11,11 +11,14 @@ use Rattle.rq_base.specs.RefusedInput.{checked_configuration}
 use Rattle.raptorq.specs.Decoder.{state_of}
 use Rattle.rq_standard.specs.Streams.{frame_size, frames_in}
 use Rattle.rq_streams.specs.Frames.{kept_packets}
-use Rattle.rq_streams.specs.MixedStreams.{packets_among}
-use Rattle.rq_streams.specs.ReceivedStreams.{receive_refusal, RefusesStream, AnswersStream}
-use Rattle.rq_streams.proofs.Refusing.{receive_refusal-read, answered_after}
+use Rattle.rq_standard.specs.Configuration.{Configuration, configuration_of_bytes}
+use Rattle.raptorq.specs.Runs.{ContradictedIn}
+use Rattle.rq_streams.specs.MixedStreams.{Frame, IsMixedStream, packets_among}
+use Rattle.rq_streams.specs.ReceivedStreams.{receive_refusal, RefusesStream, AnswersStream, ContradictsItself}
+use Rattle.rq_streams.proofs.Refusing.{receive_refusal-read, header_read, answered_after}
 use Rattle.rq_streams.proofs.Streaming.{accepted_unrefused, stream_header, stream_packets, same_header}
 use Rattle.rq_streams.proofs.receive.received_object.Goals as goal
+use Rattle.rq_streams.proofs.receive.received_object.Goals.{In_ok-decoder}
 
 pub returns-in_err-config-clause-memory : goal.returns-in_err-config-clause-memory
 returns-in_err-config-clause-memory c =
@@ -33,27 +36,72 @@ returns-in_err-decoder-clause-memory c =
     let accepted = ap (checked_configuration (greatest_size table)) (same_header table k object frames rest bytes s c.in_ok-config.config c.in_ok-config.ensures.value) ∙ accepted_unrefused (greatest_size table) k s.stream_run.accepted in
     subst (IsRefusal {Y = Unit {0}} e) accepted c.in_err-decoder.ensures.refused))
 
+-- a decoder of what the header says
+module _ (c : In_ok-decoder) where
+  abbrev bytes : List ℕ
+  bytes = c.as_slice-stream.result.now
+
+  abbrev config : Configuration
+  config = c.in_ok-config.config
+
+  -- the bytes behind it
+  abbrev behind : List ℕ
+  behind = take (length bytes - 12) (drop 12 bytes)
+
+  accepted : receive_refusal (greatest_size c.args.table.now) bytes ≡ Ok tt
+  accepted = receive_refusal-read (greatest_size c.args.table.now) config bytes c.in_ok-config.ensures.value ∙ c.in_ok-decoder.ensures.refused
+
+  -- packets that contradict each other
+  contradicts : ContradictedIn c.args.table.now config (kept_packets config (frames_in (frame_size config) behind)) → ContradictsItself c.args.table.now bytes
+  contradicts contradicted = record {
+    accepted = accepted;
+    contradicted = subst (λ (d : Configuration). ContradictedIn c.args.table.now d (kept_packets d (frames_in (frame_size d) (drop 12 bytes)))) (header_read config bytes c.in_ok-config.ensures.value)
+        (subst (λ xs. ContradictedIn c.args.table.now config (kept_packets config (frames_in (frame_size config) xs))) (take_rest bytes 12) contradicted);
+  }
+
+  -- the packets that are kept of a mixed stream are the object's
+  module _ (k : Configuration) (object : List ℕ) (frames : List Frame) (rest : List ℕ) (s : IsMixedStream c.args.table.now k object frames rest bytes) where
+    same : config ≡ k
+    same = same_header c.args.table.now k object frames rest bytes s config c.in_ok-config.ensures.value
+
+    are : kept_packets config (frames_in (frame_size config) behind) ≡ packets_among frames
+    are = ap (λ d. kept_packets d (frames_in (frame_size d) behind)) same ∙ ap (λ xs. kept_packets k (frames_in (frame_size k) xs)) (take_rest bytes 12) ∙ stream_packets c.args.table.now k object frames rest bytes s
+
+    starts : StandsFor c.args.table.now object [] (state_of c.in_ok-decoder.decoder)
+    starts = c.in_ok-decoder.ensures.stands object (subst (λ d. IsHonestRun c.args.table.now d object []) (sym same) (record { long = s.stream_run.run.long; nonsingular = s.stream_run.run.nonsingular; honest = tt }))
+
+    honest : AllByRecursion (IsPacketOf c.args.table.now config object) (kept_packets config (frames_in (frame_size config) behind))
+    honest = subst (AllByRecursion (IsPacketOf c.args.table.now config object)) (sym are) (subst (λ d. AllByRecursion (IsPacketOf c.args.table.now d object) (packets_among frames)) (sym same) s.stream_run.run.honest)
+
+pub returns-in_err-skipped-clause-memory : goal.returns-in_err-skipped-clause-memory
+returns-in_err-skipped-clause-memory c =
+    let at = (goal.at.returns-in_err-skipped-clause-memory c).In_ok-decoder in
+    let p = err_from_is_err_and c.from_residual-in_err-skipped.result c.from_residual-in_err-skipped.ensures.1 in
+    rw (p.1, p.2) (subst (λ read. RefusesStream c.args.table.now read c.in_err-skipped.field-0.0) c.as_slice-stream.ensures.value (λ k object frames rest s.
+    c.in_err-skipped.ensures.honest c.args.table.now object (starts at k object frames rest s) (honest at k object frames rest s)))
+
+pub returns-in_err-skipped-clause-refused : goal.returns-in_err-skipped-clause-refused
+returns-in_err-skipped-clause-refused c =
+    let at = (goal.at.returns-in_err-skipped-clause-refused c).In_ok-decoder in
+    let p = err_from_is_err_and c.from_residual-in_err-skipped.result c.from_residual-in_err-skipped.ensures.1 in
+    rw (p.1, p.2) (elim c.in_err-skipped.ensures.stops [
+      | inl memory ↦ inl (None, inl memory)
+      | inr contradiction ↦ inr (subst (ContradictsItself c.args.table.now) c.as_slice-stream.ensures.value (contradicts at (contradiction.1 c.args.table.now c.in_ok-decoder.ensures.holds)), inr (ap (λ e. Err e) (sym contradiction.0)))
+    ])
+
 pub returns-clause-refused : goal.returns-clause-refused
 returns-clause-refused c =
     let greatest = greatest_size c.args.table.now in
-    let bytes = c.as_slice-stream.result.now in
-    answered_after (receive_refusal greatest c.args.bytes.items) (option_map (vec_items {X = ℕ} {Z = Global}) c.in_ok-get_result.field-0)
-    (ap (receive_refusal greatest) (sym c.as_slice-stream.ensures.value) ∙ receive_refusal-read greatest c.in_ok-config.config bytes c.in_ok-config.ensures.value ∙ c.in_ok-decoder.ensures.refused)
+    inl (answered_after (receive_refusal greatest c.args.bytes.items) (option_map (vec_items {X = ℕ} {Z = Global}) c.in_ok-get_result.field-0)
+    (ap (receive_refusal greatest) (sym c.as_slice-stream.ensures.value) ∙ accepted (goal.at.returns-clause-refused c).In_ok-decoder))
 
 pub returns-clause-answer : goal.returns-clause-answer
 returns-clause-answer c =
+    let at = (goal.at.returns-clause-answer c).In_ok-decoder in
     let table = c.args.table.now in
-    let bytes = c.as_slice-stream.result.now in
-    let config = c.in_ok-config.config in
-    let behind = take (length bytes - 12) (drop 12 bytes) in
-    subst (λ read. AnswersStream table read (option_map (vec_items {X = ℕ} {Z = Global}) c.in_ok-get_result.field-0)) c.as_slice-stream.ensures.value (λ k object frames rest s.
-    let same = same_header table k object frames rest bytes s config c.in_ok-config.ensures.value in
-    let packets = packets_among frames in
-    let are : kept_packets config (frames_in (frame_size config) behind) ≡ packets =
-    ap (λ d. kept_packets d (frames_in (frame_size d) behind)) same ∙ ap (λ xs. kept_packets k (frames_in (frame_size k) xs)) (take_rest bytes 12) ∙ stream_packets table k object frames rest bytes s
-    in
-    let none : IsHonestRun table config object [] = subst (λ d. IsHonestRun table d object []) (sym same) (record { long = s.stream_run.run.long; nonsingular = s.stream_run.run.nonsingular; honest = tt }) in
-    let honest = subst (AllByRecursion (IsPacketOf table config object)) (sym are) (subst (λ d. AllByRecursion (IsPacketOf table d object) packets) (sym same) s.stream_run.run.honest) in
-    let end = subst (λ ps. StandsFor table object ps (state_of c.add_frames.new.decoder)) are (c.in_ok-skipped.ensures.stands table object (c.in_ok-decoder.ensures.stands object none) honest) in
-    subst (λ d. IsObjectAnswer table d object packets (option_map (vec_items {X = ℕ} {Z = Global}) c.in_ok-get_result.field-0)) (c.in_ok-skipped.ensures.configuration ∙ c.in_ok-decoder.ensures.state.configuration ∙ same)
-    (c.in_ok-get_result.ensures.object table object packets (λ _. false) end (λ b. refl)))
+    let answer = option_map (vec_items {X = ℕ} {Z = Global}) c.in_ok-get_result.field-0 in
+    subst (λ read. AnswersStream table read answer) c.as_slice-stream.ensures.value (λ k object frames rest s.
+    let end = subst (λ ps. StandsFor table object ps (state_of c.add_frames.new.decoder)) (are at k object frames rest s)
+    (c.in_ok-skipped.ensures.stands table object (starts at k object frames rest s) (honest at k object frames rest s)) in
+    subst (λ d. IsObjectAnswer table d object (packets_among frames) answer) (c.in_ok-skipped.ensures.configuration ∙ c.in_ok-decoder.ensures.state.configuration ∙ same at k object frames rest s)
+    (c.in_ok-get_result.ensures.object table object (packets_among frames) (λ _. false) end (λ b. refl)))

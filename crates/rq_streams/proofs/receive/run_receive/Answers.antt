@@ -3,7 +3,7 @@ use Rattle.std.specs.Prelude.{option_map}
 use Rattle.std.proofs.lemmas.Result.{err_from_is_err_and}
 use Rattle.rq_streams.specs.Counted.{inner_of}
 use Rattle.rq_streams.proofs.Refusing.{stopped_ends}
-use Rattle.rq_streams.proofs.Streaming.{receives_stopped, receives_refused, receives_by, receives_where_any_can, counts_others}
+use Rattle.rq_streams.proofs.Streaming.{receives_stopped, receives_first, receives_refused, receives_by, receives_where_any_can, counts_others}
 use Rattle.rq_streams.proofs.receive.run_receive.Goals as goal
 
 pub returns-in_err-bytes-clause-ends : goal.returns-in_err-bytes-clause-ends
@@ -18,6 +18,12 @@ returns-in_err-object-clause-ends g c =
     let p = err_from_is_err_and c.from_residual-in_err-object.result c.from_residual-in_err-object.ensures.1 in
     rw (p.1, p.2) (receives_refused c.args.table.now (g.R.Read.remaining (inner_of c.args.reader.now)) c.in_ok-bytes.bytes.items c.in_ok-bytes.bytes.items refl c.in_ok-bytes.ensures.bytes
     c.in_err-object.field-0.0 (g.W.Write.contents (inner_of c.args.writer.now)) c.in_err-object.ensures.memory)
+
+pub returns-in_err-object-clause-refused : goal.returns-in_err-object-clause-refused
+returns-in_err-object-clause-refused g c =
+    let p = err_from_is_err_and c.from_residual-in_err-object.result c.from_residual-in_err-object.ensures.1 in
+    rw (p.1, p.2) (receives_first c.args.table.now (g.R.Read.remaining (inner_of c.args.reader.now)) c.in_ok-bytes.bytes.items c.in_ok-bytes.bytes.items refl c.in_ok-bytes.ensures.bytes
+    c.in_err-object.field-0.0 (g.W.Write.contents (inner_of c.args.writer.now)) c.in_err-object.ensures.refused)
 
 pub returns-in_err-finish-clause-ends : goal.returns-in_err-finish-clause-ends
 returns-in_err-finish-clause-ends g c =

@@ -1,18 +1,21 @@
-use Rattle.std.proofs.Common.{◌≡◌, ℕ, List, ◌⊎◌, ◌∙◌, ◌∷◌, ◌++◌, [], Ok, Err, sym, ap, subst, arith}
+use Rattle.std.proofs.Common.{◌≡◌, ℕ, Option, Vec, Global, ◌<◌, List, ◌∙◌, ◌∷◌, ◌++◌, [], Ok, false, sym, ap, subst, arith}
 use Rattle.std.specs.Vec.Iter.{into_iter_items}
 use Rattle.std.proofs.lemmas.Result.{IfOk-weaker, err_from_is_err_and}
-use Rattle.std.proofs.lemmas.List.{nil_from_length}
-use Rattle.rq_bytes.specs.declared.error.Error.TheVariants.{OutOfMemory}
-use Rattle.rq_bytes.specs.Refusals.{IsRefusal, and_then, first_refusal}
-use Rattle.rq_bytes.proofs.RefusalFacts.{first_refusal-next, refusal_first, is_refused, answers_unrefused}
+use Rattle.std.proofs.lemmas.List.{nil_from_length, map-append}
+use Rattle.rq_bytes.specs.declared.error.Error.TheVariants.{Contradiction}
+use Rattle.rq_bytes.specs.Refusals.{IsRefusal, first_refusal}
+use Rattle.rq_standard.specs.Configuration.{Configuration}
 use Rattle.rq_standard.specs.Headline.{IsHonestRun}
-use Rattle.rq_standard.specs.Standing.{StandsFor}
+use Rattle.rq_standard.specs.Held.{IsContradictory}
+use Rattle.rq_standard.specs.Standing.{StandsFor, HoldsRun, held_after}
+use Rattle.rq_standard.proofs.Contradictions.{contradicted_after}
 use Rattle.raptorq.specs.Decoder.{state_of}
-use Rattle.raptorq.specs.Refused.{packet_refusal}
-use Rattle.raptorq.specs.Runs.{packets_of}
-use Rattle.raptorq.proofs.Lists.{next_whole, all_came, step_honest, step_refused, packets_of-push, answers_exactly, answers_where_any_can}
+use Rattle.raptorq.specs.Refused.{packet_refusal, IsPacketRefusal}
+use Rattle.raptorq.specs.Runs.{packets_of, ContradictedIn}
+use Rattle.raptorq.proofs.Lists.{next_whole, all_came, step_honest, packets_of-push, answers_exactly, answers_where_any_can, one_passes, run_answers, run_stops}
+use Rattle.raptorq.proofs.Stops.{passes_below}
 use Rattle.raptorq.proofs.decoder.object.decode_all.Goals as goal
-use Rattle.raptorq.proofs.decoder.object.decode_all.Goals.{After-set_sparse_threshold, In-None}
+use Rattle.raptorq.proofs.decoder.object.decode_all.Goals.{After-set_sparse_threshold, In-None, In_err-add_new_packet}
 
 -- the step that is taken
 module _ (c : After-set_sparse_threshold) where
@@ -28,6 +31,15 @@ module _ (c : After-set_sparse_threshold) where
   stands : (object : List ℕ) → IsHonestRun c.args.table.now c.args.config object (packets_of c.args.steps.items) → StandsFor c.args.table.now object (packets_of c.loop-step.yielded) (state_of c.set_sparse_threshold.new.self)
   stands object run = subst (StandsFor c.args.table.now object (packets_of c.loop-step.yielded)) (sym c.set_sparse_threshold.ensures) (c.loop-step.invariant.stands object run)
 
+  holds : HoldsRun c.args.table.now (packets_of c.loop-step.yielded) (state_of c.set_sparse_threshold.new.self)
+  holds = subst (HoldsRun c.args.table.now (packets_of c.loop-step.yielded)) (sym c.set_sparse_threshold.ensures) c.loop-step.invariant.holds
+
+  -- all packets, with the one that is taken behind those before it
+  around : packets_of c.args.steps.items ≡ (packets_of c.loop-step.yielded ++ c.in-Some.step.1 ∷ []) ++ packets_of (into_iter_items c.next.new.self)
+  around = ap packets_of (next_whole c.args.steps.items c.loop-step.yielded (into_iter_items c.loop-step.step-iterator) (into_iter_items c.next.new.self) c.in-Some.step c.loop-step.invariant.whole next)
+      ∙ map-append (λ (s : ℕ × _). s.1) (c.loop-step.yielded ++ c.in-Some.step ∷ []) (into_iter_items c.next.new.self)
+      ∙ ap (λ l. l ++ packets_of (into_iter_items c.next.new.self)) (packets_of-push c.loop-step.yielded c.in-Some.step)
+
 pub loop-step-preserved : goal.loop-step-preserved
 loop-step-preserved c =
     let at = (goal.at.loop-step-preserved c).After-set_sparse_threshold in
@@ -39,8 +51,9 @@ loop-step-preserved c =
     record {
       configuration = c.in_ok-add_new_packet.ensures.configuration ∙ same at;
       whole = next_whole c.args.steps.items c.loop-step.yielded (into_iter_items c.loop-step.step-iterator) left step kept.whole (next at);
-      taken = kept.taken ∙ ap (λ l. first_refusal (packet_refusal k) (packets_of l)) (next at)
-          ∙ first_refusal-next (packet_refusal k) step.1 (packets_of left) _ (subst (λ d. packet_refusal d step.1 ≡ Ok _) (same at) c.in_ok-add_new_packet.ensures.refused);
+      passed = ap (first_refusal (packet_refusal k)) (packets_of-push c.loop-step.yielded step)
+          ∙ one_passes k (packets_of c.loop-step.yielded) step.1 kept.passed (subst (λ d. packet_refusal d step.1 ≡ Ok tt) (same at) c.in_ok-add_new_packet.ensures.accepted);
+      holds = subst (λ ps. HoldsRun table ps (state_of c.add_new_packet.new.self)) (sym (packets_of-push c.loop-step.yielded step)) (c.in_ok-add_new_packet.ensures.holds table (packets_of c.loop-step.yielded) (holds at));
       stands = λ object run. subst (λ ps. StandsFor table object ps (state_of c.add_new_packet.new.self)) (sym (packets_of-push c.loop-step.yielded step))
           (c.in_ok-add_new_packet.ensures.stands table object (packets_of c.loop-step.yielded) (stands at object run)
           (step_honest table k (state_of c.set_sparse_threshold.new.self).configuration object c.args.steps.items c.loop-step.yielded left step (same at) (whole at) run));
@@ -51,9 +64,14 @@ returns-in_err-add_new_packet-clause-refused c =
     let at = (goal.at.returns-in_err-add_new_packet-clause-refused c).After-set_sparse_threshold in
     let e = c.in_err-add_new_packet.field-0.0 in
     let p = err_from_is_err_and c.from_residual-in_err-add_new_packet.result c.from_residual-in_err-add_new_packet.ensures.1 in
-    rw (p.1, p.2) (λ object run. subst (IsRefusal e) (sym c.in_ok-decoder.ensures.refused)
-    (step_refused c.args.table.now c.args.config (state_of c.set_sparse_threshold.new.self) object c.args.steps.items c.loop-step.yielded (into_iter_items c.next.new.self) c.in-Some.step e (same at) (whole at)
-    (stands at object run) run c.in_err-add_new_packet.ensures.refused))
+    rw (p.1, p.2) (λ object run. subst (IsRefusal e) (sym c.in_ok-decoder.ensures.refused) (c.in_err-add_new_packet.ensures.honest (record {
+      table = c.args.table.now;
+      object = object;
+      packets = packets_of c.loop-step.yielded;
+      late = λ _. false;
+      stands = stands at object run;
+      of_object = step_honest c.args.table.now c.args.config (state_of c.set_sparse_threshold.new.self).configuration object c.args.steps.items c.loop-step.yielded (into_iter_items c.next.new.self) c.in-Some.step (same at) (whole at) run;
+    })))
 
 -- all steps were taken
 module _ (c : In-None) where
@@ -75,17 +93,42 @@ returns-clause-only_object c =
     IfOk-weaker c.get_result.result _ _ (λ r is. answers_where_any_can c.args.table.now c.args.config (packets_of c.args.steps.items) (state_of c.loop-step.decoder) _ c.loop-step.invariant.configuration
     (stands_for_all (goal.at.returns-clause-only_object c).In-None) is) c.get_result.ensures.only_object
 
+-- the packet that stops it
+module _ (c : In_err-add_new_packet) where
+  abbrev at : After-set_sparse_threshold
+  at = (goal.at.In_err-add_new_packet c).After-set_sparse_threshold
+
+  contradicted : packet_refusal c.args.config c.in-Some.step.1 ≡ Ok tt → c.in_err-add_new_packet.field-0.0 ≡ Contradiction → ContradictedIn c.args.table.now c.args.config (packets_of c.args.steps.items)
+  contradicted passes is =
+      let table = c.args.table.now in
+      let k = c.args.config in
+      let p = c.in-Some.step.1 in
+      let done = packets_of c.loop-step.yielded in
+      let old = state_of c.set_sparse_threshold.new.self in
+      let within = passes_below k p passes in
+      record {
+        front = done ++ p ∷ [];
+        rest = packets_of (into_iter_items c.next.new.self);
+        whole = around at;
+        passed = one_passes k done p c.loop-step.invariant.passed passes;
+        block = p.id.block;
+        below = within;
+        contradictory = subst (λ (d : Configuration). IsContradictory (held_after table d p.id.block (done ++ p ∷ []))) (same at)
+            (contradicted_after table done old p (state_of c.add_new_packet.new.self) (subst (λ (d : Configuration). p.id.block < d.source_blocks) (sym (same at)) within) (holds at) (c.in_err-add_new_packet.ensures.contradiction is));
+      }
+
 pub returns-in_err-add_new_packet-clause-in_order : goal.returns-in_err-add_new_packet-clause-in_order
 returns-in_err-add_new_packet-clause-in_order c =
-    let at = (goal.at.returns-in_err-add_new_packet-clause-in_order c).After-set_sparse_threshold in
+    let here = (goal.at.returns-in_err-add_new_packet-clause-in_order c).In_err-add_new_packet in
     let k = c.args.config in
     let packet = c.in-Some.step.1 in
     let e = c.in_err-add_new_packet.field-0.0 in
     let p = err_from_is_err_and c.from_residual-in_err-add_new_packet.result c.from_residual-in_err-add_new_packet.ensures.1 in
-    let here : (e ≡ OutOfMemory) ⊎ (packet_refusal k packet ≡ Err e) = is_refused e (packet_refusal k packet) (subst (λ d. IsRefusal e (packet_refusal d packet)) (same at) c.in_err-add_new_packet.ensures.refused) in
-    rw (p.1, p.2, c.in_ok-decoder.ensures.refused, c.loop-step.invariant.taken, next at) (refusal_first e (packet_refusal k packet) (λ _. first_refusal (packet_refusal k) (packets_of (into_iter_items c.next.new.self))) here)
+    rw (p.1, p.2) (run_stops c.args.table.now k c.in_ok-decoder.ensures.refused (Option (Vec ℕ Global)) (packets_of c.args.steps.items) (packets_of c.loop-step.yielded) (packets_of (into_iter_items c.next.new.self)) packet e (around (at here)) c.loop-step.invariant.passed
+    (subst (λ d. IsPacketRefusal e (packet_refusal d packet)) (same (at here)) c.in_err-add_new_packet.ensures.refused) (contradicted here))
 
 pub returns-clause-in_order : goal.returns-clause-in_order
 returns-clause-in_order c =
-    let taken = c.loop-step.invariant.taken ∙ ap (λ l. first_refusal (packet_refusal c.args.config) (packets_of l)) (none (goal.at.returns-clause-in_order c).In-None) in
-    answers_unrefused c.get_result.result _ (ap (λ r. and_then r (λ _. first_refusal (packet_refusal c.args.config) (packets_of c.args.steps.items))) c.in_ok-decoder.ensures.refused ∙ taken) c.get_result.ensures.memory
+    let k = c.args.config in
+    let all = ap packets_of (all_came c.args.steps.items c.loop-step.yielded (into_iter_items c.loop-step.step-iterator) c.loop-step.invariant.whole (none (goal.at.returns-clause-in_order c).In-None)) in
+    run_answers c.args.table.now k c.in_ok-decoder.ensures.refused (packets_of c.args.steps.items) c.get_result.result (ap (first_refusal (packet_refusal k)) (sym all) ∙ c.loop-step.invariant.passed) c.get_result.ensures.memory

@@ -35,6 +35,7 @@ returns-clause-found g c =
     let found = subst (FindsOperations (solver_state c.of_row-solver.result)) c.in-Some.is c.in_ok-operations.ensures.found in
     record {
       few = omega arith;
+      ldpc = omega arith;
       enough = c.args.self.now.enough;
       finds = found_outcome c.args.self.now.row.now c.args.self.now.ids.now bits m.hdpc c.in_ok-values.values m.ensures.bits m.ensures.hdpc are (Some operations) (subst (λ (s : Solver). FindsOperations s (Some operations)) c.of_row-solver.ensures found);
     }

@@ -25,6 +25,7 @@ returns-clause-found g c =
     let found = subst (FindsOperations (solver_state c.of_row_no_hdpc-solver.result)) c.in-Some.is c.in_ok-operations.ensures.found in
     record {
       few = omega arith;
+      ldpc = omega arith;
       enough = omega arith;
       finds = finds_without_hdpc row ids (g.T.BinaryMatrix.content c.in_ok-matrix.matrix) c.in_ok-matrix.ensures.bits (length c.in_ok-values.values.values) (map operation_of operations.items) count
           (subst (λ (s : Solver). FindsOperations s (Some operations)) c.of_row_no_hdpc-solver.ensures found);

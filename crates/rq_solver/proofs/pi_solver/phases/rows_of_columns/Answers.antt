@@ -81,7 +81,7 @@ returns-clause-found c = λ system peeled.
     placed_first (length slice) (length listed - length slice) listed reduced within p (omega (arith, many before)) ∙ c.requires.listed.starts p l) in
     rw (c.in_ok-rows_at.ensures.rows, c.as_slice.ensures.value)
     (finds_by_peeled (length middle.table.rows) (length places) system rows order places c.requires.peeled.peeled.columns (rw c.requires.height c.requires.peeled.peeled.in_rows) listed c.requires.listed inactive middle here.middle peeled (wide before) (narrow before) here.changes reduced permuted
-    c.args.ones.now here.marks here.returned here.last final here.fits here.back here.reduces here.finishes pick long starts)
+    c.args.ones.now here.marks here.returned here.last final here.echelon here.back here.reduces here.finishes pick long starts)
 
 pub returns-then-not-branch-clause-few : goal.returns-then-not-branch-clause-few
 returns-then-not-branch-clause-few c = counted (goal.at.returns-then-not-branch-clause-few c).After-solve_inactive _ _ _ c.in_ok-solve_inactive.ensures.few

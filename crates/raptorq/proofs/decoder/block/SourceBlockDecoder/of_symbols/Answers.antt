@@ -7,6 +7,9 @@ use Rattle.raptorq.proofs.decoder.block.SourceBlockDecoder.of_symbols.Goals as g
 pub invariant_of-result-clause-sized : goal.invariant_of-result-clause-sized
 invariant_of-result-clause-sized c = λ e x is. absurd (let none = payload_of-empty c.new.result c.new.ensures.empty e in cc (sym none ∙ is))
 
+pub invariant_of-result-clause-bytes : goal.invariant_of-result-clause-bytes
+invariant_of-result-clause-bytes c = λ e x is. absurd (let none = payload_of-empty c.new.result c.new.ensures.empty e in cc (sym none ∙ is))
+
 pub invariant_of-result-clause-few : goal.invariant_of-result-clause-few
 invariant_of-result-clause-few c = λ e came. absurd (let none = ap is_some (payload_of-empty c.new.result c.new.ensures.empty e) in cc (sym none ∙ came))
 

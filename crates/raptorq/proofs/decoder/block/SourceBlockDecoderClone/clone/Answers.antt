@@ -4,7 +4,7 @@ use Rattle.raptorq.specs.Missing.{payload_of}
 use Rattle.raptorq.proofs.Payloads.{payload_of-cloned}
 use Rattle.raptorq.proofs.MissingCounts.{missing_count-same}
 use Rattle.raptorq.specs.SourceBlockDecoder.{held_of}
-use Rattle.raptorq.proofs.Waiting.{waits-same}
+use Rattle.raptorq.proofs.Waiting.{waits-same, contradictory-same}
 use Rattle.raptorq.proofs.decoder.block.SourceBlockDecoderClone.clone.Goals as goal
 
 pub invariant_of-result : goal.invariant_of-result
@@ -13,6 +13,7 @@ invariant_of-result c =
     let same : (e : ℕ) → payload_of c.in_ok-clone.field-0 e ≡ payload_of d.received e = payload_of-cloned d.received c.in_ok-clone.field-0 c.in_ok-clone.ensures.cases in
     record {
       sized = λ e x is. d.sized e x (sym (same e) ∙ is);
+      bytes = λ e x is. d.bytes e x (sym (same e) ∙ is);
       positive = d.positive;
       aligned = d.aligned;
       checked = d.checked;
@@ -20,6 +21,7 @@ invariant_of-result c =
       few = λ e came. d.few e (sym (ap is_some (same e)) ∙ came);
       counted = d.counted ∙ missing_count-same d.symbols _ _ (λ e below. sym (ap is_some (same e)));
       waits = λ still. waits-same (held_of d) (payload_of c.in_ok-clone.field-0) same (d.waits still);
+      contradicted = λ still. contradictory-same (held_of d) (payload_of c.in_ok-clone.field-0) same (d.contradicted still);
     }
 
 pub returns : goal.returns

@@ -1,9 +1,10 @@
-use Rattle.std.proofs.Common.{◌≡◌, ℕ, false, List, Option, Some, None, refl, sym, ◌∙◌}
+use Rattle.std.proofs.Common.{◌≡◌, ℕ, false, List, Option, Some, None, refl, sym, ap, ◌∙◌}
 use Rattle.std.specs.Prelude.{is_some}
 use Rattle.rq_standard.specs.Standing.{result_of}
 use Rattle.rq_standard.proofs.ObjectAnswers.{answers_object, answers_nothing_else}
 use Rattle.rq_standard.proofs.OtherObjects.{answers_only}
 use Rattle.raptorq.specs.Decoder.{state_of}
+use Rattle.raptorq.proofs.ObjectBlocks.{not_complete}
 use Rattle.raptorq.proofs.decoder.object.Decoder.get_result.Goals as goal
 
 not_some : (o : Option (List ℕ)) → is_some o ≡ false → None ≡ o
@@ -39,3 +40,6 @@ pub returns-clause-only_object : goal.returns-clause-only_object
 returns-clause-only_object c =
     let s = c.args.self.now in
     answers_only (state_of s) (Some c.in_ok-join.field-0.items) s.some s.positive s.aligned (answers_object (state_of s) (Some c.in_ok-join.field-0.items) s.some s.positive c.in_ok-join.ensures)
+
+pub returns-clause-contradicted : goal.returns-clause-contradicted
+returns-clause-contradicted c = λ b contradictory. absurd (cc (ap is_some c.in_ok-join.ensures, not_complete (state_of c.args.self.now) b contradictory.below contradictory.unanswered))

@@ -2,6 +2,7 @@ use Rattle.std.proofs.Common.{◌≡◌, map, refl, ap, ◌∙◌, arith}
 use Rattle.std.specs.List.{range_with_len}
 use borrow.Author.Count.{below_more}
 use Rattle.rq_standard.specs.Standing.{IsHeldOf, IsNewState, new_held, new_answer}
+use Rattle.rq_standard.proofs.Contradictions.{holds_none}
 use Rattle.rq_standard.proofs.Standing.{stands_new}
 use Rattle.raptorq.specs.SourceBlockDecoder.{held_of}
 use Rattle.raptorq.specs.Decoder.{answer_of}
@@ -55,3 +56,6 @@ pub returns-clause-stands : goal.returns-clause-stands
 returns-clause-stands c =
     let at = (goal.at.returns-clause-stands c).After-loop-number in
     stands_new c.args.table.now c.args.config (state c.args.config c.loop-number.blocks.items) (λ b below. c.loop-number.invariant.shape b (omega (arith, all at))) (new at)
+
+pub returns-clause-holds : goal.returns-clause-holds
+returns-clause-holds c = holds_none c.args.table.now c.args.config (state c.args.config c.loop-number.blocks.items) (new (goal.at.returns-clause-holds c).After-loop-number)

@@ -1,0 +1,6 @@
+-- A determined square has a solution, in symbols.
+use Rattle.rq_algebra.proofs.Squares.{square_symbols}
+use Rattle.rq_algebra.proofs.symbols.square.Goals as goal
+
+pub returns : goal.returns
+returns c = λ F n size rows. square_symbols F n rows size
