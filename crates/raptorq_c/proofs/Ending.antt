@@ -1,5 +1,5 @@
 -- What a number says of how a call ended.
-use Rattle.std.proofs.Common.{◌≡◌, ◌≢◌, ℕ, ◌<◌, Ok, Err, Result, refl, sym, subst, arith, lit<}
+use Rattle.std.proofs.Common.{◌≡◌, ◌≢◌, ℕ, ◌<◌, List, [], ◌∷◌, get_or, Ok, Err, Result, refl, sym, ap, ◌∙◌, subst, arith, lit<}
 use Rattle.std.specs.Prelude.{OnOk, OnErr}
 use Rattle.rq_bytes.specs.declared.error.Error.{Error}
 use Rattle.rq_bytes.specs.declared.error.Error.TheVariants.{TransferTooLong, AlignmentZero, Misaligned, TooManySymbols, SymbolSizeZero, SourceBlocksZero, BlockOverTable, WrongDataLength, Singular, PlanMismatch, EsiTooLarge, PacketTooShort, WrongPayloadSize, UnknownBlock, PacketSizeZero, TransferLengthZero, MemoryRequirementTooSmall, TooManyBlocks, RowRefused, AlreadyExecuted, OutOfMemory, Contradiction, HeaderTooShort}
@@ -56,54 +56,41 @@ pub on_stopped : (ended : Result (Unit {0}) Stop) (n : ℕ) (P : Type 0) (Q : �
 on_stopped (Ok x) n P Q is stopped more = tt
 on_stopped (Err s) n P Q is stopped more = subst Q (sym is) (more stopped)
 
--- 21 is the number of want of memory alone
-pub is_memory : (e : Error) → code_of e ≡ 21 → e ≡ OutOfMemory
-is_memory TransferTooLong is = absurd (omega (arith, is))
-is_memory AlignmentZero is = absurd (omega (arith, is))
-is_memory Misaligned is = absurd (omega (arith, is))
-is_memory TooManySymbols is = absurd (omega (arith, is))
-is_memory SymbolSizeZero is = absurd (omega (arith, is))
-is_memory SourceBlocksZero is = absurd (omega (arith, is))
-is_memory BlockOverTable is = absurd (omega (arith, is))
-is_memory WrongDataLength is = absurd (omega (arith, is))
-is_memory Singular is = absurd (omega (arith, is))
-is_memory PlanMismatch is = absurd (omega (arith, is))
-is_memory EsiTooLarge is = absurd (omega (arith, is))
-is_memory PacketTooShort is = absurd (omega (arith, is))
-is_memory WrongPayloadSize is = absurd (omega (arith, is))
-is_memory UnknownBlock is = absurd (omega (arith, is))
-is_memory PacketSizeZero is = absurd (omega (arith, is))
-is_memory TransferLengthZero is = absurd (omega (arith, is))
-is_memory MemoryRequirementTooSmall is = absurd (omega (arith, is))
-is_memory TooManyBlocks is = absurd (omega (arith, is))
-is_memory (RowRefused place check) is = absurd (omega (arith, is))
-is_memory AlreadyExecuted is = absurd (omega (arith, is))
-is_memory OutOfMemory is = refl
-is_memory Contradiction is = absurd (omega (arith, is))
-is_memory HeaderTooShort is = absurd (omega (arith, is))
+-- the errors by their numbers, with another one where there is none, and for a row's refusal, which says more than its number
+errors : List Error
+errors = OutOfMemory ∷ TransferTooLong ∷ AlignmentZero ∷ Misaligned ∷ TooManySymbols ∷ SymbolSizeZero ∷ SourceBlocksZero ∷ BlockOverTable ∷ WrongDataLength ∷ Singular ∷ PlanMismatch ∷ EsiTooLarge ∷ PacketTooShort ∷ WrongPayloadSize ∷ UnknownBlock ∷ PacketSizeZero ∷ TransferLengthZero ∷ MemoryRequirementTooSmall ∷ TooManyBlocks ∷ OutOfMemory ∷ AlreadyExecuted ∷ OutOfMemory ∷ Contradiction ∷ HeaderTooShort ∷ []
 
--- and 22 that of a contradiction
+is_numbered : (e : Error) → code_of e ≢ 19 → get_or errors (code_of e) OutOfMemory ≡ e
+unfolding errors
+is_numbered TransferTooLong other = refl
+is_numbered AlignmentZero other = refl
+is_numbered Misaligned other = refl
+is_numbered TooManySymbols other = refl
+is_numbered SymbolSizeZero other = refl
+is_numbered SourceBlocksZero other = refl
+is_numbered BlockOverTable other = refl
+is_numbered WrongDataLength other = refl
+is_numbered Singular other = refl
+is_numbered PlanMismatch other = refl
+is_numbered EsiTooLarge other = refl
+is_numbered PacketTooShort other = refl
+is_numbered WrongPayloadSize other = refl
+is_numbered UnknownBlock other = refl
+is_numbered PacketSizeZero other = refl
+is_numbered TransferLengthZero other = refl
+is_numbered MemoryRequirementTooSmall other = refl
+is_numbered TooManyBlocks other = refl
+is_numbered (RowRefused place check) other = absurd (other refl)
+is_numbered AlreadyExecuted other = refl
+is_numbered OutOfMemory other = refl
+is_numbered Contradiction other = refl
+is_numbered HeaderTooShort other = refl
+
+-- 21 is the number of want of memory alone, and 22 that of a contradiction
+pub is_memory : (e : Error) → code_of e ≡ 21 → e ≡ OutOfMemory
+unfolding errors
+is_memory e is = sym (is_numbered e (λ row. omega (arith, is, row))) ∙ ap (λ n. get_or errors n OutOfMemory) is
+
 pub is_contradiction : (e : Error) → code_of e ≡ 22 → e ≡ Contradiction
-is_contradiction TransferTooLong is = absurd (omega (arith, is))
-is_contradiction AlignmentZero is = absurd (omega (arith, is))
-is_contradiction Misaligned is = absurd (omega (arith, is))
-is_contradiction TooManySymbols is = absurd (omega (arith, is))
-is_contradiction SymbolSizeZero is = absurd (omega (arith, is))
-is_contradiction SourceBlocksZero is = absurd (omega (arith, is))
-is_contradiction BlockOverTable is = absurd (omega (arith, is))
-is_contradiction WrongDataLength is = absurd (omega (arith, is))
-is_contradiction Singular is = absurd (omega (arith, is))
-is_contradiction PlanMismatch is = absurd (omega (arith, is))
-is_contradiction EsiTooLarge is = absurd (omega (arith, is))
-is_contradiction PacketTooShort is = absurd (omega (arith, is))
-is_contradiction WrongPayloadSize is = absurd (omega (arith, is))
-is_contradiction UnknownBlock is = absurd (omega (arith, is))
-is_contradiction PacketSizeZero is = absurd (omega (arith, is))
-is_contradiction TransferLengthZero is = absurd (omega (arith, is))
-is_contradiction MemoryRequirementTooSmall is = absurd (omega (arith, is))
-is_contradiction TooManyBlocks is = absurd (omega (arith, is))
-is_contradiction (RowRefused place check) is = absurd (omega (arith, is))
-is_contradiction AlreadyExecuted is = absurd (omega (arith, is))
-is_contradiction OutOfMemory is = absurd (omega (arith, is))
-is_contradiction Contradiction is = refl
-is_contradiction HeaderTooShort is = absurd (omega (arith, is))
+unfolding errors
+is_contradiction e is = sym (is_numbered e (λ row. omega (arith, is, row))) ∙ ap (λ n. get_or errors n OutOfMemory) is
