@@ -31,7 +31,7 @@ shows_known row known ids list (Some column) shows = record {
   count = shows.count;
   elements = shows.elements;
   solves = from_list row known ids (at column.items) list shows.solves;
-  place = shows.place;
+  index = shows.index;
   below = shows.below;
   nonzero = shows.nonzero;
 }

@@ -90,7 +90,7 @@ module _ (c : Configuration) (items : List ObjectBlock) where
 
   not_determined : (h : Held) (answer column : Option (List ℕ)) → ShowsUnanswered h answer column → IsSome column → (answer ≡ None → AreHeldDetermining h) → ⊥
   not_determined h answer None shows some all = absurd (cc some)
-  not_determined h answer (Some xs) shows some all = shows.1.nonzero (all shows.0 (at xs) shows.1.elements shows.1.solves shows.1.place shows.1.below)
+  not_determined h answer (Some xs) shows some all = shows.1.nonzero (all shows.0 (at xs) shows.1.elements shows.1.solves shows.1.index shows.1.below)
 
   -- some column was found
   pub some_undetermined : (bytes : List ℕ) → DifferenceSoFar c items c.source_blocks false bytes → AreUnansweredDetermined (state c items) → ⊥
@@ -112,7 +112,7 @@ module _ (c : Configuration) (items : List ObjectBlock) where
 
   place_of : (h : Held) (answer column : Option (List ℕ)) → ShowsUnanswered h answer column → IsSome column → (j : ℕ) × (j < intermediate_symbols h.row) × (at (unwrap_or column []) j ≢ 0)
   place_of h answer None shows some = absurd (cc some)
-  place_of h answer (Some xs) shows some = (shows.1.place, shows.1.below, shows.1.nonzero)
+  place_of h answer (Some xs) shows some = (shows.1.index, shows.1.below, shows.1.nonzero)
 
   pub difference_found : (bytes : List ℕ) → 0 < c.symbol_size → 0 < c.source_blocks → IsAligned c → ((b : ℕ) → b < c.source_blocks → HasRow (held_at c items b).row (block_symbols c b)) → ((b : ℕ) → b < c.source_blocks → (held_at c items b).symbols ≡ block_symbols c b)
       → DifferenceSoFar c items c.source_blocks false bytes → IsDifference (state c items) (take c.transfer_length bytes)

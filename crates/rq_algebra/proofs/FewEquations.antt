@@ -22,7 +22,7 @@ module _ (F : Field) where
   homogeneous_of_zero n height a empty = record {
     column = with_at (λ _. 0) n 1;
     is_column = λ k l. elim (cases_eq k n) [ inl e ↦ rw (with_at_same {X = ℕ} (λ _. 0) n 1 k e) F.one_below | inr d ↦ rw (with_at_other {X = ℕ} (λ _. 0) n 1 k d) (omega (arith, F.one_below)) ];
-    place = n;
+    index = n;
     in_width = omega arith;
     nonzero = rw (with_at_same {X = ℕ} (λ _. 0) n 1 n refl) (omega arith);
     solves = record { at = λ i l. cc (dot_with_at n (a i) (λ _. 0) 1, dot_zero F n (a i) (λ _. 0) (λ k m. mul_zero F (a i k)), empty i l, zero_mul F 1, F.zero_add 0) };
@@ -47,9 +47,9 @@ module _ (F : Field) where
   homogeneous_step n h a p in_rows nonzero elements null = let z : ℕ = entry n h a p in_rows nonzero elements null.column in record {
     column = with_at null.column n z;
     is_column = λ k l. elim (cases_eq k n) [ inl e ↦ rw (with_at_same null.column n z k e) (F.mul_below _ _) | inr d ↦ rw (with_at_other null.column n z k d) (null.is_column k (omega arith)) ];
-    place = null.place;
+    index = null.index;
     in_width = omega (arith, null.in_width);
-    nonzero = rw (with_at_other null.column n z null.place (omega (arith, null.in_width))) null.nonzero;
+    nonzero = rw (with_at_other null.column n z null.index (omega (arith, null.in_width))) null.nonzero;
     solves = record {
       at = λ i l. elim (cases_eq i p) [
         | inl e ↦ rw e (pivot_row n h a p in_rows nonzero elements null.column)
@@ -86,9 +86,9 @@ module _ (F : Field) where
           | inl q ↦ rw (← q.2, spread_at (suc n) width columns null.column are q.0 q.1) (null.is_column q.0 q.1)
           | inr free ↦ rw (spread_off (suc n) columns null.column k free) (omega (arith, F.one_below))
         ];
-        place = columns null.place;
-        in_width = are.below null.place null.in_width;
-        nonzero = rw (spread_at (suc n) width columns null.column are null.place null.in_width) null.nonzero;
+        index = columns null.index;
+        in_width = are.below null.index null.in_width;
+        nonzero = rw (spread_at (suc n) width columns null.column are null.index null.in_width) null.nonzero;
         solves = record {
           at = λ i l. says i l ∙ elim (find_place n rows i) [
             | inl q ↦ ap (λ (r : ℕ). dot F (suc n) (λ j. a r (columns j)) null.column) (sym q.2) ∙ null.solves.at q.0 q.1
@@ -107,12 +107,12 @@ all_places F (suc h) places are i l = elim (find_place (suc h) places i) [
       let one : (r k : ℕ) → places k ≡ without i h r → a r k ≡ 1 = λ r k e. rw (eq-eqb (places k) (without i h r) e) in
       let off : (r k : ℕ) → places k ≢ without i h r → a r k ≡ 0 = λ r k d. rw (ne_eqb (places k) (without i h r) d) in
       let n : HasHomogeneousColumn F h (suc h) a = few_rows F (suc h) h a (omega arith) (λ r k m o. small (eqb (places k) (without i h r))) in
-      let m = without_onto i h (places n.place) l (are.below n.place n.in_width) (free n.place n.in_width) in
+      let m = without_onto i h (places n.index) l (are.below n.index n.in_width) (free n.index n.in_width) in
       absurd (n.nonzero (cc (
         n.solves.at m.0 m.1,
-        dot_one F (suc h) (a m.0) n.column n.place n.in_width (λ k o d. off m.0 k (λ e. d (are.apart k n.place o n.in_width (e ∙ m.2)))),
-        one m.0 n.place (sym m.2),
-        F.one_mul (n.column n.place) (n.is_column n.place n.in_width),
+        dot_one F (suc h) (a m.0) n.column n.index n.in_width (λ k o d. off m.0 k (λ e. d (are.apart k n.index o n.in_width (e ∙ m.2)))),
+        one m.0 n.index (sym m.2),
+        F.one_mul (n.column n.index) (n.is_column n.index n.in_width),
       )))
 ] where
   small : (b : Bool) → cond b 1 0 < F.size

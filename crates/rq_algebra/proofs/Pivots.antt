@@ -93,7 +93,7 @@ pub homogeneous_back : (F : Field) (height width : ℕ) (original a : ℕ → �
 homogeneous_back F height width original a operations follows n = record {
   column = n.column;
   is_column = n.is_column;
-  place = n.place;
+  index = n.index;
   in_width = n.in_width;
   nonzero = n.nonzero;
   solves =

@@ -96,7 +96,7 @@ determined_stays F width old_height new_height old new stand determined x elemen
 
 -- a homogeneous column refutes it
 pub homogeneous_not_determined : (F : Field) (height width : ℕ) (a : ℕ → ℕ → ℕ) → HasHomogeneousColumn F height width a → IsDetermined F height width a → ⊥
-homogeneous_not_determined F height width a n determined = n.nonzero (determined n.column n.is_column n.solves n.place n.in_width)
+homogeneous_not_determined F height width a n determined = n.nonzero (determined n.column n.is_column n.solves n.index n.in_width)
 
 -- a solution of a determined system is the only one
 pub determined_unique : (F : Field) (height width : ℕ) (a : ℕ → ℕ → ℕ) (x y v : ℕ → ℕ) → IsDetermined F height width a → IsColumn F width x → IsColumn F width y → Solves F height width a x v → Solves F height width a y v → (k : ℕ) → k < width → x k ≡ y k

@@ -55,9 +55,9 @@ module _ (F : Field) (n : ℕ) (rows : ℕ → ℕ → ℕ) where
     last_nonzero e =
         let zeros : (k : ℕ) → k < n → null.column k ≡ 0 =
         determined null.column (λ k l. null.is_column k (omega arith)) record { at = λ i l. cc (scaled i l, e, mul_zero F (values i)) } in
-        elim (cases_eq null.place n) [
+        elim (cases_eq null.index n) [
           | inl s ↦ null.nonzero (ap null.column s ∙ e)
-          | inr d ↦ null.nonzero (zeros null.place (omega (arith, null.in_width)))
+          | inr d ↦ null.nonzero (zeros null.index (omega (arith, null.in_width)))
         ]
 
     pub square_solution : HasSolution F n n rows values

@@ -62,11 +62,11 @@ OrdersAreReplaced = reading (plain two) (Reorder (1 ∷ 0 ∷ []) ∷ Reorder (0
 abbrev pub OneValueIsNotAdded : Type 0
 OneValueIsNotAdded = IsAllowed 2 None (AddAssign 0 1) × (¬ IsAllowed 2 (Some (0 ∷ 0 ∷ [])) (AddAssign 0 1))
 
--- a place that is missing in one of two symbols is read as zero
+-- an element that is missing in one of two symbols is read as zero
 abbrev pub SymbolsAreAdded : Type 0
 SymbolsAreAdded = reading (symbols two) (AddAssign 0 1 ∷ []) ((1 ∷ 1 ∷ []) ∷ (1 ∷ []) ∷ []) ≡ (0 ∷ 1 ∷ []) ∷ (1 ∷ []) ∷ []
 
--- a place that is listed twice cancels
+-- an index that is listed twice cancels
 abbrev pub RepeatsCancel : Type 0
 RepeatsCancel = (sum_listed (plain two) (1 ∷ 2 ∷ 1 ∷ []) (at (0 ∷ 1 ∷ 1 ∷ [])) ≡ 1) × (parity (1 ∷ 2 ∷ 1 ∷ []) 1 ≡ 0) × (parity (1 ∷ 2 ∷ 1 ∷ []) 2 ≡ 1)
 
@@ -109,6 +109,6 @@ SquareNeedsDetermined = (¬ IsDetermined two 1 1 empty) × (¬ HasSolution two 1
 abbrev pub FoundNeedsAsManyEquations : Type 0
 FoundNeedsAsManyEquations = FindsColumn two 2 1 tall (Reorder (0 ∷ []) ∷ []) × (¬ Solves two 2 1 tall (found_by (plain two) (Reorder (0 ∷ []) ∷ []) (0 ∷ 1 ∷ [])) (at (0 ∷ 1 ∷ [])))
 
--- a place past the width, or an entry that is no element, makes another sum than the dot with the parities
-abbrev pub SumNeedsPlacesAndElements : Type 0
-SumNeedsPlacesAndElements = (sum_listed (plain two) (1 ∷ []) (at (0 ∷ 1 ∷ [])) ≢ dot two 1 (parity (1 ∷ [])) (at (0 ∷ 1 ∷ []))) × (sum_listed (plain two) (0 ∷ []) (at (2 ∷ [])) ≢ dot two 1 (parity (0 ∷ [])) (at (2 ∷ [])))
+-- an index past the width, or an entry that is no element, makes another sum than the dot with the parities
+abbrev pub SumNeedsIndicesAndElements : Type 0
+SumNeedsIndicesAndElements = (sum_listed (plain two) (1 ∷ []) (at (0 ∷ 1 ∷ [])) ≢ dot two 1 (parity (1 ∷ [])) (at (0 ∷ 1 ∷ []))) × (sum_listed (plain two) (0 ∷ []) (at (2 ∷ [])) ≢ dot two 1 (parity (0 ∷ [])) (at (2 ∷ [])))

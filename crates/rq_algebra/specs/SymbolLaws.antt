@@ -1,4 +1,4 @@
--- The laws of symbols and of listed places, as statements: functions of `symbols` have them as contracts.
+-- The laws of symbols and of listed indices, as statements: functions of `symbols` have them as contracts.
 use Rattle.std.specs.Prelude.{◌≡◌, ℕ, ◌+◌, ◌<◌, ◌↔◌, List, ◌∷◌, All, replicate}
 use Rattle.rq_algebra.specs.Field.{Field}
 use Rattle.rq_algebra.specs.Systems.{dot, IsColumn, IsDetermined, HasElements, at, stacked}
@@ -74,23 +74,23 @@ StackedIsBothInSymbols =
     → SolvesSymbols F (height + more) width (stacked height above below) column (stacked height u v)
     ↔ (SolvesSymbols F height width above column u × SolvesSymbols F more width below column v)
 
--- the sum at listed places is the dot with their parities
+-- the sum at listed indices is the dot with their parities
 abbrev pub SumIsDotOfParities : Type 0
 SumIsDotOfParities =
-    (F : Field) (width : ℕ) (places : List ℕ) (column : ℕ → ℕ)
-    → All (λ k. k < width) places → IsColumn F width column
-    → sum_listed (plain F) places column ≡ dot F width (parity places) column
+    (F : Field) (width : ℕ) (indices : List ℕ) (column : ℕ → ℕ)
+    → All (λ k. k < width) indices → IsColumn F width column
+    → sum_listed (plain F) indices column ≡ dot F width (parity indices) column
 
 -- the same of symbols, at each place
 abbrev pub SymbolSumIsDotOfParities : Type 0
 SymbolSumIsDotOfParities =
-    (F : Field) (width size : ℕ) (places : List ℕ) (column : ℕ → List ℕ) (place : ℕ)
-    → All (λ k. k < width) places → IsSymbolColumn F size width column
-    → at (sum_listed (symbols F) places column) place ≡ dot F width (parity places) (slice_at place column)
+    (F : Field) (width size : ℕ) (indices : List ℕ) (column : ℕ → List ℕ) (place : ℕ)
+    → All (λ k. k < width) indices → IsSymbolColumn F size width column
+    → at (sum_listed (symbols F) indices column) place ≡ dot F width (parity indices) (slice_at place column)
 
 -- the sum of symbols, of one at least, is a symbol of their size
 abbrev pub SumIsSymbol : Type 0
 SumIsSymbol =
-    (F : Field) (width size first : ℕ) (places : List ℕ) (column : ℕ → List ℕ)
-    → All (λ k. k < width) (first ∷ places) → IsSymbolColumn F size width column
-    → IsSymbol F size (sum_listed (symbols F) (first ∷ places) column)
+    (F : Field) (width size first : ℕ) (indices : List ℕ) (column : ℕ → List ℕ)
+    → All (λ k. k < width) (first ∷ indices) → IsSymbolColumn F size width column
+    → IsSymbol F size (sum_listed (symbols F) (first ∷ indices) column)

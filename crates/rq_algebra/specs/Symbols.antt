@@ -4,7 +4,7 @@ use Rattle.rq_algebra.specs.Field.{Field}
 use Rattle.rq_algebra.specs.Systems.{Solves, at}
 use Rattle.rq_algebra.specs.Operations.{Space, Store}
 
--- the sum of two symbols, place by place; a missing place is read as zero
+-- the sum of two symbols, element by element; a missing one is read as zero
 unfoldable pub add_symbols : Field → List ℕ → List ℕ → List ℕ
 add_symbols F [] ys = ys
 add_symbols F (x ∷ xs) [] = x ∷ xs
@@ -23,7 +23,7 @@ pub record IsSymbol (F : Field) (size : ℕ) (symbol : List ℕ) : Type 0 where
 abbrev pub IsSymbolColumn : Field → ℕ → ℕ → (ℕ → List ℕ) → Type 0
 IsSymbolColumn F size n column = (k : ℕ) → k < n → IsSymbol F size (column k)
 
--- a list of symbols as a function of the place
+-- a list of symbols as a function of the index
 abbrev pub symbol_at : List (List ℕ) → ℕ → List ℕ
 symbol_at xs k = slice_index_or xs k []
 

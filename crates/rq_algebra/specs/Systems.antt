@@ -1,4 +1,4 @@
--- Systems of linear equations. A row, a column and a list of values are functions of the place, a system one of the row and the place.
+-- Systems of linear equations. A row, a column and a list of values are functions of the index, a system one of the row and the index.
 use Rattle.std.specs.Prelude.{◌≡◌, ◌≢◌, ℕ, zero, suc, ◌-◌, ◌<◌, cond, nat_lt, List, slice_index}
 use Rattle.rq_algebra.specs.Field.{Field}
 
@@ -27,9 +27,9 @@ IsDetermined F height width rows = (column : ℕ → ℕ) → IsColumn F width c
 pub record HasHomogeneousColumn (F : Field) (height width : ℕ) (rows : ℕ → ℕ → ℕ) : Type 0 where
   pub column : ℕ → ℕ
   pub is_column : IsColumn F width column
-  pub place : ℕ
-  pub in_width : place < width
-  pub nonzero : column place ≢ 0
+  pub index : ℕ
+  pub in_width : index < width
+  pub nonzero : column index ≢ 0
   pub solves : Solves F height width rows column (λ _. 0)
 
 -- a column solves the rows with some values
@@ -42,7 +42,7 @@ pub record HasSolution (F : Field) (height width : ℕ) (rows : ℕ → ℕ → 
 abbrev pub HasElements : Field → ℕ → ℕ → (ℕ → ℕ → ℕ) → Type 0
 HasElements F height width rows = (i k : ℕ) → i < height → k < width → rows i k < F.size
 
--- a list as a function of the place, zero past its end
+-- a list as a function of the index, zero past its end
 abbrev pub at : List ℕ → ℕ → ℕ
 at xs k = slice_index xs k
 

@@ -1,6 +1,6 @@
 //! What the definitions mean, and why the laws have their premises, in small systems over the field
 //! of two elements.
-ghost use Rattle.rq_algebra.specs.Examples.{TriangleIsSolved, TriangleIsDetermined, RepeatedHasHomogeneousColumn, RepeatedIsNotDetermined, RowsStack, PlacesAreExchanged, OperationsRun, PlacesAreReadThroughTheOrder, OrdersAreReplaced, SymbolsAreAdded, OneValueIsNotAdded, RepeatsCancel, TurnedIsFound, AddingNeedsTwoRows, ScalingNeedsNonzero, OneEquationIsTooFew, SquareNeedsDetermined, FoundNeedsAsManyEquations, SumNeedsPlacesAndElements};
+ghost use Rattle.rq_algebra.specs.Examples.{TriangleIsSolved, TriangleIsDetermined, RepeatedHasHomogeneousColumn, RepeatedIsNotDetermined, RowsStack, PlacesAreExchanged, OperationsRun, PlacesAreReadThroughTheOrder, OrdersAreReplaced, SymbolsAreAdded, OneValueIsNotAdded, RepeatsCancel, TurnedIsFound, AddingNeedsTwoRows, ScalingNeedsNonzero, OneEquationIsTooFew, SquareNeedsDetermined, FoundNeedsAsManyEquations, SumNeedsIndicesAndElements};
 
 /// Two equations that are determined, and two that are not.
 pub fn equations()
@@ -25,7 +25,7 @@ pub fn runs()
     ensures allowed { OneValueIsNotAdded }
 {}
 
-/// An equation whose places repeat.
+/// An equation whose indices repeat.
 pub fn repeats()
     ensures { RepeatsCancel }
 {}
@@ -42,5 +42,5 @@ pub fn premises()
     ensures few { OneEquationIsTooFew }
     ensures determined { SquareNeedsDetermined }
     ensures square { FoundNeedsAsManyEquations }
-    ensures listed { SumNeedsPlacesAndElements }
+    ensures listed { SumNeedsIndicesAndElements }
 {}

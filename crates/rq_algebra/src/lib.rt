@@ -3,7 +3,7 @@
 //!
 //! A law is the contract of a function that does nothing. `systems` holds those of rows and
 //! columns, `operations` those of recorded operations, `symbols` those of symbols and of equations
-//! as lists of places; `examples` shows what the definitions mean.
+//! as lists of indices; `examples` shows what the definitions mean.
 #![tactic(auto)]
 
 pub mod examples;

@@ -1,4 +1,4 @@
-//! The laws of symbols, and of equations as lists of places.
+//! The laws of symbols, and of equations as lists of indices.
 ghost use Rattle.rq_algebra.specs.SymbolLaws.{OperationsActPlacewise, OperationsKeepSymbols, FoundAreSymbols, OnlyFoundSolves, FoundSolves, FoundLeavesZeros, FoundFits, DeterminedSquareHasSolutionInSymbols, DeterminedHasOneSolutionInSymbols, StackedIsBothInSymbols, SumIsDotOfParities, SymbolSumIsDotOfParities, SumIsSymbol};
 
 /// Operations on symbols are, at each place of a symbol, operations on elements.
@@ -26,8 +26,8 @@ pub fn square()
     ensures { DeterminedSquareHasSolutionInSymbols }
 {}
 
-/// An equation as a list of places that may repeat is the equation of the parities.
-pub fn listed_places()
+/// An equation as a list of indices that may repeat is the equation of the parities.
+pub fn listed_indices()
     ensures elements { SumIsDotOfParities }
     ensures symbols { SymbolSumIsDotOfParities }
     ensures size { SumIsSymbol }

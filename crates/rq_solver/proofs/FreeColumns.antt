@@ -123,7 +123,7 @@ module _ (start end : OctetTable) (rows : List ℕ) (keeps : KeepsZeros start en
             let q = all_places octets (length end.rows) (at rows) placed i (omega (arith, keeps.height)) in
             rw (← q.2) (says q.0 (omega (arith, q.1, all)));
       };
-      place = free;
+      index = free;
       below = below;
       nonzero = rw at_free (omega arith);
     }
@@ -138,7 +138,7 @@ module _ (height width : ℕ) (a b : ℕ → ℕ → ℕ) (same : SameEntries he
     count = shows.count;
     elements = shows.elements;
     solves = solves_same octets height width a b (at column) (λ _. 0) (λ _. 0) same (λ i l. refl) shows.solves;
-    place = shows.place;
+    index = shows.index;
     below = shows.below;
     nonzero = shows.nonzero;
   }

@@ -34,7 +34,7 @@ module _ (F : Field) (height width : ℕ) (a b : ℕ → ℕ → ℕ) (same : Sa
   homogeneous_same null = record {
     column = null.column;
     is_column = null.is_column;
-    place = null.place;
+    index = null.index;
     in_width = null.in_width;
     nonzero = null.nonzero;
     solves = solves_same F height width a b null.column (λ _. 0) (λ _. 0) same (λ i l. refl) null.solves;

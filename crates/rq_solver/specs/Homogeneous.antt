@@ -14,9 +14,9 @@ pub record IsHomogeneousColumn (height width : ℕ) (rows : ℕ → ℕ → ℕ)
   pub count : length column ≡ width
   pub elements : IsColumn octets width (at column)
   pub solves : Solves octets height width rows (at column) (λ _. 0)
-  pub place : ℕ
-  pub below : place < width
-  pub nonzero : at column place ≢ 0
+  pub index : ℕ
+  pub below : index < width
+  pub nonzero : at column index ≢ 0
 
 -- such a column, and none where only zeros solve the rows
 abbrev pub ShowsHomogeneous : ℕ → ℕ → (ℕ → ℕ → ℕ) → Option (Vec ℕ Global) → Type 0

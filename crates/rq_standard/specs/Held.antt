@@ -57,9 +57,9 @@ pub record IsHomogeneous (row : TableRow) (known : ℕ → Bool) (column : List 
   pub count : length column ≡ intermediate_symbols row
   pub elements : IsColumn octets (intermediate_symbols row) (at column)
   pub solves : SolvesZeros row known (at column)
-  pub place : ℕ
-  pub below : place < intermediate_symbols row
-  pub nonzero : at column place ≢ 0
+  pub index : ℕ
+  pub below : index < intermediate_symbols row
+  pub nonzero : at column index ≢ 0
 
 -- such a column of what is held, and none where the ids that are held determine the block
 abbrev pub ShowsUndetermined : Held → Option (List ℕ) → Type 0

@@ -21,7 +21,7 @@ unfolding dot sum_below
 homogeneous_column = record {
   column = λ _. 1;
   is_column = λ k l. omega arith;
-  place = 0;
+  index = 0;
   in_width = omega arith;
   nonzero = omega arith;
   solves = record { at = below_two (λ i. dot two 2 (repeated i) (λ _. 1) ≡ 0) refl refl };

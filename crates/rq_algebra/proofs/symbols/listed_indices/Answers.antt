@@ -1,11 +1,11 @@
--- Listed places are their parities.
+-- Listed indices are their parities.
 use Rattle.rq_algebra.proofs.Parity.{sum_listed_is}
 use Rattle.rq_algebra.proofs.SymbolSums.{sum_symbols_is, sum_is_symbol}
-use Rattle.rq_algebra.proofs.symbols.listed_places.Goals as goal
+use Rattle.rq_algebra.proofs.symbols.listed_indices.Goals as goal
 
 pub returns : goal.returns
 returns c = record {
   elements = sum_listed_is;
-  symbols = λ F width size places column place below are. sum_symbols_is F size width places column below are place;
+  symbols = λ F width size indices column place below are. sum_symbols_is F size width indices column below are place;
   size = λ F width size. sum_is_symbol F size width;
 }
