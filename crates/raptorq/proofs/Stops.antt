@@ -6,12 +6,13 @@ use Rattle.rq_bytes.specs.declared.error.Error.{Error}
 use Rattle.rq_bytes.specs.declared.error.Error.TheVariants.{OutOfMemory, Contradiction, UnknownBlock, WrongPayloadSize}
 use Rattle.rq_standard.specs.Configuration.{Configuration, IsAligned}
 use Rattle.rq_standard.specs.Packet.{Packet}
-use Rattle.rq_standard.specs.Standing.{State, StopsEarly, Stops, Contradicts, KeepsContradictions, IsHonestPacket, LeavesBlockLate, AnswersLateBlock}
+use Rattle.rq_standard.specs.Standing.{State, Adds, StopsEarly, Stops, Contradicts, KeepsContradictions, IsHonestPacket, LeavesBlockLate, AnswersLateBlock}
 use Rattle.rq_standard.specs.TableRows.{IsChecked}
-use Rattle.rq_standard.proofs.Contradictions.{keeps_added, keeps_recorded, keeps_same, honest_fits}
-use Rattle.rq_standard.proofs.Standing.{answers_late, leaves_late}
+use Rattle.rq_standard.proofs.Contradictions.{keeps_added, keeps_recorded, keeps_same, honest_fits, no_more, holds_more}
+use Rattle.rq_standard.proofs.Standing.{stands_more, answers_late, leaves_late}
 use Rattle.raptorq.specs.Refused.{packet_refusal, IsPacketRefusal}
 use Rattle.raptorq.specs.Stopping.{StopsAsTested, AddsOrStops, AddsAndJoinsOrStops, refusal_of}
+use Rattle.raptorq.specs.Taking.{TakesPacket}
 use Rattle.raptorq.specs.declared.decoder.stopped.Stopped.{Stopped}
 use Rattle.raptorq.specs.declared.decoder.stopped.Stopped.TheVariants.{Refused, NotRecorded, NotSolved, Contradicted, NotJoined}
 use Rattle.raptorq.proofs.Lists.{packet_refusal-packet}
@@ -35,7 +36,7 @@ never_contradiction true false h = absurd (cc h)
 never_contradiction false s h = absurd (cc h)
 
 -- what a caller sees is the tests' refusal, or comes where they refuse nothing
-pub refused_as_tested : (at : Stopped) (tested : Result (Unit {0}) Error) → StopsAsTested {X = Unit {0}} (Err at) tested → IsPacketRefusal (refusal_of at) tested
+refused_as_tested : (at : Stopped) (tested : Result (Unit {0}) Error) → StopsAsTested {X = Unit {0}} (Err at) tested → IsPacketRefusal (refusal_of at) tested
 refused_as_tested (Refused e) tested is = subst (IsPacketRefusal e) (sym is) refl
 refused_as_tested NotRecorded tested is = subst (IsPacketRefusal OutOfMemory) (sym is) (inl refl)
 refused_as_tested NotSolved tested is = subst (IsPacketRefusal OutOfMemory) (sym is) (inl refl)
@@ -68,14 +69,14 @@ stops old p Contradicted new so = inl (inr so.records)
 stops old p NotJoined new so = inr so
 
 -- a refusal by the tests changes nothing
-pub unchanged : (old : State) (p : Packet) (at : Stopped) (new : State) → AddsAndJoinsOrStops old p (Err at) new → refusal_of at ≢ OutOfMemory → refusal_of at ≢ Contradiction → new ≡ old
+unchanged : (old : State) (p : Packet) (at : Stopped) (new : State) → AddsAndJoinsOrStops old p (Err at) new → refusal_of at ≢ OutOfMemory → refusal_of at ≢ Contradiction → new ≡ old
 unchanged old p (Refused e) new so memory contradiction = so
 unchanged old p NotRecorded new so memory contradiction = so
 unchanged old p NotSolved new so memory contradiction = absurd (memory refl)
 unchanged old p Contradicted new so memory contradiction = absurd (contradiction refl)
 unchanged old p NotJoined new so memory contradiction = absurd (memory refl)
 
-pub contradicts : (old : State) (p : Packet) (at : Stopped) (new : State) → StopsAsTested {X = Unit {0}} (Err at) (packet_refusal old.configuration p) → AddsAndJoinsOrStops old p (Err at) new → refusal_of at ≡ Contradiction → Contradicts old p new
+contradicts : (old : State) (p : Packet) (at : Stopped) (new : State) → StopsAsTested {X = Unit {0}} (Err at) (packet_refusal old.configuration p) → AddsAndJoinsOrStops old p (Err at) new → refusal_of at ≡ Contradiction → Contradicts old p new
 contradicts old p (Refused e) new tested so is = absurd (never_contradiction (ltb p.id.block old.configuration.source_blocks) (eqb (length p.payload) old.configuration.symbol_size) (tested ∙ cc is))
 contradicts old p NotRecorded new tested so is = absurd (cc is)
 contradicts old p NotSolved new tested so is = absurd (cc is)
@@ -83,7 +84,7 @@ contradicts old p Contradicted new tested so is = so
 contradicts old p NotJoined new tested so is = absurd (cc is)
 
 -- a contradiction stays
-pub keeps_stopped : (old : State) (p : Packet) (at : Stopped) (new : State) → AddsAndJoinsOrStops old p (Err at) new → KeepsContradictions old new
+keeps_stopped : (old : State) (p : Packet) (at : Stopped) (new : State) → AddsAndJoinsOrStops old p (Err at) new → KeepsContradictions old new
 keeps_stopped old p (Refused e) new so = keeps_same old new so
 keeps_stopped old p NotRecorded new so = keeps_same old new so
 keeps_stopped old p NotSolved new so = keeps_recorded old p new so
@@ -91,7 +92,7 @@ keeps_stopped old p Contradicted new so = keeps_recorded old p new so.records
 keeps_stopped old p NotJoined new so = keeps_added old p new so
 
 -- a packet of the object finds no memory, at the worst
-pub honest_stops : (old : State) (p : Packet) (at : Stopped) (new : State) → StopsAsTested {X = Unit {0}} (Err at) (packet_refusal old.configuration p) → AddsAndJoinsOrStops old p (Err at) new → IsHonestPacket old p → refusal_of at ≡ OutOfMemory
+honest_stops : (old : State) (p : Packet) (at : Stopped) (new : State) → StopsAsTested {X = Unit {0}} (Err at) (packet_refusal old.configuration p) → AddsAndJoinsOrStops old p (Err at) new → IsHonestPacket old p → refusal_of at ≡ OutOfMemory
 honest_stops old p (Refused e) new tested so honest =
     let shape = honest.stands.shape p.id.block honest.of_object.block in
     absurd (cc (tested, packet_refusal-packet honest.table old.configuration honest.object p (subst IsChecked shape.row shape.checked) honest.of_object))
@@ -107,3 +108,37 @@ late_or_not old p NotRecorded new aligned so = inl (leaves_late p old new (inl s
 late_or_not old p NotSolved new aligned so = inl (leaves_late p old new (inr so))
 late_or_not old p Contradicted new aligned so = inl (leaves_late p old new (inr so.records))
 late_or_not old p NotJoined new aligned so = inr (answers_late p old new aligned so)
+
+-- ---- what is said of both calls
+
+pub takes_added : {X : Type 0} (old : State) (p : Packet) (x : X) (new : State) → IsAligned old.configuration → packet_refusal old.configuration p ≡ Ok tt → new.configuration ≡ old.configuration → Adds old p new → TakesPacket old p (Ok x) new
+takes_added old p x new aligned passes same adds = record {
+  refused = tt;
+  accepted = passes;
+  unchanged = tt;
+  adds = adds;
+  configuration = same;
+  contradiction = tt;
+  holds = holds_more old p new (passes_below old.configuration p passes) adds;
+  goes_on = no_more old p new adds;
+  keeps = keeps_added old p new adds;
+  honest = tt;
+  stands = stands_more p old new aligned adds;
+  answers_late = answers_late p old new aligned adds;
+}
+
+pub takes_stopped : {X : Type 0} (old : State) (p : Packet) (at : Stopped) (new : State) → StopsAsTested {X = Unit {0}} (Err at) (packet_refusal old.configuration p) → new.configuration ≡ old.configuration → AddsAndJoinsOrStops old p (Err at) new → TakesPacket {X} old p (Err (refusal_of at)) new
+takes_stopped old p at new tested same so = record {
+  refused = refused_as_tested at (packet_refusal old.configuration p) tested;
+  accepted = tt;
+  unchanged = unchanged old p at new so;
+  adds = tt;
+  configuration = same;
+  contradiction = contradicts old p at new tested so;
+  holds = tt;
+  goes_on = tt;
+  keeps = keeps_stopped old p at new so;
+  honest = honest_stops old p at new tested so;
+  stands = tt;
+  answers_late = tt;
+}

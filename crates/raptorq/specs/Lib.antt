@@ -19,3 +19,4 @@ pub mod SourceBlockEncoder
 pub mod SourceBlockEncodingPlan
 pub mod SourceBlockEncodingPlanCache
 pub mod Stopping
+pub mod Taking

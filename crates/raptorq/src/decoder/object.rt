@@ -114,11 +114,12 @@ pub struct Decoder {
 
 impl Decoder {
     ghost use Rattle.rq_standard.specs.Differences.{AreUnansweredDetermined, IsDifference, IsNoneWhereAnswered, MakesOthersFit};
-    ghost use Rattle.rq_standard.specs.Standing.{IsNewState, Adds, Stops, StopsEarly, Contradicts, IsBlockContradictory, KeepsContradictions, IsHonestPacket, HoldsRun, HoldsMore, result_of};
-    ghost use Rattle.rq_standard.specs.Standing.{StandsForNone, StandsForMore, AnswersLateBlock, LeavesBlockLate, LeavesOrAnswersLateBlock, AnswersObject, AnswersNothingElse, AnswersOnlyObject};
+    ghost use Rattle.rq_standard.specs.Standing.{IsNewState, Stops, StopsEarly, HoldsRun, result_of};
+    ghost use Rattle.rq_standard.specs.Standing.{StandsForNone, LeavesBlockLate, LeavesOrAnswersLateBlock, AnswersObject, AnswersNothingElse, AnswersOnlyObject};
+    ghost use Rattle.raptorq.specs.Taking.{TakesPacket};
     ghost use Rattle.raptorq.specs.Decoding.{shown};
     ghost use Rattle.raptorq.specs.Stopping.{StopsAsTested, AddsOrStops, AddsAndJoinsOrStops};
-    ghost use Rattle.raptorq.specs.Refused.{packet_refusal, IsPacketRefusal};
+    ghost use Rattle.raptorq.specs.Refused.{packet_refusal};
     ghost use Rattle.raptorq.specs.Decoder.{state_of};
 
     /// The decoder of an object in this configuration, before any packet.
@@ -185,24 +186,8 @@ impl Decoder {
     /// Where memory is refused after the packet was recorded, the next packet of its block tries to
     /// answer it again.
     pub fn add_new_packet(&mut self, packet: EncodingPacket) -> Result<(), Error>
-        ensures refused { IfErr result (λ e. IsPacketRefusal e (packet_refusal (state_of self.old).configuration packet)) }
-        ensures accepted { OnOk result (packet_refusal (state_of self.old).configuration packet ≡ Ok tt) }
-        ensures unchanged { IfErr result (λ e. e ≢ Error.OutOfMemory → e ≢ Error.Contradiction → state_of self.new ≡ state_of self.old) }
-        ensures adds { OnOk result (Adds (state_of self.old) packet (state_of self.new)) }
+        ensures takes { TakesPacket (state_of self.old) packet result (state_of self.new) }
         ensures stops { IfErr result (λ e. e ≡ Error.OutOfMemory → StopsEarly (state_of self.old) packet (state_of self.new)) }
-        ensures configuration { (state_of self.new).configuration ≡ (state_of self.old).configuration }
-
-        // A contradiction: the packet is recorded, and so is each later one of its block, which is
-        // refused too.
-        ensures contradiction { IfErr result (λ e. e ≡ Error.Contradiction → Contradicts (state_of self.old) packet (state_of self.new)) }
-        ensures holds { OnOk result (HoldsMore (state_of self.old) packet (state_of self.new)) }
-        ensures goes_on { OnOk result (IsBlockContradictory (state_of self.old) packet.id.block → ⊥) }
-        ensures keeps { KeepsContradictions (state_of self.old) (state_of self.new) }
-        ensures honest { IfErr result (λ e. IsHonestPacket (state_of self.old) packet → e ≡ Error.OutOfMemory) }
-
-        // From a decoder that stands for a list, one that stands for the longer list.
-        ensures stands { OnOk result (StandsForMore (state_of self.old) packet (state_of self.new)) }
-        ensures answers_late { OnOk result (AnswersLateBlock (state_of self.old) packet (state_of self.new)) }
         ensures leaves_late { IfErr result (λ e. e ≡ Error.OutOfMemory → LeavesBlockLate (state_of self.old) packet (state_of self.new)) }
     {
         Ok(self.add_to_block(packet)?)
@@ -302,28 +287,12 @@ impl Decoder {
     /// Refuses as [`Decoder::add_new_packet`] does. Where memory is refused for the object, the
     /// blocks stay answered, and [`Decoder::get_result`] tries again.
     pub fn decode(&mut self, packet: EncodingPacket) -> Result<Option<Vec<u8>>, Error>
-        ensures refused { IfErr result (λ e. IsPacketRefusal e (packet_refusal (state_of self.old).configuration packet)) }
-        ensures accepted { OnOk result (packet_refusal (state_of self.old).configuration packet ≡ Ok tt) }
-        ensures unchanged { IfErr result (λ e. e ≢ Error.OutOfMemory → e ≢ Error.Contradiction → state_of self.new ≡ state_of self.old) }
-        ensures adds { OnOk result (Adds (state_of self.old) packet (state_of self.new)) }
+        ensures takes { TakesPacket (state_of self.old) packet result (state_of self.new) }
         ensures stops { IfErr result (λ e. e ≡ Error.OutOfMemory → Stops (state_of self.old) packet (state_of self.new)) }
         ensures value { IfOk result (λ r. option_map vec_items r ≡ result_of (state_of self.new)) }
         ensures object { IfOk result (λ r. AnswersObject (state_of self.new) (option_map vec_items r)) }
         ensures nothing_else { IfOk result (λ r. AnswersNothingElse (state_of self.new) (option_map vec_items r)) }
         ensures only_object { IfOk result (λ r. AnswersOnlyObject (state_of self.new) (option_map vec_items r)) }
-        ensures configuration { (state_of self.new).configuration ≡ (state_of self.old).configuration }
-
-        // A contradiction: the packet is recorded, and so is each later one of its block, which is
-        // refused too.
-        ensures contradiction { IfErr result (λ e. e ≡ Error.Contradiction → Contradicts (state_of self.old) packet (state_of self.new)) }
-        ensures holds { OnOk result (HoldsMore (state_of self.old) packet (state_of self.new)) }
-        ensures goes_on { OnOk result (IsBlockContradictory (state_of self.old) packet.id.block → ⊥) }
-        ensures keeps { KeepsContradictions (state_of self.old) (state_of self.new) }
-        ensures honest { IfErr result (λ e. IsHonestPacket (state_of self.old) packet → e ≡ Error.OutOfMemory) }
-
-        // From a decoder that stands for a list, one that stands for the longer list.
-        ensures stands { OnOk result (StandsForMore (state_of self.old) packet (state_of self.new)) }
-        ensures answers_late { OnOk result (AnswersLateBlock (state_of self.old) packet (state_of self.new)) }
         ensures leaves_late { IfErr result (λ e. e ≡ Error.OutOfMemory → LeavesOrAnswersLateBlock (state_of self.old) packet (state_of self.new)) }
     {
         Ok(self.add_and_join(packet)?)

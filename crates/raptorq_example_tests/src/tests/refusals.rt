@@ -69,24 +69,21 @@ fn coders_of_blocks(rt: HostRuntime) -> Result<(), Fail> {
     Ok(())
 }
 
-// Three bytes are no whole symbols of two.
+// Three bytes are no whole symbols of two, and no built-in row has 498 symbols.
 #[test]
-fn block_of_other_bytes(rt: HostRuntime) -> Result<(), Fail> {
+fn blocks_of_other_sizes(rt: HostRuntime) -> Result<(), Fail> {
     let alloc = rt.alloc();
-    let (table, config) = configured(alloc, (0, 2, 1, 1, 1))?;
-    let mut cache = SourceBlockEncodingPlanCache::new(alloc, &table)?;
-    let made = SourceBlockEncoder::new(alloc, 0, &config, &[7; 3], &mut cache);
-    assert!(rt; made == Err(Error::WrongDataLength) && cache.len() == 0);
-    Ok(())
-}
-
-#[test]
-fn blocks_over_the_table(rt: HostRuntime) -> Result<(), Fail> {
-    let alloc = rt.alloc();
+    for (size, length, wanted) in [
+        (2, 3, Error::WrongDataLength),
+        (1, 498, Error::BlockOverTable),
+    ] {
+        let (table, config) = configured(alloc, (0, size, 1, 1, 1))?;
+        let mut cache = SourceBlockEncodingPlanCache::new(alloc, &table)?;
+        let data = vec![in alloc; 7u8; length]?;
+        let made = SourceBlockEncoder::new(alloc, 0, &config, data.as_slice(), &mut cache);
+        assert!(rt; made == Err(wanted) && cache.len() == 0, "{wanted:?}");
+    }
     let (table, config) = configured(alloc, (0, 1, 1, 1, 1))?;
-    let mut cache = SourceBlockEncodingPlanCache::new(alloc, &table)?;
-    let made = SourceBlockEncoder::new(alloc, 0, &config, &[7; 498], &mut cache);
-    assert!(rt; made == Err(Error::BlockOverTable) && cache.len() == 0);
     let made = SourceBlockDecoder::new(alloc, &table, 0, &config, u64::MAX);
     assert!(rt; made == Err(Error::BlockOverTable));
     Ok(())

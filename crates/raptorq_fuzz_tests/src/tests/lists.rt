@@ -70,6 +70,9 @@ struct Round<'a> {
     list: &'a [(EncodingPacket, bool)],
 }
 
+// How a list ended: whether with an answer, or its refusal.
+type Ended = Result<bool, Error>;
+
 // How many lists ended with an answer, and how many with a contradiction.
 #[derive(Debug, Drop)]
 struct Counts {
@@ -86,7 +89,7 @@ impl Counts {
     }
 
     // Counts a list: whether it ended with an answer, or its refusal.
-    fn add(&mut self, ended: Result<bool, Error>) {
+    fn add(&mut self, ended: Ended) {
         match ended {
             Ok(true) => self.answered = self.answered.saturating_add(1),
             Ok(false) => {}
@@ -101,11 +104,7 @@ impl Counts {
 }
 
 // Hands a list to a decoder of the object. Answers how it ended.
-fn object_ends(
-    rt: &impl Abort,
-    alloc: Global,
-    round: &Round<'_>,
-) -> Result<Result<bool, Error>, Error> {
+fn object_ends(rt: &impl Abort, alloc: Global, round: &Round<'_>) -> Result<Ended, Error> {
     let sent = round.sent;
     let mut decoder = Decoder::new(alloc, round.table, sent.config)?;
     decoder.set_sparse_threshold(round.threshold);
@@ -162,11 +161,7 @@ fn block_answer(
 
 // Hands the packets of a list to a decoder of one block, up to the first refused one. Answers how
 // it ended.
-fn block_ends(
-    rt: &impl Abort,
-    alloc: Global,
-    round: &Round<'_>,
-) -> Result<Result<bool, Error>, Error> {
+fn block_ends(rt: &impl Abort, alloc: Global, round: &Round<'_>) -> Result<Ended, Error> {
     let sent = round.sent;
     let length = block_symbols(&sent.config, 0).saturating_mul(u64::from(
         sent.config.symbol_size(),

@@ -54,6 +54,9 @@ where
     Ok((ended, reader.failed().saturating_add(writer.failed())))
 }
 
+// What is received, how the run ends, with how many skipped frames, and what is written.
+type Received<'a> = (&'a [u8], Result<(Outcome, u64), Stop>, &'a [u8]);
+
 // A run over memory ends so, having skipped so many frames, writes this, and meets no failed call.
 fn run_ends(
     rt: &impl Abort,
@@ -68,6 +71,13 @@ fn run_ends(
     assert!(rt; ended == wanted, "{asked:?}, {input:?}: {ended:?}");
     assert_eq!(rt; out.as_slice(), written);
     assert_eq!(rt; failed, 0);
+    Ok(())
+}
+
+fn all_received(rt: &impl Abort, alloc: Global, cases: &[Received<'_>]) -> Result<(), Fail> {
+    for (input, wanted, written) in cases {
+        run_ends(rt, alloc, Job::Receive, input, *wanted, written)?;
+    }
     Ok(())
 }
 
@@ -112,7 +122,7 @@ fn receives(rt: HostRuntime) -> Result<(), Fail> {
     let repeated: [u8; 30] = [
         0, 0, 0, 0, 3, 0, 0, 2, 1, 0, 1, 1, 0, 0, 0, 0, 7, 8, 0, 0, 0, 1, 9, 0, 0, 0, 0, 1, 9, 0,
     ];
-    let cases: [(&[u8], Result<(Outcome, u64), Stop>, &[u8]); 6] = [
+    let cases: [Received<'_>; 6] = [
         (&STREAM, Ok((Outcome::Written, 0)), &OBJECT),
         (&shuffled, Ok((Outcome::Written, 0)), &OBJECT),
         (&repeated, Ok((Outcome::Written, 0)), &OBJECT),
@@ -124,10 +134,7 @@ fn receives(rt: HostRuntime) -> Result<(), Fail> {
         (&STREAM[..12], Ok((Outcome::Incomplete, 0)), &[]),
         (&STREAM[..18], Ok((Outcome::Incomplete, 0)), &[]),
     ];
-    for (input, wanted, written) in cases {
-        run_ends(&rt, rt.alloc(), Job::Receive, input, wanted, written)?;
-    }
-    Ok(())
+    all_received(&rt, rt.alloc(), &cases)
 }
 
 // Frames of a block that the object doesn't have, and a last frame that isn't whole.
@@ -141,7 +148,7 @@ fn skips(rt: HostRuntime) -> Result<(), Fail> {
         0, 0, 0, 0, 3, 0, 0, 2, 1, 0, 1, 1, 0, 0, 0, 0, 7, 8, 0, 0, 0, 1, 9, 0, 0,
     ];
     let other_block: [u8; 18] = [0, 0, 0, 0, 3, 0, 0, 2, 1, 0, 1, 1, 1, 0, 0, 0, 7, 8];
-    let cases: [(&[u8], Result<(Outcome, u64), Stop>, &[u8]); 6] = [
+    let cases: [Received<'_>; 6] = [
         (&damaged, Ok((Outcome::Written, 3)), &OBJECT),
         (&longer, Ok((Outcome::Written, 1)), &OBJECT),
         (&STREAM[..15], Ok((Outcome::Incomplete, 1)), &[]),
@@ -149,10 +156,7 @@ fn skips(rt: HostRuntime) -> Result<(), Fail> {
         (&STREAM[..23], Ok((Outcome::Incomplete, 1)), &[]),
         (&other_block, Ok((Outcome::Incomplete, 1)), &[]),
     ];
-    for (input, wanted, written) in cases {
-        run_ends(&rt, rt.alloc(), Job::Receive, input, wanted, written)?;
-    }
-    Ok(())
+    all_received(&rt, rt.alloc(), &cases)
 }
 
 // Objects of two blocks: one in packets, one of no bytes, the longest ones and a longer one.
@@ -164,7 +168,7 @@ fn receives_two_blocks(rt: HostRuntime) -> Result<(), Fail> {
     let empty: [u8; 12] = [0, 0, 0, 0, 0, 0, 0, 2, 2, 0, 1, 1];
     let longest: [u8; 12] = [0, 0, 0, 3, 226, 0, 0, 1, 2, 0, 1, 1];
     let longer: [u8; 12] = [0, 0, 0, 3, 227, 0, 0, 1, 2, 0, 1, 1];
-    let cases: [(&[u8], Result<(Outcome, u64), Stop>, &[u8]); 6] = [
+    let cases: [Received<'_>; 6] = [
         (&packets[..24], Ok((Outcome::Written, 0)), &OBJECT),
         (&packets[..18], Ok((Outcome::Incomplete, 0)), &[]),
         (&packets, Ok((Outcome::Written, 1)), &OBJECT),
@@ -172,10 +176,7 @@ fn receives_two_blocks(rt: HostRuntime) -> Result<(), Fail> {
         (&longest, Ok((Outcome::Incomplete, 0)), &[]),
         (&longer, Err(Stop::Refused(Error::BlockOverTable)), &[]),
     ];
-    for (input, wanted, written) in cases {
-        run_ends(&rt, rt.alloc(), Job::Receive, input, wanted, written)?;
-    }
-    Ok(())
+    all_received(&rt, rt.alloc(), &cases)
 }
 
 // Of one source symbol: repair symbol 133 is zero, whatever that is.
@@ -187,15 +188,12 @@ fn contradicts(rt: HostRuntime) -> Result<(), Fail> {
     let forged: [u8; 22] = [
         0, 0, 0, 0, 1, 0, 0, 1, 1, 0, 1, 1, 0, 0, 0, 133, 1, 0, 0, 0, 0, 7,
     ];
-    let cases: [(&[u8], Result<(Outcome, u64), Stop>, &[u8]); 3] = [
+    let cases: [Received<'_>; 3] = [
         (&fitting, Ok((Outcome::Written, 0)), &[7]),
         (&forged, Err(Stop::Refused(Error::Contradiction)), &[]),
         (&forged[..17], Ok((Outcome::Incomplete, 0)), &[]),
     ];
-    for (input, wanted, written) in cases {
-        run_ends(&rt, rt.alloc(), Job::Receive, input, wanted, written)?;
-    }
-    Ok(())
+    all_received(&rt, rt.alloc(), &cases)
 }
 
 #[test]

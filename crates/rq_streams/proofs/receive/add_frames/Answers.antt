@@ -25,7 +25,7 @@ loop-frame-preserved-in-Continue-branch-3 c =
     let at = (goal.at.loop-frame-preserved-in-Continue-branch-3 c).In-Some-2 in
     let kept_so = c.loop-frame.invariant in
     let step = c.in-Some.ensures.steps in
-    let added = c.in_ok-add_new_packet-in-Some-2.ensures in
+    let added = c.in_ok-add_new_packet-in-Some-2.ensures.takes in
     record {
       wide = kept_so.wide;
       size = step.0 ∙ kept_so.size;
@@ -51,14 +51,14 @@ returns-in_err-add_new_packet-in-Some-2-clause-stops c =
     let step = c.in-Some.ensures.steps in
     let e = c.in_err-add_new_packet-in-Some-2.field-0.0 in
     let packet = c.in-Some-2.packet in
-    let refused : (e ≡ OutOfMemory) ⊎ (e ≡ Contradiction) = subst (IsPacketRefusal e) (ap (λ k. packet_refusal k packet) kept_so.configuration ∙ passes at) c.in_err-add_new_packet-in-Some-2.ensures.refused in
+    let refused : (e ≡ OutOfMemory) ⊎ (e ≡ Contradiction) = subst (IsPacketRefusal e) (ap (λ k. packet_refusal k packet) kept_so.configuration ∙ passes at) c.in_err-add_new_packet-in-Some-2.ensures.takes.refused in
     let p = err_from_is_err_and c.from_residual-in_err-add_new_packet-in-Some-2.result c.from_residual-in_err-add_new_packet-in-Some-2.ensures.1 in
     rw (p.1, p.2) (elim refused [
       | inl memory ↦ inl memory
       | inr contradiction ↦ inr (
         contradiction,
         contradicts_frames _ _ _ _ c.in-Some.frame.now _ _ _ _ kept_so.size step.1 kept_so.taken packet _ kept_so.configuration (kept at) (passes at)
-            (c.in_err-add_new_packet-in-Some-2.ensures.contradiction contradiction),
+            (c.in_err-add_new_packet-in-Some-2.ensures.takes.contradiction contradiction),
       )
     ])
 
@@ -67,7 +67,7 @@ returns-in_err-add_new_packet-in-Some-2-clause-honest c =
     let at = (goal.at.returns-in_err-add_new_packet-in-Some-2-clause-honest c).In-Some-2 in
     let kept_so = c.loop-frame.invariant in
     let p = err_from_is_err_and c.from_residual-in_err-add_new_packet-in-Some-2.result c.from_residual-in_err-add_new_packet-in-Some-2.ensures.1 in
-    rw (p.1, p.2) (λ table object st honest. c.in_err-add_new_packet-in-Some-2.ensures.honest
+    rw (p.1, p.2) (λ table object st honest. c.in_err-add_new_packet-in-Some-2.ensures.takes.honest
     (honest_packet _ _ _ _ c.in-Some.frame.now _ _ _ _ kept_so.size c.in-Some.ensures.steps.1 kept_so.taken c.in-Some-2.packet kept_so.configuration (kept at) table object st honest))
 
 pub returns-clause-skipped : goal.returns-clause-skipped

@@ -49,13 +49,13 @@ loop-step-preserved c =
     let step = c.in-Some.step in
     let left = into_iter_items c.next.new.self in
     record {
-      configuration = c.in_ok-add_new_packet.ensures.configuration ∙ same at;
+      configuration = c.in_ok-add_new_packet.ensures.takes.configuration ∙ same at;
       whole = next_whole c.args.steps.items c.loop-step.yielded (into_iter_items c.loop-step.step-iterator) left step kept.whole (next at);
       passed = ap (first_refusal (packet_refusal k)) (packets_of-push c.loop-step.yielded step)
-          ∙ one_passes k (packets_of c.loop-step.yielded) step.1 kept.passed (subst (λ d. packet_refusal d step.1 ≡ Ok tt) (same at) c.in_ok-add_new_packet.ensures.accepted);
-      holds = subst (λ ps. HoldsRun table ps (state_of c.add_new_packet.new.self)) (sym (packets_of-push c.loop-step.yielded step)) (c.in_ok-add_new_packet.ensures.holds table (packets_of c.loop-step.yielded) (holds at));
+          ∙ one_passes k (packets_of c.loop-step.yielded) step.1 kept.passed (subst (λ d. packet_refusal d step.1 ≡ Ok tt) (same at) c.in_ok-add_new_packet.ensures.takes.accepted);
+      holds = subst (λ ps. HoldsRun table ps (state_of c.add_new_packet.new.self)) (sym (packets_of-push c.loop-step.yielded step)) (c.in_ok-add_new_packet.ensures.takes.holds table (packets_of c.loop-step.yielded) (holds at));
       stands = λ object run. subst (λ ps. StandsFor table object ps (state_of c.add_new_packet.new.self)) (sym (packets_of-push c.loop-step.yielded step))
-          (c.in_ok-add_new_packet.ensures.stands table object (packets_of c.loop-step.yielded) (stands at object run)
+          (c.in_ok-add_new_packet.ensures.takes.stands table object (packets_of c.loop-step.yielded) (stands at object run)
           (step_honest table k (state_of c.set_sparse_threshold.new.self).configuration object c.args.steps.items c.loop-step.yielded left step (same at) (whole at) run));
     }
 
@@ -64,7 +64,7 @@ returns-in_err-add_new_packet-clause-refused c =
     let at = (goal.at.returns-in_err-add_new_packet-clause-refused c).After-set_sparse_threshold in
     let e = c.in_err-add_new_packet.field-0.0 in
     let p = err_from_is_err_and c.from_residual-in_err-add_new_packet.result c.from_residual-in_err-add_new_packet.ensures.1 in
-    rw (p.1, p.2) (λ object run. subst (IsRefusal e) (sym c.in_ok-decoder.ensures.refused) (c.in_err-add_new_packet.ensures.honest (record {
+    rw (p.1, p.2) (λ object run. subst (IsRefusal e) (sym c.in_ok-decoder.ensures.refused) (c.in_err-add_new_packet.ensures.takes.honest (record {
       table = c.args.table.now;
       object = object;
       packets = packets_of c.loop-step.yielded;
@@ -114,7 +114,7 @@ module _ (c : In_err-add_new_packet) where
         block = p.id.block;
         below = within;
         contradictory = subst (λ (d : Configuration). IsContradictory (held_after table d p.id.block (done ++ p ∷ []))) (same at)
-            (contradicted_after table done old p (state_of c.add_new_packet.new.self) (subst (λ (d : Configuration). p.id.block < d.source_blocks) (sym (same at)) within) (holds at) (c.in_err-add_new_packet.ensures.contradiction is));
+            (contradicted_after table done old p (state_of c.add_new_packet.new.self) (subst (λ (d : Configuration). p.id.block < d.source_blocks) (sym (same at)) within) (holds at) (c.in_err-add_new_packet.ensures.takes.contradiction is));
       }
 
 pub returns-in_err-add_new_packet-clause-in_order : goal.returns-in_err-add_new_packet-clause-in_order
@@ -125,7 +125,7 @@ returns-in_err-add_new_packet-clause-in_order c =
     let e = c.in_err-add_new_packet.field-0.0 in
     let p = err_from_is_err_and c.from_residual-in_err-add_new_packet.result c.from_residual-in_err-add_new_packet.ensures.1 in
     rw (p.1, p.2) (run_stops c.args.table.now k c.in_ok-decoder.ensures.refused (Option (Vec ℕ Global)) (packets_of c.args.steps.items) (packets_of c.loop-step.yielded) (packets_of (into_iter_items c.next.new.self)) packet e (around (at here)) c.loop-step.invariant.passed
-    (subst (λ d. IsPacketRefusal e (packet_refusal d packet)) (same (at here)) c.in_err-add_new_packet.ensures.refused) (contradicted here))
+    (subst (λ d. IsPacketRefusal e (packet_refusal d packet)) (same (at here)) c.in_err-add_new_packet.ensures.takes.refused) (contradicted here))
 
 pub returns-clause-in_order : goal.returns-clause-in_order
 returns-clause-in_order c =

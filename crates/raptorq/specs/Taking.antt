@@ -1,0 +1,27 @@
+-- What a decoder of an object does with a packet, whoever sent it.
+use Rattle.std.specs.Prelude.{◌≡◌, ◌≢◌, Result, Ok, Err, IfErr, OnOk}
+use Rattle.rq_bytes.specs.declared.error.Error.{Error}
+use Rattle.rq_bytes.specs.declared.error.Error.TheVariants.{OutOfMemory, Contradiction}
+use Rattle.rq_standard.specs.Packet.{Packet}
+use Rattle.rq_standard.specs.Standing.{State, Adds, Contradicts, IsBlockContradictory, KeepsContradictions, IsHonestPacket, HoldsMore, StandsForMore, AnswersLateBlock}
+use Rattle.raptorq.specs.Refused.{packet_refusal, IsPacketRefusal}
+
+pub record TakesPacket {X : Type 0} (old : State) (packet : Packet) (result : Result X Error) (new : State) : Type 0 where
+  -- a refusal is the tests', in their order, or comes where these refuse nothing
+  pub refused : IfErr result (λ e. IsPacketRefusal e (packet_refusal old.configuration packet))
+  pub accepted : OnOk result (packet_refusal old.configuration packet ≡ Ok tt)
+  -- a refusal by the tests changes nothing
+  pub unchanged : IfErr result (λ e. e ≢ OutOfMemory → e ≢ Contradiction → new ≡ old)
+  -- what is held of its block, and whether that has an answer then
+  pub adds : OnOk result (Adds old packet new)
+  pub configuration : new.configuration ≡ old.configuration
+  -- a contradiction: the packet is recorded, and so is each later one of its block, which is refused too
+  pub contradiction : IfErr result (λ e. e ≡ Contradiction → Contradicts old packet new)
+  pub holds : OnOk result (HoldsMore old packet new)
+  pub goes_on : OnOk result (IsBlockContradictory old packet.id.block → ⊥)
+  pub keeps : KeepsContradictions old new
+  -- a packet of the object for whose packets the decoder stands is refused for want of memory alone
+  pub honest : IfErr result (λ e. IsHonestPacket old packet → e ≡ OutOfMemory)
+  -- from a decoder that stands for a list, one that stands for the longer list
+  pub stands : OnOk result (StandsForMore old packet new)
+  pub answers_late : OnOk result (AnswersLateBlock old packet new)
