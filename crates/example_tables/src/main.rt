@@ -65,6 +65,6 @@ fn send(rt: &HostRuntime, table: &SystematicTable) -> Result<()> {
         }
     }
     let equal = answer.is_some_and(|bytes| bytes == object);
-    println!(rt; "1002 symbols in a block, each tenth packet lost; it came back: {equal}")?;
+    println!(rt; "1002 symbols, each tenth packet lost; it came back: {equal}")?;
     Ok(())
 }
