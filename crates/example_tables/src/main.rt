@@ -1,5 +1,6 @@
 //! Blocks of more than 497 symbols: the further rows of RFC 6330's table stand in a file, whose name
-//! is the program's argument, and a table that has them is handed to the encoder and the decoder.
+//! is the program's argument (`rt run -- data/rows.txt`), and a table that has them is handed to the
+//! encoder and the decoder.
 #![tactic(auto)]
 
 use anyhow::{Context, Result, bail};
