@@ -46,6 +46,10 @@ fn defaults(rt: HostRuntime) -> Result<(), Fail> {
     let cases = [
         ((126735, 1), Ok((1, 255, 1, 1))),
         ((126736, 1), Err(Error::TooManyBlocks)),
+        ((162220800, 1280), Ok((1280, 255, 1, 8))),
+        ((162220801, 1280), Err(Error::TooManyBlocks)),
+        ((8304691080, 65535), Ok((65528, 255, 4, 8))),
+        ((8304691081, 65535), Err(Error::TooManyBlocks)),
         ((1, 0), Err(Error::PacketSizeZero)),
         ((0, 1), Err(Error::TransferLengthZero)),
     ];
