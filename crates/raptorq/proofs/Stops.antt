@@ -127,7 +127,7 @@ takes_added old p x new aligned passes same adds = record {
   answers_late = answers_late p old new aligned adds;
 }
 
-pub takes_stopped : {X : Type 0} (old : State) (p : Packet) (at : Stopped) (new : State) → StopsAsTested {X = Unit {0}} (Err at) (packet_refusal old.configuration p) → new.configuration ≡ old.configuration → AddsAndJoinsOrStops old p (Err at) new → TakesPacket {X} old p (Err (refusal_of at)) new
+pub takes_stopped : {X : Type 0} (old : State) (p : Packet) (at : Stopped) (new : State) → StopsAsTested {X = Unit {0}} (Err at) (packet_refusal old.configuration p) → new.configuration ≡ old.configuration → AddsAndJoinsOrStops old p (Err at) new → TakesPacket {X = X} old p (Err (refusal_of at)) new
 takes_stopped old p at new tested same so = record {
   refused = refused_as_tested at (packet_refusal old.configuration p) tested;
   accepted = tt;

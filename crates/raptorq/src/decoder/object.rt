@@ -114,7 +114,7 @@ pub struct Decoder {
 
 impl Decoder {
     ghost use Rattle.rq_standard.specs.Differences.{AreUnansweredDetermined, IsDifference, IsNoneWhereAnswered, MakesOthersFit};
-    ghost use Rattle.rq_standard.specs.Standing.{IsNewState, Stops, StopsEarly, HoldsRun, result_of};
+    ghost use Rattle.rq_standard.specs.Standing.{IsNewState, Stops, StopsEarly, IsBlockContradictory, HoldsRun, result_of};
     ghost use Rattle.rq_standard.specs.Standing.{StandsForNone, LeavesBlockLate, LeavesOrAnswersLateBlock, AnswersObject, AnswersNothingElse, AnswersOnlyObject};
     ghost use Rattle.raptorq.specs.Taking.{TakesPacket};
     ghost use Rattle.raptorq.specs.Decoding.{shown};
