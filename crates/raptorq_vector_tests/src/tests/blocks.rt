@@ -28,12 +28,12 @@ fn packets(
     Encoder::new(alloc, table, object.as_slice(), config)?.get_encoded_packets(repair)
 }
 
-// The first number of symbols whose packets are other ones.
-fn first_difference(alloc: Global) -> Result<Option<u32>, Error> {
+// The first number of symbols from `start` on and before `end` whose packets are other ones.
+fn first_difference(alloc: Global, start: usize, end: usize) -> Result<Option<usize>, Error> {
     let table = SystematicTable::built_in(alloc)?;
-    for (symbols, wanted) in (1..498).zip(DIGESTS) {
-        let packets = packets(alloc, &table, symbols, 5)?;
-        if digest(packets.as_slice()) != wanted {
+    for symbols in start..end.min(498) {
+        let packets = packets(alloc, &table, symbols as u32, 5)?;
+        if symbols == 0 || digest(packets.as_slice()) != DIGESTS[symbols - 1] {
             return Ok(Some(symbols));
         }
     }
@@ -41,8 +41,26 @@ fn first_difference(alloc: Global) -> Result<Option<u32>, Error> {
 }
 
 #[test]
-fn packets_of_blocks(rt: HostRuntime) -> Result<(), Fail> {
-    assert_eq!(rt; first_difference(rt.alloc())?, None);
+fn packets_of_small_blocks(rt: HostRuntime) -> Result<(), Fail> {
+    assert_eq!(rt; first_difference(rt.alloc(), 1, 250)?, None);
+    Ok(())
+}
+
+#[test]
+fn packets_of_middle_blocks(rt: HostRuntime) -> Result<(), Fail> {
+    assert_eq!(rt; first_difference(rt.alloc(), 250, 350)?, None);
+    Ok(())
+}
+
+#[test]
+fn packets_of_large_blocks(rt: HostRuntime) -> Result<(), Fail> {
+    assert_eq!(rt; first_difference(rt.alloc(), 350, 430)?, None);
+    Ok(())
+}
+
+#[test]
+fn packets_of_the_largest_blocks(rt: HostRuntime) -> Result<(), Fail> {
+    assert_eq!(rt; first_difference(rt.alloc(), 430, 498)?, None);
     Ok(())
 }
 
