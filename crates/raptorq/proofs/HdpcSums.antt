@@ -1,21 +1,31 @@
 -- The sums of the HDPC equations over intermediate symbols, by Horner's rule.
-use Rattle.std.proofs.Common.{◌≡◌, ◌≢◌, ◌↔◌, ℕ, suc, ◌+◌, ◌-◌, ◌<◌, ◌≤◌, Bool, true, false, ◌||◌, eqb, List, [], length, map, replicate, get_or, set, None, refl, sym, ap, ◌∙◌, arith, subst, inl, inr}
-use Rattle.std.proofs.lemmas.Bool.{cases_eq, eq-eqb, ne_eqb}
-use Rattle.std.proofs.lemmas.List.{length-set, length-replicate, ext_get_or, get_or-set_same, get_or-set_other}
+use Rattle.std.proofs.Common.{◌≡◌, ◌≢◌, ◌↔◌, ℕ, suc, ◌+◌, ◌-◌, ◌<◌, ◌≤◌, Bool, true, false, ◌||◌, eqb, List, [], ◌∷◌, ◌++◌, Result, Ok, Err, IfOk, length, map, replicate, get_or, set, None, refl, sym, ap, ◌∙◌, arith, subst, inl, inr}
+use Rattle.std.proofs.lemmas.Bool.{cases_eq, cases_lt, eq-eqb, ne_eqb}
+use Rattle.std.proofs.lemmas.Iterator.{YieldsList-from_range, items_from_drains}
+use Rattle.std.proofs.lemmas.List.{length-append, length-map, length-set, length-replicate, map-id, ext_get_or, get_or-map, get_or-set_same, get_or-set_other, get_or_append_left}
+use Rattle.std.proofs.lemmas.List.FromFn.{get_or-range_with_len, length-range_with_len}
+use Rattle.std.proofs.Math.Seq.{get_or-append_seam}
+use Rattle.std.proofs.iter.Yields.{nat_range_steps}
+use Rattle.std.specs.Iterator.{DrainsIf}
+use Rattle.std.specs.List.{range_with_len}
 use Rattle.rq_algebra.specs.Field.{Field}
 use Rattle.rq_algebra.specs.FromLaws.{field_mul_is}
-use Rattle.rq_algebra.specs.Operations.{AddAssign, Fma, step, meant_at}
+use Rattle.rq_algebra.specs.Operations.{AddAssign, Fma, IsAllowed, IsPlace, step, meant_at}
 use Rattle.rq_algebra.specs.Symbols.{IsSymbolColumn, add_symbols, slice_at}
 use Rattle.rq_algebra.specs.Systems.{sum_below, dot, at}
 use Rattle.rq_algebra.proofs.Placewise.{at-zeros, add_symbols_at, scale_at}
 use Rattle.rq_algebra.proofs.Sums.{add_mul, add_zero, zero_mul, dot-suc, dot_one, dot_split}
 use Rattle.rq_algebra.proofs.SymbolSums.{symbol_elements}
-use Rattle.rq_bytes.specs.SymbolSlab.{Slab, after, symbol_in}
+use Rattle.rq_bytes.specs.SymbolSlab.{Slab, Allows, HasPlace, after, slab_of, symbol_in}
+use Rattle.rq_bytes.specs.Refusals.{IsAnswer}
+use Rattle.rq_bytes.specs.declared.error.Error.{Error}
 use Rattle.rq_standard.specs.declared.row.TableRow.{TableRow}
 use Rattle.rq_standard.specs.OctetField.{octets, octet_laws}
 use Rattle.rq_standard.specs.Octets.{octet_mul, octet_inverse, octet_power}
+use Rattle.rq_standard.specs.Rows.{row_sum, row_multiple}
 use Rattle.rq_standard.specs.TableRows.{intermediate_symbols}
 use Rattle.rq_standard.specs.Equations.{before_hdpc, hdpc_coefficient, mt, one_if}
+use Rattle.rq_standard.proofs.RowSymbols.{add_symbols-rows, scale-rows}
 use Rattle.rq_standard.proofs.HdpcLaws.{hdpc-lt, hdpc-last, hdpc-own, hdpc-step}
 use Rattle.raptorq.specs.BlockSolutions.{SolvesHdpc}
 use Rattle.raptorq.specs.HdpcSums.{AreHdpcSums, AreZeroWithLast}
@@ -63,6 +73,52 @@ pub multiple_added : (old new : Slab) (dest src scalar : ℕ) → old.order ≡ 
 unfolding step
 multiple_added old new dest src scalar plain below is = written old new dest _ plain below is
 
+pub place_of_plain : (slab : Slab) (k : ℕ) → slab.order ≡ None → k < length slab.values → HasPlace slab k
+place_of_plain slab k plain below = subst (λ o. IsPlace (length slab.values) o k) (sym plain) below
+
+pub allowed : (slab : Slab) (dest src : ℕ) → slab.order ≡ None → dest < length slab.values → src < length slab.values → src ≢ dest → Allows slab (AddAssign dest src)
+allowed slab dest src plain dest_below src_below apart = subst (λ o. IsAllowed (length slab.values) o (AddAssign dest src)) (sym plain) (dest_below, src_below, apart)
+
+-- an octet of a symbol to which a multiple of another one was added, both as they were in a first slab
+pub multiple_at : (first old new : Slab) (dest src scalar : ℕ) → Writes old new dest (add_symbols octets (symbol_in old dest) (map (octets.mul scalar) (symbol_in old src))) → symbol_in old dest ≡ symbol_in first dest → symbol_in old src ≡ symbol_in first src
+    → (p : ℕ) → at (symbol_in new dest) p ≡ octets.add (at (symbol_in first dest) p) (octets.mul scalar (at (symbol_in first src) p))
+multiple_at first old new dest src scalar write same_dest same_src p =
+    ap (λ xs. at xs p) write.here ∙ add_symbols_at octets p (symbol_in old dest) (map (octets.mul scalar) (symbol_in old src))
+    ∙ ap (octets.add (at (symbol_in old dest) p)) (scale_at octets p scalar (symbol_in old src))
+    ∙ ap (λ xs. octets.add (at xs p) (octets.mul scalar (at (symbol_in old src) p))) same_dest
+    ∙ ap (λ xs. octets.add (at (symbol_in first dest) p) (octets.mul scalar (at xs p))) same_src
+
+-- an octet of a row that was doubled and to which another one was added
+pub doubled_at : (old doubled other new : List ℕ) → doubled ≡ row_multiple 2 old → new ≡ row_sum doubled other → length other ≡ length doubled → (p : ℕ) → at new p ≡ octets.add (octets.mul 2 (at old p)) (at other p)
+doubled_at old doubled other new double sum long p =
+    let is : doubled ≡ map (octets.mul 2) old = double ∙ sym (scale-rows 2 old (omega arith)) in
+    ap (λ xs. at xs p) (sum ∙ sym (add_symbols-rows doubled other long)) ∙ add_symbols_at octets p doubled other
+    ∙ ap (λ x. octets.add x (at other p)) (ap (λ xs. at xs p) is ∙ scale_at octets p 2 old)
+
+-- the numbers that a range gives
+pub range_numbers : (start count end : ℕ) (xs : List ℕ) → end ≡ start + count → DrainsIf nat_range_steps (Unit {0}) (record { start = start; end = end }) xs → xs ≡ range_with_len start count
+range_numbers start count end xs ends drained = sym (map-id xs) ∙ items_from_drains xs drained (YieldsList-from_range start end count refl (omega arith))
+
+-- the places of the HDPC symbols, and place 0, are among those of all symbols
+pub places_below : (row : TableRow) (numbers places : List ℕ) → numbers ≡ range_with_len (before_hdpc row) row.hdpc_symbols → places ≡ numbers ++ 0 ∷ [] → (k d : ℕ) → 0 < row.hdpc_symbols → k < length places → get_or places k d < intermediate_symbols row
+places_below row numbers places are is k d some lt =
+    let few : length numbers ≡ row.hdpc_symbols = ap length are ∙ length-range_with_len (before_hdpc row) row.hdpc_symbols in
+    let long : length places ≡ row.hdpc_symbols + 1 = ap length is ∙ length-append numbers (0 ∷ []) ∙ omega (arith, few) in
+    elim (cases_lt k row.hdpc_symbols) [
+      | inl within ↦
+          let place : get_or places k d ≡ before_hdpc row + k = ap (λ xs. get_or xs k d) is ∙ get_or_append_left numbers (0 ∷ []) d k (omega (arith, few)) ∙ ap (λ xs. get_or xs k d) are ∙ get_or-range_with_len (before_hdpc row) row.hdpc_symbols k d within in
+          omega (arith, place)
+      | inr past ↦
+          let last : k ≡ length numbers = omega (arith, few, long) in
+          let place : get_or places k d ≡ 0 = ap (λ xs. get_or xs k d) is ∙ ap (λ n. get_or (numbers ++ 0 ∷ []) n d) last ∙ get_or-append_seam numbers 0 [] d in
+          omega (arith, place)
+    ]
+
+-- what is answered, where it is
+pub answered : (result : Result Slab Error) (slab : Slab) (P : Slab → Type 0) → IsAnswer (λ (s : Slab). s) result (Ok slab) → ((s : Slab) → s ≡ slab → P s) → IfOk result P
+answered (Ok s) slab P is all = all s (cc is)
+answered (Err e) slab P is all = tt
+
 -- ---- the sums, column by column
 
 module _ (row : TableRow) (column : ℕ → List ℕ) (size : ℕ) where
@@ -84,9 +140,22 @@ module _ (row : TableRow) (column : ℕ → List ℕ) (size : ℕ) where
         ∙ ap (octets.add (at (column (before_hdpc row + h)) p)) (sym one);
   }
 
+  -- and so they are gathered
+  pub gathered_sums : (slab gathered : Slab) (numbers : List ℕ) → symbol_in slab ≡ column → numbers ≡ range_with_len (before_hdpc row) row.hdpc_symbols → gathered ≡ slab_of size (map (symbol_in slab) (numbers ++ 0 ∷ []))
+      → ((p : ℕ) → at (column 0) p < octets.size) → AreHdpcSums row column size 0 gathered
+  gathered_sums slab gathered numbers reads are is below =
+      let places = numbers ++ 0 ∷ [] in
+      let few : length numbers ≡ row.hdpc_symbols = ap length are ∙ length-range_with_len (before_hdpc row) row.hdpc_symbols in
+      let long : length places ≡ row.hdpc_symbols + 1 = length-append numbers (0 ∷ []) ∙ omega (arith, few) in
+      let reading : (k i : ℕ) → k < row.hdpc_symbols + 1 → get_or places k 0 ≡ i → symbol_in gathered k ≡ column i =
+      λ k i lt place. ap (λ (s : Slab). symbol_in s k) is ∙ get_or-map (symbol_in slab) places k 0 [] (omega (arith, long)) ∙ ap (symbol_in slab) place ∙ ap (λ (f : ℕ → List ℕ). f i) reads in
+      first_sums gathered (ap (λ (s : Slab). s.order) is) (ap (λ (s : Slab). s.symbol_size) is) (ap (λ (s : Slab). length s.values) is ∙ length-map places (symbol_in slab) ∙ long)
+      (λ h lt. reading h (before_hdpc row + h) (omega arith) (get_or_append_left numbers (0 ∷ []) 0 h (omega (arith, few)) ∙ ap (λ xs. get_or xs h 0) are ∙ get_or-range_with_len (before_hdpc row) row.hdpc_symbols h 0 lt))
+      (reading row.hdpc_symbols 0 (omega arith) (ap (λ k. get_or places k 0) (sym few) ∙ get_or-append_seam numbers 0 [] 0)) below
+
   module _ (n first second : ℕ) (more : n + 1 < before_hdpc row) (first_below : first < row.hdpc_symbols) (second_below : second < row.hdpc_symbols) (apart : first ≢ second) (ones : (i : ℕ) → mt row i n ≡ one_if (eqb i first || eqb i second)) (s0 s1 s2 s3 : Slab) (new : List ℕ)
-    (so : AreHdpcSums row column size n s0) (w1 : Writes s0 s1 first (add_symbols octets (symbol_in s0 first) (symbol_in s0 row.hdpc_symbols))) (w2 : Writes s1 s2 second (add_symbols octets (symbol_in s1 second) (symbol_in s1 row.hdpc_symbols))) (w3 : Writes s2 s3 row.hdpc_symbols new)
-    (doubled : (p : ℕ) → at new p ≡ octets.add (octets.mul 2 (at (symbol_in s2 row.hdpc_symbols) p)) (at (column (n + 1)) p)) (below : (p : ℕ) → at (column (n + 1)) p < octets.size) where
+      (so : AreHdpcSums row column size n s0) (w1 : Writes s0 s1 first (add_symbols octets (symbol_in s0 first) (symbol_in s0 row.hdpc_symbols))) (w2 : Writes s1 s2 second (add_symbols octets (symbol_in s1 second) (symbol_in s1 row.hdpc_symbols))) (w3 : Writes s2 s3 row.hdpc_symbols new)
+      (doubled : (p : ℕ) → at new p ≡ octets.add (octets.mul 2 (at (symbol_in s2 row.hdpc_symbols) p)) (at (column (n + 1)) p)) (below : (p : ℕ) → at (column (n + 1)) p < octets.size) where
     abbrev height : ℕ
     height = row.hdpc_symbols
 

@@ -63,11 +63,7 @@ fn solves_hdpc(alloc: Global, row: &TableRow, intermediate: &SymbolSlab) -> Resu
 }
 
 // The HDPC symbols, with which the sums of their equations begin, and behind them symbol 0.
-fn first_sums(
-    alloc: Global,
-    row: &TableRow,
-    intermediate: &SymbolSlab,
-) -> Result<SymbolSlab, Error>
+fn first_sums(alloc: Global, row: &TableRow, intermediate: &SymbolSlab) -> Result<SymbolSlab, Error>
     requires checked { IsChecked row.now }
     requires enough { intermediate_symbols row.now ≤ length (symbols_in intermediate.now) }
     requires symbols { IsSymbolColumn octets intermediate.now.symbol_size (intermediate_symbols row.now) (symbol_in intermediate.now) }
