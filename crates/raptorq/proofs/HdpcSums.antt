@@ -1,5 +1,5 @@
 -- The sums of the HDPC equations over intermediate symbols, by Horner's rule.
-use Rattle.std.proofs.Common.{◌≡◌, ◌≢◌, ◌↔◌, ℕ, suc, ◌+◌, ◌-◌, ◌<◌, ◌≤◌, Bool, true, false, ◌||◌, eqb, List, [], ◌∷◌, ◌++◌, Result, Ok, Err, IfOk, length, map, replicate, get_or, set, None, refl, sym, ap, ◌∙◌, arith, subst, inl, inr}
+use Rattle.std.proofs.Common.{◌≡◌, ◌≢◌, ◌↔◌, ℕ, suc, ◌+◌, ◌-◌, ◌<◌, ◌||◌, eqb, List, [], ◌∷◌, ◌++◌, Result, Ok, Err, IfOk, length, map, replicate, get_or, set, None, refl, sym, ap, ◌∙◌, arith, subst, inl, inr}
 use Rattle.std.proofs.lemmas.Bool.{cases_eq, cases_lt, eq-eqb, ne_eqb}
 use Rattle.std.proofs.lemmas.Iterator.{YieldsList-from_range, items_from_drains}
 use Rattle.std.proofs.lemmas.List.{length-append, length-map, length-set, length-replicate, map-id, ext_get_or, get_or-map, get_or-set_same, get_or-set_other, get_or_append_left}

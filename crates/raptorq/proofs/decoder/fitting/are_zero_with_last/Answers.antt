@@ -1,10 +1,8 @@
-use Rattle.std.proofs.Common.{◌≡◌, ◌≢◌, ℕ, ◌+◌, ◌<◌, ◌≤◌, List, length, map, replicate, refl, sym, ap, ◌∙◌, arith, below_more, subst}
-use Rattle.rq_algebra.specs.Symbols.{add_symbols}
+use Rattle.std.proofs.Common.{◌≡◌, ℕ, sym, ap, ◌∙◌, arith, below_more, subst}
 use Rattle.rq_algebra.specs.Systems.{at}
-use Rattle.rq_bytes.specs.SymbolSlab.{HasPlace, symbol_in}
+use Rattle.rq_bytes.specs.SymbolSlab.{symbol_in}
 use Rattle.rq_standard.specs.OctetField.{octets}
-use Rattle.rq_standard.specs.Octets.{octet_power}
-use Rattle.raptorq.proofs.HdpcSums.{Writes, multiple_added, multiple_at, place_of_plain, zeros_at, zeros_from}
+use Rattle.raptorq.proofs.HdpcSums.{multiple_added, multiple_at, place_of_plain, zeros_at, zeros_from}
 use Rattle.raptorq.proofs.decoder.fitting.are_zero_with_last.Goals as goal
 
 pub get-requires : goal.get-requires

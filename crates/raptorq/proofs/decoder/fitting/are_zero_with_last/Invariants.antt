@@ -3,7 +3,6 @@ use Rattle.rq_algebra.specs.Systems.{at}
 use Rattle.rq_bytes.specs.SymbolSlab.{symbol_in}
 use Rattle.rq_standard.specs.OctetField.{octets}
 use Rattle.rq_standard.specs.Octets.{octet_power}
-use Rattle.raptorq.specs.HdpcSums.{AreZeroWithLast}
 use Rattle.raptorq.proofs.decoder.fitting.are_zero_with_last.Given as goal
 
 -- the sums before are zero, and the others are as they were

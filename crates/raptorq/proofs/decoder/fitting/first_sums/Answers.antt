@@ -1,6 +1,6 @@
-use Rattle.std.proofs.Common.{◌≡◌, ℕ, ◌+◌, ◌-◌, ◌<◌, ◌≤◌, List, [], ◌∷◌, ◌++◌, length, map, refl, sym, ap, ◌∙◌, arith}
+use Rattle.std.proofs.Common.{map, refl, ap, ◌∙◌, arith}
 use Rattle.rq_algebra.proofs.SymbolSums.{symbol_elements}
-use Rattle.rq_bytes.specs.SymbolSlab.{HasPlace, slab_of, symbol_in}
+use Rattle.rq_bytes.specs.SymbolSlab.{slab_of, symbol_in}
 use Rattle.rq_standard.specs.OctetField.{octets}
 use Rattle.rq_standard.specs.Equations.{before_hdpc}
 use Rattle.rq_standard.specs.TableRows.{intermediate_symbols}

@@ -1,4 +1,4 @@
-use Rattle.std.proofs.Common.{◌≡◌, ◌-◌, ◌+◌, ◌<◌, refl, ap, ◌∙◌, arith, subst}
+use Rattle.std.proofs.Common.{◌≡◌, ◌-◌, refl, ◌∙◌, arith, subst}
 use Rattle.rq_bytes.specs.SymbolSlab.{symbol_in}
 use Rattle.rq_standard.specs.Equations.{before_hdpc}
 use Rattle.rq_standard.specs.Octets.{octet_double, octet_power}
