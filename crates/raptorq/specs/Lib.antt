@@ -7,6 +7,7 @@ pub mod Decoder
 pub mod Decoding
 pub mod Difference
 pub mod Encoder
+pub mod HdpcSums
 pub mod Known
 pub mod Laws
 pub mod Missing

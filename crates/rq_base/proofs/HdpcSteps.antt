@@ -1,6 +1,7 @@
 -- The HDPC rows column by column.
-use Rattle.std.proofs.Common.{◌≡◌, ℕ, ◌+◌, ◌-◌, ◌%◌, ◌≤◌, ◌<◌, eqb, ◌||◌, set, sym, ap, ◌∙◌, refl, arith, inl, inr}
-use Rattle.std.proofs.lemmas.Bool.{cases_eq, eq-eqb, ne_eqb}
+use Rattle.std.proofs.Common.{◌≡◌, ◌≢◌, ℕ, ◌+◌, ◌-◌, ◌%◌, ◌≤◌, ◌<◌, eqb, ◌||◌, set, sym, ap, ◌∙◌, refl, arith, inl, inr}
+use Rattle.std.proofs.lemmas.Bool.{cases_eq, cases_lt, eq-eqb, ne_eqb}
+use Rattle.std.proofs.Math.Nat.{mod-eq_of_lt, mod-eq-sub-mod}
 use Rattle.rq_parts.specs.DenseOctetMatrix.{OctetTable, row_at, with_row, entry_of}
 use Rattle.rq_standard.specs.declared.row.TableRow.{TableRow}
 use Rattle.rq_standard.specs.Rand.{rand}
@@ -15,6 +16,16 @@ use Rattle.rq_base.proofs.OctetEntries.{sets}
 pub mt-is : (row : TableRow) (i j first second : ℕ) → j + 1 < before_hdpc row → first ≡ rand (j + 1) 6 row.hdpc_symbols → second ≡ (first + rand (j + 1) 7 (row.hdpc_symbols - 1) + 1) % row.hdpc_symbols → mt row i j ≡ one_if (eqb i first || eqb i second)
 unfolding mt
 mt-is row i j first second lt e f = rw (ne_eqb j (before_hdpc row - 1) (λ e. omega arith), f, e) refl
+
+-- these are two rows
+pub two_rows : (first step height : ℕ) → first < height → step + 1 < height → first ≢ (first + step + 1) % height
+two_rows first step height below few same = elim (cases_lt (first + step + 1) height) [
+  | inl within ↦ let is : (first + step + 1) % height ≡ first + step + 1 = mod-eq_of_lt within in omega arith
+  | inr past ↦
+      let rest : (first + step + 1) % height ≡ (first + step + 1 - height) % height = mod-eq-sub-mod past in
+      let is : (first + step + 1 - height) % height ≡ first + step + 1 - height = mod-eq_of_lt (omega arith) in
+      omega arith
+]
 
 -- the column down to row i, and the columns after it
 pub record IsPartlyFilled (row : TableRow) (column height : ℕ) (table : OctetTable) : Type 0 where

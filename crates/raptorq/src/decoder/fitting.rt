@@ -1,21 +1,20 @@
 //! Whether intermediate symbols that were found solve all equations of a block.
-ghost use Rattle.std.specs.Prelude.{◌≡◌, ℕ, ◌<◌, ◌≤◌, ◌↔◌, IsTrue, length, replicate, IfOk, IfErr};
-ghost use Rattle.rq_algebra.specs.Symbols.{IsSymbolColumn, SolvesSymbols, slice_at};
-ghost use Rattle.rq_algebra.specs.Systems.{dot, at};
+ghost use Rattle.std.specs.Prelude.{◌≡◌, ◌+◌, ◌<◌, ◌≤◌, ◌↔◌, IsTrue, length, None, IfOk, IfErr};
+ghost use Rattle.rq_algebra.specs.Symbols.{IsSymbolColumn};
 ghost use Rattle.rq_bytes.specs.SymbolSlab.{symbol_in, symbols_in};
-ghost use Rattle.rq_parts.specs.DenseOctetMatrix.{entry_of};
-ghost use Rattle.rq_standard.specs.Equations.{zero_symbol};
+ghost use Rattle.rq_standard.specs.Equations.{before_hdpc};
 ghost use Rattle.rq_standard.specs.OctetField.{octets};
 ghost use Rattle.rq_standard.specs.TableRows.{IsChecked, intermediate_symbols};
 ghost use Rattle.raptorq.specs.BlockSolutions.{SolvesHdpc, Fits};
+ghost use Rattle.raptorq.specs.HdpcSums.{AreHdpcSums, AreZeroWithLast};
 
 use crate::solving::Solution;
-use rq_base::constraint_matrix::hdpc::generate_hdpc_rows;
+use rq_base::constraint_matrix::hdpc::ones_of_mt;
 use rq_bytes::error::Error;
 use rq_bytes::factor::Factor;
+use rq_bytes::octet::Octet;
 use rq_bytes::octets;
 use rq_bytes::symbol_slab::SymbolSlab;
-use rq_parts::octet_matrix::DenseOctetMatrix;
 use rq_standard::row::TableRow;
 use std::alloc::Global;
 
@@ -44,7 +43,9 @@ pub(crate) fn fits(
     solves_hdpc(alloc, row, values)
 }
 
-// Whether each HDPC equation has the sum zero.
+// Whether each HDPC equation has the sum zero. A column of their coefficients is alpha times the next
+// one, and one more in the two rows where MT's own column has a one. So by Horner's rule no
+// coefficient is made, and a symbol costs a few passes, however many equations there are.
 fn solves_hdpc(alloc: Global, row: &TableRow, intermediate: &SymbolSlab) -> Result<bool, Error>
     requires checked { IsChecked row.now }
     requires enough { intermediate_symbols row.now ≤ length (symbols_in intermediate.now) }
@@ -52,36 +53,68 @@ fn solves_hdpc(alloc: Global, row: &TableRow, intermediate: &SymbolSlab) -> Resu
     ensures solves { IfOk result (λ solves. IsTrue solves ↔ SolvesHdpc row.now intermediate.now.symbol_size (symbol_in intermediate.now)) }
     ensures memory { IfErr result (λ e. e ≡ Error.OutOfMemory) }
 {
-    let rows = generate_hdpc_rows(alloc, row)?;
-    let mut sum = vec![in alloc; 0u8; intermediate.symbol_size()]?;
-    Ok(sums_are_zero(&rows, intermediate, sum.as_mut_slice()))
+    let last = (row.extended_symbols + row.ldpc_symbols) as usize - 1;
+    let alpha = Factor::new(&Octet::alpha(1));
+    let mut sums = first_sums(alloc, row, intermediate)?;
+    for column in 0..last {
+        add_column(&mut sums, row, intermediate, column, &alpha);
+    }
+    Ok(are_zero_with_last(&mut sums, row.hdpc_symbols as usize))
 }
 
-// Whether the products of each row of octets and the symbols have the sum zero. They are summed in
-// `sum`, which is zeros at first.
-fn sums_are_zero(rows: &DenseOctetMatrix, symbols: &SymbolSlab, sum: &mut [u8]) -> bool
-    requires enough { rows.now.width ≤ length (symbols_in symbols.now) }
-    requires zeros { sum.old ≡ replicate symbols.now.symbol_size 0 }
-    ensures { IsTrue result ↔ SolvesSymbols octets (length rows.now.rows) rows.now.width (entry_of rows.now) (symbol_in symbols.now) (λ _. zero_symbol symbols.now.symbol_size) }
+// The HDPC symbols, with which the sums of their equations begin, and behind them symbol 0.
+fn first_sums(alloc: Global, row: &TableRow, intermediate: &SymbolSlab) -> Result<SymbolSlab, Error>
+    requires checked { IsChecked row.now }
+    requires enough { intermediate_symbols row.now ≤ length (symbols_in intermediate.now) }
+    requires symbols { IsSymbolColumn octets intermediate.now.symbol_size (intermediate_symbols row.now) (symbol_in intermediate.now) }
+    ensures sums { IfOk result (AreHdpcSums row.now (symbol_in intermediate.now) intermediate.now.symbol_size 0) }
+    ensures memory { IfErr result (λ e. e ≡ Error.OutOfMemory) }
 {
-    for i in 0..rows.height() {
-        add_products(rows, i, symbols, sum);
-        if !octets::is_zero(sum) {
+    let start = (row.extended_symbols + row.ldpc_symbols) as usize;
+    let mut places: Vec<usize> = (start..start + row.hdpc_symbols as usize).collect(alloc)?;
+    places.push(0)?;
+    intermediate.gather(places.as_slice())
+}
+
+// Adds the last symbol to the sums of the two rows where a column of MT has a one. The last symbol
+// is then multiplied by alpha, and the symbol of the next column is added to it.
+fn add_column(
+    sums: &mut SymbolSlab,
+    row: &TableRow,
+    intermediate: &SymbolSlab,
+    column: usize,
+    alpha: &Factor,
+)
+    requires checked { IsChecked row.now }
+    requires enough { intermediate_symbols row.now ≤ length (symbols_in intermediate.now) }
+    requires symbols { IsSymbolColumn octets intermediate.now.symbol_size (intermediate_symbols row.now) (symbol_in intermediate.now) }
+    requires column { column + 1 < before_hdpc row.now }
+    requires alpha { alpha.now ≡ 2 }
+    requires sums { AreHdpcSums row.now (symbol_in intermediate.now) intermediate.now.symbol_size column sums.old }
+    ensures { AreHdpcSums row.now (symbol_in intermediate.now) intermediate.now.symbol_size (column + 1) sums.new }
+{
+    let height = row.hdpc_symbols as usize;
+    let (first, second) = ones_of_mt(row, column);
+    sums.add_assign(first, height);
+    sums.add_assign(second, height);
+    let last = sums.get_mut(height);
+    alpha.multiply(last);
+    octets::add_assign(last, intermediate.get(column + 1));
+}
+
+// Whether each of so many sums is zero once its power of alpha, times the symbol behind them, is
+// added to it, as MT's last column has these powers.
+fn are_zero_with_last(sums: &mut SymbolSlab, height: usize) -> bool
+    requires few { height < 256 }
+    requires order { sums.old.order ≡ None }
+    requires count { length sums.old.values ≡ height + 1 }
+    ensures { IsTrue result ↔ AreZeroWithLast height sums.old }
+{
+    for i in 0..height {
+        sums.fma(i, height, &Octet::alpha(i));
+        if !octets::is_zero(sums.get(i)) {
             return false;
         }
     }
     true
-}
-
-// Adds to zeros the product of each octet of a row and the symbol at its place.
-fn add_products(rows: &DenseOctetMatrix, i: usize, symbols: &SymbolSlab, sum: &mut [u8])
-    requires row { i < length rows.now.rows }
-    requires enough { rows.now.width ≤ length (symbols_in symbols.now) }
-    requires zeros { sum.old ≡ replicate symbols.now.symbol_size 0 }
-    ensures long { length sum.new ≡ symbols.now.symbol_size }
-    ensures sum { (p : ℕ) → at sum.new p ≡ dot octets rows.now.width (entry_of rows.now i) (slice_at p (symbol_in symbols.now)) }
-{
-    for k in 0..rows.width() {
-        Factor::new(&rows.get(i, k)).add_multiple(sum, symbols.get(k));
-    }
 }

@@ -59,3 +59,24 @@ fn a_decoder(rt: HostRuntime) -> Result<(), Fail> {
     assert!(rt; decoder.homogeneous()?.is_some());
     Ok(())
 }
+
+// A repair packet with which they still determine none leaves the source symbols the answer, whatever
+// it says.
+#[test]
+fn a_repair_packet_too_few(rt: HostRuntime) -> Result<(), Fail> {
+    let alloc = rt.alloc();
+    let table = with_index(alloc, 2)?;
+    let config = ObjectTransmissionInformation::new(511, 1, 1, 1, 1)?;
+    let mut object = [7u8; 511];
+    object[3] = 8;
+    let mut packets = Vec::new(alloc);
+    packets.push(packet(alloc, 0, 521, &[1])?)?;
+    for esi in 0..511u32 {
+        packets.push(packet(alloc, 0, esi, &[object[esi as usize]])?)?;
+    }
+    let mut decoder = SourceBlockDecoder::new(alloc, &table, 0, &config, 511)?;
+    let answer = decoder.decode(packets)?;
+    assert!(rt; answer.is_some_and(|block| block.as_slice() == object.as_slice()));
+    assert!(rt; decoder.homogeneous()?.is_some());
+    Ok(())
+}

@@ -1,8 +1,8 @@
 //! The HDPC rows of the constraint matrix (RFC 6330, section 5.3.3.3).
-ghost use Rattle.std.specs.Prelude.{◌≡◌, ◌+◌, ◌-◌, ◌<◌, IfOk, IfErr};
+ghost use Rattle.std.specs.Prelude.{◌≡◌, ◌≢◌, ℕ, ◌+◌, ◌-◌, ◌<◌, ◌==◌, ◌||◌, IfOk, IfErr};
 ghost use Rattle.rq_bytes.specs.declared.error.Error.TheVariants.{OutOfMemory};
 ghost use Rattle.rq_standard.specs.TableRows.{IsChecked};
-ghost use Rattle.rq_standard.specs.Equations.{before_hdpc, one_if};
+ghost use Rattle.rq_standard.specs.Equations.{before_hdpc, mt, one_if};
 ghost use Rattle.rq_standard.specs.Octets.{octet_mul};
 ghost use Rattle.std.specs.Int.Bits.{bit_xor};
 ghost use Rattle.rq_base.specs.HdpcPart.{IsHdpcPart, IsFilledFrom};
@@ -60,15 +60,28 @@ fn fill_column(matrix: &mut DenseOctetMatrix, row: &TableRow, column: usize)
     requires next { IsFilledFrom row.now (column + 1) matrix.old }
     ensures { IsFilledFrom row.now column matrix.new }
 {
+    let (first, second) = ones_of_mt(row, column);
+    for i in 0..row.hdpc_symbols as usize {
+        let next = matrix.get(i, column + 1);
+        let octet = octet_before(next, i == first || i == second);
+        matrix.set(i, column, octet);
+    }
+}
+
+/// The two rows in which a column of MT but its last one has ones; it has zeros in all others.
+pub fn ones_of_mt(row: &TableRow, column: usize) -> (usize, usize)
+    requires checked { IsChecked row.now }
+    requires column { column + 1 < before_hdpc row.now }
+    ensures first { result.0 < row.now.hdpc_symbols }
+    ensures second { result.1 < row.now.hdpc_symbols }
+    ensures apart { result.0 ≢ result.1 }
+    ensures ones { (i : ℕ) → mt row.now i column ≡ one_if (i == result.0 || i == result.1) }
+{
     let height = row.hdpc_symbols;
     let seed = column as u32 + 1;
     let first = rand(seed, 6, height);
     let second = (first + rand(seed, 7, height - 1) + 1) % height;
-    for i in 0..height {
-        let next = matrix.get(i as usize, column + 1);
-        let octet = octet_before(next, i == first || i == second);
-        matrix.set(i as usize, column, octet);
-    }
+    (first as usize, second as usize)
 }
 
 // Alpha times the next octet of a row, and one more where MT has a one.

@@ -1,9 +1,25 @@
+use Rattle.std.proofs.Common.{◌≡◌, ◌-◌, refl, ◌∙◌, arith, subst}
 use Rattle.rq_bytes.specs.SymbolSlab.{symbol_in}
-use Rattle.raptorq.proofs.HdpcSums.{hdpc_solved}
+use Rattle.rq_standard.specs.Equations.{before_hdpc}
+use Rattle.rq_standard.specs.Octets.{octet_double, octet_power}
+use Rattle.raptorq.specs.HdpcSums.{AreHdpcSums}
+use Rattle.raptorq.proofs.HdpcSums.{sums_tell}
 use Rattle.raptorq.proofs.decoder.fitting.solves_hdpc.Goals as goal
+
+alpha : octet_power 1 ≡ 2
+unfolding octet_power octet_double
+alpha = refl
+
+pub add_column-requires-clause-alpha : goal.add_column-requires-clause-alpha
+add_column-requires-clause-alpha c = c.new-alpha.ensures ∙ c.alpha.ensures ∙ alpha
 
 pub returns-clause-solves : goal.returns-clause-solves
 returns-clause-solves c =
-    let h = hdpc_solved c.in_ok-rows.rows (symbol_in c.args.intermediate.now) c.args.intermediate.now.symbol_size c.args.row.now c.in_ok-rows.ensures.part in
-    let told = c.sums_are_zero.ensures in
-    (λ t. h.0 (told.0 t), λ s. told.1 (h.1 s))
+    let row = c.args.row.now in
+    let column = symbol_in c.args.intermediate.now in
+    let size = c.args.intermediate.now.symbol_size in
+    let last = before_hdpc row - 1 in
+    let at_end : c.loop-column.column ≡ last = omega arith in
+    let tell = sums_tell row column size c.loop-column.sums (omega arith) c.requires.symbols (subst (λ n. AreHdpcSums row column size n c.loop-column.sums) at_end c.loop-column.invariant) in
+    let told = c.are_zero_with_last.ensures in
+    (λ t. tell.0 (told.0 t), λ s. told.1 (tell.1 s))
