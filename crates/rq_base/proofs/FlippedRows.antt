@@ -54,15 +54,14 @@ flip_small b c lt e = elim (flip_cases b lt) [
 ]
 
 pub flips_more :
-    {old middle new : BitTable} {i index octet one : ℕ} {indices left rest : List ℕ} → i < old.height → IsFlipping old i indices left middle → left ≡ index ∷ rest
-    → SetsBit middle i index octet new → octet ≡ bit_xor (middle.bit i index) one → one ≡ 1 → IsFlipping old i indices rest new
-flips_more {old} {middle} {new} {i} {index} {octet} {one} {indices} {left} {rest} row flipping e set is is_one =
+    {old middle new : BitTable} {i index : ℕ} {indices left rest : List ℕ} → i < old.height → IsFlipping old i indices left middle → left ≡ index ∷ rest
+    → SetsBit middle i index (bit_xor (middle.bit i index) 1) new → IsFlipping old i indices rest new
+flips_more {old} {middle} {new} {i} {index} {indices} {left} {rest} row flipping e set =
     let below : All (λ p. p < old.width) (index ∷ rest) = subst (All (λ p. p < old.width)) e flipping.below in
     let wide : index < old.width = All-head (λ p. p < old.width) index rest below in
     let tall = flipping.shape.height in
     let same_width = flipping.shape.width in
-    let flipped : new.bit i index ≡ bit_of (bit_xor (middle.bit i index) 1) =
-    set.here ∙ ap bit_of is ∙ ap (λ n. bit_of (bit_xor (middle.bit i index) n)) is_one in
+    let flipped : new.bit i index ≡ bit_of (bit_xor (middle.bit i index) 1) = set.here in
     let there : (k : ℕ) → k < old.width → k ≢ index → new.bit i k ≡ middle.bit i k = λ k hk d. set.other_columns k (omega arith) d in
     let more : (k : ℕ) → parity left k ≡ (unit index k + parity rest k) % 2 = λ k. (ap (λ l. parity l k) e ∙ parity-cons index rest k) in
     record {

@@ -1,6 +1,7 @@
 //! Matrices of bits, and the dense one.
 ghost use Rattle.std.specs.Prelude.{◌≡◌, ◌≢◌, ℕ, ◌+◌, ◌*◌, ◌^◌, ◌<◌, ◌≤◌, ◌⊎◌, All, length, [], map, replicate, slice_index_or, slice_set, take, true, false, IfOk, IfErr, OnOk, OnErr};
 ghost use Rattle.std.specs.List.Sorted.{IsStrictlyIncreasing};
+ghost use Rattle.std.specs.Int.Bits.{bit_xor};
 ghost use Rattle.rq_bytes.specs.declared.error.Error.TheVariants.{OutOfMemory};
 ghost use Rattle.rq_standard.specs.Rows.{row_sum};
 ghost use Rattle.rq_matrix.specs.BitRows.{word_count, AreSwappedFrom};
@@ -46,6 +47,19 @@ pub trait BinaryMatrix: Clone {
         ensures ok { OnOk result (SetsBit (content self.old) i j value (content self.new)) }
         ensures refused { OnErr result (IsUnchanged (content self.old) (content self.new)) }
         ensures err { IfErr result (λ e. e ≡ OutOfMemory) };
+
+    /// Sets the bit in row i and column j to 1 where it was 0, and to 0 where it was 1.
+    fn flip(&mut self, i: usize, j: usize) -> Result<(), Error>
+        requires row { i < (content self.old).height }
+        requires column { j < (content self.old).width }
+        requires settable { CanSet (content self.old) j }
+        ensures ok { OnOk result (SetsBit (content self.old) i j (bit_xor ((content self.old).bit i j) 1) (content self.new)) }
+        ensures refused { OnErr result (IsUnchanged (content self.old) (content self.new)) }
+        ensures err { IfErr result (λ e. e ≡ OutOfMemory) }
+    {
+        let flipped = self.get(i, j) + Octet::one();
+        self.set(i, j, flipped)
+    }
 
     /// The number of rows.
     fn height(&self) -> usize

@@ -137,6 +137,17 @@ impl BinaryMatrix for SparseBinaryMatrix {
         Ok(())
     }
 
+    fn flip(&mut self, i: usize, j: usize) -> Result<(), Error> {
+        if j >= self.boundary {
+            let flipped = self.get(i, j) + Octet::one();
+            return self.set(i, j, flipped);
+        }
+        let row = self.stored_row(i);
+        let column = usize::from(self.stored_column(j));
+        self.rows[row].flip(column)?;
+        Ok(())
+    }
+
     fn height(&self) -> usize {
         self.height
     }

@@ -1,5 +1,5 @@
 -- The bits of an ascending list of ones.
-use Rattle.std.proofs.Common.{◌≡◌, ◌≢◌, ℕ, zero, suc, ◌+◌, ◌-◌, ◌<◌, ◌≤◌, ◌==◌, List, [], ◌∷◌, ◌++◌, length, get_or, cond, refl, sym, ap, ◌∙◌, inl, inr, arith, if◌then◌else◌, All, Option, None, Some, Result, Ok, Err, IfOk, IfErr, zero-add}
+use Rattle.std.proofs.Common.{◌≡◌, ◌≢◌, ℕ, zero, suc, ◌+◌, ◌-◌, ◌<◌, ◌≤◌, ◌==◌, List, [], ◌∷◌, ◌++◌, length, get_or, cond, refl, sym, ap, ◌∙◌, inl, inr, arith, if◌then◌else◌, All, None, Some, Result, Ok, Err, IfOk, IfErr, zero-add}
 use Rattle.std.specs.List.Sorted.{IsStrictlyIncreasing, IsBinarySearchResult}
 use Rattle.std.specs.Ordering.{nat_cmp}
 use Rattle.std.proofs.lemmas.List.Sorted.{searched}
@@ -132,6 +132,17 @@ sets-inserted xs i gap octet some found =
       elsewhere = λ k other. omega (arith, put k, test-other i k (λ same. other (sym same)));
     }
 
+pub sets-appended : (xs : List ℕ) (i octet : ℕ) → octet ≢ 0 → IsGap xs i (length xs) → SetsListed xs i octet (xs ++ i ∷ [])
+sets-appended xs i octet some found =
+    let put : (k : ℕ) → listed_bit (xs ++ i ∷ []) k ≡ listed_bit xs k + listed_bit (i ∷ []) k = listed-append xs (i ∷ []) in
+    record {
+      here = omega (arith, put i, listed-gap xs i (length xs) found, listed-self i [] i refl) ∙ sym (nonzero_bit octet some);
+      elsewhere = λ k other. omega (arith, put k, listed-other i [] k other);
+    }
+
+pub sets-nonzero : (xs : List ℕ) (i octet : ℕ) (ys : List ℕ) → octet ≢ 0 → SetsListed xs i 1 ys → SetsListed xs i octet ys
+sets-nonzero xs i octet ys some sets = record { here = sets.here ∙ sym (nonzero_bit octet some); elsewhere = sets.elsewhere }
+
 pub octet-listed : (xs : List ℕ) (i : ℕ) → listed_bit xs i ≡ 1 → Some 1 ≡ listed_octet xs i
 octet-listed xs i one = ap (λ n. if n == 0 then None else Some 1) (sym one)
 
@@ -144,6 +155,14 @@ rises-far (x ∷ xs) up zero zero le l = omega arith
 rises-far (x ∷ xs) up zero (suc j) le l = omega (arith, rises-head x xs up j (omega arith))
 rises-far (x ∷ xs) up (suc i) zero le l = absurd (omega arith)
 rises-far (x ∷ xs) up (suc i) (suc j) le l = rises-far xs (rises-tail x xs up) i j (omega arith) (omega arith)
+
+-- the ones before a place are below an index, if the last of them is
+pub gap-behind : (xs : List ℕ) (i gap : ℕ) → IsStrictlyIncreasing xs → gap ≤ length xs → (0 < gap → get_or xs (gap - 1) 0 < i) → ((k : ℕ) → gap ≤ k → k < length xs → i < get_or xs k 0) → IsGap xs i gap
+gap-behind xs i gap up within last behind = record {
+  within = within;
+  before = λ k l. omega (arith, rises-far xs up k (gap - 1) (omega arith) (omega arith), last (omega arith));
+  behind = behind;
+}
 
 -- where an index is listed, or where it would go
 pub record IsFound (xs : List ℕ) (i : ℕ) (r : Result ℕ ℕ) : Type 0 where

@@ -5,8 +5,9 @@ ghost use Rattle.std.specs.Cmp.Lexicographic.{pointwise};
 ghost use Rattle.std.specs.Cmp.Rules.{comparing};
 ghost use Rattle.std.specs.Iterator.{YieldsFirst, item_count};
 ghost use Rattle.std.specs.List.Sorted.{IsStrictlyIncreasing};
+ghost use Rattle.std.specs.Int.Bits.{bit_xor};
 ghost use Rattle.rq_bytes.specs.declared.error.Error.TheVariants.{OutOfMemory};
-ghost use Rattle.rq_parts.specs.SparseBinaryVec.{listed_octet, SetsListed, IsListedSum, HasOtherOne, IsListed, IsGap};
+ghost use Rattle.rq_parts.specs.SparseBinaryVec.{listed_bit, listed_octet, SetsListed, IsListedSum, HasOtherOne, IsListed, IsGap};
 
 use rq_bytes::error::Error;
 use rq_bytes::octet::Octet;
@@ -119,7 +120,7 @@ impl SparseBinaryVec {
         requires { i < 65536 }
         ensures { result ≡ listed_octet self.now i }
     {
-        match self.find(i) {
+        match self.elements.binary_search(&(i as u16)) {
             Ok(_) => Some(Octet::one()),
             Err(_) => None,
         }
@@ -146,6 +147,42 @@ impl SparseBinaryVec {
         if value.byte() == 0 {
             self.remove(i);
         } else if let Err(gap) = self.find(i) {
+            self.list_at(gap, i)?;
+        }
+        Ok(())
+    }
+
+    /// Sets the bit at an index to 1 where it was 0, and to 0 where it was 1. A refusal leaves the row
+    /// as it was.
+    pub fn flip(&mut self, i: usize) -> Result<(), Error>
+        requires { i < 65536 }
+        ensures ok { OnOk result (SetsListed self.old i (bit_xor (listed_bit self.old i) 1) self.new) }
+        ensures increasing { IsStrictlyIncreasing self.new }
+        ensures refused { OnErr result (self.new ≡ self.old) }
+        ensures err { IfErr result (λ e. e ≡ OutOfMemory) }
+    {
+        match self.find(i) {
+            Ok(at) => {
+                self.elements.remove(at);
+                Ok(())
+            }
+            Err(gap) => self.list_at(gap, i),
+        }
+    }
+
+    // Lists an index where it goes. A refusal leaves the row as it was.
+    #[inline(always)]
+    fn list_at(&mut self, gap: usize, i: usize) -> Result<(), Error>
+        requires index { i < 65536 }
+        requires gap { IsGap self.old i gap }
+        ensures ok { OnOk result (SetsListed self.old i 1 self.new) }
+        ensures increasing { IsStrictlyIncreasing self.new }
+        ensures refused { OnErr result (self.new ≡ self.old) }
+        ensures err { IfErr result (λ e. e ≡ OutOfMemory) }
+    {
+        if gap == self.elements.len() {
+            self.elements.push(i as u16)?;
+        } else {
             self.elements.insert(gap, i as u16)?;
         }
         Ok(())
@@ -158,14 +195,23 @@ impl SparseBinaryVec {
         self.elements.as_slice()
     }
 
-    // Where an index is listed, or where it would go.
+    // Where an index is listed, or where it would go. It looks from the end, since most indices are
+    // listed in ascending order, and those behind the place are moved anyway.
     fn find(&self, i: usize) -> Result<usize, usize>
         requires { i < 65536 }
         ensures increasing { IsStrictlyIncreasing self.now }
         ensures found { IfOk result (IsListed self.now i) }
         ensures missing { IfErr result (IsGap self.now i) }
     {
-        self.elements.binary_search(&(i as u16))
+        let mut gap = self.elements.len();
+        while gap > 0 && usize::from(self.elements[gap - 1]) > i {
+            gap -= 1;
+        }
+        if gap > 0 && usize::from(self.elements[gap - 1]) == i {
+            Ok(gap - 1)
+        } else {
+            Err(gap)
+        }
     }
 }
 

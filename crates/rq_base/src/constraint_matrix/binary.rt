@@ -127,8 +127,7 @@ fn flip_indices<T: BinaryMatrix>(
     ensures memory { IfErr result (λ e. e ≡ OutOfMemory) }
 {
     while let Some(index) = indices.next_index() {
-        let flipped = matrix.get(i, index) + Octet::one();
-        matrix.set(i, index, flipped)?;
+        matrix.flip(i, index)?;
     }
     Ok(())
 }

@@ -1,5 +1,3 @@
-use Rattle.std.proofs.Common.{ap, ◌∙◌}
-use Rattle.std.specs.Int.Bits.{bit_xor}
 use Rattle.rq_base.proofs.FlippedRows.{flips_all, flips_more, flips_none}
 use Rattle.rq_base.proofs.constraint_matrix.binary.flip_indices.Goals as goal
 
@@ -8,7 +6,7 @@ loop-index-init g c = flips_all _ _ _ c.requires.zeros c.requires.below
 
 pub loop-index-preserved : goal.loop-index-preserved
 loop-index-preserved g c =
-    flips_more c.requires.row c.loop-index.invariant c.in-Some.ensures c.in_ok-set.ensures.ok (c.add-flipped.ensures ∙ ap (λ x. bit_xor x c.one.result) c.get.ensures) c.one.ensures
+    flips_more c.requires.row c.loop-index.invariant c.in-Some.ensures c.in_ok-flip.ensures.ok
 
 pub returns-clause-filled : goal.returns-clause-filled
 returns-clause-filled g c = flips_none c.loop-index.invariant c.in_default.ensures.0

@@ -1,0 +1,52 @@
+-- What the check leaves to show of `sparse_matrix::SparseBinaryMatrix::flip`.
+use Rattle.std.proofs.Common.{◌≡◌, ◌<◌, ℕ, List, false, [], get_or, length, set, refl, sym, ap, subst, ◌∙◌, inl, inr, arith, length-set}
+use Rattle.std.specs.Int.Bits.{bit_xor}
+use Rattle.std.specs.Option.{is_some}
+use Rattle.std.proofs.lemmas.List.{get_or_read}
+use Rattle.std.proofs.lemmas.List.Elements.{All-set}
+use Rattle.rq_parts.specs.SparseBinaryVec.{listed_bit, SetsListed}
+use Rattle.rq_matrix.specs.SparseBinaryMatrix.{sparse_bit}
+use Rattle.rq_matrix.specs.SparseRows.{IsSparseRow}
+use Rattle.rq_matrix.specs.SparseTables.{bit-before}
+use Rattle.rq_matrix.proofs.SparseRowLaws.{row_set}
+use Rattle.rq_matrix.proofs.SparseMatrixLaws.{sets_listed}
+use Rattle.rq_matrix.proofs.StoredRows.{with_rows}
+use Rattle.rq_matrix.proofs.sparse_matrix.SparseBinaryMatrixBinaryMatrix.flip.Goals as goal
+
+pub invariant_of-self : goal.invariant_of-self
+invariant_of-self c =
+    let old = c.args.self.now in
+    let rows = old.rows.items in
+    let row = c.stored_row-row.result in
+    let new = c.flip.new.self in
+    let column = c.from-column.result in
+    let columns = length old.column_order.order in
+    let in_rows = c.stored_row-row.ensures.below in
+    let in_columns : column < columns = omega (arith, c.from-column.ensures, c.stored_column.ensures.below) in
+    let read = get_or_read rows row c.index_mut.result.now in_rows c.index_mut.ensures.value [] in
+    let was = subst (IsSparseRow columns) (sym read) (old.sparse row [] in_rows) in
+    let now = row_set columns c.index_mut.result.now new column (bit_xor (listed_bit c.index_mut.result.now column) 1) c.flip.result was in_columns c.flip.ensures.ok c.flip.ensures.refused c.flip.ensures.increasing in
+    let off : is_some old.index ≡ false = elim c.requires.settable [ inl off ↦ off | inr from ↦ absurd (omega (arith, c.if-j-self.false)) ] in
+    with_rows old (set rows row new) old.tail off (sym (length-set rows row new)) (All-set (IsSparseRow columns) rows row new now old.sparse) refl refl
+
+pub returns-clause-ok : goal.returns-clause-ok
+returns-clause-ok c =
+    let old = c.args.self.now in
+    let rows = old.rows.items in
+    let row = c.stored_row-row.result in
+    let new = c.flip.new.self in
+    let column = c.from-column.result in
+    let at_row = c.stored_row-row.ensures.value in
+    let at_column = c.from-column.ensures ∙ c.stored_column.ensures.value in
+    let before = c.if-j-self.false in
+    let old_bit = sparse_bit old.width old.boundary rows old.row_order old.column_order old.tail c.args.i c.args.j in
+    let read = get_or_read rows row c.index_mut.result.now c.stored_row-row.ensures.below c.index_mut.ensures.value [] in
+    let was : listed_bit c.index_mut.result.now column ≡ old_bit =
+    ap (λ (l : List ℕ). listed_bit l column) read
+    ∙ ap (λ r. listed_bit (get_or rows r []) column) at_row
+    ∙ ap (listed_bit (get_or rows (get_or old.row_order.order c.args.i 0) [])) at_column
+    ∙ sym (bit-before old.width old.boundary rows old.row_order old.column_order old.tail c.args.i c.args.j before) in
+    let flipped = subst (λ (l : List ℕ). SetsListed l column (bit_xor (listed_bit c.index_mut.result.now column) 1) new) read c.in_ok-flip.ensures.ok in
+    let sets = subst (λ bit. SetsListed (get_or rows row []) column (bit_xor bit 1) new) was flipped in
+    sets_listed old.height old.width old.boundary (is_some old.index) rows old.row_order old.column_order old.tail c.args.i c.args.j row column (bit_xor old_bit 1) new old.rows_in_order old.columns_in_order
+    (omega (arith, old.ordered, old.height_within)) c.requires.row old.ordered before (omega (arith, old.boundary_within, old.width_within)) at_row at_column sets
