@@ -14,6 +14,12 @@ fn with_index(alloc: Global, index: u32) -> Result<SystematicTable, Error> {
     SystematicTable::with_rows(alloc, &[(511, index, 37, 2, 531)])
 }
 
+// A singular row, and an object of one block of its size.
+fn singular(alloc: Global) -> Result<(SystematicTable, ObjectTransmissionInformation), Error> {
+    let config = ObjectTransmissionInformation::new(511, 1, 1, 1, 1)?;
+    Ok((with_index(alloc, 2)?, config))
+}
+
 // The least index whose row is singular.
 fn singular_index(alloc: Global) -> Result<Option<u32>, Error> {
     for index in 0..1001u32 {
@@ -34,8 +40,7 @@ fn the_least_index(rt: HostRuntime) -> Result<(), Fail> {
 #[test]
 fn encoders(rt: HostRuntime) -> Result<(), Fail> {
     let alloc = rt.alloc();
-    let table = with_index(alloc, 2)?;
-    let config = ObjectTransmissionInformation::new(511, 1, 1, 1, 1)?;
+    let (table, config) = singular(alloc)?;
     let object = [7u8; 511];
     assert!(rt; Encoder::new(alloc, &table, &object, config) == Err(Error::Singular));
     let mut cache = SourceBlockEncodingPlanCache::new(alloc, &table)?;
@@ -50,8 +55,7 @@ fn encoders(rt: HostRuntime) -> Result<(), Fail> {
 #[test]
 fn a_decoder(rt: HostRuntime) -> Result<(), Fail> {
     let alloc = rt.alloc();
-    let table = with_index(alloc, 2)?;
-    let config = ObjectTransmissionInformation::new(511, 1, 1, 1, 1)?;
+    let (table, config) = singular(alloc)?;
     let mut decoder = SourceBlockDecoder::new(alloc, &table, 0, &config, 511)?;
     for esi in 0..511 {
         let _answer = decoder.decode(Some(packet(alloc, 0, esi, &[7])?))?;
@@ -65,8 +69,7 @@ fn a_decoder(rt: HostRuntime) -> Result<(), Fail> {
 #[test]
 fn a_repair_packet_too_few(rt: HostRuntime) -> Result<(), Fail> {
     let alloc = rt.alloc();
-    let table = with_index(alloc, 2)?;
-    let config = ObjectTransmissionInformation::new(511, 1, 1, 1, 1)?;
+    let (table, config) = singular(alloc)?;
     let mut object = [7u8; 511];
     object[3] = 8;
     let mut packets = Vec::new(alloc);

@@ -150,11 +150,11 @@ fn ends(
 
 #[test]
 fn damaged_streams(rt: HostRuntime) -> Result<(), Fail> {
+    let mut counts = [0u32; 4];
+    let mut choices = Choices::new(2);
     let alloc = rt.alloc();
     let table = SystematicTable::built_in(alloc)?;
     let objects = objects(alloc, &table)?;
-    let mut choices = Choices::new(2);
-    let mut counts = [0u32; 4];
     for _ in 0..STREAMS {
         let place = choices.place(objects.len());
         let sent = objects.get(place).ok_or("no object")?;

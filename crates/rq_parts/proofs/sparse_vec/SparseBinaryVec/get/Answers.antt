@@ -16,6 +16,5 @@ pub returns-in-Err : goal.returns-in-Err
 returns-in-Err c =
     let items = c.deref.result.now in
     let same = c.deref.ensures.value ∙ c.self.view_is in
-    let rises = subst IsStrictlyIncreasing (sym c.deref.ensures.value) c.self.invariant in
-    let gap = (found_or_gap items c.args.i (Err c.in-Err.field-0) rises c.in-Err.ensures.position).missing in
+    let gap = (found_or_gap items c.args.i (Err c.in-Err.field-0) (subst IsStrictlyIncreasing (sym c.deref.ensures.value) c.self.invariant) c.in-Err.ensures.position).missing in
     octet-none c.args.self.now c.args.i (subst (λ xs. listed_bit xs c.args.i ≡ 0) same (listed-gap items c.args.i c.in-Err.field-0 gap))
