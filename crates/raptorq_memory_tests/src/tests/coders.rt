@@ -5,6 +5,7 @@ use crate::attempts::encoders::{Blocks, Objects, Plans, Rows};
 use raptorq::error::Error;
 use raptorq::systematic_constants::SystematicTable;
 use raptorq::{Decoder, EncodingPacket};
+use raptorq_test_kit::configurations::configured;
 use raptorq_test_kit::packets::packet;
 use rq_memory_kit::{Ending, Endings, MORE, RESERVE, ROUNDS, Shortage};
 use std::alloc::Global;
@@ -91,6 +92,57 @@ fn late(
     assert!(rt; is_whole);
     assert!(rt; answer == Err(Error::OutOfMemory));
     Ok(decoder)
+}
+
+// A packet that there was no memory to record counts as new when it comes again.
+#[test]
+fn a_packet_not_recorded(rt: HostRuntime) -> Result<(), Fail> {
+    let alloc = rt.alloc();
+    let packets = packets(alloc)?;
+    assert_eq!(rt; packets.len(), 12);
+    let table = SystematicTable::built_in(alloc)?;
+    let mut decoder = Decoder::new(alloc, &table, one_block()?)?;
+    let before = decoder.clone()?;
+    let first = packets[0].clone()?;
+    let shortage = Shortage::new(alloc, 0, 0)?;
+    let refused = decoder.add_new_packet(first);
+    let is_whole = shortage.is_whole();
+    drop(shortage);
+    assert!(rt; is_whole);
+    assert!(rt; refused == Err(Error::OutOfMemory) && decoder == before);
+    let object = take(&mut decoder, &packets[..10])?.ok_or("no answer")?;
+    assert_eq!(rt; object.as_slice(), OBJECT.as_slice());
+    Ok(())
+}
+
+// What is left where an object isn't joined, in bytes: a block takes less, and the object more.
+const LEFT: usize = 20_000;
+
+// Where there is no memory to join the object, the block that was the last to be answered is.
+#[test]
+fn an_object_not_joined(rt: HostRuntime) -> Result<(), Fail> {
+    let alloc = rt.alloc();
+    let (table, config) = configured(alloc, (200_000, 1000, 200, 1, 1))?;
+    let mut object: Vec<u8> = Vec::new(alloc);
+    let mut decoder = Decoder::new(alloc, &table, config)?;
+    for block in 0..199u8 {
+        object.extend_from_slice(&[block; 1000])?;
+        decoder.add_new_packet(packet(alloc, block, 0, &[block; 1000])?)?;
+    }
+    object.extend_from_slice(&[199; 1000])?;
+    let last = packet(alloc, 199, 0, &[199; 1000])?;
+    let mut answered = decoder.clone()?;
+    answered.add_new_packet(last.clone()?)?;
+    let mut shortage = Shortage::new(alloc, 1, LEFT)?;
+    shortage.ease(LEFT);
+    let refused = decoder.decode(last);
+    let is_answered = decoder == answered;
+    let is_whole = shortage.is_whole();
+    drop(shortage);
+    assert!(rt; is_whole);
+    assert!(rt; refused == Err(Error::OutOfMemory) && is_answered);
+    assert!(rt; decoder.get_result()? == Some(object));
+    Ok(())
 }
 
 // The packet that made its block determined is recorded, though the block couldn't be solved: a
