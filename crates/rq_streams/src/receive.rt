@@ -108,8 +108,8 @@ fn received_object(
 ///
 /// Refuses, in this order, [`Error::HeaderTooShort`] below 12 bytes, what
 /// [`ObjectTransmissionInformation::check`] refuses, and [`Error::Contradiction`] at a frame where
-/// [`Decoder::add_new_packet`] refuses its packet so, and then nothing is written. [`Error::OutOfMemory`] may come before
-/// any of them, and at any frame.
+/// [`Decoder::add_new_packet`] refuses its packet so, and then nothing is written.
+/// [`Error::OutOfMemory`] may come before any of them, and at any frame.
 pub fn run_receive<R: Read, W: Write>(
     alloc: Global,
     table: &SystematicTable,

@@ -212,7 +212,8 @@ impl SourceBlockDecoder {
         usize::from(self.config.symbol_size())
     }
 
-    /// Takes packets until one is refused, and answers the block where it is determined.
+    /// Takes packets until one is refused, and answers the block where all its source symbols came or
+    /// what came determines it.
     ///
     /// Refuses, in this order, [`Error::UnknownBlock`] where a packet is of another block, and
     /// [`Error::WrongPayloadSize`] where its payload hasn't the size of a symbol. The packets

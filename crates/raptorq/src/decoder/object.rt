@@ -174,7 +174,8 @@ impl Decoder {
         self.blocks[usize::from(number)].add_packet(packet)
     }
 
-    /// Takes a packet, and answers its block where that is determined.
+    /// Takes a packet, and answers its block where all its source symbols came or what came determines
+    /// it.
     ///
     /// Refuses, in this order, [`Error::UnknownBlock`] where the packet's block is none of the
     /// object's, and [`Error::WrongPayloadSize`] where its payload hasn't the size of a symbol.
@@ -205,7 +206,7 @@ impl Decoder {
         true
     }
 
-    /// The object, where each of its blocks is determined and none is contradictory.
+    /// The object, where each of its blocks is answered.
     pub fn get_result(&self) -> Result<Option<Vec<u8>>, Error>
         ensures value { IfOk result (λ r. option_map vec_items r ≡ result_of (state_of self.now)) }
         ensures object { IfOk result (λ r. AnswersObject (state_of self.now) (option_map vec_items r)) }
@@ -282,7 +283,8 @@ impl Decoder {
         Ok(object)
     }
 
-    /// Takes a packet and answers the object, where each of its blocks is determined.
+    /// Takes a packet as [`Decoder::add_new_packet`] does, and answers the object where each of its
+    /// blocks is answered.
     ///
     /// Refuses as [`Decoder::add_new_packet`] does. Where memory is refused for the object, the
     /// blocks stay answered, and [`Decoder::get_result`] tries again.

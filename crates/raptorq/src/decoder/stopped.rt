@@ -5,7 +5,7 @@ ghost use Rattle.raptorq.specs.Stopping.{refusal_of};
 use rq_bytes::error::Error;
 
 /// Where the work on a packet stopped. Callers see the refusal alone, but what a decoder holds after
-/// it depends on the place, so the steps of a decoder name it.
+/// it depends on where that was, so the steps of a decoder say it.
 #[derive(Drop)]
 pub(crate) enum Stopped {
     /// The packet is refused.
