@@ -2,10 +2,11 @@
 use raptorq::error::Error;
 use raptorq::systematic_constants::SystematicTable;
 use raptorq::{
-    Decoder, EncodingPacket, ObjectTransmissionInformation, PayloadId, SourceBlockDecoder,
-    SourceBlockEncoder, SourceBlockEncodingPlanCache,
+    Decoder, ObjectTransmissionInformation, SourceBlockDecoder, SourceBlockEncoder,
+    SourceBlockEncodingPlanCache,
 };
 use raptorq_test_kit::configurations::configured;
+use raptorq_test_kit::packets::packet;
 use raptorq_test_kit::ten_symbols::Basis;
 use std::alloc::Global;
 use std::test::Fail;
@@ -24,8 +25,7 @@ fn are_answered(alloc: Global, table: &SystematicTable, start: u32) -> Result<bo
     let config = ObjectTransmissionInformation::new(10, 1, 1, 1, 1)?;
     let mut decoder = Decoder::new(alloc, table, config)?;
     for i in 0..10 {
-        let id = PayloadId::new(0, start.saturating_add(i))?;
-        decoder.add_new_packet(EncodingPacket::new(id, vec![in alloc; 0]?))?;
+        decoder.add_new_packet(packet(alloc, 0, start.saturating_add(i), &[0])?)?;
     }
     match decoder.get_result()? {
         None => Ok(false),

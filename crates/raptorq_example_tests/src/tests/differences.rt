@@ -1,8 +1,9 @@
 //! Lists of packets that don't determine their object: another object makes them too.
 use raptorq::error::Error;
 use raptorq::systematic_constants::SystematicTable;
-use raptorq::{Decoder, Encoder, EncodingPacket, ObjectTransmissionInformation, PayloadId};
+use raptorq::{Decoder, Encoder, EncodingPacket, ObjectTransmissionInformation};
 use raptorq_test_kit::configurations::configured;
+use raptorq_test_kit::packets::packet;
 use raptorq_test_kit::sequence::{bytes, next};
 use std::alloc::Global;
 use std::test::Fail;
@@ -16,8 +17,7 @@ fn nine_packets(
 ) -> Result<Decoder, Error> {
     let mut decoder = Decoder::new(alloc, table, information)?;
     for i in 0..9 {
-        let id = PayloadId::new(0, start.saturating_add(i))?;
-        decoder.add_new_packet(EncodingPacket::new(id, vec![in alloc; 0]?))?;
+        decoder.add_new_packet(packet(alloc, 0, start.saturating_add(i), &[0])?)?;
     }
     Ok(decoder)
 }
@@ -57,8 +57,7 @@ fn nine_packets_of_ten_symbols(rt: HostRuntime) -> Result<(), Fail> {
         let makes = makes_zeros(alloc, &table, information, difference.as_slice(), start)?;
         assert!(rt; makes, "from {start} on");
         for esi in 0..10 {
-            let packet = EncodingPacket::new(PayloadId::new(0, esi)?, vec![in alloc; 0]?);
-            decoder.add_new_packet(packet)?;
+            decoder.add_new_packet(packet(alloc, 0, esi, &[0])?)?;
         }
         assert!(rt; decoder.get_result()?.is_some(), "from {start} on");
         assert!(rt; decoder.difference()?.is_none(), "from {start} on");
