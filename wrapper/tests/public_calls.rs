@@ -126,6 +126,16 @@ fn round_trips_of_each_size() {
     }
 }
 
+// Of a single source symbol, repair symbol 133 is zero, whatever that is.
+#[test]
+fn packets_that_contradict_each_other() {
+    let mut decoder = Decoder::new(ObjectTransmissionInformation::new(1, 1, 1, 1, 1));
+    for (id, byte) in [(133, 1), (0, 7), (1, 7)] {
+        let packet = EncodingPacket::new(PayloadId::new(0, id), vec![byte]);
+        assert_eq!(decoder.decode(packet), None);
+    }
+}
+
 #[test]
 #[should_panic(expected = "Misaligned")]
 fn an_alignment_that_does_not_divide() {
