@@ -53,7 +53,7 @@ fn main(rt: HostRuntime) -> Result<()> {
             .iter()
             .filter(|tally| tally.whole_after.is_none())
             .count();
-        println!(rt; "round {round}: {open} blocks could still be others")?;
+        println!(rt; "after round {round}, blocks that could still be others: {open}")?;
         if open == 0 {
             break;
         }
