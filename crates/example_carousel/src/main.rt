@@ -59,11 +59,10 @@ fn main(rt: HostRuntime) -> Result<()> {
         }
     }
     for tally in &tallies {
+        let round = tally.whole_after.unwrap_or(0);
         println!(rt;
-            "{} packets came, {} lost, whole after round {}",
-            tally.came,
-            tally.lost,
-            tally.whole_after.unwrap_or(0)
+            "{} packets came, {} lost, whole after round {round}",
+            tally.came, tally.lost
         )?;
     }
     let equal = decoder.get_result()?.is_some_and(|answer| answer == object);
