@@ -8,6 +8,9 @@
 static const uint8_t HEADER[REAMERTAN_CONFIGURATION_BYTES] = {0, 0, 0, 0, 3, 0, 0, 2, 1, 0, 1, 1};
 static const uint8_t OBJECT[3] = {7, 8, 9};
 static const uint8_t PACKETS[12] = {0, 0, 0, 0, 7, 8, 0, 0, 0, 1, 9, 0};
+/* A symbol of one byte, of which repair symbol 133 is zero, whatever the byte is: one of both was forged. */
+static const uint8_t ONE[REAMERTAN_CONFIGURATION_BYTES] = {0, 0, 0, 0, 1, 0, 0, 1, 1, 0, 1, 1};
+static const uint8_t FORGED[10] = {0, 0, 0, 133, 1, 0, 0, 0, 0, 7};
 static const uint8_t UNTOUCHED[32] = {170, 170, 170, 170, 170, 170, 170, 170, 170, 170, 170};
 
 static _Alignas(8) uint8_t buffer[32];
@@ -75,11 +78,24 @@ static void handles(void)
     expect("closed", 26, reamertan_write_object(&receiver, buffer, 3));
 }
 
+static void contradictions(void)
+{
+    struct reamertan_handle receiver = {0};
+    expect("a forged packet", 22, reamertan_decode(ONE, FORGED, 10, buffer, 1));
+    expect("opened", 0, reamertan_open_decoder(ONE, &receiver));
+    expect("one of both", 0, reamertan_add_packet(&receiver, FORGED, 5));
+    expect("the other", 22, reamertan_add_packet(&receiver, FORGED + 5, 5));
+    expect("one again", 22, reamertan_add_packet(&receiver, FORGED, 5));
+    expect("no object", 25, reamertan_write_object(&receiver, buffer, 1));
+    reamertan_close(&receiver);
+}
+
 int main(void)
 {
     memcpy(buffer, UNTOUCHED, sizeof buffer);
     configurations();
     handles();
+    contradictions();
     expect("no such block", 14, reamertan_block_range(HEADER, 1, (struct reamertan_range *)(void *)buffer));
     expect("too many ids", 11, reamertan_packets_length(HEADER, 1 << 24, (uint64_t *)(void *)buffer));
     expect("another length", 8, reamertan_encode(HEADER, OBJECT, 2, 0, buffer, 12));

@@ -160,9 +160,9 @@ uint8_t reamertan_encode(const uint8_t configuration[REAMERTAN_CONFIGURATION_BYT
  *
  * Refuses, in this order: PACKET_TOO_SHORT where the last packet is shorter than its id, what
  * `reamertan_check_configuration` refuses, of the first packet that is refused UNKNOWN_BLOCK or else
- * WRONG_PAYLOAD_SIZE (the last packet may be cut short) or else CONTRADICTION,
- * where with it those of its block, which has no answer yet, determine the block and no block fits them
- * all, INCOMPLETE, WRONG_BUFFER. OUT_OF_MEMORY may come before any. */
+ * WRONG_PAYLOAD_SIZE (the last packet may be cut short) or else CONTRADICTION, where with it those of its
+ * block, which has no answer yet, determine the block and no block fits them all, INCOMPLETE,
+ * WRONG_BUFFER. OUT_OF_MEMORY may come before any. */
 uint8_t reamertan_decode(const uint8_t configuration[REAMERTAN_CONFIGURATION_BYTES],
                          const uint8_t *packets, size_t packets_length, uint8_t *object,
                          size_t object_length);
@@ -210,8 +210,9 @@ uint8_t reamertan_open_decoder(const uint8_t configuration[REAMERTAN_CONFIGURATI
  * Refuses, in this order: NO_CODER where the handle holds no decoder, PACKET_TOO_SHORT, UNKNOWN_BLOCK,
  * WRONG_PAYLOAD_SIZE; the decoder then holds what it held. And then CONTRADICTION, where with the
  * packet those of its block, which has no answer yet, determine the block and no block fits them all: it
- * is taken, each later packet of its block is refused so too, and the object is never complete. OUT_OF_MEMORY may come before any but the first, and then the packet may be
- * taken or not, unless it is one to be refused; hand it in again. */
+ * is taken, each later packet of its block is refused so too, and the object is never complete.
+ * OUT_OF_MEMORY may come before any but the first, and then the packet may be taken or not, unless it is
+ * one to be refused by the first four; hand it in again. */
 uint8_t reamertan_add_packet(struct reamertan_handle *handle, const uint8_t *packet,
                              size_t packet_length);
 

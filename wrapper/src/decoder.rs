@@ -10,14 +10,16 @@ struct Block {
     symbols: u64,
     ids: BTreeSet<u32>,
     packets: Vec<u8>,
+    contradictory: bool,
     answer: Option<Vec<u8>>,
 }
 
 impl Block {
-    // Takes a packet, and answers the block as an object of its own once enough came.
+    // Takes a packet, and answers the block as an object of its own once enough came. What is
+    // contradictory stays so.
     fn take(&mut self, config: &ObjectTransmissionInformation, packet: EncodingPacket) {
         let id = packet.payload_id().encoding_symbol_id();
-        if self.answer.is_some() || !self.ids.insert(id) {
+        if self.answer.is_some() || self.contradictory || !self.ids.insert(id) {
             return;
         }
         let [_, id @ ..] = id.to_be_bytes();
@@ -29,7 +31,8 @@ impl Block {
         let mut bytes = vec![0; self.symbols as usize * usize::from(config.symbol_size())];
         match calls::decode(&config.of_block(self.symbols), &self.packets, &mut bytes) {
             Ok(()) => self.answer = Some(bytes),
-            Err(INCOMPLETE | CONTRADICTION) => {}
+            Err(INCOMPLETE) => {}
+            Err(CONTRADICTION) => self.contradictory = true,
             Err(refusal) => panic!("{refusal}"),
         }
     }
@@ -54,6 +57,7 @@ impl Decoder {
                 symbols: (range.end - range.start) / symbol_size,
                 ids: BTreeSet::new(),
                 packets: Vec::new(),
+                contradictory: false,
                 answer: None,
             },
             Err(refusal) => panic!("{refusal}"),

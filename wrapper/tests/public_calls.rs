@@ -75,6 +75,28 @@ fn expected_ids() {
 }
 
 #[test]
+fn unique_blocks() {
+    let config = ObjectTransmissionInformation::new(120, 10, 10, 0, 2);
+    let packets = Encoder::new(&Numbers(6).bytes(120), config).get_encoded_packets(0);
+    let blocks: Vec<u8> = packets.iter().map(|p| p.payload_id().source_block_number()).collect();
+    assert_eq!(blocks, [0, 0, 1, 1, 2, 3, 4, 5, 6, 7, 8, 9]);
+}
+
+#[test]
+fn example() {
+    let mut numbers = Numbers(7);
+    let data = numbers.bytes(10_000);
+    let encoder = Encoder::with_defaults(&data, 1400);
+    let packets = encoder.get_encoded_packets(15);
+    let mut sent: Vec<Vec<u8>> = packets.iter().map(|packet| packet.serialize()).collect();
+    numbers.shuffle(&mut sent);
+    sent.truncate(sent.len() - 10);
+    let came = sent.iter().map(|bytes| EncodingPacket::deserialize(bytes)).collect();
+    let mut decoder = Decoder::new(encoder.get_config());
+    assert_eq!(answer(&mut decoder, came), Some(data));
+}
+
+#[test]
 fn random_erasure() {
     let mut numbers = Numbers(3);
     for _ in 0..8 {
@@ -123,6 +145,16 @@ fn round_trips_of_each_size() {
         packets.remove(0);
         let mut decoder = Decoder::new(config);
         assert_eq!(answer(&mut decoder, packets), Some(data));
+    }
+}
+
+// Of a single source symbol, repair symbol 133 is zero, whatever that is.
+#[test]
+fn packets_that_contradict_each_other() {
+    let mut decoder = Decoder::new(ObjectTransmissionInformation::new(1, 1, 1, 1, 1));
+    for (id, byte) in [(133, 1), (0, 7), (1, 7)] {
+        let packet = EncodingPacket::new(PayloadId::new(0, id), vec![byte]);
+        assert_eq!(decoder.decode(packet), None);
     }
 }
 

@@ -53,17 +53,16 @@ fn main(rt: HostRuntime) -> Result<()> {
             .iter()
             .filter(|tally| tally.whole_after.is_none())
             .count();
-        println!(rt; "round {round}: {open} blocks could still be others")?;
+        println!(rt; "after round {round}, blocks that could still be others: {open}")?;
         if open == 0 {
             break;
         }
     }
     for tally in &tallies {
+        let round = tally.whole_after.unwrap_or(0);
         println!(rt;
-            "{} packets came, {} lost, whole after round {}",
-            tally.came,
-            tally.lost,
-            tally.whole_after.unwrap_or(0)
+            "{} packets came, {} lost, whole after round {round}",
+            tally.came, tally.lost
         )?;
     }
     let equal = decoder.get_result()?.is_some_and(|answer| answer == object);
