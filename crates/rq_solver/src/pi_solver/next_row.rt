@@ -30,35 +30,36 @@ pub(super) fn next_row(
     if let Some(row) = degrees.next_single() {
         return Some(row);
     }
-    let row = degrees.least()?;
-    if degrees.degree(row) != 2 {
-        return Some(row);
-    }
     join_columns(ones, columns, nodes, degrees, graph);
-    let Some(column) = graph.get_node_in_largest_connected_component(0, nodes) else {
-        return Some(row);
-    };
-    column_rows.row_of_two(column, degrees).or(Some(row))
+    if let Some(column) = graph.get_node_in_largest_connected_component(0, nodes) {
+        if let Some(row) = column_rows.row_of_two(column, degrees) {
+            return Some(row);
+        }
+    }
+    degrees.least()
 }
 
-// Joins the columns of each row that has two active ones.
+// Joins the columns of each row that came to have two active ones. They stay joined until they
+// aren't active any more: where one of joined columns gets a pivot or is inactive, rows are left
+// with one active column, until all the others have pivots.
 fn join_columns(
     ones: &RowOnes,
     columns: &ColumnOrder,
     nodes: usize,
-    degrees: &RowDegrees,
+    degrees: &mut RowDegrees,
     graph: &mut ConnectedComponentGraph,
 )
     requires columns { All (λ row. All (λ column. column < length columns.now.order) row) ones.now }
-    requires rows { degrees.now ≡ length ones.now }
+    requires rows { degrees.old ≡ length ones.now }
     requires graph { length graph.old.labels ≡ nodes }
-    ensures { length graph.new.labels ≡ nodes }
+    ensures rows { degrees.new ≡ degrees.old }
+    ensures graph { length graph.new.labels ≡ nodes }
 {
-    graph.reset();
-    for row in 0..ones.height() {
-        if degrees.degree(row) == 2 {
-            join_pair(ones.row(row), columns, nodes, graph);
-        }
+    for _ in 0..ones.height() {
+        let Some(row) = degrees.next_pair() else {
+            break;
+        };
+        join_pair(ones.row(row), columns, nodes, graph);
     }
 }
 

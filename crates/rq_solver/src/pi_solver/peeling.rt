@@ -56,7 +56,15 @@ pub(super) fn peel(
         let Some(row) = next else {
             break;
         };
-        if take_row(ones.row(row), &column_rows, &mut degrees, &mut columns)? {
+        let taken = take_row(
+            ones.row(row),
+            &column_rows,
+            nodes,
+            &mut degrees,
+            &mut graph,
+            &mut columns,
+        )?;
+        if taken {
             rows.push(row)?;
         }
     }
@@ -73,23 +81,28 @@ pub(super) fn peel(
 fn take_row(
     row: &[usize],
     column_rows: &ColumnRows,
+    nodes: usize,
     degrees: &mut RowDegrees,
+    graph: &mut ConnectedComponentGraph,
     columns: &mut ColumnOrder,
 ) -> Result<bool, Error>
     requires columns { All (λ column. column < length columns.old.order) row.now }
     requires column_rows { column_rows.now ≡ record { rows = degrees.old; columns = length columns.old.order } }
+    requires graph { length graph.old.labels ≡ nodes }
     ensures taken { IfOk result (λ taken. IsTrue taken → TakesRow row.now columns.old columns.new) }
     ensures left { IfOk result (λ taken. (taken ≡ false) → columns.new ≡ columns.old) }
     ensures none { IfOk result (λ taken. (taken ≡ false) → HasNoActive row.now columns.old) }
     ensures degrees { degrees.new ≡ degrees.old }
+    ensures graph { length graph.new.labels ≡ nodes }
     ensures err { IfErr result (λ e. e ≡ OutOfMemory) }
 {
     let Some(pivot) = first_active(row, columns) else {
         return Ok(false);
     };
     columns.take_pivot(pivot);
+    leave_graph(pivot, nodes, graph);
     column_rows.lower_rows(pivot, degrees)?;
-    inactivate_columns(row, column_rows, degrees, columns)?;
+    inactivate_columns(row, column_rows, nodes, degrees, graph, columns)?;
     Ok(true)
 }
 
@@ -112,20 +125,35 @@ fn first_active(row: &[usize], columns: &ColumnOrder) -> Option<usize>
 fn inactivate_columns(
     row: &[usize],
     column_rows: &ColumnRows,
+    nodes: usize,
     degrees: &mut RowDegrees,
+    graph: &mut ConnectedComponentGraph,
     columns: &mut ColumnOrder,
 ) -> Result<(), Error>
     requires columns { All (λ column. column < length columns.old.order) row.now }
     requires column_rows { column_rows.now ≡ record { rows = degrees.old; columns = length columns.old.order } }
+    requires graph { length graph.old.labels ≡ nodes }
     ensures inactive { OnOk result (InactivatesRow row.now columns.old columns.new) }
     ensures degrees { degrees.new ≡ degrees.old }
+    ensures graph { length graph.new.labels ≡ nodes }
     ensures err { IfErr result (λ e. e ≡ OutOfMemory) }
 {
     for column in row {
         if columns.is_active(*column) {
             columns.inactivate(*column);
+            leave_graph(*column, nodes, graph);
             column_rows.lower_rows(*column, degrees)?;
         }
     }
     Ok(())
+}
+
+// A column that isn't active any more is in no component.
+fn leave_graph(column: usize, nodes: usize, graph: &mut ConnectedComponentGraph)
+    requires { length graph.old.labels ≡ nodes }
+    ensures { length graph.new.labels ≡ nodes }
+{
+    if column < nodes {
+        graph.remove_node(column);
+    }
 }

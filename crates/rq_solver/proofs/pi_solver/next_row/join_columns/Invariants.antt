@@ -2,5 +2,5 @@
 use Rattle.std.proofs.Common.{◌≡◌, length}
 use Rattle.rq_solver.proofs.pi_solver.next_row.join_columns.Given as goal
 
-abbrev pub invariant-loop-row : goal.invariant-loop-row
-invariant-loop-row l = length l.graph.labels ≡ l.nodes
+abbrev pub invariant-loop : goal.invariant-loop
+invariant-loop l = record { degrees : l.degrees ≡ length l.ones; graph : length l.graph.labels ≡ l.nodes }

@@ -1,5 +1,5 @@
 -- What the loops keep in `pi_solver::peeling::inactivate_columns`.
-use Rattle.std.proofs.Common.{◌≡◌, take}
+use Rattle.std.proofs.Common.{◌≡◌, length, take}
 use Rattle.rq_solver.specs.Peeled.{InactivatesRow}
 use Rattle.rq_solver.proofs.pi_solver.peeling.inactivate_columns.Given as goal
 
@@ -7,4 +7,5 @@ abbrev pub invariant-loop-column : goal.invariant-loop-column
 invariant-loop-column l = record {
   inactive : InactivatesRow (take l.column-index l.row) l.fn.columns l.columns;
   degrees : l.degrees ≡ l.fn.degrees;
+  graph : length l.graph.labels ≡ l.nodes;
 }

@@ -6,7 +6,7 @@ use Rattle.rq_parts.specs.ConnectedComponentGraph.{Components}
 use Rattle.rq_solver.specs.Peeled.{ones_of, TakesRow, IsOrderOf}
 use Rattle.rq_solver.proofs.PeelingLaws.{peeled_none, peeled_next, peeled_all}
 use Rattle.rq_solver.proofs.pi_solver.peeling.peel.Goals as goal
-use Rattle.rq_solver.proofs.pi_solver.peeling.peel.Goals.{then-branch+in_ok-push, else-branch}
+use Rattle.rq_solver.proofs.pi_solver.peeling.peel.Goals.{then-taken+in_ok-push, else-taken}
 
 abbrev node_count : {E : Type 0} → Result Components E → ℕ
 node_count (Ok g) = length g.labels
@@ -27,22 +27,22 @@ loop-preserved c =
     let v = c.loop.invariant in
     let lists = c.args.ones.now in
     let degrees = c.take_row.ensures.degrees ∙ c.next_row-next.ensures.rows ∙ v.degrees in
-    elim c.if-branch.branch [
-      | then-branch+in_ok-push w ↦
-          let takes : TakesRow (ones_of lists c.in-Some.row) c.loop.columns c.take_row.new.columns = rw (sym c.row.ensures) (c.in_ok-take_row.ensures.taken w.if-branch.true) in
+    elim c.if-taken.branch [
+      | then-taken+in_ok-push w ↦
+          let takes : TakesRow (ones_of lists c.in-Some.row) c.loop.columns c.take_row.new.columns = rw (sym c.row.ensures) (c.in_ok-taken.ensures.taken w.if-taken.true) in
           let columns : All (λ row. All (λ column. column < length c.loop.columns.order) row) lists = rw v.width c.requires.columns in
-          let rows : c.if-branch.rows.items ≡ c.loop.rows.items ++ c.in-Some.row ∷ [] = ap (λ (v : Vec ℕ Global). v.items) w.rows-is ∙ w.in_ok-push.ensures.items in
+          let rows : c.if-taken.rows.items ≡ c.loop.rows.items ++ c.in-Some.row ∷ [] = ap (λ (v : Vec ℕ Global). v.items) w.rows-is ∙ w.in_ok-push.ensures.items in
           rw rows
           (record {
             so = peeled_next lists c.loop.rows.items c.loop.columns c.take_row.new.columns columns v.so c.in-Some.row (omega (arith, c.in-Some.ensures.row, v.degrees)) takes;
             width = takes.width ∙ v.width;
             degrees = degrees;
-            graph = c.next_row-next.ensures.graph;
+            graph = c.take_row.ensures.graph;
           })
-      | else-branch w ↦
-          let left = c.in_ok-take_row.ensures.left w.if-branch.false in
-          let rows : c.if-branch.rows.items ≡ c.loop.rows.items = ap (λ (v : Vec ℕ Global). v.items) w.rows-is in
-          rw (rows, left) (record { so = v.so; width = v.width; degrees = degrees; graph = c.next_row-next.ensures.graph })
+      | else-taken w ↦
+          let left = c.in_ok-taken.ensures.left w.if-taken.false in
+          let rows : c.if-taken.rows.items ≡ c.loop.rows.items = ap (λ (v : Vec ℕ Global). v.items) w.rows-is in
+          rw (rows, left) (record { so = v.so; width = v.width; degrees = degrees; graph = c.take_row.ensures.graph })
     ]
 
 pub returns-clause-peeled : goal.returns-clause-peeled

@@ -6,6 +6,7 @@ abbrev pub invariant-loop-row : goal.invariant-loop-row
 invariant-loop-row l = record {
   rows : length l.self-inside.degrees.items ≡ l.fn.self;
   singles : All (λ row. row < length l.self-inside.degrees.items) l.self-inside.singles.items;
+  pairs : All (λ row. row < length l.self-inside.degrees.items) l.self-inside.pairs.items;
 }
 
 abbrev pub decreases-loop-row : goal.decreases-loop-row
