@@ -1,22 +1,21 @@
 -- What came, key by key and payload by payload.
-use Rattle.std.proofs.Common.{◌≡◌, ℕ, ◌+◌, ◌-◌, ◌*◌, ◌/◌, ◌<◌, ◌≤◌, true, List, [], ◌∷◌, ◌++◌, All, length, map, get_or, replicate, Option, Some, None, Vec, Global, refl, sym, ap, ◌∙◌, subst, arith, append-nil, append_assoc, vec_items}
+use Rattle.std.proofs.Common.{◌≡◌, ℕ, suc, ◌+◌, ◌-◌, ◌*◌, true, List, [], ◌∷◌, ◌++◌, All, length, map, replicate, Option, Some, None, Vec, Global, refl, sym, ap, ◌∙◌, subst, arith, append-nil, append_assoc, vec_items}
 use Rattle.std.specs.Prelude.{is_some, option_map, IsSome}
 use Rattle.std.specs.List.{range_with_len}
 use Rattle.std.specs.Ordering.{nat_cmp}
 use Rattle.std.specs.BTreeMap.{BTreeMap, ContainsKey, IsOrdered, keys, values}
 use Rattle.std.specs.Option.{ForSome}
 use Rattle.std.proofs.Math.Seq.{get_or-append_seam}
-use Rattle.std.proofs.lemmas.List.{get_or-map, length-append, length-map}
+use Rattle.std.proofs.lemmas.List.{length-append, length-replicate, map-append}
 use Rattle.std.proofs.lemmas.List.Elements.{All-map}
 use Rattle.std.proofs.lemmas.Simd.{map-map}
-use Rattle.rq_bytes.specs.Ranges.{with_range, cut}
-use Rattle.rq_bytes.specs.SymbolSlab.{Slab, slab_of}
+use Rattle.rq_bytes.specs.Ranges.{cut}
+use Rattle.rq_bytes.proofs.Cuts.{cut-append, cut-replicate}
 use Rattle.rq_standard.specs.declared.row.TableRow.{TableRow}
 use Rattle.rq_standard.specs.Equations.{internal_id, zero_symbol}
 use Rattle.raptorq.specs.Known.{known_list, known_values}
 use Rattle.raptorq.specs.Missing.{has_payload, payload_of}
-use Rattle.raptorq.proofs.Filling.{filled, filled_none, filled_more, filled_all, filled_room}
-use Rattle.raptorq.proofs.Listing.{each_entry, whole_piece}
+use Rattle.raptorq.proofs.Listing.{each_entry}
 
 abbrev Payloads : Type 0
 Payloads = BTreeMap ℕ (Vec ℕ Global)
@@ -39,63 +38,44 @@ known_by_keys row k m done all = ap (λ xs. range_with_len k (row.extended_symbo
 
 -- ---- payloads
 
--- of all payloads the first are filled in behind zeros
-pub record FillsSoFar (zeros size : ℕ) (all done rest : List (Vec ℕ Global)) (place : ℕ) (slab : Slab) : Type 0 where
+-- of all payloads the first stand one after another behind zeros
+pub record AppendsSoFar (zeros size : ℕ) (all done rest : List (Vec ℕ Global)) (bytes : List ℕ) : Type 0 where
   pub whole : done ++ rest ≡ all
-  pub here : place ≡ zeros + length done
-  pub values_are : slab ≡ slab_of size (filled zeros (length all) size (map vec_items all) (length done))
+  pub long : length bytes ≡ (zeros + length done) * size
+  pub symbols : cut (zeros + length done) size bytes ≡ replicate zeros (zero_symbol size) ++ map vec_items done
 
 -- before the first one
-pub fills_none : (zeros size n : ℕ) (all rest : List (Vec ℕ Global)) (slab : Slab) → rest ≡ all → n ≡ length all → slab ≡ slab_of size (replicate (zeros + n) (replicate {A = ℕ} size 0)) → FillsSoFar zeros size all [] rest zeros slab
-fills_none zeros size n all rest slab is count blank = record {
+pub appends_none : (zeros size : ℕ) (all rest : List (Vec ℕ Global)) (bytes : List ℕ) → rest ≡ all → bytes ≡ replicate (zeros * size) 0 → AppendsSoFar zeros size all [] rest bytes
+appends_none zeros size all rest bytes is blank = record {
   whole = is;
-  here = omega arith;
-  values_are = filled_none zeros (length all) size (map vec_items all) slab (blank ∙ ap (λ k. slab_of size (replicate (zeros + k) (replicate {A = ℕ} size 0))) count);
+  long = ap length blank ∙ length-replicate (zeros * size) 0 ∙ ap (λ n. n * size) (let e : zeros ≡ zeros + 0 = omega arith in e);
+  symbols = ap (λ n. cut n size bytes) (let e : zeros + 0 ≡ zeros = omega arith in e) ∙ ap (cut zeros size) blank ∙ cut-replicate zeros size 0 ∙ sym (append-nil (replicate zeros (zero_symbol size)));
 }
 
-module _ (m : Payloads) (zeros size : ℕ) (ordered : IsOrdered nat_cmp m) (positive : 0 < size) (sized : (e : ℕ) → ForSome (payload_of m e) (λ payload. length payload ≡ size)) (done rest left : List (Vec ℕ Global)) (v : Vec ℕ Global) (payload : List ℕ) (place : ℕ) (slab : Slab)
-    (so : FillsSoFar zeros size (values m) done rest place slab) (next : rest ≡ v ∷ left) (is : payload ≡ v.items) where
-  whole_next : done ++ v ∷ left ≡ values m
-  whole_next = ap (λ r. done ++ r) (sym next) ∙ so.whole
-
-  within : length done < length (map vec_items (values m))
-  within = omega (arith, length-map (values m) vec_items, ap length whole_next, length-append done (v ∷ left))
-
-  long : length payload ≡ size
-  long =
-      let all : All (λ w. length w.items ≡ size) (values m) = All-map (λ w. length w.items ≡ size) (λ e. e.1) m.entries (each_entry m (λ e. length e.1.items ≡ size) ordered (λ e w here. sized e w.items here) m.entries [] refl) in
-      ap length is ∙ rw (get_or-append_seam done v left v) at (subst (All (λ w. length w.items ≡ size)) (sym whole_next) all (length done) v (omega (arith, length-append done (v ∷ left))))
-
-  read : payload ≡ get_or (map vec_items (values m)) (length done) payload
-  read = is ∙ sym (get_or-map vec_items (values m) (length done) v payload (omega (arith, within, length-map (values m) vec_items)) ∙ ap (λ xs. (get_or xs (length done) v).items) (sym whole_next) ∙ ap (λ w. w.items) (get_or-append_seam done v left v))
-
-  size_is : slab.symbol_size ≡ size
-  size_is = ap (λ (s : Slab). s.symbol_size) so.values_are
-
-  -- it is one whole symbol, and has room
-  pub fills_whole : length payload ≡ length payload / slab.symbol_size * slab.symbol_size
-  fills_whole = whole_piece slab.symbol_size size (length payload) positive size_is long
-
-  pub fills_room : place + length payload / slab.symbol_size ≤ length slab.values
-  fills_room = filled_room zeros (length (values m)) size (length done) place slab.symbol_size (length payload) (map vec_items (values m)) slab so.values_are so.here within (omega (arith, length-map (values m) vec_items)) positive size_is long
-
-  -- one more
-  pub fills_more : (new : Slab) → new ≡ record slab { values = with_range slab.values place (cut (length payload / slab.symbol_size) slab.symbol_size payload) } → FillsSoFar zeros size (values m) (done ++ v ∷ []) left (place + 1) new
-  fills_more new put =
-      let count : length (done ++ v ∷ []) ≡ length done + 1 = length-append done (v ∷ []) ∙ omega arith in
-      record {
-        whole = append_assoc done (v ∷ []) left ∙ whole_next;
-        here = omega (arith, so.here, count);
-        values_are = filled_more zeros (length (values m)) size (length done) place (map vec_items (values m)) slab new payload so.values_are so.here within (omega (arith, length-map (values m) vec_items)) positive read long put
-            ∙ ap (λ n. slab_of size (filled zeros (length (values m)) size (map vec_items (values m)) n)) (sym count);
-      }
+-- one more
+pub appends_more : (m : Payloads) (zeros size : ℕ) → IsOrdered nat_cmp m → ((e : ℕ) → ForSome (payload_of m e) (λ payload. length payload ≡ size)) → (done rest left : List (Vec ℕ Global)) (v : Vec ℕ Global) (old new : List ℕ)
+    → AppendsSoFar zeros size (values m) done rest old → rest ≡ v ∷ left → new ≡ old ++ v.items → AppendsSoFar zeros size (values m) (done ++ v ∷ []) left new
+appends_more m zeros size ordered sized done rest left v old new so next put =
+    let whole : done ++ v ∷ left ≡ values m = ap (λ r. done ++ r) (sym next) ∙ so.whole in
+    let all : All (λ w. length w.items ≡ size) (values m) = All-map (λ w. length w.items ≡ size) (λ e. e.1) m.entries (each_entry m (λ e. length e.1.items ≡ size) ordered (λ e w here. sized e w.items here) m.entries [] refl) in
+    let long : length v.items ≡ size = rw (get_or-append_seam done v left v) at (subst (All (λ w. length w.items ≡ size)) (sym whole) all (length done) v (omega (arith, length-append done (v ∷ left)))) in
+    let count : zeros + length (done ++ v ∷ []) ≡ suc (zeros + length done) = ap (λ n. zeros + n) (length-append done (v ∷ [])) ∙ omega arith in
+    let zero_symbols = replicate zeros (zero_symbol size) in
+    record {
+      whole = append_assoc done (v ∷ []) left ∙ whole;
+      long = ap length put ∙ length-append old v.items ∙ ap (λ n. n + length v.items) so.long ∙ ap (λ n. (zeros + length done) * size + n) long ∙ (let e : (zeros + length done) * size + size ≡ suc (zeros + length done) * size = omega arith in e) ∙ ap (λ n. n * size) (sym count);
+      symbols = ap (λ n. cut n size new) count ∙ ap (cut (suc (zeros + length done)) size) put
+          ∙ cut-append (zeros + length done) size old v.items so.long long
+          ∙ ap (λ xs. xs ++ v.items ∷ []) so.symbols
+          ∙ append_assoc zero_symbols (map vec_items done) (v.items ∷ [])
+          ∙ ap (λ xs. zero_symbols ++ xs) (sym (map-append vec_items done (v ∷ [])));
+    }
 
 -- all of them
-pub fills_all : (row : TableRow) (k fixed size : ℕ) (m : Payloads) (done rest : List (Vec ℕ Global)) (place : ℕ) (slab : Slab) → FillsSoFar (fixed + (row.extended_symbols - k)) size (values m) done rest place slab → rest ≡ [] → slab ≡ slab_of size (known_values row k fixed size m.entries)
-fills_all row k fixed size m done rest place slab so none =
+pub appends_all : (row : TableRow) (k fixed size : ℕ) (m : Payloads) (done rest : List (Vec ℕ Global)) (bytes : List ℕ) (count : ℕ) → AppendsSoFar (fixed + (row.extended_symbols - k)) size (values m) done rest bytes → rest ≡ [] → count ≡ fixed + (row.extended_symbols - k) + length (values m)
+    → (length bytes ≡ count * size) × (cut count size bytes ≡ known_values row k fixed size m.entries)
+appends_all row k fixed size m done rest bytes count so none is =
     let zeros : ℕ = fixed + (row.extended_symbols - k) in
-    let source = map vec_items (values m) in
     let all : done ≡ values m = sym (append-nil done) ∙ ap (λ r. done ++ r) (sym none) ∙ so.whole in
-    let left : length (values m) - length source ≡ 0 = omega (arith, length-map (values m) vec_items) in
-    filled_all zeros (length (values m)) size (length done) source slab so.values_are (ap length all ∙ sym (length-map (values m) vec_items))
-    ∙ ap (slab_of size) (ap (λ xs. replicate zeros (zero_symbol size) ++ xs) (ap (λ n. source ++ replicate n (zero_symbol size)) left ∙ append-nil source ∙ map-map vec_items (λ e. e.1) m.entries))
+    let same : zeros + length done ≡ count = ap (λ xs. zeros + length xs) all ∙ sym is in
+    (so.long ∙ ap (λ n. n * size) same, ap (λ n. cut n size bytes) (sym same) ∙ so.symbols ∙ ap (λ xs. replicate zeros (zero_symbol size) ++ map vec_items xs) all ∙ ap (λ xs. replicate zeros (zero_symbol size) ++ xs) (map-map vec_items (λ e. e.1) m.entries))

@@ -5,7 +5,6 @@ pub mod CacheLaws
 pub mod Came
 pub mod EncodedBlocks
 pub mod Encodes
-pub mod Filling
 pub mod HdpcSums
 pub mod HeldEquations
 pub mod HeldSolutions

@@ -1,5 +1,5 @@
 -- What a decoder of an object does with a packet, whoever sent it.
-use Rattle.std.specs.Prelude.{◌≡◌, ◌≢◌, Result, Ok, Err, IfErr, OnOk}
+use Rattle.std.specs.Prelude.{◌≡◌, ◌≢◌, Result, Ok, IfErr, OnOk}
 use Rattle.rq_bytes.specs.declared.error.Error.{Error}
 use Rattle.rq_bytes.specs.declared.error.Error.TheVariants.{OutOfMemory, Contradiction}
 use Rattle.rq_standard.specs.Packet.{Packet}

@@ -27,6 +27,7 @@ use rq_standard::row::TableRow;
 use rq_tables::systematic_constants::SystematicTable;
 use std::alloc::{AllocError, Global};
 use std::collections::BTreeMap;
+use std::collections::btree_map::Entry;
 
 // What the last attempt to answer a block found of what is held.
 #[derive(Clone, Copy)]
@@ -86,11 +87,13 @@ fn keep_first(
     ensures ok { OnOk result ((e : ℕ) → payload_of received.new e ≡ or_later (payload_of received.old e) (if esi == e then Some payload.items else None)) }
     ensures err { OnErr result ((e : ℕ) → payload_of received.new e ≡ payload_of received.old e) }
 {
-    if received.contains_key(&esi) {
-        return Ok(false);
+    match received.entry(esi)? {
+        Entry::Occupied(_) => Ok(false),
+        Entry::Vacant(vacant) => {
+            let _kept = vacant.insert(payload);
+            Ok(true)
+        }
     }
-    let _previous = received.insert(esi, payload)?;
-    Ok(true)
 }
 
 // The symbols one after another, where each of them came.

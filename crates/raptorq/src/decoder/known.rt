@@ -59,15 +59,15 @@ pub(crate) fn known_symbol_values(
     ensures memory { IfErr result (λ e. e ≡ Error.OutOfMemory) }
 {
     let padding = row.extended_symbols - symbols;
-    let mut index = fixed + padding as usize;
-    let count = index + received.len();
+    let zeros = fixed + padding as usize;
+    let count = zeros + received.len();
     // Room for the block that is answered too: an allocator that is handed this buffer back then
     // keeps as much for the next block.
     let room = (count + symbols as usize) * size;
-    let mut values = SymbolSlab::with_room(alloc, count, size, room)?;
+    let mut bytes = Vec::with_capacity(alloc, room)?;
+    bytes.resize(zeros * size, 0)?;
     for payload in received.values() {
-        values.copy_block_from(index, payload.as_slice());
-        index += 1;
+        bytes.extend_from_slice(payload.as_slice())?;
     }
-    Ok(values)
+    Ok(SymbolSlab::from_bytes(bytes, count, size))
 }

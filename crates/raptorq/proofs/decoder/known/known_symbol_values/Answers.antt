@@ -1,11 +1,12 @@
-use Rattle.std.proofs.Common.{ℕ, [], ◌∷◌, ◌+◌, ◌-◌, ◌*◌, ◌^◌, ◌≤◌, map, sym, ◌∙◌, subst, arith}
+use Rattle.std.proofs.Common.{ℕ, [], ◌∷◌, ◌++◌, ◌+◌, ◌-◌, ◌*◌, ◌^◌, ◌≡◌, ◌≤◌, map, replicate, take, sym, ap, ◌∙◌, subst, arith}
 use Rattle.std.specs.BTreeMap.{values}
 use Rattle.std.specs.Map.Iter.{deref}
 use Rattle.std.proofs.Math.Nat.{mul-le-mul}
-use Rattle.std.proofs.lemmas.List.{map-append}
+use Rattle.std.proofs.lemmas.List.{map-append, take_all}
 use Rattle.std.proofs.lemmas.Map.Entries.{length-values_of}
-use Rattle.raptorq.proofs.Came.{FillsSoFar, fills_none, fills_whole, fills_room, fills_more, fills_all}
-use Rattle.raptorq.proofs.Listing.{few_entries, slab_answered}
+use Rattle.rq_bytes.specs.SymbolSlab.{slab_of}
+use Rattle.raptorq.proofs.Came.{AppendsSoFar, appends_none, appends_more, appends_all}
+use Rattle.raptorq.proofs.Listing.{few_entries}
 use Rattle.raptorq.proofs.decoder.known.known_symbol_values.Goals as goal
 
 pub overflow_mul-room : goal.overflow_mul-room
@@ -17,37 +18,27 @@ overflow_mul-room c =
     let product : n * c.args.size ≤ 2 ^ 26 * 65535 = mul-le-mul few (let small : c.args.size ≤ 65535 = omega (arith, c.requires.small) in small) in
     record { fits = omega (arith, product) }
 
-pub with_room-requires : goal.with_room-requires
-with_room-requires c =
-    let count : c.len.result ≤ 2 ^ 24 = omega (arith, c.len.ensures.len, few_entries c.args.received.now (2 ^ 24) c.len.ensures.ordered c.requires.few) in
-    let fixed = c.args.fixed + (c.args.row.now.extended_symbols - c.args.symbols) in
-    let n = fixed + c.len.result in
-    let few : n ≤ 2 ^ 25 = omega (arith, count, c.requires.checked.few_columns, c.requires.few_fixed) in
-    let small : c.args.size ≤ 65535 = omega (arith, c.requires.small) in
-    let product : n * c.args.size ≤ 2 ^ 25 * 65535 = mul-le-mul few small in
-    omega (arith, product)
-
 pub loop-payload-init : goal.loop-payload-init
 loop-payload-init c =
-    fills_none _ c.args.size c.len.result (values c.args.received.now) c.into_iter-payload-iterator.result c.in_ok-values.values (c.into_iter-payload-iterator.ensures.into_iter_gives ∙ c.values-payload-items.ensures.rest)
-    (c.len.ensures.len ∙ sym (length-values_of c.args.received.now.entries)) (slab_answered _ c.in_ok-values.values c.in_ok-values.ensures)
-
-pub copy_block_from-requires-clause-whole : goal.copy_block_from-requires-clause-whole
-copy_block_from-requires-clause-whole c =
-    fills_whole c.args.received.now _ c.args.size c.len.ensures.ordered c.requires.positive c.requires.sized (map deref c.loop-payload.yielded) c.loop-payload.payload-iterator c.next.new.self c.in-Some.payload.now c.as_slice.result.now c.loop-payload.index c.loop-payload.values
-    c.loop-payload.invariant c.in-Some.ensures.steps c.as_slice.ensures.value
-
-pub copy_block_from-requires-clause-fits : goal.copy_block_from-requires-clause-fits
-copy_block_from-requires-clause-fits c =
-    fills_room c.args.received.now _ c.args.size c.len.ensures.ordered c.requires.positive c.requires.sized (map deref c.loop-payload.yielded) c.loop-payload.payload-iterator c.next.new.self c.in-Some.payload.now c.as_slice.result.now c.loop-payload.index c.loop-payload.values
-    c.loop-payload.invariant c.in-Some.ensures.steps c.as_slice.ensures.value
+    let zeros : ℕ = c.args.fixed + (c.args.row.now.extended_symbols - c.args.symbols) in
+    let n = zeros * c.args.size in
+    let empty = c.in_ok-bytes.ensures.items in
+    appends_none zeros c.args.size (values c.args.received.now) c.into_iter-payload-iterator.result c.resize.new.self.items
+    (c.into_iter-payload-iterator.ensures.into_iter_gives ∙ c.values-payload-items.ensures.rest)
+    (c.in_ok-resize.ensures.items
+    ∙ ap (λ xs. take n xs ++ replicate (n - c.in_ok-bytes.bytes.len) 0) empty
+    ∙ ap (λ xs. xs ++ replicate (n - c.in_ok-bytes.bytes.len) 0) (take_all n [] (omega arith))
+    ∙ ap (λ m. replicate m 0) (let e : n - c.in_ok-bytes.bytes.len ≡ n = omega (arith, c.in_ok-bytes.ensures.len) in e))
 
 pub loop-payload-preserved : goal.loop-payload-preserved
 loop-payload-preserved c =
     let zeros : ℕ = c.args.fixed + (c.args.row.now.extended_symbols - c.args.symbols) in
-    subst (λ d. FillsSoFar zeros c.args.size (values c.args.received.now) d c.next.new.self (c.loop-payload.index + 1) c.copy_block_from.new.self) (sym (map-append deref c.loop-payload.yielded (c.in-Some.payload ∷ [])))
-    (fills_more c.args.received.now zeros c.args.size c.len.ensures.ordered c.requires.positive c.requires.sized (map deref c.loop-payload.yielded) c.loop-payload.payload-iterator c.next.new.self c.in-Some.payload.now c.as_slice.result.now c.loop-payload.index c.loop-payload.values
-    c.loop-payload.invariant c.in-Some.ensures.steps c.as_slice.ensures.value c.copy_block_from.new.self c.copy_block_from.ensures)
+    subst (λ d. AppendsSoFar zeros c.args.size (values c.args.received.now) d c.next.new.self c.extend_from_slice.new.self.items) (sym (map-append deref c.loop-payload.yielded (c.in-Some.payload ∷ [])))
+    (appends_more c.args.received.now zeros c.args.size c.len.ensures.ordered c.requires.sized (map deref c.loop-payload.yielded) c.loop-payload.payload-iterator c.next.new.self c.in-Some.payload.now c.loop-payload.bytes.items c.extend_from_slice.new.self.items
+    c.loop-payload.invariant c.in-Some.ensures.steps (c.in_ok-extend_from_slice.ensures.items ∙ ap (λ xs. c.loop-payload.bytes.items ++ xs) c.as_slice.ensures.value))
 
 pub returns-clause-values : goal.returns-clause-values
-returns-clause-values c = fills_all c.args.row.now c.args.symbols c.args.fixed c.args.size c.args.received.now (map deref c.loop-payload.yielded) c.loop-payload.payload-iterator c.loop-payload.index c.loop-payload.values c.loop-payload.invariant c.in-None.ensures.steps.0
+returns-clause-values c =
+    let zeros : ℕ = c.args.fixed + (c.args.row.now.extended_symbols - c.args.symbols) in
+    let count = ap (λ n. zeros + n) (c.len.ensures.len ∙ sym (length-values_of c.args.received.now.entries)) in
+    c.from_bytes.ensures ∙ ap (slab_of c.args.size) (appends_all c.args.row.now c.args.symbols c.args.fixed c.args.size c.args.received.now (map deref c.loop-payload.yielded) c.loop-payload.payload-iterator c.loop-payload.bytes.items _ c.loop-payload.invariant c.in-None.ensures.steps.0 count).1
