@@ -71,7 +71,8 @@ fn first_sums(alloc: Global, row: &TableRow, intermediate: &SymbolSlab) -> Resul
     ensures memory { IfErr result (λ e. e ≡ Error.OutOfMemory) }
 {
     let start = (row.extended_symbols + row.ldpc_symbols) as usize;
-    let mut places: Vec<usize> = (start..start + row.hdpc_symbols as usize).collect(alloc)?;
+    let end = row.intermediate_symbols() as usize;
+    let mut places: Vec<usize> = (start..end).collect(alloc)?;
     places.push(0)?;
     intermediate.gather(places.as_slice())
 }

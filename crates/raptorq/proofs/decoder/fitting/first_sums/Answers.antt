@@ -13,7 +13,7 @@ pub gather-requires : goal.gather-requires
 gather-requires c k d lt =
     let row = c.args.row.now in
     let numbers = c.in_ok-places.places.items in
-    let are = c.in_ok-places.ensures.ran.2.0 ∙ range_numbers (before_hdpc row) row.hdpc_symbols _ c.in_ok-places.ensures.ran.0 (omega arith) c.in_ok-places.ensures.ran.1 in
+    let are = c.in_ok-places.ensures.ran.2.0 ∙ range_numbers (before_hdpc row) row.hdpc_symbols _ c.in_ok-places.ensures.ran.0 (omega (arith, c.intermediate_symbols-end.ensures)) c.in_ok-places.ensures.ran.1 in
     place_of_slab c.args.intermediate.now _ (intermediate_symbols row) c.requires.enough (places_below row numbers _ are (c.as_slice.ensures.value ∙ c.in_ok-push.ensures.items) k d (omega arith) lt)
 
 pub returns-clause-sums : goal.returns-clause-sums
@@ -22,7 +22,7 @@ returns-clause-sums c =
     let slab = c.args.intermediate.now in
     let column = symbol_in slab in
     let numbers = c.in_ok-places.places.items in
-    let are = c.in_ok-places.ensures.ran.2.0 ∙ range_numbers (before_hdpc row) row.hdpc_symbols _ c.in_ok-places.ensures.ran.0 (omega arith) c.in_ok-places.ensures.ran.1 in
+    let are = c.in_ok-places.ensures.ran.2.0 ∙ range_numbers (before_hdpc row) row.hdpc_symbols _ c.in_ok-places.ensures.ran.0 (omega (arith, c.intermediate_symbols-end.ensures)) c.in_ok-places.ensures.ran.1 in
     answered c.gather.result _ (AreHdpcSums row column slab.symbol_size 0) c.gather.ensures (λ sums is.
     gathered_sums row column slab.symbol_size slab sums numbers refl are (is ∙ ap (λ places. slab_of slab.symbol_size (map (symbol_in slab) places)) (c.as_slice.ensures.value ∙ c.in_ok-push.ensures.items))
     (symbol_elements octets slab.symbol_size (column 0) (c.requires.symbols 0 (omega arith))))
