@@ -102,10 +102,11 @@ impl InactiveEntries {
         requires column { column < self.now.width }
         ensures { result ≡ entry_of self.now row column }
     {
-        if self.octets[row].is_none() {
+        let own = &self.octets[row];
+        if own.is_none() {
             Octet::new(bit(self.bits.get(row), column))
         } else {
-            Octet::new(self.octets[row].get(column))
+            Octet::new(own.get(column))
         }
     }
 
@@ -116,10 +117,11 @@ impl InactiveEntries {
         requires end { end ≤ self.now.width }
         ensures { IsNextEntry (entry_of self.now row) from end result }
     {
-        if self.octets[row].is_none() {
+        let own = &self.octets[row];
+        if own.is_none() {
             next_one(self.bits.get(row), from, end)
         } else {
-            self.octets[row].next_entry(from, end)
+            own.next_entry(from, end)
         }
     }
 
@@ -129,10 +131,11 @@ impl InactiveEntries {
         requires count { count ≤ self.now.width }
         ensures { result ≤ count }
     {
-        if self.octets[row].is_none() {
+        let own = &self.octets[row];
+        if own.is_none() {
             count_ones(self.bits.get(row), count)
         } else {
-            self.octets[row].count_entries(count)
+            own.count_entries(count)
         }
     }
 

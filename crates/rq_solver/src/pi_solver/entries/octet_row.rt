@@ -1,6 +1,7 @@
 //! Rows that are octets.
 ghost use Rattle.std.specs.Prelude.{◌≡◌, ℕ, ◌*◌, ◌==◌, ◌<◌, ◌≤◌, [], length, slice_index, slice_set, IfOk, IfErr};
 ghost use Rattle.rq_bytes.specs.declared.error.Error.TheVariants.{OutOfMemory};
+ghost use Rattle.rq_parts.specs.DenseOctetMatrix.{IsOctetRow};
 ghost use Rattle.rq_solver.specs.InactiveEntries.{IsNextEntry, row_of};
 ghost use Rattle.rq_standard.specs.Rows.{row_sum, row_multiple};
 
@@ -8,7 +9,7 @@ use super::packed_bits::add_bits;
 use rq_bytes::error::Error;
 use rq_bytes::factor::Factor;
 use rq_bytes::octet::Octet;
-use rq_bytes::octets::add_assign;
+use rq_bytes::octets::{add_assign, are_octets};
 use std::alloc::Global;
 use std::marker::Model;
 
@@ -29,8 +30,10 @@ impl Model for OctetRow {
 impl OctetRow {
     /// These octets.
     pub(super) fn new(octets: Vec<u8>) -> OctetRow
-        ensures { result ≡ octets.items }
+        ensures row { result ≡ octets.items }
+        ensures octets { IsOctetRow (length octets.items) result }
     {
+        are_octets(octets.as_slice());
         OctetRow { octets }
     }
 
@@ -77,9 +80,11 @@ impl OctetRow {
     /// Sets the octet in a column.
     pub(super) fn set(&mut self, column: usize, octet: u8)
         requires { column < length self.old }
-        ensures { self.new ≡ slice_set self.old column octet }
+        ensures set { self.new ≡ slice_set self.old column octet }
+        ensures octets { IsOctetRow (length self.old) self.new }
     {
         self.octets[column] = octet;
+        are_octets(self.octets.as_slice());
     }
 
     /// The first column, from one on and before another, where there isn't 0.
@@ -109,24 +114,36 @@ impl OctetRow {
 
     /// Multiplies the octets.
     pub(super) fn multiply(&mut self, scalar: &Octet)
-        ensures { self.new ≡ row_multiple scalar.now self.old }
+        ensures multiple { self.new ≡ row_multiple scalar.now self.old }
+        ensures octets { IsOctetRow (length self.old) self.new }
     {
         Factor::new(scalar).multiply(self.octets.as_mut_slice());
+        are_octets(self.octets.as_slice());
     }
 
     /// Adds a multiple of a row, which is these octets or else these bits.
     pub(super) fn add_row(&mut self, octets: &OctetRow, bits: &[u8], scalar: &Octet)
         requires bits { length self.old ≤ 8 * length bits.now }
         requires width { length (row_of (length self.old) bits.now octets.now) ≡ length self.old }
-        ensures { self.new ≡ row_sum self.old (row_multiple scalar.now (row_of (length self.old) bits.now octets.now)) }
+        ensures sum { self.new ≡ row_sum self.old (row_multiple scalar.now (row_of (length self.old) bits.now octets.now)) }
+        ensures octets { IsOctetRow (length self.old) self.new }
     {
-        let sum = self.octets.as_mut_slice();
-        if octets.is_none() {
-            add_bits(sum, bits, scalar.byte());
-        } else if scalar.byte() == 1 {
-            add_assign(sum, octets.octets.as_slice());
-        } else {
-            Factor::new(scalar).add_multiple(sum, octets.octets.as_slice());
-        }
+        add_multiple(self.octets.as_mut_slice(), octets.octets.as_slice(), bits, scalar);
+        are_octets(self.octets.as_slice());
+    }
+}
+
+// Adds a multiple of a row, which is some octets or else some bits. A multiple by 1 needs no products.
+fn add_multiple(sum: &mut [u8], octets: &[u8], bits: &[u8], scalar: &Octet)
+    requires bits { length sum.old ≤ 8 * length bits.now }
+    requires width { length (row_of (length sum.old) bits.now octets.now) ≡ length sum.old }
+    ensures { sum.new ≡ row_sum sum.old (row_multiple scalar.now (row_of (length sum.old) bits.now octets.now)) }
+{
+    if octets.is_empty() {
+        add_bits(sum, bits, scalar.byte());
+    } else if scalar.byte() == 1 {
+        add_assign(sum, octets);
+    } else {
+        Factor::new(scalar).add_multiple(sum, octets);
     }
 }
