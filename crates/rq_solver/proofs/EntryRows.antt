@@ -146,7 +146,7 @@ zero_rows width height size room owns is =
     ∙ unpacked-zeros width size room
     ∙ sym (get_or-replicate height k (replicate width 0) [] inside))
 
-pub zeros_are : (width height size : ℕ) → width < 2 ^ 61 → width ≤ 8 * size → (owns : List (List ℕ)) → owns ≡ replicate height [] → AreEntries width (slab_of size (replicate height (replicate size 0))) owns
+pub zeros_are : (width height size : ℕ) → width < 2 ^ 63 + 32 → width ≤ 8 * size → (owns : List (List ℕ)) → owns ≡ replicate height [] → AreEntries width (slab_of size (replicate height (replicate size 0))) owns
 zeros_are width height size fits room owns is = record {
   fits = fits;
   room = room;

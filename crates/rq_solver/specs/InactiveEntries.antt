@@ -1,5 +1,5 @@
 -- What rows have in the inactive columns: bits that are packed eight to an octet, or octets.
-use Rattle.std.specs.Prelude.{◌≡◌, ◌≢◌, ℕ, ◌*◌, ◌/◌, ◌%◌, ◌^◌, ◌<◌, ◌≤◌, List, [], ◌∷◌, All, Option, None, Some, length, map, slice_index}
+use Rattle.std.specs.Prelude.{◌≡◌, ◌≢◌, ℕ, ◌+◌, ◌*◌, ◌/◌, ◌%◌, ◌^◌, ◌<◌, ◌≤◌, List, [], ◌∷◌, All, Option, None, Some, length, map, slice_index}
 use Rattle.std.specs.Int.{bit_at}
 use Rattle.std.specs.List.{range_with_len}
 use Rattle.std.specs.Simd.Lanes.{zip2}
@@ -24,7 +24,7 @@ rows_of width bits octets = zip2 (row_of width) bits octets
 
 -- as many bits as there are columns, in a buffer without an order, and octets for as many rows
 pub record AreEntries (width : ℕ) (bits : Slab) (octets : List (List ℕ)) : Type 0 where
-  pub fits : width < 2 ^ 61
+  pub fits : width < 2 ^ 63 + 32
   pub room : width ≤ 8 * bits.symbol_size
   pub order : bits.order ≡ None
   pub height : length octets ≡ length bits.values

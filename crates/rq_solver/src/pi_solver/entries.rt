@@ -1,7 +1,7 @@
 //! What rows have in the inactive columns.
 ghost use Rattle.std.specs.Prelude.{◌≡◌, ◌≢◌, ℕ, ◌+◌, ◌%◌, ◌^◌, ◌<◌, ◌≤◌, length, replicate, slice_set, IfOk, OnOk, IfErr};
 ghost use Rattle.rq_bytes.specs.declared.error.Error.TheVariants.{OutOfMemory};
-ghost use Rattle.rq_parts.specs.DenseOctetMatrix.{entry_of, HasOctets, row_at, with_row};
+ghost use Rattle.rq_parts.specs.DenseOctetMatrix.{entry_of, HasOctets, IsOctetRow, row_at, with_row};
 ghost use Rattle.rq_solver.specs.InactiveEntries.{IsNextEntry};
 ghost use Rattle.rq_standard.specs.Rows.{row_sum, row_multiple};
 
@@ -45,7 +45,7 @@ impl Model for InactiveEntries {
 impl InactiveEntries {
     /// Rows of zeros.
     pub(super) fn new(alloc: Global, height: usize, width: usize) -> Result<InactiveEntries, Error>
-        requires { width < 2 ^ 61 }
+        requires { width < 2 ^ 63 + 32 }
         ensures zeros { IfOk result (λ entries. entries ≡ record { width = width; rows = replicate height (replicate width 0) }) }
         ensures err { IfErr result (λ e. e ≡ OutOfMemory) }
     {
@@ -90,7 +90,8 @@ impl InactiveEntries {
     pub(super) fn set_octets(&mut self, row: usize, octets: Vec<u8>)
         requires row { row < length self.old.rows }
         requires width { length octets.items ≡ self.old.width }
-        ensures { self.new ≡ with_row self.old row octets.items }
+        ensures row { self.new ≡ with_row self.old row octets.items }
+        ensures octets { IsOctetRow self.old.width octets.items }
     {
         self.octets[row] = OctetRow::new(octets);
     }

@@ -1,5 +1,5 @@
 //! Bits that are packed eight to an octet, the first in its lowest bit.
-ghost use Rattle.std.specs.Prelude.{◌≡◌, ℕ, ◌*◌, ◌/◌, ◌^◌, ◌<◌, ◌≤◌, length, slice_set};
+ghost use Rattle.std.specs.Prelude.{◌≡◌, ℕ, ◌+◌, ◌*◌, ◌/◌, ◌^◌, ◌<◌, ◌≤◌, length, slice_set};
 ghost use Rattle.rq_solver.specs.InactiveEntries.{IsNextEntry, bit_in, unpacked};
 ghost use Rattle.rq_standard.specs.Rows.{row_sum, row_multiple};
 
@@ -23,7 +23,7 @@ pub(super) fn set_bit(bits: &mut [u8], place: usize)
 /// The first place, from one on and before another, of a bit that is set.
 pub(super) fn next_one(bits: &[u8], from: usize, end: usize) -> Option<usize>
     requires within { end ≤ 8 * length bits.now }
-    requires fits { end < 2 ^ 61 }
+    requires fits { end < 2 ^ 63 + 32 }
     ensures { IsNextEntry (bit_in bits.now) from end result }
 {
     let mut place = from;

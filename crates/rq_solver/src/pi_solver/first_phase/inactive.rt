@@ -5,7 +5,7 @@ ghost use Rattle.rq_bytes.specs.declared.error.Error.TheVariants.{OutOfMemory};
 ghost use Rattle.rq_parts.specs.DenseOctetMatrix.{entry_of, HasOctets};
 ghost use Rattle.rq_solver.specs.Cleared.{AreOctetRows, HasLeading, PeelsRows, one_in, system_rows};
 ghost use Rattle.rq_solver.specs.Peeled.{IsOrderOf};
-ghost use Rattle.rq_solver.specs.RowWrites.{WritesRow};
+ghost use Rattle.rq_solver.specs.RowWrites.{FillsRow, WritesRow};
 
 use super::super::entries::{InactiveEntries, whole_vectors};
 use super::super::ones::RowOnes;
@@ -57,16 +57,14 @@ fn fill_octets(
     requires row { row < length entries.old.rows }
     requires width { inactive ≤ entries.old.width }
     requires octets { HasOctets entries.old }
-    ensures written { OnOk result (WritesRow row 0 inactive (λ f. entry_of octets.now from (at peeling.now.order.items (length peeling.now.rows.items + f))) entries.old entries.new) }
+    ensures written { OnOk result (FillsRow row inactive (λ f. entry_of octets.now from (at peeling.now.order.items (length peeling.now.rows.items + f))) entries.old entries.new) }
     ensures err { IfErr result (λ e. e ≡ OutOfMemory) }
 {
-    let width = entries.width();
-    let mut filled = Vec::with_capacity(alloc, width)?;
+    let mut filled = vec![in alloc; 0; entries.width()]?;
     for f in 0..inactive {
         let column = peeling.order[peeling.rows.len() + f];
-        filled.push(octets.get(from, column).byte())?;
+        filled[f] = octets.get(from, column).byte();
     }
-    filled.resize(width, 0)?;
     entries.set_octets(row, filled);
     Ok(())
 }

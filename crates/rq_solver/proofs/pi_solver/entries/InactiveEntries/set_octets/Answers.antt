@@ -15,8 +15,13 @@ invariant_of-self c =
     octets_set e.width e.bits e.octets.items c.self.invariant c.args.self.now c.self.view_is c.args.row c.requires.row c.new.result
     (subst (λ n. IsOctetRow n c.new.result) c.requires.width c.new.ensures.octets)
 
-pub returns : goal.returns
-returns c =
+pub returns-clause-row : goal.returns-clause-row
+returns-clause-row c =
     let e = c.self.inside in
     octets_seen e.width e.bits e.octets.items c.self.invariant c.args.self.now c.self.view_is c.args.row c.requires.row c.new.result (ap length c.new.ensures.row ∙ c.requires.width)
     ∙ ap (with_row c.args.self.now c.args.row) c.new.ensures.row
+
+pub returns-clause-octets : goal.returns-clause-octets
+returns-clause-octets c =
+    let items = c.args.octets.items in
+    subst (λ n. IsOctetRow n items) c.requires.width (subst (IsOctetRow (length items)) c.new.ensures.row c.new.ensures.octets)
