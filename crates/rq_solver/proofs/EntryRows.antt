@@ -1,14 +1,14 @@
 -- Rows of which some are packed bits, and the others octets.
-use Rattle.std.proofs.Common.{◌≡◌, ◌≢◌, ℕ, ◌+◌, ◌*◌, ◌/◌, ◌<◌, ◌≤◌, ◌^◌, List, [], ◌∷◌, All, None, Some, Option, length, map, set, replicate, get_or, refl, sym, ap, subst, ◌∙◌, arith, inl, inr}
+use Rattle.std.proofs.Common.{◌≡◌, ◌≢◌, ℕ, ◌+◌, ◌*◌, ◌<◌, ◌≤◌, ◌^◌, List, [], ◌∷◌, None, Some, Option, length, set, replicate, get_or, refl, sym, ap, subst, ◌∙◌, arith, inl, inr}
 use Rattle.std.specs.Prelude.{◌==◌, true, false}
 use Rattle.std.proofs.lemmas.Bool.{cases_eq}
 use Rattle.std.proofs.lemmas.Bool.Decides.{eqb_tells}
-use Rattle.std.proofs.lemmas.List.{ext_get_or, get_or-set_same, get_or-set_other, get_or-replicate, get_or_read, set-set, length-map, length-replicate, length-set}
+use Rattle.std.proofs.lemmas.List.{ext_get_or, get_or-set_same, get_or-set_other, get_or-replicate, get_or_read, set-set, length-replicate, length-set}
 use Rattle.std.proofs.lemmas.List.Elements.{All-set, All-from_get_or}
 use Rattle.std.specs.Int.Bits.{bit_xor}
 use Rattle.std.proofs.lemmas.Simd.{get_or-zip2, length-zip2}
-use Rattle.rq_algebra.specs.Operations.{AddAssign, IsPlace, meant_at, step}
-use Rattle.rq_algebra.specs.Symbols.{add_symbols, symbols}
+use Rattle.rq_algebra.specs.Operations.{AddAssign, meant_at, step}
+use Rattle.rq_algebra.specs.Symbols.{add_symbols}
 use Rattle.rq_standard.specs.OctetField.{octets}
 use Rattle.rq_standard.proofs.RowSymbols.{add_symbols-rows}
 use Rattle.rq_standard.specs.Rows.{row_sum, row_multiple}
@@ -16,7 +16,7 @@ use Rattle.rq_bytes.specs.SymbolSlab.{Slab, after, slab_of, HasPlace, symbol_in,
 use Rattle.rq_parts.proofs.Rows.{times_one}
 use Rattle.rq_parts.specs.DenseOctetMatrix.{OctetTable, HasOctets, IsOctetRow, row_at, with_row, entry_of}
 use Rattle.rq_solver.specs.InactiveEntries.{AreEntries, IsNextEntry, bit_in, row_of, rows_of, unpacked}
-use Rattle.rq_solver.proofs.UnpackedBits.{at-unpacked, is_unpacked, length-unpacked, unpacked_row, unpacked-sum, unpacked-zeros}
+use Rattle.rq_solver.proofs.UnpackedBits.{at-unpacked, is_unpacked, unpacked_row, unpacked-sum, unpacked-zeros}
 
 -- ---- a row
 
@@ -153,11 +153,11 @@ zeros_are width height size fits room owns is = record {
   order = refl;
   height = ap length is ∙ length-replicate {A = List ℕ} height [] ∙ sym (length-replicate {A = List ℕ} height (replicate size 0));
   symbols = All-from_get_or (λ s. length s ≡ size) (replicate height (replicate size 0)) [] (λ i l.
-  let inside : i < height = omega (arith, length-replicate {A = List ℕ} height (replicate size 0)) in
-  ap length (get_or-replicate height i (replicate size 0) [] inside) ∙ length-replicate {A = ℕ} size 0);
+      let inside : i < height = omega (arith, length-replicate {A = List ℕ} height (replicate size 0)) in
+      ap length (get_or-replicate height i (replicate size 0) [] inside) ∙ length-replicate {A = ℕ} size 0);
   rows = rw (zero_rows width height size room owns is) (All-from_get_or (IsOctetRow width) (replicate height (replicate width 0)) [] (λ i l.
-  let inside : i < height = omega (arith, length-replicate {A = List ℕ} height (replicate width 0)) in
-  subst (IsOctetRow width) (unpacked-zeros width size room ∙ sym (get_or-replicate height i (replicate width 0) [] inside)) (unpacked_row width (replicate size 0))));
+      let inside : i < height = omega (arith, length-replicate {A = List ℕ} height (replicate width 0)) in
+      subst (IsOctetRow width) (unpacked-zeros width size room ∙ sym (get_or-replicate height i (replicate width 0) [] inside)) (unpacked_row width (replicate size 0))));
 }
 
 -- ---- sums of bits

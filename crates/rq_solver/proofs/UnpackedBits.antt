@@ -1,7 +1,7 @@
 -- Packed bits, and the octets that they are.
-use Rattle.std.proofs.Common.{◌≡◌, ◌≢◌, ℕ, ◌+◌, ◌-◌, ◌*◌, ◌/◌, ◌%◌, ◌^◌, ◌<◌, ◌≤◌, List, [], All, length, set, replicate, get_or, refl, sym, ap, subst, ◌∙◌, arith, inl, inr, w8, lit<}
+use Rattle.std.proofs.Common.{◌≡◌, ◌≢◌, ℕ, ◌+◌, ◌-◌, ◌*◌, ◌/◌, ◌%◌, ◌^◌, ◌<◌, ◌≤◌, List, length, set, replicate, refl, sym, ap, ◌∙◌, arith, inl, inr, w8, lit<}
 use Rattle.std.specs.Int.{bit_at, trailing_zeros}
-use Rattle.std.specs.Int.Bits.{bit_xor, bit_or, xor_zero_l, xor_zero_r}
+use Rattle.std.specs.Int.Bits.{bit_xor, bit_or, xor_zero_l}
 use Rattle.std.proofs.Math.Nat.{div-le_self}
 use Rattle.std.proofs.lemmas.Bool.{cases_eq, cases_lt}
 use Rattle.std.proofs.lemmas.List.{ext_get_or, get_or-set_same, get_or-set_other, get_or-replicate, get_or_default, length-map, length-replicate, length-set}
@@ -18,7 +18,7 @@ use Rattle.rq_standard.specs.OctetField.{octets}
 use Rattle.rq_standard.specs.Rows.{row_sum, row_multiple}
 use Rattle.rq_parts.specs.DenseOctetMatrix.{IsOctetRow}
 use Rattle.rq_parts.proofs.BitPairs.{bit_at-shifted}
-use Rattle.rq_solver.specs.InactiveEntries.{bit_in, unpacked, IsNextEntry}
+use Rattle.rq_solver.specs.InactiveEntries.{bit_in, unpacked}
 use Rattle.rq_solver.proofs.Entries.{mul_is}
 
 pub length-unpacked : (n : ℕ) (bits : List ℕ) → length (unpacked n bits) ≡ n
@@ -34,10 +34,10 @@ pub unpacked_row : (n : ℕ) (bits : List ℕ) → IsOctetRow n (unpacked n bits
 unpacked_row n bits = (
   length-unpacked n bits,
   All-from_get_or (λ octet. octet < 256) (unpacked n bits) 0 (λ i l.
-  let inside : i < n = omega (arith, length-unpacked n bits) in
-  let e = at-unpacked n bits i inside in
-  let small = bit_small bits i in
-  omega arith),
+      let inside : i < n = omega (arith, length-unpacked n bits) in
+      let e = at-unpacked n bits i inside in
+      let small = bit_small bits i in
+      omega arith),
 )
 
 -- octets that are these bits one by one

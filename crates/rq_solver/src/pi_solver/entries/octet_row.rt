@@ -128,7 +128,12 @@ impl OctetRow {
         ensures sum { self.new ≡ row_sum self.old (row_multiple scalar.now (row_of (length self.old) bits.now octets.now)) }
         ensures octets { IsOctetRow (length self.old) self.new }
     {
-        add_multiple(self.octets.as_mut_slice(), octets.octets.as_slice(), bits, scalar);
+        add_multiple(
+            self.octets.as_mut_slice(),
+            octets.octets.as_slice(),
+            bits,
+            scalar,
+        );
         are_octets(self.octets.as_slice());
     }
 }

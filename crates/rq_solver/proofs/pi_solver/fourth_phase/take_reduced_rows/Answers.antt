@@ -20,7 +20,7 @@ loop-f-preserved c =
     let in_reduced : f < length reduced = omega (arith, c.requires.many) in
     let zeros = reduced_zeros reduced c.args.row c.args.start c.args.inactive c.loop-f.from f old cur v.taken forward found.3 in
     let small : c.get-scalar.result < 256 =
-        rw (c.get-scalar.ensures, v.taken.records.table) (c.requires.octets.elements c.args.row f c.requires.row (omega (arith, c.requires.width)))
+    rw (c.get-scalar.ensures, v.taken.records.table) (c.requires.octets.elements c.args.row f c.requires.row (omega (arith, c.requires.width)))
     in
     record {
       from = omega arith;

@@ -1,9 +1,9 @@
 -- What the check leaves to show of `pi_solver::entries::InactiveEntries::add_octets`.
-use Rattle.std.proofs.Common.{◌≡◌, ℕ, List, length, get_or, sym, ap, subst, ◌∙◌, arith}
+use Rattle.std.proofs.Common.{◌≡◌, ℕ, List, get_or, sym, ap, subst, ◌∙◌, arith}
 use Rattle.std.proofs.lemmas.List.{get_or-set_other}
 use Rattle.rq_parts.specs.DenseOctetMatrix.{IsOctetRow, with_row}
 use Rattle.rq_solver.specs.InactiveEntries.{row_of}
-use Rattle.rq_solver.proofs.EntryRows.{in_owns, octets_put, octets_put_seen, octets_taken, place, read_row, row_long, src_long, src_row, sum_long, sum_of_rows, symbol_len, width_is}
+use Rattle.rq_solver.proofs.EntryRows.{in_owns, octets_put, octets_put_seen, octets_taken, place, read_row, src_long, sum_long, sum_of_rows, width_is}
 use Rattle.rq_solver.proofs.pi_solver.entries.InactiveEntries.add_octets.Goals as goal
 
 pub index_mut-requires : goal.index_mut-requires

@@ -1,5 +1,5 @@
 -- What the check leaves to show of `pi_solver::entries::InactiveEntries::get`.
-use Rattle.std.proofs.Common.{List, ℕ, get_or, sym, ap, ◌∙◌, arith}
+use Rattle.std.proofs.Common.{List, ℕ, get_or, ap, ◌∙◌, arith}
 use Rattle.rq_solver.specs.InactiveEntries.{bit_in}
 use Rattle.rq_solver.proofs.EntryRows.{in_owns, own_bits, own_long, own_octets, place}
 use Rattle.rq_solver.proofs.pi_solver.entries.InactiveEntries.get.Goals as goal

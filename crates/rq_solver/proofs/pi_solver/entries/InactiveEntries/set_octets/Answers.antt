@@ -1,5 +1,5 @@
 -- What the check leaves to show of `pi_solver::entries::InactiveEntries::set_octets`.
-use Rattle.std.proofs.Common.{◌≡◌, ℕ, List, length, sym, ap, subst, ◌∙◌, arith}
+use Rattle.std.proofs.Common.{length, ap, subst, ◌∙◌, arith}
 use Rattle.rq_parts.specs.DenseOctetMatrix.{IsOctetRow, with_row}
 use Rattle.rq_solver.proofs.EntryRows.{in_owns, octets_set, octets_seen}
 use Rattle.rq_solver.proofs.pi_solver.entries.InactiveEntries.set_octets.Goals as goal

@@ -1,5 +1,5 @@
 -- What the check leaves to show of `pi_solver::entries::InactiveEntries::set_one`.
-use Rattle.std.proofs.Common.{◌≡◌, ℕ, List, length, set, sym, ap, subst, ◌∙◌, arith}
+use Rattle.std.proofs.Common.{ℕ, List, length, set, sym, ap, subst, ◌∙◌, arith}
 use Rattle.rq_bytes.specs.SymbolSlab.{Slab}
 use Rattle.rq_parts.specs.DenseOctetMatrix.{IsOctetRow, with_row}
 use Rattle.rq_solver.specs.InactiveEntries.{AreEntries, unpacked}

@@ -1,8 +1,5 @@
 -- What the check leaves to show of `pi_solver::entries::packed_bits::next_one`.
-use Rattle.std.proofs.Common.{◌≡◌, ℕ, ◌/◌, ◌<◌, ◌≤◌, refl, arith, inl, inr}
-use Rattle.std.proofs.lemmas.Bool.{cases_lt}
-use Rattle.rq_algebra.specs.Systems.{at}
-use Rattle.rq_solver.specs.InactiveEntries.{bit_in}
+use Rattle.std.proofs.Common.{◌/◌, refl, arith}
 use Rattle.rq_solver.proofs.UnpackedBits.{first_one, zeros_to_next, zeros_before_next}
 use Rattle.rq_solver.proofs.pi_solver.entries.packed_bits.next_one.Goals as goal
 

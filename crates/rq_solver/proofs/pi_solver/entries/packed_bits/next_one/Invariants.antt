@@ -1,5 +1,5 @@
 -- What the loops keep in `pi_solver::entries::packed_bits::next_one`.
-use Rattle.std.proofs.Common.{◌≡◌, ℕ, ◌+◌, ◌-◌, ◌<◌, ◌≤◌}
+use Rattle.std.proofs.Common.{◌≡◌, ℕ, ◌-◌, ◌<◌, ◌≤◌}
 use Rattle.rq_solver.specs.InactiveEntries.{bit_in}
 use Rattle.rq_solver.proofs.pi_solver.entries.packed_bits.next_one.Given as goal
 

@@ -1,8 +1,6 @@
 -- What the check leaves to show of `pi_solver::entries::octet_row::OctetRow::or_bits`.
-use Rattle.std.proofs.Common.{List, ℕ, length, sym, ap, ◌∙◌}
+use Rattle.std.proofs.Common.{sym, ◌∙◌}
 use Rattle.std.proofs.lemmas.List.{with_items_is}
-use Rattle.rq_standard.specs.Rows.{row_sum, row_multiple}
-use Rattle.rq_solver.specs.InactiveEntries.{unpacked}
 use Rattle.rq_solver.proofs.EntryRows.{none_if, row_of_none}
 use Rattle.rq_solver.proofs.UnpackedBits.{bits_among_zeros}
 use Rattle.rq_solver.proofs.pi_solver.entries.octet_row.OctetRow.or_bits.Goals as goal
