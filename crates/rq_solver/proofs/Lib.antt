@@ -2,9 +2,11 @@ pub mod BitRows
 pub mod ColumnLaws
 pub mod CountLaws
 pub mod Entries
+pub mod EntryRows
 pub mod EquationLaws
 pub mod FinalTurns
 pub mod FreeColumns
+pub mod LeadingRows
 pub mod ListingLaws
 pub mod OctetBatchLaws
 pub mod OctetRows
@@ -29,5 +31,6 @@ pub mod SolutionLaws
 pub mod StepColumns
 pub mod TailWrites
 pub mod Turns
+pub mod UnpackedBits
 pub mod Writes
 pub mod ZeroValues

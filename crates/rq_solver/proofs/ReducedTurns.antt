@@ -23,21 +23,21 @@ module _ (reduced : List ℕ) (row start count : ℕ) where
     rest = λ m column units f l n. rows_after-none octets m row (column f);
   }
 
-  module _ (t : ℕ) (from : start ≤ t) (inside : t < count) (old cur : Recorded) (v : TakesReduced reduced row start count t old cur) where
-    -- the row has 0 in the next column
-    pub reduced_zero : entry_of cur.table row t ≡ 0 → TakesReduced reduced row start count (t + 1) old cur
-    reduced_zero none = record {
-      steps = v.steps;
-      records = v.records;
-      elsewhere = v.elsewhere;
-      kept = v.kept;
-      cleared = λ m column units shown f first l n. elim (cases_eq f t) [
-        | inl e ↦ rw e (v.rest m column units t (omega arith) inside ∙ shown t inside ∙ ap (λ table. entry_of table row t) (sym v.records.table) ∙ none)
-        | inr d ↦ v.cleared m column units shown f first (omega arith) n
-      ];
-      rest = λ m column units f l n. v.rest m column units f (omega arith) n;
-    }
+  -- the row has 0 in the next columns
+  pub reduced_zeros : (t next : ℕ) (old cur : Recorded) → TakesReduced reduced row start count t old cur → t ≤ next → ((k : ℕ) → t ≤ k → k < next → entry_of cur.table row k ≡ 0) → TakesReduced reduced row start count next old cur
+  reduced_zeros t next old cur v forward none = record {
+    steps = v.steps;
+    records = v.records;
+    elsewhere = v.elsewhere;
+    kept = v.kept;
+    cleared = λ m column units shown f first l n. elim (cases_lt f t) [
+      | inl early ↦ v.cleared m column units shown f first early n
+      | inr late ↦ v.rest m column units f late n ∙ shown f n ∙ ap (λ table. entry_of table row f) (sym v.records.table) ∙ none f late l
+    ];
+    rest = λ m column units f l n. v.rest m column units f (omega arith) n;
+  }
 
+  module _ (t : ℕ) (from : start ≤ t) (inside : t < count) (old cur : Recorded) (v : TakesReduced reduced row start count t old cur) where
     module _ (apart : row ≢ at reduced t) (scalar : ℕ) (small : scalar < 256) (scalar_is : scalar ≡ entry_of cur.table row t) (new : Recorded) (records : Records (sum_step row (at reduced t) scalar ∷ []) cur new) where
       module _ (m : ℕ → ℕ → ℕ) where
         now : ℕ → ℕ → ℕ

@@ -1,6 +1,7 @@
 pub mod Cleared
 pub mod FirstPhaseRowSelectionStats
 pub mod Homogeneous
+pub mod InactiveEntries
 pub mod Listing
 pub mod OperationCounts
 pub mod OctetBatch

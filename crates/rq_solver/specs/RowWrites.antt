@@ -11,6 +11,14 @@ pub record WritesRow (row start end : ℕ) (wanted : ℕ → ℕ) (old new : Oct
   pub beside : (k : ℕ) → (k < start) ⊎ (end ≤ k) → entry_of new row k ≡ entry_of old row k
   pub elsewhere : (i k : ℕ) → i ≢ row → entry_of new i k ≡ entry_of old i k
 
+-- the first entries of one row are these, and the other rows are as they were
+pub record FillsRow (row count : ℕ) (wanted : ℕ → ℕ) (old new : OctetTable) : Type 0 where
+  pub width : new.width ≡ old.width
+  pub height : length new.rows ≡ length old.rows
+  pub octets : HasOctets new
+  pub here : (k : ℕ) → k < count → entry_of new row k ≡ wanted k
+  pub elsewhere : (i k : ℕ) → i ≢ row → entry_of new i k ≡ entry_of old i k
+
 -- the first n rows are these, and the rest are zeros
 pub record HoldsRows (height width n : ℕ) (wanted : ℕ → ℕ → ℕ) (table : OctetTable) : Type 0 where
   pub width_is : table.width ≡ width

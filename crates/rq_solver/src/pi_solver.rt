@@ -12,6 +12,7 @@ mod columns;
 mod counts;
 mod degrees;
 pub(crate) mod elimination;
+mod entries;
 mod first_phase;
 mod fourth_phase;
 mod next_row;

@@ -157,11 +157,11 @@ pub(super) fn take_reduced_rows(
     ensures few { OnOk result (AddsAtMost (inactive - start) recorded.old recorded.new) }
     ensures err { IfErr result (λ e. e ≡ OutOfMemory) }
 {
-    for f in start..inactive {
+    let mut from = start;
+    while let Some(f) = recorded.next_entry(row, from, inactive) {
         let scalar = recorded.get(row, f);
-        if scalar.byte() != 0 {
-            recorded.record_sum(row, reduced[f], scalar)?;
-        }
+        recorded.record_sum(row, reduced[f], scalar)?;
+        from = f + 1;
     }
     Ok(())
 }

@@ -4,15 +4,16 @@ ghost use Rattle.rq_algebra.specs.Operations.{MulAssign};
 ghost use Rattle.rq_bytes.specs.declared.error.Error.TheVariants.{OutOfMemory};
 ghost use Rattle.rq_bytes.specs.SymbolOps.{operation_of};
 ghost use Rattle.rq_parts.specs.DenseOctetMatrix.{entry_of, HasOctets};
+ghost use Rattle.rq_solver.specs.InactiveEntries.{IsNextEntry};
 ghost use Rattle.rq_solver.specs.OperationCounts.{additions};
 ghost use Rattle.rq_solver.specs.Recorded.{Performs, Records, sum_step};
 ghost use Rattle.rq_standard.specs.OctetField.{octets};
 
 use super::counts::{OperationList, Phase};
+use super::entries::InactiveEntries;
 use rq_bytes::error::Error;
 use rq_bytes::octet::Octet;
 use rq_bytes::operation_vector::SymbolOps;
-use rq_parts::octet_matrix::DenseOctetMatrix;
 use std::alloc::Global;
 use std::marker::Model;
 
@@ -20,7 +21,7 @@ use std::marker::Model;
 /// them, for the symbols. Contracts see both.
 #[derive(Drop)]
 pub(super) struct RecordedRows {
-    table: DenseOctetMatrix,
+    table: InactiveEntries,
     operations: OperationList,
 }
 
@@ -36,7 +37,7 @@ impl RecordedRows {
     /// Rows to which nothing was done yet, with room for so many operations.
     pub(super) fn new(
         alloc: Global,
-        table: DenseOctetMatrix,
+        table: InactiveEntries,
         room: usize,
     ) -> Result<RecordedRows, Error>
         ensures rows { IfOk result (λ rows. rows ≡ record { table = table; operations = [] }) }
@@ -54,7 +55,7 @@ impl RecordedRows {
     }
 
     /// What the rows have in the inactive columns.
-    pub(super) fn table(&self) -> &DenseOctetMatrix
+    pub(super) fn table(&self) -> &InactiveEntries
         ensures { result.now ≡ self.now.table }
     {
         &self.table
@@ -70,17 +71,23 @@ impl RecordedRows {
         self.table.get(row, column)
     }
 
-    /// How many of the first entries of a row aren't 0.
+    /// The first column, from one on and before another, where a row isn't 0.
+    #[inline(always)]
+    pub(super) fn next_entry(&self, row: usize, from: usize, end: usize) -> Option<usize>
+        requires row { row < length self.now.table.rows }
+        requires end { end ≤ self.now.table.width }
+        ensures { IsNextEntry (entry_of self.now.table row) from end result }
+    {
+        self.table.next_entry(row, from, end)
+    }
+
+    /// How many of the first entries of a row aren't 0, or about as many.
     pub(super) fn count_entries(&self, row: usize, count: usize) -> usize
         requires row { row < length self.now.table.rows }
         requires count { count ≤ self.now.table.width }
         ensures few { result ≤ count }
     {
-        let mut found = 0;
-        for column in 0..count {
-            found += (self.table.get(row, column).byte() != 0) as usize;
-        }
-        found
+        self.table.count_entries(row, count)
     }
 
     /// Adds a multiple of a row to another one.
@@ -95,7 +102,7 @@ impl RecordedRows {
         ensures counted { OnOk result (additions self.new.operations ≡ additions self.old.operations + 1) }
         ensures err { IfErr result (λ e. e ≡ OutOfMemory) }
     {
-        self.table.fma_rows(dest, src, &scalar);
+        self.table.add_multiple(dest, src, &scalar)?;
         self.operations.push(addition(dest, src, scalar))?;
         Ok(())
     }
@@ -110,7 +117,7 @@ impl RecordedRows {
         ensures counted { OnOk result (additions self.new.operations ≡ additions self.old.operations) }
         ensures err { IfErr result (λ e. e ≡ OutOfMemory) }
     {
-        self.table.mul_assign_row(dest, &scalar);
+        self.table.multiply_row(dest, &scalar)?;
         self.operations.push(SymbolOps::MulAssign { dest, scalar })?;
         Ok(())
     }

@@ -1,20 +1,18 @@
 //! The entries of rows in inactive columns.
-ghost use Rattle.std.specs.Prelude.{◌≡◌, ℕ, ◌+◌, ◌-◌, ◌%◌, ◌^◌, ◌<◌, ◌≤◌, length, IfOk, IfErr};
+ghost use Rattle.std.specs.Prelude.{◌≡◌, ℕ, ◌+◌, ◌-◌, ◌%◌, ◌^◌, ◌<◌, ◌≤◌, length, IfOk, OnOk, IfErr};
 ghost use Rattle.rq_algebra.specs.Systems.{at};
 ghost use Rattle.rq_bytes.specs.declared.error.Error.TheVariants.{OutOfMemory};
 ghost use Rattle.rq_parts.specs.DenseOctetMatrix.{entry_of, HasOctets};
 ghost use Rattle.rq_solver.specs.Cleared.{AreOctetRows, HasLeading, PeelsRows, one_in, system_rows};
 ghost use Rattle.rq_solver.specs.Peeled.{IsOrderOf};
-ghost use Rattle.rq_solver.specs.RowWrites.{WritesRow};
+ghost use Rattle.rq_solver.specs.RowWrites.{FillsRow, WritesRow};
 
+use super::super::entries::{InactiveEntries, whole_vectors};
 use super::super::ones::RowOnes;
 use super::super::peeling::Peeling;
 use rq_bytes::error::Error;
-use rq_bytes::octet::Octet;
 use rq_parts::octet_matrix::DenseOctetMatrix;
 use std::alloc::Global;
-
-const LANES: usize = 32;
 
 /// The entries of the rows in the inactive columns, in their order.
 pub(super) fn fill_inactive(
@@ -24,17 +22,19 @@ pub(super) fn fill_inactive(
     first_hdpc: usize,
     inactive: usize,
     peeling: &Peeling,
-) -> Result<DenseOctetMatrix, Error>
+) -> Result<InactiveEntries, Error>
     requires peeled { PeelsRows ones.now peeling.now }
     requires hdpc { AreOctetRows ones.now first_hdpc (length peeling.now.places.items) hdpc.now }
     requires inactive { length peeling.now.rows.items + inactive ≡ length peeling.now.places.items }
     ensures entries { IfOk result (HasLeading (length ones.now) inactive (length ones.now) (λ r f. system_rows ones.now first_hdpc hdpc.now r (at peeling.now.order.items (length peeling.now.rows.items + f)))) }
+    ensures fits { length ones.now < 2 ^ 64 }
     ensures err { IfErr result (λ e. e ≡ OutOfMemory) }
 {
-    let mut entries = DenseOctetMatrix::new(alloc, ones.height(), whole_vectors(inactive), 0)?;
+    let mut entries = InactiveEntries::new(alloc, ones.height(), whole_vectors(inactive))?;
     for row in 0..ones.height() {
         if row >= first_hdpc && row - first_hdpc < hdpc.height() {
-            fill_octets(hdpc, row - first_hdpc, peeling, inactive, row, &mut entries);
+            let from = row - first_hdpc;
+            fill_octets(alloc, hdpc, from, peeling, inactive, row, &mut entries)?;
         } else {
             fill_bits(ones, row, peeling, &mut entries);
         }
@@ -42,42 +42,36 @@ pub(super) fn fill_inactive(
     Ok(entries)
 }
 
-// The least number of octets, from this one on, that fills whole vectors: rows of such a length are
-// added without octets that are left over.
-fn whole_vectors(octets: usize) -> usize
-    requires { octets < 2 ^ 63 }
-    ensures whole { result % 32 ≡ 0 }
-    ensures from { octets ≤ result }
-    ensures near { result < octets + 32 }
-{
-    octets + (LANES - octets % LANES) % LANES
-}
-
 // Sets the entries of a row to those of a row of octets in the inactive columns.
 fn fill_octets(
+    alloc: Global,
     octets: &DenseOctetMatrix,
     from: usize,
     peeling: &Peeling,
     inactive: usize,
     row: usize,
-    entries: &mut DenseOctetMatrix,
-)
+    entries: &mut InactiveEntries,
+) -> Result<(), Error>
     requires order { IsOrderOf octets.now.width peeling.now.order.items peeling.now.places.items }
     requires inactive { length peeling.now.rows.items + inactive ≡ octets.now.width }
     requires from { from < length octets.now.rows }
     requires row { row < length entries.old.rows }
     requires width { inactive ≤ entries.old.width }
     requires octets { HasOctets entries.old }
-    ensures { WritesRow row 0 inactive (λ f. entry_of octets.now from (at peeling.now.order.items (length peeling.now.rows.items + f))) entries.old entries.new }
+    ensures written { OnOk result (FillsRow row inactive (λ f. entry_of octets.now from (at peeling.now.order.items (length peeling.now.rows.items + f))) entries.old entries.new) }
+    ensures err { IfErr result (λ e. e ≡ OutOfMemory) }
 {
+    let mut filled = vec![in alloc; 0; entries.width()]?;
     for f in 0..inactive {
         let column = peeling.order[peeling.rows.len() + f];
-        entries.set(row, f, Octet::new(octets.get(from, column).byte()));
+        filled[f] = octets.get(from, column).byte();
     }
+    entries.set_octets(row, filled);
+    Ok(())
 }
 
 // Sets the ones of a row of zeros that are in inactive columns.
-fn fill_bits(ones: &RowOnes, row: usize, peeling: &Peeling, entries: &mut DenseOctetMatrix)
+fn fill_bits(ones: &RowOnes, row: usize, peeling: &Peeling, entries: &mut InactiveEntries)
     requires peeled { PeelsRows ones.now peeling.now }
     requires row { row < length ones.now }
     requires height { length entries.old.rows ≡ length ones.now }
@@ -90,7 +84,7 @@ fn fill_bits(ones: &RowOnes, row: usize, peeling: &Peeling, entries: &mut DenseO
     for column in ones.row(row) {
         let place = peeling.places[*column];
         if place >= pivots {
-            entries.set(row, place - pivots, Octet::one());
+            entries.set_one(row, place - pivots);
         }
     }
 }

@@ -5,4 +5,4 @@ use Rattle.rq_solver.proofs.pi_solver.elimination.find_pivot.Given as goal
 use Rattle.rq_parts.specs.DenseOctetMatrix.{entry_of}
 
 abbrev pub invariant-loop-i : goal.invariant-loop-i
-invariant-loop-i l = (k : ℕ) → l.start ≤ k → k < l.i → entry_of l.matrix (at l.rows k) l.column ≡ 0
+invariant-loop-i g l = (k : ℕ) → l.start ≤ k → k < l.i → entry_of (g.M.OctetRows.table l.matrix) (at l.rows k) l.column ≡ 0

@@ -6,6 +6,11 @@ use Rattle.rq_solver.proofs.pi_solver.fourth_phase.take_reduced_rows.Given as go
 
 abbrev pub invariant-loop-f : goal.invariant-loop-f
 invariant-loop-f l = record {
-  taken : TakesReduced l.reduced l.row l.start l.inactive l.f l.fn.recorded l.recorded;
-  few : additions l.recorded.operations ≤ additions l.fn.recorded.operations + (l.f - l.start);
+  from : l.start ≤ l.from;
+  within : l.from ≤ l.inactive;
+  taken : TakesReduced l.reduced l.row l.start l.inactive l.from l.fn.recorded l.recorded;
+  few : additions l.recorded.operations ≤ additions l.fn.recorded.operations + (l.from - l.start);
 }
+
+abbrev pub decreases-loop-f : goal.decreases-loop-f
+decreases-loop-f l = l.inactive - l.from

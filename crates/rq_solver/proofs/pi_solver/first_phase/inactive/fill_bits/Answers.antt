@@ -39,7 +39,7 @@ loop-column-preserved c =
       | then-place-pivots w ↦
           let late : pivots ≤ place = omega (arith, many, w.if-place-pivots.true) in
           let inside : place - c.len-pivots.result < table.width = omega (arith, v.width, c.requires.width, (peeled.columns.placed (at columns t) in_width).0, is, many, late) in
-          let sets = sets_entry table v.octets c.args.row (place - c.len-pivots.result) w.one.result (omega (arith, v.height, c.requires.height, c.requires.row)) inside (rw w.one.ensures (lit< tt)) w.set.new.self w.set.ensures in
-          rw w.entries-is (ones_more width pivots p.order.items p.places.items peeled.columns columns c.args.row old inactive wide t in_columns in_width table v are.once place is late w.set.new.self (rw (many, w.one.ensures) at sets))
+          let sets = sets_entry table v.octets c.args.row (place - c.len-pivots.result) 1 (omega (arith, v.height, c.requires.height, c.requires.row)) inside (lit< tt) w.set_one.new.self w.set_one.ensures in
+          rw w.entries-is (ones_more width pivots p.order.items p.places.items peeled.columns columns c.args.row old inactive wide t in_columns in_width table v are.once place is late w.set_one.new.self (rw many at sets))
       | else-place-pivots w ↦ rw w.entries-is (ones_skipped width pivots p.order.items p.places.items peeled.columns columns c.args.row old inactive wide t in_columns in_width table v (omega (arith, is, many, w.if-place-pivots.false)))
     ]

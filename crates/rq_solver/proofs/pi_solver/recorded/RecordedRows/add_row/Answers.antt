@@ -6,7 +6,7 @@ use Rattle.rq_solver.proofs.pi_solver.recorded.RecordedRows.add_row.Goals as goa
 pub returns-clause-added : goal.returns-clause-added
 returns-clause-added c =
     sum_performed c.self.inside.table c.self.inside.operations c.push.new.self c.args.self.now c.self.view_is _ c.in_ok-push.ensures.recorded c.args.dest c.requires.dest c.args.scalar c.requires.octets c.requires.scalar
-    c.fma_rows.new.self c.args.src (λ e. c.requires.two (sym e)) c.requires.src c.addition.ensures c.fma_rows.ensures
+    c.add_multiple.new.self c.args.src (λ e. c.requires.two (sym e)) c.requires.src c.addition.ensures c.in_ok-add_multiple.ensures.ok
 
 pub returns-clause-counted : goal.returns-clause-counted
 returns-clause-counted c = sum_counted c.self.inside.table c.self.inside.operations c.push.new.self c.args.self.now c.self.view_is _ c.in_ok-push.ensures.recorded c.args.dest c.args.src c.args.scalar c.addition.ensures

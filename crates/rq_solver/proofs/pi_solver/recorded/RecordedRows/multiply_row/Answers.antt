@@ -6,7 +6,7 @@ use Rattle.rq_solver.proofs.pi_solver.recorded.RecordedRows.multiply_row.Goals a
 pub returns-clause-multiplied : goal.returns-clause-multiplied
 returns-clause-multiplied c =
     scaling_performed c.self.inside.table c.self.inside.operations c.push.new.self c.args.self.now c.self.view_is _ c.in_ok-push.ensures.recorded c.args.dest c.requires.dest c.args.scalar c.requires.octets c.requires.scalar
-    c.mul_assign_row.new.self c.requires.nonzero refl c.mul_assign_row.ensures
+    c.multiply_row.new.self c.requires.nonzero refl c.in_ok-multiply_row.ensures.ok
 
 pub returns-clause-counted : goal.returns-clause-counted
 returns-clause-counted c = scaling_counted c.self.inside.table c.self.inside.operations c.push.new.self c.args.self.now c.self.view_is _ c.in_ok-push.ensures.recorded c.args.dest c.args.scalar refl

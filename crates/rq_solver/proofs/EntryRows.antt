@@ -1,0 +1,346 @@
+-- Rows of which some are packed bits, and the others octets.
+use Rattle.std.proofs.Common.{◌≡◌, ◌≢◌, ℕ, ◌+◌, ◌*◌, ◌<◌, ◌≤◌, ◌^◌, List, [], ◌∷◌, None, Some, Option, length, set, replicate, get_or, refl, sym, ap, subst, ◌∙◌, arith, inl, inr}
+use Rattle.std.specs.Prelude.{◌==◌, true, false}
+use Rattle.std.proofs.lemmas.Bool.{cases_eq}
+use Rattle.std.proofs.lemmas.Bool.Decides.{eqb_tells}
+use Rattle.std.proofs.lemmas.List.{ext_get_or, get_or-set_same, get_or-set_other, get_or-replicate, get_or_read, set-set, length-replicate, length-set}
+use Rattle.std.proofs.lemmas.List.Elements.{All-set, All-from_get_or}
+use Rattle.std.specs.Int.Bits.{bit_xor}
+use Rattle.std.proofs.lemmas.Simd.{get_or-zip2, length-zip2}
+use Rattle.rq_algebra.specs.Operations.{AddAssign, meant_at, step}
+use Rattle.rq_algebra.specs.Symbols.{add_symbols}
+use Rattle.rq_standard.specs.OctetField.{octets}
+use Rattle.rq_standard.proofs.RowSymbols.{add_symbols-rows}
+use Rattle.rq_standard.specs.Rows.{row_sum, row_multiple}
+use Rattle.rq_bytes.specs.SymbolSlab.{Slab, after, slab_of, HasPlace, symbol_in, Allows}
+use Rattle.rq_parts.proofs.Rows.{times_one}
+use Rattle.rq_parts.specs.DenseOctetMatrix.{OctetTable, HasOctets, IsOctetRow, row_at, with_row, entry_of}
+use Rattle.rq_solver.specs.InactiveEntries.{AreEntries, IsNextEntry, bit_in, row_of, rows_of, unpacked}
+use Rattle.rq_solver.proofs.UnpackedBits.{at-unpacked, is_unpacked, unpacked_row, unpacked-sum, unpacked-zeros}
+
+-- ---- a row
+
+pub row_of_none : (n : ℕ) (bits own : List ℕ) → length own ≡ 0 → row_of n bits own ≡ unpacked n bits
+row_of_none n bits [] none = refl
+row_of_none n bits (o ∷ os) none = absurd (omega arith)
+
+pub row_of_some : (n : ℕ) (bits own : List ℕ) → length own ≢ 0 → row_of n bits own ≡ own
+row_of_some n bits [] some = absurd (some refl)
+row_of_some n bits (o ∷ os) some = refl
+
+pub row_of_own : (n : ℕ) (bits own : List ℕ) → length own ≡ n → row_of n bits own ≡ own
+row_of_own n bits [] long = is_unpacked n bits [] long (λ k l. absurd (omega arith))
+row_of_own n bits (o ∷ os) long = refl
+
+pub none_if : (own : List ℕ) → true ≡ (length own == 0) → length own ≡ 0
+none_if own is = elim (eqb_tells (length own) 0) [ inl e ↦ e.1 | inr d ↦ absurd (cc (is, d.0)) ]
+
+pub some_if : (own : List ℕ) → false ≡ (length own == 0) → length own ≢ 0
+some_if own is = elim (eqb_tells (length own) 0) [ inl e ↦ absurd (cc (is, e.0)) | inr d ↦ d.1 ]
+
+-- ---- all rows
+
+module _ (width : ℕ) (bits owns : List (List ℕ)) (same : length owns ≡ length bits) where
+  pub length-rows : length (rows_of width bits owns) ≡ length bits
+  length-rows = length-zip2 (row_of width) bits owns (sym same)
+
+  pub row_at-rows : (i : ℕ) → i < length bits → get_or (rows_of width bits owns) i [] ≡ row_of width (get_or bits i []) (get_or owns i [])
+  row_at-rows i l = get_or-zip2 (row_of width) bits owns i [] [] [] l (omega arith)
+
+  module _ (i : ℕ) (inside : i < length bits) where
+    in_rows : i < length (rows_of width bits owns)
+    in_rows = omega (arith, length-rows)
+
+    -- other octets, or other bits, of one row
+    pub rows_with_octets : (own : List ℕ) → rows_of width bits (set owns i own) ≡ set (rows_of width bits owns) i (row_of width (get_or bits i []) own)
+    rows_with_octets own =
+        let wanted = row_of width (get_or bits i []) own in
+        let long = length-set owns i own in
+        let len = length-zip2 (row_of width) bits (set owns i own) (sym (long ∙ same)) in
+        ext_get_or [] (rows_of width bits (set owns i own)) (set (rows_of width bits owns) i wanted) (len ∙ sym (length-set (rows_of width bits owns) i wanted ∙ length-rows)) (λ k l.
+        let in_bits : k < length bits = omega arith in
+        get_or-zip2 (row_of width) bits (set owns i own) k [] [] [] in_bits (omega arith)
+        ∙ elim (cases_eq k i) [
+          | inl e ↦ rw e (ap (row_of width (get_or bits i [])) (get_or-set_same owns i own [] (omega arith)) ∙ sym (get_or-set_same (rows_of width bits owns) i wanted [] in_rows))
+          | inr d ↦ ap (row_of width (get_or bits k [])) (get_or-set_other owns i k own [] d) ∙ sym (row_at-rows k in_bits) ∙ sym (get_or-set_other (rows_of width bits owns) i k wanted [] d)
+        ])
+
+    pub rows_with_bits : (symbol : List ℕ) → rows_of width (set bits i symbol) owns ≡ set (rows_of width bits owns) i (row_of width symbol (get_or owns i []))
+    rows_with_bits symbol =
+        let wanted = row_of width symbol (get_or owns i []) in
+        let long = length-set bits i symbol in
+        let len = length-zip2 (row_of width) (set bits i symbol) owns (long ∙ sym same) in
+        ext_get_or [] (rows_of width (set bits i symbol) owns) (set (rows_of width bits owns) i wanted) (len ∙ long ∙ sym (length-set (rows_of width bits owns) i wanted ∙ length-rows)) (λ k l.
+        let in_bits : k < length bits = omega arith in
+        get_or-zip2 (row_of width) (set bits i symbol) owns k [] [] [] (omega arith) (omega arith)
+        ∙ elim (cases_eq k i) [
+          | inl e ↦ rw e (ap (λ b. row_of width b (get_or owns i [])) (get_or-set_same bits i symbol [] inside) ∙ sym (get_or-set_same (rows_of width bits owns) i wanted [] in_rows))
+          | inr d ↦ ap (λ b. row_of width b (get_or owns k [])) (get_or-set_other bits i k symbol [] d) ∙ sym (row_at-rows k in_bits) ∙ sym (get_or-set_other (rows_of width bits owns) i k wanted [] d)
+        ])
+
+-- ---- entries
+
+-- what callers see
+abbrev pub table_of : ℕ → Slab → List (List ℕ) → OctetTable
+table_of width bits owns = record { width = width; rows = rows_of width bits.values owns }
+
+module _ (width : ℕ) (bits : Slab) (owns : List (List ℕ)) (are : AreEntries width bits owns) where
+  pub has_octets : HasOctets (table_of width bits owns)
+  has_octets = record {
+    widths = λ i d l. (are.rows i d l).0;
+    elements = λ i k l m. let row = are.rows i [] l in row.1 k 0 (omega (arith, row.0));
+  }
+
+  module _ (i : ℕ) (inside : i < length bits.values) where
+    pub row_is : row_at (table_of width bits owns) i ≡ row_of width (get_or bits.values i []) (get_or owns i [])
+    row_is = row_at-rows width bits.values owns are.height i inside
+
+    pub row_octets : IsOctetRow width (row_of width (get_or bits.values i []) (get_or owns i []))
+    row_octets = subst (IsOctetRow width) row_is (are.rows i [] (omega (arith, length-rows width bits.values owns are.height)))
+
+    pub symbol_long : length (get_or bits.values i []) ≡ bits.symbol_size
+    symbol_long = are.symbols i [] inside
+
+    -- the row gets these octets, or none
+    pub owns_are : (own : List ℕ) → IsOctetRow width (row_of width (get_or bits.values i []) own) → AreEntries width bits (set owns i own)
+    owns_are own row = record {
+      fits = are.fits;
+      room = are.room;
+      order = are.order;
+      height = length-set owns i own ∙ are.height;
+      symbols = are.symbols;
+      rows = rw (rows_with_octets width bits.values owns are.height i inside own) (All-set (IsOctetRow width) (rows_of width bits.values owns) i _ row are.rows);
+    }
+
+    pub table_with_octets : (own : List ℕ) → table_of width bits (set owns i own) ≡ with_row (table_of width bits owns) i (row_of width (get_or bits.values i []) own)
+    table_with_octets own = ap (λ (rows : List (List ℕ)). record { width = width; rows = rows }) (rows_with_octets width bits.values owns are.height i inside own)
+
+    -- the row gets these bits
+    module _ (symbol : List ℕ) (long : length symbol ≡ bits.symbol_size) where
+      pub bits_are : IsOctetRow width (row_of width symbol (get_or owns i [])) → AreEntries width (record bits { values = set bits.values i symbol }) owns
+      bits_are row = record {
+        fits = are.fits;
+        room = are.room;
+        order = are.order;
+        height = are.height ∙ sym (length-set bits.values i symbol);
+        symbols = All-set (λ s. length s ≡ bits.symbol_size) bits.values i symbol long are.symbols;
+        rows = rw (rows_with_bits width bits.values owns are.height i inside symbol) (All-set (IsOctetRow width) (rows_of width bits.values owns) i _ row are.rows);
+      }
+
+      pub table_with_bits : table_of width (record bits { values = set bits.values i symbol }) owns ≡ with_row (table_of width bits owns) i (row_of width symbol (get_or owns i []))
+      table_with_bits = ap (λ (rows : List (List ℕ)). record { width = width; rows = rows }) (rows_with_bits width bits.values owns are.height i inside symbol)
+
+-- ---- rows of zeros
+
+pub zero_rows : (width height size : ℕ) → width ≤ 8 * size → (owns : List (List ℕ)) → owns ≡ replicate height [] → rows_of width (replicate height (replicate size 0)) owns ≡ replicate height (replicate width 0)
+zero_rows width height size room owns is =
+    let long = length-replicate {A = List ℕ} height (replicate size 0) in
+    let same : length owns ≡ height = ap length is ∙ length-replicate {A = List ℕ} height [] in
+    let len = length-rows width (replicate height (replicate size 0)) owns (same ∙ sym long) in
+    ext_get_or [] (rows_of width (replicate height (replicate size 0)) owns) (replicate height (replicate width 0)) (len ∙ long ∙ sym (length-replicate {A = List ℕ} height (replicate width 0))) (λ k l.
+    let inside : k < height = omega arith in
+    row_at-rows width (replicate height (replicate size 0)) owns (same ∙ sym long) k (omega arith)
+    ∙ ap (λ b. row_of width b (get_or owns k [])) (get_or-replicate height k (replicate size 0) [] inside)
+    ∙ ap (λ (o : List (List ℕ)). row_of width (replicate size 0) (get_or o k [])) is
+    ∙ ap (row_of width (replicate size 0)) (get_or-replicate height k [] [] inside)
+    ∙ unpacked-zeros width size room
+    ∙ sym (get_or-replicate height k (replicate width 0) [] inside))
+
+pub zeros_are : (width height size : ℕ) → width < 2 ^ 63 + 32 → width ≤ 8 * size → (owns : List (List ℕ)) → owns ≡ replicate height [] → AreEntries width (slab_of size (replicate height (replicate size 0))) owns
+zeros_are width height size fits room owns is = record {
+  fits = fits;
+  room = room;
+  order = refl;
+  height = ap length is ∙ length-replicate {A = List ℕ} height [] ∙ sym (length-replicate {A = List ℕ} height (replicate size 0));
+  symbols = All-from_get_or (λ s. length s ≡ size) (replicate height (replicate size 0)) [] (λ i l.
+      let inside : i < height = omega (arith, length-replicate {A = List ℕ} height (replicate size 0)) in
+      ap length (get_or-replicate height i (replicate size 0) [] inside) ∙ length-replicate {A = ℕ} size 0);
+  rows = rw (zero_rows width height size room owns is) (All-from_get_or (IsOctetRow width) (replicate height (replicate width 0)) [] (λ i l.
+      let inside : i < height = omega (arith, length-replicate {A = List ℕ} height (replicate width 0)) in
+      subst (IsOctetRow width) (unpacked-zeros width size room ∙ sym (get_or-replicate height i (replicate width 0) [] inside)) (unpacked_row width (replicate size 0))));
+}
+
+-- ---- sums of bits
+
+-- a sum in a slab without an order
+pub slab_sum : (slab : Slab) (dest src : ℕ) → slab.order ≡ None → length (get_or slab.values src []) ≡ length (get_or slab.values dest [])
+    → after (AddAssign dest src) slab ≡ record slab { values = set slab.values dest (row_sum (get_or slab.values dest []) (get_or slab.values src [])) }
+unfolding step
+slab_sum slab dest src none long =
+    ap (λ o. record slab { values = set slab.values (meant_at o dest) (add_symbols octets (get_or slab.values (meant_at o dest) []) (get_or slab.values (meant_at o src) [])) }) none
+    ∙ ap (λ (s : List ℕ). record slab { values = set slab.values dest s }) (add_symbols-rows (get_or slab.values dest []) (get_or slab.values src []) long)
+
+-- ---- a row that is there
+
+module _ (width : ℕ) (bits : Slab) (owns : List (List ℕ)) (are : AreEntries width bits owns) (now : OctetTable) (seen : table_of width bits owns ≡ now) where
+  pub width_is : width ≡ now.width
+  width_is = ap (λ (t : OctetTable). t.width) seen
+
+  pub now_octets : HasOctets now
+  now_octets = subst HasOctets seen (has_octets width bits owns are)
+
+  module _ (row : ℕ) (there : row < length now.rows) where
+    pub in_symbols : row < length bits.values
+    in_symbols = omega (arith, length-rows width bits.values owns are.height, ap (λ (t : OctetTable). length t.rows) seen)
+
+    pub in_owns : row < length owns
+    in_owns = omega (arith, in_symbols, are.height)
+
+    pub place : HasPlace bits row
+    place = rw are.order in_symbols
+
+    pub read_is : symbol_in bits row ≡ get_or bits.values row []
+    read_is = ap (λ o. get_or bits.values (meant_at o row) []) are.order
+
+    pub symbol_len : length (symbol_in bits row) ≡ bits.symbol_size
+    symbol_len = ap length read_is ∙ symbol_long width bits owns are row in_symbols
+
+    pub row_now : row_at now row ≡ row_of width (get_or bits.values row []) (get_or owns row [])
+    row_now = ap (λ (t : OctetTable). row_at t row) (sym seen) ∙ row_is width bits owns are row in_symbols
+
+    pub row_long : length (row_at now row) ≡ width
+    row_long = ap length row_now ∙ (row_octets width bits owns are row in_symbols).0
+
+    -- what is read of the row: its own octets and its bits
+    module _ (own : List ℕ) (own_is : own ≡ get_or owns row own) where
+      own_now : own ≡ get_or owns row []
+      own_now = get_or_read owns row own in_owns own_is []
+
+      pub read_row : row_of width (symbol_in bits row) own ≡ row_at now row
+      read_row = ap (λ b. row_of width b own) read_is ∙ ap (row_of width (get_or bits.values row [])) own_now ∙ sym row_now
+
+      pub own_bits : true ≡ (length own == 0) → (k : ℕ) → k < now.width → bit_in (symbol_in bits row) k ≡ entry_of now row k
+      own_bits none k l =
+          let inside : k < width = omega (arith, width_is) in
+          sym (at-unpacked width (symbol_in bits row) k inside)
+          ∙ ap (λ (r : List ℕ). get_or r k 0) (sym (row_of_none width (symbol_in bits row) own (none_if own none)) ∙ read_row)
+
+      pub own_octets : false ≡ (length own == 0) → own ≡ row_at now row
+      own_octets some = sym (row_of_some width (symbol_in bits row) own (some_if own some)) ∙ read_row
+
+      pub own_long : false ≡ (length own == 0) → length own ≡ now.width
+      own_long some = ap length (own_octets some) ∙ row_long ∙ width_is
+
+    -- other octets of the row
+    pub octets_set : (own : List ℕ) → IsOctetRow now.width own → AreEntries width bits (set owns row own)
+    octets_set own is =
+        let long : length own ≡ width = is.0 ∙ sym width_is in
+        owns_are width bits owns are row in_symbols own (rw (row_of_own width (get_or bits.values row []) own long) (subst (λ n. IsOctetRow n own) (sym width_is) is))
+
+    pub octets_seen : (own : List ℕ) → length own ≡ now.width → table_of width bits (set owns row own) ≡ with_row now row own
+    octets_seen own long =
+        table_with_octets width bits owns are row in_symbols own
+        ∙ ap (with_row (table_of width bits owns) row) (row_of_own width (get_or bits.values row []) own (long ∙ sym width_is))
+        ∙ ap (λ t. with_row t row own) seen
+
+    -- they are taken out
+    pub octets_taken : (own : List ℕ) → own ≡ [] → AreEntries width bits (set owns row own)
+    octets_taken own none = rw none (owns_are width bits owns are row in_symbols [] (unpacked_row width (get_or bits.values row [])))
+
+    -- taken out, and others put in
+    pub octets_put : (own new : List ℕ) → IsOctetRow now.width new → AreEntries width bits (set (set owns row own) row new)
+    octets_put own new is = rw (set-set owns row own new) (octets_set new is)
+
+    pub octets_put_seen : (own new : List ℕ) → length new ≡ now.width → table_of width bits (set (set owns row own) row new) ≡ with_row now row new
+    octets_put_seen own new long = ap (table_of width bits) (set-set owns row own new) ∙ octets_seen new long
+
+    -- other bits of the row
+    module _ (own : List ℕ) (own_is : own ≡ get_or owns row own) (none : true ≡ (length own == 0)) where
+      no_octets : length (get_or owns row []) ≡ 0
+      no_octets = ap length (sym (get_or_read owns row own in_owns own_is [])) ∙ none_if own none
+
+      pub bits_set : (symbol : List ℕ) → length symbol ≡ bits.symbol_size → AreEntries width (record bits { values = set bits.values row symbol }) owns
+      bits_set symbol long = bits_are width bits owns are row in_symbols symbol long (rw (row_of_none width symbol (get_or owns row []) no_octets) (unpacked_row width symbol))
+
+      pub bits_seen : (symbol : List ℕ) → length symbol ≡ bits.symbol_size → table_of width (record bits { values = set bits.values row symbol }) owns ≡ with_row now row (unpacked width symbol)
+      bits_seen symbol long =
+          table_with_bits width bits owns are row in_symbols symbol long
+          ∙ ap (with_row (table_of width bits owns) row) (row_of_none width symbol (get_or owns row []) no_octets)
+          ∙ ap (λ t. with_row t row (unpacked width symbol)) seen
+
+      pub row_unpacked : unpacked width (get_or bits.values row []) ≡ row_at now row
+      row_unpacked = sym (row_of_none width (get_or bits.values row []) (get_or owns row []) no_octets) ∙ sym row_now
+
+    pub row_elements : (i : ℕ) → i < length (row_at now row) → get_or (row_at now row) i 0 < 256
+    row_elements i l = (subst (IsOctetRow width) (sym row_now) (row_octets width bits owns are row in_symbols)).1 i 0 l
+
+    -- two reads of the row's own octets
+    pub own_same : (own other : List ℕ) → own ≡ get_or owns row own → other ≡ get_or owns row other → own ≡ other
+    own_same own other own_is other_is = get_or_read owns row own in_owns own_is [] ∙ sym (get_or_read owns row other in_owns other_is [])
+
+    -- what a write through the slab's symbol sets
+    pub write_is : (symbol : List ℕ) → record bits { values = set bits.values (meant_at bits.order row) symbol } ≡ record bits { values = set bits.values row symbol }
+    write_is symbol = ap (λ o. record bits { values = set bits.values (meant_at o row) symbol }) are.order
+
+  module _ (dest src : ℕ) (in_dest : dest < length now.rows) (in_src : src < length now.rows) (two : dest ≢ src) where
+    pub allowed : Allows bits (AddAssign dest src)
+    allowed = rw are.order (in_symbols dest in_dest, in_symbols src in_src, (λ e. two (sym e)))
+
+    -- the octets of a row to which those of another one are added
+    module _ (sum symbol own : List ℕ) (sum_is : sum ≡ row_at now dest) (symbol_is : symbol ≡ symbol_in bits src) (own_is : own ≡ get_or owns src own) where
+      pub sum_long : length sum ≡ width
+      sum_long = ap length sum_is ∙ row_long dest in_dest
+
+      pub src_row : row_of (length sum) symbol own ≡ row_at now src
+      src_row = ap (λ n. row_of n symbol own) sum_long ∙ ap (λ s. row_of width s own) symbol_is ∙ read_row src in_src own own_is
+
+      pub src_long : length (row_of (length sum) symbol own) ≡ length sum
+      src_long = ap length src_row ∙ row_long src in_src ∙ sym sum_long
+
+      pub sum_of_rows : (scalar : ℕ) → row_sum sum (row_multiple scalar (row_of (length sum) symbol own)) ≡ row_sum (row_at now dest) (row_multiple scalar (row_at now src))
+      sum_of_rows scalar = ap (λ r. row_sum sum (row_multiple scalar r)) src_row ∙ ap (λ s. row_sum s (row_multiple scalar (row_at now src))) sum_is
+
+    -- bits to which bits are added
+    module _ (own other : List ℕ) (own_is : own ≡ get_or owns dest own) (other_is : other ≡ get_or owns src other) (none : true ≡ (length own == 0)) (none_other : true ≡ (length other == 0))
+        (scalar : ℕ) (one : scalar ≡ 1) (new : Slab) (new_is : new ≡ after (AddAssign dest src) bits) where
+      a : List ℕ
+      a = get_or bits.values dest []
+
+      b : List ℕ
+      b = get_or bits.values src []
+
+      long_a : length a ≡ bits.symbol_size
+      unfolding a
+      long_a = symbol_long width bits owns are dest (in_symbols dest in_dest)
+
+      long_b : length b ≡ bits.symbol_size
+      unfolding b
+      long_b = symbol_long width bits owns are src (in_symbols src in_src)
+
+      long_sum : length (row_sum a b) ≡ bits.symbol_size
+      long_sum = length-zip2 bit_xor a b (long_a ∙ sym long_b) ∙ long_a
+
+      now_is : new ≡ record bits { values = set bits.values dest (row_sum a b) }
+      unfolding a b
+      now_is = new_is ∙ slab_sum bits dest src are.order (long_b ∙ sym long_a)
+
+      pub sum_are : AreEntries width new owns
+      sum_are = rw now_is (bits_set dest in_dest own own_is none (row_sum a b) long_sum)
+
+      unpacked_a : unpacked width a ≡ row_at now dest
+      unfolding a
+      unpacked_a = row_unpacked dest in_dest own own_is none
+
+      unpacked_b : unpacked width b ≡ row_at now src
+      unfolding b
+      unpacked_b = row_unpacked src in_src other other_is none_other
+
+      pub sum_seen : table_of width new owns ≡ with_row now dest (row_sum (row_at now dest) (row_multiple scalar (row_at now src)))
+      sum_seen =
+          let room = are.room in
+          ap (λ (s : Slab). table_of width s owns) now_is
+          ∙ bits_seen dest in_dest own own_is none (row_sum a b) long_sum
+          ∙ ap (with_row now dest) (
+          unpacked-sum width a b (long_a ∙ sym long_b) (omega (arith, long_a))
+          ∙ ap (λ r. row_sum r (unpacked width b)) unpacked_a
+          ∙ ap (row_sum (row_at now dest)) (unpacked_b ∙ sym (times_one (row_at now src) (row_elements src in_src)) ∙ ap (λ c. row_multiple c (row_at now src)) (sym one)))
+
+-- the next place where another row isn't 0, if it is the same before the end
+pub next_entry_same : (f g : ℕ → ℕ) (from end : ℕ) (answer : Option ℕ) → ((k : ℕ) → k < end → f k ≡ g k) → IsNextEntry f from end answer → IsNextEntry g from end answer
+next_entry_same f g from end None same zeros = λ k l m. sym (same k m) ∙ zeros k l m
+next_entry_same f g from end (Some place) same found = (
+  found.0,
+  found.1,
+  (λ e. found.2 (same place found.1 ∙ e)),
+  (λ k l m. sym (same k (let inside = found.1 in omega arith)) ∙ found.3 k l m),
+)

@@ -1,0 +1,239 @@
+-- Packed bits, and the octets that they are.
+use Rattle.std.proofs.Common.{◌≡◌, ◌≢◌, ℕ, ◌+◌, ◌-◌, ◌*◌, ◌/◌, ◌%◌, ◌^◌, ◌<◌, ◌≤◌, List, length, set, replicate, refl, sym, ap, ◌∙◌, arith, inl, inr, w8, lit<}
+use Rattle.std.specs.Int.{bit_at, trailing_zeros}
+use Rattle.std.specs.Int.Bits.{bit_xor, bit_or, xor_zero_l}
+use Rattle.std.proofs.Math.Nat.{div-le_self}
+use Rattle.std.proofs.lemmas.Bool.{cases_eq, cases_lt}
+use Rattle.std.proofs.lemmas.List.{ext_get_or, get_or-set_same, get_or-set_other, get_or-replicate, get_or_default, length-map, length-replicate, length-set}
+use Rattle.std.proofs.lemmas.List.Elements.{All-from_get_or}
+use Rattle.std.proofs.lemmas.List.FromFn.{length-map-range_with_len, get_or-map-range_with_len}
+use Rattle.std.proofs.lemmas.Nat.Bits.{bit_at-lt, bit_at-zero, bit_at_xor, bit_at_set_same, bit_at_set_other, bit_at_above, bit_at-trailing_zeros}
+use Rattle.std.proofs.lemmas.Simd.{get_or-zip2, length-zip2}
+use Rattle.std.proofs.Math.ListN.{get_or-map}
+use Rattle.rq_algebra.specs.Systems.{at}
+use Rattle.rq_algebra.proofs.Sums.{zero_mul}
+use Rattle.rq_standard.specs.Octets.{octet_mul}
+use Rattle.rq_standard.specs.OctetFacts.{one-mul}
+use Rattle.rq_standard.specs.OctetField.{octets}
+use Rattle.rq_standard.specs.Rows.{row_sum, row_multiple}
+use Rattle.rq_parts.specs.DenseOctetMatrix.{IsOctetRow}
+use Rattle.rq_parts.proofs.BitPairs.{bit_at-shifted}
+use Rattle.rq_solver.specs.InactiveEntries.{bit_in, unpacked}
+use Rattle.rq_solver.proofs.Entries.{mul_is}
+
+pub length-unpacked : (n : ℕ) (bits : List ℕ) → length (unpacked n bits) ≡ n
+length-unpacked n bits = length-map-range_with_len (bit_in bits) 0 n
+
+pub at-unpacked : (n : ℕ) (bits : List ℕ) (k : ℕ) → k < n → at (unpacked n bits) k ≡ bit_in bits k
+at-unpacked n bits k l = get_or-map-range_with_len (bit_in bits) 0 n k k 0 l (omega arith)
+
+pub bit_small : (bits : List ℕ) (k : ℕ) → bit_in bits k < 2
+bit_small bits k = bit_at-lt (at bits (k / 8)) (k % 8)
+
+pub unpacked_row : (n : ℕ) (bits : List ℕ) → IsOctetRow n (unpacked n bits)
+unpacked_row n bits = (
+  length-unpacked n bits,
+  All-from_get_or (λ octet. octet < 256) (unpacked n bits) 0 (λ i l.
+      let inside : i < n = omega (arith, length-unpacked n bits) in
+      let e = at-unpacked n bits i inside in
+      let small = bit_small bits i in
+      omega arith),
+)
+
+-- octets that are these bits one by one
+pub is_unpacked : (n : ℕ) (bits xs : List ℕ) → length xs ≡ n → ((k : ℕ) → k < n → at xs k ≡ bit_in bits k) → unpacked n bits ≡ xs
+is_unpacked n bits xs long same =
+    let len = length-unpacked n bits in
+    ext_get_or 0 (unpacked n bits) xs (len ∙ sym long) (λ i l.
+    let inside : i < n = omega arith in
+    at-unpacked n bits i inside ∙ sym (same i inside))
+
+-- ---- sums
+
+-- the sum of two bits
+xor_bits : (x y : ℕ) → x < 2 → y < 2 → bit_xor x y ≡ (x + y) % 2
+xor_bits x y l m = elim (cases_eq x 0) [
+  | inl none ↦ rw none (xor_zero_l y ∙ omega arith)
+  | inr some ↦
+      let one : x ≡ 1 = omega arith in
+      elim (cases_eq y 0) [
+        | inl none ↦ rw (none, one) refl
+        | inr more ↦ let two : y ≡ 1 = omega arith in rw (two, one) refl
+      ]
+]
+
+pub unpacked-sum : (n : ℕ) (a b : List ℕ) → length a ≡ length b → n ≤ 8 * length a → unpacked n (row_sum a b) ≡ row_sum (unpacked n a) (unpacked n b)
+unpacked-sum n a b long fits =
+    let len_a = length-unpacked n a in
+    let len_b = length-unpacked n b in
+    is_unpacked n (row_sum a b) (row_sum (unpacked n a) (unpacked n b)) (length-zip2 bit_xor (unpacked n a) (unpacked n b) (len_a ∙ sym len_b) ∙ len_a) (λ k l.
+    let in_a : k / 8 < length a = omega arith in
+    let in_b : k / 8 < length b = omega arith in
+    get_or-zip2 bit_xor (unpacked n a) (unpacked n b) k 0 0 0 (omega arith) (omega arith)
+    ∙ ap (λ x. bit_xor x (at (unpacked n b) k)) (at-unpacked n a k l)
+    ∙ ap (bit_xor (bit_in a k)) (at-unpacked n b k l)
+    ∙ xor_bits (bit_in a k) (bit_in b k) (bit_small a k) (bit_small b k)
+    ∙ sym (bit_at_xor (at a (k / 8)) (at b (k / 8)) (k % 8))
+    ∙ ap (λ x. bit_at x (k % 8)) (sym (get_or-zip2 bit_xor a b (k / 8) 0 0 0 in_a in_b)))
+
+-- ---- zeros
+
+pub unpacked-zeros : (n size : ℕ) → n ≤ 8 * size → unpacked n (replicate size 0) ≡ replicate n 0
+unpacked-zeros n size fits =
+    is_unpacked n (replicate size 0) (replicate n 0) (length-replicate {A = ℕ} n 0) (λ k l.
+    let inside : k / 8 < size = omega arith in
+    get_or-replicate n k 0 0 l
+    ∙ sym (bit_at-zero (k % 8))
+    ∙ ap (λ x. bit_at x (k % 8)) (sym (get_or-replicate size (k / 8) 0 0 inside)))
+
+-- ---- one bit that is set
+
+module _ (bits : List ℕ) (place : ℕ) (within : place / 8 < length bits) where
+  with_bit : List ℕ
+  with_bit = set bits (place / 8) (bit_or (at bits (place / 8)) (1 * 2 ^ (place % 8) % 2 ^ 8))
+
+  bit_here : bit_in with_bit place ≡ 1
+  unfolding with_bit
+  bit_here =
+      let below : place % 8 < 8 = omega arith in
+      ap (λ x. bit_at x (place % 8)) (get_or-set_same bits (place / 8) _ 0 within)
+      ∙ bit_at_set_same w8 (at bits (place / 8)) (place % 8) below
+
+  bit_beside : (k : ℕ) → k ≢ place → bit_in with_bit k ≡ bit_in bits k
+  unfolding with_bit
+  bit_beside k d = elim (cases_eq (k / 8) (place / 8)) [
+    | inl e ↦
+        let below : place % 8 < 8 = omega arith in
+        let other : k % 8 ≢ place % 8 = λ same. d (omega (arith, e, same)) in
+        rw e (ap (λ x. bit_at x (k % 8)) (get_or-set_same bits (place / 8) _ 0 within) ∙ bit_at_set_other w8 (at bits (place / 8)) (place % 8) below (k % 8) other)
+    | inr apart ↦ ap (λ x. bit_at x (k % 8)) (get_or-set_other bits (place / 8) (k / 8) _ 0 apart)
+  ]
+
+  pub unpacked-set : (n : ℕ) → place < n → unpacked n (set bits (place / 8) (bit_or (at bits (place / 8)) (1 * 2 ^ (place % 8) % 2 ^ 8))) ≡ set (unpacked n bits) place 1
+  unfolding with_bit
+  unpacked-set n below =
+      let len = length-unpacked n bits in
+      is_unpacked n with_bit (set (unpacked n bits) place 1) (length-set (unpacked n bits) place 1 ∙ len) (λ k l. elim (cases_eq k place) [
+        | inl e ↦ rw e (get_or-set_same (unpacked n bits) place 1 0 (omega arith) ∙ sym bit_here)
+        | inr d ↦ get_or-set_other (unpacked n bits) place k 1 0 d ∙ at-unpacked n bits k l ∙ sym (bit_beside k d)
+      ])
+
+-- ---- multiples of bits
+
+pub bit_multiple : (bit scalar : ℕ) → bit < 2 → scalar < 256 → bit * scalar ≡ octet_mul scalar bit
+bit_multiple bit scalar l m = elim (cases_eq bit 0) [
+  | inl none ↦
+      let nothing : 0 * scalar ≡ 0 = omega arith in
+      rw none (nothing ∙ sym (octets.mul_comm scalar 0 ∙ zero_mul octets scalar) ∙ mul_is scalar 0 m (lit< tt))
+  | inr some ↦
+      let one : bit ≡ 1 = omega arith in
+      let once : 1 * scalar ≡ scalar = omega arith in
+      rw one (once ∙ sym (octets.mul_comm scalar 1 ∙ octets.one_mul scalar m) ∙ mul_is scalar 1 m (lit< tt))
+]
+
+-- the first n octets took multiples of these bits
+pub record AddsBits (scalar : ℕ) (bits : List ℕ) (n : ℕ) (old new : List ℕ) : Type 0 where
+  pub long : length new ≡ length old
+  pub here : (k : ℕ) → k < n → at new k ≡ bit_xor (at old k) (octet_mul scalar (bit_in bits k))
+  pub left : (k : ℕ) → n ≤ k → at new k ≡ at old k
+
+module _ (scalar : ℕ) (bits : List ℕ) (old : List ℕ) where
+  pub added_none : AddsBits scalar bits 0 old old
+  added_none = record { long = refl; here = λ k l. absurd (omega arith); left = λ k l. refl }
+
+  pub added_more : (n octet : ℕ) (cur new : List ℕ) → n < length old → AddsBits scalar bits n old cur → octet ≡ bit_xor (at old n) (octet_mul scalar (bit_in bits n)) → new ≡ set cur n octet → AddsBits scalar bits (n + 1) old new
+  added_more n octet cur new inside v is e = rw e (record {
+    long = length-set cur n octet ∙ v.long;
+    here = λ k l. elim (cases_eq k n) [
+      | inl same ↦ let in_cur : n < length cur = omega (arith, v.long) in rw same (get_or-set_same cur n octet 0 in_cur ∙ is)
+      | inr d ↦ get_or-set_other cur n k octet 0 d ∙ v.here k (omega arith)
+    ];
+    left = λ k l. get_or-set_other cur n k octet 0 (omega arith) ∙ v.left k (omega arith);
+  })
+
+  pub added_all : (new : List ℕ) → AddsBits scalar bits (length old) old new → new ≡ row_sum old (row_multiple scalar (unpacked (length old) bits))
+  added_all new v =
+      let n = length old in
+      let row = unpacked n bits in
+      let len = length-unpacked n bits in
+      let multiple : length (row_multiple scalar row) ≡ n = length-map row (octet_mul scalar) ∙ len in
+      ext_get_or 0 new (row_sum old (row_multiple scalar row)) (v.long ∙ sym (length-zip2 bit_xor old (row_multiple scalar row) (sym multiple))) (λ k l.
+      let inside : k < n = omega (arith, v.long) in
+      let in_row : k < length row = omega arith in
+      let in_multiple : k < length (row_multiple scalar row) = omega arith in
+      v.here k inside
+      ∙ ap (λ x. bit_xor (at old k) (octet_mul scalar x)) (sym (at-unpacked n bits k inside))
+      ∙ ap (bit_xor (at old k)) (sym (get_or_default (row_multiple scalar row) k 0 (octet_mul scalar 0) in_multiple ∙ get_or-map (octet_mul scalar) row k 0))
+      ∙ sym (get_or-zip2 bit_xor old (row_multiple scalar row) k 0 0 0 inside in_multiple))
+
+-- the bits, added to zeros
+pub bits_among_zeros : (n : ℕ) (bits sum : List ℕ) → sum ≡ replicate n 0 → row_sum sum (row_multiple 1 (unpacked (length sum) bits)) ≡ unpacked n bits
+bits_among_zeros n bits sum is =
+    let long : length sum ≡ n = ap length is ∙ length-replicate {A = ℕ} n 0 in
+    let row = unpacked (length sum) bits in
+    let len = length-unpacked (length sum) bits in
+    let multiple : length (row_multiple 1 row) ≡ length sum = length-map row (octet_mul 1) ∙ len in
+    sym (is_unpacked n bits (row_sum sum (row_multiple 1 row)) (length-zip2 bit_xor sum (row_multiple 1 row) (sym multiple) ∙ long) (λ k l.
+    let in_sum : k < length sum = omega arith in
+    let in_multiple : k < length (row_multiple 1 row) = omega arith in
+    let small = bit_small bits k in
+    get_or-zip2 bit_xor sum (row_multiple 1 row) k 0 0 0 in_sum in_multiple
+    ∙ ap (λ (s : List ℕ). bit_xor (at s k) (at (row_multiple 1 row) k)) is
+    ∙ ap (λ x. bit_xor x (at (row_multiple 1 row) k)) (get_or-replicate n k 0 0 l)
+    ∙ xor_zero_l (at (row_multiple 1 row) k)
+    ∙ get_or_default (row_multiple 1 row) k 0 (octet_mul 1 0) in_multiple
+    ∙ get_or-map (octet_mul 1) row k 0
+    ∙ ap (octet_mul 1) (at-unpacked (length sum) bits k in_sum)
+    ∙ one-mul (bit_in bits k) (omega arith)))
+
+-- ---- the next bit that is set
+
+module _ (bits : List ℕ) (place rest : ℕ) (rest_is : rest ≡ at bits (place / 8) / 2 ^ (place % 8)) where
+  -- the bits of the octet from a place on
+  bit_ahead : (i : ℕ) → place % 8 + i < 8 → bit_in bits (place + i) ≡ bit_at rest i
+  bit_ahead i l =
+      let quotient : (place + i) / 8 ≡ place / 8 = omega arith in
+      let remainder : (place + i) % 8 ≡ place % 8 + i = omega arith in
+      ap (λ q. bit_at (at bits q) ((place + i) % 8)) quotient
+      ∙ ap (bit_at (at bits (place / 8))) remainder
+      ∙ sym (bit_at-shifted (at bits (place / 8)) (place % 8) i)
+      ∙ ap (λ x. bit_at x i) (sym rest_is)
+
+  -- none is set in the rest of the octet
+  pub zeros_to_next : rest ≡ 0 → (k : ℕ) → place ≤ k → k < place + (8 - place % 8) → bit_in bits k ≡ 0
+  zeros_to_next none k from before =
+      let i : ℕ = k - place in
+      let back : place + i ≡ k = omega arith in
+      let within : place % 8 + i < 8 = omega arith in
+      ap (bit_in bits) (sym back) ∙ bit_ahead i within ∙ ap (λ x. bit_at x i) none ∙ bit_at-zero i
+
+  -- the first that is set
+  pub record FirstOne (found : ℕ) : Type 0 where
+    pub from : place ≤ found
+    pub one : bit_in bits found ≡ 1
+    pub zeros : (k : ℕ) → place ≤ k → k < found → bit_in bits k ≡ 0
+
+  pub first_one : (zeros : ℕ) → at bits (place / 8) < 256 → rest ≢ 0 → zeros ≡ trailing_zeros w8 rest → FirstOne (place + zeros)
+  first_one zeros small some is =
+      let positive : 0 < rest = omega arith in
+      let below : rest < 2 ^ 8 = rw rest_is (let less = div-le_self (at bits (place / 8)) (2 ^ (place % 8)) in omega arith) in
+      let lowest = bit_at-trailing_zeros w8 rest positive below in
+      let one : bit_at rest zeros ≡ 1 = ap (bit_at rest) is ∙ lowest.1 in
+      let shifted : bit_at rest zeros ≡ bit_at (at bits (place / 8)) (place % 8 + zeros) = ap (λ x. bit_at x zeros) rest_is ∙ bit_at-shifted (at bits (place / 8)) (place % 8) zeros in
+      let within : place % 8 + zeros < 8 = elim (cases_lt (place % 8 + zeros) 8) [
+        | inl l ↦ l
+        | inr past ↦ let none = bit_at_above (at bits (place / 8)) 8 (place % 8 + zeros) small past in absurd (omega (arith, none, one, shifted))
+      ] in
+      record {
+        from = omega arith;
+        one = bit_ahead zeros within ∙ one;
+        zeros = λ k from before.
+            let i : ℕ = k - place in
+            let back : place + i ≡ k = omega arith in
+            let inside : place % 8 + i < 8 = omega arith in
+            ap (bit_in bits) (sym back) ∙ bit_ahead i inside ∙ lowest.2 i (omega arith);
+      }
+
+-- zeros before a place, and from it on
+pub zeros_before_next : (bits : List ℕ) (from place end : ℕ) → ((k : ℕ) → from ≤ k → k < place → bit_in bits k ≡ 0) → ((k : ℕ) → place ≤ k → k < end → bit_in bits k ≡ 0) → (k : ℕ) → from ≤ k → k < end → bit_in bits k ≡ 0
+zeros_before_next bits from place end before behind k l m = elim (cases_lt k place) [ inl first ↦ before k l first | inr late ↦ behind k late m ]

@@ -1,0 +1,210 @@
+//! What rows have in the inactive columns.
+ghost use Rattle.std.specs.Prelude.{◌≡◌, ◌≢◌, ℕ, ◌+◌, ◌%◌, ◌^◌, ◌<◌, ◌≤◌, length, replicate, slice_set, IfOk, OnOk, IfErr};
+ghost use Rattle.rq_bytes.specs.declared.error.Error.TheVariants.{OutOfMemory};
+ghost use Rattle.rq_parts.specs.DenseOctetMatrix.{entry_of, HasOctets, IsOctetRow, row_at, with_row};
+ghost use Rattle.rq_solver.specs.InactiveEntries.{IsNextEntry};
+ghost use Rattle.rq_standard.specs.Rows.{row_sum, row_multiple};
+
+mod octet_row;
+mod packed_bits;
+
+use super::elimination::OctetRows;
+use octet_row::OctetRow;
+use packed_bits::{bit, count_ones, next_one, set_bit};
+use rq_bytes::error::Error;
+use rq_bytes::octet::Octet;
+use rq_bytes::symbol_slab::SymbolSlab;
+use std::alloc::Global;
+use std::marker::Model;
+use std::mem;
+
+const LANES: usize = 32;
+
+/// What rows have in the inactive columns: bits, which stand in one buffer for all rows, or octets of
+/// a row's own. A row of bits becomes one of octets where it takes what isn't bits. Contracts see
+/// octets alone.
+#[derive(Drop)]
+pub(super) struct InactiveEntries {
+    alloc: Global,
+    width: usize,
+    bits: SymbolSlab,
+    octets: Vec<OctetRow>,
+}
+
+impl Model for InactiveEntries {
+    ghost use Rattle.rq_parts.specs.DenseOctetMatrix.{OctetTable};
+    ghost use Rattle.rq_solver.specs.InactiveEntries.{AreEntries, rows_of};
+
+    ghost Value = { OctetTable };
+
+    ghost view = { λ e. record { width = e.width; rows = rows_of e.width e.bits.values e.octets.items } };
+
+    ghost invariant = { λ e. AreEntries e.width e.bits e.octets.items };
+}
+
+impl InactiveEntries {
+    /// Rows of zeros.
+    pub(super) fn new(alloc: Global, height: usize, width: usize) -> Result<InactiveEntries, Error>
+        requires { width < 2 ^ 63 + 32 }
+        ensures zeros { IfOk result (λ entries. entries ≡ record { width = width; rows = replicate height (replicate width 0) }) }
+        ensures err { IfErr result (λ e. e ≡ OutOfMemory) }
+    {
+        let size = whole_vectors(width.div_ceil(8));
+        if height.checked_mul(size).is_none() {
+            return Err(Error::OutOfMemory);
+        }
+        let mut octets = Vec::with_capacity(alloc, height)?;
+        for _ in 0..height {
+            octets.push(OctetRow::none(alloc))?;
+        }
+        Ok(InactiveEntries {
+            alloc,
+            width,
+            bits: SymbolSlab::with_zeros(alloc, height, size)?,
+            octets,
+        })
+    }
+
+    /// The number of columns.
+    pub(super) fn width(&self) -> usize
+        ensures width { result ≡ self.now.width }
+        ensures octets { HasOctets self.now }
+    {
+        self.width
+    }
+
+    /// Sets an entry of a row to 1.
+    pub(super) fn set_one(&mut self, row: usize, column: usize)
+        requires row { row < length self.old.rows }
+        requires column { column < self.old.width }
+        ensures { self.new ≡ with_row self.old row (slice_set (row_at self.old row) column 1) }
+    {
+        if self.octets[row].is_none() {
+            set_bit(self.bits.get_mut(row), column);
+        } else {
+            self.octets[row].set(column, 1);
+        }
+    }
+
+    /// Sets the entries of a row to these octets.
+    pub(super) fn set_octets(&mut self, row: usize, octets: Vec<u8>)
+        requires row { row < length self.old.rows }
+        requires width { length octets.items ≡ self.old.width }
+        ensures row { self.new ≡ with_row self.old row octets.items }
+        ensures octets { IsOctetRow self.old.width octets.items }
+    {
+        self.octets[row] = OctetRow::new(octets);
+    }
+
+    /// What a row has in a column.
+    #[inline(always)]
+    pub(super) fn get(&self, row: usize, column: usize) -> Octet
+        requires row { row < length self.now.rows }
+        requires column { column < self.now.width }
+        ensures { result ≡ entry_of self.now row column }
+    {
+        let own = &self.octets[row];
+        if own.is_none() {
+            Octet::new(bit(self.bits.get(row), column))
+        } else {
+            Octet::new(own.get(column))
+        }
+    }
+
+    /// The first column, from one on and before another, where a row isn't 0.
+    #[inline(always)]
+    pub(super) fn next_entry(&self, row: usize, from: usize, end: usize) -> Option<usize>
+        requires row { row < length self.now.rows }
+        requires end { end ≤ self.now.width }
+        ensures { IsNextEntry (entry_of self.now row) from end result }
+    {
+        let own = &self.octets[row];
+        if own.is_none() {
+            next_one(self.bits.get(row), from, end)
+        } else {
+            own.next_entry(from, end)
+        }
+    }
+
+    /// How many of the first entries of a row aren't 0, or more where there are more.
+    pub(super) fn count_entries(&self, row: usize, count: usize) -> usize
+        requires row { row < length self.now.rows }
+        requires count { count ≤ self.now.width }
+        ensures { result ≤ count }
+    {
+        let own = &self.octets[row];
+        if own.is_none() {
+            count_ones(self.bits.get(row), count)
+        } else {
+            own.count_entries(count)
+        }
+    }
+
+    /// Multiplies a row by an octet.
+    pub(super) fn multiply_row(&mut self, row: usize, scalar: &Octet) -> Result<(), Error>
+        requires row { row < length self.old.rows }
+        ensures ok { OnOk result (self.new ≡ with_row self.old row (row_multiple scalar.now (row_at self.old row))) }
+        ensures err { IfErr result (λ e. e ≡ OutOfMemory) }
+    {
+        let own = mem::replace(&mut self.octets[row], OctetRow::none(self.alloc));
+        let mut multiple = own.or_bits(self.alloc, self.bits.get(row), self.width)?;
+        multiple.multiply(scalar);
+        self.octets[row] = multiple;
+        Ok(())
+    }
+
+    /// Adds a multiple of a row to another one.
+    #[inline(always)]
+    pub(super) fn add_multiple(
+        &mut self,
+        dest: usize,
+        src: usize,
+        scalar: &Octet,
+    ) -> Result<(), Error>
+        requires two { dest ≢ src }
+        requires dest { dest < length self.old.rows }
+        requires src { src < length self.old.rows }
+        ensures ok { OnOk result (self.new ≡ with_row self.old dest (row_sum (row_at self.old dest) (row_multiple scalar.now (row_at self.old src)))) }
+        ensures err { IfErr result (λ e. e ≡ OutOfMemory) }
+    {
+        if scalar.byte() == 1 && self.octets[dest].is_none() && self.octets[src].is_none() {
+            self.bits.add_assign(dest, src);
+            return Ok(());
+        }
+        self.add_octets(dest, src, scalar)
+    }
+
+    // Adds a multiple of a row to another one, which gets octets.
+    fn add_octets(&mut self, dest: usize, src: usize, scalar: &Octet) -> Result<(), Error>
+        requires two { dest ≢ src }
+        requires dest { dest < length self.old.rows }
+        requires src { src < length self.old.rows }
+        ensures ok { OnOk result (self.new ≡ with_row self.old dest (row_sum (row_at self.old dest) (row_multiple scalar.now (row_at self.old src)))) }
+        ensures err { IfErr result (λ e. e ≡ OutOfMemory) }
+    {
+        let own = mem::replace(&mut self.octets[dest], OctetRow::none(self.alloc));
+        let mut sum = own.or_bits(self.alloc, self.bits.get(dest), self.width)?;
+        sum.add_row(&self.octets[src], self.bits.get(src), scalar);
+        self.octets[dest] = sum;
+        Ok(())
+    }
+}
+
+impl OctetRows for InactiveEntries {
+    ghost table = { λ entries. entries };
+
+    fn entry(&self, row: usize, column: usize) -> Octet {
+        self.get(row, column)
+    }
+}
+
+/// The least number of octets, from this one on, that fills whole vectors: rows of such a length are
+/// added without octets that are left over.
+pub(super) fn whole_vectors(octets: usize) -> usize
+    requires { octets < 2 ^ 63 }
+    ensures whole { result % 32 ≡ 0 }
+    ensures from { octets ≤ result }
+    ensures near { result < octets + 32 }
+{
+    octets + (LANES - octets % LANES) % LANES
+}

@@ -1,0 +1,154 @@
+//! Rows that are octets.
+ghost use Rattle.std.specs.Prelude.{◌≡◌, ℕ, ◌*◌, ◌==◌, ◌<◌, ◌≤◌, [], length, slice_index, slice_set, IfOk, IfErr};
+ghost use Rattle.rq_bytes.specs.declared.error.Error.TheVariants.{OutOfMemory};
+ghost use Rattle.rq_parts.specs.DenseOctetMatrix.{IsOctetRow};
+ghost use Rattle.rq_solver.specs.InactiveEntries.{IsNextEntry, row_of};
+ghost use Rattle.rq_standard.specs.Rows.{row_sum, row_multiple};
+
+use super::packed_bits::add_bits;
+use rq_bytes::error::Error;
+use rq_bytes::factor::Factor;
+use rq_bytes::octet::Octet;
+use rq_bytes::octets::{add_assign, are_octets};
+use std::alloc::Global;
+use std::marker::Model;
+
+/// The octets of a row of its own, and none where the row is bits. Contracts see their list.
+#[derive(Drop)]
+pub(super) struct OctetRow {
+    octets: Vec<u8>,
+}
+
+impl Model for OctetRow {
+    ghost use Rattle.std.specs.Prelude.{List, ℕ};
+
+    ghost Value = { List ℕ };
+
+    ghost view = { λ row. row.octets.items };
+}
+
+impl OctetRow {
+    /// These octets.
+    pub(super) fn new(octets: Vec<u8>) -> OctetRow
+        ensures row { result ≡ octets.items }
+        ensures octets { IsOctetRow (length octets.items) result }
+    {
+        are_octets(octets.as_slice());
+        OctetRow { octets }
+    }
+
+    /// No octets.
+    pub(super) fn none(alloc: Global) -> OctetRow
+        ensures { result ≡ [] }
+    {
+        OctetRow {
+            octets: Vec::new(alloc),
+        }
+    }
+
+    /// Whether there are none.
+    #[inline(always)]
+    pub(super) fn is_none(&self) -> bool
+        ensures { result ≡ (length self.now == 0) }
+    {
+        self.octets.is_empty()
+    }
+
+    /// These octets where there are some, or else those that the bits are.
+    pub(super) fn or_bits(self, alloc: Global, bits: &[u8], width: usize) -> Result<OctetRow, Error>
+        requires { width ≤ 8 * length bits.now }
+        ensures row { IfOk result (λ row. row ≡ row_of width bits.now self) }
+        ensures err { IfErr result (λ e. e ≡ OutOfMemory) }
+    {
+        if !self.is_none() {
+            return Ok(self);
+        }
+        let mut octets = vec![in alloc; 0; width]?;
+        add_bits(octets.as_mut_slice(), bits, 1);
+        Ok(OctetRow { octets })
+    }
+
+    /// The octet in a column.
+    #[inline(always)]
+    pub(super) fn get(&self, column: usize) -> u8
+        requires { column < length self.now }
+        ensures { result ≡ slice_index self.now column }
+    {
+        self.octets[column]
+    }
+
+    /// Sets the octet in a column.
+    pub(super) fn set(&mut self, column: usize, octet: u8)
+        requires { column < length self.old }
+        ensures set { self.new ≡ slice_set self.old column octet }
+        ensures octets { IsOctetRow (length self.old) self.new }
+    {
+        self.octets[column] = octet;
+        are_octets(self.octets.as_slice());
+    }
+
+    /// The first column, from one on and before another, where there isn't 0.
+    pub(super) fn next_entry(&self, from: usize, end: usize) -> Option<usize>
+        requires { end ≤ length self.now }
+        ensures { IsNextEntry (slice_index self.now) from end result }
+    {
+        for column in from..end {
+            if self.octets[column] != 0 {
+                return Some(column);
+            }
+        }
+        None
+    }
+
+    /// How many of the first octets aren't 0.
+    pub(super) fn count_entries(&self, count: usize) -> usize
+        requires { count ≤ length self.now }
+        ensures { result ≤ count }
+    {
+        let mut found = 0;
+        for column in 0..count {
+            found += (self.octets[column] != 0) as usize;
+        }
+        found
+    }
+
+    /// Multiplies the octets.
+    pub(super) fn multiply(&mut self, scalar: &Octet)
+        ensures multiple { self.new ≡ row_multiple scalar.now self.old }
+        ensures octets { IsOctetRow (length self.old) self.new }
+    {
+        Factor::new(scalar).multiply(self.octets.as_mut_slice());
+        are_octets(self.octets.as_slice());
+    }
+
+    /// Adds a multiple of a row, which is these octets or else these bits.
+    pub(super) fn add_row(&mut self, octets: &OctetRow, bits: &[u8], scalar: &Octet)
+        requires bits { length self.old ≤ 8 * length bits.now }
+        requires width { length (row_of (length self.old) bits.now octets.now) ≡ length self.old }
+        ensures sum { self.new ≡ row_sum self.old (row_multiple scalar.now (row_of (length self.old) bits.now octets.now)) }
+        ensures octets { IsOctetRow (length self.old) self.new }
+    {
+        add_multiple(
+            self.octets.as_mut_slice(),
+            octets.octets.as_slice(),
+            bits,
+            scalar,
+        );
+        are_octets(self.octets.as_slice());
+    }
+}
+
+// Adds a multiple of a row, which is some octets or else some bits. A multiple by 1 needs no products.
+fn add_multiple(sum: &mut [u8], octets: &[u8], bits: &[u8], scalar: &Octet)
+    requires bits { length sum.old ≤ 8 * length bits.now }
+    requires width { length (row_of (length sum.old) bits.now octets.now) ≡ length sum.old }
+    ensures { sum.new ≡ row_sum sum.old (row_multiple scalar.now (row_of (length sum.old) bits.now octets.now)) }
+{
+    if octets.is_empty() {
+        add_bits(sum, bits, scalar.byte());
+    } else if scalar.byte() == 1 {
+        add_assign(sum, octets);
+    } else {
+        Factor::new(scalar).add_multiple(sum, octets);
+    }
+}
