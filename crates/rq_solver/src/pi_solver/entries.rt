@@ -45,14 +45,12 @@ impl Model for InactiveEntries {
 impl InactiveEntries {
     /// Rows of zeros.
     pub(super) fn new(alloc: Global, height: usize, width: usize) -> Result<InactiveEntries, Error>
-        requires { width < 2 ^ 63 + 32 }
+        requires few { height < 2 ^ 31 }
+        requires narrow { width < 2 ^ 17 }
         ensures zeros { IfOk result (λ entries. entries ≡ record { width = width; rows = replicate height (replicate width 0) }) }
         ensures err { IfErr result (λ e. e ≡ OutOfMemory) }
     {
         let size = whole_vectors(width.div_ceil(8));
-        if height.checked_mul(size).is_none() {
-            return Err(Error::OutOfMemory);
-        }
         let mut octets = Vec::with_capacity(alloc, height)?;
         for _ in 0..height {
             octets.push(OctetRow::none(alloc))?;

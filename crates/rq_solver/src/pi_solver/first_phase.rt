@@ -1,6 +1,6 @@
 //! The first phase (RFC 6330, section 5.4.2.2): once pivots are chosen, all rows are cleared in the
 //! pivots' columns.
-ghost use Rattle.std.specs.Prelude.{◌≡◌, ◌≢◌, ℕ, ◌+◌, ◌*◌, ◌<◌, ◌≤◌, drop, length, IfOk, OnOk, IfErr};
+ghost use Rattle.std.specs.Prelude.{◌≡◌, ◌≢◌, ℕ, ◌+◌, ◌*◌, ◌^◌, ◌<◌, ◌≤◌, drop, length, IfOk, OnOk, IfErr};
 ghost use Rattle.rq_bytes.specs.declared.error.Error.TheVariants.{OutOfMemory};
 ghost use Rattle.rq_solver.specs.Recorded.{AddsAtMost};
 ghost use Rattle.rq_solver.specs.Cleared.{AreOctetRows, ClearsRows, HasPeeledPivots, ListsRows, PeelsRows, TakesPivots, system_rows};
@@ -38,6 +38,8 @@ pub(super) fn clear_pivots(
     requires peeled { PeelsRows ones.now peeling.now }
     requires hdpc { AreOctetRows ones.now first_hdpc (length peeling.now.places.items) hdpc.now }
     requires listed { ListsRows (length ones.now) peeling.now.rows.items listed.now }
+    requires few_rows { length ones.now < 2 ^ 31 }
+    requires narrow { length peeling.now.places.items < 65536 }
     ensures cleared { IfOk result (ClearsPivots ones.now first_hdpc hdpc.now peeling.now listed.now) }
     ensures few { IfOk result (λ rows. additions rows.operations ≤ length ones.now * length peeling.now.rows.items + batch_bound (length hdpc.now.rows) (length peeling.now.places.items) (length peeling.now.rows.items)) }
     ensures err { IfErr result (λ e. e ≡ OutOfMemory) }

@@ -1,5 +1,5 @@
 //! The ones of a matrix of bits, row by row.
-ghost use Rattle.std.specs.Prelude.{◌≡◌, ℕ, ◌<◌, ◌≤◌, length, IfOk, OnOk, IfErr, slice_range};
+ghost use Rattle.std.specs.Prelude.{◌≡◌, ℕ, ◌^◌, ◌<◌, ◌≤◌, length, IfOk, OnOk, IfErr, slice_range};
 ghost use Rattle.std.specs.List.{sum_by};
 ghost use Rattle.rq_bytes.specs.declared.error.Error.TheVariants.{OutOfMemory};
 ghost use Rattle.rq_solver.specs.Peeled.{ones_of, AreOnesOfRows, AddsOnes};
@@ -40,6 +40,7 @@ impl RowOnes {
     ) -> Result<RowOnes, Error>
         requires boundary { boundary ≡ (T.content bits.now).boundary }
         ensures ones { IfOk result (λ ones. AreOnesOfRows (T.content bits.now).height (T.content bits.now).width (T.content bits.now).bit ones) }
+        ensures few { IfOk result (λ ones. length ones < 2 ^ 31) }
         ensures err { IfErr result (λ e. e ≡ OutOfMemory) }
     {
         let mut starts = Vec::with_capacity(alloc, bits.height() + 1)?;

@@ -1,5 +1,5 @@
 //! The phases of the solver, one after another (RFC 6330, section 5.4.2).
-ghost use Rattle.std.specs.Prelude.{◌≡◌, ℕ, ◌+◌, ◌<◌, ◌≤◌, ◌*◌, ◌-◌, ◌∷◌, ◌++◌, [], Contains, IsPermutation, drop, length, map, IfOk, OnOk, IfErr, IfSome, MatchBool, MatchOption};
+ghost use Rattle.std.specs.Prelude.{◌≡◌, ℕ, ◌+◌, ◌^◌, ◌<◌, ◌≤◌, ◌*◌, ◌-◌, ◌∷◌, ◌++◌, [], Contains, IsPermutation, drop, length, map, IfOk, OnOk, IfErr, IfSome, MatchBool, MatchOption};
 ghost use Rattle.rq_algebra.specs.Operations.{Reorder, FindsColumn};
 ghost use Rattle.rq_algebra.specs.Systems.{at, HasHomogeneousColumn};
 ghost use Rattle.rq_bytes.specs.SymbolOps.{operation_of};
@@ -50,6 +50,8 @@ pub(super) fn find_operations(
     requires peeled { IsPeeled width ones.now peeling.now.rows.items peeling.now.order.items peeling.now.places.items }
     requires hdpc { AreOctetRows ones.now first_hdpc width hdpc.now }
     requires few_hdpc { length hdpc.now.rows ≤ width }
+    requires few_rows { length ones.now < 2 ^ 31 }
+    requires narrow { width < 65536 }
     ensures found { IfOk result (λ attempt. IsAttempt width ones.now first_hdpc hdpc.now attempt.operations) }
     ensures counted { IfOk result (λ attempt. IfSome attempt.operations (λ ops. AreCountsOf attempt.counts (map operation_of ops.items))) }
     ensures few { IfOk result (λ attempt. total_of attempt.counts.additions ≤ 2 * width * length ones.now) }

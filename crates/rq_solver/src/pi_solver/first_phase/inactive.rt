@@ -26,8 +26,9 @@ pub(super) fn fill_inactive(
     requires peeled { PeelsRows ones.now peeling.now }
     requires hdpc { AreOctetRows ones.now first_hdpc (length peeling.now.places.items) hdpc.now }
     requires inactive { length peeling.now.rows.items + inactive ≡ length peeling.now.places.items }
+    requires few { length ones.now < 2 ^ 31 }
+    requires narrow { length peeling.now.places.items < 65536 }
     ensures entries { IfOk result (HasLeading (length ones.now) inactive (length ones.now) (λ r f. system_rows ones.now first_hdpc hdpc.now r (at peeling.now.order.items (length peeling.now.rows.items + f)))) }
-    ensures fits { length ones.now < 2 ^ 64 }
     ensures err { IfErr result (λ e. e ≡ OutOfMemory) }
 {
     let mut entries = InactiveEntries::new(alloc, ones.height(), whole_vectors(inactive))?;

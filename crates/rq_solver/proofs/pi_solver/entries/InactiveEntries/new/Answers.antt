@@ -1,9 +1,16 @@
 -- What the check leaves to show of `pi_solver::entries::InactiveEntries::new`.
-use Rattle.std.proofs.Common.{◌≡◌, ◌*◌, ◌≤◌, ℕ, List, [], replicate, ap, sym, subst, ◌∙◌, arith}
+use Rattle.std.proofs.Common.{◌≡◌, ◌*◌, ◌^◌, ◌≤◌, ℕ, List, [], replicate, ap, sym, subst, ◌∙◌, arith}
+use Rattle.std.proofs.Math.Nat.{mul-le-mul}
 use Rattle.rq_bytes.specs.SymbolSlab.{Slab, slab_of}
 use Rattle.rq_solver.specs.InactiveEntries.{AreEntries}
 use Rattle.rq_solver.proofs.EntryRows.{table_of, zero_rows, zeros_are}
 use Rattle.rq_solver.proofs.pi_solver.entries.InactiveEntries.new.Goals as goal
+
+pub with_zeros-requires : goal.with_zeros-requires
+with_zeros-requires c =
+    let size : c.whole_vectors-size.result ≤ 2 ^ 15 = omega (arith, c.div_ceil.ensures, c.whole_vectors-size.ensures.near, c.requires.narrow) in
+    let product : c.args.height * c.whole_vectors-size.result ≤ 2 ^ 31 * 2 ^ 15 = mul-le-mul (let few : c.args.height ≤ 2 ^ 31 = omega (arith, c.requires.few) in few) size in
+    omega (arith, product)
 
 pub invariant_of-result : goal.invariant_of-result
 invariant_of-result c =
@@ -12,7 +19,7 @@ invariant_of-result c =
     let all : c.loop.counter ≡ c.args.height = omega arith in
     let owns : c.loop.octets.items ≡ replicate c.args.height [] = c.loop.invariant ∙ ap (λ n. replicate {A = List ℕ} n []) all in
     let slab : slab_of size (replicate c.args.height (replicate size 0)) ≡ c.in_ok-with_zeros.field-0 = cc (c.in_ok-with_zeros.ensures) in
-    subst (λ (s : Slab). AreEntries c.args.width s c.loop.octets.items) slab (zeros_are c.args.width c.args.height size c.requires room c.loop.octets.items owns)
+    subst (λ (s : Slab). AreEntries c.args.width s c.loop.octets.items) slab (zeros_are c.args.width c.args.height size (omega (arith, c.requires.narrow)) room c.loop.octets.items owns)
 
 pub returns-clause-zeros : goal.returns-clause-zeros
 returns-clause-zeros c =
