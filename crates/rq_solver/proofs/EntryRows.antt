@@ -1,5 +1,5 @@
 -- Rows of which some are packed bits, and the others octets.
-use Rattle.std.proofs.Common.{◌≡◌, ◌≢◌, ℕ, ◌+◌, ◌*◌, ◌<◌, ◌≤◌, ◌^◌, List, [], ◌∷◌, None, Some, Option, length, set, replicate, get_or, refl, sym, ap, subst, ◌∙◌, arith, inl, inr}
+use Rattle.std.proofs.Common.{◌≡◌, ◌≢◌, ℕ, ◌+◌, ◌*◌, ◌%◌, ◌<◌, ◌≤◌, ◌^◌, List, [], ◌∷◌, None, Some, Option, length, set, replicate, get_or, refl, sym, ap, subst, ◌∙◌, arith, inl, inr}
 use Rattle.std.specs.Prelude.{◌==◌, true, false}
 use Rattle.std.proofs.lemmas.Bool.{cases_eq}
 use Rattle.std.proofs.lemmas.Bool.Decides.{eqb_tells}
@@ -105,6 +105,7 @@ module _ (width : ℕ) (bits : Slab) (owns : List (List ℕ)) (are : AreEntries 
     pub owns_are : (own : List ℕ) → IsOctetRow width (row_of width (get_or bits.values i []) own) → AreEntries width bits (set owns i own)
     owns_are own row = record {
       fits = are.fits;
+      whole = are.whole;
       room = are.room;
       order = are.order;
       height = length-set owns i own ∙ are.height;
@@ -120,6 +121,7 @@ module _ (width : ℕ) (bits : Slab) (owns : List (List ℕ)) (are : AreEntries 
       pub bits_are : IsOctetRow width (row_of width symbol (get_or owns i [])) → AreEntries width (record bits { values = set bits.values i symbol }) owns
       bits_are row = record {
         fits = are.fits;
+        whole = are.whole;
         room = are.room;
         order = are.order;
         height = are.height ∙ sym (length-set bits.values i symbol);
@@ -146,9 +148,10 @@ zero_rows width height size room owns is =
     ∙ unpacked-zeros width size room
     ∙ sym (get_or-replicate height k (replicate width 0) [] inside))
 
-pub zeros_are : (width height size : ℕ) → width < 2 ^ 63 + 32 → width ≤ 8 * size → (owns : List (List ℕ)) → owns ≡ replicate height [] → AreEntries width (slab_of size (replicate height (replicate size 0))) owns
-zeros_are width height size fits room owns is = record {
+pub zeros_are : (width height size : ℕ) → width < 2 ^ 63 + 32 → width % 32 ≡ 0 → width ≤ 8 * size → (owns : List (List ℕ)) → owns ≡ replicate height [] → AreEntries width (slab_of size (replicate height (replicate size 0))) owns
+zeros_are width height size fits whole room owns is = record {
   fits = fits;
+  whole = whole;
   room = room;
   order = refl;
   height = ap length is ∙ length-replicate {A = List ℕ} height [] ∙ sym (length-replicate {A = List ℕ} height (replicate size 0));

@@ -1,25 +1,31 @@
 -- Packed bits, and the octets that they are.
-use Rattle.std.proofs.Common.{◌≡◌, ◌≢◌, ℕ, ◌+◌, ◌-◌, ◌*◌, ◌/◌, ◌%◌, ◌^◌, ◌<◌, ◌≤◌, List, length, set, replicate, refl, sym, ap, ◌∙◌, arith, inl, inr, w8, lit<}
+use Rattle.std.proofs.Common.{◌++◌, true, false, cond, eqb, get_or, map, ◌≡◌, ◌≢◌, ℕ, ◌+◌, ◌-◌, ◌*◌, ◌/◌, ◌%◌, ◌^◌, ◌<◌, ◌≤◌, List, length, set, replicate, refl, sym, ap, ◌∙◌, arith, inl, inr, w8}
 use Rattle.std.specs.Int.{bit_at, trailing_zeros}
 use Rattle.std.specs.Int.Bits.{bit_xor, bit_or, xor_zero_l}
 use Rattle.std.proofs.Math.Nat.{div-le_self}
-use Rattle.std.proofs.lemmas.Bool.{cases_eq, cases_lt}
-use Rattle.std.proofs.lemmas.List.{ext_get_or, get_or-set_same, get_or-set_other, get_or-replicate, get_or_default, length-map, length-replicate, length-set}
+use Rattle.std.proofs.lemmas.Bool.{agree_below, agree_below_at, eqb-true, cases_eq, cases_lt, cond-true, cond-false, eq-eqb, ne_eqb}
+use Rattle.std.proofs.lemmas.List.{ext_get_or, get_or-set_same, get_or-set_other, get_or-replicate, get_or_default, get_or_append_left, length-map, length-replicate, length-set}
 use Rattle.std.proofs.lemmas.List.Elements.{All-from_get_or}
 use Rattle.std.proofs.lemmas.List.FromFn.{length-map-range_with_len, get_or-map-range_with_len}
-use Rattle.std.proofs.lemmas.Nat.Bits.{bit_at-lt, bit_at-zero, bit_at_xor, bit_at_set_same, bit_at_set_other, bit_at_above, bit_at-trailing_zeros}
-use Rattle.std.proofs.lemmas.Simd.{get_or-zip2, length-zip2}
+use Rattle.std.proofs.lemmas.Nat.Bits.{bit_at-lt, bit_at-zero, bit_at_xor, bit_at_set_same, bit_at_set_other, bit_at_above, bit_at-trailing_zeros, and_pow}
+use Rattle.std.proofs.lemmas.Nat.{pow_pos}
+use Rattle.std.proofs.lemmas.Simd.{length-chunk, get_or-chunk, get_or-zip2, length-zip2, length-sel_l, get_or-sel_l}
+use lib.Bits.{bit_and}
+use lib.Lanes.{zip2, chunk, sel_l, pick_l}
+use Rattle.std.specs.List.{range_with_len}
 use Rattle.std.proofs.Math.ListN.{get_or-map}
 use Rattle.rq_algebra.specs.Systems.{at}
-use Rattle.rq_algebra.proofs.Sums.{zero_mul}
 use Rattle.rq_standard.specs.Octets.{octet_mul}
 use Rattle.rq_standard.specs.OctetFacts.{one-mul}
-use Rattle.rq_standard.specs.OctetField.{octets}
+use Rattle.rq_standard.specs.OctetProducts.{mul-one, mul-zero}
+use Rattle.rq_solver.specs.declared.pi_solver.entries.packed_bits.TheConstants.{MASKS, PLACES}
 use Rattle.rq_standard.specs.Rows.{row_sum, row_multiple}
 use Rattle.rq_parts.specs.DenseOctetMatrix.{IsOctetRow}
 use Rattle.rq_parts.proofs.BitPairs.{bit_at-shifted}
 use Rattle.rq_solver.specs.InactiveEntries.{bit_in, unpacked}
-use Rattle.rq_solver.proofs.Entries.{mul_is}
+
+map_at : (f : ℕ → ℕ) (xs : List ℕ) (k : ℕ) → k < length xs → at (map f xs) k ≡ f (at xs k)
+map_at f xs k l = get_or_default (map f xs) k 0 (f 0) (omega (arith, length-map xs f)) ∙ get_or-map f xs k 0
 
 pub length-unpacked : (n : ℕ) (bits : List ℕ) → length (unpacked n bits) ≡ n
 length-unpacked n bits = length-map-range_with_len (bit_in bits) 0 n
@@ -120,51 +126,84 @@ module _ (bits : List ℕ) (place : ℕ) (within : place / 8 < length bits) wher
 
 -- ---- multiples of bits
 
-pub bit_multiple : (bit scalar : ℕ) → bit < 2 → scalar < 256 → bit * scalar ≡ octet_mul scalar bit
-bit_multiple bit scalar l m = elim (cases_eq bit 0) [
+bit_multiple : (scalar bit mask : ℕ) → bit < 2 → scalar < 256 → 0 < mask → cond (eqb (bit * mask) mask) scalar 0 ≡ octet_mul scalar bit
+bit_multiple scalar bit mask l m some = elim (cases_eq bit 0) [
   | inl none ↦
-      let nothing : 0 * scalar ≡ 0 = omega arith in
-      rw none (nothing ∙ sym (octets.mul_comm scalar 0 ∙ zero_mul octets scalar) ∙ mul_is scalar 0 m (lit< tt))
-  | inr some ↦
+      ap (λ b. cond (eqb (b * mask) mask) scalar 0) none
+      ∙ cond-false (eqb (0 * mask) mask) scalar 0 (ne_eqb (0 * mask) mask (λ e. omega arith))
+      ∙ sym (ap (octet_mul scalar) none ∙ mul-zero scalar)
+  | inr more ↦
       let one : bit ≡ 1 = omega arith in
-      let once : 1 * scalar ≡ scalar = omega arith in
-      rw one (once ∙ sym (octets.mul_comm scalar 1 ∙ octets.one_mul scalar m) ∙ mul_is scalar 1 m (lit< tt))
+      ap (λ b. cond (eqb (b * mask) mask) scalar 0) one
+      ∙ cond-true (eqb (1 * mask) mask) scalar 0 (eq-eqb (1 * mask) mask (omega arith))
+      ∙ sym (ap (octet_mul scalar) one ∙ mul-one scalar m)
 ]
 
--- the first n octets took multiples of these bits
-pub record AddsBits (scalar : ℕ) (bits : List ℕ) (n : ℕ) (old new : List ℕ) : Type 0 where
-  pub long : length new ≡ length old
-  pub here : (k : ℕ) → k < n → at new k ≡ bit_xor (at old k) (octet_mul scalar (bit_in bits k))
-  pub left : (k : ℕ) → n ≤ k → at new k ≡ at old k
+masks : agree_below (λ i. eqb (get_or MASKS i 0) (2 ^ (i % 8))) (λ _. true) 32 ≡ true
+masks = refl
 
-module _ (scalar : ℕ) (bits : List ℕ) (old : List ℕ) where
-  pub added_none : AddsBits scalar bits 0 old old
-  added_none = record { long = refl; here = λ k l. absurd (omega arith); left = λ k l. refl }
+mask_at : (i : ℕ) → i < 32 → at MASKS i ≡ 2 ^ (i % 8)
+mask_at i lt = eqb-true _ _ (agree_below_at (λ k. eqb (get_or MASKS k 0) (2 ^ (k % 8))) (λ _. true) 32 i masks lt)
 
-  pub added_more : (n octet : ℕ) (cur new : List ℕ) → n < length old → AddsBits scalar bits n old cur → octet ≡ bit_xor (at old n) (octet_mul scalar (bit_in bits n)) → new ≡ set cur n octet → AddsBits scalar bits (n + 1) old new
-  added_more n octet cur new inside v is e = rw e (record {
-    long = length-set cur n octet ∙ v.long;
-    here = λ k l. elim (cases_eq k n) [
-      | inl same ↦ let in_cur : n < length cur = omega (arith, v.long) in rw same (get_or-set_same cur n octet 0 in_cur ∙ is)
-      | inr d ↦ get_or-set_other cur n k octet 0 d ∙ v.here k (omega arith)
-    ];
-    left = λ k l. get_or-set_other cur n k octet 0 (omega arith) ∙ v.left k (omega arith);
-  })
+places : agree_below (λ i. eqb (get_or PLACES i 0) (i / 8)) (λ _. true) 32 ≡ true
+places = refl
 
-  pub added_all : (new : List ℕ) → AddsBits scalar bits (length old) old new → new ≡ row_sum old (row_multiple scalar (unpacked (length old) bits))
-  added_all new v =
-      let n = length old in
-      let row = unpacked n bits in
-      let len = length-unpacked n bits in
-      let multiple : length (row_multiple scalar row) ≡ n = length-map row (octet_mul scalar) ∙ len in
-      ext_get_or 0 new (row_sum old (row_multiple scalar row)) (v.long ∙ sym (length-zip2 bit_xor old (row_multiple scalar row) (sym multiple))) (λ k l.
-      let inside : k < n = omega (arith, v.long) in
-      let in_row : k < length row = omega arith in
-      let in_multiple : k < length (row_multiple scalar row) = omega arith in
-      v.here k inside
-      ∙ ap (λ x. bit_xor (at old k) (octet_mul scalar x)) (sym (at-unpacked n bits k inside))
-      ∙ ap (bit_xor (at old k)) (sym (get_or_default (row_multiple scalar row) k 0 (octet_mul scalar 0) in_multiple ∙ get_or-map (octet_mul scalar) row k 0))
-      ∙ sym (get_or-zip2 bit_xor old (row_multiple scalar row) k 0 0 0 inside in_multiple))
+-- four octets, each at eight places
+repeated_at : (bits : List ℕ) (i : ℕ) → length bits ≡ 4 → i < 32 → at (pick_l 0 (bits ++ bits) PLACES) i ≡ at bits (i / 8)
+repeated_at bits i long lt =
+    map_at (λ k. get_or (bits ++ bits) k 0) PLACES i lt
+    ∙ ap (λ k. get_or (bits ++ bits) k 0) (eqb-true _ _ (agree_below_at (λ k. eqb (get_or PLACES k 0) (k / 8)) (λ _. true) 32 i places lt))
+    ∙ get_or_append_left bits bits 0 (i / 8) (omega arith)
+
+-- the products of an octet and the bits of four octets, lane by lane
+pub masked_bits : (scalar : ℕ) (bits : List ℕ) → scalar < 256 → length bits ≡ 4
+    → sel_l (zip2 eqb (zip2 bit_and (pick_l 0 (bits ++ bits) PLACES) MASKS) MASKS) (replicate 32 scalar) (replicate 32 0)
+    ≡ map (λ i. octet_mul scalar (bit_in bits i)) (range_with_len 0 32)
+masked_bits scalar bits small long =
+    let v = pick_l 0 (bits ++ bits) PLACES in
+    let long_v : length v ≡ 32 = length-map PLACES (λ k. get_or (bits ++ bits) k 0) in
+    let met = zip2 bit_and v MASKS in
+    let long_met : length met ≡ 32 = length-zip2 bit_and v MASKS long_v ∙ long_v in
+    let tests = zip2 eqb met MASKS in
+    let long_tests : length tests ≡ 32 = length-zip2 eqb met MASKS long_met ∙ long_met in
+    let long_all = length-sel_l tests (replicate 32 scalar) (replicate 32 0) long_tests long_tests ∙ long_tests in
+    ext_get_or 0 (sel_l tests (replicate 32 scalar) (replicate 32 0)) (map (λ i. octet_mul scalar (bit_in bits i)) (range_with_len 0 32))
+    (long_all ∙ sym (length-map-range_with_len (λ i. octet_mul scalar (bit_in bits i)) 0 32))
+    (λ i under.
+    let lt : i < 32 = omega (arith, long_all) in
+    let k = i % 8 in
+    let x = at bits (i / 8) in
+    get_or-sel_l tests (replicate 32 scalar) (replicate 32 0) i 0 (omega arith) lt lt
+    ∙ ap (λ t. cond t (get_or (replicate 32 scalar) i 0) (get_or (replicate 32 0) i 0)) (get_or-zip2 eqb met MASKS i 0 0 false (omega arith) lt)
+    ∙ ap (λ m. cond (eqb m (at MASKS i)) (get_or (replicate 32 scalar) i 0) (get_or (replicate 32 0) i 0)) (get_or-zip2 bit_and v MASKS i 0 0 0 (omega arith) lt)
+    ∙ ap (λ y. cond (eqb (bit_and y (at MASKS i)) (at MASKS i)) (get_or (replicate 32 scalar) i 0) (get_or (replicate 32 0) i 0)) (repeated_at bits i long lt)
+    ∙ ap (λ p. cond (eqb (bit_and x p) p) (get_or (replicate 32 scalar) i 0) (get_or (replicate 32 0) i 0)) (mask_at i lt)
+    ∙ ap (λ m. cond (eqb m (2 ^ k)) (get_or (replicate 32 scalar) i 0) (get_or (replicate 32 0) i 0)) (and_pow x k)
+    ∙ ap (λ s. cond (eqb (bit_at x k * 2 ^ k) (2 ^ k)) s (get_or (replicate 32 0) i 0)) (get_or-replicate 32 i scalar 0 lt)
+    ∙ ap (cond (eqb (bit_at x k * 2 ^ k) (2 ^ k)) scalar) (get_or-replicate 32 i 0 0 lt)
+    ∙ bit_multiple scalar (bit_at x k) (2 ^ k) (bit_at-lt x k) small (pow_pos k)
+    ∙ sym (get_or-map-range_with_len (λ j. octet_mul scalar (bit_in bits j)) 0 32 i i 0 lt (omega arith)))
+
+-- those of a block of 32 bits are those of its four octets
+pub block_bits : (scalar n first : ℕ) (bits : List ℕ) → first % 32 ≡ 0 → first + 32 ≤ n → n ≤ 8 * length bits
+    → map (λ i. octet_mul scalar (bit_in (chunk (first / 8) 4 bits) i)) (range_with_len 0 32) ≡ map (octet_mul scalar) (chunk first 32 (unpacked n bits))
+block_bits scalar n first bits aligned fits room =
+    let len = length-unpacked n bits in
+    let few = length-chunk first 32 (unpacked n bits) (omega arith) in
+    let count = length-map-range_with_len (λ i. octet_mul scalar (bit_in (chunk (first / 8) 4 bits) i)) 0 32 in
+    ext_get_or 0 (map (λ i. octet_mul scalar (bit_in (chunk (first / 8) 4 bits) i)) (range_with_len 0 32)) (map (octet_mul scalar) (chunk first 32 (unpacked n bits)))
+    (count ∙ sym (length-map (chunk first 32 (unpacked n bits)) (octet_mul scalar) ∙ few))
+    (λ i under.
+    let lt : i < 32 = omega arith in
+    let quarter : i / 8 < 4 = omega arith in
+    let octet : first / 8 + i / 8 ≡ (first + i) / 8 = omega arith in
+    let place : i % 8 ≡ (first + i) % 8 = omega arith in
+    get_or-map-range_with_len (λ j. octet_mul scalar (bit_in (chunk (first / 8) 4 bits) j)) 0 32 i i 0 lt (omega arith)
+    ∙ ap (octet_mul scalar) (
+    ap (λ x. bit_at x (i % 8)) (get_or-chunk (first / 8) 4 bits (i / 8) 0 quarter ∙ ap (λ k. get_or bits k 0) octet)
+    ∙ ap (bit_at (get_or bits ((first + i) / 8) 0)) place
+    ∙ sym (get_or-chunk first 32 (unpacked n bits) i 0 lt ∙ at-unpacked n bits (first + i) (omega arith)))
+    ∙ sym (map_at (octet_mul scalar) (chunk first 32 (unpacked n bits)) i (omega arith)))
 
 -- the bits, added to zeros
 pub bits_among_zeros : (n : ℕ) (bits sum : List ℕ) → sum ≡ replicate n 0 → row_sum sum (row_multiple 1 (unpacked (length sum) bits)) ≡ unpacked n bits
@@ -181,8 +220,7 @@ bits_among_zeros n bits sum is =
     ∙ ap (λ (s : List ℕ). bit_xor (at s k) (at (row_multiple 1 row) k)) is
     ∙ ap (λ x. bit_xor x (at (row_multiple 1 row) k)) (get_or-replicate n k 0 0 l)
     ∙ xor_zero_l (at (row_multiple 1 row) k)
-    ∙ get_or_default (row_multiple 1 row) k 0 (octet_mul 1 0) in_multiple
-    ∙ get_or-map (octet_mul 1) row k 0
+    ∙ map_at (octet_mul 1) row k (omega (arith, len))
     ∙ ap (octet_mul 1) (at-unpacked (length sum) bits k in_sum)
     ∙ one-mul (bit_in bits k) (omega arith)))
 

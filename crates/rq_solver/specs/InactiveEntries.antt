@@ -25,6 +25,7 @@ rows_of width bits octets = zip2 (row_of width) bits octets
 -- as many bits as there are columns, in a buffer without an order, and octets for as many rows
 pub record AreEntries (width : ℕ) (bits : Slab) (octets : List (List ℕ)) : Type 0 where
   pub fits : width < 2 ^ 63 + 32
+  pub whole : width % 32 ≡ 0
   pub room : width ≤ 8 * bits.symbol_size
   pub order : bits.order ≡ None
   pub height : length octets ≡ length bits.values

@@ -21,7 +21,7 @@ use std::mem;
 const LANES: usize = 32;
 
 /// What rows have in the inactive columns: bits, which stand in one buffer for all rows, or octets of
-/// a row's own. A row of bits becomes one of octets where it takes what isn't bits. Contracts see
+/// a row's own. The columns fill whole vectors. A row of bits becomes one of octets where it takes what isn't bits. Contracts see
 /// octets alone.
 #[derive(Drop)]
 pub(super) struct InactiveEntries {
@@ -47,6 +47,7 @@ impl InactiveEntries {
     pub(super) fn new(alloc: Global, height: usize, width: usize) -> Result<InactiveEntries, Error>
         requires few { height < 2 ^ 31 }
         requires narrow { width < 2 ^ 17 }
+        requires whole { width % 32 ≡ 0 }
         ensures zeros { IfOk result (λ entries. entries ≡ record { width = width; rows = replicate height (replicate width 0) }) }
         ensures err { IfErr result (λ e. e ≡ OutOfMemory) }
     {
@@ -91,6 +92,8 @@ impl InactiveEntries {
         ensures row { self.new ≡ with_row self.old row octets.items }
         ensures octets { IsOctetRow self.old.width octets.items }
     {
+        // Where a field is read, it is known that rows fill whole vectors.
+        let _ = &self.octets;
         self.octets[row] = OctetRow::new(octets);
     }
 

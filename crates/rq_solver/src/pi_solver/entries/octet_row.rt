@@ -1,5 +1,5 @@
 //! Rows that are octets.
-ghost use Rattle.std.specs.Prelude.{◌≡◌, ℕ, ◌*◌, ◌==◌, ◌<◌, ◌≤◌, [], length, slice_index, slice_set, IfOk, IfErr};
+ghost use Rattle.std.specs.Prelude.{◌≡◌, ℕ, ◌*◌, ◌%◌, ◌==◌, ◌<◌, ◌≤◌, [], length, slice_index, slice_set, IfOk, IfErr};
 ghost use Rattle.rq_bytes.specs.declared.error.Error.TheVariants.{OutOfMemory};
 ghost use Rattle.rq_parts.specs.DenseOctetMatrix.{IsOctetRow};
 ghost use Rattle.rq_solver.specs.InactiveEntries.{IsNextEntry, row_of};
@@ -13,23 +13,27 @@ use rq_bytes::octets::{add_assign, are_octets};
 use std::alloc::Global;
 use std::marker::Model;
 
-/// The octets of a row of its own, and none where the row is bits. Contracts see their list.
+/// The octets of a row of its own, which fill whole vectors, and none where the row is bits. Contracts
+/// see their list.
 #[derive(Drop)]
 pub(super) struct OctetRow {
     octets: Vec<u8>,
 }
 
 impl Model for OctetRow {
-    ghost use Rattle.std.specs.Prelude.{List, ℕ};
+    ghost use Rattle.std.specs.Prelude.{List, ℕ, ◌≡◌, ◌%◌, length};
 
     ghost Value = { List ℕ };
 
     ghost view = { λ row. row.octets.items };
+
+    ghost invariant = { λ row. length row.octets.items % 32 ≡ 0 };
 }
 
 impl OctetRow {
     /// These octets.
     pub(super) fn new(octets: Vec<u8>) -> OctetRow
+        requires { length octets.items % 32 ≡ 0 }
         ensures row { result ≡ octets.items }
         ensures octets { IsOctetRow (length octets.items) result }
     {
@@ -56,7 +60,8 @@ impl OctetRow {
 
     /// These octets where there are some, or else those that the bits are.
     pub(super) fn or_bits(self, alloc: Global, bits: &[u8], width: usize) -> Result<OctetRow, Error>
-        requires { width ≤ 8 * length bits.now }
+        requires room { width ≤ 8 * length bits.now }
+        requires whole { width % 32 ≡ 0 }
         ensures row { IfOk result (λ row. row ≡ row_of width bits.now self) }
         ensures err { IfErr result (λ e. e ≡ OutOfMemory) }
     {
@@ -141,6 +146,7 @@ impl OctetRow {
 // Adds a multiple of a row, which is some octets or else some bits. A multiple by 1 needs no products.
 fn add_multiple(sum: &mut [u8], octets: &[u8], bits: &[u8], scalar: &Octet)
     requires bits { length sum.old ≤ 8 * length bits.now }
+    requires whole { length sum.old % 32 ≡ 0 }
     requires width { length (row_of (length sum.old) bits.now octets.now) ≡ length sum.old }
     ensures { sum.new ≡ row_sum sum.old (row_multiple scalar.now (row_of (length sum.old) bits.now octets.now)) }
 {

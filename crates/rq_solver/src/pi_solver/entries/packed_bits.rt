@@ -1,7 +1,24 @@
 //! Bits that are packed eight to an octet, the first in its lowest bit.
-ghost use Rattle.std.specs.Prelude.{◌≡◌, ℕ, ◌+◌, ◌*◌, ◌/◌, ◌^◌, ◌<◌, ◌≤◌, length, slice_set};
+ghost use Rattle.std.specs.Prelude.{◌≡◌, ℕ, ◌+◌, ◌*◌, ◌/◌, ◌%◌, ◌^◌, ◌<◌, ◌≤◌, length, map, slice_set};
+ghost use Rattle.std.specs.List.{range_with_len};
 ghost use Rattle.rq_solver.specs.InactiveEntries.{IsNextEntry, bit_in, unpacked};
+ghost use Rattle.rq_standard.specs.Octets.{octet_mul};
 ghost use Rattle.rq_standard.specs.Rows.{row_sum, row_multiple};
+
+use std::simd::prelude::*;
+
+const LANES: usize = 32;
+
+// The place in its octet of each of 32 bits, as a mask.
+const MASKS: [u8; 32] = [
+    1, 2, 4, 8, 16, 32, 64, 128, 1, 2, 4, 8, 16, 32, 64, 128, 1, 2, 4, 8, 16, 32, 64, 128, 1, 2, 4,
+    8, 16, 32, 64, 128,
+];
+
+// The octet in which each of 32 bits stands.
+const PLACES: [usize; 32] = [
+    0, 0, 0, 0, 0, 0, 0, 0, 1, 1, 1, 1, 1, 1, 1, 1, 2, 2, 2, 2, 2, 2, 2, 2, 3, 3, 3, 3, 3, 3, 3, 3,
+];
 
 /// The bit at a place.
 #[inline(always)]
@@ -50,12 +67,28 @@ pub(super) fn count_ones(bits: &[u8], count: usize) -> usize
     found.min(count)
 }
 
-/// Adds a multiple of bits to as many octets.
+/// Adds a multiple of bits to as many octets, which fill whole vectors.
 pub(super) fn add_bits(octets: &mut [u8], bits: &[u8], scalar: u8)
-    requires { length octets.old ≤ 8 * length bits.now }
+    requires room { length octets.old ≤ 8 * length bits.now }
+    requires whole { length octets.old % 32 ≡ 0 }
     ensures { octets.new ≡ row_sum octets.old (row_multiple scalar (unpacked (length octets.old) bits.now)) }
 {
-    for place in 0..octets.len() {
-        octets[place] ^= bit(bits, place) * scalar;
+    for block in 0..octets.len() / LANES {
+        let at = LANES * block;
+        let multiple = bit_products(scalar, u8x4::from_slice(&bits[at / 8..]));
+        let sum = u8x32::from_slice(&octets[at..]) ^ multiple;
+        sum.copy_to_slice(&mut octets[at..]);
     }
+}
+
+// The products of an octet and each bit of four octets.
+#[inline(always)]
+fn bit_products(scalar: u8, bits: u8x4) -> u8x32
+    requires { length bits ≡ 4 }
+    ensures { result ≡ map (λ i. octet_mul scalar (bit_in bits i)) (range_with_len 0 32) }
+{
+    let masks = u8x32::from_array(MASKS);
+    (bits.swizzle(PLACES) & masks)
+        .simd_eq(masks)
+        .select(u8x32::splat(scalar), u8x32::splat(0))
 }
