@@ -9,14 +9,9 @@ use lib.Lanes.{zip2, pick_l}
 use Rattle.rq_standard.specs.Octets.{octet_double, octet_mul, octet_times}
 use Rattle.rq_standard.specs.OctetFacts.{double-lt}
 use Rattle.rq_standard.specs.OctetProducts.{if_set, mul-comm}
-use Rattle.rq_bytes.specs.HalfProducts.{AreHalfProducts, half_byte}
+use Rattle.rq_bytes.specs.HalfProducts.{AreHalfProducts, IsSumBelow, doubled, half_byte}
 use Rattle.rq_bytes.specs.declared.factor.TheConstants.{TERMS, FIRST_HALF, SECOND_HALF}
 use Rattle.rq_bytes.proofs.Steps.{add_bit, start, end}
-
--- a product by x, k times
-unfoldable pub doubled : ℕ → ℕ → ℕ
-doubled zero h = h
-doubled (suc k) h = octet_double (doubled k h)
 
 doubled-lt : (k h : ℕ) → h < 256 → doubled k h < 256
 unfolding doubled
@@ -53,10 +48,6 @@ half_small : (i : ℕ) → i < 32 → half_byte i < 256
 half_small i l = ltb-true _ _ (agree_below_at (λ j. ltb (half_byte j) 256) (λ _. true) 32 i halves_small l)
 
 -- ---- bit after bit
-
-pub record IsSumBelow (scalar k : ℕ) (sum : List ℕ) : Type 0 where
-  pub long : length sum ≡ 32
-  pub each : (i : ℕ) → i < 32 → bit_xor (get_or sum i 0) (octet_times (8 - k) (doubled k (half_byte i)) (scalar / 2 ^ k)) ≡ octet_mul (half_byte i) scalar
 
 pub sum_none : (scalar : ℕ) → IsSumBelow scalar 0 (replicate 32 0)
 unfolding doubled

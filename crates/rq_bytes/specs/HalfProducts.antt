@@ -1,6 +1,7 @@
 -- Products of an octet and the halves of a byte.
-use Rattle.std.specs.Prelude.{◌≡◌, ℕ, ◌*◌, ◌/◌, ◌%◌, ◌^◌, ◌<◌, List, length, slice_index}
-use Rattle.rq_standard.specs.Octets.{octet_mul}
+use Rattle.std.specs.Prelude.{◌≡◌, ℕ, zero, suc, ◌-◌, ◌*◌, ◌/◌, ◌%◌, ◌^◌, ◌<◌, List, length, slice_index}
+use Rattle.std.specs.Int.Bits.{bit_xor}
+use Rattle.rq_standard.specs.Octets.{octet_double, octet_mul, octet_times}
 
 -- the halves of a byte: first the lower ones, then the upper ones
 abbrev pub half_byte : ℕ → ℕ
@@ -13,3 +14,13 @@ pub record AreHalfProducts (scalar : ℕ) (low high : List ℕ) : Type 0 where
   pub high_count : length high ≡ 32
   pub of_low : (i : ℕ) → i < 32 → slice_index low i ≡ octet_mul scalar (i % 16)
   pub of_high : (i : ℕ) → i < 32 → slice_index high i ≡ octet_mul scalar (i % 16 * 16)
+
+-- a product by x, k times
+unfoldable pub doubled : ℕ → ℕ → ℕ
+doubled zero h = h
+doubled (suc k) h = octet_double (doubled k h)
+
+-- the products of each half of a byte and the bits of an octet below bit k, which lack those of the other bits
+pub record IsSumBelow (scalar k : ℕ) (sum : List ℕ) : Type 0 where
+  pub long : length sum ≡ 32
+  pub each : (i : ℕ) → i < 32 → bit_xor (slice_index sum i) (octet_times (8 - k) (doubled k (half_byte i)) (scalar / 2 ^ k)) ≡ octet_mul (half_byte i) scalar

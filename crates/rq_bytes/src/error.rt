@@ -29,7 +29,8 @@ pub enum Error {
     /// A source block has more symbols than the table in use can hold.
     #[error("BlockOverTable")]
     BlockOverTable,
-    /// The data has another length than the configuration says.
+    /// The data has another length than the configuration says, or a block's data is no whole
+    /// symbols.
     #[error("WrongDataLength")]
     WrongDataLength,
     /// The row of the table does not determine the intermediate symbols.
@@ -47,7 +48,7 @@ pub enum Error {
     /// A packet's payload has another length than the symbol size.
     #[error("WrongPayloadSize")]
     WrongPayloadSize,
-    /// A packet's source block number is none of the object's.
+    /// A packet's source block number is none of the object's, or another one than the block's.
     #[error("UnknownBlock")]
     UnknownBlock,
     /// The packet size is 0.

@@ -1,8 +1,8 @@
 //! An octet by which long rows are multiplied.
-ghost use Rattle.std.specs.Prelude.{◌≡◌, ℕ, ◌<◌, length, map, slice_index};
+ghost use Rattle.std.specs.Prelude.{◌≡◌, ℕ, ◌+◌, ◌<◌, length, map, slice_index};
 ghost use Rattle.rq_standard.specs.Octets.{octet_mul};
 ghost use Rattle.rq_standard.specs.Rows.{row_sum, row_multiple};
-ghost use Rattle.rq_bytes.specs.HalfProducts.{half_byte};
+ghost use Rattle.rq_bytes.specs.HalfProducts.{half_byte, IsSumBelow};
 
 use crate::octet::Octet;
 use crate::products::{doubled_lanes, product};
@@ -166,11 +166,25 @@ fn half_products(scalar: u8) -> u8x32
     ensures long { length result ≡ 32 }
     ensures each { (i : ℕ) → i < 32 → slice_index result i ≡ octet_mul scalar (half_byte i) }
 {
-    let mut sum = u8x32::splat(0);
-    for k in 0..8usize {
-        // All bits, or none.
-        let taken = 255 * ((scalar >> k) % 2);
-        sum ^= u8x32::from_array(TERMS[k]) & u8x32::splat(taken);
-    }
-    sum
+    let one = add_term::<0>(u8x32::splat(0), scalar);
+    let two = add_term::<1>(one, scalar);
+    let three = add_term::<2>(two, scalar);
+    let four = add_term::<3>(three, scalar);
+    let five = add_term::<4>(four, scalar);
+    let six = add_term::<5>(five, scalar);
+    let seven = add_term::<6>(six, scalar);
+    add_term::<7>(seven, scalar)
+}
+
+// Adds the products of the halves of a byte and bit K of an octet to those of the bits below. In a
+// loop over the bits their table would be copied for each.
+#[inline(always)]
+fn add_term<const K: usize>(sum: u8x32, scalar: u8) -> u8x32
+    requires bit { K < 8 }
+    requires below { IsSumBelow scalar K sum }
+    ensures { IsSumBelow scalar (K + 1) result }
+{
+    // All bits, or none.
+    let taken = 255 * ((scalar >> K) % 2);
+    sum ^ (u8x32::from_array(TERMS[K]) & u8x32::splat(taken))
 }

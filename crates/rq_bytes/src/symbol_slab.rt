@@ -61,26 +61,6 @@ impl SymbolSlab {
         })
     }
 
-    /// So many symbols of zeros, in a buffer with room for so many octets.
-    pub fn with_room(
-        alloc: Global,
-        count: usize,
-        symbol_size: usize,
-        room: usize,
-    ) -> Result<Self, Error>
-        requires { count * symbol_size < 2 ^ 64 }
-        ensures { IsAnswer (λ slab. slab) result (Ok (slab_of symbol_size (replicate count (replicate symbol_size 0)))) }
-    {
-        let mut data = Vec::with_capacity(alloc, room)?;
-        data.resize(count * symbol_size, 0)?;
-        Ok(SymbolSlab {
-            data,
-            symbol_size,
-            count,
-            order: None,
-        })
-    }
-
     /// These symbols, each of that size.
     pub fn from_symbols(
         alloc: Global,
