@@ -14,9 +14,9 @@ use Rattle.rq_standard.proofs.RowSymbols.{add_symbols-rows}
 use Rattle.rq_standard.specs.Rows.{row_sum, row_multiple}
 use Rattle.rq_bytes.specs.SymbolSlab.{Slab, after, slab_of, HasPlace, symbol_in, Allows}
 use Rattle.rq_parts.proofs.Rows.{times_one}
-use Rattle.rq_parts.specs.DenseOctetMatrix.{OctetTable, HasOctets, IsOctetRow, row_at, with_row, entry_of}
-use Rattle.rq_solver.specs.InactiveEntries.{AreEntries, IsNextEntry, bit_in, row_of, rows_of, unpacked}
-use Rattle.rq_solver.proofs.UnpackedBits.{at-unpacked, is_unpacked, unpacked_row, unpacked-sum, unpacked-zeros}
+use Rattle.rq_parts.specs.DenseOctetMatrix.{OctetTable, IsOctetRow, row_at, with_row}
+use Rattle.rq_solver.specs.InactiveEntries.{AreEntries, IsNextEntry, row_of, rows_of, unpacked}
+use Rattle.rq_solver.proofs.UnpackedBits.{is_unpacked, unpacked_row, unpacked-sum, unpacked-zeros}
 
 -- ---- a row
 
@@ -85,12 +85,6 @@ abbrev pub table_of : ℕ → Slab → List (List ℕ) → OctetTable
 table_of width bits owns = record { width = width; rows = rows_of width bits.values owns }
 
 module _ (width : ℕ) (bits : Slab) (owns : List (List ℕ)) (are : AreEntries width bits owns) where
-  pub has_octets : HasOctets (table_of width bits owns)
-  has_octets = record {
-    widths = λ i d l. (are.rows i d l).0;
-    elements = λ i k l m. let row = are.rows i [] l in row.1 k 0 (omega (arith, row.0));
-  }
-
   module _ (i : ℕ) (inside : i < length bits.values) where
     pub row_is : row_at (table_of width bits owns) i ≡ row_of width (get_or bits.values i []) (get_or owns i [])
     row_is = row_at-rows width bits.values owns are.height i inside
@@ -193,9 +187,6 @@ module _ (width : ℕ) (bits : Slab) (owns : List (List ℕ)) (are : AreEntries 
   pub width_is : width ≡ now.width
   width_is = ap (λ (t : OctetTable). t.width) seen
 
-  pub now_octets : HasOctets now
-  now_octets = subst HasOctets seen (has_octets width bits owns are)
-
   module _ (row : ℕ) (there : row < length now.rows) where
     pub in_symbols : row < length bits.values
     in_symbols = omega (arith, length-rows width bits.values owns are.height, ap (λ (t : OctetTable). length t.rows) seen)
@@ -208,9 +199,6 @@ module _ (width : ℕ) (bits : Slab) (owns : List (List ℕ)) (are : AreEntries 
 
     pub read_is : symbol_in bits row ≡ get_or bits.values row []
     read_is = ap (λ o. get_or bits.values (meant_at o row) []) are.order
-
-    pub symbol_len : length (symbol_in bits row) ≡ bits.symbol_size
-    symbol_len = ap length read_is ∙ symbol_long width bits owns are row in_symbols
 
     pub row_now : row_at now row ≡ row_of width (get_or bits.values row []) (get_or owns row [])
     row_now = ap (λ (t : OctetTable). row_at t row) (sym seen) ∙ row_is width bits owns are row in_symbols
@@ -225,12 +213,6 @@ module _ (width : ℕ) (bits : Slab) (owns : List (List ℕ)) (are : AreEntries 
 
       pub read_row : row_of width (symbol_in bits row) own ≡ row_at now row
       read_row = ap (λ b. row_of width b own) read_is ∙ ap (row_of width (get_or bits.values row [])) own_now ∙ sym row_now
-
-      pub own_bits : true ≡ (length own == 0) → (k : ℕ) → k < now.width → bit_in (symbol_in bits row) k ≡ entry_of now row k
-      own_bits none k l =
-          let inside : k < width = omega (arith, width_is) in
-          sym (at-unpacked width (symbol_in bits row) k inside)
-          ∙ ap (λ (r : List ℕ). get_or r k 0) (sym (row_of_none width (symbol_in bits row) own (none_if own none)) ∙ read_row)
 
       pub own_octets : false ≡ (length own == 0) → own ≡ row_at now row
       own_octets some = sym (row_of_some width (symbol_in bits row) own (some_if own some)) ∙ read_row
