@@ -1,12 +1,12 @@
 pub mod BitRows
 pub mod ColumnLaws
-pub mod ColumnsWithoutPivot
 pub mod CountLaws
 pub mod DegreeLists
 pub mod Entries
 pub mod EntryRows
 pub mod EquationLaws
 pub mod FinalTurns
+pub mod FreeColumns
 pub mod LeadingRows
 pub mod ListingLaws
 pub mod OctetBatchLaws

@@ -6,7 +6,7 @@ use Rattle.std.proofs.lemmas.List.Elements.{All-from_get_or, All-take}
 use Rattle.std.proofs.lemmas.List.FromFn.{length-range_with_len}
 use Rattle.rq_parts.specs.DenseOctetMatrix.{entry_of}
 use Rattle.rq_standard.specs.ConstraintMatrix.{with_octet_rows}
-use Rattle.rq_solver.proofs.ColumnsWithoutPivot.{determined_rows, homogeneous_rows}
+use Rattle.rq_solver.proofs.FreeColumns.{determined_rows, homogeneous_rows}
 use Rattle.rq_solver.proofs.Outcomes.{all_rows}
 use Rattle.rq_solver.proofs.homogeneous.homogeneous_column.Goals as goal
 
