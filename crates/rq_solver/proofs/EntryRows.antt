@@ -14,9 +14,9 @@ use Rattle.rq_standard.proofs.RowSymbols.{add_symbols-rows}
 use Rattle.rq_standard.specs.Rows.{row_sum, row_multiple}
 use Rattle.rq_bytes.specs.SymbolSlab.{Slab, after, slab_of, HasPlace, symbol_in, Allows}
 use Rattle.rq_parts.proofs.Rows.{times_one}
-use Rattle.rq_parts.specs.DenseOctetMatrix.{OctetTable, HasOctets, IsOctetRow, row_at, with_row, entry_of}
-use Rattle.rq_solver.specs.InactiveEntries.{AreEntries, IsNextEntry, bit_in, row_of, rows_of, unpacked}
-use Rattle.rq_solver.proofs.UnpackedBits.{at-unpacked, is_unpacked, unpacked_row, unpacked-sum, unpacked-zeros}
+use Rattle.rq_parts.specs.DenseOctetMatrix.{OctetTable, IsOctetRow, row_at, with_row}
+use Rattle.rq_solver.specs.InactiveEntries.{AreEntries, IsNextEntry, row_of, rows_of, unpacked}
+use Rattle.rq_solver.proofs.UnpackedBits.{is_unpacked, unpacked_row, unpacked-sum, unpacked-zeros}
 
 -- ---- a row
 
@@ -85,12 +85,6 @@ abbrev pub table_of : ℕ → Slab → List (List ℕ) → OctetTable
 table_of width bits owns = record { width = width; rows = rows_of width bits.values owns }
 
 module _ (width : ℕ) (bits : Slab) (owns : List (List ℕ)) (are : AreEntries width bits owns) where
-  pub has_octets : HasOctets (table_of width bits owns)
-  has_octets = record {
-    widths = λ i d l. (are.rows i d l).0;
-    elements = λ i k l m. let row = are.rows i [] l in row.1 k 0 (omega (arith, row.0));
-  }
-
   module _ (i : ℕ) (inside : i < length bits.values) where
     pub row_is : row_at (table_of width bits owns) i ≡ row_of width (get_or bits.values i []) (get_or owns i [])
     row_is = row_at-rows width bits.values owns are.height i inside
@@ -173,14 +167,25 @@ slab_sum slab dest src none long =
     ap (λ o. record slab { values = set slab.values (meant_at o dest) (add_symbols octets (get_or slab.values (meant_at o dest) []) (get_or slab.values (meant_at o src) [])) }) none
     ∙ ap (λ (s : List ℕ). record slab { values = set slab.values dest s }) (add_symbols-rows (get_or slab.values dest []) (get_or slab.values src []) long)
 
+-- ---- a table with another row
+
+module _ (now table : OctetTable) (row : ℕ) (written : List ℕ) (is : table ≡ with_row now row written) where
+  -- what is written there is read there
+  pub row_written : row < length now.rows → table ≡ with_row now row (row_at table row)
+  row_written there = is ∙ ap (with_row now row) (sym (ap (λ (t : OctetTable). row_at t row) is ∙ get_or-set_same now.rows row written [] there))
+
+  pub row_beside : (other : ℕ) → other ≢ row → row_at table other ≡ row_at now other
+  row_beside other apart = ap (λ (t : OctetTable). row_at t other) is ∙ get_or-set_other now.rows row other written [] apart
+
+  -- the row is written again
+  pub row_replaced : (new : List ℕ) → with_row table row new ≡ with_row now row new
+  row_replaced new = ap (λ (t : OctetTable). with_row t row new) is ∙ ap (λ (rows : List (List ℕ)). record now { rows = rows }) (set-set now.rows row written new)
+
 -- ---- a row that is there
 
 module _ (width : ℕ) (bits : Slab) (owns : List (List ℕ)) (are : AreEntries width bits owns) (now : OctetTable) (seen : table_of width bits owns ≡ now) where
   pub width_is : width ≡ now.width
   width_is = ap (λ (t : OctetTable). t.width) seen
-
-  pub now_octets : HasOctets now
-  now_octets = subst HasOctets seen (has_octets width bits owns are)
 
   module _ (row : ℕ) (there : row < length now.rows) where
     pub in_symbols : row < length bits.values
@@ -195,9 +200,6 @@ module _ (width : ℕ) (bits : Slab) (owns : List (List ℕ)) (are : AreEntries 
     pub read_is : symbol_in bits row ≡ get_or bits.values row []
     read_is = ap (λ o. get_or bits.values (meant_at o row) []) are.order
 
-    pub symbol_len : length (symbol_in bits row) ≡ bits.symbol_size
-    symbol_len = ap length read_is ∙ symbol_long width bits owns are row in_symbols
-
     pub row_now : row_at now row ≡ row_of width (get_or bits.values row []) (get_or owns row [])
     row_now = ap (λ (t : OctetTable). row_at t row) (sym seen) ∙ row_is width bits owns are row in_symbols
 
@@ -211,12 +213,6 @@ module _ (width : ℕ) (bits : Slab) (owns : List (List ℕ)) (are : AreEntries 
 
       pub read_row : row_of width (symbol_in bits row) own ≡ row_at now row
       read_row = ap (λ b. row_of width b own) read_is ∙ ap (row_of width (get_or bits.values row [])) own_now ∙ sym row_now
-
-      pub own_bits : true ≡ (length own == 0) → (k : ℕ) → k < now.width → bit_in (symbol_in bits row) k ≡ entry_of now row k
-      own_bits none k l =
-          let inside : k < width = omega (arith, width_is) in
-          sym (at-unpacked width (symbol_in bits row) k inside)
-          ∙ ap (λ (r : List ℕ). get_or r k 0) (sym (row_of_none width (symbol_in bits row) own (none_if own none)) ∙ read_row)
 
       pub own_octets : false ≡ (length own == 0) → own ≡ row_at now row
       own_octets some = sym (row_of_some width (symbol_in bits row) own (some_if own some)) ∙ read_row
@@ -240,12 +236,10 @@ module _ (width : ℕ) (bits : Slab) (owns : List (List ℕ)) (are : AreEntries 
     pub octets_taken : (own : List ℕ) → own ≡ [] → AreEntries width bits (set owns row own)
     octets_taken own none = rw none (owns_are width bits owns are row in_symbols [] (unpacked_row width (get_or bits.values row [])))
 
-    -- taken out, and others put in
-    pub octets_put : (own new : List ℕ) → IsOctetRow now.width new → AreEntries width bits (set (set owns row own) row new)
-    octets_put own new is = rw (set-set owns row own new) (octets_set new is)
-
-    pub octets_put_seen : (own new : List ℕ) → length new ≡ now.width → table_of width bits (set (set owns row own) row new) ≡ with_row now row new
-    octets_put_seen own new long = ap (table_of width bits) (set-set owns row own new) ∙ octets_seen new long
+    pub octets_taken_seen : (own : List ℕ) → let table = table_of width bits (set owns row own) in table ≡ with_row now row (row_at table row)
+    octets_taken_seen own =
+        let left = row_of width (get_or bits.values row []) own in
+        row_written now _ row left (table_with_octets width bits owns are row in_symbols own ∙ ap (λ t. with_row t row left) seen) there
 
     -- other bits of the row
     module _ (own : List ℕ) (own_is : own ≡ get_or owns row own) (none : true ≡ (length own == 0)) where
@@ -278,20 +272,6 @@ module _ (width : ℕ) (bits : Slab) (owns : List (List ℕ)) (are : AreEntries 
   module _ (dest src : ℕ) (in_dest : dest < length now.rows) (in_src : src < length now.rows) (two : dest ≢ src) where
     pub allowed : Allows bits (AddAssign dest src)
     allowed = rw are.order (in_symbols dest in_dest, in_symbols src in_src, (λ e. two (sym e)))
-
-    -- the octets of a row to which those of another one are added
-    module _ (sum symbol own : List ℕ) (sum_is : sum ≡ row_at now dest) (symbol_is : symbol ≡ symbol_in bits src) (own_is : own ≡ get_or owns src own) where
-      pub sum_long : length sum ≡ width
-      sum_long = ap length sum_is ∙ row_long dest in_dest
-
-      pub src_row : row_of (length sum) symbol own ≡ row_at now src
-      src_row = ap (λ n. row_of n symbol own) sum_long ∙ ap (λ s. row_of width s own) symbol_is ∙ read_row src in_src own own_is
-
-      pub src_long : length (row_of (length sum) symbol own) ≡ length sum
-      src_long = ap length src_row ∙ row_long src in_src ∙ sym sum_long
-
-      pub sum_of_rows : (scalar : ℕ) → row_sum sum (row_multiple scalar (row_of (length sum) symbol own)) ≡ row_sum (row_at now dest) (row_multiple scalar (row_at now src))
-      sum_of_rows scalar = ap (λ r. row_sum sum (row_multiple scalar r)) src_row ∙ ap (λ s. row_sum s (row_multiple scalar (row_at now src))) sum_is
 
     -- bits to which bits are added
     module _ (own other : List ℕ) (own_is : own ≡ get_or owns dest own) (other_is : other ≡ get_or owns src other) (none : true ≡ (length own == 0)) (none_other : true ≡ (length other == 0))

@@ -1,6 +1,7 @@
 pub mod BitRows
 pub mod ColumnLaws
 pub mod CountLaws
+pub mod DegreeLists
 pub mod Entries
 pub mod EntryRows
 pub mod EquationLaws

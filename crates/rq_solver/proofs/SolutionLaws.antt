@@ -32,12 +32,12 @@ module _ (F : Field) (height width : ℕ) (a b : ℕ → ℕ → ℕ) (same : Sa
 
   pub homogeneous_same : HasHomogeneousColumn F height width a → HasHomogeneousColumn F height width b
   homogeneous_same null = record {
+    solves = solves_same F height width a b null.column (λ _. 0) (λ _. 0) same (λ i l. refl) null.solves;
     column = null.column;
     is_column = null.is_column;
     index = null.index;
     in_width = null.in_width;
     nonzero = null.nonzero;
-    solves = solves_same F height width a b null.column (λ _. 0) (λ _. 0) same (λ i l. refl) null.solves;
   }
 
 -- what is read in a slab after operations, where no order was set before

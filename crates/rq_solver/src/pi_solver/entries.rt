@@ -2,6 +2,7 @@
 ghost use Rattle.std.specs.Prelude.{◌≡◌, ◌≢◌, ℕ, ◌+◌, ◌%◌, ◌^◌, ◌<◌, ◌≤◌, length, replicate, slice_set, IfOk, OnOk, IfErr};
 ghost use Rattle.rq_bytes.specs.declared.error.Error.TheVariants.{OutOfMemory};
 ghost use Rattle.rq_parts.specs.DenseOctetMatrix.{entry_of, HasOctets, IsOctetRow, row_at, with_row};
+ghost use Rattle.rq_solver.specs.EntryRow.{HasWidth, octets_of};
 ghost use Rattle.rq_solver.specs.InactiveEntries.{IsNextEntry};
 ghost use Rattle.rq_standard.specs.Rows.{row_sum, row_multiple};
 
@@ -9,16 +10,14 @@ mod octet_row;
 mod packed_bits;
 
 use super::elimination::OctetRows;
-use octet_row::OctetRow;
-use packed_bits::{bit, count_ones, next_one, set_bit};
+use octet_row::{EntryRow, OctetRow};
+use packed_bits::{LANES, bit, count_ones, next_one, set_bit};
 use rq_bytes::error::Error;
 use rq_bytes::octet::Octet;
 use rq_bytes::symbol_slab::SymbolSlab;
 use std::alloc::Global;
 use std::marker::Model;
 use std::mem;
-
-const LANES: usize = 32;
 
 /// What rows have in the inactive columns: bits, which stand in one buffer for all rows, or octets of
 /// a row's own. The columns fill whole vectors. A row of bits becomes one of octets where it takes what isn't bits. Contracts see
@@ -94,7 +93,7 @@ impl InactiveEntries {
     {
         // Where a field is read, it is known that rows fill whole vectors.
         let _ = &self.octets;
-        self.octets[row] = OctetRow::new(octets);
+        self.put_octets(row, OctetRow::new(octets));
     }
 
     /// What a row has in a column.
@@ -104,11 +103,9 @@ impl InactiveEntries {
         requires column { column < self.now.width }
         ensures { result ≡ entry_of self.now row column }
     {
-        let own = &self.octets[row];
-        if own.is_none() {
-            Octet::new(bit(self.bits.get(row), column))
-        } else {
-            Octet::new(own.get(column))
+        match self.row(row) {
+            EntryRow::Octets(octets) => Octet::new(octets.get(column)),
+            EntryRow::Bits(bits) => Octet::new(bit(bits, column)),
         }
     }
 
@@ -119,25 +116,22 @@ impl InactiveEntries {
         requires end { end ≤ self.now.width }
         ensures { IsNextEntry (entry_of self.now row) from end result }
     {
-        let own = &self.octets[row];
-        if own.is_none() {
-            next_one(self.bits.get(row), from, end)
-        } else {
-            own.next_entry(from, end)
+        match self.row(row) {
+            EntryRow::Octets(octets) => octets.next_entry(from, end),
+            EntryRow::Bits(bits) => next_one(bits, from, end),
         }
     }
 
-    /// How many of the first entries of a row aren't 0, or more where there are more.
+    /// How many of the first entries of a row aren't 0, and at most so many: of bits, those that share
+    /// an octet with the last one count too.
     pub(super) fn count_entries(&self, row: usize, count: usize) -> usize
         requires row { row < length self.now.rows }
         requires count { count ≤ self.now.width }
         ensures { result ≤ count }
     {
-        let own = &self.octets[row];
-        if own.is_none() {
-            count_ones(self.bits.get(row), count)
-        } else {
-            own.count_entries(count)
+        match self.row(row) {
+            EntryRow::Octets(octets) => octets.count_entries(count),
+            EntryRow::Bits(bits) => count_ones(bits, count),
         }
     }
 
@@ -147,10 +141,9 @@ impl InactiveEntries {
         ensures ok { OnOk result (self.new ≡ with_row self.old row (row_multiple scalar.now (row_at self.old row))) }
         ensures err { IfErr result (λ e. e ≡ OutOfMemory) }
     {
-        let own = mem::replace(&mut self.octets[row], OctetRow::none(self.alloc));
-        let mut multiple = own.or_bits(self.alloc, self.bits.get(row), self.width)?;
+        let mut multiple = self.take_octets(row)?;
         multiple.multiply(scalar);
-        self.octets[row] = multiple;
+        self.put_octets(row, multiple);
         Ok(())
     }
 
@@ -183,11 +176,49 @@ impl InactiveEntries {
         ensures ok { OnOk result (self.new ≡ with_row self.old dest (row_sum (row_at self.old dest) (row_multiple scalar.now (row_at self.old src)))) }
         ensures err { IfErr result (λ e. e ≡ OutOfMemory) }
     {
-        let own = mem::replace(&mut self.octets[dest], OctetRow::none(self.alloc));
-        let mut sum = own.or_bits(self.alloc, self.bits.get(dest), self.width)?;
-        sum.add_row(&self.octets[src], self.bits.get(src), scalar);
-        self.octets[dest] = sum;
+        let mut sum = self.take_octets(dest)?;
+        sum.add_row(self.row(src), scalar);
+        self.put_octets(dest, sum);
         Ok(())
+    }
+
+    // A row, to be read.
+    #[inline(always)]
+    fn row(&self, row: usize) -> EntryRow<'_>
+        requires { row < length self.now.rows }
+        ensures octets { octets_of self.now.width result ≡ row_at self.now row }
+        ensures width { HasWidth self.now.width result }
+        ensures near { self.now.width < 2 ^ 63 + 32 }
+    {
+        let own = &self.octets[row];
+        if own.is_none() {
+            EntryRow::Bits(self.bits.get(row))
+        } else {
+            EntryRow::Octets(own)
+        }
+    }
+
+    // Takes the octets of a row out, which are made of its bits where it has none.
+    #[inline(always)]
+    fn take_octets(&mut self, row: usize) -> Result<OctetRow, Error>
+        requires { row < length self.old.rows }
+        ensures octets { IfOk result (λ octets. octets ≡ row_at self.old row) }
+        ensures width { length (row_at self.old row) ≡ self.old.width }
+        ensures others { self.new ≡ with_row self.old row (row_at self.new row) }
+        ensures err { IfErr result (λ e. e ≡ OutOfMemory) }
+    {
+        let own = mem::replace(&mut self.octets[row], OctetRow::none(self.alloc));
+        own.or_bits(self.alloc, self.bits.get(row), self.width)
+    }
+
+    // Puts octets in the place of a row.
+    #[inline(always)]
+    fn put_octets(&mut self, row: usize, octets: OctetRow)
+        requires row { row < length self.old.rows }
+        requires octets { IsOctetRow self.old.width octets }
+        ensures { self.new ≡ with_row self.old row octets }
+    {
+        self.octets[row] = octets;
     }
 }
 

@@ -2,6 +2,7 @@
 ghost use Rattle.std.specs.Prelude.{◌≡◌, ℕ, ◌*◌, ◌%◌, ◌==◌, ◌<◌, ◌≤◌, [], length, slice_index, slice_set, IfOk, IfErr};
 ghost use Rattle.rq_bytes.specs.declared.error.Error.TheVariants.{OutOfMemory};
 ghost use Rattle.rq_parts.specs.DenseOctetMatrix.{IsOctetRow};
+ghost use Rattle.rq_solver.specs.EntryRow.{HasWidth, octets_of};
 ghost use Rattle.rq_solver.specs.InactiveEntries.{IsNextEntry, row_of};
 ghost use Rattle.rq_standard.specs.Rows.{row_sum, row_multiple};
 
@@ -28,6 +29,13 @@ impl Model for OctetRow {
     ghost view = { λ row. row.octets.items };
 
     ghost invariant = { λ row. length row.octets.items % 32 ≡ 0 };
+}
+
+/// A row, to be read: its own octets where it has some, or else its bits.
+#[derive(Drop)]
+pub(super) enum EntryRow<'a> {
+    Octets(&'a OctetRow),
+    Bits(&'a [u8]),
 }
 
 impl OctetRow {
@@ -126,33 +134,36 @@ impl OctetRow {
         are_octets(self.octets.as_slice());
     }
 
-    /// Adds a multiple of a row, which is these octets or else these bits.
-    pub(super) fn add_row(&mut self, octets: &OctetRow, bits: &[u8], scalar: &Octet)
-        requires bits { length self.old ≤ 8 * length bits.now }
-        requires width { length (row_of (length self.old) bits.now octets.now) ≡ length self.old }
-        ensures sum { self.new ≡ row_sum self.old (row_multiple scalar.now (row_of (length self.old) bits.now octets.now)) }
+    /// Adds a multiple of a row.
+    pub(super) fn add_row(&mut self, row: EntryRow, scalar: &Octet)
+        requires { HasWidth (length self.old) row }
+        ensures sum { self.new ≡ row_sum self.old (row_multiple scalar.now (octets_of (length self.old) row.entry)) }
         ensures octets { IsOctetRow (length self.old) self.new }
     {
-        add_multiple(
-            self.octets.as_mut_slice(),
-            octets.octets.as_slice(),
-            bits,
-            scalar,
-        );
+        add_row_multiple(self.octets.as_mut_slice(), row, scalar);
         are_octets(self.octets.as_slice());
     }
 }
 
-// Adds a multiple of a row, which is some octets or else some bits. A multiple by 1 needs no products.
-fn add_multiple(sum: &mut [u8], octets: &[u8], bits: &[u8], scalar: &Octet)
-    requires bits { length sum.old ≤ 8 * length bits.now }
+// Adds a multiple of a row.
+#[inline(always)]
+fn add_row_multiple(sum: &mut [u8], row: EntryRow, scalar: &Octet)
     requires whole { length sum.old % 32 ≡ 0 }
-    requires width { length (row_of (length sum.old) bits.now octets.now) ≡ length sum.old }
-    ensures { sum.new ≡ row_sum sum.old (row_multiple scalar.now (row_of (length sum.old) bits.now octets.now)) }
+    requires width { HasWidth (length sum.old) row }
+    ensures { sum.new ≡ row_sum sum.old (row_multiple scalar.now (octets_of (length sum.old) row.entry)) }
 {
-    if octets.is_empty() {
-        add_bits(sum, bits, scalar.byte());
-    } else if scalar.byte() == 1 {
+    match row {
+        EntryRow::Octets(row) => add_multiple(sum, row.octets.as_slice(), scalar),
+        EntryRow::Bits(bits) => add_bits(sum, bits, scalar.byte()),
+    }
+}
+
+// Adds a multiple of octets. A multiple by 1 needs no products.
+fn add_multiple(sum: &mut [u8], octets: &[u8], scalar: &Octet)
+    requires { length octets.now ≡ length sum.old }
+    ensures { sum.new ≡ row_sum sum.old (row_multiple scalar.now octets.now) }
+{
+    if scalar.byte() == 1 {
         add_assign(sum, octets);
     } else {
         Factor::new(scalar).add_multiple(sum, octets);

@@ -7,7 +7,8 @@ ghost use Rattle.rq_standard.specs.Rows.{row_sum, row_multiple};
 
 use std::simd::prelude::*;
 
-const LANES: usize = 32;
+/// How many octets a vector has.
+pub(super) const LANES: usize = 32;
 
 // The place in its octet of each of 32 bits, as a mask.
 const MASKS: [u8; 32] = [

@@ -7,14 +7,10 @@ use Rattle.rq_solver.proofs.EntryRows.{bits_seen, bits_set, in_owns, octets_seen
 use Rattle.rq_solver.proofs.pi_solver.entries.InactiveEntries.set_one.Goals as goal
 
 pub index-requires : goal.index-requires
-index-requires c =
-    let e = c.self.inside in
-    omega (arith, e.octets.ok.0, in_owns e.width e.bits e.octets.items c.self.invariant c.args.self.now c.self.view_is c.args.row c.requires.row)
+index-requires c = let e = c.self.inside in omega (arith, e.octets.ok.0, in_owns e.width e.bits e.octets.items c.self.invariant c.args.self.now c.self.view_is c.args.row c.requires.row)
 
 pub get_mut-requires : goal.get_mut-requires
-get_mut-requires c =
-    let e = c.self.inside in
-    place e.width e.bits e.octets.items c.self.invariant c.args.self.now c.self.view_is c.args.row c.requires.row
+get_mut-requires c = let e = c.self.inside in place e.width e.bits e.octets.items c.self.invariant c.args.self.now c.self.view_is c.args.row c.requires.row
 
 pub invariant_of-self : goal.invariant_of-self
 invariant_of-self c =
@@ -36,9 +32,7 @@ returns-then-is_none c =
     ∙ ap (λ (r : List ℕ). set r c.args.column 1) (row_unpacked e.width e.bits e.octets.items c.self.invariant c.args.self.now c.self.view_is c.args.row c.requires.row c.index.result.now c.index.ensures c.if-is_none.ensures))
 
 pub index_mut-requires : goal.index_mut-requires
-index_mut-requires c =
-    let e = c.self.inside in
-    omega (arith, e.octets.ok.0, in_owns e.width e.bits e.octets.items c.self.invariant c.args.self.now c.self.view_is c.args.row c.requires.row)
+index_mut-requires c = let e = c.self.inside in omega (arith, e.octets.ok.0, in_owns e.width e.bits e.octets.items c.self.invariant c.args.self.now c.self.view_is c.args.row c.requires.row)
 
 pub set-requires : goal.set-requires
 set-requires c =
