@@ -20,8 +20,8 @@ use std::marker::Model;
 use std::mem;
 
 /// What rows have in the inactive columns: bits, which stand in one buffer for all rows, or octets of
-/// a row's own. The columns fill whole vectors. A row of bits becomes one of octets where it takes what isn't bits. Contracts see
-/// octets alone.
+/// a row's own. The columns fill whole vectors. A row of bits becomes one of octets where it takes
+/// what isn't bits. Contracts see octets alone.
 #[derive(Drop)]
 pub(super) struct InactiveEntries {
     alloc: Global,
@@ -198,7 +198,8 @@ impl InactiveEntries {
         }
     }
 
-    // Takes the octets of a row out, which are made of its bits where it has none.
+    // Takes the octets of a row out, which are made of its bits where it has none. What the row is
+    // then isn't said until octets are put there.
     #[inline(always)]
     fn take_octets(&mut self, row: usize) -> Result<OctetRow, Error>
         requires { row < length self.old.rows }

@@ -102,7 +102,7 @@ fn take_row(
     columns.take_pivot(pivot);
     leave_graph(pivot, nodes, graph);
     column_rows.lower_rows(pivot, degrees)?;
-    inactivate_columns(row, columns, column_rows, nodes, degrees, graph)?;
+    inactivate_columns(row, column_rows, nodes, degrees, graph, columns)?;
     Ok(true)
 }
 
@@ -124,11 +124,11 @@ fn first_active(row: &[usize], columns: &ColumnOrder) -> Option<usize>
 // Makes the active columns of a row inactive.
 fn inactivate_columns(
     row: &[usize],
-    columns: &mut ColumnOrder,
     column_rows: &ColumnRows,
     nodes: usize,
     degrees: &mut RowDegrees,
     graph: &mut ConnectedComponentGraph,
+    columns: &mut ColumnOrder,
 ) -> Result<(), Error>
     requires columns { All (λ column. column < length columns.old.order) row.now }
     requires column_rows { column_rows.now ≡ record { rows = degrees.old; columns = length columns.old.order } }

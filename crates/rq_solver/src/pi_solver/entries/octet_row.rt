@@ -145,7 +145,7 @@ impl OctetRow {
     }
 }
 
-// Adds a multiple of a row.
+// Adds a multiple of a row to octets that need not be a row's.
 #[inline(always)]
 fn add_row_multiple(sum: &mut [u8], row: EntryRow, scalar: &Octet)
     requires whole { length sum.old % 32 ≡ 0 }
