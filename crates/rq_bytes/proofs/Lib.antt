@@ -9,6 +9,7 @@ pub mod PackedRows
 pub mod PlaneFacts
 pub mod RangeFacts
 pub mod RangeLoans
+pub mod RangeSums
 pub mod RefusalFacts
 pub mod SlabFacts
 pub mod SlabSums

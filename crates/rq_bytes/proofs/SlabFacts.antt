@@ -123,6 +123,17 @@ module _ {bytes : List ℕ} {count size : ℕ} {order : Option (List ℕ)} {slab
       ∙ ap (λ s. with_range slab.values start (cut k s source)) size_is)
       ∙ ap (λ (v : Slab). record v { values = with_range slab.values start (cut k slab.symbol_size source) }) is.view
 
+  -- what callers see after a write of the octets of one symbol
+  pub one_written : (p a : ℕ) (old new items ws : List ℕ) → p < length slab.values → a ≡ p * slab.symbol_size → length ws ≡ size
+      → old ≡ bytes → items ≡ new → new ≡ with_range old a ws
+      → ◌≡◌ {A = Slab} (record { values = cut count size items; symbol_size = size; order = order }) (record slab { values = set slab.values p ws })
+  one_written p a old new items ws lt e long same kept is_new =
+      let count_is_there = count_is in
+      ap (λ (v : List (List ℕ)). record { values = v; symbol_size = size; order = order }) (
+      ap (cut count size) (kept ∙ is_new ∙ ap (λ xs. with_range xs a ws) same ∙ ap (λ i. with_range bytes i ws) (e ∙ ap (λ s. p * s) (sym size_is)))
+      ∙ cut-with_range count size p bytes ws (omega arith) long is.long)
+      ∙ ap (λ (v : Slab). record v { values = set v.values p ws }) is.view
+
   pub block_within : (start k : ℕ) → start + k ≤ length slab.values → start * slab.symbol_size + k * slab.symbol_size ≤ length bytes
   block_within start k fits =
       let count_is_there = count_is in

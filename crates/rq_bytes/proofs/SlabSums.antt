@@ -1,65 +1,29 @@
--- Sums of several symbols of a slab, and additions one after another.
-use Rattle.std.proofs.Common.{◌≡◌, ◌≢◌, ℕ, zero, suc, ◌+◌, ◌-◌, ◌<◌, ◌≤◌, List, [], ◌∷◌, ◌++◌, length, take, drop, get_or, set, map, fold, All, append-nil, refl, sym, ap, ◌∙◌, subst, arith}
-use Rattle.std.proofs.Math.Seq.{take-append_seam, take-append-add, drop-append_seam, drop-append-add, take-add}
-use Rattle.std.proofs.lemmas.List.{append_assoc, drop-drop, take-append-drop, get_or-set_same, get_or-set_other, length-append, length-take-le, set-set, set-get_or, take_all, take_more, take-take, drop_all}
-use Rattle.std.proofs.lemmas.List.Elements.{All-head, All-tail, All-weaker}
-use Rattle.std.proofs.lemmas.List.Sums.{fold_push}
-use Rattle.rq_algebra.specs.Operations.{AddAssign, Store, step, run, meant_at}
+-- Additions to one symbol of a slab, one after another.
+use Rattle.std.proofs.Common.{◌≡◌, ◌≢◌, ℕ, ◌+◌, ◌*◌, ◌<◌, Option, List, [], ◌∷◌, ◌++◌, length, get_or, set, map, fold, All, refl, sym, ap, ◌∙◌, subst, arith}
+use Rattle.std.proofs.lemmas.List.{get_or-set_same, get_or-set_other, set-set, set-get_or}
+use Rattle.std.proofs.lemmas.List.Elements.{All-head, All-tail, All-map, All-weaker}
+use Rattle.rq_algebra.specs.Operations.{Operation, AddAssign, Store, step, run, meant_at}
 use Rattle.rq_algebra.specs.Symbols.{symbols, add_symbols}
-use Rattle.rq_algebra.proofs.SymbolSums.{add_nothing, length-add_symbols}
+use Rattle.rq_algebra.proofs.Runs.{run-append}
+use Rattle.rq_algebra.proofs.SymbolSums.{length-add_symbols}
 use Rattle.rq_standard.specs.OctetField.{octets}
 use Rattle.rq_standard.specs.Rows.{row_sum}
 use Rattle.rq_standard.proofs.RowSymbols.{add_symbols-rows}
-use Rattle.rq_bytes.specs.Ranges.{range_of, with_range}
-use Rattle.rq_bytes.proofs.RangeFacts.{length-range}
-use Rattle.rq_bytes.specs.SymbolSlab.{Slab, store_of, after_all, Allows, symbol_in, sum_in, with_sum}
+use Rattle.rq_bytes.specs.Ranges.{range_of, with_range, cut}
+use Rattle.rq_bytes.specs.RangeSums.{sum_of_ranges, IsRangeBeside}
+use Rattle.rq_bytes.specs.SymbolSlab.{Slab, store_of, after, after_all, Allows, symbol_in}
+use Rattle.rq_bytes.proofs.SlabFacts.{Holds, apart, range_at, length-range_at, within, one_written, meant_below}
+use Rattle.rq_bytes.specs.contracts.symbol_slab.SymbolSlab.{the_view, the_invariant}
+use Rattle.rq_bytes.specs.declared.symbol_slab.SymbolSlab.TheInside.{Inside}
 
--- ---- parts of a sum
-
-add_symbols-drop : (k : ℕ) (xs ys : List ℕ) → drop k (add_symbols octets xs ys) ≡ add_symbols octets (drop k xs) (drop k ys)
-unfolding add_symbols
-add_symbols-drop zero xs ys = refl
-add_symbols-drop (suc k) [] [] = refl
-add_symbols-drop (suc k) [] (y ∷ ys) = refl
-add_symbols-drop (suc k) (x ∷ xs) [] = sym (unfold add_symbols in add_nothing octets (drop k xs))
-add_symbols-drop (suc k) (x ∷ xs) (y ∷ ys) = add_symbols-drop k xs ys
-
-add_symbols-take : (k : ℕ) (xs ys : List ℕ) → take k (add_symbols octets xs ys) ≡ add_symbols octets (take k xs) (take k ys)
-unfolding add_symbols
-add_symbols-take zero xs ys = refl
-add_symbols-take (suc k) [] [] = refl
-add_symbols-take (suc k) [] (y ∷ ys) = refl
-add_symbols-take (suc k) (x ∷ xs) [] = refl
-add_symbols-take (suc k) (x ∷ xs) (y ∷ ys) = ap (λ zs. octets.add x y ∷ zs) (add_symbols-take k xs ys)
-
-add_symbols-range : (i n : ℕ) (xs ys : List ℕ) → range_of (add_symbols octets xs ys) i n ≡ add_symbols octets (range_of xs i n) (range_of ys i n)
-add_symbols-range i n xs ys = ap (take n) (add_symbols-drop i xs ys) ∙ add_symbols-take n (drop i xs) (drop i ys)
-
-length-add_symbols-le : (xs ys : List ℕ) → length xs ≤ length (add_symbols octets xs ys)
-unfolding add_symbols
-length-add_symbols-le [] ys = omega arith
-length-add_symbols-le (x ∷ xs) [] = omega arith
-length-add_symbols-le (x ∷ xs) (y ∷ ys) = omega (arith, length-add_symbols-le xs ys)
+pub after_more : (operations : List Operation) (operation : Operation) (slab : Slab) → after operation (after_all operations slab) ≡ after_all (operations ++ operation ∷ []) slab
+unfolding run
+after_more operations operation slab =
+    ap (λ (s : Store (List ℕ)). record slab { values = s.values; order = s.order }) (sym (run-append (symbols octets) operations (operation ∷ []) (store_of slab)))
 
 -- a symbol and those that f gives for places, added one after another
 abbrev added : (ℕ → List ℕ) → List ℕ → List ℕ → List ℕ
 added f x sources = fold (λ sum src. add_symbols octets sum (f src)) x sources
-
-drop-added : (k : ℕ) (f : ℕ → List ℕ) (x : List ℕ) (sources : List ℕ) → drop k (added f x sources) ≡ added (λ src. drop k (f src)) (drop k x) sources
-drop-added k f x [] = refl
-drop-added k f x (src ∷ sources) =
-    drop-added k f (add_symbols octets x (f src)) sources
-    ∙ ap (λ y. added (λ s. drop k (f s)) y sources) (add_symbols-drop k x (f src))
-
-added-same : (f g : ℕ → List ℕ) (x : List ℕ) (sources : List ℕ) → All (λ src. f src ≡ g src) sources → added f x sources ≡ added g x sources
-added-same f g x [] same = refl
-added-same f g x (src ∷ sources) same =
-    ap (λ y. added f (add_symbols octets x y) sources) (All-head (λ s. f s ≡ g s) src sources same)
-    ∙ added-same f g (add_symbols octets x (g src)) sources (All-tail (λ s. f s ≡ g s) src sources same)
-
-length-added-le : (f : ℕ → List ℕ) (x : List ℕ) (sources : List ℕ) → length x ≤ length (added f x sources)
-length-added-le f x [] = omega arith
-length-added-le f x (src ∷ sources) = omega (arith, length-added-le f (add_symbols octets x (f src)) sources, length-add_symbols-le x (f src))
 
 length-added : (n : ℕ) (f : ℕ → List ℕ) (x : List ℕ) (sources : List ℕ) → length x ≡ n → All (λ src. length (f src) ≡ n) sources → length (added f x sources) ≡ n
 length-added n f x [] e all = e
@@ -68,79 +32,17 @@ length-added n f x (src ∷ sources) e all =
     (length-add_symbols octets n n x (f src) e (All-head (λ s. length (f s) ≡ n) src sources all))
     (All-tail (λ s. length (f s) ≡ n) src sources all)
 
--- one more symbol in a piece of the sum
-pub sum_more : (slab : Slab) (dest : ℕ) (sources : List ℕ) (i at n : ℕ) (piece y : List ℕ)
-    → piece ≡ range_of (sum_in slab dest (take i sources)) at n → length piece ≡ n → y ≡ symbol_in slab (get_or sources i 0) → at + n ≤ length y → i < length sources
-    → row_sum piece (range_of y at n) ≡ range_of (sum_in slab dest (take (i + 1) sources)) at n
-sum_more slab dest sources i at n piece y so_far long is within lt =
-    let t = sum_in slab dest (take i sources) in
-    let more = λ (sum : List ℕ) (src : ℕ). add_symbols octets sum (symbol_in slab src) in
-    sym (add_symbols-rows piece (range_of y at n) (length-range y at n within ∙ sym long))
-    ∙ ap (λ l. add_symbols octets l (range_of y at n)) so_far
-    ∙ sym (add_symbols-range at n t y)
-    ∙ ap (λ l. range_of (add_symbols octets t l) at n) is
-    ∙ ap (λ l. range_of l at n) (sym (
-    ap (fold more (symbol_in slab dest)) (take_more sources i 0 lt) ∙ fold_push more (symbol_in slab dest) (take i sources) (get_or sources i 0)))
-
--- ---- ranges of a list, written one after another
-
-module _ (xs ys : List ℕ) (i : ℕ) (le : i ≤ length xs) where
-  front_long : length (take i xs) ≡ i
-  front_long = length-take-le i xs le
-
-  take-with_range : take (i + length ys) (with_range xs i ys) ≡ take i xs ++ ys
-  take-with_range =
-      let rest = drop (i + length ys) xs in
-      ap (λ k. take (k + length ys) (with_range xs i ys)) (sym front_long)
-      ∙ take-append-add (take i xs) (ys ++ rest) (length ys)
-      ∙ ap (λ zs. take i xs ++ zs) (take-append_seam ys rest)
-
-  drop-with_range : drop (i + length ys) (with_range xs i ys) ≡ drop (i + length ys) xs
-  drop-with_range =
-      let rest = drop (i + length ys) xs in
-      ap (λ k. drop (k + length ys) (with_range xs i ys)) (sym front_long)
-      ∙ drop-append-add (take i xs) (ys ++ rest) (length ys)
-      ∙ drop-append_seam ys rest
-
-  with_range-twice : (zs : List ℕ) → with_range (with_range xs i ys) (i + length ys) zs ≡ with_range xs i (ys ++ zs)
-  with_range-twice zs =
-      let j = i + length ys in
-      let both : j + length zs ≡ i + length (ys ++ zs) = omega (arith, length-append ys zs) in
-      ap (λ l. l ++ (zs ++ drop (j + length zs) (with_range xs i ys))) take-with_range
-      ∙ ap (λ l. (take i xs ++ ys) ++ (zs ++ l)) (
-      sym (drop-drop (length zs) j (with_range xs i ys))
-      ∙ ap (drop (length zs)) drop-with_range
-      ∙ drop-drop (length zs) j xs
-      ∙ ap (λ k. drop k xs) both)
-      ∙ append_assoc (take i xs) ys (zs ++ drop (i + length (ys ++ zs)) xs)
-      ∙ ap (λ l. take i xs ++ l) (sym (append_assoc ys zs (drop (i + length (ys ++ zs)) xs)))
-
--- a slice from a place on, and its first lanes
-pub loaded : (xs : List ℕ) (at n : ℕ) → at + n ≤ length xs → take n (take (length xs - at) (drop at xs)) ≡ range_of xs at n
-loaded xs at n within = take-take n (length xs - at) (drop at xs) (omega arith)
-
--- ---- the sum, piece by piece
-
 -- other octets in the place of the symbol that a place means
 abbrev with_symbol : Slab → ℕ → List ℕ → Slab
 with_symbol slab dest ys = record slab { values = set slab.values (meant_at slab.order dest) ys }
 
 -- places that mean other symbols than one
-abbrev pub AreOthers : Slab → ℕ → List ℕ → Type 0
+abbrev AreOthers : Slab → ℕ → List ℕ → Type 0
 AreOthers slab dest sources = All (λ src. meant_at slab.order src ≢ meant_at slab.order dest) sources
-
-pub others_of : (slab : Slab) (dest : ℕ) (sources : List ℕ) → All (λ src. Allows slab (AddAssign dest src)) sources → AreOthers slab dest sources
-others_of slab dest sources allowed =
-    All-weaker (λ src. Allows slab (AddAssign dest src)) (λ src. meant_at slab.order src ≢ meant_at slab.order dest) (λ src a. a.2) sources allowed
 
 module _ (slab : Slab) (dest : ℕ) (to : meant_at slab.order dest < length slab.values) where
   symbol_there : (ys : List ℕ) → symbol_in (with_symbol slab dest ys) dest ≡ ys
   symbol_there ys = get_or-set_same slab.values (meant_at slab.order dest) ys [] to
-
-  others_stay : (sources ys : List ℕ) → AreOthers slab dest sources → All (λ src. symbol_in (with_symbol slab dest ys) src ≡ symbol_in slab src) sources
-  others_stay sources ys others =
-      All-weaker (λ src. meant_at slab.order src ≢ meant_at slab.order dest) (λ src. symbol_in (with_symbol slab dest ys) src ≡ symbol_in slab src)
-      (λ src ne. get_or-set_other slab.values (meant_at slab.order dest) (meant_at slab.order src) ys [] ne) sources others
 
   addition : (x : List ℕ) (src : ℕ) → meant_at slab.order src ≢ meant_at slab.order dest
       → step (symbols octets) (store_of (with_symbol slab dest x)) (AddAssign dest src) ≡ store_of (with_symbol slab dest (add_symbols octets x (symbol_in slab src)))
@@ -164,68 +66,68 @@ module _ (slab : Slab) (dest : ℕ) (to : meant_at slab.order dest < length slab
       ap (λ (s : Store (List ℕ)). fold (step (symbols octets)) s (map (λ k. AddAssign dest k) sources)) (addition x src (All-head P src sources others))
       ∙ unfold run in additions sum sources (All-tail P src sources others)
 
-  module _ (sources : List ℕ) (others : AreOthers slab dest sources) where
-    -- from a place on, the sum depends on the symbol from there on
-    rest_of_sum : (k : ℕ) (ys : List ℕ) → drop k ys ≡ drop k (symbol_in slab dest) → drop k (sum_in (with_symbol slab dest ys) dest sources) ≡ drop k (sum_in slab dest sources)
-    rest_of_sum k ys same =
-        let now = with_symbol slab dest ys in
-        ap (λ y. drop k (added (symbol_in now) y sources)) (symbol_there ys)
-        ∙ ap (drop k) (added-same (symbol_in now) (symbol_in slab) ys sources (others_stay sources ys others))
-        ∙ drop-added k (symbol_in slab) ys sources
-        ∙ ap (λ y. added (λ s. drop k (symbol_in slab s)) y sources) same
-        ∙ sym (drop-added k (symbol_in slab) (symbol_in slab dest) sources)
+-- where the symbol that a place means begins
+abbrev start_in : Slab → ℕ → ℕ
+start_in slab i = meant_at slab.order i * slab.symbol_size
 
-    pub with_sum-none : (a : ℕ) → with_sum slab dest sources a 0 ≡ slab
-    with_sum-none a =
-        let x = symbol_in slab dest in
-        let none : a + 0 ≡ a = omega arith in
-        ap (with_symbol slab dest) (ap (λ k. take a x ++ drop k x) none ∙ take-append-drop a x)
-        ∙ ap (λ (v : List (List ℕ)). record slab { values = v }) (set-get_or slab.values (meant_at slab.order dest) [])
+-- a place that means a symbol, and another one than `dest` does
+abbrev IsSource : Slab → ℕ → ℕ → Type 0
+IsSource slab dest src = (meant_at slab.order src < length slab.values) × (meant_at slab.order src ≢ meant_at slab.order dest)
 
-    -- two pieces that follow each other
-    pub with_sum-more : (a n m : ℕ) → a + n + m ≤ length (symbol_in slab dest) → with_sum (with_sum slab dest sources a n) dest sources (a + n) m ≡ with_sum slab dest sources a (n + m)
-    with_sum-more a n m within =
-        let x = symbol_in slab dest in
-        let t = sum_in slab dest sources in
+abbrev pub AreSources : Slab → ℕ → List ℕ → Type 0
+AreSources slab dest sources = All (IsSource slab dest) sources
+
+pub sources_of : (inside : Inside) (slab : Slab) → the_view inside ≡ slab → the_invariant inside → (dest : ℕ) (sources : List ℕ) → All (λ src. Allows slab (AddAssign dest src)) sources → AreSources slab dest sources
+sources_of inside slab view invariant dest sources allowed =
+    All-weaker (λ src. Allows slab (AddAssign dest src)) (IsSource slab dest) (λ src a. (meant_below inside slab view invariant src a.1, a.2)) sources allowed
+
+module _ {bytes : List ℕ} {count size : ℕ} {order : Option (List ℕ)} {slab : Slab} (is : Holds bytes count size order slab) (dest : ℕ) where
+  -- sums of their octets are sums of symbols
+  added_ranges : (x sources : List ℕ) → length x ≡ size → AreSources slab dest sources
+      → fold (λ sum start. row_sum sum (range_of bytes (start + 0) size)) x (map (start_in slab) sources) ≡ added (symbol_in slab) x sources
+  added_ranges x [] long all = refl
+  added_ranges x (src ∷ sources) long all =
+      let p = meant_at slab.order src in
+      let lt = (All-head (IsSource slab dest) src sources all).0 in
+      let y = symbol_in slab src in
+      let rest = λ (z : List ℕ). fold (λ sum start. row_sum sum (range_of bytes (start + 0) size)) z (map (start_in slab) sources) in
+      ap (λ z. rest (row_sum x z)) (ap (λ k. range_of bytes k size) (let same : start_in slab src + 0 ≡ start_in slab src = omega arith in same) ∙ range_at is p lt)
+      ∙ ap rest (sym (add_symbols-rows x y (length-range_at is p lt ∙ sym long)))
+      ∙ added_ranges (add_symbols octets x y) sources (length-add_symbols octets size size x y long (length-range_at is p lt)) (All-tail (IsSource slab dest) src sources all)
+
+  module _ (to : meant_at slab.order dest < length slab.values) (sources : List ℕ) (all : AreSources slab dest sources) where
+    starts_beside : All (IsRangeBeside (length bytes) (start_in slab dest) size) (map (start_in slab) sources)
+    starts_beside =
+        All-map (IsRangeBeside (length bytes) (start_in slab dest) size) (start_in slab) sources
+        (All-weaker (IsSource slab dest) (λ src. IsRangeBeside (length bytes) (start_in slab dest) size (start_in slab src))
+        (λ src a. (within is (meant_at slab.order src) a.0, apart is (meant_at slab.order dest) (meant_at slab.order src) (start_in slab dest) (start_in slab src) a.1 refl refl)) sources all)
+
+    pub beside_in : (start : ℕ) (starts old : List ℕ) → start ≡ start_in slab dest → starts ≡ map (start_in slab) sources → old ≡ bytes → All (IsRangeBeside (length old) start size) starts
+    beside_in start starts old e same_starts same =
+        subst (λ xs. All (IsRangeBeside (length xs) start size) starts) (sym same) (
+        subst (λ k. All (IsRangeBeside (length bytes) k size) starts) (sym e) (
+        subst (All (IsRangeBeside (length bytes) (start_in slab dest) size)) (sym same_starts) starts_beside))
+
+    -- what callers see once the sum is written
+    pub all_added : (start : ℕ) (starts old new items : List ℕ) → start ≡ start_in slab dest → starts ≡ map (start_in slab) sources → old ≡ bytes → items ≡ new
+        → new ≡ with_range old start (sum_of_ranges old start starts 0 size)
+        → ◌≡◌ {A = Slab} (record { values = cut count size items; symbol_size = size; order = order }) (after_all (map (λ src. AddAssign dest src) sources) slab)
+    all_added start starts old new items e same_starts same kept is_new =
         let d = meant_at slab.order dest in
-        let first = range_of t a n in
-        let y = with_range x a first in
-        let now = with_symbol slab dest y in
-        let enough : length x ≤ length t = length-added-le (symbol_in slab) x sources in
-        let long : length first ≡ n = length-range t a n (omega arith) in
-        let there : a + length first ≡ a + n = omega arith in
-        let rest : drop (a + n) y ≡ drop (a + n) x = subst (λ k. drop k y ≡ drop k x) there (drop-with_range x first a (omega arith)) in
-        let second = range_of t (a + n) m in
-        ap (λ (ys : List ℕ). record slab { values = set (set slab.values d y) d ys }) (
-        ap (λ l. with_range (symbol_in now dest) (a + n) l) (ap (take m) (rest_of_sum (a + n) y rest))
-        ∙ ap (λ l. with_range l (a + n) second) (symbol_there y)
-        ∙ ap (λ k. with_range y k second) (sym there)
-        ∙ with_range-twice x first a (omega arith) second
-        ∙ ap (with_range x a) (sym (take-add n m (drop a t) ∙ ap (λ l. first ++ take m l) (drop-drop n a t))))
-        ∙ ap (λ (v : List (List ℕ)). record slab { values = v }) (set-set slab.values d y (with_range x a (range_of t a (n + m))))
-
-    -- the same of a slab that has one piece so far
-    pub goes_on : (now new : Slab) (a n b m k : ℕ) → now ≡ with_sum slab dest sources a n → new ≡ with_sum now dest sources b m → b ≡ a + n → k ≡ n + m → a + k ≤ length (symbol_in slab dest)
-        → new ≡ with_sum slab dest sources a k
-    goes_on now new a n b m k so_far next at all within =
-        next
-        ∙ ap (λ (v : Slab). with_sum v dest sources b m) so_far
-        ∙ ap (λ i. with_sum (with_sum slab dest sources a n) dest sources i m) at
-        ∙ with_sum-more a n m (omega arith)
-        ∙ ap (with_sum slab dest sources a) (sym all)
-
-    -- all of it
-    pub with_sum-all : (size : ℕ) → length (symbol_in slab dest) ≡ size → All (λ src. length (symbol_in slab src) ≡ size) sources
-        → with_sum slab dest sources 0 size ≡ after_all (map (λ src. AddAssign dest src) sources) slab
-    with_sum-all size one all =
         let x = symbol_in slab dest in
-        let t = sum_in slab dest sources in
-        let long : length t ≡ size = length-added size (symbol_in slab) x sources one all in
-        let whole : take size t ≡ t = take_all size t (omega arith) in
-        let back : ◌≡◌ {A = Slab} (with_symbol slab dest x) slab = ap (λ (v : List (List ℕ)). record slab { values = v }) (set-get_or slab.values (meant_at slab.order dest) []) in
-        ap (with_symbol slab dest) (
-        ap (λ l. l ++ drop (0 + length l) x) whole
-        ∙ ap (λ l. t ++ l) (drop_all (0 + length t) x (omega arith))
-        ∙ append-nil t)
-        ∙ ap (λ (s : Store (List ℕ)). record slab { values = s.values; order = s.order }) (sym (additions x sources others))
+        let sum = added (symbol_in slab) x sources in
+        let there = λ (xs : List ℕ) (k : ℕ) (ks : List ℕ). with_range old start (sum_of_ranges xs k ks 0 size) in
+        let long : length sum ≡ size = length-added size (symbol_in slab) x sources (length-range_at is d to)
+        (All-weaker (IsSource slab dest) (λ src. length (symbol_in slab src) ≡ size) (λ src a. length-range_at is (meant_at slab.order src) a.0) sources all) in
+        let back : ◌≡◌ {A = Slab} (with_symbol slab dest x) slab = ap (λ (v : List (List ℕ)). record slab { values = v }) (set-get_or slab.values d []) in
+        one_written is d start old new items sum to e long same kept (
+        is_new
+        ∙ ap (λ xs. there xs start starts) same
+        ∙ ap (λ k. there bytes k starts) e
+        ∙ ap (there bytes (start_in slab dest)) same_starts
+        ∙ ap (with_range old start) (
+        ap (λ z. fold (λ sum src. row_sum sum (range_of bytes (src + 0) size)) z (map (start_in slab) sources))
+        (ap (λ k. range_of bytes k size) (let here : start_in slab dest + 0 ≡ start_in slab dest = omega arith in here) ∙ range_at is d to)
+        ∙ added_ranges x sources (length-range_at is d to) all))
+        ∙ ap (λ (s : Store (List ℕ)). record slab { values = s.values; order = s.order }) (sym (additions slab dest to x sources (All-weaker (IsSource slab dest) (λ src. meant_at slab.order src ≢ meant_at slab.order dest) (λ src a. a.1) sources all)))
         ∙ ap (after_all (map (λ src. AddAssign dest src) sources)) back

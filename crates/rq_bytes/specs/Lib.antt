@@ -2,6 +2,7 @@ pub mod BinaryOctetVec
 pub mod Error
 pub mod HalfProducts
 pub mod ProductTables
+pub mod RangeSums
 pub mod Ranges
 pub mod Refusals
 pub mod SymbolSlab

@@ -1,13 +1,13 @@
 -- What callers see of a slab.
-use Rattle.std.specs.Prelude.{◌≡◌, ℕ, ◌-◌, ◌<◌, ◌++◌, Bool, true, false, List, Contains, length, fold, replicate, slice_index_or, slice_set, Option, None, ◌==◌}
+use Rattle.std.specs.Prelude.{◌≡◌, ℕ, ◌-◌, ◌<◌, ◌++◌, Bool, true, false, List, Contains, length, replicate, slice_index_or, Option, None, ◌==◌}
 use Rattle.std.specs.Cmp.Lexicographic.{pointwise}
 use Rattle.std.specs.Option.{option_eq, ForSome}
 use Rattle.std.specs.Ordering.{eq_of_both, on}
-use Rattle.rq_algebra.specs.Operations.{Operation, Store, step, run, read, meant_at, values_in, IsPlace, IsAllowed, IsUnread}
+use Rattle.rq_algebra.specs.Operations.{Operation, Store, step, run, read, values_in, IsPlace, IsAllowed, IsUnread}
 use Rattle.rq_algebra.specs.Systems.{at}
-use Rattle.rq_algebra.specs.Symbols.{symbols, add_symbols, symbol_at}
+use Rattle.rq_algebra.specs.Symbols.{symbols, symbol_at}
 use Rattle.rq_standard.specs.OctetField.{octets}
-use Rattle.rq_bytes.specs.Ranges.{range_of, with_range, joined_pieces}
+use Rattle.rq_bytes.specs.Ranges.{joined_pieces}
 
 -- its symbols, the size of each, and the order in which places are read, where one is set
 pub record Slab : Type 0 where
@@ -49,16 +49,6 @@ symbol_in slab i = read (symbols octets) (store_of slab) i
 -- the symbols at the defined places, as they are read
 abbrev pub symbols_in : Slab → List (List ℕ)
 symbols_in slab = values_in (symbols octets) slab.values slab.order
-
--- the sum of the symbol that a place means and of those that other places mean
-abbrev pub sum_in : Slab → ℕ → List ℕ → List ℕ
-sum_in slab dest sources = fold (λ sum src. add_symbols octets sum (symbol_in slab src)) (symbol_in slab dest) sources
-
--- the slab with this sum in place of that symbol at n of its octets, from `start` on
-abbrev pub with_sum : Slab → ℕ → List ℕ → ℕ → ℕ → Slab
-with_sum slab dest sources start n =
-    let octets = with_range (symbol_in slab dest) start (range_of (sum_in slab dest sources) start n) in
-    record slab { values = slice_set slab.values (meant_at slab.order dest) octets }
 
 -- each symbol that the order doesn't read is zeros
 abbrev pub IsZeroUnread : Slab → Type 0

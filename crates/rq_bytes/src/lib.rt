@@ -10,6 +10,7 @@ pub mod octet;
 pub mod octets;
 pub mod operation_vector;
 mod products;
+mod range_sums;
 pub mod symbol;
 pub mod symbol_slab;
 pub mod util;

@@ -1,5 +1,5 @@
 //! Symbols of one size in one buffer.
-ghost use Rattle.std.specs.Prelude.{◌≡◌, ◌≢◌, ◌↔◌, ◌⊎◌, ◌+◌, ◌-◌, ◌*◌, ◌/◌, ◌^◌, ◌<◌, ◌≤◌, length, map, replicate, true, All, Ok, None, IfOk};
+ghost use Rattle.std.specs.Prelude.{◌≡◌, ◌≢◌, ◌↔◌, ◌⊎◌, ◌+◌, ◌*◌, ◌/◌, ◌^◌, ◌<◌, ◌≤◌, length, map, replicate, true, All, Ok, None, IfOk};
 ghost use Rattle.std.proofs.Common.{rules};
 ghost use Rattle.std.specs.Cmp.Rules.{comparing};
 ghost use Rattle.rq_algebra.specs.Operations.{AddAssign, MulAssign, Fma, Reorder, IsOrder, meant_at};
@@ -8,18 +8,18 @@ ghost use Rattle.rq_standard.specs.OctetField.{octets};
 ghost use Rattle.std.specs.Borrow.{sem};
 ghost use Rattle.rq_bytes.specs.Ranges.{range_of, cut, whole_symbols, with_range};
 ghost use Rattle.rq_bytes.specs.Refusals.{IsAnswer};
-ghost use Rattle.rq_bytes.specs.SymbolSlab.{slab_of, among_zeros, after, after_all, HasPlace, Allows, symbol_in, symbols_in, sum_in, with_sum, same_slab, IsZeroUnread, IsZeroUnmarked};
+ghost use Rattle.rq_bytes.specs.SymbolSlab.{slab_of, among_zeros, after, after_all, HasPlace, Allows, symbol_in, symbols_in, same_slab, IsZeroUnread, IsZeroUnmarked};
 
 use crate::error::Error;
 use crate::factor::Factor;
 use crate::marks::marks_of;
 use crate::octet::Octet;
 use crate::octets;
+use crate::range_sums::add_ranges;
 use crate::symbol::{Symbol, zeros};
 use crate::util::get_range_pair;
 use std::alloc::{AllocError, Global};
 use std::marker::Model;
-use std::simd::Simd;
 
 /// Symbols of one size in one buffer. An order may be set, and place i then means the symbol at the
 /// order's i-th entry. Contracts see the symbols, their size and the order.
@@ -165,85 +165,50 @@ impl SymbolSlab {
         octets::add_assign(sum, other);
     }
 
-    /// Adds several symbols to another one, in one pass over its octets.
+    /// Adds several symbols to another one: up to eight of them in one pass over its octets.
     pub fn add_all(&mut self, dest: usize, sources: &[usize])
         requires dest { HasPlace self.old dest }
         requires sources { All (λ src. Allows self.old (AddAssign dest src)) sources.now }
         ensures { self.new ≡ after_all (map (λ src. AddAssign dest src) sources.now) self.old }
     {
-        // A few sources whose number is known need no loop over them in each piece.
-        match sources {
-            [a] => self.add_sources(dest, &[*a]),
-            [a, b] => self.add_sources(dest, &[*a, *b]),
-            [a, b, c] => self.add_sources(dest, &[*a, *b, *c]),
-            [a, b, c, d] => self.add_sources(dest, &[*a, *b, *c, *d]),
-            _ => self.add_sources(dest, sources),
+        // Where their number is known, no loop over them is left in the pass.
+        match sources.len() {
+            1 => self.add_sources::<1>(dest, sources),
+            2 => self.add_sources::<2>(dest, sources),
+            3 => self.add_sources::<3>(dest, sources),
+            4 => self.add_sources::<4>(dest, sources),
+            5 => self.add_sources::<5>(dest, sources),
+            6 => self.add_sources::<6>(dest, sources),
+            7 => self.add_sources::<7>(dest, sources),
+            8 => self.add_sources::<8>(dest, sources),
+            _ => self.add_each(dest, sources),
         }
     }
 
-    // Adds several symbols to another one, in one pass over its octets. It is made anew for each number
-    // of sources that is known.
+    // Adds C symbols to another one, in one pass over its octets. Where they begin is found once, and
+    // not again for each piece of them.
     #[inline(always)]
-    fn add_sources(&mut self, dest: usize, sources: &[usize])
+    fn add_sources<const C: usize>(&mut self, dest: usize, sources: &[usize])
+        requires count { length sources.now ≡ C }
         requires dest { HasPlace self.old dest }
         requires sources { All (λ src. Allows self.old (AddAssign dest src)) sources.now }
         ensures { self.new ≡ after_all (map (λ src. AddAssign dest src) sources.now) self.old }
     {
-        // Where a field is read, a slab's invariant is known: its symbols have one size.
-        let _ = &self.data;
-        let wide = self.add_pieces::<64>(dest, sources, 0);
-        let narrow = self.add_pieces::<32>(dest, sources, wide);
-        self.add_pieces::<1>(dest, sources, narrow);
+        let size = self.symbol_size;
+        let start = self.start_of(dest);
+        let starts = self.starts_of::<C>(sources);
+        add_ranges(self.data.as_mut_slice(), start, &starts, size);
     }
 
-    // Adds the octets of several symbols from `start` on to those of another one, as many pieces of
-    // N octets as there are. Returns where these end.
-    #[inline(always)]
-    fn add_pieces<const N: usize>(&mut self, dest: usize, sources: &[usize], start: usize) -> usize
-        requires some { 0 < N }
-        requires lanes { N ≤ 64 }
+    // Adds several symbols to another one, one after another.
+    fn add_each(&mut self, dest: usize, sources: &[usize])
         requires dest { HasPlace self.old dest }
         requires sources { All (λ src. Allows self.old (AddAssign dest src)) sources.now }
-        requires begins { start ≤ self.old.symbol_size }
-        ensures forward { start ≤ result }
-        ensures within { result ≤ self.old.symbol_size }
-        ensures rest { self.old.symbol_size < result + N }
-        ensures sum { self.new ≡ with_sum self.old dest sources.now start (result - start) }
+        ensures { self.new ≡ after_all (map (λ src. AddAssign dest src) sources.now) self.old }
     {
-        let pieces = (self.symbol_size - start) / N;
-        for piece in 0..pieces {
-            self.add_piece::<N>(dest, sources, start + N * piece);
-        }
-        start + N * pieces
-    }
-
-    // Adds the N octets of several symbols from `at` on to those of another one.
-    #[inline(always)]
-    fn add_piece<const N: usize>(&mut self, dest: usize, sources: &[usize], at: usize)
-        requires lanes { N ≤ 64 }
-        requires dest { HasPlace self.old dest }
-        requires sources { All (λ src. Allows self.old (AddAssign dest src)) sources.now }
-        requires within { at + N ≤ self.old.symbol_size }
-        ensures { self.new ≡ with_sum self.old dest sources.now at N }
-    {
-        let sum = self.piece_sum::<N>(dest, sources, at);
-        write_piece::<N>(self.get_mut(dest), at, sum);
-    }
-
-    // The sum of the N octets of several symbols from `at` on.
-    #[inline(always)]
-    fn piece_sum<const N: usize>(&self, dest: usize, sources: &[usize], at: usize) -> Simd<u8, N>
-        requires dest { HasPlace self.now dest }
-        requires sources { All (HasPlace self.now) sources.now }
-        requires within { at + N ≤ self.now.symbol_size }
-        ensures sum { result ≡ range_of (sum_in self.now dest sources.now) at N }
-        ensures len { length result ≡ N }
-    {
-        let mut sum = Simd::<u8, N>::from_slice(&self.get(dest)[at..]);
         for src in sources {
-            sum ^= Simd::<u8, N>::from_slice(&self.get(*src)[at..]);
+            self.add_assign(dest, *src);
         }
-        sum
     }
 
     /// Multiplies a symbol by an octet.
@@ -367,6 +332,20 @@ impl SymbolSlab {
         self.meant(i) * self.symbol_size
     }
 
+    // Where the symbols that C places mean begin in the buffer.
+    #[inline(always)]
+    fn starts_of<const C: usize>(&self, places: &[usize]) -> [usize; C]
+        requires count { length places.now ≡ C }
+        requires places { All (HasPlace self.now) places.now }
+        ensures { result ≡ map (λ i. meant_at self.now.order i * self.now.symbol_size) places.now }
+    {
+        let mut starts = [0; C];
+        for i in 0..C {
+            starts[i] = self.start_of(places[i]);
+        }
+        starts
+    }
+
     // Which symbol a place means.
     fn meant(&self, i: usize) -> usize
         requires { HasPlace self.now i }
@@ -440,14 +419,4 @@ fn write_range(bytes: &mut [u8], start: usize, source: &[u8])
     ensures { bytes.new ≡ with_range bytes.old start source.now }
 {
     bytes[start..start + source.len()].copy_from_slice(source);
-}
-
-// Writes a piece of N octets from a place on.
-#[inline(always)]
-fn write_piece<const N: usize>(octets: &mut [u8], at: usize, piece: Simd<u8, N>)
-    requires len { length piece ≡ N }
-    requires within { at + N ≤ length octets.old }
-    ensures { octets.new ≡ with_range octets.old at piece.entry }
-{
-    piece.copy_to_slice(&mut octets[at..]);
 }

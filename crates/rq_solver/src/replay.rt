@@ -11,7 +11,7 @@ use rq_bytes::operation_vector::{SymbolOps, perform_op};
 use rq_bytes::symbol_slab::SymbolSlab;
 
 // How many additions to one symbol are done in one pass over it, at most.
-const RUN: usize = 4;
+const RUN: usize = 8;
 
 /// Performs operations on the symbols of a slab, first to last. A `Reorder` takes memory for a copy
 /// of its order; where that is refused, the operations before it have been performed.

@@ -1,0 +1,12 @@
+-- Sums of ranges of one buffer.
+use Rattle.std.specs.Prelude.{ℕ, ◌+◌, ◌≤◌, ◌⊎◌, List, fold}
+use Rattle.rq_standard.specs.Rows.{row_sum}
+use Rattle.rq_bytes.specs.Ranges.{range_of}
+
+-- the sum of the n elements at `at` behind `dest` and of those at `at` behind each of some places
+abbrev pub sum_of_ranges : List ℕ → ℕ → List ℕ → ℕ → ℕ → List ℕ
+sum_of_ranges bytes dest sources at n = fold (λ sum src. row_sum sum (range_of bytes (src + at) n)) (range_of bytes (dest + at) n) sources
+
+-- the range of `len` elements from `src` on is one of so many elements, and has none in common with that from `dest` on
+abbrev pub IsRangeBeside : ℕ → ℕ → ℕ → ℕ → Type 0
+IsRangeBeside count dest len src = (src + len ≤ count) × ((dest + len ≤ src) ⊎ (src + len ≤ dest))

@@ -1,0 +1,73 @@
+//! Sums of ranges of one buffer.
+ghost use Rattle.std.specs.Prelude.{◌≡◌, ◌+◌, ◌-◌, ◌<◌, ◌≤◌, length, All};
+ghost use Rattle.rq_bytes.specs.Ranges.{with_range};
+ghost use Rattle.rq_bytes.specs.RangeSums.{sum_of_ranges, IsRangeBeside};
+
+use std::simd::Simd;
+
+/// Adds the `len` octets from each of several places on to those from `dest` on, in one pass over
+/// them. It is made anew for each number of places that is known.
+#[inline(always)]
+pub(crate) fn add_ranges(bytes: &mut [u8], dest: usize, sources: &[usize], len: usize)
+    requires dest { dest + len ≤ length bytes.old }
+    requires sources { All (IsRangeBeside (length bytes.old) dest len) sources.now }
+    ensures { bytes.new ≡ with_range bytes.old dest (sum_of_ranges bytes.old dest sources.now 0 len) }
+{
+    let wide = add_pieces::<64>(bytes, dest, sources, len, 0);
+    let narrow = add_pieces::<32>(bytes, dest, sources, len, wide);
+    add_pieces::<1>(bytes, dest, sources, len, narrow);
+}
+
+// Adds the octets at `start` and behind it, as many pieces of N octets as there are. Returns where
+// these end.
+#[inline(always)]
+fn add_pieces<const N: usize>(
+    bytes: &mut [u8],
+    dest: usize,
+    sources: &[usize],
+    len: usize,
+    start: usize,
+) -> usize
+    requires some { 0 < N }
+    requires lanes { N ≤ 64 }
+    requires dest { dest + len ≤ length bytes.old }
+    requires sources { All (IsRangeBeside (length bytes.old) dest len) sources.now }
+    requires begins { start ≤ len }
+    ensures forward { start ≤ result }
+    ensures within { result ≤ len }
+    ensures rest { len < result + N }
+    ensures sum { bytes.new ≡ with_range bytes.old (dest + start) (sum_of_ranges bytes.old dest sources.now start (result - start)) }
+{
+    let pieces = (len - start) / N;
+    for piece in 0..pieces {
+        let at = start + N * piece;
+        let sum = piece_sum::<N>(bytes, dest, sources, at);
+        write_piece::<N>(bytes, dest + at, sum);
+    }
+    start + N * pieces
+}
+
+// The sum of the N octets at `at` behind `dest` and behind each of several places.
+#[inline(always)]
+fn piece_sum<const N: usize>(bytes: &[u8], dest: usize, sources: &[usize], at: usize) -> Simd<u8, N>
+    requires dest { dest + at + N ≤ length bytes.now }
+    requires sources { All (λ src. src + at + N ≤ length bytes.now) sources.now }
+    ensures sum { result ≡ sum_of_ranges bytes.now dest sources.now at N }
+    ensures len { length result ≡ N }
+{
+    let mut sum = Simd::<u8, N>::from_slice(&bytes[dest + at..]);
+    for src in sources {
+        sum ^= Simd::<u8, N>::from_slice(&bytes[*src + at..]);
+    }
+    sum
+}
+
+// Writes a piece of N octets from a place on.
+#[inline(always)]
+fn write_piece<const N: usize>(bytes: &mut [u8], at: usize, piece: Simd<u8, N>)
+    requires len { length piece ≡ N }
+    requires within { at + N ≤ length bytes.old }
+    ensures { bytes.new ≡ with_range bytes.old at piece.entry }
+{
+    piece.copy_to_slice(&mut bytes[at..]);
+}
