@@ -177,7 +177,7 @@ fn half_products(scalar: u8) -> u8x32
 }
 
 // Adds the products of the halves of a byte and bit K of an octet to those of the bits below. In a
-// loop over the bits their table would be copied for each.
+// loop over the bits all of `TERMS` would be copied for each.
 #[inline(always)]
 fn add_term<const K: usize>(sum: u8x32, scalar: u8) -> u8x32
     requires bit { K < 8 }
