@@ -9,6 +9,8 @@ loop-f-init c = record { from = omega arith; within = omega (arith, c.requires.w
 pub loop-f-preserved : goal.loop-f-preserved
 loop-f-preserved c =
     let reduced = c.args.reduced.now in
+    let old = c.args.recorded.now in
+    let cur = c.loop-f.recorded in
     let f = c.in-Some.f in
     let v = c.loop-f.invariant in
     let found = c.in-Some.ensures in
@@ -16,14 +18,14 @@ loop-f-preserved c =
     let inside : f < c.args.inactive = found.1 in
     let from : c.args.start ≤ f = omega (arith, v.from, forward) in
     let in_reduced : f < length reduced = omega (arith, c.requires.many) in
-    let zeros = reduced_zeros reduced c.args.row c.args.start c.args.inactive c.loop-f.from f c.args.recorded.now c.loop-f.recorded v.taken forward found.3 in
+    let zeros = reduced_zeros reduced c.args.row c.args.start c.args.inactive c.loop-f.from f old cur v.taken forward found.3 in
     let small : c.get-scalar.result < 256 =
     rw (c.get-scalar.ensures, v.taken.records.table) (c.requires.octets.elements c.args.row f c.requires.row (omega (arith, c.requires.width)))
     in
     record {
       from = omega arith;
       within = omega arith;
-      taken = reduced_more reduced c.args.row c.args.start c.args.inactive f from inside c.args.recorded.now c.loop-f.recorded zeros (c.requires.apart f from in_reduced) c.get-scalar.result small c.get-scalar.ensures
+      taken = reduced_more reduced c.args.row c.args.start c.args.inactive f from inside old cur zeros (c.requires.apart f from in_reduced) c.get-scalar.result small c.get-scalar.ensures
           c.record_sum.new.self c.in_ok-record_sum.ensures.recorded;
       few = (let more = c.in_ok-record_sum.ensures.counted in let so_far = v.few in omega (arith, more, so_far, from, forward));
     }
