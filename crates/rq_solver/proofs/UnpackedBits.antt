@@ -3,6 +3,9 @@ use Rattle.std.proofs.Common.{◌++◌, true, false, cond, eqb, get_or, map, ◌
 use Rattle.std.specs.Int.{bit_at, trailing_zeros}
 use Rattle.std.specs.Int.Bits.{bit_xor, bit_or, xor_zero_l}
 use Rattle.std.proofs.Math.Nat.{div-le_self}
+use Rattle.std.specs.Prelude.{Bool, nat_lt}
+use Rattle.std.specs.Bool.{then_some}
+use Rattle.std.proofs.lemmas.Bool.Decides.{nat_tests}
 use Rattle.std.proofs.lemmas.Bool.{agree_below, agree_below_at, eqb-true, cases_eq, cases_lt, cond-true, cond-false, eq-eqb, ne_eqb}
 use Rattle.std.proofs.lemmas.List.{ext_get_or, get_or-set_same, get_or-set_other, get_or-replicate, get_or_default, get_or_append_left, length-map, length-replicate, length-set}
 use Rattle.std.proofs.lemmas.List.Elements.{All-from_get_or}
@@ -22,7 +25,7 @@ use Rattle.rq_solver.specs.declared.pi_solver.entries.packed_bits.TheConstants.{
 use Rattle.rq_standard.specs.Rows.{row_sum, row_multiple}
 use Rattle.rq_parts.specs.DenseOctetMatrix.{IsOctetRow}
 use Rattle.rq_parts.proofs.BitPairs.{bit_at-shifted}
-use Rattle.rq_solver.specs.InactiveEntries.{bit_in, unpacked}
+use Rattle.rq_solver.specs.InactiveEntries.{IsNextEntry, bit_in, unpacked}
 
 map_at : (f : ℕ → ℕ) (xs : List ℕ) (k : ℕ) → k < length xs → at (map f xs) k ≡ f (at xs k)
 map_at f xs k l = get_or_default (map f xs) k 0 (f 0) (omega (arith, length-map xs f)) ∙ get_or-map f xs k 0
@@ -275,3 +278,8 @@ module _ (bits : List ℕ) (place rest : ℕ) (rest_is : rest ≡ at bits (place
 -- zeros before a place, and from it on
 pub zeros_before_next : (bits : List ℕ) (from place end : ℕ) → ((k : ℕ) → from ≤ k → k < place → bit_in bits k ≡ 0) → ((k : ℕ) → place ≤ k → k < end → bit_in bits k ≡ 0) → (k : ℕ) → from ≤ k → k < end → bit_in bits k ≡ 0
 zeros_before_next bits from place end before behind k l m = elim (cases_lt k place) [ inl first ↦ before k l first | inr late ↦ behind k late m ]
+
+-- a bit that is set, and zeros before it: it is the next one where it is before the end, and else there is none
+pub next_if : (bits : List ℕ) (from end found : ℕ) (inside : Bool) → inside ≡ nat_lt found end → from ≤ found → bit_in bits found ≡ 1 → ((k : ℕ) → from ≤ k → k < found → bit_in bits k ≡ 0) → IsNextEntry (bit_in bits) from end (then_some inside found)
+next_if bits from end found true is after one zeros = let before : found < end = grind (arith, nat_tests, is) in (after, before, (λ none. omega (arith, none, one)), zeros)
+next_if bits from end found false is after one zeros = λ k l m. zeros k l (let past : end ≤ found = grind (arith, nat_tests, is) in omega arith)
