@@ -205,7 +205,7 @@ module _ (e : Inside) (are : AreEntries e.width e.bits e.octets.items) {now : Oc
     pub read_is : symbol_in e.bits row ≡ get_or e.bits.values row []
     read_is = ap (λ o. get_or e.bits.values (meant_at o row) []) are.order
 
-    pub row_now : row_at now row ≡ row_of e.width (get_or e.bits.values row []) (get_or e.octets.items row [])
+    row_now : row_at now row ≡ row_of e.width (get_or e.bits.values row []) (get_or e.octets.items row [])
     row_now = ap (λ (t : OctetTable). row_at t row) (sym seen) ∙ row_is e.width e.bits e.octets.items are row in_symbols
 
     pub row_long : length (row_at now row) ≡ e.width
