@@ -1,7 +1,7 @@
 -- The bits of a word as lanes.
 use Rattle.std.proofs.Common.{w64, zero, suc, ◌++◌, ◌≡◌, ℕ, ◌+◌, ◌*◌, ◌/◌, ◌%◌, ◌^◌, ◌<◌, ◌≤◌, true, false, cond, eqb, List, length, get_or, map, replicate, refl, sym, ap, ◌∙◌, arith, ⊎_elim}
 use Rattle.std.proofs.lemmas.Bool.{agree_below, agree_below_at, eqb-true, cases_eq, cond-true, cond-false, eq-eqb, ne_eqb}
-use Rattle.std.proofs.lemmas.List.{ext_get_or, get_or-map, length-map}
+use Rattle.std.proofs.lemmas.List.{ext_get_or, get_or-map, length-map, length-replicate}
 use Rattle.std.proofs.lemmas.List.FromFn.{length-map-range_with_len, get_or-map-range_with_len}
 use Rattle.std.proofs.lemmas.Nat.{shr_split, shr-shr, pow_pos}
 use Rattle.std.proofs.lemmas.Nat.Bits.{bit_at_cat_low, and_pow, bit_at-lt}
@@ -95,7 +95,7 @@ bit_test scalar b p hs hb hp =
 masks : agree_below (λ i. eqb (get_or BITS i 0) (2 ^ (i % 8))) (λ _. true) 64 ≡ true
 masks = refl
 
-mask_at : (i : ℕ) → i < 64 → get_or BITS i 0 ≡ 2 ^ (i % 8)
+pub mask_at : (i : ℕ) → i < 64 → get_or BITS i 0 ≡ 2 ^ (i % 8)
 mask_at i lt = eqb-true _ _ (agree_below_at (λ k. eqb (get_or BITS k 0) (2 ^ (k % 8))) (λ _. true) 64 i masks lt)
 
 places : agree_below (λ i. eqb (256 ^ (i / 8)) (2 ^ (8 * (i / 8)))) (λ _. true) 64 ≡ true
@@ -104,38 +104,44 @@ places = refl
 place_at : (i : ℕ) → i < 64 → 256 ^ (i / 8) ≡ 2 ^ (8 * (i / 8))
 place_at i lt = eqb-true _ _ (agree_below_at (λ k. eqb (256 ^ (k / 8)) (2 ^ (8 * (k / 8)))) (λ _. true) 64 i places lt)
 
-byte_bit : (word i : ℕ) → i < 64 → bit_at (word / 256 ^ (i / 8) % 256) (i % 8) ≡ bit_at word i
+pub byte_bit : (word i : ℕ) → i < 64 → bit_at (word / 256 ^ (i / 8) % 256) (i % 8) ≡ bit_at word i
 byte_bit word i lt =
     ap (λ p. bit_at (word / p % 256) (i % 8)) (place_at i lt)
     ∙ field_bit word (8 * (i / 8)) 8 (i % 8) (omega arith)
     ∙ ap (bit_at word) (let same : 8 * (i / 8) + i % 8 ≡ i = omega arith in same)
 
-pub masked : (scalar word : ℕ) (v : List ℕ) → scalar < 256 → length v ≡ 64
-    → ((i : ℕ) → i < 64 → get_or v i 0 ≡ word / 256 ^ (i / 8) % 256)
-    → sel_l (zip2 eqb (zip2 bit_and v BITS) BITS) (replicate 64 scalar) (replicate 64 0)
-    ≡ map (λ i. octet_mul scalar (bit_at word i)) (range_with_len 0 64)
-masked scalar word v hs long each =
-    let met = zip2 bit_and v BITS in
-    let long_met : length met ≡ 64 = length-zip2 bit_and v BITS long ∙ long in
-    let tests = zip2 eqb met BITS in
-    let long_tests : length tests ≡ 64 = length-zip2 eqb met BITS long_met ∙ long_met in
-    ext_get_or 0 (sel_l tests (replicate 64 scalar) (replicate 64 0)) (map (λ i. octet_mul scalar (bit_at word i)) (range_with_len 0 64))
-    (length-sel_l tests (replicate 64 scalar) (replicate 64 0) long_tests long_tests ∙ long_tests)
+-- an octet in each lane whose bit is set, the masks naming the bits, and 0 in the others
+pub masked : (n scalar : ℕ) (masks v : List ℕ) (bit : ℕ → ℕ) → scalar < 256 → length masks ≡ n → length v ≡ n
+    → ((i : ℕ) → i < n → get_or masks i 0 ≡ 2 ^ (i % 8))
+    → ((i : ℕ) → i < n → bit_at (get_or v i 0) (i % 8) ≡ bit i)
+    → sel_l (zip2 eqb (zip2 bit_and v masks) masks) (replicate n scalar) (replicate n 0)
+    ≡ map (λ i. octet_mul scalar (bit i)) (range_with_len 0 n)
+masked n scalar masks v bit small long_masks long masks_are bits_are =
+    let octets : List ℕ = replicate n scalar in
+    let zeros : List ℕ = replicate n 0 in
+    let long_octets : length octets ≡ n = length-replicate {A = ℕ} n scalar in
+    let long_zeros : length zeros ≡ n = length-replicate {A = ℕ} n 0 in
+    let met = zip2 bit_and v masks in
+    let long_met : length met ≡ n = length-zip2 bit_and v masks (long ∙ sym long_masks) ∙ long in
+    let tests = zip2 eqb met masks in
+    let long_tests : length tests ≡ n = length-zip2 eqb met masks (long_met ∙ sym long_masks) ∙ long_met in
+    let long_all : length (sel_l tests octets zeros) ≡ n = length-sel_l tests octets zeros (long_tests ∙ sym long_octets) (long_tests ∙ sym long_zeros) ∙ long_tests in
+    ext_get_or 0 (sel_l tests octets zeros) (map (λ i. octet_mul scalar (bit i)) (range_with_len 0 n))
+    (long_all ∙ sym (length-map-range_with_len (λ i. octet_mul scalar (bit i)) 0 n))
     (λ i under.
-    let lt : i < 64 = omega (arith, length-sel_l tests (replicate 64 scalar) (replicate 64 0) long_tests long_tests) in
+    let lt : i < n = omega (arith, under, long_all) in
     let k = i % 8 in
-    let x = word / 256 ^ (i / 8) % 256 in
-    get_or-sel_l tests (replicate 64 scalar) (replicate 64 0) i 0 (omega arith) lt lt
-    ∙ ap (λ t. cond t (get_or (replicate 64 scalar) i 0) (get_or (replicate 64 0) i 0)) (get_or-zip2 eqb met BITS i 0 0 false (omega arith) lt)
-    ∙ ap (λ m. cond (eqb m (get_or BITS i 0)) (get_or (replicate 64 scalar) i 0) (get_or (replicate 64 0) i 0)) (get_or-zip2 bit_and v BITS i 0 0 0 (omega arith) lt)
-    ∙ ap (λ y. cond (eqb (bit_and y (get_or BITS i 0)) (get_or BITS i 0)) (get_or (replicate 64 scalar) i 0) (get_or (replicate 64 0) i 0)) (each i lt)
-    ∙ ap (λ p. cond (eqb (bit_and x p) p) (get_or (replicate 64 scalar) i 0) (get_or (replicate 64 0) i 0)) (mask_at i lt)
-    ∙ ap (λ m. cond (eqb m (2 ^ k)) (get_or (replicate 64 scalar) i 0) (get_or (replicate 64 0) i 0)) (and_pow x k)
-    ∙ ap (λ s. cond (eqb (bit_at x k * 2 ^ k) (2 ^ k)) s (get_or (replicate 64 0) i 0)) (get_or-replicate 64 i scalar 0 lt)
-    ∙ ap (cond (eqb (bit_at x k * 2 ^ k) (2 ^ k)) scalar) (get_or-replicate 64 i 0 0 lt)
-    ∙ bit_test scalar (bit_at x k) (2 ^ k) hs (bit_at-lt x k) (pow_pos k)
-    ∙ ap (octet_mul scalar) (byte_bit word i lt)
-    ∙ sym (get_or-map-range_with_len (λ j. octet_mul scalar (bit_at word j)) 0 64 i i 0 lt (omega arith)))
+    let x = get_or v i 0 in
+    get_or-sel_l tests octets zeros i 0 (omega (arith, long_tests)) (omega (arith, long_octets)) (omega (arith, long_zeros))
+    ∙ ap (λ t. cond t (get_or octets i 0) (get_or zeros i 0)) (get_or-zip2 eqb met masks i 0 0 false (omega (arith, long_met)) (omega (arith, long_masks)))
+    ∙ ap (λ m. cond (eqb m (get_or masks i 0)) (get_or octets i 0) (get_or zeros i 0)) (get_or-zip2 bit_and v masks i 0 0 0 (omega (arith, long)) (omega (arith, long_masks)))
+    ∙ ap (λ p. cond (eqb (bit_and x p) p) (get_or octets i 0) (get_or zeros i 0)) (masks_are i lt)
+    ∙ ap (λ m. cond (eqb m (2 ^ k)) (get_or octets i 0) (get_or zeros i 0)) (and_pow x k)
+    ∙ ap (λ s. cond (eqb (bit_at x k * 2 ^ k) (2 ^ k)) s (get_or zeros i 0)) (get_or-replicate n i scalar 0 lt)
+    ∙ ap (cond (eqb (bit_at x k * 2 ^ k) (2 ^ k)) scalar) (get_or-replicate n i 0 0 lt)
+    ∙ bit_test scalar (bit_at x k) (2 ^ k) small (bit_at-lt x k) (pow_pos k)
+    ∙ ap (octet_mul scalar) (bits_are i lt)
+    ∙ sym (get_or-map-range_with_len (λ j. octet_mul scalar (bit j)) 0 n i i 0 lt (omega arith)))
 
 -- ---- the bytes of a word, each at eight places
 

@@ -20,7 +20,7 @@ unfoldable pub doubled : ℕ → ℕ → ℕ
 doubled zero h = h
 doubled (suc k) h = octet_double (doubled k h)
 
--- sums that are the products of each half of a byte and an octet once those of its bits from k on are added
+-- sums that become the products of an octet and each half of a byte once those of its bits from k on are added
 pub record IsSumBelow (scalar k : ℕ) (sum : List ℕ) : Type 0 where
   pub long : length sum ≡ 32
   pub each : (i : ℕ) → i < 32 → bit_xor (slice_index sum i) (octet_times (8 - k) (doubled k (half_byte i)) (scalar / 2 ^ k)) ≡ octet_mul (half_byte i) scalar

@@ -1,17 +1,20 @@
 -- What is read of a sparse matrix's stored rows, and what becomes of the matrix when one of them changes.
-use Rattle.std.proofs.Common.{◌≡◌, ◌-◌, ◌<◌, ◌≤◌, ◌^◌, ℕ, List, [], Option, false, All, length, get_or, sym, ap, subst, ◌∙◌, arith}
+use Rattle.std.proofs.Common.{◌≡◌, ◌-◌, ◌<◌, ◌≤◌, ◌^◌, ℕ, List, [], Option, Result, OnOk, OnErr, false, All, length, set, get_or, refl, sym, ap, subst, ◌∙◌, arith, length-set}
+use Rattle.std.specs.List.Sorted.{IsStrictlyIncreasing}
 use Rattle.std.specs.Option.{is_some, ForSome}
 use Rattle.std.proofs.lemmas.List.{get_or_read}
+use Rattle.std.proofs.lemmas.List.Elements.{All-set}
+use Rattle.rq_bytes.specs.declared.error.Error.{Error}
 use Rattle.rq_standard.specs.BitTableSteps.{AreOnesOf}
 use Rattle.rq_parts.specs.BitPairs.{sparse_pairs}
-use Rattle.rq_parts.specs.SparseBinaryVec.{listed_bit}
+use Rattle.rq_parts.specs.SparseBinaryVec.{listed_bit, SetsListed}
 use Rattle.rq_matrix.specs.DenseTails.{Tail}
 use Rattle.rq_matrix.specs.Orders.{Order, IsOrder}
 use Rattle.rq_matrix.specs.SparseBinaryMatrix.{sparse_bit}
 use Rattle.rq_matrix.specs.SparseRows.{IsSparseRow, IsColumnIndex}
 use Rattle.rq_matrix.specs.SparseTables.{bit-before}
 use Rattle.rq_matrix.specs.declared.sparse_matrix.SparseBinaryMatrix.{SparseBinaryMatrix}
-use Rattle.rq_matrix.proofs.SparseRowLaws.{sparse_ones}
+use Rattle.rq_matrix.proofs.SparseRowLaws.{row_set, sparse_ones}
 
 -- the ones of the stored row that is the i-th, and the places of the columns
 module _ (m : SparseBinaryMatrix) (i row : ℕ) (ones places : List ℕ) (stored : row ≡ get_or m.row_order.order i 0) (within : row < length m.rows.items) (is : ones ≡ get_or m.rows.items row ones) (are : places ≡ m.column_order.places) where
@@ -69,6 +72,15 @@ module _ (m : SparseBinaryMatrix) where
     tail_columns = same_columns ∙ m.tail_columns;
     index_is = λ lists is. absurd (let on = ap is_some is in cc);
   }
+
+  -- one stored row had a bit set, or is as it was
+  pub with_row_set : is_some m.index ≡ false → (row : ℕ) → row < length m.rows.items → (old new : List ℕ) → old ≡ get_or m.rows.items row old → (column octet : ℕ) (result : Result (Unit {0}) Error) → column < length m.column_order.order
+      → OnOk result (SetsListed old column octet new) → OnErr result (new ≡ old) → IsStrictlyIncreasing new → IsMatrixOf m.height m.width m.boundary (set m.rows.items row new) m.tail m.row_order m.column_order m.index
+  with_row_set off row within old new is column octet result in_columns sets same rises =
+      let columns = length m.column_order.order in
+      let was = subst (IsSparseRow columns) (sym (get_or_read m.rows.items row old within is [])) (m.sparse row [] within) in
+      let now = row_set columns old new column octet result was in_columns sets same rises in
+      with_rows (set m.rows.items row new) m.tail off (sym (length-set m.rows.items row new)) (All-set (IsSparseRow columns) m.rows.items row new now m.sparse) refl refl
 
   pub with_orders : (row_order column_order : Order) → IsOrder row_order → IsOrder column_order → length row_order.order ≡ length m.row_order.order → length column_order.order ≡ length m.column_order.order
       → IsMatrixOf m.height m.width m.boundary m.rows.items m.tail row_order column_order m.index

@@ -118,9 +118,9 @@ impl<'a> OctetIter<'a> {
     {
         OctetIter {
             left: match &self.left {
-                Left::Columns(bits) => Left::Columns(bits.again()),
-                Left::Ones(bits) => Left::Ones(bits.again()),
-                Left::Sparse(ones) => Left::Sparse(ones.again()),
+                Left::Columns(bits) => Left::Columns(DenseBits { ..*bits }),
+                Left::Ones(bits) => Left::Ones(DenseBits { ..*bits }),
+                Left::Sparse(ones) => Left::Sparse(SparseOnes { ..*ones }),
             },
         }
     }
@@ -256,19 +256,6 @@ impl<'a> DenseBits<'a> {
             self.bit = 0;
         }
     }
-
-    // A copy of the columns that are left.
-    fn again(&self) -> DenseBits<'a>
-        ensures { result ≡ self.now }
-    {
-        DenseBits {
-            column: self.column,
-            end: self.end,
-            words: self.words,
-            word: self.word,
-            bit: self.bit,
-        }
-    }
 }
 
 // The number of zeros from a bit of a word on and before the next one, or before the word's end.
@@ -318,17 +305,5 @@ impl<'a> SparseOnes<'a> {
             }
         }
         None
-    }
-
-    // A copy of the ones that are left.
-    fn again(&self) -> SparseOnes<'a>
-        ensures { result ≡ self.now }
-    {
-        SparseOnes {
-            start: self.start,
-            end: self.end,
-            ones: self.ones,
-            columns: self.columns,
-        }
     }
 }

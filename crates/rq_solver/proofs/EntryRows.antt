@@ -15,6 +15,7 @@ use Rattle.rq_standard.specs.Rows.{row_sum, row_multiple}
 use Rattle.rq_bytes.specs.SymbolSlab.{Slab, after, slab_of, HasPlace, symbol_in, Allows}
 use Rattle.rq_parts.proofs.Rows.{times_one}
 use Rattle.rq_parts.specs.DenseOctetMatrix.{OctetTable, IsOctetRow, row_at, with_row}
+use Rattle.rq_solver.specs.declared.pi_solver.entries.InactiveEntries.TheInside.{Inside}
 use Rattle.rq_solver.specs.InactiveEntries.{AreEntries, IsNextEntry, row_of, rows_of, unpacked}
 use Rattle.rq_solver.proofs.UnpackedBits.{is_unpacked, unpacked_row, unpacked-sum, unpacked-zeros}
 
@@ -183,139 +184,155 @@ module _ (now table : OctetTable) (row : ℕ) (written : List ℕ) (is : table �
 
 -- ---- a row that is there
 
-module _ (width : ℕ) (bits : Slab) (owns : List (List ℕ)) (are : AreEntries width bits owns) (now : OctetTable) (seen : table_of width bits owns ≡ now) where
-  pub width_is : width ≡ now.width
+module _ (e : Inside) (are : AreEntries e.width e.bits e.octets.items) {now : OctetTable} (seen : table_of e.width e.bits e.octets.items ≡ now) where
+  pub width_is : e.width ≡ now.width
   width_is = ap (λ (t : OctetTable). t.width) seen
 
   module _ (row : ℕ) (there : row < length now.rows) where
-    pub in_symbols : row < length bits.values
-    in_symbols = omega (arith, length-rows width bits.values owns are.height, ap (λ (t : OctetTable). length t.rows) seen)
+    in_symbols : row < length e.bits.values
+    in_symbols = omega (arith, length-rows e.width e.bits.values e.octets.items are.height, ap (λ (t : OctetTable). length t.rows) seen)
 
-    pub in_owns : row < length owns
+    in_owns : row < length e.octets.items
     in_owns = omega (arith, in_symbols, are.height)
 
-    pub place : HasPlace bits row
-    place = rw are.order in_symbols
+    -- its place among the rows' own octets, and in the buffer of their bits
+    pub own_place : row < e.octets.len
+    own_place = omega (arith, e.octets.ok.0, in_owns)
 
-    pub read_is : symbol_in bits row ≡ get_or bits.values row []
-    read_is = ap (λ o. get_or bits.values (meant_at o row) []) are.order
+    pub bits_place : HasPlace e.bits row
+    bits_place = rw are.order in_symbols
 
-    pub row_now : row_at now row ≡ row_of width (get_or bits.values row []) (get_or owns row [])
-    row_now = ap (λ (t : OctetTable). row_at t row) (sym seen) ∙ row_is width bits owns are row in_symbols
+    pub read_is : symbol_in e.bits row ≡ get_or e.bits.values row []
+    read_is = ap (λ o. get_or e.bits.values (meant_at o row) []) are.order
 
-    pub row_long : length (row_at now row) ≡ width
-    row_long = ap length row_now ∙ (row_octets width bits owns are row in_symbols).0
+    row_now : row_at now row ≡ row_of e.width (get_or e.bits.values row []) (get_or e.octets.items row [])
+    row_now = ap (λ (t : OctetTable). row_at t row) (sym seen) ∙ row_is e.width e.bits e.octets.items are row in_symbols
+
+    pub row_long : length (row_at now row) ≡ e.width
+    row_long = ap length row_now ∙ (row_octets e.width e.bits e.octets.items are row in_symbols).0
 
     -- what is read of the row: its own octets and its bits
-    module _ (own : List ℕ) (own_is : own ≡ get_or owns row own) where
-      own_now : own ≡ get_or owns row []
-      own_now = get_or_read owns row own in_owns own_is []
+    module _ (own : List ℕ) (own_is : own ≡ get_or e.octets.items row own) where
+      own_now : own ≡ get_or e.octets.items row []
+      own_now = get_or_read e.octets.items row own in_owns own_is []
 
-      pub read_row : row_of width (symbol_in bits row) own ≡ row_at now row
-      read_row = ap (λ b. row_of width b own) read_is ∙ ap (row_of width (get_or bits.values row [])) own_now ∙ sym row_now
+      pub read_row : row_of e.width (symbol_in e.bits row) own ≡ row_at now row
+      read_row = ap (λ b. row_of e.width b own) read_is ∙ ap (row_of e.width (get_or e.bits.values row [])) own_now ∙ sym row_now
 
       pub own_octets : false ≡ (length own == 0) → own ≡ row_at now row
-      own_octets some = sym (row_of_some width (symbol_in bits row) own (some_if own some)) ∙ read_row
+      own_octets some = sym (row_of_some e.width (symbol_in e.bits row) own (some_if own some)) ∙ read_row
 
       pub own_long : false ≡ (length own == 0) → length own ≡ now.width
       own_long some = ap length (own_octets some) ∙ row_long ∙ width_is
 
-    -- other octets of the row
-    pub octets_set : (own : List ℕ) → IsOctetRow now.width own → AreEntries width bits (set owns row own)
-    octets_set own is =
-        let long : length own ≡ width = is.0 ∙ sym width_is in
-        owns_are width bits owns are row in_symbols own (rw (row_of_own width (get_or bits.values row []) own long) (subst (λ n. IsOctetRow n own) (sym width_is) is))
+      -- they are read again
+      module _ (again : List ℕ) (again_is : again ≡ get_or e.octets.items row again) (some : false ≡ (length own == 0)) where
+        pub again_octets : again ≡ row_at now row
+        again_octets = get_or_read e.octets.items row again in_owns again_is [] ∙ sym own_now ∙ own_octets some
 
-    pub octets_seen : (own : List ℕ) → length own ≡ now.width → table_of width bits (set owns row own) ≡ with_row now row own
+        pub again_long : length again ≡ now.width
+        again_long = ap length again_octets ∙ row_long ∙ width_is
+
+    -- other octets of the row
+    pub octets_set : (own : List ℕ) → IsOctetRow now.width own → AreEntries e.width e.bits (set e.octets.items row own)
+    octets_set own is =
+        let long : length own ≡ e.width = is.0 ∙ sym width_is in
+        owns_are e.width e.bits e.octets.items are row in_symbols own (rw (row_of_own e.width (get_or e.bits.values row []) own long) (subst (λ n. IsOctetRow n own) (sym width_is) is))
+
+    pub octets_seen : (own : List ℕ) → length own ≡ now.width → table_of e.width e.bits (set e.octets.items row own) ≡ with_row now row own
     octets_seen own long =
-        table_with_octets width bits owns are row in_symbols own
-        ∙ ap (with_row (table_of width bits owns) row) (row_of_own width (get_or bits.values row []) own (long ∙ sym width_is))
+        table_with_octets e.width e.bits e.octets.items are row in_symbols own
+        ∙ ap (with_row (table_of e.width e.bits e.octets.items) row) (row_of_own e.width (get_or e.bits.values row []) own (long ∙ sym width_is))
         ∙ ap (λ t. with_row t row own) seen
 
     -- they are taken out
-    pub octets_taken : (own : List ℕ) → own ≡ [] → AreEntries width bits (set owns row own)
-    octets_taken own none = rw none (owns_are width bits owns are row in_symbols [] (unpacked_row width (get_or bits.values row [])))
+    pub octets_taken : (own : List ℕ) → own ≡ [] → AreEntries e.width e.bits (set e.octets.items row own)
+    octets_taken own none = rw none (owns_are e.width e.bits e.octets.items are row in_symbols [] (unpacked_row e.width (get_or e.bits.values row [])))
 
-    pub octets_taken_seen : (own : List ℕ) → let table = table_of width bits (set owns row own) in table ≡ with_row now row (row_at table row)
+    pub octets_taken_seen : (own : List ℕ) → let table = table_of e.width e.bits (set e.octets.items row own) in table ≡ with_row now row (row_at table row)
     octets_taken_seen own =
-        let left = row_of width (get_or bits.values row []) own in
-        row_written now _ row left (table_with_octets width bits owns are row in_symbols own ∙ ap (λ t. with_row t row left) seen) there
+        let left = row_of e.width (get_or e.bits.values row []) own in
+        row_written now _ row left (table_with_octets e.width e.bits e.octets.items are row in_symbols own ∙ ap (λ t. with_row t row left) seen) there
 
     -- other bits of the row
-    module _ (own : List ℕ) (own_is : own ≡ get_or owns row own) (none : true ≡ (length own == 0)) where
-      no_octets : length (get_or owns row []) ≡ 0
-      no_octets = ap length (sym (get_or_read owns row own in_owns own_is [])) ∙ none_if own none
+    module _ (own : List ℕ) (own_is : own ≡ get_or e.octets.items row own) (none : true ≡ (length own == 0)) where
+      no_octets : length (get_or e.octets.items row []) ≡ 0
+      no_octets = ap length (sym (own_now own own_is)) ∙ none_if own none
 
-      pub bits_set : (symbol : List ℕ) → length symbol ≡ bits.symbol_size → AreEntries width (record bits { values = set bits.values row symbol }) owns
-      bits_set symbol long = bits_are width bits owns are row in_symbols symbol long (rw (row_of_none width symbol (get_or owns row []) no_octets) (unpacked_row width symbol))
+      pub row_unpacked : unpacked e.width (get_or e.bits.values row []) ≡ row_at now row
+      row_unpacked = sym (row_of_none e.width (get_or e.bits.values row []) (get_or e.octets.items row []) no_octets) ∙ sym row_now
 
-      pub bits_seen : (symbol : List ℕ) → length symbol ≡ bits.symbol_size → table_of width (record bits { values = set bits.values row symbol }) owns ≡ with_row now row (unpacked width symbol)
-      bits_seen symbol long =
-          table_with_bits width bits owns are row in_symbols symbol long
-          ∙ ap (with_row (table_of width bits owns) row) (row_of_none width symbol (get_or owns row []) no_octets)
-          ∙ ap (λ t. with_row t row (unpacked width symbol)) seen
+      module _ (symbol : List ℕ) (long : length symbol ≡ e.bits.symbol_size) where
+        pub bits_set : AreEntries e.width (record e.bits { values = set e.bits.values row symbol }) e.octets.items
+        bits_set = bits_are e.width e.bits e.octets.items are row in_symbols symbol long (rw (row_of_none e.width symbol (get_or e.octets.items row []) no_octets) (unpacked_row e.width symbol))
 
-      pub row_unpacked : unpacked width (get_or bits.values row []) ≡ row_at now row
-      row_unpacked = sym (row_of_none width (get_or bits.values row []) (get_or owns row []) no_octets) ∙ sym row_now
+        pub bits_seen : table_of e.width (record e.bits { values = set e.bits.values row symbol }) e.octets.items ≡ with_row now row (unpacked e.width symbol)
+        bits_seen =
+            table_with_bits e.width e.bits e.octets.items are row in_symbols symbol long
+            ∙ ap (with_row (table_of e.width e.bits e.octets.items) row) (row_of_none e.width symbol (get_or e.octets.items row []) no_octets)
+            ∙ ap (λ t. with_row t row (unpacked e.width symbol)) seen
 
-    pub row_elements : (i : ℕ) → i < length (row_at now row) → get_or (row_at now row) i 0 < 256
-    row_elements i l = (subst (IsOctetRow width) (sym row_now) (row_octets width bits owns are row in_symbols)).1 i 0 l
+        -- the same where the slab wrote them at the place that it keeps the row in
+        module _ (new : Slab) (new_is : new ≡ record e.bits { values = set e.bits.values (meant_at e.bits.order row) symbol }) where
+          write_is : new ≡ record e.bits { values = set e.bits.values row symbol }
+          write_is = new_is ∙ ap (λ o. record e.bits { values = set e.bits.values (meant_at o row) symbol }) are.order
 
-    -- two reads of the row's own octets
-    pub own_same : (own other : List ℕ) → own ≡ get_or owns row own → other ≡ get_or owns row other → own ≡ other
-    own_same own other own_is other_is = get_or_read owns row own in_owns own_is [] ∙ sym (get_or_read owns row other in_owns other_is [])
+          pub bits_written : AreEntries e.width new e.octets.items
+          bits_written = rw write_is bits_set
 
-    -- what a write through the slab's symbol sets
-    pub write_is : (symbol : List ℕ) → record bits { values = set bits.values (meant_at bits.order row) symbol } ≡ record bits { values = set bits.values row symbol }
-    write_is symbol = ap (λ o. record bits { values = set bits.values (meant_at o row) symbol }) are.order
+          pub bits_written_seen : table_of e.width new e.octets.items ≡ with_row now row (unpacked e.width symbol)
+          bits_written_seen = ap (λ (s : Slab). table_of e.width s e.octets.items) write_is ∙ bits_seen
+
+    row_elements : (i : ℕ) → i < length (row_at now row) → get_or (row_at now row) i 0 < 256
+    row_elements i l = (subst (IsOctetRow e.width) (sym row_now) (row_octets e.width e.bits e.octets.items are row in_symbols)).1 i 0 l
 
   module _ (dest src : ℕ) (in_dest : dest < length now.rows) (in_src : src < length now.rows) (two : dest ≢ src) where
-    pub allowed : Allows bits (AddAssign dest src)
-    allowed = rw are.order (in_symbols dest in_dest, in_symbols src in_src, (λ e. two (sym e)))
+    pub allowed : Allows e.bits (AddAssign dest src)
+    allowed = rw are.order (in_symbols dest in_dest, in_symbols src in_src, (λ same. two (sym same)))
 
     -- bits to which bits are added
-    module _ (own other : List ℕ) (own_is : own ≡ get_or owns dest own) (other_is : other ≡ get_or owns src other) (none : true ≡ (length own == 0)) (none_other : true ≡ (length other == 0))
-        (scalar : ℕ) (one : scalar ≡ 1) (new : Slab) (new_is : new ≡ after (AddAssign dest src) bits) where
+    module _ (own other : List ℕ) (own_is : own ≡ get_or e.octets.items dest own) (other_is : other ≡ get_or e.octets.items src other) (none : true ≡ (length own == 0)) (none_other : true ≡ (length other == 0))
+        (scalar : ℕ) (one : scalar ≡ 1) (new : Slab) (new_is : new ≡ after (AddAssign dest src) e.bits) where
       a : List ℕ
-      a = get_or bits.values dest []
+      a = get_or e.bits.values dest []
 
       b : List ℕ
-      b = get_or bits.values src []
+      b = get_or e.bits.values src []
 
-      long_a : length a ≡ bits.symbol_size
+      long_a : length a ≡ e.bits.symbol_size
       unfolding a
-      long_a = symbol_long width bits owns are dest (in_symbols dest in_dest)
+      long_a = symbol_long e.width e.bits e.octets.items are dest (in_symbols dest in_dest)
 
-      long_b : length b ≡ bits.symbol_size
+      long_b : length b ≡ e.bits.symbol_size
       unfolding b
-      long_b = symbol_long width bits owns are src (in_symbols src in_src)
+      long_b = symbol_long e.width e.bits e.octets.items are src (in_symbols src in_src)
 
-      long_sum : length (row_sum a b) ≡ bits.symbol_size
+      long_sum : length (row_sum a b) ≡ e.bits.symbol_size
       long_sum = length-zip2 bit_xor a b (long_a ∙ sym long_b) ∙ long_a
 
-      now_is : new ≡ record bits { values = set bits.values dest (row_sum a b) }
+      now_is : new ≡ record e.bits { values = set e.bits.values dest (row_sum a b) }
       unfolding a b
-      now_is = new_is ∙ slab_sum bits dest src are.order (long_b ∙ sym long_a)
+      now_is = new_is ∙ slab_sum e.bits dest src are.order (long_b ∙ sym long_a)
 
-      pub sum_are : AreEntries width new owns
+      pub sum_are : AreEntries e.width new e.octets.items
       sum_are = rw now_is (bits_set dest in_dest own own_is none (row_sum a b) long_sum)
 
-      unpacked_a : unpacked width a ≡ row_at now dest
+      unpacked_a : unpacked e.width a ≡ row_at now dest
       unfolding a
       unpacked_a = row_unpacked dest in_dest own own_is none
 
-      unpacked_b : unpacked width b ≡ row_at now src
+      unpacked_b : unpacked e.width b ≡ row_at now src
       unfolding b
       unpacked_b = row_unpacked src in_src other other_is none_other
 
-      pub sum_seen : table_of width new owns ≡ with_row now dest (row_sum (row_at now dest) (row_multiple scalar (row_at now src)))
+      pub sum_seen : table_of e.width new e.octets.items ≡ with_row now dest (row_sum (row_at now dest) (row_multiple scalar (row_at now src)))
       sum_seen =
           let room = are.room in
-          ap (λ (s : Slab). table_of width s owns) now_is
+          ap (λ (s : Slab). table_of e.width s e.octets.items) now_is
           ∙ bits_seen dest in_dest own own_is none (row_sum a b) long_sum
           ∙ ap (with_row now dest) (
-          unpacked-sum width a b (long_a ∙ sym long_b) (omega (arith, long_a))
-          ∙ ap (λ r. row_sum r (unpacked width b)) unpacked_a
+          unpacked-sum e.width a b (long_a ∙ sym long_b) (omega (arith, long_a))
+          ∙ ap (λ r. row_sum r (unpacked e.width b)) unpacked_a
           ∙ ap (row_sum (row_at now dest)) (unpacked_b ∙ sym (times_one (row_at now src) (row_elements src in_src)) ∙ ap (λ c. row_multiple c (row_at now src)) (sym one)))
 
 -- the next place where another row isn't 0, if it is the same before the end

@@ -66,7 +66,7 @@ module _ (reduced : List ℕ) (row start count : ℕ) where
               ∙ plus_own (now row (column t)) scalar (now (at reduced t) (column t)) small
               (v.rest m column units t (omega arith) inside ∙ shown ∙ ap (λ table. entry_of table row t) (sym v.records.table) ∙ sym scalar_is) (src_now (column t) ∙ one)
 
-      pub reduced_more : TakesReduced reduced row start count (t + 1) old new
+      reduced_more : TakesReduced reduced row start count (t + 1) old new
       unfolding now
       reduced_more = record {
         steps = v.steps ++ sum_step row (at reduced t) scalar ∷ [];
@@ -79,6 +79,11 @@ module _ (reduced : List ℕ) (row start count : ℕ) where
         ];
         rest = λ m column units f l n. next_zero m (column f) (other_zero m column units f n (omega arith)) ∙ v.rest m column units f (omega arith) n;
       }
+
+  -- the next column where the row isn't 0 gets its multiple
+  pub reduced_next : (t next : ℕ) → start ≤ next → t ≤ next → next < count → (old cur : Recorded) → TakesReduced reduced row start count t old cur → ((k : ℕ) → t ≤ k → k < next → entry_of cur.table row k ≡ 0)
+      → row ≢ at reduced next → (scalar : ℕ) → scalar < 256 → scalar ≡ entry_of cur.table row next → (new : Recorded) → Records (sum_step row (at reduced next) scalar ∷ []) cur new → TakesReduced reduced row start count (next + 1) old new
+  reduced_next t next from forward inside old cur v none = reduced_more next from inside old cur (reduced_zeros t next old cur v forward none)
 
 -- ---- rows in echelon form, the last first
 

@@ -1,12 +1,14 @@
 -- What a solver answers, from operations that find the column.
-use Rattle.std.proofs.Common.{◌≡◌, ◌<◌, ℕ, List, Option, None, Some, IfSome, IfOk, Result, Vec, Global, refl, sym, ap, ◌∙◌, subst, arith}
+use Rattle.std.proofs.Common.{◌≡◌, ◌<◌, ℕ, List, [], Option, None, Some, IfSome, IfOk, Result, Vec, Global, refl, sym, ap, ◌∙◌, subst, arith}
 use Rattle.rq_algebra.specs.Field.{Field}
+use Rattle.rq_algebra.specs.Following.{Follows}
 use Rattle.rq_algebra.specs.Systems.{HasHomogeneousColumn, at}
 use Rattle.rq_algebra.specs.Operations.{Operation, Reorder, Store, step, run, read, unordered, FindsColumn, found_by}
 use Rattle.rq_algebra.specs.Symbols.{symbols}
 use Rattle.rq_algebra.proofs.Solutions.{solves_same}
 use Rattle.rq_algebra.proofs.Runs.{run_push}
 use Rattle.rq_algebra.proofs.Found.{found_only, found_solves}
+use Rattle.rq_algebra.proofs.Pivots.{homogeneous_back}
 use Rattle.rq_standard.specs.OctetField.{octets}
 use Rattle.rq_bytes.specs.declared.error.Error.{Error}
 use Rattle.rq_bytes.specs.declared.operation_vector.SymbolOps.{SymbolOps}
@@ -30,15 +32,23 @@ module _ (F : Field) (height width : ℕ) (a b : ℕ → ℕ → ℕ) (same : Sa
     consistent = λ v e zeros. solves_same F height width a b _ (at v) (at v) same (λ i l. refl) (finds.consistent v e zeros);
   }
 
-  pub homogeneous_same : HasHomogeneousColumn F height width a → HasHomogeneousColumn F height width b
-  homogeneous_same null = record {
-    solves = solves_same F height width a b null.column (λ _. 0) (λ _. 0) same (λ i l. refl) null.solves;
-    column = null.column;
-    is_column = null.is_column;
-    index = null.index;
-    in_width = null.in_width;
-    nonzero = null.nonzero;
+  -- no operation is needed to get from one to the other
+  follows_same : Follows F height width b a []
+  unfolding run
+  follows_same = record {
+    allowed = tt;
+    keeps = λ v e. record {
+      values = e;
+      order = refl;
+      same = record {
+        onward = λ x s. solves_same F height width b a x (at v) (at v) (λ i k l m. sym (same i k l m)) (λ i l. refl) s;
+        back = λ x s. solves_same F height width a b x (at v) (at v) same (λ i l. refl) s;
+      };
+    };
   }
+
+  pub homogeneous_same : HasHomogeneousColumn F height width a → HasHomogeneousColumn F height width b
+  homogeneous_same null = homogeneous_back F height width b a [] follows_same null
 
 -- what is read in a slab after operations, where no order was set before
 pub symbol_in-after_all : (operations : List Operation) (handed : Slab) (k : ℕ) → handed.order ≡ None → symbol_in (after_all operations handed) k ≡ found_by (symbols octets) operations handed.values k

@@ -1,15 +1,17 @@
 -- Packed bits, and the octets that they are.
-use Rattle.std.proofs.Common.{◌++◌, true, false, cond, eqb, get_or, map, ◌≡◌, ◌≢◌, ℕ, ◌+◌, ◌-◌, ◌*◌, ◌/◌, ◌%◌, ◌^◌, ◌<◌, ◌≤◌, List, length, set, replicate, refl, sym, ap, ◌∙◌, arith, inl, inr, w8}
+use Rattle.std.proofs.Common.{◌++◌, true, false, eqb, get_or, map, ◌≡◌, ◌≢◌, ℕ, ◌+◌, ◌-◌, ◌*◌, ◌/◌, ◌%◌, ◌^◌, ◌<◌, ◌≤◌, List, length, set, replicate, refl, sym, ap, ◌∙◌, arith, inl, inr, w8}
 use Rattle.std.specs.Int.{bit_at, trailing_zeros}
 use Rattle.std.specs.Int.Bits.{bit_xor, bit_or, xor_zero_l}
 use Rattle.std.proofs.Math.Nat.{div-le_self}
-use Rattle.std.proofs.lemmas.Bool.{agree_below, agree_below_at, eqb-true, cases_eq, cases_lt, cond-true, cond-false, eq-eqb, ne_eqb}
+use Rattle.std.specs.Prelude.{Bool, nat_lt}
+use Rattle.std.specs.Bool.{then_some}
+use Rattle.std.proofs.lemmas.Bool.Decides.{nat_tests}
+use Rattle.std.proofs.lemmas.Bool.{agree_below, agree_below_at, eqb-true, cases_eq, cases_lt}
 use Rattle.std.proofs.lemmas.List.{ext_get_or, get_or-set_same, get_or-set_other, get_or-replicate, get_or_default, get_or_append_left, length-map, length-replicate, length-set}
 use Rattle.std.proofs.lemmas.List.Elements.{All-from_get_or}
 use Rattle.std.proofs.lemmas.List.FromFn.{length-map-range_with_len, get_or-map-range_with_len}
-use Rattle.std.proofs.lemmas.Nat.Bits.{bit_at-lt, bit_at-zero, bit_at_xor, bit_at_set_same, bit_at_set_other, bit_at_above, bit_at-trailing_zeros, and_pow}
-use Rattle.std.proofs.lemmas.Nat.{pow_pos}
-use Rattle.std.proofs.lemmas.Simd.{length-chunk, get_or-chunk, get_or-zip2, length-zip2, length-sel_l, get_or-sel_l}
+use Rattle.std.proofs.lemmas.Nat.Bits.{bit_at-lt, bit_at-zero, bit_at_xor, bit_at_set_same, bit_at_set_other, bit_at_above, bit_at-trailing_zeros}
+use Rattle.std.proofs.lemmas.Simd.{length-chunk, get_or-chunk, get_or-zip2, length-zip2}
 use lib.Bits.{bit_and}
 use lib.Lanes.{zip2, chunk, sel_l, pick_l}
 use Rattle.std.specs.List.{range_with_len}
@@ -17,12 +19,12 @@ use Rattle.std.proofs.Math.ListN.{get_or-map}
 use Rattle.rq_algebra.specs.Systems.{at}
 use Rattle.rq_standard.specs.Octets.{octet_mul}
 use Rattle.rq_standard.specs.OctetFacts.{one-mul}
-use Rattle.rq_standard.specs.OctetProducts.{mul-one, mul-zero}
 use Rattle.rq_solver.specs.declared.pi_solver.entries.packed_bits.TheConstants.{MASKS, PLACES}
 use Rattle.rq_standard.specs.Rows.{row_sum, row_multiple}
+use Rattle.rq_bytes.proofs.BitLanes.{masked}
 use Rattle.rq_parts.specs.DenseOctetMatrix.{IsOctetRow}
 use Rattle.rq_parts.proofs.BitPairs.{bit_at-shifted}
-use Rattle.rq_solver.specs.InactiveEntries.{bit_in, unpacked}
+use Rattle.rq_solver.specs.InactiveEntries.{IsNextEntry, bit_in, unpacked}
 
 map_at : (f : ℕ → ℕ) (xs : List ℕ) (k : ℕ) → k < length xs → at (map f xs) k ≡ f (at xs k)
 map_at f xs k l = get_or_default (map f xs) k 0 (f 0) (omega (arith, length-map xs f)) ∙ get_or-map f xs k 0
@@ -126,19 +128,6 @@ module _ (bits : List ℕ) (place : ℕ) (within : place / 8 < length bits) wher
 
 -- ---- multiples of bits
 
-bit_multiple : (scalar bit mask : ℕ) → bit < 2 → scalar < 256 → 0 < mask → cond (eqb (bit * mask) mask) scalar 0 ≡ octet_mul scalar bit
-bit_multiple scalar bit mask l m some = elim (cases_eq bit 0) [
-  | inl none ↦
-      ap (λ b. cond (eqb (b * mask) mask) scalar 0) none
-      ∙ cond-false (eqb (0 * mask) mask) scalar 0 (ne_eqb (0 * mask) mask (λ e. omega arith))
-      ∙ sym (ap (octet_mul scalar) none ∙ mul-zero scalar)
-  | inr more ↦
-      let one : bit ≡ 1 = omega arith in
-      ap (λ b. cond (eqb (b * mask) mask) scalar 0) one
-      ∙ cond-true (eqb (1 * mask) mask) scalar 0 (eq-eqb (1 * mask) mask (omega arith))
-      ∙ sym (ap (octet_mul scalar) one ∙ mul-one scalar m)
-]
-
 masks : agree_below (λ i. eqb (get_or MASKS i 0) (2 ^ (i % 8))) (λ _. true) 32 ≡ true
 masks = refl
 
@@ -161,28 +150,7 @@ pub masked_bits : (scalar : ℕ) (bits : List ℕ) → scalar < 256 → length b
     ≡ map (λ i. octet_mul scalar (bit_in bits i)) (range_with_len 0 32)
 masked_bits scalar bits small long =
     let v = pick_l 0 (bits ++ bits) PLACES in
-    let long_v : length v ≡ 32 = length-map PLACES (λ k. get_or (bits ++ bits) k 0) in
-    let met = zip2 bit_and v MASKS in
-    let long_met : length met ≡ 32 = length-zip2 bit_and v MASKS long_v ∙ long_v in
-    let tests = zip2 eqb met MASKS in
-    let long_tests : length tests ≡ 32 = length-zip2 eqb met MASKS long_met ∙ long_met in
-    let long_all = length-sel_l tests (replicate 32 scalar) (replicate 32 0) long_tests long_tests ∙ long_tests in
-    ext_get_or 0 (sel_l tests (replicate 32 scalar) (replicate 32 0)) (map (λ i. octet_mul scalar (bit_in bits i)) (range_with_len 0 32))
-    (long_all ∙ sym (length-map-range_with_len (λ i. octet_mul scalar (bit_in bits i)) 0 32))
-    (λ i under.
-    let lt : i < 32 = omega (arith, long_all) in
-    let k = i % 8 in
-    let x = at bits (i / 8) in
-    get_or-sel_l tests (replicate 32 scalar) (replicate 32 0) i 0 (omega arith) lt lt
-    ∙ ap (λ t. cond t (get_or (replicate 32 scalar) i 0) (get_or (replicate 32 0) i 0)) (get_or-zip2 eqb met MASKS i 0 0 false (omega arith) lt)
-    ∙ ap (λ m. cond (eqb m (at MASKS i)) (get_or (replicate 32 scalar) i 0) (get_or (replicate 32 0) i 0)) (get_or-zip2 bit_and v MASKS i 0 0 0 (omega arith) lt)
-    ∙ ap (λ y. cond (eqb (bit_and y (at MASKS i)) (at MASKS i)) (get_or (replicate 32 scalar) i 0) (get_or (replicate 32 0) i 0)) (repeated_at bits i long lt)
-    ∙ ap (λ p. cond (eqb (bit_and x p) p) (get_or (replicate 32 scalar) i 0) (get_or (replicate 32 0) i 0)) (mask_at i lt)
-    ∙ ap (λ m. cond (eqb m (2 ^ k)) (get_or (replicate 32 scalar) i 0) (get_or (replicate 32 0) i 0)) (and_pow x k)
-    ∙ ap (λ s. cond (eqb (bit_at x k * 2 ^ k) (2 ^ k)) s (get_or (replicate 32 0) i 0)) (get_or-replicate 32 i scalar 0 lt)
-    ∙ ap (cond (eqb (bit_at x k * 2 ^ k) (2 ^ k)) scalar) (get_or-replicate 32 i 0 0 lt)
-    ∙ bit_multiple scalar (bit_at x k) (2 ^ k) (bit_at-lt x k) small (pow_pos k)
-    ∙ sym (get_or-map-range_with_len (λ j. octet_mul scalar (bit_in bits j)) 0 32 i i 0 lt (omega arith)))
+    masked 32 scalar MASKS v (bit_in bits) small refl (length-map PLACES (λ k. get_or (bits ++ bits) k 0)) mask_at (λ i l. ap (λ x. bit_at x (i % 8)) (repeated_at bits i long l))
 
 -- those of a block of 32 bits are those of its four octets
 pub block_bits : (scalar n first : ℕ) (bits : List ℕ) → first % 32 ≡ 0 → first + 32 ≤ n → n ≤ 8 * length bits
@@ -275,3 +243,8 @@ module _ (bits : List ℕ) (place rest : ℕ) (rest_is : rest ≡ at bits (place
 -- zeros before a place, and from it on
 pub zeros_before_next : (bits : List ℕ) (from place end : ℕ) → ((k : ℕ) → from ≤ k → k < place → bit_in bits k ≡ 0) → ((k : ℕ) → place ≤ k → k < end → bit_in bits k ≡ 0) → (k : ℕ) → from ≤ k → k < end → bit_in bits k ≡ 0
 zeros_before_next bits from place end before behind k l m = elim (cases_lt k place) [ inl first ↦ before k l first | inr late ↦ behind k late m ]
+
+-- a bit that is set, and zeros before it: it is the next one where it is before the end, and else there is none
+pub next_if : (bits : List ℕ) (from end found : ℕ) (inside : Bool) → inside ≡ nat_lt found end → from ≤ found → bit_in bits found ≡ 1 → ((k : ℕ) → from ≤ k → k < found → bit_in bits k ≡ 0) → IsNextEntry (bit_in bits) from end (then_some inside found)
+next_if bits from end found true is after one zeros = let before : found < end = grind (arith, nat_tests, is) in (after, before, (λ none. omega (arith, none, one)), zeros)
+next_if bits from end found false is after one zeros = λ k l m. zeros k l (let past : end ≤ found = grind (arith, nat_tests, is) in omega arith)

@@ -188,7 +188,7 @@ impl InactiveEntries {
         requires { row < length self.now.rows }
         ensures octets { octets_of self.now.width result ≡ row_at self.now row }
         ensures width { HasWidth self.now.width result }
-        ensures near { self.now.width < 2 ^ 63 + 32 }
+        ensures fits { self.now.width < 2 ^ 63 + 32 }
     {
         let own = &self.octets[row];
         if own.is_none() {

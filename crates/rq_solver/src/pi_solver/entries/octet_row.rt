@@ -140,21 +140,12 @@ impl OctetRow {
         ensures sum { self.new ≡ row_sum self.old (row_multiple scalar.now (octets_of (length self.old) row.entry)) }
         ensures octets { IsOctetRow (length self.old) self.new }
     {
-        add_row_multiple(self.octets.as_mut_slice(), row, scalar);
+        let sum = self.octets.as_mut_slice();
+        match row {
+            EntryRow::Octets(row) => add_multiple(sum, row.octets.as_slice(), scalar),
+            EntryRow::Bits(bits) => add_bits(sum, bits, scalar.byte()),
+        }
         are_octets(self.octets.as_slice());
-    }
-}
-
-// Adds a multiple of a row to octets that need not be a row's.
-#[inline(always)]
-fn add_row_multiple(sum: &mut [u8], row: EntryRow, scalar: &Octet)
-    requires whole { length sum.old % 32 ≡ 0 }
-    requires width { HasWidth (length sum.old) row }
-    ensures { sum.new ≡ row_sum sum.old (row_multiple scalar.now (octets_of (length sum.old) row.entry)) }
-{
-    match row {
-        EntryRow::Octets(row) => add_multiple(sum, row.octets.as_slice(), scalar),
-        EntryRow::Bits(bits) => add_bits(sum, bits, scalar.byte()),
     }
 }
 

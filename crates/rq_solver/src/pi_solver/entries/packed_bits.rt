@@ -49,7 +49,7 @@ pub(super) fn next_one(bits: &[u8], from: usize, end: usize) -> Option<usize>
         let rest = bits[place / 8] >> (place % 8);
         if rest != 0 {
             let found = place + rest.trailing_zeros() as usize;
-            return if found < end { Some(found) } else { None };
+            return (found < end).then_some(found);
         }
         place += 8 - place % 8;
     }

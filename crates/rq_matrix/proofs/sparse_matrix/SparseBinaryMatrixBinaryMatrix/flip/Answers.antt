@@ -1,33 +1,23 @@
 -- What the check leaves to show of `sparse_matrix::SparseBinaryMatrix::flip`.
-use Rattle.std.proofs.Common.{◌≡◌, ◌<◌, ℕ, List, false, [], get_or, length, set, refl, sym, ap, subst, ◌∙◌, inl, inr, arith, length-set}
+use Rattle.std.proofs.Common.{◌≡◌, ◌<◌, ℕ, List, false, [], get_or, length, sym, ap, subst, ◌∙◌, inl, inr, arith}
 use Rattle.std.specs.Int.Bits.{bit_xor}
 use Rattle.std.specs.Option.{is_some}
 use Rattle.std.proofs.lemmas.List.{get_or_read}
-use Rattle.std.proofs.lemmas.List.Elements.{All-set}
 use Rattle.rq_parts.specs.SparseBinaryVec.{listed_bit, SetsListed}
 use Rattle.rq_matrix.specs.SparseBinaryMatrix.{sparse_bit}
-use Rattle.rq_matrix.specs.SparseRows.{IsSparseRow}
 use Rattle.rq_matrix.specs.SparseTables.{bit-before}
-use Rattle.rq_matrix.proofs.SparseRowLaws.{row_set}
 use Rattle.rq_matrix.proofs.SparseMatrixLaws.{sets_listed}
-use Rattle.rq_matrix.proofs.StoredRows.{with_rows}
+use Rattle.rq_matrix.proofs.StoredRows.{with_row_set}
 use Rattle.rq_matrix.proofs.sparse_matrix.SparseBinaryMatrixBinaryMatrix.flip.Goals as goal
 
 pub invariant_of-self : goal.invariant_of-self
 invariant_of-self c =
     let old = c.args.self.now in
-    let rows = old.rows.items in
-    let row = c.stored_row-row.result in
-    let new = c.flip.new.self in
     let column = c.from-column.result in
-    let columns = length old.column_order.order in
-    let in_rows = c.stored_row-row.ensures.below in
-    let in_columns : column < columns = omega (arith, c.from-column.ensures, c.stored_column.ensures.below) in
-    let read = get_or_read rows row c.index_mut.result.now in_rows c.index_mut.ensures.value [] in
-    let was = subst (IsSparseRow columns) (sym read) (old.sparse row [] in_rows) in
-    let now = row_set columns c.index_mut.result.now new column (bit_xor (listed_bit c.index_mut.result.now column) 1) c.flip.result was in_columns c.flip.ensures.ok c.flip.ensures.refused c.flip.ensures.increasing in
     let off : is_some old.index ≡ false = elim c.requires.settable [ inl off ↦ off | inr from ↦ absurd (omega (arith, c.if-j-self.false)) ] in
-    with_rows old (set rows row new) old.tail off (sym (length-set rows row new)) (All-set (IsSparseRow columns) rows row new now old.sparse) refl refl
+    let in_columns : column < length old.column_order.order = omega (arith, c.from-column.ensures, c.stored_column.ensures.below) in
+    with_row_set old off c.stored_row-row.result c.stored_row-row.ensures.below c.index_mut.result.now c.flip.new.self c.index_mut.ensures.value column (bit_xor (listed_bit c.index_mut.result.now column) 1) c.flip.result in_columns
+    c.flip.ensures.ok c.flip.ensures.refused c.flip.ensures.increasing
 
 pub returns-clause-ok : goal.returns-clause-ok
 returns-clause-ok c =

@@ -1,15 +1,12 @@
 -- What the check leaves to show of `sparse_matrix::SparseBinaryMatrix::set`.
-use Rattle.std.proofs.Common.{◌≡◌, ◌<◌, ◌==◌, ℕ, Bool, false, not, [], length, set, refl, sym, ap, subst, ◌∙◌, inl, inr, arith, length-set, if◌then◌else◌}
+use Rattle.std.proofs.Common.{◌≡◌, ◌<◌, ◌==◌, ℕ, Bool, false, not, [], length, sym, ap, subst, ◌∙◌, inl, inr, arith, if◌then◌else◌}
 use Rattle.std.specs.Option.{is_some}
 use Rattle.std.proofs.lemmas.List.{get_or_read}
-use Rattle.std.proofs.lemmas.List.Elements.{All-set}
 use Rattle.std.proofs.lemmas.Bool.Decides.{eqb_tells}
 use Rattle.rq_standard.specs.BitTableSteps.{bit_of}
 use Rattle.rq_parts.specs.SparseBinaryVec.{SetsListed}
-use Rattle.rq_matrix.specs.SparseRows.{IsSparseRow}
-use Rattle.rq_matrix.proofs.SparseRowLaws.{row_set}
 use Rattle.rq_matrix.proofs.SparseMatrixLaws.{sets_listed, sets_tail}
-use Rattle.rq_matrix.proofs.StoredRows.{with_rows}
+use Rattle.rq_matrix.proofs.StoredRows.{with_row_set}
 use Rattle.rq_matrix.proofs.sparse_matrix.SparseBinaryMatrixBinaryMatrix.set.Goals as goal
 
 -- not zero is one
@@ -22,17 +19,10 @@ bit_is octet none ne is same =
 pub invariant_of-self : goal.invariant_of-self
 invariant_of-self c =
     let old = c.args.self.now in
-    let rows = old.rows.items in
-    let row = c.stored_row-row.result in
-    let new = c.insert.new.self in
-    let columns = length old.column_order.order in
-    let in_rows = c.stored_row-row.ensures.below in
-    let in_columns : c.from-column.result < columns = omega (arith, c.from-column.ensures, c.stored_column.ensures.below) in
-    let read = get_or_read rows row c.index_mut.result.now in_rows c.index_mut.ensures.value [] in
-    let was = subst (IsSparseRow columns) (sym read) (old.sparse row [] in_rows) in
-    let now = row_set columns c.index_mut.result.now new c.from-column.result c.args.value c.insert.result was in_columns c.insert.ensures.ok c.insert.ensures.refused c.insert.ensures.increasing in
     let off : is_some old.index ≡ false = elim c.requires.settable [ inl off ↦ off | inr from ↦ absurd (omega (arith, c.if-j-self.true)) ] in
-    with_rows old (set rows row new) old.tail off (sym (length-set rows row new)) (All-set (IsSparseRow columns) rows row new now old.sparse) refl refl
+    let in_columns : c.from-column.result < length old.column_order.order = omega (arith, c.from-column.ensures, c.stored_column.ensures.below) in
+    with_row_set old off c.stored_row-row.result c.stored_row-row.ensures.below c.index_mut.result.now c.insert.new.self c.index_mut.ensures.value c.from-column.result c.args.value c.insert.result in_columns
+    c.insert.ensures.ok c.insert.ensures.refused c.insert.ensures.increasing
 
 pub returns-in_ok-insert-clause-ok : goal.returns-in_ok-insert-clause-ok
 returns-in_ok-insert-clause-ok c =
