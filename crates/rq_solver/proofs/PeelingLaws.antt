@@ -100,7 +100,7 @@ module _ (lists : List (List ℕ)) (rows : List ℕ) (old new : ColumnState) (co
   }
 
 -- when no more rows are taken
-pub peeled_all : (lists : List (List ℕ)) (rows : List ℕ) (state : ColumnState) (width : ℕ) → IsPeeledSo lists rows state → state.pivots ≤ width → IsOrderOf width state.order state.places → IsPeeled width lists rows state.order state.places
+pub peeled_all : (lists : List (List ℕ)) (rows : List ℕ) (state : ColumnState) (width : ℕ) → IsPeeledSo lists rows state → state.pivots ≤ width → IsOrderOf width state.order state.places → IsPeeled width lists (record { rows = rows; order = state.order; places = state.places })
 peeled_all lists rows state width so few columns = record {
   few = omega (arith, so.count);
   in_rows = so.in_rows;

@@ -33,13 +33,19 @@ pub record IsOrderOf (width : ℕ) (order places : List ℕ) : Type 0 where
   pub ordered : (j : ℕ) → j < width → (at order j < width) × (at places (at order j) ≡ j)
   pub placed : (k : ℕ) → k < width → (at places k < width) × (at order (at places k) ≡ k)
 
--- Row `rows p` has a one in the column at place p of the order, and none in those of later pivots. The columns after the pivots' are inactive.
-pub record IsPeeled (width : ℕ) (lists : List (List ℕ)) (rows order places : List ℕ) : Type 0 where
-  pub few : length rows ≤ width
-  pub in_rows : ArePlaces (length rows) (length lists) (at rows)
-  pub columns : IsOrderOf width order places
-  pub own : (p : ℕ) → p < length rows → Contains (ones_of lists (at rows p)) (at order p)
-  pub later : (p q : ℕ) → p < q → q < length rows → Contains (ones_of lists (at rows p)) (at order q) → ⊥
+-- the rows that have pivots, in the order in which they were chosen; the columns in an order, those with pivots first and in the same order; and the place of each column in it
+pub record Pivots : Type 0 where
+  pub rows : List ℕ
+  pub order : List ℕ
+  pub places : List ℕ
+
+-- Pivot p's row has a one in the column at place p of the order, and none in those of later pivots. The columns after the pivots' are inactive.
+pub record IsPeeled (width : ℕ) (lists : List (List ℕ)) (pivots : Pivots) : Type 0 where
+  pub few : length pivots.rows ≤ width
+  pub in_rows : ArePlaces (length pivots.rows) (length lists) (at pivots.rows)
+  pub columns : IsOrderOf width pivots.order pivots.places
+  pub own : (p : ℕ) → p < length pivots.rows → Contains (ones_of lists (at pivots.rows p)) (at pivots.order p)
+  pub later : (p q : ℕ) → p < q → q < length pivots.rows → Contains (ones_of lists (at pivots.rows p)) (at pivots.order q) → ⊥
 
 -- ---- on the way
 

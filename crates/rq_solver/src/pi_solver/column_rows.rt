@@ -1,5 +1,6 @@
 //! The rows that have ones in a column.
 ghost use Rattle.std.specs.Prelude.{◌≡◌, ◌<◌, length, All, IfSome, IfOk, IfErr};
+ghost use Rattle.rq_algebra.specs.Systems.{at};
 ghost use Rattle.rq_bytes.specs.declared.error.Error.TheVariants.{OutOfMemory};
 
 use crate::pi_solver::degrees::RowDegrees;
@@ -81,8 +82,8 @@ impl ColumnRows {
     /// Each row that has a one in a column has one active column less.
     pub(super) fn lower_rows(&self, column: usize, degrees: &mut RowDegrees) -> Result<(), Error>
         requires column { column < self.now.columns }
-        requires rows { self.now.rows ≡ degrees.old }
-        ensures rows { degrees.new ≡ degrees.old }
+        requires rows { self.now.rows ≡ length degrees.old }
+        ensures rows { length degrees.new ≡ length degrees.old }
         ensures err { IfErr result (λ e. e ≡ OutOfMemory) }
     {
         for row in self.rows_of(column) {
@@ -94,8 +95,8 @@ impl ColumnRows {
     /// A row that has a one in a column and has two active columns.
     pub(super) fn row_of_two(&self, column: usize, degrees: &RowDegrees) -> Option<usize>
         requires column { column < self.now.columns }
-        requires rows { self.now.rows ≡ degrees.now }
-        ensures { IfSome result (λ row. row < degrees.now) }
+        requires rows { self.now.rows ≡ length degrees.now }
+        ensures { IfSome result (λ row. (row < length degrees.now) × (at degrees.now row ≡ 2)) }
     {
         for row in self.rows_of(column) {
             if degrees.degree(*row) == 2 {

@@ -6,6 +6,6 @@ use Rattle.rq_solver.proofs.pi_solver.peeling.inactivate_columns.Given as goal
 abbrev pub invariant-loop-column : goal.invariant-loop-column
 invariant-loop-column l = record {
   inactive : InactivatesRow (take l.column-index l.row) l.fn.columns l.columns;
-  degrees : l.degrees ≡ l.fn.degrees;
+  degrees : length l.degrees ≡ length l.fn.degrees;
   graph : length l.graph.labels ≡ l.nodes;
 }

@@ -26,7 +26,7 @@ pub loop-preserved : goal.loop-preserved
 loop-preserved c =
     let v = c.loop.invariant in
     let lists = c.args.ones.now in
-    let degrees = c.take_row.ensures.degrees ∙ c.next_row-next.ensures.rows ∙ v.degrees in
+    let degrees = c.take_row.ensures.degrees ∙ ap length c.next_row-next.ensures.degrees ∙ v.degrees in
     elim c.if-taken.branch [
       | then-taken+in_ok-push w ↦
           let takes : TakesRow (ones_of lists c.in-Some.row) c.loop.columns c.take_row.new.columns = rw (sym c.row.ensures) (c.in_ok-taken.ensures.taken w.if-taken.true) in
@@ -34,7 +34,7 @@ loop-preserved c =
           let rows : c.if-taken.rows.items ≡ c.loop.rows.items ++ c.in-Some.row ∷ [] = ap (λ (v : Vec ℕ Global). v.items) w.rows-is ∙ w.in_ok-push.ensures.items in
           rw rows
           (record {
-            so = peeled_next lists c.loop.rows.items c.loop.columns c.take_row.new.columns columns v.so c.in-Some.row (omega (arith, c.in-Some.ensures.row, v.degrees)) takes;
+            so = peeled_next lists c.loop.rows.items c.loop.columns c.take_row.new.columns columns v.so c.in-Some.row (omega (arith, c.in-Some.ensures.least.below, v.degrees)) takes;
             width = takes.width ∙ v.width;
             degrees = degrees;
             graph = c.take_row.ensures.graph;

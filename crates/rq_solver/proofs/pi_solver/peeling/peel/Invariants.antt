@@ -7,6 +7,6 @@ abbrev pub invariant-loop : goal.invariant-loop
 invariant-loop l = record {
   so : IsPeeledSo l.ones l.rows.items l.columns;
   width : length l.columns.order ≡ l.width;
-  degrees : l.degrees ≡ length l.ones;
+  degrees : length l.degrees ≡ length l.ones;
   graph : length l.graph.labels ≡ l.nodes;
 }
