@@ -1,5 +1,6 @@
 pub mod BitRows
 pub mod ColumnLaws
+pub mod ColumnPlacing
 pub mod CountLaws
 pub mod DegreeLists
 pub mod Entries

@@ -1,5 +1,5 @@
 -- How many active columns rows have, while pivots are chosen.
-use Rattle.std.specs.Prelude.{◌≡◌, ◌≢◌, ℕ, ◌<◌, ◌∷◌, ◌++◌, ◌⊎◌, [], List, All, Contains, count_by, length, nat_lt}
+use Rattle.std.specs.Prelude.{◌≡◌, ◌≢◌, ℕ, ◌-◌, ◌<◌, ◌==◌, ◌∷◌, ◌++◌, ◌⊎◌, [], List, All, Contains, count_by, length, nat_lt}
 use Rattle.rq_algebra.specs.Systems.{at}
 use Rattle.rq_solver.specs.FirstPhaseRowSelectionStats.{HasLeastOnes}
 use Rattle.rq_solver.specs.Peeled.{ones_of}
@@ -19,6 +19,10 @@ NoneHas degree degrees = (row : ℕ) → row < length degrees → at degrees row
 -- each row has degree 0
 abbrev pub AllHaveNone : List ℕ → Type 0
 AllHaveNone degrees = (row : ℕ) → row < length degrees → at degrees row ≡ 0
+
+-- each row has one less for each time that it is among these rows
+abbrev pub LowersRows : List ℕ → List ℕ → List ℕ → Type 0
+LowersRows rows old new = (row : ℕ) → row < length old → at new row ≡ at old row - count_by (λ r. r == row) rows
 
 -- rows of these degrees are listed, and among the first of them each that has degree 1
 pub record AreListed (degrees singles pairs : List ℕ) : Type 0 where

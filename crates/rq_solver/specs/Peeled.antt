@@ -106,8 +106,3 @@ pub record TakesRow (row : List ℕ) (old new : ColumnState) : Type 0 where
   pub before : (p : ℕ) → p < old.pivots → at new.order p ≡ at old.order p
   pub left : (k : ℕ) → k < length old.order → IsActive new k → IsActive old k
   pub ended : HasNoActive row new
-
--- so many rows and columns
-pub record Size : Type 0 where
-  pub rows : ℕ
-  pub columns : ℕ

@@ -20,7 +20,8 @@ pub(super) fn next_row(
     graph: &mut ConnectedComponentGraph,
 ) -> Option<usize>
     requires columns { All (λ row. All (λ column. column < length columns.now.order) row) ones.now }
-    requires column_rows { column_rows.now ≡ record { rows = length degrees.old; columns = length columns.now.order } }
+    requires height { column_rows.now.height ≡ length degrees.old }
+    requires width { length column_rows.now.lists ≡ length columns.now.order }
     requires rows { length degrees.old ≡ length ones.now }
     requires nodes { nodes ≤ length columns.now.order }
     requires graph { length graph.old.labels ≡ nodes }

@@ -166,7 +166,8 @@ fn take_row(
     columns: &mut ColumnOrder,
 ) -> Result<bool, Error>
     requires columns { All (λ column. column < length columns.old.order) row.now }
-    requires column_rows { column_rows.now ≡ record { rows = length degrees.old; columns = length columns.old.order } }
+    requires height { column_rows.now.height ≡ length degrees.old }
+    requires width { length column_rows.now.lists ≡ length columns.old.order }
     requires graph { length graph.old.labels ≡ nodes }
     ensures taken { IfOk result (λ taken. IsTrue taken → TakesRow row.now columns.old columns.new) }
     ensures left { IfOk result (λ taken. (taken ≡ false) → columns.new ≡ columns.old) }
@@ -210,7 +211,8 @@ fn inactivate_columns(
     columns: &mut ColumnOrder,
 ) -> Result<(), Error>
     requires columns { All (λ column. column < length columns.old.order) row.now }
-    requires column_rows { column_rows.now ≡ record { rows = length degrees.old; columns = length columns.old.order } }
+    requires height { column_rows.now.height ≡ length degrees.old }
+    requires width { length column_rows.now.lists ≡ length columns.old.order }
     requires graph { length graph.old.labels ≡ nodes }
     ensures inactive { OnOk result (InactivatesRow row.now columns.old columns.new) }
     ensures degrees { length degrees.new ≡ length degrees.old }

@@ -1,5 +1,5 @@
 -- What the check leaves to show of `pi_solver::degrees::RowDegrees::lower`.
-use Rattle.std.proofs.Common.{◌<◌, length, ap, arith}
+use Rattle.std.proofs.Common.{length, ap, arith}
 use Rattle.rq_solver.specs.Degrees.{AreListed}
 use Rattle.rq_solver.proofs.DegreeLists.{listed_added, listed_set}
 use Rattle.rq_solver.proofs.pi_solver.degrees.RowDegrees.lower.Goals as goal

@@ -1,5 +1,5 @@
 -- What the check leaves to show of `pi_solver::first_phase::inactive::fill_bits`.
-use Rattle.std.proofs.Common.{◌≡◌, ◌+◌, ◌-◌, ◌<◌, ◌≤◌, lit<, ℕ, length, sym, ◌∙◌, arith}
+use Rattle.std.proofs.Common.{◌≡◌, ◌+◌, ◌-◌, ◌<◌, ◌≤◌, lit<, ℕ, length, sym, arith}
 use Rattle.rq_algebra.specs.Systems.{at}
 use Rattle.rq_solver.proofs.TailWrites.{ones_none, ones_skipped, ones_more}
 use Rattle.rq_solver.proofs.PivotTurns.{columns_of_row}
