@@ -1,3 +1,4 @@
+pub mod ActiveOnes
 pub mod BitRows
 pub mod ColumnLaws
 pub mod ColumnPlacing

@@ -83,11 +83,13 @@ pub record ExchangesColumns (p q : ℕ) (old new : ColumnState) : Type 0 where
   pub pivots : new.pivots ≡ old.pivots
   pub end : new.end ≡ old.end
 
--- a column isn't active any more, others that weren't still aren't, and the pivots stay
+-- a column isn't active any more, others are as they were, and the pivots stay
 pub record EndsActive (column : ℕ) (old new : ColumnState) : Type 0 where
   pub width : length new.order ≡ length old.order
   pub before : (p : ℕ) → p < old.pivots → at new.order p ≡ at old.order p
   pub left : (k : ℕ) → k < length old.order → IsActive new k → IsActive old k × (k ≢ column)
+  pub kept : (k : ℕ) → k < length old.order → IsActive old k → k ≢ column → IsActive new k
+  pub fewer : new.end ≤ old.end
 
 -- none of a row's columns is active any more, and no column has another pivot
 pub record InactivatesRow (row : List ℕ) (old new : ColumnState) : Type 0 where
@@ -95,6 +97,8 @@ pub record InactivatesRow (row : List ℕ) (old new : ColumnState) : Type 0 wher
   pub pivots : new.pivots ≡ old.pivots
   pub before : (p : ℕ) → p < old.pivots → at new.order p ≡ at old.order p
   pub left : (k : ℕ) → k < length old.order → IsActive new k → IsActive old k
+  pub kept : (k : ℕ) → k < length old.order → IsActive old k → (Contains row k → ⊥) → IsActive new k
+  pub fewer : new.end ≤ old.end
   pub ended : HasNoActive row new
 
 -- A row has the next pivot, in one of its columns that were active. None of its columns is active any more.
@@ -105,4 +109,6 @@ pub record TakesRow (row : List ℕ) (old new : ColumnState) : Type 0 where
   pub was : IsActive old (at new.order old.pivots)
   pub before : (p : ℕ) → p < old.pivots → at new.order p ≡ at old.order p
   pub left : (k : ℕ) → k < length old.order → IsActive new k → IsActive old k
+  pub kept : (k : ℕ) → k < length old.order → IsActive old k → (Contains row k → ⊥) → IsActive new k
+  pub fewer : new.end ≤ old.end
   pub ended : HasNoActive row new

@@ -2,6 +2,7 @@
 ghost use Rattle.std.specs.Prelude.{◌≡◌, false, ◌<◌, ◌≤◌, ◌+◌, length, All, Contains, IsTrue, IfSome, IfNone, OnOk, IfOk, IfErr};
 ghost use Rattle.rq_bytes.specs.declared.error.Error.TheVariants.{OutOfMemory};
 ghost use Rattle.rq_algebra.specs.Systems.{at};
+ghost use Rattle.rq_solver.specs.Degrees.{KeepsDegrees, TakesFewest};
 ghost use Rattle.rq_solver.specs.Peeled.{IsPeeled, IsActive, HasNoActive, TakesRow, InactivatesRow};
 
 use crate::pi_solver::column_rows::ColumnRows;
@@ -115,6 +116,7 @@ pub(super) fn peel(
     requires columns { All (λ row. All (λ column. column < width) row) ones.now }
     requires boundary { boundary ≤ width }
     ensures peeled { IfOk result (IsPeeled width ones.now) }
+    ensures fewest { IfOk result (λ peeling. TakesFewest ones.now boundary peeling.rows) }
     ensures err { IfErr result (λ e. e ≡ OutOfMemory) }
 {
     let column_rows = ColumnRows::of_rows(alloc, ones, width)?;
@@ -123,7 +125,7 @@ pub(super) fn peel(
     let nodes = boundary.min(MOST_NODES);
     let mut graph = ConnectedComponentGraph::new(alloc, nodes)?;
     let mut rows = Vec::with_capacity(alloc, boundary)?;
-    for _ in 0..boundary {
+    for turn in 0..boundary {
         let next = next_row(
             ones,
             &column_rows,
@@ -172,6 +174,7 @@ fn take_row(
     ensures taken { IfOk result (λ taken. IsTrue taken → TakesRow row.now columns.old columns.new) }
     ensures left { IfOk result (λ taken. (taken ≡ false) → columns.new ≡ columns.old) }
     ensures none { IfOk result (λ taken. (taken ≡ false) → HasNoActive row.now columns.old) }
+    ensures counted { OnOk result (KeepsDegrees column_rows.now columns.old columns.new degrees.old degrees.new) }
     ensures degrees { length degrees.new ≡ length degrees.old }
     ensures graph { length graph.new.labels ≡ nodes }
     ensures err { IfErr result (λ e. e ≡ OutOfMemory) }
@@ -215,6 +218,7 @@ fn inactivate_columns(
     requires width { length column_rows.now.lists ≡ length columns.old.order }
     requires graph { length graph.old.labels ≡ nodes }
     ensures inactive { OnOk result (InactivatesRow row.now columns.old columns.new) }
+    ensures counted { OnOk result (KeepsDegrees column_rows.now columns.old columns.new degrees.old degrees.new) }
     ensures degrees { length degrees.new ≡ length degrees.old }
     ensures graph { length graph.new.labels ≡ nodes }
     ensures err { IfErr result (λ e. e ≡ OutOfMemory) }
