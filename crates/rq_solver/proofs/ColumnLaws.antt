@@ -86,14 +86,14 @@ module _ (old : ColumnState) (state : IsColumnState old) (p q first second : ℕ
 
 -- ---- a column that isn't active any more
 
-module _ (column place other : ℕ) (old mid new : ColumnState) (active : IsActive old column) (here : at old.places column ≡ place) (ex : ExchangesColumns place other old mid) (few : old.pivots ≤ other) (below : other < old.end) (within : old.end ≤ length old.order) where
+module _ (column place other : ℕ) (old mid new : ColumnState) (state : IsColumnState old) (inside : column < length old.order) (active : IsActive old column) (here : at old.places column ≡ place) (ex : ExchangesColumns place other old mid) (few : old.pivots ≤ other) (below : other < old.end) where
   place_apart : (k : ℕ) → at old.places k ≢ place → k ≢ column
   place_apart k d e = d (ap (at old.places) e ∙ here)
 
   before_kept : (p : ℕ) → p < old.pivots → at mid.order p ≡ at old.order p
   before_kept p l =
       let from = active.from in
-      ex.order p (omega arith) ∙ ap (at old.order) (exchange_other place other p (λ e. omega (arith, e, here, from)) (λ e. omega (arith, e)))
+      ex.order p (omega (arith, state.within)) ∙ ap (at old.order) (exchange_other place other p (λ e. omega (arith, e, here, from)) (λ e. omega (arith, e)))
 
   -- the others that were active are where they were, but for the one that took the column's place
   left_of : (k : ℕ) → k < length old.order → at mid.places k ≢ other → old.pivots ≤ at mid.places k → at mid.places k < old.end → IsActive old k × (k ≢ column)
@@ -109,17 +109,42 @@ module _ (column place other : ℕ) (old mid new : ColumnState) (active : IsActi
             ]
       ]
 
+  -- another column stands elsewhere
+  place_other : (k : ℕ) → k < length old.order → k ≢ column → at old.places k ≢ place
+  place_other k l d e = d (sym (state.columns.placed k l).1 ∙ ap (at old.order) (e ∙ sym here) ∙ (state.columns.placed column inside).1)
+
+  -- and where it was active, it stands at an active place that isn't given up
+  stays : (k : ℕ) → k < length old.order → IsActive old k → k ≢ column → (at mid.places k ≢ other) × (old.pivots ≤ at mid.places k) × (at mid.places k < old.end)
+  stays k l was d =
+      let apart = place_other k l d in
+      let first = active.from in
+      let last = active.below in
+      elim (cases_eq (at old.places k) other) [
+        | inl e ↦
+            let moved : at mid.places k ≡ place = ex.places k l ∙ exchange_right place other (at old.places k) e in
+            ((λ f. apart (e ∙ sym f ∙ moved)), omega (arith, moved, here, first), omega (arith, moved, here, last))
+        | inr f ↦
+            let same : at mid.places k ≡ at old.places k = ex.places k l ∙ exchange_other place other (at old.places k) apart f in
+            ((λ g. f (sym same ∙ g)), rw same was.from, rw same was.below)
+      ]
+
   -- the active places are fewer by that one
-  ends : (pivots end : ℕ) → ((x : ℕ) → pivots ≤ x → x < end → (x ≢ other) × (old.pivots ≤ x) × (x < old.end)) → new ≡ record mid { pivots = pivots; end = end } → EndsActive column old new
-  ends pivots end inner is = rw is (record { width = ex.width; before = before_kept; left = λ k l still. let i = inner (at mid.places k) still.from still.below in left_of k l i.0 i.1 i.2 })
+  ends : (pivots end : ℕ) → ((x : ℕ) → pivots ≤ x → x < end → (x ≢ other) × (old.pivots ≤ x) × (x < old.end)) → ((x : ℕ) → x ≢ other → old.pivots ≤ x → x < old.end → (pivots ≤ x) × (x < end)) → end ≤ old.end → new ≡ record mid { pivots = pivots; end = end } → EndsActive column old new
+  ends pivots end inner outer fewer is = rw is (record {
+    width = ex.width;
+    before = before_kept;
+    left = λ k l still. let i = inner (at mid.places k) still.from still.below in left_of k l i.0 i.1 i.2;
+    kept = λ k l was d. let s = stays k l was d in let o = outer (at mid.places k) s.0 s.1 s.2 in record { from = o.0; below = o.1 };
+    fewer = fewer;
+  })
 
   -- the column goes behind the pivots
   pub ends_by_pivot : old.pivots ≡ other → new ≡ record mid { pivots = mid.pivots + 1 } → EndsActive column old new
-  ends_by_pivot next = ends (mid.pivots + 1) mid.end (λ x from under. (λ e. omega (arith, e, ex.pivots), omega (arith, ex.pivots), omega (arith, ex.end)))
+  ends_by_pivot next = ends (mid.pivots + 1) mid.end (λ x from under. (λ e. omega (arith, e, ex.pivots), omega (arith, ex.pivots), omega (arith, ex.end))) (λ x d from under. (omega (arith, d, ex.pivots), omega (arith, ex.end))) (omega (arith, ex.end))
 
   -- the column goes before the inactive ones
   pub ends_by_inactivation : old.end ≡ other + 1 → new ≡ record mid { end = mid.end - 1 } → EndsActive column old new
-  ends_by_inactivation next = ends mid.pivots (mid.end - 1) (λ x from under. (λ e. omega (arith, e, ex.end), omega (arith, ex.pivots), omega (arith, ex.end)))
+  ends_by_inactivation next = ends mid.pivots (mid.end - 1) (λ x from under. (λ e. omega (arith, e, ex.end), omega (arith, ex.pivots), omega (arith, ex.end))) (λ x d from under. (omega (arith, ex.pivots), omega (arith, d, ex.end))) (omega (arith, ex.end))
 
 -- ---- what was read of the columns that callers see
 

@@ -24,7 +24,7 @@ true_is_not_false b t f =
     let none : number b ≡ 0 = ap number f in
     omega (arith, one, none)
 
-module _ (lists : List (List ℕ)) (rows order places : List ℕ) (width : ℕ) (bits : AreRowsOfBits width lists) (peeled : IsPeeled width lists rows order places) where
+module _ (lists : List (List ℕ)) (rows order places : List ℕ) (width : ℕ) (bits : AreRowsOfBits width lists) (peeled : IsPeeled width lists (record { rows = rows; order = order; places = places })) where
   rows_apart : (p q : ℕ) → p < length rows → q < length rows → p ≢ q → at rows p ≢ at rows q
   rows_apart p q l n d e = d (peeled.in_rows.apart p q l n e)
 

@@ -1,5 +1,7 @@
+pub mod ActiveOnes
 pub mod BitRows
 pub mod ColumnLaws
+pub mod ColumnPlacing
 pub mod CountLaws
 pub mod DegreeLists
 pub mod Entries

@@ -38,7 +38,7 @@ module _ (height width : ℕ) (system : ℕ → ℕ → ℕ) (steps : List Opera
   steps_elements = rows_after-elements octets height width (range_with_len 0 height) (below_range height) steps system among small
 
 module _ (height width : ℕ) (system : ℕ → ℕ → ℕ) (rows order places : List ℕ) (arranged : IsOrderOf width order places) (rows_are : ArePlaces (length rows) height (at rows)) (listed : List ℕ) (listing : ListsRows height rows listed)
-    (inactive : ℕ) (middle last : Recorded) (peeled : HasPeeledPivots height width system rows order (drop (length rows) listed) middle) (wide : length rows + inactive ≡ width) (narrow : inactive ≤ middle.table.width)
+    (inactive : ℕ) (middle last : Recorded) (peeled : HasPeeledPivots height width system (record { rows = rows; order = order; places = places }) (drop (length rows) listed) middle) (wide : length rows + inactive ≡ width) (narrow : inactive ≤ middle.table.width)
     (changes : ChangesRows (drop (length rows) listed) middle last) (reduced : List ℕ) (permuted : IsPermutation (drop (length rows) listed) reduced) where
   abbrev pivots : ℕ
   pivots = length rows

@@ -1,12 +1,13 @@
 -- Pivots among rows of bits, while they are chosen.
-use Rattle.std.proofs.Common.{◌≡◌, ℕ, ◌+◌, ◌<◌, ◌≤◌, List, [], ◌∷◌, ◌++◌, All, length, get_or, refl, sym, ap, ◌∙◌, subst, arith, inl, inr}
+use Rattle.std.proofs.Common.{◌≡◌, ℕ, ◌+◌, ◌<◌, ◌≤◌, ◌⊎◌, List, [], ◌∷◌, ◌++◌, All, length, take, get_or, refl, sym, ap, ◌∙◌, subst, arith, inl, inr}
 use Rattle.std.specs.List.{Contains}
 use Rattle.std.proofs.lemmas.Bool.{cases_lt}
-use Rattle.std.proofs.lemmas.List.{length-append, get_or_push, get_or_default}
+use Rattle.std.proofs.lemmas.List.{length-append, get_or_push, get_or_default, take_more}
+use Rattle.std.proofs.lemmas.List.Elements.{All-take, Contains-append_cases, Contains-append_left, Contains-push}
 use Rattle.std.proofs.Math.ListN.{get_or-append}
 use Rattle.rq_algebra.specs.Arrangements.{ArePlaces}
 use Rattle.rq_algebra.specs.Systems.{at}
-use Rattle.rq_solver.specs.Peeled.{ones_of, AreOnesOfRows, ColumnState, IsActive, TakesRow, IsPeeled, IsOrderOf, first_columns}
+use Rattle.rq_solver.specs.Peeled.{ones_of, AreOnesOfRows, ColumnState, EndsActive, InactivatesRow, IsActive, TakesRow, IsPeeled, IsOrderOf, first_columns}
 
 -- the pivots so far: none of their rows has an active column any more
 pub record IsPeeledSo (lists : List (List ℕ)) (rows : List ℕ) (state : ColumnState) : Type 0 where
@@ -26,7 +27,7 @@ peeled_none lists width boundary = record {
 }
 
 -- what holds of each element holds of one that is contained
-of_contained : (P : ℕ → Type 0) (xs : List ℕ) (x : ℕ) → All P xs → Contains xs x → P x
+pub of_contained : (P : ℕ → Type 0) (xs : List ℕ) (x : ℕ) → All P xs → Contains xs x → P x
 of_contained P xs x all is = subst P is.2 (all is.0 x is.1)
 
 module _ (lists : List (List ℕ)) (rows : List ℕ) (old new : ColumnState) (columns : All (λ row. All (λ column. column < length old.order) row) lists) (so : IsPeeledSo lists rows old) (row : ℕ) (in_row : row < length lists) (takes : TakesRow (ones_of lists row) old new) where
@@ -100,7 +101,7 @@ module _ (lists : List (List ℕ)) (rows : List ℕ) (old new : ColumnState) (co
   }
 
 -- when no more rows are taken
-pub peeled_all : (lists : List (List ℕ)) (rows : List ℕ) (state : ColumnState) (width : ℕ) → IsPeeledSo lists rows state → state.pivots ≤ width → IsOrderOf width state.order state.places → IsPeeled width lists rows state.order state.places
+pub peeled_all : (lists : List (List ℕ)) (rows : List ℕ) (state : ColumnState) (width : ℕ) → IsPeeledSo lists rows state → state.pivots ≤ width → IsOrderOf width state.order state.places → IsPeeled width lists (record { rows = rows; order = state.order; places = state.places })
 peeled_all lists rows state width so few columns = record {
   few = omega (arith, so.count);
   in_rows = so.in_rows;
@@ -114,3 +115,55 @@ pub columns_below : (height width : ℕ) (bit : ℕ → ℕ → ℕ) (lists : Li
 columns_below height width bit lists ones i d l j e m =
     let same : get_or lists i d ≡ ones_of lists i = get_or_default lists i d [] l in
     rw same ((ones.each i (omega (arith, ones.count))).within j e (rw same at m)).1
+
+-- ---- columns that aren't active any more
+
+module _ (row : List ℕ) (t : ℕ) (in_row : t < length row) where
+  one_column_more : take (t + 1) row ≡ take t row ++ at row t ∷ []
+  one_column_more = take_more row t 0 in_row
+
+  still_there : (k : ℕ) → Contains (take t row) k → Contains (take (t + 1) row) k
+  still_there k is = subst (λ (xs : List ℕ). Contains xs k) (sym one_column_more) (Contains-append_left (take t row) (at row t ∷ []) k is)
+
+  now_there : Contains (take (t + 1) row) (at row t)
+  now_there = subst (λ (xs : List ℕ). Contains xs (at row t)) (sym one_column_more) (Contains-push (take t row) (at row t))
+
+  -- a column that is there is the last, or was there before
+  was_there : (k : ℕ) → Contains (take (t + 1) row) k → Contains (take t row) k ⊎ (at row t ≡ k)
+  was_there k is =
+      elim (Contains-append_cases (take t row) (at row t ∷ []) k (subst (λ (xs : List ℕ). Contains xs k) one_column_more is)) [
+        | inl before ↦ inl before
+        | inr last ↦ let first : last.0 ≡ 0 = omega (arith, last.1) in inr (ap (λ (i : ℕ). get_or (at row t ∷ []) i k) (sym first) ∙ last.2)
+      ]
+
+  module _ (old cur new : ColumnState) (columns : All (λ column. column < length old.order) row) (so : InactivatesRow (take t row) old cur) where
+    -- one column more isn't active any more
+    pub inactivates_more : EndsActive (at row t) cur new → new.pivots ≡ cur.pivots → InactivatesRow (take (t + 1) row) old new
+    inactivates_more ends pivots = record {
+      width = ends.width ∙ so.width;
+      pivots = pivots ∙ so.pivots;
+      before = λ p l. ends.before p (omega (arith, so.pivots, l)) ∙ so.before p l;
+      left = λ k l a. so.left k l (ends.left k (rw so.width l) a).0;
+      kept = λ k l a out. ends.kept k (rw so.width l) (so.kept k l a (λ is. out (still_there k is))) (λ e. out (subst (Contains (take (t + 1) row)) (sym e) now_there));
+      fewer = omega (arith, ends.fewer, so.fewer);
+      ended = λ k is a.
+          elim (was_there k is) [
+            | inl before ↦ so.ended k before (ends.left k (rw so.width (of_contained (λ (c : ℕ). c < length old.order) (take t row) k (All-take (λ (c : ℕ). c < length old.order) t row columns) before)) a).0
+            | inr here ↦ (ends.left k (rw (so.width, ← here) (columns t 0 in_row)) a).1 (sym here)
+          ];
+    }
+
+    -- the next column wasn't active
+    pub inactivates_same : (IsActive cur (at row t) → ⊥) → InactivatesRow (take (t + 1) row) old cur
+    inactivates_same none = record {
+      width = so.width;
+      pivots = so.pivots;
+      before = so.before;
+      left = so.left;
+      kept = λ k l a out. so.kept k l a (λ is. out (still_there k is));
+      fewer = so.fewer;
+      ended = λ k is a. elim (was_there k is) [
+        | inl before ↦ so.ended k before a
+        | inr here ↦ none (subst (IsActive cur) (sym here) a)
+      ];
+    }

@@ -66,7 +66,7 @@ module _ (lists : List (List ℕ)) (first : ℕ) (hdpc : OctetTable) where
   bits_at r k out = bit_row first (length hdpc.rows) (entry_of hdpc) (one_in lists) r k out
 
   module _ (width : ℕ) (bits : AreRowsOfBits width lists) (are : AreOctetRows lists first width hdpc) where
-    module _ (rows order places : List ℕ) (peeled : IsPeeled width lists rows order places) where
+    module _ (rows order places : List ℕ) (peeled : IsPeeled width lists (record { rows = rows; order = order; places = places })) where
       -- a pivot's row is one of bits
       pub pivot_of_bits : (p i : ℕ) → p < length rows → i < length hdpc.rows → first + i ≢ at rows p
       pivot_of_bits p i l n e =
@@ -138,7 +138,7 @@ module _ (lists : List (List ℕ)) (first : ℕ) (hdpc : OctetTable) where
 
           -- the tables that were filled with the inactive columns show them
           pub peeled_pivots : (inactive : ℕ) → length rows + inactive ≡ width → zero.operations ≡ [] → HasLeading (length lists) inactive (length lists) (λ r f. system_rows lists first hdpc r (at order (length rows + f))) zero.table
-              → HasPeeledPivots (length lists) width (system_rows lists first hdpc) rows order (drop (length rows) listed) two
+              → HasPeeledPivots (length lists) width (system_rows lists first hdpc) (record { rows = rows; order = order; places = places }) (drop (length rows) listed) two
           peeled_pivots inactive wide empty holds =
               let done : List Operation = clears.steps ++ wipes.steps in
               let performs : Performs done zero two = performs_more clears.steps wipes.steps zero one two clears.performs wipes.performs in

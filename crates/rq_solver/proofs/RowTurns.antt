@@ -32,7 +32,7 @@ module _ (lists : List (List ℕ)) (rows order listed : List ℕ) where
     cleared = λ m pivots s l. absurd (omega arith);
   }
 
-  module _ (width : ℕ) (places : List ℕ) (bits : AreRowsOfBits width lists) (peeled : IsPeeled width lists rows order places) (listing : ListsRows (length lists) rows listed) (t : ℕ) (in_listed : t < length listed)
+  module _ (width : ℕ) (places : List ℕ) (bits : AreRowsOfBits width lists) (peeled : IsPeeled width lists (record { rows = rows; order = order; places = places })) (listing : ListsRows (length lists) rows listed) (t : ℕ) (in_listed : t < length listed)
       (old cur new : Recorded) (v : ClearsRows lists rows order listed t old cur) (taken : TakesPivots rows order (at listed t) (ones_of lists (at listed t)) cur new) where
     all_steps : List Operation
     all_steps = v.steps ++ taken.steps

@@ -7,10 +7,9 @@ use Rattle.rq_algebra.specs.Operations.{Operation}
 use Rattle.rq_standard.specs.ConstraintMatrix.{with_octet_rows}
 use Rattle.rq_standard.specs.OctetField.{octets}
 use Rattle.rq_parts.specs.DenseOctetMatrix.{OctetTable, entry_of, HasOctets}
-use Rattle.rq_solver.specs.Peeled.{ones_of, IsPeeled}
+use Rattle.rq_solver.specs.Peeled.{ones_of, IsPeeled, Pivots}
 use Rattle.rq_solver.specs.Recorded.{Recorded, ChangesRows, Performs, Records}
 use Rattle.rq_solver.specs.RowSteps.{IsEchelon, IsStuck, rows_after, IsStepAmong}
-use Rattle.rq_solver.specs.declared.pi_solver.peeling.Peeling.{Peeling}
 
 -- ---- the rows
 
@@ -24,9 +23,9 @@ pub record AreRowsOfBits (width : ℕ) (lists : List (List ℕ)) : Type 0 where
   pub once : (i k : ℕ) → i < length lists → k < width → one_in lists i k ≤ 1
 
 -- pivots among rows of bits
-pub record PeelsRows (lists : List (List ℕ)) (peeling : Peeling) : Type 0 where
-  pub bits : AreRowsOfBits (length peeling.places.items) lists
-  pub peeled : IsPeeled (length peeling.places.items) lists peeling.rows.items peeling.order.items peeling.places.items
+pub record PeelsRows (lists : List (List ℕ)) (pivots : Pivots) : Type 0 where
+  pub bits : AreRowsOfBits (length pivots.places) lists
+  pub peeled : IsPeeled (length pivots.places) lists pivots
 
 -- HDPC rows, which have the places of rows without ones
 pub record AreOctetRows (lists : List (List ℕ)) (first width : ℕ) (hdpc : OctetTable) : Type 0 where
@@ -100,14 +99,14 @@ pub record ClearsOctets (rows order : List ℕ) (octet : ℕ → ℕ → ℕ) (f
 
 -- After what was recorded the rows of a system have the pivots of the peeling: each pivot's column has one 1, in the pivot's row, and zeros
 -- in the rows that are left. The table shows the inactive columns.
-pub record HasPeeledPivots (height width : ℕ) (system : ℕ → ℕ → ℕ) (rows order left : List ℕ) (state : Recorded) : Type 0 where
+pub record HasPeeledPivots (height width : ℕ) (system : ℕ → ℕ → ℕ) (peeled : Pivots) (left : List ℕ) (state : Recorded) : Type 0 where
   pub elements : HasElements octets height width system
   pub among : All (IsStepAmong octets (range_with_len 0 height)) state.operations
   pub height_is : length state.table.rows ≡ height
-  pub wide : width ≤ length rows + state.table.width
-  pub shows : (r f : ℕ) → r < height → length rows + f < width → entry_of state.table r f ≡ rows_after octets state.operations system r (at order (length rows + f))
-  pub pivots : (p : ℕ) → p < length rows → IsCleared rows order (rows_after octets state.operations system) (at rows p)
-  pub others : (r p : ℕ) → Contains left r → p < length rows → rows_after octets state.operations system r (at order p) ≡ 0
+  pub wide : width ≤ length peeled.rows + state.table.width
+  pub shows : (r f : ℕ) → r < height → length peeled.rows + f < width → entry_of state.table r f ≡ rows_after octets state.operations system r (at peeled.order (length peeled.rows + f))
+  pub pivots : (p : ℕ) → p < length peeled.rows → IsCleared peeled.rows peeled.order (rows_after octets state.operations system) (at peeled.rows p)
+  pub others : (r p : ℕ) → Contains left r → p < length peeled.rows → rows_after octets state.operations system r (at peeled.order p) ≡ 0
   pub octets : HasOctets state.table
 
 -- ---- rows that take reduced rows, in the second phase and the fourth

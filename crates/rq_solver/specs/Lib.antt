@@ -1,4 +1,6 @@
 pub mod Cleared
+pub mod ColumnRows
+pub mod Degrees
 pub mod EntryRow
 pub mod FirstPhaseRowSelectionStats
 pub mod Homogeneous

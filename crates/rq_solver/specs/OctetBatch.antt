@@ -5,10 +5,9 @@ use Rattle.rq_algebra.specs.Operations.{Operation}
 use Rattle.rq_standard.specs.OctetField.{octets}
 use Rattle.rq_parts.specs.DenseOctetMatrix.{OctetTable, entry_of, HasOctets}
 use Rattle.rq_solver.specs.Cleared.{IsCleared}
-use Rattle.rq_solver.specs.Peeled.{IsOrderOf}
+use Rattle.rq_solver.specs.Peeled.{IsOrderOf, Pivots}
 use Rattle.rq_solver.specs.Recorded.{Recorded, Performs}
 use Rattle.rq_solver.specs.RowSteps.{AreRows, rows_after}
-use Rattle.rq_solver.specs.declared.pi_solver.peeling.Peeling.{Peeling}
 
 -- ---- what the rows have
 
@@ -96,13 +95,13 @@ pub record ChangesOctets (rows order : List ℕ) (first count : ℕ) (was now : 
 -- ---- the same of a batch
 
 -- the rows of a batch stand from row `first` on, and the pivots are those of other rows
-abbrev pub StandsBeside : Peeling → ℕ → Batch → Recorded → Type 0
-StandsBeside peeling first batch state = HasPivotsBeside peeling.rows.items peeling.order.items peeling.places.items first (length batch.table.rows) batch.table.width state
+abbrev pub StandsBeside : Pivots → ℕ → Batch → Recorded → Type 0
+StandsBeside peeling first batch state = HasPivotsBeside peeling.rows peeling.order peeling.places first (length batch.table.rows) batch.table.width state
 
 -- from this column on the batch shows what steps among its rows did, and it shows nothing of the columns before
 abbrev pub CombinesFrom : ℕ → ℕ → Batch → Batch → Recorded → Recorded → Type 0
 CombinesFrom column first was now old new = CombinesOctets first (length was.table.rows) was.table.width (octets_from column (octet_in was)) (octets_from column (octet_in now)) old new
 
 -- the rows had 0 in the pivots' columns before this one, and have 0 in this one too, if it has a pivot
-abbrev pub ClearsPivotColumn : Peeling → ℕ → ℕ → Batch → Batch → Recorded → Recorded → Type 0
-ClearsPivotColumn peeling column first was now old new = ChangesOctets peeling.rows.items peeling.order.items first (length was.table.rows) (octets_from column (octet_in was)) (octets_from (column + 1) (octet_in now)) old new
+abbrev pub ClearsPivotColumn : Pivots → ℕ → ℕ → Batch → Batch → Recorded → Recorded → Type 0
+ClearsPivotColumn peeling column first was now old new = ChangesOctets peeling.rows peeling.order first (length was.table.rows) (octets_from column (octet_in was)) (octets_from (column + 1) (octet_in now)) old new

@@ -33,13 +33,19 @@ pub record IsOrderOf (width : ℕ) (order places : List ℕ) : Type 0 where
   pub ordered : (j : ℕ) → j < width → (at order j < width) × (at places (at order j) ≡ j)
   pub placed : (k : ℕ) → k < width → (at places k < width) × (at order (at places k) ≡ k)
 
--- Row `rows p` has a one in the column at place p of the order, and none in those of later pivots. The columns after the pivots' are inactive.
-pub record IsPeeled (width : ℕ) (lists : List (List ℕ)) (rows order places : List ℕ) : Type 0 where
-  pub few : length rows ≤ width
-  pub in_rows : ArePlaces (length rows) (length lists) (at rows)
-  pub columns : IsOrderOf width order places
-  pub own : (p : ℕ) → p < length rows → Contains (ones_of lists (at rows p)) (at order p)
-  pub later : (p q : ℕ) → p < q → q < length rows → Contains (ones_of lists (at rows p)) (at order q) → ⊥
+-- the rows that have pivots, in the order in which they were chosen; the columns in an order, those with pivots first and in the same order; and the place of each column in it
+pub record Pivots : Type 0 where
+  pub rows : List ℕ
+  pub order : List ℕ
+  pub places : List ℕ
+
+-- Pivot p's row has a one in the column at place p of the order, and none in those of later pivots. The columns after the pivots' are inactive.
+pub record IsPeeled (width : ℕ) (lists : List (List ℕ)) (pivots : Pivots) : Type 0 where
+  pub few : length pivots.rows ≤ width
+  pub in_rows : ArePlaces (length pivots.rows) (length lists) (at pivots.rows)
+  pub columns : IsOrderOf width pivots.order pivots.places
+  pub own : (p : ℕ) → p < length pivots.rows → Contains (ones_of lists (at pivots.rows p)) (at pivots.order p)
+  pub later : (p q : ℕ) → p < q → q < length pivots.rows → Contains (ones_of lists (at pivots.rows p)) (at pivots.order q) → ⊥
 
 -- ---- on the way
 
@@ -77,11 +83,13 @@ pub record ExchangesColumns (p q : ℕ) (old new : ColumnState) : Type 0 where
   pub pivots : new.pivots ≡ old.pivots
   pub end : new.end ≡ old.end
 
--- a column isn't active any more, others that weren't still aren't, and the pivots stay
+-- a column isn't active any more, others are as they were, and the pivots stay
 pub record EndsActive (column : ℕ) (old new : ColumnState) : Type 0 where
   pub width : length new.order ≡ length old.order
   pub before : (p : ℕ) → p < old.pivots → at new.order p ≡ at old.order p
   pub left : (k : ℕ) → k < length old.order → IsActive new k → IsActive old k × (k ≢ column)
+  pub kept : (k : ℕ) → k < length old.order → IsActive old k → k ≢ column → IsActive new k
+  pub fewer : new.end ≤ old.end
 
 -- none of a row's columns is active any more, and no column has another pivot
 pub record InactivatesRow (row : List ℕ) (old new : ColumnState) : Type 0 where
@@ -89,6 +97,8 @@ pub record InactivatesRow (row : List ℕ) (old new : ColumnState) : Type 0 wher
   pub pivots : new.pivots ≡ old.pivots
   pub before : (p : ℕ) → p < old.pivots → at new.order p ≡ at old.order p
   pub left : (k : ℕ) → k < length old.order → IsActive new k → IsActive old k
+  pub kept : (k : ℕ) → k < length old.order → IsActive old k → (Contains row k → ⊥) → IsActive new k
+  pub fewer : new.end ≤ old.end
   pub ended : HasNoActive row new
 
 -- A row has the next pivot, in one of its columns that were active. None of its columns is active any more.
@@ -99,9 +109,6 @@ pub record TakesRow (row : List ℕ) (old new : ColumnState) : Type 0 where
   pub was : IsActive old (at new.order old.pivots)
   pub before : (p : ℕ) → p < old.pivots → at new.order p ≡ at old.order p
   pub left : (k : ℕ) → k < length old.order → IsActive new k → IsActive old k
+  pub kept : (k : ℕ) → k < length old.order → IsActive old k → (Contains row k → ⊥) → IsActive new k
+  pub fewer : new.end ≤ old.end
   pub ended : HasNoActive row new
-
--- so many rows and columns
-pub record Size : Type 0 where
-  pub rows : ℕ
-  pub columns : ℕ

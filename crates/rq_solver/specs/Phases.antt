@@ -9,9 +9,8 @@ use Rattle.rq_standard.specs.ConstraintMatrix.{with_octet_rows}
 use Rattle.rq_standard.specs.OctetField.{octets}
 use Rattle.rq_parts.specs.DenseOctetMatrix.{OctetTable, entry_of}
 use Rattle.rq_solver.specs.Cleared.{HasPeeledPivots, LacksPivots, SolvesInactive, system_rows}
-use Rattle.rq_solver.specs.Peeled.{AreOnesOfRows}
+use Rattle.rq_solver.specs.Peeled.{AreOnesOfRows, Pivots}
 use Rattle.rq_solver.specs.Recorded.{Recorded}
-use Rattle.rq_solver.specs.declared.pi_solver.peeling.Peeling.{Peeling}
 
 -- operations that solve these rows of bits, but the HDPC rows in the places from `first` on; or none, and the rows have a homogeneous column
 abbrev pub IsAttempt : ℕ → List (List ℕ) → ℕ → OctetTable → Option (Vec SymbolOps Global) → Type 0
@@ -20,17 +19,17 @@ IsAttempt width lists first hdpc answer = (bit : ℕ → ℕ → ℕ) → AreOne
     MatchOption answer (HasHomogeneousColumn octets (length lists) width rows) (λ ops. FindsColumn octets (length lists) width rows (map operation_of ops.items))
 
 -- what was recorded gives the rows of bits, and the HDPC rows in the places from `first` on, the pivots of a peeling; the others are listed behind its rows
-abbrev pub ClearsPivots : List (List ℕ) → ℕ → OctetTable → Peeling → List ℕ → Recorded → Type 0
+abbrev pub ClearsPivots : List (List ℕ) → ℕ → OctetTable → Pivots → List ℕ → Recorded → Type 0
 ClearsPivots lists first hdpc peeling listed state =
-    HasPeeledPivots (length lists) (length peeling.places.items) (system_rows lists first hdpc) peeling.rows.items peeling.order.items (drop (length peeling.rows.items) listed) state
+    HasPeeledPivots (length lists) (length peeling.places) (system_rows lists first hdpc) peeling (drop (length peeling.rows) listed) state
 
 -- where the rows had the pivots of a peeling, what was recorded solves them, read in an order; or there is none, and they have a homogeneous column
-abbrev pub FindsOrder : Peeling → List ℕ → Recorded → Recorded → Option (Vec ℕ Global) → Type 0
+abbrev pub FindsOrder : Pivots → List ℕ → Recorded → Recorded → Option (Vec ℕ Global) → Type 0
 FindsOrder peeling left old new answer = (system : ℕ → ℕ → ℕ)
-    → HasPeeledPivots (length old.table.rows) (length peeling.places.items) system peeling.rows.items peeling.order.items left old
-    → MatchOption answer (HasHomogeneousColumn octets (length old.table.rows) (length peeling.places.items) system) (λ order. FindsColumn octets (length old.table.rows) (length peeling.places.items) system (new.operations ++ Reorder order.items ∷ []))
+    → HasPeeledPivots (length old.table.rows) (length peeling.places) system peeling left old
+    → MatchOption answer (HasHomogeneousColumn octets (length old.table.rows) (length peeling.places) system) (λ order. FindsColumn octets (length old.table.rows) (length peeling.places) system (new.operations ++ Reorder order.items ∷ []))
 
 -- whether the inactive columns have pivots among the rows that are left, and what was done
-abbrev pub SolvesLeft : List (List ℕ) → Peeling → ℕ → List ℕ → List ℕ → Recorded → Recorded → Bool → Type 0
+abbrev pub SolvesLeft : List (List ℕ) → Pivots → ℕ → List ℕ → List ℕ → Recorded → Recorded → Bool → Type 0
 SolvesLeft lists peeling count left reduced old new found =
-    MatchBool found (SolvesInactive lists peeling.rows.items peeling.order.items left reduced count old new) (LacksPivots left reduced count old new)
+    MatchBool found (SolvesInactive lists peeling.rows peeling.order left reduced count old new) (LacksPivots left reduced count old new)

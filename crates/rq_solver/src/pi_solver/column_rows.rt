@@ -1,6 +1,9 @@
 //! The rows that have ones in a column.
-ghost use Rattle.std.specs.Prelude.{◌≡◌, ◌<◌, length, All, IfSome, IfOk, IfErr};
+ghost use Rattle.std.specs.Prelude.{◌≡◌, ℕ, ◌+◌, ◌-◌, ◌*◌, ◌^◌, ◌<◌, ◌≤◌, ◌==◌, ◌++◌, [], List, length, replicate, count_by, sum, sum_by, take, All, IfSome, IfOk, OnOk, IfErr, slice_index_or};
+ghost use Rattle.rq_algebra.specs.Systems.{at};
 ghost use Rattle.rq_bytes.specs.declared.error.Error.TheVariants.{OutOfMemory};
+ghost use Rattle.rq_solver.specs.ColumnRows.{AreEnds, HasPlaced, HoldsRows};
+ghost use Rattle.rq_solver.specs.Degrees.{LowersRows};
 
 use crate::pi_solver::degrees::RowDegrees;
 use crate::pi_solver::ones::{RowOnes, part};
@@ -9,7 +12,7 @@ use std::alloc::Global;
 use std::marker::Model;
 
 /// The rows of all ones, column by column, and where those of each column start. They tell which
-/// degrees fall, so they are advice as degrees are. Contracts see the numbers of rows and columns.
+/// degrees fall. Contracts see the number of rows, and for each column the rows of its ones.
 #[derive(Drop)]
 pub(super) struct ColumnRows {
     height: usize,
@@ -18,57 +21,50 @@ pub(super) struct ColumnRows {
 }
 
 impl Model for ColumnRows {
-    ghost use Rattle.std.specs.Prelude.{length, All, ◌<◌};
-    ghost use Rattle.rq_solver.specs.Peeled.{Size};
+    ghost use Rattle.std.specs.Prelude.{length, map, All, ◌<◌};
+    ghost use Rattle.std.specs.List.{range_with_len};
+    ghost use Rattle.rq_solver.specs.ColumnRows.{ColumnLists, rows_from};
 
-    ghost Value = { Size };
+    ghost Value = { ColumnLists };
 
-    ghost view = { λ c. record { rows = c.height; columns = length c.starts.items } };
+    ghost view = { λ c. record { height = c.height; lists = map (rows_from c.starts.items c.rows.items) (range_with_len 0 (length c.starts.items)) } };
 
     ghost invariant = { λ c. All (λ row. row < c.height) c.rows.items };
 }
 
 impl ColumnRows {
-    ghost use Rattle.rq_solver.specs.Peeled.{Size};
-
     /// The ones of rows, column by column.
     pub(super) fn of_rows(alloc: Global, ones: &RowOnes, width: usize) -> Result<ColumnRows, Error>
         requires columns { All (λ row. All (λ column. column < width) row) ones.now }
-        ensures size { IfOk result (λ columns. columns ≡ record { rows = length ones.now; columns = width }) }
+        ensures height { IfOk result (λ columns. columns.height ≡ length ones.now) }
+        ensures width { IfOk result (λ columns. length columns.lists ≡ width) }
+        ensures lists { IfOk result (HoldsRows ones.now) }
         ensures err { IfErr result (λ e. e ≡ OutOfMemory) }
     {
-        let mut columns = ColumnRows {
-            height: ones.height(),
-            starts: column_ends(alloc, ones, width)?,
-            rows: vec![in alloc; 0; ones.len()]?,
-        };
+        let count = ones.len();
+        let mut starts = column_ends(alloc, ones, width)?;
+        let mut rows = vec![in alloc; 0; count]?;
         for row in 0..ones.height() {
-            columns.place_row(row, ones.row(row));
+            place_row(
+                row,
+                ones.row(row),
+                starts.as_mut_slice(),
+                rows.as_mut_slice(),
+            );
         }
-        Ok(columns)
-    }
-
-    // Puts a row before those that its columns have.
-    fn place_row(&mut self, row: usize, columns: &[usize])
-        requires row { row < self.old.rows }
-        requires columns { All (λ column. column < self.old.columns) columns.now }
-        ensures size { self.new ≡ self.old }
-    {
-        for column in columns {
-            let place = self.starts[*column].saturating_sub(1);
-            self.starts[*column] = place;
-            // The place is in range, since each one was counted.
-            if place < self.rows.len() {
-                self.rows[place] = row;
-            }
-        }
+        Ok(ColumnRows {
+            height: ones.height(),
+            starts,
+            rows,
+        })
     }
 
     // The rows of a column's ones, the last first.
     #[inline(always)]
     fn rows_of(&self, column: usize) -> &[usize]
-        requires { column < self.now.columns }
-        ensures { All (λ row. row < self.now.rows) result.now }
+        requires { column < length self.now.lists }
+        ensures rows { result.now ≡ slice_index_or self.now.lists column [] }
+        ensures below { All (λ row. row < self.now.height) result.now }
     {
         let end = match self.starts.get(column + 1) {
             Some(next) => (*next).min(self.rows.len()),
@@ -78,11 +74,12 @@ impl ColumnRows {
         part(self.rows.as_slice(), start, end)
     }
 
-    /// Each row that has a one in a column has one active column less.
+    /// Each row has one active column less for each one that it has in a column.
     pub(super) fn lower_rows(&self, column: usize, degrees: &mut RowDegrees) -> Result<(), Error>
-        requires column { column < self.now.columns }
-        requires rows { self.now.rows ≡ degrees.old }
-        ensures rows { degrees.new ≡ degrees.old }
+        requires column { column < length self.now.lists }
+        requires rows { self.now.height ≡ length degrees.old }
+        ensures rows { length degrees.new ≡ length degrees.old }
+        ensures lowered { OnOk result (LowersRows (slice_index_or self.now.lists column []) degrees.old degrees.new) }
         ensures err { IfErr result (λ e. e ≡ OutOfMemory) }
     {
         for row in self.rows_of(column) {
@@ -93,9 +90,9 @@ impl ColumnRows {
 
     /// A row that has a one in a column and has two active columns.
     pub(super) fn row_of_two(&self, column: usize, degrees: &RowDegrees) -> Option<usize>
-        requires column { column < self.now.columns }
-        requires rows { self.now.rows ≡ degrees.now }
-        ensures { IfSome result (λ row. row < degrees.now) }
+        requires column { column < length self.now.lists }
+        requires rows { self.now.height ≡ length degrees.now }
+        ensures { IfSome result (λ row. (row < length degrees.now) × (at degrees.now row ≡ 2)) }
     {
         for row in self.rows_of(column) {
             if degrees.degree(*row) == 2 {
@@ -106,10 +103,30 @@ impl ColumnRows {
     }
 }
 
+// Puts a row before those that its columns have.
+fn place_row(row: usize, columns: &[usize], starts: &mut [usize], rows: &mut [usize])
+    requires { All (λ column. column < length starts.old) columns.now }
+    ensures long { length starts.new ≡ length starts.old }
+    ensures wide { length rows.new ≡ length rows.old }
+    ensures below { (height : ℕ) → row < height → All (λ r. r < height) rows.old → All (λ r. r < height) rows.new }
+    ensures placed { (counts : List ℕ) (done : ℕ → List ℕ) → HasPlaced counts done starts.old rows.old → ((k : ℕ) → k < length counts → length (done k) + count_by (λ column. column == k) columns.now ≤ at counts k) → HasPlaced counts (λ k. replicate (count_by (λ column. column == k) columns.now) row ++ done k) starts.new rows.new }
+{
+    for column in columns {
+        let place = starts[*column].saturating_sub(1);
+        starts[*column] = place;
+        // The place is in range, since each one was counted.
+        if place < rows.len() {
+            rows[place] = row;
+        }
+    }
+}
+
 // Where the ones of each column end, where all stand column by column.
 fn column_ends(alloc: Global, ones: &RowOnes, width: usize) -> Result<Vec<usize>, Error>
     requires columns { All (λ row. All (λ column. column < width) row) ones.now }
+    requires few { sum_by length ones.now < 2 ^ 64 }
     ensures len { IfOk result (λ ends. length ends.items ≡ width) }
+    ensures ends { IfOk result (λ ends. (counts : List ℕ) × AreEnds ones.now counts ends.items) }
     ensures err { IfErr result (λ e. e ≡ OutOfMemory) }
 {
     let mut ends = vec![in alloc; 0; width]?;
@@ -122,21 +139,26 @@ fn column_ends(alloc: Global, ones: &RowOnes, width: usize) -> Result<Vec<usize>
 
 // Counts one more one in each of some columns.
 fn count_columns(columns: &[usize], counts: &mut [usize])
-    requires { All (λ column. column < length counts.old) columns.now }
-    ensures { length counts.new ≡ length counts.old }
+    requires columns { All (λ column. column < length counts.old) columns.now }
+    requires few { sum counts.old + length columns.now < 2 ^ 64 }
+    ensures long { length counts.new ≡ length counts.old }
+    ensures counted { (k : ℕ) → k < length counts.old → at counts.new k ≡ at counts.old k + count_by (λ column. column == k) columns.now }
+    ensures sum { sum counts.new ≡ sum counts.old + length columns.now }
 {
     for column in columns {
-        counts[*column] = counts[*column].saturating_add(1);
+        counts[*column] += 1;
     }
 }
 
 // Makes each number the sum of those up to it.
 fn add_up(numbers: &mut [usize])
-    ensures { length numbers.new ≡ length numbers.old }
+    requires { sum numbers.old < 2 ^ 64 }
+    ensures long { length numbers.new ≡ length numbers.old }
+    ensures sums { (k : ℕ) → k < length numbers.old → at numbers.new k ≡ sum (take (k + 1) numbers.old) }
 {
-    let mut sum = 0usize;
+    let mut sum = 0;
     for place in 0..numbers.len() {
-        sum = sum.saturating_add(numbers[place]);
+        sum += numbers[place];
         numbers[place] = sum;
     }
 }

@@ -36,15 +36,15 @@ pub(super) fn clear_pivots(
     listed: &[usize],
 ) -> Result<RecordedRows, Error>
     requires peeled { PeelsRows ones.now peeling.now }
-    requires hdpc { AreOctetRows ones.now first_hdpc (length peeling.now.places.items) hdpc.now }
-    requires listed { ListsRows (length ones.now) peeling.now.rows.items listed.now }
+    requires hdpc { AreOctetRows ones.now first_hdpc (length peeling.now.places) hdpc.now }
+    requires listed { ListsRows (length ones.now) peeling.now.rows listed.now }
     requires few_rows { length ones.now < 2 ^ 31 }
-    requires narrow { length peeling.now.places.items < 65536 }
+    requires narrow { length peeling.now.places < 65536 }
     ensures cleared { IfOk result (ClearsPivots ones.now first_hdpc hdpc.now peeling.now listed.now) }
-    ensures few { IfOk result (λ rows. additions rows.operations ≤ length ones.now * length peeling.now.rows.items + batch_bound (length hdpc.now.rows) (length peeling.now.places.items) (length peeling.now.rows.items)) }
+    ensures few { IfOk result (λ rows. additions rows.operations ≤ length ones.now * length peeling.now.rows + batch_bound (length hdpc.now.rows) (length peeling.now.places) (length peeling.now.rows)) }
     ensures err { IfErr result (λ e. e ≡ OutOfMemory) }
 {
-    let inactive = hdpc.width() - peeling.rows.len();
+    let inactive = hdpc.width() - peeling.pivots();
     let table = fill_inactive(alloc, ones, hdpc, first_hdpc, inactive, peeling)?;
     // Blocks of all sizes take two to three operations for each one.
     let room = ones.len().saturating_mul(3);
@@ -63,11 +63,11 @@ fn clear_rows(
     recorded: &mut RecordedRows,
 ) -> Result<(), Error>
     requires peeled { PeelsRows ones.now peeling.now }
-    requires listed { ListsRows (length ones.now) peeling.now.rows.items listed.now }
+    requires listed { ListsRows (length ones.now) peeling.now.rows listed.now }
     requires height { length recorded.old.table.rows ≡ length ones.now }
     requires octets { HasOctets recorded.old.table }
-    ensures cleared { OnOk result (ClearsRows ones.now peeling.now.rows.items peeling.now.order.items listed.now (length listed.now) recorded.old recorded.new) }
-    ensures few { OnOk result (AddsAtMost (length listed.now * length peeling.now.rows.items) recorded.old recorded.new) }
+    ensures cleared { OnOk result (ClearsRows ones.now peeling.now.rows peeling.now.order listed.now (length listed.now) recorded.old recorded.new) }
+    ensures few { OnOk result (AddsAtMost (length listed.now * length peeling.now.rows) recorded.old recorded.new) }
     ensures err { IfErr result (λ e. e ≡ OutOfMemory) }
 {
     for row in listed {
@@ -87,15 +87,15 @@ pub(super) fn take_pivots(
     requires row { row < length ones.now }
     requires height { length recorded.old.table.rows ≡ length ones.now }
     requires octets { HasOctets recorded.old.table }
-    ensures taken { OnOk result (TakesPivots peeling.now.rows.items peeling.now.order.items row (ones_of ones.now row) recorded.old recorded.new) }
-    ensures few { OnOk result (AddsAtMost (length peeling.now.rows.items) recorded.old recorded.new) }
+    ensures taken { OnOk result (TakesPivots peeling.now.rows peeling.now.order row (ones_of ones.now row) recorded.old recorded.new) }
+    ensures few { OnOk result (AddsAtMost (length peeling.now.rows) recorded.old recorded.new) }
     ensures each { OnOk result (AddsAtMost (length (ones_of ones.now row)) recorded.old recorded.new) }
     ensures err { IfErr result (λ e. e ≡ OutOfMemory) }
 {
     for column in ones.row(row) {
-        let place = peeling.places[*column];
-        if place < peeling.rows.len() && peeling.rows[place] != row {
-            recorded.add_row(row, peeling.rows[place], Octet::one())?;
+        let place = peeling.place_of(*column);
+        if place < peeling.pivots() && peeling.row_of(place) != row {
+            recorded.add_row(row, peeling.row_of(place), Octet::one())?;
         }
     }
     Ok(())

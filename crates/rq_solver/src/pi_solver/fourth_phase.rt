@@ -26,15 +26,15 @@ pub(super) fn take_back(
 ) -> Result<Vec<bool>, Error>
     requires peeled { PeelsRows ones.now peeling.now }
     requires height { length recorded.old.table.rows ≡ length ones.now }
-    requires wide { length peeling.now.places.items ≤ length peeling.now.rows.items + recorded.old.table.width }
+    requires wide { length peeling.now.places ≤ length peeling.now.rows + recorded.old.table.width }
     requires octets { HasOctets recorded.old.table }
-    ensures taken { IfOk result (λ marks. TakesBack ones.now peeling.now.rows.items peeling.now.order.items marks.items 0 recorded.old recorded.new) }
-    ensures long { IfOk result (λ marks. length marks.items ≡ length peeling.now.rows.items) }
-    ensures short { IfOk result (λ marks. (p : ℕ) → p < length peeling.now.rows.items → slice_index_or marks.items p false ≡ true → length (ones_of ones.now (at peeling.now.rows.items p)) ≤ most) }
-    ensures few { OnOk result (AddsAtMost (length peeling.now.rows.items * most) recorded.old recorded.new) }
+    ensures taken { IfOk result (λ marks. TakesBack ones.now peeling.now.rows peeling.now.order marks.items 0 recorded.old recorded.new) }
+    ensures long { IfOk result (λ marks. length marks.items ≡ length peeling.now.rows) }
+    ensures short { IfOk result (λ marks. (p : ℕ) → p < length peeling.now.rows → slice_index_or marks.items p false ≡ true → length (ones_of ones.now (at peeling.now.rows p)) ≤ most) }
+    ensures few { OnOk result (AddsAtMost (length peeling.now.rows * most) recorded.old recorded.new) }
     ensures err { IfErr result (λ e. e ≡ OutOfMemory) }
 {
-    let mut marks = vec![in recorded.allocator(); false; peeling.rows.len()]?;
+    let mut marks = vec![in recorded.allocator(); false; peeling.pivots()]?;
     take_back_rows(ones, peeling, most, marks.as_mut_slice(), recorded)?;
     Ok(marks)
 }
@@ -49,17 +49,17 @@ fn take_back_rows(
 ) -> Result<(), Error>
     requires peeled { PeelsRows ones.now peeling.now }
     requires height { length recorded.old.table.rows ≡ length ones.now }
-    requires wide { length peeling.now.places.items ≤ length peeling.now.rows.items + recorded.old.table.width }
+    requires wide { length peeling.now.places ≤ length peeling.now.rows + recorded.old.table.width }
     requires octets { HasOctets recorded.old.table }
-    requires long { length marks.old ≡ length peeling.now.rows.items }
-    ensures taken { OnOk result (TakesBack ones.now peeling.now.rows.items peeling.now.order.items marks.new 0 recorded.old recorded.new) }
-    ensures short { OnOk result ((p : ℕ) → p < length peeling.now.rows.items → slice_index_or marks.new p false ≡ true → length (ones_of ones.now (at peeling.now.rows.items p)) ≤ most) }
-    ensures few { OnOk result (AddsAtMost (length peeling.now.rows.items * most) recorded.old recorded.new) }
+    requires long { length marks.old ≡ length peeling.now.rows }
+    ensures taken { OnOk result (TakesBack ones.now peeling.now.rows peeling.now.order marks.new 0 recorded.old recorded.new) }
+    ensures short { OnOk result ((p : ℕ) → p < length peeling.now.rows → slice_index_or marks.new p false ≡ true → length (ones_of ones.now (at peeling.now.rows p)) ≤ most) }
+    ensures few { OnOk result (AddsAtMost (length peeling.now.rows * most) recorded.old recorded.new) }
     ensures err { IfErr result (λ e. e ≡ OutOfMemory) }
 {
     for done in 0..marks.len() {
         let place = marks.len() - 1 - done;
-        let row = peeling.rows[place];
+        let row = peeling.row_of(place);
         let saves = saves_additions(ones, row, peeling, most, recorded);
         marks[place] = saves;
         if saves {
@@ -82,7 +82,7 @@ fn saves_additions(
     requires peeled { PeelsRows ones.now peeling.now }
     requires row { row < length ones.now }
     requires height { length recorded.now.table.rows ≡ length ones.now }
-    requires wide { length peeling.now.places.items ≤ length peeling.now.rows.items + recorded.now.table.width }
+    requires wide { length peeling.now.places ≤ length peeling.now.rows + recorded.now.table.width }
     ensures { IsTrue result → length (ones_of ones.now row) ≤ most }
 {
     if ones.row(row).len() > most {
@@ -90,7 +90,7 @@ fn saves_additions(
     }
     let mut cost = 0usize;
     for column in ones.row(row) {
-        let each = if peeling.places[*column] < peeling.rows.len() {
+        let each = if peeling.place_of(*column) < peeling.pivots() {
             2
         } else {
             1
@@ -98,7 +98,7 @@ fn saves_additions(
         cost = cost.saturating_add(each);
     }
     // The row's own pivot isn't taken.
-    let inactive = peeling.places.len() - peeling.rows.len();
+    let inactive = peeling.width() - peeling.pivots();
     recorded.count_entries(row, inactive) >= cost.saturating_sub(1)
 }
 
@@ -118,17 +118,17 @@ pub(super) fn finish_pivots(
     requires height { length recorded.old.table.rows ≡ length ones.now }
     requires reduced { AreRows reduced.now recorded.old.table }
     requires many { inactive ≤ length reduced.now }
-    requires apart { (p f : ℕ) → p < length peeling.now.rows.items → f < length reduced.now → at peeling.now.rows.items p ≢ at reduced.now f }
+    requires apart { (p f : ℕ) → p < length peeling.now.rows → f < length reduced.now → at peeling.now.rows p ≢ at reduced.now f }
     requires width { inactive ≤ recorded.old.table.width }
     requires octets { HasOctets recorded.old.table }
-    requires long { length marks.now ≡ length peeling.now.rows.items }
-    requires short { (p : ℕ) → p < length peeling.now.rows.items → slice_index_or marks.now p false ≡ true → length (ones_of ones.now (at peeling.now.rows.items p)) ≤ most }
-    ensures finished { OnOk result (FinishesPivots ones.now peeling.now.rows.items peeling.now.order.items reduced.now marks.now inactive (length peeling.now.rows.items) recorded.old recorded.new) }
-    ensures few { OnOk result (AddsAtMost (length peeling.now.rows.items * (inactive + most)) recorded.old recorded.new) }
+    requires long { length marks.now ≡ length peeling.now.rows }
+    requires short { (p : ℕ) → p < length peeling.now.rows → slice_index_or marks.now p false ≡ true → length (ones_of ones.now (at peeling.now.rows p)) ≤ most }
+    ensures finished { OnOk result (FinishesPivots ones.now peeling.now.rows peeling.now.order reduced.now marks.now inactive (length peeling.now.rows) recorded.old recorded.new) }
+    ensures few { OnOk result (AddsAtMost (length peeling.now.rows * (inactive + most)) recorded.old recorded.new) }
     ensures err { IfErr result (λ e. e ≡ OutOfMemory) }
 {
-    for place in 0..peeling.rows.len() {
-        let row = peeling.rows[place];
+    for place in 0..peeling.pivots() {
+        let row = peeling.row_of(place);
         take_reduced_rows(row, reduced, 0, inactive, recorded)?;
         if marks[place] {
             take_pivots(ones, row, peeling, recorded)?;

@@ -1,5 +1,6 @@
 //! The row that is peeled next.
-ghost use Rattle.std.specs.Prelude.{◌≡◌, ◌<◌, ◌≤◌, length, All, IfSome};
+ghost use Rattle.std.specs.Prelude.{◌≡◌, ◌<◌, ◌≤◌, length, All, IfSome, IfNone};
+ghost use Rattle.rq_solver.specs.Degrees.{AllHaveNone, HasLeastDegree};
 
 use crate::pi_solver::column_rows::ColumnRows;
 use crate::pi_solver::columns::ColumnOrder;
@@ -19,12 +20,14 @@ pub(super) fn next_row(
     graph: &mut ConnectedComponentGraph,
 ) -> Option<usize>
     requires columns { All (λ row. All (λ column. column < length columns.now.order) row) ones.now }
-    requires column_rows { column_rows.now ≡ record { rows = degrees.old; columns = length columns.now.order } }
-    requires rows { degrees.old ≡ length ones.now }
+    requires height { column_rows.now.height ≡ length degrees.old }
+    requires width { length column_rows.now.lists ≡ length columns.now.order }
+    requires rows { length degrees.old ≡ length ones.now }
     requires nodes { nodes ≤ length columns.now.order }
     requires graph { length graph.old.labels ≡ nodes }
-    ensures row { IfSome result (λ row. row < degrees.old) }
-    ensures rows { degrees.new ≡ degrees.old }
+    ensures least { IfSome result (HasLeastDegree degrees.old) }
+    ensures none { IfNone result (AllHaveNone degrees.old) }
+    ensures degrees { degrees.new ≡ degrees.old }
     ensures graph { length graph.new.labels ≡ nodes }
 {
     if let Some(row) = degrees.next_single() {
@@ -50,9 +53,9 @@ fn join_columns(
     graph: &mut ConnectedComponentGraph,
 )
     requires columns { All (λ row. All (λ column. column < length columns.now.order) row) ones.now }
-    requires rows { degrees.old ≡ length ones.now }
+    requires rows { length degrees.old ≡ length ones.now }
     requires graph { length graph.old.labels ≡ nodes }
-    ensures rows { degrees.new ≡ degrees.old }
+    ensures degrees { degrees.new ≡ degrees.old }
     ensures graph { length graph.new.labels ≡ nodes }
 {
     for _ in 0..ones.height() {

@@ -1,6 +1,8 @@
 //! The first phase: columns get pivots among rows of bits while no row is changed.
-ghost use Rattle.std.specs.Prelude.{◌≡◌, false, ◌<◌, ◌≤◌, length, All, Contains, IsTrue, IfSome, IfNone, OnOk, IfOk, IfErr};
+ghost use Rattle.std.specs.Prelude.{◌≡◌, false, ◌<◌, ◌≤◌, ◌+◌, length, All, Contains, IsTrue, IfSome, IfNone, OnOk, IfOk, IfErr};
 ghost use Rattle.rq_bytes.specs.declared.error.Error.TheVariants.{OutOfMemory};
+ghost use Rattle.rq_algebra.specs.Systems.{at};
+ghost use Rattle.rq_solver.specs.Degrees.{KeepsDegrees, TakesFewest};
 ghost use Rattle.rq_solver.specs.Peeled.{IsPeeled, IsActive, HasNoActive, TakesRow, InactivatesRow};
 
 use crate::pi_solver::column_rows::ColumnRows;
@@ -11,17 +13,95 @@ use crate::pi_solver::ones::RowOnes;
 use rq_bytes::error::Error;
 use rq_parts::graph::ConnectedComponentGraph;
 use std::alloc::Global;
+use std::marker::Model;
 
 // For how many columns there are sets at most.
 const MOST_NODES: usize = 65535;
 
 /// Columns with pivots among rows of bits, and the order of all columns: pivots' first, in the
-/// order in which they were chosen, then the inactive ones.
+/// order in which they were chosen, then the inactive ones. Contracts see the rows that have pivots,
+/// that order, and the place of each column in it.
 #[derive(Drop)]
 pub(super) struct Peeling {
-    pub rows: Vec<usize>,
-    pub order: Vec<usize>,
-    pub places: Vec<usize>,
+    rows: Vec<usize>,
+    order: Vec<usize>,
+    places: Vec<usize>,
+}
+
+impl Model for Peeling {
+    ghost use Rattle.rq_solver.specs.Peeled.{Pivots};
+
+    ghost Value = { Pivots };
+
+    ghost view = { λ p. record { rows = p.rows.items; order = p.order.items; places = p.places.items } };
+}
+
+impl Peeling {
+    /// How many columns have pivots.
+    #[inline(always)]
+    pub(super) fn pivots(&self) -> usize
+        ensures { result ≡ length self.now.rows }
+    {
+        self.rows.len()
+    }
+
+    /// How many columns there are.
+    #[inline(always)]
+    pub(super) fn width(&self) -> usize
+        ensures { result ≡ length self.now.places }
+    {
+        self.places.len()
+    }
+
+    /// The row of a pivot.
+    #[inline(always)]
+    pub(super) fn row_of(&self, pivot: usize) -> usize
+        requires { pivot < length self.now.rows }
+        ensures { result ≡ at self.now.rows pivot }
+    {
+        self.rows[pivot]
+    }
+
+    /// The column at a place of the order.
+    #[inline(always)]
+    pub(super) fn column_at(&self, place: usize) -> usize
+        requires { place < length self.now.order }
+        ensures { result ≡ at self.now.order place }
+    {
+        self.order[place]
+    }
+
+    /// The inactive column that so many others come before.
+    #[inline(always)]
+    pub(super) fn inactive_column(&self, before: usize) -> usize
+        requires { length self.now.rows + before < length self.now.order }
+        ensures { result ≡ at self.now.order (length self.now.rows + before) }
+    {
+        self.order[self.rows.len() + before]
+    }
+
+    /// The place of a column in the order.
+    #[inline(always)]
+    pub(super) fn place_of(&self, column: usize) -> usize
+        requires { column < length self.now.places }
+        ensures { result ≡ at self.now.places column }
+    {
+        self.places[column]
+    }
+
+    /// The rows of the pivots.
+    pub(super) fn rows(&self) -> &[usize]
+        ensures { result.now ≡ self.now.rows }
+    {
+        self.rows.as_slice()
+    }
+
+    /// The places of the columns.
+    pub(super) fn places(&self) -> &[usize]
+        ensures { result.now ≡ self.now.places }
+    {
+        self.places.as_slice()
+    }
 }
 
 /// Chooses pivots among rows of bits, of which the columns from `boundary` on are inactive from the
@@ -35,7 +115,8 @@ pub(super) fn peel(
 ) -> Result<Peeling, Error>
     requires columns { All (λ row. All (λ column. column < width) row) ones.now }
     requires boundary { boundary ≤ width }
-    ensures peeled { IfOk result (λ p. IsPeeled width ones.now p.rows.items p.order.items p.places.items) }
+    ensures peeled { IfOk result (IsPeeled width ones.now) }
+    ensures fewest { IfOk result (λ peeling. TakesFewest ones.now boundary peeling.rows) }
     ensures err { IfErr result (λ e. e ≡ OutOfMemory) }
 {
     let column_rows = ColumnRows::of_rows(alloc, ones, width)?;
@@ -44,7 +125,7 @@ pub(super) fn peel(
     let nodes = boundary.min(MOST_NODES);
     let mut graph = ConnectedComponentGraph::new(alloc, nodes)?;
     let mut rows = Vec::with_capacity(alloc, boundary)?;
-    for _ in 0..boundary {
+    for turn in 0..boundary {
         let next = next_row(
             ones,
             &column_rows,
@@ -87,12 +168,14 @@ fn take_row(
     columns: &mut ColumnOrder,
 ) -> Result<bool, Error>
     requires columns { All (λ column. column < length columns.old.order) row.now }
-    requires column_rows { column_rows.now ≡ record { rows = degrees.old; columns = length columns.old.order } }
+    requires height { column_rows.now.height ≡ length degrees.old }
+    requires width { length column_rows.now.lists ≡ length columns.old.order }
     requires graph { length graph.old.labels ≡ nodes }
     ensures taken { IfOk result (λ taken. IsTrue taken → TakesRow row.now columns.old columns.new) }
     ensures left { IfOk result (λ taken. (taken ≡ false) → columns.new ≡ columns.old) }
     ensures none { IfOk result (λ taken. (taken ≡ false) → HasNoActive row.now columns.old) }
-    ensures degrees { degrees.new ≡ degrees.old }
+    ensures counted { OnOk result (KeepsDegrees column_rows.now columns.old columns.new degrees.old degrees.new) }
+    ensures degrees { length degrees.new ≡ length degrees.old }
     ensures graph { length graph.new.labels ≡ nodes }
     ensures err { IfErr result (λ e. e ≡ OutOfMemory) }
 {
@@ -131,10 +214,12 @@ fn inactivate_columns(
     columns: &mut ColumnOrder,
 ) -> Result<(), Error>
     requires columns { All (λ column. column < length columns.old.order) row.now }
-    requires column_rows { column_rows.now ≡ record { rows = degrees.old; columns = length columns.old.order } }
+    requires height { column_rows.now.height ≡ length degrees.old }
+    requires width { length column_rows.now.lists ≡ length columns.old.order }
     requires graph { length graph.old.labels ≡ nodes }
     ensures inactive { OnOk result (InactivatesRow row.now columns.old columns.new) }
-    ensures degrees { degrees.new ≡ degrees.old }
+    ensures counted { OnOk result (KeepsDegrees column_rows.now columns.old columns.new degrees.old degrees.new) }
+    ensures degrees { length degrees.new ≡ length degrees.old }
     ensures graph { length graph.new.labels ≡ nodes }
     ensures err { IfErr result (λ e. e ≡ OutOfMemory) }
 {

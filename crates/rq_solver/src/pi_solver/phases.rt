@@ -47,7 +47,7 @@ pub(super) fn find_operations(
     peeling: &Peeling,
 ) -> Result<Attempt, Error>
     requires bits { AreRowsOfBits width ones.now }
-    requires peeled { IsPeeled width ones.now peeling.now.rows.items peeling.now.order.items peeling.now.places.items }
+    requires peeled { IsPeeled width ones.now peeling.now }
     requires hdpc { AreOctetRows ones.now first_hdpc width hdpc.now }
     requires few_hdpc { length hdpc.now.rows ≤ width }
     requires few_rows { length ones.now < 2 ^ 31 }
@@ -57,7 +57,7 @@ pub(super) fn find_operations(
     ensures few { IfOk result (λ attempt. total_of attempt.counts.additions ≤ 2 * width * length ones.now) }
     ensures err { IfErr result (λ e. e ≡ OutOfMemory) }
 {
-    let pivots = peeling.rows.as_slice();
+    let pivots = peeling.rows();
     let mut listed = rows_in_order(alloc, ones.height(), first_hdpc, hdpc.height(), pivots)?;
     let mut recorded = clear_pivots(alloc, ones, hdpc, first_hdpc, peeling, listed.as_slice())?;
     let rows = listed.as_mut_slice();
@@ -89,20 +89,20 @@ fn rows_of_columns(
 ) -> Result<Option<Vec<usize>>, Error>
     requires peeled { PeelsRows ones.now peeling.now }
     requires height { length recorded.old.table.rows ≡ length ones.now }
-    requires listed { ListsRows (length recorded.old.table.rows) peeling.now.rows.items listed.old }
-    requires wide { length peeling.now.places.items ≤ length peeling.now.rows.items + recorded.old.table.width }
+    requires listed { ListsRows (length recorded.old.table.rows) peeling.now.rows listed.old }
+    requires wide { length peeling.now.places ≤ length peeling.now.rows + recorded.old.table.width }
     requires octets { HasOctets recorded.old.table }
-    ensures found { IfOk result (FindsOrder peeling.now (drop (length peeling.now.rows.items) listed.old) recorded.old recorded.new) }
-    ensures few { OnOk result (additions recorded.new.operations ≤ additions recorded.old.operations + (length peeling.now.places.items - length peeling.now.rows.items) * (length listed.old - 1) + 2 * (length peeling.now.rows.items * most)) }
+    ensures found { IfOk result (FindsOrder peeling.now (drop (length peeling.now.rows) listed.old) recorded.old recorded.new) }
+    ensures few { OnOk result (additions recorded.new.operations ≤ additions recorded.old.operations + (length peeling.now.places - length peeling.now.rows) * (length listed.old - 1) + 2 * (length peeling.now.rows * most)) }
     ensures err { IfErr result (λ e. e ≡ OutOfMemory) }
 {
-    let pivots = peeling.rows.as_slice();
-    let inactive = peeling.places.len() - pivots.len();
-    let left = &mut listed[pivots.len()..];
+    let pivots = peeling.pivots();
+    let inactive = peeling.width() - pivots;
+    let left = &mut listed[pivots..];
     if !solve_inactive(ones, peeling, left, inactive, most, recorded)? {
         return Ok(None);
     }
-    Ok(Some(rows_at(alloc, listed, peeling.places.as_slice())?))
+    Ok(Some(rows_at(alloc, listed, peeling.places())?))
 }
 
 // The second phase among the rows that are left, and then the fourth for the pivots' rows. False
@@ -118,13 +118,13 @@ fn solve_inactive(
     requires peeled { PeelsRows ones.now peeling.now }
     requires height { length recorded.old.table.rows ≡ length ones.now }
     requires left { AreRows left.old recorded.old.table }
-    requires apart { (p : ℕ) → p < length peeling.now.rows.items → Contains left.old (at peeling.now.rows.items p) → ⊥ }
+    requires apart { (p : ℕ) → p < length peeling.now.rows → Contains left.old (at peeling.now.rows p) → ⊥ }
     requires width { inactive ≤ recorded.old.table.width }
-    requires wide { length peeling.now.places.items ≤ length peeling.now.rows.items + recorded.old.table.width }
+    requires wide { length peeling.now.places ≤ length peeling.now.rows + recorded.old.table.width }
     requires octets { HasOctets recorded.old.table }
     ensures permuted { IsPermutation left.old left.new }
     ensures solved { IfOk result (SolvesLeft ones.now peeling.now inactive left.old left.new recorded.old recorded.new) }
-    ensures few { OnOk result (additions recorded.new.operations ≤ additions recorded.old.operations + inactive * (length left.old + length peeling.now.rows.items - 1) + 2 * (length peeling.now.rows.items * most)) }
+    ensures few { OnOk result (additions recorded.new.operations ≤ additions recorded.old.operations + inactive * (length left.old + length peeling.now.rows - 1) + 2 * (length peeling.now.rows * most)) }
     ensures err { IfErr result (λ e. e ≡ OutOfMemory) }
 {
     recorded.enter(Phase::Second);

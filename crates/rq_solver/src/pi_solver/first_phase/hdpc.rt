@@ -29,16 +29,16 @@ pub(super) fn clear_octets(
     peeling: &Peeling,
     recorded: &mut RecordedRows,
 ) -> Result<(), Error>
-    requires order { IsOrderOf hdpc.now.width peeling.now.order.items peeling.now.places.items }
+    requires order { IsOrderOf hdpc.now.width peeling.now.order peeling.now.places }
     requires hdpc_octets { HasOctets hdpc.now }
-    requires few { length peeling.now.rows.items ≤ hdpc.now.width }
-    requires pivots { AreRows peeling.now.rows.items recorded.old.table }
+    requires few { length peeling.now.rows ≤ hdpc.now.width }
+    requires pivots { AreRows peeling.now.rows recorded.old.table }
     requires height { first_hdpc + length hdpc.now.rows ≤ length recorded.old.table.rows }
     requires fits { first_hdpc + length hdpc.now.rows < 2 ^ 64 }
-    requires apart { (i p : ℕ) → i < length hdpc.now.rows → p < length peeling.now.rows.items → first_hdpc + i ≢ at peeling.now.rows.items p }
+    requires apart { (i p : ℕ) → i < length hdpc.now.rows → p < length peeling.now.rows → first_hdpc + i ≢ at peeling.now.rows p }
     requires octets { HasOctets recorded.old.table }
-    ensures cleared { OnOk result (ClearsOctets peeling.now.rows.items peeling.now.order.items (entry_of hdpc.now) first_hdpc (length hdpc.now.rows) recorded.old recorded.new) }
-    ensures few { OnOk result (AddsAtMost (batch_bound (length hdpc.now.rows) hdpc.now.width (length peeling.now.rows.items)) recorded.old recorded.new) }
+    ensures cleared { OnOk result (ClearsOctets peeling.now.rows peeling.now.order (entry_of hdpc.now) first_hdpc (length hdpc.now.rows) recorded.old recorded.new) }
+    ensures few { OnOk result (AddsAtMost (batch_bound (length hdpc.now.rows) hdpc.now.width (length peeling.now.rows)) recorded.old recorded.new) }
     ensures err { IfErr result (λ e. e ≡ OutOfMemory) }
 {
     if hdpc.height() == 0 || are_zeros_at_pivots(hdpc, peeling) {
@@ -55,12 +55,12 @@ pub(super) fn clear_octets(
 
 // Whether all rows have 0 in the pivots' columns.
 fn are_zeros_at_pivots(hdpc: &DenseOctetMatrix, peeling: &Peeling) -> bool
-    requires order { IsOrderOf hdpc.now.width peeling.now.order.items peeling.now.places.items }
-    requires few { length peeling.now.rows.items ≤ hdpc.now.width }
-    ensures { IsTrue result → (p : ℕ) → p < length peeling.now.rows.items → HasZeros (at peeling.now.order.items p) (length hdpc.now.rows) hdpc.now }
+    requires order { IsOrderOf hdpc.now.width peeling.now.order peeling.now.places }
+    requires few { length peeling.now.rows ≤ hdpc.now.width }
+    ensures { IsTrue result → (p : ℕ) → p < length peeling.now.rows → HasZeros (at peeling.now.order p) (length hdpc.now.rows) hdpc.now }
 {
-    for place in 0..peeling.rows.len() {
-        if !is_zero_column(hdpc, peeling.order[place]) {
+    for place in 0..peeling.pivots() {
+        if !is_zero_column(hdpc, peeling.column_at(place)) {
             return false;
         }
     }
@@ -82,12 +82,12 @@ fn is_zero_column(octets: &DenseOctetMatrix, column: usize) -> bool
 
 // One more than the greatest column that has a pivot, and 0 where none has.
 fn end_of_pivots(peeling: &Peeling) -> usize
-    ensures within { result ≤ length peeling.now.places.items }
-    ensures last { (k : ℕ) → result ≤ k → k < length peeling.now.places.items → length peeling.now.rows.items ≤ at peeling.now.places.items k }
+    ensures within { result ≤ length peeling.now.places }
+    ensures last { (k : ℕ) → result ≤ k → k < length peeling.now.places → length peeling.now.rows ≤ at peeling.now.places k }
 {
     let mut end = 0;
-    for column in 0..peeling.places.len() {
-        if peeling.places[column] < peeling.rows.len() {
+    for column in 0..peeling.width() {
+        if peeling.place_of(column) < peeling.pivots() {
             end = column + 1;
         }
     }
@@ -134,13 +134,13 @@ fn clear_column(
     ensures table { batch.new.table ≡ batch.old.table }
     ensures changed { OnOk result (ClearsPivotColumn peeling.now column first_hdpc batch.old batch.new recorded.old recorded.new) }
     ensures few { OnOk result (AddsAtMost ((length batch.old.table.rows - 1) + length batch.old.table.rows) recorded.old recorded.new) }
-    ensures idle { OnOk result (length peeling.now.rows.items ≤ at peeling.now.places.items column → additions recorded.new.operations ≤ additions recorded.old.operations + (length batch.old.table.rows - 1)) }
+    ensures idle { OnOk result (length peeling.now.rows ≤ at peeling.now.places column → additions recorded.new.operations ≤ additions recorded.old.operations + (length batch.old.table.rows - 1)) }
     ensures err { IfErr result (λ e. e ≡ OutOfMemory) }
 {
     let lead = batch.get(0, column);
     add_first_row(batch, column, first_hdpc, recorded)?;
-    let place = peeling.places[column];
-    if place < peeling.rows.len() {
+    let place = peeling.place_of(column);
+    if place < peeling.pivots() {
         // Where the first row wasn't 0 in the column, the others are now.
         let count = if lead.byte() == 0 { batch.height() } else { 1 };
         add_pivot(peeling, place, batch, count, first_hdpc, recorded)?;
@@ -199,18 +199,18 @@ fn add_pivot(
 ) -> Result<(), Error>
     requires rows { AreOctetsIn first_hdpc (length batch.now.table.rows) recorded.old }
     requires pivots { StandsBeside peeling.now first_hdpc batch.now recorded.old }
-    requires place { place < length peeling.now.rows.items }
+    requires place { place < length peeling.now.rows }
     requires count { count ≤ length batch.now.table.rows }
-    requires zeros { (i : ℕ) → count ≤ i → i < length batch.now.table.rows → octet_in batch.now i (at peeling.now.order.items place) ≡ 0 }
-    ensures changed { OnOk result (ClearsPivotColumn peeling.now (at peeling.now.order.items place) first_hdpc batch.now batch.now recorded.old recorded.new) }
+    requires zeros { (i : ℕ) → count ≤ i → i < length batch.now.table.rows → octet_in batch.now i (at peeling.now.order place) ≡ 0 }
+    ensures changed { OnOk result (ClearsPivotColumn peeling.now (at peeling.now.order place) first_hdpc batch.now batch.now recorded.old recorded.new) }
     ensures few { OnOk result (AddsAtMost (length batch.now.table.rows) recorded.old recorded.new) }
     ensures err { IfErr result (λ e. e ≡ OutOfMemory) }
 {
-    let column = peeling.order[place];
+    let column = peeling.column_at(place);
     for row in 0..count {
         let scalar = batch.get(row, column);
         if scalar.byte() != 0 {
-            recorded.add_row(first_hdpc + row, peeling.rows[place], scalar)?;
+            recorded.add_row(first_hdpc + row, peeling.row_of(place), scalar)?;
         }
     }
     Ok(())

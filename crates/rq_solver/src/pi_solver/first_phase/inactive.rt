@@ -24,11 +24,11 @@ pub(super) fn fill_inactive(
     peeling: &Peeling,
 ) -> Result<InactiveEntries, Error>
     requires peeled { PeelsRows ones.now peeling.now }
-    requires hdpc { AreOctetRows ones.now first_hdpc (length peeling.now.places.items) hdpc.now }
-    requires inactive { length peeling.now.rows.items + inactive ≡ length peeling.now.places.items }
+    requires hdpc { AreOctetRows ones.now first_hdpc (length peeling.now.places) hdpc.now }
+    requires inactive { length peeling.now.rows + inactive ≡ length peeling.now.places }
     requires few { length ones.now < 2 ^ 31 }
-    requires narrow { length peeling.now.places.items < 65536 }
-    ensures entries { IfOk result (HasLeading (length ones.now) inactive (length ones.now) (λ r f. system_rows ones.now first_hdpc hdpc.now r (at peeling.now.order.items (length peeling.now.rows.items + f)))) }
+    requires narrow { length peeling.now.places < 65536 }
+    ensures entries { IfOk result (HasLeading (length ones.now) inactive (length ones.now) (λ r f. system_rows ones.now first_hdpc hdpc.now r (at peeling.now.order (length peeling.now.rows + f)))) }
     ensures err { IfErr result (λ e. e ≡ OutOfMemory) }
 {
     let mut entries = InactiveEntries::new(alloc, ones.height(), whole_vectors(inactive))?;
@@ -53,18 +53,18 @@ fn fill_octets(
     row: usize,
     entries: &mut InactiveEntries,
 ) -> Result<(), Error>
-    requires order { IsOrderOf octets.now.width peeling.now.order.items peeling.now.places.items }
-    requires inactive { length peeling.now.rows.items + inactive ≡ octets.now.width }
+    requires order { IsOrderOf octets.now.width peeling.now.order peeling.now.places }
+    requires inactive { length peeling.now.rows + inactive ≡ octets.now.width }
     requires from { from < length octets.now.rows }
     requires row { row < length entries.old.rows }
     requires width { inactive ≤ entries.old.width }
     requires octets { HasOctets entries.old }
-    ensures written { OnOk result (FillsRow row inactive (λ f. entry_of octets.now from (at peeling.now.order.items (length peeling.now.rows.items + f))) entries.old entries.new) }
+    ensures written { OnOk result (FillsRow row inactive (λ f. entry_of octets.now from (at peeling.now.order (length peeling.now.rows + f))) entries.old entries.new) }
     ensures err { IfErr result (λ e. e ≡ OutOfMemory) }
 {
     let mut filled = vec![in alloc; 0; entries.width()]?;
     for f in 0..inactive {
-        let column = peeling.order[peeling.rows.len() + f];
+        let column = peeling.inactive_column(f);
         filled[f] = octets.get(from, column).byte();
     }
     entries.set_octets(row, filled);
@@ -76,14 +76,14 @@ fn fill_bits(ones: &RowOnes, row: usize, peeling: &Peeling, entries: &mut Inacti
     requires peeled { PeelsRows ones.now peeling.now }
     requires row { row < length ones.now }
     requires height { length entries.old.rows ≡ length ones.now }
-    requires width { length peeling.now.places.items ≤ length peeling.now.rows.items + entries.old.width }
+    requires width { length peeling.now.places ≤ length peeling.now.rows + entries.old.width }
     requires octets { HasOctets entries.old }
-    requires zeros { (f : ℕ) → f < length peeling.now.places.items - length peeling.now.rows.items → entry_of entries.old row f ≡ 0 }
-    ensures { WritesRow row 0 (length peeling.now.places.items - length peeling.now.rows.items) (λ f. one_in ones.now row (at peeling.now.order.items (length peeling.now.rows.items + f))) entries.old entries.new }
+    requires zeros { (f : ℕ) → f < length peeling.now.places - length peeling.now.rows → entry_of entries.old row f ≡ 0 }
+    ensures { WritesRow row 0 (length peeling.now.places - length peeling.now.rows) (λ f. one_in ones.now row (at peeling.now.order (length peeling.now.rows + f))) entries.old entries.new }
 {
-    let pivots = peeling.rows.len();
+    let pivots = peeling.pivots();
     for column in ones.row(row) {
-        let place = peeling.places[*column];
+        let place = peeling.place_of(*column);
         if place >= pivots {
             entries.set_one(row, place - pivots);
         }

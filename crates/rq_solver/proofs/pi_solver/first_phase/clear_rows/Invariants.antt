@@ -6,6 +6,6 @@ use Rattle.rq_solver.proofs.pi_solver.first_phase.clear_rows.Given as goal
 
 abbrev pub invariant-loop-row : goal.invariant-loop-row
 invariant-loop-row l = record {
-  cleared : ClearsRows l.ones l.peeling.rows.items l.peeling.order.items l.listed l.row-index l.fn.recorded l.recorded;
-  few : additions l.recorded.operations ≤ additions l.fn.recorded.operations + l.row-index * length l.peeling.rows.items;
+  cleared : ClearsRows l.ones l.peeling.rows l.peeling.order l.listed l.row-index l.fn.recorded l.recorded;
+  few : additions l.recorded.operations ≤ additions l.fn.recorded.operations + l.row-index * length l.peeling.rows;
 }

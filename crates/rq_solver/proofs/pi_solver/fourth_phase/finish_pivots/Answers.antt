@@ -1,7 +1,6 @@
 -- What the check leaves to show of `pi_solver::fourth_phase::finish_pivots`.
 use Rattle.rq_solver.proofs.FinalTurns.{finish_none, finish_plain, finish_again}
 use Rattle.std.proofs.Common.{◌≡◌, ◌≢◌, ◌+◌, ◌<◌, ℕ, length, arith}
-use Rattle.std.proofs.lemmas.List.{get_or_read}
 use Rattle.rq_algebra.specs.Systems.{at}
 use Rattle.rq_solver.proofs.CountLaws.{one_turn_more}
 use Rattle.rq_solver.proofs.pi_solver.fourth_phase.finish_pivots.Goals as goal
@@ -9,7 +8,7 @@ use Rattle.rq_solver.proofs.pi_solver.fourth_phase.finish_pivots.Goals.{then-mar
 
 pub loop-place-init : goal.loop-place-init
 loop-place-init c = record {
-  finished = finish_none c.args.ones.now c.args.peeling.now.rows.items c.args.peeling.now.order.items c.args.peeling.now.places.items _ c.requires.peeled.bits c.requires.peeled.peeled c.args.reduced.now c.args.marks.now c.args.inactive c.args.recorded.now c.requires.octets;
+  finished = finish_none c.args.ones.now c.args.peeling.now.rows c.args.peeling.now.order c.args.peeling.now.places _ c.requires.peeled.bits c.requires.peeled.peeled c.args.reduced.now c.args.marks.now c.args.inactive c.args.recorded.now c.requires.octets;
   few = omega arith;
 }
 
@@ -17,7 +16,7 @@ pub loop-place-preserved : goal.loop-place-preserved
 loop-place-preserved c =
     let v = c.loop-place.invariant in
     let p = c.args.peeling.now in
-    let rows = p.rows.items in
+    let rows = p.rows in
     let sums = c.in_ok-take_reduced_rows.ensures.few in
     let peeled = c.requires.peeled.peeled in
     let reduced = c.args.reduced.now in
@@ -27,22 +26,22 @@ loop-place-preserved c =
     let old = c.args.recorded.now in
     let cur = c.loop-place.recorded in
     let mid = c.take_reduced_rows.new.recorded in
-    let in_rows : t < length rows = omega (arith, c.loop-place-test.true, c.len-place-end.ensures, p.rows.ok.0) in
+    let in_rows : t < length rows = omega (arith, c.loop-place-test.true, c.pivots-place-end.ensures) in
     let in_marks : t < length marks = omega (arith, in_rows, c.requires.long) in
-    let read : c.index-row.result.now ≡ at rows t = get_or_read rows t c.index-row.result.now in_rows c.index-row.ensures 0 in
+    let read : c.row_of-row.result ≡ at rows t = c.row_of-row.ensures in
     let turn = rw read at c.in_ok-take_reduced_rows.ensures.taken in
     let in_table : (p : ℕ) → p < length rows → at rows p < length old.table.rows = (λ (p : ℕ) (l : p < length rows). rw c.requires.height (peeled.in_rows.below p l)) in
     let apart : (p f : ℕ) → p < length rows → f < count → at rows p ≢ at reduced f = (λ (p f : ℕ) (l : p < length rows) (n : f < count). c.requires.apart p f l (omega (arith, c.requires.many))) in
     elim c.if-marks-place.branch [
       | then-marks-place+in_ok-take_pivots w ↦ rw w.recorded-is (record {
-        finished = finish_again c.args.ones.now rows p.order.items p.places.items _ c.requires.peeled.bits peeled reduced marks count t in_rows old cur mid v.finished turn in_table apart c.requires.width w.take_pivots.new.recorded (rw read at w.in_ok-take_pivots.ensures.taken) w.if-marks-place.true;
+        finished = finish_again c.args.ones.now rows p.order p.places _ c.requires.peeled.bits peeled reduced marks count t in_rows old cur mid v.finished turn in_table apart c.requires.width w.take_pivots.new.recorded (rw read at w.in_ok-take_pivots.ensures.taken) w.if-marks-place.true;
         few =
             let each = rw read at w.in_ok-take_pivots.ensures.each in
             let short = c.requires.short t in_rows w.if-marks-place.true in
             one_turn_more (count + c.args.most) _ _ _ t v.few (omega (arith, sums, each, short));
       })
       | else-marks-place w ↦ rw w.recorded-is (record {
-        finished = finish_plain c.args.ones.now rows p.order.items p.places.items _ c.requires.peeled.bits peeled reduced marks count t in_rows old cur mid v.finished turn in_table apart c.requires.width w.if-marks-place.false;
+        finished = finish_plain c.args.ones.now rows p.order p.places _ c.requires.peeled.bits peeled reduced marks count t in_rows old cur mid v.finished turn in_table apart c.requires.width w.if-marks-place.false;
         few = one_turn_more (count + c.args.most) _ _ _ t v.few (omega (arith, sums));
       })
     ]

@@ -1,7 +1,7 @@
 -- What the check leaves to show of `pi_solver::fourth_phase::take_back_rows`.
 use Rattle.std.proofs.Common.{◌≡◌, ◌≢◌, ℕ, ◌+◌, ◌-◌, ◌<◌, ◌≤◌, List, Bool, true, false, get_or, set, length, sym, ◌∙◌, ap, arith, inl, inr}
 use Rattle.std.proofs.lemmas.Bool.{cases_eq}
-use Rattle.std.proofs.lemmas.List.{get_or_read, get_or-set_same, get_or-set_other}
+use Rattle.std.proofs.lemmas.List.{get_or-set_same, get_or-set_other}
 use Rattle.rq_algebra.specs.Systems.{at}
 use Rattle.rq_solver.specs.Peeled.{ones_of}
 use Rattle.rq_solver.proofs.CountLaws.{one_turn_more}
@@ -11,9 +11,9 @@ use Rattle.rq_solver.proofs.pi_solver.fourth_phase.take_back_rows.Goals.{then-sa
 
 pub loop-done-init : goal.loop-done-init
 loop-done-init c =
-    let all : length c.args.peeling.now.rows.items - 0 ≡ length c.args.peeling.now.rows.items = omega arith in
+    let all : length c.args.peeling.now.rows - 0 ≡ length c.args.peeling.now.rows = omega arith in
     record {
-      taken = rw all (takes_none c.args.ones.now c.args.peeling.now.rows.items c.args.peeling.now.order.items c.args.peeling.now.places.items _ c.requires.peeled.bits c.requires.peeled.peeled c.args.marks.now c.args.recorded.now c.requires.octets);
+      taken = rw all (takes_none c.args.ones.now c.args.peeling.now.rows c.args.peeling.now.order c.args.peeling.now.places _ c.requires.peeled.bits c.requires.peeled.peeled c.args.marks.now c.args.recorded.now c.requires.octets);
       short = λ p late l e. absurd (omega arith);
       few = omega arith;
     }
@@ -21,9 +21,9 @@ loop-done-init c =
 pub loop-done-preserved : goal.loop-done-preserved
 loop-done-preserved c =
     let lists = c.args.ones.now in
-    let rows = c.args.peeling.now.rows.items in
-    let order = c.args.peeling.now.order.items in
-    let places = c.args.peeling.now.places.items in
+    let rows = c.args.peeling.now.rows in
+    let order = c.args.peeling.now.order in
+    let places = c.args.peeling.now.places in
     let bits = c.requires.peeled.bits in
     let peeled = c.requires.peeled.peeled in
     let marks = c.loop-done.marks in
@@ -39,7 +39,7 @@ loop-done-preserved c =
     let v = c.loop-done.invariant in
     let old = c.args.recorded.now in
     let cur = c.loop-done.recorded in
-    let read : c.index-row.result.now ≡ at rows place = get_or_read rows place c.index-row.result.now in_rows c.index-row.ensures 0 in
+    let read : c.row_of-row.result ≡ at rows place = c.row_of-row.ensures in
     let same : (p : ℕ) → p ≢ place → get_or now p false ≡ get_or marks p false = (λ (p : ℕ) (d : p ≢ place). get_or-set_other marks place p saves false d) in
     let here : get_or now place false ≡ saves = get_or-set_same marks place saves false in_marks in
     let so_far = rw was at v.taken in
@@ -65,7 +65,7 @@ loop-done-preserved c =
 
 pub returns-clause-taken : goal.returns-clause-taken
 returns-clause-taken c =
-    let none : length c.args.peeling.now.rows.items - c.loop-done.done ≡ 0 = omega (arith, c.loop-done.auto.done-end, c.loop-done.auto.marks, c.requires.long, c.loop-done-test.false) in
+    let none : length c.args.peeling.now.rows - c.loop-done.done ≡ 0 = omega (arith, c.loop-done.auto.done-end, c.loop-done.auto.marks, c.requires.long, c.loop-done-test.false) in
     rw none at c.loop-done.invariant.taken
 
 pub returns-clause-short : goal.returns-clause-short
@@ -73,5 +73,5 @@ returns-clause-short c = λ p l e. c.loop-done.invariant.short p (omega (arith, 
 
 pub returns-clause-few : goal.returns-clause-few
 returns-clause-few c =
-    let all : c.loop-done.done ≡ length c.args.peeling.now.rows.items = omega (arith, c.loop-done.auto.done-end, c.loop-done.auto.marks, c.requires.long, c.loop-done-test.false) in
+    let all : c.loop-done.done ≡ length c.args.peeling.now.rows = omega (arith, c.loop-done.auto.done-end, c.loop-done.auto.marks, c.requires.long, c.loop-done-test.false) in
     rw all at c.loop-done.invariant.few

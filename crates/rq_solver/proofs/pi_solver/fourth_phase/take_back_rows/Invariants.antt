@@ -8,7 +8,7 @@ use Rattle.rq_solver.proofs.pi_solver.fourth_phase.take_back_rows.Given as goal
 
 abbrev pub invariant-loop-done : goal.invariant-loop-done
 invariant-loop-done l = record {
-  taken : TakesBack l.ones l.peeling.rows.items l.peeling.order.items l.marks (length l.peeling.rows.items - l.done) l.fn.recorded l.recorded;
-  short : (p : ℕ) → length l.peeling.rows.items - l.done ≤ p → p < length l.peeling.rows.items → get_or l.marks p false ≡ true → length (ones_of l.ones (at l.peeling.rows.items p)) ≤ l.most;
+  taken : TakesBack l.ones l.peeling.rows l.peeling.order l.marks (length l.peeling.rows - l.done) l.fn.recorded l.recorded;
+  short : (p : ℕ) → length l.peeling.rows - l.done ≤ p → p < length l.peeling.rows → get_or l.marks p false ≡ true → length (ones_of l.ones (at l.peeling.rows p)) ≤ l.most;
   few : additions l.recorded.operations ≤ additions l.fn.recorded.operations + l.done * l.most;
 }

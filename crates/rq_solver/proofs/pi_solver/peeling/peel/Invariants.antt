@@ -1,12 +1,19 @@
 -- What the loops keep in `pi_solver::peeling::peel`.
-use Rattle.std.proofs.Common.{◌≡◌, length}
+use Rattle.std.proofs.Common.{◌≡◌, ℕ, ◌<◌, ◌≤◌, length, take}
+use Rattle.rq_algebra.specs.Systems.{at}
+use Rattle.rq_solver.specs.Degrees.{CountsActive, HasFewestLeft, is_active, is_left}
 use Rattle.rq_solver.proofs.PeelingLaws.{IsPeeledSo}
 use Rattle.rq_solver.proofs.pi_solver.peeling.peel.Given as goal
 
-abbrev pub invariant-loop : goal.invariant-loop
-invariant-loop l = record {
+abbrev pub invariant-loop-turn : goal.invariant-loop-turn
+invariant-loop-turn l = record {
   so : IsPeeledSo l.ones l.rows.items l.columns;
   width : length l.columns.order ≡ l.width;
-  degrees : l.degrees ≡ length l.ones;
+  turns : length l.rows.items ≡ l.turn;
+  end : l.columns.end ≤ l.boundary;
+  left : (k : ℕ) → k < l.width → is_left l.ones l.boundary l.rows.items k ≡ is_active l.columns k;
+  counts : CountsActive l.ones l.columns l.degrees;
+  fewest : (p : ℕ) → p < length l.rows.items → HasFewestLeft l.ones l.boundary (take p l.rows.items) (at l.rows.items p);
+  degrees : length l.degrees ≡ length l.ones;
   graph : length l.graph.labels ≡ l.nodes;
 }

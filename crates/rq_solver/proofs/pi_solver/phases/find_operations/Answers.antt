@@ -25,19 +25,19 @@ few_of M width h p most recorded phases fits rows columns first second =
     omega (arith, all, first, second)
 
 module _ (c : After-into_operations-operations) where
-  peeled : HasPeeledPivots (length c.args.ones.now) (length c.args.peeling.now.places.items) (system_rows c.args.ones.now c.args.first_hdpc c.args.hdpc.now) c.args.peeling.now.rows.items c.args.peeling.now.order.items
-      (drop (length c.args.peeling.now.rows.items) c.as_mut_slice-rows.result.now) c.in_ok-recorded.recorded
+  peeled : HasPeeledPivots (length c.args.ones.now) (length c.args.peeling.now.places) (system_rows c.args.ones.now c.args.first_hdpc c.args.hdpc.now) c.args.peeling.now
+      (drop (length c.args.peeling.now.rows) c.as_mut_slice-rows.result.now) c.in_ok-recorded.recorded
   peeled =
-      let rows = c.args.peeling.now.rows.items in
+      let rows = c.args.peeling.now.rows in
       let listed = c.as_slice.ensures.value ∙ sym c.as_mut_slice-rows.ensures.value in
-      subst (λ (l : List ℕ). HasPeeledPivots (length c.args.ones.now) (length c.args.peeling.now.places.items) (system_rows c.args.ones.now c.args.first_hdpc c.args.hdpc.now) rows c.args.peeling.now.order.items (drop (length rows) l) c.in_ok-recorded.recorded) listed c.in_ok-recorded.ensures.cleared
+      subst (λ (l : List ℕ). HasPeeledPivots (length c.args.ones.now) (length c.args.peeling.now.places) (system_rows c.args.ones.now c.args.first_hdpc c.args.hdpc.now) c.args.peeling.now (drop (length rows) l) c.in_ok-recorded.recorded) listed c.in_ok-recorded.ensures.cleared
 
   few : additions c.into_operations-operations.result ≤ 2 * c.args.width * length c.args.ones.now
   few =
       let height = length c.args.ones.now in
       let width = c.args.width in
       let hdpc = c.args.hdpc.now in
-      let rows = c.args.peeling.now.rows.items in
+      let rows = c.args.peeling.now.rows in
       let pivots = c.requires.peeled in
       let listed = c.as_mut_slice-rows.result.now in
       let most_ones : ℕ = (width - c.height-3.result) / 2 in
@@ -45,7 +45,7 @@ module _ (c : After-into_operations-operations) where
       let listed_is : c.in_ok-listed.listed.items ≡ listed = sym c.as_mut_slice-rows.ensures.value in
       let fewer : length listed ≤ height = rw (← listed_is) (few_places (length c.in_ok-listed.listed.items) height (at c.in_ok-listed.listed.items) (rw c.height.ensures at c.in_ok-listed.ensures.listed.are)) in
       let together : length rows + length hdpc.rows ≤ height =
-      few_together (length rows) (length hdpc.rows) c.args.first_hdpc height (at rows) pivots.in_rows c.requires.hdpc.within (λ i p l n. pivot_of_bits c.args.ones.now c.args.first_hdpc hdpc width c.requires.bits c.requires.hdpc rows c.args.peeling.now.order.items c.args.peeling.now.places.items pivots p i n l) in
+      few_together (length rows) (length hdpc.rows) c.args.first_hdpc height (at rows) pivots.in_rows c.requires.hdpc.within (λ i p l n. pivot_of_bits c.args.ones.now c.args.first_hdpc hdpc width c.requires.bits c.requires.hdpc rows c.args.peeling.now.order c.args.peeling.now.places pivots p i n l) in
       let most : (width - length rows) * (length listed - 1) ≤ (width - length rows) * (height - 1) = mul-le-mul_left (width - length rows) (omega arith) in
       let first : additions c.in_ok-recorded.recorded.operations ≤ height * length rows + batch_bound (length hdpc.rows) width (length rows) = rw pivots.columns.place_count at c.in_ok-recorded.ensures.few in
       let second : additions c.rows_of_columns.new.recorded.operations ≤ additions c.in_ok-recorded.recorded.operations + (width - length rows) * (length listed - 1) + 2 * (length rows * most_ones) = rw pivots.columns.place_count at c.in_ok-found.ensures.few in

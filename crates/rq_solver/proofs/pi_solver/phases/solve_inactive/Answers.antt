@@ -18,22 +18,22 @@ apart_left rows left reduced permuted out p f l n e = out p l (subst (Contains l
 pub reduce_back-requires-clause-echelon : goal.reduce_back-requires-clause-echelon
 reduce_back-requires-clause-echelon c =
     let done = c.in_ok-eliminate.ensures in
-    let rows = c.args.peeling.now.rows.items in
+    let rows = c.args.peeling.now.rows in
     let reduced = c.eliminate.new.rows in
     let echelon : IsEchelon c.eliminate.new.rows c.args.inactive c.eliminate.new.recorded.table = rw c.if-not-branch.false at done.pivots in
     let apart = apart_left rows c.args.left.now reduced done.permuted c.requires.apart in
     let before : IsEchelon reduced c.args.inactive c.enter-2.new.self.table = rw c.enter-2.ensures echelon in
     let are : AreRows reduced c.enter-2.new.self.table = rw (c.enter-2.ensures, done.steps.performs.height) done.rows in
     let narrow : c.args.inactive ≤ c.enter-2.new.self.table.width = rw (c.enter-2.ensures, done.steps.performs.width, c.enter.ensures) c.requires.width in
-    rw c.enter-3.ensures (echelon_stays c.args.ones.now rows c.args.peeling.now.order.items c.in_ok-marks.marks.items reduced c.args.inactive c.enter-2.new.self c.take_back.new.recorded c.in_ok-marks.ensures.taken are narrow apart before)
+    rw c.enter-3.ensures (echelon_stays c.args.ones.now rows c.args.peeling.now.order c.in_ok-marks.marks.items reduced c.args.inactive c.enter-2.new.self c.take_back.new.recorded c.in_ok-marks.ensures.taken are narrow apart before)
 
 pub finish_pivots-requires-clause-apart : goal.finish_pivots-requires-clause-apart
-finish_pivots-requires-clause-apart c = apart_left c.args.peeling.now.rows.items c.args.left.now c.eliminate.new.rows c.in_ok-eliminate.ensures.permuted c.requires.apart
+finish_pivots-requires-clause-apart c = apart_left c.args.peeling.now.rows c.args.left.now c.eliminate.new.rows c.in_ok-eliminate.ensures.permuted c.requires.apart
 
 pub returns-then-not-branch-clause-few : goal.returns-then-not-branch-clause-few
 returns-then-not-branch-clause-few c =
     let few : additions c.eliminate.new.recorded.operations ≤ additions c.enter.new.self.operations + c.args.inactive * (length c.args.left.now - 1) = rw c.if-not-branch.true at c.in_ok-eliminate.ensures.few in
-    let most = stuck_bound c.args.inactive (length c.args.left.now) (length c.args.peeling.now.rows.items) in
+    let most = stuck_bound c.args.inactive (length c.args.left.now) (length c.args.peeling.now.rows) in
     let same : additions c.enter.new.self.operations ≡ additions c.args.recorded.now.operations = ap (λ (s : Recorded). additions s.operations) c.enter.ensures in
     omega (arith, few, most, same)
 
@@ -42,7 +42,7 @@ returns-clause-few c =
     let done = c.in_ok-eliminate.ensures in
     let echelon : IsEchelon c.eliminate.new.rows c.args.inactive c.eliminate.new.recorded.table = rw c.if-not-branch.false at done.pivots in
     let fits : c.args.inactive ≤ length c.args.left.now = omega (arith, echelon.fits, c.eliminate.auto.rows) in
-    let most = inactive_bound c.args.inactive (length c.args.left.now) (length c.args.peeling.now.rows.items) fits in
+    let most = inactive_bound c.args.inactive (length c.args.left.now) (length c.args.peeling.now.rows) fits in
     let first : additions c.eliminate.new.recorded.operations + triangle c.args.inactive ≤ additions c.enter.new.self.operations + c.args.inactive * (length c.args.left.now - 1) = rw c.if-not-branch.false at done.few in
     let taken = c.in_ok-marks.ensures.few in
     let back = c.in_ok-reduce_back.ensures.few in

@@ -1,9 +1,11 @@
 -- What the loops keep in `pi_solver::column_rows::ColumnRows::of_rows`.
-use Rattle.std.proofs.Common.{◌≡◌, length}
+use Rattle.std.proofs.Common.{◌≡◌, ℕ, ◌<◌, All, List, length}
+use Rattle.rq_solver.specs.ColumnRows.{AreEnds, HasPlaced, rows_with}
 use Rattle.rq_solver.proofs.pi_solver.column_rows.ColumnRows.of_rows.Given as goal
 
 abbrev pub invariant-loop-row : goal.invariant-loop-row
 invariant-loop-row l = record {
-  rows : l.columns.rows ≡ length l.ones;
-  columns : l.columns.columns ≡ l.width;
+  long : length l.starts.items ≡ l.width;
+  below : All (λ r. r < length l.ones) l.rows.items;
+  placed : (counts : List ℕ) → AreEnds l.ones counts l.initial.starts.items → HasPlaced counts (λ k. rows_with l.ones k l.row) l.starts.items l.rows.items;
 }

@@ -15,5 +15,5 @@ pub returns-clause-ended : goal.returns-clause-ended
 returns-clause-ended c =
     let state = state_was (the_view c.self.inside) c.args.self.now c.self.view_is c.self.invariant in
     let one_more : c.args.self.now.end ≡ c.self.inside.end - 1 + 1 = omega (arith, ap (λ (s : ColumnState). s.end) c.self.view_is, c.requires.active) in
-    ends_by_inactivation c.args.column c.index-place.result.now (c.self.inside.end - 1) c.args.self.now c.exchange.new.self _ c.requires.active (here c) c.exchange.ensures (omega (arith, one_more, c.requires.active)) (omega (arith, one_more)) state.within
+    ends_by_inactivation c.args.column c.index-place.result.now (c.self.inside.end - 1) c.args.self.now c.exchange.new.self _ state c.requires.column c.requires.active (here c) c.exchange.ensures (omega (arith, one_more, c.requires.active)) (omega (arith, one_more))
     one_more (ap (λ (s : ColumnState). record s { end = s.end - 1 }) c.self-2.view_is)

@@ -16,7 +16,7 @@ pub returns-clause-ended : goal.returns-clause-ended
 returns-clause-ended c =
     let next = ap (λ (s : ColumnState). s.pivots) c.self.view_is in
     let state = state_was (the_view c.self.inside) c.args.self.now c.self.view_is c.self.invariant in
-    ends_by_pivot c.args.column c.index-place.result.now c.self.inside.pivots c.args.self.now c.exchange.new.self _ c.requires.active (here c) c.exchange.ensures (omega (arith, next)) (omega (arith, next, c.requires.active)) state.within
+    ends_by_pivot c.args.column c.index-place.result.now c.self.inside.pivots c.args.self.now c.exchange.new.self _ state c.requires.column c.requires.active (here c) c.exchange.ensures (omega (arith, next)) (omega (arith, next, c.requires.active))
     (sym next) (ap (λ (s : ColumnState). record s { pivots = s.pivots + 1 }) c.self-2.view_is)
 
 pub returns-clause-here : goal.returns-clause-here

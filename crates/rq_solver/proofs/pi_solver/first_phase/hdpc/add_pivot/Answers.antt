@@ -1,6 +1,5 @@
 -- What the check leaves to show of `pi_solver::first_phase::hdpc::add_pivot`.
 use Rattle.std.proofs.Common.{◌≡◌, ℕ, ◌+◌, ◌<◌, length, sym, ap, ◌∙◌, arith}
-use Rattle.std.proofs.lemmas.List.{get_or_read}
 use Rattle.rq_algebra.specs.Systems.{at}
 use Rattle.rq_solver.specs.OctetBatch.{HasPivotsBeside, octet_in, octets_from, with_zeros}
 use Rattle.rq_solver.proofs.OctetBatchLaws.{from_column, same_behind}
@@ -12,19 +11,19 @@ pub loop-row-init : goal.loop-row-init
 loop-row-init c =
     let p = c.args.peeling.now in
     let batch = c.args.batch.now in
-    let column = at p.order.items c.args.place in
+    let column = at p.order c.args.place in
     let before = octets_from column (octet_in batch) in
     record {
       few = omega arith;
-      changed = changes_same p.rows.items p.order.items p.places.items c.args.first_hdpc (length batch.table.rows) batch.table.width before before (with_zeros column 0 before) c.args.recorded.now c.args.recorded.now
-          (λ i q l n. sym (same_behind column 0 before i (at p.order.items q) (omega arith)))
-          (changes_none p.rows.items p.order.items p.places.items c.args.first_hdpc (length batch.table.rows) batch.table.width before c.args.recorded.now c.requires.rows.octets);
+      changed = changes_same p.rows p.order p.places c.args.first_hdpc (length batch.table.rows) batch.table.width before before (with_zeros column 0 before) c.args.recorded.now c.args.recorded.now
+          (λ i q l n. sym (same_behind column 0 before i (at p.order q) (omega arith)))
+          (changes_none p.rows p.order p.places c.args.first_hdpc (length batch.table.rows) batch.table.width before c.args.recorded.now c.requires.rows.octets);
     }
 
 pub add_row-requires-clause-two : goal.add_row-requires-clause-two
 add_row-requires-clause-two c =
-    let rows = c.args.peeling.now.rows.items in
-    let read : c.index.result.now ≡ at rows c.args.place = get_or_read rows c.args.place c.index.result.now c.requires.place c.index.ensures 0 in
+    let rows = c.args.peeling.now.rows in
+    let read : c.row_of.result ≡ at rows c.args.place = c.row_of.ensures in
     rw read (c.requires.pivots.apart c.loop-row.row c.args.place (omega arith) c.requires.place)
 
 pub loop-row-preserved : goal.loop-row-preserved
@@ -40,28 +39,27 @@ loop-row-preserved c =
     let cur = c.loop-row.recorded in
     let v = c.loop-row.invariant in
     let beside = c.requires.pivots in
-    let here : ℕ = at p.order.items place in
+    let here : ℕ = at p.order place in
     let before = octets_from here (octet_in batch) in
-    let in_order : place < length p.order.items = omega (arith, beside.columns.order_count, beside.few, c.requires.place) in
-    let column : c.index-column.result.now ≡ here = get_or_read p.order.items place c.index-column.result.now in_order c.index-column.ensures 0 in
+    let column : c.column_at-column.result ≡ here = c.column_at-column.ensures in
     let in_rows : row < count = omega (arith, c.requires.count) in
     let scalar_is : c.get-scalar.result ≡ before row here = c.get-scalar.ensures ∙ ap (octet_in batch row) column ∙ sym (from_column here (octet_in batch) row here (omega arith)) in
-    let still : HasPivotsBeside p.rows.items p.order.items p.places.items first count width cur = beside_still p.rows.items p.order.items p.places.items first count width old cur beside v.changed.performs.height in
+    let still : HasPivotsBeside p.rows p.order p.places first count width cur = beside_still p.rows p.order p.places first count width old cur beside v.changed.performs.height in
     elim c.if-byte-ne0.branch [
       | then-byte-ne0+in_ok-add_row w ↦
           let small : c.get-scalar.result < 256 = rw c.byte.ensures at c.byte.type_inv in
-          let read : w.index.result.now ≡ at p.rows.items place = get_or_read p.rows.items place w.index.result.now c.requires.place w.index.ensures 0 in
+          let read : w.row_of.result ≡ at p.rows place = w.row_of.ensures in
           rw w.recorded-is (record {
             few = (let more = w.in_ok-add_row.ensures.counted in let so_far = v.few in omega (arith, more, so_far));
-            changed = changes_more p.rows.items p.order.items p.places.items first count width before (with_zeros here row before) (with_zeros here (row + 1) before) old cur w.add_row.new.self beside v.changed
-                (changes_pivot p.rows.items p.order.items p.places.items first count width before cur w.add_row.new.self still row place c.get-scalar.result in_rows c.requires.place small scalar_is (rw read at w.in_ok-add_row.ensures.added));
+            changed = changes_more p.rows p.order p.places first count width before (with_zeros here row before) (with_zeros here (row + 1) before) old cur w.add_row.new.self beside v.changed
+                (changes_pivot p.rows p.order p.places first count width before cur w.add_row.new.self still row place c.get-scalar.result in_rows c.requires.place small scalar_is (rw read at w.in_ok-add_row.ensures.added));
           })
       | else-byte-ne0 w ↦
           let none : before row here ≡ 0 = sym scalar_is ∙ sym c.byte.ensures ∙ w.if-byte-ne0.false in
           rw w.recorded-is (record {
             few = (let so_far = v.few in omega (arith, so_far));
-            changed = changes_same p.rows.items p.order.items p.places.items first count width before (with_zeros here row before) (with_zeros here (row + 1) before) old cur
-                (zeros_skipped p.rows.items p.order.items p.places.items first count width before cur cur still row place 0 in_rows c.requires.place none) v.changed;
+            changed = changes_same p.rows p.order p.places first count width before (with_zeros here row before) (with_zeros here (row + 1) before) old cur
+                (zeros_skipped p.rows p.order p.places first count width before cur cur still row place 0 in_rows c.requires.place none) v.changed;
           })
     ]
 
@@ -69,7 +67,7 @@ pub returns-clause-changed : goal.returns-clause-changed
 returns-clause-changed c =
     let p = c.args.peeling.now in
     let table = c.args.batch.now.table in
-    let column = at p.order.items c.args.place in
+    let column = at p.order c.args.place in
     let all : c.loop-row.row ≡ c.args.count = omega (arith, c.loop-row.auto) in
-    column_cleared p.rows.items p.order.items p.places.items c.args.first_hdpc (length table.rows) table.width column c.args.count (octet_in c.args.batch.now) (octets_from column (octet_in c.args.batch.now)) c.args.recorded.now c.loop-row.recorded c.requires.zeros
+    column_cleared p.rows p.order p.places c.args.first_hdpc (length table.rows) table.width column c.args.count (octet_in c.args.batch.now) (octets_from column (octet_in c.args.batch.now)) c.args.recorded.now c.loop-row.recorded c.requires.zeros
     (rw all at c.loop-row.invariant.changed)

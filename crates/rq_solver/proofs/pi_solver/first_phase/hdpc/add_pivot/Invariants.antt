@@ -7,9 +7,9 @@ use Rattle.rq_solver.proofs.pi_solver.first_phase.hdpc.add_pivot.Given as goal
 
 abbrev pub invariant-loop-row : goal.invariant-loop-row
 invariant-loop-row l =
-    let column = at l.peeling.order.items l.place in
+    let column = at l.peeling.order l.place in
     let before = octets_from column (octet_in l.batch) in
     record {
       few : additions l.recorded.operations ≤ additions l.fn.recorded.operations + l.row;
-      changed : ChangesOctets l.peeling.rows.items l.peeling.order.items l.first_hdpc (length l.batch.table.rows) before (with_zeros column l.row before) l.fn.recorded l.recorded;
+      changed : ChangesOctets l.peeling.rows l.peeling.order l.first_hdpc (length l.batch.table.rows) before (with_zeros column l.row before) l.fn.recorded l.recorded;
     }

@@ -5,4 +5,4 @@ use Rattle.rq_solver.specs.OctetBatch.{HasZeros}
 use Rattle.rq_solver.proofs.pi_solver.first_phase.hdpc.are_zeros_at_pivots.Given as goal
 
 abbrev pub invariant-loop-place : goal.invariant-loop-place
-invariant-loop-place l = (p : ℕ) → p < l.place → HasZeros (at l.peeling.order.items p) (length l.hdpc.rows) l.hdpc
+invariant-loop-place l = (p : ℕ) → p < l.place → HasZeros (at l.peeling.order p) (length l.hdpc.rows) l.hdpc

@@ -14,8 +14,8 @@ use Rattle.rq_solver.proofs.pi_solver.first_phase.hdpc.clear_octets.Goals.{then-
 pub returns-then-height-eq0-clause-cleared : goal.returns-then-height-eq0-clause-cleared
 returns-then-height-eq0-clause-cleared c =
     let hdpc = c.args.hdpc.now in
-    let rows = c.args.peeling.now.rows.items in
-    let order = c.args.peeling.now.order.items in
+    let rows = c.args.peeling.now.rows in
+    let order = c.args.peeling.now.order in
     let none : (p : ℕ) → p < length rows → (i : ℕ) → i < length hdpc.rows → entry_of hdpc i (at order p) ≡ 0 = elim c.then-height-eq0.branch [
       | then-height-eq0-via-then-height-eq0 w ↦ λ p l i n. absurd (let empty = w.if-height-eq0.true in omega (arith, empty, c.height.ensures, n))
       | then-height-eq0-via-else-height-eq0+then-are_zeros_at_pivots w ↦ let zeros = rw w.if-are_zeros_at_pivots.true at w.are_zeros_at_pivots.ensures in λ p l i n. zeros refl p l i n
@@ -27,8 +27,8 @@ loop-column-init c =
     let hdpc = c.args.hdpc.now in
     record {
       table = refl;
-      changed = changes_none c.args.peeling.now.rows.items c.args.peeling.now.order.items c.args.peeling.now.places.items c.args.first_hdpc (length hdpc.rows) hdpc.width (octets_from 0 (octet_in c.in_ok-batch.batch)) c.sum_rows.new.recorded c.in_ok-sum_rows.ensures.summed.performs.octets;
-      few = (0, met_none (length c.args.peeling.now.rows.items) (at c.args.peeling.now.places.items), (omega arith));
+      changed = changes_none c.args.peeling.now.rows c.args.peeling.now.order c.args.peeling.now.places c.args.first_hdpc (length hdpc.rows) hdpc.width (octets_from 0 (octet_in c.in_ok-batch.batch)) c.sum_rows.new.recorded c.in_ok-sum_rows.ensures.summed.performs.octets;
+      few = (0, met_none (length c.args.peeling.now.rows) (at c.args.peeling.now.places), (omega arith));
     }
 
 pub clear_column-requires : goal.clear_column-requires
@@ -45,10 +45,10 @@ clear_column-requires c =
     let width : c.loop-column.batch.table.width ≡ hdpc.width = ap (λ (t : OctetTable). t.width) table ∙ c.in_ok-sum_rows.ensures.width ∙ ap (λ (t : OctetTable). t.width) clone in
     let heights : length now.table.rows ≡ length old.table.rows = v.changed.performs.height ∙ summed.performs.height in
     let are : AreOctetsIn c.args.first_hdpc (length hdpc.rows) old = record { within = c.requires.height; fits = c.requires.fits; octets = c.requires.octets } in
-    let beside : HasPivotsBeside p.rows.items p.order.items p.places.items c.args.first_hdpc (length hdpc.rows) hdpc.width old = record { columns = c.requires.order; few = c.requires.few; pivots = c.requires.pivots; apart = c.requires.apart } in
+    let beside : HasPivotsBeside p.rows p.order p.places c.args.first_hdpc (length hdpc.rows) hdpc.width old = record { columns = c.requires.order; few = c.requires.few; pivots = c.requires.pivots; apart = c.requires.apart } in
     record {
       rows = rw count (octets_still c.args.first_hdpc (length hdpc.rows) old now are heights v.changed.performs.octets);
-      pivots = rw (count, width) (beside_still p.rows.items p.order.items p.places.items c.args.first_hdpc (length hdpc.rows) hdpc.width old now beside heights);
+      pivots = rw (count, width) (beside_still p.rows p.order p.places c.args.first_hdpc (length hdpc.rows) hdpc.width old now beside heights);
       some = omega (arith, count, c.height.ensures, c.if-height-eq0.false);
       column = omega (arith, width, c.loop-column-test.true, c.end_of_pivots-column-end.ensures.within, c.requires.order.place_count);
     }
@@ -70,26 +70,26 @@ loop-column-preserved c =
     let width = hdpc.width in
     let clone : c.in_ok-sums.sums ≡ hdpc = c.in_ok-sums.ensures.cases in
     let height : length was.table.rows ≡ count = ap (λ (t : OctetTable). length t.rows) (v.table ∙ c.in_ok-batch.ensures.table) ∙ c.in_ok-sum_rows.ensures.height ∙ ap (λ (t : OctetTable). length t.rows) clone in
-    let beside : HasPivotsBeside p.rows.items p.order.items p.places.items first count width cur =
-    beside_still p.rows.items p.order.items p.places.items first count width c.args.recorded.now cur (record { columns = c.requires.order; few = c.requires.few; pivots = c.requires.pivots; apart = c.requires.apart }) c.in_ok-sum_rows.ensures.summed.performs.height in
-    let turn : ChangesOctets p.rows.items p.order.items first count (octets_from column (octet_in was)) (octets_from (column + 1) (octet_in now)) mid new =
-    subst (λ (n : ℕ). ChangesOctets p.rows.items p.order.items first n (octets_from column (octet_in was)) (octets_from (column + 1) (octet_in now)) mid new) height c.in_ok-clear_column.ensures.changed in
-    let fresh : (q : ℕ) → q < column → at p.places.items q ≢ at p.places.items column = (λ (q : ℕ) (l : q < column) (e : at p.places.items q ≡ at p.places.items column).
-    let same : q ≡ column = sym (c.requires.order.placed q (omega (arith, c.end_of_pivots-column-end.ensures.within, c.requires.order.place_count))).1 ∙ ap (at p.order.items) e ∙ (c.requires.order.placed column (omega (arith, c.end_of_pivots-column-end.ensures.within, c.requires.order.place_count))).1 in
+    let beside : HasPivotsBeside p.rows p.order p.places first count width cur =
+    beside_still p.rows p.order p.places first count width c.args.recorded.now cur (record { columns = c.requires.order; few = c.requires.few; pivots = c.requires.pivots; apart = c.requires.apart }) c.in_ok-sum_rows.ensures.summed.performs.height in
+    let turn : ChangesOctets p.rows p.order first count (octets_from column (octet_in was)) (octets_from (column + 1) (octet_in now)) mid new =
+    subst (λ (n : ℕ). ChangesOctets p.rows p.order first n (octets_from column (octet_in was)) (octets_from (column + 1) (octet_in now)) mid new) height c.in_ok-clear_column.ensures.changed in
+    let fresh : (q : ℕ) → q < column → at p.places q ≢ at p.places column = (λ (q : ℕ) (l : q < column) (e : at p.places q ≡ at p.places column).
+    let same : q ≡ column = sym (c.requires.order.placed q (omega (arith, c.end_of_pivots-column-end.ensures.within, c.requires.order.place_count))).1 ∙ ap (at p.order) e ∙ (c.requires.order.placed column (omega (arith, c.end_of_pivots-column-end.ensures.within, c.requires.order.place_count))).1 in
     omega (arith, same, l)) in
     record {
       table = c.clear_column.ensures.table ∙ v.table;
-      few = elim (cases_lt (at p.places.items column) (length p.rows.items)) [
+      few = elim (cases_lt (at p.places column) (length p.rows)) [
         | inl pivot ↦
             let more = c.in_ok-clear_column.ensures.few in
             let so_far = v.few.2 in
-            (v.few.0 + 1, met_more (length p.rows.items) (at p.places.items) column v.few.0 v.few.1 pivot fresh, omega (arith, more, so_far, height))
+            (v.few.0 + 1, met_more (length p.rows) (at p.places) column v.few.0 v.few.1 pivot fresh, omega (arith, more, so_far, height))
         | inr other ↦
             let more = c.in_ok-clear_column.ensures.idle other in
             let so_far = v.few.2 in
-            (v.few.0, met_skipped (length p.rows.items) (at p.places.items) column v.few.0 v.few.1, omega (arith, more, so_far, height))
+            (v.few.0, met_skipped (length p.rows) (at p.places) column v.few.0 v.few.1, omega (arith, more, so_far, height))
       ];
-      changed = changes_more p.rows.items p.order.items p.places.items first count width (octets_from 0 (octet_in start)) (octets_from column (octet_in was)) (octets_from (column + 1) (octet_in now)) cur mid new beside v.changed turn;
+      changed = changes_more p.rows p.order p.places first count width (octets_from 0 (octet_in start)) (octets_from column (octet_in was)) (octets_from (column + 1) (octet_in now)) cur mid new beside v.changed turn;
     }
 
 pub returns-clause-cleared : goal.returns-clause-cleared
@@ -110,14 +110,14 @@ returns-clause-cleared c =
     subst (λ (t : OctetTable). CombinesOctets first (length t.rows) t.width (entry_of t) (entry_of sums) old cur) clone c.in_ok-sum_rows.ensures.summed in
     let heights : length sums.rows ≡ count = c.in_ok-sum_rows.ensures.height ∙ ap (λ (t : OctetTable). length t.rows) clone in
     let widths : sums.width ≡ width = c.in_ok-sum_rows.ensures.width ∙ ap (λ (t : OctetTable). t.width) clone in
-    let beside : HasPivotsBeside p.rows.items p.order.items p.places.items first count width old = record { columns = c.requires.order; few = c.requires.few; pivots = c.requires.pivots; apart = c.requires.apart } in
+    let beside : HasPivotsBeside p.rows p.order p.places first count width old = record { columns = c.requires.order; few = c.requires.few; pivots = c.requires.pivots; apart = c.requires.apart } in
     let last : c.loop-column.column ≡ c.end_of_pivots-column-end.result = omega (arith, c.loop-column.auto.column-end) in
-    let begun : ChangesOctets p.rows.items p.order.items first count (entry_of hdpc) (octets_from 0 (octet_in start)) old cur =
-    changes_same p.rows.items p.order.items p.places.items first count width (entry_of hdpc) (entry_of sums) (octets_from 0 (octet_in start)) old cur
-    (λ i q l n. sym (from_column 0 (octet_in start) i (at p.order.items q) (omega arith) ∙ c.in_ok-batch.ensures.octets i (at p.order.items q) (rw heights l) (rw widths (in_width p.rows.items p.order.items p.places.items first count width old beside q n))))
-    (changes_combined p.rows.items p.order.items p.places.items first count width (entry_of hdpc) (entry_of sums) old cur beside summed) in
-    let changed = changes_more p.rows.items p.order.items p.places.items first count width (entry_of hdpc) (octets_from 0 (octet_in start)) (octets_from c.loop-column.column (octet_in end)) old cur new beside begun c.loop-column.invariant.changed in
-    clears_octets p.rows.items p.order.items p.places.items first count width (entry_of hdpc) (octet_in end) old new c.loop-column.column beside c.requires.hdpc_octets.elements changed
+    let begun : ChangesOctets p.rows p.order first count (entry_of hdpc) (octets_from 0 (octet_in start)) old cur =
+    changes_same p.rows p.order p.places first count width (entry_of hdpc) (entry_of sums) (octets_from 0 (octet_in start)) old cur
+    (λ i q l n. sym (from_column 0 (octet_in start) i (at p.order q) (omega arith) ∙ c.in_ok-batch.ensures.octets i (at p.order q) (rw heights l) (rw widths (in_width p.rows p.order p.places first count width old beside q n))))
+    (changes_combined p.rows p.order p.places first count width (entry_of hdpc) (entry_of sums) old cur beside summed) in
+    let changed = changes_more p.rows p.order p.places first count width (entry_of hdpc) (octets_from 0 (octet_in start)) (octets_from c.loop-column.column (octet_in end)) old cur new beside begun c.loop-column.invariant.changed in
+    clears_octets p.rows p.order p.places first count width (entry_of hdpc) (octet_in end) old new c.loop-column.column beside c.requires.hdpc_octets.elements changed
     (rw last c.end_of_pivots-column-end.ensures.last)
 
 pub returns-clause-few : goal.returns-clause-few
@@ -125,9 +125,9 @@ returns-clause-few c =
     let hdpc = c.args.hdpc.now in
     let few = c.loop-column.invariant.few in
     let summed = c.in_ok-sum_rows.ensures.few in
-    let met = few_places few.0 (length c.args.peeling.now.rows.items) few.1.which few.1.are in
+    let met = few_places few.0 (length c.args.peeling.now.rows) few.1.which few.1.are in
     let done : c.loop-column.column ≤ hdpc.width = omega (arith, c.loop-column.auto.column-end, c.end_of_pivots-column-end.ensures.within, c.requires.order.place_count) in
-    let all = batch_sum (length hdpc.rows - 1) (length hdpc.rows) hdpc.width c.loop-column.column few.0 (length c.args.peeling.now.rows.items) done met in
+    let all = batch_sum (length hdpc.rows - 1) (length hdpc.rows) hdpc.width c.loop-column.column few.0 (length c.args.peeling.now.rows) done met in
     let so_far = few.2 in
     let first : additions c.sum_rows.new.recorded.operations ≤ additions c.args.recorded.now.operations + (length hdpc.rows - 1) = rw c.in_ok-sums.ensures.cases at summed in
     omega (arith, all, so_far, first)

@@ -6,5 +6,5 @@ use Rattle.rq_solver.proofs.pi_solver.first_phase.hdpc.end_of_pivots.Given as go
 abbrev pub invariant-loop-column : goal.invariant-loop-column
 invariant-loop-column l = record {
   within : l.end ≤ l.column;
-  last : (k : ℕ) → l.end ≤ k → k < l.column → length l.peeling.rows.items ≤ at l.peeling.places.items k;
+  last : (k : ℕ) → l.end ≤ k → k < l.column → length l.peeling.rows ≤ at l.peeling.places k;
 }

@@ -12,20 +12,20 @@ loop-row-preserved c =
     let first = c.args.first_hdpc in
     let hdpc = c.args.hdpc.now in
     let p = c.args.peeling.now in
-    let pivots : ℕ = length p.rows.items in
+    let pivots : ℕ = length p.rows in
     let r = c.loop-row.row in
     let v = c.loop-row.invariant in
     elim c.if-row-first_hdpc.branch [
       | then-row-first_hdpc+then-row-first_hdpc-2+in_ok-fill_octets w ↦
           let is : first + (r - first) ≡ r = omega (arith, w.if-row-first_hdpc.true) in
           let inside : r - first < length hdpc.rows = omega (arith, w.if-row-first_hdpc-2.true, w.height-then-row-first_hdpc.ensures) in
-          rw w.entries-is (leading_octets lists first hdpc p.order.items pivots c.args.inactive r c.loop-row.entries w.fill_octets.new.entries v (r - first) is inside w.in_ok-fill_octets.ensures.written)
+          rw w.entries-is (leading_octets lists first hdpc p.order pivots c.args.inactive r c.loop-row.entries w.fill_octets.new.entries v (r - first) is inside w.in_ok-fill_octets.ensures.written)
       | else-row-first_hdpc w ↦
           let out : (r < first) ⊎ (first + length hdpc.rows ≤ r) = elim w.else-row-first_hdpc.branch [
             | else-row-first_hdpc-via-then-row-first_hdpc+else-row-first_hdpc-2 u ↦ inr (omega (arith, u.if-row-first_hdpc.true, u.if-row-first_hdpc-2.false, u.height-then-row-first_hdpc.ensures))
             | else-row-first_hdpc-via-else-row-first_hdpc u ↦ inl (omega (arith, u.if-row-first_hdpc.false))
           ] in
-          let count : length p.places.items - length p.rows.items ≡ c.args.inactive = omega (arith, c.requires.inactive) in
-          rw w.entries-is (leading_bits lists first hdpc p.order.items pivots c.args.inactive r c.loop-row.entries w.fill_bits.new.entries v out
-          (fills_of_writes r c.args.inactive (length p.places.items - length p.rows.items) (λ (f : ℕ). one_in lists r (at p.order.items (pivots + f))) c.loop-row.entries w.fill_bits.new.entries count w.fill_bits.ensures))
+          let count : length p.places - length p.rows ≡ c.args.inactive = omega (arith, c.requires.inactive) in
+          rw w.entries-is (leading_bits lists first hdpc p.order pivots c.args.inactive r c.loop-row.entries w.fill_bits.new.entries v out
+          (fills_of_writes r c.args.inactive (length p.places - length p.rows) (λ (f : ℕ). one_in lists r (at p.order (pivots + f))) c.loop-row.entries w.fill_bits.new.entries count w.fill_bits.ensures))
     ]

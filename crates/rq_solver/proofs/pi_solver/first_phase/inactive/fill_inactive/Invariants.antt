@@ -5,4 +5,4 @@ use Rattle.rq_solver.specs.Cleared.{HasLeading, system_rows}
 use Rattle.rq_solver.proofs.pi_solver.first_phase.inactive.fill_inactive.Given as goal
 
 abbrev pub invariant-loop-row : goal.invariant-loop-row
-invariant-loop-row l = HasLeading (length l.ones) l.inactive l.row (λ r f. system_rows l.ones l.first_hdpc l.hdpc r (at l.peeling.order.items (length l.peeling.rows.items + f))) l.entries
+invariant-loop-row l = HasLeading (length l.ones) l.inactive l.row (λ r f. system_rows l.ones l.first_hdpc l.hdpc r (at l.peeling.order (length l.peeling.rows + f))) l.entries

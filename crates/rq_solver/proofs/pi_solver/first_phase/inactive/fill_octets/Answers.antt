@@ -8,7 +8,7 @@ use Rattle.rq_solver.proofs.pi_solver.first_phase.inactive.fill_octets.Goals as 
 pub returns-clause-written : goal.returns-clause-written
 returns-clause-written c =
     let p = c.args.peeling.now in
-    fills_row c.args.entries.now c.requires.octets c.args.row c.args.inactive (λ (f : ℕ). entry_of c.args.octets.now c.args.from (at p.order.items (length p.rows.items + f))) c.loop-f.filled.items c.requires.row
+    fills_row c.args.entries.now c.requires.octets c.args.row c.args.inactive (λ (f : ℕ). entry_of c.args.octets.now c.args.from (at p.order (length p.rows + f))) c.loop-f.filled.items c.requires.row
     c.set_octets.ensures.octets
     (λ k l. c.loop-f.invariant.here k (omega arith))
     c.set_octets.new.self c.set_octets.ensures.row

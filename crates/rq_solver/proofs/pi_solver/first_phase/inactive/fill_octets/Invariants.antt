@@ -7,5 +7,5 @@ use Rattle.rq_solver.proofs.pi_solver.first_phase.inactive.fill_octets.Given as 
 abbrev pub invariant-loop-f : goal.invariant-loop-f
 invariant-loop-f l = record {
   long : length l.filled.items ≡ l.fn.entries.width;
-  here : (k : ℕ) → k < l.f → at l.filled.items k ≡ entry_of l.octets l.from (at l.peeling.order.items (length l.peeling.rows.items + k));
+  here : (k : ℕ) → k < l.f → at l.filled.items k ≡ entry_of l.octets l.from (at l.peeling.order (length l.peeling.rows + k));
 }
