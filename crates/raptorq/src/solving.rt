@@ -92,7 +92,7 @@ impl Listed<'_> {
         let solver = IntermediateSymbolDecoder::of_row_no_hdpc(
             self.alloc, self.row, matrix, values,
         );
-        let Some(operations) = solver.find_operations()? else {
+        let Some(operations) = solver.into_operations()? else {
             return Ok(None);
         };
         Ok(Some(Solution { fixed, operations }))
@@ -109,7 +109,7 @@ impl Listed<'_> {
         let fixed = (self.row.ldpc_symbols + self.row.hdpc_symbols) as usize;
         let values = SymbolSlab::with_zeros(self.alloc, fixed + self.ids.len(), 0)?;
         let solver = IntermediateSymbolDecoder::of_row(self.alloc, self.row, matrix, hdpc, values);
-        let Some(operations) = solver.find_operations()? else {
+        let Some(operations) = solver.into_operations()? else {
             return Ok(None);
         };
         Ok(Some(Solution { fixed, operations }))
