@@ -12,6 +12,7 @@ pub mod Interleaving
 pub mod Intermediates
 pub mod Listing
 pub mod Lists
+pub mod LostSymbols
 pub mod MissingCounts
 pub mod Numbered
 pub mod ObjectBlocks

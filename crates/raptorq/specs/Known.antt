@@ -1,5 +1,6 @@
 -- The equations that the decoder of a block knows, as a list of internal symbol ids with a value for each equation.
-use Rattle.std.specs.Prelude.{◌≡◌, ℕ, ◌+◌, ◌-◌, ◌<◌, ◌≤◌, List, ◌++◌, length, map, replicate, Option, MatchOption, unwrap_or}
+use Rattle.std.specs.Prelude.{◌≡◌, ℕ, ◌+◌, ◌-◌, ◌<◌, ◌≤◌, List, ◌++◌, length, map, replicate, Option, Some, MatchOption, unwrap_or}
+use Rattle.std.specs.BTreeMap.{BTreeMap}
 use Rattle.std.specs.List.{range_with_len}
 use Rattle.std.specs.declared.vec.Vec.{Vec}
 use Rattle.std.specs.declared.alloc.Global.{Global}
@@ -9,7 +10,9 @@ use Rattle.rq_standard.specs.declared.row.TableRow.{TableRow}
 use Rattle.rq_standard.specs.OctetField.{octets}
 use Rattle.rq_standard.specs.TableRows.{intermediate_symbols}
 use Rattle.rq_standard.specs.Equations.{zero_symbol, internal_id, tuple_sum}
+use Rattle.rq_standard.specs.Received.{or_later}
 use Rattle.rq_standard.specs.Held.{Held, SolvesHeld, AreHeldDetermining}
+use Rattle.raptorq.specs.Missing.{payload_of}
 
 -- padding comes first, then what came in the order of its encoding symbol ids
 abbrev pub known_list : TableRow → ℕ → List (ℕ × Vec ℕ Global) → List ℕ
@@ -35,3 +38,7 @@ SolvesBlock h answer = MatchOption answer (AreHeldDetermining h → ⊥) (IsHeld
 -- a source symbol, from what came or from the intermediate symbols
 abbrev pub rebuilt_symbol : Held → Slab → ℕ → List ℕ
 rebuilt_symbol h slab e = unwrap_or (h.received e) (tuple_sum h.row (symbol_in slab) e)
+
+-- with these symbols besides those that came each source symbol is there
+pub record HasLostSymbols (h : Held) (slab : Slab) (lost : BTreeMap ℕ (Vec ℕ Global)) : Type 0 where
+  pub each : (e : ℕ) → e < h.symbols → or_later (h.received e) (payload_of lost e) ≡ Some (rebuilt_symbol h slab e)

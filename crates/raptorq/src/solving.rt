@@ -92,7 +92,7 @@ impl Listed<'_> {
         let solver = IntermediateSymbolDecoder::of_row_no_hdpc(
             self.alloc, self.row, matrix, values,
         );
-        let Some(operations) = solver.find_operations()? else {
+        let Some(operations) = solver.into_operations()? else {
             return Ok(None);
         };
         Ok(Some(Solution { fixed, operations }))
@@ -109,7 +109,7 @@ impl Listed<'_> {
         let fixed = (self.row.ldpc_symbols + self.row.hdpc_symbols) as usize;
         let values = SymbolSlab::with_zeros(self.alloc, fixed + self.ids.len(), 0)?;
         let solver = IntermediateSymbolDecoder::of_row(self.alloc, self.row, matrix, hdpc, values);
-        let Some(operations) = solver.find_operations()? else {
+        let Some(operations) = solver.into_operations()? else {
             return Ok(None);
         };
         Ok(Some(Solution { fixed, operations }))
@@ -118,8 +118,27 @@ impl Listed<'_> {
 
 /// A column that isn't all zeros and solves the equations of a list of internal symbol ids with all
 /// values zero. `None` where the ids determine the intermediate symbols. There may be any number of
-/// ids.
+/// ids. The matrix is sparse or dense as that of [`find_operations`].
 pub(crate) fn homogeneous(
+    alloc: Global,
+    row: &TableRow,
+    ids: &[u32],
+    sparse_threshold: u32,
+) -> Result<Option<Vec<u8>>, Error>
+    requires checked { IsChecked row.now }
+    requires fits { equation_count row.now ids.now < 2 ^ 31 }
+    ensures shown { IfOk result (ShowsHomogeneous (equation_count row.now ids.now) (intermediate_symbols row.now) (equations row.now ids.now)) }
+    ensures memory { IfErr result (λ e. e ≡ Error.OutOfMemory) }
+{
+    if row.extended_symbols >= sparse_threshold {
+        homogeneous_over::<SparseBinaryMatrix>(alloc, row, ids)
+    } else {
+        homogeneous_over::<DenseBinaryMatrix>(alloc, row, ids)
+    }
+}
+
+// Over one kind of matrix.
+fn homogeneous_over<T: BinaryMatrix>(
     alloc: Global,
     row: &TableRow,
     ids: &[u32],
@@ -129,7 +148,7 @@ pub(crate) fn homogeneous(
     ensures shown { IfOk result (ShowsHomogeneous (equation_count row.now ids.now) (intermediate_symbols row.now) (equations row.now ids.now)) }
     ensures memory { IfErr result (λ e. e ≡ Error.OutOfMemory) }
 {
-    let (matrix, hdpc) = generate_constraint_matrix_of_row::<DenseBinaryMatrix>(alloc, row, ids)?;
+    let (matrix, hdpc) = generate_constraint_matrix_of_row::<T>(alloc, row, ids)?;
     let boundary = row.lt_symbols as usize;
     homogeneous_column(alloc, &matrix, boundary, &hdpc, row.ldpc_symbols as usize)
 }

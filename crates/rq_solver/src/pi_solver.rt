@@ -218,6 +218,31 @@ impl<T: BinaryMatrix> IntermediateSymbolDecoder<T> {
         Ok(operations)
     }
 
+    /// The operations that find the solution of the equations from any symbols, as
+    /// `find_operations` finds them, where the solver isn't wanted any more: it lets its matrix and
+    /// its symbols go before it works. Not in the Rust crate.
+    pub fn into_operations(self) -> Result<Option<Vec<SymbolOps>>, Error>
+        ensures found { IfOk result (FindsOperations (solver_state self)) }
+        ensures memory { IfErr result (λ e. e ≡ OutOfMemory) }
+    {
+        let IntermediateSymbolDecoder {
+            alloc,
+            matrix,
+            hdpc,
+            first_hdpc,
+            boundary,
+            symbols,
+            ..
+        } = self;
+        drop(symbols);
+        let width = matrix.width();
+        let ones = RowOnes::of_matrix(alloc, &matrix, boundary)?;
+        drop(matrix);
+        let peeling = peel(alloc, &ones, width, boundary)?;
+        let attempt = find_operations(alloc, &ones, &hdpc, first_hdpc, width, &peeling)?;
+        Ok(attempt.operations)
+    }
+
     // Looks for the operations.
     fn attempt(&self) -> Result<Attempt, Error>
         ensures found { IfOk result (λ attempt. FindsOperations (solver_state self.now) attempt.operations) }

@@ -1,5 +1,5 @@
 //! The decoder of one source block.
-ghost use Rattle.std.specs.Prelude.{◌≡◌, ℕ, ◌*◌, ◌^◌, ◌<◌, ◌≤◌, true, false, [], ◌∷◌, ◌++◌, All, length, map, Ok, Some, None, IfSome, IfOk, IfErr, OnOk, OnErr, IsSome, not, if◌then◌else◌, ◌==◌, option_map, vec_items};
+ghost use Rattle.std.specs.Prelude.{◌≡◌, ℕ, ◌*◌, ◌^◌, ◌<◌, ◌≤◌, true, false, [], ◌∷◌, ◌++◌, All, length, map, Ok, Some, None, IfSome, IfOk, IfErr, OnOk, OnErr, IsSome, not, if◌then◌else◌, ◌==◌, option_map, unwrap_or, vec_items};
 ghost use Rattle.std.specs.Option.{ForSome};
 ghost use Rattle.rq_bytes.specs.Refusals.{IsAnswer};
 ghost use Rattle.rq_bytes.specs.SymbolSlab.{slab_of};
@@ -135,7 +135,7 @@ impl SourceBlockDecoder {
     ghost use Rattle.rq_standard.specs.Held.{holds, recorded, ShowsUndetermined, IsBlockWith, IsBlockAnswer};
     ghost use Rattle.rq_standard.specs.Received.{HasSourceSymbols};
     ghost use Rattle.rq_standard.specs.TableRows.{greatest_size, intermediate_symbols};
-    ghost use Rattle.raptorq.specs.Known.{SolvesBlock, IsHeldSolution, rebuilt_symbol};
+    ghost use Rattle.raptorq.specs.Known.{SolvesBlock, IsHeldSolution, HasLostSymbols};
     ghost use Rattle.raptorq.specs.Refused.{checked_block, block_refusal};
     ghost use Rattle.raptorq.specs.SourceBlockDecoder.{held_of, empty_block};
     ghost use Rattle.raptorq.specs.Decoding.{DecodesFrom, DecodesFromUntil, IsUnanswered, shown};
@@ -259,7 +259,7 @@ impl SourceBlockDecoder {
         ensures memory { IfErr result (λ e. e ≡ Error.OutOfMemory) }
     {
         let ids = known_symbol_ids(self.alloc, &self.row, self.symbols, &self.received)?;
-        homogeneous(self.alloc, &self.row, ids.as_slice())
+        homogeneous(self.alloc, &self.row, ids.as_slice(), self.sparse_threshold)
     }
 
     // Tests a packet and records it.
@@ -336,7 +336,7 @@ impl SourceBlockDecoder {
             return Ok(Some(self.join_source()?));
         }
         match self.solve()? {
-            Some(intermediate) => Ok(Some(self.rebuild(&intermediate)?)),
+            Some(intermediate) => Ok(Some(self.rebuild(intermediate)?)),
             None if all => Ok(Some(self.join_source()?)),
             None => Ok(None),
         }
@@ -420,34 +420,52 @@ impl SourceBlockDecoder {
         }
     }
 
-    // The block, from the source symbols that came and the intermediate symbols.
-    fn rebuild(&self, intermediate: &SymbolSlab) -> Result<Vec<u8>, AllocError>
-        requires { IsHeldSolution (held_of self.now) intermediate.now }
+    // The block, from the source symbols that came and the intermediate symbols. These are let go
+    // before there is a block: beside it stand what came and the lost symbols alone.
+    fn rebuild(&self, intermediate: SymbolSlab) -> Result<Vec<u8>, AllocError>
+        requires { IsHeldSolution (held_of self.now) intermediate }
         ensures { IfOk result (λ block. IsBlockWith (held_of self.now) block.items) }
     {
+        let lost = self.lost_symbols(intermediate)?;
         let whole = self.symbols as usize * self.symbol_size();
         let mut plain = Vec::with_capacity(self.alloc, whole)?;
         for e in 0..self.symbols {
-            self.push_symbol(intermediate, e, &mut plain)?;
+            self.push_symbol(&lost, e, &mut plain)?;
         }
         into_sub_blocks(self.alloc, &self.config, self.symbols, plain)
     }
 
-    // A source symbol behind those before it: the one that came, or a sum of intermediate symbols.
+    // The source symbols that didn't come, as sums of intermediate symbols.
+    fn lost_symbols(&self, intermediate: SymbolSlab) -> Result<BTreeMap<u32, Vec<u8>>, AllocError>
+        requires { IsHeldSolution (held_of self.now) intermediate }
+        ensures { IfOk result (HasLostSymbols (held_of self.now) intermediate) }
+    {
+        let mut lost = BTreeMap::new(self.alloc);
+        for e in 0..self.symbols {
+            if !self.received.contains_key(&e) {
+                let symbol = encoding_symbol(self.alloc, &self.row, &intermediate, e)?;
+                let _new = keep_first(&mut lost, e, symbol)?;
+            }
+        }
+        Ok(lost)
+    }
+
+    // A source symbol behind those before it: the one that came, or that among the lost ones.
     fn push_symbol(
         &self,
-        intermediate: &SymbolSlab,
+        lost: &BTreeMap<u32, Vec<u8>>,
         e: u32,
         plain: &mut Vec<u8>,
     ) -> Result<(), AllocError>
-        requires solution { IsHeldSolution (held_of self.now) intermediate.now }
-        requires source { e < (held_of self.now).symbols }
-        ensures { OnOk result (plain.new.items ≡ plain.old.items ++ rebuilt_symbol (held_of self.now) intermediate.now e) }
+        requires { IsSome (or_later ((held_of self.now).received e) (payload_of lost.now e)) }
+        ensures { OnOk result (plain.new.items ≡ plain.old.items ++ unwrap_or (or_later ((held_of self.now).received e) (payload_of lost.now e)) []) }
     {
         if let Some(symbol) = self.received.get(&e) {
             return plain.extend_from_slice(symbol.as_slice());
         }
-        let symbol = encoding_symbol(self.alloc, &self.row, intermediate, e)?;
+        let Some(symbol) = lost.get(&e) else {
+            unreachable!()
+        };
         plain.extend_from_slice(symbol.as_slice())
     }
 }
