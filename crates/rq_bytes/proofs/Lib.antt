@@ -5,6 +5,7 @@ pub mod Doubling
 pub mod HalfLookUps
 pub mod HalfSums
 pub mod Halves
+pub mod Multiples
 pub mod PackedRows
 pub mod PlaneFacts
 pub mod RangeFacts

@@ -1,9 +1,8 @@
 -- Sums of ranges of one buffer, piece by piece.
-use Rattle.std.proofs.Common.{◌≡◌, ⊎_elim, ℕ, ◌+◌, ◌-◌, ◌<◌, ◌≤◌, List, [], ◌∷◌, ◌++◌, length, take, drop, get_or, fold, All, refl, sym, ap, ◌∙◌, arith}
+use Rattle.std.proofs.Common.{◌≡◌, ⊎_elim, ℕ, ◌+◌, ◌-◌, ◌≤◌, List, [], ◌∷◌, ◌++◌, length, take, drop, fold, All, refl, sym, ap, ◌∙◌, arith}
 use Rattle.std.proofs.Math.Seq.{take-append_seam, take-append-add, drop-append_seam, drop-append-add, take-add}
-use Rattle.std.proofs.lemmas.List.{append_assoc, drop-drop, drop-take, drop-append-le, take-append-drop, take-append-le, length-append, length-take-le, length-drop, nil_from_length, take_more, take-take}
+use Rattle.std.proofs.lemmas.List.{append_assoc, drop-drop, drop-take, drop-append-le, take-append-drop, take-append-le, length-append, length-take-le, length-drop, nil_from_length, take-take}
 use Rattle.std.proofs.lemmas.List.Elements.{All-head, All-tail, All-weaker}
-use Rattle.std.proofs.lemmas.List.Sums.{fold_push}
 use Rattle.std.proofs.lemmas.Simd.{length-zip2}
 use Rattle.std.specs.Int.Bits.{bit_xor}
 use Rattle.rq_standard.specs.Rows.{row_sum}
@@ -13,14 +12,17 @@ use Rattle.rq_bytes.proofs.RangeFacts.{length-range}
 
 -- ---- a row and those that f gives for places, added one after another
 
-abbrev pub rows_added : (ℕ → List ℕ) → List ℕ → List ℕ → List ℕ
-rows_added f x sources = fold (λ sum src. row_sum sum (f src)) x sources
+abbrev pub summed : (List ℕ → List ℕ → List ℕ) → (ℕ → List ℕ) → List ℕ → List ℕ → List ℕ
+summed add f x sources = fold (λ sum src. add sum (f src)) x sources
 
-length-rows_added : (n : ℕ) (f : ℕ → List ℕ) (x sources : List ℕ) → length x ≡ n → All (λ src. length (f src) ≡ n) sources → length (rows_added f x sources) ≡ n
-length-rows_added n f x [] e all = e
-length-rows_added n f x (src ∷ sources) e all =
-    length-rows_added n f (row_sum x (f src)) sources (length-zip2 bit_xor x (f src) (e ∙ sym (All-head (λ s. length (f s) ≡ n) src sources all)) ∙ e)
-    (All-tail (λ s. length (f s) ≡ n) src sources all)
+pub length-summed : (add : List ℕ → List ℕ → List ℕ) (n : ℕ) → ((xs ys : List ℕ) → length xs ≡ n → length ys ≡ n → length (add xs ys) ≡ n)
+    → (f : ℕ → List ℕ) (x sources : List ℕ) → length x ≡ n → All (λ src. length (f src) ≡ n) sources → length (summed add f x sources) ≡ n
+length-summed add n keeps f x [] e all = e
+length-summed add n keeps f x (src ∷ sources) e all =
+    length-summed add n keeps f (add x (f src)) sources (keeps x (f src) e (All-head (λ s. length (f s) ≡ n) src sources all)) (All-tail (λ s. length (f s) ≡ n) src sources all)
+
+abbrev rows_added : (ℕ → List ℕ) → List ℕ → List ℕ → List ℕ
+rows_added = summed row_sum
 
 rows_added-same : (f g : ℕ → List ℕ) (x sources : List ℕ) → All (λ src. f src ≡ g src) sources → rows_added f x sources ≡ rows_added g x sources
 rows_added-same f g x [] same = refl
@@ -42,19 +44,6 @@ rows_added-join n f g x y (src ∷ sources) e all =
     let long = e ∙ sym (All-head (λ s. length (f s) ≡ n) src sources all) in
     ap (λ z. rows_added (λ s. f s ++ g s) z sources) (zip2-join x y (f src) (g src) long)
     ∙ rows_added-join n f g (row_sum x (f src)) (row_sum y (g src)) sources (length-zip2 bit_xor x (f src) long ∙ e) (All-tail (λ s. length (f s) ≡ n) src sources all)
-
--- one more row
-pub sum_more : (bytes : List ℕ) (dest : ℕ) (sources : List ℕ) (at n i : ℕ) → i < length sources
-    → row_sum (sum_of_ranges bytes dest (take i sources) at n) (range_of bytes (get_or sources i 0 + at) n) ≡ sum_of_ranges bytes dest (take (i + 1) sources) at n
-sum_more bytes dest sources at n i lt =
-    let more = λ (sum : List ℕ) (src : ℕ). row_sum sum (range_of bytes (src + at) n) in
-    sym (
-    ap (fold more (range_of bytes (dest + at) n)) (take_more sources i 0 lt)
-    ∙ fold_push more (range_of bytes (dest + at) n) (take i sources) (get_or sources i 0))
-
--- a slice from a place on, and its first lanes
-pub loaded : (xs : List ℕ) (at n : ℕ) → at + n ≤ length xs → take n (take (length xs - at) (drop at xs)) ≡ range_of xs at n
-loaded xs at n within = take-take n (length xs - at) (drop at xs) (omega arith)
 
 -- two ranges that follow each other
 range-join : (xs : List ℕ) (i j n m : ℕ) → j ≡ i + n → range_of xs i (n + m) ≡ range_of xs i n ++ range_of xs j m
@@ -118,16 +107,16 @@ module _ (xs ys : List ℕ) (i : ℕ) (le : i ≤ length xs) where
 -- ---- the sum, piece by piece
 
 module _ (bytes : List ℕ) (dest len : ℕ) (sources : List ℕ) (fits : dest + len ≤ length bytes) (beside : All (IsRangeBeside (length bytes) dest len) sources) where
-  pub all_within : (at n : ℕ) → at + n ≤ len → All (λ src. src + at + n ≤ length bytes) sources
+  all_within : (at n : ℕ) → at + n ≤ len → All (λ src. src + at + n ≤ length bytes) sources
   all_within at n within = All-weaker (IsRangeBeside (length bytes) dest len) (λ src. src + at + n ≤ length bytes) (λ src b. omega (arith, b.0)) sources beside
 
   ranges_long : (at n : ℕ) → at + n ≤ len → All (λ src. length (range_of bytes (src + at) n) ≡ n) sources
   ranges_long at n within =
       All-weaker (λ src. src + at + n ≤ length bytes) (λ src. length (range_of bytes (src + at) n) ≡ n) (λ src le. length-range bytes (src + at) n le) sources (all_within at n within)
 
-  pub length-sum : (at n : ℕ) → at + n ≤ len → length (sum_of_ranges bytes dest sources at n) ≡ n
+  length-sum : (at n : ℕ) → at + n ≤ len → length (sum_of_ranges bytes dest sources at n) ≡ n
   length-sum at n within =
-      length-rows_added n (λ src. range_of bytes (src + at) n) (range_of bytes (dest + at) n) sources (length-range bytes (dest + at) n (omega arith)) (ranges_long at n within)
+      length-summed row_sum n (λ xs ys e e'. length-zip2 bit_xor xs ys (e ∙ sym e') ∙ e) (λ src. range_of bytes (src + at) n) (range_of bytes (dest + at) n) sources (length-range bytes (dest + at) n (omega arith)) (ranges_long at n within)
 
   sum-join : (at b n m : ℕ) → b ≡ at + n → at + (n + m) ≤ len → sum_of_ranges bytes dest sources at (n + m) ≡ sum_of_ranges bytes dest sources at n ++ sum_of_ranges bytes dest sources b m
   sum-join at b n m e within =

@@ -12,6 +12,7 @@ use Rattle.rq_standard.proofs.RowSymbols.{add_symbols-rows}
 use Rattle.rq_bytes.specs.Ranges.{range_of, with_range, cut}
 use Rattle.rq_bytes.specs.RangeSums.{sum_of_ranges, IsRangeBeside}
 use Rattle.rq_bytes.specs.SymbolSlab.{Slab, store_of, after, after_all, Allows, symbol_in}
+use Rattle.rq_bytes.proofs.RangeSums.{summed, length-summed}
 use Rattle.rq_bytes.proofs.SlabFacts.{Holds, apart, range_at, length-range_at, within, one_written, meant_below}
 use Rattle.rq_bytes.specs.contracts.symbol_slab.SymbolSlab.{the_view, the_invariant}
 use Rattle.rq_bytes.specs.declared.symbol_slab.SymbolSlab.TheInside.{Inside}
@@ -23,14 +24,7 @@ after_more operations operation slab =
 
 -- a symbol and those that f gives for places, added one after another
 abbrev added : (ℕ → List ℕ) → List ℕ → List ℕ → List ℕ
-added f x sources = fold (λ sum src. add_symbols octets sum (f src)) x sources
-
-length-added : (n : ℕ) (f : ℕ → List ℕ) (x : List ℕ) (sources : List ℕ) → length x ≡ n → All (λ src. length (f src) ≡ n) sources → length (added f x sources) ≡ n
-length-added n f x [] e all = e
-length-added n f x (src ∷ sources) e all =
-    length-added n f (add_symbols octets x (f src)) sources
-    (length-add_symbols octets n n x (f src) e (All-head (λ s. length (f s) ≡ n) src sources all))
-    (All-tail (λ s. length (f s) ≡ n) src sources all)
+added = summed (add_symbols octets)
 
 -- other octets in the place of the symbol that a place means
 abbrev with_symbol : Slab → ℕ → List ℕ → Slab
@@ -117,7 +111,7 @@ module _ {bytes : List ℕ} {count size : ℕ} {order : Option (List ℕ)} {slab
         let x = symbol_in slab dest in
         let sum = added (symbol_in slab) x sources in
         let there = λ (xs : List ℕ) (k : ℕ) (ks : List ℕ). with_range old start (sum_of_ranges xs k ks 0 size) in
-        let long : length sum ≡ size = length-added size (symbol_in slab) x sources (length-range_at is d to)
+        let long : length sum ≡ size = length-summed (add_symbols octets) size (length-add_symbols octets size size) (symbol_in slab) x sources (length-range_at is d to)
         (All-weaker (IsSource slab dest) (λ src. length (symbol_in slab src) ≡ size) (λ src a. length-range_at is (meant_at slab.order src) a.0) sources all) in
         let back : ◌≡◌ {A = Slab} (with_symbol slab dest x) slab = ap (λ (v : List (List ℕ)). record slab { values = v }) (set-get_or slab.values d []) in
         one_written is d start old new items sum to e long same kept (

@@ -3,7 +3,7 @@ use Rattle.std.specs.Prelude.{ℕ, ◌+◌, ◌≤◌, ◌⊎◌, List, fold}
 use Rattle.rq_standard.specs.Rows.{row_sum}
 use Rattle.rq_bytes.specs.Ranges.{range_of}
 
--- the sum of the n elements at `at` behind `dest` and of those at `at` behind each of some places
+-- the sum of the n elements that begin `at` elements after `dest` and of those that begin as many after each of some starts
 abbrev pub sum_of_ranges : List ℕ → ℕ → List ℕ → ℕ → ℕ → List ℕ
 sum_of_ranges bytes dest sources at n = fold (λ sum src. row_sum sum (range_of bytes (src + at) n)) (range_of bytes (dest + at) n) sources
 

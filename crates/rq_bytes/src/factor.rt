@@ -5,6 +5,7 @@ ghost use Rattle.rq_standard.specs.Rows.{row_sum, row_multiple};
 ghost use Rattle.rq_bytes.specs.HalfProducts.{half_byte, IsSumBelow};
 
 use crate::octet::Octet;
+use crate::octets::add_assign;
 use crate::products::{doubled_lanes, product};
 use std::marker::Model;
 use std::simd::prelude::*;
@@ -142,6 +143,18 @@ impl Factor {
         let low = self.low.swizzle_dyn_within::<16>(lanes & u8x32::splat(15));
         let high = self.high.swizzle_dyn_within::<16>(lanes >> u8x32::splat(4));
         low ^ high
+    }
+}
+
+/// Adds an octet's multiple of a row to a row of the same length. A multiple by 1 needs no products.
+pub fn add_row_multiple(octets: &mut [u8], other: &[u8], scalar: &Octet)
+    requires { length other.now ≡ length octets.old }
+    ensures { octets.new ≡ row_sum octets.old (row_multiple scalar.now other.now) }
+{
+    if scalar.byte() == 1 {
+        add_assign(octets, other);
+    } else {
+        Factor::new(scalar).add_multiple(octets, other);
     }
 }
 

@@ -5,8 +5,8 @@ ghost use Rattle.rq_bytes.specs.RangeSums.{sum_of_ranges, IsRangeBeside};
 
 use std::simd::Simd;
 
-/// Adds the `len` octets from each of several places on to those from `dest` on, in one pass over
-/// them. It is made anew for each number of places that is known.
+/// Adds the `len` octets from each of several starts on to those from `dest` on, in one pass over
+/// them. It is compiled anew for each known number of sources.
 #[inline(always)]
 pub(crate) fn add_ranges(bytes: &mut [u8], dest: usize, sources: &[usize], len: usize)
     requires dest { dest + len ≤ length bytes.old }
@@ -18,8 +18,7 @@ pub(crate) fn add_ranges(bytes: &mut [u8], dest: usize, sources: &[usize], len: 
     add_pieces::<1>(bytes, dest, sources, len, narrow);
 }
 
-// Adds the octets at `start` and behind it, as many pieces of N octets as there are. Returns where
-// these end.
+// The same for the octets from `start` on, in whole pieces of N. Returns where the last piece ends.
 #[inline(always)]
 fn add_pieces<const N: usize>(
     bytes: &mut [u8],
@@ -47,7 +46,7 @@ fn add_pieces<const N: usize>(
     start + N * pieces
 }
 
-// The sum of the N octets at `at` behind `dest` and behind each of several places.
+// The sum of the N octets that begin `at` octets after `dest` and after each of several starts.
 #[inline(always)]
 fn piece_sum<const N: usize>(bytes: &[u8], dest: usize, sources: &[usize], at: usize) -> Simd<u8, N>
     requires dest { dest + at + N ≤ length bytes.now }
@@ -62,7 +61,7 @@ fn piece_sum<const N: usize>(bytes: &[u8], dest: usize, sources: &[usize], at: u
     sum
 }
 
-// Writes a piece of N octets from a place on.
+// Writes a piece of N octets from `at` on.
 #[inline(always)]
 fn write_piece<const N: usize>(bytes: &mut [u8], at: usize, piece: Simd<u8, N>)
     requires len { length piece ≡ N }

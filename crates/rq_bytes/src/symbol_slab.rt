@@ -165,7 +165,8 @@ impl SymbolSlab {
         octets::add_assign(sum, other);
     }
 
-    /// Adds several symbols to another one: up to eight of them in one pass over its octets.
+    /// Adds several symbols to another one: in one pass over its octets where they are at most eight,
+    /// and else one after another.
     pub fn add_all(&mut self, dest: usize, sources: &[usize])
         requires dest { HasPlace self.old dest }
         requires sources { All (λ src. Allows self.old (AddAssign dest src)) sources.now }

@@ -3,10 +3,7 @@ use Rattle.std.proofs.Common.{◌≡◌, ℕ, suc, ◌+◌, ◌-◌, ◌<◌, �
 use Rattle.std.specs.List.{All, swap}
 use Rattle.std.proofs.Math.ListN.{drop_of_length-le}
 use Rattle.std.proofs.Math.Seq.{drop-cons}
-use Rattle.rq_standard.specs.Octets.{octet_mul}
-use Rattle.rq_standard.specs.OctetFacts.{one-mul}
-use Rattle.rq_standard.specs.Rows.{row_multiple}
-use Rattle.std.proofs.lemmas.List.{ext_get_or, get_or-map, set-append_left, set-append_right, take-append-drop, length-take-le, length-append, length-drop, length-map, take-append-le, drop-append-le, map-append, get_or-append_right, get_or-drop, take_more}
+use Rattle.std.proofs.lemmas.List.{set-append_left, set-append_right, take-append-drop, length-take-le, length-append, length-drop, length-map, take-append-le, drop-append-le, map-append, get_or-append_right, get_or-drop, take_more}
 use Rattle.std.proofs.lemmas.List.Elements.{All-set}
 use Rattle.std.proofs.lemmas.List.Edits.{swap_is}
 
@@ -87,13 +84,3 @@ mapped_until-end f start n xs le =
     ap (λ l. (take start (take n xs) ++ map f (drop start (take n xs))) ++ l) (drop_of_length-le xs le)
     ∙ append-nil (take start (take n xs) ++ map f (drop start (take n xs)))
     ∙ ap (λ l. take start l ++ map f (drop start l)) (take_whole n xs le)
-
--- ---- octets
-
--- a row is its own product by 1
-pub times_one : (row : List ℕ) → ((i : ℕ) → i < length row → get_or row i 0 < 256) → row_multiple 1 row ≡ row
-times_one row small =
-    let long : length (row_multiple 1 row) ≡ length row = length-map row (octet_mul 1) in
-    ext_get_or 0 (row_multiple 1 row) row long (λ i l.
-    let below : i < length row = omega (arith, long) in
-    get_or-map (octet_mul 1) row i 0 0 below ∙ one-mul (get_or row i 0) (small i below))

@@ -6,7 +6,7 @@ ghost use Rattle.rq_bytes.specs.Refusals.{IsAnswer};
 ghost use Rattle.rq_parts.specs.DenseOctetMatrix.{HasOctets, IsOctetRow, row_at, with_row, sum_from, columns_swapped};
 
 use rq_bytes::error::Error;
-use rq_bytes::factor::Factor;
+use rq_bytes::factor::{Factor, add_row_multiple};
 use rq_bytes::octet::Octet;
 use rq_bytes::octets;
 use rq_bytes::octets::BinaryOctetVec;
@@ -17,7 +17,7 @@ use std::marker::Model;
 #[derive(Debug, Drop)]
 pub struct DenseOctetMatrix {
     width: usize,
-    elements: Vec<Row>,
+    elements: Vec<OctetRow>,
 }
 
 impl Model for DenseOctetMatrix {
@@ -39,7 +39,7 @@ impl DenseOctetMatrix {
     {
         let mut elements = Vec::with_capacity(alloc, height)?;
         for _ in 0..height {
-            elements.push(Row::zero(alloc, width)?)?;
+            elements.push(OctetRow::zero(alloc, width)?)?;
         }
         Ok(DenseOctetMatrix { width, elements })
     }
@@ -137,7 +137,7 @@ impl DenseOctetMatrix {
         requires multiplicand { multiplicand < length self.old.rows }
         ensures { self.new ≡ with_row self.old dest (row_sum (row_at self.old dest) (row_multiple scalar.now (row_at self.old multiplicand))) }
     {
-        add_row_multiple(self.elements.as_mut_slice(), dest, multiplicand, scalar);
+        add_multiple_of_row(self.elements.as_mut_slice(), dest, multiplicand, scalar);
     }
 }
 
@@ -154,11 +154,11 @@ impl Clone for DenseOctetMatrix {
 
 // The octets of one row. Contracts see their list.
 #[derive(Debug, Drop)]
-struct Row {
+struct OctetRow {
     octets: Vec<u8>,
 }
 
-impl Model for Row {
+impl Model for OctetRow {
     ghost use Rattle.std.specs.Prelude.{List, ℕ};
 
     ghost Value = { List ℕ };
@@ -166,13 +166,13 @@ impl Model for Row {
     ghost view = { λ row. row.octets.items };
 }
 
-impl Row {
+impl OctetRow {
     // A row of so many zeros.
     fn zero(alloc: Global, width: usize) -> Result<Self, AllocError>
         ensures zeros { IfOk result (λ row. row ≡ replicate width 0) }
         ensures octets { IfOk result (IsOctetRow width) }
     {
-        Ok(Row {
+        Ok(OctetRow {
             octets: vec![in alloc; 0; width]?,
         })
     }
@@ -198,12 +198,12 @@ impl Row {
     }
 
     // Adds a multiple of a row of the same length.
-    fn add_multiple(&mut self, other: &Row, scalar: &Octet)
+    fn add_multiple(&mut self, other: &OctetRow, scalar: &Octet)
         requires { length other.now ≡ length self.old }
         ensures sum { self.new ≡ row_sum self.old (row_multiple scalar.now other.now) }
         ensures octets { IsOctetRow (length self.old) self.new }
     {
-        add_octet_multiple(self.octets.as_mut_slice(), other.octets.as_slice(), scalar);
+        add_row_multiple(self.octets.as_mut_slice(), other.octets.as_slice(), scalar);
         octets::are_octets(self.octets.as_slice());
     }
 
@@ -237,30 +237,18 @@ impl Row {
     }
 }
 
-impl Clone for Row {
+impl Clone for OctetRow {
     ghost is_clone = { λ a b. b ≡ a };
 
     fn clone(&self) -> Result<Self, AllocError> {
-        Ok(Row {
+        Ok(OctetRow {
             octets: self.octets.clone()?,
         })
     }
 }
 
-// Adds a multiple of octets to as many others. A multiple by 1 needs no products.
-fn add_octet_multiple(sum: &mut [u8], other: &[u8], scalar: &Octet)
-    requires { length other.now ≡ length sum.old }
-    ensures { sum.new ≡ row_sum sum.old (row_multiple scalar.now other.now) }
-{
-    if scalar.byte() == 1 {
-        octets::add_assign(sum, other);
-    } else {
-        Factor::new(scalar).add_multiple(sum, other);
-    }
-}
-
 // Adds a multiple of a row to another one.
-fn add_row_multiple(rows: &mut [Row], dest: usize, src: usize, scalar: &Octet)
+fn add_multiple_of_row(rows: &mut [OctetRow], dest: usize, src: usize, scalar: &Octet)
     requires two { dest ≢ src }
     requires dest { dest < length rows.old }
     requires src { src < length rows.old }

@@ -13,7 +13,7 @@ use Rattle.rq_standard.specs.OctetField.{octets}
 use Rattle.rq_standard.proofs.RowSymbols.{add_symbols-rows}
 use Rattle.rq_standard.specs.Rows.{row_sum, row_multiple}
 use Rattle.rq_bytes.specs.SymbolSlab.{Slab, after, slab_of, HasPlace, symbol_in, Allows}
-use Rattle.rq_parts.proofs.Rows.{times_one}
+use Rattle.rq_bytes.proofs.Multiples.{times_one}
 use Rattle.rq_parts.specs.DenseOctetMatrix.{OctetTable, IsOctetRow, row_at, with_row}
 use Rattle.rq_solver.specs.declared.pi_solver.entries.InactiveEntries.TheInside.{Inside}
 use Rattle.rq_solver.specs.InactiveEntries.{AreEntries, IsNextEntry, row_of, rows_of, unpacked}

@@ -10,7 +10,7 @@ use rq_bytes::error::Error;
 use rq_bytes::operation_vector::{SymbolOps, perform_op};
 use rq_bytes::symbol_slab::SymbolSlab;
 
-// How many additions to one symbol are done in one pass over it, at most.
+// How many additions to one symbol are done in one pass over it, at most: as many as `add_all` does.
 const RUN: usize = 8;
 
 /// Performs operations on the symbols of a slab, first to last. A `Reorder` takes memory for a copy

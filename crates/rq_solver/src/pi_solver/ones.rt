@@ -79,6 +79,7 @@ impl RowOnes {
     }
 }
 
+/// The columns from `start` on and before `end`.
 #[inline(always)]
 pub(super) fn part(columns: &[usize], start: usize, end: usize) -> &[usize]
     requires order { start ≤ end }

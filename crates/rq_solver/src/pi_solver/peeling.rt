@@ -1,8 +1,8 @@
 //! The first phase: columns get pivots among rows of bits while no row is changed.
-ghost use Rattle.std.specs.Prelude.{◌≡◌, false, ◌<◌, ◌≤◌, ◌+◌, length, All, Contains, IsTrue, IfSome, IfNone, OnOk, IfOk, IfErr};
+ghost use Rattle.std.specs.Prelude.{◌≡◌, false, ◌<◌, ◌≤◌, ◌+◌, [], length, slice_index_or, All, Contains, IsTrue, IfSome, IfNone, OnOk, IfOk, IfErr};
 ghost use Rattle.rq_bytes.specs.declared.error.Error.TheVariants.{OutOfMemory};
 ghost use Rattle.rq_algebra.specs.Systems.{at};
-ghost use Rattle.rq_solver.specs.Degrees.{KeepsDegrees, TakesFewest};
+ghost use Rattle.rq_solver.specs.Degrees.{KeepsDegrees, LowersRows, TakesFewest};
 ghost use Rattle.rq_solver.specs.Peeled.{IsPeeled, IsActive, HasNoActive, TakesRow, InactivatesRow};
 
 use crate::pi_solver::column_rows::ColumnRows;
@@ -183,8 +183,7 @@ fn take_row(
         return Ok(false);
     };
     columns.take_pivot(pivot);
-    leave_graph(pivot, nodes, graph);
-    column_rows.lower_rows(pivot, degrees)?;
+    leave_column(pivot, column_rows, nodes, degrees, graph)?;
     inactivate_columns(row, column_rows, nodes, degrees, graph, columns)?;
     Ok(true)
 }
@@ -226,19 +225,31 @@ fn inactivate_columns(
     for column in row {
         if columns.is_active(*column) {
             columns.inactivate(*column);
-            leave_graph(*column, nodes, graph);
-            column_rows.lower_rows(*column, degrees)?;
+            leave_column(*column, column_rows, nodes, degrees, graph)?;
         }
     }
     Ok(())
 }
 
-// A column that isn't active any more is in no component.
-fn leave_graph(column: usize, nodes: usize, graph: &mut ConnectedComponentGraph)
-    requires { length graph.old.labels ≡ nodes }
-    ensures { length graph.new.labels ≡ nodes }
+// A column that isn't active any more is in no component, and each row has one active column less for
+// each one that it has there.
+fn leave_column(
+    column: usize,
+    column_rows: &ColumnRows,
+    nodes: usize,
+    degrees: &mut RowDegrees,
+    graph: &mut ConnectedComponentGraph,
+) -> Result<(), Error>
+    requires column { column < length column_rows.now.lists }
+    requires height { column_rows.now.height ≡ length degrees.old }
+    requires graph { length graph.old.labels ≡ nodes }
+    ensures lowered { OnOk result (LowersRows (slice_index_or column_rows.now.lists column []) degrees.old degrees.new) }
+    ensures degrees { length degrees.new ≡ length degrees.old }
+    ensures graph { length graph.new.labels ≡ nodes }
+    ensures err { IfErr result (λ e. e ≡ OutOfMemory) }
 {
     if column < nodes {
         graph.remove_node(column);
     }
+    column_rows.lower_rows(column, degrees)
 }

@@ -1,11 +1,9 @@
-use Rattle.std.proofs.Common.{◌≡◌, ℕ, ◌+◌, ◌<◌, ◌++◌, ◌∷◌, [], ◌⊎◌, length, drop, get_or, true, sym, ap, subst, ◌∙◌, inl, inr, arith}
+use Rattle.std.proofs.Common.{◌≡◌, ◌<◌, ◌++◌, ◌⊎◌, length, drop, get_or, sym, ap, subst, ◌∙◌, inl, inr, arith}
 use mathlib.Core.Bool.{false≢true}
 use Rattle.std.specs.declared.cmp.Ordering.TheVariants.{Less, Equal, Greater}
-use Rattle.std.specs.List.Sorted.{IsStrictlyIncreasing}
 use Rattle.std.proofs.lemmas.Cmp.{ranked}
 use Rattle.std.proofs.lemmas.List.{length-drop}
-use Rattle.rq_parts.specs.SparseBinaryVec.{IsListedSum, HasOtherOne}
-use Rattle.rq_parts.proofs.Merging.{IsMerging, IsMerged, next_row, next_other, next_both, merges_all, rest_from}
+use Rattle.rq_parts.proofs.Merging.{IsMerged, next_row, next_other, next_both, merges_all, rest_from}
 use Rattle.rq_parts.proofs.sparse_vec.merged.Goals.{then-loop-i-test+else-j-other, else-loop-i-test, then-added, else-added}
 use Rattle.rq_parts.proofs.sparse_vec.merged.Goals as goal
 

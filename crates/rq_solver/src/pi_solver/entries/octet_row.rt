@@ -8,9 +8,9 @@ ghost use Rattle.rq_standard.specs.Rows.{row_sum, row_multiple};
 
 use super::packed_bits::add_bits;
 use rq_bytes::error::Error;
-use rq_bytes::factor::Factor;
+use rq_bytes::factor::{Factor, add_row_multiple};
 use rq_bytes::octet::Octet;
-use rq_bytes::octets::{add_assign, are_octets};
+use rq_bytes::octets::are_octets;
 use std::alloc::Global;
 use std::marker::Model;
 
@@ -142,21 +142,9 @@ impl OctetRow {
     {
         let sum = self.octets.as_mut_slice();
         match row {
-            EntryRow::Octets(row) => add_multiple(sum, row.octets.as_slice(), scalar),
+            EntryRow::Octets(row) => add_row_multiple(sum, row.octets.as_slice(), scalar),
             EntryRow::Bits(bits) => add_bits(sum, bits, scalar.byte()),
         }
         are_octets(self.octets.as_slice());
-    }
-}
-
-// Adds a multiple of octets. A multiple by 1 needs no products.
-fn add_multiple(sum: &mut [u8], octets: &[u8], scalar: &Octet)
-    requires { length octets.now ≡ length sum.old }
-    ensures { sum.new ≡ row_sum sum.old (row_multiple scalar.now octets.now) }
-{
-    if scalar.byte() == 1 {
-        add_assign(sum, octets);
-    } else {
-        Factor::new(scalar).add_multiple(sum, octets);
     }
 }

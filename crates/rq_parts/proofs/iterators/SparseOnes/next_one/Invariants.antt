@@ -1,5 +1,4 @@
-use Rattle.std.proofs.Common.{◌≡◌, ◌<◌, All, length}
-use Rattle.rq_parts.specs.BitPairs.{sparse_pairs}
+use Rattle.std.proofs.Common.{length}
 use Rattle.rq_parts.proofs.SparsePairs.{IsLeft}
 use Rattle.rq_parts.proofs.iterators.SparseOnes.next_one.Given as goal
 

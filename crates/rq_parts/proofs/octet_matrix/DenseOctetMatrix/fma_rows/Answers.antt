@@ -8,7 +8,7 @@ use Rattle.rq_parts.proofs.octet_matrix.DenseOctetMatrix.fma_rows.Goals as goal
 pub invariant_of-self : goal.invariant_of-self
 invariant_of-self c =
     let rows = c.self.inside.elements in
-    let new = c.add_row_multiple.new.rows in
-    let kept = with_items_is rows new (c.add_row_multiple.auto.rows ∙ c.as_mut_slice.ensures.len) in
+    let new = c.add_multiple_of_row.new.rows in
+    let kept = with_items_is rows new (c.add_multiple_of_row.auto.rows ∙ c.as_mut_slice.ensures.len) in
     subst (All (IsOctetRow c.self.inside.width)) (sym kept)
-    (c.add_row_multiple.ensures.widths c.self.inside.width (subst (All (IsOctetRow c.self.inside.width)) (sym c.as_mut_slice.ensures.value) c.self.invariant))
+    (c.add_multiple_of_row.ensures.widths c.self.inside.width (subst (All (IsOctetRow c.self.inside.width)) (sym c.as_mut_slice.ensures.value) c.self.invariant))

@@ -8,5 +8,5 @@ pub returns-clause-counted : goal.returns-clause-counted
 returns-clause-counted c = λ lists holds high below counts.
     let old = c.args.columns.now in
     let inside = of_contained (λ (column : ℕ). column < length old.order) c.args.row.now c.in-Some.pivot c.requires.columns c.in-Some.ensures.column in
-    let first = degrees_lowered c.args.column_rows.now old c.take_pivot.new.self c.in-Some.pivot c.args.degrees.now c.lower_rows.new.degrees c.requires.width inside c.in-Some.ensures.active c.take_pivot.ensures.ended c.requires.height c.in_ok-lower_rows.ensures.lowered in
+    let first = degrees_lowered c.args.column_rows.now old c.take_pivot.new.self c.in-Some.pivot c.args.degrees.now c.leave_column.new.degrees c.requires.width inside c.in-Some.ensures.active c.take_pivot.ensures.ended c.requires.height c.in_ok-leave_column.ensures.lowered in
     c.in_ok-inactivate_columns.ensures.counted lists holds high below (first lists holds high below counts)

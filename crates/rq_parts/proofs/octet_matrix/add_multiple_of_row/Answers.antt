@@ -1,4 +1,4 @@
--- What the check leaves to show of `octet_matrix::add_row_multiple`.
+-- What the check leaves to show of `octet_matrix::add_multiple_of_row`.
 use Rattle.std.proofs.Common.{◌≡◌, ℕ, ◌+◌, ◌<◌, ◌≤◌, ◌++◌, List, [], length, set, get_or, take, drop, ap, sym, subst, ◌∙◌, arith}
 use Rattle.std.specs.List.{All}
 use Rattle.std.proofs.lemmas.List.{get_or_read, get_or-take, get_or-drop, length-take-le, length-drop}
@@ -6,7 +6,7 @@ use Rattle.std.proofs.lemmas.List.Elements.{All-set}
 use Rattle.rq_standard.specs.Rows.{row_sum, row_multiple}
 use Rattle.rq_parts.specs.DenseOctetMatrix.{IsOctetRow}
 use Rattle.rq_parts.proofs.Rows.{set_front, set_back}
-use Rattle.rq_parts.proofs.octet_matrix.add_row_multiple.Goals as goal
+use Rattle.rq_parts.proofs.octet_matrix.add_multiple_of_row.Goals as goal
 
 -- an element read in the part before or after a split
 front_read : (rows part : List (List ℕ)) (n i : ℕ) (x : List ℕ) → part ≡ take n rows → i < n → n ≤ length rows → x ≡ get_or part i x → get_or part i x ≡ get_or rows i []
