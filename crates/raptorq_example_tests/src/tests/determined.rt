@@ -55,7 +55,8 @@ fn ten_packets_that_follow_one_another(rt: HostRuntime) -> Result<(), Fail> {
     Ok(())
 }
 
-// Twenty repair packets, as many as the HDPC equations may be left out with.
+// Twenty repair packets, as many as the HDPC equations may be left out with, over a sparse matrix
+// and over a dense one.
 #[test]
 fn twenty_repair_packets(rt: HostRuntime) -> Result<(), Fail> {
     let alloc = rt.alloc();
@@ -65,14 +66,23 @@ fn twenty_repair_packets(rt: HostRuntime) -> Result<(), Fail> {
     let mut cache = SourceBlockEncodingPlanCache::new(alloc, &table)?;
     let encoder = SourceBlockEncoder::new(alloc, 0, &config, &block, &mut cache)?;
     for start in 0..200 {
-        let mut decoder = SourceBlockDecoder::new(alloc, &table, 0, &config, 10)?;
-        let answer = decoder.decode(encoder.repair_packets(start, 20)?)?;
+        let packets = encoder.repair_packets(start, 20)?;
         let is_determined = determine(&fixed, start.saturating_add(10), 20);
-        assert_eq!(rt; answer.is_some(), is_determined, "from {start} on");
-        assert!(rt;
-            answer.is_none_or(|found| found.as_slice() == block.as_slice()),
-            "from {start} on"
-        );
+        for threshold in [0, u32::MAX] {
+            let mut decoder = SourceBlockDecoder::new(alloc, &table, 0, &config, 10)?;
+            decoder.set_sparse_threshold(threshold);
+            let answer = decoder.decode(packets.clone()?)?;
+            assert_eq!(rt; answer.is_some(), is_determined, "from {start} on");
+            assert_eq!(rt;
+                decoder.homogeneous()?.is_none(),
+                is_determined,
+                "from {start} on"
+            );
+            assert!(rt;
+                answer.is_none_or(|found| found.as_slice() == block.as_slice()),
+                "from {start} on"
+            );
+        }
     }
     Ok(())
 }
