@@ -20,8 +20,8 @@ rows_with lists k zero = []
 rows_with lists k (suc n) = replicate (one_in lists n k) n ++ rows_with lists k n
 
 -- for each column all rows that have a one in it
-abbrev pub HoldsRows : List (List ℕ) → ColumnLists → Type 0
-HoldsRows lists columns = (k : ℕ) → k < length columns.lists → slice_index_or columns.lists k [] ≡ rows_with lists k (length lists)
+abbrev pub ListsColumns : List (List ℕ) → ColumnLists → Type 0
+ListsColumns lists columns = (k : ℕ) → k < length columns.lists → slice_index_or columns.lists k [] ≡ rows_with lists k (length lists)
 
 -- how many ones rows have in each column, and where the ones of each column end where all stand column by column
 pub record AreEnds (lists : List (List ℕ)) (counts ends : List ℕ) : Type 0 where

@@ -219,8 +219,8 @@ impl<T: BinaryMatrix> IntermediateSymbolDecoder<T> {
     }
 
     /// The operations that find the solution of the equations from any symbols, as
-    /// `find_operations` finds them, where the solver isn't wanted any more: it lets its matrix and
-    /// its symbols go before it works. Not in the Rust crate.
+    /// `find_operations` finds them, where the solver isn't wanted any more: it lets its symbols go at
+    /// once, and its matrix once the ones of the rows are listed. Not in the Rust crate.
     pub fn into_operations(self) -> Result<Option<Vec<SymbolOps>>, Error>
         ensures found { IfOk result (FindsOperations (solver_state self)) }
         ensures memory { IfErr result (λ e. e ≡ OutOfMemory) }

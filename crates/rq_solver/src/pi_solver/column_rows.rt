@@ -2,7 +2,7 @@
 ghost use Rattle.std.specs.Prelude.{◌≡◌, ℕ, ◌+◌, ◌-◌, ◌*◌, ◌^◌, ◌<◌, ◌≤◌, ◌==◌, ◌++◌, [], List, length, replicate, count_by, sum, sum_by, take, All, IfSome, IfOk, OnOk, IfErr, slice_index_or};
 ghost use Rattle.rq_algebra.specs.Systems.{at};
 ghost use Rattle.rq_bytes.specs.declared.error.Error.TheVariants.{OutOfMemory};
-ghost use Rattle.rq_solver.specs.ColumnRows.{AreEnds, HasPlaced, HoldsRows};
+ghost use Rattle.rq_solver.specs.ColumnRows.{AreEnds, HasPlaced, ListsColumns};
 ghost use Rattle.rq_solver.specs.Degrees.{LowersRows};
 
 use crate::pi_solver::degrees::RowDegrees;
@@ -38,7 +38,7 @@ impl ColumnRows {
         requires columns { All (λ row. All (λ column. column < width) row) ones.now }
         ensures height { IfOk result (λ columns. columns.height ≡ length ones.now) }
         ensures width { IfOk result (λ columns. length columns.lists ≡ width) }
-        ensures lists { IfOk result (HoldsRows ones.now) }
+        ensures lists { IfOk result (ListsColumns ones.now) }
         ensures err { IfErr result (λ e. e ≡ OutOfMemory) }
     {
         let count = ones.len();
