@@ -1,8 +1,8 @@
 -- Additions to one symbol of a slab, one after another.
-use Rattle.std.proofs.Common.{◌≡◌, ◌≢◌, ℕ, ◌+◌, ◌*◌, ◌<◌, Option, List, [], ◌∷◌, ◌++◌, length, get_or, set, map, fold, All, refl, sym, ap, ◌∙◌, subst, arith}
+use Rattle.std.proofs.Common.{◌≡◌, ◌≢◌, ℕ, zero, suc, ◌+◌, ◌*◌, ◌<◌, Option, List, [], ◌∷◌, ◌++◌, length, get_or, set, map, fold, All, refl, sym, ap, ◌∙◌, subst, arith}
 use Rattle.std.proofs.lemmas.List.{get_or-set_same, get_or-set_other, set-set, set-get_or}
 use Rattle.std.proofs.lemmas.List.Elements.{All-head, All-tail, All-map, All-weaker}
-use Rattle.rq_algebra.specs.Operations.{Operation, AddAssign, Store, step, run, meant_at}
+use Rattle.rq_algebra.specs.Operations.{Operation, AddAssign, MulAssign, Store, step, run, meant_at}
 use Rattle.rq_algebra.specs.Symbols.{symbols, add_symbols}
 use Rattle.rq_algebra.proofs.Runs.{run-append}
 use Rattle.rq_algebra.proofs.SymbolSums.{length-add_symbols}
@@ -27,27 +27,43 @@ abbrev added : (ℕ → List ℕ) → List ℕ → List ℕ → List ℕ
 added = summed (add_symbols octets)
 
 -- other octets in the place of the symbol that a place means
-abbrev with_symbol : Slab → ℕ → List ℕ → Slab
+abbrev pub with_symbol : Slab → ℕ → List ℕ → Slab
 with_symbol slab dest ys = record slab { values = set slab.values (meant_at slab.order dest) ys }
+
+-- what f makes of the entry at a place, written there
+made_there : (f : List ℕ → List ℕ) → f [] ≡ [] → (values : List (List ℕ)) (d : ℕ) → get_or (set values d (f (get_or values d []))) d [] ≡ f (get_or values d [])
+made_there f none [] d = sym none
+made_there f none (x ∷ values) zero = refl
+made_there f none (x ∷ values) (suc d) = made_there f none values d
 
 -- places that mean other symbols than one
 abbrev AreOthers : Slab → ℕ → List ℕ → Type 0
 AreOthers slab dest sources = All (λ src. meant_at slab.order src ≢ meant_at slab.order dest) sources
 
-module _ (slab : Slab) (dest : ℕ) (to : meant_at slab.order dest < length slab.values) where
-  symbol_there : (ys : List ℕ) → symbol_in (with_symbol slab dest ys) dest ≡ ys
-  symbol_there ys = get_or-set_same slab.values (meant_at slab.order dest) ys [] to
-
-  addition : (x : List ℕ) (src : ℕ) → meant_at slab.order src ≢ meant_at slab.order dest
+module _ (slab : Slab) (dest : ℕ) where
+  addition : (x : List ℕ) (src : ℕ) → symbol_in (with_symbol slab dest x) dest ≡ x → meant_at slab.order src ≢ meant_at slab.order dest
       → step (symbols octets) (store_of (with_symbol slab dest x)) (AddAssign dest src) ≡ store_of (with_symbol slab dest (add_symbols octets x (symbol_in slab src)))
   unfolding step
-  addition x src apart =
+  addition x src there apart =
       let d = meant_at slab.order dest in
       let values = set slab.values d x in
       ap (λ (v : List (List ℕ)). let t : Store (List ℕ) = record { values = v; order = slab.order } in t) (
-      ap (λ y. set values d (add_symbols octets y (get_or values (meant_at slab.order src) []))) (symbol_there x)
+      ap (λ y. set values d (add_symbols octets y (get_or values (meant_at slab.order src) []))) there
       ∙ ap (λ y. set values d (add_symbols octets x y)) (get_or-set_other slab.values d (meant_at slab.order src) x [] apart)
       ∙ set-set slab.values d x (add_symbols octets x (symbol_in slab src)))
+
+  -- a multiplication of a symbol, and then an addition to it
+  pub scaled_and_added : (scalar src : ℕ) → meant_at slab.order src ≢ meant_at slab.order dest
+      → after_all (MulAssign dest scalar ∷ AddAssign dest src ∷ []) slab ≡ with_symbol slab dest (add_symbols octets (map (octets.mul scalar) (symbol_in slab dest)) (symbol_in slab src))
+  unfolding step run
+  scaled_and_added scalar src apart =
+      let multiple = map (octets.mul scalar) (symbol_in slab dest) in
+      ap (λ (s : Store (List ℕ)). record slab { values = s.values; order = s.order })
+      (unfold step in addition multiple src (made_there (map (octets.mul scalar)) refl slab.values (meant_at slab.order dest)) apart)
+
+module _ (slab : Slab) (dest : ℕ) (to : meant_at slab.order dest < length slab.values) where
+  symbol_there : (ys : List ℕ) → symbol_in (with_symbol slab dest ys) dest ≡ ys
+  symbol_there ys = get_or-set_same slab.values (meant_at slab.order dest) ys [] to
 
   -- the additions, one after another
   additions : (x sources : List ℕ) → AreOthers slab dest sources
@@ -57,7 +73,7 @@ module _ (slab : Slab) (dest : ℕ) (to : meant_at slab.order dest < length slab
   additions x (src ∷ sources) others =
       let P = λ (s : ℕ). meant_at slab.order s ≢ meant_at slab.order dest in
       let sum = add_symbols octets x (symbol_in slab src) in
-      ap (λ (s : Store (List ℕ)). fold (step (symbols octets)) s (map (λ k. AddAssign dest k) sources)) (addition x src (All-head P src sources others))
+      ap (λ (s : Store (List ℕ)). fold (step (symbols octets)) s (map (λ k. AddAssign dest k) sources)) (addition slab dest x src (symbol_there x) (All-head P src sources others))
       ∙ unfold run in additions sum sources (All-tail P src sources others)
 
 -- where the symbol that a place means begins

@@ -1,5 +1,5 @@
 //! Symbols of one size in one buffer.
-ghost use Rattle.std.specs.Prelude.{◌≡◌, ◌≢◌, ◌↔◌, ◌⊎◌, ◌+◌, ◌*◌, ◌/◌, ◌^◌, ◌<◌, ◌≤◌, length, map, replicate, true, All, Ok, None, IfOk};
+ghost use Rattle.std.specs.Prelude.{◌≡◌, ◌≢◌, ◌↔◌, ◌⊎◌, ◌+◌, ◌*◌, ◌/◌, ◌^◌, ◌<◌, ◌≤◌, [], ◌∷◌, length, map, replicate, true, All, Ok, None, IfOk};
 ghost use Rattle.std.proofs.Common.{rules};
 ghost use Rattle.std.specs.Cmp.Rules.{comparing};
 ghost use Rattle.rq_algebra.specs.Operations.{AddAssign, MulAssign, Fma, Reorder, IsOrder, meant_at};
@@ -11,7 +11,7 @@ ghost use Rattle.rq_bytes.specs.Refusals.{IsAnswer};
 ghost use Rattle.rq_bytes.specs.SymbolSlab.{slab_of, among_zeros, after, after_all, HasPlace, Allows, symbol_in, symbols_in, same_slab, IsZeroUnread, IsZeroUnmarked};
 
 use crate::error::Error;
-use crate::factor::Factor;
+use crate::factor::{Factor, double_and_add, multiply_row};
 use crate::marks::marks_of;
 use crate::octet::Octet;
 use crate::octets;
@@ -217,7 +217,7 @@ impl SymbolSlab {
         requires { Allows self.old (MulAssign dest scalar.now) }
         ensures { self.new ≡ after (MulAssign dest scalar.now) self.old }
     {
-        Factor::new(scalar).multiply(self.get_mut(dest));
+        multiply_row(self.get_mut(dest), scalar);
     }
 
     /// Adds a multiple of a symbol to another one.
@@ -227,6 +227,16 @@ impl SymbolSlab {
     {
         let (dest, src) = self.get_pair_mut(dest, src);
         Factor::new(scalar).add_multiple(dest, src);
+    }
+
+    /// Multiplies a symbol by 2 and adds another one to it, in one pass over their octets. Not in the
+    /// Rust crate.
+    pub fn double_and_add(&mut self, dest: usize, src: usize)
+        requires { Allows self.old (AddAssign dest src) }
+        ensures { self.new ≡ after_all (MulAssign dest 2 ∷ AddAssign dest src ∷ []) self.old }
+    {
+        let (dest, src) = self.get_pair_mut(dest, src);
+        double_and_add(dest, src);
     }
 
     /// Sets the order in which places are read, in place of the one before. No symbol moves.
