@@ -1,7 +1,6 @@
 -- What the check leaves to show of `symbol_slab::SymbolSlab::double_and_add`.
-use Rattle.std.proofs.Common.{◌≡◌, List, ℕ, arith, length, map, set, sym, ap, ◌∙◌}
+use Rattle.std.proofs.Common.{◌≡◌, arith, length, map, sym, ap, ◌∙◌}
 use Rattle.std.proofs.lemmas.List.{length-map}
-use Rattle.rq_algebra.specs.Operations.{meant_at}
 use Rattle.rq_standard.specs.OctetField.{octets}
 use Rattle.rq_standard.specs.Rows.{row_sum, row_multiple}
 use Rattle.rq_standard.proofs.RowSymbols.{add_symbols-rows, scale-rows}
