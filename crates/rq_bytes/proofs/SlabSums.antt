@@ -1,8 +1,8 @@
 -- Additions to one symbol of a slab, one after another.
-use Rattle.std.proofs.Common.{◌≡◌, ◌≢◌, ℕ, ◌+◌, ◌*◌, ◌<◌, Option, List, [], ◌∷◌, ◌++◌, length, get_or, set, map, fold, All, refl, sym, ap, ◌∙◌, subst, arith}
+use Rattle.std.proofs.Common.{◌≡◌, ◌≢◌, ℕ, zero, suc, ◌+◌, ◌*◌, ◌<◌, ◌≤◌, Option, List, [], ◌∷◌, ◌++◌, length, get_or, set, map, fold, All, refl, sym, ap, ◌∙◌, subst, arith}
 use Rattle.std.proofs.lemmas.List.{get_or-set_same, get_or-set_other, set-set, set-get_or}
 use Rattle.std.proofs.lemmas.List.Elements.{All-head, All-tail, All-map, All-weaker}
-use Rattle.rq_algebra.specs.Operations.{Operation, AddAssign, Store, step, run, meant_at}
+use Rattle.rq_algebra.specs.Operations.{Operation, AddAssign, MulAssign, Store, step, run, meant_at}
 use Rattle.rq_algebra.specs.Symbols.{symbols, add_symbols}
 use Rattle.rq_algebra.proofs.Runs.{run-append}
 use Rattle.rq_algebra.proofs.SymbolSums.{length-add_symbols}
@@ -10,10 +10,10 @@ use Rattle.rq_standard.specs.OctetField.{octets}
 use Rattle.rq_standard.specs.Rows.{row_sum}
 use Rattle.rq_standard.proofs.RowSymbols.{add_symbols-rows}
 use Rattle.rq_bytes.specs.Ranges.{range_of, with_range, cut}
-use Rattle.rq_bytes.specs.RangeSums.{sum_of_ranges, IsRangeBeside}
-use Rattle.rq_bytes.specs.SymbolSlab.{Slab, store_of, after, after_all, Allows, symbol_in}
+use Rattle.rq_bytes.specs.RangeSums.{with_ranges_added, sum_of_ranges, IsRangeBeside}
+use Rattle.rq_bytes.specs.SymbolSlab.{Slab, store_of, after, after_all, HasPlace, Allows, symbol_in, with_symbols_added}
 use Rattle.rq_bytes.proofs.RangeSums.{summed, length-summed}
-use Rattle.rq_bytes.proofs.SlabFacts.{Holds, apart, range_at, length-range_at, within, one_written, meant_below}
+use Rattle.rq_bytes.proofs.SlabFacts.{Holds, apart, range_at, length-range_at, size_is, within, one_written, meant_below}
 use Rattle.rq_bytes.specs.contracts.symbol_slab.SymbolSlab.{the_view, the_invariant}
 use Rattle.rq_bytes.specs.declared.symbol_slab.SymbolSlab.TheInside.{Inside}
 
@@ -27,27 +27,43 @@ abbrev added : (ℕ → List ℕ) → List ℕ → List ℕ → List ℕ
 added = summed (add_symbols octets)
 
 -- other octets in the place of the symbol that a place means
-abbrev with_symbol : Slab → ℕ → List ℕ → Slab
+abbrev pub with_symbol : Slab → ℕ → List ℕ → Slab
 with_symbol slab dest ys = record slab { values = set slab.values (meant_at slab.order dest) ys }
+
+-- what f makes of the entry at a place, written there
+made_there : (f : List ℕ → List ℕ) → f [] ≡ [] → (values : List (List ℕ)) (d : ℕ) → get_or (set values d (f (get_or values d []))) d [] ≡ f (get_or values d [])
+made_there f none [] d = sym none
+made_there f none (x ∷ values) zero = refl
+made_there f none (x ∷ values) (suc d) = made_there f none values d
 
 -- places that mean other symbols than one
 abbrev AreOthers : Slab → ℕ → List ℕ → Type 0
 AreOthers slab dest sources = All (λ src. meant_at slab.order src ≢ meant_at slab.order dest) sources
 
-module _ (slab : Slab) (dest : ℕ) (to : meant_at slab.order dest < length slab.values) where
-  symbol_there : (ys : List ℕ) → symbol_in (with_symbol slab dest ys) dest ≡ ys
-  symbol_there ys = get_or-set_same slab.values (meant_at slab.order dest) ys [] to
-
-  addition : (x : List ℕ) (src : ℕ) → meant_at slab.order src ≢ meant_at slab.order dest
+module _ (slab : Slab) (dest : ℕ) where
+  addition : (x : List ℕ) (src : ℕ) → symbol_in (with_symbol slab dest x) dest ≡ x → meant_at slab.order src ≢ meant_at slab.order dest
       → step (symbols octets) (store_of (with_symbol slab dest x)) (AddAssign dest src) ≡ store_of (with_symbol slab dest (add_symbols octets x (symbol_in slab src)))
   unfolding step
-  addition x src apart =
+  addition x src there apart =
       let d = meant_at slab.order dest in
       let values = set slab.values d x in
       ap (λ (v : List (List ℕ)). let t : Store (List ℕ) = record { values = v; order = slab.order } in t) (
-      ap (λ y. set values d (add_symbols octets y (get_or values (meant_at slab.order src) []))) (symbol_there x)
+      ap (λ y. set values d (add_symbols octets y (get_or values (meant_at slab.order src) []))) there
       ∙ ap (λ y. set values d (add_symbols octets x y)) (get_or-set_other slab.values d (meant_at slab.order src) x [] apart)
       ∙ set-set slab.values d x (add_symbols octets x (symbol_in slab src)))
+
+  -- a multiplication of a symbol, and then an addition to it
+  pub scaled_and_added : (scalar src : ℕ) → meant_at slab.order src ≢ meant_at slab.order dest
+      → after_all (MulAssign dest scalar ∷ AddAssign dest src ∷ []) slab ≡ with_symbol slab dest (add_symbols octets (map (octets.mul scalar) (symbol_in slab dest)) (symbol_in slab src))
+  unfolding step run
+  scaled_and_added scalar src apart =
+      let multiple = map (octets.mul scalar) (symbol_in slab dest) in
+      ap (λ (s : Store (List ℕ)). record slab { values = s.values; order = s.order })
+      (unfold step in addition multiple src (made_there (map (octets.mul scalar)) refl slab.values (meant_at slab.order dest)) apart)
+
+module _ (slab : Slab) (dest : ℕ) (to : meant_at slab.order dest < length slab.values) where
+  symbol_there : (ys : List ℕ) → symbol_in (with_symbol slab dest ys) dest ≡ ys
+  symbol_there ys = get_or-set_same slab.values (meant_at slab.order dest) ys [] to
 
   -- the additions, one after another
   additions : (x sources : List ℕ) → AreOthers slab dest sources
@@ -57,7 +73,7 @@ module _ (slab : Slab) (dest : ℕ) (to : meant_at slab.order dest < length slab
   additions x (src ∷ sources) others =
       let P = λ (s : ℕ). meant_at slab.order s ≢ meant_at slab.order dest in
       let sum = add_symbols octets x (symbol_in slab src) in
-      ap (λ (s : Store (List ℕ)). fold (step (symbols octets)) s (map (λ k. AddAssign dest k) sources)) (addition x src (All-head P src sources others))
+      ap (λ (s : Store (List ℕ)). fold (step (symbols octets)) s (map (λ k. AddAssign dest k) sources)) (addition slab dest x src (symbol_there x) (All-head P src sources others))
       ∙ unfold run in additions sum sources (All-tail P src sources others)
 
 -- where the symbol that a place means begins
@@ -71,25 +87,54 @@ IsSource slab dest src = (meant_at slab.order src < length slab.values) × (mean
 abbrev pub AreSources : Slab → ℕ → List ℕ → Type 0
 AreSources slab dest sources = All (IsSource slab dest) sources
 
+pub places_of : (inside : Inside) (slab : Slab) → the_view inside ≡ slab → the_invariant inside → (places : List ℕ) → All (HasPlace slab) places → All (λ p. meant_at slab.order p < length slab.values) places
+places_of inside slab view invariant places all =
+    All-weaker (HasPlace slab) (λ p. meant_at slab.order p < length slab.values) (λ p place. meant_below inside slab view invariant p place) places all
+
 pub sources_of : (inside : Inside) (slab : Slab) → the_view inside ≡ slab → the_invariant inside → (dest : ℕ) (sources : List ℕ) → All (λ src. Allows slab (AddAssign dest src)) sources → AreSources slab dest sources
 sources_of inside slab view invariant dest sources allowed =
     All-weaker (λ src. Allows slab (AddAssign dest src)) (IsSource slab dest) (λ src a. (meant_below inside slab view invariant src a.1, a.2)) sources allowed
 
-module _ {bytes : List ℕ} {count size : ℕ} {order : Option (List ℕ)} {slab : Slab} (is : Holds bytes count size order slab) (dest : ℕ) where
-  -- sums of their octets are sums of symbols
-  added_ranges : (x sources : List ℕ) → length x ≡ size → AreSources slab dest sources
-      → fold (λ sum start. row_sum sum (range_of bytes (start + 0) size)) x (map (start_in slab) sources) ≡ added (symbol_in slab) x sources
-  added_ranges x [] long all = refl
-  added_ranges x (src ∷ sources) long all =
-      let p = meant_at slab.order src in
-      let lt = (All-head (IsSource slab dest) src sources all).0 in
-      let y = symbol_in slab src in
-      let rest = λ (z : List ℕ). fold (λ sum start. row_sum sum (range_of bytes (start + 0) size)) z (map (start_in slab) sources) in
-      ap (λ z. rest (row_sum x z)) (ap (λ k. range_of bytes k size) (let same : start_in slab src + 0 ≡ start_in slab src = omega arith in same) ∙ range_at is p lt)
-      ∙ ap rest (sym (add_symbols-rows x y (length-range_at is p lt ∙ sym long)))
-      ∙ added_ranges (add_symbols octets x y) sources (length-add_symbols octets size size x y long (length-range_at is p lt)) (All-tail (IsSource slab dest) src sources all)
+module _ {bytes : List ℕ} {count size : ℕ} {order : Option (List ℕ)} {slab : Slab} (is : Holds bytes count size order slab) where
+  -- ranges added to a row are symbols added to it
+  ranges_are_symbols : (row places : List ℕ) → All (λ p. meant_at slab.order p < length slab.values) places
+      → with_ranges_added row bytes (map (start_in slab) places) 0 size ≡ with_symbols_added slab row places
+  ranges_are_symbols row [] all = refl
+  ranges_are_symbols row (p ∷ places) all =
+      let P = λ (q : ℕ). meant_at slab.order q < length slab.values in
+      ap (λ y. with_ranges_added (row_sum row y) bytes (map (start_in slab) places) 0 size)
+      (ap (λ k. range_of bytes k size) (let same : start_in slab p + 0 ≡ start_in slab p = omega arith in same) ∙ range_at is (meant_at slab.order p) (All-head P p places all))
+      ∙ ranges_are_symbols (row_sum row (symbol_in slab p)) places (All-tail P p places all)
 
-  module _ (to : meant_at slab.order dest < length slab.values) (sources : List ℕ) (all : AreSources slab dest sources) where
+  rows_are_symbols : (x places : List ℕ) → length x ≡ size → All (λ p. meant_at slab.order p < length slab.values) places
+      → with_symbols_added slab x places ≡ added (symbol_in slab) x places
+  rows_are_symbols x [] long all = refl
+  rows_are_symbols x (p ∷ places) long all =
+      let P = λ (q : ℕ). meant_at slab.order q < length slab.values in
+      let y = symbol_in slab p in
+      let one = length-range_at is (meant_at slab.order p) (All-head P p places all) in
+      ap (λ z. with_symbols_added slab z places) (sym (add_symbols-rows x y (one ∙ sym long)))
+      ∙ rows_are_symbols (add_symbols octets x y) places (length-add_symbols octets size size x y long one) (All-tail P p places all)
+
+  -- a row, and the symbols that some places mean, added to it
+  pub row_added : (row new places starts old : List ℕ) → length row ≡ slab.symbol_size → All (λ p. meant_at slab.order p < length slab.values) places
+      → starts ≡ map (start_in slab) places → old ≡ bytes → new ≡ with_ranges_added row old starts 0 (length row) → new ≡ with_symbols_added slab row places
+  row_added row new places starts old long all same_starts same is_new =
+      is_new
+      ∙ ap (λ xs. with_ranges_added row xs starts 0 (length row)) same
+      ∙ ap (λ ks. with_ranges_added row bytes ks 0 (length row)) same_starts
+      ∙ ap (with_ranges_added row bytes (map (start_in slab) places) 0) (long ∙ sym (size_is is))
+      ∙ ranges_are_symbols row places all
+
+  pub starts_within : (row places starts old : List ℕ) → length row ≡ slab.symbol_size → All (λ p. meant_at slab.order p < length slab.values) places
+      → starts ≡ map (start_in slab) places → old ≡ bytes → All (λ start. start + length row ≤ length old) starts
+  starts_within row places starts old long all same_starts same =
+      let P = λ (start : ℕ). start + length row ≤ length old in
+      subst (All P) (sym same_starts) (
+      All-map P (start_in slab) places (
+      All-weaker (λ p. meant_at slab.order p < length slab.values) (λ p. P (start_in slab p)) (λ p lt. omega (arith, within is (meant_at slab.order p) lt, long, size_is is, ap length same)) places all))
+
+  module _ (dest : ℕ) (to : meant_at slab.order dest < length slab.values) (sources : List ℕ) (all : AreSources slab dest sources) where
     starts_beside : All (IsRangeBeside (length bytes) (start_in slab dest) size) (map (start_in slab) sources)
     starts_beside =
         All-map (IsRangeBeside (length bytes) (start_in slab dest) size) (start_in slab) sources
@@ -110,6 +155,7 @@ module _ {bytes : List ℕ} {count size : ℕ} {order : Option (List ℕ)} {slab
         let d = meant_at slab.order dest in
         let x = symbol_in slab dest in
         let sum = added (symbol_in slab) x sources in
+        let meant = All-weaker (IsSource slab dest) (λ src. meant_at slab.order src < length slab.values) (λ src a. a.0) sources all in
         let there = λ (xs : List ℕ) (k : ℕ) (ks : List ℕ). with_range old start (sum_of_ranges xs k ks 0 size) in
         let long : length sum ≡ size = length-summed (add_symbols octets) size (length-add_symbols octets size size) (symbol_in slab) x sources (length-range_at is d to)
         (All-weaker (IsSource slab dest) (λ src. length (symbol_in slab src) ≡ size) (λ src a. length-range_at is (meant_at slab.order src) a.0) sources all) in
@@ -120,8 +166,9 @@ module _ {bytes : List ℕ} {count size : ℕ} {order : Option (List ℕ)} {slab
         ∙ ap (λ k. there bytes k starts) e
         ∙ ap (there bytes (start_in slab dest)) same_starts
         ∙ ap (with_range old start) (
-        ap (λ z. fold (λ sum src. row_sum sum (range_of bytes (src + 0) size)) z (map (start_in slab) sources))
+        ap (λ z. with_ranges_added z bytes (map (start_in slab) sources) 0 size)
         (ap (λ k. range_of bytes k size) (let here : start_in slab dest + 0 ≡ start_in slab dest = omega arith in here) ∙ range_at is d to)
-        ∙ added_ranges x sources (length-range_at is d to) all))
+        ∙ ranges_are_symbols x sources meant
+        ∙ rows_are_symbols x sources (length-range_at is d to) meant))
         ∙ ap (λ (s : Store (List ℕ)). record slab { values = s.values; order = s.order }) (sym (additions slab dest to x sources (All-weaker (IsSource slab dest) (λ src. meant_at slab.order src ≢ meant_at slab.order dest) (λ src a. a.1) sources all)))
         ∙ ap (after_all (map (λ src. AddAssign dest src) sources)) back

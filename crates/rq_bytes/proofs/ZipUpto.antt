@@ -58,6 +58,11 @@ zip2-map_right f g [] ys = refl
 zip2-map_right f g (x ∷ xs) [] = refl
 zip2-map_right f g (x ∷ xs) (y ∷ ys) = ap (λ zs. f x (g y) ∷ zs) (zip2-map_right f g xs ys)
 
+pub zip2-map_left : {A B C D : Type 0} (f : A → B → D) (g : C → A) (xs : List C) (ys : List B) → zip2 f (map g xs) ys ≡ zip2 (λ x y. f (g x) y) xs ys
+zip2-map_left f g [] ys = refl
+zip2-map_left f g (x ∷ xs) [] = refl
+zip2-map_left f g (x ∷ xs) (y ∷ ys) = ap (λ zs. f (g x) y ∷ zs) (zip2-map_left f g xs ys)
+
 -- ---- the same of a list that a loop has so far
 
 pub step_one : {A B : Type 0} (f : A → B → A) (i : ℕ) (now xs : List A) (ys : List B) (c : A) (d : B)
@@ -117,3 +122,18 @@ module _ (g : ℕ → ℕ) (now xs ys : List ℕ) (i : ℕ) (so_far : now ≡ zi
 
   pub added_all : i ≡ length xs → now ≡ zip2 bit_xor xs (map g ys)
   added_all all = at_end (λ x y. bit_xor x (g y)) i now xs ys so_far long all ∙ sym (zip2-map_right bit_xor g xs ys)
+
+-- ---- a list whose own elements a loop makes by g, and to which it adds another's
+
+module _ (g : ℕ → ℕ) (now xs ys : List ℕ) (i : ℕ) (so_far : now ≡ zip_upto (λ x y. bit_xor (g x) y) i xs ys) (long : length xs ≤ length ys) where
+  pub both_one : (x : ℕ) → x ≡ g (get_or now i 0) → i < length xs → set now i (bit_xor x (get_or ys i 0)) ≡ zip_upto (λ x y. bit_xor (g x) y) (i + 1) xs ys
+  both_one x is lt = ap (λ p. set now i (bit_xor p (get_or ys i 0))) is ∙ step_one (λ x y. bit_xor (g x) y) i now xs ys 0 0 so_far lt long
+
+  pub both_store : (n j : ℕ) (made : List ℕ) → made ≡ map g (chunk i n now) → i + n ≤ length xs → j ≡ i + n → put_chunk i now (zip2 bit_xor made (chunk i n ys)) ≡ zip_upto (λ x y. bit_xor (g x) y) j xs ys
+  both_store n j made is le e =
+      ap (λ t. put_chunk i now (zip2 bit_xor t (chunk i n ys))) is
+      ∙ ap (put_chunk i now) (zip2-map_left bit_xor g (chunk i n now) (chunk i n ys))
+      ∙ step_store (λ x y. bit_xor (g x) y) n i j now xs ys so_far le long e
+
+  pub both_all : i ≡ length xs → now ≡ zip2 bit_xor (map g xs) ys
+  both_all all = at_end (λ x y. bit_xor (g x) y) i now xs ys so_far long all ∙ sym (zip2-map_left bit_xor g xs ys)

@@ -1,5 +1,5 @@
 -- What callers see of a slab.
-use Rattle.std.specs.Prelude.{◌≡◌, ℕ, ◌-◌, ◌<◌, ◌++◌, Bool, true, false, List, Contains, length, replicate, slice_index_or, Option, None, ◌==◌}
+use Rattle.std.specs.Prelude.{◌≡◌, ℕ, ◌-◌, ◌<◌, ◌++◌, Bool, true, false, List, Contains, fold, length, replicate, slice_index_or, Option, None, ◌==◌}
 use Rattle.std.specs.Cmp.Lexicographic.{pointwise}
 use Rattle.std.specs.Option.{option_eq, ForSome}
 use Rattle.std.specs.Ordering.{eq_of_both, on}
@@ -7,6 +7,7 @@ use Rattle.rq_algebra.specs.Operations.{Operation, Store, step, run, read, value
 use Rattle.rq_algebra.specs.Systems.{at}
 use Rattle.rq_algebra.specs.Symbols.{symbols, symbol_at}
 use Rattle.rq_standard.specs.OctetField.{octets}
+use Rattle.rq_standard.specs.Rows.{row_sum}
 use Rattle.rq_bytes.specs.Ranges.{joined_pieces}
 
 -- its symbols, the size of each, and the order in which places are read, where one is set
@@ -45,6 +46,10 @@ Allows slab operation = IsAllowed (length slab.values) slab.order operation
 -- the symbol that a place means
 abbrev pub symbol_in : Slab → ℕ → List ℕ
 symbol_in slab i = read (symbols octets) (store_of slab) i
+
+-- a row, and the symbols that these places mean, added to it
+abbrev pub with_symbols_added : Slab → List ℕ → List ℕ → List ℕ
+with_symbols_added slab row places = fold (λ sum place. row_sum sum (symbol_in slab place)) row places
 
 -- the symbols at the defined places, as they are read
 abbrev pub symbols_in : Slab → List (List ℕ)

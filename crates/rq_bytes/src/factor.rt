@@ -100,10 +100,6 @@ impl Factor {
         ensures octet { self.now < 256 }
         ensures multiple { octets.new ≡ row_multiple self.now octets.old }
     {
-        if self.octet == 2 {
-            double(octets);
-            return;
-        }
         let blocks = octets.len() / LANES;
         for block in 0..blocks {
             let at = LANES * block;
@@ -146,6 +142,18 @@ impl Factor {
     }
 }
 
+/// Multiplies a row by an octet. A multiple by 2 needs no products.
+pub fn multiply_row(octets: &mut [u8], scalar: &Octet)
+    ensures octet { scalar.now < 256 }
+    ensures multiple { octets.new ≡ row_multiple scalar.now octets.old }
+{
+    if scalar.byte() == 2 {
+        double(octets);
+    } else {
+        Factor::new(scalar).multiply(octets);
+    }
+}
+
 /// Adds an octet's multiple of a row to a row of the same length. A multiple by 1 needs no products.
 pub fn add_row_multiple(octets: &mut [u8], other: &[u8], scalar: &Octet)
     requires { length other.now ≡ length octets.old }
@@ -170,6 +178,23 @@ fn double(octets: &mut [u8])
     }
     for i in LANES * blocks..octets.len() {
         octets[i] = product(2, octets[i]);
+    }
+}
+
+/// Multiplies a row by 2 and adds another one of the same length, in one pass over both.
+pub fn double_and_add(octets: &mut [u8], other: &[u8])
+    requires { length other.now ≡ length octets.old }
+    ensures { octets.new ≡ row_sum (row_multiple 2 octets.old) other.now }
+{
+    let blocks = octets.len() / LANES;
+    for block in 0..blocks {
+        let at = LANES * block;
+        let multiple = doubled_lanes(u8x32::from_slice(&octets[at..]));
+        let sum = multiple ^ u8x32::from_slice(&other[at..]);
+        sum.copy_to_slice(&mut octets[at..]);
+    }
+    for i in LANES * blocks..octets.len() {
+        octets[i] = product(2, octets[i]) ^ other[i];
     }
 }
 

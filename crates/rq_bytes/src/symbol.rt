@@ -10,7 +10,7 @@ ghost use Rattle.rq_standard.specs.Rows.{row_sum, row_multiple};
 ghost use Rattle.rq_bytes.specs.Refusals.{IsAnswer};
 
 use crate::error::Error;
-use crate::factor::Factor;
+use crate::factor::{Factor, multiply_row};
 use crate::octet::Octet;
 use crate::octets::add_assign;
 use std::alloc::{AllocError, Global};
@@ -82,7 +82,7 @@ impl Symbol {
     pub fn mulassign_scalar(&mut self, scalar: &Octet)
         ensures { self.new ≡ row_multiple scalar.now self.old }
     {
-        Factor::new(scalar).multiply(self.value.as_mut_slice());
+        multiply_row(self.value.as_mut_slice(), scalar);
     }
 
     /// Adds a multiple of a symbol of the same length.

@@ -1,5 +1,5 @@
 //! Symbols of one size in one buffer.
-ghost use Rattle.std.specs.Prelude.{◌≡◌, ◌≢◌, ◌↔◌, ◌⊎◌, ◌+◌, ◌*◌, ◌/◌, ◌^◌, ◌<◌, ◌≤◌, length, map, replicate, true, All, Ok, None, IfOk};
+ghost use Rattle.std.specs.Prelude.{◌≡◌, ◌≢◌, ◌↔◌, ◌⊎◌, ◌+◌, ◌*◌, ◌/◌, ◌^◌, ◌<◌, ◌≤◌, [], ◌∷◌, length, map, replicate, true, All, Ok, None, IfOk};
 ghost use Rattle.std.proofs.Common.{rules};
 ghost use Rattle.std.specs.Cmp.Rules.{comparing};
 ghost use Rattle.rq_algebra.specs.Operations.{AddAssign, MulAssign, Fma, Reorder, IsOrder, meant_at};
@@ -8,14 +8,14 @@ ghost use Rattle.rq_standard.specs.OctetField.{octets};
 ghost use Rattle.std.specs.Borrow.{sem};
 ghost use Rattle.rq_bytes.specs.Ranges.{range_of, cut, whole_symbols, with_range};
 ghost use Rattle.rq_bytes.specs.Refusals.{IsAnswer};
-ghost use Rattle.rq_bytes.specs.SymbolSlab.{slab_of, among_zeros, after, after_all, HasPlace, Allows, symbol_in, symbols_in, same_slab, IsZeroUnread, IsZeroUnmarked};
+ghost use Rattle.rq_bytes.specs.SymbolSlab.{slab_of, among_zeros, after, after_all, HasPlace, Allows, symbol_in, with_symbols_added, symbols_in, same_slab, IsZeroUnread, IsZeroUnmarked};
 
 use crate::error::Error;
-use crate::factor::Factor;
+use crate::factor::{Factor, double_and_add, multiply_row};
 use crate::marks::marks_of;
 use crate::octet::Octet;
 use crate::octets;
-use crate::range_sums::add_ranges;
+use crate::range_sums::{add_ranges, add_ranges_to};
 use crate::symbol::{Symbol, zeros};
 use crate::util::get_range_pair;
 use std::alloc::{AllocError, Global};
@@ -217,7 +217,7 @@ impl SymbolSlab {
         requires { Allows self.old (MulAssign dest scalar.now) }
         ensures { self.new ≡ after (MulAssign dest scalar.now) self.old }
     {
-        Factor::new(scalar).multiply(self.get_mut(dest));
+        multiply_row(self.get_mut(dest), scalar);
     }
 
     /// Adds a multiple of a symbol to another one.
@@ -227,6 +227,16 @@ impl SymbolSlab {
     {
         let (dest, src) = self.get_pair_mut(dest, src);
         Factor::new(scalar).add_multiple(dest, src);
+    }
+
+    /// Multiplies a symbol by 2 and adds another one to it, in one pass over their octets. Not in the
+    /// Rust crate.
+    pub fn double_and_add(&mut self, dest: usize, src: usize)
+        requires { Allows self.old (AddAssign dest src) }
+        ensures { self.new ≡ after_all (MulAssign dest 2 ∷ AddAssign dest src ∷ []) self.old }
+    {
+        let (dest, src) = self.get_pair_mut(dest, src);
+        double_and_add(dest, src);
     }
 
     /// Sets the order in which places are read, in place of the one before. No symbol moves.
@@ -293,6 +303,52 @@ impl SymbolSlab {
             count: places.len(),
             order: None,
         })
+    }
+
+    /// Adds the symbols that these places mean to a row of as many octets as a symbol has, up to eight
+    /// of them in each pass over it. Not in the Rust crate.
+    pub fn add_symbols_to(&self, places: &[usize], row: &mut [u8])
+        requires places { All (HasPlace self.now) places.now }
+        requires len { length row.old ≡ self.now.symbol_size }
+        ensures { row.new ≡ with_symbols_added self.now row.old places.now }
+    {
+        for few in places.chunks(8) {
+            self.add_few_to(few, row);
+        }
+    }
+
+    // The same of one to eight places, in one pass.
+    fn add_few_to(&self, places: &[usize], row: &mut [u8])
+        requires some { 0 < length places.now }
+        requires few { length places.now ≤ 8 }
+        requires places { All (HasPlace self.now) places.now }
+        requires len { length row.old ≡ self.now.symbol_size }
+        ensures { row.new ≡ with_symbols_added self.now row.old places.now }
+    {
+        // Where their number is known, no loop over them is left in the pass.
+        match places.len() {
+            1 => self.add_places_to::<1>(places, row),
+            2 => self.add_places_to::<2>(places, row),
+            3 => self.add_places_to::<3>(places, row),
+            4 => self.add_places_to::<4>(places, row),
+            5 => self.add_places_to::<5>(places, row),
+            6 => self.add_places_to::<6>(places, row),
+            7 => self.add_places_to::<7>(places, row),
+            _ => self.add_places_to::<8>(places, row),
+        }
+    }
+
+    // The same of C places. Where their symbols begin is found once, and not again for each piece of
+    // them.
+    #[inline(always)]
+    fn add_places_to<const C: usize>(&self, places: &[usize], row: &mut [u8])
+        requires count { length places.now ≡ C }
+        requires places { All (HasPlace self.now) places.now }
+        requires len { length row.old ≡ self.now.symbol_size }
+        ensures { row.new ≡ with_symbols_added self.now row.old places.now }
+    {
+        let starts = self.starts_of::<C>(places);
+        add_ranges_to(row, self.data.as_slice(), &starts);
     }
 
     /// Whether each symbol that the order doesn't read is zeros, in all its octets. Where no order is

@@ -2,12 +2,12 @@
 use Rattle.std.proofs.Common.{◌+◌, ◌*◌, ◌/◌, ◌-◌, ◌≤◌, refl, ap, ◌∙◌, arith}
 use Rattle.std.proofs.Math.Nat.{mul-le-mul_left}
 use Rattle.rq_bytes.specs.Ranges.{with_range}
-use Rattle.rq_bytes.proofs.RangeSums.{begins, goes_on}
+use Rattle.rq_bytes.proofs.RangeSums.{begins_beside, goes_on_beside}
 use Rattle.rq_bytes.proofs.range_sums.add_pieces.Goals as goal
 
 pub loop-piece-init : goal.loop-piece-init
 loop-piece-init g c =
-    begins c.args.bytes.now c.args.dest c.args.len c.args.sources.now c.requires.dest c.requires.sources c.args.start (g.row.N * 0) (omega arith) c.requires.begins
+    begins_beside c.args.bytes.now c.args.dest c.args.len c.args.sources.now c.requires.dest c.requires.sources c.args.start (g.row.N * 0) (omega arith) c.requires.begins
 
 pub loop-piece-preserved : goal.loop-piece-preserved
 loop-piece-preserved g c =
@@ -17,6 +17,6 @@ loop-piece-preserved g c =
     let piece = c.loop-piece.piece in
     let now = c.loop-piece.bytes in
     let next : piece + 1 ≤ (c.args.len - start) / n = omega arith in
-    goes_on c.args.bytes.now dest c.args.len c.args.sources.now c.requires.dest c.requires.sources now c.write_piece.new.bytes start (n * piece) (start + n * piece) n (n * (piece + 1))
+    goes_on_beside c.args.bytes.now dest c.args.len c.args.sources.now c.requires.dest c.requires.sources now c.write_piece.new.bytes start (n * piece) (start + n * piece) n (n * (piece + 1))
     c.loop-piece.invariant (c.write_piece.ensures ∙ ap (with_range now (dest + (start + n * piece))) c.piece_sum-sum.ensures.sum)
     refl (omega arith) (omega (arith, mul-le-mul_left n next))

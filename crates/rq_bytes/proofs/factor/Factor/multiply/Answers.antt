@@ -1,8 +1,7 @@
 -- What the check leaves to show of `factor::Factor::multiply`.
-use Rattle.std.proofs.Common.{ℕ, ◌+◌, ◌*◌, sym, ap, ◌∙◌, arith, get_or}
+use Rattle.std.proofs.Common.{ℕ, ◌+◌, ◌*◌, ap, ◌∙◌, arith, get_or}
 use Rattle.std.proofs.lemmas.Simd.{length-chunk}
 use Rattle.rq_standard.specs.Octets.{octet_mul}
-use Rattle.rq_standard.specs.Rows.{row_multiple}
 use Rattle.rq_bytes.proofs.ZipUpto.{made_one, made_store, made_all}
 use Rattle.rq_bytes.proofs.factor.Factor.multiply.Goals as goal
 
@@ -14,9 +13,6 @@ loop-block-preserved c = made_store (octet_mul c.args.self.now) c.loop-block.oct
 
 pub loop-i-preserved : goal.loop-i-preserved
 loop-i-preserved c = made_one (octet_mul c.args.self.now) c.loop-i.octets c.args.octets.now c.loop-i.i c.loop-i.invariant _ (c.product.ensures ∙ ap (λ (a : ℕ). octet_mul a (get_or c.loop-i.octets c.loop-i.i 0)) c.self.view_is) (omega arith)
-
-pub returns-then-self-eq2-clause-multiple : goal.returns-then-self-eq2-clause-multiple
-returns-then-self-eq2-clause-multiple c = c.double.ensures ∙ ap (λ (a : ℕ). row_multiple a c.args.octets.now) (sym c.if-self-eq2.true ∙ c.self.view_is)
 
 pub returns-clause-multiple : goal.returns-clause-multiple
 returns-clause-multiple c = made_all (octet_mul c.args.self.now) c.loop-i.octets c.args.octets.now c.loop-i.i c.loop-i.invariant (omega arith)

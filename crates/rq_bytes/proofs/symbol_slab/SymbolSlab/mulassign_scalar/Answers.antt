@@ -1,5 +1,5 @@
 -- What the check leaves to show of `symbol_slab::SymbolSlab::mulassign_scalar`.
-use Rattle.std.proofs.Common.{◌<◌, List, ℕ, arith, set, sym, ap, ◌∙◌}
+use Rattle.std.proofs.Common.{List, ℕ, set, sym, ap, ◌∙◌}
 use Rattle.rq_algebra.specs.Operations.{step, meant_at}
 use Rattle.rq_standard.specs.Rows.{row_multiple}
 use Rattle.rq_standard.proofs.RowSymbols.{scale-rows}
@@ -12,10 +12,8 @@ returns c =
     let slab = c.args.self.now in
     let lent = c.get_mut in
     let scalar = c.args.scalar.now in
-    let octet : scalar < 256 = omega (arith, c.new.ensures, c.multiply.ensures.octet) in
-    lent.ensures.whole_symbol c.multiply.new.octets (c.multiply.auto.octets ∙ lent.ensures.len)
+    lent.ensures.whole_symbol c.multiply_row.new.octets (c.multiply_row.auto.octets ∙ lent.ensures.len)
     ∙ ap (λ (xs : List ℕ). record slab { values = set slab.values (meant_at slab.order c.args.dest) xs }) (
-    c.multiply.ensures.multiple
-    ∙ ap (λ (a : ℕ). row_multiple a lent.result.now) c.new.ensures
+    c.multiply_row.ensures.multiple
     ∙ ap (row_multiple scalar) lent.ensures.symbol
-    ∙ sym (scale-rows scalar (symbol_in slab c.args.dest) octet))
+    ∙ sym (scale-rows scalar (symbol_in slab c.args.dest) c.multiply_row.ensures.octet))
