@@ -1,5 +1,5 @@
 //! Steps that are done to symbols.
-ghost use Rattle.std.specs.Prelude.{◌≡◌, ◌+◌, ◌<◌, ◌≤◌, length, map, take, drop, IfSome};
+ghost use Rattle.std.specs.Prelude.{◌≡◌, ◌+◌, ◌<◌, ◌≤◌, ◌∷◌, [], length, map, take, drop, IfSome};
 ghost use Rattle.rq_algebra.specs.Operations.{AddAssign, AreAllowed};
 ghost use Rattle.rq_bytes.specs.Ranges.{range_of};
 ghost use Rattle.rq_bytes.specs.SymbolSlab.{after_all};
@@ -45,12 +45,32 @@ fn perform_next(
             }
             symbols.add_assign(*dest as usize, *src as usize);
         }
-        Step::Multiply { scalar, dest } => symbols.mulassign_scalar(*dest as usize, scalar),
+        Step::Multiply { scalar, dest } => {
+            if scalar.byte() == 2 {
+                if let Some(src) = next_source(steps, start, *dest) {
+                    symbols.double_and_add(*dest as usize, src as usize);
+                    return 2;
+                }
+            }
+            symbols.mulassign_scalar(*dest as usize, scalar);
+        }
         Step::AddMultiple { scalar, dest, src } => {
             symbols.fma(*dest as usize, *src as usize, scalar);
         }
     }
     1
+}
+
+// The source of the step behind `start`, where it is an addition to `dest`.
+fn next_source(steps: &[Step], start: usize, dest: u32) -> Option<u32>
+    requires { start < length steps.now }
+    ensures { IfSome result (λ src. (start + 1 < length steps.now) × (range_of (map operation_of_step steps.now) (start + 1) 1 ≡ AddAssign dest src ∷ [])) }
+{
+    if start + 1 < steps.len() {
+        source_of(&steps[start + 1], dest)
+    } else {
+        None
+    }
 }
 
 // Writes the sources of the additions to `dest` that follow each other from `start` on, as far as
