@@ -1,0 +1,2 @@
+pub mod RecordedOperations
+pub mod Steps

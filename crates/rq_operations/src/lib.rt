@@ -1,0 +1,6 @@
+//! Recorded operations as plans keep them, and how they are done to symbols.
+#![tactic(auto)]
+
+pub mod recorded;
+mod replay;
+pub mod steps;
