@@ -8,6 +8,7 @@ use rq_bytes::octet::Octet;
 use rq_bytes::operation_vector::SymbolOps;
 use rq_bytes::symbol_slab::SymbolSlab;
 use rq_matrix::matrix::{BinaryMatrix, DenseBinaryMatrix};
+use rq_matrix::sparse_matrix::SparseBinaryMatrix;
 use rq_parts::octet_matrix::DenseOctetMatrix;
 use rq_solver::pi_solver::{
     FirstPhaseRowSelectionStats, IntermediateSymbolDecoder, fused_inverse_mul_symbols,
@@ -320,9 +321,19 @@ fn equations_are_solved_without_hdpc(rt: HostRuntime) -> Result<(), Error> {
 #[test]
 fn zeros_determine_nothing_without_hdpc(rt: HostRuntime) -> Result<(), Error> {
     let (table, row) = row_of_ten(&rt, rt.alloc())?;
-    let bits: DenseBinaryMatrix = zero_bits(rt.alloc(), &row)?;
+    let dense: DenseBinaryMatrix = zero_bits(rt.alloc(), &row)?;
     let symbols = numbered(rt.alloc())?;
-    let mut solver = IntermediateSymbolDecoder::new_no_hdpc(rt.alloc(), &table, bits, symbols, 10);
+    let mut solver = IntermediateSymbolDecoder::new_no_hdpc(rt.alloc(), &table, dense, symbols, 10);
+    assert!(rt; solver.execute()?.is_none());
+    let sparse: SparseBinaryMatrix = zero_bits(rt.alloc(), &row)?;
+    let symbols = numbered(rt.alloc())?;
+    let mut solver = IntermediateSymbolDecoder::new_no_hdpc(
+        rt.alloc(),
+        &table,
+        sparse,
+        symbols,
+        10,
+    );
     assert!(rt; solver.execute()?.is_none());
     Ok(())
 }
