@@ -3,7 +3,7 @@ use Rattle.std.proofs.Common.{◌≡◌, ℕ, suc, ◌+◌, ◌-◌, ◌<◌, �
 use Rattle.std.specs.List.{All, swap}
 use Rattle.std.proofs.Math.ListN.{drop_of_length-le}
 use Rattle.std.proofs.Math.Seq.{drop-cons}
-use Rattle.std.proofs.lemmas.List.{set-append_left, set-append_right, take-append-drop, length-take-le, length-append, length-drop, length-map, take-append-le, drop-append-le, map-append, get_or-append_right, get_or-drop, take_more}
+use Rattle.std.proofs.lemmas.List.{set-append_left, set-append_right, take-append-drop, length-take-le, length-append, length-drop, length-map, take-append-le, drop-append-le, map-append, get_or-append_right, get_or-drop, get_or-take, get_or_read, take_more}
 use Rattle.std.proofs.lemmas.List.Elements.{All-set}
 use Rattle.std.proofs.lemmas.List.Edits.{swap_is}
 
@@ -25,6 +25,18 @@ set_back xs n y le =
     ap (λ k. take n xs ++ set (drop n xs) k y) (sym first)
     ∙ sym (set-append_right (take n xs) (drop n xs) n n y (length-take-le n xs le) (omega arith))
     ∙ ap (λ l. set l n y) (take-append-drop n xs)
+
+-- an element read in the part before or after a split
+pub front_read : {X : Type 0} (xs part : List X) (n i : ℕ) (x d : X) → part ≡ take n xs → i < n → n ≤ length xs → x ≡ get_or part i x → get_or part i x ≡ get_or xs i d
+front_read xs part n i x d e lt le read =
+    let long = ap length e ∙ length-take-le n xs le in
+    sym read ∙ get_or_read part i x (omega arith) read d ∙ ap (λ l. get_or l i d) e ∙ get_or-take n xs i d lt
+
+pub back_read : {X : Type 0} (xs part : List X) (n : ℕ) (x d : X) → part ≡ drop n xs → n < length xs → x ≡ get_or part 0 x → get_or part 0 x ≡ get_or xs n d
+back_read xs part n x d e lt read =
+    let long = ap length e ∙ length-drop n xs in
+    let same : n + 0 ≡ n = omega arith in
+    sym read ∙ get_or_read part 0 x (omega arith) read d ∙ ap (λ l. get_or l 0 d) e ∙ get_or-drop n xs 0 d ∙ ap (λ k. get_or xs k d) same
 
 -- the first n elements of a list, those from `start` on mapped, and then the others as they were
 abbrev pub mapped_until : {X : Type 0} → (X → X) → ℕ → ℕ → List X → List X

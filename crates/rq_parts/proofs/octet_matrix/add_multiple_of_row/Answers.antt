@@ -1,24 +1,11 @@
 -- What the check leaves to show of `octet_matrix::add_multiple_of_row`.
 use Rattle.std.proofs.Common.{◌≡◌, ℕ, ◌+◌, ◌<◌, ◌≤◌, ◌++◌, List, [], length, set, get_or, take, drop, ap, sym, subst, ◌∙◌, arith}
 use Rattle.std.specs.List.{All}
-use Rattle.std.proofs.lemmas.List.{get_or_read, get_or-take, get_or-drop, length-take-le, length-drop}
 use Rattle.std.proofs.lemmas.List.Elements.{All-set}
 use Rattle.rq_standard.specs.Rows.{row_sum, row_multiple}
 use Rattle.rq_parts.specs.DenseOctetMatrix.{IsOctetRow}
-use Rattle.rq_parts.proofs.Rows.{set_front, set_back}
+use Rattle.rq_parts.proofs.Rows.{front_read, back_read, set_front, set_back}
 use Rattle.rq_parts.proofs.octet_matrix.add_multiple_of_row.Goals as goal
-
--- an element read in the part before or after a split
-front_read : (rows part : List (List ℕ)) (n i : ℕ) (x : List ℕ) → part ≡ take n rows → i < n → n ≤ length rows → x ≡ get_or part i x → get_or part i x ≡ get_or rows i []
-front_read rows part n i x e lt le read =
-    let long = ap length e ∙ length-take-le n rows le in
-    sym read ∙ get_or_read part i x (omega arith) read [] ∙ ap (λ l. get_or l i []) e ∙ get_or-take n rows i [] lt
-
-back_read : (rows part : List (List ℕ)) (n : ℕ) (x : List ℕ) → part ≡ drop n rows → n < length rows → x ≡ get_or part 0 x → get_or part 0 x ≡ get_or rows n []
-back_read rows part n x e lt read =
-    let long = ap length e ∙ length-drop n rows in
-    let same : n + 0 ≡ n = omega arith in
-    sym read ∙ get_or_read part 0 x (omega arith) read [] ∙ ap (λ l. get_or l 0 []) e ∙ get_or-drop n rows 0 [] ∙ ap (λ k. get_or rows k []) same
 
 -- the row that was added to is as long as it was
 widths_kept : (rows new : List (List ℕ)) (d : ℕ) (x row : List ℕ) → d < length rows → x ≡ get_or rows d [] → new ≡ set rows d row → IsOctetRow (length x) row
@@ -34,8 +21,8 @@ returns-then-dest-src c =
     let s = c.args.src in
     let split = c.split_at_mut-front in
     let new = c.add_multiple.new.self in
-    let x = front_read rows split.result.0.now s d c.index-front-dest.result split.ensures.front (omega arith) (omega arith) c.index-front-dest.is in
-    let y = back_read rows split.result.1.now s c.index-back-0.result split.ensures.back (omega arith) c.index-back-0.is in
+    let x = front_read rows split.result.0.now s d c.index-front-dest.result [] split.ensures.front (omega arith) (omega arith) c.index-front-dest.is in
+    let y = back_read rows split.result.1.now s c.index-back-0.result [] split.ensures.back (omega arith) c.index-back-0.is in
     let scalar = c.args.scalar.now in
     let kept =
     ap (λ f. set f d new ++ split.result.1.now) split.ensures.front
@@ -55,8 +42,8 @@ returns-else-dest-src c =
     let split = c.split_at_mut-front-else-dest-src in
     let new = c.add_multiple-else-dest-src.new.self in
     let two : s < d = let ne = c.requires.two in omega arith in
-    let x = back_read rows split.result.1.now d c.index-back-0-else-dest-src.result split.ensures.back (omega arith) c.index-back-0-else-dest-src.is in
-    let y = front_read rows split.result.0.now d s c.index-front-src.result split.ensures.front two (omega arith) c.index-front-src.is in
+    let x = back_read rows split.result.1.now d c.index-back-0-else-dest-src.result [] split.ensures.back (omega arith) c.index-back-0-else-dest-src.is in
+    let y = front_read rows split.result.0.now d s c.index-front-src.result [] split.ensures.front two (omega arith) c.index-front-src.is in
     let scalar = c.args.scalar.now in
     let kept =
     ap (λ f. f ++ set split.result.1.now 0 new) split.ensures.front
