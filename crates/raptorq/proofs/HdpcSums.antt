@@ -89,11 +89,12 @@ multiple_at first old new dest src scalar write same_dest same_src p =
     ∙ ap (λ xs. octets.add (at (symbol_in first dest) p) (octets.mul scalar (at xs p))) same_src
 
 -- an octet of a row that was doubled and to which another one was added
-pub doubled_at : (old doubled other new : List ℕ) → doubled ≡ row_multiple 2 old → new ≡ row_sum doubled other → length other ≡ length doubled → (p : ℕ) → at new p ≡ octets.add (octets.mul 2 (at old p)) (at other p)
-doubled_at old doubled other new double sum long p =
-    let is : doubled ≡ map (octets.mul 2) old = double ∙ sym (scale-rows 2 old (omega arith)) in
-    ap (λ xs. at xs p) (sum ∙ sym (add_symbols-rows doubled other long)) ∙ add_symbols_at octets p doubled other
-    ∙ ap (λ x. octets.add x (at other p)) (ap (λ xs. at xs p) is ∙ scale_at octets p 2 old)
+pub doubled_at : (old other new : List ℕ) → new ≡ row_sum (row_multiple 2 old) other → length other ≡ length old → (p : ℕ) → at new p ≡ octets.add (octets.mul 2 (at old p)) (at other p)
+doubled_at old other new sum long p =
+    let double = map (octets.mul 2) old in
+    ap (λ xs. at xs p) (sum ∙ ap (λ xs. row_sum xs other) (sym (scale-rows 2 old (omega arith))) ∙ sym (add_symbols-rows double other (long ∙ sym (length-map old (octets.mul 2)))))
+    ∙ add_symbols_at octets p double other
+    ∙ ap (λ x. octets.add x (at other p)) (scale_at octets p 2 old)
 
 -- the numbers that a range gives
 pub range_numbers : (start count end : ℕ) (xs : List ℕ) → end ≡ start + count → DrainsIf nat_range_steps (Unit {0}) (record { start = start; end = end }) xs → xs ≡ range_with_len start count

@@ -6,7 +6,7 @@ ghost use Rattle.rq_bytes.specs.Refusals.{IsAnswer};
 ghost use Rattle.rq_parts.specs.DenseOctetMatrix.{HasOctets, IsOctetRow, row_at, with_row, sum_from, columns_swapped};
 
 use rq_bytes::error::Error;
-use rq_bytes::factor::{Factor, add_row_multiple};
+use rq_bytes::factor::{add_row_multiple, multiply_row};
 use rq_bytes::octet::Octet;
 use rq_bytes::octets;
 use rq_bytes::octets::BinaryOctetVec;
@@ -193,7 +193,7 @@ impl OctetRow {
         ensures multiple { self.new ≡ row_multiple scalar.now self.old }
         ensures octets { IsOctetRow (length self.old) self.new }
     {
-        Factor::new(scalar).multiply(self.octets.as_mut_slice());
+        multiply_row(self.octets.as_mut_slice(), scalar);
         octets::are_octets(self.octets.as_slice());
     }
 

@@ -11,7 +11,7 @@ ghost use Rattle.raptorq.specs.HdpcSums.{AreHdpcSums, AreZeroWithLast};
 use crate::solving::Solution;
 use rq_base::constraint_matrix::hdpc::ones_of_mt;
 use rq_bytes::error::Error;
-use rq_bytes::factor::Factor;
+use rq_bytes::factor::double_and_add;
 use rq_bytes::octet::Octet;
 use rq_bytes::octets;
 use rq_bytes::symbol_slab::SymbolSlab;
@@ -54,10 +54,9 @@ fn solves_hdpc(alloc: Global, row: &TableRow, intermediate: &SymbolSlab) -> Resu
     ensures memory { IfErr result (λ e. e ≡ Error.OutOfMemory) }
 {
     let last = (row.extended_symbols + row.ldpc_symbols) as usize - 1;
-    let alpha = Factor::new(&Octet::alpha(1));
     let mut sums = first_sums(alloc, row, intermediate)?;
     for column in 0..last {
-        add_column(&mut sums, row, intermediate, column, &alpha);
+        add_column(&mut sums, row, intermediate, column);
     }
     Ok(are_zero_with_last(&mut sums, row.hdpc_symbols as usize))
 }
@@ -78,19 +77,12 @@ fn first_sums(alloc: Global, row: &TableRow, intermediate: &SymbolSlab) -> Resul
 }
 
 // Adds the last symbol to the sums of the two rows where a column of MT has a one. The last symbol
-// is then multiplied by alpha, and the symbol of the next column is added to it.
-fn add_column(
-    sums: &mut SymbolSlab,
-    row: &TableRow,
-    intermediate: &SymbolSlab,
-    column: usize,
-    alpha: &Factor,
-)
+// is then multiplied by alpha, which is 2, and the symbol of the next column is added to it.
+fn add_column(sums: &mut SymbolSlab, row: &TableRow, intermediate: &SymbolSlab, column: usize)
     requires checked { IsChecked row.now }
     requires enough { intermediate_symbols row.now ≤ length (symbols_in intermediate.now) }
     requires symbols { IsSymbolColumn octets intermediate.now.symbol_size (intermediate_symbols row.now) (symbol_in intermediate.now) }
     requires column { column + 1 < before_hdpc row.now }
-    requires alpha { alpha.now ≡ 2 }
     requires sums { AreHdpcSums row.now (symbol_in intermediate.now) intermediate.now.symbol_size column sums.old }
     ensures { AreHdpcSums row.now (symbol_in intermediate.now) intermediate.now.symbol_size (column + 1) sums.new }
 {
@@ -98,9 +90,7 @@ fn add_column(
     let (first, second) = ones_of_mt(row, column);
     sums.add_assign(first, height);
     sums.add_assign(second, height);
-    let last = sums.get_mut(height);
-    alpha.multiply(last);
-    octets::add_assign(last, intermediate.get(column + 1));
+    double_and_add(sums.get_mut(height), intermediate.get(column + 1));
 }
 
 // Whether each of so many sums is zero once its power of alpha, times the symbol behind them, is

@@ -3,7 +3,6 @@ use Rattle.rq_algebra.specs.Systems.{at}
 use Rattle.rq_algebra.proofs.SymbolSums.{symbol_elements}
 use Rattle.rq_bytes.specs.SymbolSlab.{symbol_in}
 use Rattle.rq_standard.specs.OctetField.{octets}
-use Rattle.rq_standard.specs.Rows.{row_multiple}
 use Rattle.raptorq.proofs.HdpcSums.{added, allowed, column_added, doubled_at, place_of_plain, written}
 use Rattle.raptorq.proofs.decoder.fitting.add_column.Goals as goal
 
@@ -15,8 +14,8 @@ add_assign-requires-2 c =
     let w1 = added c.args.sums.now c.add_assign.new.self ones.result.0 height so.order (omega (arith, so.count, ones.ensures.first)) c.add_assign.ensures in
     allowed c.add_assign.new.self ones.result.1 height w1.order (omega (arith, w1.count, so.count, ones.ensures.second)) (omega (arith, w1.count, so.count)) (λ same. omega (arith, ones.ensures.second))
 
-pub get_mut-last-requires : goal.get_mut-last-requires
-get_mut-last-requires c =
+pub get_mut-requires : goal.get_mut-requires
+get_mut-requires c =
     let so = c.requires.sums in
     let height = c.args.row.now.hdpc_symbols in
     let ones = c.ones_of_mt-first in
@@ -33,13 +32,12 @@ returns c =
     let size = c.args.intermediate.now.symbol_size in
     let n = c.args.column in
     let ones = c.ones_of_mt-first in
-    let lent = c.get_mut-last in
+    let lent = c.get_mut in
     let w1 = added c.args.sums.now c.add_assign.new.self ones.result.0 height so.order (omega (arith, so.count, ones.ensures.first)) c.add_assign.ensures in
     let w2 = added c.add_assign.new.self c.add_assign-2.new.self ones.result.1 height w1.order (omega (arith, w1.count, so.count, ones.ensures.second)) c.add_assign-2.ensures in
-    let w3 = written c.add_assign-2.new.self _ height c.add_assign-3.new.octets w2.order (omega (arith, w2.count, w1.count, so.count)) (lent.ensures.whole_symbol c.add_assign-3.new.octets (c.add_assign-3.auto.octets ∙ c.multiply.auto.octets ∙ lent.ensures.len)) in
-    let doubled = doubled_at lent.result.now c.multiply.new.octets c.get.result.now c.add_assign-3.new.octets (c.multiply.ensures.multiple ∙ ap (λ a. row_multiple a lent.result.now) c.requires.alpha) c.add_assign-3.ensures
-    (c.get.ensures.len ∙ sym (c.multiply.auto.octets ∙ lent.ensures.len ∙ w2.size_is ∙ w1.size_is ∙ so.size_is)) in
+    let w3 = written c.add_assign-2.new.self _ height c.double_and_add.new.octets w2.order (omega (arith, w2.count, w1.count, so.count)) (lent.ensures.whole_symbol c.double_and_add.new.octets (c.double_and_add.auto.octets ∙ lent.ensures.len)) in
+    let doubled = doubled_at lent.result.now c.get.result.now c.double_and_add.new.octets c.double_and_add.ensures (c.get.ensures.len ∙ sym (lent.ensures.len ∙ w2.size_is ∙ w1.size_is ∙ so.size_is)) in
     column_added row column size n ones.result.0 ones.result.1 c.requires.column ones.ensures.first ones.ensures.second ones.ensures.apart ones.ensures.ones
-    c.args.sums.now c.add_assign.new.self c.add_assign-2.new.self _ c.add_assign-3.new.octets so w1 w2 w3
+    c.args.sums.now c.add_assign.new.self c.add_assign-2.new.self _ c.double_and_add.new.octets so w1 w2 w3
     (λ p. doubled p ∙ ap (λ xs. octets.add (octets.mul 2 (at xs p)) (at c.get.result.now p)) lent.ensures.symbol ∙ ap (λ xs. octets.add (octets.mul 2 (at (symbol_in c.add_assign-2.new.self height) p)) (at xs p)) c.get.ensures.symbol)
     (symbol_elements octets size (column (n + 1)) (c.requires.symbols (n + 1) (omega (arith, c.requires.column))))

@@ -1,17 +1,9 @@
-use Rattle.std.proofs.Common.{◌≡◌, ◌-◌, refl, ◌∙◌, arith, subst}
+use Rattle.std.proofs.Common.{◌≡◌, ◌-◌, arith, subst}
 use Rattle.rq_bytes.specs.SymbolSlab.{symbol_in}
 use Rattle.rq_standard.specs.Equations.{before_hdpc}
-use Rattle.rq_standard.specs.Octets.{octet_double, octet_power}
 use Rattle.raptorq.specs.HdpcSums.{AreHdpcSums}
 use Rattle.raptorq.proofs.HdpcSums.{sums_tell}
 use Rattle.raptorq.proofs.decoder.fitting.solves_hdpc.Goals as goal
-
-alpha : octet_power 1 ≡ 2
-unfolding octet_power octet_double
-alpha = refl
-
-pub add_column-requires-clause-alpha : goal.add_column-requires-clause-alpha
-add_column-requires-clause-alpha c = c.new-alpha.ensures ∙ c.alpha.ensures ∙ alpha
 
 pub returns-clause-solves : goal.returns-clause-solves
 returns-clause-solves c =
