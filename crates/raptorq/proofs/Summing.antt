@@ -1,10 +1,12 @@
 -- The sum at the indices of an id, one after another.
-use Rattle.std.proofs.Common.{◌≡◌, ℕ, ◌<◌, ◌≤◌, List, [], ◌∷◌, ◌++◌, length, replicate, get_or, Option, Some, None, refl, sym, ap, ◌∙◌, arith, append_assoc, append-nil}
+use Rattle.std.proofs.Common.{◌≡◌, ℕ, ◌<◌, ◌≤◌, List, [], ◌∷◌, ◌++◌, All, length, replicate, get_or, Option, Some, None, refl, sym, ap, ◌∙◌, subst, arith, append_assoc, append-nil}
+use Rattle.std.proofs.Math.Seq.{take-append_seam, drop-append_seam}
 use Rattle.std.proofs.lemmas.List.{length-map}
+use Rattle.std.proofs.lemmas.List.Elements.{All-head, All-tail, All-take, All-drop}
 use Rattle.rq_algebra.specs.Symbols.{add_symbols, symbols, IsSymbolColumn}
 use Rattle.rq_algebra.specs.Parities.{sum_listed}
 use Rattle.rq_algebra.proofs.SymbolSums.{add_nothing, add_zeros, add_symbols_assoc, length-add_symbols, sum_listed-push}
-use Rattle.rq_bytes.specs.SymbolSlab.{Slab, HasPlace, symbol_in, symbols_in}
+use Rattle.rq_bytes.specs.SymbolSlab.{Slab, HasPlace, symbol_in, symbols_in, with_symbols_added}
 use Rattle.rq_standard.specs.OctetField.{octets}
 use Rattle.rq_standard.specs.declared.row.TableRow.{TableRow}
 use Rattle.rq_standard.specs.TableRows.{IsChecked, intermediate_symbols}
@@ -39,8 +41,33 @@ one_summed size p all left rest column sum term new so next is long added = reco
       ∙ add_symbols_assoc octets (replicate size 0) (sum_listed (symbols octets) so.done column) (column p) ∙ ap (add_symbols octets (replicate size 0)) (sym (sum_listed-push octets so.done p column));
 }
 
-pub length-sum : (xs ys : List ℕ) → length ys ≡ length xs → length (row_sum xs ys) ≡ length xs
+length-sum : (xs ys : List ℕ) → length ys ≡ length xs → length (row_sum xs ys) ≡ length xs
 length-sum xs ys same = ap length (sym (add_symbols-rows xs ys same)) ∙ length-add_symbols octets 0 (length xs) xs ys refl same
+
+module _ (slab : Slab) (size : ℕ) where
+  pub length-several : (ps sum : List ℕ) → All (λ p. length (symbol_in slab p) ≡ size) ps → length sum ≡ size → length (with_symbols_added slab sum ps) ≡ size
+  length-several [] sum each long = long
+  length-several (p ∷ ps) sum each long =
+      let term = symbol_in slab p in
+      length-several ps (row_sum sum term) (All-tail (λ k. length (symbol_in slab k) ≡ size) p ps each)
+      (length-sum sum term (All-head (λ k. length (symbol_in slab k) ≡ size) p ps each ∙ sym long) ∙ long)
+
+  -- those of several places
+  pub several_summed : (all rest ps left sum new : List ℕ) → left ≡ ps ++ rest → All (λ p. length (symbol_in slab p) ≡ size) ps → length sum ≡ size → new ≡ with_symbols_added slab sum ps
+      → SumsSoFar size all left (symbol_in slab) sum → SumsSoFar size all rest (symbol_in slab) new
+  several_summed all rest [] left sum new is each long added so = subst (λ l. SumsSoFar size all l (symbol_in slab) new) is (subst (SumsSoFar size all left (symbol_in slab)) (sym added) so)
+  several_summed all rest (p ∷ ps) left sum new is each long added so =
+      let term = symbol_in slab p in
+      let same : length term ≡ length sum = All-head (λ k. length (symbol_in slab k) ≡ size) p ps each ∙ sym long in
+      several_summed all rest ps (ps ++ rest) (row_sum sum term) new refl (All-tail (λ k. length (symbol_in slab k) ≡ size) p ps each) (length-sum sum term same ∙ long) added
+      (one_summed size p all left (ps ++ rest) (symbol_in slab) sum term (row_sum sum term) so is refl same refl)
+
+-- the indices that are listed, and those behind them
+pub All-front : (P : ℕ → Type 0) (xs ys : List ℕ) → All P (xs ++ ys) → All P xs
+All-front P xs ys all = subst (All P) (take-append_seam xs ys) (All-take P (length xs) (xs ++ ys) all)
+
+pub All-back : (P : ℕ → Type 0) (xs ys : List ℕ) → All P (xs ++ ys) → All P ys
+All-back P xs ys all = subst (All P) (drop-append_seam xs ys) (All-drop P (length xs) (xs ++ ys) all)
 
 -- the sum at all indices
 pub all_summed : (row : TableRow) (slab : Slab) (id : ℕ) (left sum : List ℕ) → IsChecked row → IsSymbolColumn octets slab.symbol_size (intermediate_symbols row) (symbol_in slab) → left ≡ [] → SumsSoFar slab.symbol_size (row_indices row id) left (symbol_in slab) sum → sum ≡ tuple_sum row (symbol_in slab) id

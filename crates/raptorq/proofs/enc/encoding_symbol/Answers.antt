@@ -1,42 +1,62 @@
-use Rattle.std.proofs.Common.{◌≡◌, ℕ, [], ◌∷◌, replicate, ◌<◌, length, All, sym, ap, ◌∙◌, subst}
-use Rattle.std.proofs.lemmas.List.{length-replicate}
-use Rattle.std.proofs.lemmas.List.Elements.{All-head, All-tail}
-use Rattle.rq_bytes.specs.SymbolSlab.{symbol_in}
+use Rattle.std.proofs.Common.{◌≡◌, ◌≢◌, ◌+◌, ◌≤◌, ℕ, List, [], ◌++◌, replicate, ◌<◌, length, take, All, refl, sym, ap, ◌∙◌, subst, arith}
+use Rattle.std.proofs.lemmas.List.{length-replicate, with_items_is}
+use Rattle.std.proofs.lemmas.List.Elements.{All-weaker}
+use Rattle.std.specs.Vec.{with_items}
+use Rattle.rq_bytes.specs.SymbolSlab.{HasPlace, symbol_in, with_symbols_added}
 use Rattle.rq_standard.specs.Equations.{row_indices}
 use Rattle.rq_standard.specs.TableRows.{intermediate_symbols}
-use Rattle.raptorq.proofs.Summing.{place_of_slab, nothing_summed, one_summed, all_summed, length-sum}
+use Rattle.raptorq.proofs.Summing.{place_of_slab, nothing_summed, several_summed, length-several, All-front, All-back, all_summed}
 use Rattle.raptorq.proofs.enc.encoding_symbol.Goals as goal
 
-pub loop-index-init : goal.loop-index-init
-loop-index-init c =
-    let zeros : c.in_ok-symbol.symbol.items ≡ replicate {A = ℕ} c.args.intermediate.now.symbol_size 0 = c.in_ok-symbol.ensures.items_if_clones_equal (λ y same. same) ∙ ap (λ n. replicate {A = ℕ} n 0) c.symbol_size.ensures in
+pub loop-count-init : goal.loop-count-init
+loop-count-init c =
+    let slab = c.args.intermediate.now in
+    let first = c.next_terms-count in
+    let zeros : c.in_ok-symbol.symbol.items ≡ replicate {A = ℕ} slab.symbol_size 0 = c.in_ok-symbol.ensures.items_if_clones_equal (λ y same. same) ∙ ap (λ n. replicate {A = ℕ} n 0) c.symbol_size.ensures in
     record {
-      sums = nothing_summed c.args.intermediate.now.symbol_size (row_indices c.args.row.now c.args.internal_symbol_id) c.of_id-indices.result (symbol_in c.args.intermediate.now) c.in_ok-symbol.symbol.items c.of_id-indices.ensures.value zeros;
-      below = c.of_id-indices.ensures.below;
-      long = ap length zeros ∙ length-replicate {A = ℕ} c.args.intermediate.now.symbol_size 0;
+      room = first.ensures.room;
+      all = first.ensures.all;
+      sums = nothing_summed slab.symbol_size (row_indices c.args.row.now c.args.internal_symbol_id) (take first.result first.new.terms ++ first.new.indices) (symbol_in slab) c.in_ok-symbol.symbol.items
+          (sym first.ensures.listed ∙ c.of_id-indices.ensures.value) zeros;
+      below = subst (All (λ p. p < intermediate_symbols c.args.row.now)) first.ensures.listed c.of_id-indices.ensures.below;
+      long = ap length zeros ∙ length-replicate {A = ℕ} slab.symbol_size 0;
     }
 
-pub loop-index-preserved : goal.loop-index-preserved
-loop-index-preserved c =
-    let kept = c.loop-index.invariant in
-    let next : c.loop-index.indices ≡ c.in-Some.index ∷ c.next_index.new.self = c.in-Some.ensures in
-    let long : length c.get.result.now ≡ length c.loop-index.symbol.items = c.get.ensures.len ∙ sym kept.long in
+pub add_symbols_to-requires-clause-places : goal.add_symbols_to-requires-clause-places
+add_symbols_to-requires-clause-places c =
+    let slab = c.args.intermediate.now in
+    let below = λ (p : ℕ). p < intermediate_symbols c.args.row.now in
+    let listed = take c.loop-count.count c.loop-count.terms in
+    All-weaker below (HasPlace slab) (λ p l. place_of_slab slab p (intermediate_symbols c.args.row.now) c.requires.enough l) listed (All-front below listed c.loop-count.indices c.loop-count.invariant.below)
+
+pub loop-count-preserved : goal.loop-count-preserved
+loop-count-preserved c =
+    let slab = c.args.intermediate.now in
+    let size = slab.symbol_size in
+    let kept = c.loop-count.invariant in
+    let below = λ (p : ℕ). p < intermediate_symbols c.args.row.now in
+    let listed = take c.loop-count.count c.loop-count.terms in
+    let left = c.loop-count.indices in
+    let next = c.next_terms-count-in-loop-count in
+    let row = c.add_symbols_to.new.row in
+    let sum = c.loop-count.symbol in
+    let each : All (λ p. length (symbol_in slab p) ≡ size) listed =
+    All-weaker below (λ p. length (symbol_in slab p) ≡ size) (λ p l. (c.requires.symbols p l).size_is) listed (All-front below listed left kept.below) in
+    let added : row ≡ with_symbols_added slab sum.items listed = c.add_symbols_to.ensures ∙ ap (λ (xs : List ℕ). with_symbols_added slab xs listed) c.as_mut_slice.ensures.value in
+    let long : length row ≡ size = ap length added ∙ length-several slab size listed sum.items each kept.long in
+    let items : (with_items sum row).items ≡ row = with_items_is sum row (long ∙ sym kept.long ∙ sym sum.ok.0) in
     record {
-      sums = one_summed c.args.intermediate.now.symbol_size c.in-Some.index (row_indices c.args.row.now c.args.internal_symbol_id) c.loop-index.indices c.next_index.new.self (symbol_in c.args.intermediate.now) c.loop-index.symbol.items c.get.result.now c.add.new.sum.items kept.sums next c.get.ensures.symbol long c.add.ensures;
-      below = All-tail (λ p. p < intermediate_symbols c.args.row.now) c.in-Some.index c.next_index.new.self (subst (All (λ p. p < intermediate_symbols c.args.row.now)) next kept.below);
-      long = ap length c.add.ensures ∙ length-sum c.loop-index.symbol.items c.get.result.now long ∙ kept.long;
+      room = next.ensures.room;
+      all = next.ensures.all;
+      sums = several_summed slab size (row_indices c.args.row.now c.args.internal_symbol_id) (take next.result next.new.terms ++ next.new.indices) listed (listed ++ left) sum.items (with_items sum row).items
+          (ap (λ l. listed ++ l) next.ensures.listed) each kept.long (items ∙ added) kept.sums;
+      below = subst (All below) next.ensures.listed (All-back below listed left kept.below);
+      long = ap length items ∙ long;
     }
-
-pub get-requires : goal.get-requires
-get-requires c =
-    let next : c.loop-index.indices ≡ c.in-Some.index ∷ c.next_index.new.self = c.in-Some.ensures in
-    place_of_slab c.args.intermediate.now c.in-Some.index (intermediate_symbols c.args.row.now) c.requires.enough
-    (All-head (λ p. p < intermediate_symbols c.args.row.now) c.in-Some.index c.next_index.new.self (subst (All (λ p. p < intermediate_symbols c.args.row.now)) next c.loop-index.invariant.below))
-
-pub add-requires : goal.add-requires
-add-requires c = c.get.ensures.len ∙ sym c.loop-index.invariant.long
 
 pub returns : goal.returns
 returns c =
-    let none : c.loop-index.indices ≡ [] = c.in_default.ensures.0 in
-    record { sum = all_summed c.args.row.now c.args.intermediate.now c.args.internal_symbol_id c.loop-index.indices c.loop-index.symbol.items c.requires.checked c.requires.symbols none c.loop-index.invariant.sums }
+    let kept = c.loop-count.invariant in
+    let none : c.loop-count.count ≡ 0 = omega (arith, c.loop-count-test.false) in
+    let left : take c.loop-count.count c.loop-count.terms ++ c.loop-count.indices ≡ [] = ap (λ n. take n c.loop-count.terms ++ c.loop-count.indices) none ∙ kept.all none in
+    record { sum = all_summed c.args.row.now c.args.intermediate.now c.args.internal_symbol_id _ c.loop-count.symbol.items c.requires.checked c.requires.symbols left kept.sums }
