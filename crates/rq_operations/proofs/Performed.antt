@@ -41,6 +41,14 @@ AreAllowed-after : (n : ℕ) (order : Option (List ℕ)) (before rest : List Ope
 AreAllowed-after n order [] rest all = all
 AreAllowed-after n order (first ∷ before) rest all = AreAllowed-after n (order_after order first) before rest all.1
 
+-- what the first of them ask, and the order behind them
+pub AreAllowed-before : (n : ℕ) (order : Option (List ℕ)) (before rest : List Operation) → AreAllowed n order (before ++ rest) → AreAllowed n order before
+AreAllowed-before n order [] rest all = tt
+AreAllowed-before n order (first ∷ before) rest all = (all.0, AreAllowed-before n (order_after order first) before rest all.1)
+
+pub length-after_all : (operations : List Operation) (slab : Slab) → length (after_all operations slab).values ≡ length slab.values
+length-after_all operations slab = length-run operations (store_of slab)
+
 -- ---- operations of which the first i were performed
 
 module _ (operations : List Operation) (slab : Slab) (i : ℕ) where
@@ -73,6 +81,40 @@ module _ (recorded : List Step) (i : ℕ) (op : Step) (here : i < length recorde
     within = omega (arith, length-map recorded operation_of_step);
     performed = e ∙ sym (ap (λ l. after_all (take 1 l) old) operation_there ∙ after_all-one (operation_of_step op) old);
   }
+
+  pub step_allowed : (n : ℕ) (order : Option (List ℕ)) → AreAllowed n order (drop i (map operation_of_step recorded)) → IsAllowed n order (operation_of_step op)
+  step_allowed n order allowed = (subst (AreAllowed n order) operation_there allowed).0
+
+  pub range_here : range_of (map operation_of_step recorded) i 1 ≡ operation_of_step op ∷ []
+  range_here = ap (take 1) operation_there
+
+  -- with the one behind it
+  pub two_performed : (next : Operation) (old new : Slab) → i + 1 < length recorded → range_of (map operation_of_step recorded) (i + 1) 1 ≡ next ∷ []
+      → new ≡ after_all (operation_of_step op ∷ next ∷ []) old → PerformsNext (map operation_of_step recorded) i 2 old new
+  two_performed next old new room is_next e =
+      let operations = map operation_of_step recorded in
+      record {
+        some = omega arith;
+        within = omega (arith, length-map recorded operation_of_step);
+        performed = e ∙ sym (ap (λ l. after_all l old) (
+            take-add 1 1 (drop i operations)
+            ∙ ap (λ l. l ++ take 1 (drop 1 (drop i operations))) range_here
+            ∙ ap (λ l. operation_of_step op ∷ take 1 l) (drop-drop 1 i operations)
+            ∙ ap (λ l. operation_of_step op ∷ l) is_next));
+      }
+
+  pub next_allowed : (n : ℕ) (order : Option (List ℕ)) (dest scalar : ℕ) (next : Operation) → operation_of_step op ≡ MulAssign dest scalar
+      → range_of (map operation_of_step recorded) (i + 1) 1 ≡ next ∷ [] → AreAllowed n order (drop i (map operation_of_step recorded)) → IsAllowed n order next
+  next_allowed n order dest scalar next is_op is_next allowed =
+      let operations = map operation_of_step recorded in
+      let rest = drop 1 (drop (i + 1) operations) in
+      let one : suc i ≡ i + 1 = omega arith in
+      let split : drop i operations ≡ MulAssign dest scalar ∷ next ∷ rest =
+      operation_there
+      ∙ ap (λ k. operation_of_step op ∷ drop k operations) one
+      ∙ ap (λ o. o ∷ drop (i + 1) operations) is_op
+      ∙ ap (λ l. MulAssign dest scalar ∷ l) (sym (take-append-drop 1 (drop (i + 1) operations)) ∙ ap (λ l. l ++ rest) is_next) in
+      (subst (AreAllowed n order) split allowed).1.0
 
   -- one more addition to a symbol, and its source
   pub run_more : (start count dest source : ℕ) (sources : List ℕ) → i ≡ start + count → count < length sources → operation_of_step op ≡ AddAssign dest source

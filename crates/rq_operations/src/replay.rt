@@ -23,8 +23,8 @@ pub(crate) fn replay(steps: &[Step], symbols: &mut SymbolSlab)
     }
 }
 
-// Performs the step at `start`, and with an addition those that follow it and add to the same
-// symbol, as far as there is room for their sources. Returns how many steps these are.
+// Performs the step at `start`, and those behind it that are done in the same pass over a symbol.
+// Returns how many steps these are.
 fn perform_next(
     steps: &[Step],
     start: usize,

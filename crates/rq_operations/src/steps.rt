@@ -12,21 +12,11 @@ use rq_bytes::operation_vector::SymbolOps;
 #[derive(Clone, Debug, PartialEq, Eq, Drop)]
 pub enum Step {
     /// Adds the symbol at `src` to the one at `dest`.
-    Add {
-        dest: u32,
-        src: u32,
-    },
+    Add { dest: u32, src: u32 },
     /// Multiplies the symbol at `dest` by an octet.
-    Multiply {
-        scalar: Octet,
-        dest: u32,
-    },
+    Multiply { scalar: Octet, dest: u32 },
     /// Adds a multiple of the symbol at `src` to the one at `dest`.
-    AddMultiple {
-        scalar: Octet,
-        dest: u32,
-        src: u32,
-    },
+    AddMultiple { scalar: Octet, dest: u32, src: u32 },
 }
 
 impl Step {

@@ -8,15 +8,15 @@ use Rattle.rq_operations.proofs.replay.replay.Goals as goal
 pub loop-done-init : goal.loop-done-init
 loop-done-init c = record { within = omega arith; performed = sym (after_all-none c.args.symbols.now) }
 
-pub perform_next-requires-clause-allowed : goal.perform_next-requires-clause-allowed
-perform_next-requires-clause-allowed c =
+pub perform_next-done-requires-clause-allowed : goal.perform_next-done-requires-clause-allowed
+perform_next-done-requires-clause-allowed c =
     rw c.loop-done.invariant.performed (rest_allowed (map operation_of_step c.args.steps.now) c.args.symbols.now c.loop-done.done c.requires)
 
 pub loop-done-preserved : goal.loop-done-preserved
 loop-done-preserved c =
-    let next = c.in_ok-done.ensures.ok in
+    let next = c.perform_next-done.ensures in
     let operations = map operation_of_step c.args.steps.now in
     record {
-      within = omega (arith, next.within, length-map c.args.steps.now operation_of);
-      performed = performed_more operations c.args.symbols.now c.loop-done.done c.in_ok-done.field-0 c.loop-done.symbols c.perform_next.new.symbols c.loop-done.invariant.performed next;
+      within = omega (arith, next.within, length-map c.args.steps.now operation_of_step);
+      performed = performed_more operations c.args.symbols.now c.loop-done.done c.perform_next-done.result c.loop-done.symbols c.perform_next-done.new.symbols c.loop-done.invariant.performed next;
     }
