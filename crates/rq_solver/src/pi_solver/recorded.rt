@@ -108,7 +108,8 @@ impl RecordedRows {
         ensures err { IfErr result (λ e. e ≡ OutOfMemory) }
     {
         self.table.add_multiple(dest, src, &scalar)?;
-        self.operations.push(addition(dest as u32, src as u32, scalar))?;
+        self.operations
+            .push(addition(dest as u32, src as u32, scalar))?;
         Ok(())
     }
 
@@ -140,7 +141,8 @@ impl RecordedRows {
         ensures counted { OnOk result (additions self.new.operations ≡ additions self.old.operations + 1) }
         ensures err { IfErr result (λ e. e ≡ OutOfMemory) }
     {
-        self.operations.push(addition(dest as u32, src as u32, scalar))?;
+        self.operations
+            .push(addition(dest as u32, src as u32, scalar))?;
         Ok(())
     }
 
