@@ -1,5 +1,5 @@
 //! What rows have in the inactive columns.
-ghost use Rattle.std.specs.Prelude.{◌≡◌, ◌≢◌, ℕ, ◌+◌, ◌%◌, ◌^◌, ◌<◌, ◌≤◌, length, replicate, slice_set, IfOk, OnOk, IfErr};
+ghost use Rattle.std.specs.Prelude.{◌≡◌, ◌≢◌, ℕ, ◌+◌, ◌%◌, ◌^◌, ◌<◌, ◌≤◌, length, replicate, slice_set, IfOk, OnOk, IfErr, OnErr};
 ghost use Rattle.rq_bytes.specs.declared.error.Error.TheVariants.{OutOfMemory};
 ghost use Rattle.rq_parts.specs.DenseOctetMatrix.{entry_of, HasOctets, IsOctetRow, row_at, with_row};
 ghost use Rattle.rq_solver.specs.EntryRow.{HasWidth, octets_of};
@@ -139,6 +139,7 @@ impl InactiveEntries {
     pub(super) fn multiply_row(&mut self, row: usize, scalar: &Octet) -> Result<(), Error>
         requires row { row < length self.old.rows }
         ensures ok { OnOk result (self.new ≡ with_row self.old row (row_multiple scalar.now (row_at self.old row))) }
+        ensures height { OnErr result (length self.new.rows ≡ length self.old.rows) }
         ensures err { IfErr result (λ e. e ≡ OutOfMemory) }
     {
         let mut multiple = self.take_octets(row)?;
@@ -159,6 +160,7 @@ impl InactiveEntries {
         requires dest { dest < length self.old.rows }
         requires src { src < length self.old.rows }
         ensures ok { OnOk result (self.new ≡ with_row self.old dest (row_sum (row_at self.old dest) (row_multiple scalar.now (row_at self.old src)))) }
+        ensures height { OnErr result (length self.new.rows ≡ length self.old.rows) }
         ensures err { IfErr result (λ e. e ≡ OutOfMemory) }
     {
         if scalar.byte() == 1 && self.octets[dest].is_none() && self.octets[src].is_none() {
@@ -174,6 +176,7 @@ impl InactiveEntries {
         requires dest { dest < length self.old.rows }
         requires src { src < length self.old.rows }
         ensures ok { OnOk result (self.new ≡ with_row self.old dest (row_sum (row_at self.old dest) (row_multiple scalar.now (row_at self.old src)))) }
+        ensures height { OnErr result (length self.new.rows ≡ length self.old.rows) }
         ensures err { IfErr result (λ e. e ≡ OutOfMemory) }
     {
         let mut sum = self.take_octets(dest)?;
