@@ -3,7 +3,7 @@ ghost use Rattle.std.specs.Prelude.{◌≡◌, ◌≢◌, ℕ, ◌+◌, ◌%◌,
 ghost use Rattle.rq_bytes.specs.declared.error.Error.TheVariants.{OutOfMemory};
 ghost use Rattle.rq_parts.specs.DenseOctetMatrix.{entry_of, HasOctets, IsOctetRow, row_at, with_row};
 ghost use Rattle.rq_solver.specs.EntryRow.{HasWidth, octets_of};
-ghost use Rattle.rq_solver.specs.InactiveEntries.{IsNextEntry};
+ghost use Rattle.rq_solver.specs.InactiveEntries.{IsNextOctet};
 ghost use Rattle.rq_standard.specs.Rows.{row_sum, row_multiple};
 
 mod octet_row;
@@ -107,16 +107,19 @@ impl InactiveEntries {
         }
     }
 
-    /// The first column, from one on and before another, where a row isn't 0.
+    /// The first column, from one on and before another, where a row isn't 0, and what it has there.
     #[inline(always)]
-    pub(super) fn next_entry(&self, row: usize, from: usize, end: usize) -> Option<usize>
+    pub(super) fn next_entry(&self, row: usize, from: usize, end: usize) -> Option<(usize, Octet)>
         requires row { row < length self.now.rows }
         requires end { end ≤ self.now.width }
-        ensures { IsNextEntry (entry_of self.now row) from end result }
+        ensures { IsNextOctet (entry_of self.now row) from end result }
     {
         match self.row(row) {
             EntryRow::Octets(octets) => octets.next_entry(from, end),
-            EntryRow::Bits(bits) => next_one(bits, from, end),
+            EntryRow::Bits(bits) => match next_one(bits, from, end) {
+                Some(column) => Some((column, Octet::one())),
+                None => None,
+            },
         }
     }
 

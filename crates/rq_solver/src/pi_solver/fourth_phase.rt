@@ -158,8 +158,7 @@ pub(super) fn take_reduced_rows(
     ensures err { IfErr result (λ e. e ≡ OutOfMemory) }
 {
     let mut from = start;
-    while let Some(f) = recorded.next_entry(row, from, inactive) {
-        let scalar = recorded.get(row, f);
+    while let Some((f, scalar)) = recorded.next_entry(row, from, inactive) {
         recorded.record_sum(row, reduced[f], scalar)?;
         from = f + 1;
     }

@@ -2,7 +2,7 @@
 ghost use Rattle.std.specs.Prelude.{◌≡◌, ◌≢◌, ℕ, ◌*◌, ◌%◌, ◌==◌, ◌<◌, ◌≤◌, [], length, slice_index, slice_index_or, slice_set, OnOk, OnErr, IfErr};
 ghost use Rattle.rq_bytes.specs.declared.error.Error.TheVariants.{OutOfMemory};
 ghost use Rattle.rq_parts.specs.DenseOctetMatrix.{IsOctetRow};
-ghost use Rattle.rq_solver.specs.InactiveEntries.{IsNextEntry, row_of, unpacked};
+ghost use Rattle.rq_solver.specs.InactiveEntries.{IsNextOctet, row_of, unpacked};
 ghost use Rattle.rq_standard.specs.Rows.{row_sum, row_multiple};
 
 use super::packed_bits::add_bits;
@@ -107,14 +107,15 @@ impl OctetRow {
         are_octets(self.octets.as_slice());
     }
 
-    /// The first column, from one on and before another, where there isn't 0.
-    pub(super) fn next_entry(&self, from: usize, end: usize) -> Option<usize>
+    /// The first column, from one on and before another, where there isn't 0, and what is there.
+    pub(super) fn next_entry(&self, from: usize, end: usize) -> Option<(usize, Octet)>
         requires { end ≤ length self.now }
-        ensures { IsNextEntry (slice_index self.now) from end result }
+        ensures { IsNextOctet (slice_index self.now) from end result }
     {
         for column in from..end {
-            if self.octets[column] != 0 {
-                return Some(column);
+            let octet = self.octets[column];
+            if octet != 0 {
+                return Some((column, Octet::new(octet)));
             }
         }
         None
