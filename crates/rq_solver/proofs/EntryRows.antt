@@ -102,6 +102,7 @@ module _ (width : ℕ) (bits : Slab) (owns : List (List ℕ)) (are : AreEntries 
       fits = are.fits;
       whole = are.whole;
       room = are.room;
+      vectors = are.vectors;
       order = are.order;
       height = length-set owns i own ∙ are.height;
       symbols = are.symbols;
@@ -118,6 +119,7 @@ module _ (width : ℕ) (bits : Slab) (owns : List (List ℕ)) (are : AreEntries 
         fits = are.fits;
         whole = are.whole;
         room = are.room;
+        vectors = are.vectors;
         order = are.order;
         height = are.height ∙ sym (length-set bits.values i symbol);
         symbols = All-set (λ s. length s ≡ bits.symbol_size) bits.values i symbol long are.symbols;
@@ -143,11 +145,12 @@ zero_rows width height size room owns is =
     ∙ unpacked-zeros width size room
     ∙ sym (get_or-replicate height k (replicate width 0) [] inside))
 
-pub zeros_are : (width height size : ℕ) → width < 2 ^ 63 + 32 → width % 32 ≡ 0 → width ≤ 8 * size → (owns : List (List ℕ)) → owns ≡ replicate height [] → AreEntries width (slab_of size (replicate height (replicate size 0))) owns
-zeros_are width height size fits whole room owns is = record {
+pub zeros_are : (width height size : ℕ) → width < 2 ^ 63 + 32 → width % 32 ≡ 0 → width ≤ 8 * size → size % 32 ≡ 0 → (owns : List (List ℕ)) → owns ≡ replicate height [] → AreEntries width (slab_of size (replicate height (replicate size 0))) owns
+zeros_are width height size fits whole room vectors owns is = record {
   fits = fits;
   whole = whole;
   room = room;
+  vectors = vectors;
   order = refl;
   height = ap length is ∙ length-replicate {A = List ℕ} height [] ∙ sym (length-replicate {A = List ℕ} height (replicate size 0));
   symbols = All-from_get_or (λ s. length s ≡ size) (replicate height (replicate size 0)) [] (λ i l.

@@ -27,6 +27,7 @@ pub record AreEntries (width : ℕ) (bits : Slab) (octets : List (List ℕ)) : T
   pub fits : width < 2 ^ 63 + 32
   pub whole : width % 32 ≡ 0
   pub room : width ≤ 8 * bits.symbol_size
+  pub vectors : bits.symbol_size % 32 ≡ 0
   pub order : bits.order ≡ None
   pub height : length octets ≡ length bits.values
   pub symbols : All (λ symbol. length symbol ≡ bits.symbol_size) bits.values

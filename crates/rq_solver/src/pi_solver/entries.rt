@@ -124,7 +124,7 @@ impl InactiveEntries {
     }
 
     /// How many of the first `count` entries of a row aren't 0, or of bits more, where later ones share
-    /// an octet with the last of these: `count` at most.
+    /// a word with the last of these: `count` at most.
     pub(super) fn count_entries(&self, row: usize, count: usize) -> usize
         requires row { row < length self.now.rows }
         requires count { count ≤ self.now.width }

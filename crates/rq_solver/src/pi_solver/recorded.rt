@@ -82,7 +82,7 @@ impl RecordedRows {
     }
 
     /// How many of the first `count` entries of a row aren't 0, or of bits more, where later ones share
-    /// an octet with the last of these: `count` at most.
+    /// a word with the last of these: `count` at most.
     pub(super) fn count_entries(&self, row: usize, count: usize) -> usize
         requires row { row < length self.now.table.rows }
         requires count { count ≤ self.now.table.width }
