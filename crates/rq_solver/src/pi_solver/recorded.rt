@@ -4,7 +4,7 @@ ghost use Rattle.rq_algebra.specs.Operations.{MulAssign};
 ghost use Rattle.rq_bytes.specs.declared.error.Error.TheVariants.{OutOfMemory};
 ghost use Rattle.rq_operations.specs.Steps.{operation_of_step};
 ghost use Rattle.rq_parts.specs.DenseOctetMatrix.{entry_of, HasOctets};
-ghost use Rattle.rq_solver.specs.InactiveEntries.{IsNextEntry};
+ghost use Rattle.rq_solver.specs.InactiveEntries.{IsNextOctet};
 ghost use Rattle.rq_solver.specs.OperationCounts.{additions};
 ghost use Rattle.rq_solver.specs.Recorded.{Performs, Records, sum_step};
 ghost use Rattle.rq_standard.specs.OctetField.{octets};
@@ -75,18 +75,18 @@ impl RecordedRows {
         self.table.get(row, column)
     }
 
-    /// The first column, from one on and before another, where a row isn't 0.
+    /// The first column, from one on and before another, where a row isn't 0, and what it has there.
     #[inline(always)]
-    pub(super) fn next_entry(&self, row: usize, from: usize, end: usize) -> Option<usize>
+    pub(super) fn next_entry(&self, row: usize, from: usize, end: usize) -> Option<(usize, Octet)>
         requires row { row < length self.now.table.rows }
         requires end { end ≤ self.now.table.width }
-        ensures { IsNextEntry (entry_of self.now.table row) from end result }
+        ensures { IsNextOctet (entry_of self.now.table row) from end result }
     {
         self.table.next_entry(row, from, end)
     }
 
     /// How many of the first `count` entries of a row aren't 0, or of bits more, where later ones share
-    /// an octet with the last of these: `count` at most.
+    /// a word with the last of these: `count` at most.
     pub(super) fn count_entries(&self, row: usize, count: usize) -> usize
         requires row { row < length self.now.table.rows }
         requires count { count ≤ self.now.table.width }
