@@ -7,7 +7,7 @@ ghost use Rattle.rq_standard.specs.Rows.{row_sum, row_multiple};
 
 use super::packed_bits::add_bits;
 use rq_bytes::error::Error;
-use rq_bytes::factor::{Factor, add_row_multiple};
+use rq_bytes::factor::{add_row_multiple, multiply_row};
 use rq_bytes::octet::Octet;
 use rq_bytes::octets::are_octets;
 use rq_bytes::util::get_both_indices;
@@ -138,7 +138,7 @@ impl OctetRow {
         ensures multiple { self.new ≡ row_multiple scalar.now self.old }
         ensures octets { IsOctetRow (length self.old) self.new }
     {
-        Factor::new(scalar).multiply(self.octets.as_mut_slice());
+        multiply_row(self.octets.as_mut_slice(), scalar);
         are_octets(self.octets.as_slice());
     }
 
