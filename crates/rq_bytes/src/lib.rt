@@ -4,6 +4,7 @@
 pub mod error;
 pub mod factor;
 pub mod gf2;
+mod half_products;
 mod logarithms;
 mod marks;
 pub mod octet;
