@@ -10,6 +10,7 @@ pub mod PackedRows
 pub mod PlaneFacts
 pub mod RangeFacts
 pub mod RangeLoans
+pub mod RangeMultiples
 pub mod RangeSums
 pub mod RefusalFacts
 pub mod SlabFacts

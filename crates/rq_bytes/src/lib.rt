@@ -11,6 +11,7 @@ pub mod octet;
 pub mod octets;
 pub mod operation_vector;
 mod products;
+mod range_multiples;
 mod range_sums;
 pub mod symbol;
 pub mod symbol_slab;
