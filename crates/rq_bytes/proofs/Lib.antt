@@ -14,6 +14,7 @@ pub mod RangeMultiples
 pub mod RangeSums
 pub mod RefusalFacts
 pub mod SlabFacts
+pub mod SlabMultiples
 pub mod SlabSums
 pub mod Steps
 pub mod TableFacts

@@ -1,5 +1,5 @@
 -- Multiples of a row, added to several ranges of one buffer, piece by piece.
-use Rattle.std.proofs.Common.{◌≡◌, ◌⊎◌, inl, inr, ⊎_elim, ℕ, zero, suc, ◌+◌, ◌*◌, ◌<◌, ◌≤◌, List, [], ◌∷◌, ◌++◌, length, take, drop, fold, map, get_or, set, All, refl, sym, ap, ◌∙◌, arith}
+use Rattle.std.proofs.Common.{◌≡◌, ◌⊎◌, inl, inr, ⊎_elim, ℕ, zero, suc, ◌+◌, ◌<◌, ◌≤◌, List, [], ◌∷◌, ◌++◌, length, take, drop, fold, map, get_or, set, All, refl, sym, ap, ◌∙◌, arith}
 use Rattle.std.proofs.lemmas.List.{map_more, drop-drop, drop-take, length-map, length-take-le, length-drop, map-append}
 use Rattle.std.proofs.lemmas.List.Elements.{All-head, All-tail, All-weaker}
 use Rattle.std.proofs.lemmas.List.Sums.{fold-append}
@@ -66,6 +66,9 @@ plus-one [] i y = refl
 plus-one (x ∷ xs) zero y = ap (λ zs. bit_xor x y ∷ zs) (sym (plus-none xs zero))
 plus-one (x ∷ xs) (suc i) y = ap (λ zs. x ∷ zs) (plus-one xs i y)
 
+pub length-row_added : (xs : List ℕ) (i : ℕ) (ys : List ℕ) → i + length ys ≤ length xs → length (with_row_added xs i ys) ≡ length xs
+length-row_added xs i ys le = ap length (plus-is xs i ys le) ∙ length-plus xs i ys
+
 -- the order of two is free
 xor_swap : (x u v : ℕ) → bit_xor (bit_xor x u) v ≡ bit_xor (bit_xor x v) u
 xor_swap x u v = xor_assoc x u v ∙ ap (bit_xor x) (xor_comm u v) ∙ sym (xor_assoc x v u)
@@ -123,7 +126,7 @@ all_plus xs row at targets = fold (λ sum target. plus sum (target.0 + at) (row_
 abbrev HaveRoom : ℕ → ℕ → List (ℕ × ℕ) → Type 0
 HaveRoom count len targets = All (λ target. target.0 + len ≤ count) targets
 
-length-multiple : (a : ℕ) (row : List ℕ) → length (row_multiple a row) ≡ length row
+pub length-multiple : (a : ℕ) (row : List ℕ) → length (row_multiple a row) ≡ length row
 length-multiple a row = length-map row (octet_mul a)
 
 all_plus-is : (xs row : List ℕ) (at : ℕ) (targets : List (ℕ × ℕ)) → HaveRoom (length xs) (at + length row) targets → with_multiples_added xs row at targets ≡ all_plus xs row at targets

@@ -2,6 +2,7 @@
 ghost use Rattle.std.specs.Prelude.{◌≡◌, ◌+◌, ◌<◌, ◌≤◌, length, map, All};
 ghost use Rattle.rq_bytes.specs.Ranges.{range_of};
 ghost use Rattle.rq_bytes.specs.RangeSums.{with_multiples_added, IsRangeBeside};
+ghost use Rattle.rq_bytes.specs.Targets.{start_and_octet};
 
 use crate::half_products::{HalfProducts, Halves};
 use crate::products::product;
@@ -24,7 +25,7 @@ pub(crate) struct Target {
 pub(crate) fn add_multiples(bytes: &mut [u8], src: usize, targets: &[Target], len: usize)
     requires src { src + len ≤ length bytes.old }
     requires targets { All (λ target. IsRangeBeside (length bytes.old) src len target.start) targets.now }
-    ensures { bytes.new ≡ with_multiples_added bytes.old (range_of bytes.old src len) 0 (map (λ target. (target.start, target.factor.octet)) targets.now) }
+    ensures { bytes.new ≡ with_multiples_added bytes.old (range_of bytes.old src len) 0 (map start_and_octet targets.now) }
 {
     let pieces = len / LANES;
     for piece in 0..pieces {
@@ -40,7 +41,7 @@ pub(crate) fn add_multiples(bytes: &mut [u8], src: usize, targets: &[Target], le
 fn add_pieces(bytes: &mut [u8], src: usize, targets: &[Target], at: usize)
     requires src { src + at + 32 ≤ length bytes.old }
     requires targets { All (λ target. target.start + at + 32 ≤ length bytes.old) targets.now }
-    ensures { bytes.new ≡ with_multiples_added bytes.old (range_of bytes.old (src + at) 32) at (map (λ target. (target.start, target.factor.octet)) targets.now) }
+    ensures { bytes.new ≡ with_multiples_added bytes.old (range_of bytes.old (src + at) 32) at (map start_and_octet targets.now) }
 {
     let halves = Halves::new(u8x32::from_slice(&bytes[src + at..]));
     for target in targets {
@@ -55,7 +56,7 @@ fn add_pieces(bytes: &mut [u8], src: usize, targets: &[Target], at: usize)
 fn add_octets(bytes: &mut [u8], src: usize, targets: &[Target], at: usize)
     requires src { src + at < length bytes.old }
     requires targets { All (λ target. target.start + at < length bytes.old) targets.now }
-    ensures { bytes.new ≡ with_multiples_added bytes.old (range_of bytes.old (src + at) 1) at (map (λ target. (target.start, target.factor.octet)) targets.now) }
+    ensures { bytes.new ≡ with_multiples_added bytes.old (range_of bytes.old (src + at) 1) at (map start_and_octet targets.now) }
 {
     let octet = bytes[src + at];
     for target in targets {

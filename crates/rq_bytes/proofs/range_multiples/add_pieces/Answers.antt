@@ -6,6 +6,7 @@ use lib.Lanes.{chunk}
 use Rattle.rq_standard.specs.Octets.{octet_mul}
 use Rattle.rq_bytes.specs.Ranges.{range_of}
 use Rattle.rq_bytes.specs.declared.range_multiples.Target.{Target}
+use Rattle.rq_bytes.specs.Targets.{start_and_octet}
 use Rattle.rq_bytes.proofs.RangeMultiples.{piece_added}
 use Rattle.rq_bytes.proofs.range_multiples.add_pieces.Goals as goal
 
@@ -24,7 +25,7 @@ pub loop-target-preserved : goal.loop-target-preserved
 loop-target-preserved c =
     let t = c.target-item.result in
     let row = range_of c.args.bytes.now (c.args.src + c.args.at) 32 in
-    piece_added (λ u. (u.start, u.factor.octet)) c.args.bytes.now row c.args.at c.args.targets.now c.loop-target.target-index t c.loop-target.bytes c.loop-target-test.true c.target-item.is c.loop-target.invariant
+    piece_added start_and_octet c.args.bytes.now row c.args.at c.args.targets.now c.loop-target.target-index t c.loop-target.bytes c.loop-target-test.true c.target-item.is c.loop-target.invariant
     32 c.products.result c.write_piece.new.bytes (length-chunk (c.args.src + c.args.at) 32 c.args.bytes.now c.requires.src)
     (c.products.ensures.products ∙ ap (λ (xs : List ℕ). map (λ x. octet_mul t.factor.octet x) xs) c.new-halves.ensures)
     c.write_piece.ensures
