@@ -1,7 +1,7 @@
--- What the check leaves to show of `factor::half_products`.
+-- What the check leaves to show of `half_products::half_products`.
 use Rattle.std.proofs.Common.{arith}
 use Rattle.rq_bytes.proofs.HalfSums.{sum_none, sum_whole}
-use Rattle.rq_bytes.proofs.factor.half_products.Goals as goal
+use Rattle.rq_bytes.proofs.half_products.half_products.Goals as goal
 
 pub add_term-one-requires-clause-below : goal.add_term-one-requires-clause-below
 add_term-one-requires-clause-below c = sum_none c.args.scalar
