@@ -137,6 +137,7 @@ impl InactiveEntries {
     }
 
     /// Multiplies a row by an octet.
+    #[inline(always)]
     pub(super) fn multiply_row(&mut self, row: usize, scalar: &Octet) -> Result<(), Error>
         requires row { row < length self.old.rows }
         ensures ok { OnOk result (self.new ≡ with_row self.old row (row_multiple scalar.now (row_at self.old row))) }
@@ -172,6 +173,7 @@ impl InactiveEntries {
     }
 
     // Adds a multiple of a row to another one, which gets octets.
+    #[inline(always)]
     fn add_octets(&mut self, dest: usize, src: usize, scalar: &Octet) -> Result<(), Error>
         requires two { dest ≢ src }
         requires dest { dest < length self.old.rows }

@@ -140,6 +140,7 @@ pub(super) fn finish_pivots(
 
 /// Adds to a row multiples of reduced rows, those from `start` on, so that it gets 0 in their
 /// inactive columns. What it has there is not read again, and stays stored.
+#[inline(always)]
 pub(super) fn take_reduced_rows(
     row: usize,
     reduced: &[usize],
