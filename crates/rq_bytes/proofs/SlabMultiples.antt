@@ -15,7 +15,7 @@ use Rattle.rq_bytes.specs.SymbolSlab.{Slab, after, after_all, Allows, symbol_in}
 use Rattle.rq_bytes.specs.Targets.{start_and_octet, start_and_octet_in}
 use Rattle.rq_bytes.specs.contracts.symbol_slab.SymbolSlab.{the_view, the_invariant}
 use Rattle.rq_bytes.specs.declared.range_multiples.Target.{Target}
-use Rattle.rq_bytes.specs.declared.symbol_slab.Multiple.{Multiple}
+use Rattle.rq_bytes.specs.declared.symbol_slab.multiples.Multiple.{Multiple}
 use Rattle.rq_bytes.specs.declared.symbol_slab.SymbolSlab.TheInside.{Inside}
 use Rattle.rq_bytes.proofs.RangeMultiples.{length-multiple, length-row_added}
 use Rattle.rq_bytes.proofs.SlabFacts.{Holds, apart, range_at, length-range_at, within, one_written, meant_below, length-after}

@@ -3,7 +3,7 @@ use Rattle.std.specs.Prelude.{ℕ, ◌*◌}
 use Rattle.rq_algebra.specs.Operations.{meant_at}
 use Rattle.rq_bytes.specs.SymbolSlab.{Slab}
 use Rattle.rq_bytes.specs.declared.range_multiples.Target.{Target}
-use Rattle.rq_bytes.specs.declared.symbol_slab.Multiple.{Multiple}
+use Rattle.rq_bytes.specs.declared.symbol_slab.multiples.Multiple.{Multiple}
 
 abbrev pub start_and_octet : Target → ℕ × ℕ
 start_and_octet target = (target.start, target.factor.octet)

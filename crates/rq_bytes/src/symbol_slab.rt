@@ -10,26 +10,19 @@ ghost use Rattle.rq_bytes.specs.Ranges.{range_of, cut, whole_symbols, with_range
 ghost use Rattle.rq_bytes.specs.Refusals.{IsAnswer};
 ghost use Rattle.rq_bytes.specs.SymbolSlab.{slab_of, among_zeros, after, after_all, HasPlace, Allows, symbol_in, with_symbols_added, symbols_in, same_slab, IsZeroUnread, IsZeroUnmarked};
 
+mod multiples;
+
 use crate::error::Error;
 use crate::factor::{Factor, double_and_add, multiply_row};
-use crate::half_products::HalfProducts;
 use crate::marks::marks_of;
 use crate::octet::Octet;
 use crate::octets;
-use crate::range_multiples::{Target, add_multiples};
 use crate::range_sums::{add_ranges, add_ranges_to};
 use crate::symbol::{Symbol, zeros};
 use crate::util::get_range_pair;
+pub use multiples::Multiple;
 use std::alloc::{AllocError, Global};
 use std::marker::Model;
-
-/// A multiple that is added to the symbol at a place: the octet multiplies another symbol. Not in the
-/// Rust crate.
-#[derive(Clone, Copy, Debug)]
-pub struct Multiple {
-    pub dest: usize,
-    pub scalar: u8,
-}
 
 /// Symbols of one size in one buffer. An order may be set, and place i then means the symbol at the
 /// order's i-th entry. Contracts see the symbols, their size and the order.
@@ -57,7 +50,6 @@ impl Model for SymbolSlab {
 
 impl SymbolSlab {
     ghost use Rattle.rq_bytes.specs.SlabLends.{LendsSymbol, IsSymbolWrite};
-    ghost use Rattle.rq_bytes.specs.Targets.{start_and_octet, start_and_octet_in};
 
     /// So many symbols of zeros.
     pub fn with_zeros(alloc: Global, count: usize, symbol_size: usize) -> Result<Self, Error>
@@ -240,52 +232,6 @@ impl SymbolSlab {
         Factor::new(scalar).add_multiple(dest, src);
     }
 
-    /// Adds multiples of one symbol to several others: in one pass over its octets where they are at
-    /// most eight, and else one after another. Not in the Rust crate.
-    pub fn add_multiples(&mut self, src: usize, multiples: &[Multiple])
-        requires { All (λ m. Allows self.old (Fma m.dest src m.scalar)) multiples.now }
-        ensures { self.new ≡ after_all (map (λ m. Fma m.dest src m.scalar) multiples.now) self.old }
-    {
-        // Where their number is known, no loop over them is left in the pass. One alone is quicker on
-        // its own way.
-        match multiples.len() {
-            2 => self.add_multiples_of::<2>(src, multiples),
-            3 => self.add_multiples_of::<3>(src, multiples),
-            4 => self.add_multiples_of::<4>(src, multiples),
-            5 => self.add_multiples_of::<5>(src, multiples),
-            6 => self.add_multiples_of::<6>(src, multiples),
-            7 => self.add_multiples_of::<7>(src, multiples),
-            8 => self.add_multiples_of::<8>(src, multiples),
-            _ => self.add_each_multiple(src, multiples),
-        }
-    }
-
-    // Adds C multiples of a symbol, in one pass over its octets. Where the others begin is found once,
-    // and their octets' products too.
-    #[inline(always)]
-    fn add_multiples_of<const C: usize>(&mut self, src: usize, multiples: &[Multiple])
-        requires some { 0 < C }
-        requires few { C ≤ 8 }
-        requires count { length multiples.now ≡ C }
-        requires multiples { All (λ m. Allows self.old (Fma m.dest src m.scalar)) multiples.now }
-        ensures { self.new ≡ after_all (map (λ m. Fma m.dest src m.scalar) multiples.now) self.old }
-    {
-        let size = self.symbol_size;
-        let start = self.start_of(src);
-        let targets = self.targets_of::<C>(multiples);
-        add_multiples(self.data.as_mut_slice(), start, &targets, size);
-    }
-
-    // Adds multiples of a symbol, one after another.
-    fn add_each_multiple(&mut self, src: usize, multiples: &[Multiple])
-        requires { All (λ m. Allows self.old (Fma m.dest src m.scalar)) multiples.now }
-        ensures { self.new ≡ after_all (map (λ m. Fma m.dest src m.scalar) multiples.now) self.old }
-    {
-        for multiple in multiples {
-            self.fma(multiple.dest, src, &Octet::new(multiple.scalar));
-        }
-    }
-
     /// Multiplies a symbol by 2 and adds another one to it, in one pass over their octets. Not in the
     /// Rust crate.
     pub fn double_and_add(&mut self, dest: usize, src: usize)
@@ -458,27 +404,6 @@ impl SymbolSlab {
             starts[i] = self.start_of(places[i]);
         }
         starts
-    }
-
-    // Where the symbols that C multiples are added to begin in the buffer, and the octets with their
-    // products.
-    fn targets_of<const C: usize>(&self, multiples: &[Multiple]) -> [Target; C]
-        requires count { length multiples.now ≡ C }
-        requires places { All (λ m. HasPlace self.now m.dest) multiples.now }
-        ensures { map start_and_octet result ≡ map (start_and_octet_in self.now) multiples.now }
-    {
-        let nothing = Target {
-            start: 0,
-            factor: HalfProducts::new(0),
-        };
-        let mut targets = [nothing; C];
-        for i in 0..C {
-            targets[i] = Target {
-                start: self.start_of(multiples[i].dest),
-                factor: HalfProducts::new(multiples[i].scalar),
-            };
-        }
-        targets
     }
 
     // Which symbol a place means.

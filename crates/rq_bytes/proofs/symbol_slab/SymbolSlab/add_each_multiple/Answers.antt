@@ -3,7 +3,7 @@ use Rattle.std.proofs.Common.{ℕ, length, get_or, map, take, refl, sym, ap, ◌
 use Rattle.std.proofs.lemmas.List.{map_more}
 use Rattle.rq_algebra.specs.Operations.{Fma, IsAllowed, run}
 use Rattle.rq_bytes.specs.SymbolSlab.{Slab, after, after_all}
-use Rattle.rq_bytes.specs.declared.symbol_slab.Multiple.{Multiple}
+use Rattle.rq_bytes.specs.declared.symbol_slab.multiples.Multiple.{Multiple}
 use Rattle.rq_bytes.proofs.SlabFacts.{length-after, order-after}
 use Rattle.rq_bytes.proofs.SlabSums.{after_more}
 use Rattle.rq_bytes.proofs.SlabMultiples.{fma_of}
