@@ -1,4 +1,4 @@
-use Rattle.std.proofs.Common.{◌≡◌, ◌+◌, ℕ, List, None, length, map, refl, sym, ap, ◌∙◌, subst, inr, arith}
+use Rattle.std.proofs.Common.{◌≡◌, ◌+◌, ℕ, List, None, length, refl, sym, ap, ◌∙◌, subst, inr, arith}
 use Rattle.rq_algebra.specs.Operations.{AreAllowed}
 use Rattle.rq_algebra.specs.Symbols.{AreSymbols, IsSymbolColumn}
 use Rattle.rq_bytes.specs.SymbolSlab.{Slab, after_all, symbol_in}
