@@ -8,9 +8,12 @@ ghost use Rattle.rq_operations.specs.Steps.{operation_of_step, PerformsNext};
 use crate::steps::Step;
 use rq_bytes::symbol_slab::{Multiple, SymbolSlab};
 
-// How many steps are done in one pass over a symbol, at most: as many as `add_all` and
-// `add_multiples` do.
+// How many additions to one symbol are done in one pass over it, at most: as many as `add_all` does.
 const RUN: usize = 8;
+
+// How many multiples of one symbol are added in one pass over it, at most. More at once gain little
+// for long symbols, and lose for short ones.
+const MULTIPLES: usize = 4;
 
 /// Performs steps on the symbols of a slab, first to last.
 pub(crate) fn replay(steps: &[Step], symbols: &mut SymbolSlab)
@@ -18,7 +21,7 @@ pub(crate) fn replay(steps: &[Step], symbols: &mut SymbolSlab)
     ensures { symbols.new ≡ after_all (map operation_of_step steps.now) symbols.old }
 {
     let mut sources = [0; RUN];
-    let mut multiples = [Multiple { dest: 0, scalar: 0 }; RUN];
+    let mut multiples = [Multiple { dest: 0, scalar: 0 }; MULTIPLES];
     let mut done = 0;
     while done < steps.len() {
         done += perform_next(steps, done, &mut sources, &mut multiples, symbols);
