@@ -1,5 +1,5 @@
 -- The intermediate symbols that operations make of a block's source symbols.
-use Rattle.std.proofs.Common.{◌≡◌, ℕ, ◌+◌, ◌-◌, ◌<◌, ◌≤◌, List, [], ◌++◌, length, map, get_or, replicate, None, refl, sym, ap, ◌∙◌, subst, arith, inl, inr}
+use Rattle.std.proofs.Common.{◌≡◌, ℕ, ◌+◌, ◌-◌, ◌<◌, ◌≤◌, List, [], ◌++◌, length, get_or, replicate, None, refl, sym, ap, ◌∙◌, subst, arith, inl, inr}
 use Rattle.std.specs.List.{range_with_len}
 use Rattle.std.proofs.lemmas.Bool.{cases_lt}
 use Rattle.std.proofs.lemmas.List.{get_or_append_left, get_or-append_right, get_or-replicate, get_or_past, length-append, length-replicate}
@@ -11,8 +11,8 @@ use Rattle.rq_algebra.proofs.Stacks.{stacked_above, stacked_below}
 use Rattle.rq_algebra.proofs.Solutions.{solves_same}
 use Rattle.rq_algebra.proofs.Found.{finds_determined, found_are_symbols, found_only, found_solves}
 use Rattle.rq_algebra.proofs.SymbolSums.{zeros_are_symbol}
-use Rattle.rq_bytes.specs.SymbolOps.{operation_of}
 use Rattle.rq_bytes.specs.SymbolSlab.{slab_of, symbol_in}
+use Rattle.rq_operations.specs.RecordedOperations.{operations_of}
 use Rattle.rq_solver.proofs.SolutionLaws.{found_places}
 use Rattle.rq_standard.specs.declared.row.TableRow.{TableRow}
 use Rattle.rq_standard.specs.OctetField.{octets}
@@ -138,8 +138,8 @@ module _ (row : TableRow) (operations : List Operation) (finds : FindsColumn oct
 
 -- with the ids of the source and padding symbols alone, all equations are needed
 pub finds_source : (row : TableRow) (solution : Solution) → FindsFrom row (extended_ids row) solution
-    → FindsColumn octets (equation_count row (extended_ids row)) (intermediate_symbols row) (equations row (extended_ids row)) (map operation_of solution.operations.items)
+    → FindsColumn octets (equation_count row (extended_ids row)) (intermediate_symbols row) (equations row (extended_ids row)) (operations_of solution.operations)
 finds_source row solution from =
     let ids = extended_ids row in
     let all : solution.fixed ≡ row.ldpc_symbols + row.hdpc_symbols = omega (arith, from.few, from.enough, count_source row) in
-    subst (λ (fixed : ℕ). FindsColumn octets (fixed + length ids) (intermediate_symbols row) (first_equations row fixed ids) (map operation_of solution.operations.items)) all from.finds
+    subst (λ (fixed : ℕ). FindsColumn octets (fixed + length ids) (intermediate_symbols row) (first_equations row fixed ids) (operations_of solution.operations)) all from.finds

@@ -1,5 +1,5 @@
 -- What a solver's outcome says of a block's equations.
-use Rattle.std.proofs.Common.{◌≡◌, ℕ, zero, suc, ◌<◌, ◌≤◌, List, [], get_or, Option, None, Some, Vec, Global, length, map, replicate, sym, ap, ◌+◌, ◌-◌, ◌∙◌, subst, arith, inl, inr}
+use Rattle.std.proofs.Common.{◌≡◌, ℕ, zero, suc, ◌<◌, ◌≤◌, List, [], get_or, Option, None, Some, length, replicate, sym, ap, ◌+◌, ◌-◌, ◌∙◌, subst, arith, inl, inr}
 use Rattle.std.specs.Prelude.{MatchOption}
 use Rattle.std.proofs.lemmas.Bool.{cases_lt}
 use Rattle.std.proofs.lemmas.List.{length-map}
@@ -11,9 +11,9 @@ use Rattle.rq_algebra.proofs.Found.{finds_determined, found_are_symbols, found_l
 use Rattle.rq_algebra.proofs.Solutions.{determined_stays, homogeneous_not_determined}
 use Rattle.rq_algebra.proofs.Stacks.{stacked_above, stacked_below}
 use Rattle.rq_algebra.proofs.SymbolColumns.{run_keeps_symbols}
-use Rattle.rq_bytes.specs.SymbolSlab.{Slab, HasPlace, store_of, symbol_in, symbols_in, IsZeroUnread}
-use Rattle.rq_bytes.specs.SymbolOps.{operation_of}
-use Rattle.rq_bytes.specs.declared.operation_vector.SymbolOps.{SymbolOps}
+use Rattle.rq_bytes.specs.SymbolSlab.{Slab, HasPlace, after_all, store_of, symbol_in, symbols_in, IsZeroUnread}
+use Rattle.rq_operations.specs.RecordedOperations.{operations_of}
+use Rattle.rq_operations.specs.declared.recorded.RecordedOperations.{RecordedOperations}
 use Rattle.rq_parts.specs.DenseOctetMatrix.{OctetTable}
 use Rattle.rq_standard.specs.declared.row.TableRow.{TableRow}
 use Rattle.rq_standard.specs.BitTable.{BitTable}
@@ -23,7 +23,6 @@ use Rattle.rq_standard.specs.TableRows.{intermediate_symbols}
 use Rattle.rq_standard.specs.Equations.{equations, equation_count, fixed_equations, ldpc_coefficient, hdpc_coefficient, symbol_coefficient}
 use Rattle.rq_standard.specs.IdLists.{HasDeterminedRows}
 use Rattle.rq_base.specs.HdpcPart.{IsHdpcPart}
-use Rattle.rq_solver.specs.Replay.{after_all}
 use Rattle.rq_solver.specs.Solving.{AreEquations, AreEquationsWithoutHdpc, FindsOperations, solver_of}
 use Rattle.rq_solver.proofs.EquationLaws.{binary_equations, are_equations, finds_equations, homogeneous_of_equations}
 use Rattle.rq_solver.proofs.RowStepLaws.{SameEntries}
@@ -46,14 +45,14 @@ places_count slab zero places = omega arith
 places_count slab (suc n) places = has_count slab.values slab.symbol_size slab.order n (places n (omega arith))
 
 -- the operations that find the column of all equations, or else the ids don't determine the block
-abbrev pub FindsAll : TableRow → List ℕ → Option (Vec SymbolOps Global) → Type 0
-FindsAll row ids answer = MatchOption answer (HasDeterminedRows row ids → ⊥) (λ found. FindsColumn octets (equation_count row ids) (intermediate_symbols row) (equations row ids) (map operation_of found.items))
+abbrev pub FindsAll : TableRow → List ℕ → Option RecordedOperations → Type 0
+FindsAll row ids answer = MatchOption answer (HasDeterminedRows row ids → ⊥) (λ found. FindsColumn octets (equation_count row ids) (intermediate_symbols row) (equations row ids) (operations_of found))
 
 module _ (row : TableRow) (ids : List ℕ) (bits : BitTable) (hdpc : OctetTable) (handed : Slab) (part : IsBinaryPart row ids bits) (octet_part : IsHdpcPart row hdpc) (are : AreEquations row bits hdpc handed) where
   -- what a solver finds solves the block's equations; where there is nothing, the ids don't determine the block
-  pub found_outcome : (answer : Option (Vec SymbolOps Global)) → FindsOperations (solver_of row bits hdpc handed) answer → FindsAll row ids answer
+  pub found_outcome : (answer : Option RecordedOperations) → FindsOperations (solver_of row bits hdpc handed) answer → FindsAll row ids answer
   found_outcome None null = λ d. homogeneous_not_determined octets (equation_count row ids) (intermediate_symbols row) (equations row ids) (homogeneous_of_equations row ids bits hdpc part octet_part.rows handed are null) d
-  found_outcome (Some found) finds = finds_equations row ids bits hdpc part octet_part.rows handed are (map operation_of found.items) finds
+  found_outcome (Some found) finds = finds_equations row ids bits hdpc part octet_part.rows handed are (operations_of found) finds
 
 -- ---- without HDPC equations
 
@@ -157,11 +156,11 @@ module _ (height width : ℕ) (rows : ℕ → ℕ → ℕ) (operations : List Op
 
 -- what the operations make of the values is the block's solution
 pub solution_found : (row : TableRow) (ids : List ℕ) (solution : Solution) (handed slab : Slab) → FindsFrom row ids solution → AreSymbols octets handed.symbol_size (solution.fixed + length ids) handed.values → handed.order ≡ None
-    → slab ≡ after_all (map operation_of solution.operations.items) handed → IsBlockSolution row solution.fixed ids handed.symbol_size handed.values slab
+    → slab ≡ after_all (operations_of solution.operations) handed → IsBlockSolution row solution.fixed ids handed.symbol_size handed.values slab
 solution_found row ids solution handed slab from symbols_are order made =
     let height : ℕ = solution.fixed + length ids in
     let rows = first_equations row solution.fixed ids in
-    let operations = map operation_of solution.operations.items in
+    let operations = operations_of solution.operations in
     let s = is_solution height (intermediate_symbols row) rows operations from.finds handed slab order made in
     record {
       determined = first_determine row solution.fixed ids from.few operations from.finds;

@@ -1,15 +1,10 @@
--- What plans refuse, and that a copy of a plan is one.
-use Rattle.std.proofs.Common.{vec_len, ◌≡◌, ℕ, ◌≤◌, List, [], ◌∷◌, map, Ok, refl, sym, ap, ◌∙◌, subst, ◌⊎◌, inl, inr}
+-- What plans refuse, and what a copy of a list shows.
+use Rattle.std.proofs.Common.{◌≡◌, ℕ, ◌≤◌, List, [], ◌∷◌, map, Ok, refl, sym, ap, ◌∙◌, subst, ◌⊎◌, inl, inr}
 use Rattle.std.specs.List.{AllZip}
 use Rattle.std.proofs.lemmas.Bool.{le-ltb}
-use Rattle.rq_algebra.specs.Operations.{Reorder}
 use Rattle.rq_bytes.specs.declared.error.Error.{Error}
 use Rattle.rq_bytes.specs.declared.error.Error.TheVariants.{OutOfMemory, Singular}
 use Rattle.rq_bytes.specs.Refusals.{IsRefusal}
-use Rattle.rq_bytes.specs.SymbolOps.{operation_of}
-use Rattle.rq_bytes.specs.declared.operation_vector.SymbolOps.{SymbolOps}
-use Rattle.rq_bytes.specs.declared.operation_vector.SymbolOps.TheVariants as ops
-use Rattle.rq_bytes.specs.contracts.operation_vector.SymbolOpsClone.TheImpl.{by_variants}
 use Rattle.rq_standard.specs.declared.row.TableRow.{TableRow}
 use Rattle.rq_standard.specs.TableRows.{greatest_size, row_of}
 use Rattle.rq_standard.specs.Headline.{IsSingular}
@@ -17,7 +12,6 @@ use Rattle.rq_standard.specs.Configuration.{Configuration}
 use Rattle.raptorq.specs.BlockData.{RefusesBlock}
 use Rattle.raptorq.specs.SourceBlockEncodingPlan.{plan_refusal, RefusesPlan}
 use Rattle.raptorq.specs.Refused.{wanted_count}
-use Rattle.raptorq.proofs.Payloads.{same_items}
 
 -- a function of clones that keeps what it sees of each
 pub map-clones : {X Y : Type 0} (C : X → X → Type 0) (f : X → Y) → ((x y : X) → C x y → f y ≡ f x) → (xs ys : List X) → AllZip C xs ys → map f ys ≡ map f xs
@@ -25,17 +19,6 @@ map-clones C f same [] [] all = refl
 map-clones C f same [] (y ∷ ys) all = absurd all
 map-clones C f same (x ∷ xs) [] all = absurd all
 map-clones C f same (x ∷ xs) (y ∷ ys) all = ap (λ z. z ∷ map f ys) (same x y all.0) ∙ ap (λ zs. f x ∷ zs) (map-clones C f same xs ys all.1)
-
--- a clone of an operation means the same
-same_operation : (a b : SymbolOps) → by_variants a b → operation_of b ≡ operation_of a
-same_operation (ops.AddAssign dest src) (ops.AddAssign dest' src') h = let k : (dest' ≡ dest) × (src' ≡ src) = h in cc
-same_operation (ops.MulAssign dest scalar) (ops.MulAssign dest' scalar') h = let e = h.1 in let k : scalar' ≡ scalar = sym e.3 ∙ e.4 ∙ e.2 in let d : dest' ≡ dest = h.0 in cc
-same_operation (ops.FMA dest src scalar) (ops.FMA dest' src' scalar') h = let e = h.1.1 in let k : scalar' ≡ scalar = sym e.3 ∙ e.4 ∙ e.2 in let d : dest' ≡ dest = h.0 in let t : src' ≡ src = h.1.0 in cc
-same_operation (ops.Reorder order) (ops.Reorder order') h = let k : AllZip (λ x y. y ≡ x) order.items order'.items × (vec_len order' ≡ vec_len order) = h in ap (λ (l : List ℕ). Reorder l) (same_items order.items order'.items k.0)
-same_operation _ _ h = absurd h
-
-pub same_operations : (xs ys : List SymbolOps) → AllZip by_variants xs ys → map operation_of ys ≡ map operation_of xs
-same_operations xs ys all = map-clones by_variants operation_of same_operation xs ys all
 
 -- ---- what is refused
 

@@ -1,10 +1,10 @@
 -- What a solver finds of a block.
-use Rattle.std.specs.Prelude.{◌≡◌, ℕ, ◌+◌, ◌<◌, ◌≤◌, List, length, map, Option, MatchOption}
+use Rattle.std.specs.Prelude.{◌≡◌, ℕ, ◌+◌, ◌<◌, ◌≤◌, List, length, Option, MatchOption}
 use Rattle.rq_algebra.specs.Operations.{FindsColumn}
 use Rattle.rq_algebra.specs.Symbols.{IsSymbolColumn, SolvesSymbols, symbol_at}
 use Rattle.rq_algebra.specs.Systems.{stacked, rows_of}
 use Rattle.rq_bytes.specs.SymbolSlab.{Slab, symbol_in, symbols_in, IsZeroUnread}
-use Rattle.rq_bytes.specs.SymbolOps.{operation_of}
+use Rattle.rq_operations.specs.RecordedOperations.{operations_of}
 use Rattle.rq_standard.specs.declared.row.TableRow.{TableRow}
 use Rattle.rq_standard.specs.OctetField.{octets}
 use Rattle.rq_standard.specs.TableRows.{intermediate_symbols}
@@ -21,7 +21,7 @@ pub record FindsFrom (row : TableRow) (ids : List ℕ) (solution : Solution) : T
   pub few : solution.fixed ≤ row.ldpc_symbols + row.hdpc_symbols
   pub ldpc : row.ldpc_symbols ≤ solution.fixed
   pub enough : intermediate_symbols row ≤ solution.fixed + length ids
-  pub finds : FindsColumn octets (solution.fixed + length ids) (intermediate_symbols row) (first_equations row solution.fixed ids) (map operation_of solution.operations.items)
+  pub finds : FindsColumn octets (solution.fixed + length ids) (intermediate_symbols row) (first_equations row solution.fixed ids) (operations_of solution.operations)
 
 -- the operations that find the intermediate symbols, exactly where the ids determine them
 abbrev pub FindsListed : TableRow → List ℕ → Option Solution → Type 0

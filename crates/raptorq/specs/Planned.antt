@@ -2,8 +2,7 @@
 use Rattle.std.specs.Prelude.{ℕ, ◌+◌, ◌-◌, ◌≤◌, List, ◌++◌, length, replicate}
 use Rattle.rq_algebra.specs.Operations.{Operation}
 use Rattle.rq_algebra.specs.Symbols.{AreSymbols}
-use Rattle.rq_bytes.specs.SymbolSlab.{Slab, slab_of, symbol_in, symbols_in}
-use Rattle.rq_solver.specs.Replay.{after_all}
+use Rattle.rq_bytes.specs.SymbolSlab.{Slab, after_all, slab_of, symbol_in, symbols_in}
 use Rattle.rq_standard.specs.declared.row.TableRow.{TableRow}
 use Rattle.rq_standard.specs.OctetField.{octets}
 use Rattle.rq_standard.specs.TableRows.{intermediate_symbols}

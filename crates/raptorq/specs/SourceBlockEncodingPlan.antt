@@ -1,10 +1,10 @@
 -- What a plan shows.
-use Rattle.std.specs.Prelude.{◌≡◌, ◌⊎◌, ℕ, List, map, Result, Ok, Err, if◌then◌else◌, nat_lt}
+use Rattle.std.specs.Prelude.{◌≡◌, ◌⊎◌, ℕ, List, Result, Ok, Err, if◌then◌else◌, nat_lt}
 use Rattle.rq_algebra.specs.Operations.{Operation}
 use Rattle.rq_bytes.specs.declared.error.Error.{Error}
 use Rattle.rq_bytes.specs.declared.error.Error.TheVariants.{BlockOverTable, Singular}
 use Rattle.rq_bytes.specs.Refusals.{IsRefusal}
-use Rattle.rq_bytes.specs.SymbolOps.{operation_of}
+use Rattle.rq_operations.specs.RecordedOperations.{operations_of}
 use Rattle.rq_standard.specs.declared.row.TableRow.{TableRow}
 use Rattle.rq_standard.specs.TableRows.{greatest_size, row_of}
 use Rattle.rq_standard.specs.Headline.{IsSingular}
@@ -17,7 +17,7 @@ pub record Plan : Type 0 where
   pub operations : List Operation
 
 abbrev pub plan_of : SourceBlockEncodingPlan → Plan
-plan_of p = record { count = p.source_symbol_count; row = p.row; operations = map operation_of p.operations.items }
+plan_of p = record { count = p.source_symbol_count; row = p.row; operations = operations_of p.operations }
 
 -- whether a table has a row for so many symbols
 abbrev pub plan_refusal : List TableRow → ℕ → Result (Unit {0}) Error

@@ -26,6 +26,7 @@ pub use rq_base::base::{EncodingPacket, ObjectTransmissionInformation, PayloadId
 pub use rq_base::{base, constraint_matrix};
 pub use rq_bytes::{error, gf2, octet, octets, operation_vector, symbol, symbol_slab, util};
 pub use rq_matrix::{matrix, sparse_matrix};
+pub use rq_operations::{recorded, steps};
 pub use rq_parts::{arraymap, graph, iterators, octet_matrix, sparse_vec};
 pub use rq_solver::pi_solver;
 pub use rq_tables::systematic_constants::extended_source_block_symbols;

@@ -9,10 +9,10 @@ use rq_base::constraint_matrix::{
     generate_constraint_matrix_no_hdpc_of_row, generate_constraint_matrix_of_row,
 };
 use rq_bytes::error::Error;
-use rq_bytes::operation_vector::SymbolOps;
 use rq_bytes::symbol_slab::SymbolSlab;
 use rq_matrix::matrix::{BinaryMatrix, DenseBinaryMatrix};
 use rq_matrix::sparse_matrix::SparseBinaryMatrix;
+use rq_operations::recorded::RecordedOperations;
 use rq_solver::homogeneous::homogeneous_column;
 use rq_solver::pi_solver::IntermediateSymbolDecoder;
 use rq_standard::row::TableRow;
@@ -23,7 +23,7 @@ use std::alloc::Global;
 #[derive(Drop)]
 pub(crate) struct Solution {
     pub fixed: usize,
-    pub operations: Vec<SymbolOps>,
+    pub operations: RecordedOperations,
 }
 
 /// What makes the intermediate symbols from the symbols of a list of internal symbol ids. `None`

@@ -10,7 +10,7 @@ use Rattle.rq_standard.specs.Octets.{octet_double, octet_mul, octet_times}
 use Rattle.rq_standard.specs.OctetFacts.{double-lt}
 use Rattle.rq_standard.specs.OctetProducts.{if_set, mul-comm}
 use Rattle.rq_bytes.specs.HalfProducts.{AreHalfProducts, IsSumBelow, doubled, half_byte}
-use Rattle.rq_bytes.specs.declared.factor.TheConstants.{TERMS, FIRST_HALF, SECOND_HALF}
+use Rattle.rq_bytes.specs.declared.half_products.TheConstants.{TERMS, FIRST_HALF, SECOND_HALF}
 use Rattle.rq_bytes.proofs.Steps.{add_bit, start, end}
 
 doubled-lt : (k h : ℕ) → h < 256 → doubled k h < 256

@@ -10,9 +10,11 @@ pub mod PackedRows
 pub mod PlaneFacts
 pub mod RangeFacts
 pub mod RangeLoans
+pub mod RangeMultiples
 pub mod RangeSums
 pub mod RefusalFacts
 pub mod SlabFacts
+pub mod SlabMultiples
 pub mod SlabSums
 pub mod Steps
 pub mod TableFacts

@@ -46,7 +46,7 @@ rows_added-join n f g x y (src ∷ sources) e all =
     ∙ rows_added-join n f g (row_sum x (f src)) (row_sum y (g src)) sources (length-zip2 bit_xor x (f src) long ∙ e) (All-tail (λ s. length (f s) ≡ n) src sources all)
 
 -- two ranges that follow each other
-range-join : (xs : List ℕ) (i j n m : ℕ) → j ≡ i + n → range_of xs i (n + m) ≡ range_of xs i n ++ range_of xs j m
+pub range-join : (xs : List ℕ) (i j n m : ℕ) → j ≡ i + n → range_of xs i (n + m) ≡ range_of xs i n ++ range_of xs j m
 range-join xs i j n m e =
     take-add n m (drop i xs)
     ∙ ap (λ ys. range_of xs i n ++ take m ys) (drop-drop n i xs)

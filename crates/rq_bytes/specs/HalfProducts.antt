@@ -1,6 +1,7 @@
 -- Products of an octet and the halves of a byte.
-use Rattle.std.specs.Prelude.{◌≡◌, ℕ, zero, suc, ◌-◌, ◌*◌, ◌/◌, ◌%◌, ◌^◌, ◌<◌, List, length, slice_index}
+use Rattle.std.specs.Prelude.{◌≡◌, ℕ, zero, suc, ◌+◌, ◌-◌, ◌*◌, ◌/◌, ◌%◌, ◌^◌, ◌<◌, List, All, length, slice_index}
 use Rattle.std.specs.Int.Bits.{bit_xor}
+use Rattle.std.specs.Simd.Lanes.{zip2}
 use Rattle.rq_standard.specs.Octets.{octet_double, octet_mul, octet_times}
 
 -- the halves of a byte: first the lower ones, then the upper ones
@@ -14,6 +15,17 @@ pub record AreHalfProducts (scalar : ℕ) (low high : List ℕ) : Type 0 where
   pub high_count : length high ≡ 32
   pub of_low : (i : ℕ) → i < 32 → slice_index low i ≡ octet_mul scalar (i % 16)
   pub of_high : (i : ℕ) → i < 32 → slice_index high i ≡ octet_mul scalar (i % 16 * 16)
+
+-- as many lower as upper halves of bytes
+pub record AreHalves (lower upper : List ℕ) : Type 0 where
+  pub lower_count : length lower ≡ 32
+  pub upper_count : length upper ≡ 32
+  pub lower_small : All (λ x. x < 16) lower
+  pub upper_small : All (λ x. x < 16) upper
+
+-- the bytes that have these halves
+abbrev pub whole_bytes : List ℕ → List ℕ → List ℕ
+whole_bytes lower upper = zip2 (λ x y. x + 16 * y) lower upper
 
 -- a product by x, k times
 unfoldable pub doubled : ℕ → ℕ → ℕ

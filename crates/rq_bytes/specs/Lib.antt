@@ -8,3 +8,4 @@ pub mod Refusals
 pub mod SymbolSlab
 pub mod SlabLends
 pub mod SymbolOps
+pub mod Targets

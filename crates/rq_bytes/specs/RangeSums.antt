@@ -1,7 +1,7 @@
 -- Sums of ranges of one buffer.
-use Rattle.std.specs.Prelude.{ℕ, ◌+◌, ◌≤◌, ◌⊎◌, List, fold}
-use Rattle.rq_standard.specs.Rows.{row_sum}
-use Rattle.rq_bytes.specs.Ranges.{range_of}
+use Rattle.std.specs.Prelude.{ℕ, ◌+◌, ◌≤◌, ◌⊎◌, List, fold, length}
+use Rattle.rq_standard.specs.Rows.{row_sum, row_multiple}
+use Rattle.rq_bytes.specs.Ranges.{range_of, with_range}
 
 -- a row, and the n elements that begin `at` elements after each of some starts, added to it
 abbrev pub with_ranges_added : List ℕ → List ℕ → List ℕ → ℕ → ℕ → List ℕ
@@ -14,3 +14,11 @@ sum_of_ranges bytes dest sources at n = with_ranges_added (range_of bytes (dest 
 -- the range of `len` elements from `src` on is one of so many elements, and has none in common with that from `dest` on
 abbrev pub IsRangeBeside : ℕ → ℕ → ℕ → ℕ → Type 0
 IsRangeBeside count dest len src = (src + len ≤ count) × ((dest + len ≤ src) ⊎ (src + len ≤ dest))
+
+-- a row, added to the elements from i on
+abbrev pub with_row_added : List ℕ → ℕ → List ℕ → List ℕ
+with_row_added xs i row = with_range xs i (row_sum (range_of xs i (length row)) row)
+
+-- a row's multiples, one after another: by a target's octet, and added to the elements that begin `at` elements after its start
+abbrev pub with_multiples_added : List ℕ → List ℕ → ℕ → List (ℕ × ℕ) → List ℕ
+with_multiples_added bytes row at targets = fold (λ sum target. with_row_added sum (target.0 + at) (row_multiple target.1 row)) bytes targets

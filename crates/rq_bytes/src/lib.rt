@@ -4,12 +4,14 @@
 pub mod error;
 pub mod factor;
 pub mod gf2;
+mod half_products;
 mod logarithms;
 mod marks;
 pub mod octet;
 pub mod octets;
 pub mod operation_vector;
 mod products;
+mod range_multiples;
 mod range_sums;
 pub mod symbol;
 pub mod symbol_slab;

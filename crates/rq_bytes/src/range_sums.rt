@@ -106,9 +106,9 @@ fn piece_sum<const N: usize>(
     sum
 }
 
-// Writes a piece of N octets from `at` on.
+/// Writes a piece of N octets from `at` on.
 #[inline(always)]
-fn write_piece<const N: usize>(bytes: &mut [u8], at: usize, piece: Simd<u8, N>)
+pub(crate) fn write_piece<const N: usize>(bytes: &mut [u8], at: usize, piece: Simd<u8, N>)
     requires len { length piece ≡ N }
     requires within { at + N ≤ length bytes.old }
     ensures { bytes.new ≡ with_range bytes.old at piece.entry }

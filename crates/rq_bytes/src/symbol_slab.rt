@@ -10,6 +10,8 @@ ghost use Rattle.rq_bytes.specs.Ranges.{range_of, cut, whole_symbols, with_range
 ghost use Rattle.rq_bytes.specs.Refusals.{IsAnswer};
 ghost use Rattle.rq_bytes.specs.SymbolSlab.{slab_of, among_zeros, after, after_all, HasPlace, Allows, symbol_in, with_symbols_added, symbols_in, same_slab, IsZeroUnread, IsZeroUnmarked};
 
+mod multiples;
+
 use crate::error::Error;
 use crate::factor::{Factor, double_and_add, multiply_row};
 use crate::marks::marks_of;
@@ -18,6 +20,7 @@ use crate::octets;
 use crate::range_sums::{add_ranges, add_ranges_to};
 use crate::symbol::{Symbol, zeros};
 use crate::util::get_range_pair;
+pub use multiples::Multiple;
 use std::alloc::{AllocError, Global};
 use std::marker::Model;
 

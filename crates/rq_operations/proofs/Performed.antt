@@ -1,6 +1,6 @@
 -- A slab after some of its operations, and after more.
 use Rattle.std.proofs.Common.{◌≡◌, ℕ, suc, ◌+◌, ◌<◌, List, [], ◌∷◌, ◌++◌, Option, All, map, length, take, drop, get_or, set, refl, sym, ap, ◌∙◌, subst, arith}
-use Rattle.std.proofs.lemmas.List.{length-set, length-map, get_or-map, take-append-drop, drop-drop, map-append, take_more_set}
+use Rattle.std.proofs.lemmas.List.{length-set, length-map, get_or-map, take-append-drop, drop-drop, length-drop, map-append, take_more_set}
 use Rattle.std.proofs.lemmas.List.Elements.{All-nil, All-cons}
 use Rattle.std.proofs.Math.Seq.{drop-cons, take-add}
 use Rattle.rq_algebra.specs.Operations.{Operation, AddAssign, MulAssign, Fma, Reorder, Store, step, run, meant_at, order_after, IsAllowed, AreAllowed}
@@ -8,7 +8,7 @@ use Rattle.rq_algebra.specs.Symbols.{symbols}
 use Rattle.rq_algebra.proofs.Runs.{run-append, last_order, order-run}
 use Rattle.rq_standard.specs.OctetField.{octets}
 use Rattle.rq_bytes.specs.Ranges.{range_of}
-use Rattle.rq_bytes.specs.SymbolSlab.{Slab, store_of, after, after_all, Allows}
+use Rattle.rq_bytes.specs.SymbolSlab.{Slab, store_of, after, after_all}
 use Rattle.rq_operations.specs.declared.steps.Step.{Step}
 use Rattle.rq_operations.specs.Steps.{operation_of_step, PerformsNext}
 
@@ -66,6 +66,48 @@ module _ (operations : List Operation) (slab : Slab) (i : ℕ) where
       ∙ sym (after_all-append (take i operations) (range_of operations i count) slab)
       ∙ ap (λ l. after_all l slab) (sym (take-add i count operations))
 
+-- ---- the operation at a place
+
+module _ (operations : List Operation) (i : ℕ) (op : Operation) (there : range_of operations i 1 ≡ op ∷ []) where
+  rest_is : drop i operations ≡ op ∷ drop 1 (drop i operations)
+  rest_is = sym (take-append-drop 1 (drop i operations)) ∙ ap (λ l. l ++ drop 1 (drop i operations)) there
+
+  inside : i < length operations
+  inside = omega (arith, ap length rest_is, length-drop i operations)
+
+  pub one_performed : (old new : Slab) → new ≡ after op old → PerformsNext operations i 1 old new
+  one_performed old new e = record {
+    some = omega arith;
+    within = omega (arith, inside);
+    performed = e ∙ sym (ap (λ l. after_all l old) there ∙ after_all-one op old);
+  }
+
+  pub step_allowed : (n : ℕ) (order : Option (List ℕ)) → AreAllowed n order (drop i operations) → IsAllowed n order op
+  step_allowed n order allowed = (subst (AreAllowed n order) rest_is allowed).0
+
+  -- with the one behind it
+  pub two_performed : (next : Operation) (old new : Slab) → i + 1 < length operations → range_of operations (i + 1) 1 ≡ next ∷ []
+      → new ≡ after_all (op ∷ next ∷ []) old → PerformsNext operations i 2 old new
+  two_performed next old new room is_next e = record {
+    some = omega arith;
+    within = omega arith;
+    performed = e ∙ sym (ap (λ l. after_all l old) (
+        take-add 1 1 (drop i operations)
+        ∙ ap (λ l. l ++ take 1 (drop 1 (drop i operations))) there
+        ∙ ap (λ l. op ∷ take 1 l) (drop-drop 1 i operations)
+        ∙ ap (λ l. op ∷ l) is_next));
+  }
+
+  pub next_allowed : (n : ℕ) (order : Option (List ℕ)) (dest scalar : ℕ) (next : Operation) → op ≡ MulAssign dest scalar
+      → range_of operations (i + 1) 1 ≡ next ∷ [] → AreAllowed n order (drop i operations) → IsAllowed n order next
+  next_allowed n order dest scalar next is_op is_next allowed =
+      let rest = drop 1 (drop (i + 1) operations) in
+      let split : drop i operations ≡ MulAssign dest scalar ∷ next ∷ rest =
+      rest_is
+      ∙ ap (λ o. o ∷ drop 1 (drop i operations)) is_op
+      ∙ ap (λ l. MulAssign dest scalar ∷ l) (drop-drop 1 i operations ∙ sym (take-append-drop 1 (drop (i + 1) operations)) ∙ ap (λ l. l ++ rest) is_next) in
+      (subst (AreAllowed n order) split allowed).1.0
+
 -- ---- the step at a place
 
 module _ (recorded : List Step) (i : ℕ) (op : Step) (here : i < length recorded) (is : op ≡ get_or recorded i op) where
@@ -75,71 +117,32 @@ module _ (recorded : List Step) (i : ℕ) (op : Step) (here : i < length recorde
       drop-cons operations i (operation_of_step op) (omega (arith, length-map recorded operation_of_step))
       ∙ ap (λ o. o ∷ drop (suc i) operations) (get_or-map operation_of_step recorded i op (operation_of_step op) here ∙ ap operation_of_step (sym is))
 
-  pub one_performed : (old new : Slab) → new ≡ after (operation_of_step op) old → PerformsNext (map operation_of_step recorded) i 1 old new
-  one_performed old new e = record {
-    some = omega arith;
-    within = omega (arith, length-map recorded operation_of_step);
-    performed = e ∙ sym (ap (λ l. after_all (take 1 l) old) operation_there ∙ after_all-one (operation_of_step op) old);
-  }
-
-  pub step_allowed : (n : ℕ) (order : Option (List ℕ)) → AreAllowed n order (drop i (map operation_of_step recorded)) → IsAllowed n order (operation_of_step op)
-  step_allowed n order allowed = (subst (AreAllowed n order) operation_there allowed).0
-
   pub range_here : range_of (map operation_of_step recorded) i 1 ≡ operation_of_step op ∷ []
   range_here = ap (take 1) operation_there
 
-  -- with the one behind it
-  pub two_performed : (next : Operation) (old new : Slab) → i + 1 < length recorded → range_of (map operation_of_step recorded) (i + 1) 1 ≡ next ∷ []
-      → new ≡ after_all (operation_of_step op ∷ next ∷ []) old → PerformsNext (map operation_of_step recorded) i 2 old new
-  two_performed next old new room is_next e =
+  -- one more of those that f makes
+  pub run_more : {T : Type 0} (f : T → Operation) (xs : List T) (x : T) (start count : ℕ) → i ≡ start + count → count < length xs → operation_of_step op ≡ f x
+      → range_of (map operation_of_step recorded) start count ≡ map f (take count xs)
+      → range_of (map operation_of_step recorded) start (count + 1) ≡ map f (take (count + 1) (set xs count x))
+  run_more f xs x start count at room is_f so_far =
       let operations = map operation_of_step recorded in
-      record {
-        some = omega arith;
-        within = omega (arith, length-map recorded operation_of_step);
-        performed = e ∙ sym (ap (λ l. after_all l old) (
-            take-add 1 1 (drop i operations)
-            ∙ ap (λ l. l ++ take 1 (drop 1 (drop i operations))) range_here
-            ∙ ap (λ l. operation_of_step op ∷ take 1 l) (drop-drop 1 i operations)
-            ∙ ap (λ l. operation_of_step op ∷ l) is_next));
-      }
-
-  pub next_allowed : (n : ℕ) (order : Option (List ℕ)) (dest scalar : ℕ) (next : Operation) → operation_of_step op ≡ MulAssign dest scalar
-      → range_of (map operation_of_step recorded) (i + 1) 1 ≡ next ∷ [] → AreAllowed n order (drop i (map operation_of_step recorded)) → IsAllowed n order next
-  next_allowed n order dest scalar next is_op is_next allowed =
-      let operations = map operation_of_step recorded in
-      let rest = drop 1 (drop (i + 1) operations) in
-      let one : suc i ≡ i + 1 = omega arith in
-      let split : drop i operations ≡ MulAssign dest scalar ∷ next ∷ rest =
-      operation_there
-      ∙ ap (λ k. operation_of_step op ∷ drop k operations) one
-      ∙ ap (λ o. o ∷ drop (i + 1) operations) is_op
-      ∙ ap (λ l. MulAssign dest scalar ∷ l) (sym (take-append-drop 1 (drop (i + 1) operations)) ∙ ap (λ l. l ++ rest) is_next) in
-      (subst (AreAllowed n order) split allowed).1.0
-
-  -- one more addition to a symbol, and its source
-  pub run_more : (start count dest source : ℕ) (sources : List ℕ) → i ≡ start + count → count < length sources → operation_of_step op ≡ AddAssign dest source
-      → range_of (map operation_of_step recorded) start count ≡ map (λ src. AddAssign dest src) (take count sources)
-      → range_of (map operation_of_step recorded) start (count + 1) ≡ map (λ src. AddAssign dest src) (take (count + 1) (set sources count source))
-  run_more start count dest source sources at room adds so_far =
-      let operations = map operation_of_step recorded in
-      let add = λ (src : ℕ). AddAssign dest src in
       take-add count 1 (drop start operations)
       ∙ ap (λ l. l ++ take 1 (drop count (drop start operations))) so_far
-      ∙ ap (λ l. map add (take count sources) ++ take 1 l) (drop-drop count start operations ∙ ap (λ k. drop k operations) (sym at) ∙ operation_there)
-      ∙ ap (λ o. map add (take count sources) ++ o ∷ []) adds
-      ∙ sym (map-append add (take count sources) (source ∷ []))
-      ∙ ap (map add) (sym (take_more_set sources count source room))
+      ∙ ap (λ l. map f (take count xs) ++ take 1 l) (drop-drop count start operations ∙ ap (λ k. drop k operations) (sym at) ∙ operation_there)
+      ∙ ap (λ o. map f (take count xs) ++ o ∷ []) is_f
+      ∙ sym (map-append f (take count xs) (x ∷ []))
+      ∙ ap (map f) (sym (take_more_set xs count x room))
 
--- ---- additions to one symbol, one after another
+-- ---- operations that f makes, one after another, of which none sets an order
 
-additions_allowed : (n : ℕ) (order : Option (List ℕ)) (dest : ℕ) (sources : List ℕ) (rest : List Operation) → AreAllowed n order (map (λ src. AddAssign dest src) sources ++ rest)
-    → All (λ src. IsAllowed n order (AddAssign dest src)) sources
-additions_allowed n order dest [] rest all = All-nil (λ src. IsAllowed n order (AddAssign dest src))
-additions_allowed n order dest (src ∷ sources) rest all = All-cons (λ s. IsAllowed n order (AddAssign dest s)) src sources all.0 (additions_allowed n order dest sources rest all.1)
+module _ {T : Type 0} (f : T → Operation) (keeps : (order : Option (List ℕ)) (x : T) → order_after order (f x) ≡ order) (n : ℕ) (order : Option (List ℕ)) where
+  each_allowed : (xs : List T) (rest : List Operation) → AreAllowed n order (map f xs ++ rest) → All (λ x. IsAllowed n order (f x)) xs
+  each_allowed [] rest all = All-nil (λ x. IsAllowed n order (f x))
+  each_allowed (x ∷ xs) rest all =
+      All-cons (λ y. IsAllowed n order (f y)) x xs all.0 (each_allowed xs rest (subst (λ o. AreAllowed n o (map f xs ++ rest)) (keeps order x) all.1))
 
-pub run_allowed : (slab : Slab) (operations : List Operation) (i count dest : ℕ) (sources : List ℕ) → AreAllowed (length slab.values) slab.order (drop i operations)
-    → range_of operations i count ≡ map (λ src. AddAssign dest src) sources → All (λ src. Allows slab (AddAssign dest src)) sources
-run_allowed slab operations i count dest sources allowed is =
-    let rest = drop count (drop i operations) in
-    let split : drop i operations ≡ map (λ src. AddAssign dest src) sources ++ rest = sym (take-append-drop count (drop i operations)) ∙ ap (λ l. l ++ rest) is in
-    additions_allowed (length slab.values) slab.order dest sources rest (subst (AreAllowed (length slab.values) slab.order) split allowed)
+  pub run_allowed : (operations : List Operation) (i count : ℕ) (xs : List T) → AreAllowed n order (drop i operations) → range_of operations i count ≡ map f xs → All (λ x. IsAllowed n order (f x)) xs
+  run_allowed operations i count xs allowed is =
+      let rest = drop count (drop i operations) in
+      let split : drop i operations ≡ map f xs ++ rest = sym (take-append-drop count (drop i operations)) ∙ ap (λ l. l ++ rest) is in
+      each_allowed xs rest (subst (AreAllowed n order) split allowed)

@@ -1,5 +1,5 @@
 -- What the ones of rows of bits are to an elimination over peeled rows, and what that finds is to the bits.
-use Rattle.std.proofs.Common.{◌≡◌, ℕ, ◌+◌, ◌<◌, ◌≤◌, List, [], ◌∷◌, Option, None, Some, Vec, Global, length, map, refl, ◌∙◌, subst, arith}
+use Rattle.std.proofs.Common.{◌≡◌, ℕ, ◌+◌, ◌<◌, ◌≤◌, List, [], ◌∷◌, Option, None, Some, length, refl, ◌∙◌, subst, arith}
 use Rattle.std.specs.Prelude.{MatchOption}
 use Rattle.std.proofs.lemmas.List.Elements.{All-weaker}
 use Rattle.rq_algebra.specs.Operations.{FindsColumn}
@@ -7,8 +7,8 @@ use Rattle.rq_algebra.specs.Systems.{HasHomogeneousColumn}
 use Rattle.rq_standard.specs.BitTableSteps.{ArePlacesOfOnes}
 use Rattle.rq_standard.specs.ConstraintMatrix.{with_octet_rows}
 use Rattle.rq_standard.specs.OctetField.{octets}
-use Rattle.rq_bytes.specs.SymbolOps.{operation_of}
-use Rattle.rq_bytes.specs.declared.operation_vector.SymbolOps.{SymbolOps}
+use Rattle.rq_operations.specs.RecordedOperations.{operations_of}
+use Rattle.rq_operations.specs.declared.recorded.RecordedOperations.{RecordedOperations}
 use Rattle.rq_parts.specs.DenseOctetMatrix.{OctetTable, entry_of}
 use Rattle.rq_solver.specs.Cleared.{AreRowsOfBits, AreOctetRows}
 use Rattle.rq_solver.specs.Peeled.{AreOnesOfRows, ones_of}
@@ -44,10 +44,10 @@ module _ (height width : ℕ) (bit : ℕ → ℕ → ℕ) (lists : List (List �
       rw are.count at (subst (λ w. (b : ℕ → ℕ → ℕ) → AreOnesOfRows (length lists) w b lists → P (length lists) w b) same found bit (record { count = refl; each = λ i l. are.each i (rw are.count at l) }))
 
   -- the same of an attempt
-  pub attempt_of_bits : (first : ℕ) (hdpc : OctetTable) (columns : ℕ) → columns ≡ width → (answer : Option (Vec SymbolOps Global)) → IsAttempt columns lists first hdpc answer
+  pub attempt_of_bits : (first : ℕ) (hdpc : OctetTable) (columns : ℕ) → columns ≡ width → (answer : Option RecordedOperations) → IsAttempt columns lists first hdpc answer
       → let rows = with_octet_rows first (length hdpc.rows) bit (entry_of hdpc) in
-      MatchOption answer (HasHomogeneousColumn octets height width rows) (λ ops. FindsColumn octets height width rows (map operation_of ops.items))
+      MatchOption answer (HasHomogeneousColumn octets height width rows) (λ ops. FindsColumn octets height width rows (operations_of ops))
   attempt_of_bits first hdpc columns same None found =
       found_of_bits (λ h w b. HasHomogeneousColumn octets h w (with_octet_rows first (length hdpc.rows) b (entry_of hdpc))) columns same found
   attempt_of_bits first hdpc columns same (Some ops) found =
-      found_of_bits (λ h w b. FindsColumn octets h w (with_octet_rows first (length hdpc.rows) b (entry_of hdpc)) (map operation_of ops.items)) columns same found
+      found_of_bits (λ h w b. FindsColumn octets h w (with_octet_rows first (length hdpc.rows) b (entry_of hdpc)) (operations_of ops)) columns same found

@@ -9,8 +9,10 @@ use Rattle.rq_algebra.specs.Arrangements.{ArePlaces}
 use Rattle.rq_algebra.specs.Systems.{at, stacked}
 use Rattle.rq_algebra.proofs.Stacks.{stacked_above, stacked_below}
 use Rattle.rq_algebra.specs.Operations.{Operation, AddAssign, MulAssign, Fma, Reorder}
-use Rattle.rq_solver.specs.OperationCounts.{additions, is_addition, triangle, triangle-none, triangle-more}
+use Rattle.rq_solver.specs.OperationCounts.{additions, is_addition, is_multiplication, triangle, triangle-none, triangle-more}
 use Rattle.rq_solver.specs.OctetBatch.{batch_bound}
+use Rattle.rq_solver.specs.PhaseCounts.{AreCountsOf}
+use Rattle.rq_solver.specs.declared.pi_solver.counts.OperationCounts.{OperationCounts}
 use Rattle.rq_solver.specs.Recorded.{sum_step}
 use Rattle.rq_solver.proofs.PivotTurns.{if_same, if_apart, count_next, count_taken}
 
@@ -28,8 +30,15 @@ additions-sum operations dest src scalar = additions-push operations (sum_step d
 pub additions-scaling : (operations : List Operation) (dest scalar : ℕ) → additions (operations ++ MulAssign dest scalar ∷ []) ≡ additions operations
 additions-scaling operations dest scalar = additions-push operations (MulAssign dest scalar) ∙ omega arith
 
-pub additions-order : (operations : List Operation) (order : List ℕ) → additions (operations ++ Reorder order ∷ []) ≡ additions operations
-additions-order operations order = additions-push operations (Reorder order) ∙ omega arith
+-- an order counts as none of them
+pub order_counted : (counts : OperationCounts) (operations : List Operation) (order : List ℕ) → AreCountsOf counts operations → AreCountsOf counts (operations ++ Reorder order ∷ [])
+order_counted counts operations order are =
+    let none = additions-push operations (Reorder order) in
+    let neither = sum_by-append (λ (o : Operation). if is_multiplication o then 1 else 0) operations (Reorder order ∷ []) in
+    record {
+      additions_are = omega (arith, none, are.additions_are);
+      multiplications_are = omega (arith, neither, are.multiplications_are);
+    }
 
 -- a number that stands at two places of a list is counted twice
 pub twice_counted : (xs : List ℕ) (q t : ℕ) → q < t → t < length xs → at xs q ≡ at xs t → count_by (λ x. x == at xs t) xs ≤ 1 → ⊥

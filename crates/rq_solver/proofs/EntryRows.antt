@@ -102,6 +102,7 @@ module _ (width : ℕ) (bits : Slab) (owns : List (List ℕ)) (are : AreEntries 
       fits = are.fits;
       whole = are.whole;
       room = are.room;
+      vectors = are.vectors;
       order = are.order;
       height = length-set owns i own ∙ are.height;
       symbols = are.symbols;
@@ -118,6 +119,7 @@ module _ (width : ℕ) (bits : Slab) (owns : List (List ℕ)) (are : AreEntries 
         fits = are.fits;
         whole = are.whole;
         room = are.room;
+        vectors = are.vectors;
         order = are.order;
         height = are.height ∙ sym (length-set bits.values i symbol);
         symbols = All-set (λ s. length s ≡ bits.symbol_size) bits.values i symbol long are.symbols;
@@ -143,11 +145,12 @@ zero_rows width height size room owns is =
     ∙ unpacked-zeros width size room
     ∙ sym (get_or-replicate height k (replicate width 0) [] inside))
 
-pub zeros_are : (width height size : ℕ) → width < 2 ^ 63 + 32 → width % 32 ≡ 0 → width ≤ 8 * size → (owns : List (List ℕ)) → owns ≡ replicate height [] → AreEntries width (slab_of size (replicate height (replicate size 0))) owns
-zeros_are width height size fits whole room owns is = record {
+pub zeros_are : (width height size : ℕ) → width < 2 ^ 63 + 32 → width % 32 ≡ 0 → width ≤ 8 * size → size % 32 ≡ 0 → (owns : List (List ℕ)) → owns ≡ replicate height [] → AreEntries width (slab_of size (replicate height (replicate size 0))) owns
+zeros_are width height size fits whole room vectors owns is = record {
   fits = fits;
   whole = whole;
   room = room;
+  vectors = vectors;
   order = refl;
   height = ap length is ∙ length-replicate {A = List ℕ} height [] ∙ sym (length-replicate {A = List ℕ} height (replicate size 0));
   symbols = All-from_get_or (λ s. length s ≡ size) (replicate height (replicate size 0)) [] (λ i l.
@@ -167,20 +170,6 @@ unfolding step
 slab_sum slab dest src none long =
     ap (λ o. record slab { values = set slab.values (meant_at o dest) (add_symbols octets (get_or slab.values (meant_at o dest) []) (get_or slab.values (meant_at o src) [])) }) none
     ∙ ap (λ (s : List ℕ). record slab { values = set slab.values dest s }) (add_symbols-rows (get_or slab.values dest []) (get_or slab.values src []) long)
-
--- ---- a table with another row
-
-module _ (now table : OctetTable) (row : ℕ) (written : List ℕ) (is : table ≡ with_row now row written) where
-  -- what is written there is read there
-  pub row_written : row < length now.rows → table ≡ with_row now row (row_at table row)
-  row_written there = is ∙ ap (with_row now row) (sym (ap (λ (t : OctetTable). row_at t row) is ∙ get_or-set_same now.rows row written [] there))
-
-  pub row_beside : (other : ℕ) → other ≢ row → row_at table other ≡ row_at now other
-  row_beside other apart = ap (λ (t : OctetTable). row_at t other) is ∙ get_or-set_other now.rows row other written [] apart
-
-  -- the row is written again
-  pub row_replaced : (new : List ℕ) → with_row table row new ≡ with_row now row new
-  row_replaced new = ap (λ (t : OctetTable). with_row t row new) is ∙ ap (λ (rows : List (List ℕ)). record now { rows = rows }) (set-set now.rows row written new)
 
 -- ---- a row that is there
 
@@ -219,6 +208,10 @@ module _ (e : Inside) (are : AreEntries e.width e.bits e.octets.items) {now : Oc
       pub read_row : row_of e.width (symbol_in e.bits row) own ≡ row_at now row
       read_row = ap (λ b. row_of e.width b own) read_is ∙ ap (row_of e.width (get_or e.bits.values row [])) own_now ∙ sym row_now
 
+      -- octets that are made of the bits where the row has none
+      pub filled_row : (filled symbol : List ℕ) → symbol ≡ symbol_in e.bits row → filled ≡ row_of e.width symbol own → filled ≡ row_at now row
+      filled_row filled symbol symbol_is filled_is = filled_is ∙ ap (λ b. row_of e.width b own) symbol_is ∙ read_row
+
       pub own_octets : false ≡ (length own == 0) → own ≡ row_at now row
       own_octets some = sym (row_of_some e.width (symbol_in e.bits row) own (some_if own some)) ∙ read_row
 
@@ -244,15 +237,6 @@ module _ (e : Inside) (are : AreEntries e.width e.bits e.octets.items) {now : Oc
         table_with_octets e.width e.bits e.octets.items are row in_symbols own
         ∙ ap (with_row (table_of e.width e.bits e.octets.items) row) (row_of_own e.width (get_or e.bits.values row []) own (long ∙ sym width_is))
         ∙ ap (λ t. with_row t row own) seen
-
-    -- they are taken out
-    pub octets_taken : (own : List ℕ) → own ≡ [] → AreEntries e.width e.bits (set e.octets.items row own)
-    octets_taken own none = rw none (owns_are e.width e.bits e.octets.items are row in_symbols [] (unpacked_row e.width (get_or e.bits.values row [])))
-
-    pub octets_taken_seen : (own : List ℕ) → let table = table_of e.width e.bits (set e.octets.items row own) in table ≡ with_row now row (row_at table row)
-    octets_taken_seen own =
-        let left = row_of e.width (get_or e.bits.values row []) own in
-        row_written now _ row left (table_with_octets e.width e.bits e.octets.items are row in_symbols own ∙ ap (λ t. with_row t row left) seen) there
 
     -- other bits of the row
     module _ (own : List ℕ) (own_is : own ≡ get_or e.octets.items row own) (none : true ≡ (length own == 0)) where
@@ -289,6 +273,48 @@ module _ (e : Inside) (are : AreEntries e.width e.bits e.octets.items) {now : Oc
   module _ (dest src : ℕ) (in_dest : dest < length now.rows) (in_src : src < length now.rows) (two : dest ≢ src) where
     pub allowed : Allows e.bits (AddAssign dest src)
     allowed = rw are.order (in_symbols dest in_dest, in_symbols src in_src, (λ same. two (sym same)))
+
+    -- a row that has octets, to which a row is added
+    module _ (filled : List ℕ) (filled_is : filled ≡ row_at now dest) where
+      pub filled_long : length filled ≡ now.width
+      filled_long = ap length filled_is ∙ row_long dest in_dest ∙ width_is
+
+      pub sum_written : (sum : List ℕ) → IsOctetRow (length filled) sum → AreEntries e.width e.bits (set (set e.octets.items dest filled) dest sum)
+      sum_written sum is = rw (set-set e.octets.items dest filled sum) (octets_set dest in_dest sum (subst (λ n. IsOctetRow n sum) filled_long is))
+
+      pub sum_written_seen : (sum : List ℕ) → length sum ≡ length filled → table_of e.width e.bits (set (set e.octets.items dest filled) dest sum) ≡ with_row now dest sum
+      sum_written_seen sum long = ap (table_of e.width e.bits) (set-set e.octets.items dest filled sum) ∙ octets_seen dest in_dest sum (long ∙ filled_long)
+
+      pub filled_read : get_or (set e.octets.items dest filled) dest [] ≡ filled
+      filled_read = get_or-set_same e.octets.items dest filled [] (in_owns dest in_dest)
+
+      pub still_there : (row : ℕ) → row < length now.rows → row < length (set e.octets.items dest filled)
+      still_there row there = omega (arith, in_owns row there, length-set e.octets.items dest filled)
+
+      -- all rows are written back
+      module _ (rows : List (List ℕ)) (sum : List ℕ) (rows_is : rows ≡ set (set e.octets.items dest filled) dest sum) (sum_octets : IsOctetRow (length filled) (get_or rows dest [])) where
+        is_octets : IsOctetRow (length filled) sum
+        is_octets = subst (IsOctetRow (length filled)) (ap (λ (r : List (List ℕ)). get_or r dest []) rows_is ∙ get_or-set_same (set e.octets.items dest filled) dest sum [] (still_there dest in_dest)) sum_octets
+
+        pub rows_written : AreEntries e.width e.bits rows
+        rows_written = rw rows_is (sum_written sum is_octets)
+
+        pub rows_written_seen : table_of e.width e.bits rows ≡ with_row now dest sum
+        rows_written_seen = ap (table_of e.width e.bits) rows_is ∙ sum_written_seen sum is_octets.0
+
+      pub filled_again : (again : List ℕ) → again ≡ get_or (set e.octets.items dest filled) dest again → again ≡ filled
+      filled_again again is = get_or_read (set e.octets.items dest filled) dest again (still_there dest in_dest) is [] ∙ filled_read
+
+      -- the other row is read as it was
+      module _ (other : List ℕ) (other_is : other ≡ get_or (set e.octets.items dest filled) src other) where
+        pub other_before : other ≡ get_or e.octets.items src other
+        other_before = other_is ∙ get_or-set_other e.octets.items dest src filled other (λ same. two (sym same))
+
+        pub other_read : false ≡ (length other == 0) → get_or (set e.octets.items dest filled) src [] ≡ row_at now src
+        other_read some = get_or-set_other e.octets.items dest src filled [] (λ same. two (sym same)) ∙ sym (get_or_read e.octets.items src other (in_owns src in_src) other_before []) ∙ own_octets src in_src other other_before some
+
+        pub other_long : false ≡ (length other == 0) → length (get_or (set e.octets.items dest filled) src []) ≡ length (get_or (set e.octets.items dest filled) dest [])
+        other_long some = ap length (other_read some) ∙ row_long src in_src ∙ width_is ∙ sym filled_long ∙ ap length (sym filled_read)
 
     -- bits to which bits are added
     module _ (own other : List ℕ) (own_is : own ≡ get_or e.octets.items dest own) (other_is : other ≡ get_or e.octets.items src other) (none : true ≡ (length own == 0)) (none_other : true ≡ (length other == 0))

@@ -18,7 +18,6 @@ pub mod OctetTurns
 pub mod Outcomes
 pub mod PeeledOutcomes
 pub mod PeelingLaws
-pub mod Performed
 pub mod Performing
 pub mod PivotTurns
 pub mod PivotsCleared

@@ -7,7 +7,8 @@ use Rattle.std.proofs.lemmas.List.Elements.{All-take, Contains-append_cases, Con
 use Rattle.std.proofs.Math.ListN.{get_or-append}
 use Rattle.rq_algebra.specs.Arrangements.{ArePlaces}
 use Rattle.rq_algebra.specs.Systems.{at}
-use Rattle.rq_solver.specs.Peeled.{ones_of, AreOnesOfRows, ColumnState, EndsActive, InactivatesRow, IsActive, TakesRow, IsPeeled, IsOrderOf, first_columns}
+use Rattle.rq_solver.specs.Cleared.{AreRowsOfBits}
+use Rattle.rq_solver.specs.Peeled.{ones_of, ColumnState, EndsActive, InactivatesRow, IsActive, TakesRow, IsPeeled, IsOrderOf, first_columns}
 
 -- the pivots so far: none of their rows has an active column any more
 pub record IsPeeledSo (lists : List (List ℕ)) (rows : List ℕ) (state : ColumnState) : Type 0 where
@@ -111,10 +112,8 @@ peeled_all lists rows state width so few columns = record {
 }
 
 -- the columns of a matrix's rows are below its width
-pub columns_below : (height width : ℕ) (bit : ℕ → ℕ → ℕ) (lists : List (List ℕ)) → AreOnesOfRows height width bit lists → All (λ row. All (λ column. column < width) row) lists
-columns_below height width bit lists ones i d l j e m =
-    let same : get_or lists i d ≡ ones_of lists i = get_or_default lists i d [] l in
-    rw same ((ones.each i (omega (arith, ones.count))).within j e (rw same at m)).1
+pub columns_below : (width : ℕ) (lists : List (List ℕ)) → AreRowsOfBits width lists → All (λ row. All (λ column. column < width) row) lists
+columns_below width lists bits i d l = let same : get_or lists i d ≡ ones_of lists i = get_or_default lists i d [] l in rw same (bits.within i l)
 
 -- ---- columns that aren't active any more
 

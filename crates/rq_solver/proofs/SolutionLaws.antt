@@ -12,8 +12,7 @@ use Rattle.rq_algebra.proofs.Pivots.{homogeneous_back}
 use Rattle.rq_standard.specs.OctetField.{octets}
 use Rattle.rq_bytes.specs.declared.error.Error.{Error}
 use Rattle.rq_bytes.specs.declared.operation_vector.SymbolOps.{SymbolOps}
-use Rattle.rq_bytes.specs.SymbolSlab.{Slab, store_of, symbol_in, HasPlace}
-use Rattle.rq_solver.specs.Replay.{after_all}
+use Rattle.rq_bytes.specs.SymbolSlab.{Slab, store_of, after_all, symbol_in, HasPlace}
 use Rattle.rq_solver.specs.Solving.{IsSolution, IsOutcome, Solver}
 use Rattle.rq_solver.proofs.RowStepLaws.{SameEntries}
 

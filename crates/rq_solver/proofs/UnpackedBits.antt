@@ -1,16 +1,17 @@
 -- Packed bits, and the octets that they are.
-use Rattle.std.proofs.Common.{◌++◌, true, false, eqb, get_or, map, ◌≡◌, ◌≢◌, ℕ, ◌+◌, ◌-◌, ◌*◌, ◌/◌, ◌%◌, ◌^◌, ◌<◌, ◌≤◌, List, length, set, replicate, refl, sym, ap, ◌∙◌, arith, inl, inr, w8}
-use Rattle.std.specs.Int.{bit_at, trailing_zeros}
+use Rattle.std.proofs.Common.{◌++◌, true, false, eqb, get_or, map, ◌≡◌, ◌≢◌, ℕ, ◌+◌, ◌-◌, ◌*◌, ◌/◌, ◌%◌, ◌^◌, ◌<◌, ◌≤◌, List, length, set, replicate, refl, sym, ap, ◌∙◌, arith, inl, inr, w8, w64, zero, suc, lit<}
+use Rattle.std.specs.Int.{bit_at, byte_at, bytes_low_first, from_le_bytes, trailing_zeros}
+use Rattle.std.proofs.lemmas.Nat.{le_bytes_8, pow-add}
 use Rattle.std.specs.Int.Bits.{bit_xor, bit_or, xor_zero_l}
 use Rattle.std.proofs.Math.Nat.{div-le_self}
 use Rattle.std.specs.Prelude.{Bool, nat_lt}
 use Rattle.std.specs.Bool.{then_some}
 use Rattle.std.proofs.lemmas.Bool.Decides.{nat_tests}
 use Rattle.std.proofs.lemmas.Bool.{agree_below, agree_below_at, eqb-true, cases_eq, cases_lt}
-use Rattle.std.proofs.lemmas.List.{ext_get_or, get_or-set_same, get_or-set_other, get_or-replicate, get_or_default, get_or_append_left, length-map, length-replicate, length-set}
+use Rattle.std.proofs.lemmas.List.{ext_get_or, get_or-set_same, get_or-set_other, get_or-replicate, get_or_default, get_or_past, get_or_append_left, length-map, length-replicate, length-set}
 use Rattle.std.proofs.lemmas.List.Elements.{All-from_get_or}
 use Rattle.std.proofs.lemmas.List.FromFn.{length-map-range_with_len, get_or-map-range_with_len}
-use Rattle.std.proofs.lemmas.Nat.Bits.{bit_at-lt, bit_at-zero, bit_at_xor, bit_at_set_same, bit_at_set_other, bit_at_above, bit_at-trailing_zeros}
+use Rattle.std.proofs.lemmas.Nat.Bits.{bit_at-lt, bit_at-zero, bit_at_xor, bit_at_set_same, bit_at_set_other, bit_at_above, bit_at_cat_low, bit_at-trailing_zeros}
 use Rattle.std.proofs.lemmas.Simd.{length-chunk, get_or-chunk, get_or-zip2, length-zip2}
 use lib.Bits.{bit_and}
 use lib.Lanes.{zip2, chunk, sel_l, pick_l}
@@ -192,25 +193,79 @@ bits_among_zeros n bits sum is =
     ∙ ap (octet_mul 1) (at-unpacked (length sum) bits k in_sum)
     ∙ one-mul (bit_in bits k) (omega arith)))
 
+-- ---- words
+
+byte_of : (first n i word : ℕ) → i < n → get_or (bytes_low_first first n word) i 0 ≡ byte_at (first + i) word
+byte_of first zero i word l = absurd (omega arith)
+byte_of first (suc n) zero word l = let same : first ≡ first + 0 = omega arith in ap (λ k. byte_at k word) same
+byte_of first (suc n) (suc i) word l = let same : suc first + i ≡ first + suc i = omega arith in byte_of (suc first) n i word (omega arith) ∙ ap (λ k. byte_at k word) same
+
+-- a bit of the lowest octet
+lowest_bits : (n i : ℕ) → i < 8 → bit_at (n % 256) i ≡ bit_at n i
+lowest_bits n i l = let whole : n / 256 * 2 ^ 8 + n % 256 ≡ n = omega arith in sym (bit_at_cat_low (n / 256) 8 (n % 256) i l) ∙ ap (λ x. bit_at x i) whole
+
+octet_power : (n : ℕ) → 256 ^ n ≡ 2 ^ (8 * n)
+octet_power zero = refl
+octet_power (suc n) =
+    let one_more : suc n ≡ n + 1 = omega arith in
+    let eight_more : 8 * n + 8 ≡ 8 * suc n = omega arith in
+    ap (λ k. 256 ^ k) one_more
+    ∙ pow-add 256 n 1
+    ∙ ap (λ x. x * 256) (octet_power n)
+    ∙ sym (pow-add 2 (8 * n) 8)
+    ∙ ap (λ k. 2 ^ k) eight_more
+
+byte_bits : (octet word i : ℕ) → i < 8 → bit_at (byte_at octet word) i ≡ bit_at word (8 * octet + i)
+byte_bits zero word i l = let same : i ≡ 8 * 0 + i = omega arith in lowest_bits word i l ∙ ap (bit_at word) same
+byte_bits (suc octet) word i l =
+    lowest_bits (word / 256 ^ suc octet) i l
+    ∙ ap (λ d. bit_at (word / d) i) (octet_power (suc octet))
+    ∙ bit_at-shifted word (8 * suc octet) i
+
+-- the bits of the word that eight octets are
+pub word_bits : (octets : List ℕ) (word : ℕ) → length octets ≡ 8 → ((i : ℕ) → get_or octets i 0 < 256) → word ≡ from_le_bytes w64 octets → (k : ℕ) → k < 64 → bit_at word k ≡ bit_in octets k
+word_bits octets word long small is k l =
+    let there : 8 * (k / 8) + k % 8 ≡ k = omega arith in
+    let inside : k / 8 < 8 = omega arith in
+    let place : k / 8 ≡ 0 + k / 8 = omega arith in
+    ap (bit_at word) (sym there)
+    ∙ sym (byte_bits (k / 8) word (k % 8) (omega arith))
+    ∙ ap (λ q. bit_at (byte_at q word) (k % 8)) place
+    ∙ ap (λ x. bit_at x (k % 8)) (sym (byte_of 0 8 (k / 8) word inside) ∙ ap (λ (b : List ℕ). get_or b (k / 8) 0) (le_bytes_8 octets word long small is))
+
+-- those of one of the words of octets
+pub block_word : (bits : List ℕ) (block word : ℕ) → 8 * block + 8 ≤ length bits → ((i : ℕ) → get_or bits i 0 < 256) → word ≡ from_le_bytes w64 (chunk (8 * block) 8 bits) → (k : ℕ) → k < 64 → bit_at word k ≡ bit_in bits (64 * block + k)
+block_word bits block word fits small is k l =
+    let long = length-chunk (8 * block) 8 bits (omega arith) in
+    let read : (i : ℕ) → i < 8 → get_or (chunk (8 * block) 8 bits) i 0 ≡ get_or bits (8 * block + i) 0 = λ i m. get_or-chunk (8 * block) 8 bits i 0 m in
+    let octets : (i : ℕ) → get_or (chunk (8 * block) 8 bits) i 0 < 256 = (λ (i : ℕ). elim (cases_lt i 8) [
+      | inl m ↦ rw (read i m) (small (8 * block + i))
+      | inr past ↦ rw (get_or_past (chunk (8 * block) 8 bits) i 0 (omega (arith, long, past))) (lit< tt)
+    ]) in
+    let octet : 8 * block + k / 8 ≡ (64 * block + k) / 8 = omega arith in
+    let place : k % 8 ≡ (64 * block + k) % 8 = omega arith in
+    word_bits (chunk (8 * block) 8 bits) word long octets is k l
+    ∙ ap (λ x. bit_at x (k % 8)) (read (k / 8) (omega arith) ∙ ap (λ j. get_or bits j 0) octet)
+    ∙ ap (bit_at (get_or bits ((64 * block + k) / 8) 0)) place
+
 -- ---- the next bit that is set
 
-module _ (bits : List ℕ) (place rest : ℕ) (rest_is : rest ≡ at bits (place / 8) / 2 ^ (place % 8)) where
-  -- the bits of the octet from a place on
-  bit_ahead : (i : ℕ) → place % 8 + i < 8 → bit_in bits (place + i) ≡ bit_at rest i
+module _ (bits : List ℕ) (place word rest : ℕ) (word_is : (k : ℕ) → k < 64 → bit_at word k ≡ bit_in bits (64 * (place / 64) + k)) (rest_is : rest ≡ word / 2 ^ (place % 64)) where
+  -- the bits of the word from a place on
+  bit_ahead : (i : ℕ) → place % 64 + i < 64 → bit_in bits (place + i) ≡ bit_at rest i
   bit_ahead i l =
-      let quotient : (place + i) / 8 ≡ place / 8 = omega arith in
-      let remainder : (place + i) % 8 ≡ place % 8 + i = omega arith in
-      ap (λ q. bit_at (at bits q) ((place + i) % 8)) quotient
-      ∙ ap (bit_at (at bits (place / 8))) remainder
-      ∙ sym (bit_at-shifted (at bits (place / 8)) (place % 8) i)
+      let there : 64 * (place / 64) + (place % 64 + i) ≡ place + i = omega arith in
+      ap (bit_in bits) (sym there)
+      ∙ sym (word_is (place % 64 + i) l)
+      ∙ sym (bit_at-shifted word (place % 64) i)
       ∙ ap (λ x. bit_at x i) (sym rest_is)
 
-  -- none is set in the rest of the octet
-  pub zeros_to_next : rest ≡ 0 → (k : ℕ) → place ≤ k → k < place + (8 - place % 8) → bit_in bits k ≡ 0
+  -- none is set in the rest of the word
+  pub zeros_to_next : rest ≡ 0 → (k : ℕ) → place ≤ k → k < place + (64 - place % 64) → bit_in bits k ≡ 0
   zeros_to_next none k from before =
       let i : ℕ = k - place in
       let back : place + i ≡ k = omega arith in
-      let within : place % 8 + i < 8 = omega arith in
+      let within : place % 64 + i < 64 = omega arith in
       ap (bit_in bits) (sym back) ∙ bit_ahead i within ∙ ap (λ x. bit_at x i) none ∙ bit_at-zero i
 
   -- the first that is set
@@ -219,16 +274,16 @@ module _ (bits : List ℕ) (place rest : ℕ) (rest_is : rest ≡ at bits (place
     pub one : bit_in bits found ≡ 1
     pub zeros : (k : ℕ) → place ≤ k → k < found → bit_in bits k ≡ 0
 
-  pub first_one : (zeros : ℕ) → at bits (place / 8) < 256 → rest ≢ 0 → zeros ≡ trailing_zeros w8 rest → FirstOne (place + zeros)
+  pub first_one : (zeros : ℕ) → word < 2 ^ 64 → rest ≢ 0 → zeros ≡ trailing_zeros w64 rest → FirstOne (place + zeros)
   first_one zeros small some is =
       let positive : 0 < rest = omega arith in
-      let below : rest < 2 ^ 8 = rw rest_is (let less = div-le_self (at bits (place / 8)) (2 ^ (place % 8)) in omega arith) in
-      let lowest = bit_at-trailing_zeros w8 rest positive below in
+      let below : rest < 2 ^ 64 = rw rest_is (let less = div-le_self word (2 ^ (place % 64)) in omega arith) in
+      let lowest = bit_at-trailing_zeros w64 rest positive below in
       let one : bit_at rest zeros ≡ 1 = ap (bit_at rest) is ∙ lowest.1 in
-      let shifted : bit_at rest zeros ≡ bit_at (at bits (place / 8)) (place % 8 + zeros) = ap (λ x. bit_at x zeros) rest_is ∙ bit_at-shifted (at bits (place / 8)) (place % 8) zeros in
-      let within : place % 8 + zeros < 8 = elim (cases_lt (place % 8 + zeros) 8) [
+      let shifted : bit_at rest zeros ≡ bit_at word (place % 64 + zeros) = ap (λ x. bit_at x zeros) rest_is ∙ bit_at-shifted word (place % 64) zeros in
+      let within : place % 64 + zeros < 64 = elim (cases_lt (place % 64 + zeros) 64) [
         | inl l ↦ l
-        | inr past ↦ let none = bit_at_above (at bits (place / 8)) 8 (place % 8 + zeros) small past in absurd (omega (arith, none, one, shifted))
+        | inr past ↦ let none = bit_at_above word 64 (place % 64 + zeros) small past in absurd (omega (arith, none, one, shifted))
       ] in
       record {
         from = omega arith;
@@ -236,7 +291,7 @@ module _ (bits : List ℕ) (place rest : ℕ) (rest_is : rest ≡ at bits (place
         zeros = λ k from before.
             let i : ℕ = k - place in
             let back : place + i ≡ k = omega arith in
-            let inside : place % 8 + i < 8 = omega arith in
+            let inside : place % 64 + i < 64 = omega arith in
             ap (bit_in bits) (sym back) ∙ bit_ahead i inside ∙ lowest.2 i (omega arith);
       }
 

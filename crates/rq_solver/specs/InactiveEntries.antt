@@ -27,6 +27,7 @@ pub record AreEntries (width : ℕ) (bits : Slab) (octets : List (List ℕ)) : T
   pub fits : width < 2 ^ 63 + 32
   pub whole : width % 32 ≡ 0
   pub room : width ≤ 8 * bits.symbol_size
+  pub vectors : bits.symbol_size % 32 ≡ 0
   pub order : bits.order ≡ None
   pub height : length octets ≡ length bits.values
   pub symbols : All (λ symbol. length symbol ≡ bits.symbol_size) bits.values
@@ -36,3 +37,8 @@ pub record AreEntries (width : ℕ) (bits : Slab) (octets : List (List ℕ)) : T
 abbrev pub IsNextEntry : (ℕ → ℕ) → ℕ → ℕ → Option ℕ → Type 0
 IsNextEntry entry from end None = (k : ℕ) → from ≤ k → k < end → entry k ≡ 0
 IsNextEntry entry from end (Some place) = (from ≤ place) × (place < end) × (entry place ≢ 0) × ((k : ℕ) → from ≤ k → k < place → entry k ≡ 0)
+
+-- the same with what is there
+abbrev pub IsNextOctet : (ℕ → ℕ) → ℕ → ℕ → Option (ℕ × ℕ) → Type 0
+IsNextOctet entry from end None = IsNextEntry entry from end None
+IsNextOctet entry from end (Some found) = IsNextEntry entry from end (Some found.0) × (found.1 ≡ entry found.0)

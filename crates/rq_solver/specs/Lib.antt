@@ -12,7 +12,6 @@ pub mod Peeled
 pub mod PhaseCounts
 pub mod Phases
 pub mod Recorded
-pub mod Replay
 pub mod RowSteps
 pub mod RowWrites
 pub mod SolverState

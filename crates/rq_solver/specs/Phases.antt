@@ -1,22 +1,22 @@
 -- What the phases answer together.
-use Rattle.std.specs.Prelude.{ℕ, ◌∷◌, ◌++◌, [], Bool, List, Option, Vec, MatchBool, MatchOption, drop, length, map}
+use Rattle.std.specs.Prelude.{ℕ, ◌∷◌, ◌++◌, [], Bool, List, Option, Vec, MatchBool, MatchOption, drop, length}
 use Rattle.std.specs.Global.{Global}
 use Rattle.rq_algebra.specs.Operations.{Reorder, FindsColumn}
 use Rattle.rq_algebra.specs.Systems.{HasHomogeneousColumn}
-use Rattle.rq_bytes.specs.SymbolOps.{operation_of}
-use Rattle.rq_bytes.specs.declared.operation_vector.SymbolOps.{SymbolOps}
 use Rattle.rq_standard.specs.ConstraintMatrix.{with_octet_rows}
 use Rattle.rq_standard.specs.OctetField.{octets}
+use Rattle.rq_operations.specs.RecordedOperations.{operations_of}
+use Rattle.rq_operations.specs.declared.recorded.RecordedOperations.{RecordedOperations}
 use Rattle.rq_parts.specs.DenseOctetMatrix.{OctetTable, entry_of}
 use Rattle.rq_solver.specs.Cleared.{HasPeeledPivots, LacksPivots, SolvesInactive, system_rows}
 use Rattle.rq_solver.specs.Peeled.{AreOnesOfRows, Pivots}
 use Rattle.rq_solver.specs.Recorded.{Recorded}
 
 -- operations that solve these rows of bits, but the HDPC rows in the places from `first` on; or none, and the rows have a homogeneous column
-abbrev pub IsAttempt : ℕ → List (List ℕ) → ℕ → OctetTable → Option (Vec SymbolOps Global) → Type 0
+abbrev pub IsAttempt : ℕ → List (List ℕ) → ℕ → OctetTable → Option RecordedOperations → Type 0
 IsAttempt width lists first hdpc answer = (bit : ℕ → ℕ → ℕ) → AreOnesOfRows (length lists) width bit lists
     → let rows = with_octet_rows first (length hdpc.rows) bit (entry_of hdpc) in
-    MatchOption answer (HasHomogeneousColumn octets (length lists) width rows) (λ ops. FindsColumn octets (length lists) width rows (map operation_of ops.items))
+    MatchOption answer (HasHomogeneousColumn octets (length lists) width rows) (λ ops. FindsColumn octets (length lists) width rows (operations_of ops))
 
 -- what was recorded gives the rows of bits, and the HDPC rows in the places from `first` on, the pivots of a peeling; the others are listed behind its rows
 abbrev pub ClearsPivots : List (List ℕ) → ℕ → OctetTable → Pivots → List ℕ → Recorded → Type 0

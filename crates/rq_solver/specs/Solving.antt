@@ -9,12 +9,13 @@ use Rattle.rq_standard.specs.BitTable.{BitTable}
 use Rattle.rq_standard.specs.ConstraintMatrix.{with_octet_rows}
 use Rattle.rq_standard.specs.OctetField.{octets}
 use Rattle.rq_standard.specs.TableRows.{intermediate_symbols}
-use Rattle.rq_bytes.specs.SymbolSlab.{Slab, HasPlace, symbol_in}
+use Rattle.rq_bytes.specs.SymbolSlab.{Slab, HasPlace, after_all, symbol_in}
 use Rattle.rq_bytes.specs.SymbolOps.{operation_of}
 use Rattle.rq_bytes.specs.declared.operation_vector.SymbolOps.{SymbolOps}
+use Rattle.rq_operations.specs.RecordedOperations.{operations_of}
+use Rattle.rq_operations.specs.declared.recorded.RecordedOperations.{RecordedOperations}
 use Rattle.rq_parts.specs.DenseOctetMatrix.{OctetTable, entry_of}
 use Rattle.rq_solver.specs.OperationCounts.{additions, multiplications}
-use Rattle.rq_solver.specs.Replay.{after_all}
 
 -- the equations of a block of that row of the table but for those of HDPC: a matrix of bits, and a symbol for each equation
 pub record AreEquationsWithoutHdpc (row : TableRow) (bits : BitTable) (handed : Slab) : Type 0 where
@@ -66,9 +67,9 @@ abbrev pub IsSpent : Solver → Solver → Type 0
 IsSpent old new = new ≡ record old { symbols = None; additions = new.additions; multiplications = new.multiplications }
 
 -- the answer for a solver where operations alone are wanted: they find the column, or else the rows don't determine it
-abbrev pub FindsOperations : Solver → Option (Vec SymbolOps Global) → Type 0
+abbrev pub FindsOperations : Solver → Option RecordedOperations → Type 0
 FindsOperations solver answer =
-    MatchOption answer (HasHomogeneousColumn octets solver.height solver.width solver.rows) (λ found. FindsColumn octets solver.height solver.width solver.rows (map operation_of found.items))
+    MatchOption answer (HasHomogeneousColumn octets solver.height solver.width solver.rows) (λ found. FindsColumn octets solver.height solver.width solver.rows (operations_of found))
 
 -- the slab has the symbols that solve the rows, and the operations find them from any symbols
 pub record IsSolution (height width : ℕ) (rows : ℕ → ℕ → ℕ) (handed slab : Slab) (operations : List Operation) : Type 0 where

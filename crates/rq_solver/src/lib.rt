@@ -3,4 +3,3 @@
 
 pub mod homogeneous;
 pub mod pi_solver;
-pub mod replay;

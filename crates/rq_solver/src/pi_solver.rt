@@ -1,10 +1,13 @@
 //! The solver of a block's equations.
-ghost use Rattle.std.specs.Prelude.{◌≡◌, ℕ, ◌+◌, ◌*◌, ◌<◌, ◌≤◌, None, length, map, sum, slice_index, OnSome, IfSome, IfNone, IfOk, IfErr, Err};
+ghost use Rattle.std.specs.Prelude.{◌≡◌, ℕ, ◌+◌, ◌*◌, ◌^◌, ◌<◌, ◌≤◌, None, length, map, sum, slice_index, OnSome, IfSome, IfNone, IfOk, IfErr, Err};
 ghost use Rattle.std.specs.Option.{ForSome};
 ghost use Rattle.rq_standard.specs.TableRows.{greatest_size, row_of};
 ghost use Rattle.rq_bytes.specs.declared.error.Error.TheVariants.{AlreadyExecuted, OutOfMemory};
 ghost use Rattle.rq_bytes.specs.SymbolOps.{operation_of};
+ghost use Rattle.rq_operations.specs.RecordedOperations.{operations_of};
+ghost use Rattle.rq_solver.specs.Cleared.{AreOctetRows, AreRowsOfBits};
 ghost use Rattle.rq_solver.specs.PhaseCounts.{AreCountsOf, total_of};
+ghost use Rattle.rq_solver.specs.Phases.{IsAttempt};
 ghost use Rattle.rq_solver.specs.Solving.{AreEquations, AreEquationsWithoutHdpc, CountsOperations, FindsOperations, solver_of, solver_without_hdpc, IsOutcome, IsSpent};
 
 mod column_rows;
@@ -24,7 +27,6 @@ mod row_selection;
 pub(crate) mod rows;
 mod second_phase;
 
-use crate::replay::replay;
 use counts::OperationCounts;
 use ones::RowOnes;
 use peeling::peel;
@@ -34,6 +36,7 @@ use rq_bytes::error::Error;
 use rq_bytes::operation_vector::SymbolOps;
 use rq_bytes::symbol_slab::SymbolSlab;
 use rq_matrix::matrix::BinaryMatrix;
+use rq_operations::recorded::RecordedOperations;
 use rq_parts::octet_matrix::DenseOctetMatrix;
 use rq_standard::row::TableRow;
 use rq_tables::systematic_constants::SystematicTable;
@@ -203,25 +206,15 @@ impl<T: BinaryMatrix> IntermediateSymbolDecoder<T> {
         let Some(operations) = operations else {
             return Ok(None);
         };
-        replay(operations.as_slice(), &mut symbols)?;
-        Ok(Some((symbols, operations)))
+        operations.replay(&mut symbols)?;
+        Ok(Some((symbols, operations.into_operations()?)))
     }
 
     /// The operations that find the solution of the equations from any symbols, where those that
-    /// were handed in aren't wanted. `None` where the equations don't determine the symbols. This
-    /// may be asked at any time, counts nothing, and leaves the symbols as they are.
-    pub fn find_operations(&self) -> Result<Option<Vec<SymbolOps>>, Error>
-        ensures found { IfOk result (FindsOperations (solver_state self.now)) }
-        ensures memory { IfErr result (λ e. e ≡ OutOfMemory) }
-    {
-        let Attempt { operations, .. } = self.attempt()?;
-        Ok(operations)
-    }
-
-    /// The operations that find the solution of the equations from any symbols, as
-    /// `find_operations` finds them, where the solver isn't wanted any more: it lets its symbols go at
-    /// once, and its matrix once the ones of the rows are listed. Not in the Rust crate.
-    pub fn into_operations(self) -> Result<Option<Vec<SymbolOps>>, Error>
+    /// were handed in aren't wanted. `None` where the equations don't determine the symbols. The
+    /// solver lets its symbols go at once, and its matrix once the ones of the rows are listed. Not in
+    /// the Rust crate.
+    pub fn into_operations(self) -> Result<Option<RecordedOperations>, Error>
         ensures found { IfOk result (FindsOperations (solver_state self)) }
         ensures memory { IfErr result (λ e. e ≡ OutOfMemory) }
     {
@@ -238,30 +231,52 @@ impl<T: BinaryMatrix> IntermediateSymbolDecoder<T> {
         let width = matrix.width();
         let ones = RowOnes::of_matrix(alloc, &matrix, boundary)?;
         drop(matrix);
-        let peeling = peel(alloc, &ones, width, boundary)?;
-        let attempt = find_operations(alloc, &ones, &hdpc, first_hdpc, width, &peeling)?;
+        let attempt = solve_rows(alloc, &ones, &hdpc, first_hdpc, width, boundary)?;
         Ok(attempt.operations)
     }
 
     // Looks for the operations.
     fn attempt(&self) -> Result<Attempt, Error>
         ensures found { IfOk result (λ attempt. FindsOperations (solver_state self.now) attempt.operations) }
-        ensures counted { IfOk result (λ attempt. IfSome attempt.operations (λ ops. AreCountsOf attempt.counts (map operation_of ops.items))) }
+        ensures counted { IfOk result (λ attempt. IfSome attempt.operations (λ ops. AreCountsOf attempt.counts (operations_of ops))) }
         ensures few { IfOk result (λ attempt. total_of attempt.counts.additions ≤ 2 * (solver_state self.now).width * (solver_state self.now).height) }
         ensures memory { IfErr result (λ e. e ≡ OutOfMemory) }
     {
-        let width = self.matrix.width();
         let ones = RowOnes::of_matrix(self.alloc, &self.matrix, self.boundary)?;
-        let peeling = peel(self.alloc, &ones, width, self.boundary)?;
-        find_operations(
+        solve_rows(
             self.alloc,
             &ones,
             &self.hdpc,
             self.first_hdpc,
-            width,
-            &peeling,
+            self.matrix.width(),
+            self.boundary,
         )
     }
+}
+
+// Looks for the operations that solve rows with these ones, but the HDPC rows in the places from
+// `first_hdpc` on: columns from the boundary on are dense.
+fn solve_rows(
+    alloc: Global,
+    ones: &RowOnes,
+    hdpc: &DenseOctetMatrix,
+    first_hdpc: usize,
+    width: usize,
+    boundary: usize,
+) -> Result<Attempt, Error>
+    requires bits { AreRowsOfBits width ones.now }
+    requires hdpc { AreOctetRows ones.now first_hdpc width hdpc.now }
+    requires few_hdpc { length hdpc.now.rows ≤ width }
+    requires few_rows { length ones.now < 2 ^ 31 }
+    requires narrow { width < 65536 }
+    requires boundary { boundary ≤ width }
+    ensures found { IfOk result (λ attempt. IsAttempt width ones.now first_hdpc hdpc.now attempt.operations) }
+    ensures counted { IfOk result (λ attempt. IfSome attempt.operations (λ ops. AreCountsOf attempt.counts (operations_of ops))) }
+    ensures few { IfOk result (λ attempt. total_of attempt.counts.additions ≤ 2 * width * length ones.now) }
+    ensures memory { IfErr result (λ e. e ≡ OutOfMemory) }
+{
+    let peeling = peel(alloc, ones, width, boundary)?;
+    find_operations(alloc, ones, hdpc, first_hdpc, width, &peeling)
 }
 
 /// Solves the equations of a block with so many source symbols, which are a matrix of bits, the HDPC

@@ -1,5 +1,7 @@
-//! Tests of the solver and of replay.
+//! Tests of the solver and of recorded operations.
 ghost use Rattle.std.specs.Prelude.{◌≡◌, ℕ, ◌+◌, ◌≤◌, ◌<◌, false, None, length, IfOk};
+ghost use Rattle.rq_algebra.specs.Operations.{AreAllowed};
+ghost use Rattle.rq_operations.specs.RecordedOperations.{operations_of};
 ghost use Rattle.rq_standard.specs.TableRows.{IsChecked, greatest_size, intermediate_symbols, row_of};
 ghost use Rattle.rq_solver_tests.specs.Squares.{IsSquareOf};
 
@@ -9,12 +11,13 @@ use rq_bytes::operation_vector::SymbolOps;
 use rq_bytes::symbol_slab::SymbolSlab;
 use rq_matrix::matrix::{BinaryMatrix, DenseBinaryMatrix};
 use rq_matrix::sparse_matrix::SparseBinaryMatrix;
+use rq_operations::recorded::RecordedOperations;
+use rq_operations::steps::Step;
 use rq_parts::octet_matrix::DenseOctetMatrix;
 use rq_solver::pi_solver::{
     FirstPhaseRowSelectionStats, IntermediateSymbolDecoder, fused_inverse_mul_symbols,
     fused_inverse_mul_symbols_no_hdpc,
 };
-use rq_solver::replay::replay;
 use rq_standard::row::TableRow;
 use rq_tables::systematic_constants::SystematicTable;
 use std::alloc::Global;
@@ -338,29 +341,72 @@ fn zeros_determine_nothing_without_hdpc(rt: HostRuntime) -> Result<(), Error> {
     Ok(())
 }
 
+// A run of additions, a symbol that is doubled and added to, a multiple that is added, and an order.
+fn recorded_operations(alloc: Global) -> Result<RecordedOperations, Error>
+    ensures { IfOk result (λ recorded. AreAllowed 3 None (operations_of recorded)) }
+{
+    let steps = vec![in alloc;
+        Step::Add { dest: 0, src: 1 },
+        Step::Add { dest: 0, src: 2 },
+        Step::Multiply {
+            scalar: Octet::new(2),
+            dest: 1,
+        },
+        Step::Add { dest: 1, src: 0 },
+        Step::AddMultiple {
+            scalar: Octet::new(3),
+            dest: 2,
+            src: 1,
+        },
+    ]?;
+    let order = vec![in alloc; 2, 0, 1]?;
+    Ok(RecordedOperations::new(steps, order))
+}
+
 #[test]
 fn operations_are_replayed(rt: HostRuntime) -> Result<(), Error> {
-    let mut slab = SymbolSlab::with_zeros(rt.alloc(), 2, 2)?;
-    slab.copy_block_from(0, &[1, 2, 3, 4]);
-    let mut ops = Vec::new(rt.alloc());
-    ops.push(SymbolOps::AddAssign { dest: 0, src: 1 })?;
-    ops.push(SymbolOps::MulAssign {
-        dest: 1,
-        scalar: Octet::new(2),
-    })?;
-    ops.push(SymbolOps::FMA {
-        dest: 0,
-        src: 1,
-        scalar: Octet::new(3),
-    })?;
-    ops.push(SymbolOps::Reorder {
-        order: [1, 0].to_vec(rt.alloc())?,
-    })?;
-    replay(ops.as_slice(), &mut slab)?;
+    let mut slab = SymbolSlab::with_zeros(rt.alloc(), 3, 2)?;
+    slab.copy_block_from(0, &[1, 2, 3, 200, 5, 6]);
+    recorded_operations(rt.alloc())?.replay(&mut slab)?;
     let symbols = slab.into_symbols()?;
-    assert_eq!(rt; symbols.len(), 2);
-    assert_eq!(rt; symbols[0].as_bytes(), [6, 8].as_slice());
-    assert_eq!(rt; symbols[1].as_bytes(), [8, 30].as_slice());
+    assert_eq!(rt; symbols.len(), 3);
+    assert_eq!(rt; symbols[0].as_bytes(), [6, 197].as_slice());
+    assert_eq!(rt; symbols[1].as_bytes(), [7, 204].as_slice());
+    assert_eq!(rt; symbols[2].as_bytes(), [1, 65].as_slice());
+    Ok(())
+}
+
+#[test]
+fn recorded_operations_are_copied_and_listed(rt: HostRuntime) -> Result<(), Error> {
+    let recorded = recorded_operations(rt.alloc())?;
+    let copy = recorded.clone()?;
+    assert!(rt; copy == recorded);
+    let steps = vec![in rt.alloc(); Step::Add { dest: 0, src: 1 }]?;
+    let other = RecordedOperations::new(steps, vec![in rt.alloc(); 1]?);
+    assert!(rt; other != recorded);
+    assert_eq!(rt;
+        format!(in rt.alloc(); "{other:?}")?.as_str(),
+        "RecordedOperations { steps: [Add { dest: 0, src: 1 }], order: [1] }"
+    );
+    let operations = copy.into_operations()?;
+    let expected = vec![in rt.alloc();
+        SymbolOps::AddAssign { dest: 0, src: 1 },
+        SymbolOps::AddAssign { dest: 0, src: 2 },
+        SymbolOps::MulAssign {
+            dest: 1,
+            scalar: Octet::new(2),
+        },
+        SymbolOps::AddAssign { dest: 1, src: 0 },
+        SymbolOps::FMA {
+            dest: 2,
+            src: 1,
+            scalar: Octet::new(3),
+        },
+        SymbolOps::Reorder {
+            order: vec![in rt.alloc(); 2, 0, 1]?,
+        },
+    ]?;
+    assert!(rt; operations == expected);
     Ok(())
 }
 

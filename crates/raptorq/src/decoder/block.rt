@@ -22,7 +22,6 @@ use rq_base::base::{EncodingPacket, ObjectTransmissionInformation};
 use rq_bytes::error::Error;
 use rq_bytes::octets;
 use rq_bytes::symbol_slab::SymbolSlab;
-use rq_solver::replay::replay;
 use rq_standard::row::TableRow;
 use rq_tables::systematic_constants::SystematicTable;
 use std::alloc::{AllocError, Global};
@@ -412,7 +411,7 @@ impl SourceBlockDecoder {
         )?;
         // For the proof: the contract of `len` says that the values have one size.
         let _symbols = values.len();
-        replay(solution.operations.as_slice(), &mut values)?;
+        solution.operations.replay(&mut values)?;
         if fits(self.alloc, row, &solution, &values)? {
             Ok(Some(values))
         } else {

@@ -1,8 +1,8 @@
 //! Plans: what solves the equations of every block of one size.
-ghost use Rattle.std.specs.Prelude.{◌≡◌, ◌⊎◌, ◌<◌, ◌≤◌, All, length, map, None, Ok, IfOk, IfErr, OnOk};
+ghost use Rattle.std.specs.Prelude.{◌≡◌, ◌⊎◌, ◌<◌, ◌≤◌, All, length, None, Ok, IfOk, IfErr, OnOk};
 ghost use Rattle.rq_algebra.specs.Operations.{AreAllowed};
 ghost use Rattle.rq_bytes.specs.SymbolSlab.{slab_of, symbol_in, symbols_in};
-ghost use Rattle.rq_bytes.specs.SymbolOps.{operation_of};
+ghost use Rattle.rq_operations.specs.RecordedOperations.{operations_of};
 ghost use Rattle.rq_standard.specs.Headline.{IsNonsingular, IsSingular, IsOnlyIntermediateColumn};
 ghost use Rattle.rq_standard.specs.TableRows.{IsChecked, row_of, intermediate_symbols};
 ghost use Rattle.raptorq.specs.Allowed.{AreAllowed-prop};
@@ -12,9 +12,8 @@ use crate::encoder::SPARSE_MATRIX_THRESHOLD;
 use crate::ids::padding_ids;
 use crate::solving::find_operations;
 use rq_bytes::error::Error;
-use rq_bytes::operation_vector::SymbolOps;
 use rq_bytes::symbol_slab::SymbolSlab;
-use rq_solver::replay::replay;
+use rq_operations::recorded::RecordedOperations;
 use rq_standard::row::TableRow;
 use rq_tables::systematic_constants::SystematicTable;
 use std::alloc::{AllocError, Global};
@@ -23,14 +22,14 @@ use std::alloc::{AllocError, Global};
 /// whatever the symbols and their size. Blocks with as many source symbols share one.
 #[derive(Debug, PartialEq, Eq, Drop)]
 pub struct SourceBlockEncodingPlan {
-    operations: Vec<SymbolOps>,
+    operations: RecordedOperations,
     source_symbol_count: u16,
     row: TableRow,
     pub ghost checked: { IsChecked row },
     pub ghost nonsingular: { IsNonsingular row },
     pub ghost few: { source_symbol_count ≤ row.extended_symbols },
-    pub ghost allowed: { AreAllowed (intermediate_symbols row) None (map operation_of operations.items) } by { AreAllowed-prop (intermediate_symbols row) None (map operation_of operations.items) },
-    pub ghost finds: { IsPlanOf row (map operation_of operations.items) },
+    pub ghost allowed: { AreAllowed (intermediate_symbols row) None (operations_of operations) } by { AreAllowed-prop (intermediate_symbols row) None (operations_of operations) },
+    pub ghost finds: { IsPlanOf row (operations_of operations) },
 }
 
 impl SourceBlockEncodingPlan {
@@ -116,7 +115,7 @@ impl SourceBlockEncodingPlan {
         let mut symbols = source_values(&self.row, source)?;
         // What counts the symbols says that they have one size.
         let _count = symbols.len();
-        replay(self.operations.as_slice(), &mut symbols)?;
+        self.operations.replay(&mut symbols)?;
         Ok(symbols)
     }
 }

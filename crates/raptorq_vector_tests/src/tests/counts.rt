@@ -70,15 +70,14 @@ fn additions_of_small_blocks(rt: HostRuntime) -> Result<(), Fail> {
 fn operations_of_the_greatest_block(rt: HostRuntime) -> Result<(), Fail> {
     let table = SystematicTable::built_in(rt.alloc())?;
     assert!(rt; 497 <= table.greatest());
-    let mut solver = first_solver(rt.alloc(), &table, 497)?;
-    let found = solver
-        .find_operations()?
+    let found = first_solver(rt.alloc(), &table, 497)?
+        .into_operations()?
         .expect(&rt, "the first ids determine the block");
-    assert_eq!(rt; solver.get_symbol_add_ops(), 0);
+    let mut solver = first_solver(rt.alloc(), &table, 497)?;
     let (_symbols, operations) = solver
         .execute()?
         .expect(&rt, "the first ids determine the block");
-    assert!(rt; found == operations);
+    assert!(rt; found.into_operations()? == operations);
     assert!(rt; solver.get_symbol_add_ops() <= 10_500);
     assert!(rt; products(operations.as_slice()) <= 520);
     Ok(())

@@ -75,6 +75,7 @@ impl ColumnRows {
     }
 
     /// Each row has one active column less for each one that it has in a column.
+    #[inline(always)]
     pub(super) fn lower_rows(&self, column: usize, degrees: &mut RowDegrees) -> Result<(), Error>
         requires column { column < length self.now.lists }
         requires rows { self.now.height ≡ length degrees.old }

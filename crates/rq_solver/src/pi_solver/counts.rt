@@ -1,11 +1,11 @@
 //! How many operations the phases recorded.
 ghost use Rattle.std.specs.Prelude.{◌≡◌, ℕ, ◌+◌, ◌<◌, ◌^◌, ◌∷◌, [], ◌++◌, List, length, map, IfOk, OnOk, IfErr};
-ghost use Rattle.rq_bytes.specs.SymbolOps.{operation_of};
 ghost use Rattle.rq_bytes.specs.declared.error.Error.TheVariants.{OutOfMemory};
+ghost use Rattle.rq_operations.specs.Steps.{operation_of_step};
 ghost use Rattle.rq_solver.specs.OperationCounts.{additions, multiplications};
 
 use rq_bytes::error::Error;
-use rq_bytes::operation_vector::SymbolOps;
+use rq_operations::steps::Step;
 use std::alloc::Global;
 use std::marker::Model;
 
@@ -104,10 +104,10 @@ impl OperationCounts {
     }
 }
 
-/// Operations that are recorded, and counted by phase. Contracts see them.
+/// Operations that are recorded, as steps, and counted by phase. Contracts see the operations.
 #[derive(Drop)]
 pub(super) struct OperationList {
-    operations: Vec<SymbolOps>,
+    steps: Vec<Step>,
     phase: Phase,
     counts: OperationCounts,
 }
@@ -115,14 +115,14 @@ pub(super) struct OperationList {
 impl Model for OperationList {
     ghost use Rattle.std.specs.Prelude.{List, map};
     ghost use Rattle.rq_algebra.specs.Operations.{Operation};
-    ghost use Rattle.rq_bytes.specs.SymbolOps.{operation_of};
+    ghost use Rattle.rq_operations.specs.Steps.{operation_of_step};
     ghost use Rattle.rq_solver.specs.PhaseCounts.{AreCountsOf};
 
     ghost Value = { List Operation };
 
-    ghost view = { λ l. map operation_of l.operations.items };
+    ghost view = { λ l. map operation_of_step l.steps.items };
 
-    ghost invariant = { λ l. AreCountsOf l.counts (map operation_of l.operations.items) };
+    ghost invariant = { λ l. AreCountsOf l.counts (map operation_of_step l.steps.items) };
 }
 
 impl OperationList {
@@ -135,7 +135,7 @@ impl OperationList {
         ensures err { IfErr result (λ e. e ≡ OutOfMemory) }
     {
         Ok(OperationList {
-            operations: Vec::with_capacity(alloc, room)?,
+            steps: Vec::with_capacity(alloc, room)?,
             phase: Phase::First,
             counts: OperationCounts::none(),
         })
@@ -143,7 +143,7 @@ impl OperationList {
 
     /// The allocator of the list.
     pub(super) fn allocator(&self) -> Global {
-        *self.operations.allocator()
+        *self.steps.allocator()
     }
 
     /// A phase begins, or goes on.
@@ -153,21 +153,15 @@ impl OperationList {
         self.phase = phase;
     }
 
-    /// Records an operation, and counts it.
+    /// Records a step, and counts it.
     #[inline(always)]
-    pub(super) fn push(&mut self, operation: SymbolOps) -> Result<(), Error>
-        ensures recorded { OnOk result (self.new ≡ self.old ++ operation_of operation ∷ []) }
+    pub(super) fn push(&mut self, step: Step) -> Result<(), Error>
+        ensures recorded { OnOk result (self.new ≡ self.old ++ operation_of_step step ∷ []) }
         ensures err { IfErr result (λ e. e ≡ OutOfMemory) }
     {
-        let adds = matches!(
-            operation,
-            SymbolOps::AddAssign { .. } | SymbolOps::FMA { .. }
-        );
-        let multiplies = matches!(
-            operation,
-            SymbolOps::MulAssign { .. } | SymbolOps::FMA { .. }
-        );
-        self.operations.push(operation)?;
+        let adds = matches!(step, Step::Add { .. } | Step::AddMultiple { .. });
+        let multiplies = matches!(step, Step::Multiply { .. } | Step::AddMultiple { .. });
+        self.steps.push(step)?;
         if adds {
             self.counts.additions = self.counts.additions.count(self.phase);
         }
@@ -184,11 +178,11 @@ impl OperationList {
         self.counts
     }
 
-    /// The operations.
-    pub(super) fn into_operations(self) -> Vec<SymbolOps>
-        ensures { map operation_of result.items ≡ self }
+    /// The steps.
+    pub(super) fn into_steps(self) -> Vec<Step>
+        ensures { map operation_of_step result.items ≡ self }
     {
-        let OperationList { operations, .. } = self;
-        operations
+        let OperationList { steps, .. } = self;
+        steps
     }
 }

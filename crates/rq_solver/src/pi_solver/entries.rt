@@ -1,23 +1,22 @@
 //! What rows have in the inactive columns.
-ghost use Rattle.std.specs.Prelude.{◌≡◌, ◌≢◌, ℕ, ◌+◌, ◌%◌, ◌^◌, ◌<◌, ◌≤◌, length, replicate, slice_set, IfOk, OnOk, IfErr};
+ghost use Rattle.std.specs.Prelude.{◌≡◌, ◌≢◌, ℕ, ◌+◌, ◌%◌, ◌^◌, ◌<◌, ◌≤◌, length, replicate, slice_set, IfOk, OnOk, IfErr, OnErr};
 ghost use Rattle.rq_bytes.specs.declared.error.Error.TheVariants.{OutOfMemory};
 ghost use Rattle.rq_parts.specs.DenseOctetMatrix.{entry_of, HasOctets, IsOctetRow, row_at, with_row};
 ghost use Rattle.rq_solver.specs.EntryRow.{HasWidth, octets_of};
-ghost use Rattle.rq_solver.specs.InactiveEntries.{IsNextEntry};
+ghost use Rattle.rq_solver.specs.InactiveEntries.{IsNextOctet};
 ghost use Rattle.rq_standard.specs.Rows.{row_sum, row_multiple};
 
 mod octet_row;
 mod packed_bits;
 
 use super::elimination::OctetRows;
-use octet_row::{EntryRow, OctetRow};
+use octet_row::{EntryRow, OctetRow, add_multiple_of_row};
 use packed_bits::{LANES, bit, count_ones, next_one, set_bit};
 use rq_bytes::error::Error;
 use rq_bytes::octet::Octet;
 use rq_bytes::symbol_slab::SymbolSlab;
 use std::alloc::Global;
 use std::marker::Model;
-use std::mem;
 
 /// What rows have in the inactive columns: bits, which stand in one buffer for all rows, or octets of
 /// a row's own. The columns fill whole vectors. A row of bits becomes one of octets where it takes
@@ -91,9 +90,8 @@ impl InactiveEntries {
         ensures row { self.new ≡ with_row self.old row octets.items }
         ensures octets { IsOctetRow self.old.width octets.items }
     {
-        // Where a field is read, it is known that rows fill whole vectors.
-        let _ = &self.octets;
-        self.put_octets(row, OctetRow::new(octets));
+        let own = &mut self.octets[row];
+        *own = OctetRow::new(octets);
     }
 
     /// What a row has in a column.
@@ -109,21 +107,24 @@ impl InactiveEntries {
         }
     }
 
-    /// The first column, from one on and before another, where a row isn't 0.
+    /// The first column, from one on and before another, where a row isn't 0, and what it has there.
     #[inline(always)]
-    pub(super) fn next_entry(&self, row: usize, from: usize, end: usize) -> Option<usize>
+    pub(super) fn next_entry(&self, row: usize, from: usize, end: usize) -> Option<(usize, Octet)>
         requires row { row < length self.now.rows }
         requires end { end ≤ self.now.width }
-        ensures { IsNextEntry (entry_of self.now row) from end result }
+        ensures { IsNextOctet (entry_of self.now row) from end result }
     {
         match self.row(row) {
             EntryRow::Octets(octets) => octets.next_entry(from, end),
-            EntryRow::Bits(bits) => next_one(bits, from, end),
+            EntryRow::Bits(bits) => match next_one(bits, from, end) {
+                Some(column) => Some((column, Octet::one())),
+                None => None,
+            },
         }
     }
 
     /// How many of the first `count` entries of a row aren't 0, or of bits more, where later ones share
-    /// an octet with the last of these: `count` at most.
+    /// a word with the last of these: `count` at most.
     pub(super) fn count_entries(&self, row: usize, count: usize) -> usize
         requires row { row < length self.now.rows }
         requires count { count ≤ self.now.width }
@@ -136,14 +137,16 @@ impl InactiveEntries {
     }
 
     /// Multiplies a row by an octet.
+    #[inline(always)]
     pub(super) fn multiply_row(&mut self, row: usize, scalar: &Octet) -> Result<(), Error>
         requires row { row < length self.old.rows }
         ensures ok { OnOk result (self.new ≡ with_row self.old row (row_multiple scalar.now (row_at self.old row))) }
+        ensures height { OnErr result (length self.new.rows ≡ length self.old.rows) }
         ensures err { IfErr result (λ e. e ≡ OutOfMemory) }
     {
-        let mut multiple = self.take_octets(row)?;
-        multiple.multiply(scalar);
-        self.put_octets(row, multiple);
+        let octets = &mut self.octets[row];
+        octets.ensure_octets(self.alloc, self.bits.get(row), self.width)?;
+        octets.multiply(scalar);
         Ok(())
     }
 
@@ -159,6 +162,7 @@ impl InactiveEntries {
         requires dest { dest < length self.old.rows }
         requires src { src < length self.old.rows }
         ensures ok { OnOk result (self.new ≡ with_row self.old dest (row_sum (row_at self.old dest) (row_multiple scalar.now (row_at self.old src)))) }
+        ensures height { OnErr result (length self.new.rows ≡ length self.old.rows) }
         ensures err { IfErr result (λ e. e ≡ OutOfMemory) }
     {
         if scalar.byte() == 1 && self.octets[dest].is_none() && self.octets[src].is_none() {
@@ -169,16 +173,22 @@ impl InactiveEntries {
     }
 
     // Adds a multiple of a row to another one, which gets octets.
+    #[inline(always)]
     fn add_octets(&mut self, dest: usize, src: usize, scalar: &Octet) -> Result<(), Error>
         requires two { dest ≢ src }
         requires dest { dest < length self.old.rows }
         requires src { src < length self.old.rows }
         ensures ok { OnOk result (self.new ≡ with_row self.old dest (row_sum (row_at self.old dest) (row_multiple scalar.now (row_at self.old src)))) }
+        ensures height { OnErr result (length self.new.rows ≡ length self.old.rows) }
         ensures err { IfErr result (λ e. e ≡ OutOfMemory) }
     {
-        let mut sum = self.take_octets(dest)?;
-        sum.add_row(self.row(src), scalar);
-        self.put_octets(dest, sum);
+        let sum = &mut self.octets[dest];
+        sum.ensure_octets(self.alloc, self.bits.get(dest), self.width)?;
+        if self.octets[src].is_none() {
+            self.octets[dest].add_bits(self.bits.get(src), scalar);
+        } else {
+            add_multiple_of_row(self.octets.as_mut_slice(), dest, src, scalar);
+        }
         Ok(())
     }
 
@@ -196,30 +206,6 @@ impl InactiveEntries {
         } else {
             EntryRow::Octets(own)
         }
-    }
-
-    // Takes the octets of a row out, which are made of its bits where it has none. What the row is
-    // then isn't said until octets are put there.
-    #[inline(always)]
-    fn take_octets(&mut self, row: usize) -> Result<OctetRow, Error>
-        requires { row < length self.old.rows }
-        ensures octets { IfOk result (λ octets. octets ≡ row_at self.old row) }
-        ensures width { length (row_at self.old row) ≡ self.old.width }
-        ensures others { self.new ≡ with_row self.old row (row_at self.new row) }
-        ensures err { IfErr result (λ e. e ≡ OutOfMemory) }
-    {
-        let own = mem::replace(&mut self.octets[row], OctetRow::none(self.alloc));
-        own.or_bits(self.alloc, self.bits.get(row), self.width)
-    }
-
-    // Puts octets in the place of a row.
-    #[inline(always)]
-    fn put_octets(&mut self, row: usize, octets: OctetRow)
-        requires row { row < length self.old.rows }
-        requires octets { IsOctetRow self.old.width octets }
-        ensures { self.new ≡ with_row self.old row octets }
-    {
-        self.octets[row] = octets;
     }
 }
 

@@ -77,6 +77,7 @@ fn clear_rows(
 }
 
 /// Adds to a row the rows of the other pivots in whose columns it has ones.
+#[inline(always)]
 pub(super) fn take_pivots(
     ones: &RowOnes,
     row: usize,

@@ -85,7 +85,10 @@ fn saves_additions(
     requires wide { length peeling.now.places ≤ length peeling.now.rows + recorded.now.table.width }
     ensures { IsTrue result → length (ones_of ones.now row) ≤ most }
 {
-    if ones.row(row).len() > most {
+    let inactive = peeling.width() - peeling.pivots();
+    let entries = recorded.count_entries(row, inactive);
+    // Each one but the row's own pivot, which isn't taken, costs an addition at least.
+    if ones.row(row).len() > most.min(entries.saturating_add(1)) {
         return false;
     }
     let mut cost = 0usize;
@@ -97,9 +100,7 @@ fn saves_additions(
         };
         cost = cost.saturating_add(each);
     }
-    // The row's own pivot isn't taken.
-    let inactive = peeling.width() - peeling.pivots();
-    recorded.count_entries(row, inactive) >= cost.saturating_sub(1)
+    entries >= cost.saturating_sub(1)
 }
 
 /// Adds to the pivots' rows, the first first, multiples of reduced rows, each of which has 1 in its
@@ -139,6 +140,7 @@ pub(super) fn finish_pivots(
 
 /// Adds to a row multiples of reduced rows, those from `start` on, so that it gets 0 in their
 /// inactive columns. What it has there is not read again, and stays stored.
+#[inline(always)]
 pub(super) fn take_reduced_rows(
     row: usize,
     reduced: &[usize],
@@ -158,8 +160,7 @@ pub(super) fn take_reduced_rows(
     ensures err { IfErr result (λ e. e ≡ OutOfMemory) }
 {
     let mut from = start;
-    while let Some(f) = recorded.next_entry(row, from, inactive) {
-        let scalar = recorded.get(row, f);
+    while let Some((f, scalar)) = recorded.next_entry(row, from, inactive) {
         recorded.record_sum(row, reduced[f], scalar)?;
         from = f + 1;
     }

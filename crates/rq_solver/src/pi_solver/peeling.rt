@@ -233,6 +233,7 @@ fn inactivate_columns(
 
 // A column that isn't active any more is in no component, and each row has one active column less for
 // each one that it has there.
+#[inline(always)]
 fn leave_column(
     column: usize,
     column_rows: &ColumnRows,

@@ -2,8 +2,8 @@
 ghost use Rattle.std.specs.Prelude.{◌≡◌, ℕ, ◌+◌, ◌^◌, ◌<◌, ◌≤◌, ◌*◌, ◌-◌, ◌∷◌, ◌++◌, [], Contains, IsPermutation, drop, length, map, IfOk, OnOk, IfErr, IfSome, MatchBool, MatchOption};
 ghost use Rattle.rq_algebra.specs.Operations.{Reorder, FindsColumn};
 ghost use Rattle.rq_algebra.specs.Systems.{at, HasHomogeneousColumn};
-ghost use Rattle.rq_bytes.specs.SymbolOps.{operation_of};
 ghost use Rattle.rq_bytes.specs.declared.error.Error.TheVariants.{OutOfMemory};
+ghost use Rattle.rq_operations.specs.RecordedOperations.{operations_of};
 ghost use Rattle.rq_parts.specs.DenseOctetMatrix.{entry_of, HasOctets};
 ghost use Rattle.rq_standard.specs.ConstraintMatrix.{with_octet_rows};
 ghost use Rattle.rq_standard.specs.OctetField.{octets};
@@ -23,7 +23,7 @@ use super::peeling::Peeling;
 use super::recorded::RecordedRows;
 use super::second_phase::{eliminate, reduce_back};
 use rq_bytes::error::Error;
-use rq_bytes::operation_vector::SymbolOps;
+use rq_operations::recorded::RecordedOperations;
 use rq_parts::octet_matrix::DenseOctetMatrix;
 use std::alloc::Global;
 
@@ -32,7 +32,7 @@ use std::alloc::Global;
 /// were recorded until then.
 #[derive(Drop)]
 pub(super) struct Attempt {
-    pub operations: Option<Vec<SymbolOps>>,
+    pub operations: Option<RecordedOperations>,
     pub counts: OperationCounts,
 }
 
@@ -53,7 +53,7 @@ pub(super) fn find_operations(
     requires few_rows { length ones.now < 2 ^ 31 }
     requires narrow { width < 65536 }
     ensures found { IfOk result (λ attempt. IsAttempt width ones.now first_hdpc hdpc.now attempt.operations) }
-    ensures counted { IfOk result (λ attempt. IfSome attempt.operations (λ ops. AreCountsOf attempt.counts (map operation_of ops.items))) }
+    ensures counted { IfOk result (λ attempt. IfSome attempt.operations (λ ops. AreCountsOf attempt.counts (operations_of ops))) }
     ensures few { IfOk result (λ attempt. total_of attempt.counts.additions ≤ 2 * width * length ones.now) }
     ensures err { IfErr result (λ e. e ≡ OutOfMemory) }
 {
@@ -63,17 +63,18 @@ pub(super) fn find_operations(
     let rows = listed.as_mut_slice();
     let most = (width - hdpc.height()) / 2;
     let found = rows_of_columns(alloc, ones, peeling, rows, most, &mut recorded)?;
-    let mut operations = recorded.into_operations();
+    let operations = recorded.into_operations();
+    let counts = operations.counts();
     let Some(order) = found else {
         return Ok(Attempt {
             operations: None,
-            counts: operations.counts(),
+            counts,
         });
     };
-    operations.push(SymbolOps::Reorder { order })?;
+    let steps = operations.into_steps();
     Ok(Attempt {
-        counts: operations.counts(),
-        operations: Some(operations.into_operations()),
+        operations: Some(RecordedOperations::new(steps, order)),
+        counts,
     })
 }
 

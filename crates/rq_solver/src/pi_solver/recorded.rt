@@ -1,10 +1,10 @@
 //! Rows that are worked on, with the operations that are recorded for them.
-ghost use Rattle.std.specs.Prelude.{◌≡◌, ◌≢◌, ◌+◌, ◌<◌, ◌≤◌, ◌∷◌, [], length, IfOk, OnOk, IfErr};
+ghost use Rattle.std.specs.Prelude.{◌≡◌, ◌≢◌, ◌+◌, ◌<◌, ◌≤◌, ◌^◌, ◌∷◌, [], length, IfOk, OnOk, IfErr};
 ghost use Rattle.rq_algebra.specs.Operations.{MulAssign};
 ghost use Rattle.rq_bytes.specs.declared.error.Error.TheVariants.{OutOfMemory};
-ghost use Rattle.rq_bytes.specs.SymbolOps.{operation_of};
+ghost use Rattle.rq_operations.specs.Steps.{operation_of_step};
 ghost use Rattle.rq_parts.specs.DenseOctetMatrix.{entry_of, HasOctets};
-ghost use Rattle.rq_solver.specs.InactiveEntries.{IsNextEntry};
+ghost use Rattle.rq_solver.specs.InactiveEntries.{IsNextOctet};
 ghost use Rattle.rq_solver.specs.OperationCounts.{additions};
 ghost use Rattle.rq_solver.specs.Recorded.{Performs, Records, sum_step};
 ghost use Rattle.rq_standard.specs.OctetField.{octets};
@@ -13,12 +13,12 @@ use super::counts::{OperationList, Phase};
 use super::entries::InactiveEntries;
 use rq_bytes::error::Error;
 use rq_bytes::octet::Octet;
-use rq_bytes::operation_vector::SymbolOps;
+use rq_operations::steps::Step;
 use std::alloc::Global;
 use std::marker::Model;
 
 /// Rows of a system: what they have in the inactive columns, and the operations that were done to
-/// them, for the symbols. Contracts see both.
+/// them, for the symbols. Contracts see both. The places of the rows fit 32 bits.
 #[derive(Drop)]
 pub(super) struct RecordedRows {
     table: InactiveEntries,
@@ -26,11 +26,14 @@ pub(super) struct RecordedRows {
 }
 
 impl Model for RecordedRows {
+    ghost use Rattle.std.specs.Prelude.{◌^◌, ◌<◌, length};
     ghost use Rattle.rq_solver.specs.Recorded.{Recorded};
 
     ghost Value = { Recorded };
 
     ghost view = { λ r. record { table = r.table; operations = r.operations } };
+
+    ghost invariant = { λ r. length r.table.rows < 2 ^ 32 };
 }
 
 impl RecordedRows {
@@ -40,6 +43,7 @@ impl RecordedRows {
         table: InactiveEntries,
         room: usize,
     ) -> Result<RecordedRows, Error>
+        requires few { length table.rows < 2 ^ 32 }
         ensures rows { IfOk result (λ rows. rows ≡ record { table = table; operations = [] }) }
         ensures err { IfErr result (λ e. e ≡ OutOfMemory) }
     {
@@ -71,18 +75,18 @@ impl RecordedRows {
         self.table.get(row, column)
     }
 
-    /// The first column, from one on and before another, where a row isn't 0.
+    /// The first column, from one on and before another, where a row isn't 0, and what it has there.
     #[inline(always)]
-    pub(super) fn next_entry(&self, row: usize, from: usize, end: usize) -> Option<usize>
+    pub(super) fn next_entry(&self, row: usize, from: usize, end: usize) -> Option<(usize, Octet)>
         requires row { row < length self.now.table.rows }
         requires end { end ≤ self.now.table.width }
-        ensures { IsNextEntry (entry_of self.now.table row) from end result }
+        ensures { IsNextOctet (entry_of self.now.table row) from end result }
     {
         self.table.next_entry(row, from, end)
     }
 
     /// How many of the first `count` entries of a row aren't 0, or of bits more, where later ones share
-    /// an octet with the last of these: `count` at most.
+    /// a word with the last of these: `count` at most.
     pub(super) fn count_entries(&self, row: usize, count: usize) -> usize
         requires row { row < length self.now.table.rows }
         requires count { count ≤ self.now.table.width }
@@ -104,7 +108,8 @@ impl RecordedRows {
         ensures err { IfErr result (λ e. e ≡ OutOfMemory) }
     {
         self.table.add_multiple(dest, src, &scalar)?;
-        self.operations.push(addition(dest, src, scalar))?;
+        self.operations
+            .push(addition(dest as u32, src as u32, scalar))?;
         Ok(())
     }
 
@@ -119,7 +124,10 @@ impl RecordedRows {
         ensures err { IfErr result (λ e. e ≡ OutOfMemory) }
     {
         self.table.multiply_row(dest, &scalar)?;
-        self.operations.push(SymbolOps::MulAssign { dest, scalar })?;
+        self.operations.push(Step::Multiply {
+            scalar,
+            dest: dest as u32,
+        })?;
         Ok(())
     }
 
@@ -133,7 +141,8 @@ impl RecordedRows {
         ensures counted { OnOk result (additions self.new.operations ≡ additions self.old.operations + 1) }
         ensures err { IfErr result (λ e. e ≡ OutOfMemory) }
     {
-        self.operations.push(addition(dest, src, scalar))?;
+        self.operations
+            .push(addition(dest as u32, src as u32, scalar))?;
         Ok(())
     }
 
@@ -153,14 +162,14 @@ impl RecordedRows {
     }
 }
 
-// The operation that adds a multiple of a symbol.
+// The step that adds a multiple of a symbol.
 #[inline(always)]
-fn addition(dest: usize, src: usize, scalar: Octet) -> SymbolOps
-    ensures { operation_of result ≡ sum_step dest src scalar }
+fn addition(dest: u32, src: u32, scalar: Octet) -> Step
+    ensures { operation_of_step result ≡ sum_step dest src scalar }
 {
     if scalar.byte() == 1 {
-        SymbolOps::AddAssign { dest, src }
+        Step::Add { dest, src }
     } else {
-        SymbolOps::FMA { dest, src, scalar }
+        Step::AddMultiple { scalar, dest, src }
     }
 }

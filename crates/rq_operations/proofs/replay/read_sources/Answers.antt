@@ -1,5 +1,6 @@
 -- What the check leaves to show of `replay::read_sources`.
 use Rattle.std.proofs.Common.{◌+◌, refl, arith}
+use Rattle.rq_algebra.specs.Operations.{AddAssign}
 use Rattle.rq_operations.proofs.Performed.{run_more}
 use Rattle.rq_operations.proofs.replay.read_sources.Goals as goal
 
@@ -8,4 +9,4 @@ loop-count-preserved c =
     let start = c.args.start in
     let count = c.loop-count.count in
     let op = c.index-steps-start in
-    run_more c.args.steps.now (start + count) op.result (omega arith) op.is start count c.args.dest c.in-Some.source c.loop-count.sources refl (omega arith) (c.in-Some.ensures) c.loop-count.invariant
+    run_more c.args.steps.now (start + count) op.result (omega arith) op.is (AddAssign c.args.dest) c.loop-count.sources c.in-Some.source start count refl (omega arith) c.in-Some.ensures c.loop-count.invariant

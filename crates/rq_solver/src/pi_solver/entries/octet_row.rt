@@ -1,16 +1,16 @@
 //! Rows that are octets.
-ghost use Rattle.std.specs.Prelude.{◌≡◌, ℕ, ◌*◌, ◌%◌, ◌==◌, ◌<◌, ◌≤◌, [], length, slice_index, slice_set, IfOk, IfErr};
+ghost use Rattle.std.specs.Prelude.{◌≡◌, ◌≢◌, ℕ, ◌*◌, ◌%◌, ◌==◌, ◌<◌, ◌≤◌, [], length, slice_index, slice_index_or, slice_set, OnOk, OnErr, IfErr};
 ghost use Rattle.rq_bytes.specs.declared.error.Error.TheVariants.{OutOfMemory};
 ghost use Rattle.rq_parts.specs.DenseOctetMatrix.{IsOctetRow};
-ghost use Rattle.rq_solver.specs.EntryRow.{HasWidth, octets_of};
-ghost use Rattle.rq_solver.specs.InactiveEntries.{IsNextEntry, row_of};
+ghost use Rattle.rq_solver.specs.InactiveEntries.{IsNextOctet, row_of, unpacked};
 ghost use Rattle.rq_standard.specs.Rows.{row_sum, row_multiple};
 
 use super::packed_bits::add_bits;
 use rq_bytes::error::Error;
-use rq_bytes::factor::{Factor, add_row_multiple};
+use rq_bytes::factor::{add_row_multiple, multiply_row};
 use rq_bytes::octet::Octet;
 use rq_bytes::octets::are_octets;
+use rq_bytes::util::get_both_indices;
 use std::alloc::Global;
 use std::marker::Model;
 
@@ -66,19 +66,26 @@ impl OctetRow {
         self.octets.is_empty()
     }
 
-    /// These octets where there are some, or else those that the bits are.
-    pub(super) fn or_bits(self, alloc: Global, bits: &[u8], width: usize) -> Result<OctetRow, Error>
+    /// Makes octets of the row's bits, where it has none.
+    #[inline(always)]
+    pub(super) fn ensure_octets(
+        &mut self,
+        alloc: Global,
+        bits: &[u8],
+        width: usize,
+    ) -> Result<(), Error>
         requires room { width ≤ 8 * length bits.now }
         requires whole { width % 32 ≡ 0 }
-        ensures row { IfOk result (λ row. row ≡ row_of width bits.now self) }
+        ensures row { OnOk result (self.new ≡ row_of width bits.now self.old) }
+        ensures refused { OnErr result (self.new ≡ self.old) }
         ensures err { IfErr result (λ e. e ≡ OutOfMemory) }
     {
-        if !self.is_none() {
-            return Ok(self);
+        if self.is_none() {
+            let mut octets = vec![in alloc; 0; width]?;
+            add_bits(octets.as_mut_slice(), bits, 1);
+            self.octets = octets;
         }
-        let mut octets = vec![in alloc; 0; width]?;
-        add_bits(octets.as_mut_slice(), bits, 1);
-        Ok(OctetRow { octets })
+        Ok(())
     }
 
     /// The octet in a column.
@@ -100,14 +107,15 @@ impl OctetRow {
         are_octets(self.octets.as_slice());
     }
 
-    /// The first column, from one on and before another, where there isn't 0.
-    pub(super) fn next_entry(&self, from: usize, end: usize) -> Option<usize>
+    /// The first column, from one on and before another, where there isn't 0, and what is there.
+    pub(super) fn next_entry(&self, from: usize, end: usize) -> Option<(usize, Octet)>
         requires { end ≤ length self.now }
-        ensures { IsNextEntry (slice_index self.now) from end result }
+        ensures { IsNextOctet (slice_index self.now) from end result }
     {
         for column in from..end {
-            if self.octets[column] != 0 {
-                return Some(column);
+            let octet = self.octets[column];
+            if octet != 0 {
+                return Some((column, Octet::new(octet)));
             }
         }
         None
@@ -130,21 +138,41 @@ impl OctetRow {
         ensures multiple { self.new ≡ row_multiple scalar.now self.old }
         ensures octets { IsOctetRow (length self.old) self.new }
     {
-        Factor::new(scalar).multiply(self.octets.as_mut_slice());
+        multiply_row(self.octets.as_mut_slice(), scalar);
         are_octets(self.octets.as_slice());
     }
 
-    /// Adds a multiple of a row.
-    pub(super) fn add_row(&mut self, row: EntryRow, scalar: &Octet)
-        requires { HasWidth (length self.old) row }
-        ensures sum { self.new ≡ row_sum self.old (row_multiple scalar.now (octets_of (length self.old) row.entry)) }
+    /// Adds a multiple of a row of bits.
+    pub(super) fn add_bits(&mut self, bits: &[u8], scalar: &Octet)
+        requires { length self.old ≤ 8 * length bits.now }
+        ensures sum { self.new ≡ row_sum self.old (row_multiple scalar.now (unpacked (length self.old) bits.now)) }
         ensures octets { IsOctetRow (length self.old) self.new }
     {
-        let sum = self.octets.as_mut_slice();
-        match row {
-            EntryRow::Octets(row) => add_row_multiple(sum, row.octets.as_slice(), scalar),
-            EntryRow::Bits(bits) => add_bits(sum, bits, scalar.byte()),
-        }
+        add_bits(self.octets.as_mut_slice(), bits, scalar.byte());
         are_octets(self.octets.as_slice());
     }
+
+    // Adds a multiple of a row of as many octets.
+    #[inline(always)]
+    fn add_multiple(&mut self, other: &OctetRow, scalar: &Octet)
+        requires { length other.now ≡ length self.old }
+        ensures sum { self.new ≡ row_sum self.old (row_multiple scalar.now other.now) }
+        ensures octets { IsOctetRow (length self.old) self.new }
+    {
+        add_row_multiple(self.octets.as_mut_slice(), other.octets.as_slice(), scalar);
+        are_octets(self.octets.as_slice());
+    }
+}
+
+/// Adds a multiple of a row of octets to another one.
+pub(super) fn add_multiple_of_row(rows: &mut [OctetRow], dest: usize, src: usize, scalar: &Octet)
+    requires two { dest ≢ src }
+    requires dest { dest < length rows.old }
+    requires src { src < length rows.old }
+    requires fits { length (slice_index_or rows.old src []) ≡ length (slice_index_or rows.old dest []) }
+    ensures sum { rows.new ≡ slice_set rows.old dest (row_sum (slice_index_or rows.old dest []) (row_multiple scalar.now (slice_index_or rows.old src []))) }
+    ensures octets { IsOctetRow (length (slice_index_or rows.old dest [])) (slice_index_or rows.new dest []) }
+{
+    let (to, from) = get_both_indices(rows, dest, src);
+    to.add_multiple(from, scalar);
 }

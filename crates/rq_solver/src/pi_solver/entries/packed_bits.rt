@@ -1,5 +1,6 @@
 //! Bits that are packed eight to an octet, the first in its lowest bit.
 ghost use Rattle.std.specs.Prelude.{◌≡◌, ℕ, ◌+◌, ◌*◌, ◌/◌, ◌%◌, ◌^◌, ◌<◌, ◌≤◌, length, map, slice_set};
+ghost use Rattle.std.specs.Int.{bit_at};
 ghost use Rattle.std.specs.List.{range_with_len};
 ghost use Rattle.rq_solver.specs.InactiveEntries.{IsNextEntry, bit_in, unpacked};
 ghost use Rattle.rq_standard.specs.Octets.{octet_mul};
@@ -9,6 +10,8 @@ use std::simd::prelude::*;
 
 /// How many octets a vector has.
 pub(super) const LANES: usize = 32;
+
+const WORD_BITS: usize = 64;
 
 // The place in its octet of each of 32 bits, as a mask.
 const MASKS: [u8; 32] = [
@@ -41,31 +44,42 @@ pub(super) fn set_bit(bits: &mut [u8], place: usize)
 /// The first place, from one on and before another, of a bit that is set.
 pub(super) fn next_one(bits: &[u8], from: usize, end: usize) -> Option<usize>
     requires within { end ≤ 8 * length bits.now }
+    requires whole { length bits.now % 8 ≡ 0 }
     requires fits { end < 2 ^ 63 + 32 }
     ensures { IsNextEntry (bit_in bits.now) from end result }
 {
     let mut place = from;
     while place < end {
-        let rest = bits[place / 8] >> (place % 8);
+        let rest = word(bits, place / WORD_BITS) >> (place % WORD_BITS);
         if rest != 0 {
             let found = place + rest.trailing_zeros() as usize;
             return (found < end).then_some(found);
         }
-        place += 8 - place % 8;
+        place += WORD_BITS - place % WORD_BITS;
     }
     None
 }
 
-/// How many of the octets with the first bits are set, `count` at most.
+/// How many bits are set in the words with the first bits, `count` at most.
 pub(super) fn count_ones(bits: &[u8], count: usize) -> usize
-    requires { count ≤ 8 * length bits.now }
+    requires within { count ≤ 8 * length bits.now }
+    requires whole { length bits.now % 8 ≡ 0 }
     ensures { result ≤ count }
 {
     let mut found = 0usize;
-    for octet in &bits[..count.div_ceil(8)] {
-        found = found.saturating_add(octet.count_ones() as usize);
+    for block in 0..count.div_ceil(WORD_BITS) {
+        found = found.saturating_add(word(bits, block).count_ones() as usize);
     }
     found.min(count)
+}
+
+// A word of bits, so many words behind the first.
+#[inline(always)]
+fn word(bits: &[u8], block: usize) -> u64
+    requires { 8 * block + 8 ≤ length bits.now }
+    ensures { (k : ℕ) → k < 64 → bit_at result k ≡ bit_in bits.now (64 * block + k) }
+{
+    u64::from_le_bytes(u8x8::from_slice(&bits[8 * block..]).to_array())
 }
 
 /// Adds a multiple of bits to as many octets, which fill whole vectors.

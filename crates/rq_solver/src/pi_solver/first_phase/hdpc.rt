@@ -169,8 +169,9 @@ fn add_first_row(
     if lead.byte() == 0 {
         return Ok(());
     }
+    let sum = batch.sum_in(column);
     for row in 1..batch.height() {
-        let octet = batch.get(row, column);
+        let octet = batch.get_beside(row, column, &sum);
         if octet.byte() != 0 {
             let scalar = &octet / &lead;
             let factor = scalar.byte();

@@ -68,6 +68,29 @@ impl OctetBatch {
         own + Octet::new(self.factors[row]) * self.table.get(0, column)
     }
 
+    /// What the rows' sum has in a column.
+    #[inline(always)]
+    pub(super) fn sum_in(&self, column: usize) -> Octet
+        requires some { 0 < length self.now.table.rows }
+        requires column { column < self.now.table.width }
+        ensures { result ≡ entry_of self.now.table 0 column }
+    {
+        self.table.get(0, column)
+    }
+
+    /// What a row but the first has in a column, where it is known what the rows' sum has there.
+    #[inline(always)]
+    pub(super) fn get_beside(&self, row: usize, column: usize, sum: &Octet) -> Octet
+        requires other { 0 < row }
+        requires row { row < length self.now.table.rows }
+        requires column { column < self.now.table.width }
+        requires sum { sum.now ≡ entry_of self.now.table 0 column }
+        ensures { result ≡ octet_in self.now row column }
+    {
+        let multiple = &Octet::new(self.factors[row]) * sum;
+        self.table.get(row, column) + multiple
+    }
+
     /// Adds a multiple of the first row to another one.
     pub(super) fn add_first(&mut self, dest: usize, scalar: u8)
         requires other { 0 < dest }

@@ -1,7 +1,7 @@
-use Rattle.std.proofs.Common.{Some, length, map, ap, ◌∙◌, subst, arith}
+use Rattle.std.proofs.Common.{Some, length, ap, ◌∙◌, subst, arith}
 use Rattle.std.proofs.lemmas.List.{length-replicate}
-use Rattle.rq_bytes.specs.SymbolOps.{operation_of}
 use Rattle.rq_bytes.specs.SymbolSlab.{Slab}
+use Rattle.rq_operations.specs.RecordedOperations.{operations_of}
 use Rattle.rq_solver.specs.Solving.{FindsOperations, Solver}
 use Rattle.rq_solver.specs.SolverState.{solver_state}
 use Rattle.raptorq.proofs.Listing.{slab_answered}
@@ -27,6 +27,6 @@ returns-clause-found g c =
       few = omega arith;
       ldpc = omega arith;
       enough = omega arith;
-      finds = finds_without_hdpc row ids (g.T.BinaryMatrix.content c.in_ok-matrix.matrix) c.in_ok-matrix.ensures.bits (length c.in_ok-values.values.values) (map operation_of operations.items) count
+      finds = finds_without_hdpc row ids (g.T.BinaryMatrix.content c.in_ok-matrix.matrix) c.in_ok-matrix.ensures.bits (length c.in_ok-values.values.values) (operations_of operations) count
           (subst (λ (s : Solver). FindsOperations s (Some operations)) c.of_row_no_hdpc-solver.ensures found);
     }

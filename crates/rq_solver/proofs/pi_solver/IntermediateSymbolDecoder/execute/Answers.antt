@@ -1,23 +1,20 @@
 -- What the check leaves to show of `pi_solver::IntermediateSymbolDecoder::execute`.
-use Rattle.std.proofs.Common.{List, None, length, map, sym, ap, ◌∙◌, subst}
+use Rattle.std.proofs.Common.{None, length, sym, ◌∙◌, subst}
 use Rattle.rq_algebra.specs.Operations.{AreAllowed}
 use Rattle.rq_standard.specs.ConstraintMatrix.{with_octet_rows}
-use Rattle.rq_bytes.specs.declared.operation_vector.SymbolOps.{SymbolOps}
-use Rattle.rq_bytes.specs.SymbolOps.{operation_of}
+use Rattle.rq_operations.specs.RecordedOperations.{operations_of}
 use Rattle.rq_parts.specs.DenseOctetMatrix.{entry_of}
-use Rattle.rq_solver.specs.Replay.{after_all}
 use Rattle.rq_solver.proofs.SolutionLaws.{is_solution, if_some}
 use Rattle.rq_solver.proofs.pi_solver.IntermediateSymbolDecoder.execute.Goals as goal
 
 pub replay-requires : goal.replay-requires
 replay-requires g c =
     let solver = c.args.self.now in
-    let operations = map operation_of c.in-Some-operations.operations.items in
+    let operations = operations_of c.in-Some-operations.operations in
     let finds = rw c.in-Some-operations.is at c.in_ok-operations.ensures.found in
     let handed = c.in-Some.symbols in
     let some = sym c.in-Some.ensures.value in
-    subst (λ (l : List SymbolOps). AreAllowed (length handed.values) handed.order (map operation_of l)) (sym c.as_slice.ensures.value)
-    (subst (λ o. AreAllowed (length handed.values) o operations) (sym (solver.unordered handed some)) (subst (λ n. AreAllowed n None operations) (sym (solver.counted handed some)) finds.allowed))
+    subst (λ o. AreAllowed (length handed.values) o operations) (sym (solver.unordered handed some)) (subst (λ n. AreAllowed n None operations) (sym (solver.counted handed some)) finds.allowed)
 
 pub returns-in_default-operations-clause-solved : goal.returns-in_default-operations-clause-solved
 returns-in_default-operations-clause-solved g c =
@@ -29,8 +26,8 @@ returns-clause-solved g c =
     let m = g.T.BinaryMatrix.content solver.matrix in
     let rows = with_octet_rows solver.first_hdpc (length solver.hdpc.rows) m.bit (entry_of solver.hdpc) in
     let handed = c.in-Some.symbols in
-    let operations = map operation_of c.in-Some-operations.operations.items in
+    let operations = operations_of c.in-Some-operations.operations in
     let finds = rw c.in-Some-operations.is at c.in_ok-operations.ensures.found in
     if_some solver.symbols handed _ (sym c.in-Some.ensures.value)
-    (is_solution m.height m.width rows operations finds handed c.replay.new.symbols (solver.unordered handed (sym c.in-Some.ensures.value))
-    (c.in_ok-replay.ensures.ok ∙ ap (λ (l : List SymbolOps). after_all (map operation_of l) handed) c.as_slice.ensures.value))
+    (rw c.in_ok-into_operations.ensures.operations
+    (is_solution m.height m.width rows operations finds handed _ (solver.unordered handed (sym c.in-Some.ensures.value)) (c.symbols-2.view_is ∙ c.in_ok-replay.ensures.ok)))

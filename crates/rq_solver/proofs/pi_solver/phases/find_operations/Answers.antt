@@ -1,15 +1,15 @@
 -- What the check leaves to show of `pi_solver::phases::find_operations`.
-use Rattle.std.proofs.Common.{◌≡◌, ℕ, ◌+◌, ◌-◌, ◌*◌, ◌/◌, ◌≤◌, List, [], ◌∷◌, ◌++◌, length, map, drop, sym, ap, ◌∙◌, subst, arith}
+use Rattle.std.proofs.Common.{◌≡◌, ℕ, ◌+◌, ◌-◌, ◌*◌, ◌/◌, ◌≤◌, List, [], ◌∷◌, ◌++◌, length, drop, sym, ap, ◌∙◌, subst, arith}
 use Rattle.std.proofs.Math.Nat.{mul-le-mul_left}
 use Rattle.rq_algebra.specs.Systems.{at}
 use Rattle.rq_solver.specs.OperationCounts.{additions}
 use Rattle.rq_solver.specs.OctetBatch.{batch_bound}
-use Rattle.rq_solver.proofs.CountLaws.{additions-order, few_in_all, few_places, few_together}
+use Rattle.rq_solver.proofs.CountLaws.{few_in_all, few_places, few_together, order_counted}
 use Rattle.rq_solver.proofs.PivotsCleared.{pivot_of_bits}
 use Rattle.rq_algebra.specs.Operations.{Operation, Reorder, FindsColumn}
 use Rattle.rq_algebra.specs.Systems.{HasHomogeneousColumn}
 use Rattle.rq_standard.specs.OctetField.{octets}
-use Rattle.rq_bytes.specs.SymbolOps.{operation_of}
+use Rattle.rq_operations.specs.RecordedOperations.{operations_of}
 use Rattle.rq_parts.specs.DenseOctetMatrix.{entry_of}
 use Rattle.rq_solver.specs.Cleared.{HasPeeledPivots, one_in, system_rows}
 use Rattle.rq_solver.proofs.OctetRows.{same_rows}
@@ -68,14 +68,16 @@ returns-clause-found c = λ bit are.
     let order = Reorder c.in-Some.order.items ∷ [] in
     let found = rw (c.in_ok-recorded.ensures.cleared.height_is, c.in-Some.is) at c.in_ok-found.ensures.found in
     let finds : FindsColumn octets (length lists) c.args.width (system_rows lists c.args.first_hdpc hdpc) (steps ++ order) = rw c.requires.peeled.columns.place_count at (found _ (peeled (goal.at.returns-clause-found c).After-into_operations-operations)) in
-    let recorded : map operation_of c.into_operations.result.items ≡ steps ++ order = c.into_operations.ensures ∙ c.in_ok-push.ensures.recorded ∙ ap (λ (l : List Operation). l ++ order) c.into_operations-operations.ensures in
+    let recorded : operations_of c.new.result ≡ steps ++ order = c.new.ensures ∙ ap (λ (l : List Operation). l ++ order) (c.into_steps-steps.ensures ∙ c.into_operations-operations.ensures) in
     rw recorded
     (finds_same octets (length lists) c.args.width _ _ (same_rows c.args.first_hdpc (length hdpc.rows) (entry_of hdpc) (length lists) c.args.width (one_in lists) bit (λ i k l m. (are.each i l).once k (omega arith) m)) (steps ++ order) finds)
 
+pub returns-clause-counted : goal.returns-clause-counted
+returns-clause-counted c =
+    rw (c.new.ensures, c.into_steps-steps.ensures) (order_counted c.counts-counts.result c.into_operations-operations.result c.in-Some.order.items c.counts-counts.ensures)
+
 pub returns-in_default-clause-few : goal.returns-in_default-clause-few
-returns-in_default-clause-few c = omega (arith, c.counts.ensures.additions_are, few (goal.at.returns-in_default-clause-few c).After-into_operations-operations)
+returns-in_default-clause-few c = omega (arith, c.counts-counts.ensures.additions_are, few (goal.at.returns-in_default-clause-few c).After-into_operations-operations)
 
 pub returns-clause-few : goal.returns-clause-few
-returns-clause-few c =
-    let pushed : additions c.push.new.self ≡ additions c.into_operations-operations.result = ap additions c.in_ok-push.ensures.recorded ∙ additions-order c.into_operations-operations.result c.in-Some.order.items in
-    omega (arith, c.counts-2.ensures.additions_are, pushed, few (goal.at.returns-clause-few c).After-into_operations-operations)
+returns-clause-few c = omega (arith, c.counts-counts.ensures.additions_are, few (goal.at.returns-clause-few c).After-into_operations-operations)

@@ -1,10 +1,8 @@
-use Rattle.std.proofs.Common.{◌≡◌, ◌+◌, ℕ, List, None, length, map, refl, sym, ap, ◌∙◌, subst, inr, arith}
+use Rattle.std.proofs.Common.{◌≡◌, ◌+◌, ℕ, List, None, length, refl, sym, ap, ◌∙◌, subst, inr, arith}
 use Rattle.rq_algebra.specs.Operations.{AreAllowed}
 use Rattle.rq_algebra.specs.Symbols.{AreSymbols, IsSymbolColumn}
-use Rattle.rq_bytes.specs.SymbolSlab.{Slab, symbol_in}
-use Rattle.rq_bytes.specs.SymbolOps.{operation_of}
-use Rattle.rq_bytes.specs.declared.operation_vector.SymbolOps.{SymbolOps}
-use Rattle.rq_solver.specs.Replay.{after_all}
+use Rattle.rq_bytes.specs.SymbolSlab.{Slab, after_all, symbol_in}
+use Rattle.rq_operations.specs.RecordedOperations.{operations_of}
 use Rattle.rq_standard.specs.OctetField.{octets}
 use Rattle.rq_standard.specs.IdLists.{HasDeterminedRows}
 use Rattle.rq_standard.specs.TableRows.{intermediate_symbols}
@@ -47,11 +45,10 @@ known_symbol_values-requires-clause-few_fixed c = (subst (FindsListed c.args.sel
 pub replay-requires : goal.replay-requires
 replay-requires c =
     let values = c.in_ok-values.values in
-    let operations = map operation_of c.in-Some.solution.operations.items in
+    let operations = operations_of c.in-Some.solution.operations in
     let from : FindsFrom c.args.self.now.row c.as_slice.result.now c.in-Some.solution = subst (FindsListed c.args.self.now.row c.as_slice.result.now) c.in-Some.is c.in_ok-solution.ensures.found in
-    subst (λ (l : List SymbolOps). AreAllowed (length values.values) values.order (map operation_of l)) (sym c.as_slice-2.ensures.value)
-    (subst (λ o. AreAllowed (length values.values) o operations) (sym (ap (λ (s : Slab). s.order) c.in_ok-values.ensures.values))
-    (subst (λ n. AreAllowed n None operations) (sym (count (goal.at.replay-requires c).After-len-symbols)) from.finds.allowed))
+    subst (λ o. AreAllowed (length values.values) o operations) (sym (ap (λ (s : Slab). s.order) c.in_ok-values.ensures.values))
+    (subst (λ n. AreAllowed n None operations) (sym (count (goal.at.replay-requires c).After-len-symbols)) from.finds.allowed)
 
 pub returns-in_default-clause-solved : goal.returns-in_default-clause-solved
 returns-in_default-clause-solved c =
@@ -60,7 +57,7 @@ returns-in_default-clause-solved c =
     λ determined. subst (λ l. HasDeterminedRows d.row l → ⊥) (c.as_slice.ensures.value ∙ c.in_ok-ids.ensures.ids) none (held_rows (held_of d) d.received d.fits c.len.ensures.ordered d.checked (λ e. refl) determined)
 
 -- what the operations find
-module _ (c : After-replay) (counted : length c.in_ok-values.values.values ≡ c.in-Some.solution.fixed + length c.as_slice.result.now) (done : c.replay.new.symbols ≡ after_all (map operation_of c.as_slice-2.result.now) c.in_ok-values.values) where
+module _ (c : After-replay) (counted : length c.in_ok-values.values.values ≡ c.in-Some.solution.fixed + length c.as_slice.result.now) (done : c.replay.new.symbols ≡ after_all (operations_of c.in-Some.solution.operations) c.in_ok-values.values) where
   from : FindsFrom c.args.self.now.row c.as_slice.result.now c.in-Some.solution
   from = subst (FindsListed c.args.self.now.row c.as_slice.result.now) c.in-Some.is c.in_ok-solution.ensures.found
 
@@ -68,8 +65,7 @@ module _ (c : After-replay) (counted : length c.in_ok-values.values.values ≡ c
   found =
       let values = c.in_ok-values.values in
       let are = subst (λ n. AreSymbols octets values.symbol_size n values.values) (c.len-symbols.ensures.count ∙ counted) c.len-symbols.ensures.symbols in
-      let made : c.replay.new.symbols ≡ after_all (map operation_of c.in-Some.solution.operations.items) values = done ∙ ap (λ (l : List SymbolOps). after_all (map operation_of l) values) c.as_slice-2.ensures.value in
-      solution_found c.args.self.now.row c.as_slice.result.now c.in-Some.solution values c.replay.new.symbols from are (ap (λ (s : Slab). s.order) c.in_ok-values.ensures.values) made
+      solution_found c.args.self.now.row c.as_slice.result.now c.in-Some.solution values c.replay.new.symbols from are (ap (λ (s : Slab). s.order) c.in_ok-values.ensures.values) done
 
   -- of what is held
   found_held : IsBlockSolution c.args.self.now.row c.in-Some.solution.fixed (known_list c.args.self.now.row c.args.self.now.symbols c.args.self.now.received.entries) c.args.self.now.config.symbol_size

@@ -1,8 +1,7 @@
-use Rattle.std.proofs.Common.{◌≡◌, map, sym, ap, ◌∙◌, subst}
+use Rattle.std.proofs.Common.{◌≡◌, sym, ap, ◌∙◌, subst}
 use Rattle.rq_algebra.specs.Symbols.{AreSymbols}
-use Rattle.rq_bytes.specs.SymbolSlab.{Slab, symbol_in}
-use Rattle.rq_bytes.specs.SymbolOps.{operation_of}
-use Rattle.rq_solver.specs.Replay.{after_all}
+use Rattle.rq_bytes.specs.SymbolSlab.{Slab, after_all, symbol_in}
+use Rattle.rq_operations.specs.RecordedOperations.{operations_of}
 use Rattle.rq_standard.specs.Headline.{IsOnlyIntermediateColumn}
 use Rattle.rq_standard.specs.OctetField.{octets}
 use Rattle.raptorq.specs.Planned.{planned}
@@ -14,9 +13,9 @@ returns-clause-column c =
     let plan = c.args.self.now in
     let source = c.args.source.now.values in
     let size = c.args.source.now.symbol_size in
-    let operations = map operation_of plan.operations.items in
+    let operations = operations_of plan.operations in
     let values = c.in_ok-symbols.ensures.values in
     let are = source_are_symbols plan.row size source c.requires.few c.len-count.result (subst (λ (s : Slab). AreSymbols octets s.symbol_size c.len-count.result s.values) values c.len-count.ensures.symbols) in
     let made : c.replay.new.symbols ≡ planned plan.row operations size source =
-    c.in_ok-replay.ensures.ok ∙ ap (λ ops. after_all (map operation_of ops) c.in_ok-symbols.symbols) c.as_slice.ensures.value ∙ ap (λ (s : Slab). after_all operations s) values in
+    c.in_ok-replay.ensures.ok ∙ ap (λ (s : Slab). after_all operations s) values in
     subst (λ (s : Slab). IsOnlyIntermediateColumn plan.row size source (symbol_in s)) (sym made) (plan.finds.column size source c.requires.few are)

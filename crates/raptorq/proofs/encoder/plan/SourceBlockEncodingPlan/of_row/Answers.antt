@@ -1,5 +1,5 @@
-use Rattle.std.proofs.Common.{◌≡◌, map, refl, ap, ◌∙◌, subst, arith, inr}
-use Rattle.rq_bytes.specs.SymbolOps.{operation_of}
+use Rattle.std.proofs.Common.{◌≡◌, refl, ap, ◌∙◌, subst, arith, inr}
+use Rattle.rq_operations.specs.RecordedOperations.{operations_of}
 use Rattle.rq_standard.specs.Equations.{equation_count, extended_ids}
 use Rattle.rq_standard.proofs.Known.{nonsingular_rows}
 use Rattle.raptorq.specs.BlockSolutions.{FindsFrom, FindsListed}
@@ -30,7 +30,7 @@ pub invariant_of-result : goal.invariant_of-result
 invariant_of-result c =
     let row = c.args.row in
     let ids : c.as_slice.result.now ≡ extended_ids row = c.as_slice.ensures.value ∙ extended_ids_are row c.in_ok-ids.ids.items c.in_ok-ids.ensures in
-    let operations = map operation_of c.in-Some.solution.operations.items in
+    let operations = operations_of c.in-Some.solution.operations in
     let found = subst (FindsListed row c.as_slice.result.now) c.in-Some.is c.in_ok-solution.ensures.found in
     let finds = finds_source row c.in-Some.solution (subst (λ l. FindsFrom row l c.in-Some.solution) ids found) in
     record {

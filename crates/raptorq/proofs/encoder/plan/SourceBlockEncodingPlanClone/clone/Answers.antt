@@ -3,13 +3,12 @@ use Rattle.rq_algebra.specs.Operations.{Operation, AreAllowed}
 use Rattle.rq_standard.specs.TableRows.{intermediate_symbols}
 use Rattle.raptorq.specs.Planned.{IsPlanOf}
 use Rattle.raptorq.specs.SourceBlockEncodingPlan.{Plan}
-use Rattle.raptorq.proofs.PlanLaws.{same_operations}
 use Rattle.raptorq.proofs.encoder.plan.SourceBlockEncodingPlanClone.clone.Goals as goal
 
 pub invariant_of-result : goal.invariant_of-result
 invariant_of-result c =
     let plan = c.args.self.now in
-    let same = same_operations plan.operations.items c.in_ok-clone.field-0.items c.in_ok-clone.ensures.cases.0 in
+    let same = c.in_ok-clone.ensures.cases in
     record {
       checked = plan.checked;
       nonsingular = plan.nonsingular;
@@ -21,4 +20,4 @@ invariant_of-result c =
 pub returns : goal.returns
 returns c =
     let plan = c.args.self.now in
-    record { cases = ap (λ (l : List Operation). let p : Plan = record { count = plan.source_symbol_count; row = plan.row; operations = l } in p) (same_operations plan.operations.items c.in_ok-clone.field-0.items c.in_ok-clone.ensures.cases.0) }
+    record { cases = ap (λ (l : List Operation). let p : Plan = record { count = plan.source_symbol_count; row = plan.row; operations = l } in p) c.in_ok-clone.ensures.cases }

@@ -19,7 +19,7 @@ invariant_of-result c =
     let all : c.loop.counter ≡ c.args.height = omega arith in
     let owns : c.loop.octets.items ≡ replicate c.args.height [] = c.loop.invariant ∙ ap (λ n. replicate {A = List ℕ} n []) all in
     let slab : slab_of size (replicate c.args.height (replicate size 0)) ≡ c.in_ok-with_zeros.field-0 = cc (c.in_ok-with_zeros.ensures) in
-    subst (λ (s : Slab). AreEntries c.args.width s c.loop.octets.items) slab (zeros_are c.args.width c.args.height size (omega (arith, c.requires.narrow)) c.requires.whole room c.loop.octets.items owns)
+    subst (λ (s : Slab). AreEntries c.args.width s c.loop.octets.items) slab (zeros_are c.args.width c.args.height size (omega (arith, c.requires.narrow)) c.requires.whole room c.whole_vectors-size.ensures.whole c.loop.octets.items owns)
 
 pub returns-clause-zeros : goal.returns-clause-zeros
 returns-clause-zeros c =

@@ -49,7 +49,7 @@ loop-row-preserved c =
           let small : lead < 256 = rw c.byte.ensures at c.byte.type_inv in
           let nonzero : lead ≢ 0 = (λ e. c.if-byte-eq0.false (c.byte.ensures ∙ e)) in
           let is_octet : octet_in was row column < 256 = elements_beside start was same c.height-row-end.ensures.octets row column in_rows in_width in
-          let zero : octet_in now row column ≡ 0 = added.at_dest column in_width ∙ rw (v.lead, w.div-scalar.ensures, c.get-octet.ensures) (plus_quotient_times (octet_in was row column) lead is_octet small nonzero) in
+          let zero : octet_in now row column ≡ 0 = added.at_dest column in_width ∙ rw (v.lead, w.div-scalar.ensures, c.get_beside-octet.ensures) (plus_quotient_times (octet_in was row column) lead is_octet small nonzero) in
           rw (w.batch-is, w.recorded-is) (record {
             few = (let more = w.in_ok-add_row.ensures.counted in let so_far = v.few in omega (arith, more, so_far, c.loop-row.auto.row));
             table = w.add_first.ensures.table ∙ same;
@@ -62,7 +62,7 @@ loop-row-preserved c =
                 (from_adds column count width row scalar (octet_in was) (octet_in now) 0 added) w.in_ok-add_row.ensures.added);
           })
       | else-byte-ne0 w ↦
-          let zero : octet_in was row column ≡ 0 = sym c.get-octet.ensures ∙ sym c.byte-in-loop-row.ensures ∙ w.if-byte-ne0.false in
+          let zero : octet_in was row column ≡ 0 = sym c.get_beside-octet.ensures ∙ sym c.byte-in-loop-row.ensures ∙ w.if-byte-ne0.false in
           rw (w.batch-is, w.recorded-is) (record {
             few = (let so_far = v.few in omega (arith, so_far));
             table = same;
