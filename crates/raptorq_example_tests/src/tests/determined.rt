@@ -73,6 +73,8 @@ fn is_solved<T: BinaryMatrix>(
     requires known { 10 ≤ greatest_size table.now }
     requires enough { (row_of table.now 10).extended_symbols ≤ 20 }
 {
+    // For the proof: a row of a table is checked, so it has few equations.
+    let _row = table.row(10);
     let mut ids = [0; 20];
     for i in 0..20 {
         ids[i] = start.saturating_add(i as u32);
