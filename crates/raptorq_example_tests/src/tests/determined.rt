@@ -1,5 +1,13 @@
 //! Whether packets determine a block of ten symbols, beside a rank count of the tests' own.
+ghost use Rattle.std.specs.Prelude.{◌≤◌};
+ghost use Rattle.rq_standard.specs.TableRows.{greatest_size, row_of};
+
+use raptorq::constraint_matrix::generate_constraint_matrix;
 use raptorq::error::Error;
+use raptorq::matrix::{BinaryMatrix, DenseBinaryMatrix};
+use raptorq::pi_solver::fused_inverse_mul_symbols;
+use raptorq::sparse_matrix::SparseBinaryMatrix;
+use raptorq::symbol_slab::SymbolSlab;
 use raptorq::systematic_constants::SystematicTable;
 use raptorq::{
     Decoder, ObjectTransmissionInformation, SourceBlockDecoder, SourceBlockEncoder,
@@ -55,8 +63,31 @@ fn ten_packets_that_follow_one_another(rt: HostRuntime) -> Result<(), Fail> {
     Ok(())
 }
 
+// Whether the solver finds a solution of the equations of twenty internal symbol ids, over one kind
+// of matrix.
+fn is_solved<T: BinaryMatrix>(
+    alloc: Global,
+    table: &SystematicTable,
+    start: u32,
+) -> Result<bool, Error>
+    requires known { 10 ≤ greatest_size table.now }
+    requires enough { (row_of table.now 10).extended_symbols ≤ 20 }
+{
+    // For the proof: a row of a table is checked, so it has few equations.
+    let _row = table.row(10);
+    let mut ids = [0; 20];
+    for i in 0..20 {
+        ids[i] = start.saturating_add(i as u32);
+    }
+    let (bits, hdpc) = generate_constraint_matrix::<T>(alloc, table, 10, &ids)?;
+    let count = bits.height();
+    let symbols = SymbolSlab::with_zeros(alloc, count, 1)?;
+    let solved = fused_inverse_mul_symbols(alloc, table, bits, hdpc, symbols, 10)?;
+    Ok(solved.is_some())
+}
+
 // Twenty repair packets, as many as the HDPC equations may be left out with, over a sparse matrix
-// and over a dense one.
+// and over a dense one, beside the solver of their equations, too.
 #[test]
 fn twenty_repair_packets(rt: HostRuntime) -> Result<(), Fail> {
     let alloc = rt.alloc();
@@ -65,9 +96,16 @@ fn twenty_repair_packets(rt: HostRuntime) -> Result<(), Fail> {
     let block = [3, 1, 4, 1, 5, 9, 2, 6, 5, 3];
     let mut cache = SourceBlockEncodingPlanCache::new(alloc, &table)?;
     let encoder = SourceBlockEncoder::new(alloc, 0, &config, &block, &mut cache)?;
+    assert!(rt; 10 <= table.greatest());
+    assert!(rt; table.row(10).extended_symbols <= 20);
     for start in 0..200 {
         let packets = encoder.repair_packets(start, 20)?;
-        let is_determined = determine(&fixed, start.saturating_add(10), 20);
+        let first_id = start.saturating_add(10);
+        let is_determined = determine(&fixed, first_id, 20);
+        let is_dense_solved = is_solved::<DenseBinaryMatrix>(alloc, &table, first_id)?;
+        assert_eq!(rt; is_dense_solved, is_determined, "from {start} on");
+        let is_sparse_solved = is_solved::<SparseBinaryMatrix>(alloc, &table, first_id)?;
+        assert_eq!(rt; is_sparse_solved, is_determined, "from {start} on");
         for threshold in [0, u32::MAX] {
             let mut decoder = SourceBlockDecoder::new(alloc, &table, 0, &config, 10)?;
             decoder.set_sparse_threshold(threshold);
