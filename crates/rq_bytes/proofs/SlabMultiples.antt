@@ -44,7 +44,7 @@ pub targets_from : (inside : Inside) (slab : Slab) → the_view inside ≡ slab 
 targets_from inside slab view invariant src targets multiples allowed same =
     λ k d lt. let a = allowed k d lt in (meant_below inside slab view invariant (get_or multiples k d).dest a.0, a.2, octets_small slab targets multiples same k d lt)
 
-after_all-none : (slab : Slab) → after_all [] slab ≡ slab
+pub after_all-none : (slab : Slab) → after_all [] slab ≡ slab
 unfolding run
 after_all-none slab = refl
 

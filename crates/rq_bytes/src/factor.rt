@@ -6,14 +6,12 @@ ghost use Rattle.rq_standard.specs.Rows.{row_sum, row_multiple};
 use crate::half_products::{HalfProducts, Halves};
 use crate::octet::Octet;
 use crate::octets::add_assign;
-use crate::products::{doubled_lanes, product};
+use crate::products::{LANES, doubled_lanes, product};
 use std::marker::Model;
 use std::simd::prelude::*;
 
-const LANES: usize = 32;
-
 /// An octet by which rows are multiplied, with its products by all halves of a byte, so that each
-/// octet of a row is looked up by its halves. Contracts see the octet.
+/// octet of a row is looked up by its halves. Contracts see the octet. Not in the Rust crate.
 #[derive(Drop)]
 pub struct Factor {
     products: HalfProducts,
@@ -83,7 +81,7 @@ impl Factor {
     }
 }
 
-/// Multiplies a row by an octet. A multiple by 2 needs no products.
+/// Multiplies a row by an octet. A multiple by 2 needs no products. Not in the Rust crate.
 pub fn multiply_row(octets: &mut [u8], scalar: &Octet)
     ensures octet { scalar.now < 256 }
     ensures multiple { octets.new ≡ row_multiple scalar.now octets.old }
@@ -96,6 +94,7 @@ pub fn multiply_row(octets: &mut [u8], scalar: &Octet)
 }
 
 /// Adds an octet's multiple of a row to a row of the same length. A multiple by 1 needs no products.
+/// Not in the Rust crate.
 pub fn add_row_multiple(octets: &mut [u8], other: &[u8], scalar: &Octet)
     requires { length other.now ≡ length octets.old }
     ensures { octets.new ≡ row_sum octets.old (row_multiple scalar.now other.now) }
@@ -122,7 +121,8 @@ fn double(octets: &mut [u8])
     }
 }
 
-/// Multiplies a row by 2 and adds another one of the same length, in one pass over both.
+/// Multiplies a row by 2 and adds another one of the same length, in one pass over both. Not in the
+/// Rust crate.
 pub fn double_and_add(octets: &mut [u8], other: &[u8])
     requires { length other.now ≡ length octets.old }
     ensures { octets.new ≡ row_sum (row_multiple 2 octets.old) other.now }

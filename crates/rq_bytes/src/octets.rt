@@ -4,11 +4,9 @@ ghost use Rattle.rq_bytes.specs.BinaryOctetVec.{padding_of, packed_bits};
 ghost use Rattle.rq_standard.specs.Rows.{row_sum, row_multiple};
 
 use crate::octet::Octet;
-use crate::products::{bit_product, bit_products, plane_products, product};
+use crate::products::{LANES, bit_product, bit_products, plane_products, product};
 use std::marker::Model;
 use std::simd::prelude::*;
-
-const LANES: usize = 32;
 
 const WORD_BITS: usize = 64;
 

@@ -6,6 +6,9 @@ ghost use Rattle.rq_standard.specs.Octets.{octet_double, octet_mul};
 
 use std::simd::prelude::*;
 
+/// How many octets of a row a kernel takes at once.
+pub(crate) const LANES: usize = 32;
+
 // The place in its byte of each bit of a word, as a mask.
 const BITS: [u8; 64] = [
     1, 2, 4, 8, 16, 32, 64, 128, 1, 2, 4, 8, 16, 32, 64, 128, 1, 2, 4, 8, 16, 32, 64, 128, 1, 2, 4,

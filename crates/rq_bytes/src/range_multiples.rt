@@ -5,11 +5,9 @@ ghost use Rattle.rq_bytes.specs.RangeSums.{with_multiples_added, IsRangeBeside};
 ghost use Rattle.rq_bytes.specs.Targets.{start_and_octet};
 
 use crate::half_products::{HalfProducts, Halves};
-use crate::products::product;
+use crate::products::{LANES, product};
 use crate::range_sums::write_piece;
 use std::simd::prelude::*;
-
-const LANES: usize = 32;
 
 /// Where a multiple is added, and the octet that multiplies.
 #[derive(Clone, Copy)]

@@ -25,10 +25,6 @@ unfolding run
 length-run [] s = refl
 length-run (operation ∷ operations) s = unfold run in length-run operations (step (symbols octets) s operation) ∙ length-step s operation
 
-pub after_all-none : (slab : Slab) → after_all [] slab ≡ slab
-unfolding run
-after_all-none slab = refl
-
 pub after_all-one : (operation : Operation) (slab : Slab) → after_all (operation ∷ []) slab ≡ after operation slab
 unfolding run
 after_all-one operation slab = refl

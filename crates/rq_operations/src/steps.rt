@@ -20,7 +20,7 @@ pub enum Step {
 }
 
 impl Step {
-    /// The operation that the step is.
+    /// The operation that the step is. Not in the Rust crate.
     pub fn to_operation(&self) -> SymbolOps
         ensures { operation_of result ≡ operation_of_step self.now }
     {

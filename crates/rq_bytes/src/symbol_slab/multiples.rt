@@ -12,7 +12,9 @@ use crate::range_multiples::{Target, add_multiples};
 /// Rust crate.
 #[derive(Clone, Copy, Debug)]
 pub struct Multiple {
+    /// The place of the symbol that it is added to.
     pub dest: usize,
+    /// The octet that multiplies.
     pub scalar: u8,
 }
 
