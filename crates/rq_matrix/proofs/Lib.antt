@@ -4,6 +4,7 @@ pub mod Ones
 pub mod Orders
 pub mod Pairs
 pub mod Places
+pub mod RowBuffers
 pub mod RowLaws
 pub mod SparseMatrixLaws
 pub mod SparseRowLaws

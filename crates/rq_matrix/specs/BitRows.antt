@@ -1,8 +1,11 @@
 -- Rows of bits, 64 to a word, the bit in column k at place k mod 64 of word k / 64.
-use Rattle.std.specs.Prelude.{◌≡◌, ◌≢◌, ℕ, ◌+◌, ◌/◌, ◌<◌, ◌≤◌, List, [], length, slice_index, slice_index_or, slice_set}
+use Rattle.std.specs.Prelude.{◌≡◌, ◌≢◌, ℕ, ◌+◌, ◌/◌, ◌<◌, ◌≤◌, ◌==◌, Bool, List, [], length, slice_index, slice_index_or, slice_set}
+use Rattle.std.specs.Cmp.Lexicographic.{pointwise}
+use Rattle.std.specs.Ordering.{eq_of_both, on}
 use Rattle.std.specs.Int.Bits.{bit_xor}
 use Rattle.std.specs.Int.{bit_at}
 use Rattle.rq_bytes.specs.BinaryOctetVec.{packed_bit}
+use Rattle.rq_bytes.specs.Ranges.{joined_pieces}
 use Rattle.rq_standard.specs.BitTableSteps.{SwapsPlaces}
 
 -- how many words a row of so many columns has
@@ -39,3 +42,7 @@ pub record AreSwappedFrom (i j start end : ℕ) (old new : List (List ℕ)) : Ty
   pub swapped : (a width : ℕ) → start ≤ a → a < end → SwapsPlaces width (packed_bit (slice_index_or old a [])) i j (packed_bit (slice_index_or new a []))
   pub above : (a : ℕ) → a < start → slice_index_or new a [] ≡ slice_index_or old a []
   pub after : (a : ℕ) → end ≤ a → slice_index_or new a [] ≡ slice_index_or old a []
+
+-- whether as many rows have the same words
+abbrev pub same_rows : List (List ℕ) → List (List ℕ) → Bool
+same_rows = eq_of_both (on length ◌==◌) (on joined_pieces (pointwise ◌==◌))

@@ -9,17 +9,17 @@ use Rattle.rq_matrix.specs.declared.matrix.DenseBinaryMatrix.{DenseBinaryMatrix}
 
 -- its rows, its columns and what it keeps beside them
 abbrev pub content_of : DenseBinaryMatrix → BitTable
-content_of m = record { height = length m.rows.items; width = m.width; boundary = m.boundary; indexed = m.indexed; bit = bit_in m.rows.items }
+content_of m = record { height = length m.rows; width = m.width; boundary = m.boundary; indexed = m.indexed; bit = bit_in m.rows }
 
 pub is_table_of : (m : DenseBinaryMatrix) → IsBitTable (content_of m)
-is_table_of m = record { height_fits = m.height_fits; width_fits = m.width_fits; within = m.within; bits = λ i k _ _. bit_at-lt (slice_index (slice_index_or m.rows.items i []) (k / 64)) (k % 64) }
+is_table_of m = record { height_fits = m.height_fits; width_fits = m.width_fits; within = m.within; bits = λ i k _ _. bit_at-lt (slice_index (slice_index_or m.rows i []) (k / 64)) (k % 64) }
 
 -- two matrices that have the same of all that they keep
 pub record IsCopy (old new : DenseBinaryMatrix) : Type 0 where
   pub width : new.width ≡ old.width
   pub boundary : new.boundary ≡ old.boundary
   pub indexed : new.indexed ≡ old.indexed
-  pub rows : new.rows.items ≡ old.rows.items
+  pub rows : new.rows ≡ old.rows
 
 pub copy_is_same : (old new : DenseBinaryMatrix) → IsCopy old new → IsUnchanged (content_of old) (content_of new)
 copy_is_same old new copy = record {

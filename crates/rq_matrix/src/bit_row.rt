@@ -1,18 +1,13 @@
 //! A row of bits, 64 to a word.
-ghost use Rattle.std.specs.Prelude.{◌≡◌, ◌≢◌, ℕ, ◌+◌, ◌-◌, ◌*◌, ◌/◌, ◌^◌, ◌<◌, ◌≤◌, ◌==◌, length, replicate, take, slice_index, if◌then◌else◌, IfOk, IfErr, MatchOption};
-ghost use Rattle.std.proofs.Common.{rules};
-ghost use Rattle.std.specs.Cmp.Lexicographic.{pointwise};
-ghost use Rattle.std.specs.Cmp.Rules.{comparing};
+ghost use Rattle.std.specs.Prelude.{◌≡◌, ◌≢◌, ℕ, ◌+◌, ◌-◌, ◌*◌, ◌/◌, ◌^◌, ◌<◌, ◌≤◌, length, replicate, slice_index, if◌then◌else◌, IfOk, IfErr, MatchOption};
 ghost use Rattle.std.specs.Int.{bit_at};
 ghost use Rattle.rq_bytes.specs.declared.error.Error.TheVariants.{OutOfMemory};
 ghost use Rattle.rq_standard.specs.BitTableSteps.{ones_below, ones_between, AreBitsOf};
 ghost use Rattle.rq_bytes.specs.BinaryOctetVec.{packed_bit};
-ghost use Rattle.rq_standard.specs.Rows.{row_sum};
 ghost use Rattle.rq_parts.specs.BitPairs.{bit_pairs, ones_among};
 ghost use Rattle.rq_matrix.specs.BitRows.{word_count, with_word_added, IsWordWith, HasNoOnes, IsLastOne};
 
 use rq_bytes::error::Error;
-use rq_bytes::gf2::add_assign_binary;
 use rq_bytes::octet::Octet;
 use rq_bytes::octets::BinaryOctetVec;
 use rq_parts::iterators::OctetIter;
@@ -45,20 +40,6 @@ impl Clone for BitRow {
     }
 }
 
-impl PartialEq for BitRow {
-    ghost eq = { pointwise ◌==◌ };
-
-    ghost laws = { Prim.search (comparing, rules) };
-
-    fn eq(&self, other: &BitRow) -> bool {
-        self.words == other.words
-    }
-}
-
-impl Eq for BitRow {
-    ghost laws = { Prim.search (comparing, rules) };
-}
-
 impl BitRow {
     /// A row of zeros.
     pub(crate) fn zero(alloc: Global, width: usize) -> Result<Self, AllocError>
@@ -66,7 +47,7 @@ impl BitRow {
         ensures { IfOk result (λ row. row ≡ replicate (word_count width) 0) }
     {
         Ok(BitRow {
-            words: vec![in alloc; 0; (width + WORD_BITS - 1) / WORD_BITS]?,
+            words: vec![in alloc; 0; words_for(width)]?,
         })
     }
 
@@ -75,8 +56,7 @@ impl BitRow {
         requires { column < 64 * length self.now }
         ensures { result ≡ packed_bit self.now column }
     {
-        let word = self.words[column / WORD_BITS];
-        Octet::new(((word >> (column % WORD_BITS)) % 2) as u8)
+        get_bit(self.words.as_slice(), column)
     }
 
     /// Sets the bit in a column.
@@ -86,66 +66,14 @@ impl BitRow {
         ensures here { packed_bit self.new column ≡ (if one then 1 else 0) }
         ensures elsewhere { (k : ℕ) → k ≢ column → packed_bit self.new k ≡ packed_bit self.old k }
     {
-        let word = self.words[column / WORD_BITS];
-        self.words[column / WORD_BITS] = word_with(word, column % WORD_BITS, one);
+        set_bit(self.words.as_mut_slice(), column, one);
     }
 
-    /// Exchanges the bits in two columns.
-    pub(crate) fn swap(&mut self, i: usize, j: usize)
-        requires first { i < 64 * length self.old }
-        requires second { j < 64 * length self.old }
-        ensures len { length self.new ≡ length self.old }
-        ensures first { packed_bit self.new i ≡ packed_bit self.old j }
-        ensures second { packed_bit self.new j ≡ packed_bit self.old i }
-        ensures elsewhere { (k : ℕ) → k ≢ i → k ≢ j → packed_bit self.new k ≡ packed_bit self.old k }
+    /// The words, for reading.
+    pub(crate) fn as_slice(&self) -> &[u64]
+        ensures { result.now ≡ self.now }
     {
-        let first = self.get(i);
-        let second = self.get(j);
-        self.set(i, second == Octet::one());
-        self.set(j, first == Octet::one());
-    }
-
-    /// The number of ones in the columns from `start` on and before `end`.
-    pub(crate) fn count_ones(&self, start: usize, end: usize) -> usize
-        requires range { start ≤ end }
-        requires within { end ≤ 64 * length self.now }
-        ensures { result ≡ ones_between (packed_bit self.now) start end }
-    {
-        let mut ones = 0;
-        let mut column = start;
-        while column < end {
-            let bit = column % WORD_BITS;
-            let count = (WORD_BITS - bit).min(end - column);
-            ones += ones_in_word(self.words[column / WORD_BITS], bit, count);
-            column += count;
-        }
-        ones
-    }
-
-    /// The ones in the columns from `start` on and before `end`.
-    pub(crate) fn ones(&self, start: usize, end: usize) -> OctetIter<'_>
-        requires range { start ≤ end }
-        requires within { end ≤ 64 * length self.now }
-        ensures { result ≡ ones_among (bit_pairs self.now start start (end - start)) }
-    {
-        OctetIter::new_dense_ones(start, end, self.words.as_slice())
-    }
-
-    /// The bits in the columns from `start` on and before `end`.
-    pub(crate) fn part(&self, start: usize, end: usize) -> Result<BinaryOctetVec, Error>
-        requires range { start ≤ end }
-        requires within { end ≤ 64 * length self.now }
-        requires width { end < 65536 }
-        ensures ok { IfOk result (λ octets. AreBitsOf (packed_bit self.now) start end octets) }
-        ensures err { IfErr result (λ e. e ≡ OutOfMemory) }
-    {
-        let len = end - start;
-        let mut part = BitRow::zero(*self.words.allocator(), len)?;
-        let padding = (WORD_BITS - len % WORD_BITS) % WORD_BITS;
-        for k in 0..len {
-            part.set(padding + k, self.get(start + k) == Octet::one());
-        }
-        Ok(BinaryOctetVec::new(part.into_words(), len))
+        self.words.as_slice()
     }
 
     // The words.
@@ -153,15 +81,6 @@ impl BitRow {
         ensures { result.items ≡ self }
     {
         self.words
-    }
-
-    /// Adds a row of the same length.
-    pub(crate) fn add(&mut self, other: &BitRow)
-        requires { length other.now ≡ length self.old }
-        ensures sum { self.new ≡ row_sum self.old other.now }
-        ensures len { length self.new ≡ length self.old }
-    {
-        add_assign_binary(self.words.as_mut_slice(), other.words.as_slice());
     }
 
     /// Adds a word to another one.
@@ -181,14 +100,95 @@ impl BitRow {
     {
         self.words[i]
     }
+}
 
-    /// Drops the words that so many columns don't need.
-    pub(crate) fn truncate(&mut self, width: usize)
-        requires { width < 65536 }
-        ensures { self.new ≡ take (word_count width) self.old }
-    {
-        self.words.truncate((width + WORD_BITS - 1) / WORD_BITS);
+/// The number of words that so many bits need.
+pub(crate) fn words_for(width: usize) -> usize
+    requires { width < 2 ^ 40 }
+    ensures { result ≡ word_count width }
+{
+    (width + WORD_BITS - 1) / WORD_BITS
+}
+
+/// The bit in a column of a row.
+pub(crate) fn get_bit(row: &[u64], column: usize) -> Octet
+    requires { column < 64 * length row.now }
+    ensures { result ≡ packed_bit row.now column }
+{
+    let word = row[column / WORD_BITS];
+    Octet::new(((word >> (column % WORD_BITS)) % 2) as u8)
+}
+
+/// Sets the bit in a column of a row.
+pub(crate) fn set_bit(row: &mut [u64], column: usize, one: bool)
+    requires { column < 64 * length row.old }
+    ensures here { packed_bit row.new column ≡ (if one then 1 else 0) }
+    ensures elsewhere { (k : ℕ) → k ≢ column → packed_bit row.new k ≡ packed_bit row.old k }
+{
+    let word = row[column / WORD_BITS];
+    row[column / WORD_BITS] = word_with(word, column % WORD_BITS, one);
+}
+
+/// Exchanges the bits in two columns of a row.
+pub(crate) fn swap_bits(row: &mut [u64], i: usize, j: usize)
+    requires first { i < 64 * length row.old }
+    requires second { j < 64 * length row.old }
+    ensures first { packed_bit row.new i ≡ packed_bit row.old j }
+    ensures second { packed_bit row.new j ≡ packed_bit row.old i }
+    ensures elsewhere { (k : ℕ) → k ≢ i → k ≢ j → packed_bit row.new k ≡ packed_bit row.old k }
+{
+    let first = get_bit(row, i);
+    let second = get_bit(row, j);
+    set_bit(row, i, second == Octet::one());
+    set_bit(row, j, first == Octet::one());
+}
+
+/// The number of ones of a row in the columns from `start` on and before `end`.
+pub(crate) fn count_ones(row: &[u64], start: usize, end: usize) -> usize
+    requires range { start ≤ end }
+    requires within { end ≤ 64 * length row.now }
+    ensures { result ≡ ones_between (packed_bit row.now) start end }
+{
+    let mut ones = 0;
+    let mut column = start;
+    while column < end {
+        let bit = column % WORD_BITS;
+        let count = (WORD_BITS - bit).min(end - column);
+        ones += ones_in_word(row[column / WORD_BITS], bit, count);
+        column += count;
     }
+    ones
+}
+
+/// The ones of a row in the columns from `start` on and before `end`.
+pub(crate) fn ones_of(row: &[u64], start: usize, end: usize) -> OctetIter<'_>
+    requires range { start ≤ end }
+    requires within { end ≤ 64 * length row.now }
+    ensures { result ≡ ones_among (bit_pairs row.now start start (end - start)) }
+{
+    OctetIter::new_dense_ones(start, end, row)
+}
+
+/// The bits of a row in the columns from `start` on and before `end`.
+pub(crate) fn part_of(
+    alloc: Global,
+    row: &[u64],
+    start: usize,
+    end: usize,
+) -> Result<BinaryOctetVec, Error>
+    requires range { start ≤ end }
+    requires within { end ≤ 64 * length row.now }
+    requires width { end < 65536 }
+    ensures ok { IfOk result (λ octets. AreBitsOf (packed_bit row.now) start end octets) }
+    ensures err { IfErr result (λ e. e ≡ OutOfMemory) }
+{
+    let len = end - start;
+    let mut part = BitRow::zero(alloc, len)?;
+    let padding = (WORD_BITS - len % WORD_BITS) % WORD_BITS;
+    for k in 0..len {
+        part.set(padding + k, get_bit(row, start + k) == Octet::one());
+    }
+    Ok(BinaryOctetVec::new(part.into_words(), len))
 }
 
 // A word with one bit set anew.

@@ -1,18 +1,17 @@
 //! Matrices of bits, and the dense one.
-ghost use Rattle.std.specs.Prelude.{◌≡◌, ◌≢◌, ℕ, ◌+◌, ◌*◌, ◌^◌, ◌<◌, ◌≤◌, ◌⊎◌, All, length, [], map, replicate, slice_index_or, slice_set, take, true, false, IfOk, IfErr, OnOk, OnErr};
+ghost use Rattle.std.specs.Prelude.{◌≡◌, ◌≢◌, ℕ, ◌+◌, ◌*◌, ◌^◌, ◌<◌, ◌≤◌, ◌⊎◌, All, length, true, false, IfOk, IfErr, OnOk, OnErr};
 ghost use Rattle.std.specs.List.Sorted.{IsStrictlyIncreasing};
 ghost use Rattle.std.specs.Int.Bits.{bit_xor};
 ghost use Rattle.rq_bytes.specs.declared.error.Error.TheVariants.{OutOfMemory};
-ghost use Rattle.rq_standard.specs.Rows.{row_sum};
 ghost use Rattle.rq_matrix.specs.BitRows.{word_count, AreSwappedFrom};
 ghost use Rattle.rq_standard.specs.BitTable.{BitTable, IsBitTable};
 ghost use Rattle.rq_standard.specs.BitTableSteps.{ones_between, ArePlacesOfOnes, AreOnesOf, AreBitsOf, CanSet, CanAdd, IsUnchanged, IsZeroTable, SetsBit, SwapsRows, SwapsColumns, SetsIndexed, SetsBoundary, AddsRowFrom, KeepsLeading};
 
-use crate::bit_row::BitRow;
+use crate::bit_row::{count_ones, get_bit, ones_of, part_of, set_bit, swap_bits};
+use crate::bit_rows::BitRows;
 use rq_bytes::error::Error;
 use rq_bytes::octet::Octet;
 use rq_bytes::octets::BinaryOctetVec;
-use rq_bytes::util::get_both_indices;
 use rq_parts::iterators::OctetIter;
 use std::alloc::{AllocError, Global};
 
@@ -232,11 +231,11 @@ pub struct DenseBinaryMatrix {
     width: usize,
     boundary: usize,
     indexed: bool,
-    rows: Vec<BitRow>,
-    ghost height_fits: { length rows.items < 2 ^ 31 },
+    rows: BitRows,
+    ghost height_fits: { length rows < 2 ^ 31 },
     ghost width_fits: { width < 65536 },
     ghost within: { boundary ≤ width },
-    ghost full: { All (λ row. length row ≡ word_count width) rows.items },
+    ghost full: { All (λ row. length row ≡ word_count width) rows },
 }
 
 impl DenseBinaryMatrix {
@@ -283,16 +282,16 @@ impl BinaryMatrix for DenseBinaryMatrix {
             width,
             boundary: width - trailing_dense_column_hint,
             indexed: false,
-            rows: zero_rows(alloc, height, width)?,
+            rows: BitRows::zeros(alloc, height, width)?,
         })
     }
 
     fn allocator(&self) -> Global {
-        *self.rows.allocator()
+        self.rows.allocator()
     }
 
     fn set(&mut self, i: usize, j: usize, value: Octet) -> Result<(), Error> {
-        self.rows[i].set(j, value != Octet::zero());
+        set_bit(self.rows.row_mut(i), j, value != Octet::zero());
         Ok(())
     }
 
@@ -305,11 +304,11 @@ impl BinaryMatrix for DenseBinaryMatrix {
     }
 
     fn count_ones(&self, row: usize, start_col: usize, end_col: usize) -> usize {
-        self.rows[row].count_ones(start_col, end_col)
+        count_ones(self.rows.row(row), start_col, end_col)
     }
 
     fn get_row_iter(&self, row: usize, start_col: usize, end_col: usize) -> OctetIter<'_> {
-        self.rows[row].ones(start_col, end_col)
+        ones_of(self.rows.row(row), start_col, end_col)
     }
 
     fn get_ones_in_column_into(
@@ -330,7 +329,7 @@ impl BinaryMatrix for DenseBinaryMatrix {
     }
 
     fn get_sub_row_as_octets(&self, row: usize, start_col: usize) -> Result<BinaryOctetVec, Error> {
-        self.rows[row].part(start_col, self.width)
+        part_of(self.allocator(), self.rows.row(row), start_col, self.width)
     }
 
     fn query_non_zero_columns_into(
@@ -341,14 +340,14 @@ impl BinaryMatrix for DenseBinaryMatrix {
     ) -> Result<(), Error> {
         out.reserve(self.width - start_col)?;
         out.clear();
-        for (column, _) in self.rows[row].ones(start_col, self.width) {
+        for (column, _) in ones_of(self.rows.row(row), start_col, self.width) {
             out.push_reserved(column);
         }
         Ok(())
     }
 
     fn get(&self, i: usize, j: usize) -> Octet {
-        self.rows[i].get(j)
+        get_bit(self.rows.row(i), j)
     }
 
     fn swap_rows(&mut self, i: usize, j: usize) {
@@ -356,7 +355,7 @@ impl BinaryMatrix for DenseBinaryMatrix {
     }
 
     fn swap_columns(&mut self, i: usize, j: usize, start_row_hint: usize) {
-        swap_columns_from(self.rows.as_mut_slice(), i, j, start_row_hint);
+        swap_columns_from(&mut self.rows, i, j, start_row_hint);
     }
 
     fn enable_column_access_acceleration(&mut self) -> Result<(), Error> {
@@ -374,64 +373,26 @@ impl BinaryMatrix for DenseBinaryMatrix {
     }
 
     fn add_assign_rows(&mut self, dest: usize, src: usize, _: usize) -> Result<(), Error> {
-        add_row(self.rows.as_mut_slice(), dest, src);
+        self.rows.add(dest, src);
         Ok(())
     }
 
     fn resize(&mut self, new_height: usize, new_width: usize) -> Result<(), Error> {
         self.rows.truncate(new_height);
-        truncate_rows(self.rows.as_mut_slice(), new_width);
+        self.rows.narrow(new_width);
         self.width = new_width;
         self.boundary = self.boundary.min(new_width);
         Ok(())
     }
 }
 
-/// So many rows of zeros.
-pub(crate) fn zero_rows(
-    alloc: Global,
-    height: usize,
-    width: usize,
-) -> Result<Vec<BitRow>, AllocError>
-    requires { width < 2 ^ 40 }
-    ensures { IfOk result (λ rows. rows.items ≡ replicate height (replicate (word_count width) 0)) }
-{
-    let mut rows = Vec::with_capacity(alloc, height)?;
-    for _ in 0..height {
-        rows.push(BitRow::zero(alloc, width)?)?;
-    }
-    Ok(rows)
-}
-
 // Exchanges two columns in the rows from one on.
-fn swap_columns_from(rows: &mut [BitRow], i: usize, j: usize, start: usize)
+fn swap_columns_from(rows: &mut BitRows, i: usize, j: usize, start: usize)
     requires first { All (λ row. i < 64 * length row) rows.old }
     requires second { All (λ row. j < 64 * length row) rows.old }
     ensures { AreSwappedFrom i j start (length rows.old) rows.old rows.new }
 {
     for row in start..rows.len() {
-        rows[row].swap(i, j);
-    }
-}
-
-// Adds a row to another one.
-fn add_row(rows: &mut [BitRow], dest: usize, src: usize)
-    requires two { dest ≢ src }
-    requires dest { dest < length rows.old }
-    requires src { src < length rows.old }
-    requires fits { length (slice_index_or rows.old src []) ≡ length (slice_index_or rows.old dest []) }
-    ensures { rows.new ≡ slice_set rows.old dest (row_sum (slice_index_or rows.old dest []) (slice_index_or rows.old src [])) }
-{
-    let (to, from) = get_both_indices(rows, dest, src);
-    to.add(from);
-}
-
-// Drops the words of each row that so many columns don't need.
-fn truncate_rows(rows: &mut [BitRow], width: usize)
-    requires { width < 65536 }
-    ensures { rows.new ≡ map (λ row. take (word_count width) row) rows.old }
-{
-    for row in 0..rows.len() {
-        rows[row].truncate(width);
+        swap_bits(rows.row_mut(row), i, j);
     }
 }

@@ -11,6 +11,7 @@ mod dense_tail;
 mod orders;
 mod rows;
 
+use crate::bit_row::part_of;
 use crate::matrix::BinaryMatrix;
 use column_index::{column_index, indexed_rows, places_between};
 use dense_tail::DenseTail;
@@ -184,7 +185,12 @@ impl BinaryMatrix for SparseBinaryMatrix {
 
     fn get_sub_row_as_octets(&self, row: usize, _: usize) -> Result<BinaryOctetVec, Error> {
         let bits = self.tail.row(self.allocator(), self.stored_row(row))?;
-        bits.part(0, self.width - self.boundary)
+        part_of(
+            self.allocator(),
+            bits.as_slice(),
+            0,
+            self.width - self.boundary,
+        )
     }
 
     fn query_non_zero_columns_into(

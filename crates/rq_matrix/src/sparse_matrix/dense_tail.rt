@@ -1,11 +1,10 @@
 //! The dense columns of a sparse matrix.
-ghost use Rattle.std.specs.Prelude.{◌≡◌, ℕ, ◌+◌, ◌-◌, ◌*◌, ◌^◌, ◌<◌, ◌≤◌, length, map, if◌then◌else◌, All, IfOk, OnOk, OnErr, MatchOption};
+ghost use Rattle.std.specs.Prelude.{◌≡◌, ℕ, ◌+◌, ◌-◌, ◌*◌, ◌^◌, ◌<◌, ◌≤◌, length, map, replicate, if◌then◌else◌, All, IfOk, OnOk, OnErr, MatchOption};
 ghost use Rattle.rq_bytes.specs.BinaryOctetVec.{packed_bit};
 ghost use Rattle.rq_matrix.specs.BitRows.{word_count, with_word_added, HasNoOnes, IsLastOne};
 ghost use Rattle.rq_matrix.specs.DenseTails.{tail_bit, IsZeroTail, SetsTailBit, MarksRows, AddsTailRow, PushesColumn};
 
 use crate::bit_row::{BitRow, last_one};
-use crate::matrix::zero_rows;
 use rq_bytes::octet::Octet;
 use std::alloc::{AllocError, Global};
 use std::marker::Model;
@@ -145,6 +144,18 @@ impl DenseTail {
         }
         Ok(bits)
     }
+}
+
+// So many rows of zeros.
+fn zero_rows(alloc: Global, height: usize, width: usize) -> Result<Vec<BitRow>, AllocError>
+    requires { width < 2 ^ 40 }
+    ensures { IfOk result (λ rows. rows.items ≡ replicate height (replicate (word_count width) 0)) }
+{
+    let mut rows = Vec::with_capacity(alloc, height)?;
+    for _ in 0..height {
+        rows.push(BitRow::zero(alloc, width)?)?;
+    }
+    Ok(rows)
 }
 
 // In each block adds the word of a row to that of another one.

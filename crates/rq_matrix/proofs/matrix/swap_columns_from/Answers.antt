@@ -1,6 +1,5 @@
 -- What the check leaves to show of `matrix::swap_columns_from`.
 use Rattle.std.proofs.Common.{◌≡◌, ◌≢◌, ◌+◌, ◌<◌, ◌≤◌, ℕ, List, [], length, set, get_or, sym, subst, ap, ◌∙◌, arith, inl, inr, length-set, get_or-set_same, get_or-set_other}
-use Rattle.std.proofs.lemmas.List.{get_or_default}
 use Rattle.std.proofs.Math.ListN.{get_or-eq_default}
 use Rattle.std.proofs.lemmas.Bool.Decides.{eqb_tells}
 use Rattle.rq_bytes.specs.BinaryOctetVec.{packed_bit}
@@ -34,23 +33,26 @@ pub loop-row-preserved : goal.loop-row-preserved
 loop-row-preserved c =
     let items = c.loop-row.rows in
     let n = c.loop-row.row in
-    let below : n < length items = omega (arith, c.loop-row.auto.rows, c.loop-row-test.true) in
-    let read = get_or_default items n c.index-rows-row.result [] below in
-    let swap = c.swap.ensures in
-    more c.args.i c.args.j c.args.start n c.args.rows.now items c.swap.new.self c.loop-row.auto.row below c.loop-row.invariant (swap.len ∙ ap length read)
+    let below : n < length items = omega (arith, c.loop-row.invariant.count, c.loop-row-test.true, c.len-row-end.ensures) in
+    let lent = c.row_mut.ensures in
+    let swap = c.swap_bits.ensures in
+    let long = c.swap_bits.auto.row ∙ ap length lent.row in
+    subst (AreSwappedFrom c.args.i c.args.j c.args.start (n + 1) c.args.rows.now) (sym (lent.whole_row c.swap_bits.new.row long))
+    (more c.args.i c.args.j c.args.start n c.args.rows.now items c.swap_bits.new.row c.loop-row.auto.row below c.loop-row.invariant long
     (λ width. record {
-      first = swap.first ∙ ap (λ l. packed_bit l c.args.j) read;
-      second = swap.second ∙ ap (λ l. packed_bit l c.args.i) read;
-      elsewhere = λ k _ other other'. swap.elsewhere k other other' ∙ ap (λ l. packed_bit l k) read;
-    })
+      first = swap.first ∙ ap (λ l. packed_bit l c.args.j) lent.row;
+      second = swap.second ∙ ap (λ l. packed_bit l c.args.i) lent.row;
+      elsewhere = λ k _ other other'. swap.elsewhere k other other' ∙ ap (λ l. packed_bit l k) lent.row;
+    }))
 
 pub returns : goal.returns
 returns c =
     let kept = c.loop-row.invariant in
+    let done : length c.args.rows.now ≤ c.loop-row.row = omega (arith, c.loop-row-test.false, c.len-row-end.ensures) in
     record {
       count = kept.count;
       lengths = kept.lengths;
-      swapped = λ a width lower upper. kept.swapped a width lower (let done = c.loop-row-test.false in omega arith);
+      swapped = λ a width lower upper. kept.swapped a width lower (omega arith);
       above = kept.above;
-      after = λ a upper. get_or-eq_default c.loop-row.rows [] (omega (arith, c.loop-row.auto.rows)) ∙ sym (get_or-eq_default c.args.rows.now [] upper);
+      after = λ a upper. get_or-eq_default c.loop-row.rows [] (omega (arith, kept.count)) ∙ sym (get_or-eq_default c.args.rows.now [] upper);
     }

@@ -1,8 +1,7 @@
 -- What the check leaves to show of `matrix::DenseBinaryMatrix::add_assign_rows`.
-use Rattle.std.proofs.Common.{◌≡◌, ◌<◌, ◌^◌, ◌/◌, ℕ, List, [], length, set, get_or, sym, subst, ap, ◌∙◌, inr, refl, length-set, get_or-set_same, get_or-set_other}
+use Rattle.std.proofs.Common.{◌≡◌, ◌<◌, ◌^◌, ◌/◌, ℕ, List, [], length, get_or, sym, subst, ap, ◌∙◌, inr, refl, length-set, get_or-set_same, get_or-set_other}
 use Rattle.std.specs.List.{All}
 use Rattle.std.specs.Int.Bits.{bit_xor}
-use Rattle.std.proofs.lemmas.List.{with_items_is}
 use Rattle.std.proofs.lemmas.List.Elements.{All-set}
 use Rattle.std.proofs.lemmas.Simd.{length-zip2}
 use Rattle.rq_bytes.specs.BinaryOctetVec.{packed_bit}
@@ -10,25 +9,16 @@ use Rattle.rq_standard.specs.Rows.{row_sum}
 use Rattle.rq_matrix.specs.BitRows.{bit_in, word_count}
 use Rattle.rq_matrix.proofs.RowLaws.{packed_bit-sum, word_inside}
 use Rattle.rq_matrix.proofs.matrix.DenseBinaryMatrixBinaryMatrix.add_assign_rows.Goals as goal
-use Rattle.rq_matrix.proofs.matrix.DenseBinaryMatrixBinaryMatrix.add_assign_rows.Goals.{After-add_row}
-
--- the rows after an addition
-abbrev added : List (List ℕ) → ℕ → ℕ → List (List ℕ)
-added rows dest src = set rows dest (row_sum (get_or rows dest []) (get_or rows src []))
 
 length-sum : (rows : List (List ℕ)) (dest src n : ℕ) → dest < length rows → src < length rows → All (λ row. length row ≡ n) rows → length (row_sum (get_or rows dest []) (get_or rows src [])) ≡ n
 length-sum rows dest src n dest_in src_in full = length-zip2 bit_xor (get_or rows dest []) (get_or rows src []) (full dest [] dest_in ∙ sym (full src [] src_in)) ∙ full dest [] dest_in
 
-module _ (c : After-add_row) where
-  items : c.add_row.new.rows ≡ added c.args.self.now.rows.items c.args.dest c.args.src
-  items = c.add_row.ensures ∙ ap (λ (l : List (List ℕ)). added l c.args.dest c.args.src) c.as_mut_slice.ensures.value
-
 pub invariant_of-self : goal.invariant_of-self
 invariant_of-self c =
     let old = c.args.self.now in
-    let rows = old.rows.items in
+    let rows = old.rows in
     let dest = c.args.dest in
-    let is = with_items_is old.rows c.add_row.new.rows (c.add_row.auto.rows ∙ c.as_mut_slice.ensures.len) ∙ items (goal.at.invariant_of-self c).After-add_row in
+    let is = c.add.ensures in
     record {
       height_fits = subst (λ (l : List (List ℕ)). length l < 2 ^ 31) (sym is) (subst (λ n. n < 2 ^ 31) (sym (length-set rows dest (row_sum (get_or rows dest []) (get_or rows c.args.src [])))) old.height_fits);
       width_fits = old.width_fits;
@@ -40,11 +30,11 @@ invariant_of-self c =
 pub returns-clause-ok : goal.returns-clause-ok
 returns-clause-ok c =
     let old = c.args.self.now in
-    let rows = old.rows.items in
+    let rows = old.rows in
     let dest = c.args.dest in
     let src = c.args.src in
     let sum = row_sum (get_or rows dest []) (get_or rows src []) in
-    let is = with_items_is old.rows c.add_row.new.rows (c.add_row.auto.rows ∙ c.as_mut_slice.ensures.len) ∙ items (goal.at.returns-clause-ok c).After-add_row in
+    let is = c.add.ensures in
     let long = old.full dest [] c.requires.dest in
     let both = old.full src [] c.requires.src ∙ sym long in
     let is_sum = λ (k : ℕ) (below : k < old.width).

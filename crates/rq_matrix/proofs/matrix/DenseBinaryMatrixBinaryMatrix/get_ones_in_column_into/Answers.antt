@@ -9,7 +9,7 @@ use Rattle.rq_matrix.proofs.matrix.DenseBinaryMatrixBinaryMatrix.get_ones_in_col
 
 pub loop-row-preserved : goal.loop-row-preserved
 loop-row-preserved c =
-    let rows = c.args.self.now.rows.items in
+    let rows = c.args.self.now.rows in
     let row = c.loop-row.row in
     found_next (λ i. bit_in rows i c.args.col) c.args.start_row row c.args.end_row c.loop-row.out c.if-eq.out c.loop-row.invariant c.loop-row.auto.row (packed_bit-lt (get_or rows row []) c.args.col) c.get.result c.one.result c.eq.result c.get.ensures c.one.ensures c.eq.ensures
     (elim c.if-eq.branch [

@@ -4,4 +4,4 @@ use Rattle.rq_matrix.proofs.Places.{AreFound}
 use Rattle.rq_matrix.proofs.matrix.DenseBinaryMatrixBinaryMatrix.get_ones_in_column_into.Given as goal
 
 abbrev pub invariant-loop-row : goal.invariant-loop-row
-invariant-loop-row l = AreFound (λ row. bit_in l.self.rows.items row l.col) l.start_row l.row l.end_row l.out
+invariant-loop-row l = AreFound (λ row. bit_in l.self.rows row l.col) l.start_row l.row l.end_row l.out

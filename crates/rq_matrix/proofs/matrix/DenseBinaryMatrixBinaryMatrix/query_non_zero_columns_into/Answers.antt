@@ -10,7 +10,7 @@ use Rattle.rq_matrix.proofs.matrix.DenseBinaryMatrixBinaryMatrix.query_non_zero_
 pub push_reserved-requires : goal.push_reserved-requires
 push_reserved-requires c =
     let kept = c.loop-column.invariant in
-    let row = get_or c.args.self.now.rows.items c.args.row [] in
+    let row = get_or c.args.self.now.rows c.args.row [] in
     let pair : ℕ × ℕ = (c.in-Some.column, c.in-Some.field-0-1) in
     let width = c.args.self.now.width in
     let left : length (c.loop-column.yielded ++ pair ∷ c.next.new.self) ≤ width - c.args.start_col =
@@ -24,7 +24,7 @@ places out ones yielded left whole none columns = ap (map (λ (pair : ℕ × ℕ
 
 pub returns-clause-ok : goal.returns-clause-ok
 returns-clause-ok c =
-    let row = get_or c.args.self.now.rows.items c.args.row [] in
+    let row = get_or c.args.self.now.rows c.args.row [] in
     let width = c.args.self.now.width in
     let start = c.args.start_col in
     let kept = c.loop-column.invariant in
@@ -35,4 +35,4 @@ pub returns-clause-ascending : goal.returns-clause-ascending
 returns-clause-ascending c =
     let kept = c.loop-column.invariant in
     subst IsStrictlyIncreasing (places c.loop-column.out.items _ c.loop-column.yielded c.loop-column.column-iterator kept.whole c.in-None.ensures.steps.0 kept.columns)
-    (places-ascend (get_or c.args.self.now.rows.items c.args.row []) c.args.start_col c.args.self.now.width)
+    (places-ascend (get_or c.args.self.now.rows c.args.row []) c.args.start_col c.args.self.now.width)

@@ -8,7 +8,7 @@ abbrev pub invariant-loop-column : goal.invariant-loop-column
 invariant-loop-column l = record {
   can : goal.iterator-loop-column.can_next l.column-iterator;
   ends : goal.iterator-loop-column.is_finite l.column-iterator;
-  whole : ones_among (bit_pairs (slice_index_or l.self.rows.items l.row []) l.start_col l.start_col (l.self.width - l.start_col)) ≡ l.yielded ++ l.column-iterator;
+  whole : ones_among (bit_pairs (slice_index_or l.self.rows l.row []) l.start_col l.start_col (l.self.width - l.start_col)) ≡ l.yielded ++ l.column-iterator;
   columns : l.out.items ≡ map (λ (pair : ℕ × ℕ). pair.0) l.yielded;
   room : l.self.width - l.start_col ≤ vec_capacity l.out;
 }

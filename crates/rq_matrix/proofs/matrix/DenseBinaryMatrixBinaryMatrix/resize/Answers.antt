@@ -1,13 +1,12 @@
 -- What the check leaves to show of `matrix::DenseBinaryMatrix::resize`.
 use Rattle.std.proofs.Common.{◌≡◌, ◌≤◌, ◌<◌, ◌^◌, ℕ, List, [], length, map, take, get_or, sym, subst, ap, ◌∙◌, arith, refl}
 use Rattle.std.specs.List.{All}
-use Rattle.std.proofs.lemmas.List.{with_items_is, get_or-take, get_or-map, length-map, length-take-le}
+use Rattle.std.proofs.lemmas.List.{get_or-take, get_or-map, length-map, length-take-le}
 use Rattle.std.proofs.lemmas.List.Elements.{All-map}
 use Rattle.rq_bytes.specs.BinaryOctetVec.{packed_bit}
 use Rattle.rq_matrix.specs.BitRows.{bit_in, word_count}
 use Rattle.rq_matrix.proofs.RowLaws.{packed_bit-take, word_inside, word_count-le}
 use Rattle.rq_matrix.proofs.matrix.DenseBinaryMatrixBinaryMatrix.resize.Goals as goal
-use Rattle.rq_matrix.proofs.matrix.DenseBinaryMatrixBinaryMatrix.resize.Goals.{After-truncate_rows}
 
 -- the first rows, each with the words that so many columns need
 abbrev leading : List (List ℕ) → ℕ → ℕ → List (List ℕ)
@@ -30,28 +29,24 @@ leading-bit rows height width i k le row column =
     ∙ packed_bit-take (get_or (take height rows) i []) (word_count width) k (word_inside width k column)
     ∙ ap (λ r. packed_bit r k) (get_or-take height rows i [] row)
 
-module _ (c : After-truncate_rows) where
-  items : c.truncate_rows.new.rows ≡ leading c.args.self.now.rows.items c.args.new_height c.args.new_width
-  items = c.truncate_rows.ensures ∙ ap (map (λ row. take (word_count c.args.new_width) row)) (c.as_mut_slice.ensures.value ∙ c.truncate.ensures.items)
-
 pub invariant_of-self : goal.invariant_of-self
 invariant_of-self c =
     let old = c.args.self.now in
     let height = c.args.new_height in
-    let is = with_items_is c.truncate.new.self c.truncate_rows.new.rows (c.truncate_rows.auto.rows ∙ c.as_mut_slice.ensures.len) ∙ items (goal.at.invariant_of-self c).After-truncate_rows in
+    let is = c.narrow.ensures ∙ ap (map (λ row. take (word_count c.args.new_width) row)) c.truncate.ensures in
     record {
-      height_fits = subst (λ (l : List (List ℕ)). length l < 2 ^ 31) (sym is) (omega (arith, length-leading old.rows.items height c.args.new_width c.requires.height, old.height_fits, c.requires.height));
+      height_fits = subst (λ (l : List (List ℕ)). length l < 2 ^ 31) (sym is) (omega (arith, length-leading old.rows height c.args.new_width c.requires.height, old.height_fits, c.requires.height));
       width_fits = omega (arith, old.width_fits, c.requires.width);
       within = omega (arith, c.min-self.ensures);
-      full = subst (All (λ row. length row ≡ word_count c.args.new_width)) (sym is) (leading-full old.rows.items height c.args.new_width old.width c.requires.height c.requires.width old.full);
+      full = subst (All (λ row. length row ≡ word_count c.args.new_width)) (sym is) (leading-full old.rows height c.args.new_width old.width c.requires.height c.requires.width old.full);
     }
 
 pub returns-clause-ok : goal.returns-clause-ok
 returns-clause-ok c =
-    let rows = c.args.self.now.rows.items in
+    let rows = c.args.self.now.rows in
     let height = c.args.new_height in
     let width = c.args.new_width in
-    let is = with_items_is c.truncate.new.self c.truncate_rows.new.rows (c.truncate_rows.auto.rows ∙ c.as_mut_slice.ensures.len) ∙ items (goal.at.returns-clause-ok c).After-truncate_rows in
+    let is = c.narrow.ensures ∙ ap (map (λ row. take (word_count c.args.new_width) row)) c.truncate.ensures in
     record {
       height = ap length is ∙ length-leading rows height width c.requires.height;
       width = refl;

@@ -1,8 +1,8 @@
--- What the check leaves to show of `bit_row::BitRow::part`.
+-- What the check leaves to show of `bit_row::part_of`.
 use Rattle.std.proofs.Common.{◌≡◌, ℕ, ◌+◌, ◌-◌, ◌<◌, List, get_or, ap, ◌∙◌, arith}
 use Rattle.rq_bytes.specs.BinaryOctetVec.{packed_bit, padding_of}
 use Rattle.rq_bytes.proofs.PackedRows.{get_or-packed_bits}
-use Rattle.rq_matrix.proofs.bit_row.BitRow.part.Goals as goal
+use Rattle.rq_matrix.proofs.bit_row.part_of.Goals as goal
 
 pub returns-clause-ok : goal.returns-clause-ok
 returns-clause-ok c =
@@ -17,5 +17,5 @@ returns-clause-ok c =
           ∙ get_or-packed_bits c.into_words.result.items len (k - c.args.start) inside
           ∙ ap (λ (l : List ℕ). packed_bit l (padding_of len + (k - c.args.start))) c.into_words.ensures
           ∙ c.loop-k.invariant.copied (k - c.args.start) (omega arith)
-          ∙ ap (packed_bit c.args.self.now) place;
+          ∙ ap (packed_bit c.args.row.now) place;
     }

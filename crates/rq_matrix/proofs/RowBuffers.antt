@@ -1,0 +1,205 @@
+-- A buffer of rows of words and the rows that callers see.
+use Rattle.std.proofs.Common.{◌≡◌, ◌⊎◌, ⊎_elim, ℕ, zero, suc, ◌+◌, ◌-◌, ◌*◌, ◌<◌, ◌≤◌, List, [], ◌∷◌, ◌++◌, length, take, drop, map, min, get_or, set, refl, sym, ap, ◌∙◌, arith}
+use Rattle.std.specs.Prelude.{◌==◌, ◌&&◌}
+use Rattle.std.specs.Cmp.Lexicographic.{pointwise}
+use Rattle.std.proofs.Math.Nat.{mul-le-mul_right}
+use Rattle.std.proofs.lemmas.Bool.{cases_lt}
+use Rattle.std.proofs.lemmas.List.{take_all, length-take, length-append, length-drop, length-take-le, take-append-drop, append-nil, drop-drop, take-take, map-append}
+use Rattle.std.proofs.lemmas.List.Edits.{length-paste, take-paste, drop-paste}
+use Rattle.std.specs.List.{copy_within}
+use Rattle.rq_bytes.specs.Ranges.{range_of, with_range, cut, joined_pieces}
+use Rattle.rq_bytes.proofs.Cuts.{length-cut, get_or-cut, cut-append, cut-join, cut-with_range, joined-cut, refilled, cut-refilled, piece_within}
+use Rattle.rq_bytes.proofs.RangeFacts.{around, rewritten-low, rewritten-high, rewritten-up, rewritten-down, length-range}
+use Rattle.rq_matrix.specs.BitRows.{same_rows}
+use Rattle.rq_matrix.specs.RowLends.{with_words, IsRowWrite}
+use Rattle.rq_matrix.specs.contracts.bit_rows.BitRows.{the_view, the_invariant}
+use Rattle.rq_matrix.specs.declared.bit_rows.BitRows.TheInside.{Inside}
+
+pub length-with_range : (xs : List ℕ) (i : ℕ) (ys : List ℕ) → i + length ys ≤ length xs → length (with_range xs i ys) ≡ length xs
+length-with_range xs i ys within =
+    omega (
+      arith,
+      length-append (take i xs) (ys ++ drop (i + length ys) xs),
+      length-append ys (drop (i + length ys) xs),
+      length-take-le i xs (omega arith),
+      length-drop (i + length ys) xs,
+    )
+
+-- a range written after another one, with what it had
+pub second_kept : (xs : List ℕ) (i j n : ℕ) (ys : List ℕ) → (i + n ≤ j) ⊎ (j + n ≤ i) → i + n ≤ length xs → j + n ≤ length xs → length ys ≡ n
+    → with_range (with_range xs i ys) j (range_of xs j n) ≡ with_range xs i ys
+second_kept xs i j n ys apart i_in j_in long =
+    ⊎_elim
+    (λ (le : i + n ≤ j).
+    let a = around xs i j n le j_in in
+    sym (rewritten-up a ys (range_of xs j n) long a.second_long) ∙ rewritten-low a ys (range_of xs j n) long a.second_long refl)
+    (λ (le : j + n ≤ i).
+    let a = around xs j i n le i_in in
+    sym (rewritten-down a (range_of xs j n) ys a.first_long long) ∙ rewritten-high a (range_of xs j n) ys a.first_long long refl)
+    apart
+
+-- the buffer `words` of `count` rows of `size` words, and what callers see of it
+pub record Holds (words : List ℕ) (count size : ℕ) (rows : List (List ℕ)) : Type 0 where
+  pub view : cut count size words ≡ rows
+  pub long : length words ≡ count * size
+
+pub holds : (inside : Inside) (rows : List (List ℕ)) → the_view inside ≡ rows → the_invariant inside → Holds inside.words.items inside.count inside.row_len rows
+holds inside rows view invariant = record { view = view; long = sym inside.words.ok.0 ∙ invariant }
+
+module _ {words : List ℕ} {count size : ℕ} {rows : List (List ℕ)} (is : Holds words count size rows) where
+  pub count_is : count ≡ length rows
+  count_is = sym (length-cut count size words) ∙ ap length is.view
+
+  -- the words of one row
+  pub row_at : (i : ℕ) → i < length rows → range_of words (i * size) size ≡ get_or rows i []
+  row_at i below = let count_is_there = count_is in sym (get_or-cut count size i words (omega arith) is.long) ∙ ap (λ l. get_or l i []) is.view
+
+  pub within : (i : ℕ) → i < length rows → i * size + size ≤ length words
+  within i below = let count_is_there = count_is in omega (arith, piece_within i count size (omega arith), is.long)
+
+  pub length-row : (i : ℕ) → i < length rows → length (get_or rows i []) ≡ size
+  length-row i below = ap length (sym (row_at i below)) ∙ length-range words (i * size) size (within i below)
+
+  -- the rows after a write of the words of one of them
+  pub row_written : (i : ℕ) (ws : List ℕ) → i < length rows → length ws ≡ size → Holds (with_range words (i * size) ws) count size (set rows i ws)
+  row_written i ws below long =
+      let count_is_there = count_is in
+      record {
+        view = cut-with_range count size i words ws (omega arith) long is.long ∙ ap (λ l. set l i ws) is.view;
+        long = length-with_range words (i * size) ws (omega (arith, within i below)) ∙ is.long;
+      }
+
+  -- the buffer again, of what callers see
+  joined_is : joined_pieces rows ≡ words
+  joined_is = ap joined_pieces (sym is.view) ∙ joined-cut count size words is.long
+
+  written_is : (i : ℕ) (ws : List ℕ) → i < length rows → cut count size (with_range words (i * size) ws) ≡ with_words rows i ws
+  written_is i ws below =
+      ap (λ xs. cut count size (with_range xs (i * size) ws)) (sym joined_is)
+      ∙ ap (λ n. cut n size (with_range (joined_pieces rows) (i * size) ws)) count_is
+      ∙ ap (λ s. cut (length rows) s (with_range (joined_pieces rows) (i * s) ws)) (sym (length-row i below))
+
+  -- what callers see after a write of any words from one row on, in a buffer that keeps its length
+  pub words_written : (i all : ℕ) (ws : List ℕ) → i < length rows → all ≡ length words → cut count size (refilled all words (i * size) ws) ≡ with_words rows i ws
+  words_written i all ws below whole =
+      ap (λ n. cut count size (refilled n words (i * size) ws)) (whole ∙ is.long)
+      ∙ cut-refilled count size (i * size) words ws (omega (arith, within i below)) is.long
+      ∙ written_is i ws below
+
+  pub is_row_write : (i : ℕ) → i < length rows → IsRowWrite rows i
+  is_row_write i below ws long = sym (written_is i ws below) ∙ (row_written i ws below (long ∙ length-row i below)).view
+
+-- what `==` compares
+pub compared : (a b : Inside) (left right : List (List ℕ)) → the_view a ≡ left → the_invariant a → the_view b ≡ right → the_invariant b
+    → same_rows left right ≡ (a.count == b.count && pointwise ◌==◌ a.words.items b.words.items)
+compared a b left right av ai bv bi =
+    let first = holds a left av ai in
+    let second = holds b right bv bi in
+    ap (λ n. n == length right && pointwise ◌==◌ (joined_pieces left) (joined_pieces right)) (sym (count_is first))
+    ∙ ap (λ n. a.count == n && pointwise ◌==◌ (joined_pieces left) (joined_pieces right)) (sym (count_is second))
+    ∙ ap (λ l. a.count == b.count && pointwise ◌==◌ l (joined_pieces right)) (joined_is first)
+    ∙ ap (λ l. a.count == b.count && pointwise ◌==◌ a.words.items l) (joined_is second)
+
+-- ---- fewer rows, and shorter ones
+
+take-cut : (h n s : ℕ) (xs : List ℕ) → h ≤ n → take h (cut n s xs) ≡ cut h s xs
+take-cut zero n s xs le = refl
+take-cut (suc h) zero s xs le = absurd (omega arith)
+take-cut (suc h) (suc n) s xs le = ap (λ l. take s xs ∷ l) (take-cut h n s (drop s xs) (omega arith))
+
+-- the pieces of the part that they fill
+pub cut-front : (n s : ℕ) (xs : List ℕ) → n * s ≤ length xs → cut n s xs ≡ cut n s (take (n * s) xs)
+cut-front n s xs le =
+    let front = take (n * s) xs in
+    let none : n ≡ n + 0 = omega arith in
+    ap (cut n s) (sym (take-append-drop (n * s) xs))
+    ∙ ap (λ k. cut k s (front ++ drop (n * s) xs)) none
+    ∙ cut-join n 0 s front (drop (n * s) xs) (length-take-le (n * s) xs le)
+    ∙ append-nil (cut n s front)
+
+cut-next : (n s : ℕ) (xs : List ℕ) → cut (suc n) s xs ≡ cut n s xs ++ range_of xs (n * s) s ∷ []
+cut-next zero s xs = ap (λ k. range_of xs k s ∷ []) (let none : 0 ≡ 0 * s = omega arith in none)
+cut-next (suc n) s xs =
+    let next : s + n * s ≡ suc n * s = omega arith in
+    ap (λ l. take s xs ∷ l) (cut-next n s (drop s xs))
+    ∙ ap (λ l. take s xs ∷ (cut n s (drop s xs) ++ take s l ∷ [])) (drop-drop (n * s) s xs ∙ ap (λ k. drop k xs) next)
+
+pub truncated : (words : List ℕ) (count size height : ℕ) (rows : List (List ℕ)) → Holds words count size rows → height ≤ length rows
+    → Holds (take (height * size) words) height size (take height rows)
+truncated words count size height rows is le =
+    let few : height ≤ count = omega (arith, count_is is) in
+    let fits : height * size ≤ length words = omega (arith, mul-le-mul_right size few, is.long) in
+    record {
+      view = sym (cut-front height size words fits) ∙ sym (take-cut height count size words few) ∙ ap (take height) is.view;
+      long = length-take-le (height * size) words fits;
+    }
+
+take-take-any : (kept size : ℕ) (words : List ℕ) → take (min kept size) (take size words) ≡ take kept (take size words)
+take-take-any kept size words =
+    ⊎_elim
+    (λ (less : kept < size). ap (λ n. take n (take size words)) {y = kept} (omega arith))
+    (λ (le : size ≤ kept). ap (λ n. take n (take size words)) {y = size} (omega arith) ∙ take-take size size words (omega arith) ∙ sym (take_all kept (take size words) (omega (arith, length-take size words))))
+    (cases_lt kept size)
+
+-- a row of `size` words is cut where any row is
+pub cut_short : (kept size count : ℕ) (words : List ℕ) → map (λ row. take (min kept size) row) (cut count size words) ≡ map (λ row. take kept row) (cut count size words)
+cut_short kept size zero words = refl
+cut_short kept size (suc count) words =
+    ap (λ l. l ∷ map (λ row. take (min kept size) row) (cut count size (drop size words))) (take-take-any kept size words)
+    ∙ ap (λ l. take kept (take size words) ∷ l) (cut_short kept size count (drop size words))
+
+-- of n rows the first `kept` words are moved together, and the rows behind are as they were
+pub record AreGathered (kept size n : ℕ) (old new : List ℕ) : Type 0 where
+  pub long : length new ≡ length old
+  pub moved : cut n kept new ≡ map (λ row. take kept row) (cut n size old)
+  pub rest : drop (n * size) new ≡ drop (n * size) old
+
+pub gathered_more : (kept size count n : ℕ) (old mid : List ℕ) → kept ≤ size → n < count → length old ≡ count * size → AreGathered kept size n old mid
+    → AreGathered kept size (n + 1) old (copy_within mid (n * size) (n * size + kept) (n * kept))
+gathered_more kept size count n old mid few below long is =
+    let start = n * size in
+    let to = n * kept in
+    let source = drop start mid in
+    let new = copy_within mid start (start + kept) to in
+    let k : start + kept - start ≡ kept = omega arith in
+    let next : n + 1 ≡ suc n = omega arith in
+    let less : to + kept ≤ start + size = omega (arith, mul-le-mul_right n few) in
+    let end : suc n * size ≡ start + size = omega arith in
+    let new_end : suc n * kept ≡ to + kept = omega arith in
+    let fits : start + size ≤ length mid = omega (arith, piece_within n count size below, is.long) in
+    let enough : kept ≤ length source = omega (arith, length-drop start mid) in
+    let whole : length new ≡ length mid = length-paste mid to source (start + kept - start) (omega arith) (omega arith) in
+    let head : take (to + kept) new ≡ take to mid ++ take kept source =
+    ap (λ m. take (to + m) new) (sym k) ∙ take-paste mid to source (start + kept - start) (omega arith) (omega arith) ∙ ap (λ m. take to mid ++ take m source) k
+    in
+    let tail : drop (to + kept) new ≡ drop (to + kept) mid =
+    ap (λ m. drop (to + m) new) (sym k) ∙ drop-paste mid to source (start + kept - start) (omega arith) (omega arith) ∙ ap (λ m. drop (to + m) mid) k
+    in
+    let f : List ℕ → List ℕ = λ row. take kept row in
+    let piece : take kept source ≡ f (range_of old start size) = ap (take kept) is.rest ∙ sym (take-take kept size (drop start old) few) in
+    let left = start + size - (to + kept) in
+    let on : to + kept + left ≡ suc n * size = omega arith in
+    let moved : cut (suc n) kept new ≡ map f (cut (suc n) size old) =
+    cut-front (suc n) kept new (omega arith)
+    ∙ ap (cut (suc n) kept) (ap (λ m. take m new) new_end ∙ head)
+    ∙ cut-append n kept (take to mid) (take kept source) (length-take-le to mid (omega arith)) (length-take-le kept source enough)
+    ∙ ap (λ l. l ++ take kept source ∷ []) (sym (cut-front n kept mid (omega arith)) ∙ is.moved)
+    ∙ ap (λ l. map f (cut n size old) ++ l ∷ []) piece
+    ∙ sym (ap (map f) (cut-next n size old) ∙ map-append f (cut n size old) (range_of old start size ∷ []))
+    in
+    let rest : drop (suc n * size) new ≡ drop (suc n * size) old =
+    ap (λ m. drop m new) (sym on)
+    ∙ sym (drop-drop left (to + kept) new)
+    ∙ ap (drop left) tail
+    ∙ drop-drop left (to + kept) mid
+    ∙ ap (λ m. drop m mid) (on ∙ end)
+    ∙ sym (drop-drop size start mid)
+    ∙ ap (drop size) is.rest
+    ∙ drop-drop size start old
+    ∙ ap (λ m. drop m old) (sym end)
+    in
+    record {
+      long = whole ∙ is.long;
+      moved = ap (λ m. cut m kept new) next ∙ moved ∙ ap (λ m. map f (cut m size old)) (sym next);
+      rest = ap (λ m. drop (m * size) new) next ∙ rest ∙ ap (λ m. drop (m * size) old) (sym next);
+    }

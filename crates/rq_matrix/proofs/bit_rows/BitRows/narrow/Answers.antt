@@ -1,0 +1,28 @@
+-- What the check leaves to show of `bit_rows::BitRows::narrow`.
+use Rattle.std.proofs.Common.{◌≤◌, ◌*◌, List, ℕ, length, map, min, take, ap, sym, ◌∙◌, arith}
+use Rattle.std.proofs.Math.Nat.{mul-le-mul_right}
+use Rattle.std.proofs.lemmas.List.{with_items_is}
+use Rattle.rq_bytes.specs.Ranges.{cut}
+use Rattle.rq_matrix.specs.BitRows.{word_count}
+use Rattle.rq_matrix.proofs.RowBuffers.{holds, cut-front, cut_short}
+use Rattle.rq_matrix.proofs.bit_rows.BitRows.narrow.Goals as goal
+
+pub returns : goal.returns
+returns c =
+    let words = c.self.inside.words.items in
+    let count = c.self.inside.count in
+    let size = c.self.inside.row_len in
+    let width = word_count c.args.width in
+    let kept = c.min-kept.result in
+    let gathered = c.gather_starts.new.words in
+    let is = holds c.self.inside c.args.self.now c.self.view_is c.self.invariant in
+    let fits : count * kept ≤ length gathered =
+    omega (arith, mul-le-mul_right count (let less : kept ≤ size = omega (arith, c.min-kept.ensures) in less), c.gather_starts.auto.words, c.as_mut_slice-words.ensures.len, c.self.invariant)
+    in
+    ap (cut count kept) (c.truncate.ensures.items ∙ ap (take (count * kept)) (with_items_is c.self.inside.words gathered (c.gather_starts.auto.words ∙ c.as_mut_slice-words.ensures.len)))
+    ∙ sym (cut-front count kept gathered fits)
+    ∙ c.gather_starts.ensures
+    ∙ ap (λ l. map (λ (row : List ℕ). take kept row) (cut count size l)) c.as_mut_slice-words.ensures.value
+    ∙ ap (λ n. map (λ (row : List ℕ). take n row) (cut count size words)) (c.min-kept.ensures ∙ ap (λ n. min n size) c.words_for.ensures)
+    ∙ cut_short width size count words
+    ∙ ap (map (λ (row : List ℕ). take width row)) is.view

@@ -1,0 +1,200 @@
+//! Rows of bits in one buffer.
+ghost use Rattle.std.specs.Prelude.{◌≡◌, ◌≢◌, ◌⊎◌, ◌+◌, ◌*◌, ◌^◌, ◌<◌, ◌≤◌, [], length, map, replicate, take, slice_index_or, slice_set, IfOk};
+ghost use Rattle.std.proofs.Common.{rules};
+ghost use Rattle.std.specs.Borrow.{sem};
+ghost use Rattle.std.specs.Cmp.Rules.{comparing};
+ghost use Rattle.std.specs.List.{swap};
+ghost use Rattle.rq_bytes.specs.Ranges.{range_of, with_range, cut};
+ghost use Rattle.rq_standard.specs.Rows.{row_sum};
+ghost use Rattle.rq_matrix.specs.BitRows.{word_count, same_rows};
+
+use crate::bit_row::words_for;
+use rq_bytes::gf2::add_assign_binary;
+use rq_bytes::util::get_both_ranges;
+use std::alloc::{AllocError, Global};
+use std::marker::Model;
+
+/// Rows of bits, 64 to a word, each of as many words as the others. Contracts see the rows' words.
+#[derive(Debug, Drop)]
+pub(crate) struct BitRows {
+    words: Vec<u64>,
+    row_len: usize,
+    count: usize,
+}
+
+impl Model for BitRows {
+    ghost use Rattle.std.specs.Prelude.{◌≡◌, ◌*◌, List, ℕ, vec_len};
+    ghost use Rattle.rq_bytes.specs.Ranges.{cut};
+
+    ghost Value = { List (List ℕ) };
+
+    ghost view = { λ r. cut r.count r.row_len r.words.items };
+
+    ghost invariant = { λ r. vec_len r.words ≡ r.count * r.row_len };
+}
+
+impl Clone for BitRows {
+    ghost is_clone = { λ a b. b ≡ a };
+
+    fn clone(&self) -> Result<Self, AllocError> {
+        Ok(BitRows {
+            words: self.words.clone()?,
+            row_len: self.row_len,
+            count: self.count,
+        })
+    }
+}
+
+impl PartialEq for BitRows {
+    ghost eq = { same_rows };
+
+    ghost laws = { Prim.search (comparing, rules) };
+
+    fn eq(&self, other: &BitRows) -> bool {
+        if self.count != other.count {
+            return false;
+        }
+        self.words == other.words
+    }
+}
+
+impl Eq for BitRows {
+    ghost laws = { Prim.search (comparing, rules) };
+}
+
+impl BitRows {
+    ghost use Rattle.rq_matrix.specs.RowLends.{LendsRow, IsRowWrite};
+
+    /// So many rows of zeros.
+    pub(crate) fn zeros(alloc: Global, height: usize, width: usize) -> Result<Self, AllocError>
+        requires height { height < 2 ^ 31 }
+        requires width { width < 65536 }
+        ensures { IfOk result (λ rows. rows ≡ replicate height (replicate (word_count width) 0)) }
+    {
+        let row_len = words_for(width);
+        Ok(BitRows {
+            words: vec![in alloc; 0; height * row_len]?,
+            row_len,
+            count: height,
+        })
+    }
+
+    /// The allocator that `zeros` was handed.
+    pub(crate) fn allocator(&self) -> Global {
+        *self.words.allocator()
+    }
+
+    /// The number of rows.
+    pub(crate) fn len(&self) -> usize
+        ensures { result ≡ length self.now }
+    {
+        self.count
+    }
+
+    /// The words of a row.
+    pub(crate) fn row(&self, i: usize) -> &[u64]
+        requires { i < length self.now }
+        ensures { result.now ≡ slice_index_or self.now i [] }
+    {
+        let start = i * self.row_len;
+        range(self.words.as_slice(), start, self.row_len)
+    }
+
+    /// The words of a row, for writing.
+    pub(crate) fn row_mut(&mut self, i: usize) -> &mut [u64]
+        requires { i < length self.old }
+        ensures* writes_back { sem 𝓛 (LendsRow self.entry i result) }
+        ensures whole_row { IsRowWrite self.old i }
+        ensures row { result.now ≡ slice_index_or self.old i [] }
+    {
+        let len = self.row_len;
+        let start = i * len;
+        self.words.slice_mut(start..start + len)
+    }
+
+    /// Exchanges two rows.
+    pub(crate) fn swap(&mut self, i: usize, j: usize)
+        requires first { i < length self.old }
+        requires second { j < length self.old }
+        ensures { self.new ≡ swap self.old i j }
+    {
+        let len = self.row_len;
+        if i != j {
+            swap_ranges(self.words.as_mut_slice(), i * len, j * len, len);
+        }
+    }
+
+    /// Adds a row to another one.
+    pub(crate) fn add(&mut self, dest: usize, src: usize)
+        requires two { dest ≢ src }
+        requires dest { dest < length self.old }
+        requires src { src < length self.old }
+        ensures { self.new ≡ slice_set self.old dest (row_sum (slice_index_or self.old dest []) (slice_index_or self.old src [])) }
+    {
+        let len = self.row_len;
+        add_range(self.words.as_mut_slice(), dest * len, src * len, len);
+    }
+
+    /// Keeps the first rows.
+    pub(crate) fn truncate(&mut self, height: usize)
+        requires { height ≤ length self.old }
+        ensures { self.new ≡ take height self.old }
+    {
+        self.words.truncate(height * self.row_len);
+        self.count = height;
+    }
+
+    /// Drops the words of each row that so many columns don't need.
+    pub(crate) fn narrow(&mut self, width: usize)
+        requires { width < 65536 }
+        ensures { self.new ≡ map (λ row. take (word_count width) row) self.old }
+    {
+        let kept = words_for(width).min(self.row_len);
+        let words = self.words.as_mut_slice();
+        gather_starts(words, self.count, self.row_len, kept);
+        self.words.truncate(self.count * kept);
+        self.row_len = kept;
+    }
+}
+
+// The words of a range.
+fn range(words: &[u64], start: usize, len: usize) -> &[u64]
+    requires { start + len ≤ length words.now }
+    ensures { result.now ≡ range_of words.now start len }
+{
+    &words[start..start + len]
+}
+
+// Exchanges two ranges.
+fn swap_ranges(words: &mut [u64], i: usize, j: usize, len: usize)
+    requires apart { (i + len ≤ j) ⊎ (j + len ≤ i) }
+    requires first { i + len ≤ length words.old }
+    requires second { j + len ≤ length words.old }
+    ensures { words.new ≡ with_range (with_range words.old i (range_of words.old j len)) j (range_of words.old i len) }
+{
+    let (first, second) = get_both_ranges(words, i, j, len);
+    first.swap_with_slice(second);
+}
+
+// Adds a range to another one.
+fn add_range(words: &mut [u64], dest: usize, src: usize, len: usize)
+    requires apart { (dest + len ≤ src) ⊎ (src + len ≤ dest) }
+    requires dest { dest + len ≤ length words.old }
+    requires src { src + len ≤ length words.old }
+    ensures { words.new ≡ with_range words.old dest (row_sum (range_of words.old dest len) (range_of words.old src len)) }
+{
+    let (to, from) = get_both_ranges(words, dest, src, len);
+    add_assign_binary(to, from);
+}
+
+// Moves the first `kept` words of each row together.
+fn gather_starts(words: &mut [u64], count: usize, row_len: usize, kept: usize)
+    requires kept { kept ≤ row_len }
+    requires long { length words.old ≡ count * row_len }
+    ensures { cut count kept words.new ≡ map (λ row. take kept row) (cut count row_len words.old) }
+{
+    for row in 0..count {
+        let start = row * row_len;
+        words.copy_within(start..start + kept, row * kept);
+    }
+}
