@@ -1,34 +1,35 @@
 //! A dense matrix of octets.
-ghost use Rattle.std.specs.Prelude.{◌≡◌, ◌≢◌, ℕ, ◌+◌, ◌<◌, ◌≤◌, All, length, map, replicate, slice_index, slice_index_or, slice_set, IfOk, Ok, []};
+ghost use Rattle.std.specs.Prelude.{◌≡◌, ◌≢◌, ◌+◌, ◌<◌, ◌≤◌, length, replicate, slice_index, slice_set, Ok, []};
 ghost use Rattle.std.specs.List.{swap};
 ghost use Rattle.rq_standard.specs.Rows.{row_sum, row_multiple};
 ghost use Rattle.rq_bytes.specs.Refusals.{IsAnswer};
-ghost use Rattle.rq_parts.specs.DenseOctetMatrix.{HasOctets, IsOctetRow, row_at, with_row, sum_from, columns_swapped};
+ghost use Rattle.rq_parts.specs.DenseOctetMatrix.{HasOctets, row_at, with_row, sum_from, columns_swapped};
 
 use rq_bytes::error::Error;
 use rq_bytes::factor::{add_row_multiple, multiply_row};
 use rq_bytes::octet::Octet;
 use rq_bytes::octets;
 use rq_bytes::octets::BinaryOctetVec;
+use rq_bytes::symbol_slab::SymbolSlab;
 use std::alloc::{AllocError, Global};
 use std::marker::Model;
 
-/// A matrix of octets, each of which is stored. Contracts see its width and its rows.
+/// A matrix of octets, each of which is stored, in one buffer for all rows. Contracts see its width
+/// and its rows.
 #[derive(Debug, Drop)]
 pub struct DenseOctetMatrix {
-    width: usize,
-    elements: Vec<OctetRow>,
+    rows: SymbolSlab,
 }
 
 impl Model for DenseOctetMatrix {
-    ghost use Rattle.std.specs.Prelude.{All};
-    ghost use Rattle.rq_parts.specs.DenseOctetMatrix.{OctetTable, IsOctetRow};
+    ghost use Rattle.std.specs.Prelude.{◌≡◌, None};
+    ghost use Rattle.rq_parts.specs.DenseOctetMatrix.{OctetTable};
 
     ghost Value = { OctetTable };
 
-    ghost view = { λ m. record { width = m.width; rows = m.elements.items } };
+    ghost view = { λ m. record { width = m.rows.symbol_size; rows = m.rows.values } };
 
-    ghost invariant = { λ m. All (IsOctetRow m.width) m.elements.items };
+    ghost invariant = { λ m. m.rows.order ≡ None };
 }
 
 impl DenseOctetMatrix {
@@ -37,11 +38,13 @@ impl DenseOctetMatrix {
     pub fn new(alloc: Global, height: usize, width: usize, _: usize) -> Result<Self, Error>
         ensures { IsAnswer (λ matrix. matrix) result (Ok (record { width = width; rows = replicate height (replicate width 0) })) }
     {
-        let mut elements = Vec::with_capacity(alloc, height)?;
-        for _ in 0..height {
-            elements.push(OctetRow::zero(alloc, width)?)?;
+        // No memory holds more octets than can be counted.
+        if height.checked_mul(width).is_none() {
+            return Err(Error::OutOfMemory);
         }
-        Ok(DenseOctetMatrix { width, elements })
+        Ok(DenseOctetMatrix {
+            rows: SymbolSlab::with_zeros(alloc, height, width)?,
+        })
     }
 
     /// A matrix of no rows, `width` columns wide.
@@ -49,8 +52,7 @@ impl DenseOctetMatrix {
         ensures { result ≡ record { width = width; rows = [] } }
     {
         DenseOctetMatrix {
-            width,
-            elements: Vec::new(alloc),
+            rows: SymbolSlab::from_bytes(Vec::new(alloc), 0, width),
         }
     }
 
@@ -66,7 +68,9 @@ impl DenseOctetMatrix {
         requires fits { start_col + length other.now ≤ self.old.width }
         ensures { self.new ≡ with_row self.old row (sum_from (row_at self.old row) start_col scalar.now other.now) }
     {
-        self.elements[row].add_bits(start_col, scalar, other);
+        let octets = self.rows.get_mut(row);
+        let end = start_col + other.len();
+        octets::fused_addassign_mul_scalar_binary(&mut octets[start_col..end], other, scalar);
     }
 
     /// Sets the octet in row i and column j.
@@ -75,14 +79,14 @@ impl DenseOctetMatrix {
         requires column { j < self.old.width }
         ensures { self.new ≡ with_row self.old i (slice_set (row_at self.old i) j value) }
     {
-        self.elements[i].set(j, value);
+        self.rows.get_mut(i)[j] = value.byte();
     }
 
     /// The number of rows.
     pub fn height(&self) -> usize
         ensures { result ≡ length self.now.rows }
     {
-        self.elements.len()
+        self.rows.len()
     }
 
     /// The number of columns.
@@ -90,7 +94,9 @@ impl DenseOctetMatrix {
         ensures width { result ≡ self.now.width }
         ensures octets { HasOctets self.now }
     {
-        self.width
+        // What the slab says with their number is that the rows are octets.
+        let _height = self.rows.len();
+        self.rows.symbol_size()
     }
 
     /// Multiplies a row by an octet.
@@ -98,25 +104,31 @@ impl DenseOctetMatrix {
         requires { row < length self.old.rows }
         ensures { self.new ≡ with_row self.old row (row_multiple value.now (row_at self.old row)) }
     {
-        self.elements[row].multiply(value);
+        multiply_row(self.rows.get_mut(row), value);
     }
 
     /// The octet in row i and column j.
+    #[inline(always)]
     pub fn get(&self, i: usize, j: usize) -> Octet
         requires row { i < length self.now.rows }
         requires column { j < self.now.width }
         ensures { result ≡ slice_index (row_at self.now i) j }
     {
-        self.elements[i].get(j)
+        Octet::new(self.rows.get(i)[j])
     }
 
-    /// Exchanges two rows, and moves no octet.
+    /// Exchanges the octets of two rows.
     pub fn swap_rows(&mut self, i: usize, j: usize)
         requires first { i < length self.old.rows }
         requires second { j < length self.old.rows }
         ensures { self.new ≡ record self.old { rows = swap self.old.rows i j } }
     {
-        self.elements.swap(i, j);
+        if i != j {
+            // Three sums exchange them where they stand.
+            self.add_row(i, j);
+            self.add_row(j, i);
+            self.add_row(i, j);
+        }
     }
 
     /// Exchanges two columns in the rows from `start_row_hint` on; the rows above stay.
@@ -125,8 +137,8 @@ impl DenseOctetMatrix {
         requires second { j < self.old.width }
         ensures { self.new ≡ record self.old { rows = columns_swapped start_row_hint i j self.old.rows } }
     {
-        for row in start_row_hint..self.elements.len() {
-            self.elements[row].swap(i, j);
+        for row in start_row_hint..self.rows.len() {
+            self.rows.get_mut(row).swap(i, j);
         }
     }
 
@@ -137,7 +149,20 @@ impl DenseOctetMatrix {
         requires multiplicand { multiplicand < length self.old.rows }
         ensures { self.new ≡ with_row self.old dest (row_sum (row_at self.old dest) (row_multiple scalar.now (row_at self.old multiplicand))) }
     {
-        add_multiple_of_row(self.elements.as_mut_slice(), dest, multiplicand, scalar);
+        let (sum, other) = self.rows.get_pair_mut(dest, multiplicand);
+        add_row_multiple(sum, other, scalar);
+    }
+
+    // Adds a row to another one.
+    fn add_row(&mut self, dest: usize, src: usize)
+        requires two { dest ≢ src }
+        requires dest { dest < length self.old.rows }
+        requires src { src < length self.old.rows }
+        ensures sum { self.new ≡ with_row self.old dest (row_sum (row_at self.old dest) (row_at self.old src)) }
+        ensures widths { length (row_at self.old src) ≡ length (row_at self.old dest) }
+    {
+        let (sum, other) = self.rows.get_pair_mut(dest, src);
+        octets::add_assign(sum, other);
     }
 }
 
@@ -146,121 +171,7 @@ impl Clone for DenseOctetMatrix {
 
     fn clone(&self) -> Result<Self, AllocError> {
         Ok(DenseOctetMatrix {
-            width: self.width,
-            elements: self.elements.clone()?,
+            rows: self.rows.clone()?,
         })
-    }
-}
-
-// The octets of one row. Contracts see their list.
-#[derive(Debug, Drop)]
-struct OctetRow {
-    octets: Vec<u8>,
-}
-
-impl Model for OctetRow {
-    ghost use Rattle.std.specs.Prelude.{List, ℕ};
-
-    ghost Value = { List ℕ };
-
-    ghost view = { λ row. row.octets.items };
-}
-
-impl OctetRow {
-    // A row of so many zeros.
-    fn zero(alloc: Global, width: usize) -> Result<Self, AllocError>
-        ensures zeros { IfOk result (λ row. row ≡ replicate width 0) }
-        ensures octets { IfOk result (IsOctetRow width) }
-    {
-        Ok(OctetRow {
-            octets: vec![in alloc; 0; width]?,
-        })
-    }
-
-    // Adds a multiple of a packed row from a column on.
-    fn add_bits(&mut self, start: usize, scalar: &Octet, other: &BinaryOctetVec)
-        requires { start + length other.now ≤ length self.old }
-        ensures sum { self.new ≡ sum_from self.old start scalar.now other.now }
-        ensures octets { IsOctetRow (length self.old) self.new }
-    {
-        let octets = self.octets.as_mut_slice();
-        let end = start + other.len();
-        octets::fused_addassign_mul_scalar_binary(&mut octets[start..end], other, scalar);
-    }
-
-    // Multiplies the row by an octet.
-    fn multiply(&mut self, scalar: &Octet)
-        ensures multiple { self.new ≡ row_multiple scalar.now self.old }
-        ensures octets { IsOctetRow (length self.old) self.new }
-    {
-        multiply_row(self.octets.as_mut_slice(), scalar);
-        octets::are_octets(self.octets.as_slice());
-    }
-
-    // Adds a multiple of a row of the same length.
-    fn add_multiple(&mut self, other: &OctetRow, scalar: &Octet)
-        requires { length other.now ≡ length self.old }
-        ensures sum { self.new ≡ row_sum self.old (row_multiple scalar.now other.now) }
-        ensures octets { IsOctetRow (length self.old) self.new }
-    {
-        add_row_multiple(self.octets.as_mut_slice(), other.octets.as_slice(), scalar);
-        octets::are_octets(self.octets.as_slice());
-    }
-
-    // Sets the octet in column j.
-    fn set(&mut self, j: usize, value: Octet)
-        requires { j < length self.old }
-        ensures set { self.new ≡ slice_set self.old j value }
-        ensures octets { IsOctetRow (length self.old) self.new }
-    {
-        self.octets[j] = value.byte();
-        octets::are_octets(self.octets.as_slice());
-    }
-
-    // The octet in column j.
-    fn get(&self, j: usize) -> Octet
-        requires { j < length self.now }
-        ensures { result ≡ slice_index self.now j }
-    {
-        Octet::new(self.octets[j])
-    }
-
-    // Exchanges two octets.
-    fn swap(&mut self, i: usize, j: usize)
-        requires first { i < length self.old }
-        requires second { j < length self.old }
-        ensures swapped { self.new ≡ swap self.old i j }
-        ensures octets { IsOctetRow (length self.old) self.new }
-    {
-        self.octets.swap(i, j);
-        octets::are_octets(self.octets.as_slice());
-    }
-}
-
-impl Clone for OctetRow {
-    ghost is_clone = { λ a b. b ≡ a };
-
-    fn clone(&self) -> Result<Self, AllocError> {
-        Ok(OctetRow {
-            octets: self.octets.clone()?,
-        })
-    }
-}
-
-// Adds a multiple of a row to another one.
-fn add_multiple_of_row(rows: &mut [OctetRow], dest: usize, src: usize, scalar: &Octet)
-    requires two { dest ≢ src }
-    requires dest { dest < length rows.old }
-    requires src { src < length rows.old }
-    requires fits { length (slice_index_or rows.old src []) ≡ length (slice_index_or rows.old dest []) }
-    ensures sum { rows.new ≡ slice_set rows.old dest (row_sum (slice_index_or rows.old dest []) (row_multiple scalar.now (slice_index_or rows.old src []))) }
-    ensures widths { (n : ℕ) → All (IsOctetRow n) rows.old → All (IsOctetRow n) rows.new }
-{
-    if dest < src {
-        let (front, back) = rows.split_at_mut(src);
-        front[dest].add_multiple(&back[0], scalar);
-    } else {
-        let (front, back) = rows.split_at_mut(dest);
-        back[0].add_multiple(&front[src], scalar);
     }
 }

@@ -1,45 +1,37 @@
 -- What the check leaves to show of `octet_matrix::DenseOctetMatrix::swap_columns`.
-use Rattle.std.proofs.Common.{◌<◌, ◌≤◌, ◌∙◌, ℕ, List, [], length, set, get_or, ap, arith}
+use Rattle.std.proofs.Common.{◌≡◌, ◌<◌, ◌≤◌, ◌∙◌, ℕ, List, [], length, set, get_or, ap, arith}
 use Rattle.std.specs.List.{swap}
-use Rattle.std.proofs.lemmas.List.{get_or_read}
-use Rattle.std.proofs.lemmas.List.Elements.{All-set}
-use Rattle.rq_parts.specs.DenseOctetMatrix.{OctetTable, IsOctetRow, columns_swapped}
-use Rattle.rq_parts.proofs.Rows.{mapped_until-next, mapped_until-more, mapped_until-end, length-mapped_until}
+use Rattle.rq_algebra.specs.Operations.{meant_at}
+use Rattle.rq_bytes.specs.SymbolSlab.{Slab}
+use Rattle.rq_bytes.specs.SlabLends.{with_octets}
+use Rattle.rq_parts.proofs.Rows.{mapped_until-next, mapped_until-more}
 use Rattle.rq_parts.proofs.octet_matrix.DenseOctetMatrix.swap_columns.Goals as goal
 
 pub loop-row-preserved : goal.loop-row-preserved
 loop-row-preserved c =
     let start = c.args.start_row_hint in
     let n = c.loop-row.row in
-    let width = c.loop-row.self-inside.width in
-    let rows = c.self.inside.elements.items in
-    let items = c.loop-row.self-inside.elements.items in
+    let rows = c.self.inside.rows.values in
+    let slab : Slab = c.loop-row.self-inside.rows in
+    let new = c.swap.new.self in
     let f : List ℕ → List ℕ = λ row. swap row c.args.i c.args.j in
-    let kept = c.loop-row.invariant.0 in
-    let below : n < length rows = omega (arith, c.self.inside.elements.ok.0, c.len-row-end.ensures) in
+    let kept = c.loop-row.invariant.rows in
+    let below : n < length rows = omega (arith, c.len-row-end.ensures.count) in
     let from : start ≤ n = omega arith in
-    let lt : n < length items = omega (arith, ap length kept, length-mapped_until f start n rows from below) in
-    let old = get_or items n c.index_mut.result.now in
     let read =
-    get_or_read items n c.index_mut.result.now lt c.index_mut.ensures.value []
+    c.get_mut.ensures.symbol
+    ∙ ap (λ o. get_or slab.values (meant_at o n) []) c.loop-row.invariant.order
     ∙ ap (λ l. get_or l n []) kept
     ∙ mapped_until-next f start n rows from below []
     in
-    let long = ap length c.index_mut.ensures.value ∙ (c.loop-row.invariant.1 n c.index_mut.result.now lt).0 in (
-      ap (set items n) (c.swap.ensures.swapped ∙ ap f read)
+    let written : with_octets slab n new ≡ record slab { values = set slab.values n new } =
+    c.get_mut.ensures.whole_symbol new (c.swap.auto.self ∙ c.get_mut.ensures.len)
+    ∙ ap (λ o. record slab { values = set slab.values (meant_at o n) new }) c.loop-row.invariant.order
+    in record {
+      rows = ap (λ (s : Slab). s.values) written
+          ∙ ap (set slab.values n) (c.swap.ensures.after ∙ ap f read)
           ∙ ap (λ l. set l n (f (get_or rows n []))) kept
-          ∙ mapped_until-more f start n rows from below [],
-      All-set (IsOctetRow width) items n c.swap.new.self (c.swap.ensures.octets.0 ∙ long, c.swap.ensures.octets.1) c.loop-row.invariant.1,
-      c.loop-row.invariant.2,
-    )
-
-pub returns : goal.returns
-returns c =
-    let start = c.args.start_row_hint in
-    let n = c.loop-row.row in
-    let rows = c.self.inside.elements.items in
-    let f : List ℕ → List ℕ = λ row. swap row c.args.i c.args.j in
-    let end : length rows ≤ n = omega (arith, c.self.inside.elements.ok.0, c.len-row-end.ensures) in
-    ap (λ (r : List (List ℕ)). record { width = c.loop-row.self-inside.width; rows = r }) (c.loop-row.invariant.0 ∙ mapped_until-end f start n rows end)
-    ∙ ap (λ w. record { width = w; rows = columns_swapped start c.args.i c.args.j rows }) c.loop-row.invariant.2
-    ∙ ap (λ (t : OctetTable). record { width = t.width; rows = columns_swapped start c.args.i c.args.j t.rows }) c.self.view_is
+          ∙ mapped_until-more f start n rows from below [];
+      width = c.loop-row.invariant.width;
+      order = c.loop-row.invariant.order;
+    }
