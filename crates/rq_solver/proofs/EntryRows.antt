@@ -173,20 +173,17 @@ slab_sum slab dest src none long =
 
 -- ---- a row that is there
 
-module _ (e : Inside) (are : AreEntries e.width e.bits e.octets.items) {now : OctetTable} (seen : table_of e.width e.bits e.octets.items ≡ now) where
+module _ (e : Inside) (are : AreEntries e.width e.bits e.octets) {now : OctetTable} (seen : table_of e.width e.bits e.octets ≡ now) where
   pub width_is : e.width ≡ now.width
   width_is = ap (λ (t : OctetTable). t.width) seen
 
   module _ (row : ℕ) (there : row < length now.rows) where
     in_symbols : row < length e.bits.values
-    in_symbols = omega (arith, length-rows e.width e.bits.values e.octets.items are.height, ap (λ (t : OctetTable). length t.rows) seen)
-
-    in_owns : row < length e.octets.items
-    in_owns = omega (arith, in_symbols, are.height)
+    in_symbols = omega (arith, length-rows e.width e.bits.values e.octets are.height, ap (λ (t : OctetTable). length t.rows) seen)
 
     -- its place among the rows' own octets, and in the buffer of their bits
-    pub own_place : row < e.octets.len
-    own_place = omega (arith, e.octets.ok.0, in_owns)
+    pub own_place : row < length e.octets
+    own_place = omega (arith, in_symbols, are.height)
 
     pub bits_place : HasPlace e.bits row
     bits_place = rw are.order in_symbols
@@ -194,66 +191,89 @@ module _ (e : Inside) (are : AreEntries e.width e.bits e.octets.items) {now : Oc
     pub read_is : symbol_in e.bits row ≡ get_or e.bits.values row []
     read_is = ap (λ o. get_or e.bits.values (meant_at o row) []) are.order
 
-    row_now : row_at now row ≡ row_of e.width (get_or e.bits.values row []) (get_or e.octets.items row [])
-    row_now = ap (λ (t : OctetTable). row_at t row) (sym seen) ∙ row_is e.width e.bits e.octets.items are row in_symbols
+    row_now : row_at now row ≡ row_of e.width (get_or e.bits.values row []) (get_or e.octets row [])
+    row_now = ap (λ (t : OctetTable). row_at t row) (sym seen) ∙ row_is e.width e.bits e.octets are row in_symbols
 
     pub row_long : length (row_at now row) ≡ e.width
-    row_long = ap length row_now ∙ (row_octets e.width e.bits e.octets.items are row in_symbols).0
+    row_long = ap length row_now ∙ (row_octets e.width e.bits e.octets are row in_symbols).0
 
-    -- what is read of the row: its own octets and its bits
-    module _ (own : List ℕ) (own_is : own ≡ get_or e.octets.items row own) where
-      own_now : own ≡ get_or e.octets.items row []
-      own_now = get_or_read e.octets.items row own in_owns own_is []
+    -- its own octets, or those that are made of its bits
+    pub read_row : row_of e.width (symbol_in e.bits row) (get_or e.octets row []) ≡ row_at now row
+    read_row = ap (λ b. row_of e.width b (get_or e.octets row [])) read_is ∙ sym row_now
 
-      pub read_row : row_of e.width (symbol_in e.bits row) own ≡ row_at now row
-      read_row = ap (λ b. row_of e.width b own) read_is ∙ ap (row_of e.width (get_or e.bits.values row [])) own_now ∙ sym row_now
+    pub own_octets : false ≡ (length (get_or e.octets row []) == 0) → get_or e.octets row [] ≡ row_at now row
+    own_octets some = sym (row_of_some e.width (symbol_in e.bits row) (get_or e.octets row []) (some_if (get_or e.octets row []) some)) ∙ read_row
 
-      -- octets that are made of the bits where the row has none
-      pub filled_row : (filled symbol : List ℕ) → symbol ≡ symbol_in e.bits row → filled ≡ row_of e.width symbol own → filled ≡ row_at now row
-      filled_row filled symbol symbol_is filled_is = filled_is ∙ ap (λ b. row_of e.width b own) symbol_is ∙ read_row
-
-      pub own_octets : false ≡ (length own == 0) → own ≡ row_at now row
-      own_octets some = sym (row_of_some e.width (symbol_in e.bits row) own (some_if own some)) ∙ read_row
-
-      pub own_long : false ≡ (length own == 0) → length own ≡ now.width
-      own_long some = ap length (own_octets some) ∙ row_long ∙ width_is
-
-      -- they are read again
-      module _ (again : List ℕ) (again_is : again ≡ get_or e.octets.items row again) (some : false ≡ (length own == 0)) where
-        pub again_octets : again ≡ row_at now row
-        again_octets = get_or_read e.octets.items row again in_owns again_is [] ∙ sym own_now ∙ own_octets some
-
-        pub again_long : length again ≡ now.width
-        again_long = ap length again_octets ∙ row_long ∙ width_is
+    pub own_long : false ≡ (length (get_or e.octets row []) == 0) → length (get_or e.octets row []) ≡ now.width
+    own_long some = ap length (own_octets some) ∙ row_long ∙ width_is
 
     -- other octets of the row
-    pub octets_set : (own : List ℕ) → IsOctetRow now.width own → AreEntries e.width e.bits (set e.octets.items row own)
+    pub octets_set : (own : List ℕ) → IsOctetRow now.width own → AreEntries e.width e.bits (set e.octets row own)
     octets_set own is =
         let long : length own ≡ e.width = is.0 ∙ sym width_is in
-        owns_are e.width e.bits e.octets.items are row in_symbols own (rw (row_of_own e.width (get_or e.bits.values row []) own long) (subst (λ n. IsOctetRow n own) (sym width_is) is))
+        owns_are e.width e.bits e.octets are row in_symbols own (rw (row_of_own e.width (get_or e.bits.values row []) own long) (subst (λ n. IsOctetRow n own) (sym width_is) is))
 
-    pub octets_seen : (own : List ℕ) → length own ≡ now.width → table_of e.width e.bits (set e.octets.items row own) ≡ with_row now row own
+    pub octets_seen : (own : List ℕ) → length own ≡ now.width → table_of e.width e.bits (set e.octets row own) ≡ with_row now row own
     octets_seen own long =
-        table_with_octets e.width e.bits e.octets.items are row in_symbols own
-        ∙ ap (with_row (table_of e.width e.bits e.octets.items) row) (row_of_own e.width (get_or e.bits.values row []) own (long ∙ sym width_is))
+        table_with_octets e.width e.bits e.octets are row in_symbols own
+        ∙ ap (with_row (table_of e.width e.bits e.octets) row) (row_of_own e.width (get_or e.bits.values row []) own (long ∙ sym width_is))
         ∙ ap (λ t. with_row t row own) seen
 
+    -- the same where the octets were written over as many others
+    module _ (before rows : List (List ℕ)) (own : List ℕ) (long : length (get_or before row []) ≡ now.width) (in_before : row < length before) (rows_is : rows ≡ set before row own)
+        (octets : IsOctetRow (length (get_or before row [])) (get_or rows row [])) (over : set before row own ≡ set e.octets row own) where
+      own_is : IsOctetRow now.width own
+      own_is = subst (λ n. IsOctetRow n own) long (subst (IsOctetRow (length (get_or before row []))) (ap (λ (r : List (List ℕ)). get_or r row []) rows_is ∙ get_or-set_same before row own [] in_before) octets)
+
+      pub written : AreEntries e.width e.bits rows
+      written = rw (rows_is ∙ over) (octets_set own own_is)
+
+      pub written_seen : table_of e.width e.bits rows ≡ with_row now row own
+      written_seen = ap (table_of e.width e.bits) (rows_is ∙ over) ∙ octets_seen own own_is.0
+
+    -- the row gets octets of its own
+    module _ (mid : List (List ℕ)) (symbol : List ℕ) (symbol_is : symbol ≡ symbol_in e.bits row) (mid_is : mid ≡ set e.octets row (row_of e.width symbol (get_or e.octets row []))) where
+      filled : mid ≡ set e.octets row (row_at now row)
+      filled = mid_is ∙ ap (set e.octets row) (ap (λ b. row_of e.width b (get_or e.octets row [])) symbol_is ∙ read_row)
+
+      pub filled_place : (other : ℕ) → other < length e.octets → other < length mid
+      filled_place other l = omega (arith, l, ap length filled, length-set e.octets row (row_at now row))
+
+      pub filled_read : get_or mid row [] ≡ row_at now row
+      filled_read = ap (λ (r : List (List ℕ)). get_or r row []) filled ∙ get_or-set_same e.octets row (row_at now row) [] own_place
+
+      pub filled_long : length (get_or mid row []) ≡ e.width
+      filled_long = ap length filled_read ∙ row_long
+
+      pub filled_other : (other : ℕ) → other ≢ row → get_or mid other [] ≡ get_or e.octets other []
+      filled_other other d = ap (λ (r : List (List ℕ)). get_or r other []) filled ∙ get_or-set_other e.octets row other (row_at now row) [] d
+
+      filled_over : (own : List ℕ) → set mid row own ≡ set e.octets row own
+      filled_over own = ap (λ (r : List (List ℕ)). set r row own) filled ∙ set-set e.octets row (row_at now row) own
+
+      module _ (rows : List (List ℕ)) (own : List ℕ) (rows_is : rows ≡ set mid row own) (octets : IsOctetRow (length (get_or mid row [])) (get_or rows row [])) where
+        pub filled_written : AreEntries e.width e.bits rows
+        filled_written = written mid rows own (filled_long ∙ width_is) (filled_place row own_place) rows_is octets (filled_over own)
+
+        pub filled_written_seen : table_of e.width e.bits rows ≡ with_row now row own
+        filled_written_seen = written_seen mid rows own (filled_long ∙ width_is) (filled_place row own_place) rows_is octets (filled_over own)
+
     -- other bits of the row
-    module _ (own : List ℕ) (own_is : own ≡ get_or e.octets.items row own) (none : true ≡ (length own == 0)) where
-      no_octets : length (get_or e.octets.items row []) ≡ 0
-      no_octets = ap length (sym (own_now own own_is)) ∙ none_if own none
+    module _ (none : true ≡ (length (get_or e.octets row []) == 0)) where
+      no_octets : length (get_or e.octets row []) ≡ 0
+      no_octets = none_if (get_or e.octets row []) none
 
       pub row_unpacked : unpacked e.width (get_or e.bits.values row []) ≡ row_at now row
-      row_unpacked = sym (row_of_none e.width (get_or e.bits.values row []) (get_or e.octets.items row []) no_octets) ∙ sym row_now
+      row_unpacked = sym (row_of_none e.width (get_or e.bits.values row []) (get_or e.octets row []) no_octets) ∙ sym row_now
 
       module _ (symbol : List ℕ) (long : length symbol ≡ e.bits.symbol_size) where
-        pub bits_set : AreEntries e.width (record e.bits { values = set e.bits.values row symbol }) e.octets.items
-        bits_set = bits_are e.width e.bits e.octets.items are row in_symbols symbol long (rw (row_of_none e.width symbol (get_or e.octets.items row []) no_octets) (unpacked_row e.width symbol))
+        pub bits_set : AreEntries e.width (record e.bits { values = set e.bits.values row symbol }) e.octets
+        bits_set = bits_are e.width e.bits e.octets are row in_symbols symbol long (rw (row_of_none e.width symbol (get_or e.octets row []) no_octets) (unpacked_row e.width symbol))
 
-        pub bits_seen : table_of e.width (record e.bits { values = set e.bits.values row symbol }) e.octets.items ≡ with_row now row (unpacked e.width symbol)
+        pub bits_seen : table_of e.width (record e.bits { values = set e.bits.values row symbol }) e.octets ≡ with_row now row (unpacked e.width symbol)
         bits_seen =
-            table_with_bits e.width e.bits e.octets.items are row in_symbols symbol long
-            ∙ ap (with_row (table_of e.width e.bits e.octets.items) row) (row_of_none e.width symbol (get_or e.octets.items row []) no_octets)
+            table_with_bits e.width e.bits e.octets are row in_symbols symbol long
+            ∙ ap (with_row (table_of e.width e.bits e.octets) row) (row_of_none e.width symbol (get_or e.octets row []) no_octets)
             ∙ ap (λ t. with_row t row (unpacked e.width symbol)) seen
 
         -- the same where the slab wrote them at the place that it keeps the row in
@@ -261,63 +281,21 @@ module _ (e : Inside) (are : AreEntries e.width e.bits e.octets.items) {now : Oc
           write_is : new ≡ record e.bits { values = set e.bits.values row symbol }
           write_is = new_is ∙ ap (λ o. record e.bits { values = set e.bits.values (meant_at o row) symbol }) are.order
 
-          pub bits_written : AreEntries e.width new e.octets.items
+          pub bits_written : AreEntries e.width new e.octets
           bits_written = rw write_is bits_set
 
-          pub bits_written_seen : table_of e.width new e.octets.items ≡ with_row now row (unpacked e.width symbol)
-          bits_written_seen = ap (λ (s : Slab). table_of e.width s e.octets.items) write_is ∙ bits_seen
+          pub bits_written_seen : table_of e.width new e.octets ≡ with_row now row (unpacked e.width symbol)
+          bits_written_seen = ap (λ (s : Slab). table_of e.width s e.octets) write_is ∙ bits_seen
 
     row_elements : (i : ℕ) → i < length (row_at now row) → get_or (row_at now row) i 0 < 256
-    row_elements i l = (subst (IsOctetRow e.width) (sym row_now) (row_octets e.width e.bits e.octets.items are row in_symbols)).1 i 0 l
+    row_elements i l = (subst (IsOctetRow e.width) (sym row_now) (row_octets e.width e.bits e.octets are row in_symbols)).1 i 0 l
 
   module _ (dest src : ℕ) (in_dest : dest < length now.rows) (in_src : src < length now.rows) (two : dest ≢ src) where
     pub allowed : Allows e.bits (AddAssign dest src)
     allowed = rw are.order (in_symbols dest in_dest, in_symbols src in_src, (λ same. two (sym same)))
 
-    -- a row that has octets, to which a row is added
-    module _ (filled : List ℕ) (filled_is : filled ≡ row_at now dest) where
-      pub filled_long : length filled ≡ now.width
-      filled_long = ap length filled_is ∙ row_long dest in_dest ∙ width_is
-
-      pub sum_written : (sum : List ℕ) → IsOctetRow (length filled) sum → AreEntries e.width e.bits (set (set e.octets.items dest filled) dest sum)
-      sum_written sum is = rw (set-set e.octets.items dest filled sum) (octets_set dest in_dest sum (subst (λ n. IsOctetRow n sum) filled_long is))
-
-      pub sum_written_seen : (sum : List ℕ) → length sum ≡ length filled → table_of e.width e.bits (set (set e.octets.items dest filled) dest sum) ≡ with_row now dest sum
-      sum_written_seen sum long = ap (table_of e.width e.bits) (set-set e.octets.items dest filled sum) ∙ octets_seen dest in_dest sum (long ∙ filled_long)
-
-      pub filled_read : get_or (set e.octets.items dest filled) dest [] ≡ filled
-      filled_read = get_or-set_same e.octets.items dest filled [] (in_owns dest in_dest)
-
-      pub still_there : (row : ℕ) → row < length now.rows → row < length (set e.octets.items dest filled)
-      still_there row there = omega (arith, in_owns row there, length-set e.octets.items dest filled)
-
-      -- all rows are written back
-      module _ (rows : List (List ℕ)) (sum : List ℕ) (rows_is : rows ≡ set (set e.octets.items dest filled) dest sum) (sum_octets : IsOctetRow (length filled) (get_or rows dest [])) where
-        is_octets : IsOctetRow (length filled) sum
-        is_octets = subst (IsOctetRow (length filled)) (ap (λ (r : List (List ℕ)). get_or r dest []) rows_is ∙ get_or-set_same (set e.octets.items dest filled) dest sum [] (still_there dest in_dest)) sum_octets
-
-        pub rows_written : AreEntries e.width e.bits rows
-        rows_written = rw rows_is (sum_written sum is_octets)
-
-        pub rows_written_seen : table_of e.width e.bits rows ≡ with_row now dest sum
-        rows_written_seen = ap (table_of e.width e.bits) rows_is ∙ sum_written_seen sum is_octets.0
-
-      pub filled_again : (again : List ℕ) → again ≡ get_or (set e.octets.items dest filled) dest again → again ≡ filled
-      filled_again again is = get_or_read (set e.octets.items dest filled) dest again (still_there dest in_dest) is [] ∙ filled_read
-
-      -- the other row is read as it was
-      module _ (other : List ℕ) (other_is : other ≡ get_or (set e.octets.items dest filled) src other) where
-        pub other_before : other ≡ get_or e.octets.items src other
-        other_before = other_is ∙ get_or-set_other e.octets.items dest src filled other (λ same. two (sym same))
-
-        pub other_read : false ≡ (length other == 0) → get_or (set e.octets.items dest filled) src [] ≡ row_at now src
-        other_read some = get_or-set_other e.octets.items dest src filled [] (λ same. two (sym same)) ∙ sym (get_or_read e.octets.items src other (in_owns src in_src) other_before []) ∙ own_octets src in_src other other_before some
-
-        pub other_long : false ≡ (length other == 0) → length (get_or (set e.octets.items dest filled) src []) ≡ length (get_or (set e.octets.items dest filled) dest [])
-        other_long some = ap length (other_read some) ∙ row_long src in_src ∙ width_is ∙ sym filled_long ∙ ap length (sym filled_read)
-
     -- bits to which bits are added
-    module _ (own other : List ℕ) (own_is : own ≡ get_or e.octets.items dest own) (other_is : other ≡ get_or e.octets.items src other) (none : true ≡ (length own == 0)) (none_other : true ≡ (length other == 0))
+    module _ (none : true ≡ (length (get_or e.octets dest []) == 0)) (none_other : true ≡ (length (get_or e.octets src []) == 0))
         (scalar : ℕ) (one : scalar ≡ 1) (new : Slab) (new_is : new ≡ after (AddAssign dest src) e.bits) where
       a : List ℕ
       a = get_or e.bits.values dest []
@@ -327,11 +305,11 @@ module _ (e : Inside) (are : AreEntries e.width e.bits e.octets.items) {now : Oc
 
       long_a : length a ≡ e.bits.symbol_size
       unfolding a
-      long_a = symbol_long e.width e.bits e.octets.items are dest (in_symbols dest in_dest)
+      long_a = symbol_long e.width e.bits e.octets are dest (in_symbols dest in_dest)
 
       long_b : length b ≡ e.bits.symbol_size
       unfolding b
-      long_b = symbol_long e.width e.bits e.octets.items are src (in_symbols src in_src)
+      long_b = symbol_long e.width e.bits e.octets are src (in_symbols src in_src)
 
       long_sum : length (row_sum a b) ≡ e.bits.symbol_size
       long_sum = length-zip2 bit_xor a b (long_a ∙ sym long_b) ∙ long_a
@@ -340,22 +318,22 @@ module _ (e : Inside) (are : AreEntries e.width e.bits e.octets.items) {now : Oc
       unfolding a b
       now_is = new_is ∙ slab_sum e.bits dest src are.order (long_b ∙ sym long_a)
 
-      pub sum_are : AreEntries e.width new e.octets.items
-      sum_are = rw now_is (bits_set dest in_dest own own_is none (row_sum a b) long_sum)
+      pub sum_are : AreEntries e.width new e.octets
+      sum_are = rw now_is (bits_set dest in_dest none (row_sum a b) long_sum)
 
       unpacked_a : unpacked e.width a ≡ row_at now dest
       unfolding a
-      unpacked_a = row_unpacked dest in_dest own own_is none
+      unpacked_a = row_unpacked dest in_dest none
 
       unpacked_b : unpacked e.width b ≡ row_at now src
       unfolding b
-      unpacked_b = row_unpacked src in_src other other_is none_other
+      unpacked_b = row_unpacked src in_src none_other
 
-      pub sum_seen : table_of e.width new e.octets.items ≡ with_row now dest (row_sum (row_at now dest) (row_multiple scalar (row_at now src)))
+      pub sum_seen : table_of e.width new e.octets ≡ with_row now dest (row_sum (row_at now dest) (row_multiple scalar (row_at now src)))
       sum_seen =
           let room = are.room in
-          ap (λ (s : Slab). table_of e.width s e.octets.items) now_is
-          ∙ bits_seen dest in_dest own own_is none (row_sum a b) long_sum
+          ap (λ (s : Slab). table_of e.width s e.octets) now_is
+          ∙ bits_seen dest in_dest none (row_sum a b) long_sum
           ∙ ap (with_row now dest) (
           unpacked-sum e.width a b (long_a ∙ sym long_b) (omega (arith, long_a))
           ∙ ap (λ r. row_sum r (unpacked e.width b)) unpacked_a

@@ -7,10 +7,12 @@ ghost use Rattle.rq_solver.specs.InactiveEntries.{IsNextOctet};
 ghost use Rattle.rq_standard.specs.Rows.{row_sum, row_multiple};
 
 mod octet_row;
+mod own_octets;
 mod packed_bits;
 
 use super::elimination::OctetRows;
-use octet_row::{EntryRow, OctetRow, add_multiple_of_row};
+use octet_row::EntryRow;
+use own_octets::OwnOctets;
 use packed_bits::{LANES, bit, count_ones, next_one, set_bit};
 use rq_bytes::error::Error;
 use rq_bytes::octet::Octet;
@@ -26,7 +28,7 @@ pub(super) struct InactiveEntries {
     alloc: Global,
     width: usize,
     bits: SymbolSlab,
-    octets: Vec<OctetRow>,
+    octets: OwnOctets,
 }
 
 impl Model for InactiveEntries {
@@ -35,9 +37,9 @@ impl Model for InactiveEntries {
 
     ghost Value = { OctetTable };
 
-    ghost view = { λ e. record { width = e.width; rows = rows_of e.width e.bits.values e.octets.items } };
+    ghost view = { λ e. record { width = e.width; rows = rows_of e.width e.bits.values e.octets } };
 
-    ghost invariant = { λ e. AreEntries e.width e.bits e.octets.items };
+    ghost invariant = { λ e. AreEntries e.width e.bits e.octets };
 }
 
 impl InactiveEntries {
@@ -50,15 +52,11 @@ impl InactiveEntries {
         ensures err { IfErr result (λ e. e ≡ OutOfMemory) }
     {
         let size = whole_vectors(width.div_ceil(8));
-        let mut octets = Vec::with_capacity(alloc, height)?;
-        for _ in 0..height {
-            octets.push(OctetRow::none(alloc))?;
-        }
         Ok(InactiveEntries {
             alloc,
             width,
             bits: SymbolSlab::with_zeros(alloc, height, size)?,
-            octets,
+            octets: OwnOctets::new(alloc, height)?,
         })
     }
 
@@ -76,10 +74,10 @@ impl InactiveEntries {
         requires column { column < self.old.width }
         ensures { self.new ≡ with_row self.old row (slice_set (row_at self.old row) column 1) }
     {
-        if self.octets[row].is_none() {
+        if self.octets.is_none(row) {
             set_bit(self.bits.get_mut(row), column);
         } else {
-            self.octets[row].set(column, 1);
+            self.octets.set(row, column, 1);
         }
     }
 
@@ -90,8 +88,7 @@ impl InactiveEntries {
         ensures row { self.new ≡ with_row self.old row octets.items }
         ensures octets { IsOctetRow self.old.width octets.items }
     {
-        let own = &mut self.octets[row];
-        *own = OctetRow::new(octets);
+        self.octets.put(row, octets);
     }
 
     /// What a row has in a column.
@@ -144,9 +141,9 @@ impl InactiveEntries {
         ensures height { OnErr result (length self.new.rows ≡ length self.old.rows) }
         ensures err { IfErr result (λ e. e ≡ OutOfMemory) }
     {
-        let octets = &mut self.octets[row];
-        octets.ensure_octets(self.alloc, self.bits.get(row), self.width)?;
-        octets.multiply(scalar);
+        let bits = self.bits.get(row);
+        self.octets.ensure(row, self.alloc, bits, self.width)?;
+        self.octets.multiply(row, scalar);
         Ok(())
     }
 
@@ -165,7 +162,7 @@ impl InactiveEntries {
         ensures height { OnErr result (length self.new.rows ≡ length self.old.rows) }
         ensures err { IfErr result (λ e. e ≡ OutOfMemory) }
     {
-        if scalar.byte() == 1 && self.octets[dest].is_none() && self.octets[src].is_none() {
+        if scalar.byte() == 1 && self.octets.is_none(dest) && self.octets.is_none(src) {
             self.bits.add_assign(dest, src);
             return Ok(());
         }
@@ -182,12 +179,12 @@ impl InactiveEntries {
         ensures height { OnErr result (length self.new.rows ≡ length self.old.rows) }
         ensures err { IfErr result (λ e. e ≡ OutOfMemory) }
     {
-        let sum = &mut self.octets[dest];
-        sum.ensure_octets(self.alloc, self.bits.get(dest), self.width)?;
-        if self.octets[src].is_none() {
-            self.octets[dest].add_bits(self.bits.get(src), scalar);
+        let bits = self.bits.get(dest);
+        self.octets.ensure(dest, self.alloc, bits, self.width)?;
+        if self.octets.is_none(src) {
+            self.octets.add_bits(dest, self.bits.get(src), scalar);
         } else {
-            add_multiple_of_row(self.octets.as_mut_slice(), dest, src, scalar);
+            self.octets.add_multiple(dest, src, scalar);
         }
         Ok(())
     }
@@ -200,11 +197,10 @@ impl InactiveEntries {
         ensures width { HasWidth self.now.width result }
         ensures fits { self.now.width < 2 ^ 63 + 32 }
     {
-        let own = &self.octets[row];
-        if own.is_none() {
+        if self.octets.is_none(row) {
             EntryRow::Bits(self.bits.get(row))
         } else {
-            EntryRow::Octets(own)
+            EntryRow::Octets(self.octets.row(row))
         }
     }
 }

@@ -3,21 +3,17 @@ use Rattle.std.proofs.Common.{sym, ◌∙◌}
 use Rattle.rq_solver.proofs.EntryRows.{allowed, own_place, sum_are, sum_seen}
 use Rattle.rq_solver.proofs.pi_solver.entries.InactiveEntries.add_multiple.Goals as goal
 
-pub index-requires : goal.index-requires
-index-requires c = own_place c.self.inside c.self.invariant c.self.view_is c.args.dest c.requires.dest
+pub is_none-requires : goal.is_none-requires
+is_none-requires c = own_place c.self.inside c.self.invariant c.self.view_is c.args.dest c.requires.dest
 
-pub index-requires-then-is_none : goal.index-requires-then-is_none
-index-requires-then-is_none c = own_place c.self.inside c.self.invariant c.self.view_is c.args.src c.requires.src
+pub is_none-requires-then-is_none : goal.is_none-requires-then-is_none
+is_none-requires-then-is_none c = own_place c.self.inside c.self.invariant c.self.view_is c.args.src c.requires.src
 
 pub add_assign-requires : goal.add_assign-requires
 add_assign-requires c = allowed c.self.inside c.self.invariant c.self.view_is c.args.dest c.args.src c.requires.dest c.requires.src c.requires.two
 
 pub invariant_of-self : goal.invariant_of-self
-invariant_of-self c =
-    sum_are c.self.inside c.self.invariant c.self.view_is c.args.dest c.args.src c.requires.dest c.requires.src c.requires.two c.index.result.now c.index-then-is_none.result.now c.index.ensures c.index-then-is_none.ensures c.if-is_none.ensures c.if-is_none-2.ensures
-    c.args.scalar.now (sym c.byte.ensures ∙ c.if-byte-eq1.true) c.add_assign.new.self c.add_assign.ensures
+invariant_of-self c = sum_are c.self.inside c.self.invariant c.self.view_is c.args.dest c.args.src c.requires.dest c.requires.src c.requires.two c.if-is_none.ensures c.if-is_none-2.ensures c.args.scalar.now (sym c.byte.ensures ∙ c.if-byte-eq1.true) c.add_assign.new.self c.add_assign.ensures
 
 pub returns-then-is_none-2-clause-ok : goal.returns-then-is_none-2-clause-ok
-returns-then-is_none-2-clause-ok c =
-    sum_seen c.self.inside c.self.invariant c.self.view_is c.args.dest c.args.src c.requires.dest c.requires.src c.requires.two c.index.result.now c.index-then-is_none.result.now c.index.ensures c.index-then-is_none.ensures c.if-is_none.ensures c.if-is_none-2.ensures
-    c.args.scalar.now (sym c.byte.ensures ∙ c.if-byte-eq1.true) c.add_assign.new.self c.add_assign.ensures
+returns-then-is_none-2-clause-ok c = sum_seen c.self.inside c.self.invariant c.self.view_is c.args.dest c.args.src c.requires.dest c.requires.src c.requires.two c.if-is_none.ensures c.if-is_none-2.ensures c.args.scalar.now (sym c.byte.ensures ∙ c.if-byte-eq1.true) c.add_assign.new.self c.add_assign.ensures

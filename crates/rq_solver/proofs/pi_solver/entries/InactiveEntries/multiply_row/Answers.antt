@@ -1,32 +1,23 @@
 -- What the check leaves to show of `pi_solver::entries::InactiveEntries::multiply_row`.
-use Rattle.std.proofs.Common.{◌≡◌, length, ap, subst, ◌∙◌}
-use Rattle.rq_parts.specs.DenseOctetMatrix.{IsOctetRow, row_at, with_row}
+use Rattle.std.proofs.Common.{List, ℕ, ap, ◌∙◌}
+use Rattle.rq_parts.specs.DenseOctetMatrix.{with_row}
 use Rattle.rq_standard.specs.Rows.{row_multiple}
-use Rattle.rq_solver.proofs.EntryRows.{bits_place, filled_row, octets_set, octets_seen, own_place, row_long, width_is}
+use Rattle.rq_solver.proofs.EntryRows.{bits_place, filled_place, filled_read, filled_written, filled_written_seen, own_place}
 use Rattle.rq_solver.proofs.pi_solver.entries.InactiveEntries.multiply_row.Goals as goal
-use Rattle.rq_solver.proofs.pi_solver.entries.InactiveEntries.multiply_row.Goals.{After-multiply}
 
-module _ (c : After-multiply) where
-  filled : c.ensure_octets.new.self ≡ row_at c.args.self.now c.args.row
-  filled = filled_row c.self.inside c.self.invariant c.self.view_is c.args.row c.requires.row c.index_mut-octets.result.now c.index_mut-octets.ensures.value _ _ c.get.ensures.symbol c.in_ok-ensure_octets.ensures.row
+pub get-bits-requires : goal.get-bits-requires
+get-bits-requires c = bits_place c.self.inside c.self.invariant c.self.view_is c.args.row c.requires.row
 
-  long : length c.ensure_octets.new.self ≡ c.args.self.now.width
-  long = ap length filled ∙ row_long c.self.inside c.self.invariant c.self.view_is c.args.row c.requires.row ∙ width_is c.self.inside c.self.invariant c.self.view_is
+pub ensure-requires-clause-row : goal.ensure-requires-clause-row
+ensure-requires-clause-row c = own_place c.self.inside c.self.invariant c.self.view_is c.args.row c.requires.row
 
-  octets : IsOctetRow c.args.self.now.width c.multiply.new.self
-  octets = subst (λ n. IsOctetRow n c.multiply.new.self) long c.multiply.ensures.octets
-
-pub index_mut-octets-requires : goal.index_mut-octets-requires
-index_mut-octets-requires c = own_place c.self.inside c.self.invariant c.self.view_is c.args.row c.requires.row
-
-pub get-requires : goal.get-requires
-get-requires c = bits_place c.self.inside c.self.invariant c.self.view_is c.args.row c.requires.row
+pub multiply-requires : goal.multiply-requires
+multiply-requires c = filled_place c.self.inside c.self.invariant c.self.view_is c.args.row c.requires.row c.ensure.new.self _ c.get-bits.ensures.symbol c.in_ok-ensure.ensures.row c.args.row (own_place c.self.inside c.self.invariant c.self.view_is c.args.row c.requires.row)
 
 pub invariant_of-self-2 : goal.invariant_of-self-2
-invariant_of-self-2 c = octets_set c.self.inside c.self.invariant c.self.view_is c.args.row c.requires.row c.multiply.new.self (octets (goal.at.invariant_of-self-2 c).After-multiply)
+invariant_of-self-2 c = filled_written c.self.inside c.self.invariant c.self.view_is c.args.row c.requires.row c.ensure.new.self _ c.get-bits.ensures.symbol c.in_ok-ensure.ensures.row c.multiply.new.self _ c.multiply.ensures.multiple c.multiply.ensures.octets
 
 pub returns-clause-ok : goal.returns-clause-ok
 returns-clause-ok c =
-    let at = (goal.at.returns-clause-ok c).After-multiply in
-    octets_seen c.self.inside c.self.invariant c.self.view_is c.args.row c.requires.row c.multiply.new.self (octets at).0
-    ∙ ap (with_row c.args.self.now c.args.row) (c.multiply.ensures.multiple ∙ ap (row_multiple c.args.scalar.now) (filled at))
+    filled_written_seen c.self.inside c.self.invariant c.self.view_is c.args.row c.requires.row c.ensure.new.self _ c.get-bits.ensures.symbol c.in_ok-ensure.ensures.row c.multiply.new.self _ c.multiply.ensures.multiple c.multiply.ensures.octets
+    ∙ ap (λ (r : List ℕ). with_row c.args.self.now c.args.row (row_multiple c.args.scalar.now r)) (filled_read c.self.inside c.self.invariant c.self.view_is c.args.row c.requires.row c.ensure.new.self _ c.get-bits.ensures.symbol c.in_ok-ensure.ensures.row)

@@ -1,6 +1,7 @@
 -- What the check leaves to show of `pi_solver::entries::InactiveEntries::new`.
-use Rattle.std.proofs.Common.{◌≡◌, ◌*◌, ◌^◌, ◌≤◌, ℕ, List, [], replicate, ap, sym, subst, ◌∙◌, arith}
+use Rattle.std.proofs.Common.{◌*◌, ◌^◌, ◌≤◌, ◌≡◌, ℕ, List, ap, sym, subst, ◌∙◌, arith}
 use Rattle.std.proofs.Math.Nat.{mul-le-mul}
+use Rattle.std.proofs.Common.{replicate}
 use Rattle.rq_bytes.specs.SymbolSlab.{Slab, slab_of}
 use Rattle.rq_solver.specs.InactiveEntries.{AreEntries}
 use Rattle.rq_solver.proofs.EntryRows.{table_of, zero_rows, zeros_are}
@@ -16,17 +17,13 @@ pub invariant_of-result : goal.invariant_of-result
 invariant_of-result c =
     let size = c.whole_vectors-size.result in
     let room : c.args.width ≤ 8 * size = omega (arith, c.div_ceil.ensures, c.whole_vectors-size.ensures.from) in
-    let all : c.loop.counter ≡ c.args.height = omega arith in
-    let owns : c.loop.octets.items ≡ replicate c.args.height [] = c.loop.invariant ∙ ap (λ n. replicate {A = List ℕ} n []) all in
     let slab : slab_of size (replicate c.args.height (replicate size 0)) ≡ c.in_ok-with_zeros.field-0 = cc (c.in_ok-with_zeros.ensures) in
-    subst (λ (s : Slab). AreEntries c.args.width s c.loop.octets.items) slab (zeros_are c.args.width c.args.height size (omega (arith, c.requires.narrow)) c.requires.whole room c.whole_vectors-size.ensures.whole c.loop.octets.items owns)
+    subst (λ (s : Slab). AreEntries c.args.width s c.in_ok-new.field-0) slab (zeros_are c.args.width c.args.height size (omega (arith, c.requires.narrow)) c.requires.whole room c.whole_vectors-size.ensures.whole c.in_ok-new.field-0 c.in_ok-new.ensures.none)
 
 pub returns-clause-zeros : goal.returns-clause-zeros
 returns-clause-zeros c =
     let size = c.whole_vectors-size.result in
     let room : c.args.width ≤ 8 * size = omega (arith, c.div_ceil.ensures, c.whole_vectors-size.ensures.from) in
-    let all : c.loop.counter ≡ c.args.height = omega arith in
-    let owns : c.loop.octets.items ≡ replicate c.args.height [] = c.loop.invariant ∙ ap (λ n. replicate {A = List ℕ} n []) all in
     let slab : slab_of size (replicate c.args.height (replicate size 0)) ≡ c.in_ok-with_zeros.field-0 = cc (c.in_ok-with_zeros.ensures) in
-    ap (λ (s : Slab). table_of c.args.width s c.loop.octets.items) (sym slab)
-    ∙ ap (λ (rows : List (List ℕ)). record { width = c.args.width; rows = rows }) (zero_rows c.args.width c.args.height size room c.loop.octets.items owns)
+    ap (λ (s : Slab). table_of c.args.width s c.in_ok-new.field-0) (sym slab)
+    ∙ ap (λ (rows : List (List ℕ)). record { width = c.args.width; rows = rows }) (zero_rows c.args.width c.args.height size room c.in_ok-new.field-0 c.in_ok-new.ensures.none)

@@ -1,0 +1,11 @@
+-- What the check leaves to show of `pi_solver::entries::own_octets::OwnOctets::put`.
+use Rattle.std.proofs.Common.{List, ℕ, length, set, sym, ap, ◌∙◌}
+use Rattle.std.specs.Prelude.{◌==◌, Bool}
+use Rattle.std.proofs.lemmas.List.{map-set}
+use Rattle.rq_solver.proofs.pi_solver.entries.own_octets.OwnOctets.put.Goals as goal
+
+pub invariant_of-self : goal.invariant_of-self
+invariant_of-self c =
+    ap (set c.self.inside.are_none.items c.args.row) c.is_none.ensures
+    ∙ ap (λ (l : List Bool). set l c.args.row (length c.new-octets.result == 0)) c.self.invariant
+    ∙ sym (map-set (λ (row : List ℕ). length row == 0) c.self.inside.rows.items c.args.row c.new-octets.result)
