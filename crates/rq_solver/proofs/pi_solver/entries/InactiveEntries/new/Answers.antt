@@ -1,7 +1,6 @@
 -- What the check leaves to show of `pi_solver::entries::InactiveEntries::new`.
-use Rattle.std.proofs.Common.{◌*◌, ◌^◌, ◌≤◌, ◌≡◌, ℕ, List, ap, sym, subst, ◌∙◌, arith}
+use Rattle.std.proofs.Common.{◌*◌, ◌^◌, ◌≤◌, ◌≡◌, ℕ, List, replicate, ap, sym, subst, ◌∙◌, arith}
 use Rattle.std.proofs.Math.Nat.{mul-le-mul}
-use Rattle.std.proofs.Common.{replicate}
 use Rattle.rq_bytes.specs.SymbolSlab.{Slab, slab_of}
 use Rattle.rq_solver.specs.InactiveEntries.{AreEntries}
 use Rattle.rq_solver.proofs.EntryRows.{table_of, zero_rows, zeros_are}
