@@ -1,6 +1,6 @@
 -- What the check leaves to show of `pi_solver::entries::InactiveEntries::add_octets`.
-use Rattle.std.proofs.Common.{◌≡◌, ◌≢◌, List, ℕ, [], length, get_or, sym, ap, ◌∙◌, arith}
-use Rattle.std.specs.Prelude.{◌==◌, false, true}
+use Rattle.std.proofs.Common.{List, ℕ, [], length, get_or, sym, ap, ◌∙◌, arith}
+use Rattle.std.specs.Prelude.{◌==◌}
 use Rattle.rq_parts.specs.DenseOctetMatrix.{row_at, with_row}
 use Rattle.rq_standard.specs.Rows.{row_sum, row_multiple}
 use Rattle.rq_solver.specs.InactiveEntries.{unpacked}

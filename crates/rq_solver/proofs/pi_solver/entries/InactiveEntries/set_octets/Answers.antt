@@ -1,8 +1,7 @@
 -- What the check leaves to show of `pi_solver::entries::InactiveEntries::set_octets`.
-use Rattle.std.proofs.Common.{sym, ap, subst, ◌∙◌}
-use Rattle.rq_parts.specs.DenseOctetMatrix.{IsOctetRow, with_row}
+use Rattle.std.proofs.Common.{ap, subst, ◌∙◌}
+use Rattle.rq_parts.specs.DenseOctetMatrix.{IsOctetRow}
 use Rattle.rq_solver.proofs.EntryRows.{octets_set, octets_seen, own_place, table_of}
-use Rattle.rq_solver.specs.InactiveEntries.{AreEntries}
 use Rattle.rq_solver.proofs.pi_solver.entries.InactiveEntries.set_octets.Goals as goal
 
 pub put-requires-clause-row : goal.put-requires-clause-row

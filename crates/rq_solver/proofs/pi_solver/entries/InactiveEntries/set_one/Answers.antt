@@ -1,5 +1,5 @@
 -- What the check leaves to show of `pi_solver::entries::InactiveEntries::set_one`.
-use Rattle.std.proofs.Common.{ℕ, List, [], get_or, set, ap, sym, subst, refl, ◌∙◌, arith}
+use Rattle.std.proofs.Common.{ℕ, List, set, ap, refl, ◌∙◌, arith}
 use Rattle.rq_parts.specs.DenseOctetMatrix.{with_row}
 use Rattle.rq_solver.specs.InactiveEntries.{unpacked}
 use Rattle.rq_solver.proofs.EntryRows.{bits_place, bits_written, bits_written_seen, own_long, own_octets, own_place, read_is, row_unpacked, width_is, written, written_seen}
