@@ -105,7 +105,7 @@ impl ColumnRows {
 }
 
 // Puts a row before those that its columns have.
-fn place_row(row: usize, columns: &[usize], starts: &mut [usize], rows: &mut [usize])
+fn place_row(row: usize, columns: &[u16], starts: &mut [usize], rows: &mut [usize])
     requires { All (λ column. column < length starts.old) columns.now }
     ensures long { length starts.new ≡ length starts.old }
     ensures wide { length rows.new ≡ length rows.old }
@@ -113,8 +113,8 @@ fn place_row(row: usize, columns: &[usize], starts: &mut [usize], rows: &mut [us
     ensures placed { (counts : List ℕ) (done : ℕ → List ℕ) → HasPlaced counts done starts.old rows.old → ((k : ℕ) → k < length counts → length (done k) + count_by (λ column. column == k) columns.now ≤ at counts k) → HasPlaced counts (λ k. replicate (count_by (λ column. column == k) columns.now) row ++ done k) starts.new rows.new }
 {
     for column in columns {
-        let place = starts[*column].saturating_sub(1);
-        starts[*column] = place;
+        let place = starts[*column as usize].saturating_sub(1);
+        starts[*column as usize] = place;
         // The place is in range, since each one was counted.
         if place < rows.len() {
             rows[place] = row;
@@ -139,7 +139,7 @@ fn column_ends(alloc: Global, ones: &RowOnes, width: usize) -> Result<Vec<usize>
 }
 
 // Counts one more one in each of some columns.
-fn count_columns(columns: &[usize], counts: &mut [usize])
+fn count_columns(columns: &[u16], counts: &mut [usize])
     requires columns { All (λ column. column < length counts.old) columns.now }
     requires few { sum counts.old + length columns.now < 2 ^ 64 }
     ensures long { length counts.new ≡ length counts.old }
@@ -147,7 +147,7 @@ fn count_columns(columns: &[usize], counts: &mut [usize])
     ensures sum { sum counts.new ≡ sum counts.old + length columns.now }
 {
     for column in columns {
-        counts[*column] += 1;
+        counts[*column as usize] += 1;
     }
 }
 

@@ -5,7 +5,6 @@ ghost use Rattle.rq_bytes.specs.declared.error.Error.TheVariants.{OutOfMemory};
 ghost use Rattle.rq_solver.specs.Peeled.{IsOrderOf, IsActive, first_columns, ExchangesColumns, EndsActive};
 ghost use Rattle.rq_algebra.specs.Systems.{at};
 
-use crate::pi_solver::elimination::identity_order;
 use rq_bytes::error::Error;
 use std::alloc::Global;
 use std::marker::Model;
@@ -14,10 +13,10 @@ use std::marker::Model;
 /// place `end` on those that are inactive, and between them the active ones.
 #[derive(Drop)]
 pub(super) struct ColumnOrder {
-    order: Vec<usize>,
-    places: Vec<usize>,
-    pivots: usize,
-    end: usize,
+    order: Vec<u16>,
+    places: Vec<u16>,
+    pivots: u16,
+    end: u16,
 }
 
 impl Model for ColumnOrder {
@@ -33,15 +32,16 @@ impl Model for ColumnOrder {
 impl ColumnOrder {
     /// So many columns in their own order, those before `boundary` active and the others inactive.
     pub(super) fn new(alloc: Global, width: usize, boundary: usize) -> Result<ColumnOrder, Error>
-        requires { boundary ≤ width }
+        requires boundary { boundary ≤ width }
+        requires narrow { width < 65536 }
         ensures columns { IfOk result (λ columns. columns ≡ first_columns width boundary) }
         ensures err { IfErr result (λ e. e ≡ OutOfMemory) }
     {
         Ok(ColumnOrder {
-            order: identity_order(alloc, width)?,
-            places: identity_order(alloc, width)?,
+            order: (0..width as u16).collect(alloc)?,
+            places: (0..width as u16).collect(alloc)?,
             pivots: 0,
-            end: boundary,
+            end: boundary as u16,
         })
     }
 
@@ -82,21 +82,21 @@ impl ColumnOrder {
     }
 
     // Exchanges the columns at two places.
-    fn exchange(&mut self, p: usize, q: usize)
+    fn exchange(&mut self, p: u16, q: u16)
         requires first { p < length self.old.order }
         requires second { q < length self.old.order }
         ensures { ExchangesColumns p q self.old self.new }
     {
-        let first = self.order[p];
-        let second = self.order[q];
-        self.order[p] = second;
-        self.order[q] = first;
-        self.places[first] = q;
-        self.places[second] = p;
+        let first = self.order[p as usize];
+        let second = self.order[q as usize];
+        self.order[p as usize] = second;
+        self.order[q as usize] = first;
+        self.places[first as usize] = q;
+        self.places[second as usize] = p;
     }
 
     /// The columns in their order, and the place of each.
-    pub(super) fn into_arrays(self) -> (Vec<usize>, Vec<usize>)
+    pub(super) fn into_arrays(self) -> (Vec<u16>, Vec<u16>)
         ensures order { result.0.items ≡ self.order }
         ensures places { result.1.items ≡ self.places }
         ensures columns { IsOrderOf (length self.order) self.order self.places }

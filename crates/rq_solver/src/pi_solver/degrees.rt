@@ -155,7 +155,12 @@ fn degrees_before(alloc: Global, ones: &RowOnes, boundary: usize) -> Result<Vec<
     let mut degrees = Vec::with_capacity(alloc, ones.height())?;
     for row in 0..ones.height() {
         let columns = ones.row(row);
-        degrees.push(columns.iter().filter(|column| **column < boundary).count())?;
+        degrees.push(
+            columns
+                .iter()
+                .filter(|column| (**column as usize) < boundary)
+                .count(),
+        )?;
     }
     Ok(degrees)
 }

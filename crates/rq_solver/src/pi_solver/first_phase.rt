@@ -94,7 +94,7 @@ pub(super) fn take_pivots(
     ensures err { IfErr result (λ e. e ≡ OutOfMemory) }
 {
     for column in ones.row(row) {
-        let place = peeling.place_of(*column);
+        let place = peeling.place_of(*column as usize);
         if place < peeling.pivots() && peeling.row_of(place) != row {
             recorded.add_row(row, peeling.row_of(place), Octet::one())?;
         }

@@ -93,7 +93,7 @@ fn saves_additions(
     }
     let mut cost = 0usize;
     for column in ones.row(row) {
-        let each = if peeling.place_of(*column) < peeling.pivots() {
+        let each = if peeling.place_of(*column as usize) < peeling.pivots() {
             2
         } else {
             1

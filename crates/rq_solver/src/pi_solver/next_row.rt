@@ -67,24 +67,20 @@ fn join_columns(
 }
 
 // Joins the first two active columns of a row, if both are nodes.
-fn join_pair(
-    row: &[usize],
-    columns: &ColumnOrder,
-    nodes: usize,
-    graph: &mut ConnectedComponentGraph,
-)
+fn join_pair(row: &[u16], columns: &ColumnOrder, nodes: usize, graph: &mut ConnectedComponentGraph)
     requires columns { All (λ column. column < length columns.now.order) row.now }
     requires graph { length graph.old.labels ≡ nodes }
     ensures { length graph.new.labels ≡ nodes }
 {
     let mut first = None;
     for column in row {
-        if columns.is_active(*column) && *column < nodes {
+        let column = *column as usize;
+        if columns.is_active(column) && column < nodes {
             if let Some(other) = first {
-                graph.add_edge(other, *column);
+                graph.add_edge(other, column);
                 return;
             }
-            first = Some(*column);
+            first = Some(column);
         }
     }
 }

@@ -1,5 +1,5 @@
 //! The ones of a matrix of bits, row by row.
-ghost use Rattle.std.specs.Prelude.{◌≡◌, ℕ, ◌^◌, ◌<◌, ◌≤◌, length, IfOk, OnOk, IfErr, slice_range};
+ghost use Rattle.std.specs.Prelude.{◌≡◌, ℕ, ◌^◌, ◌<◌, ◌≤◌, ◌++◌, All, length, IfOk, OnOk, IfErr, slice_range};
 ghost use Rattle.std.specs.List.{sum_by};
 ghost use Rattle.rq_bytes.specs.declared.error.Error.TheVariants.{OutOfMemory};
 ghost use Rattle.rq_solver.specs.Peeled.{ones_of, AreOnesOfRows, AddsOnes};
@@ -16,7 +16,7 @@ const USUAL_ONES: usize = 12;
 #[derive(Drop)]
 pub(super) struct RowOnes {
     starts: Vec<usize>,
-    columns: Vec<usize>,
+    columns: Vec<u16>,
 }
 
 impl Model for RowOnes {
@@ -70,7 +70,7 @@ impl RowOnes {
 
     /// The columns of the ones of a row.
     #[inline(always)]
-    pub(super) fn row(&self, row: usize) -> &[usize]
+    pub(super) fn row(&self, row: usize) -> &[u16]
         requires { row < length self.now }
         ensures { result.now ≡ ones_of self.now row }
     {
@@ -79,14 +79,14 @@ impl RowOnes {
     }
 }
 
-/// The columns from `start` on and before `end`.
+/// The values from `start` on and before `end`.
 #[inline(always)]
-pub(super) fn part(columns: &[usize], start: usize, end: usize) -> &[usize]
+pub(super) fn part<T>(values: &[T], start: usize, end: usize) -> &[T]
     requires order { start ≤ end }
-    requires within { end ≤ length columns.now }
-    ensures { result.now ≡ slice_range columns.now start end }
+    requires within { end ≤ length values.now }
+    ensures { result.now ≡ slice_range values.now start end }
 {
-    &columns[start..end]
+    &values[start..end]
 }
 
 // The columns of the ones of a row behind other columns.
@@ -95,7 +95,7 @@ fn push_ones<T: BinaryMatrix>(
     row: usize,
     boundary: usize,
     dense: &mut Vec<usize>,
-    columns: &mut Vec<usize>,
+    columns: &mut Vec<u16>,
 ) -> Result<(), Error>
     requires boundary { boundary ≡ (T.content bits.now).boundary }
     requires row { row < (T.content bits.now).height }
@@ -104,10 +104,22 @@ fn push_ones<T: BinaryMatrix>(
 {
     for (column, octet) in bits.get_row_iter(row, 0, boundary) {
         if octet.byte() == 1 {
-            columns.push(column)?;
+            columns.push(column as u16)?;
         }
     }
     bits.query_non_zero_columns_into(row, boundary, dense)?;
-    columns.extend_from_slice(dense.as_slice())?;
+    push_columns(dense.as_slice(), columns)?;
+    Ok(())
+}
+
+// Lists columns behind others.
+fn push_columns(more: &[usize], columns: &mut Vec<u16>) -> Result<(), Error>
+    requires { All (λ column. column < 65536) more.now }
+    ensures pushed { OnOk result (columns.new.items ≡ columns.old.items ++ more.now) }
+    ensures err { IfErr result (λ e. e ≡ OutOfMemory) }
+{
+    for column in more {
+        columns.push(*column as u16)?;
+    }
     Ok(())
 }

@@ -1,5 +1,5 @@
 //! The first phase: columns get pivots among rows of bits while no row is changed.
-ghost use Rattle.std.specs.Prelude.{◌≡◌, false, ◌<◌, ◌≤◌, ◌+◌, [], length, slice_index_or, All, Contains, IsTrue, IfSome, IfNone, OnOk, IfOk, IfErr};
+ghost use Rattle.std.specs.Prelude.{◌≡◌, false, ◌<◌, ◌≤◌, ◌+◌, ◌^◌, [], length, slice_index_or, All, Contains, IsTrue, IfSome, IfNone, OnOk, IfOk, IfErr};
 ghost use Rattle.rq_bytes.specs.declared.error.Error.TheVariants.{OutOfMemory};
 ghost use Rattle.rq_algebra.specs.Systems.{at};
 ghost use Rattle.rq_solver.specs.Degrees.{KeepsDegrees, LowersRows, TakesFewest};
@@ -23,9 +23,9 @@ const MOST_NODES: usize = 65535;
 /// that order, and the place of each column in it.
 #[derive(Drop)]
 pub(super) struct Peeling {
-    rows: Vec<usize>,
-    order: Vec<usize>,
-    places: Vec<usize>,
+    rows: Vec<u32>,
+    order: Vec<u16>,
+    places: Vec<u16>,
 }
 
 impl Model for Peeling {
@@ -59,7 +59,7 @@ impl Peeling {
         requires { pivot < length self.now.rows }
         ensures { result ≡ at self.now.rows pivot }
     {
-        self.rows[pivot]
+        self.rows[pivot] as usize
     }
 
     /// The column at a place of the order.
@@ -68,7 +68,7 @@ impl Peeling {
         requires { place < length self.now.order }
         ensures { result ≡ at self.now.order place }
     {
-        self.order[place]
+        self.order[place] as usize
     }
 
     /// The inactive column that so many others come before.
@@ -77,7 +77,7 @@ impl Peeling {
         requires { length self.now.rows + before < length self.now.order }
         ensures { result ≡ at self.now.order (length self.now.rows + before) }
     {
-        self.order[self.rows.len() + before]
+        self.order[self.rows.len() + before] as usize
     }
 
     /// The place of a column in the order.
@@ -86,18 +86,18 @@ impl Peeling {
         requires { column < length self.now.places }
         ensures { result ≡ at self.now.places column }
     {
-        self.places[column]
+        self.places[column] as usize
     }
 
     /// The rows of the pivots.
-    pub(super) fn rows(&self) -> &[usize]
+    pub(super) fn rows(&self) -> &[u32]
         ensures { result.now ≡ self.now.rows }
     {
         self.rows.as_slice()
     }
 
     /// The places of the columns.
-    pub(super) fn places(&self) -> &[usize]
+    pub(super) fn places(&self) -> &[u16]
         ensures { result.now ≡ self.now.places }
     {
         self.places.as_slice()
@@ -115,6 +115,8 @@ pub(super) fn peel(
 ) -> Result<Peeling, Error>
     requires columns { All (λ row. All (λ column. column < width) row) ones.now }
     requires boundary { boundary ≤ width }
+    requires narrow { width < 65536 }
+    requires few_rows { length ones.now < 2 ^ 31 }
     ensures peeled { IfOk result (IsPeeled width ones.now) }
     ensures fewest { IfOk result (λ peeling. TakesFewest ones.now boundary peeling.rows) }
     ensures err { IfErr result (λ e. e ≡ OutOfMemory) }
@@ -146,7 +148,7 @@ pub(super) fn peel(
             &mut columns,
         )?;
         if taken {
-            rows.push(row)?;
+            rows.push(row as u32)?;
         }
     }
     let (order, places) = columns.into_arrays();
@@ -160,7 +162,7 @@ pub(super) fn peel(
 // Gives the first active column of a row the next pivot, and makes the others inactive. Says whether
 // there is one.
 fn take_row(
-    row: &[usize],
+    row: &[u16],
     column_rows: &ColumnRows,
     nodes: usize,
     degrees: &mut RowDegrees,
@@ -189,15 +191,15 @@ fn take_row(
 }
 
 // The first active column of a row.
-fn first_active(row: &[usize], columns: &ColumnOrder) -> Option<usize>
+fn first_active(row: &[u16], columns: &ColumnOrder) -> Option<usize>
     requires { All (λ column. column < length columns.now.order) row.now }
     ensures column { IfSome result (Contains row.now) }
     ensures active { IfSome result (IsActive columns.now) }
     ensures none { IfNone result (HasNoActive row.now columns.now) }
 {
     for column in row {
-        if columns.is_active(*column) {
-            return Some(*column);
+        if columns.is_active(*column as usize) {
+            return Some(*column as usize);
         }
     }
     None
@@ -205,7 +207,7 @@ fn first_active(row: &[usize], columns: &ColumnOrder) -> Option<usize>
 
 // Makes the active columns of a row inactive.
 fn inactivate_columns(
-    row: &[usize],
+    row: &[u16],
     column_rows: &ColumnRows,
     nodes: usize,
     degrees: &mut RowDegrees,
@@ -223,9 +225,9 @@ fn inactivate_columns(
     ensures err { IfErr result (λ e. e ≡ OutOfMemory) }
 {
     for column in row {
-        if columns.is_active(*column) {
-            columns.inactivate(*column);
-            leave_column(*column, column_rows, nodes, degrees, graph)?;
+        if columns.is_active(*column as usize) {
+            columns.inactivate(*column as usize);
+            leave_column(*column as usize, column_rows, nodes, degrees, graph)?;
         }
     }
     Ok(())

@@ -150,14 +150,14 @@ fn solve_inactive(
 }
 
 // The listed rows that stand at some places.
-fn rows_at(alloc: Global, listed: &[usize], places: &[usize]) -> Result<Vec<usize>, Error>
+fn rows_at(alloc: Global, listed: &[usize], places: &[u16]) -> Result<Vec<usize>, Error>
     requires { (k : ℕ) → k < length places.now → at places.now k < length listed.now }
     ensures rows { IfOk result (λ rows. rows.items ≡ map (at listed.now) places.now) }
     ensures err { IfErr result (λ e. e ≡ OutOfMemory) }
 {
     let mut rows = Vec::with_capacity(alloc, places.len())?;
     for place in places {
-        rows.push(listed[*place])?;
+        rows.push(listed[*place as usize])?;
     }
     Ok(rows)
 }

@@ -83,7 +83,7 @@ fn fill_bits(ones: &RowOnes, row: usize, peeling: &Peeling, entries: &mut Inacti
 {
     let pivots = peeling.pivots();
     for column in ones.row(row) {
-        let place = peeling.place_of(*column);
+        let place = peeling.place_of(*column as usize);
         if place >= pivots {
             entries.set_one(row, place - pivots);
         }

@@ -15,7 +15,7 @@ pub(crate) fn rows_in_order(
     height: usize,
     first_hdpc: usize,
     hdpc_count: usize,
-    pivots: &[usize],
+    pivots: &[u32],
 ) -> Result<Vec<usize>, Error>
     requires pivots { ArePlaces (length pivots.now) height (at pivots.now) }
     requires hdpc { first_hdpc + hdpc_count ≤ height }
@@ -34,7 +34,7 @@ pub(crate) fn rows_in_order(
 }
 
 // Lists rows, the first ones.
-fn list_rows(rows: &[usize], listed: &mut Vec<usize>, is_listed: &mut [bool]) -> Result<(), Error>
+fn list_rows(rows: &[u32], listed: &mut Vec<usize>, is_listed: &mut [bool]) -> Result<(), Error>
     requires rows { ArePlaces (length rows.now) (length is_listed.old) (at rows.now) }
     requires marked { IsMarked listed.old.items is_listed.old }
     requires empty { length listed.old.items ≡ 0 }
@@ -43,7 +43,7 @@ fn list_rows(rows: &[usize], listed: &mut Vec<usize>, is_listed: &mut [bool]) ->
     ensures err { IfErr result (λ e. e ≡ OutOfMemory) }
 {
     for row in rows {
-        list_row(*row, listed, is_listed)?;
+        list_row(*row as usize, listed, is_listed)?;
     }
     Ok(())
 }

@@ -1,5 +1,6 @@
 -- What the check leaves to show of `pi_solver::ones::push_ones`.
-use Rattle.std.proofs.Common.{◌++◌, ap, ◌∙◌, subst, append-nil, arith}
+use Rattle.std.proofs.Common.{◌<◌, ◌≤◌, ◌++◌, ap, ◌∙◌, subst, append-nil, arith}
+use Rattle.std.proofs.lemmas.List.Elements.{All-weaker}
 use Rattle.rq_standard.specs.BitTableSteps.{AreOnesOf}
 use Rattle.rq_solver.proofs.RowLists.{places_among, places_of_pairs, places_together, adds_ones}
 use Rattle.rq_solver.proofs.pi_solver.ones.push_ones.Goals as goal
@@ -14,4 +15,11 @@ returns-clause-ones g c =
     let whole : AreOnesOf bit 0 c.args.boundary taken = subst (AreOnesOf bit 0 c.args.boundary) (ap (λ l. taken ++ l) c.in-None.ensures.steps.0 ∙ append-nil taken) v.whole in
     let dense = c.in_ok-query_non_zero_columns_into.ensures.ok in
     let places = places_together bit 0 c.args.boundary content.width (places_among taken) c.query_non_zero_columns_into.new.out.items (omega arith) (omega (arith, c.requires.boundary, table.within)) (places_of_pairs bit 0 c.args.boundary taken whole) dense in
-    adds_ones bit content.width c.args.columns.now.items (places_among taken) c.query_non_zero_columns_into.new.out.items c.as_slice.result.now c.loop-column.columns.items c.extend_from_slice.new.self.items v.columns c.in_ok-extend_from_slice.ensures.items c.as_slice.ensures.value places
+    adds_ones bit content.width c.args.columns.now.items (places_among taken) c.query_non_zero_columns_into.new.out.items c.as_slice.result.now c.loop-column.columns.items c.push_columns.new.columns.items v.columns c.in_ok-push_columns.ensures.pushed c.as_slice.ensures.value places
+
+pub push_columns-requires : goal.push_columns-requires
+push_columns-requires g c =
+    let table = g.met.T.BinaryMatrix.is_table c.args.bits.now in
+    let content = g.T.BinaryMatrix.content c.args.bits.now in
+    let dense = c.in_ok-query_non_zero_columns_into.ensures.ok in
+    rw c.as_slice.ensures.value (All-weaker (λ k. (c.args.boundary ≤ k) × (k < content.width)) (λ k. k < 65536) (λ k b. let below = b.1 in omega (arith, below, table.width_fits)) c.query_non_zero_columns_into.new.out.items dense.within)
