@@ -14,7 +14,7 @@ use Rattle.rq_solver.specs.OctetBatch.{batch_bound}
 use Rattle.rq_solver.specs.PhaseCounts.{AreCountsOf}
 use Rattle.rq_solver.specs.declared.pi_solver.counts.OperationCounts.{OperationCounts}
 use Rattle.rq_solver.specs.Recorded.{sum_step}
-use Rattle.rq_solver.proofs.PivotTurns.{if_same, if_apart, count_next, count_taken}
+use Rattle.rq_solver.proofs.PivotTurns.{AreColumnsOfRow, if_same, if_apart, count_next, count_taken}
 
 -- ---- one more operation
 
@@ -93,6 +93,19 @@ pub few_places : (n b : ℕ) (places : ℕ → ℕ) → ArePlaces n b places →
 few_places zero b places are = omega arith
 few_places (suc n) zero places are = absurd (omega (arith, are.below 0 (omega arith)))
 few_places (suc n) (suc b) places are = let less = few_places n b (moved n b places are) (moved_are n b places are) in omega (arith, less)
+
+-- a row of bits has at most as many ones as columns
+pub few_columns : (width : ℕ) (columns : List ℕ) → AreColumnsOfRow width columns → length columns ≤ width
+few_columns width columns are = few_places (length columns) width (at columns) (record {
+  below = λ i l. are.within i 0 l;
+  apart = λ i j l m e. elim (cases_lt i j) [
+    | inl before ↦ absurd (twice_counted columns i j before m e (are.once (at columns j) (are.within j 0 m)))
+    | inr after ↦ elim (cases_lt j i) [
+      | inl before ↦ absurd (twice_counted columns j i before l (sym e) (are.once (at columns i) (are.within i 0 l)))
+      | inr same ↦ omega (arith, after, same)
+    ]
+  ];
+})
 
 -- places, and others that follow each other
 module _ (n count first bound : ℕ) (places : ℕ → ℕ) (are : ArePlaces n bound places) (within : first + count ≤ bound) (other : (i q : ℕ) → i < count → q < n → first + i ≢ places q) where

@@ -17,7 +17,7 @@ use std::marker::Model;
 pub(super) struct ColumnRows {
     height: usize,
     starts: Vec<usize>,
-    rows: Vec<usize>,
+    rows: Vec<u32>,
 }
 
 impl Model for ColumnRows {
@@ -36,6 +36,7 @@ impl ColumnRows {
     /// The ones of rows, column by column.
     pub(super) fn of_rows(alloc: Global, ones: &RowOnes, width: usize) -> Result<ColumnRows, Error>
         requires columns { All (λ row. All (λ column. column < width) row) ones.now }
+        requires few_rows { length ones.now < 2 ^ 31 }
         ensures height { IfOk result (λ columns. columns.height ≡ length ones.now) }
         ensures width { IfOk result (λ columns. length columns.lists ≡ width) }
         ensures lists { IfOk result (ListsColumns ones.now) }
@@ -46,7 +47,7 @@ impl ColumnRows {
         let mut rows = vec![in alloc; 0; count]?;
         for row in 0..ones.height() {
             place_row(
-                row,
+                row as u32,
                 ones.row(row),
                 starts.as_mut_slice(),
                 rows.as_mut_slice(),
@@ -61,7 +62,7 @@ impl ColumnRows {
 
     // The rows of a column's ones, the last first.
     #[inline(always)]
-    fn rows_of(&self, column: usize) -> &[usize]
+    fn rows_of(&self, column: usize) -> &[u32]
         requires { column < length self.now.lists }
         ensures rows { result.now ≡ slice_index_or self.now.lists column [] }
         ensures below { All (λ row. row < self.now.height) result.now }
@@ -96,8 +97,8 @@ impl ColumnRows {
         ensures { IfSome result (λ row. (row < length degrees.now) × (at degrees.now row ≡ 2)) }
     {
         for row in self.rows_of(column) {
-            if degrees.degree(*row) == 2 {
-                return Some(*row);
+            if degrees.degree(*row as usize) == 2 {
+                return Some(*row as usize);
             }
         }
         None
@@ -105,7 +106,7 @@ impl ColumnRows {
 }
 
 // Puts a row before those that its columns have.
-fn place_row(row: usize, columns: &[u16], starts: &mut [usize], rows: &mut [usize])
+fn place_row(row: u32, columns: &[u16], starts: &mut [usize], rows: &mut [u32])
     requires { All (λ column. column < length starts.old) columns.now }
     ensures long { length starts.new ≡ length starts.old }
     ensures wide { length rows.new ≡ length rows.old }

@@ -1,5 +1,5 @@
 //! How many active columns each row has.
-ghost use Rattle.std.specs.Prelude.{◌≡◌, ◌-◌, ◌<◌, Contains, length, set, IfSome, IfNone, IfOk, OnOk, IfErr};
+ghost use Rattle.std.specs.Prelude.{◌≡◌, ◌-◌, ◌^◌, ◌<◌, All, Contains, length, set, IfSome, IfNone, IfOk, OnOk, IfErr};
 ghost use Rattle.rq_algebra.specs.Systems.{at};
 ghost use Rattle.rq_bytes.specs.declared.error.Error.TheVariants.{OutOfMemory};
 ghost use Rattle.rq_solver.specs.Degrees.{AllHaveNone, CountsBefore, HasLeastDegree, MayAdd, NoneHas};
@@ -14,9 +14,9 @@ use std::marker::Model;
 /// the degrees.
 #[derive(Drop)]
 pub(super) struct RowDegrees {
-    degrees: Vec<usize>,
-    singles: Vec<usize>,
-    pairs: Vec<usize>,
+    degrees: Vec<u16>,
+    singles: Vec<u32>,
+    pairs: Vec<u32>,
     asked_pairs: usize,
 }
 
@@ -34,6 +34,8 @@ impl Model for RowDegrees {
 impl RowDegrees {
     /// The degrees while the columns before `boundary` are active.
     pub(super) fn new(alloc: Global, ones: &RowOnes, boundary: usize) -> Result<RowDegrees, Error>
+        requires few_rows { length ones.now < 2 ^ 31 }
+        requires short { All (λ row. length row < 65536) ones.now }
         ensures rows { IfOk result (λ degrees. length degrees ≡ length ones.now) }
         ensures counted { IfOk result (CountsBefore boundary ones.now) }
         ensures err { IfErr result (λ e. e ≡ OutOfMemory) }
@@ -42,7 +44,7 @@ impl RowDegrees {
         let mut singles = Vec::with_capacity(alloc, ones.height())?;
         let mut pairs = Vec::with_capacity(alloc, ones.height())?;
         for row in 0..ones.height() {
-            list(row, degrees[row], &mut singles, &mut pairs)?;
+            list(row as u32, degrees[row], &mut singles, &mut pairs)?;
         }
         Ok(RowDegrees {
             degrees,
@@ -53,20 +55,20 @@ impl RowDegrees {
     }
 
     /// A row has one active column less.
-    pub(super) fn lower(&mut self, row: usize) -> Result<(), Error>
+    pub(super) fn lower(&mut self, row: u32) -> Result<(), Error>
         requires { row < length self.old }
         ensures rows { length self.new ≡ length self.old }
         ensures lowered { OnOk result (self.new ≡ set self.old row (at self.old row - 1)) }
         ensures err { IfErr result (λ e. e ≡ OutOfMemory) }
     {
-        let degree = self.degrees[row].saturating_sub(1);
+        let degree = self.degrees[row as usize].saturating_sub(1);
         list(row, degree, &mut self.singles, &mut self.pairs)?;
-        self.degrees[row] = degree;
+        self.degrees[row as usize] = degree;
         Ok(())
     }
 
     /// How many active columns a row has.
-    pub(super) fn degree(&self, row: usize) -> usize
+    pub(super) fn degree(&self, row: usize) -> u16
         requires { row < length self.now }
         ensures { result ≡ at self.now row }
     {
@@ -80,7 +82,7 @@ impl RowDegrees {
         ensures degrees { self.new ≡ self.old }
     {
         while self.singles.len() > 0 {
-            let row = self.singles[self.singles.len() - 1];
+            let row = self.singles[self.singles.len() - 1] as usize;
             if self.degrees[row] == 1 {
                 return Some(row);
             }
@@ -95,7 +97,7 @@ impl RowDegrees {
         ensures degrees { self.new ≡ self.old }
     {
         while self.asked_pairs < self.pairs.len() {
-            let row = self.pairs[self.asked_pairs];
+            let row = self.pairs[self.asked_pairs] as usize;
             self.asked_pairs += 1;
             if self.degrees[row] == 2 {
                 return Some(row);
@@ -127,12 +129,7 @@ impl RowDegrees {
 }
 
 // Lists a row that is about to have a degree, if that is one or two.
-fn list(
-    row: usize,
-    degree: usize,
-    singles: &mut Vec<usize>,
-    pairs: &mut Vec<usize>,
-) -> Result<(), Error>
+fn list(row: u32, degree: u16, singles: &mut Vec<u32>, pairs: &mut Vec<u32>) -> Result<(), Error>
     ensures singles { MayAdd row singles.old.items singles.new.items }
     ensures pairs { MayAdd row pairs.old.items pairs.new.items }
     ensures single { OnOk result (degree ≡ 1 → Contains singles.new.items row) }
@@ -147,7 +144,8 @@ fn list(
 }
 
 // How many of the columns before `boundary` each row has ones in.
-fn degrees_before(alloc: Global, ones: &RowOnes, boundary: usize) -> Result<Vec<usize>, Error>
+fn degrees_before(alloc: Global, ones: &RowOnes, boundary: usize) -> Result<Vec<u16>, Error>
+    requires short { All (λ row. length row < 65536) ones.now }
     ensures rows { IfOk result (λ degrees. length degrees.items ≡ length ones.now) }
     ensures counted { IfOk result (λ degrees. CountsBefore boundary ones.now degrees.items) }
     ensures err { IfErr result (λ e. e ≡ OutOfMemory) }
@@ -155,12 +153,11 @@ fn degrees_before(alloc: Global, ones: &RowOnes, boundary: usize) -> Result<Vec<
     let mut degrees = Vec::with_capacity(alloc, ones.height())?;
     for row in 0..ones.height() {
         let columns = ones.row(row);
-        degrees.push(
-            columns
-                .iter()
-                .filter(|column| (**column as usize) < boundary)
-                .count(),
-        )?;
+        let count = columns
+            .iter()
+            .filter(|column| (**column as usize) < boundary)
+            .count();
+        degrees.push(count as u16)?;
     }
     Ok(degrees)
 }

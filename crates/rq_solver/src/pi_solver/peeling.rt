@@ -117,6 +117,7 @@ pub(super) fn peel(
     requires boundary { boundary ≤ width }
     requires narrow { width < 65536 }
     requires few_rows { length ones.now < 2 ^ 31 }
+    requires short { All (λ row. length row < 65536) ones.now }
     ensures peeled { IfOk result (IsPeeled width ones.now) }
     ensures fewest { IfOk result (λ peeling. TakesFewest ones.now boundary peeling.rows) }
     ensures err { IfErr result (λ e. e ≡ OutOfMemory) }
