@@ -9,7 +9,7 @@ ghost use Rattle.rq_solver.specs.Homogeneous.{ShowsHomogeneousRows, KeepsZeros, 
 ghost use Rattle.rq_solver.specs.RowSteps.{AreRows, IsReduced};
 ghost use Rattle.rq_standard.specs.OctetField.{octets};
 
-use crate::pi_solver::elimination::{find_pivot, identity_order};
+use crate::pi_solver::elimination::find_pivot;
 use crate::pi_solver::rows::octet_rows;
 use rq_bytes::error::Error;
 use rq_bytes::octet::Octet;
@@ -35,7 +35,7 @@ pub fn homogeneous_column<T: BinaryMatrix>(
     ensures memory { IfErr result (λ e. e ≡ OutOfMemory) }
 {
     let mut matrix = octet_rows(alloc, bits, boundary, hdpc, first_hdpc)?;
-    let mut rows = identity_order(alloc, matrix.height())?;
+    let mut rows: Vec<usize> = (0..matrix.height()).collect(alloc)?;
     let Some(free) = reduce(&mut matrix, rows.as_mut_slice(), bits.width()) else {
         return Ok(None);
     };

@@ -14,6 +14,7 @@ use std::marker::Model;
 /// the degrees.
 #[derive(Drop)]
 pub(super) struct RowDegrees {
+    // Rows are asked in any order: of narrow degrees more stay in a near cache.
     degrees: Vec<u16>,
     singles: Vec<u32>,
     pairs: Vec<u32>,

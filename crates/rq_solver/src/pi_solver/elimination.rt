@@ -1,13 +1,11 @@
 //! What eliminations share.
-ghost use Rattle.std.specs.Prelude.{◌≡◌, ◌≢◌, ℕ, ◌<◌, ◌≤◌, length, IfSome, IfNone, IfOk};
-ghost use Rattle.std.specs.List.{range_with_len};
+ghost use Rattle.std.specs.Prelude.{◌≡◌, ◌≢◌, ℕ, ◌<◌, ◌≤◌, length, IfSome, IfNone};
 ghost use Rattle.rq_algebra.specs.Systems.{at};
 ghost use Rattle.rq_parts.specs.DenseOctetMatrix.{OctetTable, entry_of};
 ghost use Rattle.rq_solver.specs.RowSteps.{AreRows};
 
 use rq_bytes::octet::Octet;
 use rq_parts::octet_matrix::DenseOctetMatrix;
-use std::alloc::{AllocError, Global};
 
 /// Rows of octets.
 pub(crate) trait OctetRows {
@@ -26,17 +24,6 @@ impl OctetRows for DenseOctetMatrix {
     fn entry(&self, row: usize, column: usize) -> Octet {
         self.get(row, column)
     }
-}
-
-/// The first n indices in their order.
-pub(crate) fn identity_order(alloc: Global, n: usize) -> Result<Vec<usize>, AllocError>
-    ensures { IfOk result (λ order. order.items ≡ range_with_len 0 n) }
-{
-    let mut order = Vec::with_capacity(alloc, n)?;
-    for i in 0..n {
-        order.push(i)?;
-    }
-    Ok(order)
 }
 
 /// Where a row stands that isn't 0 in the column, from `start` on.

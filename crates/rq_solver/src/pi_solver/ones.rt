@@ -16,6 +16,7 @@ const USUAL_ONES: usize = 12;
 #[derive(Drop)]
 pub(super) struct RowOnes {
     starts: Vec<usize>,
+    // Rows are read in any order: of narrow columns more stay in a near cache.
     columns: Vec<u16>,
 }
 

@@ -23,6 +23,7 @@ const MOST_NODES: usize = 65535;
 /// that order, and the place of each column in it.
 #[derive(Drop)]
 pub(super) struct Peeling {
+    // All are read in any order: of narrow numbers more stay in a near cache.
     rows: Vec<u32>,
     order: Vec<u16>,
     places: Vec<u16>,
