@@ -1,18 +1,16 @@
 -- The pivots' rows: some take back what they took, and all are finished one after another.
-use Rattle.std.proofs.Common.{◌≡◌, ◌≢◌, ℕ, ◌+◌, ◌<◌, ◌≤◌, ◌==◌, if◌then◌else◌, Bool, true, false, List, [], ◌++◌, All, Contains, get_or, length, refl, sym, ap, ◌∙◌, arith, inl, inr, append_assoc, append-nil}
-use Rattle.std.specs.List.{range_with_len}
+use Rattle.std.proofs.Common.{◌≡◌, ◌≢◌, ℕ, ◌+◌, ◌<◌, ◌≤◌, ◌==◌, if◌then◌else◌, Bool, true, false, List, [], ◌++◌, Contains, get_or, length, sym, ap, ◌∙◌, arith, inl, inr}
 use Rattle.std.proofs.lemmas.Bool.{cases_eq, cases_lt}
-use Rattle.std.proofs.lemmas.List.Elements.{All-nil, All-append}
 use Rattle.rq_algebra.specs.Operations.{Operation}
 use Rattle.rq_algebra.specs.Systems.{at}
 use Rattle.rq_algebra.proofs.Sums.{add_zero}
 use Rattle.rq_standard.specs.OctetField.{octets}
 use Rattle.rq_parts.specs.DenseOctetMatrix.{entry_of, HasOctets}
-use Rattle.rq_solver.specs.Cleared.{AreRowsOfBits, AreUnits, FinishesPivots, IsCleared, IsFinished, IsUncleared, TakesBack, TakesPivots, TakesReduced, one_in}
+use Rattle.rq_solver.specs.Cleared.{AreRowsOfBits, AreUnits, FinishesPivots, IsCleared, IsFinished, IsUncleared, RecordsPivots, TakesBack, TakesPivots, TakesPivotsBy, TakesReduced, one_in}
 use Rattle.rq_solver.specs.Peeled.{ones_of, IsPeeled}
-use Rattle.rq_solver.specs.Recorded.{Recorded}
-use Rattle.rq_solver.specs.RowSteps.{AreRows, IsEchelon, IsStepAmong, rows_after}
-use Rattle.rq_solver.proofs.Performing.{performs_none, performs_more}
+use Rattle.rq_solver.specs.Recorded.{Recorded, Performs, Records}
+use Rattle.rq_solver.specs.RowSteps.{AreRows, IsEchelon, rows_after}
+use Rattle.rq_solver.proofs.Performing.{performs_none, performs_more, records_none, records_more}
 use Rattle.rq_solver.proofs.PivotTurns.{if_same, if_apart}
 use Rattle.rq_solver.proofs.RowTurns.{count_contains}
 use Rattle.rq_solver.proofs.StepColumns.{rows_after-none, rows_after-next}
@@ -44,7 +42,7 @@ module _ (lists : List (List ℕ)) (rows order places : List ℕ) (width : ℕ) 
         absurd (peeled.later p j (omega arith) n c)
   ]
 
-  module _ (p : ℕ) (in_rows : p < length rows) (old new : Recorded) (taken : TakesPivots rows order (at rows p) (ones_of lists (at rows p)) old new) (m : ℕ → ℕ → ℕ)
+  module _ (Done : List Operation → Recorded → Recorded → Type 0) (p : ℕ) (in_rows : p < length rows) (old new : Recorded) (taken : TakesPivotsBy Done rows order (at rows p) (ones_of lists (at rows p)) old new) (m : ℕ → ℕ → ℕ)
       (earlier : (j : ℕ) → j < p → j < length rows → IsCleared rows order m (at rows j)) where
     needed : (j : ℕ) → j < length rows → Contains (ones_of lists (at rows p)) (at order j) → at rows j ≢ at rows p → IsCleared rows order m (at rows j)
     needed j n c d = earlier j (only_earlier p j in_rows n c d) n
@@ -122,13 +120,13 @@ module _ (lists : List (List ℕ)) (rows order places : List ℕ) (width : ℕ) 
 
         own_uncleared : IsUncleared lists rows order (rows_after octets (v.steps ++ taken.steps) m) (at rows q)
         own_uncleared =
-            let turned = turns_back q in_rows cur new taken (rows_after octets v.steps m) (λ j l n. early_cleared j (omega arith) n) (early_cleared q (omega arith) in_rows) in
+            let turned = turns_back Performs q in_rows cur new taken (rows_after octets v.steps m) (λ j l n. early_cleared j (omega arith) n) (early_cleared q (omega arith) in_rows) in
             record { entries = λ i l. after_both m (at rows q) (at order i) ∙ turned.entries i l }
 
       pub back_taken : TakesBack lists rows order now q old new
       back_taken = record {
         steps = v.steps ++ taken.steps;
-        performs = performs_more v.steps taken.steps old cur new v.performs taken.performs;
+        performs = performs_more v.steps taken.steps old cur new v.performs taken.done;
         elsewhere = λ m r k out. after_both m r k ∙ taken.elsewhere (rows_after octets v.steps m) r k (λ e. out q (omega arith) in_rows (sym e)) ∙ v.elsewhere m r k (λ p late l. out p (omega arith) l);
         unmarked = λ m p k late l e. elim (cases_eq p q) [
           | inl f ↦ absurd (true_is_not_false (get_or now q false) yes (ap (λ (n : ℕ). get_or now n false) (sym f) ∙ e))
@@ -143,26 +141,18 @@ module _ (lists : List (List ℕ)) (rows order places : List ℕ) (width : ℕ) 
   -- ---- the end
 
   module _ (reduced : List ℕ) (marks : List Bool) (count : ℕ) where
-    pub finish_none : (old : Recorded) → HasOctets old.table → FinishesPivots lists rows order reduced marks count 0 old old
-    finish_none old are = record {
+    pub finish_none : (old : Recorded) → FinishesPivots lists rows order reduced marks count 0 old old
+    finish_none old = record {
       steps = [];
-      recorded = sym (append-nil old.operations);
-      among = All-nil (IsStepAmong octets (range_with_len 0 (length old.table.rows)));
-      width = refl;
-      height = refl;
-      octets = are;
-      shown = λ p f late l n. refl;
+      records = records_none old;
       elsewhere = λ m r k out. rows_after-none octets m r k;
       final = λ m column units zeros shown plain raw p l. absurd (omega arith);
     }
 
     module _ (t : ℕ) (in_rows : t < length rows) (old cur mid : Recorded) (v : FinishesPivots lists rows order reduced marks count t old cur) (turn : TakesReduced reduced (at rows t) 0 count count cur mid)
-        (in_table : (p : ℕ) → p < length rows → at rows p < length old.table.rows) (apart : (p f : ℕ) → p < length rows → f < count → at rows p ≢ at reduced f) (narrow : count ≤ old.table.width) where
-      first_among : All (IsStepAmong octets (range_with_len 0 (length old.table.rows))) (v.steps ++ turn.steps)
-      first_among = All-append (IsStepAmong octets (range_with_len 0 (length old.table.rows))) v.steps turn.steps v.among (rw v.height at turn.records.among)
-
-      first_recorded : mid.operations ≡ old.operations ++ (v.steps ++ turn.steps)
-      first_recorded = turn.records.recorded ∙ ap (λ (l : List Operation). l ++ turn.steps) v.recorded ∙ append_assoc old.operations v.steps turn.steps
+        (apart : (p f : ℕ) → p < length rows → f < count → at rows p ≢ at reduced f) where
+      first_recorded : Records (v.steps ++ turn.steps) old mid
+      first_recorded = records_more v.steps turn.steps old cur mid v.records turn.records
 
       first_is : (m : ℕ → ℕ → ℕ) (r k : ℕ) → rows_after octets (v.steps ++ turn.steps) m r k ≡ rows_after octets turn.steps (rows_after octets v.steps m) r k
       first_is m r k = rows_after-next octets v.steps turn.steps m r k
@@ -188,17 +178,12 @@ module _ (lists : List (List ℕ)) (rows order places : List ℕ) (width : ℕ) 
         first_zero f l =
             first_is m (at rows t) (column f)
             ∙ turn.cleared (rows_after octets v.steps m) column (λ a g from n o. reduced_stay a (column g) n ∙ units a g from n o)
-            (λ g n. own_stays_yet (column g) ∙ shown t g in_rows n ∙ sym (v.shown t g (omega arith) in_rows (omega arith))) f (omega arith) l l
+            (λ g n. own_stays_yet (column g) ∙ shown t g in_rows n ∙ ap (λ table. entry_of table (at rows t) g) (sym v.records.table)) f (omega arith) l l
 
       pub finish_plain : get_or marks t false ≡ false → FinishesPivots lists rows order reduced marks count (t + 1) old mid
       finish_plain unset = record {
         steps = v.steps ++ turn.steps;
-        recorded = first_recorded;
-        among = first_among;
-        width = ap (λ table. table.width) turn.records.table ∙ v.width;
-        height = ap (λ table. length table.rows) turn.records.table ∙ v.height;
-        octets = rw turn.records.table v.octets;
-        shown = λ p f late l n. ap (λ table. entry_of table (at rows p) f) turn.records.table ∙ v.shown p f (omega arith) l n;
+        records = first_recorded;
         elsewhere = first_elsewhere;
         final = λ m column units zeros shown plain raw p l. elim (cases_eq p t) [
           | inl e ↦ rw e (record {
@@ -214,18 +199,12 @@ module _ (lists : List (List ℕ)) (rows order places : List ℕ) (width : ℕ) 
         ];
       }
 
-      module _ (new : Recorded) (taken : TakesPivots rows order (at rows t) (ones_of lists (at rows t)) mid new) (yes : get_or marks t false ≡ true) where
+      module _ (new : Recorded) (taken : RecordsPivots rows order (at rows t) (ones_of lists (at rows t)) mid new) (yes : get_or marks t false ≡ true) where
         all_is : (m : ℕ → ℕ → ℕ) (r k : ℕ) → rows_after octets ((v.steps ++ turn.steps) ++ taken.steps) m r k ≡ rows_after octets taken.steps (rows_after octets (v.steps ++ turn.steps) m) r k
         all_is m r k = rows_after-next octets (v.steps ++ turn.steps) taken.steps m r k
 
         all_other : (m : ℕ → ℕ → ℕ) (p k : ℕ) → p < length rows → p ≢ t → rows_after octets ((v.steps ++ turn.steps) ++ taken.steps) m (at rows p) k ≡ rows_after octets v.steps m (at rows p) k
         all_other m p k l d = all_is m (at rows p) k ∙ taken.elsewhere (rows_after octets (v.steps ++ turn.steps) m) (at rows p) k (rows_apart p t l in_rows d) ∙ first_other m p k l d
-
-        mid_height : length mid.table.rows ≡ length old.table.rows
-        mid_height = ap (λ table. length table.rows) turn.records.table ∙ v.height
-
-        mid_width : mid.table.width ≡ old.table.width
-        mid_width = ap (λ table. table.width) turn.records.table ∙ v.width
 
         module _ (m : ℕ → ℕ → ℕ) (column : ℕ → ℕ) (units : AreUnits reduced 0 count column m) (zeros : (f i : ℕ) → f < count → i < length rows → m (at reduced f) (at order i) ≡ 0)
             (shown : (p f : ℕ) → p < length rows → f < count → m (at rows p) (column f) ≡ entry_of old.table (at rows p) f)
@@ -241,7 +220,7 @@ module _ (lists : List (List ℕ)) (rows order places : List ℕ) (width : ℕ) 
 
           own_finished : IsFinished rows order count column (rows_after octets ((v.steps ++ turn.steps) ++ taken.steps) m) (at rows t)
           own_finished =
-              let again = turns_again t in_rows mid new taken (rows_after octets (v.steps ++ turn.steps) m) (λ j l n. (done_before j l n).cleared)
+              let again = turns_again Records t in_rows mid new taken (rows_after octets (v.steps ++ turn.steps) m) (λ j l n. (done_before j l n).cleared)
               (record { entries = λ i n. first_pivots m column units zeros shown i n ∙ (raw t in_rows yes).entries i n }) in
               record {
                 cleared = record { entries = λ i n. all_is m (at rows t) (at order i) ∙ again.entries i n };
@@ -254,15 +233,7 @@ module _ (lists : List (List ℕ)) (rows order places : List ℕ) (width : ℕ) 
         pub finish_again : FinishesPivots lists rows order reduced marks count (t + 1) old new
         finish_again = record {
           steps = (v.steps ++ turn.steps) ++ taken.steps;
-          recorded = taken.performs.recorded ∙ ap (λ (l : List Operation). l ++ taken.steps) first_recorded ∙ append_assoc old.operations (v.steps ++ turn.steps) taken.steps;
-          among = All-append (IsStepAmong octets (range_with_len 0 (length old.table.rows))) (v.steps ++ turn.steps) taken.steps first_among (rw mid_height at taken.performs.among);
-          width = taken.performs.width ∙ mid_width;
-          height = taken.performs.height ∙ mid_height;
-          octets = taken.performs.octets;
-          shown = λ p f late l n.
-              taken.performs.entries (at rows p) f (rw mid_height (in_table p l)) (rw mid_width n)
-              ∙ taken.elsewhere (entry_of mid.table) (at rows p) f (rows_apart p t l in_rows (λ e. omega (arith, e, late)))
-              ∙ ap (λ table. entry_of table (at rows p) f) turn.records.table ∙ v.shown p f (omega arith) l n;
+          records = records_more (v.steps ++ turn.steps) taken.steps old mid new first_recorded taken.done;
           elsewhere = λ m r k out. all_is m r k ∙ taken.elsewhere (rows_after octets (v.steps ++ turn.steps) m) r k (λ e. out t (omega arith) (sym e)) ∙ first_elsewhere m r k out;
           final = λ m column units zeros shown plain raw p l. elim (cases_eq p t) [
             | inl e ↦ rw e (own_finished m column units zeros shown plain raw)

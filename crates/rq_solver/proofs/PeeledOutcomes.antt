@@ -177,12 +177,12 @@ module _ (height width : ℕ) (system : ℕ → ℕ → ℕ) (rows order places 
         let Among = IsStepAmong octets (range_with_len 0 height) in
         let first : All Among back.steps = rw (changes.performs.height, peeled.height_is) at back.performs.among in
         let second : All Among reduces.steps = rw (back.performs.height, changes.performs.height, peeled.height_is) at reduces.records.among in
-        let third : All Among finishes.steps = rw (reduces.records.table, back.performs.height, changes.performs.height, peeled.height_is) at finishes.among in
+        let third : All Among finishes.steps = rw (reduces.records.table, back.performs.height, changes.performs.height, peeled.height_is) at finishes.records.among in
         All-append Among steps late_steps among (All-append Among back.steps (reduces.steps ++ finishes.steps) first (All-append Among reduces.steps finishes.steps second third))
 
     all_recorded : final.operations ≡ all_steps
     all_recorded =
-        finishes.recorded
+        finishes.records.recorded
         ∙ ap (λ (l : List Operation). l ++ finishes.steps) (reduces.records.recorded ∙ ap (λ (l : List Operation). l ++ reduces.steps) (back.performs.recorded ∙ ap (λ (l : List Operation). l ++ back.steps) changes.performs.recorded))
         ∙ append_assoc (steps ++ back.steps) reduces.steps finishes.steps
         ∙ append_assoc steps back.steps (reduces.steps ++ finishes.steps)

@@ -6,16 +6,16 @@ use Rattle.std.proofs.lemmas.List.{take_more, take-append-drop, length-take-le}
 use Rattle.std.proofs.lemmas.List.Sums.{count_by_more_yes, count_by_more_no, sum_by-append}
 use Rattle.std.proofs.lemmas.List.Elements.{Contains-append_left, Contains-push}
 use Rattle.rq_algebra.specs.Arrangements.{ArePlaces}
+use Rattle.rq_algebra.specs.Operations.{Operation}
 use Rattle.rq_algebra.specs.Systems.{at}
 use Rattle.rq_algebra.proofs.Sums.{add_zero, mul_zero}
 use Rattle.rq_standard.specs.OctetField.{octets}
-use Rattle.rq_solver.specs.Cleared.{AreRowsOfBits, IsCleared, TakesPivots}
+use Rattle.rq_solver.specs.Cleared.{AreRowsOfBits, IsCleared, TakesPivotsBy}
 use Rattle.rq_solver.specs.Peeled.{IsOrderOf, ones_of}
-use Rattle.rq_solver.specs.Recorded.{Recorded, sum_step, Performs}
+use Rattle.rq_solver.specs.Recorded.{Recorded, sum_step}
 use Rattle.rq_solver.specs.RowSteps.{rows_after}
-use Rattle.rq_parts.specs.DenseOctetMatrix.{HasOctets}
 use Rattle.rq_solver.proofs.StepColumns.{rows_after-none, rows_after-next}
-use Rattle.rq_solver.proofs.Performing.{sum_step-here, sum_step-elsewhere, performs_none, performs_more}
+use Rattle.rq_solver.proofs.Performing.{sum_step-here, sum_step-elsewhere}
 
 -- the columns in which a row of bits has ones
 pub record AreColumnsOfRow (width : ℕ) (columns : List ℕ) : Type 0 where
@@ -75,11 +75,11 @@ cleared_small rows order m r i cleared l = elim (cases_eq (at rows i) r) [
 
 -- ---- the pivots that a row takes
 
-module _ (rows order : List ℕ) (row : ℕ) (columns : List ℕ) where
-  pub takes_none : (table : Recorded) → HasOctets table.table → TakesPivots rows order row (take 0 columns) table table
-  takes_none table are = record {
+module _ (Done : List Operation → Recorded → Recorded → Type 0) (rows order : List ℕ) (row : ℕ) (columns : List ℕ) where
+  pub takes_none : (table : Recorded) → Done [] table table → TakesPivotsBy Done rows order row (take 0 columns) table table
+  takes_none table none_done = record {
     steps = [];
-    performs = performs_none table are;
+    done = none_done;
     idle = λ e. refl;
     kept = λ m k zeros. rows_after-none octets m row k;
     elsewhere = λ m i k d. rows_after-none octets m i k;
@@ -89,7 +89,7 @@ module _ (rows order : List ℕ) (row : ℕ) (columns : List ℕ) where
   }
 
   module _ (places : List ℕ) (width : ℕ) (arranged : IsOrderOf width order places) (few : length rows ≤ width) (t : ℕ) (in_columns : t < length columns) (in_width : at columns t < width) (old cur : Recorded)
-      (v : TakesPivots rows order row (take t columns) old cur) where
+      (v : TakesPivotsBy Done rows order row (take t columns) old cur) where
     not_empty : take (t + 1) columns ≡ [] → ⊥
     not_empty e = let n = length-take-le (t + 1) columns (omega arith) in let z : length (take (t + 1) columns) ≡ 0 = ap length e in omega (arith, n, z)
 
@@ -98,10 +98,10 @@ module _ (rows order : List ℕ) (row : ℕ) (columns : List ℕ) where
     column_place i l e = ap (at places) e ∙ (arranged.ordered i (omega arith)).1
 
     -- the column is inactive, or its pivot is the row's own
-    pub takes_skipped : (length rows ≤ at places (at columns t)) ⊎ (at rows (at places (at columns t)) ≡ row) → TakesPivots rows order row (take (t + 1) columns) old cur
+    pub takes_skipped : (length rows ≤ at places (at columns t)) ⊎ (at rows (at places (at columns t)) ≡ row) → TakesPivotsBy Done rows order row (take (t + 1) columns) old cur
     takes_skipped why = record {
       steps = v.steps;
-      performs = v.performs;
+      done = v.done;
       idle = λ e. absurd (not_empty e);
       kept = λ m k zeros. v.kept m k (λ j n c d. zeros j n (taken_before columns t (at order j) in_columns c) d);
       elsewhere = v.elsewhere;
@@ -119,7 +119,7 @@ module _ (rows order : List ℕ) (row : ℕ) (columns : List ℕ) where
     }
 
     module _ (once : (k : ℕ) → k < width → count_by (λ x. x == k) columns ≤ 1) (bound : ℕ) (rows_are : ArePlaces (length rows) bound (at rows)) (j : ℕ) (place : at places (at columns t) ≡ j) (in_rows : j < length rows) (other : at rows j ≢ row)
-        (new : Recorded) (performs : Performs (sum_step row (at rows j) 1 ∷ []) cur new) where
+        (new : Recorded) (more_done : Done (v.steps ++ sum_step row (at rows j) 1 ∷ []) old new) where
       column_is : at columns t ≡ at order j
       column_is = sym (arranged.placed (at columns t) in_width).1 ∙ ap (at order) place
 
@@ -171,10 +171,10 @@ module _ (rows order : List ℕ) (row : ℕ) (columns : List ℕ) where
           ]
         ]
 
-      pub takes_more : TakesPivots rows order row (take (t + 1) columns) old new
+      pub takes_more : TakesPivotsBy Done rows order row (take (t + 1) columns) old new
       takes_more = record {
         steps = v.steps ++ sum_step row (at rows j) 1 ∷ [];
-        performs = performs_more v.steps (sum_step row (at rows j) 1 ∷ []) old cur new v.performs performs;
+        done = more_done;
         idle = λ e. absurd (not_empty e);
         kept = λ m k zeros.
             let here : rows_after octets v.steps m (at rows j) k ≡ 0 = v.elsewhere m (at rows j) k other ∙ zeros j in_rows (subst (Contains (take (t + 1) columns)) column_is (taken_next columns t in_columns)) other in

@@ -107,7 +107,7 @@ module _ (lists : List (List ℕ)) (rows order listed : List ℕ) where
     unfolding all_steps now
     clears_more = record {
       steps = v.steps ++ taken.steps;
-      performs = performs_more v.steps taken.steps old cur new v.performs taken.performs;
+      performs = performs_more v.steps taken.steps old cur new v.performs taken.done;
       idle = idle_next;
       rest = λ m s k l n.
           let apart : at listed s ≢ at listed t = (λ e. let z : s ≡ t = listing.are.apart s t n in_listed e in omega (arith, z, l)) in

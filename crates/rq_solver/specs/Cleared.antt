@@ -1,5 +1,5 @@
 -- What becomes of rows of which some have pivots while they are still as they were.
-use Rattle.std.specs.Prelude.{◌≡◌, ◌≢◌, ℕ, ◌+◌, ◌<◌, ◌≤◌, ◌==◌, if◌then◌else◌, Bool, true, false, List, [], ◌++◌, All, Contains, count_by, length, slice_index_or}
+use Rattle.std.specs.Prelude.{◌≡◌, ◌≢◌, ℕ, ◌+◌, ◌<◌, ◌≤◌, ◌==◌, if◌then◌else◌, Bool, true, false, List, [], All, Contains, count_by, length, slice_index_or}
 use Rattle.std.specs.List.{range_with_len}
 use Rattle.rq_algebra.specs.Arrangements.{ArePlaces}
 use Rattle.rq_algebra.specs.Systems.{at, HasElements}
@@ -68,16 +68,23 @@ pub record IsCleared (rows order : List ℕ) (m : ℕ → ℕ → ℕ) (r : ℕ)
 abbrev pub AreUnits : List ℕ → ℕ → ℕ → (ℕ → ℕ) → (ℕ → ℕ → ℕ) → Type 0
 AreUnits reduced start count column m = (t f : ℕ) → start ≤ t → t < count → f < count → m (at reduced t) (column f) ≡ (if t == f then 1 else 0)
 
--- A row takes the rows of the other pivots in whose columns it has these ones. What it is in whole is `m`, whatever that is.
-pub record TakesPivots (rows order : List ℕ) (row : ℕ) (columns : List ℕ) (old new : Recorded) : Type 0 where
+-- A row takes the rows of the other pivots in whose columns it has these ones, by steps that are done as `Done` says. What it is in whole is `m`, whatever that is.
+pub record TakesPivotsBy (Done : List Operation → Recorded → Recorded → Type 0) (rows order : List ℕ) (row : ℕ) (columns : List ℕ) (old new : Recorded) : Type 0 where
   pub steps : List Operation
-  pub performs : Performs steps old new
+  pub done : Done steps old new
   pub idle : columns ≡ [] → steps ≡ []
   pub elsewhere : (m : ℕ → ℕ → ℕ) (i k : ℕ) → i ≢ row → rows_after octets steps m i k ≡ m i k
   pub taken : (m : ℕ → ℕ → ℕ) → ((j : ℕ) → j < length rows → Contains columns (at order j) → at rows j ≢ row → IsCleared rows order m (at rows j))
       → (i : ℕ) → i < length rows → rows_after octets steps m row (at order i) ≡ octets.add (m row (at order i)) (if at rows i == row then 0 else count_by (λ column. column == at order i) columns)
   -- where these rows have zeros it stays as it was
   pub kept : (m : ℕ → ℕ → ℕ) (k : ℕ) → ((j : ℕ) → j < length rows → Contains columns (at order j) → at rows j ≢ row → m (at rows j) k ≡ 0) → rows_after octets steps m row k ≡ m row k
+
+-- the same, done to the rows, and recorded alone
+abbrev pub TakesPivots : List ℕ → List ℕ → ℕ → List ℕ → Recorded → Recorded → Type 0
+TakesPivots rows order row columns old new = TakesPivotsBy Performs rows order row columns old new
+
+abbrev pub RecordsPivots : List ℕ → List ℕ → ℕ → List ℕ → Recorded → Recorded → Type 0
+RecordsPivots rows order row columns old new = TakesPivotsBy Records rows order row columns old new
 
 -- the first rows of a list are cleared, and the rest are as they were
 pub record ClearsRows (lists : List (List ℕ)) (rows order listed : List ℕ) (done : ℕ) (old new : Recorded) : Type 0 where
@@ -147,22 +154,16 @@ pub record IsFinished (rows order : List ℕ) (count : ℕ) (column : ℕ → �
   pub cleared : IsCleared rows order m r
   pub zeros : (f : ℕ) → f < count → m r (column f) ≡ 0
 
--- The first of the pivots' rows take the reduced rows, and those that have a mark then take the pivots' rows again. Of the rows behind them
--- the table shows what it showed.
+-- The first of the pivots' rows take the reduced rows, and those that have a mark then take the pivots' rows again.
 pub record FinishesPivots (lists : List (List ℕ)) (rows order reduced : List ℕ) (marks : List Bool) (count done : ℕ) (old new : Recorded) : Type 0 where
   pub steps : List Operation
-  pub recorded : new.operations ≡ old.operations ++ steps
-  pub among : All (IsStepAmong octets (range_with_len 0 (length old.table.rows))) steps
-  pub width : new.table.width ≡ old.table.width
-  pub height : length new.table.rows ≡ length old.table.rows
-  pub shown : (p f : ℕ) → done ≤ p → p < length rows → f < old.table.width → entry_of new.table (at rows p) f ≡ entry_of old.table (at rows p) f
+  pub records : Records steps old new
   pub elsewhere : (m : ℕ → ℕ → ℕ) (r k : ℕ) → ((p : ℕ) → p < done → at rows p ≢ r) → rows_after octets steps m r k ≡ m r k
   pub final : (m : ℕ → ℕ → ℕ) (column : ℕ → ℕ) → AreUnits reduced 0 count column m → ((f i : ℕ) → f < count → i < length rows → m (at reduced f) (at order i) ≡ 0)
       → ((p f : ℕ) → p < length rows → f < count → m (at rows p) (column f) ≡ entry_of old.table (at rows p) f)
       → ((p : ℕ) → p < length rows → slice_index_or marks p false ≡ false → IsCleared rows order m (at rows p))
       → ((p : ℕ) → p < length rows → slice_index_or marks p false ≡ true → IsUncleared lists rows order m (at rows p))
       → (p : ℕ) → p < done → IsFinished rows order count column (rows_after octets steps m) (at rows p)
-  pub octets : HasOctets new.table
 
 -- ---- the phases behind the first
 

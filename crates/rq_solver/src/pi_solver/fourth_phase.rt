@@ -3,7 +3,7 @@ ghost use Rattle.std.specs.Prelude.{◌≡◌, ◌≢◌, ℕ, ◌+◌, ◌-◌,
 ghost use Rattle.rq_algebra.specs.Systems.{at};
 ghost use Rattle.rq_bytes.specs.declared.error.Error.TheVariants.{OutOfMemory};
 ghost use Rattle.rq_solver.specs.Recorded.{AddsAtMost};
-ghost use Rattle.rq_solver.specs.Cleared.{FinishesPivots, PeelsRows, TakesBack, TakesReduced};
+ghost use Rattle.rq_solver.specs.Cleared.{FinishesPivots, PeelsRows, RecordsPivots, TakesBack, TakesReduced};
 ghost use Rattle.rq_solver.specs.OperationCounts.{additions};
 ghost use Rattle.rq_solver.specs.Peeled.{ones_of};
 ghost use Rattle.rq_solver.specs.RowSteps.{AreRows};
@@ -14,6 +14,7 @@ use super::ones::RowOnes;
 use super::peeling::Peeling;
 use super::recorded::RecordedRows;
 use rq_bytes::error::Error;
+use rq_bytes::octet::Octet;
 
 /// Adds again to some of the pivots' rows, the last first, the pivots' rows that they took in the
 /// first phase. So they are as they were handed in, and have few ones, where they came to have many
@@ -132,7 +133,32 @@ pub(super) fn finish_pivots(
         let row = peeling.row_of(place);
         take_reduced_rows(row, reduced, 0, inactive, recorded)?;
         if marks[place] {
-            take_pivots(ones, row, peeling, recorded)?;
+            record_pivots(ones, row, peeling, recorded)?;
+        }
+    }
+    Ok(())
+}
+
+// Records that a row takes the rows of the other pivots in whose columns it has ones. No entry of it
+// is read any more.
+#[inline(always)]
+fn record_pivots(
+    ones: &RowOnes,
+    row: usize,
+    peeling: &Peeling,
+    recorded: &mut RecordedRows,
+) -> Result<(), Error>
+    requires peeled { PeelsRows ones.now peeling.now }
+    requires row { row < length ones.now }
+    requires height { length recorded.old.table.rows ≡ length ones.now }
+    ensures taken { OnOk result (RecordsPivots peeling.now.rows peeling.now.order row (ones_of ones.now row) recorded.old recorded.new) }
+    ensures each { OnOk result (AddsAtMost (length (ones_of ones.now row)) recorded.old recorded.new) }
+    ensures err { IfErr result (λ e. e ≡ OutOfMemory) }
+{
+    for column in ones.row(row) {
+        let place = peeling.place_of(*column as usize);
+        if place < peeling.pivots() && peeling.row_of(place) != row {
+            recorded.record_sum(row, peeling.row_of(place), Octet::one())?;
         }
     }
     Ok(())

@@ -1,15 +1,17 @@
 -- What the check leaves to show of `pi_solver::first_phase::take_pivots`.
-use Rattle.std.proofs.Common.{◌≡◌, ◌≢◌, ◌+◌, ◌<◌, ℕ, length, sym, ap, ◌∙◌, arith, inl, inr}
+use Rattle.std.proofs.Common.{◌≡◌, ◌≢◌, ◌+◌, ◌<◌, ℕ, [], ◌∷◌, length, sym, ap, ◌∙◌, arith, inl, inr}
 use Rattle.rq_algebra.specs.Systems.{at}
 use Rattle.rq_solver.specs.Peeled.{ones_of}
+use Rattle.rq_solver.specs.Recorded.{Performs, sum_step}
 use Rattle.rq_solver.proofs.CountLaws.{few_places, met_none, met_skipped, met_more, twice_counted}
+use Rattle.rq_solver.proofs.Performing.{performs_none, performs_more}
 use Rattle.rq_solver.proofs.PivotTurns.{columns_of_row, takes_none, takes_skipped, takes_more}
 use Rattle.rq_solver.proofs.pi_solver.first_phase.take_pivots.Goals as goal
 use Rattle.rq_solver.proofs.pi_solver.first_phase.take_pivots.Goals.{then-place-pivots+then-row_of-row+in_ok-add_row, else-place-pivots, else-place-pivots-via-then-place-pivots+else-row_of-row, else-place-pivots-via-else-place-pivots}
 
 pub loop-column-init : goal.loop-column-init
 loop-column-init c = record {
-  taken = takes_none c.args.peeling.now.rows c.args.peeling.now.order c.args.row c.row-column-items.result.now c.args.recorded.now c.requires.octets;
+  taken = takes_none Performs c.args.peeling.now.rows c.args.peeling.now.order c.args.row c.row-column-items.result.now c.args.recorded.now (performs_none c.args.recorded.now c.requires.octets);
   each = omega arith;
   few = (0, met_none (length c.args.peeling.now.rows) (λ q. at c.args.peeling.now.places (at c.row-column-items.result.now q)), (omega arith));
 }
@@ -47,8 +49,8 @@ loop-column-preserved c =
             few =
                 let added = w.in_ok-add_row.ensures.counted in
                 (v.few.0 + 1, met_more (length rows) met t v.few.0 v.few.1 (rw place in_rows) fresh, (let so_far = v.few.2 in omega (arith, added, so_far)));
-            taken = takes_more rows order row columns places width peeled.columns peeled.few t in_columns in_width old cur v.taken are.once _ peeled.in_rows j place in_rows (λ e. w.if-row_of-row.true (tested ∙ e))
-                w.add_row.new.self (rw (read, w.one.ensures) at w.in_ok-add_row.ensures.added);
+            taken = takes_more Performs rows order row columns places width peeled.columns peeled.few t in_columns in_width old cur v.taken are.once _ peeled.in_rows j place in_rows (λ e. w.if-row_of-row.true (tested ∙ e))
+                w.add_row.new.self (performs_more v.taken.steps (sum_step row (at rows j) 1 ∷ []) old cur w.add_row.new.self v.taken.done (rw (read, w.one.ensures) at w.in_ok-add_row.ensures.added));
           })
       | else-place-pivots w ↦ rw w.recorded-is (record {
         each = (let so_far = v.each in omega (arith, so_far));
@@ -57,9 +59,9 @@ loop-column-preserved c =
           | else-place-pivots-via-then-place-pivots+else-row_of-row w' ↦
               let in_rows : j < length rows = omega (arith, many, w'.if-place-pivots.true) in
               let tested : w'.row_of.result ≡ at rows j = w'.row_of.ensures in
-              takes_skipped rows order row columns places width peeled.columns peeled.few t in_columns in_width old cur v.taken (inr (ap (at rows) place ∙ sym tested ∙ w'.if-row_of-row.false))
+              takes_skipped Performs rows order row columns places width peeled.columns peeled.few t in_columns in_width old cur v.taken (inr (ap (at rows) place ∙ sym tested ∙ w'.if-row_of-row.false))
           | else-place-pivots-via-else-place-pivots w' ↦
-              takes_skipped rows order row columns places width peeled.columns peeled.few t in_columns in_width old cur v.taken (inl (omega (arith, many, w'.if-place-pivots.false, place)))
+              takes_skipped Performs rows order row columns places width peeled.columns peeled.few t in_columns in_width old cur v.taken (inl (omega (arith, many, w'.if-place-pivots.false, place)))
         ];
       })
     ]

@@ -4,11 +4,11 @@ use Rattle.std.proofs.Common.{◌≡◌, ◌≢◌, ◌+◌, ◌<◌, ℕ, lengt
 use Rattle.rq_algebra.specs.Systems.{at}
 use Rattle.rq_solver.proofs.CountLaws.{one_turn_more}
 use Rattle.rq_solver.proofs.pi_solver.fourth_phase.finish_pivots.Goals as goal
-use Rattle.rq_solver.proofs.pi_solver.fourth_phase.finish_pivots.Goals.{then-marks-place+in_ok-take_pivots, else-marks-place}
+use Rattle.rq_solver.proofs.pi_solver.fourth_phase.finish_pivots.Goals.{then-marks-place+in_ok-record_pivots, else-marks-place}
 
 pub loop-place-init : goal.loop-place-init
 loop-place-init c = record {
-  finished = finish_none c.args.ones.now c.args.peeling.now.rows c.args.peeling.now.order c.args.peeling.now.places _ c.requires.peeled.bits c.requires.peeled.peeled c.args.reduced.now c.args.marks.now c.args.inactive c.args.recorded.now c.requires.octets;
+  finished = finish_none c.args.ones.now c.args.peeling.now.rows c.args.peeling.now.order c.args.peeling.now.places _ c.requires.peeled.bits c.requires.peeled.peeled c.args.reduced.now c.args.marks.now c.args.inactive c.args.recorded.now;
   few = omega arith;
 }
 
@@ -30,18 +30,17 @@ loop-place-preserved c =
     let in_marks : t < length marks = omega (arith, in_rows, c.requires.long) in
     let read : c.row_of-row.result ≡ at rows t = c.row_of-row.ensures in
     let turn = rw read at c.in_ok-take_reduced_rows.ensures.taken in
-    let in_table : (p : ℕ) → p < length rows → at rows p < length old.table.rows = (λ (p : ℕ) (l : p < length rows). rw c.requires.height (peeled.in_rows.below p l)) in
     let apart : (p f : ℕ) → p < length rows → f < count → at rows p ≢ at reduced f = (λ (p f : ℕ) (l : p < length rows) (n : f < count). c.requires.apart p f l (omega (arith, c.requires.many))) in
     elim c.if-marks-place.branch [
-      | then-marks-place+in_ok-take_pivots w ↦ rw w.recorded-is (record {
-        finished = finish_again c.args.ones.now rows p.order p.places _ c.requires.peeled.bits peeled reduced marks count t in_rows old cur mid v.finished turn in_table apart c.requires.width w.take_pivots.new.recorded (rw read at w.in_ok-take_pivots.ensures.taken) w.if-marks-place.true;
+      | then-marks-place+in_ok-record_pivots w ↦ rw w.recorded-is (record {
+        finished = finish_again c.args.ones.now rows p.order p.places _ c.requires.peeled.bits peeled reduced marks count t in_rows old cur mid v.finished turn apart w.record_pivots.new.recorded (rw read at w.in_ok-record_pivots.ensures.taken) w.if-marks-place.true;
         few =
-            let each = rw read at w.in_ok-take_pivots.ensures.each in
+            let each = rw read at w.in_ok-record_pivots.ensures.each in
             let short = c.requires.short t in_rows w.if-marks-place.true in
             one_turn_more (count + c.args.most) _ _ _ t v.few (omega (arith, sums, each, short));
       })
       | else-marks-place w ↦ rw w.recorded-is (record {
-        finished = finish_plain c.args.ones.now rows p.order p.places _ c.requires.peeled.bits peeled reduced marks count t in_rows old cur mid v.finished turn in_table apart c.requires.width w.if-marks-place.false;
+        finished = finish_plain c.args.ones.now rows p.order p.places _ c.requires.peeled.bits peeled reduced marks count t in_rows old cur mid v.finished turn apart w.if-marks-place.false;
         few = one_turn_more (count + c.args.most) _ _ _ t v.few (omega (arith, sums));
       })
     ]

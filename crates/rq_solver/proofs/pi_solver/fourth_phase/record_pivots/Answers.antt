@@ -1,0 +1,64 @@
+-- What the check leaves to show of `pi_solver::fourth_phase::record_pivots`.
+use Rattle.std.proofs.Common.{◌≡◌, ◌<◌, [], ◌∷◌, length, sym, ap, ◌∙◌, arith, inl, inr}
+use Rattle.rq_algebra.specs.Systems.{at}
+use Rattle.rq_solver.specs.Peeled.{ones_of}
+use Rattle.rq_solver.specs.Recorded.{Records, sum_step}
+use Rattle.rq_solver.proofs.Performing.{records_none, records_more}
+use Rattle.rq_solver.proofs.PivotTurns.{columns_of_row, takes_none, takes_skipped, takes_more}
+use Rattle.rq_solver.proofs.pi_solver.fourth_phase.record_pivots.Goals as goal
+use Rattle.rq_solver.proofs.pi_solver.fourth_phase.record_pivots.Goals.{then-place-pivots+then-row_of-row+in_ok-record_sum, else-place-pivots, else-place-pivots-via-then-place-pivots+else-row_of-row, else-place-pivots-via-else-place-pivots}
+
+pub loop-column-init : goal.loop-column-init
+loop-column-init c = record {
+  taken = takes_none Records c.args.peeling.now.rows c.args.peeling.now.order c.args.row c.row-column-items.result.now c.args.recorded.now (records_none c.args.recorded.now);
+  each = omega arith;
+}
+
+pub loop-column-preserved : goal.loop-column-preserved
+loop-column-preserved c =
+    let rows = c.args.peeling.now.rows in
+    let order = c.args.peeling.now.order in
+    let places = c.args.peeling.now.places in
+    let width = length places in
+    let row = c.args.row in
+    let columns = c.row-column-items.result.now in
+    let t = c.loop-column.column-index in
+    let j = c.place_of-place.result in
+    let old = c.args.recorded.now in
+    let cur = c.loop-column.recorded in
+    let peeled = c.requires.peeled.peeled in
+    let in_columns : t < length columns = c.loop-column-test.true in
+    let are = columns_of_row width row c.args.ones.now columns c.requires.peeled.bits c.requires.row c.row-column-items.ensures in
+    let in_width : at columns t < width = are.within t 0 in_columns in
+    let place : at places (at columns t) ≡ j = sym c.place_of-place.ensures in
+    let many = c.pivots.ensures in
+    let v = c.loop-column.invariant in
+    let so_far = v.each in
+    elim c.if-place-pivots.branch [
+      | then-place-pivots+then-row_of-row+in_ok-record_sum w ↦
+          let in_rows : j < length rows = omega (arith, many, w.if-place-pivots.true) in
+          let tested : w.row_of.result ≡ at rows j = w.row_of.ensures in
+          let read : w.row_of-then-row_of-row.result ≡ at rows j = w.row_of-then-row_of-row.ensures in
+          rw w.recorded-is (record {
+            each = (let added = w.in_ok-record_sum.ensures.counted in omega (arith, added, so_far));
+            taken = takes_more Records rows order row columns places width peeled.columns peeled.few t in_columns in_width old cur v.taken are.once _ peeled.in_rows j place in_rows (λ e. w.if-row_of-row.true (tested ∙ e))
+                w.record_sum.new.self (records_more v.taken.steps (sum_step row (at rows j) 1 ∷ []) old cur w.record_sum.new.self v.taken.done (rw (read, w.one.ensures) at w.in_ok-record_sum.ensures.recorded));
+          })
+      | else-place-pivots w ↦ rw w.recorded-is (record {
+        each = omega (arith, so_far);
+        taken = elim w.else-place-pivots.branch [
+          | else-place-pivots-via-then-place-pivots+else-row_of-row w' ↦
+              let in_rows : j < length rows = omega (arith, many, w'.if-place-pivots.true) in
+              let tested : w'.row_of.result ≡ at rows j = w'.row_of.ensures in
+              takes_skipped Records rows order row columns places width peeled.columns peeled.few t in_columns in_width old cur v.taken (inr (ap (at rows) place ∙ sym tested ∙ w'.if-row_of-row.false))
+          | else-place-pivots-via-else-place-pivots w' ↦
+              takes_skipped Records rows order row columns places width peeled.columns peeled.few t in_columns in_width old cur v.taken (inl (omega (arith, many, w'.if-place-pivots.false, place)))
+        ];
+      })
+    ]
+
+pub returns-clause-each : goal.returns-clause-each
+returns-clause-each c =
+    let so_far = c.loop-column.invariant.each in
+    let all : length c.row-column-items.result.now ≡ length (ones_of c.args.ones.now c.args.row) = ap length c.row-column-items.ensures in
+    omega (arith, so_far, all)
