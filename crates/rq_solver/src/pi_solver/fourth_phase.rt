@@ -88,9 +88,13 @@ fn saves_additions(
 {
     let inactive = peeling.width() - peeling.pivots();
     let entries = recorded.count_entries(row, inactive);
-    // Each one but the row's own pivot, which isn't taken, costs an addition at least.
+    // Each one costs two additions at most, and but for the row's own pivot, which isn't taken, one
+    // at least: so most rows need no look at where their ones stand.
     if ones.row(row).len() > most.min(entries.saturating_add(1)) {
         return false;
+    }
+    if ones.row(row).len() <= entries / 2 {
+        return true;
     }
     let mut cost = 0usize;
     for column in ones.row(row) {
