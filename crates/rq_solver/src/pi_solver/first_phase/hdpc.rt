@@ -105,6 +105,7 @@ fn sum_rows(
     requires some { 0 < length rows.old.rows }
     ensures width { OnOk result (rows.new.width ≡ rows.old.width) }
     ensures height { OnOk result (length rows.new.rows ≡ length rows.old.rows) }
+    ensures octets { OnOk result (HasOctets rows.new) }
     ensures sum { OnOk result (SumsRows rows.old rows.new) }
     ensures summed { OnOk result (CombinesOctets first_hdpc (length rows.old.rows) rows.old.width (entry_of rows.old) (entry_of rows.new) recorded.old recorded.new) }
     ensures few { OnOk result (AddsAtMost (length rows.old.rows - 1) recorded.old recorded.new) }
