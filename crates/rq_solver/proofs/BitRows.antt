@@ -4,6 +4,7 @@ use Rattle.std.specs.Prelude.{MatchOption}
 use Rattle.std.proofs.lemmas.List.Elements.{All-weaker}
 use Rattle.rq_algebra.specs.Operations.{FindsColumn}
 use Rattle.rq_algebra.specs.Systems.{HasHomogeneousColumn}
+use Rattle.rq_standard.specs.BitTable.{BitTable}
 use Rattle.rq_standard.specs.BitTableSteps.{ArePlacesOfOnes}
 use Rattle.rq_standard.specs.ConstraintMatrix.{with_octet_rows}
 use Rattle.rq_standard.specs.OctetField.{octets}
@@ -13,6 +14,8 @@ use Rattle.rq_parts.specs.DenseOctetMatrix.{OctetTable, entry_of}
 use Rattle.rq_solver.specs.Cleared.{AreRowsOfBits, AreOctetRows}
 use Rattle.rq_solver.specs.Peeled.{AreOnesOfRows, ones_of}
 use Rattle.rq_solver.specs.Phases.{IsAttempt}
+use Rattle.rq_solver.specs.System.{IsSystemOf}
+use Rattle.rq_solver.specs.declared.pi_solver.system.System.{System}
 use Rattle.rq_solver.proofs.RowTurns.{count_contains}
 
 -- a row of zeros has no ones
@@ -43,11 +46,13 @@ module _ (height width : ℕ) (bit : ℕ → ℕ → ℕ) (lists : List (List �
   found_of_bits P columns same found =
       rw are.count at (subst (λ w. (b : ℕ → ℕ → ℕ) → AreOnesOfRows (length lists) w b lists → P (length lists) w b) same found bit (record { count = refl; each = λ i l. are.each i (rw are.count at l) }))
 
-  -- the same of an attempt
-  pub attempt_of_bits : (first : ℕ) (hdpc : OctetTable) (columns : ℕ) → columns ≡ width → (answer : Option RecordedOperations) → IsAttempt columns lists first hdpc answer
-      → let rows = with_octet_rows first (length hdpc.rows) bit (entry_of hdpc) in
-      MatchOption answer (HasHomogeneousColumn octets height width rows) (λ ops. FindsColumn octets height width rows (operations_of ops))
-  attempt_of_bits first hdpc columns same None found =
-      found_of_bits (λ h w b. HasHomogeneousColumn octets h w (with_octet_rows first (length hdpc.rows) b (entry_of hdpc))) columns same found
-  attempt_of_bits first hdpc columns same (Some ops) found =
-      found_of_bits (λ h w b. FindsColumn octets h w (with_octet_rows first (length hdpc.rows) b (entry_of hdpc)) (operations_of ops)) columns same found
+-- the same of an attempt at the system of these bits
+pub attempt_of_bits : (bits : BitTable) (hdpc : OctetTable) (first : ℕ) (system : System) → IsSystemOf bits hdpc first system → (answer : Option RecordedOperations) → IsAttempt system answer
+    → let rows = with_octet_rows first (length hdpc.rows) bits.bit (entry_of hdpc) in
+    MatchOption answer (HasHomogeneousColumn octets bits.height bits.width rows) (λ ops. FindsColumn octets bits.height bits.width rows (operations_of ops))
+attempt_of_bits bits hdpc first system is None found =
+    rw (← is.hdpc_is, ← is.first_is) (found_of_bits bits.height bits.width bits.bit system.ones is.ones_are
+    (λ h w b. HasHomogeneousColumn octets h w (with_octet_rows system.first_hdpc (length system.hdpc.rows) b (entry_of system.hdpc))) system.width is.width_is found)
+attempt_of_bits bits hdpc first system is (Some ops) found =
+    rw (← is.hdpc_is, ← is.first_is) (found_of_bits bits.height bits.width bits.bit system.ones is.ones_are
+    (λ h w b. FindsColumn octets h w (with_octet_rows system.first_hdpc (length system.hdpc.rows) b (entry_of system.hdpc)) (operations_of ops)) system.width is.width_is found)

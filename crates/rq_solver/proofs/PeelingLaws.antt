@@ -7,8 +7,8 @@ use Rattle.std.proofs.lemmas.List.Elements.{All-take, Contains-append_cases, Con
 use Rattle.std.proofs.Math.ListN.{get_or-append}
 use Rattle.rq_algebra.specs.Arrangements.{ArePlaces}
 use Rattle.rq_algebra.specs.Systems.{at}
-use Rattle.rq_solver.specs.Cleared.{AreRowsOfBits}
-use Rattle.rq_solver.specs.Peeled.{ones_of, ColumnState, EndsActive, InactivatesRow, IsActive, TakesRow, IsPeeled, IsOrderOf, first_columns}
+use Rattle.rq_solver.specs.Cleared.{AreRowsOfBits, PeelsRows}
+use Rattle.rq_solver.specs.Peeled.{ones_of, ColumnState, EndsActive, InactivatesRow, IsActive, TakesRow, IsPeeled, IsOrderOf, Pivots, first_columns}
 
 -- the pivots so far: none of their rows has an active column any more
 pub record IsPeeledSo (lists : List (List ℕ)) (rows : List ℕ) (state : ColumnState) : Type 0 where
@@ -166,3 +166,6 @@ module _ (row : List ℕ) (t : ℕ) (in_row : t < length row) where
         | inr here ↦ none (subst (IsActive cur) (sym here) a)
       ];
     }
+
+pub peels_rows : (width : ℕ) (lists : List (List ℕ)) (pivots : Pivots) → AreRowsOfBits width lists → IsPeeled width lists pivots → PeelsRows lists pivots
+peels_rows width lists pivots bits peeled = record { bits = rw peeled.columns.place_count bits; peeled = rw peeled.columns.place_count peeled }

@@ -16,3 +16,4 @@ pub mod RowSteps
 pub mod RowWrites
 pub mod SolverState
 pub mod Solving
+pub mod System

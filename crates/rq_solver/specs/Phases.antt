@@ -7,21 +7,22 @@ use Rattle.rq_standard.specs.ConstraintMatrix.{with_octet_rows}
 use Rattle.rq_standard.specs.OctetField.{octets}
 use Rattle.rq_operations.specs.RecordedOperations.{operations_of}
 use Rattle.rq_operations.specs.declared.recorded.RecordedOperations.{RecordedOperations}
-use Rattle.rq_parts.specs.DenseOctetMatrix.{OctetTable, entry_of}
-use Rattle.rq_solver.specs.Cleared.{HasPeeledPivots, LacksPivots, SolvesInactive, system_rows}
+use Rattle.rq_parts.specs.DenseOctetMatrix.{entry_of}
+use Rattle.rq_solver.specs.Cleared.{HasPeeledPivots, LacksPivots, SolvesInactive}
 use Rattle.rq_solver.specs.Peeled.{AreOnesOfRows, Pivots}
 use Rattle.rq_solver.specs.Recorded.{Recorded}
+use Rattle.rq_solver.specs.System.{rows_of}
+use Rattle.rq_solver.specs.declared.pi_solver.system.System.{System}
 
--- operations that solve these rows of bits, but the HDPC rows in the places from `first` on; or none, and the rows have a homogeneous column
-abbrev pub IsAttempt : ℕ → List (List ℕ) → ℕ → OctetTable → Option RecordedOperations → Type 0
-IsAttempt width lists first hdpc answer = (bit : ℕ → ℕ → ℕ) → AreOnesOfRows (length lists) width bit lists
-    → let rows = with_octet_rows first (length hdpc.rows) bit (entry_of hdpc) in
-    MatchOption answer (HasHomogeneousColumn octets (length lists) width rows) (λ ops. FindsColumn octets (length lists) width rows (operations_of ops))
+-- operations that solve a system, whatever bits have its ones; or none, and its rows have a homogeneous column
+abbrev pub IsAttempt : System → Option RecordedOperations → Type 0
+IsAttempt system answer = (bit : ℕ → ℕ → ℕ) → AreOnesOfRows (length system.ones) system.width bit system.ones
+    → let rows = with_octet_rows system.first_hdpc (length system.hdpc.rows) bit (entry_of system.hdpc) in
+    MatchOption answer (HasHomogeneousColumn octets (length system.ones) system.width rows) (λ ops. FindsColumn octets (length system.ones) system.width rows (operations_of ops))
 
--- what was recorded gives the rows of bits, and the HDPC rows in the places from `first` on, the pivots of a peeling; the others are listed behind its rows
-abbrev pub ClearsPivots : List (List ℕ) → ℕ → OctetTable → Pivots → List ℕ → Recorded → Type 0
-ClearsPivots lists first hdpc peeling listed state =
-    HasPeeledPivots (length lists) (length peeling.places) (system_rows lists first hdpc) peeling (drop (length peeling.rows) listed) state
+-- what was recorded gives the rows of a system the pivots of a peeling; the others are listed behind its rows
+abbrev pub ClearsPivots : System → Pivots → List ℕ → Recorded → Type 0
+ClearsPivots system peeling listed state = HasPeeledPivots (length system.ones) system.width (rows_of system) peeling (drop (length peeling.rows) listed) state
 
 -- where the rows had the pivots of a peeling, what was recorded solves them, read in an order; or there is none, and they have a homogeneous column
 abbrev pub FindsOrder : Pivots → List ℕ → Recorded → Recorded → Option (Vec ℕ Global) → Type 0

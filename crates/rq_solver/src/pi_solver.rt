@@ -5,9 +5,7 @@ ghost use Rattle.rq_standard.specs.TableRows.{greatest_size, row_of};
 ghost use Rattle.rq_bytes.specs.declared.error.Error.TheVariants.{AlreadyExecuted, OutOfMemory};
 ghost use Rattle.rq_bytes.specs.SymbolOps.{operation_of};
 ghost use Rattle.rq_operations.specs.RecordedOperations.{operations_of};
-ghost use Rattle.rq_solver.specs.Cleared.{AreOctetRows, AreRowsOfBits};
 ghost use Rattle.rq_solver.specs.PhaseCounts.{AreCountsOf, total_of};
-ghost use Rattle.rq_solver.specs.Phases.{IsAttempt};
 ghost use Rattle.rq_solver.specs.Solving.{AreEquations, AreEquationsWithoutHdpc, CountsOperations, FindsOperations, solver_of, solver_without_hdpc, IsOutcome, IsSpent};
 
 mod column_rows;
@@ -26,11 +24,10 @@ mod recorded;
 mod row_selection;
 pub(crate) mod rows;
 mod second_phase;
+mod system;
 
 use counts::OperationCounts;
-use ones::RowOnes;
-use peeling::peel;
-use phases::{Attempt, find_operations};
+use phases::Attempt;
 pub use row_selection::FirstPhaseRowSelectionStats;
 use rq_bytes::error::Error;
 use rq_bytes::operation_vector::SymbolOps;
@@ -41,6 +38,7 @@ use rq_parts::octet_matrix::DenseOctetMatrix;
 use rq_standard::row::TableRow;
 use rq_tables::systematic_constants::SystematicTable;
 use std::alloc::Global;
+use system::System;
 
 /// Solves the equations of a block for its intermediate symbols (RFC 6330, section 5.4.2.1), once.
 /// Contracts see the equations, and the symbols until it has run.
@@ -228,10 +226,9 @@ impl<T: BinaryMatrix> IntermediateSymbolDecoder<T> {
             ..
         } = self;
         drop(symbols);
-        let width = matrix.width();
-        let ones = RowOnes::of_matrix(alloc, &matrix, boundary)?;
+        let system = System::of_matrix(alloc, &matrix, hdpc, first_hdpc, boundary)?;
         drop(matrix);
-        let attempt = solve_rows(alloc, &ones, &hdpc, first_hdpc, width, boundary)?;
+        let attempt = system.solve(alloc)?;
         Ok(attempt.operations)
     }
 
@@ -242,41 +239,16 @@ impl<T: BinaryMatrix> IntermediateSymbolDecoder<T> {
         ensures few { IfOk result (λ attempt. total_of attempt.counts.additions ≤ 2 * (solver_state self.now).width * (solver_state self.now).height) }
         ensures memory { IfErr result (λ e. e ≡ OutOfMemory) }
     {
-        let ones = RowOnes::of_matrix(self.alloc, &self.matrix, self.boundary)?;
-        solve_rows(
+        let hdpc = self.hdpc.clone()?;
+        let system = System::of_matrix(
             self.alloc,
-            &ones,
-            &self.hdpc,
+            &self.matrix,
+            hdpc,
             self.first_hdpc,
-            self.matrix.width(),
             self.boundary,
-        )
+        )?;
+        system.solve(self.alloc)
     }
-}
-
-// Looks for the operations that solve rows with these ones, but the HDPC rows in the places from
-// `first_hdpc` on: columns from the boundary on are dense.
-fn solve_rows(
-    alloc: Global,
-    ones: &RowOnes,
-    hdpc: &DenseOctetMatrix,
-    first_hdpc: usize,
-    width: usize,
-    boundary: usize,
-) -> Result<Attempt, Error>
-    requires bits { AreRowsOfBits width ones.now }
-    requires hdpc { AreOctetRows ones.now first_hdpc width hdpc.now }
-    requires few_hdpc { length hdpc.now.rows ≤ width }
-    requires few_rows { length ones.now < 2 ^ 31 }
-    requires narrow { width < 65536 }
-    requires boundary { boundary ≤ width }
-    ensures found { IfOk result (λ attempt. IsAttempt width ones.now first_hdpc hdpc.now attempt.operations) }
-    ensures counted { IfOk result (λ attempt. IfSome attempt.operations (λ ops. AreCountsOf attempt.counts (operations_of ops))) }
-    ensures few { IfOk result (λ attempt. total_of attempt.counts.additions ≤ 2 * width * length ones.now) }
-    ensures memory { IfErr result (λ e. e ≡ OutOfMemory) }
-{
-    let peeling = peel(alloc, ones, width, boundary)?;
-    find_operations(alloc, ones, hdpc, first_hdpc, width, &peeling)
 }
 
 /// Solves the equations of a block with so many source symbols, which are a matrix of bits, the HDPC

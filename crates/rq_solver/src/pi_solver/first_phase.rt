@@ -3,10 +3,10 @@
 ghost use Rattle.std.specs.Prelude.{◌≡◌, ◌≢◌, ℕ, ◌+◌, ◌*◌, ◌^◌, ◌<◌, ◌≤◌, drop, length, IfOk, OnOk, IfErr};
 ghost use Rattle.rq_bytes.specs.declared.error.Error.TheVariants.{OutOfMemory};
 ghost use Rattle.rq_solver.specs.Recorded.{AddsAtMost};
-ghost use Rattle.rq_solver.specs.Cleared.{AreOctetRows, ClearsRows, HasPeeledPivots, ListsRows, PeelsRows, TakesPivots, system_rows};
+ghost use Rattle.rq_solver.specs.Cleared.{ClearsRows, ListsRows, PeelsRows, TakesPivots};
 ghost use Rattle.rq_solver.specs.OperationCounts.{additions};
 ghost use Rattle.rq_solver.specs.OctetBatch.{batch_bound};
-ghost use Rattle.rq_solver.specs.Peeled.{ones_of};
+ghost use Rattle.rq_solver.specs.Peeled.{ones_of, IsPeeled};
 ghost use Rattle.rq_solver.specs.Phases.{ClearsPivots};
 ghost use Rattle.rq_parts.specs.DenseOctetMatrix.{HasOctets};
 
@@ -18,40 +18,41 @@ mod octet_batch;
 use super::ones::RowOnes;
 use super::peeling::Peeling;
 use super::recorded::RecordedRows;
+use super::system::System;
 use hdpc::clear_octets;
 use inactive::fill_inactive;
 use rq_bytes::error::Error;
 use rq_bytes::octet::Octet;
-use rq_parts::octet_matrix::DenseOctetMatrix;
 use std::alloc::Global;
 
-/// Clears the pivots' columns in the other rows, which are listed behind the pivots'. The rows are
-/// returned with their entries in the inactive columns.
+/// Clears the pivots' columns in the other rows, which are listed behind the pivots'. The ones of the
+/// rows are returned, and the rows with their entries in the inactive columns.
 pub(super) fn clear_pivots(
     alloc: Global,
-    ones: &RowOnes,
-    hdpc: &DenseOctetMatrix,
-    first_hdpc: usize,
+    system: System,
     peeling: &Peeling,
     listed: &[usize],
-) -> Result<RecordedRows, Error>
-    requires peeled { PeelsRows ones.now peeling.now }
-    requires hdpc { AreOctetRows ones.now first_hdpc (length peeling.now.places) hdpc.now }
-    requires listed { ListsRows (length ones.now) peeling.now.rows listed.now }
-    requires few_rows { length ones.now < 2 ^ 31 }
-    requires narrow { length peeling.now.places < 65536 }
-    ensures cleared { IfOk result (ClearsPivots ones.now first_hdpc hdpc.now peeling.now listed.now) }
-    ensures few { IfOk result (λ rows. additions rows.operations ≤ length ones.now * length peeling.now.rows + batch_bound (length hdpc.now.rows) (length peeling.now.places) (length peeling.now.rows)) }
+) -> Result<(RowOnes, RecordedRows), Error>
+    requires peeled { IsPeeled system.width system.ones peeling.now }
+    requires listed { ListsRows (length system.ones) peeling.now.rows listed.now }
+    ensures ones { IfOk result (λ answer. answer.0 ≡ system.ones) }
+    ensures cleared { IfOk result (λ answer. ClearsPivots system peeling.now listed.now answer.1) }
+    ensures few { IfOk result (λ answer. additions answer.1.operations ≤ length system.ones * length peeling.now.rows + batch_bound (length system.hdpc.rows) system.width (length peeling.now.rows)) }
     ensures err { IfErr result (λ e. e ≡ OutOfMemory) }
 {
-    let inactive = hdpc.width() - peeling.pivots();
-    let table = fill_inactive(alloc, ones, hdpc, first_hdpc, inactive, peeling)?;
+    let table = fill_inactive(alloc, &system, peeling)?;
+    let System {
+        ones,
+        hdpc,
+        first_hdpc,
+        ..
+    } = system;
     // Blocks of all sizes take two to three operations for each one.
     let room = ones.len().saturating_mul(3);
     let mut recorded = RecordedRows::new(alloc, table, room)?;
-    clear_rows(ones, listed, peeling, &mut recorded)?;
+    clear_rows(&ones, listed, peeling, &mut recorded)?;
     clear_octets(hdpc, first_hdpc, peeling, &mut recorded)?;
-    Ok(recorded)
+    Ok((ones, recorded))
 }
 
 // Adds to each listed row the rows of the other pivots in whose columns it has ones. The pivots'

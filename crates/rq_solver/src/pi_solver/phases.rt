@@ -22,9 +22,9 @@ use super::ones::RowOnes;
 use super::peeling::Peeling;
 use super::recorded::RecordedRows;
 use super::second_phase::{eliminate, reduce_back};
+use super::system::System;
 use rq_bytes::error::Error;
 use rq_operations::recorded::RecordedOperations;
-use rq_parts::octet_matrix::DenseOctetMatrix;
 use std::alloc::Global;
 
 /// What was found for rows: the operations that take values of the rows to the column that solves
@@ -36,33 +36,29 @@ pub(super) struct Attempt {
     pub counts: OperationCounts,
 }
 
-/// Looks for the operations that solve rows: those of bits, but the HDPC rows in the places from
-/// `first_hdpc` on.
+/// Looks for the operations that solve the equations, whose columns have pivots among the rows of bits.
 pub(super) fn find_operations(
     alloc: Global,
-    ones: &RowOnes,
-    hdpc: &DenseOctetMatrix,
-    first_hdpc: usize,
-    width: usize,
+    system: System,
     peeling: &Peeling,
 ) -> Result<Attempt, Error>
-    requires bits { AreRowsOfBits width ones.now }
-    requires peeled { IsPeeled width ones.now peeling.now }
-    requires hdpc { AreOctetRows ones.now first_hdpc width hdpc.now }
-    requires few_hdpc { length hdpc.now.rows ≤ width }
-    requires few_rows { length ones.now < 2 ^ 31 }
-    requires narrow { width < 65536 }
-    ensures found { IfOk result (λ attempt. IsAttempt width ones.now first_hdpc hdpc.now attempt.operations) }
+    requires { IsPeeled system.width system.ones peeling.now }
+    ensures found { IfOk result (λ attempt. IsAttempt system attempt.operations) }
     ensures counted { IfOk result (λ attempt. IfSome attempt.operations (λ ops. AreCountsOf attempt.counts (operations_of ops))) }
-    ensures few { IfOk result (λ attempt. total_of attempt.counts.additions ≤ 2 * width * length ones.now) }
+    ensures few { IfOk result (λ attempt. total_of attempt.counts.additions ≤ 2 * system.width * length system.ones) }
     ensures err { IfErr result (λ e. e ≡ OutOfMemory) }
 {
-    let pivots = peeling.rows();
-    let mut listed = rows_in_order(alloc, ones.height(), first_hdpc, hdpc.height(), pivots)?;
-    let mut recorded = clear_pivots(alloc, ones, hdpc, first_hdpc, peeling, listed.as_slice())?;
+    let mut listed = rows_in_order(
+        alloc,
+        system.ones.height(),
+        system.first_hdpc,
+        system.hdpc.height(),
+        peeling.rows(),
+    )?;
+    let most = (system.width - system.hdpc.height()) / 2;
+    let (ones, mut recorded) = clear_pivots(alloc, system, peeling, listed.as_slice())?;
     let rows = listed.as_mut_slice();
-    let most = (width - hdpc.height()) / 2;
-    let found = rows_of_columns(alloc, ones, peeling, rows, most, &mut recorded)?;
+    let found = rows_of_columns(alloc, &ones, peeling, rows, most, &mut recorded)?;
     let operations = recorded.into_operations();
     let counts = operations.counts();
     let Some(order) = found else {

@@ -24,27 +24,27 @@ use std::alloc::Global;
 /// for ones in two rows, so that the sum of the rows is alpha times that in the next, and once it
 /// has cleared a column it is to be added to two rows at most to clear the next.
 pub(super) fn clear_octets(
-    hdpc: &DenseOctetMatrix,
+    hdpc: DenseOctetMatrix,
     first_hdpc: usize,
     peeling: &Peeling,
     recorded: &mut RecordedRows,
 ) -> Result<(), Error>
-    requires order { IsOrderOf hdpc.now.width peeling.now.order peeling.now.places }
-    requires hdpc_octets { HasOctets hdpc.now }
-    requires few { length peeling.now.rows ≤ hdpc.now.width }
+    requires order { IsOrderOf hdpc.width peeling.now.order peeling.now.places }
+    requires hdpc_octets { HasOctets hdpc }
+    requires few { length peeling.now.rows ≤ hdpc.width }
     requires pivots { AreRows peeling.now.rows recorded.old.table }
-    requires height { first_hdpc + length hdpc.now.rows ≤ length recorded.old.table.rows }
-    requires fits { first_hdpc + length hdpc.now.rows < 2 ^ 64 }
-    requires apart { (i p : ℕ) → i < length hdpc.now.rows → p < length peeling.now.rows → first_hdpc + i ≢ at peeling.now.rows p }
+    requires height { first_hdpc + length hdpc.rows ≤ length recorded.old.table.rows }
+    requires fits { first_hdpc + length hdpc.rows < 2 ^ 64 }
+    requires apart { (i p : ℕ) → i < length hdpc.rows → p < length peeling.now.rows → first_hdpc + i ≢ at peeling.now.rows p }
     requires octets { HasOctets recorded.old.table }
-    ensures cleared { OnOk result (ClearsOctets peeling.now.rows peeling.now.order (entry_of hdpc.now) first_hdpc (length hdpc.now.rows) recorded.old recorded.new) }
-    ensures few { OnOk result (AddsAtMost (batch_bound (length hdpc.now.rows) hdpc.now.width (length peeling.now.rows)) recorded.old recorded.new) }
+    ensures cleared { OnOk result (ClearsOctets peeling.now.rows peeling.now.order (entry_of hdpc) first_hdpc (length hdpc.rows) recorded.old recorded.new) }
+    ensures few { OnOk result (AddsAtMost (batch_bound (length hdpc.rows) hdpc.width (length peeling.now.rows)) recorded.old recorded.new) }
     ensures err { IfErr result (λ e. e ≡ OutOfMemory) }
 {
-    if hdpc.height() == 0 || are_zeros_at_pivots(hdpc, peeling) {
+    if hdpc.height() == 0 || are_zeros_at_pivots(&hdpc, peeling) {
         return Ok(());
     }
-    let mut sums = hdpc.clone()?;
+    let mut sums = hdpc;
     sum_rows(&mut sums, first_hdpc, recorded)?;
     let mut batch = OctetBatch::new(recorded.allocator(), sums)?;
     for column in 0..end_of_pivots(peeling) {

@@ -3,13 +3,15 @@ ghost use Rattle.std.specs.Prelude.{◌≡◌, ℕ, ◌+◌, ◌-◌, ◌%◌, �
 ghost use Rattle.rq_algebra.specs.Systems.{at};
 ghost use Rattle.rq_bytes.specs.declared.error.Error.TheVariants.{OutOfMemory};
 ghost use Rattle.rq_parts.specs.DenseOctetMatrix.{entry_of, HasOctets};
-ghost use Rattle.rq_solver.specs.Cleared.{AreOctetRows, HasLeading, PeelsRows, one_in, system_rows};
-ghost use Rattle.rq_solver.specs.Peeled.{IsOrderOf};
+ghost use Rattle.rq_solver.specs.Cleared.{HasLeading, PeelsRows, one_in};
+ghost use Rattle.rq_solver.specs.Peeled.{IsOrderOf, IsPeeled};
 ghost use Rattle.rq_solver.specs.RowWrites.{FillsRow, WritesRow};
+ghost use Rattle.rq_solver.specs.System.{rows_of};
 
 use super::super::entries::{InactiveEntries, whole_vectors};
 use super::super::ones::RowOnes;
 use super::super::peeling::Peeling;
+use super::super::system::System;
 use rq_bytes::error::Error;
 use rq_parts::octet_matrix::DenseOctetMatrix;
 use std::alloc::Global;
@@ -17,27 +19,30 @@ use std::alloc::Global;
 /// The entries of the rows in the inactive columns, in their order.
 pub(super) fn fill_inactive(
     alloc: Global,
-    ones: &RowOnes,
-    hdpc: &DenseOctetMatrix,
-    first_hdpc: usize,
-    inactive: usize,
+    system: &System,
     peeling: &Peeling,
 ) -> Result<InactiveEntries, Error>
-    requires peeled { PeelsRows ones.now peeling.now }
-    requires hdpc { AreOctetRows ones.now first_hdpc (length peeling.now.places) hdpc.now }
-    requires inactive { length peeling.now.rows + inactive ≡ length peeling.now.places }
-    requires few { length ones.now < 2 ^ 31 }
-    requires narrow { length peeling.now.places < 65536 }
-    ensures entries { IfOk result (HasLeading (length ones.now) inactive (length ones.now) (λ r f. system_rows ones.now first_hdpc hdpc.now r (at peeling.now.order (length peeling.now.rows + f)))) }
+    requires { IsPeeled system.now.width system.now.ones peeling.now }
+    ensures entries { IfOk result (HasLeading (length system.now.ones) (system.now.width - length peeling.now.rows) (length system.now.ones) (λ r f. rows_of system.now r (at peeling.now.order (length peeling.now.rows + f)))) }
     ensures err { IfErr result (λ e. e ≡ OutOfMemory) }
 {
-    let mut entries = InactiveEntries::new(alloc, ones.height(), whole_vectors(inactive))?;
-    for row in 0..ones.height() {
-        if row >= first_hdpc && row - first_hdpc < hdpc.height() {
-            let from = row - first_hdpc;
-            fill_octets(alloc, hdpc, from, peeling, inactive, row, &mut entries)?;
+    let height = system.ones.height();
+    let inactive = system.width - peeling.pivots();
+    let mut entries = InactiveEntries::new(alloc, height, whole_vectors(inactive))?;
+    for row in 0..height {
+        if row >= system.first_hdpc && row - system.first_hdpc < system.hdpc.height() {
+            let from = row - system.first_hdpc;
+            fill_octets(
+                alloc,
+                &system.hdpc,
+                from,
+                peeling,
+                inactive,
+                row,
+                &mut entries,
+            )?;
         } else {
-            fill_bits(ones, row, peeling, &mut entries);
+            fill_bits(&system.ones, row, peeling, &mut entries);
         }
     }
     Ok(entries)

@@ -11,8 +11,10 @@ use Rattle.rq_algebra.specs.Systems.{HasHomogeneousColumn}
 use Rattle.rq_standard.specs.OctetField.{octets}
 use Rattle.rq_operations.specs.RecordedOperations.{operations_of}
 use Rattle.rq_parts.specs.DenseOctetMatrix.{entry_of}
-use Rattle.rq_solver.specs.Cleared.{HasPeeledPivots, one_in, system_rows}
+use Rattle.rq_solver.specs.Cleared.{HasPeeledPivots, one_in}
+use Rattle.rq_solver.specs.System.{rows_of}
 use Rattle.rq_solver.proofs.OctetRows.{same_rows}
+use Rattle.rq_solver.proofs.PeelingLaws.{peels_rows}
 use Rattle.rq_solver.proofs.SolutionLaws.{finds_same, homogeneous_same}
 use Rattle.rq_solver.proofs.pi_solver.phases.find_operations.Goals as goal
 use Rattle.rq_solver.proofs.pi_solver.phases.find_operations.Goals.{After-into_operations-operations}
@@ -25,52 +27,55 @@ few_of M width h p most recorded phases fits rows columns first second =
     omega (arith, all, first, second)
 
 module _ (c : After-into_operations-operations) where
-  peeled : HasPeeledPivots (length c.args.ones.now) (length c.args.peeling.now.places) (system_rows c.args.ones.now c.args.first_hdpc c.args.hdpc.now) c.args.peeling.now
-      (drop (length c.args.peeling.now.rows) c.as_mut_slice-rows.result.now) c.in_ok-recorded.recorded
+  peeled : HasPeeledPivots (length c.args.system.ones) (length c.args.peeling.now.places) (rows_of c.args.system) c.args.peeling.now (drop (length c.args.peeling.now.rows) c.as_mut_slice-rows.result.now) c.in_ok-ones.recorded
   peeled =
-      let rows = c.args.peeling.now.rows in
+      let system = c.args.system in
+      let pivots = c.args.peeling.now in
       let listed = c.as_slice.ensures.value ∙ sym c.as_mut_slice-rows.ensures.value in
-      subst (λ (l : List ℕ). HasPeeledPivots (length c.args.ones.now) (length c.args.peeling.now.places) (system_rows c.args.ones.now c.args.first_hdpc c.args.hdpc.now) c.args.peeling.now (drop (length rows) l) c.in_ok-recorded.recorded) listed c.in_ok-recorded.ensures.cleared
+      rw c.requires.columns.place_count (subst (λ (l : List ℕ). HasPeeledPivots (length system.ones) system.width (rows_of system) pivots (drop (length pivots.rows) l) c.in_ok-ones.recorded) listed c.in_ok-ones.ensures.cleared)
 
-  few : additions c.into_operations-operations.result ≤ 2 * c.args.width * length c.args.ones.now
+  few : additions c.into_operations-operations.result ≤ 2 * c.args.system.width * length c.args.system.ones
   few =
-      let height = length c.args.ones.now in
-      let width = c.args.width in
-      let hdpc = c.args.hdpc.now in
+      let system = c.args.system in
+      let height = length system.ones in
+      let width = system.width in
+      let hdpc = system.hdpc in
       let rows = c.args.peeling.now.rows in
-      let pivots = c.requires.peeled in
+      let pivots = c.requires in
       let listed = c.as_mut_slice-rows.result.now in
       let most_ones : ℕ = (width - c.height-3.result) / 2 in
-      let room : 2 * most_ones + length hdpc.rows ≤ width = omega (arith, c.requires.few_hdpc, c.height-3.ensures) in
+      let room : 2 * most_ones + length hdpc.rows ≤ width = omega (arith, system.few_hdpc, c.height-3.ensures) in
       let listed_is : c.in_ok-listed.listed.items ≡ listed = sym c.as_mut_slice-rows.ensures.value in
       let fewer : length listed ≤ height = rw (← listed_is) (few_places (length c.in_ok-listed.listed.items) height (at c.in_ok-listed.listed.items) (rw c.height.ensures at c.in_ok-listed.ensures.listed.are)) in
       let together : length rows + length hdpc.rows ≤ height =
-      few_together (length rows) (length hdpc.rows) c.args.first_hdpc height (at rows) pivots.in_rows c.requires.hdpc.within (λ i p l n. pivot_of_bits c.args.ones.now c.args.first_hdpc hdpc width c.requires.bits c.requires.hdpc rows c.args.peeling.now.order c.args.peeling.now.places pivots p i n l) in
+      few_together (length rows) (length hdpc.rows) system.first_hdpc height (at rows) pivots.in_rows system.octet_rows.within (λ i p l n. pivot_of_bits system.ones system.first_hdpc hdpc width system.bits system.octet_rows rows c.args.peeling.now.order c.args.peeling.now.places pivots p i n l) in
       let most : (width - length rows) * (length listed - 1) ≤ (width - length rows) * (height - 1) = mul-le-mul_left (width - length rows) (omega arith) in
-      let first : additions c.in_ok-recorded.recorded.operations ≤ height * length rows + batch_bound (length hdpc.rows) width (length rows) = rw pivots.columns.place_count at c.in_ok-recorded.ensures.few in
-      let second : additions c.rows_of_columns.new.recorded.operations ≤ additions c.in_ok-recorded.recorded.operations + (width - length rows) * (length listed - 1) + 2 * (length rows * most_ones) = rw pivots.columns.place_count at c.in_ok-found.ensures.few in
+      let first : additions c.in_ok-ones.recorded.operations ≤ height * length rows + batch_bound (length hdpc.rows) width (length rows) = c.in_ok-ones.ensures.few in
+      let second : additions c.rows_of_columns.new.recorded.operations ≤ additions c.in_ok-ones.recorded.operations + (width - length rows) * (length listed - 1) + 2 * (length rows * most_ones) = rw pivots.columns.place_count at c.in_ok-found.ensures.few in
       let same : additions c.into_operations-operations.result ≡ additions c.rows_of_columns.new.recorded.operations = ap additions c.into_operations-operations.ensures in
-      few_of height width (length hdpc.rows) (length rows) most_ones (additions c.in_ok-recorded.recorded.operations) (additions c.into_operations-operations.result) pivots.few together room first (omega (arith, most, second, same))
+      few_of height width (length hdpc.rows) (length rows) most_ones (additions c.in_ok-ones.recorded.operations) (additions c.into_operations-operations.result) pivots.few together room first (omega (arith, most, second, same))
+
+pub rows_of_columns-requires-clause-peeled : goal.rows_of_columns-requires-clause-peeled
+rows_of_columns-requires-clause-peeled c =
+    rw c.in_ok-ones.ensures.ones (peels_rows c.args.system.width c.args.system.ones c.args.peeling.now c.args.system.bits c.requires)
 
 pub returns-in_default-clause-found : goal.returns-in_default-clause-found
 returns-in_default-clause-found c = λ bit are.
-    let lists = c.args.ones.now in
-    let hdpc = c.args.hdpc.now in
-    let found = rw (c.in_ok-recorded.ensures.cleared.height_is, c.in_default.is) at c.in_ok-found.ensures.found in
-    let null : HasHomogeneousColumn octets (length lists) c.args.width (system_rows lists c.args.first_hdpc hdpc) = rw c.requires.peeled.columns.place_count at (found _ (peeled (goal.at.returns-in_default-clause-found c).After-into_operations-operations)) in
-    homogeneous_same octets (length lists) c.args.width _ _ (same_rows c.args.first_hdpc (length hdpc.rows) (entry_of hdpc) (length lists) c.args.width (one_in lists) bit (λ i k l m. (are.each i l).once k (omega arith) m)) null
+    let system = c.args.system in
+    let found = rw (c.in_ok-ones.ensures.cleared.height_is, c.in_default.is) at c.in_ok-found.ensures.found in
+    let null : HasHomogeneousColumn octets (length system.ones) system.width (rows_of system) = rw c.requires.columns.place_count at (found _ (peeled (goal.at.returns-in_default-clause-found c).After-into_operations-operations)) in
+    homogeneous_same octets (length system.ones) system.width _ _ (same_rows system.first_hdpc (length system.hdpc.rows) (entry_of system.hdpc) (length system.ones) system.width (one_in system.ones) bit (λ i k l m. (are.each i l).once k (omega arith) m)) null
 
 pub returns-clause-found : goal.returns-clause-found
 returns-clause-found c = λ bit are.
-    let lists = c.args.ones.now in
-    let hdpc = c.args.hdpc.now in
+    let system = c.args.system in
     let steps : List Operation = c.rows_of_columns.new.recorded.operations in
     let order = Reorder c.in-Some.order.items ∷ [] in
-    let found = rw (c.in_ok-recorded.ensures.cleared.height_is, c.in-Some.is) at c.in_ok-found.ensures.found in
-    let finds : FindsColumn octets (length lists) c.args.width (system_rows lists c.args.first_hdpc hdpc) (steps ++ order) = rw c.requires.peeled.columns.place_count at (found _ (peeled (goal.at.returns-clause-found c).After-into_operations-operations)) in
+    let found = rw (c.in_ok-ones.ensures.cleared.height_is, c.in-Some.is) at c.in_ok-found.ensures.found in
+    let finds : FindsColumn octets (length system.ones) system.width (rows_of system) (steps ++ order) = rw c.requires.columns.place_count at (found _ (peeled (goal.at.returns-clause-found c).After-into_operations-operations)) in
     let recorded : operations_of c.new.result ≡ steps ++ order = c.new.ensures ∙ ap (λ (l : List Operation). l ++ order) (c.into_steps-steps.ensures ∙ c.into_operations-operations.ensures) in
     rw recorded
-    (finds_same octets (length lists) c.args.width _ _ (same_rows c.args.first_hdpc (length hdpc.rows) (entry_of hdpc) (length lists) c.args.width (one_in lists) bit (λ i k l m. (are.each i l).once k (omega arith) m)) (steps ++ order) finds)
+    (finds_same octets (length system.ones) system.width _ _ (same_rows system.first_hdpc (length system.hdpc.rows) (entry_of system.hdpc) (length system.ones) system.width (one_in system.ones) bit (λ i k l m. (are.each i l).once k (omega arith) m)) (steps ++ order) finds)
 
 pub returns-clause-counted : goal.returns-clause-counted
 returns-clause-counted c =

@@ -2,7 +2,6 @@
 use Rattle.std.proofs.Common.{◌≡◌, ◌≢◌, ℕ, ◌+◌, ◌-◌, ◌<◌, ◌≤◌, length, refl, sym, ap, ◌∙◌, subst, arith, inl, inr}
 use Rattle.std.proofs.lemmas.Bool.{cases_lt}
 use Rattle.rq_algebra.specs.Systems.{at}
-use Rattle.rq_solver.specs.OperationCounts.{additions}
 use Rattle.rq_solver.proofs.CountLaws.{batch_sum, few_places, met_none, met_skipped, met_more}
 use Rattle.rq_parts.specs.DenseOctetMatrix.{OctetTable, entry_of}
 use Rattle.rq_solver.specs.OctetBatch.{AreOctetsIn, HasPivotsBeside, ChangesOctets, CombinesOctets, octet_in, octets_from}
@@ -13,7 +12,7 @@ use Rattle.rq_solver.proofs.pi_solver.first_phase.hdpc.clear_octets.Goals.{then-
 
 pub returns-then-height-eq0-clause-cleared : goal.returns-then-height-eq0-clause-cleared
 returns-then-height-eq0-clause-cleared c =
-    let hdpc = c.args.hdpc.now in
+    let hdpc = c.args.hdpc in
     let rows = c.args.peeling.now.rows in
     let order = c.args.peeling.now.order in
     let none : (p : ℕ) → p < length rows → (i : ℕ) → i < length hdpc.rows → entry_of hdpc i (at order p) ≡ 0 = elim c.then-height-eq0.branch [
@@ -24,7 +23,7 @@ returns-then-height-eq0-clause-cleared c =
 
 pub loop-column-init : goal.loop-column-init
 loop-column-init c =
-    let hdpc = c.args.hdpc.now in
+    let hdpc = c.args.hdpc in
     record {
       table = refl;
       changed = changes_none c.args.peeling.now.rows c.args.peeling.now.order c.args.peeling.now.places c.args.first_hdpc (length hdpc.rows) hdpc.width (octets_from 0 (octet_in c.in_ok-batch.batch)) c.sum_rows.new.recorded c.in_ok-sum_rows.ensures.summed.performs.octets;
@@ -34,15 +33,14 @@ loop-column-init c =
 pub clear_column-requires : goal.clear_column-requires
 clear_column-requires c =
     let p = c.args.peeling.now in
-    let hdpc = c.args.hdpc.now in
+    let hdpc = c.args.hdpc in
     let summed = c.in_ok-sum_rows.ensures.summed in
     let v = c.loop-column.invariant in
     let old = c.args.recorded.now in
     let now = c.loop-column.recorded in
-    let clone : c.in_ok-sums.sums ≡ hdpc = c.in_ok-sums.ensures.cases in
     let table = v.table ∙ c.in_ok-batch.ensures.table in
-    let count : length c.loop-column.batch.table.rows ≡ length hdpc.rows = ap (λ (t : OctetTable). length t.rows) table ∙ c.in_ok-sum_rows.ensures.height ∙ ap (λ (t : OctetTable). length t.rows) clone in
-    let width : c.loop-column.batch.table.width ≡ hdpc.width = ap (λ (t : OctetTable). t.width) table ∙ c.in_ok-sum_rows.ensures.width ∙ ap (λ (t : OctetTable). t.width) clone in
+    let count : length c.loop-column.batch.table.rows ≡ length hdpc.rows = ap (λ (t : OctetTable). length t.rows) table ∙ c.in_ok-sum_rows.ensures.height in
+    let width : c.loop-column.batch.table.width ≡ hdpc.width = ap (λ (t : OctetTable). t.width) table ∙ c.in_ok-sum_rows.ensures.width in
     let heights : length now.table.rows ≡ length old.table.rows = v.changed.performs.height ∙ summed.performs.height in
     let are : AreOctetsIn c.args.first_hdpc (length hdpc.rows) old = record { within = c.requires.height; fits = c.requires.fits; octets = c.requires.octets } in
     let beside : HasPivotsBeside p.rows p.order p.places c.args.first_hdpc (length hdpc.rows) hdpc.width old = record { columns = c.requires.order; few = c.requires.few; pivots = c.requires.pivots; apart = c.requires.apart } in
@@ -58,7 +56,7 @@ loop-column-preserved c =
     let p = c.args.peeling.now in
     let v = c.loop-column.invariant in
     let first = c.args.first_hdpc in
-    let hdpc = c.args.hdpc.now in
+    let hdpc = c.args.hdpc in
     let start = c.in_ok-batch.batch in
     let was = c.loop-column.batch in
     let now = c.clear_column.new.batch in
@@ -68,8 +66,7 @@ loop-column-preserved c =
     let column = c.loop-column.column in
     let count = length hdpc.rows in
     let width = hdpc.width in
-    let clone : c.in_ok-sums.sums ≡ hdpc = c.in_ok-sums.ensures.cases in
-    let height : length was.table.rows ≡ count = ap (λ (t : OctetTable). length t.rows) (v.table ∙ c.in_ok-batch.ensures.table) ∙ c.in_ok-sum_rows.ensures.height ∙ ap (λ (t : OctetTable). length t.rows) clone in
+    let height : length was.table.rows ≡ count = ap (λ (t : OctetTable). length t.rows) (v.table ∙ c.in_ok-batch.ensures.table) ∙ c.in_ok-sum_rows.ensures.height in
     let beside : HasPivotsBeside p.rows p.order p.places first count width cur =
     beside_still p.rows p.order p.places first count width c.args.recorded.now cur (record { columns = c.requires.order; few = c.requires.few; pivots = c.requires.pivots; apart = c.requires.apart }) c.in_ok-sum_rows.ensures.summed.performs.height in
     let turn : ChangesOctets p.rows p.order first count (octets_from column (octet_in was)) (octets_from (column + 1) (octet_in now)) mid new =
@@ -95,10 +92,9 @@ loop-column-preserved c =
 pub returns-clause-cleared : goal.returns-clause-cleared
 returns-clause-cleared c =
     let p = c.args.peeling.now in
-    let hdpc = c.args.hdpc.now in
+    let hdpc = c.args.hdpc in
     let first = c.args.first_hdpc in
     let sums = c.sum_rows.new.rows in
-    let clone : c.in_ok-sums.sums ≡ hdpc = c.in_ok-sums.ensures.cases in
     let start = c.in_ok-batch.batch in
     let end = c.loop-column.batch in
     let old = c.args.recorded.now in
@@ -106,10 +102,9 @@ returns-clause-cleared c =
     let new = c.loop-column.recorded in
     let count = length hdpc.rows in
     let width = hdpc.width in
-    let summed : CombinesOctets first count width (entry_of hdpc) (entry_of sums) old cur =
-    subst (λ (t : OctetTable). CombinesOctets first (length t.rows) t.width (entry_of t) (entry_of sums) old cur) clone c.in_ok-sum_rows.ensures.summed in
-    let heights : length sums.rows ≡ count = c.in_ok-sum_rows.ensures.height ∙ ap (λ (t : OctetTable). length t.rows) clone in
-    let widths : sums.width ≡ width = c.in_ok-sum_rows.ensures.width ∙ ap (λ (t : OctetTable). t.width) clone in
+    let summed : CombinesOctets first count width (entry_of hdpc) (entry_of sums) old cur = c.in_ok-sum_rows.ensures.summed in
+    let heights : length sums.rows ≡ count = c.in_ok-sum_rows.ensures.height in
+    let widths : sums.width ≡ width = c.in_ok-sum_rows.ensures.width in
     let beside : HasPivotsBeside p.rows p.order p.places first count width old = record { columns = c.requires.order; few = c.requires.few; pivots = c.requires.pivots; apart = c.requires.apart } in
     let last : c.loop-column.column ≡ c.end_of_pivots-column-end.result = omega (arith, c.loop-column.auto.column-end) in
     let begun : ChangesOctets p.rows p.order first count (entry_of hdpc) (octets_from 0 (octet_in start)) old cur =
@@ -122,12 +117,11 @@ returns-clause-cleared c =
 
 pub returns-clause-few : goal.returns-clause-few
 returns-clause-few c =
-    let hdpc = c.args.hdpc.now in
+    let hdpc = c.args.hdpc in
     let few = c.loop-column.invariant.few in
     let summed = c.in_ok-sum_rows.ensures.few in
     let met = few_places few.0 (length c.args.peeling.now.rows) few.1.which few.1.are in
     let done : c.loop-column.column ≤ hdpc.width = omega (arith, c.loop-column.auto.column-end, c.end_of_pivots-column-end.ensures.within, c.requires.order.place_count) in
     let all = batch_sum (length hdpc.rows - 1) (length hdpc.rows) hdpc.width c.loop-column.column few.0 (length c.args.peeling.now.rows) done met in
     let so_far = few.2 in
-    let first : additions c.sum_rows.new.recorded.operations ≤ additions c.args.recorded.now.operations + (length hdpc.rows - 1) = rw c.in_ok-sums.ensures.cases at summed in
-    omega (arith, all, so_far, first)
+    omega (arith, all, so_far, summed)

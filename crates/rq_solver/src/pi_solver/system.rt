@@ -1,0 +1,77 @@
+//! The equations of a block as the phases take them.
+ghost use Rattle.std.specs.Prelude.{◌≡◌, ℕ, ◌+◌, ◌*◌, ◌^◌, ◌<◌, ◌≤◌, length, IfOk, IfErr, IfSome};
+ghost use Rattle.rq_bytes.specs.declared.error.Error.TheVariants.{OutOfMemory};
+ghost use Rattle.rq_operations.specs.RecordedOperations.{operations_of};
+ghost use Rattle.rq_parts.specs.DenseOctetMatrix.{HasOctets};
+ghost use Rattle.rq_solver.specs.Cleared.{AreOctetRows, AreRowsOfBits};
+ghost use Rattle.rq_solver.specs.PhaseCounts.{AreCountsOf, total_of};
+
+use super::ones::RowOnes;
+use super::peeling::peel;
+use super::phases::{Attempt, find_operations};
+use rq_bytes::error::Error;
+use rq_matrix::matrix::BinaryMatrix;
+use rq_parts::octet_matrix::DenseOctetMatrix;
+use std::alloc::Global;
+
+/// The equations of a block, row by row: the ones of rows of bits, but octets in the HDPC rows, which
+/// have the places from `first_hdpc` on. Columns from `boundary` on are dense.
+#[derive(Drop)]
+pub(super) struct System {
+    pub ones: RowOnes,
+    pub hdpc: DenseOctetMatrix,
+    pub first_hdpc: usize,
+    pub width: usize,
+    pub boundary: usize,
+    pub ghost bits: { AreRowsOfBits width ones },
+    pub ghost octet_rows: { AreOctetRows ones first_hdpc width hdpc },
+    pub ghost octets: { HasOctets hdpc },
+    pub ghost few_hdpc: { length hdpc.rows ≤ width },
+    pub ghost few_rows: { length ones < 2 ^ 31 },
+    pub ghost narrow: { width < 65536 },
+    pub ghost dense: { boundary ≤ width },
+}
+
+impl System {
+    ghost use Rattle.rq_solver.specs.Phases.{IsAttempt};
+    ghost use Rattle.rq_solver.specs.System.{IsSystemOf};
+
+    /// The equations of a matrix of bits, of which `boundary` is the first dense column, and of the
+    /// HDPC rows. The matrix has zeros in the places of these.
+    pub(super) fn of_matrix<T: BinaryMatrix>(
+        alloc: Global,
+        bits: &T,
+        hdpc: DenseOctetMatrix,
+        first_hdpc: usize,
+        boundary: usize,
+    ) -> Result<System, Error>
+        requires boundary { boundary ≡ (T.content bits.now).boundary }
+        requires width { hdpc.width ≡ (T.content bits.now).width }
+        requires few_hdpc { length hdpc.rows ≤ (T.content bits.now).width }
+        requires within { first_hdpc + length hdpc.rows ≤ (T.content bits.now).height }
+        requires zeros { (i k : ℕ) → i < length hdpc.rows → k < (T.content bits.now).width → (T.content bits.now).bit (first_hdpc + i) k ≡ 0 }
+        ensures system { IfOk result (IsSystemOf (T.content bits.now) hdpc first_hdpc) }
+        ensures memory { IfErr result (λ e. e ≡ OutOfMemory) }
+    {
+        let width = hdpc.width();
+        let ones = RowOnes::of_matrix(alloc, bits, boundary)?;
+        Ok(System {
+            ones,
+            hdpc,
+            first_hdpc,
+            width,
+            boundary,
+        })
+    }
+
+    /// Looks for the operations that solve the equations.
+    pub(super) fn solve(self, alloc: Global) -> Result<Attempt, Error>
+        ensures found { IfOk result (λ attempt. IsAttempt self attempt.operations) }
+        ensures counted { IfOk result (λ attempt. IfSome attempt.operations (λ ops. AreCountsOf attempt.counts (operations_of ops))) }
+        ensures few { IfOk result (λ attempt. total_of attempt.counts.additions ≤ 2 * self.width * length self.ones) }
+        ensures memory { IfErr result (λ e. e ≡ OutOfMemory) }
+    {
+        let peeling = peel(alloc, &self.ones, self.width, self.boundary)?;
+        find_operations(alloc, self, &peeling)
+    }
+}
