@@ -1,5 +1,5 @@
 -- What the ones of rows of bits are to an elimination over peeled rows, and what that finds is to the bits.
-use Rattle.std.proofs.Common.{◌≡◌, ℕ, ◌+◌, ◌<◌, ◌≤◌, List, [], ◌∷◌, Option, None, Some, length, refl, ◌∙◌, subst, arith}
+use Rattle.std.proofs.Common.{◌≡◌, ℕ, ◌+◌, ◌<◌, ◌≤◌, List, [], ◌∷◌, Option, None, Some, length, refl, ◌∙◌, arith}
 use Rattle.std.specs.Prelude.{MatchOption}
 use Rattle.std.proofs.lemmas.List.Elements.{All-weaker}
 use Rattle.rq_algebra.specs.Operations.{FindsColumn}
@@ -11,12 +11,15 @@ use Rattle.rq_standard.specs.OctetField.{octets}
 use Rattle.rq_operations.specs.RecordedOperations.{operations_of}
 use Rattle.rq_operations.specs.declared.recorded.RecordedOperations.{RecordedOperations}
 use Rattle.rq_parts.specs.DenseOctetMatrix.{OctetTable, entry_of}
-use Rattle.rq_solver.specs.Cleared.{AreRowsOfBits, AreOctetRows}
+use Rattle.rq_solver.specs.Cleared.{AreRowsOfBits, AreOctetRows, one_in}
 use Rattle.rq_solver.specs.Peeled.{AreOnesOfRows, ones_of}
 use Rattle.rq_solver.specs.Phases.{IsAttempt}
-use Rattle.rq_solver.specs.System.{IsSystemOf}
+use Rattle.rq_solver.specs.System.{IsSystemOf, rows_of}
 use Rattle.rq_solver.specs.declared.pi_solver.system.System.{System}
+use Rattle.rq_solver.proofs.OctetRows.{same_rows}
+use Rattle.rq_solver.proofs.RowStepLaws.{SameEntries}
 use Rattle.rq_solver.proofs.RowTurns.{count_contains}
+use Rattle.rq_solver.proofs.SolutionLaws.{finds_same, homogeneous_same}
 
 -- a row of zeros has no ones
 no_places : (bit : ℕ → ℕ) (width : ℕ) (places : List ℕ) → ArePlacesOfOnes bit 0 width places → ((k : ℕ) → k < width → bit k ≡ 0) → places ≡ []
@@ -41,18 +44,15 @@ module _ (height width : ℕ) (bit : ℕ → ℕ → ℕ) (lists : List (List �
     empty = λ i l. no_places (bit (first + i)) width (ones_of lists (first + i)) (are.each (first + i) (omega arith)) (λ k m. zeros i k l m);
   }
 
-  -- what is found of any bits with these ones is found of these bits
-  pub found_of_bits : (P : ℕ → ℕ → (ℕ → ℕ → ℕ) → Type 0) (columns : ℕ) → columns ≡ width → ((b : ℕ → ℕ → ℕ) → AreOnesOfRows (length lists) columns b lists → P (length lists) columns b) → P height width bit
-  found_of_bits P columns same found =
-      rw are.count at (subst (λ w. (b : ℕ → ℕ → ℕ) → AreOnesOfRows (length lists) w b lists → P (length lists) w b) same found bit (record { count = refl; each = λ i l. are.each i (rw are.count at l) }))
+module _ (bits : BitTable) (hdpc : OctetTable) (first : ℕ) (system : System) (is : IsSystemOf bits hdpc first system) where
+  same_entries : SameEntries (length system.ones) system.width (rows_of system) (with_octet_rows system.first_hdpc (length system.hdpc.rows) bits.bit (entry_of system.hdpc))
+  same_entries =
+      same_rows system.first_hdpc (length system.hdpc.rows) (entry_of system.hdpc) (length system.ones) system.width (one_in system.ones) bits.bit
+      (λ i k l m. (is.ones_are.each i (rw is.ones_are.count at l)).once k (omega arith) (rw is.width_is at m))
 
--- the same of an attempt at the system of these bits
-pub attempt_of_bits : (bits : BitTable) (hdpc : OctetTable) (first : ℕ) (system : System) → IsSystemOf bits hdpc first system → (answer : Option RecordedOperations) → IsAttempt system answer
-    → let rows = with_octet_rows first (length hdpc.rows) bits.bit (entry_of hdpc) in
-    MatchOption answer (HasHomogeneousColumn octets bits.height bits.width rows) (λ ops. FindsColumn octets bits.height bits.width rows (operations_of ops))
-attempt_of_bits bits hdpc first system is None found =
-    rw (← is.hdpc_is, ← is.first_is) (found_of_bits bits.height bits.width bits.bit system.ones is.ones_are
-    (λ h w b. HasHomogeneousColumn octets h w (with_octet_rows system.first_hdpc (length system.hdpc.rows) b (entry_of system.hdpc))) system.width is.width_is found)
-attempt_of_bits bits hdpc first system is (Some ops) found =
-    rw (← is.hdpc_is, ← is.first_is) (found_of_bits bits.height bits.width bits.bit system.ones is.ones_are
-    (λ h w b. FindsColumn octets h w (with_octet_rows system.first_hdpc (length system.hdpc.rows) b (entry_of system.hdpc)) (operations_of ops)) system.width is.width_is found)
+  -- what is found of a system is found of the bits and the octets that it was made of
+  pub attempt_of_bits : (answer : Option RecordedOperations) → IsAttempt system answer
+      → let rows = with_octet_rows first (length hdpc.rows) bits.bit (entry_of hdpc) in
+      MatchOption answer (HasHomogeneousColumn octets bits.height bits.width rows) (λ ops. FindsColumn octets bits.height bits.width rows (operations_of ops))
+  attempt_of_bits None found = rw (← is.hdpc_is, ← is.first_is, ← is.width_is, ← is.ones_are.count) (homogeneous_same octets (length system.ones) system.width _ _ same_entries found)
+  attempt_of_bits (Some ops) found = rw (← is.hdpc_is, ← is.first_is, ← is.width_is, ← is.ones_are.count) (finds_same octets (length system.ones) system.width _ _ same_entries (operations_of ops) found)

@@ -3,22 +3,19 @@ use Rattle.std.specs.Prelude.{ℕ, ◌∷◌, ◌++◌, [], Bool, List, Option, 
 use Rattle.std.specs.Global.{Global}
 use Rattle.rq_algebra.specs.Operations.{Reorder, FindsColumn}
 use Rattle.rq_algebra.specs.Systems.{HasHomogeneousColumn}
-use Rattle.rq_standard.specs.ConstraintMatrix.{with_octet_rows}
 use Rattle.rq_standard.specs.OctetField.{octets}
 use Rattle.rq_operations.specs.RecordedOperations.{operations_of}
 use Rattle.rq_operations.specs.declared.recorded.RecordedOperations.{RecordedOperations}
-use Rattle.rq_parts.specs.DenseOctetMatrix.{entry_of}
 use Rattle.rq_solver.specs.Cleared.{HasPeeledPivots, LacksPivots, SolvesInactive}
-use Rattle.rq_solver.specs.Peeled.{AreOnesOfRows, Pivots}
+use Rattle.rq_solver.specs.Peeled.{Pivots}
 use Rattle.rq_solver.specs.Recorded.{Recorded}
 use Rattle.rq_solver.specs.System.{rows_of}
 use Rattle.rq_solver.specs.declared.pi_solver.system.System.{System}
 
--- operations that solve a system, whatever bits have its ones; or none, and its rows have a homogeneous column
+-- operations that solve a system; or none, and its rows have a homogeneous column
 abbrev pub IsAttempt : System → Option RecordedOperations → Type 0
-IsAttempt system answer = (bit : ℕ → ℕ → ℕ) → AreOnesOfRows (length system.ones) system.width bit system.ones
-    → let rows = with_octet_rows system.first_hdpc (length system.hdpc.rows) bit (entry_of system.hdpc) in
-    MatchOption answer (HasHomogeneousColumn octets (length system.ones) system.width rows) (λ ops. FindsColumn octets (length system.ones) system.width rows (operations_of ops))
+IsAttempt system answer =
+    MatchOption answer (HasHomogeneousColumn octets (length system.ones) system.width (rows_of system)) (λ ops. FindsColumn octets (length system.ones) system.width (rows_of system) (operations_of ops))
 
 -- what was recorded gives the rows of a system the pivots of a peeling; the others are listed behind its rows
 abbrev pub ClearsPivots : System → Pivots → List ℕ → Recorded → Type 0

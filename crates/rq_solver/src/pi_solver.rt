@@ -1,5 +1,5 @@
 //! The solver of a block's equations.
-ghost use Rattle.std.specs.Prelude.{◌≡◌, ℕ, ◌+◌, ◌*◌, ◌^◌, ◌<◌, ◌≤◌, None, length, map, sum, slice_index, OnSome, IfSome, IfNone, IfOk, IfErr, Err};
+ghost use Rattle.std.specs.Prelude.{◌≡◌, ℕ, ◌+◌, ◌*◌, ◌<◌, ◌≤◌, None, length, map, sum, slice_index, OnSome, IfSome, IfNone, IfOk, IfErr, Err};
 ghost use Rattle.std.specs.Option.{ForSome};
 ghost use Rattle.rq_standard.specs.TableRows.{greatest_size, row_of};
 ghost use Rattle.rq_bytes.specs.declared.error.Error.TheVariants.{AlreadyExecuted, OutOfMemory};

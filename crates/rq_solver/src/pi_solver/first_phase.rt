@@ -1,6 +1,6 @@
 //! The first phase (RFC 6330, section 5.4.2.2): once pivots are chosen, all rows are cleared in the
 //! pivots' columns.
-ghost use Rattle.std.specs.Prelude.{◌≡◌, ◌≢◌, ℕ, ◌+◌, ◌*◌, ◌^◌, ◌<◌, ◌≤◌, drop, length, IfOk, OnOk, IfErr};
+ghost use Rattle.std.specs.Prelude.{◌≡◌, ◌≢◌, ℕ, ◌+◌, ◌*◌, ◌<◌, ◌≤◌, drop, length, IfOk, OnOk, IfErr};
 ghost use Rattle.rq_bytes.specs.declared.error.Error.TheVariants.{OutOfMemory};
 ghost use Rattle.rq_solver.specs.Recorded.{AddsAtMost};
 ghost use Rattle.rq_solver.specs.Cleared.{ClearsRows, ListsRows, PeelsRows, TakesPivots};

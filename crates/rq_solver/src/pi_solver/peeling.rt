@@ -1,5 +1,5 @@
 //! The first phase: columns get pivots among rows of bits while no row is changed.
-ghost use Rattle.std.specs.Prelude.{◌≡◌, false, ◌<◌, ◌≤◌, ◌+◌, ◌^◌, [], length, slice_index_or, All, Contains, IsTrue, IfSome, IfNone, OnOk, IfOk, IfErr};
+ghost use Rattle.std.specs.Prelude.{◌≡◌, false, ◌<◌, ◌+◌, [], length, slice_index_or, All, Contains, IsTrue, IfSome, IfNone, OnOk, IfOk, IfErr};
 ghost use Rattle.rq_bytes.specs.declared.error.Error.TheVariants.{OutOfMemory};
 ghost use Rattle.rq_algebra.specs.Systems.{at};
 ghost use Rattle.rq_solver.specs.Degrees.{KeepsDegrees, LowersRows, TakesFewest};
@@ -9,7 +9,7 @@ use crate::pi_solver::column_rows::ColumnRows;
 use crate::pi_solver::columns::ColumnOrder;
 use crate::pi_solver::degrees::RowDegrees;
 use crate::pi_solver::next_row::next_row;
-use crate::pi_solver::ones::RowOnes;
+use crate::pi_solver::system::System;
 use rq_bytes::error::Error;
 use rq_parts::graph::ConnectedComponentGraph;
 use std::alloc::Global;
@@ -105,27 +105,19 @@ impl Peeling {
     }
 }
 
-/// Chooses pivots among rows of bits, of which the columns from `boundary` on are inactive from the
-/// start (RFC 6330, section 5.4.2.2): again and again a row with least active columns has one of
-/// them as its pivot, and the others are inactive.
-pub(super) fn peel(
-    alloc: Global,
-    ones: &RowOnes,
-    width: usize,
-    boundary: usize,
-) -> Result<Peeling, Error>
-    requires columns { All (λ row. All (λ column. column < width) row) ones.now }
-    requires boundary { boundary ≤ width }
-    requires narrow { width < 65536 }
-    requires few_rows { length ones.now < 2 ^ 31 }
-    requires short { All (λ row. length row < 65536) ones.now }
-    ensures peeled { IfOk result (IsPeeled width ones.now) }
-    ensures fewest { IfOk result (λ peeling. TakesFewest ones.now boundary peeling.rows) }
+/// Chooses pivots among rows of bits, of which the dense columns are inactive from the start (RFC
+/// 6330, section 5.4.2.2): again and again a row with least active columns has one of them as its
+/// pivot, and the others are inactive.
+pub(super) fn peel(alloc: Global, system: &System) -> Result<Peeling, Error>
+    ensures peeled { IfOk result (IsPeeled system.now.width system.now.ones) }
+    ensures fewest { IfOk result (λ peeling. TakesFewest system.now.ones system.now.boundary peeling.rows) }
     ensures err { IfErr result (λ e. e ≡ OutOfMemory) }
 {
-    let column_rows = ColumnRows::of_rows(alloc, ones, width)?;
+    let ones = &system.ones;
+    let boundary = system.boundary;
+    let column_rows = ColumnRows::of_rows(alloc, ones, system.width)?;
     let mut degrees = RowDegrees::new(alloc, ones, boundary)?;
-    let mut columns = ColumnOrder::new(alloc, width, boundary)?;
+    let mut columns = ColumnOrder::new(alloc, system.width, boundary)?;
     let nodes = boundary.min(MOST_NODES);
     let mut graph = ConnectedComponentGraph::new(alloc, nodes)?;
     let mut rows = Vec::with_capacity(alloc, boundary)?;

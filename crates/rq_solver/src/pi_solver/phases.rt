@@ -1,16 +1,15 @@
 //! The phases of the solver, one after another (RFC 6330, section 5.4.2).
-ghost use Rattle.std.specs.Prelude.{◌≡◌, ℕ, ◌+◌, ◌^◌, ◌<◌, ◌≤◌, ◌*◌, ◌-◌, ◌∷◌, ◌++◌, [], Contains, IsPermutation, drop, length, map, IfOk, OnOk, IfErr, IfSome, MatchBool, MatchOption};
+ghost use Rattle.std.specs.Prelude.{◌≡◌, ℕ, ◌+◌, ◌<◌, ◌≤◌, ◌*◌, ◌-◌, ◌∷◌, ◌++◌, [], Contains, IsPermutation, drop, length, map, IfOk, OnOk, IfErr, IfSome, MatchBool, MatchOption};
 ghost use Rattle.rq_algebra.specs.Operations.{Reorder, FindsColumn};
 ghost use Rattle.rq_algebra.specs.Systems.{at, HasHomogeneousColumn};
 ghost use Rattle.rq_bytes.specs.declared.error.Error.TheVariants.{OutOfMemory};
 ghost use Rattle.rq_operations.specs.RecordedOperations.{operations_of};
-ghost use Rattle.rq_parts.specs.DenseOctetMatrix.{entry_of, HasOctets};
-ghost use Rattle.rq_standard.specs.ConstraintMatrix.{with_octet_rows};
+ghost use Rattle.rq_parts.specs.DenseOctetMatrix.{HasOctets};
 ghost use Rattle.rq_standard.specs.OctetField.{octets};
-ghost use Rattle.rq_solver.specs.Cleared.{AreOctetRows, AreRowsOfBits, HasPeeledPivots, LacksPivots, ListsRows, PeelsRows, SolvesInactive};
+ghost use Rattle.rq_solver.specs.Cleared.{HasPeeledPivots, LacksPivots, ListsRows, PeelsRows, SolvesInactive};
 ghost use Rattle.rq_solver.specs.OperationCounts.{additions};
 ghost use Rattle.rq_solver.specs.PhaseCounts.{AreCountsOf, total_of};
-ghost use Rattle.rq_solver.specs.Peeled.{AreOnesOfRows, IsOrderOf, IsPeeled};
+ghost use Rattle.rq_solver.specs.Peeled.{IsOrderOf, IsPeeled};
 ghost use Rattle.rq_solver.specs.RowSteps.{AreRows};
 ghost use Rattle.rq_solver.specs.Phases.{FindsOrder, IsAttempt, SolvesLeft};
 
@@ -36,7 +35,7 @@ pub(super) struct Attempt {
     pub counts: OperationCounts,
 }
 
-/// Looks for the operations that solve the equations, whose columns have pivots among the rows of bits.
+/// Looks for the operations that solve a system, of whose rows of bits some have pivots.
 pub(super) fn find_operations(
     alloc: Global,
     system: System,

@@ -29,15 +29,15 @@ pub(super) struct System {
     pub ghost few_hdpc: { length hdpc.rows ≤ width },
     pub ghost few_rows: { length ones < 2 ^ 31 },
     pub ghost narrow: { width < 65536 },
-    pub ghost dense: { boundary ≤ width },
+    pub ghost dense_columns: { boundary ≤ width },
 }
 
 impl System {
     ghost use Rattle.rq_solver.specs.Phases.{IsAttempt};
     ghost use Rattle.rq_solver.specs.System.{IsSystemOf};
 
-    /// The equations of a matrix of bits, of which `boundary` is the first dense column, and of the
-    /// HDPC rows. The matrix has zeros in the places of these.
+    /// The equations of a matrix of bits, of which `boundary` is the first dense column, but of the HDPC
+    /// rows from row `first_hdpc` on, where the matrix has zeros.
     pub(super) fn of_matrix<T: BinaryMatrix>(
         alloc: Global,
         bits: &T,
@@ -64,14 +64,14 @@ impl System {
         })
     }
 
-    /// Looks for the operations that solve the equations.
+    /// Looks for the operations that solve the system.
     pub(super) fn solve(self, alloc: Global) -> Result<Attempt, Error>
         ensures found { IfOk result (λ attempt. IsAttempt self attempt.operations) }
         ensures counted { IfOk result (λ attempt. IfSome attempt.operations (λ ops. AreCountsOf attempt.counts (operations_of ops))) }
         ensures few { IfOk result (λ attempt. total_of attempt.counts.additions ≤ 2 * self.width * length self.ones) }
         ensures memory { IfErr result (λ e. e ≡ OutOfMemory) }
     {
-        let peeling = peel(alloc, &self.ones, self.width, self.boundary)?;
+        let peeling = peel(alloc, &self)?;
         find_operations(alloc, self, &peeling)
     }
 }

@@ -7,13 +7,13 @@ use Rattle.rq_solver.proofs.pi_solver.peeling.peel.Given as goal
 
 abbrev pub invariant-loop-turn : goal.invariant-loop-turn
 invariant-loop-turn l = record {
-  so : IsPeeledSo l.ones l.rows.items l.columns;
-  width : length l.columns.order ≡ l.width;
+  so : IsPeeledSo l.system.ones l.rows.items l.columns;
+  width : length l.columns.order ≡ l.system.width;
   turns : length l.rows.items ≡ l.turn;
-  end : l.columns.end ≤ l.boundary;
-  left : (k : ℕ) → k < l.width → is_left l.ones l.boundary l.rows.items k ≡ is_active l.columns k;
-  counts : CountsActive l.ones l.columns l.degrees;
-  fewest : (p : ℕ) → p < length l.rows.items → HasFewestLeft l.ones l.boundary (take p l.rows.items) (at l.rows.items p);
-  degrees : length l.degrees ≡ length l.ones;
+  end : l.columns.end ≤ l.system.boundary;
+  left : (k : ℕ) → k < l.system.width → is_left l.system.ones l.system.boundary l.rows.items k ≡ is_active l.columns k;
+  counts : CountsActive l.system.ones l.columns l.degrees;
+  fewest : (p : ℕ) → p < length l.rows.items → HasFewestLeft l.system.ones l.system.boundary (take p l.rows.items) (at l.rows.items p);
+  degrees : length l.degrees ≡ length l.system.ones;
   graph : length l.graph.labels ≡ l.nodes;
 }

@@ -7,15 +7,11 @@ use Rattle.rq_solver.specs.OctetBatch.{batch_bound}
 use Rattle.rq_solver.proofs.CountLaws.{few_in_all, few_places, few_together, order_counted}
 use Rattle.rq_solver.proofs.PivotsCleared.{pivot_of_bits}
 use Rattle.rq_algebra.specs.Operations.{Operation, Reorder, FindsColumn}
-use Rattle.rq_algebra.specs.Systems.{HasHomogeneousColumn}
 use Rattle.rq_standard.specs.OctetField.{octets}
 use Rattle.rq_operations.specs.RecordedOperations.{operations_of}
-use Rattle.rq_parts.specs.DenseOctetMatrix.{entry_of}
-use Rattle.rq_solver.specs.Cleared.{HasPeeledPivots, one_in}
+use Rattle.rq_solver.specs.Cleared.{HasPeeledPivots}
 use Rattle.rq_solver.specs.System.{rows_of}
-use Rattle.rq_solver.proofs.OctetRows.{same_rows}
 use Rattle.rq_solver.proofs.PeelingLaws.{peels_rows}
-use Rattle.rq_solver.proofs.SolutionLaws.{finds_same, homogeneous_same}
 use Rattle.rq_solver.proofs.pi_solver.phases.find_operations.Goals as goal
 use Rattle.rq_solver.proofs.pi_solver.phases.find_operations.Goals.{After-into_operations-operations}
 
@@ -60,22 +56,19 @@ rows_of_columns-requires-clause-peeled c =
     rw c.in_ok-ones.ensures.ones (peels_rows c.args.system.width c.args.system.ones c.args.peeling.now c.args.system.bits c.requires)
 
 pub returns-in_default-clause-found : goal.returns-in_default-clause-found
-returns-in_default-clause-found c = λ bit are.
-    let system = c.args.system in
+returns-in_default-clause-found c =
     let found = rw (c.in_ok-ones.ensures.cleared.height_is, c.in_default.is) at c.in_ok-found.ensures.found in
-    let null : HasHomogeneousColumn octets (length system.ones) system.width (rows_of system) = rw c.requires.columns.place_count at (found _ (peeled (goal.at.returns-in_default-clause-found c).After-into_operations-operations)) in
-    homogeneous_same octets (length system.ones) system.width _ _ (same_rows system.first_hdpc (length system.hdpc.rows) (entry_of system.hdpc) (length system.ones) system.width (one_in system.ones) bit (λ i k l m. (are.each i l).once k (omega arith) m)) null
+    rw c.requires.columns.place_count at (found _ (peeled (goal.at.returns-in_default-clause-found c).After-into_operations-operations))
 
 pub returns-clause-found : goal.returns-clause-found
-returns-clause-found c = λ bit are.
+returns-clause-found c =
     let system = c.args.system in
     let steps : List Operation = c.rows_of_columns.new.recorded.operations in
     let order = Reorder c.in-Some.order.items ∷ [] in
     let found = rw (c.in_ok-ones.ensures.cleared.height_is, c.in-Some.is) at c.in_ok-found.ensures.found in
     let finds : FindsColumn octets (length system.ones) system.width (rows_of system) (steps ++ order) = rw c.requires.columns.place_count at (found _ (peeled (goal.at.returns-clause-found c).After-into_operations-operations)) in
     let recorded : operations_of c.new.result ≡ steps ++ order = c.new.ensures ∙ ap (λ (l : List Operation). l ++ order) (c.into_steps-steps.ensures ∙ c.into_operations-operations.ensures) in
-    rw recorded
-    (finds_same octets (length system.ones) system.width _ _ (same_rows system.first_hdpc (length system.hdpc.rows) (entry_of system.hdpc) (length system.ones) system.width (one_in system.ones) bit (λ i k l m. (are.each i l).once k (omega arith) m)) (steps ++ order) finds)
+    rw recorded finds
 
 pub returns-clause-counted : goal.returns-clause-counted
 returns-clause-counted c =
