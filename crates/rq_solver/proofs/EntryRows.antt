@@ -1,8 +1,6 @@
 -- Rows of which some are packed bits, and the others octets.
 use Rattle.std.proofs.Common.{◌≡◌, ◌≢◌, ℕ, ◌+◌, ◌*◌, ◌%◌, ◌<◌, ◌≤◌, ◌^◌, List, [], ◌∷◌, None, Some, Option, length, set, replicate, get_or, refl, sym, ap, subst, ◌∙◌, arith, inl, inr}
-use Rattle.std.specs.Prelude.{◌==◌, true, false}
 use Rattle.std.proofs.lemmas.Bool.{cases_eq}
-use Rattle.std.proofs.lemmas.Bool.Decides.{eqb_tells}
 use Rattle.std.proofs.lemmas.List.{ext_get_or, get_or-set_same, get_or-set_other, get_or-replicate, set-set, length-replicate, length-set}
 use Rattle.std.proofs.lemmas.List.Elements.{All-set, All-from_get_or}
 use Rattle.std.specs.Int.Bits.{bit_xor}
@@ -25,19 +23,9 @@ pub row_of_none : (n : ℕ) (bits own : List ℕ) → length own ≡ 0 → row_o
 row_of_none n bits [] none = refl
 row_of_none n bits (o ∷ os) none = absurd (omega arith)
 
-pub row_of_some : (n : ℕ) (bits own : List ℕ) → length own ≢ 0 → row_of n bits own ≡ own
-row_of_some n bits [] some = absurd (some refl)
-row_of_some n bits (o ∷ os) some = refl
-
 pub row_of_own : (n : ℕ) (bits own : List ℕ) → length own ≡ n → row_of n bits own ≡ own
 row_of_own n bits [] long = is_unpacked n bits [] long (λ k l. absurd (omega arith))
 row_of_own n bits (o ∷ os) long = refl
-
-pub none_if : (own : List ℕ) → true ≡ (length own == 0) → length own ≡ 0
-none_if own is = elim (eqb_tells (length own) 0) [ inl e ↦ e.1 | inr d ↦ absurd (cc (is, d.0)) ]
-
-pub some_if : (own : List ℕ) → false ≡ (length own == 0) → length own ≢ 0
-some_if own is = elim (eqb_tells (length own) 0) [ inl e ↦ absurd (cc (is, e.0)) | inr d ↦ d.1 ]
 
 -- ---- all rows
 
@@ -173,16 +161,16 @@ slab_sum slab dest src none long =
 
 -- ---- a row that is there
 
-module _ (e : Inside) (are : AreEntries e.width e.bits e.octets) {now : OctetTable} (seen : table_of e.width e.bits e.octets ≡ now) where
-  pub width_is : e.width ≡ now.width
+module _ (e : Inside) (are : AreEntries e.octets.width e.bits e.octets.rows) {now : OctetTable} (seen : table_of e.octets.width e.bits e.octets.rows ≡ now) where
+  pub width_is : e.octets.width ≡ now.width
   width_is = ap (λ (t : OctetTable). t.width) seen
 
   module _ (row : ℕ) (there : row < length now.rows) where
     in_symbols : row < length e.bits.values
-    in_symbols = omega (arith, length-rows e.width e.bits.values e.octets are.height, ap (λ (t : OctetTable). length t.rows) seen)
+    in_symbols = omega (arith, length-rows e.octets.width e.bits.values e.octets.rows are.height, ap (λ (t : OctetTable). length t.rows) seen)
 
     -- its place among the rows' own octets, and in the buffer of their bits
-    pub own_place : row < length e.octets
+    pub own_place : row < length e.octets.rows
     own_place = omega (arith, in_symbols, are.height)
 
     pub bits_place : HasPlace e.bits row
@@ -191,111 +179,110 @@ module _ (e : Inside) (are : AreEntries e.width e.bits e.octets) {now : OctetTab
     pub read_is : symbol_in e.bits row ≡ get_or e.bits.values row []
     read_is = ap (λ o. get_or e.bits.values (meant_at o row) []) are.order
 
-    row_now : row_at now row ≡ row_of e.width (get_or e.bits.values row []) (get_or e.octets row [])
-    row_now = ap (λ (t : OctetTable). row_at t row) (sym seen) ∙ row_is e.width e.bits e.octets are row in_symbols
+    row_now : row_at now row ≡ row_of e.octets.width (get_or e.bits.values row []) (get_or e.octets.rows row [])
+    row_now = ap (λ (t : OctetTable). row_at t row) (sym seen) ∙ row_is e.octets.width e.bits e.octets.rows are row in_symbols
 
-    pub row_long : length (row_at now row) ≡ e.width
-    row_long = ap length row_now ∙ (row_octets e.width e.bits e.octets are row in_symbols).0
+    pub row_long : length (row_at now row) ≡ e.octets.width
+    row_long = ap length row_now ∙ (row_octets e.octets.width e.bits e.octets.rows are row in_symbols).0
 
     -- its own octets, or those that are made of its bits
-    pub read_row : row_of e.width (symbol_in e.bits row) (get_or e.octets row []) ≡ row_at now row
-    read_row = ap (λ b. row_of e.width b (get_or e.octets row [])) read_is ∙ sym row_now
+    pub read_row : row_of e.octets.width (symbol_in e.bits row) (get_or e.octets.rows row []) ≡ row_at now row
+    read_row = ap (λ b. row_of e.octets.width b (get_or e.octets.rows row [])) read_is ∙ sym row_now
 
-    pub own_octets : false ≡ (length (get_or e.octets row []) == 0) → get_or e.octets row [] ≡ row_at now row
-    own_octets some = sym (row_of_some e.width (symbol_in e.bits row) (get_or e.octets row []) (some_if (get_or e.octets row []) some)) ∙ read_row
-
-    pub own_long : false ≡ (length (get_or e.octets row []) == 0) → length (get_or e.octets row []) ≡ now.width
-    own_long some = ap length (own_octets some) ∙ row_long ∙ width_is
+    pub own_octets : length (row_at e.octets row) ≡ e.octets.width → row_at e.octets row ≡ row_at now row
+    own_octets own = sym (row_of_own e.octets.width (symbol_in e.bits row) (row_at e.octets row) own) ∙ read_row
 
     -- other octets of the row
-    pub octets_set : (own : List ℕ) → IsOctetRow now.width own → AreEntries e.width e.bits (set e.octets row own)
+    pub octets_set : (own : List ℕ) → IsOctetRow now.width own → AreEntries e.octets.width e.bits (set e.octets.rows row own)
     octets_set own is =
-        let long : length own ≡ e.width = is.0 ∙ sym width_is in
-        owns_are e.width e.bits e.octets are row in_symbols own (rw (row_of_own e.width (get_or e.bits.values row []) own long) (subst (λ n. IsOctetRow n own) (sym width_is) is))
+        let long : length own ≡ e.octets.width = is.0 ∙ sym width_is in
+        owns_are e.octets.width e.bits e.octets.rows are row in_symbols own (rw (row_of_own e.octets.width (get_or e.bits.values row []) own long) (subst (λ n. IsOctetRow n own) (sym width_is) is))
 
-    pub octets_seen : (own : List ℕ) → length own ≡ now.width → table_of e.width e.bits (set e.octets row own) ≡ with_row now row own
+    pub octets_seen : (own : List ℕ) → length own ≡ now.width → table_of e.octets.width e.bits (set e.octets.rows row own) ≡ with_row now row own
     octets_seen own long =
-        table_with_octets e.width e.bits e.octets are row in_symbols own
-        ∙ ap (with_row (table_of e.width e.bits e.octets) row) (row_of_own e.width (get_or e.bits.values row []) own (long ∙ sym width_is))
+        table_with_octets e.octets.width e.bits e.octets.rows are row in_symbols own
+        ∙ ap (with_row (table_of e.octets.width e.bits e.octets.rows) row) (row_of_own e.octets.width (get_or e.bits.values row []) own (long ∙ sym width_is))
         ∙ ap (λ t. with_row t row own) seen
 
-    -- the same where the octets were written over as many others
-    module _ (before rows : List (List ℕ)) (own : List ℕ) (long : length (get_or before row []) ≡ now.width) (in_before : row < length before) (rows_is : rows ≡ set before row own)
-        (octets : IsOctetRow (length (get_or before row [])) (get_or rows row [])) (over : set before row own ≡ set e.octets row own) where
+    -- the same where the octets were written over others
+    module _ (before after : OctetTable) (own : List ℕ) (after_is : after ≡ with_row before row own) (octets : IsOctetRow before.width (row_at after row)) (over : with_row before row own ≡ with_row e.octets row own) where
+      after_is_set : after ≡ with_row e.octets row own
+      after_is_set = after_is ∙ over
+
       own_is : IsOctetRow now.width own
-      own_is = subst (λ n. IsOctetRow n own) long (subst (IsOctetRow (length (get_or before row []))) (ap (λ (r : List (List ℕ)). get_or r row []) rows_is ∙ get_or-set_same before row own [] in_before) octets)
+      own_is = subst (λ n. IsOctetRow n own) (ap (λ (t : OctetTable). t.width) over ∙ width_is) (subst (IsOctetRow before.width) (ap (λ (t : OctetTable). row_at t row) after_is_set ∙ get_or-set_same e.octets.rows row own [] own_place) octets)
 
-      pub written : AreEntries e.width e.bits rows
-      written = rw (rows_is ∙ over) (octets_set own own_is)
+      pub written : AreEntries after.width e.bits after.rows
+      written = rw after_is_set (octets_set own own_is)
 
-      pub written_seen : table_of e.width e.bits rows ≡ with_row now row own
-      written_seen = ap (table_of e.width e.bits) (rows_is ∙ over) ∙ octets_seen own own_is.0
+      pub written_seen : table_of after.width e.bits after.rows ≡ with_row now row own
+      written_seen = ap (λ (t : OctetTable). table_of t.width e.bits t.rows) after_is_set ∙ octets_seen own own_is.0
 
     -- the row gets octets of its own
-    module _ (mid : List (List ℕ)) (symbol : List ℕ) (symbol_is : symbol ≡ symbol_in e.bits row) (mid_is : mid ≡ set e.octets row (row_of e.width symbol (get_or e.octets row []))) where
-      filled : mid ≡ set e.octets row (row_at now row)
-      filled = mid_is ∙ ap (set e.octets row) (ap (λ b. row_of e.width b (get_or e.octets row [])) symbol_is ∙ read_row)
+    module _ (mid : OctetTable) (symbol : List ℕ) (symbol_is : symbol ≡ symbol_in e.bits row) (mid_is : mid ≡ with_row e.octets row (row_of e.octets.width symbol (row_at e.octets row))) where
+      filled : mid ≡ with_row e.octets row (row_at now row)
+      filled = mid_is ∙ ap (with_row e.octets row) (ap (λ b. row_of e.octets.width b (row_at e.octets row)) symbol_is ∙ read_row)
 
-      pub filled_place : (other : ℕ) → other < length e.octets → other < length mid
-      filled_place other l = omega (arith, l, ap length filled, length-set e.octets row (row_at now row))
+      pub filled_place : (other : ℕ) → other < length e.octets.rows → other < length mid.rows
+      filled_place other l = omega (arith, l, ap (λ (t : OctetTable). length t.rows) filled, length-set e.octets.rows row (row_at now row))
 
-      pub filled_read : get_or mid row [] ≡ row_at now row
-      filled_read = ap (λ (r : List (List ℕ)). get_or r row []) filled ∙ get_or-set_same e.octets row (row_at now row) [] own_place
+      pub filled_read : row_at mid row ≡ row_at now row
+      filled_read = ap (λ (t : OctetTable). row_at t row) filled ∙ get_or-set_same e.octets.rows row (row_at now row) [] own_place
 
-      pub filled_long : length (get_or mid row []) ≡ e.width
-      filled_long = ap length filled_read ∙ row_long
+      pub filled_width : mid.width ≡ e.octets.width
+      filled_width = ap (λ (t : OctetTable). t.width) filled
 
-      pub filled_other : (other : ℕ) → other ≢ row → get_or mid other [] ≡ get_or e.octets other []
-      filled_other other d = ap (λ (r : List (List ℕ)). get_or r other []) filled ∙ get_or-set_other e.octets row other (row_at now row) [] d
+      pub filled_long : length (row_at mid row) ≡ mid.width
+      filled_long = ap length filled_read ∙ row_long ∙ sym filled_width
 
-      filled_over : (own : List ℕ) → set mid row own ≡ set e.octets row own
-      filled_over own = ap (λ (r : List (List ℕ)). set r row own) filled ∙ set-set e.octets row (row_at now row) own
+      pub filled_other : (other : ℕ) → other ≢ row → row_at mid other ≡ row_at e.octets other
+      filled_other other d = ap (λ (t : OctetTable). row_at t other) filled ∙ get_or-set_other e.octets.rows row other (row_at now row) [] d
 
-      module _ (rows : List (List ℕ)) (own : List ℕ) (rows_is : rows ≡ set mid row own) (octets : IsOctetRow (length (get_or mid row [])) (get_or rows row [])) where
-        pub filled_written : AreEntries e.width e.bits rows
-        filled_written = written mid rows own (filled_long ∙ width_is) (filled_place row own_place) rows_is octets (filled_over own)
+      filled_over : (own : List ℕ) → with_row mid row own ≡ with_row e.octets row own
+      filled_over own = ap (λ (t : OctetTable). with_row t row own) filled ∙ ap (λ (rows : List (List ℕ)). record e.octets { rows = rows }) (set-set e.octets.rows row (row_at now row) own)
 
-        pub filled_written_seen : table_of e.width e.bits rows ≡ with_row now row own
-        filled_written_seen = written_seen mid rows own (filled_long ∙ width_is) (filled_place row own_place) rows_is octets (filled_over own)
+      module _ (after : OctetTable) (own : List ℕ) (after_is : after ≡ with_row mid row own) (octets : IsOctetRow mid.width (row_at after row)) where
+        pub filled_written : AreEntries after.width e.bits after.rows
+        filled_written = written mid after own after_is octets (filled_over own)
+
+        pub filled_written_seen : table_of after.width e.bits after.rows ≡ with_row now row own
+        filled_written_seen = written_seen mid after own after_is octets (filled_over own)
 
     -- other bits of the row
-    module _ (none : true ≡ (length (get_or e.octets row []) == 0)) where
-      no_octets : length (get_or e.octets row []) ≡ 0
-      no_octets = none_if (get_or e.octets row []) none
-
-      pub row_unpacked : unpacked e.width (get_or e.bits.values row []) ≡ row_at now row
-      row_unpacked = sym (row_of_none e.width (get_or e.bits.values row []) (get_or e.octets row []) no_octets) ∙ sym row_now
+    module _ (no_octets : length (row_at e.octets row) ≡ 0) where
+      pub row_unpacked : unpacked e.octets.width (get_or e.bits.values row []) ≡ row_at now row
+      row_unpacked = sym (row_of_none e.octets.width (get_or e.bits.values row []) (get_or e.octets.rows row []) no_octets) ∙ sym row_now
 
       module _ (symbol : List ℕ) (long : length symbol ≡ e.bits.symbol_size) where
-        pub bits_set : AreEntries e.width (record e.bits { values = set e.bits.values row symbol }) e.octets
-        bits_set = bits_are e.width e.bits e.octets are row in_symbols symbol long (rw (row_of_none e.width symbol (get_or e.octets row []) no_octets) (unpacked_row e.width symbol))
+        pub bits_set : AreEntries e.octets.width (record e.bits { values = set e.bits.values row symbol }) e.octets.rows
+        bits_set = bits_are e.octets.width e.bits e.octets.rows are row in_symbols symbol long (rw (row_of_none e.octets.width symbol (get_or e.octets.rows row []) no_octets) (unpacked_row e.octets.width symbol))
 
-        pub bits_seen : table_of e.width (record e.bits { values = set e.bits.values row symbol }) e.octets ≡ with_row now row (unpacked e.width symbol)
+        pub bits_seen : table_of e.octets.width (record e.bits { values = set e.bits.values row symbol }) e.octets.rows ≡ with_row now row (unpacked e.octets.width symbol)
         bits_seen =
-            table_with_bits e.width e.bits e.octets are row in_symbols symbol long
-            ∙ ap (with_row (table_of e.width e.bits e.octets) row) (row_of_none e.width symbol (get_or e.octets row []) no_octets)
-            ∙ ap (λ t. with_row t row (unpacked e.width symbol)) seen
+            table_with_bits e.octets.width e.bits e.octets.rows are row in_symbols symbol long
+            ∙ ap (with_row (table_of e.octets.width e.bits e.octets.rows) row) (row_of_none e.octets.width symbol (get_or e.octets.rows row []) no_octets)
+            ∙ ap (λ t. with_row t row (unpacked e.octets.width symbol)) seen
 
         -- the same where the slab wrote them at the place that it keeps the row in
         module _ (new : Slab) (new_is : new ≡ record e.bits { values = set e.bits.values (meant_at e.bits.order row) symbol }) where
           write_is : new ≡ record e.bits { values = set e.bits.values row symbol }
           write_is = new_is ∙ ap (λ o. record e.bits { values = set e.bits.values (meant_at o row) symbol }) are.order
 
-          pub bits_written : AreEntries e.width new e.octets
+          pub bits_written : AreEntries e.octets.width new e.octets.rows
           bits_written = rw write_is bits_set
 
-          pub bits_written_seen : table_of e.width new e.octets ≡ with_row now row (unpacked e.width symbol)
-          bits_written_seen = ap (λ (s : Slab). table_of e.width s e.octets) write_is ∙ bits_seen
+          pub bits_written_seen : table_of e.octets.width new e.octets.rows ≡ with_row now row (unpacked e.octets.width symbol)
+          bits_written_seen = ap (λ (s : Slab). table_of e.octets.width s e.octets.rows) write_is ∙ bits_seen
 
     row_elements : (i : ℕ) → i < length (row_at now row) → get_or (row_at now row) i 0 < 256
-    row_elements i l = (subst (IsOctetRow e.width) (sym row_now) (row_octets e.width e.bits e.octets are row in_symbols)).1 i 0 l
+    row_elements i l = (subst (IsOctetRow e.octets.width) (sym row_now) (row_octets e.octets.width e.bits e.octets.rows are row in_symbols)).1 i 0 l
 
   module _ (dest src : ℕ) (in_dest : dest < length now.rows) (in_src : src < length now.rows) (two : dest ≢ src) where
     pub allowed : Allows e.bits (AddAssign dest src)
     allowed = rw are.order (in_symbols dest in_dest, in_symbols src in_src, (λ same. two (sym same)))
 
     -- bits to which bits are added
-    module _ (none : true ≡ (length (get_or e.octets dest []) == 0)) (none_other : true ≡ (length (get_or e.octets src []) == 0))
+    module _ (none : length (row_at e.octets dest) ≡ 0) (none_other : length (row_at e.octets src) ≡ 0)
         (scalar : ℕ) (one : scalar ≡ 1) (new : Slab) (new_is : new ≡ after (AddAssign dest src) e.bits) where
       a : List ℕ
       a = get_or e.bits.values dest []
@@ -305,11 +292,11 @@ module _ (e : Inside) (are : AreEntries e.width e.bits e.octets) {now : OctetTab
 
       long_a : length a ≡ e.bits.symbol_size
       unfolding a
-      long_a = symbol_long e.width e.bits e.octets are dest (in_symbols dest in_dest)
+      long_a = symbol_long e.octets.width e.bits e.octets.rows are dest (in_symbols dest in_dest)
 
       long_b : length b ≡ e.bits.symbol_size
       unfolding b
-      long_b = symbol_long e.width e.bits e.octets are src (in_symbols src in_src)
+      long_b = symbol_long e.octets.width e.bits e.octets.rows are src (in_symbols src in_src)
 
       long_sum : length (row_sum a b) ≡ e.bits.symbol_size
       long_sum = length-zip2 bit_xor a b (long_a ∙ sym long_b) ∙ long_a
@@ -318,25 +305,25 @@ module _ (e : Inside) (are : AreEntries e.width e.bits e.octets) {now : OctetTab
       unfolding a b
       now_is = new_is ∙ slab_sum e.bits dest src are.order (long_b ∙ sym long_a)
 
-      pub sum_are : AreEntries e.width new e.octets
+      pub sum_are : AreEntries e.octets.width new e.octets.rows
       sum_are = rw now_is (bits_set dest in_dest none (row_sum a b) long_sum)
 
-      unpacked_a : unpacked e.width a ≡ row_at now dest
+      unpacked_a : unpacked e.octets.width a ≡ row_at now dest
       unfolding a
       unpacked_a = row_unpacked dest in_dest none
 
-      unpacked_b : unpacked e.width b ≡ row_at now src
+      unpacked_b : unpacked e.octets.width b ≡ row_at now src
       unfolding b
       unpacked_b = row_unpacked src in_src none_other
 
-      pub sum_seen : table_of e.width new e.octets ≡ with_row now dest (row_sum (row_at now dest) (row_multiple scalar (row_at now src)))
+      pub sum_seen : table_of e.octets.width new e.octets.rows ≡ with_row now dest (row_sum (row_at now dest) (row_multiple scalar (row_at now src)))
       sum_seen =
           let room = are.room in
-          ap (λ (s : Slab). table_of e.width s e.octets) now_is
+          ap (λ (s : Slab). table_of e.octets.width s e.octets.rows) now_is
           ∙ bits_seen dest in_dest none (row_sum a b) long_sum
           ∙ ap (with_row now dest) (
-          unpacked-sum e.width a b (long_a ∙ sym long_b) (omega (arith, long_a))
-          ∙ ap (λ r. row_sum r (unpacked e.width b)) unpacked_a
+          unpacked-sum e.octets.width a b (long_a ∙ sym long_b) (omega (arith, long_a))
+          ∙ ap (λ r. row_sum r (unpacked e.octets.width b)) unpacked_a
           ∙ ap (row_sum (row_at now dest)) (unpacked_b ∙ sym (times_one (row_at now src) (row_elements src in_src)) ∙ ap (λ c. row_multiple c (row_at now src)) (sym one)))
 
 -- the next place where another row isn't 0, if it is the same before the end

@@ -16,6 +16,7 @@ pub mod OctetRows
 pub mod OctetSums
 pub mod OctetTurns
 pub mod Outcomes
+pub mod OwnRows
 pub mod PeeledOutcomes
 pub mod PeelingLaws
 pub mod Performing

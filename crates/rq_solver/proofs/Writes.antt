@@ -1,11 +1,10 @@
 -- A row of a matrix of octets that is written entry by entry.
-use Rattle.std.proofs.Common.{◌≡◌, ◌≢◌, ℕ, ◌+◌, ◌<◌, ◌≤◌, List, [], length, set, refl, sym, ◌∙◌, arith, inl, inr}
+use Rattle.std.proofs.Common.{◌≡◌, ◌≢◌, ℕ, ◌+◌, ◌<◌, ◌≤◌, [], length, set, refl, sym, ◌∙◌, arith, inl, inr}
 use Rattle.std.proofs.lemmas.Bool.{cases_eq}
 use Rattle.std.proofs.lemmas.List.{get_or-set_same, get_or-set_other, length-set}
 use Rattle.std.proofs.lemmas.List.Elements.{All-set}
-use Rattle.rq_algebra.specs.Systems.{at}
-use Rattle.rq_parts.specs.DenseOctetMatrix.{OctetTable, row_at, with_row, entry_of, HasOctets, IsOctetRow}
-use Rattle.rq_solver.specs.RowWrites.{FillsRow, WritesRow}
+use Rattle.rq_parts.specs.DenseOctetMatrix.{OctetTable, row_at, with_row, entry_of, HasOctets}
+use Rattle.rq_solver.specs.RowWrites.{WritesRow}
 use Rattle.rq_solver.proofs.Entries.{entry_of-with_row_same, entry_of-with_row_other}
 
 -- one entry is written
@@ -107,22 +106,3 @@ writes_same row start end before after old new same writes = record {
   beside = writes.beside;
   elsewhere = writes.elsewhere;
 }
-
--- a row is replaced, whose first octets are as wanted
-pub fills_row : (table : OctetTable) → HasOctets table → (row count : ℕ) (wanted : ℕ → ℕ) (filled : List ℕ) → row < length table.rows → IsOctetRow table.width filled → ((k : ℕ) → k < count → at filled k ≡ wanted k)
-    → (new : OctetTable) → new ≡ with_row table row filled → FillsRow row count wanted table new
-fills_row table are row count wanted filled in_rows octets is new e = rw e (record {
-  width = refl;
-  height = length-set table.rows row filled;
-  octets = record {
-    widths = All-set (λ r. length r ≡ table.width) table.rows row filled octets.0 are.widths;
-    elements = λ i k l m.
-        let inside : i < length table.rows = omega (arith, length-set table.rows row filled) in
-        elim (cases_eq i row) [
-          | inr d ↦ rw (entry_of-with_row_other table row filled i k d) (are.elements i k inside m)
-          | inl same ↦ rw (same, entry_of-with_row_same table row filled k in_rows) (octets.1 k 0 (let long = octets.0 in omega arith))
-        ];
-  };
-  here = λ k l. entry_of-with_row_same table row filled k in_rows ∙ is k l;
-  elsewhere = λ i k d. entry_of-with_row_other table row filled i k d;
-})

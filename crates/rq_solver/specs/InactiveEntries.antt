@@ -1,8 +1,9 @@
 -- What rows have in the inactive columns: bits that are packed eight to an octet, or octets.
-use Rattle.std.specs.Prelude.{◌≡◌, ◌≢◌, ℕ, ◌+◌, ◌*◌, ◌/◌, ◌%◌, ◌^◌, ◌<◌, ◌≤◌, List, [], ◌∷◌, All, Option, None, Some, length, map, slice_index}
+use Rattle.std.specs.Prelude.{◌≡◌, ◌≢◌, ℕ, zero, suc, ◌+◌, ◌*◌, ◌/◌, ◌%◌, ◌^◌, ◌<◌, ◌≤◌, List, [], ◌∷◌, All, Option, None, Some, length, map, slice_index, slice_index_or}
 use Rattle.std.specs.Int.{bit_at}
 use Rattle.std.specs.List.{range_with_len}
 use Rattle.std.specs.Simd.Lanes.{zip2}
+use Rattle.rq_algebra.specs.Systems.{at}
 use Rattle.rq_bytes.specs.SymbolSlab.{Slab}
 use Rattle.rq_parts.specs.DenseOctetMatrix.{IsOctetRow}
 
@@ -32,6 +33,31 @@ pub record AreEntries (width : ℕ) (bits : Slab) (octets : List (List ℕ)) : T
   pub height : length octets ≡ length bits.values
   pub symbols : All (λ symbol. length symbol ≡ bits.symbol_size) bits.values
   pub rows : All (IsOctetRow width) (rows_of width bits.values octets)
+
+-- of pieces of a buffer the one at a place that is counted from 1, and none at 0
+abbrev pub piece_of : List (List ℕ) → ℕ → List ℕ
+piece_of pieces zero = []
+piece_of pieces (suc place) = slice_index_or pieces place []
+
+-- what each row has that has such a place
+abbrev pub own_rows : List (List ℕ) → List ℕ → List (List ℕ)
+own_rows pieces places = map (piece_of pieces) places
+
+-- how many rows have no place
+abbrev pub placeless : List ℕ → ℕ
+placeless [] = 0
+placeless (zero ∷ places) = suc (placeless places)
+placeless (suc place ∷ places) = placeless places
+
+-- each of `count` pieces of a buffer is at the place of one row
+pub record ArePlaced (width count : ℕ) (octets places : List ℕ) : Type 0 where
+  pub whole : width % 32 ≡ 0
+  pub narrow : width < 2 ^ 17
+  pub few : length places < 2 ^ 31
+  pub long : length octets ≡ count * width
+  pub counted : count + placeless places ≡ length places
+  pub inside : All (λ place. place ≤ count) places
+  pub apart : (i j : ℕ) → i < length places → j < length places → at places i ≢ 0 → at places i ≡ at places j → i ≡ j
 
 -- the first place, from one on and before another, where there isn't 0
 abbrev pub IsNextEntry : (ℕ → ℕ) → ℕ → ℕ → Option ℕ → Type 0

@@ -11,7 +11,7 @@ mod own_octets;
 mod packed_bits;
 
 use super::elimination::OctetRows;
-use octet_row::EntryRow;
+use octet_row::{EntryRow, count_octets, next_octet};
 use own_octets::OwnOctets;
 use packed_bits::{LANES, bit, count_ones, next_one, set_bit};
 use rq_bytes::error::Error;
@@ -21,12 +21,10 @@ use std::alloc::Global;
 use std::marker::Model;
 
 /// What rows have in the inactive columns: bits, which stand in one buffer for all rows, or octets of
-/// a row's own. The columns fill whole vectors. A row of bits becomes one of octets where it takes
+/// a row's own, in another one. The columns fill whole vectors. A row of bits becomes one of octets where it takes
 /// what isn't bits. Contracts see octets alone.
 #[derive(Drop)]
 pub(super) struct InactiveEntries {
-    alloc: Global,
-    width: usize,
     bits: SymbolSlab,
     octets: OwnOctets,
 }
@@ -37,9 +35,9 @@ impl Model for InactiveEntries {
 
     ghost Value = { OctetTable };
 
-    ghost view = { λ e. record { width = e.width; rows = rows_of e.width e.bits.values e.octets } };
+    ghost view = { λ e. record { width = e.octets.width; rows = rows_of e.octets.width e.bits.values e.octets.rows } };
 
-    ghost invariant = { λ e. AreEntries e.width e.bits e.octets };
+    ghost invariant = { λ e. AreEntries e.octets.width e.bits e.octets.rows };
 }
 
 impl InactiveEntries {
@@ -53,10 +51,8 @@ impl InactiveEntries {
     {
         let size = whole_vectors(width.div_ceil(8));
         Ok(InactiveEntries {
-            alloc,
-            width,
             bits: SymbolSlab::with_zeros(alloc, height, size)?,
-            octets: OwnOctets::new(alloc, height)?,
+            octets: OwnOctets::new(alloc, height, width)?,
         })
     }
 
@@ -65,7 +61,7 @@ impl InactiveEntries {
         ensures width { result ≡ self.now.width }
         ensures octets { HasOctets self.now }
     {
-        self.width
+        self.octets.width()
     }
 
     /// Sets an entry of a row to 1.
@@ -81,14 +77,18 @@ impl InactiveEntries {
         }
     }
 
-    /// Sets the entries of a row to these octets.
-    pub(super) fn set_octets(&mut self, row: usize, octets: Vec<u8>)
+    /// Sets an entry of a row, which gets octets.
+    pub(super) fn set(&mut self, row: usize, column: usize, octet: u8) -> Result<(), Error>
         requires row { row < length self.old.rows }
-        requires width { length octets.items ≡ self.old.width }
-        ensures row { self.new ≡ with_row self.old row octets.items }
-        ensures octets { IsOctetRow self.old.width octets.items }
+        requires column { column < self.old.width }
+        ensures ok { OnOk result (self.new ≡ with_row self.old row (slice_set (row_at self.old row) column octet)) }
+        ensures height { OnErr result (length self.new.rows ≡ length self.old.rows) }
+        ensures err { IfErr result (λ e. e ≡ OutOfMemory) }
     {
-        self.octets.put(row, octets);
+        let bits = self.bits.get(row);
+        self.octets.ensure(row, bits)?;
+        self.octets.set(row, column, octet);
+        Ok(())
     }
 
     /// What a row has in a column.
@@ -99,7 +99,7 @@ impl InactiveEntries {
         ensures { result ≡ entry_of self.now row column }
     {
         match self.row(row) {
-            EntryRow::Octets(octets) => Octet::new(octets.get(column)),
+            EntryRow::Octets(octets) => Octet::new(octets[column]),
             EntryRow::Bits(bits) => Octet::new(bit(bits, column)),
         }
     }
@@ -112,7 +112,7 @@ impl InactiveEntries {
         ensures { IsNextOctet (entry_of self.now row) from end result }
     {
         match self.row(row) {
-            EntryRow::Octets(octets) => octets.next_entry(from, end),
+            EntryRow::Octets(octets) => next_octet(octets, from, end),
             EntryRow::Bits(bits) => match next_one(bits, from, end) {
                 Some(column) => Some((column, Octet::one())),
                 None => None,
@@ -128,7 +128,7 @@ impl InactiveEntries {
         ensures { result ≤ count }
     {
         match self.row(row) {
-            EntryRow::Octets(octets) => octets.count_entries(count),
+            EntryRow::Octets(octets) => count_octets(octets, count),
             EntryRow::Bits(bits) => count_ones(bits, count),
         }
     }
@@ -142,7 +142,7 @@ impl InactiveEntries {
         ensures err { IfErr result (λ e. e ≡ OutOfMemory) }
     {
         let bits = self.bits.get(row);
-        self.octets.ensure(row, self.alloc, bits, self.width)?;
+        self.octets.ensure(row, bits)?;
         self.octets.multiply(row, scalar);
         Ok(())
     }
@@ -180,7 +180,7 @@ impl InactiveEntries {
         ensures err { IfErr result (λ e. e ≡ OutOfMemory) }
     {
         let bits = self.bits.get(dest);
-        self.octets.ensure(dest, self.alloc, bits, self.width)?;
+        self.octets.ensure(dest, bits)?;
         if self.octets.is_none(src) {
             self.octets.add_bits(dest, self.bits.get(src), scalar);
         } else {

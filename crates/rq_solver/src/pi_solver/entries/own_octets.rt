@@ -1,141 +1,186 @@
 //! The octets that rows have of their own.
-ghost use Rattle.std.specs.Prelude.{◌≡◌, ◌≢◌, ℕ, ◌*◌, ◌%◌, ◌==◌, ◌<◌, ◌≤◌, [], length, replicate, slice_index_or, slice_set, IfOk, OnOk, IfErr, OnErr};
+ghost use Rattle.std.specs.Prelude.{◌≡◌, ◌≢◌, ℕ, ◌-◌, ◌*◌, ◌%◌, ◌^◌, ◌<◌, ◌≤◌, ◌++◌, [], true, false, length, replicate, slice_set, IfOk, OnOk, IfErr, OnErr};
+ghost use Rattle.rq_algebra.specs.Systems.{at};
 ghost use Rattle.rq_bytes.specs.declared.error.Error.TheVariants.{OutOfMemory};
-ghost use Rattle.rq_parts.specs.DenseOctetMatrix.{IsOctetRow};
+ghost use Rattle.rq_parts.specs.DenseOctetMatrix.{IsOctetRow, row_at, with_row};
 ghost use Rattle.rq_solver.specs.InactiveEntries.{row_of, unpacked};
 ghost use Rattle.rq_standard.specs.Rows.{row_sum, row_multiple};
 
-use super::octet_row::{OctetRow, add_multiple_of_row};
+use super::octet_row::{
+    add_bits_to_row, add_multiple_of_row, multiply_row_from, row_from, set_in_row,
+};
 use rq_bytes::error::Error;
 use rq_bytes::octet::Octet;
 use std::alloc::Global;
 use std::marker::Model;
 
-/// The octets that rows have of their own, none where a row is bits. Contracts see the lists of all
-/// rows.
+// For how many rows room is made with the first: a block has no more HDPC rows.
+const FIRST_ROWS: usize = 16;
+
+/// The octets that rows have of their own, none where a row is bits. They stand in one buffer, in the
+/// order in which the rows got them. Contracts see the lists of all rows.
 #[derive(Drop)]
 pub(super) struct OwnOctets {
-    rows: Vec<OctetRow>,
-    // Whether a row has none. Rows are asked in any order, and these stay in a near cache.
-    are_none: Vec<bool>,
+    octets: Vec<u8>,
+    width: usize,
+    count: u32,
+    // The place of each row in the buffer, counted from 1, and 0 where the row has none. Rows are asked
+    // in any order, and these stay in a near cache.
+    places: Vec<u32>,
 }
 
 impl Model for OwnOctets {
-    ghost use Rattle.std.specs.Prelude.{List, ℕ, ◌≡◌, ◌==◌, map, length};
+    ghost use Rattle.rq_bytes.specs.Ranges.{cut};
+    ghost use Rattle.rq_parts.specs.DenseOctetMatrix.{OctetTable};
+    ghost use Rattle.rq_solver.specs.InactiveEntries.{ArePlaced, own_rows};
 
-    ghost Value = { List (List ℕ) };
+    ghost Value = { OctetTable };
 
-    ghost view = { λ own. own.rows.items };
+    ghost view = { λ own. record { width = own.width; rows = own_rows (cut own.count own.width own.octets.items) own.places.items } };
 
-    ghost invariant = { λ own. own.are_none.items ≡ map (λ row. length row == 0) own.rows.items };
+    ghost invariant = { λ own. ArePlaced own.width own.count own.octets.items own.places.items };
 }
 
 impl OwnOctets {
-    /// Rows that have none.
-    pub(super) fn new(alloc: Global, height: usize) -> Result<OwnOctets, Error>
-        ensures none { IfOk result (λ own. own ≡ replicate height []) }
+    /// Rows that have none, and may get so many.
+    pub(super) fn new(alloc: Global, height: usize, width: usize) -> Result<OwnOctets, Error>
+        requires few { height < 2 ^ 31 }
+        requires narrow { width < 2 ^ 17 }
+        requires whole { width % 32 ≡ 0 }
+        ensures none { IfOk result (λ own. own ≡ record { width = width; rows = replicate height [] }) }
         ensures err { IfErr result (λ e. e ≡ OutOfMemory) }
     {
-        let mut rows = Vec::with_capacity(alloc, height)?;
-        for _ in 0..height {
-            rows.push(OctetRow::none(alloc))?;
-        }
         Ok(OwnOctets {
-            rows,
-            are_none: vec![in alloc; true; height]?,
+            octets: Vec::new(alloc),
+            width,
+            count: 0,
+            places: vec![in alloc; 0; height]?,
         })
+    }
+
+    /// How many octets a row has that has some.
+    #[inline(always)]
+    pub(super) fn width(&self) -> usize
+        ensures { result ≡ self.now.width }
+    {
+        self.width
     }
 
     /// Whether a row has none.
     #[inline(always)]
     pub(super) fn is_none(&self, row: usize) -> bool
-        requires { row < length self.now }
-        ensures { result ≡ (length (slice_index_or self.now row []) == 0) }
+        requires { row < length self.now.rows }
+        ensures none { result ≡ true → length (row_at self.now row) ≡ 0 }
+        ensures own { result ≡ false → length (row_at self.now row) ≡ self.now.width }
     {
-        self.are_none[row]
+        self.places[row] == 0
     }
 
-    /// Those of a row.
+    /// Those of a row that has some.
     #[inline(always)]
-    pub(super) fn row(&self, row: usize) -> &OctetRow
-        requires { row < length self.now }
-        ensures { result.now ≡ slice_index_or self.now row [] }
+    pub(super) fn row(&self, row: usize) -> &[u8]
+        requires row { row < length self.now.rows }
+        requires own { length (row_at self.now row) ≡ self.now.width }
+        ensures { result.now ≡ row_at self.now row }
     {
-        &self.rows[row]
-    }
-
-    /// Gives a row these octets.
-    pub(super) fn put(&mut self, row: usize, octets: Vec<u8>)
-        requires row { row < length self.old }
-        requires whole { length octets.items % 32 ≡ 0 }
-        ensures put { self.new ≡ slice_set self.old row octets.items }
-        ensures octets { IsOctetRow (length octets.items) octets.items }
-    {
-        let octets = OctetRow::new(octets);
-        self.are_none[row] = octets.is_none();
-        self.rows[row] = octets;
+        let start = start_of(self.places.as_slice(), row, self.width);
+        row_from(self.octets.as_slice(), start, self.width)
     }
 
     /// Makes octets of a row's bits, where it has none.
     #[inline(always)]
-    pub(super) fn ensure(
-        &mut self,
-        row: usize,
-        alloc: Global,
-        bits: &[u8],
-        width: usize,
-    ) -> Result<(), Error>
-        requires row { row < length self.old }
-        requires room { width ≤ 8 * length bits.now }
-        requires whole { width % 32 ≡ 0 }
-        ensures row { OnOk result (self.new ≡ slice_set self.old row (row_of width bits.now (slice_index_or self.old row []))) }
+    pub(super) fn ensure(&mut self, row: usize, bits: &[u8]) -> Result<(), Error>
+        requires row { row < length self.old.rows }
+        requires room { self.old.width ≤ 8 * length bits.now }
+        ensures row { OnOk result (self.new ≡ with_row self.old row (row_of self.old.width bits.now (row_at self.old row))) }
         ensures refused { OnErr result (self.new ≡ self.old) }
         ensures err { IfErr result (λ e. e ≡ OutOfMemory) }
     {
-        let own = &mut self.rows[row];
-        own.ensure_octets(alloc, bits, width)?;
-        self.are_none[row] = own.is_none();
+        if self.places[row] == 0 {
+            push_bits(&mut self.octets, self.width, bits)?;
+            self.count += 1;
+            self.places[row] = self.count;
+        }
         Ok(())
     }
 
     /// Sets the octet of a row in a column.
     pub(super) fn set(&mut self, row: usize, column: usize, octet: u8)
-        requires row { row < length self.old }
-        requires column { column < length (slice_index_or self.old row []) }
-        ensures set { self.new ≡ slice_set self.old row (slice_set (slice_index_or self.old row []) column octet) }
-        ensures octets { IsOctetRow (length (slice_index_or self.old row [])) (slice_index_or self.new row []) }
+        requires row { row < length self.old.rows }
+        requires own { length (row_at self.old row) ≡ self.old.width }
+        requires column { column < self.old.width }
+        ensures set { self.new ≡ with_row self.old row (slice_set (row_at self.old row) column octet) }
+        ensures octets { IsOctetRow self.old.width (row_at self.new row) }
     {
-        self.rows[row].set(column, octet);
+        let start = start_of(self.places.as_slice(), row, self.width);
+        set_in_row(self.octets.as_mut_slice(), start, self.width, column, octet);
     }
 
     /// Multiplies the octets of a row.
     pub(super) fn multiply(&mut self, row: usize, scalar: &Octet)
-        requires { row < length self.old }
-        ensures multiple { self.new ≡ slice_set self.old row (row_multiple scalar.now (slice_index_or self.old row [])) }
-        ensures octets { IsOctetRow (length (slice_index_or self.old row [])) (slice_index_or self.new row []) }
+        requires row { row < length self.old.rows }
+        requires own { length (row_at self.old row) ≡ self.old.width }
+        ensures multiple { self.new ≡ with_row self.old row (row_multiple scalar.now (row_at self.old row)) }
+        ensures octets { IsOctetRow self.old.width (row_at self.new row) }
     {
-        self.rows[row].multiply(scalar);
+        let start = start_of(self.places.as_slice(), row, self.width);
+        multiply_row_from(self.octets.as_mut_slice(), start, self.width, scalar);
     }
 
     /// Adds a multiple of a row of bits to a row's octets.
     pub(super) fn add_bits(&mut self, row: usize, bits: &[u8], scalar: &Octet)
-        requires row { row < length self.old }
-        requires room { length (slice_index_or self.old row []) ≤ 8 * length bits.now }
-        ensures sum { self.new ≡ slice_set self.old row (row_sum (slice_index_or self.old row []) (row_multiple scalar.now (unpacked (length (slice_index_or self.old row [])) bits.now))) }
-        ensures octets { IsOctetRow (length (slice_index_or self.old row [])) (slice_index_or self.new row []) }
+        requires row { row < length self.old.rows }
+        requires own { length (row_at self.old row) ≡ self.old.width }
+        requires room { self.old.width ≤ 8 * length bits.now }
+        ensures sum { self.new ≡ with_row self.old row (row_sum (row_at self.old row) (row_multiple scalar.now (unpacked self.old.width bits.now))) }
+        ensures octets { IsOctetRow self.old.width (row_at self.new row) }
     {
-        self.rows[row].add_bits(bits, scalar);
+        let start = start_of(self.places.as_slice(), row, self.width);
+        add_bits_to_row(self.octets.as_mut_slice(), start, self.width, bits, scalar);
     }
 
     /// Adds a multiple of a row's octets to those of another one.
     pub(super) fn add_multiple(&mut self, dest: usize, src: usize, scalar: &Octet)
         requires two { dest ≢ src }
-        requires dest { dest < length self.old }
-        requires src { src < length self.old }
-        requires fits { length (slice_index_or self.old src []) ≡ length (slice_index_or self.old dest []) }
-        ensures sum { self.new ≡ slice_set self.old dest (row_sum (slice_index_or self.old dest []) (row_multiple scalar.now (slice_index_or self.old src []))) }
-        ensures octets { IsOctetRow (length (slice_index_or self.old dest [])) (slice_index_or self.new dest []) }
+        requires dest { dest < length self.old.rows }
+        requires src { src < length self.old.rows }
+        requires own { length (row_at self.old dest) ≡ self.old.width }
+        requires other { length (row_at self.old src) ≡ self.old.width }
+        ensures sum { self.new ≡ with_row self.old dest (row_sum (row_at self.old dest) (row_multiple scalar.now (row_at self.old src))) }
+        ensures octets { IsOctetRow self.old.width (row_at self.new dest) }
     {
-        add_multiple_of_row(self.rows.as_mut_slice(), dest, src, scalar);
+        let to = start_of(self.places.as_slice(), dest, self.width);
+        let from = start_of(self.places.as_slice(), src, self.width);
+        add_multiple_of_row(self.octets.as_mut_slice(), to, from, self.width, scalar);
     }
+}
+
+// Where the octets of a row begin in the buffer: at the place before the one that is counted from 1. A
+// row of no octets may have no place.
+#[inline(always)]
+fn start_of(places: &[u32], row: usize, width: usize) -> usize
+    requires row { row < length places.now }
+    requires placed { width ≤ at places.now row * width }
+    requires fits { at places.now row * width < 2 ^ 64 }
+    ensures { result ≡ at places.now row * width - width }
+{
+    places[row] as usize * width - width
+}
+
+// Appends bits as so many octets.
+fn push_bits(octets: &mut Vec<u8>, width: usize, bits: &[u8]) -> Result<(), Error>
+    requires room { width ≤ 8 * length bits.now }
+    requires narrow { width < 2 ^ 17 }
+    requires whole { width % 32 ≡ 0 }
+    ensures ok { OnOk result (octets.new.items ≡ octets.old.items ++ unpacked width bits.now) }
+    ensures refused { OnErr result (octets.new.items ≡ octets.old.items) }
+    ensures err { IfErr result (λ e. e ≡ OutOfMemory) }
+{
+    let start = octets.len();
+    if start == 0 {
+        octets.reserve(FIRST_ROWS * width)?;
+    }
+    octets.resize(start + width, 0)?;
+    add_bits_to_row(octets.as_mut_slice(), start, width, bits, &Octet::one());
+    Ok(())
 }

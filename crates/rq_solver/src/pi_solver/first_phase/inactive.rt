@@ -32,15 +32,7 @@ pub(super) fn fill_inactive(
     for row in 0..height {
         if row >= system.first_hdpc && row - system.first_hdpc < system.hdpc.height() {
             let from = row - system.first_hdpc;
-            fill_octets(
-                alloc,
-                &system.hdpc,
-                from,
-                peeling,
-                inactive,
-                row,
-                &mut entries,
-            )?;
+            fill_octets(&system.hdpc, from, peeling, inactive, row, &mut entries)?;
         } else {
             fill_bits(&system.ones, row, peeling, &mut entries);
         }
@@ -50,7 +42,6 @@ pub(super) fn fill_inactive(
 
 // Sets the entries of a row to those of a row of octets in the inactive columns.
 fn fill_octets(
-    alloc: Global,
     octets: &DenseOctetMatrix,
     from: usize,
     peeling: &Peeling,
@@ -67,12 +58,10 @@ fn fill_octets(
     ensures written { OnOk result (FillsRow row inactive (λ f. entry_of octets.now from (at peeling.now.order (length peeling.now.rows + f))) entries.old entries.new) }
     ensures err { IfErr result (λ e. e ≡ OutOfMemory) }
 {
-    let mut filled = vec![in alloc; 0; entries.width()]?;
     for f in 0..inactive {
         let column = peeling.inactive_column(f);
-        filled[f] = octets.get(from, column).byte();
+        entries.set(row, f, octets.get(from, column).byte())?;
     }
-    entries.set_octets(row, filled);
     Ok(())
 }
 

@@ -1,5 +1,5 @@
 -- What the check leaves to show of `pi_solver::entries::InactiveEntries::add_multiple`.
-use Rattle.std.proofs.Common.{sym, ◌∙◌}
+use Rattle.std.proofs.Common.{refl, sym, ◌∙◌}
 use Rattle.rq_solver.proofs.EntryRows.{allowed, own_place, sum_are, sum_seen}
 use Rattle.rq_solver.proofs.pi_solver.entries.InactiveEntries.add_multiple.Goals as goal
 
@@ -13,7 +13,7 @@ pub add_assign-requires : goal.add_assign-requires
 add_assign-requires c = allowed c.self.inside c.self.invariant c.self.view_is c.args.dest c.args.src c.requires.dest c.requires.src c.requires.two
 
 pub invariant_of-self : goal.invariant_of-self
-invariant_of-self c = sum_are c.self.inside c.self.invariant c.self.view_is c.args.dest c.args.src c.requires.dest c.requires.src c.requires.two c.if-is_none.ensures c.if-is_none-2.ensures c.args.scalar.now (sym c.byte.ensures ∙ c.if-byte-eq1.true) c.add_assign.new.self c.add_assign.ensures
+invariant_of-self c = sum_are c.self.inside c.self.invariant c.self.view_is c.args.dest c.args.src c.requires.dest c.requires.src c.requires.two (c.if-is_none.ensures.none refl) (c.if-is_none-2.ensures.none refl) c.args.scalar.now (sym c.byte.ensures ∙ c.if-byte-eq1.true) c.add_assign.new.self c.add_assign.ensures
 
 pub returns-then-is_none-2-clause-ok : goal.returns-then-is_none-2-clause-ok
-returns-then-is_none-2-clause-ok c = sum_seen c.self.inside c.self.invariant c.self.view_is c.args.dest c.args.src c.requires.dest c.requires.src c.requires.two c.if-is_none.ensures c.if-is_none-2.ensures c.args.scalar.now (sym c.byte.ensures ∙ c.if-byte-eq1.true) c.add_assign.new.self c.add_assign.ensures
+returns-then-is_none-2-clause-ok c = sum_seen c.self.inside c.self.invariant c.self.view_is c.args.dest c.args.src c.requires.dest c.requires.src c.requires.two (c.if-is_none.ensures.none refl) (c.if-is_none-2.ensures.none refl) c.args.scalar.now (sym c.byte.ensures ∙ c.if-byte-eq1.true) c.add_assign.new.self c.add_assign.ensures

@@ -1,7 +1,8 @@
 -- What the check leaves to show of `pi_solver::entries::InactiveEntries::new`.
-use Rattle.std.proofs.Common.{◌*◌, ◌^◌, ◌≤◌, ◌≡◌, ℕ, List, replicate, ap, sym, subst, ◌∙◌, arith}
+use Rattle.std.proofs.Common.{◌*◌, ◌^◌, ◌≤◌, ◌≡◌, ℕ, List, [], replicate, refl, ap, sym, subst, ◌∙◌, arith}
 use Rattle.std.proofs.Math.Nat.{mul-le-mul}
 use Rattle.rq_bytes.specs.SymbolSlab.{Slab, slab_of}
+use Rattle.rq_parts.specs.DenseOctetMatrix.{OctetTable}
 use Rattle.rq_solver.specs.InactiveEntries.{AreEntries}
 use Rattle.rq_solver.proofs.EntryRows.{table_of, zero_rows, zeros_are}
 use Rattle.rq_solver.proofs.pi_solver.entries.InactiveEntries.new.Goals as goal
@@ -17,12 +18,16 @@ invariant_of-result c =
     let size = c.whole_vectors-size.result in
     let room : c.args.width ≤ 8 * size = omega (arith, c.div_ceil.ensures, c.whole_vectors-size.ensures.from) in
     let slab : slab_of size (replicate c.args.height (replicate size 0)) ≡ c.in_ok-with_zeros.field-0 = cc (c.in_ok-with_zeros.ensures) in
-    subst (λ (s : Slab). AreEntries c.args.width s c.in_ok-new.field-0) slab (zeros_are c.args.width c.args.height size (omega (arith, c.requires.narrow)) c.requires.whole room c.whole_vectors-size.ensures.whole c.in_ok-new.field-0 c.in_ok-new.ensures.none)
+    let own = c.in_ok-new.field-0 in
+    subst (λ (s : Slab). AreEntries own.width s own.rows) slab
+    (rw c.in_ok-new.ensures.none (zeros_are c.args.width c.args.height size (omega (arith, c.requires.narrow)) c.requires.whole room c.whole_vectors-size.ensures.whole (replicate c.args.height []) refl))
 
 pub returns-clause-zeros : goal.returns-clause-zeros
 returns-clause-zeros c =
     let size = c.whole_vectors-size.result in
     let room : c.args.width ≤ 8 * size = omega (arith, c.div_ceil.ensures, c.whole_vectors-size.ensures.from) in
     let slab : slab_of size (replicate c.args.height (replicate size 0)) ≡ c.in_ok-with_zeros.field-0 = cc (c.in_ok-with_zeros.ensures) in
-    ap (λ (s : Slab). table_of c.args.width s c.in_ok-new.field-0) (sym slab)
-    ∙ ap (λ (rows : List (List ℕ)). record { width = c.args.width; rows = rows }) (zero_rows c.args.width c.args.height size room c.in_ok-new.field-0 c.in_ok-new.ensures.none)
+    let own = c.in_ok-new.field-0 in
+    ap (λ (s : Slab). table_of own.width s own.rows) (sym slab)
+    ∙ ap (λ (t : OctetTable). table_of t.width (slab_of size (replicate c.args.height (replicate size 0))) t.rows) c.in_ok-new.ensures.none
+    ∙ ap (λ (rows : List (List ℕ)). record { width = c.args.width; rows = rows }) (zero_rows c.args.width c.args.height size room (replicate c.args.height []) refl)

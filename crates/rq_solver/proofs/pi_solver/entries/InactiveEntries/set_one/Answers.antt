@@ -2,7 +2,7 @@
 use Rattle.std.proofs.Common.{ℕ, List, set, ap, refl, ◌∙◌, arith}
 use Rattle.rq_parts.specs.DenseOctetMatrix.{with_row}
 use Rattle.rq_solver.specs.InactiveEntries.{unpacked}
-use Rattle.rq_solver.proofs.EntryRows.{bits_place, bits_written, bits_written_seen, own_long, own_octets, own_place, read_is, row_unpacked, width_is, written, written_seen}
+use Rattle.rq_solver.proofs.EntryRows.{bits_place, bits_written, bits_written_seen, own_octets, own_place, read_is, row_unpacked, width_is, written, written_seen}
 use Rattle.rq_solver.proofs.pi_solver.entries.InactiveEntries.set_one.Goals as goal
 
 -- ---- a row of bits
@@ -17,7 +17,7 @@ pub invariant_of-self : goal.invariant_of-self
 invariant_of-self c =
     let bits = c.set_bit.new.bits in
     let long = c.set_bit.auto.bits ∙ c.get_mut.ensures.len in
-    bits_written c.self.inside c.self.invariant c.self.view_is c.args.row c.requires.row c.if-is_none.ensures bits long _ (c.get_mut.ensures.whole_symbol bits long)
+    bits_written c.self.inside c.self.invariant c.self.view_is c.args.row c.requires.row (c.if-is_none.ensures.none refl) bits long _ (c.get_mut.ensures.whole_symbol bits long)
 
 pub returns-then-is_none : goal.returns-then-is_none
 returns-then-is_none c =
@@ -25,23 +25,21 @@ returns-then-is_none c =
     let bits = c.set_bit.new.bits in
     let long = c.set_bit.auto.bits ∙ c.get_mut.ensures.len in
     let in_width = c.requires.column in
-    bits_written_seen c.self.inside c.self.invariant c.self.view_is c.args.row c.requires.row c.if-is_none.ensures bits long _ (c.get_mut.ensures.whole_symbol bits long)
+    bits_written_seen c.self.inside c.self.invariant c.self.view_is c.args.row c.requires.row (c.if-is_none.ensures.none refl) bits long _ (c.get_mut.ensures.whole_symbol bits long)
     ∙ ap (with_row c.args.self.now c.args.row) (
-    c.set_bit.ensures e.width (omega (arith, in_width, width_is c.self.inside c.self.invariant c.self.view_is))
-    ∙ ap (λ (b : List ℕ). set (unpacked e.width b) c.args.column 1) (c.get_mut.ensures.symbol ∙ read_is c.self.inside c.self.invariant c.self.view_is c.args.row c.requires.row)
-    ∙ ap (λ (r : List ℕ). set r c.args.column 1) (row_unpacked c.self.inside c.self.invariant c.self.view_is c.args.row c.requires.row c.if-is_none.ensures))
+    c.set_bit.ensures e.octets.width (omega (arith, in_width, width_is c.self.inside c.self.invariant c.self.view_is))
+    ∙ ap (λ (b : List ℕ). set (unpacked e.octets.width b) c.args.column 1) (c.get_mut.ensures.symbol ∙ read_is c.self.inside c.self.invariant c.self.view_is c.args.row c.requires.row)
+    ∙ ap (λ (r : List ℕ). set r c.args.column 1) (row_unpacked c.self.inside c.self.invariant c.self.view_is c.args.row c.requires.row (c.if-is_none.ensures.none refl)))
 
 -- ---- a row of octets
 
 pub set-requires-clause-column : goal.set-requires-clause-column
-set-requires-clause-column c =
-    let long = own_long c.self.inside c.self.invariant c.self.view_is c.args.row c.requires.row c.if-is_none.ensures in
-    omega (arith, long, c.requires.column)
+set-requires-clause-column c = omega (arith, width_is c.self.inside c.self.invariant c.self.view_is, c.requires.column)
 
 pub invariant_of-self-else-is_none : goal.invariant_of-self-else-is_none
-invariant_of-self-else-is_none c = written c.self.inside c.self.invariant c.self.view_is c.args.row c.requires.row c.self.inside.octets c.set.new.self _ (own_long c.self.inside c.self.invariant c.self.view_is c.args.row c.requires.row c.if-is_none.ensures) (own_place c.self.inside c.self.invariant c.self.view_is c.args.row c.requires.row) c.set.ensures.set c.set.ensures.octets refl
+invariant_of-self-else-is_none c = written c.self.inside c.self.invariant c.self.view_is c.args.row c.requires.row c.self.inside.octets c.set.new.self _ c.set.ensures.set c.set.ensures.octets refl
 
 pub returns-else-is_none : goal.returns-else-is_none
 returns-else-is_none c =
-    written_seen c.self.inside c.self.invariant c.self.view_is c.args.row c.requires.row c.self.inside.octets c.set.new.self _ (own_long c.self.inside c.self.invariant c.self.view_is c.args.row c.requires.row c.if-is_none.ensures) (own_place c.self.inside c.self.invariant c.self.view_is c.args.row c.requires.row) c.set.ensures.set c.set.ensures.octets refl
-    ∙ ap (λ (r : List ℕ). with_row c.args.self.now c.args.row (set r c.args.column 1)) (own_octets c.self.inside c.self.invariant c.self.view_is c.args.row c.requires.row c.if-is_none.ensures)
+    written_seen c.self.inside c.self.invariant c.self.view_is c.args.row c.requires.row c.self.inside.octets c.set.new.self _ c.set.ensures.set c.set.ensures.octets refl
+    ∙ ap (λ (r : List ℕ). with_row c.args.self.now c.args.row (set r c.args.column 1)) (own_octets c.self.inside c.self.invariant c.self.view_is c.args.row c.requires.row (c.if-is_none.ensures.own refl))
