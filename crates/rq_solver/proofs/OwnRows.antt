@@ -27,14 +27,14 @@ both_none (x ∷ xs) ys some none = absurd (omega arith)
 
 -- ---- places
 
-pub placeless-set : (places : List ℕ) (i place : ℕ) → i < length places → at places i ≡ 0 → suc (placeless (set places i (suc place))) ≡ placeless places
+placeless-set : (places : List ℕ) (i place : ℕ) → i < length places → at places i ≡ 0 → suc (placeless (set places i (suc place))) ≡ placeless places
 placeless-set [] i place l none = absurd (omega arith)
 placeless-set (zero ∷ places) zero place l none = refl
 placeless-set (suc p ∷ places) zero place l none = absurd (omega arith)
 placeless-set (zero ∷ places) (suc i) place l none = ap suc (placeless-set places i place (omega arith) none)
 placeless-set (suc p ∷ places) (suc i) place l none = placeless-set places i place (omega arith) none
 
-pub placeless-replicate : (n : ℕ) → placeless (replicate n 0) ≡ n
+placeless-replicate : (n : ℕ) → placeless (replicate n 0) ≡ n
 placeless-replicate zero = refl
 placeless-replicate (suc n) = ap suc (placeless-replicate n)
 
@@ -66,7 +66,7 @@ module _ {width count : ℕ} {octets places : List ℕ} (are : ArePlaced width c
   pub width_is : width ≡ now.width
   width_is = ap (λ (t : OctetTable). t.width) seen
 
-  pub height_is : length places ≡ length now.rows
+  height_is : length places ≡ length now.rows
   unfolding pieces
   height_is = sym (length-map places (piece_of pieces)) ∙ ap (λ (t : OctetTable). length t.rows) seen
 
@@ -102,7 +102,7 @@ module _ {width count : ℕ} {octets places : List ℕ} (are : ArePlaced width c
       abbrev pub start : ℕ
       start = at places row * width - width
 
-      pub placed : width ≤ at places row * width
+      placed : width ≤ at places row * width
       placed = of_place (at places row) refl where
         of_place : (p : ℕ) → at places row ≡ p → width ≤ p * width
         of_place zero e = omega (arith, no_width e)
@@ -112,7 +112,7 @@ module _ {width count : ℕ} {octets places : List ℕ} (are : ArePlaced width c
       within = omega (arith, placed, mul-le-mul_right width below, are.long)
 
       -- it is read
-      pub read : range_of octets start width ≡ row_at now row
+      read : range_of octets start width ≡ row_at now row
       unfolding pieces
       read = of_place (at places row) refl where
         of_place : (p : ℕ) → at places row ≡ p → range_of octets (at places row * width - width) width ≡ row_at now row
@@ -147,7 +147,7 @@ module _ {width count : ℕ} {octets places : List ℕ} (are : ArePlaced width c
                 elsewhere i l d zero f = refl
                 elsewhere i l d (suc m) f = get_or-set_other (cut count width octets) k m ws [] (λ same. d (are.apart i row l in_places (λ none. absurd (omega (arith, none, f))) (f ∙ ap suc same ∙ sym e)))
 
-        pub written : table_of_own width count octets' places ≡ with_row now row ws
+        written : table_of_own width count octets' places ≡ with_row now row ws
         written = ap (λ (rows : List (List ℕ)). record { width = width; rows = rows }) rows_written ∙ ap (λ t. with_row t row ws) seen
 
       -- the same of lists that are equal to these
@@ -199,9 +199,6 @@ module _ {width count : ℕ} {octets places : List ℕ} (are : ArePlaced width c
 
     placeless_left : suc (placeless (set places row (suc count))) ≡ placeless places
     placeless_left = placeless-set places row count inside none
-
-    pub count_few : count + 1 ≤ length places
-    count_few = omega (arith, placeless_left, are.counted)
 
     more : cut (suc count) width octets' ≡ cut count width octets ++ ws ∷ []
     more = ap (cut (suc count) width) is ∙ cut-append count width octets ws are.long long

@@ -21,8 +21,8 @@ use std::alloc::Global;
 use std::marker::Model;
 
 /// What rows have in the inactive columns: bits, which stand in one buffer for all rows, or octets of
-/// a row's own, in another one. The columns fill whole vectors. A row of bits becomes one of octets where it takes
-/// what isn't bits. Contracts see octets alone.
+/// their own, in another one. The columns fill whole vectors. A row of bits becomes one of octets
+/// where it takes what isn't bits. Contracts see octets alone.
 #[derive(Drop)]
 pub(super) struct InactiveEntries {
     bits: SymbolSlab,

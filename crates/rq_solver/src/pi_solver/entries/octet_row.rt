@@ -65,7 +65,7 @@ pub(super) fn set_in_row(octets: &mut [u8], start: usize, len: usize, column: us
 }
 
 /// Multiplies a row.
-pub(super) fn multiply_row_from(octets: &mut [u8], start: usize, len: usize, scalar: &Octet)
+pub(super) fn scale_row(octets: &mut [u8], start: usize, len: usize, scalar: &Octet)
     requires { start + len ≤ length octets.old }
     ensures multiple { octets.new ≡ with_range octets.old start (row_multiple scalar.now (range_of octets.old start len)) }
     ensures octets { All (λ x. x < 256) (row_multiple scalar.now (range_of octets.old start len)) }

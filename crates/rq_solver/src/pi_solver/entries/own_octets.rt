@@ -6,9 +6,7 @@ ghost use Rattle.rq_parts.specs.DenseOctetMatrix.{IsOctetRow, row_at, with_row};
 ghost use Rattle.rq_solver.specs.InactiveEntries.{row_of, unpacked};
 ghost use Rattle.rq_standard.specs.Rows.{row_sum, row_multiple};
 
-use super::octet_row::{
-    add_bits_to_row, add_multiple_of_row, multiply_row_from, row_from, set_in_row,
-};
+use super::octet_row::{add_bits_to_row, add_multiple_of_row, row_from, scale_row, set_in_row};
 use rq_bytes::error::Error;
 use rq_bytes::octet::Octet;
 use std::alloc::Global;
@@ -42,7 +40,7 @@ impl Model for OwnOctets {
 }
 
 impl OwnOctets {
-    /// Rows that have none, and may get so many.
+    /// Rows that have none, and that each get so many where they get some.
     pub(super) fn new(alloc: Global, height: usize, width: usize) -> Result<OwnOctets, Error>
         requires few { height < 2 ^ 31 }
         requires narrow { width < 2 ^ 17 }
@@ -124,7 +122,7 @@ impl OwnOctets {
         ensures octets { IsOctetRow self.old.width (row_at self.new row) }
     {
         let start = start_of(self.places.as_slice(), row, self.width);
-        multiply_row_from(self.octets.as_mut_slice(), start, self.width, scalar);
+        scale_row(self.octets.as_mut_slice(), start, self.width, scalar);
     }
 
     /// Adds a multiple of a row of bits to a row's octets.

@@ -13,16 +13,16 @@ start_of-start-requires-clause-placed c = placed_from c.self.invariant c.self.vi
 pub returns-clause-multiple : goal.returns-clause-multiple
 returns-clause-multiple c =
     rewritten c.self.invariant c.self.view_is c.args.row c.requires.row c.requires.own c.as_slice.ensures.value c.as_mut_slice.ensures.value c.start_of-start.ensures
-    c.multiply_row_from.ensures.multiple
-    (with_items_is c.self.inside.octets c.multiply_row_from.new.octets (c.multiply_row_from.auto.octets ∙ c.as_mut_slice.ensures.len))
+    c.scale_row.ensures.multiple
+    (with_items_is c.self.inside.octets c.scale_row.new.octets (c.scale_row.auto.octets ∙ c.as_mut_slice.ensures.len))
     (ap (row_multiple c.args.scalar.now) (read_from c.self.invariant c.self.view_is c.args.row c.requires.row c.requires.own c.as_slice.ensures.value c.as_mut_slice.ensures.value c.start_of-start.ensures))
     (length-map (row_at c.args.self.now c.args.row) (octet_mul c.args.scalar.now) ∙ c.requires.own ∙ sym (width_is c.self.invariant c.self.view_is))
 
 pub returns-clause-octets : goal.returns-clause-octets
 returns-clause-octets c =
     rewritten_octets c.self.invariant c.self.view_is c.args.row c.requires.row c.requires.own c.as_slice.ensures.value c.as_mut_slice.ensures.value c.start_of-start.ensures
-    c.multiply_row_from.ensures.multiple
-    (with_items_is c.self.inside.octets c.multiply_row_from.new.octets (c.multiply_row_from.auto.octets ∙ c.as_mut_slice.ensures.len))
+    c.scale_row.ensures.multiple
+    (with_items_is c.self.inside.octets c.scale_row.new.octets (c.scale_row.auto.octets ∙ c.as_mut_slice.ensures.len))
     (ap (row_multiple c.args.scalar.now) (read_from c.self.invariant c.self.view_is c.args.row c.requires.row c.requires.own c.as_slice.ensures.value c.as_mut_slice.ensures.value c.start_of-start.ensures))
     (length-map (row_at c.args.self.now c.args.row) (octet_mul c.args.scalar.now) ∙ c.requires.own ∙ sym (width_is c.self.invariant c.self.view_is))
-    c.multiply_row_from.ensures.octets
+    c.scale_row.ensures.octets
