@@ -15,9 +15,6 @@ use rq_parts::graph::ConnectedComponentGraph;
 use std::alloc::Global;
 use std::marker::Model;
 
-// For how many columns there are sets at most.
-const MOST_NODES: usize = 65535;
-
 /// Columns with pivots among rows of bits, and the order of all columns: pivots' first, in the
 /// order in which they were chosen, then the inactive ones. Contracts see the rows that have pivots,
 /// that order, and the place of each column in it.
@@ -118,15 +115,14 @@ pub(super) fn peel(alloc: Global, system: &System) -> Result<Peeling, Error>
     let column_rows = ColumnRows::of_rows(alloc, ones, system.width)?;
     let mut degrees = RowDegrees::new(alloc, ones, boundary)?;
     let mut columns = ColumnOrder::new(alloc, system.width, boundary)?;
-    let nodes = boundary.min(MOST_NODES);
-    let mut graph = ConnectedComponentGraph::new(alloc, nodes)?;
+    let mut graph = ConnectedComponentGraph::new(alloc, boundary)?;
     let mut rows = Vec::with_capacity(alloc, boundary)?;
     for turn in 0..boundary {
         let next = next_row(
             ones,
             &column_rows,
             &columns,
-            nodes,
+            boundary,
             &mut degrees,
             &mut graph,
         );
@@ -136,7 +132,7 @@ pub(super) fn peel(alloc: Global, system: &System) -> Result<Peeling, Error>
         let taken = take_row(
             ones.row(row),
             &column_rows,
-            nodes,
+            boundary,
             &mut degrees,
             &mut graph,
             &mut columns,

@@ -45,7 +45,7 @@ loop-turn-init c =
       counts = counts_first lists c.args.system.now.boundary c.args.system.now.width c.in_ok-degrees.degrees (columns c.args.system.now) c.in_ok-degrees.ensures.counted;
       fewest = λ p l. absurd (omega arith);
       degrees = c.in_ok-degrees.ensures.rows;
-      graph = sym (ap node_count c.in_ok-graph.ensures) ∙ length-replicate c.min-nodes.result 0;
+      graph = sym (ap node_count c.in_ok-graph.ensures) ∙ length-replicate c.args.system.now.boundary 0;
     })
 
 pub loop-turn-preserved : goal.loop-turn-preserved

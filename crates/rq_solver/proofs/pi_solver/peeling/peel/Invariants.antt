@@ -15,5 +15,5 @@ invariant-loop-turn l = record {
   counts : CountsActive l.system.ones l.columns l.degrees;
   fewest : (p : ℕ) → p < length l.rows.items → HasFewestLeft l.system.ones l.system.boundary (take p l.rows.items) (at l.rows.items p);
   degrees : length l.degrees ≡ length l.system.ones;
-  graph : length l.graph.labels ≡ l.nodes;
+  graph : length l.graph.labels ≡ l.boundary;
 }
