@@ -25,7 +25,7 @@ halves_make : agree_below (λ x. eqb (bit_xor (x % 16) (x / 16 * 16)) x) (λ _. 
 halves_make = refl
 
 -- the halves of a byte have no bit in common
-halves_xor : (x y : ℕ) → x < 16 → y < 16 → bit_xor x (y * 16) ≡ x + 16 * y
+pub halves_xor : (x y : ℕ) → x < 16 → y < 16 → bit_xor x (y * 16) ≡ x + 16 * y
 halves_xor x y small_x small_y =
     let lower_is : (x + 16 * y) % 16 ≡ x = omega arith in
     let upper_is : (x + 16 * y) / 16 ≡ y = omega arith in

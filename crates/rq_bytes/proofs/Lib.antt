@@ -3,7 +3,7 @@ pub mod ChunkFacts
 pub mod Cuts
 pub mod Doubling
 pub mod HalfLookUps
-pub mod HalfSums
+pub mod HalfTables
 pub mod Halves
 pub mod Multiples
 pub mod PackedRows

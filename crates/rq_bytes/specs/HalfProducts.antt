@@ -1,8 +1,7 @@
 -- Products of an octet and the halves of a byte.
-use Rattle.std.specs.Prelude.{◌≡◌, ℕ, zero, suc, ◌+◌, ◌-◌, ◌*◌, ◌/◌, ◌%◌, ◌^◌, ◌<◌, List, All, length, slice_index}
-use Rattle.std.specs.Int.Bits.{bit_xor}
+use Rattle.std.specs.Prelude.{◌≡◌, ℕ, ◌+◌, ◌*◌, ◌/◌, ◌%◌, ◌^◌, ◌<◌, List, All, length, slice_index}
 use Rattle.std.specs.Simd.Lanes.{zip2}
-use Rattle.rq_standard.specs.Octets.{octet_double, octet_mul, octet_times}
+use Rattle.rq_standard.specs.Octets.{octet_mul}
 
 -- the halves of a byte: first the lower ones, then the upper ones
 abbrev pub half_byte : ℕ → ℕ
@@ -26,13 +25,3 @@ pub record AreHalves (lower upper : List ℕ) : Type 0 where
 -- the bytes that have these halves
 abbrev pub whole_bytes : List ℕ → List ℕ → List ℕ
 whole_bytes lower upper = zip2 (λ x y. x + 16 * y) lower upper
-
--- a product by x, k times
-unfoldable pub doubled : ℕ → ℕ → ℕ
-doubled zero h = h
-doubled (suc k) h = octet_double (doubled k h)
-
--- sums that become the products of an octet and each half of a byte once those of its bits from k on are added
-pub record IsSumBelow (scalar k : ℕ) (sum : List ℕ) : Type 0 where
-  pub long : length sum ≡ 32
-  pub each : (i : ℕ) → i < 32 → bit_xor (slice_index sum i) (octet_times (8 - k) (doubled k (half_byte i)) (scalar / 2 ^ k)) ≡ octet_mul (half_byte i) scalar

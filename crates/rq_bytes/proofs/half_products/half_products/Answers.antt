@@ -1,10 +1,9 @@
 -- What the check leaves to show of `half_products::half_products`.
-use Rattle.std.proofs.Common.{arith}
-use Rattle.rq_bytes.proofs.HalfSums.{sum_none, sum_whole}
+use Rattle.rq_bytes.proofs.HalfTables.{sums, sums_long}
 use Rattle.rq_bytes.proofs.half_products.half_products.Goals as goal
 
-pub add_term-one-requires-clause-below : goal.add_term-one-requires-clause-below
-add_term-one-requires-clause-below c = sum_none c.args.scalar
+pub returns-clause-long : goal.returns-clause-long
+returns-clause-long c = sums_long c.args.scalar c.from.result c.from-2.result c.ranges.scalar.fits c.from.ensures c.from-2.ensures
 
 pub returns-clause-each : goal.returns-clause-each
-returns-clause-each c = sum_whole c.args.scalar 8 c.add_term.result c.ranges.scalar.fits (omega arith) c.add_term.ensures
+returns-clause-each c = sums c.args.scalar c.from.result c.from-2.result c.ranges.scalar.fits c.from.ensures c.from-2.ensures
