@@ -1,19 +1,17 @@
 -- What the ones of rows of bits are to an elimination over peeled rows, and what that finds is to the bits.
-use Rattle.std.proofs.Common.{◌≡◌, ℕ, ◌+◌, ◌<◌, ◌≤◌, List, [], ◌∷◌, Option, None, Some, length, refl, ◌∙◌, arith}
-use Rattle.std.specs.Prelude.{MatchOption}
+use Rattle.std.proofs.Common.{◌≡◌, ℕ, ◌+◌, ◌<◌, ◌≤◌, List, [], ◌∷◌, ◌++◌, Option, None, Some, length, refl, ◌∙◌, arith}
+use Rattle.std.specs.Prelude.{Vec}
+use Rattle.std.specs.Global.{Global}
 use Rattle.std.proofs.lemmas.List.Elements.{All-weaker}
-use Rattle.rq_algebra.specs.Operations.{FindsColumn}
-use Rattle.rq_algebra.specs.Systems.{HasHomogeneousColumn}
+use Rattle.rq_algebra.specs.Operations.{Operation, Reorder}
 use Rattle.rq_standard.specs.BitTable.{BitTable}
 use Rattle.rq_standard.specs.BitTableSteps.{ArePlacesOfOnes}
 use Rattle.rq_standard.specs.ConstraintMatrix.{with_octet_rows}
 use Rattle.rq_standard.specs.OctetField.{octets}
-use Rattle.rq_operations.specs.RecordedOperations.{operations_of}
-use Rattle.rq_operations.specs.declared.recorded.RecordedOperations.{RecordedOperations}
 use Rattle.rq_parts.specs.DenseOctetMatrix.{OctetTable, entry_of}
 use Rattle.rq_solver.specs.Cleared.{AreRowsOfBits, AreOctetRows, one_in}
 use Rattle.rq_solver.specs.Peeled.{AreOnesOfRows, ones_of}
-use Rattle.rq_solver.specs.Phases.{IsAttempt}
+use Rattle.rq_solver.specs.Phases.{IsAttempt, SolvesRows}
 use Rattle.rq_solver.specs.System.{IsSystemOf, rows_of}
 use Rattle.rq_solver.specs.declared.pi_solver.system.System.{System}
 use Rattle.rq_solver.proofs.OctetRows.{same_rows}
@@ -51,8 +49,7 @@ module _ (bits : BitTable) (hdpc : OctetTable) (first : ℕ) (system : System) (
       (λ i k l m. (is.ones_are.each i (rw is.ones_are.count at l)).once k (omega arith) (rw is.width_is at m))
 
   -- what is found of a system is found of the bits and the octets that it was made of
-  pub attempt_of_bits : (answer : Option RecordedOperations) → IsAttempt system answer
-      → let rows = with_octet_rows first (length hdpc.rows) bits.bit (entry_of hdpc) in
-      MatchOption answer (HasHomogeneousColumn octets bits.height bits.width rows) (λ ops. FindsColumn octets bits.height bits.width rows (operations_of ops))
-  attempt_of_bits None found = rw (← is.hdpc_is, ← is.first_is, ← is.width_is, ← is.ones_are.count) (homogeneous_same octets (length system.ones) system.width _ _ same_entries found)
-  attempt_of_bits (Some ops) found = rw (← is.hdpc_is, ← is.first_is, ← is.width_is, ← is.ones_are.count) (finds_same octets (length system.ones) system.width _ _ same_entries (operations_of ops) found)
+  pub attempt_of_bits : (recorded : List Operation) (answer : Option (Vec ℕ Global)) → IsAttempt system recorded answer
+      → SolvesRows bits.height bits.width (with_octet_rows first (length hdpc.rows) bits.bit (entry_of hdpc)) recorded answer
+  attempt_of_bits recorded None found = rw (← is.hdpc_is, ← is.first_is, ← is.width_is, ← is.ones_are.count) (homogeneous_same octets (length system.ones) system.width _ _ same_entries found)
+  attempt_of_bits recorded (Some order) found = rw (← is.hdpc_is, ← is.first_is, ← is.width_is, ← is.ones_are.count) (finds_same octets (length system.ones) system.width _ _ same_entries (recorded ++ Reorder order.items ∷ []) found)

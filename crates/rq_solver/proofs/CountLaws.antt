@@ -1,5 +1,5 @@
 -- How many additions are recorded at most.
-use Rattle.std.proofs.Common.{◌≡◌, ◌≢◌, ℕ, zero, suc, ◌+◌, ◌-◌, ◌*◌, ◌<◌, ◌≤◌, ◌==◌, if◌then◌else◌, Bool, List, [], ◌∷◌, ◌++◌, length, take, refl, sym, ap, ◌∙◌, arith, inl, inr}
+use Rattle.std.proofs.Common.{add-one, zero-add, ◌≡◌, ◌≢◌, ℕ, zero, suc, ◌+◌, ◌-◌, ◌*◌, ◌<◌, ◌≤◌, ◌==◌, if◌then◌else◌, Bool, List, [], ◌∷◌, ◌++◌, length, take, refl, sym, ap, ◌∙◌, arith, inl, inr}
 use Rattle.std.proofs.lemmas.Bool.{cases_eq, cases_lt, eq-eqb, ne_eqb}
 use Rattle.std.proofs.lemmas.List.Sums.{sum_by-append}
 use Rattle.std.proofs.Math.Nat.{mul-le-mul_left, mul-le-mul_right}
@@ -9,7 +9,7 @@ use Rattle.rq_algebra.specs.Arrangements.{ArePlaces}
 use Rattle.rq_algebra.specs.Systems.{at, stacked}
 use Rattle.rq_algebra.proofs.Stacks.{stacked_above, stacked_below}
 use Rattle.rq_algebra.specs.Operations.{Operation, AddAssign, MulAssign, Fma, Reorder}
-use Rattle.rq_solver.specs.OperationCounts.{additions, is_addition, is_multiplication, triangle, triangle-none, triangle-more}
+use Rattle.rq_solver.specs.OperationCounts.{additions, beyond_one, is_addition, is_multiplication, multiples, multiples-none, multiples-more, triangle, triangle-none, triangle-more}
 use Rattle.rq_solver.specs.OctetBatch.{batch_bound}
 use Rattle.rq_solver.specs.PhaseCounts.{AreCountsOf}
 use Rattle.rq_solver.specs.declared.pi_solver.counts.OperationCounts.{OperationCounts}
@@ -233,12 +233,98 @@ forward_more rows before now turn t l m n = let next = triangle-next t in omega 
 pub forward_bound : (rows before now t count : ℕ) → t ≤ count → now + triangle t ≤ before + t * (rows - 1) → now ≤ before + count * (rows - 1)
 forward_bound rows before now t count l m = let most : t * (rows - 1) ≤ count * (rows - 1) = mul-le-mul_right (rows - 1) l in omega (arith, most)
 
--- back, each row takes those behind it
-pub back_start : (before : ℕ) → before ≤ before + triangle 0
-back_start before = omega arith
+-- entries that are neither 0 nor 1
+beyond_few : (x : ℕ) → beyond_one x ≤ 1
+beyond_few zero = omega arith
+beyond_few (suc zero) = omega arith
+beyond_few (suc (suc n)) = omega arith
 
-pub back_turn : (before now turn t : ℕ) → now ≤ before + triangle t → turn ≤ now + t → turn ≤ before + triangle (t + 1)
-back_turn before now turn t l m = let next = triangle-next t in omega (arith, next)
+beyond_some : (x : ℕ) → 1 < x → beyond_one x ≡ 1
+beyond_some zero l = absurd (omega arith)
+beyond_some (suc zero) l = absurd (omega arith)
+beyond_some (suc (suc n)) l = refl
+
+multiples-next : (values : ℕ → ℕ) (first n : ℕ) → multiples values first (n + 1) ≡ beyond_one (values first) + multiples values (first + 1) n
+multiples-next values first n = rw (add-one n, add-one first) (multiples-more values first n)
+
+multiples-last : (values : ℕ → ℕ) (first n : ℕ) → multiples values first (n + 1) ≡ multiples values first n + beyond_one (values (first + n))
+multiples-last values first zero =
+    let whole = multiples-next values first 0 in
+    let none = multiples-none values first in
+    let rest = multiples-none values (first + 1) in
+    let place : beyond_one (values (first + 0)) ≡ beyond_one (values first) = ap (λ (k : ℕ). beyond_one (values k)) (omega arith) in
+    omega (arith, whole, none, rest, place)
+multiples-last values first (suc n) =
+    let whole = multiples-next values first (suc n) in
+    let start = multiples-next values first n in
+    let rest = multiples-last values (first + 1) n in
+    let shift : multiples values first (suc n) ≡ multiples values first (n + 1) = ap (multiples values first) (sym (add-one n)) in
+    let shift_rest : multiples values (first + 1) (suc n) ≡ multiples values (first + 1) (n + 1) = ap (multiples values (first + 1)) (sym (add-one n)) in
+    let place : beyond_one (values (first + suc n)) ≡ beyond_one (values (first + 1 + n)) = ap (λ (k : ℕ). beyond_one (values k)) (omega arith) in
+    omega (arith, whole, start, rest, shift, shift_rest, place)
+
+multiples-few : (values : ℕ → ℕ) (first n more : ℕ) → multiples values first (n + more) ≤ multiples values first n + more
+multiples-few values first n zero =
+    let same : multiples values first (n + 0) ≡ multiples values first n = ap (multiples values first) (omega arith) in
+    omega (arith, same)
+multiples-few values first n (suc more) =
+    let less = multiples-few values first n more in
+    let last = multiples-last values first (n + more) in
+    let few = beyond_few (values (first + (n + more))) in
+    let same : multiples values first (n + suc more) ≡ multiples values first (n + more + 1) = ap (multiples values first) (omega arith) in
+    omega (arith, less, last, few, same)
+
+pub multiples-counted : (values : ℕ → ℕ) (n : ℕ) → 1 < values n → multiples values 0 (n + 1) ≡ multiples values 0 n + 1
+multiples-counted values n l =
+    let last = multiples-last values 0 n in
+    let place : beyond_one (values (0 + n)) ≡ 1 = ap (λ (k : ℕ). beyond_one (values k)) (zero-add n) ∙ beyond_some (values n) l in
+    omega (arith, last, place)
+
+pub multiples-grow : (values : ℕ → ℕ) (n : ℕ) → multiples values 0 n ≤ multiples values 0 (n + 1)
+multiples-grow values n = let last = multiples-last values 0 n in omega (arith, last)
+
+-- a row takes ones, and no multiple
+module _ (values : ℕ → ℕ) (start from before now : ℕ) (order : start ≤ from) (few : now + multiples values start (from - start) ≤ before + (from - start)) where
+  pub ones_passed : (to : ℕ) → from ≤ to → now + multiples values start (to - start) ≤ before + (to - start)
+  ones_passed to forward =
+      let more = multiples-few values start (from - start) (to - from) in
+      let same : multiples values start (to - start) ≡ multiples values start (from - start + (to - from)) = ap (multiples values start) (omega arith) in
+      omega (arith, more, same)
+
+  pub ones_taken : (f : ℕ) → from ≤ f → values f ≡ 1 → now + 1 + multiples values start (f + 1 - start) ≤ before + (f + 1 - start)
+  ones_taken f forward one =
+      let passed = ones_passed f forward in
+      let last = multiples-last values start (f - start) in
+      let place : beyond_one (values (start + (f - start))) ≡ 0 = ap (λ (k : ℕ). beyond_one (values k)) (omega arith) ∙ ap beyond_one one in
+      let same : multiples values start (f + 1 - start) ≡ multiples values start (f - start + 1) = ap (multiples values start) (omega arith) in
+      omega (arith, passed, last, place, same)
+
+-- the multiples in n columns of the first s rows
+abbrev pub given_before : (ℕ → ℕ → ℕ) → ℕ → ℕ → ℕ → ℕ
+given_before entries first n zero = 0
+given_before entries first n (suc s) = given_before entries first n s + multiples (entries s) first n
+
+given_before-more : (entries : ℕ → ℕ → ℕ) (first n s : ℕ) → given_before entries first n (s + 1) ≡ given_before entries first n s + multiples (entries s) first n
+given_before-more entries first n s = ap (given_before entries first n) (add-one s)
+
+given_before-column : (entries : ℕ → ℕ → ℕ) (first n s : ℕ) → given_before entries first (n + 1) s ≡ multiples (λ i. entries i first) 0 s + given_before entries (first + 1) n s
+given_before-column entries first n zero = let none = multiples-none (λ i. entries i first) 0 in omega (arith, none)
+given_before-column entries first n (suc s) =
+    let less = given_before-column entries first n s in
+    let row = multiples-next (entries s) first n in
+    let last = multiples-last (λ i. entries i first) 0 s in
+    let place : beyond_one (entries (0 + s) first) ≡ beyond_one (entries s first) = ap (λ (k : ℕ). beyond_one (entries k first)) (zero-add s) in
+    let shift : multiples (λ i. entries i first) 0 (suc s) ≡ multiples (λ i. entries i first) 0 (s + 1) = ap (multiples (λ i. entries i first) 0) (sym (add-one s)) in
+    omega (arith, less, row, last, place, shift)
+
+-- back, each row takes those behind it, by ones in its own turn, and by other multiples in theirs
+pub back_turn : (entries : ℕ → ℕ → ℕ) (q n before now mid turn : ℕ) → now ≤ before + triangle n + given_before entries (q + 1) n (q + 1) → mid + multiples (entries q) (q + 1) n ≤ now + n
+    → turn ≤ mid + multiples (λ i. entries i q) 0 q → turn ≤ before + triangle (n + 1) + given_before entries q (n + 1) q
+back_turn entries q n before now mid turn so_far ones given =
+    let next = triangle-next n in
+    let own = given_before-more entries (q + 1) n q in
+    let column = given_before-column entries q n q in
+    omega (arith, so_far, ones, given, next, own, column)
 
 -- the second phase and the fourth
 inactive_shifted : (inactive less left pivots : ℕ) → left ≡ less + 1 → inactive * (left - 1) + pivots * inactive ≤ inactive * (left + pivots - 1)

@@ -14,7 +14,7 @@ use Rattle.rq_bytes.specs.SymbolSlab.{Slab, after, slab_of, HasPlace, symbol_in,
 use Rattle.rq_bytes.proofs.Multiples.{times_one}
 use Rattle.rq_parts.specs.DenseOctetMatrix.{OctetTable, IsOctetRow, row_at, with_row}
 use Rattle.rq_solver.specs.declared.pi_solver.entries.InactiveEntries.TheInside.{Inside}
-use Rattle.rq_solver.specs.InactiveEntries.{AreEntries, IsNextEntry, row_of, rows_of, unpacked}
+use Rattle.rq_solver.specs.InactiveEntries.{AreEntries, IsNextEntry, row_of, entry_rows, unpacked}
 use Rattle.rq_solver.proofs.UnpackedBits.{is_unpacked, unpacked_row, unpacked-sum, unpacked-zeros}
 
 -- ---- a row
@@ -30,48 +30,48 @@ row_of_own n bits (o ∷ os) long = refl
 -- ---- all rows
 
 module _ (width : ℕ) (bits owns : List (List ℕ)) (same : length owns ≡ length bits) where
-  pub length-rows : length (rows_of width bits owns) ≡ length bits
+  pub length-rows : length (entry_rows width bits owns) ≡ length bits
   length-rows = length-zip2 (row_of width) bits owns (sym same)
 
-  pub row_at-rows : (i : ℕ) → i < length bits → get_or (rows_of width bits owns) i [] ≡ row_of width (get_or bits i []) (get_or owns i [])
+  pub row_at-rows : (i : ℕ) → i < length bits → get_or (entry_rows width bits owns) i [] ≡ row_of width (get_or bits i []) (get_or owns i [])
   row_at-rows i l = get_or-zip2 (row_of width) bits owns i [] [] [] l (omega arith)
 
   module _ (i : ℕ) (inside : i < length bits) where
-    in_rows : i < length (rows_of width bits owns)
+    in_rows : i < length (entry_rows width bits owns)
     in_rows = omega (arith, length-rows)
 
     -- other octets, or other bits, of one row
-    pub rows_with_octets : (own : List ℕ) → rows_of width bits (set owns i own) ≡ set (rows_of width bits owns) i (row_of width (get_or bits i []) own)
+    pub rows_with_octets : (own : List ℕ) → entry_rows width bits (set owns i own) ≡ set (entry_rows width bits owns) i (row_of width (get_or bits i []) own)
     rows_with_octets own =
         let wanted = row_of width (get_or bits i []) own in
         let long = length-set owns i own in
         let len = length-zip2 (row_of width) bits (set owns i own) (sym (long ∙ same)) in
-        ext_get_or [] (rows_of width bits (set owns i own)) (set (rows_of width bits owns) i wanted) (len ∙ sym (length-set (rows_of width bits owns) i wanted ∙ length-rows)) (λ k l.
+        ext_get_or [] (entry_rows width bits (set owns i own)) (set (entry_rows width bits owns) i wanted) (len ∙ sym (length-set (entry_rows width bits owns) i wanted ∙ length-rows)) (λ k l.
         let in_bits : k < length bits = omega arith in
         get_or-zip2 (row_of width) bits (set owns i own) k [] [] [] in_bits (omega arith)
         ∙ elim (cases_eq k i) [
-          | inl e ↦ rw e (ap (row_of width (get_or bits i [])) (get_or-set_same owns i own [] (omega arith)) ∙ sym (get_or-set_same (rows_of width bits owns) i wanted [] in_rows))
-          | inr d ↦ ap (row_of width (get_or bits k [])) (get_or-set_other owns i k own [] d) ∙ sym (row_at-rows k in_bits) ∙ sym (get_or-set_other (rows_of width bits owns) i k wanted [] d)
+          | inl e ↦ rw e (ap (row_of width (get_or bits i [])) (get_or-set_same owns i own [] (omega arith)) ∙ sym (get_or-set_same (entry_rows width bits owns) i wanted [] in_rows))
+          | inr d ↦ ap (row_of width (get_or bits k [])) (get_or-set_other owns i k own [] d) ∙ sym (row_at-rows k in_bits) ∙ sym (get_or-set_other (entry_rows width bits owns) i k wanted [] d)
         ])
 
-    pub rows_with_bits : (symbol : List ℕ) → rows_of width (set bits i symbol) owns ≡ set (rows_of width bits owns) i (row_of width symbol (get_or owns i []))
+    pub rows_with_bits : (symbol : List ℕ) → entry_rows width (set bits i symbol) owns ≡ set (entry_rows width bits owns) i (row_of width symbol (get_or owns i []))
     rows_with_bits symbol =
         let wanted = row_of width symbol (get_or owns i []) in
         let long = length-set bits i symbol in
         let len = length-zip2 (row_of width) (set bits i symbol) owns (long ∙ sym same) in
-        ext_get_or [] (rows_of width (set bits i symbol) owns) (set (rows_of width bits owns) i wanted) (len ∙ long ∙ sym (length-set (rows_of width bits owns) i wanted ∙ length-rows)) (λ k l.
+        ext_get_or [] (entry_rows width (set bits i symbol) owns) (set (entry_rows width bits owns) i wanted) (len ∙ long ∙ sym (length-set (entry_rows width bits owns) i wanted ∙ length-rows)) (λ k l.
         let in_bits : k < length bits = omega arith in
         get_or-zip2 (row_of width) (set bits i symbol) owns k [] [] [] (omega arith) (omega arith)
         ∙ elim (cases_eq k i) [
-          | inl e ↦ rw e (ap (λ b. row_of width b (get_or owns i [])) (get_or-set_same bits i symbol [] inside) ∙ sym (get_or-set_same (rows_of width bits owns) i wanted [] in_rows))
-          | inr d ↦ ap (λ b. row_of width b (get_or owns k [])) (get_or-set_other bits i k symbol [] d) ∙ sym (row_at-rows k in_bits) ∙ sym (get_or-set_other (rows_of width bits owns) i k wanted [] d)
+          | inl e ↦ rw e (ap (λ b. row_of width b (get_or owns i [])) (get_or-set_same bits i symbol [] inside) ∙ sym (get_or-set_same (entry_rows width bits owns) i wanted [] in_rows))
+          | inr d ↦ ap (λ b. row_of width b (get_or owns k [])) (get_or-set_other bits i k symbol [] d) ∙ sym (row_at-rows k in_bits) ∙ sym (get_or-set_other (entry_rows width bits owns) i k wanted [] d)
         ])
 
 -- ---- entries
 
 -- what callers see
 abbrev pub table_of : ℕ → Slab → List (List ℕ) → OctetTable
-table_of width bits owns = record { width = width; rows = rows_of width bits.values owns }
+table_of width bits owns = record { width = width; rows = entry_rows width bits.values owns }
 
 module _ (width : ℕ) (bits : Slab) (owns : List (List ℕ)) (are : AreEntries width bits owns) where
   module _ (i : ℕ) (inside : i < length bits.values) where
@@ -94,7 +94,7 @@ module _ (width : ℕ) (bits : Slab) (owns : List (List ℕ)) (are : AreEntries 
       order = are.order;
       height = length-set owns i own ∙ are.height;
       symbols = are.symbols;
-      rows = rw (rows_with_octets width bits.values owns are.height i inside own) (All-set (IsOctetRow width) (rows_of width bits.values owns) i _ row are.rows);
+      rows = rw (rows_with_octets width bits.values owns are.height i inside own) (All-set (IsOctetRow width) (entry_rows width bits.values owns) i _ row are.rows);
     }
 
     pub table_with_octets : (own : List ℕ) → table_of width bits (set owns i own) ≡ with_row (table_of width bits owns) i (row_of width (get_or bits.values i []) own)
@@ -111,7 +111,7 @@ module _ (width : ℕ) (bits : Slab) (owns : List (List ℕ)) (are : AreEntries 
         order = are.order;
         height = are.height ∙ sym (length-set bits.values i symbol);
         symbols = All-set (λ s. length s ≡ bits.symbol_size) bits.values i symbol long are.symbols;
-        rows = rw (rows_with_bits width bits.values owns are.height i inside symbol) (All-set (IsOctetRow width) (rows_of width bits.values owns) i _ row are.rows);
+        rows = rw (rows_with_bits width bits.values owns are.height i inside symbol) (All-set (IsOctetRow width) (entry_rows width bits.values owns) i _ row are.rows);
       }
 
       pub table_with_bits : table_of width (record bits { values = set bits.values i symbol }) owns ≡ with_row (table_of width bits owns) i (row_of width symbol (get_or owns i []))
@@ -119,12 +119,12 @@ module _ (width : ℕ) (bits : Slab) (owns : List (List ℕ)) (are : AreEntries 
 
 -- ---- rows of zeros
 
-pub zero_rows : (width height size : ℕ) → width ≤ 8 * size → (owns : List (List ℕ)) → owns ≡ replicate height [] → rows_of width (replicate height (replicate size 0)) owns ≡ replicate height (replicate width 0)
+pub zero_rows : (width height size : ℕ) → width ≤ 8 * size → (owns : List (List ℕ)) → owns ≡ replicate height [] → entry_rows width (replicate height (replicate size 0)) owns ≡ replicate height (replicate width 0)
 zero_rows width height size room owns is =
     let long = length-replicate {A = List ℕ} height (replicate size 0) in
     let same : length owns ≡ height = ap length is ∙ length-replicate {A = List ℕ} height [] in
     let len = length-rows width (replicate height (replicate size 0)) owns (same ∙ sym long) in
-    ext_get_or [] (rows_of width (replicate height (replicate size 0)) owns) (replicate height (replicate width 0)) (len ∙ long ∙ sym (length-replicate {A = List ℕ} height (replicate width 0))) (λ k l.
+    ext_get_or [] (entry_rows width (replicate height (replicate size 0)) owns) (replicate height (replicate width 0)) (len ∙ long ∙ sym (length-replicate {A = List ℕ} height (replicate width 0))) (λ k l.
     let inside : k < height = omega arith in
     row_at-rows width (replicate height (replicate size 0)) owns (same ∙ sym long) k (omega arith)
     ∙ ap (λ b. row_of width b (get_or owns k [])) (get_or-replicate height k (replicate size 0) [] inside)

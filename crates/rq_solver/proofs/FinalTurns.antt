@@ -149,7 +149,7 @@ module _ (lists : List (List ℕ)) (rows order places : List ℕ) (width : ℕ) 
       final = λ m column units zeros shown plain raw p l. absurd (omega arith);
     }
 
-    module _ (t : ℕ) (in_rows : t < length rows) (old cur mid : Recorded) (v : FinishesPivots lists rows order reduced marks count t old cur) (turn : TakesReduced reduced (at rows t) 0 count count cur mid)
+    module _ (t : ℕ) (in_rows : t < length rows) (old cur mid : Recorded) (v : FinishesPivots lists rows order reduced marks count t old cur) (turn : TakesReduced reduced (at rows t) 0 count count (entry_of cur.table (at rows t)) cur mid)
         (apart : (p f : ℕ) → p < length rows → f < count → at rows p ≢ at reduced f) where
       first_recorded : Records (v.steps ++ turn.steps) old mid
       first_recorded = records_more v.steps turn.steps old cur mid v.records turn.records
@@ -178,7 +178,7 @@ module _ (lists : List (List ℕ)) (rows order places : List ℕ) (width : ℕ) 
         first_zero f l =
             first_is m (at rows t) (column f)
             ∙ turn.cleared (rows_after octets v.steps m) column (λ a g from n o. reduced_stay a (column g) n ∙ units a g from n o)
-            (λ g n. own_stays_yet (column g) ∙ shown t g in_rows n ∙ ap (λ table. entry_of table (at rows t) g) (sym v.records.table)) f (omega arith) l l
+            (λ g from n. own_stays_yet (column g) ∙ shown t g in_rows n ∙ ap (λ table. entry_of table (at rows t) g) (sym v.records.table)) f (omega arith) l l
 
       pub finish_plain : get_or marks t false ≡ false → FinishesPivots lists rows order reduced marks count (t + 1) old mid
       finish_plain unset = record {

@@ -216,7 +216,7 @@ module _ (height width : ℕ) (system : ℕ → ℕ → ℕ) (rows order places 
     units = reduces.units given (λ f. at order (length rows + f)) (λ t f l n. given_at (at reduced t) f (reduced_below t (fits t l)) n)
 
     between_row : (p k : ℕ) → p < pivots → between (at rows p) k ≡ given (at rows p) k
-    between_row p k l = reduces.elsewhere given (at rows p) k (λ t from n e. apart p t l (fits t n) (sym e))
+    between_row p k l = reduces.elsewhere given (at rows p) k (λ t n e. apart p t l (fits t n) (sym e))
 
     meant_cleared : (p : ℕ) → p < pivots → IsCleared rows order meant (at rows p)
     meant_cleared p l = record { entries = λ i n. pivot_pivot p i l n }
@@ -277,7 +277,7 @@ module _ (height width : ℕ) (system : ℕ → ℕ → ℕ) (rows order places 
 
     behind_zero : (q p : ℕ) → inactive ≤ q → q < length reduced → p < width → ended (at reduced q) (at order p) ≡ 0
     behind_zero q p late l n =
-        ended_reduced q (at order p) l ∙ reduces.elsewhere given (at reduced q) (at order p) (λ t from m. behind_apart t q m late l) ∙ given_left q (at order p) l
+        ended_reduced q (at order p) l ∙ reduces.elsewhere given (at reduced q) (at order p) (λ t m. behind_apart t q m late l) ∙ given_left q (at order p) l
         ∙ elim (cases_lt p pivots) [
           | inl early ↦ left_pivot (at reduced q) p (in_left q l) early
           | inr late_p ↦

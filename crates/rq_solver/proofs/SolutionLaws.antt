@@ -1,5 +1,7 @@
 -- What a solver answers, from operations that find the column.
-use Rattle.std.proofs.Common.{◌≡◌, ◌<◌, ℕ, List, [], Option, None, Some, IfSome, IfOk, Result, Vec, Global, refl, sym, ap, ◌∙◌, subst, arith}
+use Rattle.std.proofs.Common.{◌≡◌, ◌<◌, ℕ, List, [], ◌∷◌, ◌++◌, Option, None, Some, IfSome, IfOk, Result, Vec, Global, refl, sym, ap, ◌∙◌, subst, arith}
+use Rattle.std.proofs.lemmas.Option.{none-some, same_Some}
+use Rattle.std.specs.Option.{MatchOption, option_map}
 use Rattle.rq_algebra.specs.Field.{Field}
 use Rattle.rq_algebra.specs.Following.{Follows}
 use Rattle.rq_algebra.specs.Systems.{HasHomogeneousColumn, at}
@@ -13,7 +15,14 @@ use Rattle.rq_standard.specs.OctetField.{octets}
 use Rattle.rq_bytes.specs.declared.error.Error.{Error}
 use Rattle.rq_bytes.specs.declared.operation_vector.SymbolOps.{SymbolOps}
 use Rattle.rq_bytes.specs.SymbolSlab.{Slab, store_of, after_all, symbol_in, HasPlace}
+use Rattle.rq_operations.specs.RecordedOperations.{operations_of}
+use Rattle.rq_operations.specs.declared.recorded.RecordedOperations.{RecordedOperations}
+use Rattle.rq_solver.specs.PhaseCounts.{AreCountsOf}
+use Rattle.rq_solver.specs.Phases.{SolvesRows}
 use Rattle.rq_solver.specs.Solving.{IsSolution, IsOutcome, Solver}
+use Rattle.rq_solver.specs.declared.pi_solver.counts.OperationCounts.{OperationCounts}
+use Rattle.rq_solver.specs.declared.pi_solver.phases.Attempt.{Attempt}
+use Rattle.rq_solver.proofs.CountLaws.{order_counted}
 use Rattle.rq_solver.proofs.RowStepLaws.{SameEntries}
 
 -- systems with the same entries have the same solutions
@@ -79,6 +88,29 @@ module _ (height width : ℕ) (rows : ℕ → ℕ → ℕ) (operations : List Op
 -- a fact of the value that an option has
 pub if_some : {X : Type 0} (o : Option X) (x : X) (P : X → Type 0) → o ≡ Some x → P x → IfSome o P
 if_some o x P e p = rw e p
+
+-- operations that were recorded, with the order in which they leave the column, as they are handed out
+found_among : (height width : ℕ) (rows : ℕ → ℕ → ℕ) (recorded : List Operation) (order : Option (Vec ℕ Global)) (answer : Option RecordedOperations) → SolvesRows height width rows recorded order
+    → option_map operations_of answer ≡ option_map (λ o. recorded ++ Reorder o.items ∷ []) order → MatchOption answer (HasHomogeneousColumn octets height width rows) (λ ops. FindsColumn octets height width rows (operations_of ops))
+found_among height width rows recorded None None found e = found
+found_among height width rows recorded None (Some ops) found e = absurd (none-some _ (sym e))
+found_among height width rows recorded (Some order) None found e = absurd (none-some _ e)
+found_among height width rows recorded (Some order) (Some ops) found e = rw (same_Some _ _ e) found
+
+counted_among : (counts : OperationCounts) (recorded : List Operation) (order : Option (Vec ℕ Global)) (ops : RecordedOperations) → AreCountsOf counts recorded
+    → Some (operations_of ops) ≡ option_map (λ o. recorded ++ Reorder o.items ∷ []) order → AreCountsOf counts (operations_of ops)
+counted_among counts recorded None ops are e = absurd (none-some _ (sym e))
+counted_among counts recorded (Some order) ops are e = rw (same_Some _ _ e) (order_counted counts recorded order.items are)
+
+module _ (attempt : Attempt) where
+  pub recorded_found : (height width : ℕ) (rows : ℕ → ℕ → ℕ) (answer : Option RecordedOperations) → SolvesRows height width rows attempt.recorded attempt.order
+      → option_map operations_of answer ≡ option_map (λ order. attempt.recorded ++ Reorder order.items ∷ []) attempt.order
+      → MatchOption answer (HasHomogeneousColumn octets height width rows) (λ ops. FindsColumn octets height width rows (operations_of ops))
+  recorded_found height width rows answer found same = found_among height width rows attempt.recorded attempt.order answer found same
+
+  pub recorded_counted : (counts : OperationCounts) (answer : Option RecordedOperations) (ops : RecordedOperations) → AreCountsOf counts attempt.recorded → answer ≡ Some ops
+      → option_map operations_of answer ≡ option_map (λ order. attempt.recorded ++ Reorder order.items ∷ []) attempt.order → AreCountsOf counts (operations_of ops)
+  recorded_counted counts answer ops are is same = counted_among counts attempt.recorded attempt.order ops are (rw is at same)
 
 -- the outcome of a solver that stands for these equations and has not run
 pub outcome_of : (s t : Solver) (handed : Slab) (r : Result (Option (Slab × Vec SymbolOps Global)) Error) → s ≡ t → t.symbols ≡ Some handed → IfSome s.symbols (λ h. IfOk r (IsOutcome s h)) → IfOk r (IsOutcome t handed)

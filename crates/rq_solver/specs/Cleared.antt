@@ -68,6 +68,10 @@ pub record IsCleared (rows order : List ℕ) (m : ℕ → ℕ → ℕ) (r : ℕ)
 abbrev pub AreUnits : List ℕ → ℕ → ℕ → (ℕ → ℕ) → (ℕ → ℕ → ℕ) → Type 0
 AreUnits reduced start count column m = (t f : ℕ) → start ≤ t → t < count → f < count → m (at reduced t) (column f) ≡ (if t == f then 1 else 0)
 
+-- the table shows what these rows have in the inactive columns
+abbrev pub AreShown : List ℕ → ℕ → (ℕ → ℕ) → (ℕ → ℕ → ℕ) → OctetTable → Type 0
+AreShown reduced count column m table = (t f : ℕ) → t < count → f < count → m (at reduced t) (column f) ≡ entry_of table (at reduced t) f
+
 -- A row takes the rows of the other pivots in whose columns it has these ones, by steps that are done as `Done` says. What it is in whole is `m`, whatever that is.
 pub record TakesPivotsBy (Done : List Operation → Recorded → Recorded → Type 0) (rows order : List ℕ) (row : ℕ) (columns : List ℕ) (old new : Recorded) : Type 0 where
   pub steps : List Operation
@@ -119,23 +123,41 @@ pub record HasPeeledPivots (height width : ℕ) (system : ℕ → ℕ → ℕ) (
 -- ---- rows that take reduced rows, in the second phase and the fourth
 
 -- A row takes multiples of reduced rows, those from place `start` on, so that it gets 0 in their inactive columns that come before column
--- `done`. What the rows are in whole is `m`, whatever that is: `column f` is the place of inactive column f in it.
-pub record TakesReduced (reduced : List ℕ) (row start count done : ℕ) (old new : Recorded) : Type 0 where
+-- `done`, where it has these entries. What the rows are in whole is `m`, whatever that is: `column f` is the place of inactive column f in it.
+pub record TakesReduced (reduced : List ℕ) (row start count done : ℕ) (entries : ℕ → ℕ) (old new : Recorded) : Type 0 where
   pub steps : List Operation
   pub records : Records steps old new
   pub elsewhere : (m : ℕ → ℕ → ℕ) (i k : ℕ) → i ≢ row → rows_after octets steps m i k ≡ m i k
   pub kept : (m : ℕ → ℕ → ℕ) (k : ℕ) → ((f : ℕ) → start ≤ f → f < count → m (at reduced f) k ≡ 0) → rows_after octets steps m row k ≡ m row k
-  pub cleared : (m : ℕ → ℕ → ℕ) (column : ℕ → ℕ) → AreUnits reduced start count column m → ((f : ℕ) → f < count → m row (column f) ≡ entry_of old.table row f)
+  pub cleared : (m : ℕ → ℕ → ℕ) (column : ℕ → ℕ) → AreUnits reduced start count column m → ((f : ℕ) → start ≤ f → f < count → m row (column f) ≡ entries f)
       → (f : ℕ) → start ≤ f → f < done → f < count → rows_after octets steps m row (column f) ≡ 0
   pub rest : (m : ℕ → ℕ → ℕ) (column : ℕ → ℕ) → AreUnits reduced start count column m → (f : ℕ) → done ≤ f → f < count → rows_after octets steps m row (column f) ≡ m row (column f)
 
--- the rows in echelon form take the later of them, from the last up to place `low`, until each has 1 in its own inactive column alone
+-- 1 stays, and any other octet is 0
+abbrev pub one_of : ℕ → ℕ
+one_of entry = if entry == 1 then 1 else 0
+
+-- Of the first rows those whose entry in the column of the row at a place is neither 0 nor 1 take that multiple of it. Where it is 1 they then
+-- have 0, and where it is 0 they stay.
+pub record GivesMultiples (reduced : List ℕ) (place done : ℕ) (old new : Recorded) : Type 0 where
+  pub steps : List Operation
+  pub records : Records steps old new
+  pub elsewhere : (m : ℕ → ℕ → ℕ) (r k : ℕ) → ((q : ℕ) → q < done → at reduced q ≢ r) → rows_after octets steps m r k ≡ m r k
+  pub kept : (m : ℕ → ℕ → ℕ) (r k : ℕ) → m (at reduced place) k ≡ 0 → rows_after octets steps m r k ≡ m r k
+  pub given : (m : ℕ → ℕ → ℕ) (k q : ℕ) → m (at reduced place) k ≡ 1 → q < done → m (at reduced q) k ≡ entry_of old.table (at reduced q) place
+      → rows_after octets steps m (at reduced q) k ≡ one_of (entry_of old.table (at reduced q) place)
+
+-- The rows in echelon form have 1 in their own inactive column alone, from the last up to place `low`. Those before it took the multiples of
+-- these rows by which they had an octet other than 0 and 1 in their columns.
 pub record ReducesBack (reduced : List ℕ) (count low : ℕ) (old new : Recorded) : Type 0 where
   pub steps : List Operation
   pub records : Records steps old new
-  pub elsewhere : (m : ℕ → ℕ → ℕ) (r k : ℕ) → ((q : ℕ) → low ≤ q → q < count → at reduced q ≢ r) → rows_after octets steps m r k ≡ m r k
+  pub elsewhere : (m : ℕ → ℕ → ℕ) (r k : ℕ) → ((q : ℕ) → q < count → at reduced q ≢ r) → rows_after octets steps m r k ≡ m r k
   pub kept : (m : ℕ → ℕ → ℕ) (r k : ℕ) → ((f : ℕ) → f < count → m (at reduced f) k ≡ 0) → rows_after octets steps m r k ≡ m r k
-  pub units : (m : ℕ → ℕ → ℕ) (column : ℕ → ℕ) → ((t f : ℕ) → t < count → f < count → m (at reduced t) (column f) ≡ entry_of old.table (at reduced t) f) → AreUnits reduced low count column (rows_after octets steps m)
+  pub units : (m : ℕ → ℕ → ℕ) (column : ℕ → ℕ) → AreShown reduced count column m old.table → AreUnits reduced low count column (rows_after octets steps m)
+  pub before : (m : ℕ → ℕ → ℕ) (column : ℕ → ℕ) → AreShown reduced count column m old.table → (t f : ℕ) → t < low → f < low → rows_after octets steps m (at reduced t) (column f) ≡ entry_of old.table (at reduced t) f
+  pub left : (m : ℕ → ℕ → ℕ) (column : ℕ → ℕ) → AreShown reduced count column m old.table → (t f : ℕ) → t < low → low ≤ f → f < count
+      → rows_after octets steps m (at reduced t) (column f) ≡ one_of (entry_of old.table (at reduced t) f)
 
 -- ---- the fourth phase
 

@@ -20,8 +20,8 @@ abbrev pub row_of : ℕ → List ℕ → List ℕ → List ℕ
 row_of width bits [] = unpacked width bits
 row_of width bits (o ∷ os) = o ∷ os
 
-abbrev pub rows_of : ℕ → List (List ℕ) → List (List ℕ) → List (List ℕ)
-rows_of width bits octets = zip2 (row_of width) bits octets
+abbrev pub entry_rows : ℕ → List (List ℕ) → List (List ℕ) → List (List ℕ)
+entry_rows width bits octets = zip2 (row_of width) bits octets
 
 -- as many bits as there are columns, in a buffer without an order, and octets for as many rows
 pub record AreEntries (width : ℕ) (bits : Slab) (octets : List (List ℕ)) : Type 0 where
@@ -32,7 +32,7 @@ pub record AreEntries (width : ℕ) (bits : Slab) (octets : List (List ℕ)) : T
   pub order : bits.order ≡ None
   pub height : length octets ≡ length bits.values
   pub symbols : All (λ symbol. length symbol ≡ bits.symbol_size) bits.values
-  pub rows : All (IsOctetRow width) (rows_of width bits.values octets)
+  pub rows : All (IsOctetRow width) (entry_rows width bits.values octets)
 
 -- of pieces of a buffer the one at a place that is counted from 1, and none at 0
 abbrev pub piece_of : List (List ℕ) → ℕ → List ℕ

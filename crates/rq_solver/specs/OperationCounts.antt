@@ -32,3 +32,22 @@ triangle-none = refl
 pub triangle-more : (n : ℕ) → triangle (suc n) ≡ triangle n + n
 unfolding triangle
 triangle-more n = refl
+
+-- 1 for what is neither 0 nor 1
+abbrev pub beyond_one : ℕ → ℕ
+beyond_one zero = 0
+beyond_one (suc zero) = 0
+beyond_one (suc (suc n)) = 1
+
+-- how many of the n values from one on are neither 0 nor 1
+pub multiples : (ℕ → ℕ) → ℕ → ℕ → ℕ
+multiples values first zero = 0
+multiples values first (suc n) = beyond_one (values first) + multiples values (suc first) n
+
+pub multiples-none : (values : ℕ → ℕ) (first : ℕ) → multiples values first 0 ≡ 0
+unfolding multiples
+multiples-none values first = refl
+
+pub multiples-more : (values : ℕ → ℕ) (first n : ℕ) → multiples values first (suc n) ≡ beyond_one (values first) + multiples values (suc first) n
+unfolding multiples
+multiples-more values first n = refl

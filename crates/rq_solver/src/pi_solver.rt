@@ -4,8 +4,8 @@ ghost use Rattle.std.specs.Option.{ForSome};
 ghost use Rattle.rq_standard.specs.TableRows.{greatest_size, row_of};
 ghost use Rattle.rq_bytes.specs.declared.error.Error.TheVariants.{AlreadyExecuted, OutOfMemory};
 ghost use Rattle.rq_bytes.specs.SymbolOps.{operation_of};
-ghost use Rattle.rq_operations.specs.RecordedOperations.{operations_of};
-ghost use Rattle.rq_solver.specs.PhaseCounts.{AreCountsOf, total_of};
+ghost use Rattle.rq_solver.specs.OperationCounts.{additions};
+ghost use Rattle.rq_solver.specs.PhaseCounts.{total_of};
 ghost use Rattle.rq_solver.specs.Solving.{AreEquations, AreEquationsWithoutHdpc, CountsOperations, FindsOperations, solver_of, solver_without_hdpc, IsOutcome, IsSpent};
 
 mod column_rows;
@@ -62,6 +62,7 @@ pub struct IntermediateSymbolDecoder<T: BinaryMatrix> {
 }
 
 impl<T: BinaryMatrix> IntermediateSymbolDecoder<T> {
+    ghost use Rattle.rq_solver.specs.Phases.{SolvesRows};
     ghost use Rattle.rq_solver.specs.SolverState.{solver_state};
 
     /// A solver of the equations of a block with so many source symbols: a matrix of bits, the HDPC
@@ -199,9 +200,9 @@ impl<T: BinaryMatrix> IntermediateSymbolDecoder<T> {
         let Some(mut symbols) = self.symbols.take() else {
             return Err(Error::AlreadyExecuted);
         };
-        let Attempt { operations, counts } = self.attempt()?;
-        self.counts = counts;
-        let Some(operations) = operations else {
+        let attempt = self.attempt()?;
+        self.counts = attempt.counts();
+        let Some(operations) = attempt.into_operations() else {
             return Ok(None);
         };
         operations.replay(&mut symbols)?;
@@ -229,14 +230,13 @@ impl<T: BinaryMatrix> IntermediateSymbolDecoder<T> {
         let system = System::of_matrix(alloc, &matrix, hdpc, first_hdpc, boundary)?;
         drop(matrix);
         let attempt = system.solve(alloc)?;
-        Ok(attempt.operations)
+        Ok(attempt.into_operations())
     }
 
     // Looks for the operations.
     fn attempt(&self) -> Result<Attempt, Error>
-        ensures found { IfOk result (λ attempt. FindsOperations (solver_state self.now) attempt.operations) }
-        ensures counted { IfOk result (λ attempt. IfSome attempt.operations (λ ops. AreCountsOf attempt.counts (operations_of ops))) }
-        ensures few { IfOk result (λ attempt. total_of attempt.counts.additions ≤ 2 * (solver_state self.now).width * (solver_state self.now).height) }
+        ensures found { IfOk result (λ attempt. SolvesRows (solver_state self.now).height (solver_state self.now).width (solver_state self.now).rows attempt.recorded attempt.order) }
+        ensures few { IfOk result (λ attempt. additions attempt.recorded ≤ 2 * (solver_state self.now).width * (solver_state self.now).height) }
         ensures memory { IfErr result (λ e. e ≡ OutOfMemory) }
     {
         let hdpc = self.hdpc.clone()?;

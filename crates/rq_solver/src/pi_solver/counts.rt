@@ -39,11 +39,10 @@ impl PhaseCounts {
         }
     }
 
-    // Counts one more in a phase.
-    #[inline(always)]
-    fn count(self, phase: Phase) -> PhaseCounts
-        requires { self.first + self.second + self.fourth + 1 < 2 ^ 64 }
-        ensures { result.first + result.second + result.fourth ≡ self.first + self.second + self.fourth + 1 }
+    // Counts so many more in a phase.
+    fn count(self, phase: Phase, more: u64) -> PhaseCounts
+        requires { self.first + self.second + self.fourth + more < 2 ^ 64 }
+        ensures { result.first + result.second + result.fourth ≡ self.first + self.second + self.fourth + more }
     {
         let PhaseCounts {
             first,
@@ -52,19 +51,19 @@ impl PhaseCounts {
         } = self;
         match phase {
             Phase::First => PhaseCounts {
-                first: first + 1,
+                first: first + more,
                 second,
                 fourth,
             },
             Phase::Second => PhaseCounts {
                 first,
-                second: second + 1,
+                second: second + more,
                 fourth,
             },
             Phase::Fourth => PhaseCounts {
                 first,
                 second,
-                fourth: fourth + 1,
+                fourth: fourth + more,
             },
         }
     }
@@ -92,6 +91,8 @@ pub(super) struct OperationCounts {
 }
 
 impl OperationCounts {
+    ghost use Rattle.rq_solver.specs.PhaseCounts.{total_of};
+
     /// No phase recorded any.
     pub(super) fn none() -> OperationCounts
         ensures additions { result.additions.first + result.additions.second + result.additions.fourth ≡ 0 }
@@ -102,27 +103,65 @@ impl OperationCounts {
             multiplications: PhaseCounts::none(),
         }
     }
+
+    // Counts steps in a phase.
+    fn count(self, phase: Phase, steps: &[Step]) -> OperationCounts
+        requires additions { total_of self.additions + length steps.now < 2 ^ 64 }
+        requires multiplications { total_of self.multiplications + length steps.now < 2 ^ 64 }
+        ensures additions { total_of result.additions ≡ total_of self.additions + additions (map operation_of_step steps.now) }
+        ensures multiplications { total_of result.multiplications ≡ total_of self.multiplications + multiplications (map operation_of_step steps.now) }
+    {
+        let (added, multiplied) = count_steps(steps);
+        OperationCounts {
+            additions: self.additions.count(phase, added),
+            multiplications: self.multiplications.count(phase, multiplied),
+        }
+    }
 }
 
-/// Operations that are recorded, as steps, and counted by phase. Contracts see the operations.
+// How many of the steps add symbols, and how many multiply them.
+fn count_steps(steps: &[Step]) -> (u64, u64)
+    ensures additions { result.0 ≡ additions (map operation_of_step steps.now) }
+    ensures multiplications { result.1 ≡ multiplications (map operation_of_step steps.now) }
+{
+    let mut added = 0;
+    let mut multiplied = 0;
+    for step in steps {
+        if !matches!(step, Step::Multiply { .. }) {
+            added += 1;
+        }
+        if !matches!(step, Step::Add { .. }) {
+            multiplied += 1;
+        }
+    }
+    (added, multiplied)
+}
+
+/// Where a stretch of operations begins that one phase recorded.
+#[derive(Clone, Copy)]
+struct Stretch {
+    start: usize,
+    phase: Phase,
+}
+
+/// Operations that are recorded, as steps, and the phases that they belong to. Contracts see the
+/// operations.
 #[derive(Drop)]
 pub(super) struct OperationList {
     steps: Vec<Step>,
-    phase: Phase,
-    counts: OperationCounts,
+    // The last stretches, the newest first: as many as the phases are entered. What stands before
+    // them belongs to the first phase.
+    stretches: [Stretch; 4],
 }
 
 impl Model for OperationList {
     ghost use Rattle.std.specs.Prelude.{List, map};
     ghost use Rattle.rq_algebra.specs.Operations.{Operation};
     ghost use Rattle.rq_operations.specs.Steps.{operation_of_step};
-    ghost use Rattle.rq_solver.specs.PhaseCounts.{AreCountsOf};
 
     ghost Value = { List Operation };
 
     ghost view = { λ l. map operation_of_step l.steps.items };
-
-    ghost invariant = { λ l. AreCountsOf l.counts (map operation_of_step l.steps.items) };
 }
 
 impl OperationList {
@@ -134,10 +173,13 @@ impl OperationList {
         ensures empty { IfOk result (λ list. list ≡ []) }
         ensures err { IfErr result (λ e. e ≡ OutOfMemory) }
     {
+        let first = Stretch {
+            start: 0,
+            phase: Phase::First,
+        };
         Ok(OperationList {
             steps: Vec::with_capacity(alloc, room)?,
-            phase: Phase::First,
-            counts: OperationCounts::none(),
+            stretches: [first; 4],
         })
     }
 
@@ -146,28 +188,25 @@ impl OperationList {
         *self.steps.allocator()
     }
 
-    /// A phase begins, or goes on.
+    /// A phase begins, or goes on. This is done four times at most.
     pub(super) fn enter(&mut self, phase: Phase)
         ensures { self.new ≡ self.old }
     {
-        self.phase = phase;
+        let newest = Stretch {
+            start: self.steps.len(),
+            phase,
+        };
+        let [last, third, second, _] = self.stretches;
+        self.stretches = [newest, last, third, second];
     }
 
-    /// Records a step, and counts it.
+    /// Records a step.
     #[inline(always)]
     pub(super) fn push(&mut self, step: Step) -> Result<(), Error>
         ensures recorded { OnOk result (self.new ≡ self.old ++ operation_of_step step ∷ []) }
         ensures err { IfErr result (λ e. e ≡ OutOfMemory) }
     {
-        let adds = matches!(step, Step::Add { .. } | Step::AddMultiple { .. });
-        let multiplies = matches!(step, Step::Multiply { .. } | Step::AddMultiple { .. });
         self.steps.push(step)?;
-        if adds {
-            self.counts.additions = self.counts.additions.count(self.phase);
-        }
-        if multiplies {
-            self.counts.multiplications = self.counts.multiplications.count(self.phase);
-        }
         Ok(())
     }
 
@@ -175,7 +214,15 @@ impl OperationList {
     pub(super) fn counts(&self) -> OperationCounts
         ensures { AreCountsOf result self.now }
     {
-        self.counts
+        let steps = self.steps.as_slice();
+        let mut counts = OperationCounts::none();
+        let mut end = steps.len();
+        for stretch in &self.stretches {
+            let start = stretch.start.min(end);
+            counts = counts.count(stretch.phase, &steps[start..end]);
+            end = start;
+        }
+        counts.count(Phase::First, &steps[..end])
     }
 
     /// The steps.

@@ -31,11 +31,11 @@ pub(super) struct InactiveEntries {
 
 impl Model for InactiveEntries {
     ghost use Rattle.rq_parts.specs.DenseOctetMatrix.{OctetTable};
-    ghost use Rattle.rq_solver.specs.InactiveEntries.{AreEntries, rows_of};
+    ghost use Rattle.rq_solver.specs.InactiveEntries.{AreEntries, entry_rows};
 
     ghost Value = { OctetTable };
 
-    ghost view = { λ e. record { width = e.octets.width; rows = rows_of e.octets.width e.bits.values e.octets.rows } };
+    ghost view = { λ e. record { width = e.octets.width; rows = entry_rows e.octets.width e.bits.values e.octets.rows } };
 
     ghost invariant = { λ e. AreEntries e.octets.width e.bits e.octets.rows };
 }

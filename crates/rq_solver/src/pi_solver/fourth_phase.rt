@@ -7,7 +7,7 @@ ghost use Rattle.rq_solver.specs.Cleared.{FinishesPivots, PeelsRows, RecordsPivo
 ghost use Rattle.rq_solver.specs.OperationCounts.{additions};
 ghost use Rattle.rq_solver.specs.Peeled.{ones_of};
 ghost use Rattle.rq_solver.specs.RowSteps.{AreRows};
-ghost use Rattle.rq_parts.specs.DenseOctetMatrix.{HasOctets};
+ghost use Rattle.rq_parts.specs.DenseOctetMatrix.{entry_of, HasOctets};
 
 use super::first_phase::take_pivots;
 use super::ones::RowOnes;
@@ -135,7 +135,7 @@ pub(super) fn finish_pivots(
 {
     for place in 0..peeling.pivots() {
         let row = peeling.row_of(place);
-        take_reduced_rows(row, reduced, 0, inactive, recorded)?;
+        take_reduced_rows(row, reduced, inactive, recorded)?;
         if marks[place] {
             record_pivots(ones, row, peeling, recorded)?;
         }
@@ -168,28 +168,26 @@ fn record_pivots(
     Ok(())
 }
 
-/// Adds to a row multiples of reduced rows, those from `start` on, so that it gets 0 in their
-/// inactive columns. What it has there is not read again, and stays stored.
+// Adds to a row multiples of reduced rows, so that it gets 0 in their inactive columns. What it has
+// there is not read again, and stays stored.
 #[inline(always)]
-pub(super) fn take_reduced_rows(
+fn take_reduced_rows(
     row: usize,
     reduced: &[usize],
-    start: usize,
     inactive: usize,
     recorded: &mut RecordedRows,
 ) -> Result<(), Error>
     requires row { row < length recorded.old.table.rows }
     requires reduced { AreRows reduced.now recorded.old.table }
     requires many { inactive ≤ length reduced.now }
-    requires apart { (f : ℕ) → start ≤ f → f < length reduced.now → row ≢ at reduced.now f }
-    requires within { start ≤ inactive }
+    requires apart { (f : ℕ) → f < length reduced.now → row ≢ at reduced.now f }
     requires width { inactive ≤ recorded.old.table.width }
     requires octets { HasOctets recorded.old.table }
-    ensures taken { OnOk result (TakesReduced reduced.now row start inactive inactive recorded.old recorded.new) }
-    ensures few { OnOk result (AddsAtMost (inactive - start) recorded.old recorded.new) }
+    ensures taken { OnOk result (TakesReduced reduced.now row 0 inactive inactive (entry_of recorded.old.table row) recorded.old recorded.new) }
+    ensures few { OnOk result (AddsAtMost inactive recorded.old recorded.new) }
     ensures err { IfErr result (λ e. e ≡ OutOfMemory) }
 {
-    let mut from = start;
+    let mut from = 0;
     while let Some((f, scalar)) = recorded.next_entry(row, from, inactive) {
         recorded.record_sum(row, reduced[f], scalar)?;
         from = f + 1;

@@ -1,5 +1,6 @@
 //! The phases of the solver, one after another (RFC 6330, section 5.4.2).
 ghost use Rattle.std.specs.Prelude.{◌≡◌, ℕ, ◌+◌, ◌<◌, ◌≤◌, ◌*◌, ◌-◌, ◌∷◌, ◌++◌, [], Contains, IsPermutation, drop, length, map, IfOk, OnOk, IfErr, IfSome, MatchBool, MatchOption};
+ghost use Rattle.std.specs.Option.{option_map};
 ghost use Rattle.rq_algebra.specs.Operations.{Reorder, FindsColumn};
 ghost use Rattle.rq_algebra.specs.Systems.{at, HasHomogeneousColumn};
 ghost use Rattle.rq_bytes.specs.declared.error.Error.TheVariants.{OutOfMemory};
@@ -8,12 +9,12 @@ ghost use Rattle.rq_parts.specs.DenseOctetMatrix.{HasOctets};
 ghost use Rattle.rq_standard.specs.OctetField.{octets};
 ghost use Rattle.rq_solver.specs.Cleared.{HasPeeledPivots, LacksPivots, ListsRows, PeelsRows, SolvesInactive};
 ghost use Rattle.rq_solver.specs.OperationCounts.{additions};
-ghost use Rattle.rq_solver.specs.PhaseCounts.{AreCountsOf, total_of};
+ghost use Rattle.rq_solver.specs.PhaseCounts.{AreCountsOf};
 ghost use Rattle.rq_solver.specs.Peeled.{IsOrderOf, IsPeeled};
 ghost use Rattle.rq_solver.specs.RowSteps.{AreRows};
 ghost use Rattle.rq_solver.specs.Phases.{FindsOrder, IsAttempt, SolvesLeft};
 
-use super::counts::{OperationCounts, Phase};
+use super::counts::{OperationCounts, OperationList, Phase};
 use super::first_phase::clear_pivots;
 use super::first_phase::listing::rows_in_order;
 use super::fourth_phase::{finish_pivots, take_back};
@@ -26,13 +27,30 @@ use rq_bytes::error::Error;
 use rq_operations::recorded::RecordedOperations;
 use std::alloc::Global;
 
-/// What was found for rows: the operations that take values of the rows to the column that solves
-/// the rows with them, or none where the rows don't determine a column. And how many operations
-/// were recorded until then.
+/// What was found for rows: the operations that were recorded, and the order of rows in which they
+/// leave the column that solves the rows, or none where the rows don't determine a column.
 #[derive(Drop)]
 pub(super) struct Attempt {
-    pub operations: Option<RecordedOperations>,
-    pub counts: OperationCounts,
+    pub recorded: OperationList,
+    pub order: Option<Vec<usize>>,
+}
+
+impl Attempt {
+    /// How many operations were recorded, whether they find the column or not.
+    pub(super) fn counts(&self) -> OperationCounts
+        ensures { AreCountsOf result self.now.recorded }
+    {
+        self.recorded.counts()
+    }
+
+    /// The operations that take values of the rows to the column that solves the rows with them.
+    pub(super) fn into_operations(self) -> Option<RecordedOperations>
+        ensures { option_map operations_of result ≡ option_map (λ order. self.recorded ++ Reorder order.items ∷ []) self.order }
+    {
+        let Attempt { recorded, order } = self;
+        let order = order?;
+        Some(RecordedOperations::new(recorded.into_steps(), order))
+    }
 }
 
 /// Looks for the operations that solve a system, of whose rows of bits some have pivots.
@@ -42,9 +60,8 @@ pub(super) fn find_operations(
     peeling: &Peeling,
 ) -> Result<Attempt, Error>
     requires { IsPeeled system.width system.ones peeling.now }
-    ensures found { IfOk result (λ attempt. IsAttempt system attempt.operations) }
-    ensures counted { IfOk result (λ attempt. IfSome attempt.operations (λ ops. AreCountsOf attempt.counts (operations_of ops))) }
-    ensures few { IfOk result (λ attempt. total_of attempt.counts.additions ≤ 2 * system.width * length system.ones) }
+    ensures found { IfOk result (λ attempt. IsAttempt system attempt.recorded attempt.order) }
+    ensures few { IfOk result (λ attempt. additions attempt.recorded ≤ 2 * system.width * length system.ones) }
     ensures err { IfErr result (λ e. e ≡ OutOfMemory) }
 {
     let mut listed = rows_in_order(
@@ -57,19 +74,10 @@ pub(super) fn find_operations(
     let most = (system.width - system.hdpc.height()) / 2;
     let (ones, mut recorded) = clear_pivots(alloc, system, peeling, listed.as_slice())?;
     let rows = listed.as_mut_slice();
-    let found = rows_of_columns(alloc, &ones, peeling, rows, most, &mut recorded)?;
-    let operations = recorded.into_operations();
-    let counts = operations.counts();
-    let Some(order) = found else {
-        return Ok(Attempt {
-            operations: None,
-            counts,
-        });
-    };
-    let steps = operations.into_steps();
+    let order = rows_of_columns(alloc, &ones, peeling, rows, most, &mut recorded)?;
     Ok(Attempt {
-        operations: Some(RecordedOperations::new(steps, order)),
-        counts,
+        recorded: recorded.into_operations(),
+        order,
     })
 }
 

@@ -5,13 +5,12 @@ ghost use Rattle.rq_algebra.specs.Steps.{AddsRow, ScalesRow};
 ghost use Rattle.rq_standard.specs.OctetField.{octets};
 ghost use Rattle.rq_bytes.specs.declared.error.Error.TheVariants.{OutOfMemory};
 ghost use Rattle.rq_parts.specs.DenseOctetMatrix.{entry_of, HasOctets};
-ghost use Rattle.rq_solver.specs.Cleared.{ReducesBack};
-ghost use Rattle.rq_solver.specs.OperationCounts.{additions, triangle};
+ghost use Rattle.rq_solver.specs.Cleared.{GivesMultiples, ReducesBack, TakesReduced, one_of};
+ghost use Rattle.rq_solver.specs.OperationCounts.{additions, multiples, triangle};
 ghost use Rattle.rq_solver.specs.Recorded.{ChangesRows};
 ghost use Rattle.rq_solver.specs.RowSteps.{AreRows, ClearsBelow, IsEchelon, IsStuck};
 
 use super::elimination::find_pivot;
-use super::fourth_phase::take_reduced_rows;
 use super::recorded::RecordedRows;
 use rq_bytes::error::Error;
 use rq_bytes::octet::Octet;
@@ -49,6 +48,9 @@ pub(super) fn eliminate(
 /// Adds to each row in echelon form, the last first, multiples of those behind it, so that it has 0
 /// in their columns. Entries are bits or octets as they were, so that most of what is recorded are
 /// plain additions. What the rows have is stored as it was.
+///
+/// A row takes the rows behind it one after another where it has 1, and then is given, as a multiple,
+/// to one row after another that has any other octet: replay does each such run in one pass.
 pub(super) fn reduce_back(
     recorded: &mut RecordedRows,
     rows: &[usize],
@@ -64,7 +66,55 @@ pub(super) fn reduce_back(
 {
     for done in 0..count {
         let place = count - 1 - done;
-        take_reduced_rows(rows[place], rows, place + 1, count, recorded)?;
+        take_ones(recorded, rows, place, count)?;
+        give_multiples(recorded, rows, place)?;
+    }
+    Ok(())
+}
+
+// Records that the row at a place takes those behind it in whose columns it has 1.
+fn take_ones(
+    recorded: &mut RecordedRows,
+    rows: &[usize],
+    place: usize,
+    count: usize,
+) -> Result<(), Error>
+    requires rows { AreRows rows.now recorded.old.table }
+    requires place { place < count }
+    requires many { count ≤ length rows.now }
+    requires columns { count ≤ recorded.old.table.width }
+    requires octets { HasOctets recorded.old.table }
+    ensures taken { OnOk result (TakesReduced rows.now (at rows.now place) (place + 1) count count (λ f. one_of (entry_of recorded.old.table (at rows.now place) f)) recorded.old recorded.new) }
+    ensures few { OnOk result (additions recorded.new.operations + multiples (entry_of recorded.old.table (at rows.now place)) (place + 1) (count - (place + 1)) ≤ additions recorded.old.operations + (count - (place + 1))) }
+    ensures err { IfErr result (λ e. e ≡ OutOfMemory) }
+{
+    let row = rows[place];
+    let mut from = place + 1;
+    while let Some((f, scalar)) = recorded.next_entry(row, from, count) {
+        if scalar.byte() == 1 {
+            recorded.record_sum(row, rows[f], scalar)?;
+        }
+        from = f + 1;
+    }
+    Ok(())
+}
+
+// Records that multiples of the row at a place are added to those before it that have another octet
+// than 0 and 1 in its column.
+fn give_multiples(recorded: &mut RecordedRows, rows: &[usize], place: usize) -> Result<(), Error>
+    requires rows { AreRows rows.now recorded.old.table }
+    requires place { place < length rows.now }
+    requires column { place < recorded.old.table.width }
+    requires octets { HasOctets recorded.old.table }
+    ensures given { OnOk result (GivesMultiples rows.now place place recorded.old recorded.new) }
+    ensures few { OnOk result (additions recorded.new.operations ≤ additions recorded.old.operations + multiples (λ i. entry_of recorded.old.table (at rows.now i) place) 0 place) }
+    ensures err { IfErr result (λ e. e ≡ OutOfMemory) }
+{
+    for i in 0..place {
+        let scalar = recorded.get(rows[i], place);
+        if scalar.byte() > 1 {
+            recorded.record_sum(rows[i], rows[place], scalar)?;
+        }
     }
     Ok(())
 }

@@ -1,10 +1,9 @@
 //! The equations of a block as the phases take them.
-ghost use Rattle.std.specs.Prelude.{◌≡◌, ℕ, ◌+◌, ◌*◌, ◌^◌, ◌<◌, ◌≤◌, length, IfOk, IfErr, IfSome};
+ghost use Rattle.std.specs.Prelude.{◌≡◌, ℕ, ◌+◌, ◌*◌, ◌^◌, ◌<◌, ◌≤◌, length, IfOk, IfErr};
 ghost use Rattle.rq_bytes.specs.declared.error.Error.TheVariants.{OutOfMemory};
-ghost use Rattle.rq_operations.specs.RecordedOperations.{operations_of};
 ghost use Rattle.rq_parts.specs.DenseOctetMatrix.{HasOctets};
 ghost use Rattle.rq_solver.specs.Cleared.{AreOctetRows, AreRowsOfBits};
-ghost use Rattle.rq_solver.specs.PhaseCounts.{AreCountsOf, total_of};
+ghost use Rattle.rq_solver.specs.OperationCounts.{additions};
 
 use super::ones::RowOnes;
 use super::peeling::peel;
@@ -66,9 +65,8 @@ impl System {
 
     /// Looks for the operations that solve the system.
     pub(super) fn solve(self, alloc: Global) -> Result<Attempt, Error>
-        ensures found { IfOk result (λ attempt. IsAttempt self attempt.operations) }
-        ensures counted { IfOk result (λ attempt. IfSome attempt.operations (λ ops. AreCountsOf attempt.counts (operations_of ops))) }
-        ensures few { IfOk result (λ attempt. total_of attempt.counts.additions ≤ 2 * self.width * length self.ones) }
+        ensures found { IfOk result (λ attempt. IsAttempt self attempt.recorded attempt.order) }
+        ensures few { IfOk result (λ attempt. additions attempt.recorded ≤ 2 * self.width * length self.ones) }
         ensures memory { IfErr result (λ e. e ≡ OutOfMemory) }
     {
         let peeling = peel(alloc, &self)?;

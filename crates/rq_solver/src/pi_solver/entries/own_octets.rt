@@ -12,7 +12,7 @@ use rq_bytes::octet::Octet;
 use std::alloc::Global;
 use std::marker::Model;
 
-// For how many rows room is made with the first: a block has no more HDPC rows.
+// For how many rows room is made with the first: a row of RFC 6330's table has no more HDPC rows.
 const FIRST_ROWS: usize = 16;
 
 /// The octets that rows have of their own, none where a row is bits. They stand in one buffer, in the

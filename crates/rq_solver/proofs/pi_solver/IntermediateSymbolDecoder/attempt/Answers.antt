@@ -11,4 +11,4 @@ returns-clause-found g c =
     let first = c.args.self.now.first_hdpc in
     let system = c.in_ok-system.system in
     let is : IsSystemOf bits hdpc first system = rw c.in_ok-hdpc.ensures.cases at c.in_ok-system.ensures.system in
-    IfOk-weaker c.solve.result _ _ (λ attempt found. attempt_of_bits bits hdpc first system is attempt.operations found) c.solve.ensures.found
+    IfOk-weaker c.solve.result _ _ (λ attempt found. attempt_of_bits bits hdpc first system is attempt.recorded attempt.order found) c.solve.ensures.found

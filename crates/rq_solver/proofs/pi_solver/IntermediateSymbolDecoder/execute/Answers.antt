@@ -1,24 +1,24 @@
 -- What the check leaves to show of `pi_solver::IntermediateSymbolDecoder::execute`.
-use Rattle.std.proofs.Common.{None, length, sym, ◌∙◌, subst}
+use Rattle.std.proofs.Common.{None, length, sym, ◌∙◌, subst, arith}
 use Rattle.rq_algebra.specs.Operations.{AreAllowed}
 use Rattle.rq_standard.specs.ConstraintMatrix.{with_octet_rows}
 use Rattle.rq_operations.specs.RecordedOperations.{operations_of}
 use Rattle.rq_parts.specs.DenseOctetMatrix.{entry_of}
-use Rattle.rq_solver.proofs.SolutionLaws.{is_solution, if_some}
+use Rattle.rq_solver.proofs.SolutionLaws.{is_solution, if_some, recorded_counted, recorded_found}
 use Rattle.rq_solver.proofs.pi_solver.IntermediateSymbolDecoder.execute.Goals as goal
 
 pub replay-requires : goal.replay-requires
 replay-requires g c =
     let solver = c.args.self.now in
-    let operations = operations_of c.in-Some-operations.operations in
-    let finds = rw c.in-Some-operations.is at c.in_ok-operations.ensures.found in
+    let operations = operations_of c.in-Some-into_operations.operations in
+    let finds = rw c.in-Some-into_operations.is at (recorded_found c.in_ok-attempt.attempt _ _ _ c.into_operations.result c.in_ok-attempt.ensures.found c.into_operations.ensures) in
     let handed = c.in-Some.symbols in
     let some = sym c.in-Some.ensures.value in
     subst (λ o. AreAllowed (length handed.values) o operations) (sym (solver.unordered handed some)) (subst (λ n. AreAllowed n None operations) (sym (solver.counted handed some)) finds.allowed)
 
-pub returns-in_default-operations-clause-solved : goal.returns-in_default-operations-clause-solved
-returns-in_default-operations-clause-solved g c =
-    if_some c.args.self.now.symbols c.in-Some.symbols _ (sym c.in-Some.ensures.value) (rw c.in_default-operations.is at c.in_ok-operations.ensures.found)
+pub returns-in_default-into_operations-clause-solved : goal.returns-in_default-into_operations-clause-solved
+returns-in_default-into_operations-clause-solved g c =
+    if_some c.args.self.now.symbols c.in-Some.symbols _ (sym c.in-Some.ensures.value) (rw c.in_default-into_operations.is at (recorded_found c.in_ok-attempt.attempt _ _ _ c.into_operations.result c.in_ok-attempt.ensures.found c.into_operations.ensures))
 
 pub returns-clause-solved : goal.returns-clause-solved
 returns-clause-solved g c =
@@ -26,8 +26,16 @@ returns-clause-solved g c =
     let m = g.T.BinaryMatrix.content solver.matrix in
     let rows = with_octet_rows solver.first_hdpc (length solver.hdpc.rows) m.bit (entry_of solver.hdpc) in
     let handed = c.in-Some.symbols in
-    let operations = operations_of c.in-Some-operations.operations in
-    let finds = rw c.in-Some-operations.is at c.in_ok-operations.ensures.found in
+    let operations = operations_of c.in-Some-into_operations.operations in
+    let finds = rw c.in-Some-into_operations.is at (recorded_found c.in_ok-attempt.attempt _ _ _ c.into_operations.result c.in_ok-attempt.ensures.found c.into_operations.ensures) in
     if_some solver.symbols handed _ (sym c.in-Some.ensures.value)
     (rw c.in_ok-into_operations.ensures.operations
     (is_solution m.height m.width rows operations finds handed _ (solver.unordered handed (sym c.in-Some.ensures.value)) (c.symbols-2.view_is ∙ c.in_ok-replay.ensures.ok)))
+
+pub returns-clause-counted : goal.returns-clause-counted
+returns-clause-counted g c =
+    let are = recorded_counted c.in_ok-attempt.attempt c.counts-self.result c.into_operations.result c.in-Some-into_operations.operations c.counts-self.ensures c.in-Some-into_operations.is c.into_operations.ensures in
+    rw c.in_ok-into_operations.ensures.operations (record {
+      additions_are = omega (arith, are.additions_are);
+      multiplications_are = omega (arith, are.multiplications_are);
+    })

@@ -1,19 +1,16 @@
 -- What the check leaves to show of `pi_solver::phases::find_operations`.
-use Rattle.std.proofs.Common.{◌≡◌, ℕ, ◌+◌, ◌-◌, ◌*◌, ◌/◌, ◌≤◌, List, [], ◌∷◌, ◌++◌, length, drop, sym, ap, ◌∙◌, subst, arith}
+use Rattle.std.proofs.Common.{◌≡◌, ℕ, ◌+◌, ◌-◌, ◌*◌, ◌/◌, ◌≤◌, List, length, drop, sym, ap, ◌∙◌, subst, arith}
 use Rattle.std.proofs.Math.Nat.{mul-le-mul_left}
 use Rattle.rq_algebra.specs.Systems.{at}
 use Rattle.rq_solver.specs.OperationCounts.{additions}
 use Rattle.rq_solver.specs.OctetBatch.{batch_bound}
-use Rattle.rq_solver.proofs.CountLaws.{few_in_all, few_places, few_together, order_counted}
+use Rattle.rq_solver.proofs.CountLaws.{few_in_all, few_places, few_together}
 use Rattle.rq_solver.proofs.PivotsCleared.{pivot_of_bits}
-use Rattle.rq_algebra.specs.Operations.{Operation, Reorder, FindsColumn}
-use Rattle.rq_standard.specs.OctetField.{octets}
-use Rattle.rq_operations.specs.RecordedOperations.{operations_of}
 use Rattle.rq_solver.specs.Cleared.{HasPeeledPivots}
 use Rattle.rq_solver.specs.System.{rows_of}
 use Rattle.rq_solver.proofs.PeelingLaws.{peels_rows}
 use Rattle.rq_solver.proofs.pi_solver.phases.find_operations.Goals as goal
-use Rattle.rq_solver.proofs.pi_solver.phases.find_operations.Goals.{After-into_operations-operations}
+use Rattle.rq_solver.proofs.pi_solver.phases.find_operations.Goals.{After-drop-listed-2}
 
 -- what was recorded in all phases
 few_of : (M width h p most recorded phases : ℕ) → p ≤ width → p + h ≤ M → 2 * most + h ≤ width → recorded ≤ M * p + batch_bound h width p → phases ≤ recorded + ((width - p) * (M - 1) + 2 * (p * most)) → phases ≤ 2 * width * M
@@ -22,7 +19,7 @@ few_of M width h p most recorded phases fits rows columns first second =
     let all : M * p + batch_bound h width p + (width - p) * (M - 1) + p * (2 * most) ≤ 2 * width * M = rw back at (few_in_all p (width - p) h M (2 * most) rows (rw back columns)) in
     omega (arith, all, first, second)
 
-module _ (c : After-into_operations-operations) where
+module _ (c : After-drop-listed-2) where
   peeled : HasPeeledPivots (length c.args.system.ones) (length c.args.peeling.now.places) (rows_of c.args.system) c.args.peeling.now (drop (length c.args.peeling.now.rows) c.as_mut_slice-rows.result.now) c.in_ok-ones.recorded
   peeled =
       let system = c.args.system in
@@ -30,7 +27,7 @@ module _ (c : After-into_operations-operations) where
       let listed = c.as_slice.ensures.value ∙ sym c.as_mut_slice-rows.ensures.value in
       rw c.requires.columns.place_count (subst (λ (l : List ℕ). HasPeeledPivots (length system.ones) system.width (rows_of system) pivots (drop (length pivots.rows) l) c.in_ok-ones.recorded) listed c.in_ok-ones.ensures.cleared)
 
-  few : additions c.into_operations-operations.result ≤ 2 * c.args.system.width * length c.args.system.ones
+  few : additions c.into_operations.result ≤ 2 * c.args.system.width * length c.args.system.ones
   few =
       let system = c.args.system in
       let height = length system.ones in
@@ -47,35 +44,18 @@ module _ (c : After-into_operations-operations) where
       few_together (length rows) (length hdpc.rows) system.first_hdpc height (at rows) pivots.in_rows system.octet_rows.within (λ i p l n. pivot_of_bits system.ones system.first_hdpc hdpc width system.bits system.octet_rows rows c.args.peeling.now.order c.args.peeling.now.places pivots p i n l) in
       let most : (width - length rows) * (length listed - 1) ≤ (width - length rows) * (height - 1) = mul-le-mul_left (width - length rows) (omega arith) in
       let first : additions c.in_ok-ones.recorded.operations ≤ height * length rows + batch_bound (length hdpc.rows) width (length rows) = c.in_ok-ones.ensures.few in
-      let second : additions c.rows_of_columns.new.recorded.operations ≤ additions c.in_ok-ones.recorded.operations + (width - length rows) * (length listed - 1) + 2 * (length rows * most_ones) = rw pivots.columns.place_count at c.in_ok-found.ensures.few in
-      let same : additions c.into_operations-operations.result ≡ additions c.rows_of_columns.new.recorded.operations = ap additions c.into_operations-operations.ensures in
-      few_of height width (length hdpc.rows) (length rows) most_ones (additions c.in_ok-ones.recorded.operations) (additions c.into_operations-operations.result) pivots.few together room first (omega (arith, most, second, same))
+      let second : additions c.rows_of_columns.new.recorded.operations ≤ additions c.in_ok-ones.recorded.operations + (width - length rows) * (length listed - 1) + 2 * (length rows * most_ones) = rw pivots.columns.place_count at c.in_ok-order.ensures.few in
+      let same : additions c.into_operations.result ≡ additions c.rows_of_columns.new.recorded.operations = ap additions c.into_operations.ensures in
+      few_of height width (length hdpc.rows) (length rows) most_ones (additions c.in_ok-ones.recorded.operations) (additions c.into_operations.result) pivots.few together room first (omega (arith, most, second, same))
 
 pub rows_of_columns-requires-clause-peeled : goal.rows_of_columns-requires-clause-peeled
 rows_of_columns-requires-clause-peeled c =
     rw c.in_ok-ones.ensures.ones (peels_rows c.args.system.width c.args.system.ones c.args.peeling.now c.args.system.bits c.requires)
 
-pub returns-in_default-clause-found : goal.returns-in_default-clause-found
-returns-in_default-clause-found c =
-    let found = rw (c.in_ok-ones.ensures.cleared.height_is, c.in_default.is) at c.in_ok-found.ensures.found in
-    rw c.requires.columns.place_count at (found _ (peeled (goal.at.returns-in_default-clause-found c).After-into_operations-operations))
-
 pub returns-clause-found : goal.returns-clause-found
 returns-clause-found c =
-    let system = c.args.system in
-    let steps : List Operation = c.rows_of_columns.new.recorded.operations in
-    let order = Reorder c.in-Some.order.items ∷ [] in
-    let found = rw (c.in_ok-ones.ensures.cleared.height_is, c.in-Some.is) at c.in_ok-found.ensures.found in
-    let finds : FindsColumn octets (length system.ones) system.width (rows_of system) (steps ++ order) = rw c.requires.columns.place_count at (found _ (peeled (goal.at.returns-clause-found c).After-into_operations-operations)) in
-    let recorded : operations_of c.new.result ≡ steps ++ order = c.new.ensures ∙ ap (λ (l : List Operation). l ++ order) (c.into_steps-steps.ensures ∙ c.into_operations-operations.ensures) in
-    rw recorded finds
-
-pub returns-clause-counted : goal.returns-clause-counted
-returns-clause-counted c =
-    rw (c.new.ensures, c.into_steps-steps.ensures) (order_counted c.counts-counts.result c.into_operations-operations.result c.in-Some.order.items c.counts-counts.ensures)
-
-pub returns-in_default-clause-few : goal.returns-in_default-clause-few
-returns-in_default-clause-few c = omega (arith, c.counts-counts.ensures.additions_are, few (goal.at.returns-in_default-clause-few c).After-into_operations-operations)
+    let found = rw c.in_ok-ones.ensures.cleared.height_is at c.in_ok-order.ensures.found in
+    rw (c.requires.columns.place_count, ← c.into_operations.ensures) at (found _ (peeled c))
 
 pub returns-clause-few : goal.returns-clause-few
-returns-clause-few c = omega (arith, c.counts-counts.ensures.additions_are, few (goal.at.returns-clause-few c).After-into_operations-operations)
+returns-clause-few c = few c
