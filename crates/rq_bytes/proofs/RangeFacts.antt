@@ -127,3 +127,14 @@ module _ {X : Type 0} {xs : List X} {low high n : ℕ} (a : Around xs low high n
 -- as many as are asked for, where they are there
 pub length-range : {X : Type 0} (xs : List X) (i n : ℕ) → i + n ≤ length xs → length (range_of xs i n) ≡ n
 length-range xs i n within = length-take-le n (drop i xs) (omega (arith, length-drop i xs))
+
+-- others in the place of some keep the list's length
+pub length-with_range : {X : Type 0} (xs : List X) (i : ℕ) (ys : List X) → i + length ys ≤ length xs → length (with_range xs i ys) ≡ length xs
+length-with_range xs i ys within =
+    omega (
+      arith,
+      length-append (take i xs) (ys ++ drop (i + length ys) xs),
+      length-append ys (drop (i + length ys) xs),
+      length-take-le i xs (omega arith),
+      length-drop (i + length ys) xs,
+    )

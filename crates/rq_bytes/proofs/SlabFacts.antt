@@ -1,19 +1,26 @@
 -- A slab's buffer and the symbols that callers see.
-use Rattle.std.proofs.Common.{length-set, ◌&&◌, ◌≡◌, ◌⊎◌, inl, inr, ⊎_elim, Global, ℕ, ◌+◌, ◌-◌, ◌*◌, ◌<◌, ◌≤◌, List, [], ◌++◌, Vec, length, take, drop, replicate, append_assoc, set, get_or, All, Option, None, Some, refl, sym, ap, ◌∙◌, arith, subst}
+use Rattle.std.proofs.Common.{length-set, ◌&&◌, ◌≡◌, ◌⊎◌, inl, inr, ⊎_elim, Global, ℕ, ◌+◌, ◌-◌, ◌*◌, ◌<◌, ◌≤◌, List, [], ◌∷◌, ◌++◌, Vec, length, take, drop, replicate, append_assoc, set, get_or, All, Option, None, Some, refl, sym, ap, ◌∙◌, arith, subst, add-one}
 use Rattle.std.specs.Prelude.{◌==◌}
 use Rattle.std.proofs.lemmas.List.{length-append, length-replicate, length-take-le, length-drop, length-map, get_or-map, get_or_read, take_all}
+use Rattle.std.proofs.lemmas.List.Edits.{swap_is}
+use Rattle.std.specs.List.{swap}
 use Rattle.std.proofs.Math.Nat.{mul-le-mul_right}
 use Rattle.rq_algebra.specs.Operations.{Operation, AddAssign, MulAssign, Fma, Reorder, step, values_in, meant_at, order_after, IsPlace, IsOrder}
 use Rattle.rq_algebra.specs.Symbols.{symbols, AreSymbols}
 use Rattle.std.proofs.lemmas.List.Elements.{All-take, All-drop}
 use Rattle.rq_standard.specs.OctetField.{octets}
 use Rattle.rq_bytes.specs.Ranges.{range_of, with_range, cut, joined_pieces}
+use Rattle.rq_bytes.proofs.RangeFacts.{length-range, length-with_range}
 use Rattle.rq_bytes.specs.SymbolSlab.{Slab, among_zeros, after, symbols_in, same_slab, HasPlace}
 use Rattle.rq_bytes.specs.contracts.symbol_slab.SymbolSlab.{the_view, the_invariant}
 use Rattle.rq_bytes.specs.declared.symbol_slab.SymbolSlab.TheInside.{Inside}
 use Rattle.std.specs.Option.{option_map, option_eq, ForSome}
 use Rattle.std.specs.Cmp.Lexicographic.{pointwise}
-use Rattle.rq_bytes.proofs.Cuts.{cut-join, cut-replicate, refilled, cut-refilled, joined-cut, length-cut, get_or-cut, cut-with_range, cut-with_ranges, piece_within, pieces_apart}
+use Rattle.rq_bytes.proofs.Cuts.{cut-join, cut-replicate, refilled, cut-append, cut-refilled, joined-cut, length-cut, get_or-cut, cut-with_range, cut-with_ranges, piece_within, pieces_apart}
+
+-- two ranges exchanged
+abbrev pub ranges_exchanged : List ℕ → ℕ → ℕ → ℕ → List ℕ
+ranges_exchanged xs i j len = with_range (with_range xs i (range_of xs j len)) j (range_of xs i len)
 
 -- the buffer `bytes` of `count` symbols of `size` octets, and what callers see of it
 pub record Holds (bytes : List ℕ) (count size : ℕ) (order : Option (List ℕ)) (slab : Slab) : Type 0 where
@@ -122,6 +129,38 @@ module _ {bytes : List ℕ} {count size : ℕ} {order : Option (List ℕ)} {slab
       ∙ ap (λ (v : Slab). with_range v.values start (cut k size source)) is.view
       ∙ ap (λ s. with_range slab.values start (cut k s source)) size_is)
       ∙ ap (λ (v : Slab). record v { values = with_range slab.values start (cut k slab.symbol_size source) }) is.view
+
+  -- what callers see after a symbol of zeros behind the others
+  pub zeros_behind : ◌≡◌ {A = Slab} (record { values = cut (count + 1) size (bytes ++ replicate size 0); symbol_size = size; order = order })
+      (record slab { values = slab.values ++ replicate slab.symbol_size 0 ∷ [] })
+  zeros_behind =
+      ap (λ (v : List (List ℕ)). record { values = v; symbol_size = size; order = order }) (
+      ap (λ n. cut n size (bytes ++ replicate size 0)) (add-one count)
+      ∙ cut-append count size bytes (replicate size 0) is.long (length-replicate {A = ℕ} size 0))
+      ∙ ap (λ (v : Slab). record v { values = v.values ++ replicate v.symbol_size 0 ∷ [] }) is.view
+
+  -- what callers see after an exchange of two symbols' octets
+  pub exchanged : (p q : ℕ) (items : List ℕ) → p < length slab.values → q < length slab.values → items ≡ ranges_exchanged bytes (p * size) (q * size) size
+      → ◌≡◌ {A = Slab} (record { values = cut count size items; symbol_size = size; order = order }) (record slab { values = swap slab.values p q })
+  exchanged p q items first second is_new =
+      let count_is_there = count_is in
+      let one = range_of bytes (p * size) size in
+      let other = range_of bytes (q * size) size in
+      let values = cut count size bytes in
+      let within_p : p * size + size ≤ length bytes = omega (arith, piece_within p count size (omega arith), is.long) in
+      let within_q : q * size + size ≤ length bytes = omega (arith, piece_within q count size (omega arith), is.long) in
+      let one_long : length one ≡ size = length-range bytes (p * size) size within_p in
+      let other_long : length other ≡ size = length-range bytes (q * size) size within_q in
+      let written = with_range bytes (p * size) other in
+      let written_long : length written ≡ count * size = length-with_range bytes (p * size) other (omega arith) ∙ is.long in
+      ap (λ (v : List (List ℕ)). record { values = v; symbol_size = size; order = order }) (
+      ap (cut count size) is_new
+      ∙ cut-with_range count size q written one (omega arith) one_long written_long
+      ∙ ap (λ v. set v q one) (cut-with_range count size p bytes other (omega arith) other_long is.long)
+      ∙ ap (λ x. set (set values p x) q one) (sym (get_or-cut count size q bytes (omega arith) is.long))
+      ∙ ap (λ x. set (set values p (get_or values q [])) q x) (sym (get_or-cut count size p bytes (omega arith) is.long))
+      ∙ swap_is values p q [] (omega (arith, length-cut count size bytes)) (omega (arith, length-cut count size bytes)))
+      ∙ ap (λ (v : Slab). record v { values = swap v.values p q }) is.view
 
   -- what callers see after a write of the octets of one symbol
   pub one_written : (p a : ℕ) (old new items ws : List ℕ) → p < length slab.values → a ≡ p * slab.symbol_size → length ws ≡ size

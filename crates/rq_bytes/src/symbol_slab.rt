@@ -1,5 +1,6 @@
 //! Symbols of one size in one buffer.
-ghost use Rattle.std.specs.Prelude.{◌≡◌, ◌≢◌, ◌↔◌, ◌⊎◌, ◌+◌, ◌*◌, ◌/◌, ◌^◌, ◌<◌, ◌≤◌, [], ◌∷◌, length, map, replicate, true, All, Ok, None, IfOk};
+ghost use Rattle.std.specs.Prelude.{◌≡◌, ◌≢◌, ◌↔◌, ◌⊎◌, ◌+◌, ◌*◌, ◌/◌, ◌^◌, ◌<◌, ◌≤◌, [], ◌∷◌, ◌++◌, length, map, replicate, true, All, Ok, None, IfOk, OnOk, IfErr, OnErr};
+ghost use Rattle.std.specs.List.{swap};
 ghost use Rattle.std.proofs.Common.{rules};
 ghost use Rattle.std.specs.Cmp.Rules.{comparing};
 ghost use Rattle.rq_algebra.specs.Operations.{AddAssign, MulAssign, Fma, Reorder, IsOrder, meant_at};
@@ -7,6 +8,7 @@ ghost use Rattle.rq_algebra.specs.Symbols.{AreSymbols};
 ghost use Rattle.rq_standard.specs.OctetField.{octets};
 ghost use Rattle.std.specs.Borrow.{sem};
 ghost use Rattle.rq_bytes.specs.Ranges.{range_of, cut, whole_symbols, with_range};
+ghost use Rattle.rq_bytes.specs.declared.error.Error.TheVariants.{OutOfMemory};
 ghost use Rattle.rq_bytes.specs.Refusals.{IsAnswer};
 ghost use Rattle.rq_bytes.specs.SymbolSlab.{slab_of, among_zeros, after, after_all, HasPlace, Allows, symbol_in, with_symbols_added, symbols_in, same_slab, IsZeroUnread, IsZeroUnmarked};
 
@@ -19,7 +21,7 @@ use crate::octet::Octet;
 use crate::octets;
 use crate::range_sums::{add_ranges, add_ranges_to};
 use crate::symbol::{Symbol, zeros};
-use crate::util::get_range_pair;
+use crate::util::{get_range_pair, swap_ranges};
 pub use multiples::Multiple;
 use std::alloc::{AllocError, Global};
 use std::marker::Model;
@@ -144,8 +146,10 @@ impl SymbolSlab {
 
     /// The octets of each symbol.
     pub fn symbol_size(&self) -> usize
-        ensures { result ≡ self.now.symbol_size }
+        ensures size { result ≡ self.now.symbol_size }
+        ensures symbols { AreSymbols octets self.now.symbol_size (length self.now.values) self.now.values }
     {
+        octets::are_octets(self.data.as_slice());
         self.symbol_size
     }
 
@@ -240,6 +244,46 @@ impl SymbolSlab {
     {
         let (dest, src) = self.get_pair_mut(dest, src);
         double_and_add(dest, src);
+    }
+
+    /// Exchanges the octets of the symbols that two places mean. Not in the Rust crate.
+    pub fn swap(&mut self, i: usize, j: usize)
+        requires first { HasPlace self.old i }
+        requires second { HasPlace self.old j }
+        ensures { self.new ≡ record self.old { values = swap self.old.values (meant_at self.old.order i) (meant_at self.old.order j) } }
+    {
+        let size = self.symbol_size;
+        let first = self.meant(i);
+        let second = self.meant(j);
+        if first != second {
+            let bytes = self.data.as_mut_slice();
+            swap_ranges(bytes, first * size, second * size, size);
+        }
+    }
+
+    /// Makes room for so many further symbols, so that `push_zeros` asks for no memory before they are
+    /// there. The one error is `OutOfMemory`. Not in the Rust crate.
+    pub fn reserve(&mut self, count: usize) -> Result<(), Error>
+        requires { count * self.old.symbol_size < 2 ^ 64 }
+        ensures same { self.new ≡ self.old }
+        ensures err { IfErr result (λ e. e ≡ OutOfMemory) }
+    {
+        self.data.reserve(count * self.symbol_size)?;
+        Ok(())
+    }
+
+    /// Adds a symbol of zeros behind the others. An order that is set stays as it is, and so doesn't
+    /// read the new symbol. The one error is `OutOfMemory`, and then the slab is as it was. Not in the
+    /// Rust crate.
+    pub fn push_zeros(&mut self) -> Result<(), Error>
+        requires { length self.old.values + 1 < 2 ^ 64 }
+        ensures ok { OnOk result (self.new ≡ record self.old { values = self.old.values ++ replicate self.old.symbol_size 0 ∷ [] }) }
+        ensures refused { OnErr result (self.new ≡ self.old) }
+        ensures err { IfErr result (λ e. e ≡ OutOfMemory) }
+    {
+        self.data.resize(self.data.len() + self.symbol_size, 0)?;
+        self.count += 1;
+        Ok(())
     }
 
     /// Sets the order in which places are read, in place of the one before. No symbol moves.

@@ -45,6 +45,17 @@ pub fn get_both_ranges<T>(slice: &mut [T], i: usize, j: usize, len: usize) -> (&
     }
 }
 
+/// Exchanges the `len` elements from each of two places on. The two ranges have no place in common.
+pub fn swap_ranges<T>(slice: &mut [T], i: usize, j: usize, len: usize)
+    requires apart { (i + len ≤ j) ⊎ (j + len ≤ i) }
+    requires first { i + len ≤ length slice.old }
+    requires second { j + len ≤ length slice.old }
+    ensures { slice.new ≡ with_range (with_range slice.old i (range_of slice.old j len)) j (range_of slice.old i len) }
+{
+    let (first, second) = get_both_ranges(slice, i, j, len);
+    first.swap_with_slice(second);
+}
+
 /// Lends the `len` elements from `dest` on for writing, and those from `src` on for reading. The two
 /// ranges have no place in common.
 pub(crate) fn get_range_pair<T, B: Allocator>(

@@ -12,7 +12,7 @@ pub loop-count-init : goal.loop-count-init
 loop-count-init c =
     let slab = c.args.intermediate.now in
     let first = c.next_terms-count in
-    let zeros : c.in_ok-symbol.symbol.items ≡ replicate {A = ℕ} slab.symbol_size 0 = c.in_ok-symbol.ensures.items_if_clones_equal (λ y same. same) ∙ ap (λ n. replicate {A = ℕ} n 0) c.symbol_size.ensures in
+    let zeros : c.in_ok-symbol.symbol.items ≡ replicate {A = ℕ} slab.symbol_size 0 = c.in_ok-symbol.ensures.items_if_clones_equal (λ y same. same) ∙ ap (λ n. replicate {A = ℕ} n 0) c.symbol_size.ensures.size in
     record {
       room = first.ensures.room;
       all = first.ensures.all;

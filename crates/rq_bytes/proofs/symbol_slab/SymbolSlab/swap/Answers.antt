@@ -1,0 +1,66 @@
+-- What the check leaves to show of `symbol_slab::SymbolSlab::swap`.
+use Rattle.std.proofs.Common.{◌*◌, [], List, ℕ, get_or, set, sym, ap, ◌∙◌, arith}
+use Rattle.std.specs.List.{swap}
+use Rattle.std.proofs.lemmas.List.{with_items_is, set-get_or}
+use Rattle.std.proofs.lemmas.List.Edits.{swap_is}
+use Rattle.rq_algebra.specs.Operations.{meant_at}
+use Rattle.rq_bytes.proofs.SlabFacts.{holds, ranges_exchanged, size_is, within, within_slice, apart, exchanged}
+use Rattle.rq_bytes.proofs.symbol_slab.SymbolSlab.swap.Goals as goal
+
+pub overflow_mul-first : goal.overflow_mul-first
+overflow_mul-first c =
+    let is = holds c.self.inside c.args.self.now c.self.view_is c.self.invariant in
+    let p = c.meant-first.result in
+    record { fits = omega (arith, within is p c.meant-first.ensures.below, ap (λ s. p * s) (size_is is), c.self.inside.data.small, c.self.inside.data.ok) }
+
+pub overflow_mul-second : goal.overflow_mul-second
+overflow_mul-second c =
+    let is = holds c.self.inside c.args.self.now c.self.view_is c.self.invariant in
+    let q = c.meant-second.result in
+    record { fits = omega (arith, within is q c.meant-second.ensures.below, ap (λ s. q * s) (size_is is), c.self.inside.data.small, c.self.inside.data.ok) }
+
+pub swap_ranges-requires-clause-apart : goal.swap_ranges-requires-clause-apart
+swap_ranges-requires-clause-apart c =
+    let is = holds c.self.inside c.args.self.now c.self.view_is c.self.invariant in
+    let p = c.meant-first.result in
+    let q = c.meant-second.result in
+    apart is p q _ _ (λ e. c.if-first-second.true (sym e)) (ap (λ s. p * s) (size_is is)) (ap (λ s. q * s) (size_is is))
+
+pub swap_ranges-requires-clause-first : goal.swap_ranges-requires-clause-first
+swap_ranges-requires-clause-first c =
+    let is = holds c.self.inside c.args.self.now c.self.view_is c.self.invariant in
+    within_slice is c.meant-first.result _ _ c.meant-first.ensures.below (ap (λ s. c.meant-first.result * s) (size_is is)) c.as_mut_slice-bytes.ensures.value
+
+pub swap_ranges-requires-clause-second : goal.swap_ranges-requires-clause-second
+swap_ranges-requires-clause-second c =
+    let is = holds c.self.inside c.args.self.now c.self.view_is c.self.invariant in
+    within_slice is c.meant-second.result _ _ c.meant-second.ensures.below (ap (λ s. c.meant-second.result * s) (size_is is)) c.as_mut_slice-bytes.ensures.value
+
+pub returns-then-first-second : goal.returns-then-first-second
+returns-then-first-second c =
+    let slab = c.args.self.now in
+    let inside = c.self.inside in
+    let p = c.meant-first in
+    let q = c.meant-second in
+    let is = holds inside slab c.self.view_is c.self.invariant in
+    let items =
+    with_items_is inside.data c.swap_ranges.new.slice (c.swap_ranges.auto.slice ∙ c.as_mut_slice-bytes.ensures.len)
+    ∙ c.swap_ranges.ensures
+    ∙ ap (λ l. ranges_exchanged l (p.result * inside.symbol_size) (q.result * inside.symbol_size) inside.symbol_size) c.as_mut_slice-bytes.ensures.value
+    in
+    exchanged is p.result q.result _ p.ensures.below q.ensures.below items
+    ∙ ap (λ n. record slab { values = swap slab.values n q.result }) p.ensures.is
+    ∙ ap (λ n. record slab { values = swap slab.values (meant_at slab.order c.args.i) n }) q.ensures.is
+
+pub returns-else-first-second : goal.returns-else-first-second
+returns-else-first-second c =
+    let slab = c.args.self.now in
+    let p = c.meant-first in
+    let one = p.result in
+    let row = get_or slab.values one [] in
+    ap (λ (v : List (List ℕ)). record slab { values = v }) (
+    sym (set-get_or slab.values one [])
+    ∙ sym (ap (λ l. set l one row) (set-get_or slab.values one []))
+    ∙ swap_is slab.values one one [] p.ensures.below p.ensures.below
+    ∙ ap (λ n. swap slab.values n one) p.ensures.is
+    ∙ ap (swap slab.values (meant_at slab.order c.args.i)) (c.if-first-second.false ∙ c.meant-second.ensures.is))
