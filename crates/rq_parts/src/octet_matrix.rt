@@ -94,8 +94,6 @@ impl DenseOctetMatrix {
         ensures width { result ≡ self.now.width }
         ensures octets { HasOctets self.now }
     {
-        // What the slab says with their number is that the rows are octets.
-        let _height = self.rows.len();
         self.rows.symbol_size()
     }
 
@@ -123,12 +121,7 @@ impl DenseOctetMatrix {
         requires second { j < length self.old.rows }
         ensures { self.new ≡ record self.old { rows = swap self.old.rows i j } }
     {
-        if i != j {
-            // Three sums exchange them where they stand.
-            self.add_row(i, j);
-            self.add_row(j, i);
-            self.add_row(i, j);
-        }
+        self.rows.swap(i, j);
     }
 
     /// Exchanges two columns in the rows from `start_row_hint` on; the rows above stay.
@@ -151,18 +144,6 @@ impl DenseOctetMatrix {
     {
         let (sum, other) = self.rows.get_pair_mut(dest, multiplicand);
         add_row_multiple(sum, other, scalar);
-    }
-
-    // Adds a row to another one.
-    fn add_row(&mut self, dest: usize, src: usize)
-        requires two { dest ≢ src }
-        requires dest { dest < length self.old.rows }
-        requires src { src < length self.old.rows }
-        ensures sum { self.new ≡ with_row self.old dest (row_sum (row_at self.old dest) (row_at self.old src)) }
-        ensures widths { length (row_at self.old src) ≡ length (row_at self.old dest) }
-    {
-        let (sum, other) = self.rows.get_pair_mut(dest, src);
-        octets::add_assign(sum, other);
     }
 }
 
