@@ -34,14 +34,19 @@ pub record AreEntries (width : ℕ) (bits : Slab) (octets : List (List ℕ)) : T
   pub symbols : All (λ symbol. length symbol ≡ bits.symbol_size) bits.values
   pub rows : All (IsOctetRow width) (entry_rows width bits.values octets)
 
--- of pieces of a buffer the one at a place that is counted from 1, and none at 0
-abbrev pub piece_of : List (List ℕ) → ℕ → List ℕ
-piece_of pieces zero = []
-piece_of pieces (suc place) = slice_index_or pieces place []
+-- the place, counted from 0, that is counted from 1, and none at 0
+abbrev pub place_before : ℕ → Option ℕ
+place_before zero = None
+place_before (suc place) = Some place
+
+-- of a buffer's rows the one at a place that is counted from 1, and none at 0
+abbrev pub row_placed : List (List ℕ) → ℕ → List ℕ
+row_placed rows zero = []
+row_placed rows (suc place) = slice_index_or rows place []
 
 -- what each row has that has such a place
 abbrev pub own_rows : List (List ℕ) → List ℕ → List (List ℕ)
-own_rows pieces places = map (piece_of pieces) places
+own_rows rows places = map (row_placed rows) places
 
 -- how many rows have no place
 abbrev pub placeless : List ℕ → ℕ
@@ -49,14 +54,15 @@ placeless [] = 0
 placeless (zero ∷ places) = suc (placeless places)
 placeless (suc place ∷ places) = placeless places
 
--- each of `count` pieces of a buffer is at the place of one row
-pub record ArePlaced (width count : ℕ) (octets places : List ℕ) : Type 0 where
-  pub whole : width % 32 ≡ 0
-  pub narrow : width < 2 ^ 17
+-- each row of a buffer without an order is at the place of one row
+pub record ArePlaced (octets : Slab) (places : List ℕ) : Type 0 where
+  pub whole : octets.symbol_size % 32 ≡ 0
+  pub narrow : octets.symbol_size < 2 ^ 17
   pub few : length places < 2 ^ 31
-  pub long : length octets ≡ count * width
-  pub counted : count + placeless places ≡ length places
-  pub inside : All (λ place. place ≤ count) places
+  pub order : octets.order ≡ None
+  pub symbols : All (λ symbol. length symbol ≡ octets.symbol_size) octets.values
+  pub counted : length octets.values + placeless places ≡ length places
+  pub inside : All (λ place. place ≤ length octets.values) places
   pub apart : (i j : ℕ) → i < length places → j < length places → at places i ≢ 0 → at places i ≡ at places j → i ≡ j
 
 -- the first place, from one on and before another, where there isn't 0

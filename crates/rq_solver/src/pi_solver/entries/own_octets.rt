@@ -1,42 +1,43 @@
 //! The octets that rows have of their own.
-ghost use Rattle.std.specs.Prelude.{◌≡◌, ◌≢◌, ℕ, ◌-◌, ◌*◌, ◌%◌, ◌^◌, ◌<◌, ◌≤◌, ◌++◌, [], true, false, length, replicate, slice_set, IfOk, OnOk, IfErr, OnErr};
+ghost use Rattle.std.specs.Prelude.{◌≡◌, ◌≢◌, ℕ, ◌*◌, ◌%◌, ◌+◌, ◌^◌, ◌<◌, ◌≤◌, ◌++◌, ◌∷◌, [], true, false, None, length, replicate, slice_set, IfOk, OnOk, IfErr, OnErr};
 ghost use Rattle.rq_algebra.specs.Systems.{at};
 ghost use Rattle.rq_bytes.specs.declared.error.Error.TheVariants.{OutOfMemory};
 ghost use Rattle.rq_parts.specs.DenseOctetMatrix.{IsOctetRow, row_at, with_row};
-ghost use Rattle.rq_solver.specs.InactiveEntries.{row_of, unpacked};
+ghost use Rattle.rq_solver.specs.InactiveEntries.{place_before, row_of, unpacked};
 ghost use Rattle.rq_standard.specs.Rows.{row_sum, row_multiple};
 
-use super::octet_row::{add_bits_to_row, add_multiple_of_row, row_from, scale_row, set_in_row};
+use super::packed_bits::add_bits;
 use rq_bytes::error::Error;
+use rq_bytes::factor::{add_row_multiple, multiply_row};
 use rq_bytes::octet::Octet;
+use rq_bytes::octets::are_octets;
+use rq_bytes::symbol_slab::SymbolSlab;
 use std::alloc::Global;
 use std::marker::Model;
 
-// For how many rows room is made with the first: a row of RFC 6330's table has no more HDPC rows.
+// For how many rows room is made with the first. The standard's tables have no more HDPC rows; where
+// one's own have more, the buffer grows.
 const FIRST_ROWS: usize = 16;
 
 /// The octets that rows have of their own, none where a row is bits. They stand in one buffer, in the
 /// order in which the rows got them. Contracts see the lists of all rows.
 #[derive(Drop)]
 pub(super) struct OwnOctets {
-    octets: Vec<u8>,
-    width: usize,
-    count: u32,
+    rows: SymbolSlab,
     // The place of each row in the buffer, counted from 1, and 0 where the row has none. Rows are asked
     // in any order, and these stay in a near cache.
     places: Vec<u32>,
 }
 
 impl Model for OwnOctets {
-    ghost use Rattle.rq_bytes.specs.Ranges.{cut};
     ghost use Rattle.rq_parts.specs.DenseOctetMatrix.{OctetTable};
     ghost use Rattle.rq_solver.specs.InactiveEntries.{ArePlaced, own_rows};
 
     ghost Value = { OctetTable };
 
-    ghost view = { λ own. record { width = own.width; rows = own_rows (cut own.count own.width own.octets.items) own.places.items } };
+    ghost view = { λ own. record { width = own.rows.symbol_size; rows = own_rows own.rows.values own.places.items } };
 
-    ghost invariant = { λ own. ArePlaced own.width own.count own.octets.items own.places.items };
+    ghost invariant = { λ own. ArePlaced own.rows own.places.items };
 }
 
 impl OwnOctets {
@@ -49,9 +50,7 @@ impl OwnOctets {
         ensures err { IfErr result (λ e. e ≡ OutOfMemory) }
     {
         Ok(OwnOctets {
-            octets: Vec::new(alloc),
-            width,
-            count: 0,
+            rows: SymbolSlab::from_bytes(Vec::new(alloc), 0, width),
             places: vec![in alloc; 0; height]?,
         })
     }
@@ -61,7 +60,7 @@ impl OwnOctets {
     pub(super) fn width(&self) -> usize
         ensures { result ≡ self.now.width }
     {
-        self.width
+        self.rows.symbol_size()
     }
 
     /// Whether a row has none.
@@ -81,8 +80,10 @@ impl OwnOctets {
         requires own { length (row_at self.now row) ≡ self.now.width }
         ensures { result.now ≡ row_at self.now row }
     {
-        let start = start_of(self.places.as_slice(), row, self.width);
-        row_from(self.octets.as_slice(), start, self.width)
+        match place_of(self.places.as_slice(), row) {
+            Some(place) => self.rows.get(place),
+            None => &[],
+        }
     }
 
     /// Makes octets of a row's bits, where it has none.
@@ -95,9 +96,8 @@ impl OwnOctets {
         ensures err { IfErr result (λ e. e ≡ OutOfMemory) }
     {
         if self.places[row] == 0 {
-            push_bits(&mut self.octets, self.width, bits)?;
-            self.count += 1;
-            self.places[row] = self.count;
+            push_bits(&mut self.rows, bits)?;
+            self.places[row] = self.rows.len() as u32;
         }
         Ok(())
     }
@@ -110,8 +110,11 @@ impl OwnOctets {
         ensures set { self.new ≡ with_row self.old row (slice_set (row_at self.old row) column octet) }
         ensures octets { IsOctetRow self.old.width (row_at self.new row) }
     {
-        let start = start_of(self.places.as_slice(), row, self.width);
-        set_in_row(self.octets.as_mut_slice(), start, self.width, column, octet);
+        if let Some(place) = place_of(self.places.as_slice(), row) {
+            let octets = self.rows.get_mut(place);
+            octets[column] = octet;
+            are_octets(octets);
+        }
     }
 
     /// Multiplies the octets of a row.
@@ -121,8 +124,11 @@ impl OwnOctets {
         ensures multiple { self.new ≡ with_row self.old row (row_multiple scalar.now (row_at self.old row)) }
         ensures octets { IsOctetRow self.old.width (row_at self.new row) }
     {
-        let start = start_of(self.places.as_slice(), row, self.width);
-        scale_row(self.octets.as_mut_slice(), start, self.width, scalar);
+        if let Some(place) = place_of(self.places.as_slice(), row) {
+            let octets = self.rows.get_mut(place);
+            multiply_row(octets, scalar);
+            are_octets(octets);
+        }
     }
 
     /// Adds a multiple of a row of bits to a row's octets.
@@ -133,8 +139,11 @@ impl OwnOctets {
         ensures sum { self.new ≡ with_row self.old row (row_sum (row_at self.old row) (row_multiple scalar.now (unpacked self.old.width bits.now))) }
         ensures octets { IsOctetRow self.old.width (row_at self.new row) }
     {
-        let start = start_of(self.places.as_slice(), row, self.width);
-        add_bits_to_row(self.octets.as_mut_slice(), start, self.width, bits, scalar);
+        if let Some(place) = place_of(self.places.as_slice(), row) {
+            let octets = self.rows.get_mut(place);
+            add_bits(octets, bits, scalar.byte());
+            are_octets(octets);
+        }
     }
 
     /// Adds a multiple of a row's octets to those of another one.
@@ -147,38 +156,43 @@ impl OwnOctets {
         ensures sum { self.new ≡ with_row self.old dest (row_sum (row_at self.old dest) (row_multiple scalar.now (row_at self.old src))) }
         ensures octets { IsOctetRow self.old.width (row_at self.new dest) }
     {
-        let to = start_of(self.places.as_slice(), dest, self.width);
-        let from = start_of(self.places.as_slice(), src, self.width);
-        add_multiple_of_row(self.octets.as_mut_slice(), to, from, self.width, scalar);
+        let places = self.places.as_slice();
+        if let (Some(to), Some(from)) = (place_of(places, dest), place_of(places, src)) {
+            let (sum, other) = self.rows.get_pair_mut(to, from);
+            add_row_multiple(sum, other, scalar);
+            are_octets(sum);
+        }
     }
 }
 
-// Where the octets of a row begin in the buffer: at the place before the one that is counted from 1. A
-// row of no octets may have no place.
+// The place in the buffer of the octets of a row, counted from 0. A row of no octets may have none.
 #[inline(always)]
-fn start_of(places: &[u32], row: usize, width: usize) -> usize
-    requires row { row < length places.now }
-    requires placed { width ≤ at places.now row * width }
-    requires fits { at places.now row * width < 2 ^ 64 }
-    ensures { result ≡ at places.now row * width - width }
+fn place_of(places: &[u32], row: usize) -> Option<usize>
+    requires { row < length places.now }
+    ensures { result ≡ place_before (at places.now row) }
 {
-    places[row] as usize * width - width
+    match places[row] {
+        0 => None,
+        place => Some(place as usize - 1),
+    }
 }
 
-// Appends bits as so many octets.
-fn push_bits(octets: &mut Vec<u8>, width: usize, bits: &[u8]) -> Result<(), Error>
-    requires room { width ≤ 8 * length bits.now }
-    requires narrow { width < 2 ^ 17 }
-    requires whole { width % 32 ≡ 0 }
-    ensures ok { OnOk result (octets.new.items ≡ octets.old.items ++ unpacked width bits.now) }
-    ensures refused { OnErr result (octets.new.items ≡ octets.old.items) }
+// Appends a row of bits as octets.
+fn push_bits(rows: &mut SymbolSlab, bits: &[u8]) -> Result<(), Error>
+    requires no_order { rows.old.order ≡ None }
+    requires few { length rows.old.values < 2 ^ 31 }
+    requires room { rows.old.symbol_size ≤ 8 * length bits.now }
+    requires narrow { rows.old.symbol_size < 2 ^ 17 }
+    requires whole { rows.old.symbol_size % 32 ≡ 0 }
+    ensures ok { OnOk result (rows.new ≡ record rows.old { values = rows.old.values ++ unpacked rows.old.symbol_size bits.now ∷ [] }) }
+    ensures refused { OnErr result (rows.new ≡ rows.old) }
     ensures err { IfErr result (λ e. e ≡ OutOfMemory) }
 {
-    let start = octets.len();
-    if start == 0 {
-        octets.reserve(FIRST_ROWS * width)?;
+    let place = rows.len();
+    if place == 0 {
+        rows.reserve(FIRST_ROWS)?;
     }
-    octets.resize(start + width, 0)?;
-    add_bits_to_row(octets.as_mut_slice(), start, width, bits, &Octet::one());
+    rows.push_zeros()?;
+    add_bits(rows.get_mut(place), bits, 1);
     Ok(())
 }

@@ -1,32 +1,30 @@
 -- What the check leaves to show of `pi_solver::entries::own_octets::OwnOctets::add_bits`.
 use Rattle.std.proofs.Common.{List, ℕ, sym, ap, ◌∙◌}
-use Rattle.std.specs.Int.Bits.{bit_xor}
-use Rattle.std.proofs.lemmas.List.{length-map, with_items_is}
-use Rattle.std.proofs.lemmas.Simd.{length-zip2}
-use Rattle.rq_parts.specs.DenseOctetMatrix.{row_at}
-use Rattle.rq_standard.specs.Octets.{octet_mul}
+use Rattle.rq_algebra.specs.Systems.{at}
+use Rattle.rq_parts.specs.DenseOctetMatrix.{with_row}
 use Rattle.rq_standard.specs.Rows.{row_sum, row_multiple}
-use Rattle.rq_solver.specs.InactiveEntries.{unpacked}
-use Rattle.rq_solver.proofs.UnpackedBits.{length-unpacked}
-use Rattle.rq_solver.proofs.OwnRows.{placed_from, read_from, rewritten, rewritten_octets, width_is}
+use Rattle.rq_solver.specs.InactiveEntries.{place_before, unpacked}
+use Rattle.rq_solver.proofs.OwnRows.{read, some_place, width_is, written, written_octets}
 use Rattle.rq_solver.proofs.pi_solver.entries.own_octets.OwnOctets.add_bits.Goals as goal
 
-pub start_of-start-requires-clause-placed : goal.start_of-start-requires-clause-placed
-start_of-start-requires-clause-placed c = placed_from c.self.invariant c.self.view_is c.args.row c.requires.row c.requires.own c.as_slice.ensures.value
+pub returns-in-Some-clause-sum : goal.returns-in-Some-clause-sum
+returns-in-Some-clause-sum c =
+    let is = some_place (at c.self.inside.places.items c.args.row) c.in-Some.place (ap (λ ps. place_before (at ps c.args.row)) (sym c.as_slice.ensures.value) ∙ sym c.in-Some.ensures) in
+    let now = c.args.self.now in
+    let bits = c.args.bits.now in
+    let lent = c.get_mut-octets in
+    let ws = c.add_bits.new.octets in
+    let long = c.add_bits.auto.octets ∙ lent.ensures.len in
+    written c.self.invariant c.self.view_is c.args.row c.requires.row c.in-Some.place is _ ws long (lent.ensures.whole_symbol ws long)
+    ∙ ap (with_row now c.args.row) (
+    c.add_bits.ensures
+    ∙ ap (λ (n : ℕ). row_sum lent.result.now (row_multiple c.byte.result (unpacked n bits))) (lent.ensures.len ∙ width_is c.self.invariant c.self.view_is)
+    ∙ ap (λ (a : ℕ). row_sum lent.result.now (row_multiple a (unpacked now.width bits))) c.byte.ensures
+    ∙ ap (λ (r : List ℕ). row_sum r (row_multiple c.args.scalar.now (unpacked now.width bits))) (lent.ensures.symbol ∙ read c.self.invariant c.self.view_is c.args.row c.requires.row c.in-Some.place is))
 
-pub returns-clause-sum : goal.returns-clause-sum
-returns-clause-sum c =
-    rewritten c.self.invariant c.self.view_is c.args.row c.requires.row c.requires.own c.as_slice.ensures.value c.as_mut_slice.ensures.value c.start_of-start.ensures
-    c.add_bits_to_row.ensures.sum
-    (with_items_is c.self.inside.octets c.add_bits_to_row.new.octets (c.add_bits_to_row.auto.octets ∙ c.as_mut_slice.ensures.len))
-    (ap (λ (r : List ℕ). row_sum r (row_multiple c.args.scalar.now (unpacked c.self.inside.width c.args.bits.now))) (read_from c.self.invariant c.self.view_is c.args.row c.requires.row c.requires.own c.as_slice.ensures.value c.as_mut_slice.ensures.value c.start_of-start.ensures) ∙ ap (λ n. row_sum (row_at c.args.self.now c.args.row) (row_multiple c.args.scalar.now (unpacked n c.args.bits.now))) (width_is c.self.invariant c.self.view_is))
-    (length-zip2 bit_xor (row_at c.args.self.now c.args.row) (row_multiple c.args.scalar.now (unpacked c.args.self.now.width c.args.bits.now)) (c.requires.own ∙ sym (length-map (unpacked c.args.self.now.width c.args.bits.now) (octet_mul c.args.scalar.now) ∙ length-unpacked c.args.self.now.width c.args.bits.now)) ∙ c.requires.own ∙ sym (width_is c.self.invariant c.self.view_is))
-
-pub returns-clause-octets : goal.returns-clause-octets
-returns-clause-octets c =
-    rewritten_octets c.self.invariant c.self.view_is c.args.row c.requires.row c.requires.own c.as_slice.ensures.value c.as_mut_slice.ensures.value c.start_of-start.ensures
-    c.add_bits_to_row.ensures.sum
-    (with_items_is c.self.inside.octets c.add_bits_to_row.new.octets (c.add_bits_to_row.auto.octets ∙ c.as_mut_slice.ensures.len))
-    (ap (λ (r : List ℕ). row_sum r (row_multiple c.args.scalar.now (unpacked c.self.inside.width c.args.bits.now))) (read_from c.self.invariant c.self.view_is c.args.row c.requires.row c.requires.own c.as_slice.ensures.value c.as_mut_slice.ensures.value c.start_of-start.ensures) ∙ ap (λ n. row_sum (row_at c.args.self.now c.args.row) (row_multiple c.args.scalar.now (unpacked n c.args.bits.now))) (width_is c.self.invariant c.self.view_is))
-    (length-zip2 bit_xor (row_at c.args.self.now c.args.row) (row_multiple c.args.scalar.now (unpacked c.args.self.now.width c.args.bits.now)) (c.requires.own ∙ sym (length-map (unpacked c.args.self.now.width c.args.bits.now) (octet_mul c.args.scalar.now) ∙ length-unpacked c.args.self.now.width c.args.bits.now)) ∙ c.requires.own ∙ sym (width_is c.self.invariant c.self.view_is))
-    c.add_bits_to_row.ensures.octets
+pub returns-in-Some-clause-octets : goal.returns-in-Some-clause-octets
+returns-in-Some-clause-octets c =
+    let is = some_place (at c.self.inside.places.items c.args.row) c.in-Some.place (ap (λ ps. place_before (at ps c.args.row)) (sym c.as_slice.ensures.value) ∙ sym c.in-Some.ensures) in
+    let ws = c.add_bits.new.octets in
+    let long = c.add_bits.auto.octets ∙ c.get_mut-octets.ensures.len in
+    written_octets c.self.invariant c.self.view_is c.args.row c.requires.row c.in-Some.place is _ ws long (c.get_mut-octets.ensures.whole_symbol ws long) c.are_octets.ensures
