@@ -85,18 +85,6 @@ module _ (row : TableRow) (size : ℕ) (source : List (List ℕ)) (fits : length
     each = λ k l. subst (IsSymbol octets size) (sym (values_are row size k source fits l)) (value_is k are);
   }
 
-  pub source_are_symbols : (n : ℕ) → AreSymbols octets size n (source_values row size source) → AreSymbols octets size (length source) source
-  source_are_symbols n are = record {
-    count_is = refl;
-    each = λ k l.
-        let f : ℕ = row.ldpc_symbols + row.hdpc_symbols in
-        let long = length-source_values row size source fits in
-        let within : f + k < equation_count row (extended_ids row) = omega (arith, length-range_with_len 0 row.extended_symbols) in
-        let read : symbol_at (source_values row size source) (f + k) ≡ symbol_at source k =
-        values_are row size (f + k) source fits within ∙ stacked_below f (λ _. zero_symbol size) (λ j. get_or source j (zero_symbol size)) k ∙ at_any source k (zero_symbol size) [] l in
-        subst (IsSymbol octets size) read (are.each (f + k) (omega (arith, long, are.count_is)));
-  }
-
   -- the equations of a block in both forms
   same_values : (column : ℕ → List ℕ) (v w : ℕ → List ℕ) → ((i : ℕ) → i < equation_count row (extended_ids row) → v i ≡ w i) → SolvesSymbols octets (equation_count row (extended_ids row)) (intermediate_symbols row) (equations row (extended_ids row)) column v
       → SolvesSymbols octets (equation_count row (extended_ids row)) (intermediate_symbols row) (equations row (extended_ids row)) column w

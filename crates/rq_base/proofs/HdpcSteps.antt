@@ -1,15 +1,18 @@
 -- The HDPC rows column by column.
-use Rattle.std.proofs.Common.{◌≡◌, ◌≢◌, ℕ, ◌+◌, ◌-◌, ◌%◌, ◌≤◌, ◌<◌, eqb, ◌||◌, set, sym, ap, ◌∙◌, refl, arith, inl, inr}
+use Rattle.std.proofs.Common.{◌≡◌, ◌≢◌, ℕ, ◌+◌, ◌-◌, ◌%◌, ◌≤◌, ◌<◌, eqb, ◌||◌, List, length, get_or, set, sym, ap, ◌∙◌, refl, arith, inl, inr}
+use Rattle.std.specs.Int.Bits.{bit_xor, xor_zero_r}
 use Rattle.std.proofs.lemmas.Bool.{cases_eq, cases_lt, eq-eqb, ne_eqb}
+use Rattle.std.proofs.lemmas.List.{get_or-set_same, get_or-set_other, get_or-map, length-set, length-map}
 use Rattle.std.proofs.Math.Nat.{mod-eq_of_lt, mod-eq-sub-mod}
 use Rattle.rq_parts.specs.DenseOctetMatrix.{OctetTable, row_at, with_row, entry_of}
 use Rattle.rq_standard.specs.declared.row.TableRow.{TableRow}
 use Rattle.rq_standard.specs.Rand.{rand}
-use Rattle.rq_standard.specs.Octets.{octet_power}
+use Rattle.rq_standard.specs.Octets.{octet_mul, octet_power}
+use Rattle.rq_standard.specs.Rows.{row_multiple}
 use Rattle.rq_standard.specs.TableRows.{intermediate_symbols}
 use Rattle.rq_standard.specs.Equations.{one_if, before_hdpc, mt, hdpc_coefficient}
-use Rattle.rq_standard.proofs.HdpcLaws.{hdpc-last, hdpc-own}
-use Rattle.rq_base.specs.HdpcPart.{HasShape, IsFilledFrom}
+use Rattle.rq_standard.proofs.HdpcLaws.{hdpc-last, hdpc-own, hdpc-step}
+use Rattle.rq_base.specs.HdpcPart.{HasShape, IsHdpcColumn, IsFilledFrom}
 use Rattle.rq_base.proofs.OctetEntries.{sets}
 
 -- a column before the last one of MT has ones in two rows
@@ -26,6 +29,47 @@ two_rows first step height below few same = elim (cases_lt (first + step + 1) he
       let is : (first + step + 1 - height) % height ≡ first + step + 1 - height = mod-eq_of_lt (omega arith) in
       omega arith
 ]
+
+-- ---- the octets of a column from those of the next one
+
+abbrev pub flipped : List ℕ → ℕ → List ℕ
+flipped xs i = set xs i (bit_xor (get_or xs i 0) 1)
+
+flipped-at : (xs : List ℕ) (i j : ℕ) → i < length xs → get_or (flipped xs i) j 0 ≡ bit_xor (get_or xs j 0) (one_if (eqb j i))
+flipped-at xs i j lt = elim (cases_eq j i) [
+  | inl e ↦ rw (eq-eqb j i e, e) (get_or-set_same xs i _ 0 lt)
+  | inr d ↦ rw (ne_eqb j i d) (get_or-set_other xs i j _ 0 d ∙ sym (xor_zero_r (get_or xs j 0)))
+]
+
+-- at two places, of which no octet is both
+flipped_twice-at :
+    (xs : List ℕ) (i i' j : ℕ) → i < length xs → i' < length xs → i ≢ i'
+    → get_or (flipped (flipped xs i) i') j 0 ≡ bit_xor (get_or xs j 0) (one_if (eqb j i || eqb j i'))
+flipped_twice-at xs i i' j lt lt' apart =
+    flipped-at (flipped xs i) i' j (omega (arith, length-set {A = ℕ}))
+    ∙ ap (λ x. bit_xor x (one_if (eqb j i'))) (flipped-at xs i j lt)
+    ∙ elim (cases_eq j i) [
+      | inl e ↦ rw (eq-eqb j i e, ne_eqb j i' (λ e'. apart (sym e ∙ e'))) (xor_zero_r (bit_xor (get_or xs j 0) 1))
+      | inr d ↦ rw (ne_eqb j i d) (ap (λ x. bit_xor x (one_if (eqb j i'))) (xor_zero_r (get_or xs j 0)))
+    ]
+
+pub column_before :
+    (row : TableRow) (column first second : ℕ) (next doubled : List ℕ) → IsHdpcColumn row (column + 1) next → column + 1 < before_hdpc row
+    → doubled ≡ row_multiple 2 next → first < row.hdpc_symbols → second < row.hdpc_symbols → first ≢ second
+    → ((i : ℕ) → mt row i column ≡ one_if (eqb i first || eqb i second)) → IsHdpcColumn row column (flipped (flipped doubled first) second)
+column_before row column first second next doubled is lt e few few' apart ones =
+    let same : length doubled ≡ length next = ap length e ∙ length-map next (octet_mul 2) in
+    let long : row.hdpc_symbols ≤ length doubled = omega (arith, is.long) in
+    record {
+      long = omega (arith, length-set {A = ℕ});
+      each = λ i below.
+          flipped_twice-at doubled first second i (omega arith) (omega arith) apart
+          ∙ ap (bit_xor (get_or doubled i 0)) (sym (ones i))
+          ∙ ap (λ x. bit_xor x (mt row i column)) (ap (λ l. get_or l i 0) e ∙ get_or-map (octet_mul 2) next i 0 0 (omega (arith, is.long)) ∙ ap (octet_mul 2) (is.each i below))
+          ∙ sym (hdpc-step row i column lt);
+    }
+
+-- ---- a column written row by row
 
 -- the column down to row i, and the columns after it
 pub record IsPartlyFilled (row : TableRow) (column height : ℕ) (table : OctetTable) : Type 0 where

@@ -46,6 +46,7 @@ pub fn get_both_ranges<T>(slice: &mut [T], i: usize, j: usize, len: usize) -> (&
 }
 
 /// Exchanges the `len` elements from each of two places on. The two ranges have no place in common.
+/// Not in the Rust crate.
 pub fn swap_ranges<T>(slice: &mut [T], i: usize, j: usize, len: usize)
     requires apart { (i + len ≤ j) ⊎ (j + len ≤ i) }
     requires first { i + len ≤ length slice.old }

@@ -4,26 +4,16 @@ use Rattle.std.specs.Prelude.{◌==◌, ◌&&◌}
 use Rattle.std.specs.Cmp.Lexicographic.{pointwise}
 use Rattle.std.proofs.Math.Nat.{mul-le-mul_right}
 use Rattle.std.proofs.lemmas.Bool.{cases_lt}
-use Rattle.std.proofs.lemmas.List.{take_all, length-take, length-append, length-drop, length-take-le, take-append-drop, append-nil, drop-drop, take-take, map-append}
+use Rattle.std.proofs.lemmas.List.{take_all, length-take, length-drop, length-take-le, take-append-drop, append-nil, drop-drop, take-take, map-append}
 use Rattle.std.proofs.lemmas.List.Edits.{length-paste, take-paste, drop-paste}
 use Rattle.std.specs.List.{copy_within}
 use Rattle.rq_bytes.specs.Ranges.{range_of, with_range, cut, joined_pieces}
 use Rattle.rq_bytes.proofs.Cuts.{length-cut, get_or-cut, cut-append, cut-join, cut-with_range, joined-cut, refilled, cut-refilled, piece_within}
-use Rattle.rq_bytes.proofs.RangeFacts.{around, rewritten-low, rewritten-high, rewritten-up, rewritten-down, length-range}
+use Rattle.rq_bytes.proofs.RangeFacts.{around, rewritten-low, rewritten-high, rewritten-up, rewritten-down, length-range, length-with_range}
 use Rattle.rq_matrix.specs.BitRows.{same_rows}
 use Rattle.rq_matrix.specs.RowLends.{with_words, IsRowWrite}
 use Rattle.rq_matrix.specs.contracts.bit_rows.BitRows.{the_view, the_invariant}
 use Rattle.rq_matrix.specs.declared.bit_rows.BitRows.TheInside.{Inside}
-
-pub length-with_range : (xs : List ℕ) (i : ℕ) (ys : List ℕ) → i + length ys ≤ length xs → length (with_range xs i ys) ≡ length xs
-length-with_range xs i ys within =
-    omega (
-      arith,
-      length-append (take i xs) (ys ++ drop (i + length ys) xs),
-      length-append ys (drop (i + length ys) xs),
-      length-take-le i xs (omega arith),
-      length-drop (i + length ys) xs,
-    )
 
 -- a range written after another one, with what it had
 pub second_kept : (xs : List ℕ) (i j n : ℕ) (ys : List ℕ) → (i + n ≤ j) ⊎ (j + n ≤ i) → i + n ≤ length xs → j + n ≤ length xs → length ys ≡ n

@@ -10,7 +10,7 @@ ghost use Rattle.rq_matrix.specs.BitRows.{word_count, same_rows};
 
 use crate::bit_row::words_for;
 use rq_bytes::gf2::add_assign_binary;
-use rq_bytes::util::get_both_ranges;
+use rq_bytes::util::{get_both_ranges, swap_ranges};
 use std::alloc::{AllocError, Global};
 use std::marker::Model;
 
@@ -163,17 +163,6 @@ fn range(words: &[u64], start: usize, len: usize) -> &[u64]
     ensures { result.now ≡ range_of words.now start len }
 {
     &words[start..start + len]
-}
-
-// Exchanges two ranges.
-fn swap_ranges(words: &mut [u64], i: usize, j: usize, len: usize)
-    requires apart { (i + len ≤ j) ⊎ (j + len ≤ i) }
-    requires first { i + len ≤ length words.old }
-    requires second { j + len ≤ length words.old }
-    ensures { words.new ≡ with_range (with_range words.old i (range_of words.old j len)) j (range_of words.old i len) }
-{
-    let (first, second) = get_both_ranges(words, i, j, len);
-    first.swap_with_slice(second);
 }
 
 // Adds a range to another one.

@@ -9,6 +9,7 @@ use Rattle.std.proofs.lemmas.Bool.{cases_lt}
 use Rattle.std.proofs.lemmas.Bool.Decides.{eqb_tells}
 use Rattle.std.proofs.lemmas.List.Sums.{sum_by-cons, sum_by-append, sum_by-insert, sum_by-remove}
 use Rattle.std.proofs.lemmas.List.{get_or_append_left, length-append}
+use Rattle.std.proofs.lemmas.List.Edits.{length-insert, length-remove, get_or-insert_below, get_or-insert_at, get_or-insert_above, get_or-remove_below, get_or-remove_above}
 use Rattle.std.proofs.Math.Seq.{get_or-append_right}
 use Rattle.rq_parts.specs.SparseBinaryVec.{listed_bit, listed_octet, SetsListed, IsListed, IsGap}
 use Rattle.rq_standard.specs.BitTableSteps.{bit_of}
@@ -163,6 +164,45 @@ gap-behind xs i gap up within last behind = record {
   before = λ k l. omega (arith, rises-far xs up k (gap - 1) (omega arith) (omega arith), last (omega arith));
   behind = behind;
 }
+
+-- ---- a list that ascends still does with one fewer, and with one more at its gap
+
+pub rises-without : (xs : List ℕ) (at : ℕ) → at < length xs → IsStrictlyIncreasing xs → IsStrictlyIncreasing (remove xs at)
+rises-without xs at within up k l =
+    let long = length-remove xs at within in
+    elim (cases_lt (k + 1) at) [
+      | inl below ↦ omega (arith, up k (omega arith), get_or-remove_below xs at 0 k (omega arith) within, get_or-remove_below xs at 0 (k + 1) below within)
+      | inr past ↦ elim (cases_lt k at) [
+        | inl last ↦ omega (arith, up k (omega arith), up (k + 1) (omega arith), get_or-remove_below xs at 0 k last within, get_or-remove_above xs at 0 (k + 1) past within)
+        | inr behind ↦ omega (arith, up (k + 1) (omega arith), get_or-remove_above xs at 0 k behind within, get_or-remove_above xs at 0 (k + 1) past within)
+      ]
+    ]
+
+pub rises-with : (xs : List ℕ) (i gap : ℕ) → IsStrictlyIncreasing xs → IsGap xs i gap → IsStrictlyIncreasing (insert xs gap i)
+rises-with xs i gap up found k l =
+    let long = length-insert xs gap i found.within in
+    let at = get_or-insert_at xs gap i 0 found.within in
+    elim (cases_lt k gap) [
+      | inl below ↦
+          let here = get_or-insert_below xs gap i 0 k below found.within in
+          elim (cases_lt (k + 1) gap) [
+            | inl next ↦ omega (arith, up k (omega arith), here, get_or-insert_below xs gap i 0 (k + 1) next found.within)
+            | inr last ↦
+                let same : get_or (insert xs gap i) (k + 1) 0 ≡ get_or (insert xs gap i) gap 0 = ap (λ n. get_or (insert xs gap i) n 0) (omega arith) in
+                omega (arith, found.before k below, here, same, at)
+          ]
+      | inr past ↦
+          let next = get_or-insert_above xs gap i 0 k past found.within in
+          elim (cases_lt gap k) [
+            | inl behind ↦
+                let same : get_or (insert xs gap i) (k - 1 + 1) 0 ≡ get_or (insert xs gap i) k 0 = ap (λ n. get_or (insert xs gap i) n 0) (omega arith) in
+                let back : get_or xs (k - 1 + 1) 0 ≡ get_or xs k 0 = ap (λ n. get_or xs n 0) (omega arith) in
+                omega (arith, up (k - 1) (omega arith), get_or-insert_above xs gap i 0 (k - 1) (omega arith) found.within, same, back, next)
+            | inr here ↦
+                let same : get_or (insert xs gap i) k 0 ≡ get_or (insert xs gap i) gap 0 = ap (λ n. get_or (insert xs gap i) n 0) (omega arith) in
+                omega (arith, found.behind k past (omega arith), next, same, at)
+          ]
+    ]
 
 -- where an index is listed, or where it would go
 pub record IsFound (xs : List ℕ) (i : ℕ) (r : Result ℕ ℕ) : Type 0 where

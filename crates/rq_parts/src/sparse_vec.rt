@@ -1,9 +1,10 @@
 //! Rows of bits of which the ones alone are stored.
-ghost use Rattle.std.specs.Prelude.{◌≡◌, ◌<◌, ◌↔◌, ◌==◌, [], length, map, slice_index, true, IfOk, IfErr, OnOk, OnErr};
+ghost use Rattle.std.specs.Prelude.{◌≡◌, ◌<◌, ◌↔◌, ◌==◌, ℕ, List, [], ◌∷◌, ◌++◌, length, map, slice_index, true, IfOk, IfErr, OnOk, OnErr};
 ghost use Rattle.std.proofs.Common.{rules};
 ghost use Rattle.std.specs.Cmp.Lexicographic.{pointwise};
 ghost use Rattle.std.specs.Cmp.Rules.{comparing};
 ghost use Rattle.std.specs.Iterator.{YieldsFirst, item_count};
+ghost use Rattle.std.specs.List.{insert};
 ghost use Rattle.std.specs.List.Sorted.{IsStrictlyIncreasing};
 ghost use Rattle.std.specs.Int.Bits.{bit_xor};
 ghost use Rattle.rq_bytes.specs.declared.error.Error.TheVariants.{OutOfMemory};
@@ -11,6 +12,7 @@ ghost use Rattle.rq_parts.specs.SparseBinaryVec.{listed_bit, listed_octet, SetsL
 
 use rq_bytes::error::Error;
 use rq_bytes::octet::Octet;
+use smallvec::SmallVec;
 use std::alloc::{AllocError, Global};
 use std::cmp::Ordering;
 use std::marker::Model;
@@ -19,7 +21,8 @@ use std::marker::Model;
 /// see this list.
 #[derive(Debug, Drop)]
 pub struct SparseBinaryVec {
-    elements: Vec<u16>,
+    // Most rows have few ones, which then take no allocation.
+    elements: SmallVec<u16, 12>,
 }
 
 impl Model for SparseBinaryVec {
@@ -38,7 +41,7 @@ impl Clone for SparseBinaryVec {
 
     fn clone(&self) -> Result<Self, AllocError> {
         Ok(SparseBinaryVec {
-            elements: self.elements.clone()?,
+            elements: SmallVec::from_slice(*self.elements.allocator(), &self.elements)?,
         })
     }
 }
@@ -64,7 +67,7 @@ impl SparseBinaryVec {
         ensures err { IfErr result (λ e. e ≡ OutOfMemory) }
     {
         Ok(SparseBinaryVec {
-            elements: Vec::with_capacity(alloc, capacity)?,
+            elements: SmallVec::with_capacity(alloc, capacity)?,
         })
     }
 
@@ -183,7 +186,8 @@ impl SparseBinaryVec {
         if gap == self.elements.len() {
             self.elements.push(i as u16)?;
         } else {
-            self.elements.insert(gap, i as u16)?;
+            self.elements.push(i as u16)?;
+            last_to(&mut self.elements, gap);
         }
         Ok(())
     }
@@ -203,11 +207,12 @@ impl SparseBinaryVec {
         ensures found { IfOk result (IsListed self.now i) }
         ensures missing { IfErr result (IsGap self.now i) }
     {
-        let mut gap = self.elements.len();
-        while gap > 0 && usize::from(self.elements[gap - 1]) > i {
+        let ones = self.elements.as_slice();
+        let mut gap = ones.len();
+        while gap > 0 && usize::from(ones[gap - 1]) > i {
             gap -= 1;
         }
-        if gap > 0 && usize::from(self.elements[gap - 1]) == i {
+        if gap > 0 && usize::from(ones[gap - 1]) == i {
             Ok(gap - 1)
         } else {
             Err(gap)
@@ -215,16 +220,32 @@ impl SparseBinaryVec {
     }
 }
 
+// Moves the last one down to a place, and those from there on up. Most have little way to go.
+fn last_to(ones: &mut [u16], gap: usize)
+    requires { gap < length ones.old }
+    ensures { (xs : List ℕ) (one : ℕ) → ones.old ≡ xs ++ one ∷ [] → ones.new ≡ insert xs gap one }
+{
+    let mut at = ones.len() - 1;
+    while at > gap {
+        ones.swap(at - 1, at);
+        at -= 1;
+    }
+}
+
 // The indices that one of two ascending lists has and the other hasn't, in ascending order, and
 // whether the second list had one of them.
-fn merged(alloc: Global, row: &[u16], other: &[u16]) -> Result<(Vec<u16>, bool), AllocError>
+fn merged(
+    alloc: Global,
+    row: &[u16],
+    other: &[u16],
+) -> Result<(SmallVec<u16, 12>, bool), AllocError>
     requires row { IsStrictlyIncreasing row.now }
     requires other { IsStrictlyIncreasing other.now }
     ensures increasing { IfOk result (λ r. IsStrictlyIncreasing r.0.items) }
     ensures sum { IfOk result (λ r. IsListedSum row.now other.now r.0.items) }
     ensures added { IfOk result (λ r. (r.1 ≡ true) ↔ HasOtherOne row.now other.now) }
 {
-    let mut sum = Vec::with_capacity(alloc, row.len() + other.len())?;
+    let mut sum = SmallVec::with_capacity(alloc, row.len() + other.len())?;
     let mut added = false;
     let mut i = 0;
     let mut j = 0;

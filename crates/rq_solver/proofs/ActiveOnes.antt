@@ -141,6 +141,21 @@ degrees_lowered columns old new column was now width inside active ends height l
     (active_true old column active) gone in
     omega (arith, fell, often, parts, counts r l)
 
+-- a row's active column that isn't active any more was its only one
+pub none_behind :
+    (row : List ℕ) (old new : ColumnState) (column : ℕ) → All (λ k. k < length old.order) row → Contains row column → IsActive old column → EndsActive column old new → active_ones old row ≤ 1
+    → HasNoActive row new
+none_behind row old new column below is active ends few k there still =
+    let within = λ (j : ℕ) (is : Contains row j). subst (λ (c : ℕ). c < length old.order) is.2 (below is.0 j is.1) in
+    let gone : is_active new column ≡ false = false_from_ne_true (is_active new column) (λ e. (ends.left column (within column is) (true_active new column e)).1 refl) in
+    let parts : active_ones old row ≡ active_ones new row + count_by (λ x. x == column) row = count_split (is_active old) (is_active new) column row
+    (λ j in_row d. bool_same (is_active old j) (is_active new j) (λ e. active_true new j (ends.kept j (within j in_row) (true_active old j e) d)) (λ e. active_true old j (ends.left j (within j in_row) (true_active new j e)).0))
+    (active_true old column active) gone in
+    let some = count_present row column is in
+    let most = get_or-le-sum_by (λ (x : ℕ). cond (is_active new x) 1 0) row there.0 k there.1 in
+    let one : ◌≡◌ {A = ℕ} (cond (is_active new (get_or row there.0 k)) 1 0) 1 = ap (λ (x : ℕ). cond (is_active new x) 1 0) there.2 ∙ ap (λ b. cond b 1 0) (active_true new k still) in
+    omega (arith, few, parts, some, most, one)
+
 -- ---- columns that are left
 
 zero_tested : (n : ℕ) → n ≡ 0 → (n == 0) ≡ true

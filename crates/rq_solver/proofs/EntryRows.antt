@@ -12,7 +12,7 @@ use Rattle.rq_standard.proofs.RowSymbols.{add_symbols-rows}
 use Rattle.rq_standard.specs.Rows.{row_sum, row_multiple}
 use Rattle.rq_bytes.specs.SymbolSlab.{Slab, after, slab_of, HasPlace, symbol_in, Allows}
 use Rattle.rq_bytes.proofs.Multiples.{times_one}
-use Rattle.rq_parts.specs.DenseOctetMatrix.{OctetTable, IsOctetRow, row_at, with_row}
+use Rattle.rq_parts.specs.DenseOctetMatrix.{OctetTable, HasOctets, IsOctetRow, row_at, with_row}
 use Rattle.rq_solver.specs.declared.pi_solver.entries.InactiveEntries.TheInside.{Inside}
 use Rattle.rq_solver.specs.InactiveEntries.{AreEntries, IsNextEntry, row_of, entry_rows, unpacked}
 use Rattle.rq_solver.proofs.UnpackedBits.{is_unpacked, unpacked_row, unpacked-sum, unpacked-zeros}
@@ -116,6 +116,15 @@ module _ (width : ℕ) (bits : Slab) (owns : List (List ℕ)) (are : AreEntries 
 
       pub table_with_bits : table_of width (record bits { values = set bits.values i symbol }) owns ≡ with_row (table_of width bits owns) i (row_of width symbol (get_or owns i []))
       table_with_bits = ap (λ (rows : List (List ℕ)). record { width = width; rows = rows }) (rows_with_bits width bits.values owns are.height i inside symbol)
+
+  -- callers see octets
+  pub has_octets : HasOctets (table_of width bits owns)
+  has_octets = record {
+    widths = λ i d l. (are.rows i d l).0;
+    elements = λ i k l m.
+        let row = are.rows i [] l in
+        row.1 k 0 (omega (arith, row.0, m));
+  }
 
 -- ---- rows of zeros
 

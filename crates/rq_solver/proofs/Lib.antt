@@ -35,5 +35,7 @@ pub mod StepColumns
 pub mod TailWrites
 pub mod Turns
 pub mod UnpackedBits
+pub mod WithOctets
+pub mod WithOnes
 pub mod Writes
 pub mod ZeroValues

@@ -55,6 +55,10 @@ pub some_place : (place k : ℕ) → place_before place ≡ Some k → place ≡
 some_place zero k e = absurd (cc e)
 some_place (suc place) k e = ap suc (cc e)
 
+pub no_place : (place : ℕ) → place_before place ≡ None → place ≡ 0
+no_place zero e = refl
+no_place (suc place) e = absurd (cc e)
+
 -- ---- a buffer, and what callers see of it
 
 module _ {octets : Slab} {places : List ℕ} (are : ArePlaced octets places) {now : OctetTable} (seen : table_of_own octets places ≡ now) where

@@ -1,5 +1,5 @@
 -- A row of a matrix of octets that is written entry by entry.
-use Rattle.std.proofs.Common.{◌≡◌, ◌≢◌, ℕ, ◌+◌, ◌<◌, ◌≤◌, [], length, set, refl, sym, ◌∙◌, arith, inl, inr}
+use Rattle.std.proofs.Common.{◌≡◌, ◌≢◌, ℕ, ◌<◌, ◌≤◌, [], length, set, refl, sym, ◌∙◌, arith, inl, inr}
 use Rattle.std.proofs.lemmas.Bool.{cases_eq}
 use Rattle.std.proofs.lemmas.List.{get_or-set_same, get_or-set_other, length-set}
 use Rattle.std.proofs.lemmas.List.Elements.{All-set}
@@ -58,29 +58,11 @@ module _ (table : OctetTable) (are : HasOctets table) (row column octet : ℕ) (
   unfolding written
   sets_entry new e = rw e sets
 
--- nothing is written yet
-pub writes_none : (row start : ℕ) (wanted : ℕ → ℕ) (table : OctetTable) → HasOctets table → WritesRow row start start wanted table table
-writes_none row start wanted table are = record { width = refl; height = refl; octets = are; here = λ k l m. absurd (omega arith); beside = λ k l. refl; elsewhere = λ i k d. refl }
-
 -- a row in which a range is as wanted
 pub writes_wanted : (row start end : ℕ) (wanted : ℕ → ℕ) (table : OctetTable) → HasOctets table → ((k : ℕ) → start ≤ k → k < end → entry_of table row k ≡ wanted k) → WritesRow row start end wanted table table
 writes_wanted row start end wanted table are is = record { width = refl; height = refl; octets = are; here = is; beside = λ k l. refl; elsewhere = λ i k d. refl }
 
 module _ (row start : ℕ) (old table new : OctetTable) where
-  -- the next entry is written
-  pub writes_more : (n octet : ℕ) (wanted : ℕ → ℕ) → start ≤ n → WritesRow row start n wanted old table → SetsEntry row n octet table new → octet ≡ wanted n → WritesRow row start (n + 1) wanted old new
-  writes_more n octet wanted from writes sets is = record {
-    width = sets.width ∙ writes.width;
-    height = sets.height ∙ writes.height;
-    octets = sets.octets;
-    here = λ k l m. elim (cases_eq k n) [ inl e ↦ rw e (sets.here ∙ is) | inr d ↦ sets.beside k d ∙ writes.here k l (omega arith) ];
-    beside = λ k out. elim out [
-      | inl l ↦ sets.beside k (omega arith) ∙ writes.beside k (inl l)
-      | inr l ↦ sets.beside k (omega arith) ∙ writes.beside k (inr (omega arith))
-    ];
-    elsewhere = λ i k d. sets.elsewhere i k d ∙ writes.elsewhere i k d;
-  }
-
   -- one entry of the range is written anew
   pub writes_again : (end column octet : ℕ) (before after : ℕ → ℕ) → start ≤ column → column < end → WritesRow row start end before old table → SetsEntry row column octet table new → octet ≡ after column
       → ((k : ℕ) → k ≢ column → after k ≡ before k) → WritesRow row start end after old new

@@ -112,9 +112,9 @@ impl SourceBlockEncodingPlan {
         ensures column { IfOk result (λ slab. IsOnlyIntermediateColumn (plan_of self.now).row source.now.symbol_size source.now.values (symbol_in slab)) }
         ensures memory { IfErr result (λ e. e ≡ Error.OutOfMemory) }
     {
+        // For the proof: the contract of `symbol_size` says that each symbol has that size.
+        let _size = source.symbol_size();
         let mut symbols = source_values(&self.row, source)?;
-        // What counts the symbols says that they have one size.
-        let _count = symbols.len();
         self.operations.replay(&mut symbols)?;
         Ok(symbols)
     }

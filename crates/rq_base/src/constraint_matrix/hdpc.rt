@@ -1,13 +1,12 @@
 //! The HDPC rows of the constraint matrix (RFC 6330, section 5.3.3.3).
-ghost use Rattle.std.specs.Prelude.{◌≡◌, ◌≢◌, ℕ, ◌+◌, ◌-◌, ◌<◌, ◌==◌, ◌||◌, IfOk, IfErr};
+ghost use Rattle.std.specs.Prelude.{◌≡◌, ◌≢◌, ℕ, ◌+◌, ◌-◌, ◌<◌, ◌≤◌, ◌==◌, ◌||◌, length, IfOk, IfErr};
 ghost use Rattle.rq_bytes.specs.declared.error.Error.TheVariants.{OutOfMemory};
 ghost use Rattle.rq_standard.specs.TableRows.{IsChecked};
 ghost use Rattle.rq_standard.specs.Equations.{before_hdpc, mt, one_if};
-ghost use Rattle.rq_standard.specs.Octets.{octet_mul};
-ghost use Rattle.std.specs.Int.Bits.{bit_xor};
-ghost use Rattle.rq_base.specs.HdpcPart.{IsHdpcPart, IsFilledFrom};
+ghost use Rattle.rq_base.specs.HdpcPart.{IsHdpcPart, IsHdpcColumn, IsFilledFrom};
 
 use rq_bytes::error::Error;
+use rq_bytes::factor::multiply_row;
 use rq_bytes::octet::Octet;
 use rq_parts::octet_matrix::DenseOctetMatrix;
 use rq_standard::row::TableRow;
@@ -22,10 +21,24 @@ pub fn generate_hdpc_rows(alloc: Global, row: &TableRow) -> Result<DenseOctetMat
 {
     let last = columns_before_hdpc(row) - 1;
     let mut matrix = last_columns(alloc, row)?;
+    let mut store = [0; 256];
+    let octets = &mut store[..whole_lanes(row)];
+    fill_powers(octets, row);
     for column in (0..last).rev() {
-        fill_column(&mut matrix, row, column);
+        step_back(octets, row, column);
+        fill_column(&mut matrix, row, column, octets);
     }
     Ok(matrix)
+}
+
+// How many octets are kept of a column: its own and zeros after them, so that all are doubled in
+// whole vectors of 32.
+fn whole_lanes(row: &TableRow) -> usize
+    requires { IsChecked row.now }
+    ensures all { row.now.hdpc_symbols ≤ result }
+    ensures few { result ≤ 256 }
+{
+    (row.hdpc_symbols as usize).div_ceil(32) * 32
 }
 
 // How many columns stand before those of the HDPC symbols: L - H.
@@ -52,19 +65,40 @@ fn last_columns(alloc: Global, row: &TableRow) -> Result<DenseOctetMatrix, Error
     Ok(matrix)
 }
 
-// A column of the product of MT and GAMMA from the next one: alpha times that, and one more in the
-// two rows where MT's own column has a one.
-fn fill_column(matrix: &mut DenseOctetMatrix, row: &TableRow, column: usize)
+// The octets of column K'+S-1, the powers of alpha.
+fn fill_powers(octets: &mut [u8], row: &TableRow)
+    requires checked { IsChecked row.now }
+    requires long { row.now.hdpc_symbols ≤ length octets.old }
+    ensures { IsHdpcColumn row.now (before_hdpc row.now - 1) octets.new }
+{
+    for i in 0..row.hdpc_symbols as usize {
+        octets[i] = Octet::alpha(i).byte();
+    }
+}
+
+// From a column of the product of MT and GAMMA to the one before it: alpha times that, and one more
+// in the two rows where MT's own column has a one.
+fn step_back(octets: &mut [u8], row: &TableRow, column: usize)
     requires checked { IsChecked row.now }
     requires column { column + 1 < before_hdpc row.now }
+    requires next { IsHdpcColumn row.now (column + 1) octets.old }
+    ensures { IsHdpcColumn row.now column octets.new }
+{
+    let (first, second) = ones_of_mt(row, column);
+    multiply_row(octets, &Octet::new(2));
+    octets[first] ^= 1;
+    octets[second] ^= 1;
+}
+
+// Writes a column into the matrix that has the columns after it.
+fn fill_column(matrix: &mut DenseOctetMatrix, row: &TableRow, column: usize, octets: &[u8])
+    requires column { column + 1 < before_hdpc row.now }
+    requires octets { IsHdpcColumn row.now column octets.now }
     requires next { IsFilledFrom row.now (column + 1) matrix.old }
     ensures { IsFilledFrom row.now column matrix.new }
 {
-    let (first, second) = ones_of_mt(row, column);
     for i in 0..row.hdpc_symbols as usize {
-        let next = matrix.get(i, column + 1);
-        let octet = octet_before(next, i == first || i == second);
-        matrix.set(i, column, octet);
+        matrix.set(i, column, Octet::new(octets[i]));
     }
 }
 
@@ -82,16 +116,4 @@ pub fn ones_of_mt(row: &TableRow, column: usize) -> (usize, usize)
     let first = rand(seed, 6, height);
     let second = (first + rand(seed, 7, height - 1) + 1) % height;
     (first as usize, second as usize)
-}
-
-// Alpha times the next octet of a row, and one more where MT has a one.
-fn octet_before(next: Octet, has_one: bool) -> Octet
-    ensures { result ≡ bit_xor (octet_mul 2 next) (one_if has_one) }
-{
-    let product = Octet::alpha(1) * next;
-    if has_one {
-        product + Octet::one()
-    } else {
-        product
-    }
 }

@@ -8,7 +8,7 @@ use crate::range_sums::{add_ranges, add_ranges_to};
 
 impl SymbolSlab {
     /// Adds several symbols to another one: in one pass over its octets where they are at most eight,
-    /// and else one after another.
+    /// and else one after another. Not in the Rust crate.
     pub fn add_all(&mut self, dest: usize, sources: &[usize])
         requires dest { HasPlace self.old dest }
         requires sources { All (λ src. Allows self.old (AddAssign dest src)) sources.now }

@@ -1,9 +1,9 @@
 //! What rows have in the inactive columns.
-ghost use Rattle.std.specs.Prelude.{◌≡◌, ◌≢◌, ℕ, ◌+◌, ◌%◌, ◌^◌, ◌<◌, ◌≤◌, length, replicate, slice_set, IfOk, OnOk, IfErr, OnErr};
+ghost use Rattle.std.specs.Prelude.{◌≡◌, ◌≢◌, ℕ, ◌+◌, ◌%◌, ◌^◌, ◌<◌, ◌≤◌, All, length, replicate, IfOk, OnOk, IfErr, OnErr};
 ghost use Rattle.rq_bytes.specs.declared.error.Error.TheVariants.{OutOfMemory};
 ghost use Rattle.rq_parts.specs.DenseOctetMatrix.{entry_of, HasOctets, IsOctetRow, row_at, with_row};
 ghost use Rattle.rq_solver.specs.EntryRow.{HasWidth, octets_of};
-ghost use Rattle.rq_solver.specs.InactiveEntries.{IsNextOctet};
+ghost use Rattle.rq_solver.specs.InactiveEntries.{IsNextOctet, with_octets, with_ones};
 ghost use Rattle.rq_standard.specs.Rows.{row_sum, row_multiple};
 
 mod octet_row;
@@ -13,10 +13,11 @@ mod packed_bits;
 use super::elimination::OctetRows;
 use octet_row::{EntryRow, count_octets, next_octet};
 use own_octets::OwnOctets;
-use packed_bits::{LANES, bit, count_ones, next_one, set_bit};
+use packed_bits::{LANES, bit, count_ones, next_one, set_bits};
 use rq_bytes::error::Error;
 use rq_bytes::octet::Octet;
 use rq_bytes::symbol_slab::SymbolSlab;
+use rq_parts::octet_matrix::DenseOctetMatrix;
 use std::alloc::Global;
 use std::marker::Model;
 
@@ -64,30 +65,41 @@ impl InactiveEntries {
         self.octets.width()
     }
 
-    /// Sets an entry of a row to 1.
-    pub(super) fn set_one(&mut self, row: usize, column: usize)
+    /// Sets the entries of a row to 1 at the places of columns, counted from `first` on, and none for
+    /// those before.
+    pub(super) fn set_ones(&mut self, row: usize, columns: &[u16], places: &[u16], first: usize)
         requires row { row < length self.old.rows }
-        requires column { column < self.old.width }
-        ensures { self.new ≡ with_row self.old row (slice_set (row_at self.old row) column 1) }
+        requires columns { All (λ column. column < length places.now) columns.now }
+        requires room { All (λ place. place < first + self.old.width) places.now }
+        ensures { self.new ≡ with_row self.old row (with_ones places.now first (row_at self.old row) columns.now) }
     {
         if self.octets.is_none(row) {
-            set_bit(self.bits.get_mut(row), column);
+            set_bits(self.bits.get_mut(row), columns, places, first);
         } else {
-            self.octets.set(row, column, 1);
+            self.octets.set_ones(row, columns, places, first);
         }
     }
 
-    /// Sets an entry of a row, which gets octets.
-    pub(super) fn set(&mut self, row: usize, column: usize, octet: u8) -> Result<(), Error>
+    /// Sets the first entries of a row, which gets octets, to those of a row of octets in columns.
+    pub(super) fn fill(
+        &mut self,
+        row: usize,
+        octets: &DenseOctetMatrix,
+        from: usize,
+        columns: &[u16],
+    ) -> Result<(), Error>
         requires row { row < length self.old.rows }
-        requires column { column < self.old.width }
-        ensures ok { OnOk result (self.new ≡ with_row self.old row (slice_set (row_at self.old row) column octet)) }
+        requires from { from < length octets.now.rows }
+        requires columns { All (λ column. column < octets.now.width) columns.now }
+        requires room { length columns.now ≤ self.old.width }
+        ensures ok { OnOk result (self.new ≡ with_row self.old row (with_octets (row_at octets.now from) columns.now (row_at self.old row))) }
+        ensures octets { HasOctets self.new }
         ensures height { OnErr result (length self.new.rows ≡ length self.old.rows) }
         ensures err { IfErr result (λ e. e ≡ OutOfMemory) }
     {
         let bits = self.bits.get(row);
         self.octets.ensure(row, bits)?;
-        self.octets.set(row, column, octet);
+        self.octets.fill(row, octets, from, columns);
         Ok(())
     }
 

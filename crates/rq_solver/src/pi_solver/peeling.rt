@@ -1,8 +1,8 @@
 //! The first phase: columns get pivots among rows of bits while no row is changed.
-ghost use Rattle.std.specs.Prelude.{◌≡◌, false, ◌<◌, ◌+◌, [], length, slice_index_or, All, Contains, IsTrue, IfSome, IfNone, OnOk, IfOk, IfErr};
+ghost use Rattle.std.specs.Prelude.{◌≡◌, false, ◌<◌, ◌≤◌, ◌+◌, [], drop, length, slice_index_or, All, Contains, IsTrue, IfSome, IfNone, OnOk, IfOk, IfErr};
 ghost use Rattle.rq_bytes.specs.declared.error.Error.TheVariants.{OutOfMemory};
 ghost use Rattle.rq_algebra.specs.Systems.{at};
-ghost use Rattle.rq_solver.specs.Degrees.{KeepsDegrees, LowersRows, TakesFewest};
+ghost use Rattle.rq_solver.specs.Degrees.{KeepsDegrees, LowersRows, TakesFewest, active_ones};
 ghost use Rattle.rq_solver.specs.Peeled.{IsPeeled, IsActive, HasNoActive, TakesRow, InactivatesRow};
 
 use crate::pi_solver::column_rows::ColumnRows;
@@ -69,13 +69,12 @@ impl Peeling {
         self.order[place] as usize
     }
 
-    /// The inactive column that so many others come before.
-    #[inline(always)]
-    pub(super) fn inactive_column(&self, before: usize) -> usize
-        requires { length self.now.rows + before < length self.now.order }
-        ensures { result ≡ at self.now.order (length self.now.rows + before) }
+    /// The inactive columns, in their order.
+    pub(super) fn inactive_columns(&self) -> &[u16]
+        requires { length self.now.rows ≤ length self.now.order }
+        ensures { result.now ≡ drop (length self.now.rows) self.now.order }
     {
-        self.order[self.rows.len() + before] as usize
+        &self.order[self.rows.len()..]
     }
 
     /// The place of a column in the order.
@@ -129,8 +128,10 @@ pub(super) fn peel(alloc: Global, system: &System) -> Result<Peeling, Error>
         let Some(row) = next else {
             break;
         };
+        let degree = degrees.degree(row);
         let taken = take_row(
             ones.row(row),
+            degree,
             &column_rows,
             boundary,
             &mut degrees,
@@ -149,10 +150,11 @@ pub(super) fn peel(alloc: Global, system: &System) -> Result<Peeling, Error>
     })
 }
 
-// Gives the first active column of a row the next pivot, and makes the others inactive. Says whether
-// there is one.
+// Gives the first active column of a row, which has so many, the next pivot, and makes the others
+// inactive. Says whether there is one.
 fn take_row(
     row: &[u16],
+    degree: u16,
     column_rows: &ColumnRows,
     nodes: usize,
     degrees: &mut RowDegrees,
@@ -163,6 +165,7 @@ fn take_row(
     requires height { column_rows.now.height ≡ length degrees.old }
     requires width { length column_rows.now.lists ≡ length columns.old.order }
     requires graph { length graph.old.labels ≡ nodes }
+    requires degree { degree ≡ active_ones columns.old row.now }
     ensures taken { IfOk result (λ taken. IsTrue taken → TakesRow row.now columns.old columns.new) }
     ensures left { IfOk result (λ taken. (taken ≡ false) → columns.new ≡ columns.old) }
     ensures none { IfOk result (λ taken. (taken ≡ false) → HasNoActive row.now columns.old) }
@@ -176,7 +179,10 @@ fn take_row(
     };
     columns.take_pivot(pivot);
     leave_column(pivot, column_rows, nodes, degrees, graph)?;
-    inactivate_columns(row, column_rows, nodes, degrees, graph, columns)?;
+    // Nearly all rows have no other one.
+    if degree > 1 {
+        inactivate_columns(row, column_rows, nodes, degrees, graph, columns)?;
+    }
     Ok(true)
 }
 

@@ -13,7 +13,7 @@ loop-i-preserved-in-Less c =
     let other = c.args.other.now in
     let less : get_or row c.loop-i.i 0 < get_or other c.loop-i.j 0 = ranked _ _ Less (sym c.in-Less.is ∙ c.cmp.ensures) in
     record {
-      merges = rw c.in_ok-push-in-Less.ensures.items (next_row row other c.loop-i.sum.items c.loop-i.added c.loop-i.i c.loop-i.j c.loop-i.invariant.merges c.loop-i-test.true c.if-j-other.true less);
+      merges = rw c.in_ok-push-in-Less.ensures.ok (next_row row other c.loop-i.sum.items c.loop-i.added c.loop-i.i c.loop-i.j c.loop-i.invariant.merges c.loop-i-test.true c.if-j-other.true less);
       row_within = omega (arith, c.loop-i-test.true);
       other_within = c.loop-i.invariant.other_within;
     }
@@ -35,7 +35,7 @@ loop-i-preserved c =
     let other = c.args.other.now in
     let less : get_or other c.loop-i.j 0 < get_or row c.loop-i.i 0 = ranked _ _ Greater (sym c.in-Greater.is ∙ c.cmp.ensures) in
     record {
-      merges = rw c.in_ok-push-in-Greater.ensures.items (next_other row other c.loop-i.sum.items c.loop-i.added c.loop-i.i c.loop-i.j c.loop-i.invariant.merges c.loop-i-test.true c.if-j-other.true less);
+      merges = rw c.in_ok-push-in-Greater.ensures.ok (next_other row other c.loop-i.sum.items c.loop-i.added c.loop-i.i c.loop-i.j c.loop-i.invariant.merges c.loop-i-test.true c.if-j-other.true less);
       row_within = c.loop-i.invariant.row_within;
       other_within = omega (arith, c.if-j-other.true);
     }
@@ -49,7 +49,7 @@ ended c = elim c.loop-i-test.branch [
 all_merged : (c : goal.Joined-added) → IsMerged c.args.row.now c.args.other.now c.extend_from_slice-2.new.self.items c.loop-i.added (length (drop c.loop-i.j c.args.other.now))
 all_merged c =
     subst (λ xs. IsMerged c.args.row.now c.args.other.now xs c.loop-i.added (length (drop c.loop-i.j c.args.other.now)))
-    (sym (c.in_ok-extend_from_slice-2.ensures.items ∙ ap (λ xs. c.extend_from_slice.new.self.items ++ xs) (rest_from c.args.other.now c.loop-i.j) ∙ ap (λ xs. xs ++ drop c.loop-i.j c.args.other.now) (c.in_ok-extend_from_slice.ensures.items ∙ ap (λ xs. c.loop-i.sum.items ++ xs) (rest_from c.args.row.now c.loop-i.i))))
+    (sym (c.in_ok-extend_from_slice-2.ensures.ok ∙ ap (λ xs. c.extend_from_slice.new.self.items ++ xs) (rest_from c.args.other.now c.loop-i.j) ∙ ap (λ xs. xs ++ drop c.loop-i.j c.args.other.now) (c.in_ok-extend_from_slice.ensures.ok ∙ ap (λ xs. c.loop-i.sum.items ++ xs) (rest_from c.args.row.now c.loop-i.i))))
     (merges_all c.args.row.now c.args.other.now c.loop-i.sum.items c.loop-i.added (drop c.loop-i.i c.args.row.now) (drop c.loop-i.j c.args.other.now) c.loop-i.invariant.merges (ended c))
 
 pub returns-clause-increasing : goal.returns-clause-increasing

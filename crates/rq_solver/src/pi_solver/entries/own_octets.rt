@@ -1,9 +1,9 @@
 //! The octets that rows have of their own.
-ghost use Rattle.std.specs.Prelude.{◌≡◌, ◌≢◌, ℕ, ◌*◌, ◌%◌, ◌+◌, ◌^◌, ◌<◌, ◌≤◌, ◌++◌, ◌∷◌, [], true, false, None, length, replicate, slice_set, IfOk, OnOk, IfErr, OnErr};
+ghost use Rattle.std.specs.Prelude.{◌≡◌, ◌≢◌, ℕ, ◌*◌, ◌%◌, ◌+◌, ◌^◌, ◌<◌, ◌≤◌, ◌++◌, ◌∷◌, [], true, false, None, All, length, replicate, IfOk, OnOk, IfErr, OnErr};
 ghost use Rattle.rq_algebra.specs.Systems.{at};
 ghost use Rattle.rq_bytes.specs.declared.error.Error.TheVariants.{OutOfMemory};
 ghost use Rattle.rq_parts.specs.DenseOctetMatrix.{IsOctetRow, row_at, with_row};
-ghost use Rattle.rq_solver.specs.InactiveEntries.{place_before, row_of, unpacked};
+ghost use Rattle.rq_solver.specs.InactiveEntries.{place_before, row_of, unpacked, with_octets, with_ones};
 ghost use Rattle.rq_standard.specs.Rows.{row_sum, row_multiple};
 
 use super::packed_bits::add_bits;
@@ -12,6 +12,7 @@ use rq_bytes::factor::{add_row_multiple, multiply_row};
 use rq_bytes::octet::Octet;
 use rq_bytes::octets::are_octets;
 use rq_bytes::symbol_slab::SymbolSlab;
+use rq_parts::octet_matrix::DenseOctetMatrix;
 use std::alloc::Global;
 use std::marker::Model;
 
@@ -102,17 +103,42 @@ impl OwnOctets {
         Ok(())
     }
 
-    /// Sets the octet of a row in a column.
-    pub(super) fn set(&mut self, row: usize, column: usize, octet: u8)
+    /// Sets the first octets of a row to those of another matrix's row in columns.
+    pub(super) fn fill(
+        &mut self,
+        row: usize,
+        octets: &DenseOctetMatrix,
+        from: usize,
+        columns: &[u16],
+    )
         requires row { row < length self.old.rows }
         requires own { length (row_at self.old row) ≡ self.old.width }
-        requires column { column < self.old.width }
-        ensures set { self.new ≡ with_row self.old row (slice_set (row_at self.old row) column octet) }
+        requires from { from < length octets.now.rows }
+        requires columns { All (λ column. column < octets.now.width) columns.now }
+        requires room { length columns.now ≤ self.old.width }
+        ensures filled { self.new ≡ with_row self.old row (with_octets (row_at octets.now from) columns.now (row_at self.old row)) }
+        ensures octets { IsOctetRow self.old.width (row_at self.new row) }
+    {
+        if let Some(place) = place_of(self.places.as_slice(), row) {
+            let own = self.rows.get_mut(place);
+            copy_columns(own, octets, from, columns);
+            are_octets(own);
+        }
+    }
+
+    /// Sets the octets of a row to 1 at the places of columns, counted from `first` on, and none for
+    /// those before.
+    pub(super) fn set_ones(&mut self, row: usize, columns: &[u16], places: &[u16], first: usize)
+        requires row { row < length self.old.rows }
+        requires own { length (row_at self.old row) ≡ self.old.width }
+        requires columns { All (λ column. column < length places.now) columns.now }
+        requires room { All (λ place. place < first + self.old.width) places.now }
+        ensures set { self.new ≡ with_row self.old row (with_ones places.now first (row_at self.old row) columns.now) }
         ensures octets { IsOctetRow self.old.width (row_at self.new row) }
     {
         if let Some(place) = place_of(self.places.as_slice(), row) {
             let octets = self.rows.get_mut(place);
-            octets[column] = octet;
+            set_octets(octets, columns, places, first);
             are_octets(octets);
         }
     }
@@ -174,6 +200,32 @@ fn place_of(places: &[u32], row: usize) -> Option<usize>
     match places[row] {
         0 => None,
         place => Some(place as usize - 1),
+    }
+}
+
+// Sets the first octets to those of a matrix's row in columns.
+fn copy_columns(own: &mut [u8], octets: &DenseOctetMatrix, from: usize, columns: &[u16])
+    requires from { from < length octets.now.rows }
+    requires columns { All (λ column. column < octets.now.width) columns.now }
+    requires room { length columns.now ≤ length own.old }
+    ensures { own.new ≡ with_octets (row_at octets.now from) columns.now own.old }
+{
+    for (f, column) in columns.iter().enumerate() {
+        own[f] = octets.get(from, *column as usize).byte();
+    }
+}
+
+// Sets octets to 1 at the places of columns, counted from `first` on.
+fn set_octets(octets: &mut [u8], columns: &[u16], places: &[u16], first: usize)
+    requires columns { All (λ column. column < length places.now) columns.now }
+    requires room { All (λ place. place < first + length octets.old) places.now }
+    ensures { octets.new ≡ with_ones places.now first octets.old columns.now }
+{
+    for column in columns {
+        let place = places[*column as usize] as usize;
+        if place >= first {
+            octets[place - first] = 1;
+        }
     }
 }
 

@@ -171,14 +171,13 @@ fn add_first_row(
         return Ok(());
     }
     let sum = batch.sum_in(column);
-    for row in 1..batch.height() {
-        let octet = batch.get_beside(row, column, &sum);
-        if octet.byte() != 0 {
-            let scalar = &octet / &lead;
-            let factor = scalar.byte();
-            batch.add_first(row, factor);
-            recorded.add_row(first_hdpc + row, first_hdpc, scalar)?;
-        }
+    let mut from = 1;
+    while let Some((row, octet)) = batch.next_beside(from, column, &sum) {
+        let scalar = &octet / &lead;
+        let factor = scalar.byte();
+        batch.add_first(row, factor);
+        recorded.add_row(first_hdpc + row, first_hdpc, scalar)?;
+        from = row + 1;
     }
     if lead.byte() != 1 {
         let scalar = Octet::one() / lead;

@@ -58,11 +58,7 @@ fn fill_octets(
     ensures written { OnOk result (FillsRow row inactive (λ f. entry_of octets.now from (at peeling.now.order (length peeling.now.rows + f))) entries.old entries.new) }
     ensures err { IfErr result (λ e. e ≡ OutOfMemory) }
 {
-    for f in 0..inactive {
-        let column = peeling.inactive_column(f);
-        entries.set(row, f, octets.get(from, column).byte())?;
-    }
-    Ok(())
+    entries.fill(row, octets, from, peeling.inactive_columns())
 }
 
 // Sets the ones of a row of zeros that are in inactive columns.
@@ -75,11 +71,5 @@ fn fill_bits(ones: &RowOnes, row: usize, peeling: &Peeling, entries: &mut Inacti
     requires zeros { (f : ℕ) → f < length peeling.now.places - length peeling.now.rows → entry_of entries.old row f ≡ 0 }
     ensures { WritesRow row 0 (length peeling.now.places - length peeling.now.rows) (λ f. one_in ones.now row (at peeling.now.order (length peeling.now.rows + f))) entries.old entries.new }
 {
-    let pivots = peeling.pivots();
-    for column in ones.row(row) {
-        let place = peeling.place_of(*column as usize);
-        if place >= pivots {
-            entries.set_one(row, place - pivots);
-        }
-    }
+    entries.set_ones(row, ones.row(row), peeling.places(), peeling.pivots());
 }

@@ -5,6 +5,7 @@ ghost use Rattle.rq_algebra.specs.Systems.{at};
 ghost use Rattle.rq_bytes.specs.declared.error.Error.TheVariants.{OutOfMemory};
 ghost use Rattle.rq_parts.specs.DenseOctetMatrix.{entry_of, HasOctets};
 ghost use Rattle.rq_standard.specs.OctetField.{octets};
+ghost use Rattle.rq_solver.specs.InactiveEntries.{IsNextOctet};
 ghost use Rattle.rq_solver.specs.OctetBatch.{octet_in};
 
 use rq_bytes::error::Error;
@@ -78,9 +79,33 @@ impl OctetBatch {
         self.table.get(0, column)
     }
 
-    /// What a row but the first has in a column, where it is known what the rows' sum has there.
+    /// The first row, from one behind the first on, that isn't 0 in a column, and what it has there. It
+    /// is known what the rows' sum has in the column.
     #[inline(always)]
-    pub(super) fn get_beside(&self, row: usize, column: usize, sum: &Octet) -> Octet
+    pub(super) fn next_beside(
+        &self,
+        from: usize,
+        column: usize,
+        sum: &Octet,
+    ) -> Option<(usize, Octet)>
+        requires others { 0 < from }
+        requires column { column < self.now.table.width }
+        requires sum { sum.now ≡ entry_of self.now.table 0 column }
+        ensures next { IsNextOctet (λ row. octet_in self.now row column) from (length self.now.table.rows) result }
+        ensures octets { HasOctets self.now.table }
+    {
+        for row in from..self.height() {
+            let octet = self.get_beside(row, column, sum);
+            if octet.byte() != 0 {
+                return Some((row, octet));
+            }
+        }
+        None
+    }
+
+    // What a row but the first has in a column, where it is known what the rows' sum has there.
+    #[inline(always)]
+    fn get_beside(&self, row: usize, column: usize, sum: &Octet) -> Octet
         requires other { 0 < row }
         requires row { row < length self.now.table.rows }
         requires column { column < self.now.table.width }

@@ -35,7 +35,7 @@ returns-then-i-j c =
     let first = get_or rows i [] in
     let second = get_or rows j [] in
     let items =
-    with_items_is c.self.inside.words c.swap_ranges.new.words (c.swap_ranges.auto.words ∙ c.as_mut_slice.ensures.len)
+    with_items_is c.self.inside.words c.swap_ranges.new.slice (c.swap_ranges.auto.slice ∙ c.as_mut_slice.ensures.len)
     ∙ c.swap_ranges.ensures
     ∙ ap (λ l. with_range (with_range l (i * size) (range_of l (j * size) size)) (j * size) (range_of l (i * size) size)) c.as_mut_slice.ensures.value
     ∙ ap (λ l. with_range (with_range words (i * size) (range_of words (j * size) size)) (j * size) l) (row_at is i c.requires.first)

@@ -1,5 +1,5 @@
 use Rattle.std.proofs.Common.{Some, ap, ◌∙◌}
-use Rattle.rq_parts.proofs.ListedBits.{listed-gap, listed-found, octet-listed, octet-none, sets-removed, sets-nothing}
+use Rattle.rq_parts.proofs.ListedBits.{listed-gap, listed-found, octet-listed, octet-none, rises-without, sets-removed, sets-nothing}
 use Rattle.rq_parts.proofs.sparse_vec.SparseBinaryVec.remove.Goals as goal
 
 pub returns-in-Ok-clause-removed : goal.returns-in-Ok-clause-removed
@@ -13,3 +13,9 @@ returns-in-Err-clause-removed c = sets-nothing c.args.self.now c.args.i (listed-
 
 pub returns-in-Err-clause-value : goal.returns-in-Err-clause-value
 returns-in-Err-clause-value c = octet-none c.args.self.now c.args.i (listed-gap c.args.self.now c.args.i _ c.in-Err.ensures.missing)
+
+pub invariant_of-self : goal.invariant_of-self
+invariant_of-self c = rw (c.remove.ensures.items, c.self.view_is) (rises-without c.args.self.now c.in-Ok.at c.in-Ok.ensures.found.within c.find.ensures.increasing)
+
+pub returns-in-Ok-clause-increasing : goal.returns-in-Ok-clause-increasing
+returns-in-Ok-clause-increasing c = rw (c.remove.ensures.items, c.self.view_is) (rises-without c.args.self.now c.in-Ok.at c.in-Ok.ensures.found.within c.find.ensures.increasing)

@@ -1,16 +1,15 @@
 -- What the check leaves to show of `pi_solver::first_phase::hdpc::add_first_row`.
-use Rattle.std.proofs.Common.{◌≡◌, ◌≢◌, ℕ, ◌<◌, ◌+◌, length, lit<, refl, sym, ap, ◌∙◌, subst, arith, inl, inr}
-use Rattle.std.proofs.lemmas.Bool.{cases_eq}
+use Rattle.std.proofs.Common.{◌≡◌, ◌≢◌, ℕ, ◌<◌, ◌≤◌, ◌+◌, length, lit<, refl, sym, ap, ◌∙◌, subst, arith, inl, inr}
+use Rattle.std.proofs.lemmas.Bool.{cases_eq, cases_lt}
 use Rattle.rq_algebra.specs.Steps.{AddsRow, ScalesRow}
 use Rattle.rq_standard.specs.OctetField.{octets}
-use Rattle.rq_parts.specs.DenseOctetMatrix.{OctetTable}
+use Rattle.rq_parts.specs.DenseOctetMatrix.{HasOctets}
 use Rattle.rq_solver.specs.OctetBatch.{octet_in, octets_from}
 use Rattle.rq_solver.proofs.Entries.{one-div, inverse_nonzero}
 use Rattle.rq_solver.proofs.OctetSums.{quotient_times, plus_quotient_times}
 use Rattle.rq_solver.proofs.OctetBatchLaws.{elements_beside, adds_beside, scales_beside, from_elements, from_adds, from_scales}
 use Rattle.rq_solver.proofs.OctetTurns.{combines_none, combines_more, combines_sum, combines_scaling}
 use Rattle.rq_solver.proofs.pi_solver.first_phase.hdpc.add_first_row.Goals as goal
-use Rattle.rq_solver.proofs.pi_solver.first_phase.hdpc.add_first_row.Goals.{then-byte-ne0+in_ok-add_row, else-byte-ne0}
 
 pub returns-then-byte-eq0-clause-added : goal.returns-then-byte-eq0-clause-added
 returns-then-byte-eq0-clause-added c = combines_none c.args.first_hdpc (length c.args.batch.now.table.rows) c.args.batch.now.table.width (octets_from c.args.column (octet_in c.args.batch.now)) c.args.recorded.now c.requires.rows.octets
@@ -20,6 +19,8 @@ returns-then-byte-eq0-clause-alone c = λ some. absurd (some (sym c.get-lead.ens
 
 pub loop-row-init : goal.loop-row-init
 loop-row-init c = record {
+  from = omega arith;
+  within = omega arith;
   few = omega arith;
   table = refl;
   lead = sym c.get-lead.ensures;
@@ -31,7 +32,8 @@ pub loop-row-preserved : goal.loop-row-preserved
 loop-row-preserved c =
     let start = c.args.batch.now in
     let was = c.loop-row.batch in
-    let row = c.loop-row.row in
+    let from = c.loop-row.from in
+    let row = c.in-Some.row in
     let column = c.args.column in
     let first = c.args.first_hdpc in
     let lead = c.get-lead.result in
@@ -39,38 +41,36 @@ loop-row-preserved c =
     let count = length start.table.rows in
     let width = start.table.width in
     let same : was.table ≡ start.table = v.table in
-    let in_rows : row < count = omega arith in
+    let next = c.in-Some.ensures.next in
+    let some_row : 0 < from = v.from in
+    let behind : from ≤ row = next.0.0 in
+    let in_rows : row < count = rw same at next.0.1 in
     let in_width : column < width = c.requires.column in
-    elim c.if-byte-ne0.branch [
-      | then-byte-ne0+in_ok-add_row w ↦
-          let now = w.add_first.new.self in
-          let scalar = w.div-scalar.result in
-          let added : AddsRow octets count width row 0 scalar (octet_in was) (octet_in now) = subst (λ (x : ℕ). AddsRow octets count width row 0 x (octet_in was) (octet_in now)) w.byte-factor.ensures (adds_beside start was same now row 0 w.byte-factor.result w.add_first.ensures.sum) in
-          let small : lead < 256 = rw c.byte.ensures at c.byte.type_inv in
-          let nonzero : lead ≢ 0 = (λ e. c.if-byte-eq0.false (c.byte.ensures ∙ e)) in
-          let is_octet : octet_in was row column < 256 = elements_beside start was same c.height-row-end.ensures.octets row column in_rows in_width in
-          let zero : octet_in now row column ≡ 0 = added.at_dest column in_width ∙ rw (v.lead, w.div-scalar.ensures, c.get_beside-octet.ensures) (plus_quotient_times (octet_in was row column) lead is_octet small nonzero) in
-          rw (w.batch-is, w.recorded-is) (record {
-            few = (let more = w.in_ok-add_row.ensures.counted in let so_far = v.few in omega (arith, more, so_far, c.loop-row.auto.row));
-            table = w.add_first.ensures.table ∙ same;
-            lead = added.elsewhere 0 column (omega arith) in_width (λ e. omega (arith, e)) ∙ v.lead;
-            cleared = λ i some l. elim (cases_eq i row) [ inl e ↦ rw e zero | inr d ↦ added.elsewhere i column (omega arith) in_width d ∙ v.cleared i some (omega arith) ];
-            combined = combines_more first count width (octets_from column (octet_in start)) (octets_from column (octet_in was)) (octets_from column (octet_in now)) c.args.recorded.now c.loop-row.recorded w.add_row.new.self v.combined
-                (combines_sum first count width (octets_from column (octet_in was)) (octets_from column (octet_in now)) c.loop-row.recorded w.add_row.new.self
-                (from_elements column (octet_in was) count width (elements_beside start was same c.height-row-end.ensures.octets))
-                row (first + row) scalar in_rows refl 0 first (omega arith) (omega arith)
-                (from_adds column count width row scalar (octet_in was) (octet_in now) 0 added) w.in_ok-add_row.ensures.added);
-          })
-      | else-byte-ne0 w ↦
-          let zero : octet_in was row column ≡ 0 = sym c.get_beside-octet.ensures ∙ sym c.byte-in-loop-row.ensures ∙ w.if-byte-ne0.false in
-          rw (w.batch-is, w.recorded-is) (record {
-            few = (let so_far = v.few in omega (arith, so_far));
-            table = same;
-            lead = v.lead;
-            cleared = λ i some l. elim (cases_eq i row) [ inl e ↦ rw e zero | inr d ↦ v.cleared i some (omega arith) ];
-            combined = v.combined;
-          })
-    ]
+    let elements : HasOctets start.table = rw same at c.next_beside.ensures.octets in
+    let now = c.add_first.new.self in
+    let scalar = c.div-scalar.result in
+    let added : AddsRow octets count width row 0 scalar (octet_in was) (octet_in now) = subst (λ (x : ℕ). AddsRow octets count width row 0 x (octet_in was) (octet_in now)) c.byte-factor.ensures (adds_beside start was same now row 0 c.byte-factor.result c.add_first.ensures.sum) in
+    let small : lead < 256 = rw c.byte.ensures at c.byte.type_inv in
+    let nonzero : lead ≢ 0 = (λ e. c.if-byte-eq0.false (c.byte.ensures ∙ e)) in
+    let is_octet : octet_in was row column < 256 = elements_beside start was same elements row column in_rows in_width in
+    let zero : octet_in now row column ≡ 0 = added.at_dest column in_width ∙ rw (v.lead, c.div-scalar.ensures, next.1) (plus_quotient_times (octet_in was row column) lead is_octet small nonzero) in
+    let before : (i : ℕ) → 0 < i → i < row → octet_in was i column ≡ 0 = (λ (i : ℕ) (some : 0 < i) (l : i < row). elim (cases_lt i from) [
+      | inl below ↦ v.cleared i some below
+      | inr from_on ↦ next.0.3 i from_on l
+    ]) in
+    record {
+      from = omega arith;
+      within = omega (arith, in_rows);
+      few = (let more = c.in_ok-add_row.ensures.counted in let so_far = v.few in omega (arith, more, so_far, behind, some_row));
+      table = c.add_first.ensures.table ∙ same;
+      lead = added.elsewhere 0 column (omega (arith, in_rows)) in_width (λ e. omega (arith, e, behind, some_row)) ∙ v.lead;
+      cleared = λ i some l. elim (cases_eq i row) [ inl e ↦ rw e zero | inr d ↦ added.elsewhere i column (omega (arith, l, in_rows)) in_width d ∙ before i some (omega (arith, l, d)) ];
+      combined = combines_more first count width (octets_from column (octet_in start)) (octets_from column (octet_in was)) (octets_from column (octet_in now)) c.args.recorded.now c.loop-row.recorded c.add_row.new.self v.combined
+          (combines_sum first count width (octets_from column (octet_in was)) (octets_from column (octet_in now)) c.loop-row.recorded c.add_row.new.self
+          (from_elements column (octet_in was) count width (elements_beside start was same elements))
+          row (first + row) scalar in_rows refl 0 first (omega (arith, in_rows)) (omega arith)
+          (from_adds column count width row scalar (octet_in was) (octet_in now) 0 added) c.in_ok-add_row.ensures.added);
+    }
 
 pub multiply_row-requires-clause-nonzero : goal.multiply_row-requires-clause-nonzero
 multiply_row-requires-clause-nonzero c =
@@ -95,7 +95,7 @@ returns-in_ok-multiply_row-clause-alone c = λ some.
       one = scaled.at_dest column c.requires.column ∙ rw (v.lead, c.div-scalar-then-byte-ne1.ensures, c.one.ensures) (quotient_times 1 lead (lit< tt) small nonzero);
       zeros = λ i first l.
           let in_rows : i < length start.table.rows = rw (c.multiply_first.ensures.table ∙ same) at l in
-          scaled.elsewhere i column in_rows c.requires.column (λ e. omega (arith, e, first)) ∙ v.cleared i first (omega (arith, in_rows, c.loop-row.auto.row-end));
+          scaled.elsewhere i column in_rows c.requires.column (λ e. omega (arith, e, first)) ∙ (elim (cases_lt i c.loop-row.from) [ inl below ↦ v.cleared i first below | inr from_on ↦ c.in_default.ensures.next i from_on (rw same in_rows) ]);
     }
 
 pub returns-in_ok-multiply_row-clause-added : goal.returns-in_ok-multiply_row-clause-added
@@ -111,21 +111,20 @@ returns-in_ok-multiply_row-clause-added c =
     let v = c.loop-row.invariant in
     combines_more first count width (octets_from column (octet_in start)) (octets_from column (octet_in was)) (octets_from column (octet_in now)) c.args.recorded.now c.loop-row.recorded c.multiply_row.new.self v.combined
     (combines_scaling first count width (octets_from column (octet_in was)) (octets_from column (octet_in now)) c.loop-row.recorded c.multiply_row.new.self
-    (from_elements column (octet_in was) count width (elements_beside start was v.table c.height-row-end.ensures.octets))
+    (from_elements column (octet_in was) count width (elements_beside start was v.table (rw v.table at c.next_beside.ensures.octets)))
     0 first scalar (omega arith) (omega arith)
     (from_scales column count width 0 scalar (octet_in was) (octet_in now) (subst (λ (x : ℕ). ScalesRow octets count width 0 x (octet_in was) (octet_in now)) c.byte-factor-then-byte-ne1.ensures (scales_beside start was v.table now 0 c.byte-factor-then-byte-ne1.result c.multiply_first.ensures.multiple))) c.in_ok-multiply_row.ensures.multiplied)
 
 pub returns-in_ok-multiply_row-clause-few : goal.returns-in_ok-multiply_row-clause-few
-returns-in_ok-multiply_row-clause-few c = let so_far = c.loop-row.invariant.few in let more = c.in_ok-multiply_row.ensures.counted in omega (arith, so_far, more, c.loop-row.auto.row-end)
+returns-in_ok-multiply_row-clause-few c = let so_far = c.loop-row.invariant.few in let more = c.in_ok-multiply_row.ensures.counted in omega (arith, so_far, more, c.loop-row.invariant.within)
 
 pub returns-else-byte-ne1-clause-few : goal.returns-else-byte-ne1-clause-few
-returns-else-byte-ne1-clause-few c = let so_far = c.loop-row.invariant.few in omega (arith, so_far, c.loop-row.auto.row-end)
+returns-else-byte-ne1-clause-few c = let so_far = c.loop-row.invariant.few in omega (arith, so_far, c.loop-row.invariant.within)
 
 pub returns-else-byte-ne1-clause-alone : goal.returns-else-byte-ne1-clause-alone
 returns-else-byte-ne1-clause-alone c = λ some.
     let v = c.loop-row.invariant in
-    let same = ap (λ (t : OctetTable). length t.rows) v.table in
     record {
       one = v.lead ∙ sym c.byte-2.ensures ∙ c.if-byte-ne1.false;
-      zeros = λ i first l. v.cleared i first (omega (arith, l, same, c.height-row-end.ensures.height, c.loop-row.auto.row-end));
+      zeros = λ i first l. elim (cases_lt i c.loop-row.from) [ inl below ↦ v.cleared i first below | inr from_on ↦ c.in_default.ensures.next i from_on l ];
     }

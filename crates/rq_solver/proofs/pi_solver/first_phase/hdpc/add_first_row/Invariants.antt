@@ -6,9 +6,14 @@ use Rattle.rq_solver.proofs.pi_solver.first_phase.hdpc.add_first_row.Given as go
 
 abbrev pub invariant-loop-row : goal.invariant-loop-row
 invariant-loop-row l = record {
-  few : additions l.recorded.operations ≤ additions l.fn.recorded.operations + (l.row - 1);
+  from : 0 < l.from;
+  within : l.from ≤ length l.fn.batch.table.rows;
+  few : additions l.recorded.operations ≤ additions l.fn.recorded.operations + (l.from - 1);
   table : l.batch.table ≡ l.fn.batch.table;
   lead : octet_in l.batch 0 l.column ≡ l.lead;
-  cleared : (i : ℕ) → 0 < i → i < l.row → octet_in l.batch i l.column ≡ 0;
+  cleared : (i : ℕ) → 0 < i → i < l.from → octet_in l.batch i l.column ≡ 0;
   combined : CombinesOctets l.first_hdpc (length l.fn.batch.table.rows) l.fn.batch.table.width (octets_from l.column (octet_in l.fn.batch)) (octets_from l.column (octet_in l.batch)) l.fn.recorded l.recorded;
 }
+
+abbrev pub decreases-loop-row : goal.decreases-loop-row
+decreases-loop-row l = length l.fn.batch.table.rows - l.from
