@@ -1,5 +1,6 @@
 -- The rows of bits as single bits are set.
-use Rattle.std.proofs.Common.{◌≡◌, ◌≢◌, ℕ, ◌+◌, ◌*◌, ◌%◌, ◌<◌, ◌≤◌, Bool, true, false, cond, eqb, ◌&&◌, ◌||◌, refl, sym, ap, ◌∙◌, arith, inl, inr}
+use Rattle.std.proofs.Common.{◌≡◌, ◌≢◌, ℕ, ◌+◌, ◌*◌, ◌%◌, ◌<◌, ◌≤◌, Bool, true, false, cond, eqb, ◌&&◌, ◌||◌, refl, sym, ap, subst, ◌∙◌, arith, inl, inr}
+use Rattle.std.proofs.Math.Nat.{mod-add-mod}
 use Rattle.std.proofs.lemmas.Bool.{cases_eq, cases_lt, eq-eqb, ne_eqb, lt-ltb, le-ltb}
 use Rattle.rq_standard.specs.declared.row.TableRow.{TableRow}
 use Rattle.rq_standard.specs.BitTable.{BitTable}
@@ -120,6 +121,21 @@ ldpc_1_more {row} {rows} {column} {old} {new} checked room lt before three =
       right = λ i k hi low hk. elsewhere i k (omega arith) hk (λ e. omega arith) ∙ before.right i k hi (omega arith) hk;
       below = λ i k low hi hk. under i k low (omega (arith, before.shape.height, three.shape.height)) hk ∙ before.below i k low (omega (arith, three.shape.height)) hk;
     }
+
+-- the same where each row is a step behind the one before
+pub ldpc_1_stepped :
+    {row : TableRow} {rows column second third : ℕ} {old new : BitTable} → IsChecked row → row.ldpc_symbols ≤ rows → column < b_of row → HasLdpc1Columns row rows column old
+    → second ≡ (column % row.ldpc_symbols + ldpc_step row column) % row.ldpc_symbols → third ≡ (second + ldpc_step row column) % row.ldpc_symbols
+    → SetsThree old new (column % row.ldpc_symbols) second third column column column → HasLdpc1Columns row rows (column + 1) new
+ldpc_1_stepped {row} {rows} {column} {second} {third} {old} {new} checked room lt before is_second is_third three =
+    let s = row.ldpc_symbols in
+    let step = ldpc_step row column in
+    let one_on : second ≡ (column + step) % s = is_second ∙ mod-add-mod column s step in
+    let two_on : third ≡ (column + 2 * step) % s =
+    is_third ∙ ap (λ n. (n + step) % s) one_on ∙ mod-add-mod (column + step) s step ∙ ap (λ n. n % s) {x = column + step + step} {y = column + 2 * step} (omega arith) in
+    ldpc_1_more checked room lt before
+    (subst (λ n. SetsThree old new (column % s) n ((column + 2 * step) % s) column column column) one_on
+    (subst (λ n. SetsThree old new (column % s) second n column column column) two_on three))
 
 -- with all of them, no LDPC row is whole yet
 pub ldpc_1_whole : {row : TableRow} {rows : ℕ} {m : BitTable} → HasLdpc1Columns row rows (b_of row) m → HasLdpcRows row rows 0 m

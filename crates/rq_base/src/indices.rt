@@ -99,8 +99,8 @@ impl Indices {
     }
 }
 
-// The sum of two numbers below the modulus, modulo it.
-fn sum_modulo(x: u32, y: u32, modulus: u32) -> u32
+/// The sum of two numbers below the modulus, modulo it.
+pub(crate) fn sum_modulo(x: u32, y: u32, modulus: u32) -> u32
     requires x { x < modulus }
     requires y { y < modulus }
     ensures value { result ≡ (x + y) % modulus }

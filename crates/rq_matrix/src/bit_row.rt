@@ -1,6 +1,7 @@
 //! A row of bits, 64 to a word.
 ghost use Rattle.std.specs.Prelude.{◌≡◌, ◌≢◌, ℕ, ◌+◌, ◌-◌, ◌*◌, ◌/◌, ◌^◌, ◌<◌, ◌≤◌, length, replicate, slice_index, if◌then◌else◌, IfOk, IfErr, MatchOption};
 ghost use Rattle.std.specs.Int.{bit_at};
+ghost use Rattle.std.specs.Int.Bits.{bit_xor};
 ghost use Rattle.rq_bytes.specs.declared.error.Error.TheVariants.{OutOfMemory};
 ghost use Rattle.rq_standard.specs.BitTableSteps.{ones_below, ones_between, AreBitsOf};
 ghost use Rattle.rq_bytes.specs.BinaryOctetVec.{packed_bit};
@@ -69,6 +70,16 @@ impl BitRow {
         set_bit(self.words.as_mut_slice(), column, one);
     }
 
+    /// Sets the bit in a column to 1 where it was 0, and to 0 where it was 1.
+    pub(crate) fn flip(&mut self, column: usize)
+        requires { column < 64 * length self.old }
+        ensures len { length self.new ≡ length self.old }
+        ensures here { packed_bit self.new column ≡ bit_xor (packed_bit self.old column) 1 }
+        ensures elsewhere { (k : ℕ) → k ≢ column → packed_bit self.new k ≡ packed_bit self.old k }
+    {
+        flip_bit(self.words.as_mut_slice(), column);
+    }
+
     /// The words, for reading.
     pub(crate) fn as_slice(&self) -> &[u64]
         ensures { result.now ≡ self.now }
@@ -127,6 +138,16 @@ pub(crate) fn set_bit(row: &mut [u64], column: usize, one: bool)
 {
     let word = row[column / WORD_BITS];
     row[column / WORD_BITS] = word_with(word, column % WORD_BITS, one);
+}
+
+/// Sets the bit in a column of a row to 1 where it was 0, and to 0 where it was 1.
+pub(crate) fn flip_bit(row: &mut [u64], column: usize)
+    requires { column < 64 * length row.old }
+    ensures here { packed_bit row.new column ≡ bit_xor (packed_bit row.old column) 1 }
+    ensures elsewhere { (k : ℕ) → k ≢ column → packed_bit row.new k ≡ packed_bit row.old k }
+{
+    let word = row[column / WORD_BITS];
+    row[column / WORD_BITS] = word_flipped(word, column % WORD_BITS);
 }
 
 /// Exchanges the bits in two columns of a row.
@@ -201,6 +222,22 @@ fn word_with(word: u64, bit: usize, one: bool) -> u64
     } else {
         word & !(1 << bit)
     }
+}
+
+// A word with one bit flipped.
+fn word_flipped(word: u64, bit: usize) -> u64
+    requires { bit < 64 }
+    ensures { IsWordWith word bit (bit_xor (bit_at word bit) 1) result }
+{
+    word ^ bit_alone(bit)
+}
+
+/// The word in which one bit alone is set.
+pub(crate) fn bit_alone(bit: usize) -> u64
+    requires { bit < 64 }
+    ensures { result ≡ 2 ^ bit }
+{
+    1 << bit
 }
 
 /// The last of the bits before `end` that is set in a word.

@@ -7,7 +7,9 @@ ghost use Rattle.rq_matrix.specs.BitRows.{word_count, AreSwappedFrom};
 ghost use Rattle.rq_standard.specs.BitTable.{BitTable, IsBitTable};
 ghost use Rattle.rq_standard.specs.BitTableSteps.{ones_between, ArePlacesOfOnes, AreOnesOf, AreBitsOf, CanSet, CanAdd, IsUnchanged, IsZeroTable, SetsBit, SwapsRows, SwapsColumns, SetsIndexed, SetsBoundary, AddsRowFrom, KeepsLeading};
 
-use crate::bit_row::{count_ones, get_bit, ones_of, part_of, set_bit, swap_bits};
+use crate::bit_row::{
+    bit_alone, count_ones, flip_bit, get_bit, ones_of, part_of, set_bit, swap_bits,
+};
 use crate::bit_rows::BitRows;
 use rq_bytes::error::Error;
 use rq_bytes::octet::Octet;
@@ -244,7 +246,7 @@ impl DenseBinaryMatrix {
         requires { bit < 64 }
         ensures { result ≡ 2 ^ bit }
     {
-        1 << bit
+        bit_alone(bit)
     }
 }
 
@@ -292,6 +294,11 @@ impl BinaryMatrix for DenseBinaryMatrix {
 
     fn set(&mut self, i: usize, j: usize, value: Octet) -> Result<(), Error> {
         set_bit(self.rows.row_mut(i), j, value != Octet::zero());
+        Ok(())
+    }
+
+    fn flip(&mut self, i: usize, j: usize) -> Result<(), Error> {
+        flip_bit(self.rows.row_mut(i), j);
         Ok(())
     }
 

@@ -126,6 +126,7 @@ impl BinaryMatrix for SparseBinaryMatrix {
         *self.rows.allocator()
     }
 
+    #[inline(always)]
     fn set(&mut self, i: usize, j: usize, value: Octet) -> Result<(), Error> {
         let row = self.stored_row(i);
         if j < self.boundary {
@@ -139,13 +140,13 @@ impl BinaryMatrix for SparseBinaryMatrix {
     }
 
     fn flip(&mut self, i: usize, j: usize) -> Result<(), Error> {
-        if j >= self.boundary {
-            let flipped = self.get(i, j) + Octet::one();
-            return self.set(i, j, flipped);
-        }
         let row = self.stored_row(i);
-        let column = usize::from(self.stored_column(j));
-        self.rows[row].flip(column)?;
+        if j < self.boundary {
+            let column = usize::from(self.stored_column(j));
+            self.rows[row].flip(column)?;
+        } else {
+            self.tail.flip(row, self.width - 1 - j);
+        }
         Ok(())
     }
 

@@ -1,5 +1,5 @@
 -- The bits of an ascending list of ones.
-use Rattle.std.proofs.Common.{◌≡◌, ◌≢◌, ℕ, zero, suc, ◌+◌, ◌-◌, ◌<◌, ◌≤◌, ◌==◌, List, [], ◌∷◌, ◌++◌, length, get_or, cond, refl, sym, ap, ◌∙◌, inl, inr, arith, if◌then◌else◌, All, None, Some, Result, Ok, Err, IfOk, IfErr, zero-add}
+use Rattle.std.proofs.Common.{◌≡◌, ◌≢◌, ℕ, zero, suc, ◌+◌, ◌-◌, ◌<◌, ◌≤◌, ◌==◌, List, [], ◌∷◌, ◌++◌, length, get_or, cond, true, false, refl, sym, ap, ◌∙◌, inl, inr, arith, if◌then◌else◌, All, None, Some, Result, Ok, Err, IfOk, IfErr, zero-add}
 use Rattle.std.specs.List.Sorted.{IsStrictlyIncreasing, IsBinarySearchResult}
 use Rattle.std.specs.Ordering.{nat_cmp}
 use Rattle.std.proofs.lemmas.List.Sorted.{searched}
@@ -219,3 +219,39 @@ ones_below_all [] n none = λ j d l. absurd (omega arith)
 ones_below_all (x ∷ xs) n none = All-cons (λ one. one < n) x xs
     (elim (cases_lt x n) [ inl below ↦ below | inr above ↦ absurd (omega (arith, none x above, listed-self x xs x refl)) ])
     (ones_below_all xs n (λ k above. omega (arith, none k above, listed_more x xs k)))
+
+-- ---- what a look at all of them tells
+
+pub listed-searched : (xs : List ℕ) (i : ℕ) → IsStrictlyIncreasing xs → (k : ℕ) × (k < length xs) × ((d : ℕ) → (get_or xs k d == i) ≡ true) → listed_bit xs i ≡ 1
+listed-searched xs i up found =
+    let here : (get_or xs found.0 0 == i) ≡ true = found.2 0 in
+    elim (eqb_tells (get_or xs found.0 0) i) [ inl e ↦ listed-found xs i found.0 up (record { within = found.1; is = e.1 }) | inr e ↦ let other = e.0 in cc ]
+
+pub missing-searched : (xs : List ℕ) (i : ℕ) → ((k d : ℕ) → 0 ≤ k → k < length xs → (get_or xs k d == i) ≡ false) → listed_bit xs i ≡ 0
+missing-searched xs i none = listed-none xs i (λ k l same. elim (eqb_tells (get_or xs k 0) i) [ inl e ↦ let here : (get_or xs k 0 == i) ≡ false = none k 0 (omega arith) l in let there = e.0 in cc | inr e ↦ e.1 same ])
+
+before-cons : (x i : ℕ) (xs : List ℕ) (gap : ℕ) → x < i → ((k : ℕ) → k < gap → get_or xs k 0 < i) → (k : ℕ) → k < suc gap → get_or (x ∷ xs) k 0 < i
+before-cons x i xs gap less rest zero l = less
+before-cons x i xs gap less rest (suc k) l = rest k (omega arith)
+
+behind-cons : (x i : ℕ) (xs : List ℕ) (gap : ℕ) → ((k : ℕ) → gap ≤ k → k < length xs → i < get_or xs k 0) → (k : ℕ) → suc gap ≤ k → k < length (x ∷ xs) → i < get_or (x ∷ xs) k 0
+behind-cons x i xs gap rest zero past l = absurd (omega arith)
+behind-cons x i xs gap rest (suc k) past l = rest k (omega arith) (omega arith)
+
+behind-all : (x i : ℕ) (xs : List ℕ) → IsStrictlyIncreasing (x ∷ xs) → i < x → (k : ℕ) → 0 ≤ k → k < length (x ∷ xs) → i < get_or (x ∷ xs) k 0
+behind-all x i xs up less zero past l = less
+behind-all x i xs up less (suc k) past l = omega (arith, less, rises-head x xs up k (omega arith))
+
+-- an index that isn't listed has a gap
+pub gap-missing : (xs : List ℕ) (i : ℕ) → IsStrictlyIncreasing xs → listed_bit xs i ≡ 0 → (gap : ℕ) × IsGap xs i gap
+gap-missing [] i up none = (0, record { within = omega arith; before = λ k l. absurd (omega arith); behind = λ k past l. absurd (omega arith) })
+gap-missing (x ∷ xs) i up none =
+    elim (cases_lt i x) [
+      | inl less ↦ (0, record { within = omega arith; before = λ k l. absurd (omega arith); behind = behind-all x i xs up less })
+      | inr past ↦
+          let apart : i ≢ x = λ same. omega (arith, none, listed-self x xs i same) in
+          let more : listed_bit (x ∷ xs) i ≡ listed_bit xs i = listed-other x xs i apart in
+          let rest = gap-missing xs i (rises-tail x xs up) (sym more ∙ none) in
+          let less : x < i = omega (arith, past, apart) in
+          (suc rest.0, record { within = omega (arith, rest.1.within); before = before-cons x i xs rest.0 less rest.1.before; behind = behind-cons x i xs rest.0 rest.1.behind })
+    ]

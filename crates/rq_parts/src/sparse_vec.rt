@@ -103,6 +103,7 @@ impl SparseBinaryVec {
     }
 
     /// Sets the bit at an index to 0, and answers the octet 1 where it was 1.
+    #[inline(never)]
     pub fn remove(&mut self, i: usize) -> Option<Octet>
         requires { i < 65536 }
         ensures removed { SetsListed self.old i 0 self.new }
@@ -140,6 +141,7 @@ impl SparseBinaryVec {
 
     /// Sets the bit at an index to 0 for the octet 0, and else to 1. A refusal leaves the row as it
     /// was.
+    #[inline(always)]
     pub fn insert(&mut self, i: usize, value: Octet) -> Result<(), Error>
         requires { i < 65536 }
         ensures ok { OnOk result (SetsListed self.old i value self.new) }
@@ -164,13 +166,13 @@ impl SparseBinaryVec {
         ensures refused { OnErr result (self.new ≡ self.old) }
         ensures err { IfErr result (λ e. e ≡ OutOfMemory) }
     {
-        match self.find(i) {
-            Ok(at) => {
-                self.elements.remove(at);
-                Ok(())
-            }
-            Err(gap) => self.list_at(gap, i),
+        if self.elements.contains(&(i as u16)) {
+            self.remove(i);
+        } else {
+            self.elements.push(i as u16)?;
+            sink_last(&mut self.elements);
         }
+        Ok(())
     }
 
     // Lists an index where it goes. A refusal leaves the row as it was.
@@ -230,6 +232,23 @@ fn last_to(ones: &mut [u16], gap: usize)
         ones.swap(at - 1, at);
         at -= 1;
     }
+}
+
+// Moves the last one down to its gap among those before it. Each step does the same whatever the
+// gap, so that there is no branch to guess.
+fn sink_last(ones: &mut [u16])
+    requires { 0 < length ones.old }
+    ensures { (xs : List ℕ) (one gap : ℕ) → ones.old ≡ xs ++ one ∷ [] → IsStrictlyIncreasing xs → IsGap xs one gap → ones.new ≡ insert xs gap one }
+{
+    let mut at = ones.len() - 1;
+    let mut sinking = ones[at];
+    while at > 0 {
+        let before = ones[at - 1];
+        ones[at] = before.max(sinking);
+        sinking = before.min(sinking);
+        at -= 1;
+    }
+    ones[0] = sinking;
 }
 
 // The indices that one of two ascending lists has and the other hasn't, in ascending order, and

@@ -42,6 +42,33 @@ sum_rises_to xs a b le l =
 pub counted_more : (columns : List ℕ) (t k : ℕ) → t < length columns → count_by (λ column. column == k) (take (t + 1) columns) ≡ count_by (λ column. column == k) (take t columns) + cond (at columns t == k) 1 0
 counted_more columns t k l = sum_by_more (λ column. cond (column == k) 1 0) columns t 0 l
 
+-- a number that comes is not counted before its place
+pub counted_less : (columns : List ℕ) (t : ℕ) → t < length columns → count_by (λ column. column == at columns t) (take t columns) < count_by (λ column. column == at columns t) columns
+counted_less columns t l =
+    let k = at columns t in
+    let one : ◌≡◌ {A = ℕ} (cond (k == k) 1 0) 1 = elim (eqb_tells k k) [ inl e ↦ ap (λ b. cond b 1 0) e.0 | inr e ↦ absurd (e.1 refl) ] in
+    let more = counted_more columns t k l in
+    let part = sum_by-take-le (λ (column : ℕ). cond (column == k) 1 0) columns (t + 1) in
+    omega (arith, one, more, part)
+
+-- where a column's start falls with each one, so much is left of it
+pub left_less : (columns starts : List ℕ) (t place k first : ℕ) → t < length columns → at columns t < length starts → place + 1 ≡ at starts (at columns t) → at starts k + count_by (λ column. column == k) (take t columns) ≡ first
+    → at (set starts (at columns t) place) k + count_by (λ column. column == k) (take (t + 1) columns) ≡ first
+left_less columns starts t place k first l inside is left =
+    let more = counted_more columns t k l in
+    let count = count_by (λ column. column == k) (take t columns) in
+    elim (eqb_tells (at columns t) k) [
+      | inl same ↦
+          let one : count_by (λ column. column == k) (take (t + 1) columns) ≡ count + 1 = more ∙ ap (λ b. count + cond b 1 0) same.0 in
+          let read : at (set starts (at columns t) place) k ≡ place = ap (at (set starts (at columns t) place)) (sym same.1) ∙ get_or-set_same starts (at columns t) place 0 inside in
+          let was : at starts (at columns t) ≡ at starts k = ap (at starts) same.1 in
+          omega (arith, one, read, is, was, left)
+      | inr other ↦
+          let none : count_by (λ column. column == k) (take (t + 1) columns) ≡ count + 0 = more ∙ ap (λ b. count + cond b 1 0) other.0 in
+          let read = get_or-set_other starts (at columns t) k place 0 (λ e. other.1 (sym e)) in
+          omega (arith, none, read, left)
+    ]
+
 pub counts_one : (counts : List ℕ) (c k : ℕ) → c < length counts → at (set counts c (at counts c + 1)) k ≡ at counts k + cond (c == k) 1 0
 counts_one counts c k l =
     elim (eqb_tells c k) [
@@ -77,6 +104,22 @@ module _ (columns : List ℕ) (done : ℕ → List ℕ) (t row : ℕ) (in_column
       let these = length-replicate (count_by (λ column. column == k) (take (t + 1) columns)) row in
       let part = sum_by-take-le (λ (column : ℕ). cond (column == k) 1 0) columns (t + 1) in
       omega (arith, long, with_it, these, part, room)
+
+-- ---- room for a row
+
+module _ (counts : List ℕ) (done : ℕ → List ℕ) (starts rows : List ℕ) (placed : HasPlaced counts done starts rows) (k : ℕ) (l : k < length starts) where
+  pub room_left : (more : ℕ) → length (done k) + more ≤ at counts k → more ≤ at starts k
+  room_left more room =
+      let inside : k < length counts = omega (arith, placed.long, l) in
+      let is = placed.start k inside in
+      let next = sum_next counts k inside in
+      omega (arith, is, next, room)
+
+  pub starts_within : at starts k ≤ length rows
+  starts_within =
+      let is = placed.start k (omega (arith, placed.long, l)) in
+      let end = sum_within counts (k + 1) in
+      omega (arith, is, end, placed.wide)
 
 -- ---- one more row is put
 

@@ -1,20 +1,22 @@
 -- Lists that follow one another in one list, each the places of a row's ones.
-use Rattle.std.proofs.Common.{refl, ◌≡◌, ◌≢◌, ℕ, zero, suc, ◌+◌, ◌-◌, ◌<◌, ◌≤◌, cond, List, [], ◌∷◌, ◌++◌, All, length, map, filter, take, drop, sym, ap, subst, ◌∙◌, arith, inl, inr, zero-add, add-zero, append_assoc}
-use Rattle.std.specs.Prelude.{◌==◌, count_by, slice_index, slice_range}
-use Rattle.std.proofs.lemmas.Bool.{cases_lt}
+use Rattle.std.proofs.Common.{refl, ◌≡◌, ◌≢◌, ℕ, zero, suc, ◌+◌, ◌-◌, ◌<◌, ◌≤◌, cond, List, [], ◌∷◌, ◌++◌, All, length, map, filter, take, drop, sym, ap, subst, ◌∙◌, arith, inl, inr, zero-add, add-zero, append-nil, append_assoc}
+use Rattle.std.specs.Prelude.{◌==◌, count_by, nat_lt, slice_index, slice_range}
+use Rattle.std.proofs.lemmas.Bool.{cases_lt, le-ltb, lt-ltb}
 use Rattle.std.proofs.lemmas.Bool.Decides.{eqb_tells}
-use Rattle.std.proofs.lemmas.List.{length-append, length-drop, take-append-le, drop-append-le, take-append-drop, take_rest, length-take-le}
-use Rattle.std.proofs.lemmas.List.FromFn.{sum_by-map-range_with_len_more}
-use Rattle.std.specs.List.{range_with_len, sum_by}
-use Rattle.std.proofs.lemmas.List.Elements.{All-append, All-map, All-filter}
+use Rattle.std.proofs.lemmas.List.{length-append, length-drop, take-append-le, drop-append-le, take-append-drop, take_all, take_rest, length-take-le}
+use Rattle.std.proofs.lemmas.List.FromFn.{map-range_with_len_more, sum_by-map-range_with_len_more}
+use Rattle.std.proofs.lemmas.List.Folds.{concat-append}
+use Rattle.std.specs.List.{concat, range_with_len, sum_by}
+use Rattle.std.proofs.lemmas.List.Elements.{All-append, All-map, All-filter, All-weaker}
 use Rattle.std.proofs.lemmas.List.Sums.{sum_by-cons, sum_by-append}
-use Rattle.std.proofs.Math.Seq.{take-append_seam, drop-append_seam, get_or-append_seam}
+use Rattle.std.proofs.Math.Seq.{take-add, take-append_seam, drop-append_seam, get_or-append_seam}
 use Rattle.std.proofs.Math.ListN.{get_or-append}
 use Rattle.rq_standard.specs.BitTableSteps.{ArePlacesOfOnes, AreOnesOf, IsPlaceAndBit}
 use Rattle.rq_standard.specs.BitTableSteps as steps
 use Rattle.rq_standard.proofs.BitTableLaws.{is_one_at-one, is_one_at-zero, is_one_at-other, ones_at-cons}
 use Rattle.rq_parts.specs.ImmutableListMap.{lists_between}
 use Rattle.rq_parts.proofs.KeyedLists.{list_read, length-lists}
+use Rattle.rq_solver.specs.Degrees.{CountsBefore}
 use Rattle.rq_solver.specs.Peeled.{ones_of, AreOnesOfRows, AddsOnes, AreAllBetween}
 
 -- ---- the places of a row's ones
@@ -175,6 +177,17 @@ module _ (old new : List ℕ) (kept : take (length old) new ≡ old) where
               ];
         }
 
+    -- and the number of its ones before the boundary
+    pub counts_next : (boundary count : ℕ) (counts : List ℕ) → length counts + 1 ≡ length starts → CountsBefore boundary (lists_between starts old) counts → count ≡ count_by (λ column. nat_lt column boundary) (drop (length old) new)
+        → CountsBefore boundary (lists_between (starts ++ length new ∷ []) new) (counts ++ count ∷ [])
+    counts_next boundary count counts long so is r l =
+        elim (cases_lt r (length counts)) [
+          | inl before ↦ rw (list_kept r (omega (arith, before, long)), get_or-append counts (count ∷ []) 0 r before) (so r (omega (arith, length-lists starts old, before, long)))
+          | inr after ↦
+              let here : r ≡ length counts = omega (arith, after, length-lists (starts ++ length new ∷ []) new, one_more, l, long) in
+              rw (here, list_new (length counts) long) (get_or-append_seam counts count [] 0 ∙ is)
+        ]
+
 -- ---- the number of ones
 
 module _ (starts values : List ℕ) (all : AreAllBetween starts values) where
@@ -201,3 +214,72 @@ module _ (starts values : List ℕ) (all : AreAllBetween starts values) where
   pub ones_counted : sum_by length (lists_between starts values) ≡ length values
   unfolding list_of
   ones_counted = ones_before (length starts - 1) (omega (arith, all.rise.some)) ∙ all.last
+
+  range_next : (n : ℕ) → n + 1 < length starts → take (slice_index starts n) values ++ list_of n ≡ take (slice_index starts (n + 1)) values
+  unfolding list_of
+  range_next n l =
+      let rise = all.rise.rise n l in
+      let to : slice_index starts n + (slice_index starts (n + 1) - slice_index starts n) ≡ slice_index starts (n + 1) = omega (arith, rise) in
+      sym (take-add (slice_index starts n) (slice_index starts (n + 1) - slice_index starts n) values) ∙ ap (λ (m : ℕ). take m values) to
+
+  joined_before : (n : ℕ) → n < length starts → concat (map list_of (range_with_len 0 n)) ≡ take (slice_index starts n) values
+  joined_before zero l = rw all.first refl
+  joined_before (suc n) l =
+      let next : n + 1 ≡ suc n = omega arith in
+      let more = map-range_with_len_more list_of 0 n n (zero-add n) in
+      let joined = ap concat more ∙ concat-append (map list_of (range_with_len 0 n)) (list_of n ∷ []) ∙ ap (λ l. concat (map list_of (range_with_len 0 n)) ++ l) (append-nil (list_of n)) in
+      subst (λ (m : ℕ). concat (map list_of (range_with_len 0 m)) ≡ take (slice_index starts m) values) next (joined ∙ ap (λ l. l ++ list_of n) (joined_before n (omega arith)) ∙ range_next n (omega arith))
+
+  -- one after the other they are all of the values
+  pub lists_joined : concat (lists_between starts values) ≡ values
+  unfolding list_of
+  lists_joined = joined_before (length starts - 1) (omega (arith, all.rise.some)) ∙ ap (λ (m : ℕ). take m values) all.last ∙ take_all (length values) values (omega arith)
+
+-- what is counted in all of them is counted in each
+pub sum_by-concat : (f : ℕ → ℕ) (lists : List (List ℕ)) → sum_by f (concat lists) ≡ sum_by (sum_by f) lists
+sum_by-concat f [] = refl
+sum_by-concat f (list ∷ lists) =
+    sum_by-append f list (concat lists)
+    ∙ ap (λ n. sum_by f list + n) (sum_by-concat f lists)
+    ∙ sym (sum_by-cons (sum_by f) list lists)
+
+pub length-concat : (lists : List (List ℕ)) → length (concat lists) ≡ sum_by length lists
+length-concat [] = refl
+length-concat (list ∷ lists) = length-append list (concat lists) ∙ ap (λ n. length list + n) (length-concat lists) ∙ sym (sum_by-cons length list lists)
+
+pub All-concat : (P : ℕ → Type 0) (lists : List (List ℕ)) → All (All P) lists → All P (concat lists)
+All-concat P [] all = λ i d l. absurd (omega arith)
+All-concat P (list ∷ lists) all = All-append P list (concat lists) (all 0 [] (omega arith)) (All-concat P lists (λ i d l. all (suc i) d (omega arith)))
+
+-- ---- how many ones stand before the boundary
+
+-- columns before the boundary, and others from it on
+pub counted_before : (boundary : ℕ) (xs ys : List ℕ) → All (λ k. k < boundary) xs → All (λ k. boundary ≤ k) ys → count_by (λ k. nat_lt k boundary) (xs ++ ys) ≡ length xs
+counted_before boundary xs ys low high =
+    sum_by-append (λ k. cond (nat_lt k boundary) 1 0) xs ys
+    ∙ ap (λ n. count_by (λ k. nat_lt k boundary) xs + n) (none ys high)
+    ∙ add-zero (count_by (λ k. nat_lt k boundary) xs)
+    ∙ all xs low where
+      none : (ys : List ℕ) → All (λ k. boundary ≤ k) ys → count_by (λ k. nat_lt k boundary) ys ≡ 0
+      none [] high = refl
+      none (y ∷ ys) high =
+          let from : boundary ≤ y = high 0 y (omega arith) in
+          let head : ◌≡◌ {A = ℕ} (cond (nat_lt y boundary) 1 0) 0 = ap (λ b. cond b 1 0) (le-ltb y boundary from) in
+          sum_by-cons (λ k. cond (nat_lt k boundary) 1 0) y ys ∙ ap (λ n. n + count_by (λ k. nat_lt k boundary) ys) head ∙ zero-add (count_by (λ k. nat_lt k boundary) ys) ∙ none ys (λ i d l. high (suc i) d (omega arith))
+
+      all : (xs : List ℕ) → All (λ k. k < boundary) xs → count_by (λ k. nat_lt k boundary) xs ≡ length xs
+      all [] low = refl
+      all (x ∷ xs) low =
+          let below : x < boundary = low 0 x (omega arith) in
+          let head : ◌≡◌ {A = ℕ} (cond (nat_lt x boundary) 1 0) 1 = ap (λ b. cond b 1 0) (lt-ltb x boundary below) in
+          sum_by-cons (λ k. cond (nat_lt k boundary) 1 0) x xs ∙ ap (λ n. n + count_by (λ k. nat_lt k boundary) xs) head ∙ ap (λ n. 1 + n) (all xs (λ i d l. low (suc i) d (omega arith))) ∙ omega arith
+
+-- a row's places behind a list, those before the boundary first
+pub adds_counted : (bit : ℕ → ℕ) (boundary width : ℕ) (old first second slice middle new : List ℕ) → middle ≡ old ++ first → new ≡ middle ++ slice → slice ≡ second → ArePlacesOfOnes bit 0 boundary first → ArePlacesOfOnes bit boundary width second
+    → length middle - length old ≡ count_by (λ k. nat_lt k boundary) (drop (length old) new)
+adds_counted bit boundary width old first second slice middle new is_middle is_new is_slice low high =
+    let is : new ≡ old ++ (first ++ second) = is_new ∙ ap (λ l. middle ++ l) is_slice ∙ ap (λ l. l ++ second) is_middle ∙ append_assoc old first second in
+    let rest : drop (length old) new ≡ first ++ second = ap (drop (length old)) is ∙ drop-append_seam old (first ++ second) in
+    let long : length middle ≡ length old + length first = ap length is_middle ∙ length-append old first in
+    let many = counted_before boundary first second (All-weaker (λ k. (0 ≤ k) × (k < boundary)) (λ k. k < boundary) (λ k b. b.1) first low.within) (All-weaker (λ k. (boundary ≤ k) × (k < width)) (λ k. boundary ≤ k) (λ k b. b.0) second high.within) in
+    rw rest (omega (arith, long, many))

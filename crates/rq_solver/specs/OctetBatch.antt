@@ -17,9 +17,9 @@ pub record Batch : Type 0 where
   pub table : OctetTable
   pub factors : List ℕ
 
--- each row has a factor
+-- each row has a factor, and there may be more
 pub record IsBatch (batch : Batch) : Type 0 where
-  pub count : length batch.factors ≡ length batch.table.rows
+  pub count : length batch.table.rows ≤ length batch.factors
   pub octets : HasOctets batch.table
 
 -- what row i of them has in column k
@@ -33,6 +33,10 @@ octets_from column octet i k = if nat_lt k column then 0 else octet i k
 -- the same, but zeros in a column of the first rows
 abbrev pub with_zeros : ℕ → ℕ → (ℕ → ℕ → ℕ) → ℕ → ℕ → ℕ
 with_zeros column done octet i k = if nat_lt i done then (if k == column then 0 else octet i k) else octet i k
+
+-- octets that all rows but the first have in a column, from a row on
+abbrev pub AreBeside : Batch → ℕ → ℕ → List ℕ → Type 0
+AreBeside batch column from beside = (i : ℕ) → from ≤ i → i < length batch.table.rows → at beside i ≡ octet_in batch i column
 
 -- the first row became the sum of all, and the others are as they were
 pub record SumsRows (was now : OctetTable) : Type 0 where

@@ -227,9 +227,9 @@ impl<T: BinaryMatrix> IntermediateSymbolDecoder<T> {
             ..
         } = self;
         drop(symbols);
-        let system = System::of_matrix(alloc, &matrix, hdpc, first_hdpc, boundary)?;
+        let (system, degrees) = System::of_matrix(alloc, &matrix, hdpc, first_hdpc, boundary)?;
         drop(matrix);
-        let attempt = system.solve(alloc)?;
+        let attempt = system.solve(alloc, degrees)?;
         Ok(attempt.into_operations())
     }
 
@@ -240,14 +240,14 @@ impl<T: BinaryMatrix> IntermediateSymbolDecoder<T> {
         ensures memory { IfErr result (λ e. e ≡ OutOfMemory) }
     {
         let hdpc = self.hdpc.clone()?;
-        let system = System::of_matrix(
+        let (system, degrees) = System::of_matrix(
             self.alloc,
             &self.matrix,
             hdpc,
             self.first_hdpc,
             self.boundary,
         )?;
-        system.solve(self.alloc)
+        system.solve(self.alloc, degrees)
     }
 }
 

@@ -4,7 +4,7 @@ ghost use Rattle.rq_bytes.specs.declared.error.Error.TheVariants.{OutOfMemory};
 ghost use Rattle.rq_standard.specs.TableRows.{IsChecked, b_of};
 ghost use Rattle.rq_base.specs.BinaryRows.{HasRows, HasLdpc1Columns, HasLdpcRows, HasSymbolRows, FillsRow, IsZeroFrom};
 
-use crate::indices::Indices;
+use crate::indices::{Indices, sum_modulo};
 use rq_bytes::error::Error;
 use rq_bytes::octet::Octet;
 use rq_matrix::matrix::BinaryMatrix;
@@ -74,11 +74,13 @@ fn set_ldpc_1_column<T: BinaryMatrix>(
     ensures done { OnOk result (HasLdpc1Columns row.now (T.content matrix.old).height (column + 1) (T.content matrix.new)) }
     ensures memory { IfErr result (λ e. e ≡ OutOfMemory) }
 {
-    let ldpc_symbols = row.ldpc_symbols as usize;
-    let step = 1 + column / ldpc_symbols;
-    matrix.set(column % ldpc_symbols, column, Octet::one())?;
-    matrix.set((column + step) % ldpc_symbols, column, Octet::one())?;
-    matrix.set((column + 2 * step) % ldpc_symbols, column, Octet::one())?;
+    let step = 1 + column as u32 / row.ldpc_symbols;
+    let first = column as u32 % row.ldpc_symbols;
+    let second = sum_modulo(first, step, row.ldpc_symbols);
+    let third = sum_modulo(second, step, row.ldpc_symbols);
+    matrix.set(first as usize, column, Octet::one())?;
+    matrix.set(second as usize, column, Octet::one())?;
+    matrix.set(third as usize, column, Octet::one())?;
     Ok(())
 }
 

@@ -5,6 +5,7 @@ ghost use Rattle.rq_standard.specs.TableRows.{IsChecked};
 ghost use Rattle.rq_standard.specs.Equations.{before_hdpc, mt, one_if};
 ghost use Rattle.rq_base.specs.HdpcPart.{IsHdpcPart, IsHdpcColumn, IsFilledFrom};
 
+use crate::indices::sum_modulo;
 use rq_bytes::error::Error;
 use rq_bytes::factor::multiply_row;
 use rq_bytes::octet::Octet;
@@ -114,6 +115,6 @@ pub fn ones_of_mt(row: &TableRow, column: usize) -> (usize, usize)
     let height = row.hdpc_symbols;
     let seed = column as u32 + 1;
     let first = rand(seed, 6, height);
-    let second = (first + rand(seed, 7, height - 1) + 1) % height;
+    let second = sum_modulo(first, rand(seed, 7, height - 1) + 1, height);
     (first as usize, second as usize)
 }

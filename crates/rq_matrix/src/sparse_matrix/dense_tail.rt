@@ -1,5 +1,6 @@
 //! The dense columns of a sparse matrix.
 ghost use Rattle.std.specs.Prelude.{◌≡◌, ℕ, ◌+◌, ◌-◌, ◌*◌, ◌^◌, ◌<◌, ◌≤◌, length, map, replicate, if◌then◌else◌, All, IfOk, OnOk, OnErr, MatchOption};
+ghost use Rattle.std.specs.Int.Bits.{bit_xor};
 ghost use Rattle.rq_bytes.specs.BinaryOctetVec.{packed_bit};
 ghost use Rattle.rq_matrix.specs.BitRows.{word_count, with_word_added, HasNoOnes, IsLastOne};
 ghost use Rattle.rq_matrix.specs.DenseTails.{tail_bit, IsZeroTail, SetsTailBit, MarksRows, AddsTailRow, PushesColumn};
@@ -94,6 +95,15 @@ impl DenseTail {
         ensures { SetsTailBit self.old row column (if one then 1 else 0) self.new }
     {
         self.blocks[column / WORD_BITS].set(WORD_BITS * row + column % WORD_BITS, one);
+    }
+
+    /// Sets the bit of a row in a column to 1 where it was 0, and to 0 where it was 1.
+    pub(super) fn flip(&mut self, row: usize, column: usize)
+        requires row { row < self.old.rows }
+        requires column { column < self.old.columns }
+        ensures { SetsTailBit self.old row column (bit_xor (tail_bit self.old row column) 1) self.new }
+    {
+        self.blocks[column / WORD_BITS].flip(WORD_BITS * row + column % WORD_BITS);
     }
 
     /// Sets the bits of some rows in a column.

@@ -84,10 +84,7 @@ impl ColumnRows {
         ensures lowered { OnOk result (LowersRows (slice_index_or self.now.lists column []) degrees.old degrees.new) }
         ensures err { IfErr result (λ e. e ≡ OutOfMemory) }
     {
-        for row in self.rows_of(column) {
-            degrees.lower(*row)?;
-        }
-        Ok(())
+        degrees.lower(self.rows_of(column))
     }
 
     /// A row that has a one in a column and has two active columns.
@@ -107,19 +104,18 @@ impl ColumnRows {
 
 // Puts a row before those that its columns have.
 fn place_row(row: u32, columns: &[u16], starts: &mut [usize], rows: &mut [u32])
-    requires { All (λ column. column < length starts.old) columns.now }
+    requires columns { All (λ column. column < length starts.old) columns.now }
+    requires room { (k : ℕ) → k < length starts.old → count_by (λ column. column == k) columns.now ≤ at starts.old k }
+    requires within { (k : ℕ) → k < length starts.old → at starts.old k ≤ length rows.old }
     ensures long { length starts.new ≡ length starts.old }
     ensures wide { length rows.new ≡ length rows.old }
     ensures below { (height : ℕ) → row < height → All (λ r. r < height) rows.old → All (λ r. r < height) rows.new }
     ensures placed { (counts : List ℕ) (done : ℕ → List ℕ) → HasPlaced counts done starts.old rows.old → ((k : ℕ) → k < length counts → length (done k) + count_by (λ column. column == k) columns.now ≤ at counts k) → HasPlaced counts (λ k. replicate (count_by (λ column. column == k) columns.now) row ++ done k) starts.new rows.new }
 {
     for column in columns {
-        let place = starts[*column as usize].saturating_sub(1);
+        let place = starts[*column as usize] - 1;
         starts[*column as usize] = place;
-        // The place is in range, since each one was counted.
-        if place < rows.len() {
-            rows[place] = row;
-        }
+        rows[place] = row;
     }
 }
 
@@ -132,9 +128,7 @@ fn column_ends(alloc: Global, ones: &RowOnes, width: usize) -> Result<Vec<usize>
     ensures err { IfErr result (λ e. e ≡ OutOfMemory) }
 {
     let mut ends = vec![in alloc; 0; width]?;
-    for row in 0..ones.height() {
-        count_columns(ones.row(row), ends.as_mut_slice());
-    }
+    count_columns(ones.columns(), ends.as_mut_slice());
     add_up(ends.as_mut_slice());
     Ok(ends)
 }

@@ -1,10 +1,10 @@
 //! How many active columns each row has.
-ghost use Rattle.std.specs.Prelude.{◌≡◌, ◌-◌, ◌^◌, ◌<◌, All, Contains, length, set, IfSome, IfNone, IfOk, OnOk, IfErr};
+ghost use Rattle.std.specs.Prelude.{◌≡◌, ◌+◌, ◌^◌, ◌<◌, ◌≤◌, All, Contains, IsTrue, length, take, IfSome, IfNone, IfOk, OnOk, IfErr};
 ghost use Rattle.rq_algebra.specs.Systems.{at};
 ghost use Rattle.rq_bytes.specs.declared.error.Error.TheVariants.{OutOfMemory};
-ghost use Rattle.rq_solver.specs.Degrees.{AllHaveNone, CountsBefore, HasLeastDegree, MayAdd, NoneHas};
+ghost use Rattle.rq_solver.specs.Degrees.{AllHaveNone, AreCounted, HasLeastDegree, LowersRows, MayAdd, NoneHas};
+ghost use Rattle.rq_solver.specs.Listing.{ListsMore};
 
-use crate::pi_solver::ones::RowOnes;
 use rq_bytes::error::Error;
 use std::alloc::Global;
 use std::marker::Model;
@@ -16,55 +16,70 @@ use std::marker::Model;
 pub(super) struct RowDegrees {
     // Rows are asked in any order: of narrow degrees more stay in a near cache.
     degrees: Vec<u16>,
+    // So many rows are listed, and behind them is room for more.
     singles: Vec<u32>,
+    single_count: usize,
     pairs: Vec<u32>,
+    pair_count: usize,
     asked_pairs: usize,
 }
 
 impl Model for RowDegrees {
     ghost use Rattle.std.specs.Prelude.{ℕ, List};
-    ghost use Rattle.rq_solver.specs.Degrees.{AreListed};
+    ghost use Rattle.rq_solver.specs.Degrees.{AreCounted};
 
     ghost Value = { List ℕ };
 
     ghost view = { λ d. d.degrees.items };
 
-    ghost invariant = { λ d. AreListed d.degrees.items d.singles.items d.pairs.items };
+    ghost invariant = { λ d. AreCounted d.degrees.items d.singles.items d.single_count d.pairs.items d.pair_count };
 }
 
 impl RowDegrees {
-    /// The degrees while the columns before `boundary` are active.
-    pub(super) fn new(alloc: Global, ones: &RowOnes, boundary: usize) -> Result<RowDegrees, Error>
-        requires few_rows { length ones.now < 2 ^ 31 }
-        requires short { All (λ row. length row < 65536) ones.now }
-        ensures rows { IfOk result (λ degrees. length degrees ≡ length ones.now) }
-        ensures counted { IfOk result (CountsBefore boundary ones.now) }
+    /// These degrees, one a row.
+    pub(super) fn new(alloc: Global, degrees: Vec<u16>) -> Result<RowDegrees, Error>
+        requires few_rows { length degrees.items < 2 ^ 31 }
+        ensures degrees { IfOk result (λ made. made ≡ degrees.items) }
         ensures err { IfErr result (λ e. e ≡ OutOfMemory) }
     {
-        let degrees = degrees_before(alloc, ones, boundary)?;
-        let mut singles = Vec::with_capacity(alloc, ones.height())?;
-        let mut pairs = Vec::with_capacity(alloc, ones.height())?;
-        for row in 0..ones.height() {
-            list(row as u32, degrees[row], &mut singles, &mut pairs)?;
-        }
+        // Each row is listed once at most, and a column has at most all rows: this is always enough.
+        let room = 2 * degrees.len();
+        let mut singles = vec![in alloc; 0; room]?;
+        let mut pairs = vec![in alloc; 0; room]?;
+        let (single_count, pair_count) = list_rows(
+            degrees.as_slice(),
+            singles.as_mut_slice(),
+            pairs.as_mut_slice(),
+        );
         Ok(RowDegrees {
             degrees,
             singles,
+            single_count,
             pairs,
+            pair_count,
             asked_pairs: 0,
         })
     }
 
-    /// A row has one active column less.
-    pub(super) fn lower(&mut self, row: u32) -> Result<(), Error>
-        requires { row < length self.old }
+    /// Each row has one active column less for each time that it is among these.
+    pub(super) fn lower(&mut self, rows: &[u32]) -> Result<(), Error>
+        requires { All (λ row. row < length self.old) rows.now }
         ensures rows { length self.new ≡ length self.old }
-        ensures lowered { OnOk result (self.new ≡ set self.old row (at self.old row - 1)) }
+        ensures lowered { OnOk result (LowersRows rows.now self.old self.new) }
         ensures err { IfErr result (λ e. e ≡ OutOfMemory) }
     {
-        let degree = self.degrees[row as usize].saturating_sub(1);
-        list(row, degree, &mut self.singles, &mut self.pairs)?;
-        self.degrees[row as usize] = degree;
+        make_room(&mut self.singles, self.single_count + rows.len())?;
+        make_room(&mut self.pairs, self.pair_count + rows.len())?;
+        let (single_count, pair_count) = lower_rows(
+            rows,
+            self.degrees.as_mut_slice(),
+            self.singles.as_mut_slice(),
+            self.single_count,
+            self.pairs.as_mut_slice(),
+            self.pair_count,
+        );
+        self.single_count = single_count;
+        self.pair_count = pair_count;
         Ok(())
     }
 
@@ -82,12 +97,12 @@ impl RowDegrees {
         ensures none { IfNone result (NoneHas 1 self.old) }
         ensures degrees { self.new ≡ self.old }
     {
-        while self.singles.len() > 0 {
-            let row = self.singles[self.singles.len() - 1] as usize;
+        while self.single_count > 0 {
+            let row = self.singles[self.single_count - 1] as usize;
             if self.degrees[row] == 1 {
                 return Some(row);
             }
-            self.singles.pop();
+            self.single_count -= 1;
         }
         None
     }
@@ -97,7 +112,7 @@ impl RowDegrees {
         ensures row { IfSome result (λ row. row < length self.old) }
         ensures degrees { self.new ≡ self.old }
     {
-        while self.asked_pairs < self.pairs.len() {
+        while self.asked_pairs < self.pair_count {
             let row = self.pairs[self.asked_pairs] as usize;
             self.asked_pairs += 1;
             if self.degrees[row] == 2 {
@@ -129,36 +144,78 @@ impl RowDegrees {
     }
 }
 
-// Lists a row that is about to have a degree, if that is one or two.
-fn list(row: u32, degree: u16, singles: &mut Vec<u32>, pairs: &mut Vec<u32>) -> Result<(), Error>
-    ensures singles { MayAdd row singles.old.items singles.new.items }
-    ensures pairs { MayAdd row pairs.old.items pairs.new.items }
-    ensures single { OnOk result (degree ≡ 1 → Contains singles.new.items row) }
-    ensures err { IfErr result (λ e. e ≡ OutOfMemory) }
+// Lists the rows that have one active column, and those that have two, and says how many they are.
+fn list_rows(degrees: &[u16], singles: &mut [u32], pairs: &mut [u32]) -> (usize, usize)
+    requires few_rows { length degrees.now < 2 ^ 31 }
+    requires single_room { length degrees.now ≤ length singles.old }
+    requires pair_room { length degrees.now ≤ length pairs.old }
+    ensures singles { length singles.new ≡ length singles.old }
+    ensures pairs { length pairs.new ≡ length pairs.old }
+    ensures listed { AreCounted degrees.now singles.new result.0 pairs.new result.1 }
 {
-    match degree {
-        1 => singles.push(row)?,
-        2 => pairs.push(row)?,
-        _ => {}
+    let mut single_count = 0;
+    let mut pair_count = 0;
+    for row in 0..degrees.len() {
+        let degree = degrees[row];
+        single_count = list(row as u32, degree == 1, singles, single_count);
+        pair_count = list(row as u32, degree == 2, pairs, pair_count);
     }
-    Ok(())
+    (single_count, pair_count)
 }
 
-// How many of the columns before `boundary` each row has ones in.
-fn degrees_before(alloc: Global, ones: &RowOnes, boundary: usize) -> Result<Vec<u16>, Error>
-    requires short { All (λ row. length row < 65536) ones.now }
-    ensures rows { IfOk result (λ degrees. length degrees.items ≡ length ones.now) }
-    ensures counted { IfOk result (λ degrees. CountsBefore boundary ones.now degrees.items) }
+// Lowers the degree of each row by one, and lists the rows that come to have one active column behind
+// others, and those that come to have two. Says how many are listed. Which rows these are can't be
+// foreseen, so nothing branches on it.
+fn lower_rows(
+    rows: &[u32],
+    degrees: &mut [u16],
+    singles: &mut [u32],
+    single_count: usize,
+    pairs: &mut [u32],
+    pair_count: usize,
+) -> (usize, usize)
+    requires rows { All (λ row. row < length degrees.old) rows.now }
+    requires single_room { single_count + length rows.now ≤ length singles.old }
+    requires pair_room { pair_count + length rows.now ≤ length pairs.old }
+    requires listed { AreCounted degrees.old singles.old single_count pairs.old pair_count }
+    ensures degrees { length degrees.new ≡ length degrees.old }
+    ensures singles { length singles.new ≡ length singles.old }
+    ensures pairs { length pairs.new ≡ length pairs.old }
+    ensures lowered { LowersRows rows.now degrees.old degrees.new }
+    ensures listed { AreCounted degrees.new singles.new result.0 pairs.new result.1 }
+{
+    let mut single_end = single_count;
+    let mut pair_end = pair_count;
+    for row in rows {
+        let degree = degrees[*row as usize].saturating_sub(1);
+        degrees[*row as usize] = degree;
+        single_end = list(*row, degree == 1, singles, single_end);
+        pair_end = list(*row, degree == 2, pairs, pair_end);
+    }
+    (single_end, pair_end)
+}
+
+// Writes a row behind so many others, and says how many are listed then: one more, if it is to be.
+#[inline(always)]
+fn list(row: u32, is_listed: bool, rows: &mut [u32], count: usize) -> usize
+    requires { count < length rows.old }
+    ensures rows { length rows.new ≡ length rows.old }
+    ensures few { result ≤ count + 1 }
+    ensures added { MayAdd row (take count rows.old) (take result rows.new) }
+    ensures there { IsTrue is_listed → Contains (take result rows.new) row }
+{
+    rows[count] = row;
+    count + is_listed as usize
+}
+
+// Makes room for so many rows in all, where there are fewer. Those that are there stay.
+fn make_room(rows: &mut Vec<u32>, count: usize) -> Result<(), Error>
+    ensures kept { ListsMore rows.old.items rows.new.items }
+    ensures room { OnOk result (count ≤ length rows.new.items) }
     ensures err { IfErr result (λ e. e ≡ OutOfMemory) }
 {
-    let mut degrees = Vec::with_capacity(alloc, ones.height())?;
-    for row in 0..ones.height() {
-        let columns = ones.row(row);
-        let count = columns
-            .iter()
-            .filter(|column| (**column as usize) < boundary)
-            .count();
-        degrees.push(count as u16)?;
+    if rows.len() < count {
+        rows.resize(count, 0)?;
     }
-    Ok(degrees)
+    Ok(())
 }

@@ -11,7 +11,8 @@ mod own_octets;
 mod packed_bits;
 
 use super::elimination::OctetRows;
-use octet_row::{EntryRow, count_octets, next_octet};
+pub(super) use octet_row::next_octet;
+use octet_row::{EntryRow, count_octets};
 use own_octets::OwnOctets;
 use packed_bits::{LANES, bit, count_ones, next_one, set_bits};
 use rq_bytes::error::Error;

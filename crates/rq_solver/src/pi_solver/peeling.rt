@@ -2,7 +2,7 @@
 ghost use Rattle.std.specs.Prelude.{◌≡◌, false, ◌<◌, ◌≤◌, ◌+◌, [], drop, length, slice_index_or, All, Contains, IsTrue, IfSome, IfNone, OnOk, IfOk, IfErr};
 ghost use Rattle.rq_bytes.specs.declared.error.Error.TheVariants.{OutOfMemory};
 ghost use Rattle.rq_algebra.specs.Systems.{at};
-ghost use Rattle.rq_solver.specs.Degrees.{KeepsDegrees, LowersRows, TakesFewest, active_ones};
+ghost use Rattle.rq_solver.specs.Degrees.{CountsBefore, KeepsDegrees, LowersRows, TakesFewest, active_ones};
 ghost use Rattle.rq_solver.specs.Peeled.{IsPeeled, IsActive, HasNoActive, TakesRow, InactivatesRow};
 
 use crate::pi_solver::column_rows::ColumnRows;
@@ -103,8 +103,11 @@ impl Peeling {
 
 /// Chooses pivots among rows of bits, of which the dense columns are inactive from the start (RFC
 /// 6330, section 5.4.2.2): again and again a row with least active columns has one of them as its
-/// pivot, and the others are inactive.
-pub(super) fn peel(alloc: Global, system: &System) -> Result<Peeling, Error>
+/// pivot, and the others are inactive. The degrees are the numbers of ones that rows have before the
+/// dense columns.
+pub(super) fn peel(alloc: Global, system: &System, degrees: Vec<u16>) -> Result<Peeling, Error>
+    requires rows { length degrees.items ≡ length system.now.ones }
+    requires counted { CountsBefore system.now.boundary system.now.ones degrees.items }
     ensures peeled { IfOk result (IsPeeled system.now.width system.now.ones) }
     ensures fewest { IfOk result (λ peeling. TakesFewest system.now.ones system.now.boundary peeling.rows) }
     ensures err { IfErr result (λ e. e ≡ OutOfMemory) }
@@ -112,7 +115,7 @@ pub(super) fn peel(alloc: Global, system: &System) -> Result<Peeling, Error>
     let ones = &system.ones;
     let boundary = system.boundary;
     let column_rows = ColumnRows::of_rows(alloc, ones, system.width)?;
-    let mut degrees = RowDegrees::new(alloc, ones, boundary)?;
+    let mut degrees = RowDegrees::new(alloc, degrees)?;
     let mut columns = ColumnOrder::new(alloc, system.width, boundary)?;
     let mut graph = ConnectedComponentGraph::new(alloc, boundary)?;
     let mut rows = Vec::with_capacity(alloc, boundary)?;

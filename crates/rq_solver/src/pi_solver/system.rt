@@ -32,44 +32,52 @@ pub(super) struct System {
 }
 
 impl System {
+    ghost use Rattle.rq_solver.specs.Degrees.{CountsBefore};
     ghost use Rattle.rq_solver.specs.Phases.{IsAttempt};
     ghost use Rattle.rq_solver.specs.System.{IsSystemOf};
 
     /// The equations of a matrix of bits, of which `boundary` is the first dense column, but of the HDPC
-    /// rows from row `first_hdpc` on, where the matrix has zeros.
+    /// rows from row `first_hdpc` on, where the matrix has zeros. And how many ones each row has before
+    /// the dense columns, which `solve` takes.
     pub(super) fn of_matrix<T: BinaryMatrix>(
         alloc: Global,
         bits: &T,
         hdpc: DenseOctetMatrix,
         first_hdpc: usize,
         boundary: usize,
-    ) -> Result<System, Error>
+    ) -> Result<(System, Vec<u16>), Error>
         requires boundary { boundary ≡ (T.content bits.now).boundary }
         requires width { hdpc.width ≡ (T.content bits.now).width }
         requires few_hdpc { length hdpc.rows ≤ (T.content bits.now).width }
         requires within { first_hdpc + length hdpc.rows ≤ (T.content bits.now).height }
         requires zeros { (i k : ℕ) → i < length hdpc.rows → k < (T.content bits.now).width → (T.content bits.now).bit (first_hdpc + i) k ≡ 0 }
-        ensures system { IfOk result (IsSystemOf (T.content bits.now) hdpc first_hdpc) }
+        ensures system { IfOk result (λ made. IsSystemOf (T.content bits.now) hdpc first_hdpc made.0) }
+        ensures rows { IfOk result (λ made. length made.1.items ≡ length made.0.ones) }
+        ensures counted { IfOk result (λ made. CountsBefore made.0.boundary made.0.ones made.1.items) }
         ensures memory { IfErr result (λ e. e ≡ OutOfMemory) }
     {
         let width = hdpc.width();
-        let ones = RowOnes::of_matrix(alloc, bits, boundary)?;
-        Ok(System {
+        let (ones, degrees) = RowOnes::of_matrix(alloc, bits, boundary)?;
+        let system = System {
             ones,
             hdpc,
             first_hdpc,
             width,
             boundary,
-        })
+        };
+        Ok((system, degrees))
     }
 
-    /// Looks for the operations that solve the system.
-    pub(super) fn solve(self, alloc: Global) -> Result<Attempt, Error>
+    /// Looks for the operations that solve the system, of which each row has so many ones before the
+    /// dense columns.
+    pub(super) fn solve(self, alloc: Global, degrees: Vec<u16>) -> Result<Attempt, Error>
+        requires rows { length degrees.items ≡ length self.ones }
+        requires counted { CountsBefore self.boundary self.ones degrees.items }
         ensures found { IfOk result (λ attempt. IsAttempt self attempt.recorded attempt.order) }
         ensures few { IfOk result (λ attempt. additions attempt.recorded ≤ 2 * self.width * length self.ones) }
         ensures memory { IfErr result (λ e. e ≡ OutOfMemory) }
     {
-        let peeling = peel(alloc, &self)?;
+        let peeling = peel(alloc, &self, degrees)?;
         find_operations(alloc, self, &peeling)
     }
 }

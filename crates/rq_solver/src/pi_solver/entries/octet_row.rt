@@ -12,7 +12,7 @@ pub(super) enum EntryRow<'a> {
 }
 
 /// The first column, from one on and before another, where there isn't 0, and what is there.
-pub(super) fn next_octet(octets: &[u8], from: usize, end: usize) -> Option<(usize, Octet)>
+pub(crate) fn next_octet(octets: &[u8], from: usize, end: usize) -> Option<(usize, Octet)>
     requires { end ≤ length octets.now }
     ensures { IsNextOctet (slice_index octets.now) from end result }
 {

@@ -10,6 +10,7 @@ ghost use Rattle.rq_solver.specs.OctetBatch.{batch_bound, octet_in, AreOctetsIn,
 ghost use Rattle.rq_solver.specs.Peeled.{IsOrderOf};
 ghost use Rattle.rq_solver.specs.RowSteps.{AreRows};
 
+use super::super::entries::next_octet;
 use super::super::peeling::Peeling;
 use super::super::recorded::RecordedRows;
 use super::octet_batch::OctetBatch;
@@ -32,6 +33,7 @@ pub(super) fn clear_octets(
     requires order { IsOrderOf hdpc.width peeling.now.order peeling.now.places }
     requires hdpc_octets { HasOctets hdpc }
     requires few { length peeling.now.rows ≤ hdpc.width }
+    requires few_octets { length hdpc.rows < 65536 }
     requires pivots { AreRows peeling.now.rows recorded.old.table }
     requires height { first_hdpc + length hdpc.rows ≤ length recorded.old.table.rows }
     requires fits { first_hdpc + length hdpc.rows < 2 ^ 64 }
@@ -47,8 +49,10 @@ pub(super) fn clear_octets(
     let mut sums = hdpc;
     sum_rows(&mut sums, first_hdpc, recorded)?;
     let mut batch = OctetBatch::new(recorded.allocator(), sums)?;
+    let mut octets = vec![in recorded.allocator(); 0; batch.lanes()]?;
+    let beside = octets.as_mut_slice();
     for column in 0..end_of_pivots(peeling) {
-        clear_column(&mut batch, column, first_hdpc, peeling, recorded)?;
+        clear_column(&mut batch, column, beside, first_hdpc, peeling, recorded)?;
     }
     Ok(())
 }
@@ -120,10 +124,11 @@ fn sum_rows(
 }
 
 // Gives the HDPC rows 0 in a column, if it has a pivot. They have 0 in the pivots' columns before
-// it, and keep that.
+// it, and keep that. What they have in the column is read into `beside`.
 fn clear_column(
     batch: &mut OctetBatch,
     column: usize,
+    beside: &mut [u8],
     first_hdpc: usize,
     peeling: &Peeling,
     recorded: &mut RecordedRows,
@@ -132,14 +137,16 @@ fn clear_column(
     requires pivots { StandsBeside peeling.now first_hdpc batch.old recorded.old }
     requires some { 0 < length batch.old.table.rows }
     requires column { column < batch.old.table.width }
+    requires lanes { length beside.old ≡ length batch.old.factors }
     ensures table { batch.new.table ≡ batch.old.table }
+    ensures lanes { length beside.new ≡ length batch.new.factors }
     ensures changed { OnOk result (ClearsPivotColumn peeling.now column first_hdpc batch.old batch.new recorded.old recorded.new) }
     ensures few { OnOk result (AddsAtMost ((length batch.old.table.rows - 1) + length batch.old.table.rows) recorded.old recorded.new) }
     ensures idle { OnOk result (length peeling.now.rows ≤ at peeling.now.places column → additions recorded.new.operations ≤ additions recorded.old.operations + (length batch.old.table.rows - 1)) }
     ensures err { IfErr result (λ e. e ≡ OutOfMemory) }
 {
     let lead = batch.get(0, column);
-    add_first_row(batch, column, first_hdpc, recorded)?;
+    add_first_row(batch, column, beside, first_hdpc, recorded)?;
     let place = peeling.place_of(column);
     if place < peeling.pivots() {
         // Where the first row wasn't 0 in the column, the others are now.
@@ -154,13 +161,16 @@ fn clear_column(
 fn add_first_row(
     batch: &mut OctetBatch,
     column: usize,
+    beside: &mut [u8],
     first_hdpc: usize,
     recorded: &mut RecordedRows,
 ) -> Result<(), Error>
     requires rows { AreOctetsIn first_hdpc (length batch.old.table.rows) recorded.old }
     requires some { 0 < length batch.old.table.rows }
     requires column { column < batch.old.table.width }
+    requires lanes { length beside.old ≡ length batch.old.factors }
     ensures table { batch.new.table ≡ batch.old.table }
+    ensures lanes { length beside.new ≡ length batch.new.factors }
     ensures alone { OnOk result (octet_in batch.old 0 column ≢ 0 → IsFirstAlone column batch.new) }
     ensures added { OnOk result (CombinesFrom column first_hdpc batch.old batch.new recorded.old recorded.new) }
     ensures few { OnOk result (AddsAtMost (length batch.old.table.rows - 1) recorded.old recorded.new) }
@@ -170,9 +180,9 @@ fn add_first_row(
     if lead.byte() == 0 {
         return Ok(());
     }
-    let sum = batch.sum_in(column);
+    batch.read_column(column, beside);
     let mut from = 1;
-    while let Some((row, octet)) = batch.next_beside(from, column, &sum) {
+    while let Some((row, octet)) = next_octet(beside, from, batch.height()) {
         let scalar = &octet / &lead;
         let factor = scalar.byte();
         batch.add_first(row, factor);

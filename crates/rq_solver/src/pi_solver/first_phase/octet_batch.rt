@@ -1,15 +1,17 @@
 //! The octets of HDPC rows that are cleared together.
-ghost use Rattle.std.specs.Prelude.{◌≡◌, ℕ, ◌<◌, length, IfOk, IfErr};
+ghost use Rattle.std.specs.Prelude.{◌≡◌, ℕ, ◌^◌, ◌<◌, ◌≤◌, length, IfOk, IfErr};
 ghost use Rattle.rq_algebra.specs.Steps.{AddsRow, ScalesRow};
 ghost use Rattle.rq_algebra.specs.Systems.{at};
 ghost use Rattle.rq_bytes.specs.declared.error.Error.TheVariants.{OutOfMemory};
 ghost use Rattle.rq_parts.specs.DenseOctetMatrix.{entry_of, HasOctets};
 ghost use Rattle.rq_standard.specs.OctetField.{octets};
-ghost use Rattle.rq_solver.specs.InactiveEntries.{IsNextOctet};
-ghost use Rattle.rq_solver.specs.OctetBatch.{octet_in};
+ghost use Rattle.rq_solver.specs.OctetBatch.{octet_in, AreBeside};
 
+use super::super::entries::whole_vectors;
 use rq_bytes::error::Error;
+use rq_bytes::factor::add_row_multiple;
 use rq_bytes::octet::Octet;
+use rq_bytes::octets::are_octets;
 use rq_parts::octet_matrix::DenseOctetMatrix;
 use std::alloc::Global;
 use std::marker::Model;
@@ -37,12 +39,13 @@ impl OctetBatch {
     /// The rows of a table, the first of which is the sum of what the rows were.
     pub(super) fn new(alloc: Global, table: DenseOctetMatrix) -> Result<OctetBatch, Error>
         requires some { 0 < length table.rows }
+        requires few { length table.rows < 2 ^ 63 }
         requires octets { HasOctets table }
         ensures table { IfOk result (λ batch. batch.table ≡ table) }
         ensures octets { IfOk result (λ batch. (i k : ℕ) → i < length table.rows → k < table.width → octet_in batch i k ≡ entry_of table i k) }
         ensures err { IfErr result (λ e. e ≡ OutOfMemory) }
     {
-        let mut factors = vec![in alloc; 0; table.height()]?;
+        let mut factors = vec![in alloc; 0; whole_vectors(table.height())]?;
         factors[0] = 1;
         Ok(OctetBatch { table, factors })
     }
@@ -50,6 +53,7 @@ impl OctetBatch {
     /// The number of rows.
     pub(super) fn height(&self) -> usize
         ensures height { result ≡ length self.now.table.rows }
+        ensures lanes { result ≤ length self.now.factors }
         ensures octets { HasOctets self.now.table }
     {
         self.table.height()
@@ -69,51 +73,28 @@ impl OctetBatch {
         own + Octet::new(self.factors[row]) * self.table.get(0, column)
     }
 
-    /// What the rows' sum has in a column.
+    /// How many octets a column is read into: one a row, and some more, which fill whole vectors.
+    pub(super) fn lanes(&self) -> usize
+        ensures { result ≡ length self.now.factors }
+    {
+        self.factors.len()
+    }
+
+    /// Reads what each row but the first has in a column.
     #[inline(always)]
-    pub(super) fn sum_in(&self, column: usize) -> Octet
+    pub(super) fn read_column(&self, column: usize, beside: &mut [u8])
         requires some { 0 < length self.now.table.rows }
         requires column { column < self.now.table.width }
-        ensures { result ≡ entry_of self.now.table 0 column }
-    {
-        self.table.get(0, column)
-    }
-
-    /// The first row, from one behind the first on, that isn't 0 in a column, and what it has there. It
-    /// is known what the rows' sum has in the column.
-    #[inline(always)]
-    pub(super) fn next_beside(
-        &self,
-        from: usize,
-        column: usize,
-        sum: &Octet,
-    ) -> Option<(usize, Octet)>
-        requires others { 0 < from }
-        requires column { column < self.now.table.width }
-        requires sum { sum.now ≡ entry_of self.now.table 0 column }
-        ensures next { IsNextOctet (λ row. octet_in self.now row column) from (length self.now.table.rows) result }
+        requires lanes { length beside.old ≡ length self.now.factors }
+        ensures beside { AreBeside self.now column 1 beside.new }
+        ensures lanes { length beside.new ≡ length beside.old }
         ensures octets { HasOctets self.now.table }
     {
-        for row in from..self.height() {
-            let octet = self.get_beside(row, column, sum);
-            if octet.byte() != 0 {
-                return Some((row, octet));
-            }
-        }
-        None
-    }
-
-    // What a row but the first has in a column, where it is known what the rows' sum has there.
-    #[inline(always)]
-    fn get_beside(&self, row: usize, column: usize, sum: &Octet) -> Octet
-        requires other { 0 < row }
-        requires row { row < length self.now.table.rows }
-        requires column { column < self.now.table.width }
-        requires sum { sum.now ≡ entry_of self.now.table 0 column }
-        ensures { result ≡ octet_in self.now row column }
-    {
-        let multiple = &Octet::new(self.factors[row]) * sum;
-        self.table.get(row, column) + multiple
+        copy_column(&self.table, column, beside);
+        let sum = self.table.get(0, column);
+        let factors = self.factors.as_slice();
+        are_octets(factors);
+        add_row_multiple(beside, factors, &sum);
     }
 
     /// Adds a multiple of the first row to another one.
@@ -121,6 +102,7 @@ impl OctetBatch {
         requires other { 0 < dest }
         requires dest { dest < length self.old.table.rows }
         ensures table { self.new.table ≡ self.old.table }
+        ensures lanes { length self.new.factors ≡ length self.old.factors }
         ensures sum { AddsRow octets (length self.old.table.rows) self.old.table.width dest 0 scalar (octet_in self.old) (octet_in self.new) }
     {
         self.factors[dest] ^= self.first_multiple(scalar);
@@ -130,6 +112,7 @@ impl OctetBatch {
     pub(super) fn multiply_first(&mut self, scalar: u8)
         requires { 0 < length self.old.table.rows }
         ensures table { self.new.table ≡ self.old.table }
+        ensures lanes { length self.new.factors ≡ length self.old.factors }
         ensures multiple { ScalesRow octets (length self.old.table.rows) self.old.table.width 0 scalar (octet_in self.old) (octet_in self.new) }
     {
         self.factors[0] = self.first_multiple(scalar);
@@ -141,5 +124,18 @@ impl OctetBatch {
         ensures { result ≡ octets.mul scalar (at self.now.factors 0) }
     {
         (Octet::new(scalar) * Octet::new(self.factors[0])).byte()
+    }
+}
+
+// Copies what the rows of a table but the first have in a column.
+#[inline(always)]
+fn copy_column(table: &DenseOctetMatrix, column: usize, octets: &mut [u8])
+    requires column { column < table.now.width }
+    requires room { length table.now.rows ≤ length octets.old }
+    ensures copied { (i : ℕ) → 0 < i → i < length table.now.rows → at octets.new i ≡ entry_of table.now i column }
+    ensures len { length octets.new ≡ length octets.old }
+{
+    for row in 1..table.height() {
+        octets[row] = table.get(row, column).byte();
     }
 }

@@ -4,9 +4,16 @@ use Rattle.std.proofs.lemmas.List.{length-set, take_all}
 use Rattle.std.proofs.lemmas.List.Elements.{All-set}
 use Rattle.rq_algebra.specs.Systems.{at}
 use Rattle.rq_solver.specs.ColumnRows.{HasPlaced}
-use Rattle.rq_solver.proofs.ColumnPlacing.{place_free, placed_more, put_elsewhere, put_fits, put_here}
+use Rattle.rq_solver.proofs.ColumnPlacing.{counted_less, left_less, placed_more, put_elsewhere, put_fits, put_here}
 use Rattle.rq_solver.proofs.pi_solver.column_rows.place_row.Goals as goal
-use Rattle.rq_solver.proofs.pi_solver.column_rows.place_row.Goals.{then-place-rows, else-place-rows}
+
+pub overflow_sub-place : goal.overflow_sub-place
+overflow_sub-place c =
+    let t = c.loop-column.column-index in
+    let in_columns : t < length c.args.columns.now = c.loop-column-test.true in
+    let column = at c.args.columns.now t in
+    let inside : column < length c.args.starts.now = c.requires.columns t 0 in_columns in
+    omega (arith, c.loop-column.invariant.left column inside, c.requires.room column inside, counted_less c.args.columns.now t in_columns)
 
 pub loop-column-preserved : goal.loop-column-preserved
 loop-column-preserved c =
@@ -16,33 +23,22 @@ loop-column-preserved c =
     let t = c.loop-column.column-index in
     let column = at columns t in
     let in_columns : t < length columns = c.loop-column-test.true in
-    let inside : column < length c.args.starts.now = c.requires t 0 in_columns in
+    let inside : column < length c.args.starts.now = c.requires.columns t 0 in_columns in
     let starts = c.loop-column.starts in
     let rows = c.loop-column.rows in
-    let place : c.saturating_sub-place.result ≡ at starts column - 1 = c.saturating_sub-place.ensures in
+    let place = at starts column - 1 in
+    let some : place + 1 ≡ at starts column = omega (arith, v.left column inside, c.requires.room column inside, counted_less columns t in_columns) in
     record {
-      long = length-set starts column c.saturating_sub-place.result ∙ v.long;
-      wide = elim c.if-place-rows.branch [
-        | then-place-rows w ↦ rw w.rows-is (length-set rows c.saturating_sub-place.result row ∙ v.wide)
-        | else-place-rows w ↦ rw w.rows-is v.wide
-      ];
-      below = λ height l all. elim c.if-place-rows.branch [
-        | then-place-rows w ↦ rw w.rows-is (All-set (λ r. r < height) rows c.saturating_sub-place.result row l (v.below height l all))
-        | else-place-rows w ↦ rw w.rows-is (v.below height l all)
-      ];
+      long = length-set starts column place ∙ v.long;
+      wide = length-set rows place row ∙ v.wide;
+      left = λ k l. left_less columns starts t place k (at c.args.starts.now k) in_columns (omega (arith, inside, v.long)) some (v.left k l);
+      below = λ height l all. All-set (λ r. r < height) rows place row l (v.below height l all);
       placed = λ counts done has room.
           let so_far : ℕ → List ℕ = λ k. replicate (count_by (λ column. column == k) (take t columns)) row ++ done k in
           let next : ℕ → List ℕ = λ k. replicate (count_by (λ column. column == k) (take (t + 1) columns)) row ++ done k in
-          let now : HasPlaced counts so_far starts rows = v.placed counts done has room in
           let in_counts : column < length counts = omega (arith, has.long, inside) in
-          let free = put_fits columns done t row in_columns (at counts column) (room column in_counts) in
-          let here = put_here columns done t row in_columns in
-          let others = put_elsewhere columns done t row in_columns in
-          let inner = place_free counts so_far next starts rows now column row in_counts free here others in
-          elim c.if-place-rows.branch [
-            | then-place-rows w ↦ rw (w.rows-is, place) (placed_more counts so_far next starts rows now column row in_counts free here others)
-            | else-place-rows w ↦ absurd (omega (arith, w.if-place-rows.false, inner, place))
-          ];
+          placed_more counts so_far next starts rows (v.placed counts done has room) column row in_counts (put_fits columns done t row in_columns (at counts column) (room column in_counts)) (put_here columns done t row in_columns)
+          (put_elsewhere columns done t row in_columns);
     }
 
 pub returns-clause-placed : goal.returns-clause-placed

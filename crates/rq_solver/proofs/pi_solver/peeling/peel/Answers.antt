@@ -1,15 +1,13 @@
 -- What the check leaves to show of `pi_solver::peeling::peel`.
-use Rattle.std.proofs.Common.{Result, Ok, Err, ◌≡◌, ◌<◌, ℕ, [], ◌∷◌, ◌++◌, All, length, refl, subst, sym, ap, ◌∙◌, arith, Vec, Global}
+use Rattle.std.proofs.Common.{Result, Ok, Err, ◌≡◌, ◌<◌, ℕ, [], ◌∷◌, ◌++◌, All, length, subst, sym, ap, ◌∙◌, arith, Vec, Global}
 use Rattle.std.proofs.lemmas.List.FromFn.{length-range_with_len}
-use Rattle.std.proofs.lemmas.List.{get_or_default, length-append, length-replicate}
+use Rattle.std.proofs.lemmas.List.{length-append, length-replicate}
 use Rattle.rq_parts.specs.ConnectedComponentGraph.{Components}
 use Rattle.rq_solver.specs.Degrees.{CountsActive}
 use Rattle.rq_solver.specs.Peeled.{ones_of, HasNoActive, TakesRow, IsOrderOf}
 use Rattle.rq_solver.specs.declared.pi_solver.system.System.{System}
 use Rattle.rq_solver.proofs.ActiveOnes.{all_done, counts_first, fewest_left, has_active, left_first, left_next, none_left, takes_more}
-use Rattle.rq_solver.proofs.CountLaws.{few_columns}
 use Rattle.rq_solver.proofs.PeelingLaws.{columns_below, peeled_none, peeled_next, peeled_all}
-use Rattle.rq_solver.proofs.PivotTurns.{columns_of_row}
 use Rattle.rq_solver.proofs.pi_solver.peeling.peel.Goals as goal
 use Rattle.rq_solver.proofs.pi_solver.peeling.peel.Goals.{then-taken+in_ok-push, else-taken, else-loop-turn-test, then-loop-turn-test+in_default}
 
@@ -22,12 +20,6 @@ columns system = columns_below system.width system.ones system.bits
 
 pub of_rows-requires-clause-columns : goal.of_rows-requires-clause-columns
 of_rows-requires-clause-columns c = columns c.args.system.now
-
-pub new-requires-clause-short : goal.new-requires-clause-short
-new-requires-clause-short c = λ i d l.
-    let system = c.args.system.now in
-    let few = few_columns system.width (ones_of system.ones i) (columns_of_row system.width i system.ones (ones_of system.ones i) system.bits l refl) in
-    rw (get_or_default system.ones i d [] l) (omega (arith, few, system.narrow))
 
 pub next_row-next-requires-clause-columns : goal.next_row-next-requires-clause-columns
 next_row-next-requires-clause-columns c = rw c.loop-turn.invariant.width (columns c.args.system.now)
@@ -42,9 +34,9 @@ loop-turn-init c =
       turns = omega arith;
       end = omega arith;
       left = left_first lists c.args.system.now.width c.args.system.now.boundary;
-      counts = counts_first lists c.args.system.now.boundary c.args.system.now.width c.in_ok-degrees.degrees (columns c.args.system.now) c.in_ok-degrees.ensures.counted;
+      counts = counts_first lists c.args.system.now.boundary c.args.system.now.width c.in_ok-degrees.degrees (columns c.args.system.now) (rw c.in_ok-degrees.ensures.degrees c.requires.counted);
       fewest = λ p l. absurd (omega arith);
-      degrees = c.in_ok-degrees.ensures.rows;
+      degrees = ap length c.in_ok-degrees.ensures.degrees ∙ c.requires.rows;
       graph = sym (ap node_count c.in_ok-graph.ensures) ∙ length-replicate c.args.system.now.boundary 0;
     })
 

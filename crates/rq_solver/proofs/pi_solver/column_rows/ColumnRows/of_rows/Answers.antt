@@ -4,9 +4,29 @@ use Rattle.std.specs.List.{sum_by}
 use Rattle.std.proofs.lemmas.List.{take_all}
 use Rattle.std.proofs.lemmas.List.FromFn.{length-map-range_with_len, get_or-map-range_with_len}
 use Rattle.rq_algebra.specs.Systems.{at}
+use Rattle.rq_solver.specs.Cleared.{one_in}
 use Rattle.rq_solver.specs.ColumnRows.{HasPlaced, rows_from, rows_with}
-use Rattle.rq_solver.proofs.ColumnPlacing.{placed_same, length-rows_with, read_is, room_for, rows_with-more, written_back}
+use Rattle.rq_solver.proofs.ColumnPlacing.{placed_same, length-rows_with, read_is, room_for, room_left, rows_with-more, starts_within, written_back}
 use Rattle.rq_solver.proofs.pi_solver.column_rows.ColumnRows.of_rows.Goals as goal
+
+pub place_row-requires-clause-room : goal.place_row-requires-clause-room
+place_row-requires-clause-room c = λ k l.
+    let lists = c.args.ones.now in
+    let row = c.loop-row.row in
+    let starts = c.as_mut_slice.ensures.value in
+    let are = c.in_ok-starts.ensures.ends.1 in
+    let placed = c.loop-row.invariant.placed c.in_ok-starts.ensures.ends.0 are in
+    let in_row : row < length lists = omega (arith, c.loop-row-test.true, c.height-row-end.ensures) in
+    let inside : k < length c.loop-row.starts.items = rw starts at l in
+    rw (c.row.ensures, starts)
+    (room_left c.in_ok-starts.ensures.ends.0 (λ k. rows_with lists k row) c.loop-row.starts.items c.loop-row.rows.items placed k inside (one_in lists row k) (rw (are.counted k (omega (arith, placed.long, inside))) (room_for lists k row in_row)))
+
+pub place_row-requires-clause-within : goal.place_row-requires-clause-within
+place_row-requires-clause-within c = λ k l.
+    let starts = c.as_mut_slice.ensures.value in
+    let are = c.in_ok-starts.ensures.ends.1 in
+    let placed = c.loop-row.invariant.placed c.in_ok-starts.ensures.ends.0 are in
+    rw (starts, c.as_mut_slice-in-loop-row.ensures.value) (starts_within c.in_ok-starts.ensures.ends.0 (λ k. rows_with c.args.ones.now k c.loop-row.row) c.loop-row.starts.items c.loop-row.rows.items placed k (rw starts at l))
 
 pub loop-row-preserved : goal.loop-row-preserved
 loop-row-preserved c =

@@ -1,16 +1,20 @@
 -- What the check leaves to show of `pi_solver::degrees::RowDegrees::lower`.
-use Rattle.std.proofs.Common.{length, ap, arith}
-use Rattle.rq_solver.specs.Degrees.{AreListed}
-use Rattle.rq_solver.proofs.DegreeLists.{listed_added, listed_set}
+use Rattle.rq_solver.proofs.DegreeLists.{counted_kept}
+use Rattle.rq_solver.proofs.ListingLaws.{more_none}
 use Rattle.rq_solver.proofs.pi_solver.degrees.RowDegrees.lower.Goals as goal
 
 pub invariant_of-self : goal.invariant_of-self
 invariant_of-self c =
     let s = c.self.inside in
-    listed_added s.degrees.items s.singles.items s.pairs.items c.list.new.singles.items c.list.new.pairs.items c.args.row c.self.invariant (omega (arith, c.requires, ap length c.self.view_is)) c.list.ensures.singles c.list.ensures.pairs
+    counted_kept s.degrees.items s.singles.items c.make_room.new.rows.items s.pairs.items s.pairs.items s.single_count s.pair_count c.self.invariant c.make_room.ensures.kept (more_none s.pairs.items)
 
-pub invariant_of-self-2 : goal.invariant_of-self-2
-invariant_of-self-2 c =
+pub invariant_of-self-in_err-make_room-2 : goal.invariant_of-self-in_err-make_room-2
+invariant_of-self-in_err-make_room-2 c =
     let s = c.self.inside in
-    let listed : AreListed s.degrees.items c.list.new.singles.items c.list.new.pairs.items = listed_added s.degrees.items s.singles.items s.pairs.items c.list.new.singles.items c.list.new.pairs.items c.args.row c.self.invariant (omega (arith, c.requires, ap length c.self.view_is)) c.list.ensures.singles c.list.ensures.pairs in
-    listed_set s.degrees.items c.list.new.singles.items c.list.new.pairs.items c.args.row c.saturating_sub-degree.result listed c.in_ok-list.ensures.single
+    counted_kept s.degrees.items s.singles.items c.make_room.new.rows.items s.pairs.items c.make_room-2.new.rows.items s.single_count s.pair_count c.self.invariant c.make_room.ensures.kept c.make_room-2.ensures.kept
+
+pub lower_rows-single_count-requires-clause-listed : goal.lower_rows-single_count-requires-clause-listed
+lower_rows-single_count-requires-clause-listed c =
+    let s = c.self.inside in
+    rw (c.as_mut_slice.ensures.value, c.as_mut_slice-2.ensures.value, c.as_mut_slice-3.ensures.value)
+    (counted_kept s.degrees.items s.singles.items c.make_room.new.rows.items s.pairs.items c.make_room-2.new.rows.items s.single_count s.pair_count c.self.invariant c.make_room.ensures.kept c.make_room-2.ensures.kept)

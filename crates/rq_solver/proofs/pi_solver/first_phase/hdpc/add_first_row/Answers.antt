@@ -1,5 +1,5 @@
 -- What the check leaves to show of `pi_solver::first_phase::hdpc::add_first_row`.
-use Rattle.std.proofs.Common.{◌≡◌, ◌≢◌, ℕ, ◌<◌, ◌≤◌, ◌+◌, length, lit<, refl, sym, ap, ◌∙◌, subst, arith, inl, inr}
+use Rattle.std.proofs.Common.{◌≡◌, ◌≢◌, ℕ, ◌<◌, ◌≤◌, ◌+◌, length, lit<, refl, sym, ◌∙◌, subst, arith, inl, inr}
 use Rattle.std.proofs.lemmas.Bool.{cases_eq, cases_lt}
 use Rattle.rq_algebra.specs.Steps.{AddsRow, ScalesRow}
 use Rattle.rq_standard.specs.OctetField.{octets}
@@ -25,6 +25,8 @@ loop-row-init c = record {
   table = refl;
   lead = sym c.get-lead.ensures;
   cleared = λ i some l. absurd (omega arith);
+  lanes = c.read_column.ensures.lanes ∙ c.requires.lanes;
+  beside = c.read_column.ensures.beside;
   combined = combines_none c.args.first_hdpc (length c.args.batch.now.table.rows) c.args.batch.now.table.width (octets_from c.args.column (octet_in c.args.batch.now)) c.args.recorded.now c.requires.rows.octets;
 }
 
@@ -41,22 +43,24 @@ loop-row-preserved c =
     let count = length start.table.rows in
     let width = start.table.width in
     let same : was.table ≡ start.table = v.table in
-    let next = c.in-Some.ensures.next in
+    let next = c.in-Some.ensures in
     let some_row : 0 < from = v.from in
     let behind : from ≤ row = next.0.0 in
-    let in_rows : row < count = rw same at next.0.1 in
+    let in_was : row < length was.table.rows = rw c.height.ensures.height at next.0.1 in
+    let in_rows : row < count = rw same at in_was in
+    let read : c.in-Some.octet ≡ octet_in was row column = next.1 ∙ v.beside row behind in_was in
     let in_width : column < width = c.requires.column in
-    let elements : HasOctets start.table = rw same at c.next_beside.ensures.octets in
+    let elements : HasOctets start.table = rw same at c.height.ensures.octets in
     let now = c.add_first.new.self in
     let scalar = c.div-scalar.result in
     let added : AddsRow octets count width row 0 scalar (octet_in was) (octet_in now) = subst (λ (x : ℕ). AddsRow octets count width row 0 x (octet_in was) (octet_in now)) c.byte-factor.ensures (adds_beside start was same now row 0 c.byte-factor.result c.add_first.ensures.sum) in
     let small : lead < 256 = rw c.byte.ensures at c.byte.type_inv in
     let nonzero : lead ≢ 0 = (λ e. c.if-byte-eq0.false (c.byte.ensures ∙ e)) in
     let is_octet : octet_in was row column < 256 = elements_beside start was same elements row column in_rows in_width in
-    let zero : octet_in now row column ≡ 0 = added.at_dest column in_width ∙ rw (v.lead, c.div-scalar.ensures, next.1) (plus_quotient_times (octet_in was row column) lead is_octet small nonzero) in
+    let zero : octet_in now row column ≡ 0 = added.at_dest column in_width ∙ rw (v.lead, c.div-scalar.ensures, read) (plus_quotient_times (octet_in was row column) lead is_octet small nonzero) in
     let before : (i : ℕ) → 0 < i → i < row → octet_in was i column ≡ 0 = (λ (i : ℕ) (some : 0 < i) (l : i < row). elim (cases_lt i from) [
       | inl below ↦ v.cleared i some below
-      | inr from_on ↦ next.0.3 i from_on l
+      | inr from_on ↦ sym (v.beside i from_on (omega (arith, l, in_was))) ∙ next.0.3 i from_on l
     ]) in
     record {
       from = omega arith;
@@ -65,6 +69,9 @@ loop-row-preserved c =
       table = c.add_first.ensures.table ∙ same;
       lead = added.elsewhere 0 column (omega (arith, in_rows)) in_width (λ e. omega (arith, e, behind, some_row)) ∙ v.lead;
       cleared = λ i some l. elim (cases_eq i row) [ inl e ↦ rw e zero | inr d ↦ added.elsewhere i column (omega (arith, l, in_rows)) in_width d ∙ before i some (omega (arith, l, d)) ];
+      lanes = v.lanes ∙ sym c.add_first.ensures.lanes;
+      beside = λ i after l. let in_old : i < length was.table.rows = rw c.add_first.ensures.table at l in
+          v.beside i (omega (arith, behind, after)) in_old ∙ sym (added.elsewhere i column (rw same at in_old) in_width (λ e. omega (arith, e, after)));
       combined = combines_more first count width (octets_from column (octet_in start)) (octets_from column (octet_in was)) (octets_from column (octet_in now)) c.args.recorded.now c.loop-row.recorded c.add_row.new.self v.combined
           (combines_sum first count width (octets_from column (octet_in was)) (octets_from column (octet_in now)) c.loop-row.recorded c.add_row.new.self
           (from_elements column (octet_in was) count width (elements_beside start was same elements))
@@ -95,7 +102,7 @@ returns-in_ok-multiply_row-clause-alone c = λ some.
       one = scaled.at_dest column c.requires.column ∙ rw (v.lead, c.div-scalar-then-byte-ne1.ensures, c.one.ensures) (quotient_times 1 lead (lit< tt) small nonzero);
       zeros = λ i first l.
           let in_rows : i < length start.table.rows = rw (c.multiply_first.ensures.table ∙ same) at l in
-          scaled.elsewhere i column in_rows c.requires.column (λ e. omega (arith, e, first)) ∙ (elim (cases_lt i c.loop-row.from) [ inl below ↦ v.cleared i first below | inr from_on ↦ c.in_default.ensures.next i from_on (rw same in_rows) ]);
+          scaled.elsewhere i column in_rows c.requires.column (λ e. omega (arith, e, first)) ∙ (elim (cases_lt i c.loop-row.from) [ inl below ↦ v.cleared i first below | inr from_on ↦ let in_was : i < length was.table.rows = rw same in_rows in sym (v.beside i from_on in_was) ∙ c.in_default.ensures i from_on (rw c.height.ensures.height in_was) ]);
     }
 
 pub returns-in_ok-multiply_row-clause-added : goal.returns-in_ok-multiply_row-clause-added
@@ -111,7 +118,7 @@ returns-in_ok-multiply_row-clause-added c =
     let v = c.loop-row.invariant in
     combines_more first count width (octets_from column (octet_in start)) (octets_from column (octet_in was)) (octets_from column (octet_in now)) c.args.recorded.now c.loop-row.recorded c.multiply_row.new.self v.combined
     (combines_scaling first count width (octets_from column (octet_in was)) (octets_from column (octet_in now)) c.loop-row.recorded c.multiply_row.new.self
-    (from_elements column (octet_in was) count width (elements_beside start was v.table (rw v.table at c.next_beside.ensures.octets)))
+    (from_elements column (octet_in was) count width (elements_beside start was v.table (rw v.table at c.height.ensures.octets)))
     0 first scalar (omega arith) (omega arith)
     (from_scales column count width 0 scalar (octet_in was) (octet_in now) (subst (λ (x : ℕ). ScalesRow octets count width 0 x (octet_in was) (octet_in now)) c.byte-factor-then-byte-ne1.ensures (scales_beside start was v.table now 0 c.byte-factor-then-byte-ne1.result c.multiply_first.ensures.multiple))) c.in_ok-multiply_row.ensures.multiplied)
 
@@ -126,5 +133,17 @@ returns-else-byte-ne1-clause-alone c = λ some.
     let v = c.loop-row.invariant in
     record {
       one = v.lead ∙ sym c.byte-2.ensures ∙ c.if-byte-ne1.false;
-      zeros = λ i first l. elim (cases_lt i c.loop-row.from) [ inl below ↦ v.cleared i first below | inr from_on ↦ c.in_default.ensures.next i from_on l ];
+      zeros = λ i first l. elim (cases_lt i c.loop-row.from) [ inl below ↦ v.cleared i first below | inr from_on ↦ sym (v.beside i from_on l) ∙ c.in_default.ensures i from_on (rw c.height.ensures.height l) ];
     }
+
+pub next_octet-requires : goal.next_octet-requires
+next_octet-requires c = let lanes = c.loop-row.invariant.lanes in omega (arith, lanes, c.height.ensures.lanes)
+
+pub returns-in_err-add_row-clause-lanes : goal.returns-in_err-add_row-clause-lanes
+returns-in_err-add_row-clause-lanes c = c.loop-row.invariant.lanes ∙ sym c.add_first.ensures.lanes
+
+pub returns-in_err-multiply_row-clause-lanes : goal.returns-in_err-multiply_row-clause-lanes
+returns-in_err-multiply_row-clause-lanes c = c.loop-row.invariant.lanes ∙ sym c.multiply_first.ensures.lanes
+
+pub returns-in_ok-multiply_row-clause-lanes : goal.returns-in_ok-multiply_row-clause-lanes
+returns-in_ok-multiply_row-clause-lanes c = c.loop-row.invariant.lanes ∙ sym c.multiply_first.ensures.lanes

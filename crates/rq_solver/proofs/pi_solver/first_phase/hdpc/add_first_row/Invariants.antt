@@ -1,7 +1,7 @@
 -- What the loops keep in `pi_solver::first_phase::hdpc::add_first_row`.
 use Rattle.std.proofs.Common.{◌≡◌, ℕ, ◌+◌, ◌-◌, ◌<◌, ◌≤◌, length}
 use Rattle.rq_solver.specs.OperationCounts.{additions}
-use Rattle.rq_solver.specs.OctetBatch.{CombinesOctets, octet_in, octets_from}
+use Rattle.rq_solver.specs.OctetBatch.{AreBeside, CombinesOctets, octet_in, octets_from}
 use Rattle.rq_solver.proofs.pi_solver.first_phase.hdpc.add_first_row.Given as goal
 
 abbrev pub invariant-loop-row : goal.invariant-loop-row
@@ -12,6 +12,8 @@ invariant-loop-row l = record {
   table : l.batch.table ≡ l.fn.batch.table;
   lead : octet_in l.batch 0 l.column ≡ l.lead;
   cleared : (i : ℕ) → 0 < i → i < l.from → octet_in l.batch i l.column ≡ 0;
+  lanes : length l.beside ≡ length l.batch.factors;
+  beside : AreBeside l.batch l.column l.from l.beside;
   combined : CombinesOctets l.first_hdpc (length l.fn.batch.table.rows) l.fn.batch.table.width (octets_from l.column (octet_in l.fn.batch)) (octets_from l.column (octet_in l.batch)) l.fn.recorded l.recorded;
 }
 

@@ -26,6 +26,7 @@ loop-column-init c =
     let hdpc = c.args.hdpc in
     record {
       table = refl;
+      lanes = c.as_mut_slice-beside.ensures.len ∙ c.in_ok-octets.ensures.len ∙ c.lanes.ensures;
       changed = changes_none c.args.peeling.now.rows c.args.peeling.now.order c.args.peeling.now.places c.args.first_hdpc (length hdpc.rows) hdpc.width (octets_from 0 (octet_in c.in_ok-batch.batch)) c.sum_rows.new.recorded c.in_ok-sum_rows.ensures.summed.performs.octets;
       few = (0, met_none (length c.args.peeling.now.rows) (at c.args.peeling.now.places), (omega arith));
     }
@@ -49,6 +50,7 @@ clear_column-requires c =
       pivots = rw (count, width) (beside_still p.rows p.order p.places c.args.first_hdpc (length hdpc.rows) hdpc.width old now beside heights);
       some = omega (arith, count, c.height.ensures, c.if-height-eq0.false);
       column = omega (arith, width, c.loop-column-test.true, c.end_of_pivots-column-end.ensures.within, c.requires.order.place_count);
+      lanes = v.lanes;
     }
 
 pub loop-column-preserved : goal.loop-column-preserved
@@ -76,6 +78,7 @@ loop-column-preserved c =
     omega (arith, same, l)) in
     record {
       table = c.clear_column.ensures.table ∙ v.table;
+      lanes = c.in_ok-clear_column.ensures.lanes;
       few = elim (cases_lt (at p.places column) (length p.rows)) [
         | inl pivot ↦
             let more = c.in_ok-clear_column.ensures.few in

@@ -1,5 +1,7 @@
 -- What the loops keep in `pi_solver::ones::RowOnes::of_matrix`.
+use Rattle.std.proofs.Common.{◌≡◌, length}
 use Rattle.rq_parts.specs.ImmutableListMap.{lists_between}
+use Rattle.rq_solver.specs.Degrees.{CountsBefore}
 use Rattle.rq_solver.specs.Peeled.{AreOnesOfRows, AreAllBetween}
 use Rattle.rq_solver.proofs.pi_solver.ones.RowOnes.of_matrix.Given as goal
 
@@ -9,4 +11,6 @@ invariant-loop-row g l =
     record {
       between : AreAllBetween l.starts.items l.columns.items;
       ones : AreOnesOfRows l.row content.width content.bit (lists_between l.starts.items l.columns.items);
+      rows : length l.counts.items ≡ l.row;
+      counted : CountsBefore l.boundary (lists_between l.starts.items l.columns.items) l.counts.items;
     }

@@ -3,14 +3,14 @@ use Rattle.std.proofs.Common.{◌∙◌}
 use Rattle.rq_solver.proofs.BitRows.{rows_of_bits, octet_rows}
 use Rattle.rq_solver.proofs.pi_solver.system.System.of_matrix.Goals as goal
 
-pub invariant_of-result-clause-bits : goal.invariant_of-result-clause-bits
-invariant_of-result-clause-bits g c =
+pub invariant_of-system-clause-bits : goal.invariant_of-system-clause-bits
+invariant_of-system-clause-bits g c =
     let m = g.T.BinaryMatrix.content c.args.bits.now in
     let wide = c.width-width.ensures.width ∙ c.requires.width in
     rw wide (rows_of_bits m.height m.width m.bit c.in_ok-ones.ones c.in_ok-ones.ensures.ones (g.met.T.BinaryMatrix.is_table c.args.bits.now).bits)
 
-pub invariant_of-result-clause-octet_rows : goal.invariant_of-result-clause-octet_rows
-invariant_of-result-clause-octet_rows g c =
+pub invariant_of-system-clause-octet_rows : goal.invariant_of-system-clause-octet_rows
+invariant_of-system-clause-octet_rows g c =
     let m = g.T.BinaryMatrix.content c.args.bits.now in
     let wide = c.width-width.ensures.width ∙ c.requires.width in
     rw wide (octet_rows m.height m.width m.bit c.in_ok-ones.ones c.in_ok-ones.ensures.ones c.args.first_hdpc c.args.hdpc c.requires.width c.requires.within c.requires.zeros)
