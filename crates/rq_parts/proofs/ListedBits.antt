@@ -1,17 +1,20 @@
 -- The bits of an ascending list of ones.
-use Rattle.std.proofs.Common.{◌≡◌, ◌≢◌, ℕ, zero, suc, ◌+◌, ◌-◌, ◌<◌, ◌≤◌, ◌==◌, List, [], ◌∷◌, ◌++◌, length, get_or, cond, true, false, refl, sym, ap, ◌∙◌, inl, inr, arith, if◌then◌else◌, All, None, Some, Result, Ok, Err, IfOk, IfErr, zero-add}
+use Rattle.std.proofs.Common.{◌≡◌, ◌≢◌, ℕ, zero, suc, ◌+◌, ◌-◌, ◌<◌, ◌≤◌, ◌==◌, List, [], ◌∷◌, ◌++◌, length, take, drop, get_or, Bool, cond, not, true, false, filter, refl, sym, ap, subst, ◌∙◌, inl, inr, arith, if◌then◌else◌, All, Contains, None, Some, Result, Ok, Err, IfOk, IfErr, zero-add}
+use mathlib.Core.Bool.{false≢true}
 use Rattle.std.specs.List.Sorted.{IsStrictlyIncreasing, IsBinarySearchResult}
 use Rattle.std.specs.Ordering.{nat_cmp}
 use Rattle.std.proofs.lemmas.List.Sorted.{searched}
 use Rattle.std.specs.List.{insert, remove}
-use Rattle.std.proofs.lemmas.List.Elements.{All-cons}
+use Rattle.std.specs.List.Retain.{RetainsInTurn}
+use Rattle.std.proofs.lemmas.List.Elements.{All-cons, filter-append, filter_passes}
+use Rattle.std.proofs.lemmas.List.Filters.{sum_by-filter_both}
 use Rattle.std.proofs.lemmas.Bool.{cases_lt}
 use Rattle.std.proofs.lemmas.Bool.Decides.{eqb_tells}
 use Rattle.std.proofs.lemmas.List.Sums.{sum_by-cons, sum_by-append, sum_by-insert, sum_by-remove}
-use Rattle.std.proofs.lemmas.List.{get_or_append_left, length-append}
+use Rattle.std.proofs.lemmas.List.{get_or_append_left, get_or_default, length-append, take-append-drop}
 use Rattle.std.proofs.lemmas.List.Edits.{length-insert, length-remove, get_or-insert_below, get_or-insert_at, get_or-insert_above, get_or-remove_below, get_or-remove_above}
 use Rattle.std.proofs.Math.Seq.{get_or-append_right}
-use Rattle.rq_parts.specs.SparseBinaryVec.{listed_bit, listed_octet, SetsListed, IsListed, IsGap}
+use Rattle.rq_parts.specs.SparseBinaryVec.{listed_bit, listed_octet, SetsListed, IsListed, IsGap, IsPlace}
 use Rattle.rq_standard.specs.BitTableSteps.{bit_of}
 
 test-self : (x k : ℕ) → x ≡ k → ◌≡◌ {A = ℕ} (cond (x == k) 1 0) 1
@@ -133,14 +136,6 @@ sets-inserted xs i gap octet some found =
       elsewhere = λ k other. omega (arith, put k, test-other i k (λ same. other (sym same)));
     }
 
-pub sets-appended : (xs : List ℕ) (i octet : ℕ) → octet ≢ 0 → IsGap xs i (length xs) → SetsListed xs i octet (xs ++ i ∷ [])
-sets-appended xs i octet some found =
-    let put : (k : ℕ) → listed_bit (xs ++ i ∷ []) k ≡ listed_bit xs k + listed_bit (i ∷ []) k = listed-append xs (i ∷ []) in
-    record {
-      here = omega (arith, put i, listed-gap xs i (length xs) found, listed-self i [] i refl) ∙ sym (nonzero_bit octet some);
-      elsewhere = λ k other. omega (arith, put k, listed-other i [] k other);
-    }
-
 pub sets-nonzero : (xs : List ℕ) (i octet : ℕ) (ys : List ℕ) → octet ≢ 0 → SetsListed xs i 1 ys → SetsListed xs i octet ys
 sets-nonzero xs i octet ys some sets = record { here = sets.here ∙ sym (nonzero_bit octet some); elsewhere = sets.elsewhere }
 
@@ -220,38 +215,80 @@ ones_below_all (x ∷ xs) n none = All-cons (λ one. one < n) x xs
     (elim (cases_lt x n) [ inl below ↦ below | inr above ↦ absurd (omega (arith, none x above, listed-self x xs x refl)) ])
     (ones_below_all xs n (λ k above. omega (arith, none k above, listed_more x xs k)))
 
--- ---- what a look at all of them tells
+-- ---- whether an index is listed, and its place
 
-pub listed-searched : (xs : List ℕ) (i : ℕ) → IsStrictlyIncreasing xs → (k : ℕ) × (k < length xs) × ((d : ℕ) → (get_or xs k d == i) ≡ true) → listed_bit xs i ≡ 1
-listed-searched xs i up found =
-    let here : (get_or xs found.0 0 == i) ≡ true = found.2 0 in
-    elim (eqb_tells (get_or xs found.0 0) i) [ inl e ↦ listed-found xs i found.0 up (record { within = found.1; is = e.1 }) | inr e ↦ let other = e.0 in cc ]
+pub listed-contained : (xs : List ℕ) (i : ℕ) → IsStrictlyIncreasing xs → Contains xs i → listed_bit xs i ≡ 1
+listed-contained xs i up found = listed-found xs i found.0 up (record { within = found.1; is = get_or_default xs found.0 0 i found.1 ∙ found.2 })
 
-pub missing-searched : (xs : List ℕ) (i : ℕ) → ((k d : ℕ) → 0 ≤ k → k < length xs → (get_or xs k d == i) ≡ false) → listed_bit xs i ≡ 0
-missing-searched xs i none = listed-none xs i (λ k l same. elim (eqb_tells (get_or xs k 0) i) [ inl e ↦ let here : (get_or xs k 0 == i) ≡ false = none k 0 (omega arith) l in let there = e.0 in cc | inr e ↦ e.1 same ])
+pub listed-missing : (xs : List ℕ) (i : ℕ) → ¬ (Contains xs i) → listed_bit xs i ≡ 0
+listed-missing xs i none = listed-none xs i (λ k l same. none (k, l, get_or_default xs k i 0 l ∙ same))
 
-before-cons : (x i : ℕ) (xs : List ℕ) (gap : ℕ) → x < i → ((k : ℕ) → k < gap → get_or xs k 0 < i) → (k : ℕ) → k < suc gap → get_or (x ∷ xs) k 0 < i
-before-cons x i xs gap less rest zero l = less
-before-cons x i xs gap less rest (suc k) l = rest k (omega arith)
+before-cons : (x i : ℕ) (xs : List ℕ) (place : ℕ) → x < i → ((k : ℕ) → k < place → get_or xs k 0 < i) → (k : ℕ) → k < suc place → get_or (x ∷ xs) k 0 < i
+before-cons x i xs place less rest zero l = less
+before-cons x i xs place less rest (suc k) l = rest k (omega arith)
 
-behind-cons : (x i : ℕ) (xs : List ℕ) (gap : ℕ) → ((k : ℕ) → gap ≤ k → k < length xs → i < get_or xs k 0) → (k : ℕ) → suc gap ≤ k → k < length (x ∷ xs) → i < get_or (x ∷ xs) k 0
-behind-cons x i xs gap rest zero past l = absurd (omega arith)
-behind-cons x i xs gap rest (suc k) past l = rest k (omega arith) (omega arith)
+behind-cons : (x i : ℕ) (xs : List ℕ) (place : ℕ) → ((k : ℕ) → place ≤ k → k < length xs → i ≤ get_or xs k 0) → (k : ℕ) → suc place ≤ k → k < length (x ∷ xs) → i ≤ get_or (x ∷ xs) k 0
+behind-cons x i xs place rest zero past l = absurd (omega arith)
+behind-cons x i xs place rest (suc k) past l = rest k (omega arith) (omega arith)
 
-behind-all : (x i : ℕ) (xs : List ℕ) → IsStrictlyIncreasing (x ∷ xs) → i < x → (k : ℕ) → 0 ≤ k → k < length (x ∷ xs) → i < get_or (x ∷ xs) k 0
+behind-all : (x i : ℕ) (xs : List ℕ) → IsStrictlyIncreasing (x ∷ xs) → i ≤ x → (k : ℕ) → 0 ≤ k → k < length (x ∷ xs) → i ≤ get_or (x ∷ xs) k 0
 behind-all x i xs up less zero past l = less
 behind-all x i xs up less (suc k) past l = omega (arith, less, rises-head x xs up k (omega arith))
 
--- an index that isn't listed has a gap
-pub gap-missing : (xs : List ℕ) (i : ℕ) → IsStrictlyIncreasing xs → listed_bit xs i ≡ 0 → (gap : ℕ) × IsGap xs i gap
-gap-missing [] i up none = (0, record { within = omega arith; before = λ k l. absurd (omega arith); behind = λ k past l. absurd (omega arith) })
-gap-missing (x ∷ xs) i up none =
-    elim (cases_lt i x) [
-      | inl less ↦ (0, record { within = omega arith; before = λ k l. absurd (omega arith); behind = behind-all x i xs up less })
-      | inr past ↦
-          let apart : i ≢ x = λ same. omega (arith, none, listed-self x xs i same) in
-          let more : listed_bit (x ∷ xs) i ≡ listed_bit xs i = listed-other x xs i apart in
-          let rest = gap-missing xs i (rises-tail x xs up) (sym more ∙ none) in
-          let less : x < i = omega (arith, past, apart) in
+pub place-of : (xs : List ℕ) (i : ℕ) → IsStrictlyIncreasing xs → (place : ℕ) × IsPlace xs i place
+place-of [] i up = (0, record { within = omega arith; before = λ k l. absurd (omega arith); behind = λ k past l. absurd (omega arith) })
+place-of (x ∷ xs) i up =
+    elim (cases_lt x i) [
+      | inl less ↦
+          let rest = place-of xs i (rises-tail x xs up) in
           (suc rest.0, record { within = omega (arith, rest.1.within); before = before-cons x i xs rest.0 less rest.1.before; behind = behind-cons x i xs rest.0 rest.1.behind })
+      | inr past ↦ (0, record { within = omega arith; before = λ k l. absurd (omega arith); behind = behind-all x i xs up past })
     ]
+
+-- the place of an index that isn't listed is a gap
+pub gap-at : (xs : List ℕ) (i place : ℕ) → IsStrictlyIncreasing xs → listed_bit xs i ≡ 0 → IsPlace xs i place → IsGap xs i place
+gap-at xs i place up none found = record {
+  within = found.within;
+  before = found.before;
+  behind = λ k past l.
+      let apart : i ≢ get_or xs k 0 = λ same. omega (arith, none, ap (listed_bit xs) same, listed-at xs k up l) in
+      omega (arith, found.behind k past l, apart);
+}
+
+-- ---- all but one index
+
+abbrev pub is_other : ℕ → ℕ → Bool
+is_other i one = not (one == i)
+
+not_twice : (b : Bool) → b ≡ not (not b)
+not_twice true = refl
+not_twice false = refl
+
+pub others-inserted : (xs : List ℕ) (place i : ℕ) → filter (is_other i) (insert xs place i) ≡ filter (is_other i) xs
+others-inserted xs place i =
+    let rest = filter (is_other i) (drop place xs) in
+    let gone : filter (is_other i) (i ∷ drop place xs) ≡ rest = elim (eqb_tells i i) [ inl e ↦ ap (λ b. cond (not b) (i ∷ rest) rest) e.0 | inr e ↦ absurd (e.1 refl) ] in
+    filter-append (is_other i) (take place xs) (i ∷ drop place xs) ∙ ap (λ ys. filter (is_other i) (take place xs) ++ ys) gone
+    ∙ sym (filter-append (is_other i) (take place xs) (drop place xs)) ∙ ap (filter (is_other i)) (take-append-drop place xs)
+
+-- what `retain` leaves where no call changes the closure or an element
+pub filter-from_retain : {F : Type 0} (R : F → ℕ → Bool → F → ℕ → Type 0) (test : ℕ → Bool) (f : F) → ((x : ℕ) (kept : Bool) (f' : F) (y : ℕ) → R f x kept f' y → (kept ≡ test x) × (f' ≡ f) × (y ≡ x)) → (xs ys : List ℕ) → RetainsInTurn R f xs ys → ys ≡ filter test xs
+filter-from_retain R test f says [] ys left = left
+filter-from_retain R test f says (x ∷ xs) ys left =
+    let said = says x left.0 left.1 left.2 left.3 in
+    let rest = filter-from_retain R test f says xs left.4 (subst (λ g. RetainsInTurn R g xs left.4) said.1 left.5) in
+    left.6 ∙ (λ i. cond (said.0 i) (said.2 i ∷ rest i) (rest i))
+
+pub sets-others : (xs : List ℕ) (i : ℕ) → SetsListed xs i 0 (filter (is_other i) xs)
+sets-others xs i = record {
+  here = listed-none (filter (is_other i) xs) i (λ k l same. elim (eqb_tells (get_or (filter (is_other i) xs) k 0) i) [
+    | inl e ↦ false≢true (sym (ap not e.0) ∙ filter_passes (is_other i) xs k 0 l)
+    | inr e ↦ e.1 same
+  ]);
+  elsewhere = λ k other.
+      let none : listed_bit (filter (λ one. one == i) xs) k ≡ 0 = listed-none (filter (λ one. one == i) xs) k (λ j l same. elim (eqb_tells (get_or (filter (λ one. one == i) xs) j 0) i) [
+        | inl e ↦ other (sym same ∙ e.1)
+        | inr e ↦ false≢true (sym e.0 ∙ filter_passes (λ one. one == i) xs j 0 l)
+      ]) in
+      omega (arith, sum_by-filter_both (is_other i) (λ one. one == i) (λ one. not_twice (one == i)) (λ one. cond (one == k) 1 0) xs, none);
+}

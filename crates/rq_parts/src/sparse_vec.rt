@@ -1,5 +1,5 @@
 //! Rows of bits of which the ones alone are stored.
-ghost use Rattle.std.specs.Prelude.{◌≡◌, ◌<◌, ◌↔◌, ◌==◌, ℕ, List, [], ◌∷◌, ◌++◌, length, map, slice_index, true, IfOk, IfErr, OnOk, OnErr};
+ghost use Rattle.std.specs.Prelude.{◌≡◌, ◌<◌, ◌↔◌, ◌==◌, ℕ, List, [], ◌∷◌, ◌++◌, length, map, slice_index, true, IfOk, IfErr, OnOk, OnErr, Contains};
 ghost use Rattle.std.proofs.Common.{rules};
 ghost use Rattle.std.specs.Cmp.Lexicographic.{pointwise};
 ghost use Rattle.std.specs.Cmp.Rules.{comparing};
@@ -8,7 +8,7 @@ ghost use Rattle.std.specs.List.{insert};
 ghost use Rattle.std.specs.List.Sorted.{IsStrictlyIncreasing};
 ghost use Rattle.std.specs.Int.Bits.{bit_xor};
 ghost use Rattle.rq_bytes.specs.declared.error.Error.TheVariants.{OutOfMemory};
-ghost use Rattle.rq_parts.specs.SparseBinaryVec.{listed_bit, listed_octet, SetsListed, IsListedSum, HasOtherOne, IsListed, IsGap};
+ghost use Rattle.rq_parts.specs.SparseBinaryVec.{listed_bit, listed_octet, SetsListed, IsListedSum, HasOtherOne, IsListed, IsGap, IsPlace};
 
 use rq_bytes::error::Error;
 use rq_bytes::octet::Octet;
@@ -17,12 +17,14 @@ use std::alloc::{AllocError, Global};
 use std::cmp::Ordering;
 use std::marker::Model;
 
+/// So many ones of a row take no allocation. Most rows have fewer.
+pub const INLINE_ONES: usize = 12;
+
 /// A row of bits as the ascending list of the indices that have a one, each below 65536. Contracts
 /// see this list.
 #[derive(Debug, Drop)]
 pub struct SparseBinaryVec {
-    // Most rows have few ones, which then take no allocation.
-    elements: SmallVec<u16, 12>,
+    elements: SmallVec<u16, INLINE_ONES>,
 }
 
 impl Model for SparseBinaryVec {
@@ -166,11 +168,9 @@ impl SparseBinaryVec {
         ensures refused { OnErr result (self.new ≡ self.old) }
         ensures err { IfErr result (λ e. e ≡ OutOfMemory) }
     {
-        if self.elements.contains(&(i as u16)) {
-            self.remove(i);
-        } else {
-            self.elements.push(i as u16)?;
-            sink_last(&mut self.elements);
+        self.elements.push(i as u16)?;
+        if sink_last(&mut self.elements) {
+            self.elements.retain(|one| usize::from(*one) != i);
         }
         Ok(())
     }
@@ -185,12 +185,8 @@ impl SparseBinaryVec {
         ensures refused { OnErr result (self.new ≡ self.old) }
         ensures err { IfErr result (λ e. e ≡ OutOfMemory) }
     {
-        if gap == self.elements.len() {
-            self.elements.push(i as u16)?;
-        } else {
-            self.elements.push(i as u16)?;
-            last_to(&mut self.elements, gap);
-        }
+        self.elements.push(i as u16)?;
+        last_to(&mut self.elements, gap);
         Ok(())
     }
 
@@ -234,21 +230,26 @@ fn last_to(ones: &mut [u16], gap: usize)
     }
 }
 
-// Moves the last one down to its gap among those before it. Each step does the same whatever the
-// gap, so that there is no branch to guess.
-fn sink_last(ones: &mut [u16])
+// Moves the last one down to its place among those before it, and answers whether one of these is
+// the same. Each step does the same whatever the place, so that there is no branch to guess.
+fn sink_last(ones: &mut [u16]) -> bool
     requires { 0 < length ones.old }
-    ensures { (xs : List ℕ) (one gap : ℕ) → ones.old ≡ xs ++ one ∷ [] → IsStrictlyIncreasing xs → IsGap xs one gap → ones.new ≡ insert xs gap one }
+    ensures sunk { (xs : List ℕ) (one place : ℕ) → ones.old ≡ xs ++ one ∷ [] → IsStrictlyIncreasing xs → IsPlace xs one place → ones.new ≡ insert xs place one }
+    ensures listed { (xs : List ℕ) (one : ℕ) → ones.old ≡ xs ++ one ∷ [] → (result ≡ true) ↔ Contains xs one }
 {
     let mut at = ones.len() - 1;
-    let mut sinking = ones[at];
+    let last = ones[at];
+    let mut sinking = last;
+    let mut is_listed = false;
     while at > 0 {
         let before = ones[at - 1];
+        is_listed |= before == last;
         ones[at] = before.max(sinking);
         sinking = before.min(sinking);
         at -= 1;
     }
     ones[0] = sinking;
+    is_listed
 }
 
 // The indices that one of two ascending lists has and the other hasn't, in ascending order, and
@@ -257,7 +258,7 @@ fn merged(
     alloc: Global,
     row: &[u16],
     other: &[u16],
-) -> Result<(SmallVec<u16, 12>, bool), AllocError>
+) -> Result<(SmallVec<u16, INLINE_ONES>, bool), AllocError>
     requires row { IsStrictlyIncreasing row.now }
     requires other { IsStrictlyIncreasing other.now }
     ensures increasing { IfOk result (λ r. IsStrictlyIncreasing r.0.items) }

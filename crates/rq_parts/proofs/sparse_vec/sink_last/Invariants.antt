@@ -1,15 +1,18 @@
 -- What the loop keeps in `sparse_vec::sink_last`.
-use Rattle.std.proofs.Common.{◌≡◌, ◌<◌, ℕ, List, [], ◌∷◌, ◌++◌, length, set, max}
+use Rattle.std.proofs.Common.{◌≡◌, ◌<◌, ◌↔◌, ℕ, true, List, [], ◌∷◌, ◌++◌, length, get_or, set, max}
 use Rattle.std.specs.List.{insert}
 use Rattle.std.specs.List.Sorted.{IsStrictlyIncreasing}
-use Rattle.rq_parts.specs.SparseBinaryVec.{IsGap}
+use Rattle.rq_parts.specs.SparseBinaryVec.{IsPlace}
+use Rattle.rq_parts.proofs.InsertedLower.{StandsFrom}
 use Rattle.rq_parts.proofs.sparse_vec.sink_last.Given as goal
 
 abbrev pub invariant-loop-at : goal.invariant-loop-at
 invariant-loop-at l = record {
   within : l.at < length l.ones;
   same : length l.ones ≡ length l.fn.ones;
-  sunk : (xs : List ℕ) (one gap : ℕ) → l.fn.ones ≡ xs ++ one ∷ [] → IsStrictlyIncreasing xs → IsGap xs one gap → set l.ones l.at l.sinking ≡ insert xs (max l.at gap) one;
+  sunk : (xs : List ℕ) (one place : ℕ) → l.fn.ones ≡ xs ++ one ∷ [] → IsStrictlyIncreasing xs → IsPlace xs one place → set l.ones l.at l.sinking ≡ insert xs (max l.at place) one;
+  below : (k : ℕ) → k < l.at → get_or l.ones k 0 ≡ get_or l.fn.ones k 0;
+  listed : (l.is_listed ≡ true) ↔ StandsFrom l.fn.ones l.at l.last;
 }
 
 abbrev pub decreases-loop-at : goal.decreases-loop-at

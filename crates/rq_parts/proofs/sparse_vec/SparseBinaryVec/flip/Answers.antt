@@ -1,10 +1,12 @@
 -- What the check leaves to show of `sparse_vec::SparseBinaryVec::flip`.
-use Rattle.std.proofs.Common.{◌≡◌, ◌==◌, ◌<◌, ◌≤◌, ℕ, false, List, [], ◌∷◌, ◌++◌, length, get_or, ap, sym, subst, ◌∙◌, arith}
+use Rattle.std.proofs.Common.{◌≡◌, ℕ, List, [], ◌∷◌, ◌++◌, length, filter, ap, sym, subst, ◌∙◌, arith, rules}
+use mathlib.Core.Bool.{false≢true}
 use Rattle.std.specs.Int.Bits.{bit_xor}
 use Rattle.std.specs.List.{insert, refill}
 use Rattle.std.specs.List.Sorted.{IsStrictlyIncreasing}
-use Rattle.rq_parts.specs.SparseBinaryVec.{listed_bit, SetsListed, IsGap}
-use Rattle.rq_parts.proofs.ListedBits.{listed-searched, missing-searched, gap-missing, rises-with, sets-inserted}
+use Rattle.std.proofs.lemmas.List.Kept.{IsStrictlyIncreasing-filter}
+use Rattle.rq_parts.specs.SparseBinaryVec.{listed_bit, SetsListed, IsPlace}
+use Rattle.rq_parts.proofs.ListedBits.{listed-contained, listed-missing, place-of, gap-at, rises-with, sets-inserted, is_other, filter-from_retain, others-inserted, sets-others}
 use Rattle.rq_parts.proofs.InsertedLower.{inserted_whole}
 use Rattle.rq_parts.proofs.sparse_vec.SparseBinaryVec.flip.Goals as goal
 
@@ -12,39 +14,64 @@ record IsFlipped (xs : List ℕ) (i : ℕ) (new : List ℕ) : Type 0 where
   increasing : IsStrictlyIncreasing new
   sets : SetsListed xs i (bit_xor (listed_bit xs i) 1) new
 
--- one that was missing is listed at its gap
-flipped : (xs items ys zs : List ℕ) (i : ℕ) → IsStrictlyIncreasing xs → items ≡ xs → ((k d : ℕ) → 0 ≤ k → k < length items → (get_or items k d == i) ≡ false) → ys ≡ xs ++ i ∷ [] → ((gap : ℕ) → IsGap xs i gap → zs ≡ insert xs gap i) → IsFlipped xs i (refill (length ys) ys zs)
-flipped xs items ys zs i up same missing pushed sunk =
-    let none : listed_bit xs i ≡ 0 = subst (λ l. listed_bit l i ≡ 0) same (missing-searched items i missing) in
-    let gap = gap-missing xs i up none in
-    let whole = inserted_whole xs ys zs i gap.0 gap.1.within pushed (sunk gap.0 gap.1) in
-    record {
-      increasing = subst IsStrictlyIncreasing (sym whole) (rises-with xs i gap.0 up gap.1);
-      sets = subst (SetsListed xs i (bit_xor (listed_bit xs i) 1)) (sym whole)
-          (subst (λ bit. SetsListed xs i (bit_xor bit 1) (insert xs gap.0 i)) (sym none) (sets-inserted xs i gap.0 1 (λ zero. omega arith) gap.1));
-    }
+module _ (xs ys zs : List ℕ) (i : ℕ) (up : IsStrictlyIncreasing xs) (pushed : ys ≡ xs ++ i ∷ []) (sunk : (place : ℕ) → IsPlace xs i place → zs ≡ insert xs place i) where
+  whole : (place : ℕ) → IsPlace xs i place → refill (length ys) ys zs ≡ insert xs place i
+  whole place found = inserted_whole xs ys zs i place found.within pushed (sunk place found)
 
-pub returns-then-contains-clause-ok : goal.returns-then-contains-clause-ok
-returns-then-contains-clause-ok c =
-    let ones = c.args.self.now in
-    let same = c.deref.ensures ∙ c.self.view_is in
-    let up = subst IsStrictlyIncreasing (sym c.deref.ensures) c.self.invariant in
-    let one = subst (λ l. listed_bit l c.args.i ≡ 1) same (listed-searched c.deref.result.now c.args.i up c.if-contains.ensures.cases) in
-    subst (λ bit. SetsListed ones c.args.i (bit_xor bit 1) c.remove.new.self) (sym one) c.remove.ensures.removed
+  -- one that was missing is listed
+  put_in : listed_bit xs i ≡ 0 → IsFlipped xs i (refill (length ys) ys zs)
+  put_in none =
+      let place = place-of xs i up in
+      let gap = gap-at xs i place.0 up none place.1 in
+      record {
+        increasing = subst IsStrictlyIncreasing (sym (whole place.0 place.1)) (rises-with xs i place.0 up gap);
+        sets = subst (SetsListed xs i (bit_xor (listed_bit xs i) 1)) (sym (whole place.0 place.1))
+            (subst (λ bit. SetsListed xs i (bit_xor bit 1) (insert xs place.0 i)) (sym none) (sets-inserted xs i place.0 1 (λ zero. omega arith) gap));
+      }
 
-is_flipped : (c : goal.After-self-1) → IsFlipped c.args.self.now c.args.i (refill (length c.push.new.self.items) c.push.new.self.items c.sink_last.new.ones)
-is_flipped c =
+  -- one that was listed is taken out
+  taken_out : (new : List ℕ) → listed_bit xs i ≡ 1 → new ≡ filter (is_other i) (refill (length ys) ys zs) → IsFlipped xs i new
+  taken_out new one kept =
+      let place = place-of xs i up in
+      let others : new ≡ filter (is_other i) xs = kept ∙ ap (filter (is_other i)) (whole place.0 place.1) ∙ others-inserted xs place.0 i in
+      record {
+        increasing = subst IsStrictlyIncreasing (sym others) (IsStrictlyIncreasing-filter (is_other i) xs up);
+        sets = subst (SetsListed xs i (bit_xor (listed_bit xs i) 1)) (sym others) (subst (λ bit. SetsListed xs i (bit_xor bit 1) (filter (is_other i) xs)) (sym one) (sets-others xs i));
+      }
+
+is_put_in : (c : goal.Else-sink_last) → IsFlipped c.args.self.now c.args.i (refill (length c.push.new.self.items) c.push.new.self.items c.sink_last.new.ones)
+is_put_in c =
     let ones = c.args.self.now in
     let up = subst IsStrictlyIncreasing c.self.view_is c.self.invariant in
     let pushed = c.in_ok-push.ensures.ok ∙ ap (λ (xs : List ℕ). xs ++ c.args.i ∷ []) c.self.view_is in
-    flipped ones c.deref.result.now c.push.new.self.items c.sink_last.new.ones c.args.i up (c.deref.ensures ∙ c.self.view_is) c.if-contains.ensures.cases pushed
-    (λ gap found. c.sink_last.ensures ones c.args.i gap (c.deref_mut.ensures.value ∙ pushed) up found)
+    let shown = c.deref_mut.ensures.value ∙ pushed in
+    put_in ones c.push.new.self.items c.sink_last.new.ones c.args.i up pushed (λ place found. c.sink_last.ensures.sunk ones c.args.i place shown up found)
+    (listed-missing ones c.args.i (λ found. false≢true (sym c.if-sink_last.false ∙ (c.sink_last.ensures.listed ones c.args.i shown).1 found)))
 
-pub invariant_of-self-else-contains : goal.invariant_of-self-else-contains
-invariant_of-self-else-contains c = (is_flipped c).increasing
+is_taken_out : (c : goal.After-retain) → IsFlipped c.args.self.now c.args.i c.retain.new.self.items
+is_taken_out c =
+    let ones = c.args.self.now in
+    let up = subst IsStrictlyIncreasing c.self.view_is c.self.invariant in
+    let pushed = c.in_ok-push.ensures.ok ∙ ap (λ (xs : List ℕ). xs ++ c.args.i ∷ []) c.self.view_is in
+    let shown = c.deref_mut.ensures.value ∙ pushed in
+    taken_out ones c.push.new.self.items c.sink_last.new.ones c.args.i up pushed (λ place found. c.sink_last.ensures.sunk ones c.args.i place shown up found) c.retain.new.self.items
+    (listed-contained ones c.args.i up ((c.sink_last.ensures.listed ones c.args.i shown).0 c.if-sink_last.true))
+    (filter-from_retain _ (is_other c.args.i) _ (λ x b f' y called. search rules) _ _ c.retain.ensures.filtered)
 
-pub returns-in_ok-push-clause-ok : goal.returns-in_ok-push-clause-ok
-returns-in_ok-push-clause-ok c = (is_flipped c).sets
+pub invariant_of-self-then-sink_last : goal.invariant_of-self-then-sink_last
+invariant_of-self-then-sink_last c = (is_taken_out c).increasing
 
-pub returns-in_ok-push-clause-increasing : goal.returns-in_ok-push-clause-increasing
-returns-in_ok-push-clause-increasing c = (is_flipped c).increasing
+pub invariant_of-self-else-sink_last : goal.invariant_of-self-else-sink_last
+invariant_of-self-else-sink_last c = (is_put_in c).increasing
+
+pub returns-then-sink_last-clause-ok : goal.returns-then-sink_last-clause-ok
+returns-then-sink_last-clause-ok c = (is_taken_out c).sets
+
+pub returns-then-sink_last-clause-increasing : goal.returns-then-sink_last-clause-increasing
+returns-then-sink_last-clause-increasing c = (is_taken_out c).increasing
+
+pub returns-else-sink_last-clause-ok : goal.returns-else-sink_last-clause-ok
+returns-else-sink_last-clause-ok c = (is_put_in c).sets
+
+pub returns-else-sink_last-clause-increasing : goal.returns-else-sink_last-clause-increasing
+returns-else-sink_last-clause-increasing c = (is_put_in c).increasing

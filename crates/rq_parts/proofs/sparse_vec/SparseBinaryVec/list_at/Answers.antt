@@ -2,31 +2,26 @@
 use Rattle.std.proofs.Common.{◌≡◌, ℕ, List, [], ◌∷◌, ◌++◌, length, ap, sym, subst, ◌∙◌, arith}
 use Rattle.std.specs.List.{insert, refill}
 use Rattle.std.specs.List.Sorted.{IsStrictlyIncreasing}
-use Rattle.rq_parts.specs.SparseBinaryVec.{SetsListed, IsGap}
-use Rattle.rq_parts.proofs.ListedBits.{rises-with, sets-appended, sets-inserted}
+use Rattle.rq_parts.specs.SparseBinaryVec.{SetsListed}
+use Rattle.rq_parts.proofs.ListedBits.{rises-with, sets-inserted}
 use Rattle.rq_parts.proofs.InsertedLower.{inserted_whole}
 use Rattle.rq_parts.proofs.sparse_vec.SparseBinaryVec.list_at.Goals as goal
 
-pub returns-in_ok-push-clause-ok : goal.returns-in_ok-push-clause-ok
-returns-in_ok-push-clause-ok c =
-    let last : c.args.gap ≡ length c.args.self.now = omega (arith, c.if-gap-len.true, c.len.ensures, ap length c.self.view_is) in
-    rw (c.in_ok-push.ensures.ok, c.self.view_is) (sets-appended c.args.self.now c.args.i 1 (λ zero. omega arith) (subst (IsGap c.args.self.now c.args.i) last c.requires.gap))
-
-inserted : (c : goal.After-self-1) → refill (length c.push-else-gap-len.new.self.items) c.push-else-gap-len.new.self.items c.last_to.new.ones ≡ insert c.args.self.now c.args.gap c.args.i
+inserted : (c : goal.After-self-1) → refill (length c.push.new.self.items) c.push.new.self.items c.last_to.new.ones ≡ insert c.args.self.now c.args.gap c.args.i
 inserted c =
-    let pushed = c.in_ok-push-2.ensures.ok ∙ ap (λ (xs : List ℕ). xs ++ c.args.i ∷ []) c.self.view_is in
-    inserted_whole c.args.self.now c.push-else-gap-len.new.self.items c.last_to.new.ones c.args.i c.args.gap c.requires.gap.within
+    let pushed = c.in_ok-push.ensures.ok ∙ ap (λ (xs : List ℕ). xs ++ c.args.i ∷ []) c.self.view_is in
+    inserted_whole c.args.self.now c.push.new.self.items c.last_to.new.ones c.args.i c.args.gap c.requires.gap.within
     pushed (c.last_to.ensures c.args.self.now c.args.i (c.deref_mut.ensures.value ∙ pushed))
 
 rises : (c : goal.After-self-1) → IsStrictlyIncreasing (insert c.args.self.now c.args.gap c.args.i)
 rises c = rises-with c.args.self.now c.args.i c.args.gap (subst IsStrictlyIncreasing c.self.view_is c.self.invariant) c.requires.gap
 
-pub invariant_of-self-else-gap-len : goal.invariant_of-self-else-gap-len
-invariant_of-self-else-gap-len c = subst IsStrictlyIncreasing (sym (inserted c)) (rises c)
+pub invariant_of-self-2 : goal.invariant_of-self-2
+invariant_of-self-2 c = subst IsStrictlyIncreasing (sym (inserted c)) (rises c)
 
-pub returns-in_ok-push-2-clause-ok : goal.returns-in_ok-push-2-clause-ok
-returns-in_ok-push-2-clause-ok c =
+pub returns-clause-ok : goal.returns-clause-ok
+returns-clause-ok c =
     subst (SetsListed c.args.self.now c.args.i 1) (sym (inserted c)) (sets-inserted c.args.self.now c.args.i c.args.gap 1 (λ zero. omega arith) c.requires.gap)
 
-pub returns-in_ok-push-2-clause-increasing : goal.returns-in_ok-push-2-clause-increasing
-returns-in_ok-push-2-clause-increasing c = subst IsStrictlyIncreasing (sym (inserted c)) (rises c)
+pub returns-clause-increasing : goal.returns-clause-increasing
+returns-clause-increasing c = subst IsStrictlyIncreasing (sym (inserted c)) (rises c)
