@@ -29,7 +29,7 @@ pub after_all-one : (operation : Operation) (slab : Slab) → after_all (operati
 unfolding run
 after_all-one operation slab = refl
 
-after_all-append : (first second : List Operation) (slab : Slab) → after_all (first ++ second) slab ≡ after_all second (after_all first slab)
+pub after_all-append : (first second : List Operation) (slab : Slab) → after_all (first ++ second) slab ≡ after_all second (after_all first slab)
 after_all-append first second slab = ap (λ (s : Store (List ℕ)). let t : Slab = record slab { values = s.values; order = s.order } in t) (run-append (symbols octets) first second (store_of slab))
 
 -- what operations ask after others

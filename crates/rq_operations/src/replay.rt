@@ -1,11 +1,14 @@
 //! Steps that are done to symbols.
-ghost use Rattle.std.specs.Prelude.{◌≡◌, ◌+◌, ◌<◌, ◌≤◌, ◌∷◌, [], length, map, take, drop, IfSome, IfNone};
+ghost use Rattle.std.specs.Prelude.{◌≡◌, ◌↔◌, ◌+◌, ◌<◌, ◌≤◌, ◌∷◌, [], length, map, take, drop, replicate, true, All, IfSome, IfNone};
 ghost use Rattle.rq_algebra.specs.Operations.{AddAssign, Fma, AreAllowed};
+ghost use Rattle.rq_algebra.specs.Symbols.{AreSymbols};
 ghost use Rattle.rq_bytes.specs.Ranges.{range_of};
-ghost use Rattle.rq_bytes.specs.SymbolSlab.{after, after_all, Allows};
+ghost use Rattle.rq_bytes.specs.SymbolSlab.{after, after_all, Allows, HasPlace, symbol_in};
+ghost use Rattle.rq_standard.specs.OctetField.{octets};
 ghost use Rattle.rq_operations.specs.Steps.{operation_of_step, PerformsNext};
 
 use crate::steps::Step;
+use rq_bytes::octets;
 use rq_bytes::symbol_slab::{Multiple, SymbolSlab};
 
 // How many additions to one symbol are done in one pass over it, at most: as many as `add_all` does.
@@ -75,7 +78,7 @@ fn perform_together(
         Step::AddMultiple { src, .. } => {
             let count = read_multiples(steps, start, *src, multiples);
             if count > 1 {
-                symbols.add_multiples(*src as usize, &multiples[..count]);
+                add_multiples(symbols, *src, &multiples[..count]);
                 return Some(count);
             }
         }
@@ -98,11 +101,41 @@ fn perform_alone(step: &Step, symbols: &mut SymbolSlab)
 {
     match step {
         Step::Add { dest, src } => symbols.add_assign(*dest as usize, *src as usize),
-        Step::Multiply { scalar, dest } => symbols.mulassign_scalar(*dest as usize, scalar),
+        Step::Multiply { scalar, dest } => {
+            if !is_zero(symbols, *dest) {
+                symbols.mulassign_scalar(*dest as usize, scalar);
+            }
+        }
         Step::AddMultiple { scalar, dest, src } => {
-            symbols.fma(*dest as usize, *src as usize, scalar)
+            if !is_zero(symbols, *src) {
+                symbols.fma(*dest as usize, *src as usize, scalar);
+            }
         }
     }
+}
+
+// Adds multiples of a symbol to others, where it isn't zeros.
+fn add_multiples(symbols: &mut SymbolSlab, src: u32, multiples: &[Multiple])
+    requires some { 0 < length multiples.now }
+    requires multiples { All (λ m. Allows symbols.old (Fma m.dest src m.scalar)) multiples.now }
+    ensures { symbols.new ≡ after_all (map (λ m. Fma m.dest src m.scalar) multiples.now) symbols.old }
+{
+    if !is_zero(symbols, src) {
+        symbols.add_multiples(src as usize, multiples);
+    }
+}
+
+// Whether the symbol at a place is zeros. Its multiples are then zeros too, and change nothing. The
+// solver makes such multiples: the values of HDPC equations are zeros, and it adds multiples of the
+// first ones before anything is added to these. A look at a symbol takes far less than a multiple.
+fn is_zero(symbols: &SymbolSlab, place: u32) -> bool
+    requires { HasPlace symbols.now place }
+    ensures zeros { (result ≡ true) ↔ (symbol_in symbols.now place ≡ replicate symbols.now.symbol_size 0) }
+    ensures symbols { AreSymbols octets symbols.now.symbol_size (length symbols.now.values) symbols.now.values }
+{
+    // For the proof: the contract of `symbol_size` says that each symbol has that size.
+    let _size = symbols.symbol_size();
+    octets::is_zero(symbols.get(place as usize))
 }
 
 // The source of the step behind `start`, where it is an addition to `dest`.

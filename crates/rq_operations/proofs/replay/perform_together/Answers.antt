@@ -13,8 +13,8 @@ add_all-requires-clause-sources c =
     let slab = c.args.symbols.now in
     run_allowed (AddAssign c.in-Add.dest) (λ order src. refl) (length slab.values) slab.order (map operation_of_step c.args.steps.now) c.args.start run.result (take run.result run.new.sources) c.requires.allowed run.ensures.run
 
-pub add_multiples-requires : goal.add_multiples-requires
-add_multiples-requires c =
+pub add_multiples-requires-clause-multiples : goal.add_multiples-requires-clause-multiples
+add_multiples-requires-clause-multiples c =
     let run = c.read_multiples-count in
     let slab = c.args.symbols.now in
     run_allowed (λ m. Fma m.dest c.in-AddMultiple.src m.scalar) (λ order m. refl) (length slab.values) slab.order (map operation_of_step c.args.steps.now) c.args.start run.result (take run.result run.new.multiples) c.requires.allowed run.ensures.run
