@@ -7,7 +7,7 @@ ghost use Rattle.rq_parts.specs.SparseBinaryVec.{IsListedSum};
 
 use rq_bytes::error::Error;
 use rq_bytes::util::get_both_indices;
-use rq_parts::sparse_vec::SparseBinaryVec;
+use rq_parts::sparse_vec::{INLINE_ONES, SparseBinaryVec};
 use std::alloc::Global;
 
 /// So many rows without ones, each with room for the ones that most rows get.
@@ -17,7 +17,7 @@ pub(super) fn empty_rows(alloc: Global, count: usize) -> Result<Vec<SparseBinary
 {
     let mut rows = Vec::with_capacity(alloc, count)?;
     for _ in 0..count {
-        rows.push(SparseBinaryVec::with_capacity(alloc, 12)?)?;
+        rows.push(SparseBinaryVec::with_capacity(alloc, INLINE_ONES)?)?;
     }
     Ok(rows)
 }
