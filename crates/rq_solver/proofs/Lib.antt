@@ -24,6 +24,7 @@ pub mod PivotTurns
 pub mod PivotsCleared
 pub mod RecordedLaws
 pub mod ReducedTurns
+pub mod ReducedWords
 pub mod Results
 pub mod RowCounts
 pub mod RowLists

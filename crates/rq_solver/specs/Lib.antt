@@ -17,3 +17,4 @@ pub mod RowWrites
 pub mod SolverState
 pub mod Solving
 pub mod System
+pub mod Words

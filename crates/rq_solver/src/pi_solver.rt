@@ -21,6 +21,7 @@ mod ones;
 mod peeling;
 mod phases;
 mod recorded;
+mod reduced;
 mod row_selection;
 pub(crate) mod rows;
 mod second_phase;

@@ -1,5 +1,5 @@
 //! The fourth phase: the pivots' rows get zeros in the inactive columns (RFC 6330, section 5.4.2.5).
-ghost use Rattle.std.specs.Prelude.{◌≡◌, ◌≢◌, ℕ, ◌+◌, ◌-◌, ◌*◌, ◌<◌, ◌≤◌, true, false, length, slice_index_or, IsTrue, IfOk, OnOk, IfErr};
+ghost use Rattle.std.specs.Prelude.{◌≡◌, ◌≢◌, ℕ, ◌+◌, ◌-◌, ◌*◌, ◌%◌, ◌<◌, ◌≤◌, true, false, length, slice_index_or, IsTrue, IfOk, OnOk, IfErr};
 ghost use Rattle.rq_algebra.specs.Systems.{at};
 ghost use Rattle.rq_bytes.specs.declared.error.Error.TheVariants.{OutOfMemory};
 ghost use Rattle.rq_solver.specs.Recorded.{AddsAtMost};
@@ -13,6 +13,7 @@ use super::first_phase::take_pivots;
 use super::ones::RowOnes;
 use super::peeling::Peeling;
 use super::recorded::RecordedRows;
+use super::reduced::{end_of_word, take_bits};
 use rq_bytes::error::Error;
 use rq_bytes::octet::Octet;
 
@@ -188,7 +189,62 @@ fn take_reduced_rows(
     ensures err { IfErr result (λ e. e ≡ OutOfMemory) }
 {
     let mut from = 0;
-    while let Some((f, scalar)) = recorded.next_entry(row, from, inactive) {
+    while from < inactive {
+        let end = end_of_word(from, inactive);
+        take_word(row, reduced, from, end, recorded)?;
+        from = end;
+    }
+    Ok(())
+}
+
+// The same for the columns from one on and before another, which share a word.
+#[inline(always)]
+fn take_word(
+    row: usize,
+    reduced: &[usize],
+    from: usize,
+    end: usize,
+    recorded: &mut RecordedRows,
+) -> Result<(), Error>
+    requires row { row < length recorded.old.table.rows }
+    requires reduced { AreRows reduced.now recorded.old.table }
+    requires some { from < end }
+    requires word { from % 64 + (end - from) ≤ 64 }
+    requires many { end ≤ length reduced.now }
+    requires apart { (f : ℕ) → f < length reduced.now → row ≢ at reduced.now f }
+    requires width { end ≤ recorded.old.table.width }
+    requires octets { HasOctets recorded.old.table }
+    ensures taken { OnOk result (TakesReduced reduced.now row from end end (entry_of recorded.old.table row) recorded.old recorded.new) }
+    ensures few { OnOk result (AddsAtMost (end - from) recorded.old recorded.new) }
+    ensures err { IfErr result (λ e. e ≡ OutOfMemory) }
+{
+    match recorded.bits_from(row, from) {
+        Some(bits) => take_bits(row, reduced, from, end, bits, recorded),
+        None => take_octets(row, reduced, from, end, recorded),
+    }
+}
+
+// The same for columns that follow each other, one that isn't 0 after another.
+fn take_octets(
+    row: usize,
+    reduced: &[usize],
+    start: usize,
+    end: usize,
+    recorded: &mut RecordedRows,
+) -> Result<(), Error>
+    requires row { row < length recorded.old.table.rows }
+    requires reduced { AreRows reduced.now recorded.old.table }
+    requires order { start ≤ end }
+    requires many { end ≤ length reduced.now }
+    requires apart { (f : ℕ) → f < length reduced.now → row ≢ at reduced.now f }
+    requires width { end ≤ recorded.old.table.width }
+    requires octets { HasOctets recorded.old.table }
+    ensures taken { OnOk result (TakesReduced reduced.now row start end end (entry_of recorded.old.table row) recorded.old recorded.new) }
+    ensures few { OnOk result (AddsAtMost (end - start) recorded.old recorded.new) }
+    ensures err { IfErr result (λ e. e ≡ OutOfMemory) }
+{
+    let mut from = start;
+    while let Some((f, scalar)) = recorded.next_entry(row, from, end) {
         recorded.record_sum(row, reduced[f], scalar)?;
         from = f + 1;
     }

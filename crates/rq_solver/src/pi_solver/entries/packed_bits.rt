@@ -75,6 +75,16 @@ pub(super) fn next_one(bits: &[u8], from: usize, end: usize) -> Option<usize>
     None
 }
 
+/// The bits from a place on, to the end of its word, the first lowest.
+#[inline(always)]
+pub(super) fn bits_from(bits: &[u8], place: usize) -> u64
+    requires within { place < 8 * length bits.now }
+    requires whole { length bits.now % 8 ≡ 0 }
+    ensures { (k : ℕ) → place % 64 + k < 64 → bit_at result k ≡ bit_in bits.now (place + k) }
+{
+    word(bits, place / WORD_BITS) >> (place % WORD_BITS)
+}
+
 /// How many bits are set in the words with the first bits, `count` at most.
 pub(super) fn count_ones(bits: &[u8], count: usize) -> usize
     requires within { count ≤ 8 * length bits.now }

@@ -1,33 +1,36 @@
 -- What the check leaves to show of `pi_solver::fourth_phase::take_reduced_rows`.
-use Rattle.std.proofs.Common.{ℕ, ◌<◌, ◌≤◌, length, sym, ap, ◌∙◌, arith}
+use Rattle.std.proofs.Common.{ℕ, sym, ap, ◌∙◌, arith}
 use Rattle.rq_parts.specs.DenseOctetMatrix.{entry_of}
-use Rattle.rq_solver.proofs.ReducedTurns.{reduced_none, reduced_next}
+use Rattle.rq_solver.proofs.ReducedTurns.{reduced_none}
+use Rattle.rq_solver.proofs.ReducedWords.{reduced_join, reduced_same}
 use Rattle.rq_solver.proofs.pi_solver.fourth_phase.take_reduced_rows.Goals as goal
 
-pub loop-f-init : goal.loop-f-init
-loop-f-init c = record {
+pub loop-from-init : goal.loop-from-init
+loop-from-init c = record {
   within = omega arith;
   taken = reduced_none c.args.reduced.now c.args.row 0 c.args.inactive (entry_of c.args.recorded.now.table c.args.row) c.args.recorded.now;
   few = omega arith;
 }
 
-pub loop-f-preserved : goal.loop-f-preserved
-loop-f-preserved c =
-    let f = c.in-Some.f in
-    let v = c.loop-f.invariant in
-    let entries = entry_of c.args.recorded.now.table c.args.row in
-    let forward : c.loop-f.from ≤ f = c.in-Some.ensures.0.0 in
-    let inside : f < c.args.inactive = c.in-Some.ensures.0.1 in
-    let in_reduced : f < length c.args.reduced.now = omega (arith, c.requires.many) in
-    let same = λ (k : ℕ). ap (λ table. entry_of table c.args.row k) v.taken.records.table in
-    let scalar_is = c.in-Some.ensures.1 ∙ same f in
-    let small : c.in-Some.scalar < 256 = rw scalar_is (c.requires.octets.elements c.args.row f c.requires.row (omega (arith, c.requires.width))) in
+pub loop-from-preserved : goal.loop-from-preserved
+loop-from-preserved c =
+    let v = c.loop-from.invariant in
+    let rows = c.args.reduced.now in
+    let row = c.args.row in
+    let old = c.args.recorded.now in
+    let cur = c.loop-from.recorded in
+    let from = c.loop-from.from in
+    let end = c.end_of_word-end.result in
+    let entries = entry_of old.table row in
+    let forward = c.end_of_word-end.ensures.after in
+    let within = c.end_of_word-end.ensures.within in
+    let same = λ (k : ℕ). ap (λ table. entry_of table row k) v.taken.records.table in
+    let turn = reduced_same rows row from end (entry_of cur.table row) entries end cur c.take_word.new.recorded (λ f l n. sym (same f)) c.in_ok-take_word.ensures.taken in
     record {
-      within = omega arith;
-      taken = reduced_next c.args.reduced.now c.args.row 0 c.args.inactive entries c.loop-f.from f (omega arith) forward inside c.args.recorded.now c.loop-f.recorded v.taken (λ k l n. sym (same k) ∙ c.in-Some.ensures.0.3 k l n)
-          (c.requires.apart f in_reduced) c.in-Some.scalar small scalar_is c.record_sum.new.self c.in_ok-record_sum.ensures.recorded;
+      within = within;
+      taken = reduced_join rows row 0 c.args.inactive entries from end (omega arith) (omega (arith, forward)) within old cur c.take_word.new.recorded (λ f l n. c.requires.apart f (omega (arith, within, c.requires.many))) v.taken turn;
       few =
-          let more = c.in_ok-record_sum.ensures.counted in
+          let more = c.in_ok-take_word.ensures.few in
           let so_far = v.few in
           omega (arith, more, so_far, forward);
     }

@@ -1,0 +1,186 @@
+-- A row takes the reduced rows for which a word has ones, the lowest first.
+use Rattle.std.proofs.Common.{◌≡◌, ◌≢◌, ℕ, ◌+◌, ◌-◌, ◌*◌, ◌%◌, ◌/◌, ◌^◌, ◌<◌, ◌≤◌, List, [], ◌∷◌, ◌++◌, min, refl, sym, ap, ◌∙◌, arith, inl, inr, w64, lit<}
+use Rattle.std.specs.Prelude.{bit_and}
+use Rattle.std.specs.Int.{bit_at, trailing_zeros}
+use Rattle.std.proofs.Math.Pow.{pow-lt}
+use Rattle.std.proofs.Math.Nat.{mod-lt}
+use Rattle.std.proofs.lemmas.Nat.{pow_pos, div-add-mod'}
+use Rattle.std.proofs.lemmas.Nat.Bits.{bit_at-lt, bit_at-zero, bit_at_and, bit_at-pow_same, bit_at-pow_other, bit_at_ones_above, bit_at_above, bit_at_cat_low, bit_at_cat_high, bit_at-trailing_zeros, same_from_bits}
+use Rattle.std.proofs.lemmas.Bool.{cases_eq, cases_lt}
+use Rattle.rq_algebra.specs.Systems.{at}
+use Rattle.rq_matrix.proofs.Words.{low_bits, low-same, low-none}
+use Rattle.rq_standard.specs.OctetField.{octets}
+use Rattle.rq_solver.specs.Cleared.{AreUnits, TakesReduced}
+use Rattle.rq_solver.specs.OperationCounts.{additions}
+use Rattle.rq_solver.specs.Recorded.{Recorded, Records, sum_step}
+use Rattle.rq_solver.specs.RowSteps.{rows_after}
+use Rattle.rq_solver.proofs.Performing.{records_more}
+use Rattle.rq_solver.proofs.PivotTurns.{if_apart}
+use Rattle.rq_solver.proofs.StepColumns.{rows_after-next}
+use Rattle.rq_solver.proofs.ReducedTurns.{reduced_none, reduced_next, reduced_zeros}
+
+-- ---- the lowest one of a word, and the others
+
+module _ (word lowest high low : ℕ) (whole : high * 2 ^ (lowest + 1) + low ≡ word) (small : low < 2 ^ (lowest + 1)) (one : bit_at word lowest ≡ 1) (zeros : (k : ℕ) → k < lowest → bit_at word k ≡ 0) where
+  low_is : low ≡ 2 ^ lowest
+  low_is = same_from_bits low (2 ^ lowest) (λ k. elim (cases_lt k (lowest + 1)) [
+    | inl l ↦
+        sym (bit_at_cat_low high (lowest + 1) low k l)
+        ∙ ap (λ n. bit_at n k) whole
+        ∙ elim (cases_eq k lowest) [
+          | inl e ↦ rw e (one ∙ sym (bit_at-pow_same lowest))
+          | inr d ↦ zeros k (omega arith) ∙ sym (bit_at-pow_other lowest k d)
+        ]
+    | inr past ↦ bit_at_above low (lowest + 1) k small past ∙ sym (bit_at-pow_other lowest k (omega arith))
+  ])
+
+  less_is : high * 2 ^ (lowest + 1) + (2 ^ lowest - 1) ≡ word - 1
+  less_is = let some = pow_pos lowest in omega (arith, low_is, whole, some)
+
+  ones_small : 2 ^ lowest - 1 < 2 ^ (lowest + 1)
+  ones_small = let more = pow-lt {i = lowest} {j = lowest + 1} (omega arith) in omega (arith, more)
+
+  clears : (k : ℕ) → k ≤ lowest → bit_at (bit_and word (word - 1)) k ≡ 0
+  clears k l = bit_at_and word (word - 1) k ∙ elim (cases_lt k lowest) [
+    | inl early ↦ ap (λ b. min b (bit_at (word - 1) k)) (zeros k early) ∙ omega arith
+    | inr late ↦
+        let is : k ≡ lowest = omega arith in
+        let zero : bit_at (word - 1) lowest ≡ 0 = ap (λ n. bit_at n lowest) (sym less_is) ∙ bit_at_cat_low high (lowest + 1) (2 ^ lowest - 1) lowest (omega arith) ∙ bit_at_ones_above lowest lowest (omega arith) in
+        rw is (ap (min (bit_at word lowest)) zero ∙ omega arith)
+  ]
+
+  keeps : (k : ℕ) → lowest < k → bit_at (bit_and word (word - 1)) k ≡ bit_at word k
+  keeps k l =
+      let same : bit_at (word - 1) k ≡ bit_at word k = ap (λ n. bit_at n k) (sym less_is)
+      ∙ bit_at_cat_high high (lowest + 1) (2 ^ lowest - 1) k ones_small (omega arith)
+      ∙ sym (bit_at_cat_high high (lowest + 1) low k small (omega arith))
+      ∙ ap (λ n. bit_at n k) whole in
+      bit_at_and word (word - 1) k ∙ ap (min (bit_at word k)) same ∙ omega arith
+
+-- a word less its lowest one
+pub record ClearsLowest (word lowest less : ℕ) : Type 0 where
+  pub one : bit_at word lowest ≡ 1
+  pub zeros : (k : ℕ) → k < lowest → bit_at word k ≡ 0
+  pub cleared : (k : ℕ) → k ≤ lowest → bit_at less k ≡ 0
+  pub kept : (k : ℕ) → lowest < k → bit_at less k ≡ bit_at word k
+
+pub clears_lowest : (word : ℕ) → word ≢ 0 → word < 2 ^ 64 → ClearsLowest word (trailing_zeros w64 word) (bit_and word (word - 1))
+clears_lowest word some fits =
+    let lowest = trailing_zeros w64 word in
+    let found = bit_at-trailing_zeros w64 word (omega arith) fits in
+    let whole = div-add-mod' word (2 ^ (lowest + 1)) in
+    let small = mod-lt word (pow_pos (lowest + 1)) in
+    record {
+      one = found.1;
+      zeros = found.2;
+      cleared = clears word lowest (word / 2 ^ (lowest + 1)) (word % 2 ^ (lowest + 1)) whole small found.1 found.2;
+      kept = keeps word lowest (word / 2 ^ (lowest + 1)) (word % 2 ^ (lowest + 1)) whole small found.1 found.2;
+    }
+
+-- ---- the rows that are taken
+
+-- The reduced rows before a place are taken for which a word has ones, and the rest of the word has those from that place on.
+pub record TakesOnes (reduced : List ℕ) (row from end word rest : ℕ) (old new : Recorded) : Type 0 where
+  pub place : ℕ
+  pub after : from ≤ place
+  pub before : place ≤ end
+  pub behind : (k : ℕ) → from + k < place → bit_at rest k ≡ 0
+  pub ahead : (k : ℕ) → place ≤ from + k → from + k < end → bit_at rest k ≡ bit_at word k
+  pub beyond : (k : ℕ) → end ≤ from + k → bit_at rest k ≡ 0
+  pub taken : TakesReduced reduced row from end place (λ f. bit_at word (f - from)) old new
+  pub few : additions new.operations ≤ additions old.operations + (place - from)
+
+module _ (reduced : List ℕ) (row from end word : ℕ) (old : Recorded) where
+  pub takes_none : from < end → end ≤ from + 64 → TakesOnes reduced row from end word (low_bits word (end - from)) old old
+  takes_none some within = record {
+    place = from;
+    after = omega arith;
+    before = omega arith;
+    behind = λ k l. absurd (omega arith);
+    ahead = λ k l m. low-same word (end - from) (omega arith) k (omega arith);
+    beyond = λ k l. low-none word (end - from) (omega arith) k (omega arith);
+    taken = reduced_none reduced row from end (λ f. bit_at word (f - from)) old;
+    few = omega arith;
+  }
+
+  module _ (rest : ℕ) (cur : Recorded) (v : TakesOnes reduced row from end word rest old cur) where
+    entry_of_rest : (f : ℕ) → v.place ≤ f → f < end → bit_at word (f - from) ≡ bit_at rest (f - from)
+    entry_of_rest f l m = let back : from + (f - from) ≡ f = (let after = v.after in omega arith) in sym (v.ahead (f - from) (rw back l) (rw back m))
+
+    module _ (lowest less : ℕ) (clears : ClearsLowest rest lowest less) where
+      lowest_after : v.place ≤ from + lowest
+      lowest_after = elim (cases_lt (from + lowest) v.place) [
+        | inl early ↦ let zero = v.behind lowest early in let one = clears.one in absurd (omega (arith, zero, one))
+        | inr late ↦ late
+      ]
+
+      pub lowest_inside : from + lowest < end
+      lowest_inside = elim (cases_lt (from + lowest) end) [
+        | inl inside ↦ inside
+        | inr past ↦ let zero = v.beyond lowest past in let one = clears.one in absurd (omega (arith, zero, one))
+      ]
+
+      pub takes_lowest : row ≢ at reduced (from + lowest) → (new : Recorded) → Records (sum_step row (at reduced (from + lowest)) 1 ∷ []) cur new → additions new.operations ≡ additions cur.operations + 1 → TakesOnes reduced row from end word less old new
+      takes_lowest apart new records counted =
+          let after = v.after in
+          let late = lowest_after in
+          let inside = lowest_inside in
+          let here : from + lowest - from ≡ lowest = omega arith in
+          let one : 1 ≡ bit_at word (from + lowest - from) = sym (entry_of_rest (from + lowest) late inside ∙ ap (bit_at rest) here ∙ clears.one) in
+          record {
+            place = from + lowest + 1;
+            after = omega arith;
+            before = omega arith;
+            behind = λ k l. clears.cleared k (omega arith);
+            ahead = λ k l m. clears.kept k (omega arith) ∙ v.ahead k (omega arith) m;
+            beyond = λ k l. clears.kept k (omega arith) ∙ v.beyond k l;
+            taken = reduced_next reduced row from end (λ f. bit_at word (f - from)) v.place (from + lowest) (omega arith) late inside old cur v.taken
+                (λ f l m. entry_of_rest f l (omega arith) ∙ clears.zeros (f - from) (omega arith)) apart 1 (lit< tt) one new records;
+            few = let so_far = v.few in omega (arith, counted, so_far, late, after);
+          }
+
+    pub takes_all : rest ≡ 0 → TakesReduced reduced row from end end (λ f. bit_at word (f - from)) old cur
+    takes_all none = reduced_zeros reduced row from end (λ f. bit_at word (f - from)) v.place end old cur v.taken v.before (λ f l m. entry_of_rest f l m ∙ ap (λ n. bit_at n (f - from)) none ∙ bit_at-zero (f - from))
+
+    pub takes_few : additions cur.operations ≤ additions old.operations + (end - from)
+    takes_few = let so_far = v.few in let before = v.before in omega (arith, so_far, before)
+
+-- ---- words of rows one after another
+
+module _ (reduced : List ℕ) (row start count : ℕ) (entries : ℕ → ℕ) where
+  -- the row takes those before one place, and then those up to another one
+  pub reduced_join : (t next : ℕ) → start ≤ t → t ≤ next → next ≤ count → (old cur new : Recorded) → ((f : ℕ) → t ≤ f → f < next → row ≢ at reduced f)
+      → TakesReduced reduced row start count t entries old cur → TakesReduced reduced row t next next entries cur new → TakesReduced reduced row start count next entries old new
+  reduced_join t next from forward within old cur new apart v w =
+      let source = λ (m : ℕ → ℕ → ℕ) (s k : ℕ) (l : t ≤ s) (n : s < next). v.elsewhere m (at reduced s) k (λ e. apart s l n (sym e)) in
+      let unit = λ (m : ℕ → ℕ → ℕ) (column : ℕ → ℕ) (units : AreUnits reduced start count column m) (s f : ℕ) (l : t ≤ s) (n : s < next) (inside : f < count). source m s (column f) l n ∙ units s f (omega arith) (omega arith) inside in
+      record {
+        steps = v.steps ++ w.steps;
+        records = records_more v.steps w.steps old cur new v.records w.records;
+        elsewhere = λ m i k d. rows_after-next octets v.steps w.steps m i k ∙ w.elsewhere (rows_after octets v.steps m) i k d ∙ v.elsewhere m i k d;
+        kept = λ m k zeros. rows_after-next octets v.steps w.steps m row k
+            ∙ w.kept (rows_after octets v.steps m) k (λ s l n. source m s k l n ∙ zeros s (omega arith) (omega arith))
+            ∙ v.kept m k zeros;
+        cleared = λ m column units shown f first l n. rows_after-next octets v.steps w.steps m row (column f) ∙ elim (cases_lt f t) [
+          | inl early ↦
+              w.kept (rows_after octets v.steps m) (column f) (λ s o p. unit m column units s f o p n ∙ if_apart s f 1 0 (λ e. omega (arith, e, o, early)))
+              ∙ v.cleared m column units shown f first early n
+          | inr late ↦
+              w.cleared (rows_after octets v.steps m) column (λ s g o p q. unit m column units s g o p (omega arith))
+              (λ g o p. v.rest m column units g o (omega arith) ∙ shown g (omega arith) (omega arith)) f late l l
+        ];
+        rest = λ m column units f l n. rows_after-next octets v.steps w.steps m row (column f)
+            ∙ w.kept (rows_after octets v.steps m) (column f) (λ s o p. unit m column units s f o p n ∙ if_apart s f 1 0 (λ e. omega (arith, e, p, l)))
+            ∙ v.rest m column units f (omega arith) n;
+      }
+
+  -- entries that are the same in those columns
+  pub reduced_same : (others : ℕ → ℕ) (done : ℕ) (old new : Recorded) → ((f : ℕ) → start ≤ f → f < count → others f ≡ entries f) → TakesReduced reduced row start count done entries old new → TakesReduced reduced row start count done others old new
+  reduced_same others done old new same v = record {
+    steps = v.steps;
+    records = v.records;
+    elsewhere = v.elsewhere;
+    kept = v.kept;
+    cleared = λ m column units shown. v.cleared m column units (λ f l n. shown f l n ∙ same f l n);
+    rest = v.rest;
+  }
