@@ -36,7 +36,7 @@ raised [] one at l = absurd (omega arith)
 raised (x ∷ xs) one zero l = refl
 raised (x ∷ xs) one (suc at) l = ap (λ ys. x ∷ ys) (raised xs one at (omega arith))
 
-module _ (xs : List ℕ) (one place : ℕ) (up : IsStrictlyIncreasing xs) (found : IsPlace xs one place) (ones : List ℕ) (at sinking high low : ℕ) (within : at < length xs) (room : suc at < length ones) (highest : high ≡ max (get_or ones at 0) sinking) (lowest : low ≡ min (get_or ones at 0) sinking) where
+module _ (xs : List ℕ) (one place : ℕ) (up : IsStrictlyIncreasing xs) (found : IsPlace xs one place) (ones : List ℕ) (at sinking high low : ℕ) (within : at < length xs) (room : suc at < length ones) (highest : high ≡ max (get_or ones at 0) sinking) (lowest : low ≡ min (get_or ones at 0) one) (least : sinking ≤ one) where
   sinking-is : (zs : List ℕ) → set ones (suc at) sinking ≡ zs → sinking ≡ get_or zs (suc at) 0
   sinking-is zs is = sym (get_or-set_same ones (suc at) sinking 0 room) ∙ ap (λ ys. get_or ys (suc at) 0) is
 

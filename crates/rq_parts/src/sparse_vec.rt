@@ -231,7 +231,8 @@ fn last_to(ones: &mut [u16], gap: usize)
 }
 
 // Moves the last one down to its place among those before it, and answers whether one of these is
-// the same. Each step does the same whatever the place, so that there is no branch to guess.
+// the same. Each step does the same whatever the place, and no step waits for another, so that
+// there is no branch to guess and several places are written at once.
 fn sink_last(ones: &mut [u16]) -> bool
     requires { 0 < length ones.old }
     ensures sunk { (xs : List ℕ) (one place : ℕ) → ones.old ≡ xs ++ one ∷ [] → IsStrictlyIncreasing xs → IsPlace xs one place → ones.new ≡ insert xs place one }
@@ -239,16 +240,14 @@ fn sink_last(ones: &mut [u16]) -> bool
 {
     let mut at = ones.len() - 1;
     let last = ones[at];
-    let mut sinking = last;
     let mut is_listed = false;
     while at > 0 {
         let before = ones[at - 1];
         is_listed |= before == last;
-        ones[at] = before.max(sinking);
-        sinking = before.min(sinking);
+        ones[at] = before.max(ones[at].min(last));
         at -= 1;
     }
-    ones[0] = sinking;
+    ones[0] = ones[0].min(last);
     is_listed
 }
 
