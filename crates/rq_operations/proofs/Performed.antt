@@ -78,9 +78,6 @@ module _ (operations : List Operation) (i : ℕ) (op : Operation) (there : range
     performed = e ∙ sym (ap (λ l. after_all l old) there ∙ after_all-one op old);
   }
 
-  pub step_allowed : (n : ℕ) (order : Option (List ℕ)) → AreAllowed n order (drop i operations) → IsAllowed n order op
-  step_allowed n order allowed = (subst (AreAllowed n order) rest_is allowed).0
-
   -- with the one behind it
   pub two_performed : (next : Operation) (old new : Slab) → i + 1 < length operations → range_of operations (i + 1) 1 ≡ next ∷ []
       → new ≡ after_all (op ∷ next ∷ []) old → PerformsNext operations i 2 old new
@@ -128,6 +125,11 @@ module _ (recorded : List Step) (i : ℕ) (op : Step) (here : i < length recorde
       ∙ ap (λ o. map f (take count xs) ++ o ∷ []) is_f
       ∙ sym (map-append f (take count xs) (x ∷ []))
       ∙ ap (map f) (sym (take_more_set xs count x room))
+
+-- the first one of those that f makes, before there are more
+pub run_first : {T : Type 0} {first : List Operation} (f : T → Operation) (xs : List T) (x : T) → 0 < length xs → first ≡ f x ∷ [] → first ≡ map f (take 1 (set xs 0 x))
+run_first f [] x room is = absurd (omega arith)
+run_first f (y ∷ xs) x room is = is
 
 -- ---- operations that f makes, one after another, of which none sets an order
 

@@ -1,13 +1,14 @@
 //! Steps that are done to symbols.
-ghost use Rattle.std.specs.Prelude.{◌≡◌, ◌↔◌, ◌+◌, ◌<◌, ◌≤◌, ◌∷◌, [], length, map, take, drop, replicate, true, All, IfSome, IfNone};
-ghost use Rattle.rq_algebra.specs.Operations.{AddAssign, Fma, AreAllowed};
+ghost use Rattle.std.specs.Prelude.{◌≡◌, ◌+◌, ◌<◌, ◌≤◌, ◌∷◌, [], length, map, take, drop, replicate, true, All, IfSome};
+ghost use Rattle.rq_algebra.specs.Operations.{AddAssign, MulAssign, Fma, AreAllowed};
 ghost use Rattle.rq_algebra.specs.Symbols.{AreSymbols};
 ghost use Rattle.rq_bytes.specs.Ranges.{range_of};
-ghost use Rattle.rq_bytes.specs.SymbolSlab.{after, after_all, Allows, HasPlace, symbol_in};
+ghost use Rattle.rq_bytes.specs.SymbolSlab.{after_all, Allows, HasPlace, symbol_in};
 ghost use Rattle.rq_standard.specs.OctetField.{octets};
 ghost use Rattle.rq_operations.specs.Steps.{operation_of_step, PerformsNext};
 
 use crate::steps::Step;
+use rq_bytes::octet::Octet;
 use rq_bytes::octets;
 use rq_bytes::symbol_slab::{Multiple, SymbolSlab};
 
@@ -25,9 +26,18 @@ pub(crate) fn replay(steps: &[Step], symbols: &mut SymbolSlab)
 {
     let mut sources = [0; RUN];
     let mut multiples = [Multiple { dest: 0, scalar: 0 }; MULTIPLES];
+    // Whether all symbols whose multiples were asked for are zeros.
+    let mut zeros = true;
     let mut done = 0;
     while done < steps.len() {
-        done += perform_next(steps, done, &mut sources, &mut multiples, symbols);
+        done += perform_next(
+            steps,
+            done,
+            &mut sources,
+            &mut multiples,
+            &mut zeros,
+            symbols,
+        );
     }
 }
 
@@ -38,104 +48,84 @@ fn perform_next(
     start: usize,
     sources: &mut [usize],
     multiples: &mut [Multiple],
+    zeros: &mut bool,
     symbols: &mut SymbolSlab,
 ) -> usize
     requires here { start < length steps.now }
+    requires sources { 0 < length sources.old }
+    requires multiples { 0 < length multiples.old }
     requires allowed { AreAllowed (length symbols.old.values) symbols.old.order (drop start (map operation_of_step steps.now)) }
     ensures { PerformsNext (map operation_of_step steps.now) start result symbols.old symbols.new }
 {
-    match perform_together(steps, start, sources, multiples, symbols) {
-        Some(count) => count,
-        None => {
-            perform_alone(&steps[start], symbols);
-            1
-        }
-    }
-}
-
-// Performs the step at `start` and those behind it in one pass over a symbol, where that can be done
-// with some. Returns how many steps these are.
-fn perform_together(
-    steps: &[Step],
-    start: usize,
-    sources: &mut [usize],
-    multiples: &mut [Multiple],
-    symbols: &mut SymbolSlab,
-) -> Option<usize>
-    requires here { start < length steps.now }
-    requires allowed { AreAllowed (length symbols.old.values) symbols.old.order (drop start (map operation_of_step steps.now)) }
-    ensures performed { IfSome result (λ count. PerformsNext (map operation_of_step steps.now) start count symbols.old symbols.new) }
-    ensures unchanged { IfNone result (symbols.new ≡ symbols.old) }
-{
     match &steps[start] {
-        Step::Add { dest, .. } => {
-            let count = read_sources(steps, start, *dest, sources);
-            if count > 1 {
-                symbols.add_all(*dest as usize, &sources[..count]);
-                return Some(count);
-            }
-        }
-        Step::AddMultiple { src, .. } => {
-            let count = read_multiples(steps, start, *src, multiples);
-            if count > 1 {
-                add_multiples(symbols, *src, &multiples[..count]);
-                return Some(count);
-            }
-        }
-        Step::Multiply { scalar, dest } => {
-            if scalar.byte() == 2 {
-                if let Some(src) = next_source(steps, start, *dest) {
-                    symbols.double_and_add(*dest as usize, src as usize);
-                    return Some(2);
-                }
-            }
-        }
-    }
-    None
-}
-
-// Performs one step.
-fn perform_alone(step: &Step, symbols: &mut SymbolSlab)
-    requires { Allows symbols.old (operation_of_step step.now) }
-    ensures { symbols.new ≡ after (operation_of_step step.now) symbols.old }
-{
-    match step {
-        Step::Add { dest, src } => symbols.add_assign(*dest as usize, *src as usize),
-        Step::Multiply { scalar, dest } => {
-            if !is_zero(symbols, *dest) {
-                symbols.mulassign_scalar(*dest as usize, scalar);
-            }
+        Step::Add { dest, src } => {
+            let count = read_sources(steps, start, *dest, *src, sources);
+            symbols.add_all(*dest as usize, &sources[..count]);
+            count
         }
         Step::AddMultiple { scalar, dest, src } => {
-            if !is_zero(symbols, *src) {
-                symbols.fma(*dest as usize, *src as usize, scalar);
-            }
+            let first = Multiple {
+                dest: *dest as usize,
+                scalar: scalar.byte(),
+            };
+            let count = read_multiples(steps, start, *src, first, multiples);
+            add_multiples(symbols, *src, &multiples[..count], zeros);
+            count
+        }
+        Step::Multiply { scalar, dest } => multiply(steps, start, scalar, *dest, zeros, symbols),
+    }
+}
+
+// Performs the multiplication at `start`. A doubling is done in one pass with an addition behind it to
+// the same symbol. Returns how many steps these are.
+fn multiply(
+    steps: &[Step],
+    start: usize,
+    scalar: &Octet,
+    dest: u32,
+    zeros: &mut bool,
+    symbols: &mut SymbolSlab,
+) -> usize
+    requires here { start < length steps.now }
+    requires step { range_of (map operation_of_step steps.now) start 1 ≡ MulAssign dest scalar.now ∷ [] }
+    requires allowed { AreAllowed (length symbols.old.values) symbols.old.order (drop start (map operation_of_step steps.now)) }
+    ensures { PerformsNext (map operation_of_step steps.now) start result symbols.old symbols.new }
+{
+    if scalar.byte() == 2 {
+        if let Some(src) = next_source(steps, start, dest) {
+            symbols.double_and_add(dest as usize, src as usize);
+            return 2;
         }
     }
+    if !is_zero(symbols, dest, zeros) {
+        symbols.mulassign_scalar(dest as usize, scalar);
+    }
+    1
 }
 
 // Adds multiples of a symbol to others, where it isn't zeros.
-fn add_multiples(symbols: &mut SymbolSlab, src: u32, multiples: &[Multiple])
+fn add_multiples(symbols: &mut SymbolSlab, src: u32, multiples: &[Multiple], zeros: &mut bool)
     requires some { 0 < length multiples.now }
     requires multiples { All (λ m. Allows symbols.old (Fma m.dest src m.scalar)) multiples.now }
     ensures { symbols.new ≡ after_all (map (λ m. Fma m.dest src m.scalar) multiples.now) symbols.old }
 {
-    if !is_zero(symbols, src) {
+    if !is_zero(symbols, src, zeros) {
         symbols.add_multiples(src as usize, multiples);
     }
 }
 
-// Whether the symbol at a place is zeros. Its multiples are then zeros too, and change nothing. The
-// solver makes such multiples: the values of HDPC equations are zeros, and it adds multiples of the
-// first ones before anything is added to these. A look at a symbol takes far less than a multiple.
-fn is_zero(symbols: &SymbolSlab, place: u32) -> bool
+// Whether the symbol at a place was found to be zeros, so that its multiples change nothing. The first
+// multiples that the solver records are such: they are of the values of HDPC equations, to which
+// nothing was added before. So a symbol is looked at only while all before it, `zeros`, were zeros.
+fn is_zero(symbols: &SymbolSlab, place: u32, zeros: &mut bool) -> bool
     requires { HasPlace symbols.now place }
-    ensures zeros { (result ≡ true) ↔ (symbol_in symbols.now place ≡ replicate symbols.now.symbol_size 0) }
+    ensures zeros { (result ≡ true) → (symbol_in symbols.now place ≡ replicate symbols.now.symbol_size 0) }
     ensures symbols { AreSymbols octets symbols.now.symbol_size (length symbols.now.values) symbols.now.values }
 {
     // For the proof: the contract of `symbol_size` says that each symbol has that size.
     let _size = symbols.symbol_size();
-    octets::is_zero(symbols.get(place as usize))
+    *zeros = *zeros && octets::is_zero(symbols.get(place as usize));
+    *zeros
 }
 
 // The source of the step behind `start`, where it is an addition to `dest`.
@@ -150,16 +140,20 @@ fn next_source(steps: &[Step], start: usize, dest: u32) -> Option<u32>
     }
 }
 
-// Writes the sources of the additions to `dest` that follow each other from `start` on, as far as
-// there is room. Returns how many these are.
-fn read_sources(steps: &[Step], start: usize, dest: u32, sources: &mut [usize]) -> usize
-    requires { start ≤ length steps.now }
+// Writes the sources of the additions to `dest` that follow each other from `start` on, of which the
+// first adds `src`, as far as there is room. Returns how many these are.
+fn read_sources(steps: &[Step], start: usize, dest: u32, src: u32, sources: &mut [usize]) -> usize
+    requires here { start < length steps.now }
+    requires first { range_of (map operation_of_step steps.now) start 1 ≡ AddAssign dest src ∷ [] }
+    requires some_room { 0 < length sources.old }
+    ensures some { 0 < result }
     ensures room { result ≤ length sources.new }
     ensures within { start + result ≤ length steps.now }
     ensures run { range_of (map operation_of_step steps.now) start result ≡ map (λ src. AddAssign dest src) (take result sources.new) }
 {
     let most = sources.len().min(steps.len() - start);
-    for count in 0..most {
+    sources[0] = src as usize;
+    for count in 1..most {
         match source_of(&steps[start + count], dest) {
             Some(source) => sources[count] = source as usize,
             None => return count,
@@ -178,16 +172,26 @@ fn source_of(step: &Step, to: u32) -> Option<u32>
     }
 }
 
-// Writes what multiples of the symbol at `src` are added to by the steps that follow each other from
-// `start` on, as far as there is room. Returns how many these are.
-fn read_multiples(steps: &[Step], start: usize, src: u32, multiples: &mut [Multiple]) -> usize
-    requires { start ≤ length steps.now }
+// Writes the multiples of the symbol at `src` that are added by the steps that follow each other from
+// `start` on, the first one being known, as far as there is room. Returns how many these are.
+fn read_multiples(
+    steps: &[Step],
+    start: usize,
+    src: u32,
+    first: Multiple,
+    multiples: &mut [Multiple],
+) -> usize
+    requires here { start < length steps.now }
+    requires first { range_of (map operation_of_step steps.now) start 1 ≡ Fma first.dest src first.scalar ∷ [] }
+    requires some_room { 0 < length multiples.old }
+    ensures some { 0 < result }
     ensures room { result ≤ length multiples.new }
     ensures within { start + result ≤ length steps.now }
     ensures run { range_of (map operation_of_step steps.now) start result ≡ map (λ m. Fma m.dest src m.scalar) (take result multiples.new) }
 {
     let most = multiples.len().min(steps.len() - start);
-    for count in 0..most {
+    multiples[0] = first;
+    for count in 1..most {
         match multiple_of(&steps[start + count], src) {
             Some(multiple) => multiples[count] = multiple,
             None => return count,

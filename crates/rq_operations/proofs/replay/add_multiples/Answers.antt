@@ -15,4 +15,4 @@ is_zero-requires c = from c.args.multiples.now c.requires.some c.requires.multip
     from (m ∷ multiples) some all = (All-head (λ m. Allows c.args.symbols.now (Fma m.dest c.args.src m.scalar)) m multiples all).1
 
 pub returns-else-not-is_zero : goal.returns-else-not-is_zero
-returns-else-not-is_zero c = sym (all_zeros_added c.args.symbols.now c.args.src (c.is_zero.ensures.zeros.0 c.if-not-is_zero.false) c.is_zero.ensures.symbols (λ m. m.dest) (λ m. m.scalar) c.args.multiples.now)
+returns-else-not-is_zero c = sym (all_zeros_added c.args.symbols.now c.args.src (c.is_zero.ensures.zeros c.if-not-is_zero.false) c.is_zero.ensures.symbols (λ m. m.dest) (λ m. m.scalar) c.args.multiples.now)

@@ -1,21 +1,36 @@
 -- What the check leaves to show of `replay::perform_next`.
-use Rattle.std.proofs.Common.{length, map, sym, ap, ◌∙◌, subst}
-use Rattle.rq_bytes.specs.SymbolSlab.{Slab, after, Allows}
+use Rattle.std.proofs.Common.{ℕ, [], ◌∷◌, length, map, take, refl, sym, ap, ◌∙◌}
+use Rattle.rq_algebra.specs.Operations.{AddAssign, Fma}
 use Rattle.rq_operations.specs.Steps.{operation_of_step}
-use Rattle.rq_operations.proofs.Performed.{range_here, one_performed, step_allowed}
+use Rattle.rq_operations.specs.declared.steps.Step.{Step}
+use Rattle.rq_operations.proofs.Performed.{range_here, run_allowed}
 use Rattle.rq_operations.proofs.replay.perform_next.Goals as goal
 
-pub perform_alone-requires : goal.perform_alone-requires
-perform_alone-requires c =
+pub read_sources-count-requires-clause-first : goal.read_sources-count-requires-clause-first
+read_sources-count-requires-clause-first c =
     let step = c.index-steps-start in
-    let slab = c.args.symbols.now in
-    let there = range_here c.args.steps.now c.args.start step.result c.requires.here step.is in
-    subst (λ (s : Slab). Allows s (operation_of_step step.result)) (sym c.in-None.ensures.unchanged)
-    (step_allowed (map operation_of_step c.args.steps.now) c.args.start (operation_of_step step.result) there (length slab.values) slab.order c.requires.allowed)
+    range_here c.args.steps.now c.args.start step.result c.requires.here step.is ∙ ap (λ (s : Step). operation_of_step s ∷ []) c.in-Add.is
 
-pub returns-in-None : goal.returns-in-None
-returns-in-None c =
+pub add_all-requires-clause-sources : goal.add_all-requires-clause-sources
+add_all-requires-clause-sources c =
+    let run = c.read_sources-count in
+    let slab = c.args.symbols.now in
+    run_allowed (AddAssign c.in-Add.dest) (λ order src. refl) (length slab.values) slab.order (map operation_of_step c.args.steps.now) c.args.start run.result (take run.result run.new.sources) c.requires.allowed run.ensures.run
+
+pub add_multiples-requires-clause-multiples : goal.add_multiples-requires-clause-multiples
+add_multiples-requires-clause-multiples c =
+    let run = c.read_multiples-count in
+    let slab = c.args.symbols.now in
+    run_allowed (λ m. Fma m.dest c.in-AddMultiple.src m.scalar) (λ order m. refl) (length slab.values) slab.order (map operation_of_step c.args.steps.now) c.args.start run.result (take run.result run.new.multiples) c.requires.allowed run.ensures.run
+
+pub read_multiples-count-requires-clause-first : goal.read_multiples-count-requires-clause-first
+read_multiples-count-requires-clause-first c =
     let step = c.index-steps-start in
-    let there = range_here c.args.steps.now c.args.start step.result c.requires.here step.is in
-    one_performed (map operation_of_step c.args.steps.now) c.args.start (operation_of_step step.result) there c.args.symbols.now c.perform_alone.new.symbols
-    (c.perform_alone.ensures ∙ ap (after (operation_of_step step.result)) c.in-None.ensures.unchanged)
+    range_here c.args.steps.now c.args.start step.result c.requires.here step.is
+    ∙ ap (λ (s : Step). operation_of_step s ∷ []) c.in-AddMultiple.is
+    ∙ ap (λ (scalar : ℕ). Fma c.in-AddMultiple.dest c.in-AddMultiple.src scalar ∷ []) (sym c.byte.ensures)
+
+pub multiply-requires-clause-step : goal.multiply-requires-clause-step
+multiply-requires-clause-step c =
+    let step = c.index-steps-start in
+    range_here c.args.steps.now c.args.start step.result c.requires.here step.is ∙ ap (λ (s : Step). operation_of_step s ∷ []) c.in-Multiply.is
