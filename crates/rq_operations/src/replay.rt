@@ -115,8 +115,8 @@ fn add_multiples(symbols: &mut SymbolSlab, src: u32, multiples: &[Multiple], zer
 }
 
 // Whether the symbol at a place was found to be zeros, so that its multiples change nothing. The first
-// multiples that the solver records are such: they are of the values of HDPC equations, to which
-// nothing was added before. So a symbol is looked at only while all before it, `zeros`, were zeros.
+// multiples that the solver records are such: they are of the sum of the HDPC equations' values, which
+// are all zeros. So a symbol is looked at only while all before it, `zeros`, were zeros.
 fn is_zero(symbols: &SymbolSlab, place: u32, zeros: &mut bool) -> bool
     requires { HasPlace symbols.now place }
     ensures zeros { (result ≡ true) → (symbol_in symbols.now place ≡ replicate symbols.now.symbol_size 0) }
