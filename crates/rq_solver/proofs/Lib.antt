@@ -11,6 +11,7 @@ pub mod FinalTurns
 pub mod FreeColumns
 pub mod LeadingRows
 pub mod ListingLaws
+pub mod NonzeroOctets
 pub mod OctetBatchLaws
 pub mod OctetRows
 pub mod OctetSums

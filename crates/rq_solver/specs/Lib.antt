@@ -6,6 +6,7 @@ pub mod FirstPhaseRowSelectionStats
 pub mod Homogeneous
 pub mod InactiveEntries
 pub mod Listing
+pub mod NonzeroOctets
 pub mod OperationCounts
 pub mod OctetBatch
 pub mod Peeled

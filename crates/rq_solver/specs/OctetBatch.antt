@@ -1,5 +1,5 @@
 -- HDPC rows whose octets are cleared in the pivots' columns, all of them together.
-use Rattle.std.specs.Prelude.{◌≡◌, ◌≢◌, ℕ, ◌+◌, ◌-◌, ◌*◌, ◌^◌, ◌<◌, ◌≤◌, ◌==◌, if◌then◌else◌, nat_lt, List, length}
+use Rattle.std.specs.Prelude.{◌≡◌, ◌≢◌, ℕ, ◌+◌, ◌-◌, ◌*◌, ◌%◌, ◌^◌, ◌<◌, ◌≤◌, ◌==◌, if◌then◌else◌, nat_lt, List, length}
 use Rattle.rq_algebra.specs.Systems.{at, sum_below}
 use Rattle.rq_algebra.specs.Operations.{Operation}
 use Rattle.rq_standard.specs.OctetField.{octets}
@@ -17,9 +17,10 @@ pub record Batch : Type 0 where
   pub table : OctetTable
   pub factors : List ℕ
 
--- each row has a factor, and there may be more
+-- each row has a factor, and there may be more, which fill whole vectors
 pub record IsBatch (batch : Batch) : Type 0 where
   pub count : length batch.table.rows ≤ length batch.factors
+  pub whole : length batch.factors % 32 ≡ 0
   pub octets : HasOctets batch.table
 
 -- what row i of them has in column k

@@ -12,8 +12,8 @@ mod own_octets;
 mod packed_bits;
 
 use super::elimination::OctetRows;
-pub(super) use octet_row::next_octet;
-use octet_row::{EntryRow, count_octets};
+pub(super) use octet_row::{next_in_vectors, nonzero_after_first};
+use octet_row::{EntryRow, count_octets, next_octet};
 use own_octets::OwnOctets;
 use packed_bits::{LANES, bit, bits_from, count_ones, next_one, set_bits};
 use rq_bytes::error::Error;

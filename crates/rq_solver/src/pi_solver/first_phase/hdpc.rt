@@ -10,7 +10,7 @@ ghost use Rattle.rq_solver.specs.OctetBatch.{batch_bound, octet_in, AreOctetsIn,
 ghost use Rattle.rq_solver.specs.Peeled.{IsOrderOf};
 ghost use Rattle.rq_solver.specs.RowSteps.{AreRows};
 
-use super::super::entries::next_octet;
+use super::super::entries::{next_in_vectors, nonzero_after_first};
 use super::super::peeling::Peeling;
 use super::super::recorded::RecordedRows;
 use super::octet_batch::OctetBatch;
@@ -181,13 +181,14 @@ fn add_first_row(
         return Ok(());
     }
     batch.read_column(column, beside);
-    let mut from = 1;
-    while let Some((row, octet)) = next_octet(beside, from, batch.height()) {
+    let mut last = 0;
+    let mut rest = nonzero_after_first(beside);
+    while let Some((row, octet)) = next_in_vectors(beside, last, batch.height(), &mut rest) {
         let scalar = &octet / &lead;
         let factor = scalar.byte();
         batch.add_first(row, factor);
         recorded.add_row(first_hdpc + row, first_hdpc, scalar)?;
-        from = row + 1;
+        last = row;
     }
     if lead.byte() != 1 {
         let scalar = Octet::one() / lead;

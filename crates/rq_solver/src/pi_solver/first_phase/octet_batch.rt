@@ -1,5 +1,5 @@
 //! The octets of HDPC rows that are cleared together.
-ghost use Rattle.std.specs.Prelude.{◌≡◌, ℕ, ◌^◌, ◌<◌, ◌≤◌, length, IfOk, IfErr};
+ghost use Rattle.std.specs.Prelude.{◌≡◌, ℕ, ◌%◌, ◌^◌, ◌<◌, ◌≤◌, length, IfOk, IfErr};
 ghost use Rattle.rq_algebra.specs.Steps.{AddsRow, ScalesRow};
 ghost use Rattle.rq_algebra.specs.Systems.{at};
 ghost use Rattle.rq_bytes.specs.declared.error.Error.TheVariants.{OutOfMemory};
@@ -88,6 +88,8 @@ impl OctetBatch {
         requires lanes { length beside.old ≡ length self.now.factors }
         ensures beside { AreBeside self.now column 1 beside.new }
         ensures lanes { length beside.new ≡ length beside.old }
+        ensures count { length self.now.table.rows ≤ length beside.new }
+        ensures whole { length beside.new % 32 ≡ 0 }
         ensures octets { HasOctets self.now.table }
     {
         copy_column(&self.table, column, beside);

@@ -1,5 +1,5 @@
 -- What the check leaves to show of `pi_solver::fourth_phase::take_reduced_rows`.
-use Rattle.std.proofs.Common.{ℕ, sym, ap, ◌∙◌, arith}
+use Rattle.std.proofs.Common.{ℕ, sym, ap, arith}
 use Rattle.rq_parts.specs.DenseOctetMatrix.{entry_of}
 use Rattle.rq_solver.proofs.ReducedTurns.{reduced_none}
 use Rattle.rq_solver.proofs.ReducedWords.{reduced_join, reduced_same}

@@ -1,5 +1,5 @@
 -- What the check leaves to show of `pi_solver::reduced::take_bits`.
-use Rattle.std.proofs.Common.{◌+◌, ◌-◌, ◌<◌, arith, w64}
+use Rattle.std.proofs.Common.{◌+◌, ◌-◌, arith, w64}
 use Rattle.std.specs.Prelude.{bit_and}
 use Rattle.std.specs.Int.{trailing_zeros}
 use Rattle.rq_solver.proofs.ReducedWords.{clears_lowest, lowest_inside, takes_all, takes_few, takes_lowest, takes_none}

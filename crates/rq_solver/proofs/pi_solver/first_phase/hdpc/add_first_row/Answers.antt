@@ -19,14 +19,16 @@ returns-then-byte-eq0-clause-alone c = λ some. absurd (some (sym c.get-lead.ens
 
 pub loop-row-init : goal.loop-row-init
 loop-row-init c = record {
-  from = omega arith;
   within = omega arith;
   few = omega arith;
   table = refl;
   lead = sym c.get-lead.ensures;
-  cleared = λ i some l. absurd (omega arith);
+  cleared = λ i some l. absurd (omega (arith, some, l));
   lanes = c.read_column.ensures.lanes ∙ c.requires.lanes;
   beside = c.read_column.ensures.beside;
+  count = c.read_column.ensures.count;
+  whole = c.read_column.ensures.whole;
+  rest = c.nonzero_after_first-rest.ensures;
   combined = combines_none c.args.first_hdpc (length c.args.batch.now.table.rows) c.args.batch.now.table.width (octets_from c.args.column (octet_in c.args.batch.now)) c.args.recorded.now c.requires.rows.octets;
 }
 
@@ -34,7 +36,7 @@ pub loop-row-preserved : goal.loop-row-preserved
 loop-row-preserved c =
     let start = c.args.batch.now in
     let was = c.loop-row.batch in
-    let from = c.loop-row.from in
+    let from = c.loop-row.last + 1 in
     let row = c.in-Some.row in
     let column = c.args.column in
     let first = c.args.first_hdpc in
@@ -43,8 +45,7 @@ loop-row-preserved c =
     let count = length start.table.rows in
     let width = start.table.width in
     let same : was.table ≡ start.table = v.table in
-    let next = c.in-Some.ensures in
-    let some_row : 0 < from = v.from in
+    let next = c.in-Some.ensures.next in
     let behind : from ≤ row = next.0.0 in
     let in_was : row < length was.table.rows = rw c.height.ensures.height at next.0.1 in
     let in_rows : row < count = rw same at in_was in
@@ -59,19 +60,21 @@ loop-row-preserved c =
     let is_octet : octet_in was row column < 256 = elements_beside start was same elements row column in_rows in_width in
     let zero : octet_in now row column ≡ 0 = added.at_dest column in_width ∙ rw (v.lead, c.div-scalar.ensures, read) (plus_quotient_times (octet_in was row column) lead is_octet small nonzero) in
     let before : (i : ℕ) → 0 < i → i < row → octet_in was i column ≡ 0 = (λ (i : ℕ) (some : 0 < i) (l : i < row). elim (cases_lt i from) [
-      | inl below ↦ v.cleared i some below
+      | inl below ↦ v.cleared i some (omega arith)
       | inr from_on ↦ sym (v.beside i from_on (omega (arith, l, in_was))) ∙ next.0.3 i from_on l
     ]) in
     record {
-      from = omega arith;
-      within = omega (arith, in_rows);
-      few = (let more = c.in_ok-add_row.ensures.counted in let so_far = v.few in omega (arith, more, so_far, behind, some_row));
+      within = in_rows;
+      few = (let more = c.in_ok-add_row.ensures.counted in let so_far = v.few in omega (arith, more, so_far, behind));
       table = c.add_first.ensures.table ∙ same;
-      lead = added.elsewhere 0 column (omega (arith, in_rows)) in_width (λ e. omega (arith, e, behind, some_row)) ∙ v.lead;
+      lead = added.elsewhere 0 column (omega (arith, in_rows)) in_width (λ e. omega (arith, e, behind)) ∙ v.lead;
       cleared = λ i some l. elim (cases_eq i row) [ inl e ↦ rw e zero | inr d ↦ added.elsewhere i column (omega (arith, l, in_rows)) in_width d ∙ before i some (omega (arith, l, d)) ];
       lanes = v.lanes ∙ sym c.add_first.ensures.lanes;
       beside = λ i after l. let in_old : i < length was.table.rows = rw c.add_first.ensures.table at l in
           v.beside i (omega (arith, behind, after)) in_old ∙ sym (added.elsewhere i column (rw same at in_old) in_width (λ e. omega (arith, e, after)));
+      count = v.count;
+      whole = v.whole;
+      rest = c.in-Some.ensures.rest;
       combined = combines_more first count width (octets_from column (octet_in start)) (octets_from column (octet_in was)) (octets_from column (octet_in now)) c.args.recorded.now c.loop-row.recorded c.add_row.new.self v.combined
           (combines_sum first count width (octets_from column (octet_in was)) (octets_from column (octet_in now)) c.loop-row.recorded c.add_row.new.self
           (from_elements column (octet_in was) count width (elements_beside start was same elements))
@@ -102,7 +105,7 @@ returns-in_ok-multiply_row-clause-alone c = λ some.
       one = scaled.at_dest column c.requires.column ∙ rw (v.lead, c.div-scalar-then-byte-ne1.ensures, c.one.ensures) (quotient_times 1 lead (lit< tt) small nonzero);
       zeros = λ i first l.
           let in_rows : i < length start.table.rows = rw (c.multiply_first.ensures.table ∙ same) at l in
-          scaled.elsewhere i column in_rows c.requires.column (λ e. omega (arith, e, first)) ∙ (elim (cases_lt i c.loop-row.from) [ inl below ↦ v.cleared i first below | inr from_on ↦ let in_was : i < length was.table.rows = rw same in_rows in sym (v.beside i from_on in_was) ∙ c.in_default.ensures i from_on (rw c.height.ensures.height in_was) ]);
+          scaled.elsewhere i column in_rows c.requires.column (λ e. omega (arith, e, first)) ∙ (elim (cases_lt i (c.loop-row.last + 1)) [ inl below ↦ v.cleared i first (omega arith) | inr from_on ↦ let in_was : i < length was.table.rows = rw same in_rows in sym (v.beside i from_on in_was) ∙ c.in_default.ensures.next i from_on (rw c.height.ensures.height in_was) ]);
     }
 
 pub returns-in_ok-multiply_row-clause-added : goal.returns-in_ok-multiply_row-clause-added
@@ -133,11 +136,8 @@ returns-else-byte-ne1-clause-alone c = λ some.
     let v = c.loop-row.invariant in
     record {
       one = v.lead ∙ sym c.byte-2.ensures ∙ c.if-byte-ne1.false;
-      zeros = λ i first l. elim (cases_lt i c.loop-row.from) [ inl below ↦ v.cleared i first below | inr from_on ↦ sym (v.beside i from_on l) ∙ c.in_default.ensures i from_on (rw c.height.ensures.height l) ];
+      zeros = λ i first l. elim (cases_lt i (c.loop-row.last + 1)) [ inl below ↦ v.cleared i first (omega arith) | inr from_on ↦ sym (v.beside i from_on l) ∙ c.in_default.ensures.next i from_on (rw c.height.ensures.height l) ];
     }
-
-pub next_octet-requires : goal.next_octet-requires
-next_octet-requires c = let lanes = c.loop-row.invariant.lanes in omega (arith, lanes, c.height.ensures.lanes)
 
 pub returns-in_err-add_row-clause-lanes : goal.returns-in_err-add_row-clause-lanes
 returns-in_err-add_row-clause-lanes c = c.loop-row.invariant.lanes ∙ sym c.add_first.ensures.lanes

@@ -1,0 +1,17 @@
+-- Octets that aren't 0.
+use Rattle.std.specs.Prelude.{◌≡◌, ℕ, ◌+◌, ◌-◌, ◌%◌, ◌<◌, ◌≤◌, ◌==◌, if◌then◌else◌, List, slice_index}
+use Rattle.std.specs.Int.{bit_at}
+
+-- 1 for what isn't 0
+abbrev pub nonzero : ℕ → ℕ
+nonzero octet = if octet == 0 then 0 else 1
+
+-- the ones of a word are the octets that aren't 0, in the vector of 32 that begins at `start`, after a place
+pub record HasOnes (octets : List ℕ) (start place ones : ℕ) : Type 0 where
+  pub behind : (k : ℕ) → start + k ≤ place → bit_at ones k ≡ 0
+  pub ahead : (k : ℕ) → place < start + k → k < 32 → bit_at ones k ≡ nonzero (slice_index octets (start + k))
+  pub beyond : (k : ℕ) → 32 ≤ k → bit_at ones k ≡ 0
+
+-- the same in the vector in which that place is
+abbrev pub HasOnesAfter : List ℕ → ℕ → ℕ → Type 0
+HasOnesAfter octets place ones = HasOnes octets (place - place % 32) place ones
