@@ -1,5 +1,5 @@
 -- A row takes the reduced rows for which a word has ones, the lowest first.
-use Rattle.std.proofs.Common.{◌≡◌, ◌≢◌, ℕ, ◌+◌, ◌-◌, ◌*◌, ◌%◌, ◌/◌, ◌^◌, ◌<◌, ◌≤◌, List, [], ◌∷◌, ◌++◌, min, sym, ap, ◌∙◌, arith, inl, inr, w64, lit<}
+use Rattle.std.proofs.Common.{◌≡◌, ◌≢◌, ℕ, ◌+◌, ◌-◌, ◌*◌, ◌%◌, ◌/◌, ◌^◌, ◌<◌, ◌≤◌, List, [], ◌∷◌, ◌++◌, length, min, sym, ap, ◌∙◌, arith, inl, inr, w64, lit<}
 use Rattle.std.specs.Prelude.{bit_and}
 use Rattle.std.specs.Int.{bit_at, trailing_zeros}
 use Rattle.std.proofs.Math.Pow.{pow-lt}
@@ -13,9 +13,10 @@ use Rattle.rq_standard.specs.OctetField.{octets}
 use Rattle.rq_solver.specs.Cleared.{AreUnits, TakesReduced}
 use Rattle.rq_solver.specs.OperationCounts.{additions}
 use Rattle.rq_solver.specs.Recorded.{Recorded, Records, sum_step}
-use Rattle.rq_solver.specs.RowSteps.{rows_after}
+use Rattle.rq_parts.specs.DenseOctetMatrix.{OctetTable}
+use Rattle.rq_solver.specs.RowSteps.{AreRows, rows_after}
 use Rattle.rq_solver.proofs.Performing.{records_more}
-use Rattle.rq_solver.proofs.PivotTurns.{if_apart}
+use Rattle.rq_solver.proofs.PivotTurns.{if_same, if_apart}
 use Rattle.rq_solver.proofs.StepColumns.{rows_after-next}
 use Rattle.rq_solver.proofs.ReducedTurns.{reduced_none, reduced_next, reduced_zeros}
 
@@ -80,69 +81,61 @@ clears_lowest word some fits =
 -- ---- the rows that are taken
 
 -- The reduced rows before a place are taken for which a word has ones, and the rest of the word has those from that place on.
-pub record TakesOnes (reduced : List ℕ) (row from end word rest : ℕ) (old new : Recorded) : Type 0 where
+pub record TakesOnes (reduced : List ℕ) (row end word rest : ℕ) (old new : Recorded) : Type 0 where
   pub place : ℕ
-  pub after : from ≤ place
   pub before : place ≤ end
-  pub behind : (k : ℕ) → from + k < place → bit_at rest k ≡ 0
-  pub ahead : (k : ℕ) → place ≤ from + k → from + k < end → bit_at rest k ≡ bit_at word k
-  pub beyond : (k : ℕ) → end ≤ from + k → bit_at rest k ≡ 0
-  pub taken : TakesReduced reduced row from end place (λ f. bit_at word (f - from)) old new
-  pub few : additions new.operations ≤ additions old.operations + (place - from)
+  pub behind : (k : ℕ) → k < place → bit_at rest k ≡ 0
+  pub ahead : (k : ℕ) → place ≤ k → k < end → bit_at rest k ≡ bit_at word k
+  pub beyond : (k : ℕ) → end ≤ k → bit_at rest k ≡ 0
+  pub taken : TakesReduced reduced row 0 end place (bit_at word) old new
+  pub few : additions new.operations ≤ additions old.operations + place
 
-module _ (reduced : List ℕ) (row from end word : ℕ) (old : Recorded) where
-  pub takes_none : from < end → end ≤ from + 64 → TakesOnes reduced row from end word (low_bits word (end - from)) old old
-  takes_none some within = record {
-    place = from;
-    after = omega arith;
+module _ (reduced : List ℕ) (row end word : ℕ) (old : Recorded) where
+  pub takes_none : end ≤ 64 → TakesOnes reduced row end word (low_bits word end) old old
+  takes_none within = record {
+    place = 0;
     before = omega arith;
     behind = λ k l. absurd (omega arith);
-    ahead = λ k l m. low-same word (end - from) (omega arith) k (omega arith);
-    beyond = λ k l. low-none word (end - from) (omega arith) k (omega arith);
-    taken = reduced_none reduced row from end (λ f. bit_at word (f - from)) old;
+    ahead = λ k l m. low-same word end within k m;
+    beyond = λ k l. low-none word end within k l;
+    taken = reduced_none reduced row 0 end (bit_at word) old;
     few = omega arith;
   }
 
-  module _ (rest : ℕ) (cur : Recorded) (v : TakesOnes reduced row from end word rest old cur) where
-    entry_of_rest : (f : ℕ) → v.place ≤ f → f < end → bit_at word (f - from) ≡ bit_at rest (f - from)
-    entry_of_rest f l m = let back : from + (f - from) ≡ f = (let after = v.after in omega arith) in sym (v.ahead (f - from) (rw back l) (rw back m))
-
+  module _ (rest : ℕ) (cur : Recorded) (v : TakesOnes reduced row end word rest old cur) where
     module _ (lowest less : ℕ) (clears : ClearsLowest rest lowest less) where
-      lowest_after : v.place ≤ from + lowest
-      lowest_after = elim (cases_lt (from + lowest) v.place) [
+      lowest_after : v.place ≤ lowest
+      lowest_after = elim (cases_lt lowest v.place) [
         | inl early ↦ let zero = v.behind lowest early in let one = clears.one in absurd (omega (arith, zero, one))
         | inr late ↦ late
       ]
 
-      pub lowest_inside : from + lowest < end
-      lowest_inside = elim (cases_lt (from + lowest) end) [
+      pub lowest_inside : lowest < end
+      lowest_inside = elim (cases_lt lowest end) [
         | inl inside ↦ inside
         | inr past ↦ let zero = v.beyond lowest past in let one = clears.one in absurd (omega (arith, zero, one))
       ]
 
-      pub takes_lowest : row ≢ at reduced (from + lowest) → (new : Recorded) → Records (sum_step row (at reduced (from + lowest)) 1 ∷ []) cur new → additions new.operations ≡ additions cur.operations + 1 → TakesOnes reduced row from end word less old new
+      pub takes_lowest : row ≢ at reduced lowest → (new : Recorded) → Records (sum_step row (at reduced lowest) 1 ∷ []) cur new → additions new.operations ≡ additions cur.operations + 1 → TakesOnes reduced row end word less old new
       takes_lowest apart new records counted =
-          let after = v.after in
           let late = lowest_after in
           let inside = lowest_inside in
-          let here : from + lowest - from ≡ lowest = omega arith in
-          let one : 1 ≡ bit_at word (from + lowest - from) = sym (entry_of_rest (from + lowest) late inside ∙ ap (bit_at rest) here ∙ clears.one) in
+          let one : 1 ≡ bit_at word lowest = sym (sym (v.ahead lowest late inside) ∙ clears.one) in
           record {
-            place = from + lowest + 1;
-            after = omega arith;
-            before = omega arith;
+            place = lowest + 1;
+            before = omega (arith, inside);
             behind = λ k l. clears.cleared k (omega arith);
-            ahead = λ k l m. clears.kept k (omega arith) ∙ v.ahead k (omega arith) m;
-            beyond = λ k l. clears.kept k (omega arith) ∙ v.beyond k l;
-            taken = reduced_next reduced row from end (λ f. bit_at word (f - from)) v.place (from + lowest) (omega arith) late inside old cur v.taken
-                (λ f l m. entry_of_rest f l (omega arith) ∙ clears.zeros (f - from) (omega arith)) apart 1 (lit< tt) one new records;
-            few = let so_far = v.few in omega (arith, counted, so_far, late, after);
+            ahead = λ k l m. clears.kept k (omega arith) ∙ v.ahead k (omega (arith, late, l)) m;
+            beyond = λ k l. clears.kept k (omega (arith, inside, l)) ∙ v.beyond k l;
+            taken = reduced_next reduced row 0 end (bit_at word) v.place lowest (omega arith) late inside old cur v.taken
+                (λ f l m. sym (v.ahead f l (omega (arith, m, inside))) ∙ clears.zeros f m) apart 1 (lit< tt) one new records;
+            few = let so_far = v.few in omega (arith, counted, so_far, late);
           }
 
-    pub takes_all : rest ≡ 0 → TakesReduced reduced row from end end (λ f. bit_at word (f - from)) old cur
-    takes_all none = reduced_zeros reduced row from end (λ f. bit_at word (f - from)) v.place end old cur v.taken v.before (λ f l m. entry_of_rest f l m ∙ ap (λ n. bit_at n (f - from)) none ∙ bit_at-zero (f - from))
+    pub takes_all : rest ≡ 0 → TakesReduced reduced row 0 end end (bit_at word) old cur
+    takes_all none = reduced_zeros reduced row 0 end (bit_at word) v.place end old cur v.taken v.before (λ f l m. sym (v.ahead f l m) ∙ ap (λ n. bit_at n f) none ∙ bit_at-zero f)
 
-    pub takes_few : additions cur.operations ≤ additions old.operations + (end - from)
+    pub takes_few : additions cur.operations ≤ additions old.operations + end
     takes_few = let so_far = v.few in let before = v.before in omega (arith, so_far, before)
 
 -- ---- words of rows one after another
@@ -183,4 +176,36 @@ module _ (reduced : List ℕ) (row start count : ℕ) (entries : ℕ → ℕ) wh
     kept = v.kept;
     cleared = λ m column units shown. v.cleared m column units (λ f l n. shown f l n ∙ same f l n);
     rest = v.rest;
+  }
+
+-- some of the rows that follow each other, in a list of their own
+module _ (reduced some : List ℕ) (row from count : ℕ) (same : (k : ℕ) → k < count → at some k ≡ at reduced (from + k)) (entries : ℕ → ℕ) where
+  pub reduced_part : (old new : Recorded) → TakesReduced some row 0 count count (λ f. entries (from + f)) old new → TakesReduced reduced row from (from + count) (from + count) entries old new
+  reduced_part old new v =
+      let unit = λ (m : ℕ → ℕ → ℕ) (column : ℕ → ℕ) (units : AreUnits reduced from (from + count) column m) (s g : ℕ) (first : 0 ≤ s) (l : s < count) (n : g < count). ap (λ r. m r (column (from + g))) (same s l)
+      ∙ units (from + s) (from + g) (omega arith) (omega arith) (omega arith)
+      ∙ elim (cases_eq s g) [
+        | inl e ↦ if_same (from + s) (from + g) 1 0 (omega (arith, e)) ∙ sym (if_same s g 1 0 e)
+        | inr d ↦ if_apart (from + s) (from + g) 1 0 (λ e. d (omega (arith, e))) ∙ sym (if_apart s g 1 0 d)
+      ] in
+      record {
+        steps = v.steps;
+        records = v.records;
+        elsewhere = v.elsewhere;
+        kept = λ m k zeros. v.kept m k (λ s first l. ap (λ r. m r k) (same s l) ∙ zeros (from + s) (omega arith) (omega arith));
+        cleared = λ m column units shown f first l n.
+            let back : from + (f - from) ≡ f = omega arith in
+            ap (λ g. rows_after octets v.steps m row (column g)) (sym back)
+            ∙ v.cleared m (λ g. column (from + g)) (unit m column units) (λ g o p. shown (from + g) (omega arith) (omega arith)) (f - from) (omega arith) (omega arith) (omega arith);
+        rest = λ m column units f l n. absurd (omega (arith, l, n));
+      }
+
+  pub rows_part : (table : OctetTable) → from + count ≤ length reduced → length some ≡ count → AreRows reduced table → AreRows some table
+  rows_part table within long are = record {
+    below = λ i l. let inside : i < count = omega (arith, l, long) in rw (same i inside) (are.below (from + i) (omega (arith, inside, within)));
+    apart = λ i j l n e.
+        let in_i : i < count = omega (arith, l, long) in
+        let in_j : j < count = omega (arith, n, long) in
+        let both = are.apart (from + i) (from + j) (omega (arith, in_i, within)) (omega (arith, in_j, within)) (sym (same i in_i) ∙ e ∙ same j in_j) in
+        omega (arith, both);
   }

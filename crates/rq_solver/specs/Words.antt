@@ -1,7 +1,7 @@
 -- Words of bits.
-use Rattle.std.specs.Prelude.{◌≡◌, ℕ, ◌+◌, ◌%◌, ◌<◌}
+use Rattle.std.specs.Prelude.{◌≡◌, ℕ, ◌+◌, ◌*◌, ◌<◌}
 use Rattle.std.specs.Int.{bit_at}
 
--- the bits of a word are what there is from a place on and before another, as far as the word of that place goes
-abbrev pub AreBitsFrom : (ℕ → ℕ) → ℕ → ℕ → ℕ → Type 0
-AreBitsFrom entry from end bits = (k : ℕ) → from % 64 + k < 64 → from + k < end → bit_at bits k ≡ entry (from + k)
+-- the bits of a word are what there is in its columns, 64 of them, that come before an end
+abbrev pub AreBitsOfWord : (ℕ → ℕ) → ℕ → ℕ → ℕ → Type 0
+AreBitsOfWord entry word end bits = (k : ℕ) → k < 64 → 64 * word + k < end → bit_at bits k ≡ entry (64 * word + k)

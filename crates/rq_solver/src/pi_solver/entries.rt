@@ -1,10 +1,10 @@
 //! What rows have in the inactive columns.
-ghost use Rattle.std.specs.Prelude.{◌≡◌, ◌≢◌, ℕ, ◌+◌, ◌%◌, ◌^◌, ◌<◌, ◌≤◌, All, length, replicate, IfSome, IfOk, OnOk, IfErr, OnErr};
+ghost use Rattle.std.specs.Prelude.{◌≡◌, ◌≢◌, ℕ, ◌+◌, ◌*◌, ◌%◌, ◌^◌, ◌<◌, ◌≤◌, All, length, replicate, IfSome, IfOk, OnOk, IfErr, OnErr};
 ghost use Rattle.rq_bytes.specs.declared.error.Error.TheVariants.{OutOfMemory};
 ghost use Rattle.rq_parts.specs.DenseOctetMatrix.{entry_of, HasOctets, IsOctetRow, row_at, with_row};
 ghost use Rattle.rq_solver.specs.EntryRow.{HasWidth, octets_of};
 ghost use Rattle.rq_solver.specs.InactiveEntries.{IsNextOctet, with_octets, with_ones};
-ghost use Rattle.rq_solver.specs.Words.{AreBitsFrom};
+ghost use Rattle.rq_solver.specs.Words.{AreBitsOfWord};
 ghost use Rattle.rq_standard.specs.Rows.{row_sum, row_multiple};
 
 mod octet_row;
@@ -15,7 +15,7 @@ use super::elimination::OctetRows;
 pub(super) use octet_row::{next_in_vectors, nonzero_after_first};
 use octet_row::{EntryRow, count_octets, next_octet};
 use own_octets::OwnOctets;
-use packed_bits::{LANES, bit, bits_from, count_ones, next_one, set_bits};
+use packed_bits::{LANES, bit, count_ones, next_one, set_bits};
 use rq_bytes::error::Error;
 use rq_bytes::octet::Octet;
 use rq_bytes::symbol_slab::SymbolSlab;
@@ -134,17 +134,17 @@ impl InactiveEntries {
         }
     }
 
-    /// What a row has from a column on, to the end of a word, as its bits, the first lowest. `None`
-    /// where the row has octets of its own.
+    /// What a row has in the columns of a word, 64 of them, as its bits, the first lowest. `None` where
+    /// the row has octets of its own.
     #[inline(always)]
-    pub(super) fn bits_from(&self, row: usize, from: usize) -> Option<u64>
+    pub(super) fn word_of(&self, row: usize, word: usize) -> Option<u64>
         requires row { row < length self.now.rows }
-        requires from { from < self.now.width }
-        ensures { IfSome result (AreBitsFrom (entry_of self.now row) from self.now.width) }
+        requires word { 64 * word < self.now.width }
+        ensures { IfSome result (AreBitsOfWord (entry_of self.now row) word self.now.width) }
     {
         match self.row(row) {
             EntryRow::Octets(_) => None,
-            EntryRow::Bits(bits) => Some(bits_from(bits, from)),
+            EntryRow::Bits(bits) => Some(packed_bits::word(bits, word)),
         }
     }
 

@@ -1,19 +1,19 @@
 //! The fourth phase: the pivots' rows get zeros in the inactive columns (RFC 6330, section 5.4.2.5).
-ghost use Rattle.std.specs.Prelude.{◌≡◌, ◌≢◌, ℕ, ◌+◌, ◌-◌, ◌*◌, ◌%◌, ◌<◌, ◌≤◌, true, false, length, slice_index_or, IsTrue, IfOk, OnOk, IfErr};
+ghost use Rattle.std.specs.Prelude.{◌≡◌, ◌≢◌, ℕ, ◌+◌, ◌*◌, ◌<◌, ◌≤◌, true, false, length, slice_index_or, IsTrue, IfOk, OnOk, IfErr};
 ghost use Rattle.rq_algebra.specs.Systems.{at};
 ghost use Rattle.rq_bytes.specs.declared.error.Error.TheVariants.{OutOfMemory};
 ghost use Rattle.rq_solver.specs.Recorded.{AddsAtMost};
-ghost use Rattle.rq_solver.specs.Cleared.{FinishesPivots, PeelsRows, RecordsPivots, TakesBack, TakesReduced};
+ghost use Rattle.rq_solver.specs.Cleared.{FinishesPivots, PeelsRows, RecordsPivots, TakesBack};
 ghost use Rattle.rq_solver.specs.OperationCounts.{additions};
 ghost use Rattle.rq_solver.specs.Peeled.{ones_of};
 ghost use Rattle.rq_solver.specs.RowSteps.{AreRows};
-ghost use Rattle.rq_parts.specs.DenseOctetMatrix.{entry_of, HasOctets};
+ghost use Rattle.rq_parts.specs.DenseOctetMatrix.{HasOctets};
 
 use super::first_phase::take_pivots;
 use super::ones::RowOnes;
 use super::peeling::Peeling;
 use super::recorded::RecordedRows;
-use super::reduced::{end_of_word, take_bits};
+use super::reduced::take_reduced_rows;
 use rq_bytes::error::Error;
 use rq_bytes::octet::Octet;
 
@@ -165,88 +165,6 @@ fn record_pivots(
         if place < peeling.pivots() && peeling.row_of(place) != row {
             recorded.record_sum(row, peeling.row_of(place), Octet::one())?;
         }
-    }
-    Ok(())
-}
-
-// Adds to a row multiples of reduced rows, so that it gets 0 in their inactive columns. What it has
-// there is not read again, and stays stored.
-#[inline(always)]
-fn take_reduced_rows(
-    row: usize,
-    reduced: &[usize],
-    inactive: usize,
-    recorded: &mut RecordedRows,
-) -> Result<(), Error>
-    requires row { row < length recorded.old.table.rows }
-    requires reduced { AreRows reduced.now recorded.old.table }
-    requires many { inactive ≤ length reduced.now }
-    requires apart { (f : ℕ) → f < length reduced.now → row ≢ at reduced.now f }
-    requires width { inactive ≤ recorded.old.table.width }
-    requires octets { HasOctets recorded.old.table }
-    ensures taken { OnOk result (TakesReduced reduced.now row 0 inactive inactive (entry_of recorded.old.table row) recorded.old recorded.new) }
-    ensures few { OnOk result (AddsAtMost inactive recorded.old recorded.new) }
-    ensures err { IfErr result (λ e. e ≡ OutOfMemory) }
-{
-    let mut from = 0;
-    while from < inactive {
-        let end = end_of_word(from, inactive);
-        take_word(row, reduced, from, end, recorded)?;
-        from = end;
-    }
-    Ok(())
-}
-
-// The same for the columns from one on and before another, which share a word.
-#[inline(always)]
-fn take_word(
-    row: usize,
-    reduced: &[usize],
-    from: usize,
-    end: usize,
-    recorded: &mut RecordedRows,
-) -> Result<(), Error>
-    requires row { row < length recorded.old.table.rows }
-    requires reduced { AreRows reduced.now recorded.old.table }
-    requires some { from < end }
-    requires word { from % 64 + (end - from) ≤ 64 }
-    requires many { end ≤ length reduced.now }
-    requires apart { (f : ℕ) → f < length reduced.now → row ≢ at reduced.now f }
-    requires width { end ≤ recorded.old.table.width }
-    requires octets { HasOctets recorded.old.table }
-    ensures taken { OnOk result (TakesReduced reduced.now row from end end (entry_of recorded.old.table row) recorded.old recorded.new) }
-    ensures few { OnOk result (AddsAtMost (end - from) recorded.old recorded.new) }
-    ensures err { IfErr result (λ e. e ≡ OutOfMemory) }
-{
-    match recorded.bits_from(row, from) {
-        Some(bits) => take_bits(row, reduced, from, end, bits, recorded),
-        None => take_octets(row, reduced, from, end, recorded),
-    }
-}
-
-// The same for columns that follow each other, one that isn't 0 after another.
-fn take_octets(
-    row: usize,
-    reduced: &[usize],
-    start: usize,
-    end: usize,
-    recorded: &mut RecordedRows,
-) -> Result<(), Error>
-    requires row { row < length recorded.old.table.rows }
-    requires reduced { AreRows reduced.now recorded.old.table }
-    requires order { start ≤ end }
-    requires many { end ≤ length reduced.now }
-    requires apart { (f : ℕ) → f < length reduced.now → row ≢ at reduced.now f }
-    requires width { end ≤ recorded.old.table.width }
-    requires octets { HasOctets recorded.old.table }
-    ensures taken { OnOk result (TakesReduced reduced.now row start end end (entry_of recorded.old.table row) recorded.old recorded.new) }
-    ensures few { OnOk result (AddsAtMost (end - start) recorded.old recorded.new) }
-    ensures err { IfErr result (λ e. e ≡ OutOfMemory) }
-{
-    let mut from = start;
-    while let Some((f, scalar)) = recorded.next_entry(row, from, end) {
-        recorded.record_sum(row, reduced[f], scalar)?;
-        from = f + 1;
     }
     Ok(())
 }

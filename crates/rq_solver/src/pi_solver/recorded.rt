@@ -1,5 +1,5 @@
 //! Rows that are worked on, with the operations that are recorded for them.
-ghost use Rattle.std.specs.Prelude.{◌≡◌, ◌≢◌, ◌+◌, ◌<◌, ◌≤◌, ◌^◌, ◌∷◌, [], length, IfSome, IfOk, OnOk, IfErr};
+ghost use Rattle.std.specs.Prelude.{◌≡◌, ◌≢◌, ◌+◌, ◌*◌, ◌<◌, ◌≤◌, ◌^◌, ◌∷◌, [], length, IfSome, IfOk, OnOk, IfErr};
 ghost use Rattle.rq_algebra.specs.Operations.{MulAssign};
 ghost use Rattle.rq_bytes.specs.declared.error.Error.TheVariants.{OutOfMemory};
 ghost use Rattle.rq_operations.specs.Steps.{operation_of_step};
@@ -7,7 +7,7 @@ ghost use Rattle.rq_parts.specs.DenseOctetMatrix.{entry_of, HasOctets};
 ghost use Rattle.rq_solver.specs.InactiveEntries.{IsNextOctet};
 ghost use Rattle.rq_solver.specs.OperationCounts.{additions};
 ghost use Rattle.rq_solver.specs.Recorded.{Performs, Records, sum_step};
-ghost use Rattle.rq_solver.specs.Words.{AreBitsFrom};
+ghost use Rattle.rq_solver.specs.Words.{AreBitsOfWord};
 ghost use Rattle.rq_standard.specs.OctetField.{octets};
 
 use super::counts::{OperationList, Phase};
@@ -86,15 +86,15 @@ impl RecordedRows {
         self.table.next_entry(row, from, end)
     }
 
-    /// What a row has from a column on, to the end of a word, as its bits, the first lowest. `None`
-    /// where the row has octets of its own.
+    /// What a row has in the columns of a word, 64 of them, as its bits, the first lowest. `None` where
+    /// the row has octets of its own.
     #[inline(always)]
-    pub(super) fn bits_from(&self, row: usize, from: usize) -> Option<u64>
+    pub(super) fn word_of(&self, row: usize, word: usize) -> Option<u64>
         requires row { row < length self.now.table.rows }
-        requires from { from < self.now.table.width }
-        ensures { IfSome result (AreBitsFrom (entry_of self.now.table row) from self.now.table.width) }
+        requires word { 64 * word < self.now.table.width }
+        ensures { IfSome result (AreBitsOfWord (entry_of self.now.table row) word self.now.table.width) }
     {
-        self.table.bits_from(row, from)
+        self.table.word_of(row, word)
     }
 
     /// How many of the first `count` entries of a row aren't 0, or of bits more, where later ones share

@@ -75,16 +75,6 @@ pub(super) fn next_one(bits: &[u8], from: usize, end: usize) -> Option<usize>
     None
 }
 
-/// The bits from a place on, to the end of its word, the first lowest.
-#[inline(always)]
-pub(super) fn bits_from(bits: &[u8], place: usize) -> u64
-    requires within { place < 8 * length bits.now }
-    requires whole { length bits.now % 8 ≡ 0 }
-    ensures { (k : ℕ) → place % 64 + k < 64 → bit_at result k ≡ bit_in bits.now (place + k) }
-{
-    word(bits, place / WORD_BITS) >> (place % WORD_BITS)
-}
-
 /// How many bits are set in the words with the first bits, `count` at most.
 pub(super) fn count_ones(bits: &[u8], count: usize) -> usize
     requires within { count ≤ 8 * length bits.now }
@@ -98,9 +88,9 @@ pub(super) fn count_ones(bits: &[u8], count: usize) -> usize
     found.min(count)
 }
 
-// A word of bits, so many words behind the first.
+/// A word of bits, so many words behind the first.
 #[inline(always)]
-fn word(bits: &[u8], block: usize) -> u64
+pub(super) fn word(bits: &[u8], block: usize) -> u64
     requires { 8 * block + 8 ≤ length bits.now }
     ensures { (k : ℕ) → k < 64 → bit_at result k ≡ bit_in bits.now (64 * block + k) }
 {

@@ -1,36 +1,35 @@
 -- What the check leaves to show of `pi_solver::reduced::take_bits`.
-use Rattle.std.proofs.Common.{◌+◌, ◌-◌, arith, w64}
+use Rattle.std.proofs.Common.{◌-◌, length, arith, w64}
 use Rattle.std.specs.Prelude.{bit_and}
 use Rattle.std.specs.Int.{trailing_zeros}
 use Rattle.rq_solver.proofs.ReducedWords.{clears_lowest, lowest_inside, takes_all, takes_few, takes_lowest, takes_none}
 use Rattle.rq_solver.proofs.pi_solver.reduced.take_bits.Goals as goal
 
 pub loop-rest-init : goal.loop-rest-init
-loop-rest-init c = takes_none c.args.reduced.now c.args.row c.args.from c.args.end c.args.bits c.args.recorded.now c.requires.some c.requires.word
+loop-rest-init c = takes_none c.args.reduced.now c.args.row (length c.args.reduced.now) c.args.bits c.args.recorded.now c.requires.few
 
 pub bounds-reduced-f : goal.bounds-reduced-f
 bounds-reduced-f c =
     let rest = c.loop-rest.rest in
-    let inside = lowest_inside c.args.reduced.now c.args.row c.args.from c.args.end c.args.bits c.args.recorded.now rest c.loop-rest.recorded c.loop-rest.invariant _ _ (clears_lowest rest c.loop-rest-test.true (omega arith)) in
-    omega (arith, inside, c.requires.many)
+    lowest_inside c.args.reduced.now c.args.row (length c.args.reduced.now) c.args.bits c.args.recorded.now rest c.loop-rest.recorded c.loop-rest.invariant _ _ (clears_lowest rest c.loop-rest-test.true (omega arith))
 
 pub record_sum-requires-clause-two : goal.record_sum-requires-clause-two
 record_sum-requires-clause-two c =
     let rest = c.loop-rest.rest in
-    let inside = lowest_inside c.args.reduced.now c.args.row c.args.from c.args.end c.args.bits c.args.recorded.now rest c.loop-rest.recorded c.loop-rest.invariant _ _ (clears_lowest rest c.loop-rest-test.true (omega arith)) in
-    c.requires.apart (c.args.from + trailing_zeros w64 rest) (omega arith) inside
+    c.requires.apart (trailing_zeros w64 rest) (lowest_inside c.args.reduced.now c.args.row (length c.args.reduced.now) c.args.bits c.args.recorded.now rest c.loop-rest.recorded c.loop-rest.invariant _ _ (clears_lowest rest c.loop-rest-test.true (omega arith)))
 
 pub loop-rest-preserved : goal.loop-rest-preserved
 loop-rest-preserved c =
     let rest = c.loop-rest.rest in
+    let end = length c.args.reduced.now in
     let v = c.loop-rest.invariant in
     let clears = clears_lowest rest c.loop-rest-test.true (omega arith) in
-    let inside = lowest_inside c.args.reduced.now c.args.row c.args.from c.args.end c.args.bits c.args.recorded.now rest c.loop-rest.recorded v _ _ clears in
-    takes_lowest c.args.reduced.now c.args.row c.args.from c.args.end c.args.bits c.args.recorded.now rest c.loop-rest.recorded v (trailing_zeros w64 rest) (bit_and rest (rest - 1)) clears
-    (c.requires.apart (c.args.from + trailing_zeros w64 rest) (omega arith) inside) c.record_sum.new.self (rw c.one.ensures at c.in_ok-record_sum.ensures.recorded) c.in_ok-record_sum.ensures.counted
+    let inside = lowest_inside c.args.reduced.now c.args.row end c.args.bits c.args.recorded.now rest c.loop-rest.recorded v _ _ clears in
+    takes_lowest c.args.reduced.now c.args.row end c.args.bits c.args.recorded.now rest c.loop-rest.recorded v (trailing_zeros w64 rest) (bit_and rest (rest - 1)) clears
+    (c.requires.apart (trailing_zeros w64 rest) inside) c.record_sum.new.self (rw c.one.ensures at c.in_ok-record_sum.ensures.recorded) c.in_ok-record_sum.ensures.counted
 
 pub returns-clause-taken : goal.returns-clause-taken
-returns-clause-taken c = takes_all c.args.reduced.now c.args.row c.args.from c.args.end c.args.bits c.args.recorded.now c.loop-rest.rest c.loop-rest.recorded c.loop-rest.invariant c.loop-rest-test.false
+returns-clause-taken c = takes_all c.args.reduced.now c.args.row (length c.args.reduced.now) c.args.bits c.args.recorded.now c.loop-rest.rest c.loop-rest.recorded c.loop-rest.invariant c.loop-rest-test.false
 
 pub returns-clause-few : goal.returns-clause-few
-returns-clause-few c = takes_few c.args.reduced.now c.args.row c.args.from c.args.end c.args.bits c.args.recorded.now c.loop-rest.rest c.loop-rest.recorded c.loop-rest.invariant
+returns-clause-few c = takes_few c.args.reduced.now c.args.row (length c.args.reduced.now) c.args.bits c.args.recorded.now c.loop-rest.rest c.loop-rest.recorded c.loop-rest.invariant

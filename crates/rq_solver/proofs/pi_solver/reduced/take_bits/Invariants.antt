@@ -1,9 +1,10 @@
 -- What the loop keeps in `pi_solver::reduced::take_bits`.
+use Rattle.std.proofs.Common.{length}
 use Rattle.rq_solver.proofs.ReducedWords.{TakesOnes}
 use Rattle.rq_solver.proofs.pi_solver.reduced.take_bits.Given as goal
 
 abbrev pub invariant-loop-rest : goal.invariant-loop-rest
-invariant-loop-rest l = TakesOnes l.reduced l.row l.from l.end l.bits l.rest l.fn.recorded l.recorded
+invariant-loop-rest l = TakesOnes l.reduced l.row (length l.reduced) l.bits l.rest l.fn.recorded l.recorded
 
 abbrev pub decreases-loop-rest : goal.decreases-loop-rest
 decreases-loop-rest l = l.rest
