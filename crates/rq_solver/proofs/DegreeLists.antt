@@ -1,14 +1,12 @@
 -- Rows that are listed by their degrees.
-use Rattle.std.proofs.Common.{◌≡◌, ◌≢◌, ℕ, ◌+◌, ◌-◌, ◌<◌, ◌≤◌, ◌==◌, cond, count_by, List, [], ◌∷◌, ◌++◌, All, length, set, take, sym, ap, ◌∙◌, subst, arith, inl, inr}
+use Rattle.std.proofs.Common.{◌≡◌, ℕ, ◌+◌, ◌-◌, ◌<◌, ◌==◌, cond, count_by, List, [], ◌∷◌, All, length, set, take, sym, ap, ◌∙◌, subst, arith, inl, inr}
 use Rattle.std.specs.List.{Contains}
 use Rattle.std.proofs.lemmas.Bool.{cases_eq}
 use Rattle.std.proofs.lemmas.Bool.Decides.{eqb_tells}
-use Rattle.std.proofs.lemmas.Grind.{same_number_lists}
-use Rattle.std.proofs.lemmas.List.{length-set, length-take-le, get_or-set_same, get_or-set_other, get_or-take, take_more}
-use Rattle.std.proofs.lemmas.List.Elements.{All-push, Contains-append_left, Contains-push_cases}
+use Rattle.std.proofs.lemmas.List.{length-set, length-take-le, get_or-set_same, get_or-set_other, get_or-take}
+use Rattle.std.proofs.lemmas.List.Elements.{All-push, Contains-append_left}
 use Rattle.rq_algebra.specs.Systems.{at}
-use Rattle.rq_solver.specs.Degrees.{AreCounted, AreListed, LowersRows, MayAdd}
-use Rattle.rq_solver.specs.Listing.{ListsMore}
+use Rattle.rq_solver.specs.Degrees.{AreListed, LowersRows, MayAdd}
 use Rattle.rq_solver.proofs.ColumnPlacing.{counted_more}
 
 -- what is listed stays listed
@@ -46,58 +44,11 @@ listed_set degrees singles pairs row degree are here =
           ];
     }
 
--- ---- lists with room behind their rows
-
--- more room leaves the listed rows as they are
-pub listed_kept : (old new : List ℕ) (count : ℕ) → ListsMore old new → count ≤ length old → take count new ≡ take count old
-listed_kept old new count more l =
-    let long = length-take-le count new (omega (arith, more.longer, l)) in
-    same_number_lists (take count new) (take count old) (long ∙ sym (length-take-le count old l)) (λ i m.
-    let inside : i < count = omega (arith, long, m) in
-    get_or-take count new i 0 inside ∙ more.same i (omega (arith, inside, l)) ∙ sym (get_or-take count old i 0 inside))
-
-pub counted_kept : (degrees singles new_singles pairs new_pairs : List ℕ) (single_count pair_count : ℕ) → AreCounted degrees singles single_count pairs pair_count → ListsMore singles new_singles → ListsMore pairs new_pairs
-    → AreCounted degrees new_singles single_count new_pairs pair_count
-counted_kept degrees singles new_singles pairs new_pairs single_count pair_count are more also = record {
-  singles_within = omega (arith, are.singles_within, more.longer);
-  pairs_within = omega (arith, are.pairs_within, also.longer);
-  listed = rw (listed_kept singles new_singles single_count more are.singles_within, listed_kept pairs new_pairs pair_count also are.pairs_within) are.listed;
-}
-
--- a row has another degree, and is listed if it is 1
-pub counted_set : (degrees singles new_singles pairs new_pairs : List ℕ) (single_count new_single_count pair_count new_pair_count row degree : ℕ) → AreCounted degrees singles single_count pairs pair_count → row < length degrees
-    → MayAdd row (take single_count singles) (take new_single_count new_singles) → MayAdd row (take pair_count pairs) (take new_pair_count new_pairs) → new_single_count ≤ length new_singles → new_pair_count ≤ length new_pairs
-    → (degree ≡ 1 → Contains (take new_single_count new_singles) row) → AreCounted (set degrees row degree) new_singles new_single_count new_pairs new_pair_count
-counted_set degrees singles new_singles pairs new_pairs single_count new_single_count pair_count new_pair_count row degree are l more also singles_within pairs_within here = record {
-  singles_within = singles_within;
-  pairs_within = pairs_within;
-  listed = listed_set degrees (take new_single_count new_singles) (take new_pair_count new_pairs) row degree
-      (listed_added degrees (take single_count singles) (take pair_count pairs) (take new_single_count new_singles) (take new_pair_count new_pairs) row are.listed l more also) here;
-}
-
--- a row that is listed
-pub listed_below : (bound count place : ℕ) (rows : List ℕ) → All (λ row. row < bound) (take count rows) → count ≤ length rows → place < count → at rows place < bound
-listed_below bound count place rows all within l = subst (λ (row : ℕ). row < bound) (get_or-take count rows place 0 l) (all place 0 (omega (arith, length-take-le count rows within, l)))
-
--- the last of the listed rows is listed no more, since it has another degree
-pub last_dropped : (degrees singles pairs : List ℕ) (less count pair_count : ℕ) → count ≡ less + 1 → AreCounted degrees singles count pairs pair_count → at degrees (at singles less) ≢ 1 → AreCounted degrees singles less pairs pair_count
-last_dropped degrees singles pairs less count pair_count is are other =
-    let inside : less < length singles = omega (arith, are.singles_within) in
-    let parts : take count singles ≡ take less singles ++ at singles less ∷ [] = ap (λ (n : ℕ). take n singles) is ∙ take_more singles less 0 inside in
-    record {
-      singles_within = omega (arith, inside);
-      pairs_within = are.pairs_within;
-      listed = record {
-        singles_below = λ i d l.
-            let i_in : i < less = omega (arith, length-take-le less singles (omega (arith, inside)), l) in
-            rw (get_or-take less singles i d i_in) (rw (get_or-take count singles i d (omega (arith, is, i_in))) at (are.listed.singles_below i d (omega (arith, length-take-le count singles are.singles_within, is, i_in))));
-        pairs_below = are.listed.pairs_below;
-        single = λ r l e. elim (Contains-push_cases (take less singles) (at singles less) r (subst (λ (rows : List ℕ). Contains rows r) parts (are.listed.single r l e))) [
-          | inl before ↦ before
-          | inr last ↦ absurd (other (ap (at degrees) last ∙ e))
-        ];
-      };
-    }
+-- a row that is written behind others
+pub last_there : (count row : ℕ) (rows : List ℕ) → count < length rows → Contains (take (count + 1) (set rows count row)) row
+last_there count row rows inside =
+    let long = length-set rows count row in
+    (count, omega (arith, length-take-le (count + 1) (set rows count row) (omega (arith, long, inside))), get_or-take (count + 1) (set rows count row) count row (omega arith) ∙ get_or-set_same rows count row row inside)
 
 -- ---- degrees that fall
 

@@ -59,17 +59,16 @@ AllHaveNone degrees = (row : ℕ) → row < length degrees → at degrees row �
 abbrev pub LowersRows : List ℕ → List ℕ → List ℕ → Type 0
 LowersRows rows old new = (row : ℕ) → row < length old → at new row ≡ at old row - count_by (λ r. r == row) rows
 
+-- rows that are listed, and for how many more there is room
+pub record ListedRows : Type 0 where
+  pub rows : List ℕ
+  pub room : ℕ
+
 -- rows of these degrees are listed, and among the first of them each that has degree 1
 pub record AreListed (degrees singles pairs : List ℕ) : Type 0 where
   pub singles_below : All (λ row. row < length degrees) singles
   pub pairs_below : All (λ row. row < length degrees) pairs
   pub single : (row : ℕ) → row < length degrees → at degrees row ≡ 1 → Contains singles row
-
--- the first rows of two lists are those that are listed
-pub record AreCounted (degrees singles : List ℕ) (single_count : ℕ) (pairs : List ℕ) (pair_count : ℕ) : Type 0 where
-  pub singles_within : single_count ≤ length singles
-  pub pairs_within : pair_count ≤ length pairs
-  pub listed : AreListed degrees (take single_count singles) (take pair_count pairs)
 
 -- a row is listed behind others, or they are left as they were
 abbrev pub MayAdd : ℕ → List ℕ → List ℕ → Type 0

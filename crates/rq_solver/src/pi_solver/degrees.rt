@@ -1,9 +1,8 @@
 //! How many active columns each row has.
-ghost use Rattle.std.specs.Prelude.{◌≡◌, ◌+◌, ◌^◌, ◌<◌, ◌≤◌, All, Contains, IsTrue, length, take, IfSome, IfNone, IfOk, OnOk, IfErr};
+ghost use Rattle.std.specs.Prelude.{◌≡◌, ◌+◌, ◌-◌, ◌^◌, ◌<◌, ◌≤◌, [], All, Contains, IsTrue, length, take, IfSome, IfNone, IfOk, OnOk, IfErr};
 ghost use Rattle.rq_algebra.specs.Systems.{at};
 ghost use Rattle.rq_bytes.specs.declared.error.Error.TheVariants.{OutOfMemory};
-ghost use Rattle.rq_solver.specs.Degrees.{AllHaveNone, AreCounted, HasLeastDegree, LowersRows, MayAdd, NoneHas};
-ghost use Rattle.rq_solver.specs.Listing.{ListsMore};
+ghost use Rattle.rq_solver.specs.Degrees.{AllHaveNone, AreListed, HasLeastDegree, LowersRows, MayAdd, NoneHas};
 
 use rq_bytes::error::Error;
 use std::alloc::Global;
@@ -16,23 +15,20 @@ use std::marker::Model;
 pub(super) struct RowDegrees {
     // Rows are asked in any order: of narrow degrees more stay in a near cache.
     degrees: Vec<u16>,
-    // So many rows are listed, and behind them is room for more.
-    singles: Vec<u32>,
-    single_count: usize,
-    pairs: Vec<u32>,
-    pair_count: usize,
+    singles: RowList,
+    pairs: RowList,
     asked_pairs: usize,
 }
 
 impl Model for RowDegrees {
     ghost use Rattle.std.specs.Prelude.{ℕ, List};
-    ghost use Rattle.rq_solver.specs.Degrees.{AreCounted};
+    ghost use Rattle.rq_solver.specs.Degrees.{AreListed};
 
     ghost Value = { List ℕ };
 
     ghost view = { λ d. d.degrees.items };
 
-    ghost invariant = { λ d. AreCounted d.degrees.items d.singles.items d.single_count d.pairs.items d.pair_count };
+    ghost invariant = { λ d. AreListed d.degrees.items d.singles.rows d.pairs.rows };
 }
 
 impl RowDegrees {
@@ -44,19 +40,13 @@ impl RowDegrees {
     {
         // Each row is listed once at most, and a column has at most all rows: this is always enough.
         let room = 2 * degrees.len();
-        let mut singles = vec![in alloc; 0; room]?;
-        let mut pairs = vec![in alloc; 0; room]?;
-        let (single_count, pair_count) = list_rows(
-            degrees.as_slice(),
-            singles.as_mut_slice(),
-            pairs.as_mut_slice(),
-        );
+        let mut singles = RowList::with_room(alloc, room)?;
+        let mut pairs = RowList::with_room(alloc, room)?;
+        list_rows(degrees.as_slice(), &mut singles, &mut pairs);
         Ok(RowDegrees {
             degrees,
             singles,
-            single_count,
             pairs,
-            pair_count,
             asked_pairs: 0,
         })
     }
@@ -68,18 +58,14 @@ impl RowDegrees {
         ensures lowered { OnOk result (LowersRows rows.now self.old self.new) }
         ensures err { IfErr result (λ e. e ≡ OutOfMemory) }
     {
-        make_room(&mut self.singles, self.single_count + rows.len())?;
-        make_room(&mut self.pairs, self.pair_count + rows.len())?;
-        let (single_count, pair_count) = lower_rows(
+        self.singles.make_room(rows.len())?;
+        self.pairs.make_room(rows.len())?;
+        lower_rows(
             rows,
             self.degrees.as_mut_slice(),
-            self.singles.as_mut_slice(),
-            self.single_count,
-            self.pairs.as_mut_slice(),
-            self.pair_count,
+            &mut self.singles,
+            &mut self.pairs,
         );
-        self.single_count = single_count;
-        self.pair_count = pair_count;
         Ok(())
     }
 
@@ -97,12 +83,12 @@ impl RowDegrees {
         ensures none { IfNone result (NoneHas 1 self.old) }
         ensures degrees { self.new ≡ self.old }
     {
-        while self.single_count > 0 {
-            let row = self.singles[self.single_count - 1] as usize;
+        while let Some(row) = self.singles.as_slice().last() {
+            let row = *row as usize;
             if self.degrees[row] == 1 {
                 return Some(row);
             }
-            self.single_count -= 1;
+            self.singles.drop_last();
         }
         None
     }
@@ -112,8 +98,8 @@ impl RowDegrees {
         ensures row { IfSome result (λ row. row < length self.old) }
         ensures degrees { self.new ≡ self.old }
     {
-        while self.asked_pairs < self.pair_count {
-            let row = self.pairs[self.asked_pairs] as usize;
+        while let Some(row) = self.pairs.as_slice().get(self.asked_pairs) {
+            let row = *row as usize;
             self.asked_pairs += 1;
             if self.degrees[row] == 2 {
                 return Some(row);
@@ -144,78 +130,114 @@ impl RowDegrees {
     }
 }
 
-// Lists the rows that have one active column, and those that have two, and says how many they are.
-fn list_rows(degrees: &[u16], singles: &mut [u32], pairs: &mut [u32]) -> (usize, usize)
+// Lists the rows that have one active column, and those that have two.
+fn list_rows(degrees: &[u16], singles: &mut RowList, pairs: &mut RowList)
     requires few_rows { length degrees.now < 2 ^ 31 }
-    requires single_room { length degrees.now ≤ length singles.old }
-    requires pair_room { length degrees.now ≤ length pairs.old }
-    ensures singles { length singles.new ≡ length singles.old }
-    ensures pairs { length pairs.new ≡ length pairs.old }
-    ensures listed { AreCounted degrees.now singles.new result.0 pairs.new result.1 }
+    requires no_singles { singles.old.rows ≡ [] }
+    requires no_pairs { pairs.old.rows ≡ [] }
+    requires single_room { length degrees.now ≤ singles.old.room }
+    requires pair_room { length degrees.now ≤ pairs.old.room }
+    ensures listed { AreListed degrees.now singles.new.rows pairs.new.rows }
 {
-    let mut single_count = 0;
-    let mut pair_count = 0;
     for row in 0..degrees.len() {
         let degree = degrees[row];
-        single_count = list(row as u32, degree == 1, singles, single_count);
-        pair_count = list(row as u32, degree == 2, pairs, pair_count);
+        singles.push_if(row as u32, degree == 1);
+        pairs.push_if(row as u32, degree == 2);
     }
-    (single_count, pair_count)
 }
 
 // Lowers the degree of each row by one, and lists the rows that come to have one active column behind
-// others, and those that come to have two. Says how many are listed. Which rows these are can't be
-// foreseen, so nothing branches on it.
-fn lower_rows(
-    rows: &[u32],
-    degrees: &mut [u16],
-    singles: &mut [u32],
-    single_count: usize,
-    pairs: &mut [u32],
-    pair_count: usize,
-) -> (usize, usize)
+// others, and those that come to have two.
+fn lower_rows(rows: &[u32], degrees: &mut [u16], singles: &mut RowList, pairs: &mut RowList)
     requires rows { All (λ row. row < length degrees.old) rows.now }
-    requires single_room { single_count + length rows.now ≤ length singles.old }
-    requires pair_room { pair_count + length rows.now ≤ length pairs.old }
-    requires listed { AreCounted degrees.old singles.old single_count pairs.old pair_count }
+    requires single_room { length rows.now ≤ singles.old.room }
+    requires pair_room { length rows.now ≤ pairs.old.room }
+    requires listed { AreListed degrees.old singles.old.rows pairs.old.rows }
     ensures degrees { length degrees.new ≡ length degrees.old }
-    ensures singles { length singles.new ≡ length singles.old }
-    ensures pairs { length pairs.new ≡ length pairs.old }
     ensures lowered { LowersRows rows.now degrees.old degrees.new }
-    ensures listed { AreCounted degrees.new singles.new result.0 pairs.new result.1 }
+    ensures listed { AreListed degrees.new singles.new.rows pairs.new.rows }
 {
-    let mut single_end = single_count;
-    let mut pair_end = pair_count;
     for row in rows {
         let degree = degrees[*row as usize].saturating_sub(1);
         degrees[*row as usize] = degree;
-        single_end = list(*row, degree == 1, singles, single_end);
-        pair_end = list(*row, degree == 2, pairs, pair_end);
+        singles.push_if(*row, degree == 1);
+        pairs.push_if(*row, degree == 2);
     }
-    (single_end, pair_end)
 }
 
-// Writes a row behind so many others, and says how many are listed then: one more, if it is to be.
-#[inline(always)]
-fn list(row: u32, is_listed: bool, rows: &mut [u32], count: usize) -> usize
-    requires { count < length rows.old }
-    ensures rows { length rows.new ≡ length rows.old }
-    ensures few { result ≤ count + 1 }
-    ensures added { MayAdd row (take count rows.old) (take result rows.new) }
-    ensures there { IsTrue is_listed → Contains (take result rows.new) row }
-{
-    rows[count] = row;
-    count + is_listed as usize
+// Rows that are listed one behind the other. Contracts see these, and for how many more there is room.
+#[derive(Drop)]
+struct RowList {
+    // So many rows are listed, and behind them is room for more.
+    rows: Vec<u32>,
+    count: usize,
 }
 
-// Makes room for so many rows in all, where there are fewer. Those that are there stay.
-fn make_room(rows: &mut Vec<u32>, count: usize) -> Result<(), Error>
-    ensures kept { ListsMore rows.old.items rows.new.items }
-    ensures room { OnOk result (count ≤ length rows.new.items) }
-    ensures err { IfErr result (λ e. e ≡ OutOfMemory) }
-{
-    if rows.len() < count {
-        rows.resize(count, 0)?;
+impl Model for RowList {
+    ghost use Rattle.std.specs.Prelude.{◌-◌, ◌≤◌, length, take};
+    ghost use Rattle.rq_solver.specs.Degrees.{ListedRows};
+
+    ghost Value = { ListedRows };
+
+    ghost view = { λ l. record { rows = take l.count l.rows.items; room = length l.rows.items - l.count } };
+
+    ghost invariant = { λ l. l.count ≤ length l.rows.items };
+}
+
+impl RowList {
+    // No rows, and room for so many.
+    fn with_room(alloc: Global, room: usize) -> Result<RowList, Error>
+        ensures rows { IfOk result (λ made. made.rows ≡ []) }
+        ensures room { IfOk result (λ made. made.room ≡ room) }
+        ensures err { IfErr result (λ e. e ≡ OutOfMemory) }
+    {
+        Ok(RowList {
+            rows: vec![in alloc; 0; room]?,
+            count: 0,
+        })
     }
-    Ok(())
+
+    // The rows that are listed.
+    #[inline(always)]
+    fn as_slice(&self) -> &[u32]
+        ensures { result.now ≡ self.now.rows }
+    {
+        &self.rows[..self.count]
+    }
+
+    // Makes room for so many more rows, where there is less.
+    fn make_room(&mut self, more: usize) -> Result<(), Error>
+        requires { more < 2 ^ 62 }
+        ensures rows { self.new.rows ≡ self.old.rows }
+        ensures room { OnOk result (more ≤ self.new.room) }
+        ensures err { IfErr result (λ e. e ≡ OutOfMemory) }
+    {
+        let needed = self.count + more;
+        if self.rows.len() < needed {
+            self.rows.resize(needed, 0)?;
+        }
+        Ok(())
+    }
+
+    // Lists a row behind the others, if it is wanted. Which rows are can't be foreseen, so nothing
+    // branches on it: a row is written always, and the next one over it where it wasn't wanted.
+    #[inline(always)]
+    fn push_if(&mut self, row: u32, is_wanted: bool)
+        requires { 0 < self.old.room }
+        ensures added { MayAdd row self.old.rows self.new.rows }
+        ensures there { IsTrue is_wanted → Contains self.new.rows row }
+        ensures room { self.old.room ≤ self.new.room + 1 }
+    {
+        self.rows[self.count] = row;
+        self.count += is_wanted as usize;
+    }
+
+    // The last row is listed no more.
+    #[inline(always)]
+    fn drop_last(&mut self)
+        requires { 0 < length self.old.rows }
+        ensures { self.new.rows ≡ take (length self.old.rows - 1) self.old.rows }
+    {
+        self.count -= 1;
+    }
 }

@@ -1,5 +1,5 @@
 -- What the check leaves to show of `pi_solver::degrees::list_rows`.
-use Rattle.std.proofs.Common.{◌≡◌, ◌<◌, length, take, sym, ap, ◌∙◌, subst, arith, inl, inr}
+use Rattle.std.proofs.Common.{◌≡◌, ◌<◌, length, sym, ap, ◌∙◌, subst, arith, inl, inr}
 use Rattle.std.specs.List.{Contains}
 use Rattle.std.proofs.lemmas.Bool.{cases_lt, eq-eqb}
 use Rattle.rq_algebra.specs.Systems.{at}
@@ -11,24 +11,22 @@ loop-row-preserved c =
     let v = c.loop-row.invariant in
     let row = c.loop-row.row in
     let degrees = c.args.degrees.now in
-    let singles = take c.loop-row.single_count c.loop-row.singles in
-    let pairs = take c.loop-row.pair_count c.loop-row.pairs in
-    let new_singles = take c.list-single_count.result c.list-single_count.new.rows in
-    let new_pairs = take c.list-pair_count.result c.list-pair_count.new.rows in
+    let singles = c.loop-row.singles.rows in
+    let pairs = c.loop-row.pairs.rows in
+    let new_singles = c.push_if.new.self.rows in
+    let new_pairs = c.push_if-in-loop-row.new.self.rows in
     let inside : row < length degrees = omega (arith, c.loop-row-test.true) in
     record {
-      singles_long = c.list-single_count.ensures.rows ∙ v.singles_long;
-      pairs_long = c.list-pair_count.ensures.rows ∙ v.pairs_long;
-      singles_few = omega (arith, c.list-single_count.ensures.few, v.singles_few);
-      pairs_few = omega (arith, c.list-pair_count.ensures.few, v.pairs_few);
-      singles_below = added_below (length degrees) row singles new_singles c.list-single_count.ensures.added inside v.singles_below;
-      pairs_below = added_below (length degrees) row pairs new_pairs c.list-pair_count.ensures.added inside v.pairs_below;
+      single_room = omega (arith, c.push_if.ensures.room, v.single_room);
+      pair_room = omega (arith, c.push_if-in-loop-row.ensures.room, v.pair_room);
+      singles_below = added_below (length degrees) row singles new_singles c.push_if.ensures.added inside v.singles_below;
+      pairs_below = added_below (length degrees) row pairs new_pairs c.push_if-in-loop-row.ensures.added inside v.pairs_below;
       single = λ r l e.
           elim (cases_lt r row) [
-            | inl before ↦ added_contains row r singles new_singles c.list-single_count.ensures.added (v.single r before e)
+            | inl before ↦ added_contains row r singles new_singles c.push_if.ensures.added (v.single r before e)
             | inr here ↦
                 let is : r ≡ row = omega arith in
                 let one : at degrees row ≡ 1 = ap (at degrees) (sym is) ∙ e in
-                subst (Contains new_singles) (sym is) (c.list-single_count.ensures.there (eq-eqb (at degrees row) 1 one))
+                subst (Contains new_singles) (sym is) (c.push_if.ensures.there (eq-eqb (at degrees row) 1 one))
           ];
     }
