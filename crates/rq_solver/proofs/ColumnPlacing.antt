@@ -1,5 +1,5 @@
 -- Rows that are put column by column.
-use Rattle.std.proofs.Common.{◌≡◌, ◌≢◌, ℕ, zero, suc, ◌+◌, ◌-◌, ◌*◌, ◌<◌, ◌≤◌, ◌==◌, cond, min, List, [], ◌∷◌, ◌++◌, length, take, drop, set, replicate, count_by, refl, sym, ap, ◌∙◌, arith, inl, inr, add-zero}
+use Rattle.std.proofs.Common.{◌≡◌, ◌≢◌, ℕ, zero, suc, ◌+◌, ◌-◌, ◌*◌, ◌<◌, ◌≤◌, ◌==◌, cond, min, List, [], ◌∷◌, ◌++◌, length, take, drop, set, replicate, count_by, refl, sym, ap, ◌∙◌, subst, arith, inl, inr, add-zero}
 use Rattle.std.specs.Prelude.{slice_range, slice_index_or}
 use Rattle.std.proofs.Math.Seq.{take-append_seam}
 use Rattle.std.specs.List.{sum, sum_by}
@@ -51,22 +51,21 @@ counted_less columns t l =
     let part = sum_by-take-le (λ (column : ℕ). cond (column == k) 1 0) columns (t + 1) in
     omega (arith, one, more, part)
 
--- where a column's start falls with each one, so much is left of it
-pub left_less : (columns starts : List ℕ) (t place k first : ℕ) → t < length columns → at columns t < length starts → place + 1 ≡ at starts (at columns t) → at starts k + count_by (λ column. column == k) (take t columns) ≡ first
-    → at (set starts (at columns t) place) k + count_by (λ column. column == k) (take (t + 1) columns) ≡ first
-left_less columns starts t place k first l inside is left =
-    let more = counted_more columns t k l in
-    let count = count_by (λ column. column == k) (take t columns) in
-    elim (eqb_tells (at columns t) k) [
+-- what holds of how often a place came and of its number holds again after the next place, which has a new number
+pub counted_set : (P : ℕ → ℕ → Type 0) (places numbers : List ℕ) (t k number : ℕ) → t < length places → at places t < length numbers → ((n : ℕ) → P n (at numbers (at places t)) → P (n + 1) number)
+    → P (count_by (λ place. place == k) (take t places)) (at numbers k) → P (count_by (λ place. place == k) (take (t + 1) places)) (at (set numbers (at places t) number) k)
+counted_set P places numbers t k number l inside next is =
+    let count = count_by (λ place. place == k) (take t places) in
+    let more = counted_more places t k l in
+    elim (eqb_tells (at places t) k) [
       | inl same ↦
-          let one : count_by (λ column. column == k) (take (t + 1) columns) ≡ count + 1 = more ∙ ap (λ b. count + cond b 1 0) same.0 in
-          let read : at (set starts (at columns t) place) k ≡ place = ap (at (set starts (at columns t) place)) (sym same.1) ∙ get_or-set_same starts (at columns t) place 0 inside in
-          let was : at starts (at columns t) ≡ at starts k = ap (at starts) same.1 in
-          omega (arith, one, read, is, was, left)
+          let often : count_by (λ place. place == k) (take (t + 1) places) ≡ count + 1 = more ∙ ap (λ b. count + cond b 1 0) same.0 in
+          let read : at (set numbers (at places t) number) k ≡ number = ap (at (set numbers (at places t) number)) (sym same.1) ∙ get_or-set_same numbers (at places t) number 0 inside in
+          rw (often, read) (next count (subst (λ (place : ℕ). P count (at numbers place)) (sym same.1) is))
       | inr other ↦
-          let none : count_by (λ column. column == k) (take (t + 1) columns) ≡ count + 0 = more ∙ ap (λ b. count + cond b 1 0) other.0 in
-          let read = get_or-set_other starts (at columns t) k place 0 (λ e. other.1 (sym e)) in
-          omega (arith, none, read, left)
+          let often : count_by (λ place. place == k) (take (t + 1) places) ≡ count = more ∙ ap (λ b. count + cond b 1 0) other.0 ∙ add-zero count in
+          let read : at (set numbers (at places t) number) k ≡ at numbers k = get_or-set_other numbers (at places t) k number 0 (λ e. other.1 (sym e)) in
+          rw (often, read) is
     ]
 
 pub counts_one : (counts : List ℕ) (c k : ℕ) → c < length counts → at (set counts c (at counts c + 1)) k ≡ at counts k + cond (c == k) 1 0

@@ -1,13 +1,11 @@
 -- Rows that are listed by their degrees.
-use Rattle.std.proofs.Common.{◌≡◌, ℕ, ◌+◌, ◌-◌, ◌<◌, ◌==◌, cond, count_by, List, [], ◌∷◌, All, length, set, take, sym, ap, ◌∙◌, subst, arith, inl, inr}
+use Rattle.std.proofs.Common.{◌≡◌, ℕ, ◌+◌, ◌<◌, List, [], ◌∷◌, All, length, set, take, sym, ap, ◌∙◌, subst, arith, inl, inr}
 use Rattle.std.specs.List.{Contains}
 use Rattle.std.proofs.lemmas.Bool.{cases_eq}
-use Rattle.std.proofs.lemmas.Bool.Decides.{eqb_tells}
 use Rattle.std.proofs.lemmas.List.{length-set, length-take-le, get_or-set_same, get_or-set_other, get_or-take}
 use Rattle.std.proofs.lemmas.List.Elements.{All-push, Contains-append_left}
 use Rattle.rq_algebra.specs.Systems.{at}
-use Rattle.rq_solver.specs.Degrees.{AreListed, LowersRows, MayAdd}
-use Rattle.rq_solver.proofs.ColumnPlacing.{counted_more}
+use Rattle.rq_solver.specs.Degrees.{AreListed, MayAdd}
 
 -- what is listed stays listed
 pub added_contains : (row r : ℕ) (old new : List ℕ) → MayAdd row old new → Contains old r → Contains new r
@@ -49,20 +47,3 @@ pub last_there : (count row : ℕ) (rows : List ℕ) → count < length rows →
 last_there count row rows inside =
     let long = length-set rows count row in
     (count, omega (arith, length-take-le (count + 1) (set rows count row) (omega (arith, long, inside))), get_or-take (count + 1) (set rows count row) count row (omega arith) ∙ get_or-set_same rows count row row inside)
-
--- ---- degrees that fall
-
-pub lowered_more : (rows old now : List ℕ) (t degree : ℕ) → t < length rows → at rows t < length now → LowersRows (take t rows) old now → degree ≡ at now (at rows t) - 1 → LowersRows (take (t + 1) rows) old (set now (at rows t) degree)
-lowered_more rows old now t degree l inside low is r m =
-    let more = counted_more rows t r l in
-    let before = low r m in
-    elim (eqb_tells (at rows t) r) [
-      | inl same ↦
-          let one : count_by (λ row. row == r) (take (t + 1) rows) ≡ count_by (λ row. row == r) (take t rows) + 1 = more ∙ ap (λ b. count_by (λ row. row == r) (take t rows) + cond b 1 0) same.0 in
-          let read = get_or-set_same now (at rows t) degree 0 inside in
-          rw (← same.1) (omega (arith, rw (← same.1) at one, read, is, rw (← same.1) at before))
-      | inr other ↦
-          let none : count_by (λ row. row == r) (take (t + 1) rows) ≡ count_by (λ row. row == r) (take t rows) + 0 = more ∙ ap (λ b. count_by (λ row. row == r) (take t rows) + cond b 1 0) other.0 in
-          let read = get_or-set_other now (at rows t) r degree 0 (λ e. other.1 (sym e)) in
-          omega (arith, none, read, before)
-    ]

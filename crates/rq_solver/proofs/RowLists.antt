@@ -1,5 +1,5 @@
 -- Lists that follow one another in one list, each the places of a row's ones.
-use Rattle.std.proofs.Common.{refl, ◌≡◌, ◌≢◌, ℕ, zero, suc, ◌+◌, ◌-◌, ◌<◌, ◌≤◌, cond, List, [], ◌∷◌, ◌++◌, All, length, map, filter, take, drop, sym, ap, subst, ◌∙◌, arith, inl, inr, zero-add, add-zero, append-nil, append_assoc}
+use Rattle.std.proofs.Common.{refl, ◌≡◌, ℕ, zero, suc, ◌+◌, ◌-◌, ◌<◌, ◌≤◌, cond, List, [], ◌∷◌, ◌++◌, All, length, map, filter, take, drop, sym, ap, subst, ◌∙◌, arith, inl, inr, zero-add, add-zero, append-nil, append_assoc}
 use Rattle.std.specs.Prelude.{◌==◌, count_by, nat_lt, slice_index, slice_range}
 use Rattle.std.proofs.lemmas.Bool.{cases_lt, le-ltb, lt-ltb}
 use Rattle.std.proofs.lemmas.Bool.Decides.{eqb_tells}
@@ -18,6 +18,7 @@ use Rattle.rq_parts.specs.ImmutableListMap.{lists_between}
 use Rattle.rq_parts.proofs.KeyedLists.{list_read, length-lists}
 use Rattle.rq_solver.specs.Degrees.{CountsBefore}
 use Rattle.rq_solver.specs.Peeled.{ones_of, AreOnesOfRows, AddsOnes, AreAllBetween}
+use Rattle.rq_solver.proofs.ActiveOnes.{count_absent, count_nothing}
 
 -- ---- the places of a row's ones
 
@@ -25,15 +26,7 @@ use Rattle.rq_solver.specs.Peeled.{ones_of, AreOnesOfRows, AddsOnes, AreAllBetwe
 abbrev pub places_among : List (ℕ × ℕ) → List ℕ
 places_among pairs = map (λ pair. pair.0) (filter (λ pair. pair.1 == 1) pairs)
 
--- how often a place comes among others, and behind others
-count-none : (k : ℕ) (places : List ℕ) → All (λ place. place ≢ k) places → count_by (λ place. place == k) places ≡ 0
-count-none k [] all = refl
-count-none k (place ∷ places) all =
-    let other : place ≢ k = all 0 place (omega arith) in
-    let rest = count-none k places (λ i d lt. all (suc i) d (omega arith)) in
-    let head : cond (place == k) 1 0 ≡ 0 = elim (eqb_tells place k) [ inl e ↦ absurd (other e.1) | inr e ↦ ap (λ b. cond b 1 0) e.0 ] in
-    sum_by-cons (λ p. cond (p == k) 1 0) place places ∙ ap (λ n. n + count_by (λ p. p == k) places) head ∙ zero-add (count_by (λ p. p == k) places) ∙ rest
-
+-- how often a place comes in one list and in another behind it
 count-append : (k : ℕ) (xs ys : List ℕ) → count_by (λ place. place == k) (xs ++ ys) ≡ count_by (λ place. place == k) xs + count_by (λ place. place == k) ys
 count-append k xs ys = sum_by-append (λ place. cond (place == k) 1 0) xs ys
 
@@ -79,8 +72,8 @@ places_together bit start middle end xs ys low high first second = record {
   once = λ k from below.
       count-append k xs ys
       ∙ elim (cases_lt k middle) [
-        | inl before ↦ ap (λ n. count_by (λ place. place == k) xs + n) (count-none k ys (λ i d lt e. let here = (second.within i d lt).0 in omega arith)) ∙ add-zero (count_by (λ place. place == k) xs) ∙ first.once k from before
-        | inr after ↦ ap (λ n. n + count_by (λ place. place == k) ys) (count-none k xs (λ i d lt e. let here = (first.within i d lt).1 in omega arith)) ∙ zero-add (count_by (λ place. place == k) ys) ∙ second.once k after below
+        | inl before ↦ ap (λ n. count_by (λ place. place == k) xs + n) (count_absent ys k (λ is. let here = (second.within is.0 k is.1).0 in omega (arith, here, is.2, before))) ∙ add-zero (count_by (λ place. place == k) xs) ∙ first.once k from before
+        | inr after ↦ ap (λ n. n + count_by (λ place. place == k) ys) (count_absent xs k (λ is. let here = (first.within is.0 k is.1).1 in omega (arith, here, is.2, after))) ∙ zero-add (count_by (λ place. place == k) ys) ∙ second.once k after below
       ];
 }
 
@@ -257,16 +250,9 @@ All-concat P (list ∷ lists) all = All-append P list (concat lists) (all 0 [] (
 pub counted_before : (boundary : ℕ) (xs ys : List ℕ) → All (λ k. k < boundary) xs → All (λ k. boundary ≤ k) ys → count_by (λ k. nat_lt k boundary) (xs ++ ys) ≡ length xs
 counted_before boundary xs ys low high =
     sum_by-append (λ k. cond (nat_lt k boundary) 1 0) xs ys
-    ∙ ap (λ n. count_by (λ k. nat_lt k boundary) xs + n) (none ys high)
+    ∙ ap (λ n. count_by (λ k. nat_lt k boundary) xs + n) (count_nothing (λ k. nat_lt k boundary) ys (λ k is. le-ltb k boundary (subst (λ (c : ℕ). boundary ≤ c) is.2 (high is.0 k is.1))))
     ∙ add-zero (count_by (λ k. nat_lt k boundary) xs)
     ∙ all xs low where
-      none : (ys : List ℕ) → All (λ k. boundary ≤ k) ys → count_by (λ k. nat_lt k boundary) ys ≡ 0
-      none [] high = refl
-      none (y ∷ ys) high =
-          let from : boundary ≤ y = high 0 y (omega arith) in
-          let head : ◌≡◌ {A = ℕ} (cond (nat_lt y boundary) 1 0) 0 = ap (λ b. cond b 1 0) (le-ltb y boundary from) in
-          sum_by-cons (λ k. cond (nat_lt k boundary) 1 0) y ys ∙ ap (λ n. n + count_by (λ k. nat_lt k boundary) ys) head ∙ zero-add (count_by (λ k. nat_lt k boundary) ys) ∙ none ys (λ i d l. high (suc i) d (omega arith))
-
       all : (xs : List ℕ) → All (λ k. k < boundary) xs → count_by (λ k. nat_lt k boundary) xs ≡ length xs
       all [] low = refl
       all (x ∷ xs) low =

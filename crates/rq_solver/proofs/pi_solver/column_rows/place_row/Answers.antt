@@ -4,7 +4,7 @@ use Rattle.std.proofs.lemmas.List.{length-set, take_all}
 use Rattle.std.proofs.lemmas.List.Elements.{All-set}
 use Rattle.rq_algebra.specs.Systems.{at}
 use Rattle.rq_solver.specs.ColumnRows.{HasPlaced}
-use Rattle.rq_solver.proofs.ColumnPlacing.{counted_less, left_less, placed_more, put_elsewhere, put_fits, put_here}
+use Rattle.rq_solver.proofs.ColumnPlacing.{counted_less, counted_set, placed_more, put_elsewhere, put_fits, put_here}
 use Rattle.rq_solver.proofs.pi_solver.column_rows.place_row.Goals as goal
 
 pub overflow_sub-place : goal.overflow_sub-place
@@ -31,7 +31,7 @@ loop-column-preserved c =
     record {
       long = length-set starts column place ∙ v.long;
       wide = length-set rows place row ∙ v.wide;
-      left = λ k l. left_less columns starts t place k (at c.args.starts.now k) in_columns (omega (arith, inside, v.long)) some (v.left k l);
+      left = λ k l. counted_set (λ n start. start + n ≡ at c.args.starts.now k) columns starts t k place in_columns (omega (arith, inside, v.long)) (λ n is. omega (arith, some, is)) (v.left k l);
       below = λ height l all. All-set (λ r. r < height) rows place row l (v.below height l all);
       placed = λ counts done has room.
           let so_far : ℕ → List ℕ = λ k. replicate (count_by (λ column. column == k) (take t columns)) row ++ done k in

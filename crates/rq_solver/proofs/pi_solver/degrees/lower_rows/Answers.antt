@@ -1,9 +1,10 @@
 -- What the check leaves to show of `pi_solver::degrees::lower_rows`.
-use Rattle.std.proofs.Common.{◌<◌, length, ◌∙◌, arith}
+use Rattle.std.proofs.Common.{◌≡◌, ◌-◌, ◌<◌, length, ◌∙◌, arith}
 use Rattle.std.proofs.lemmas.Bool.{eq-eqb}
 use Rattle.std.proofs.lemmas.List.{length-set}
 use Rattle.rq_algebra.specs.Systems.{at}
-use Rattle.rq_solver.proofs.DegreeLists.{listed_added, listed_set, lowered_more}
+use Rattle.rq_solver.proofs.ColumnPlacing.{counted_set}
+use Rattle.rq_solver.proofs.DegreeLists.{listed_added, listed_set}
 use Rattle.rq_solver.proofs.pi_solver.degrees.lower_rows.Goals as goal
 
 pub loop-row-preserved : goal.loop-row-preserved
@@ -22,6 +23,6 @@ loop-row-preserved c =
       degrees_long = length-set degrees row degree ∙ v.degrees_long;
       single_room = omega (arith, single.room, v.single_room);
       pair_room = omega (arith, pair.room, v.pair_room);
-      lowered = lowered_more c.args.rows.now c.args.degrees.now degrees t degree c.loop-row-test.true inside v.lowered c.saturating_sub-degree.ensures;
+      lowered = λ r l. counted_set (λ n less. less ≡ at c.args.degrees.now r - n) c.args.rows.now degrees t r degree c.loop-row-test.true inside (λ n is. omega (arith, c.saturating_sub-degree.ensures, is)) (v.lowered r l);
       listed = listed_set degrees singles pairs row degree (listed_added degrees c.loop-row.singles.rows c.loop-row.pairs.rows singles pairs row v.listed inside single.added pair.added) (λ e. single.there (eq-eqb degree 1 e));
     }
