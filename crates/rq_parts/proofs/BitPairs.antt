@@ -1,15 +1,11 @@
 -- Bits of packed words, one after another.
-use Rattle.std.proofs.Common.{◌≡◌, ℕ, zero, suc, ◌+◌, ◌-◌, ◌*◌, ◌/◌, ◌%◌, ◌^◌, ◌<◌, ◌≤◌, List, [], ◌∷◌, get_or, min, ap, ◌∙◌, sym, arith, inl, inr, w64, subst, cond, eq-eqb}
-use Rattle.std.proofs.Math.Nat.{div-div-eq-div-mul, div-le_self}
+use Rattle.std.proofs.Common.{◌≡◌, ℕ, zero, suc, ◌+◌, ◌-◌, ◌*◌, ◌/◌, ◌%◌, ◌^◌, ◌<◌, List, [], ◌∷◌, get_or, refl, ap, ◌∙◌, sym, arith, cond, eq-eqb}
+use Rattle.std.proofs.Math.Nat.{div-div-eq-div-mul}
 use Rattle.std.proofs.Math.Pow.{pow-add}
-use Rattle.std.specs.Int.{trailing_zeros}
-use Rattle.std.specs.Int.Count.{trailing_of_zero}
-use Rattle.std.proofs.lemmas.Bool.Decides.{eqb_tells}
-use Rattle.std.proofs.lemmas.Nat.Bits.{bit_at-zero, bit_at-trailing_zeros}
 use Rattle.std.specs.Prelude.{◌==◌}
 use Rattle.std.specs.Int.{bit_at}
 use Rattle.rq_bytes.specs.BinaryOctetVec.{packed_bit}
-use Rattle.rq_parts.specs.BitPairs.{bit_pairs, ones_among, BeginsWithOne}
+use Rattle.rq_parts.specs.BitPairs.{bit_pairs, ones_among}
 
 -- the bit at a place of a word
 pub packed_bit-at : (words : List ℕ) (word bit : ℕ) → bit < 64 → packed_bit words (64 * word + bit) ≡ bit_at (get_or words word 0) bit
@@ -46,29 +42,18 @@ bit_pairs-step words word bit column end below before =
 pub bit_at-shifted : (n a k : ℕ) → bit_at (n / 2 ^ a) k ≡ bit_at n (a + k)
 bit_at-shifted n a k = ap (λ q. q % 2) (div-div-eq-div-mul n (2 ^ a) (2 ^ k)) ∙ ap (λ d. n / d % 2) (sym (pow-add 2 a k))
 
--- the zeros that a word goes on with from one bit on
-pub record ZerosAhead (word bit zeros : ℕ) : Type 0 where
-  pub zero : (k : ℕ) → k < zeros → bit_at word (bit + k) ≡ 0
-  pub one : bit + zeros < 64 → bit_at word (bit + zeros) ≡ 1
-
-pub zeros_ahead : (word bit zeros : ℕ) → word < 2 ^ 64 → bit < 64 → zeros ≡ min (trailing_zeros w64 (word / 2 ^ bit)) (64 - bit) → ZerosAhead word bit zeros
-zeros_ahead word bit zeros fits below e =
-    let rest = word / 2 ^ bit in
-    let small : rest < 2 ^ 64 = omega (arith, div-le_self word (2 ^ bit)) in
-    elim (eqb_tells rest 0) [
-      | inl none ↦
-          let all : trailing_zeros w64 rest ≡ 64 = ap (trailing_zeros w64) none.1 ∙ trailing_of_zero 64 in
-          record { zero = λ k lt. sym (bit_at-shifted word bit k) ∙ ap (λ n. bit_at n k) none.1 ∙ bit_at-zero k; one = λ lt. absurd (omega arith) }
-      | inr some ↦
-          let positive : 0 < rest = let other = some.1 in omega arith in
-          let lowest = bit_at-trailing_zeros w64 rest positive small in
-          record {
-            zero = λ k lt. sym (bit_at-shifted word bit k) ∙ lowest.2 k (omega arith);
-            one = λ lt.
-                let same : zeros ≡ trailing_zeros w64 rest = omega arith in
-                sym (bit_at-shifted word bit zeros) ∙ ap (bit_at rest) same ∙ lowest.1;
-          }
-    ]
+-- bits that are the same make the same pairs
+pub bit_pairs-same : (words others : List ℕ) (place other column count : ℕ) → ((k : ℕ) → k < count → packed_bit words (place + k) ≡ packed_bit others (other + k))
+    → bit_pairs words place column count ≡ bit_pairs others other column count
+unfolding bit_pairs
+bit_pairs-same words others place other column zero same = refl
+bit_pairs-same words others place other column (suc count) same =
+    let here = λ (list : List ℕ) (n : ℕ). ap (packed_bit list) (let e : n + 0 ≡ n = omega arith in e) in
+    let next = λ (list : List ℕ) (n k : ℕ). ap (packed_bit list) (let e : n + suc k ≡ suc n + k = omega arith in e) in
+    let first : packed_bit words place ≡ packed_bit others other = sym (here words place) ∙ same 0 (omega arith) ∙ here others other in
+    ap (λ x. (column, x) ∷ bit_pairs words (suc place) (suc column) count) first
+    ∙ ap (λ l. (column, packed_bit others other) ∷ l)
+    (bit_pairs-same words others (suc place) (suc other) (suc column) count (λ k l. sym (next words place k) ∙ same (suc k) (omega arith) ∙ next others other k))
 
 -- as many zeros as pass make no ones
 pub ones_among-skip : (words : List ℕ) (n m place column : ℕ) → ((k : ℕ) → k < n → packed_bit words (place + k) ≡ 0)
@@ -90,20 +75,6 @@ ones_among-skip words (suc n) m place column zeros =
     ∙ ones_among-skip words n m (suc place) (suc column) rest
     ∙ ap (λ x. ones_among (bit_pairs words x (suc column + n) m)) b
     ∙ ap (λ x. ones_among (bit_pairs words (place + suc n) x m)) d
-
--- some of the zeros that a word goes on with are passed
-pub ones_among-pass : (words : List ℕ) (word bit column end run count : ℕ) → ZerosAhead (get_or words word 0) bit run → bit + run ≤ 64 → count ≤ run → column + count ≤ end
-    → ones_among (bit_pairs words (64 * word + bit) column (end - column)) ≡ ones_among (bit_pairs words (64 * word + bit + count) (column + count) (end - (column + count)))
-ones_among-pass words word bit column end run count ahead within few room =
-    let split : end - column ≡ count + (end - (column + count)) = omega arith in
-    let place = λ (k : ℕ). let e : 64 * word + bit + k ≡ 64 * word + (bit + k) = omega arith in e in
-    ap (λ n. ones_among (bit_pairs words (64 * word + bit) column n)) split
-    ∙ ones_among-skip words count (end - (column + count)) (64 * word + bit) column
-    (λ k lt. ap (packed_bit words) (place k) ∙ packed_bit-at words word (bit + k) (omega arith) ∙ ahead.zero k (omega arith))
-
--- the next column has a one where no zeros are ahead
-pub begins_with_one : (words : List ℕ) (word bit column end : ℕ) → bit < 64 → column < end → bit_at (get_or words word 0) bit ≡ 1 → BeginsWithOne (bit_pairs words (64 * word + bit) column (end - column))
-begins_with_one words word bit column end below before one = subst BeginsWithOne (sym (bit_pairs-step words word bit column end below before)) one
 
 -- the first of some pairs is the first of their ones, if it is one
 pub ones_among-first : (pair : ℕ × ℕ) (pairs : List (ℕ × ℕ)) → pair.1 ≡ 1 → ones_among (pair ∷ pairs) ≡ pair ∷ ones_among pairs

@@ -1,5 +1,5 @@
 -- The columns of a row of bits, each with its bit.
-use Rattle.std.specs.Prelude.{◌≡◌, ℕ, zero, suc, ◌==◌, List, [], ◌∷◌, filter, map, slice_index, not, nat_lt, ◌&&◌}
+use Rattle.std.specs.Prelude.{ℕ, zero, suc, ◌==◌, List, [], ◌∷◌, filter, map, slice_index, not, nat_lt, ◌&&◌}
 use Rattle.rq_bytes.specs.BinaryOctetVec.{packed_bit}
 
 -- so many columns from a first one on, with the bits of packed words from one of them on
@@ -10,11 +10,6 @@ bit_pairs words bit column (suc count) = (column, packed_bit words bit) ∷ bit_
 -- those whose bit is one
 abbrev pub ones_among : List (ℕ × ℕ) → List (ℕ × ℕ)
 ones_among pairs = filter (λ p. p.1 == 1) pairs
-
--- the first pair, if there is one, is a one
-abbrev pub BeginsWithOne : List (ℕ × ℕ) → Type 0
-BeginsWithOne [] = Unit {0}
-BeginsWithOne (pair ∷ pairs) = pair.1 ≡ 1
 
 -- the columns that a list has for the ones of a row, as far as they lie in a range, each with the octet 1
 abbrev pub sparse_pairs : List ℕ → List ℕ → ℕ → ℕ → List (ℕ × ℕ)

@@ -1,7 +1,8 @@
 -- What an iterator over a row has left.
-use Rattle.std.specs.Prelude.{ℕ, ◌+◌, ◌-◌, ◌*◌, ◌<◌, ◌≤◌, List, length}
+use Rattle.std.specs.Prelude.{ℕ, ◌+◌, ◌-◌, ◌*◌, ◌<◌, ◌≤◌, List, ◌∷◌, length, drop}
 use Rattle.rq_parts.specs.BitPairs.{bit_pairs, ones_among}
 use Rattle.rq_parts.specs.declared.iterators.DenseBits.TheInside.{Inside}
+use Rattle.rq_parts.specs.declared.iterators.DenseOnes.TheInside as dense_ones
 use Rattle.rq_parts.specs.declared.iterators.Left.{Left}
 use Rattle.rq_parts.specs.declared.iterators.Left.TheVariants.{Columns, Ones, Sparse}
 
@@ -15,8 +16,17 @@ pub record IsWithinWords (b : Inside) : Type 0 where
   pub bit_below : b.bit < 64
   pub within : 64 * b.word + b.bit + (b.end - b.column) ≤ 64 * length b.words.now
 
--- the columns that are left, those of them that have a one, or those of a sparse row
+-- the ones that are left: those of the word at hand, and those of the words behind it
+abbrev pub dense_ones_left : dense_ones.Inside → List (ℕ × ℕ)
+dense_ones_left d = ones_among (bit_pairs (d.bits ∷ drop (d.word + 1) d.words.now) 0 (64 * d.word) (d.end - 64 * d.word))
+
+-- the word at hand doesn't begin past the end of the columns, for all of which there are words
+pub record IsWithinRow (d : dense_ones.Inside) : Type 0 where
+  pub begins : 64 * d.word ≤ d.end
+  pub within : d.end ≤ 64 * length d.words.now
+
+-- the columns that are left, the ones that are left, or those of a sparse row
 abbrev pub pairs_left : Left → List (ℕ × ℕ)
 pairs_left (Columns bits) = bits
-pairs_left (Ones bits) = ones_among bits
+pairs_left (Ones ones) = ones
 pairs_left (Sparse ones) = ones

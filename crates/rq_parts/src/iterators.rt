@@ -1,9 +1,8 @@
 //! Iterators over the octets of a row.
-ghost use Rattle.std.specs.Prelude.{◌≡◌, ℕ, ◌+◌, ◌-◌, ◌*◌, ◌<◌, ◌≤◌, [], ◌∷◌, All, length, MatchOption, IfOk, IfErr};
-ghost use Rattle.std.specs.Int.{bit_at};
+ghost use Rattle.std.specs.Prelude.{◌≡◌, ◌+◌, ◌-◌, ◌*◌, ◌<◌, ◌≤◌, [], ◌∷◌, All, length, MatchOption, IfOk, IfErr};
 ghost use Rattle.std.specs.Iterator.{YieldsFirst, item_count};
 ghost use Rattle.rq_bytes.specs.declared.error.Error.TheVariants.{OutOfMemory};
-ghost use Rattle.rq_parts.specs.BitPairs.{bit_pairs, ones_among, sparse_pairs, BeginsWithOne};
+ghost use Rattle.rq_parts.specs.BitPairs.{bit_pairs, ones_among, sparse_pairs};
 
 use crate::sparse_vec::SparseBinaryVec;
 use rq_bytes::error::Error;
@@ -35,7 +34,7 @@ impl<'a> Model for OctetIter<'a> {
 #[derive(Debug, Drop)]
 enum Left<'a> {
     Columns(DenseBits<'a>),
-    Ones(DenseBits<'a>),
+    Ones(DenseOnes<'a>),
     Sparse(SparseOnes<'a>),
 }
 
@@ -66,13 +65,7 @@ impl<'a> OctetIter<'a> {
         ensures { result ≡ ones_among (bit_pairs elements.now start_col start_col (end_col - start_col)) }
     {
         OctetIter {
-            left: Left::Ones(DenseBits {
-                column: start_col,
-                end: end_col,
-                words: elements,
-                word: start_col / WORD_BITS,
-                bit: start_col % WORD_BITS,
-            }),
+            left: Left::Ones(DenseOnes::new(start_col, end_col, elements)),
         }
     }
 
@@ -119,7 +112,7 @@ impl<'a> OctetIter<'a> {
         OctetIter {
             left: match &self.left {
                 Left::Columns(bits) => Left::Columns(DenseBits { ..*bits }),
-                Left::Ones(bits) => Left::Ones(DenseBits { ..*bits }),
+                Left::Ones(ones) => Left::Ones(DenseOnes { ..*ones }),
                 Left::Sparse(ones) => Left::Sparse(SparseOnes { ..*ones }),
             },
         }
@@ -137,7 +130,7 @@ impl Iterator for OctetIter<'_> {
     fn next(&mut self) -> Option<(usize, Octet)> {
         match &mut self.left {
             Left::Columns(bits) => bits.next_column(),
-            Left::Ones(bits) => bits.next_one(),
+            Left::Ones(ones) => ones.next_one(),
             Left::Sparse(ones) => ones.next_one(),
         }
     }
@@ -228,46 +221,71 @@ impl<'a> DenseBits<'a> {
         }
         Some((column, octet))
     }
-
-    // The next column that has a one.
-    #[inline(always)]
-    fn next_one(&mut self) -> Option<(usize, Octet)>
-        ensures { MatchOption result ((ones_among self.old ≡ []) × (ones_among self.new ≡ [])) (λ p. ones_among self.old ≡ p ∷ ones_among self.new) }
-    {
-        self.skip_zeros();
-        self.next_column()
-    }
-
-    // Passes over the columns before the next one that has a one.
-    #[inline(always)]
-    fn skip_zeros(&mut self)
-        ensures ones { ones_among self.new ≡ ones_among self.old }
-        ensures first { BeginsWithOne self.new }
-    {
-        while self.column < self.end {
-            let zeros = zeros_in_word(self.words[self.word], self.bit);
-            let count = zeros.min(self.end - self.column);
-            self.column += count;
-            self.bit += count;
-            if self.bit < WORD_BITS {
-                return;
-            }
-            self.word += 1;
-            self.bit = 0;
-        }
-    }
 }
 
-// The number of zeros from a bit of a word on and before the next one, or before the word's end.
-#[inline(always)]
-fn zeros_in_word(word: u64, bit: usize) -> usize
-    requires { bit < 64 }
-    ensures within { bit + result ≤ 64 }
-    ensures zeros { (k : ℕ) → k < result → bit_at word (bit + k) ≡ 0 }
-    ensures one { bit + result < 64 → bit_at word (bit + result) ≡ 1 }
-{
-    let zeros = (word >> bit).trailing_zeros() as usize;
-    zeros.min(WORD_BITS - bit)
+// The ones of a row that are left in the columns before `end`, which `words` have as their bits: those
+// in `bits`, what is left of the word at `word`, and those of the words behind it. Contracts see the
+// list of their pairs.
+#[derive(Debug, Drop)]
+struct DenseOnes<'a> {
+    bits: u64,
+    word: usize,
+    words: &'a [u64],
+    end: usize,
+}
+
+impl<'a> Model for DenseOnes<'a> {
+    ghost use Rattle.std.specs.Prelude.{ℕ, List};
+
+    ghost Value = { List (ℕ × ℕ) };
+
+    ghost use Rattle.rq_parts.specs.OctetIter.{dense_ones_left, IsWithinRow};
+
+    ghost view = { dense_ones_left };
+
+    ghost invariant = { IsWithinRow };
+}
+
+impl<'a> DenseOnes<'a> {
+    // The ones of a range of the columns.
+    fn new(start: usize, end: usize, words: &'a [u64]) -> DenseOnes<'a>
+        requires range { start ≤ end }
+        requires words { end ≤ 64 * length words.now }
+        ensures { result ≡ ones_among (bit_pairs words.now start start (end - start)) }
+    {
+        let word = start / WORD_BITS;
+        let bits = if start < end {
+            words[word] & (u64::MAX << (start % WORD_BITS))
+        } else {
+            0
+        };
+        DenseOnes {
+            bits,
+            word,
+            words,
+            end,
+        }
+    }
+
+    // The next one.
+    #[inline(always)]
+    fn next_one(&mut self) -> Option<(usize, Octet)>
+        ensures { MatchOption result ((self.old ≡ []) × (self.new ≡ [])) (λ p. self.old ≡ p ∷ self.new) }
+    {
+        while self.bits == 0 {
+            if self.end - WORD_BITS * self.word <= WORD_BITS {
+                return None;
+            }
+            self.word += 1;
+            self.bits = self.words[self.word];
+        }
+        let column = WORD_BITS * self.word + self.bits.trailing_zeros() as usize;
+        if column >= self.end {
+            return None;
+        }
+        self.bits &= self.bits - 1;
+        Some((column, Octet::one()))
+    }
 }
 
 // The ones of a sparse row that are left, in the columns that a list has for them, as far as these lie

@@ -17,8 +17,9 @@ use std::alloc::{AllocError, Global};
 use std::cmp::Ordering;
 use std::marker::Model;
 
-/// So many ones of a row take no allocation. Most rows have fewer.
-pub const INLINE_ONES: usize = 12;
+/// So many ones of a row take no allocation. Most rows have fewer, the LDPC rows of smaller blocks
+/// among them.
+pub const INLINE_ONES: usize = 40;
 
 /// A row of bits as the ascending list of the indices that have a one, each below 65536. Contracts
 /// see this list.
@@ -168,7 +169,7 @@ impl SparseBinaryVec {
         ensures refused { OnErr result (self.new ≡ self.old) }
         ensures err { IfErr result (λ e. e ≡ OutOfMemory) }
     {
-        self.elements.push(i as u16)?;
+        push(&mut self.elements, i as u16)?;
         if sink_last(&mut self.elements) {
             self.elements.retain(|one| usize::from(*one) != i);
         }
@@ -185,7 +186,7 @@ impl SparseBinaryVec {
         ensures refused { OnErr result (self.new ≡ self.old) }
         ensures err { IfErr result (λ e. e ≡ OutOfMemory) }
     {
-        self.elements.push(i as u16)?;
+        push(&mut self.elements, i as u16)?;
         last_to(&mut self.elements, gap);
         Ok(())
     }
@@ -216,6 +217,17 @@ impl SparseBinaryVec {
             Err(gap)
         }
     }
+}
+
+// Lists an index behind all others. It stays a call of its own: most lists have room, and what is done
+// where one has none, written at each use, costs the others registers.
+#[inline(never)]
+fn push(ones: &mut SmallVec<u16, INLINE_ONES>, one: u16) -> Result<(), AllocError>
+    ensures ok { OnOk result (ones.new.items ≡ ones.old.items ++ one ∷ []) }
+    ensures refused { OnErr result (ones.new.items ≡ ones.old.items) }
+{
+    ones.push(one)?;
+    Ok(())
 }
 
 // Moves the last one down to a place, and those from there on up. Most have little way to go.

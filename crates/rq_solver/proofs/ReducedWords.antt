@@ -1,11 +1,7 @@
 -- A row takes the reduced rows for which a word has ones, the lowest first.
-use Rattle.std.proofs.Common.{◌≡◌, ◌≢◌, ℕ, ◌+◌, ◌-◌, ◌*◌, ◌%◌, ◌/◌, ◌^◌, ◌<◌, ◌≤◌, List, [], ◌∷◌, ◌++◌, length, min, sym, ap, ◌∙◌, arith, inl, inr, w64, lit<}
-use Rattle.std.specs.Prelude.{bit_and}
-use Rattle.std.specs.Int.{bit_at, trailing_zeros}
-use Rattle.std.proofs.Math.Pow.{pow-lt}
-use Rattle.std.proofs.Math.Nat.{mod-lt}
-use Rattle.std.proofs.lemmas.Nat.{pow_pos, div-add-mod'}
-use Rattle.std.proofs.lemmas.Nat.Bits.{bit_at-zero, bit_at_and, bit_at-pow_same, bit_at-pow_other, bit_at_ones_above, bit_at_above, bit_at_cat_low, bit_at_cat_high, bit_at-trailing_zeros, same_from_bits}
+use Rattle.std.proofs.Common.{◌≡◌, ◌≢◌, ℕ, ◌+◌, ◌-◌, ◌<◌, ◌≤◌, List, [], ◌∷◌, ◌++◌, length, sym, ap, ◌∙◌, arith, inl, inr, lit<}
+use Rattle.std.specs.Int.{bit_at}
+use Rattle.std.proofs.lemmas.Nat.Bits.{bit_at-zero}
 use Rattle.std.proofs.lemmas.Bool.{cases_eq, cases_lt}
 use Rattle.rq_algebra.specs.Systems.{at}
 use Rattle.rq_matrix.proofs.Words.{low_bits, low-same, low-none}
@@ -14,69 +10,12 @@ use Rattle.rq_solver.specs.Cleared.{AreUnits, TakesReduced}
 use Rattle.rq_solver.specs.OperationCounts.{additions}
 use Rattle.rq_solver.specs.Recorded.{Recorded, Records, sum_step}
 use Rattle.rq_parts.specs.DenseOctetMatrix.{OctetTable}
+use Rattle.rq_parts.proofs.LowestOnes.{ClearsLowest}
 use Rattle.rq_solver.specs.RowSteps.{AreRows, rows_after}
 use Rattle.rq_solver.proofs.Performing.{records_more}
 use Rattle.rq_solver.proofs.PivotTurns.{if_same, if_apart}
 use Rattle.rq_solver.proofs.StepColumns.{rows_after-next}
 use Rattle.rq_solver.proofs.ReducedTurns.{reduced_none, reduced_next, reduced_zeros}
-
--- ---- the lowest one of a word, and the others
-
-module _ (word lowest high low : ℕ) (whole : high * 2 ^ (lowest + 1) + low ≡ word) (small : low < 2 ^ (lowest + 1)) (one : bit_at word lowest ≡ 1) (zeros : (k : ℕ) → k < lowest → bit_at word k ≡ 0) where
-  low_is : low ≡ 2 ^ lowest
-  low_is = same_from_bits low (2 ^ lowest) (λ k. elim (cases_lt k (lowest + 1)) [
-    | inl l ↦
-        sym (bit_at_cat_low high (lowest + 1) low k l)
-        ∙ ap (λ n. bit_at n k) whole
-        ∙ elim (cases_eq k lowest) [
-          | inl e ↦ rw e (one ∙ sym (bit_at-pow_same lowest))
-          | inr d ↦ zeros k (omega arith) ∙ sym (bit_at-pow_other lowest k d)
-        ]
-    | inr past ↦ bit_at_above low (lowest + 1) k small past ∙ sym (bit_at-pow_other lowest k (omega arith))
-  ])
-
-  less_is : high * 2 ^ (lowest + 1) + (2 ^ lowest - 1) ≡ word - 1
-  less_is = let some = pow_pos lowest in omega (arith, low_is, whole, some)
-
-  ones_small : 2 ^ lowest - 1 < 2 ^ (lowest + 1)
-  ones_small = let more = pow-lt {i = lowest} {j = lowest + 1} (omega arith) in omega (arith, more)
-
-  clears : (k : ℕ) → k ≤ lowest → bit_at (bit_and word (word - 1)) k ≡ 0
-  clears k l = bit_at_and word (word - 1) k ∙ elim (cases_lt k lowest) [
-    | inl early ↦ ap (λ b. min b (bit_at (word - 1) k)) (zeros k early) ∙ omega arith
-    | inr late ↦
-        let is : k ≡ lowest = omega arith in
-        let zero : bit_at (word - 1) lowest ≡ 0 = ap (λ n. bit_at n lowest) (sym less_is) ∙ bit_at_cat_low high (lowest + 1) (2 ^ lowest - 1) lowest (omega arith) ∙ bit_at_ones_above lowest lowest (omega arith) in
-        rw is (ap (min (bit_at word lowest)) zero ∙ omega arith)
-  ]
-
-  keeps : (k : ℕ) → lowest < k → bit_at (bit_and word (word - 1)) k ≡ bit_at word k
-  keeps k l =
-      let same : bit_at (word - 1) k ≡ bit_at word k = ap (λ n. bit_at n k) (sym less_is)
-      ∙ bit_at_cat_high high (lowest + 1) (2 ^ lowest - 1) k ones_small (omega arith)
-      ∙ sym (bit_at_cat_high high (lowest + 1) low k small (omega arith))
-      ∙ ap (λ n. bit_at n k) whole in
-      bit_at_and word (word - 1) k ∙ ap (min (bit_at word k)) same ∙ omega arith
-
--- a word less its lowest one
-pub record ClearsLowest (word lowest less : ℕ) : Type 0 where
-  pub one : bit_at word lowest ≡ 1
-  pub zeros : (k : ℕ) → k < lowest → bit_at word k ≡ 0
-  pub cleared : (k : ℕ) → k ≤ lowest → bit_at less k ≡ 0
-  pub kept : (k : ℕ) → lowest < k → bit_at less k ≡ bit_at word k
-
-pub clears_lowest : (word : ℕ) → word ≢ 0 → word < 2 ^ 64 → ClearsLowest word (trailing_zeros w64 word) (bit_and word (word - 1))
-clears_lowest word some fits =
-    let lowest = trailing_zeros w64 word in
-    let found = bit_at-trailing_zeros w64 word (omega arith) fits in
-    let whole = div-add-mod' word (2 ^ (lowest + 1)) in
-    let small = mod-lt word (pow_pos (lowest + 1)) in
-    record {
-      one = found.1;
-      zeros = found.2;
-      cleared = clears word lowest (word / 2 ^ (lowest + 1)) (word % 2 ^ (lowest + 1)) whole small found.1 found.2;
-      kept = keeps word lowest (word / 2 ^ (lowest + 1)) (word % 2 ^ (lowest + 1)) whole small found.1 found.2;
-    }
 
 -- ---- the rows that are taken
 

@@ -39,13 +39,13 @@ module _ (xs ys zs : List ℕ) (i : ℕ) (up : IsStrictlyIncreasing xs) (pushed 
         sets = subst (SetsListed xs i (bit_xor (listed_bit xs i) 1)) (sym others) (subst (λ bit. SetsListed xs i (bit_xor bit 1) (filter (is_other i) xs)) (sym one) (sets-others xs i));
       }
 
-is_put_in : (c : goal.Else-sink_last) → IsFlipped c.args.self.now c.args.i (refill (length c.push.new.self.items) c.push.new.self.items c.sink_last.new.ones)
+is_put_in : (c : goal.Else-sink_last) → IsFlipped c.args.self.now c.args.i (refill (length c.push.new.ones.items) c.push.new.ones.items c.sink_last.new.ones)
 is_put_in c =
     let ones = c.args.self.now in
     let up = subst IsStrictlyIncreasing c.self.view_is c.self.invariant in
     let pushed = c.in_ok-push.ensures.ok ∙ ap (λ (xs : List ℕ). xs ++ c.args.i ∷ []) c.self.view_is in
     let shown = c.deref_mut.ensures.value ∙ pushed in
-    put_in ones c.push.new.self.items c.sink_last.new.ones c.args.i up pushed (λ place found. c.sink_last.ensures.sunk ones c.args.i place shown up found)
+    put_in ones c.push.new.ones.items c.sink_last.new.ones c.args.i up pushed (λ place found. c.sink_last.ensures.sunk ones c.args.i place shown up found)
     (listed-missing ones c.args.i (λ found. false≢true (sym c.if-sink_last.false ∙ (c.sink_last.ensures.listed ones c.args.i shown).1 found)))
 
 is_taken_out : (c : goal.After-retain) → IsFlipped c.args.self.now c.args.i c.retain.new.self.items
@@ -54,7 +54,7 @@ is_taken_out c =
     let up = subst IsStrictlyIncreasing c.self.view_is c.self.invariant in
     let pushed = c.in_ok-push.ensures.ok ∙ ap (λ (xs : List ℕ). xs ++ c.args.i ∷ []) c.self.view_is in
     let shown = c.deref_mut.ensures.value ∙ pushed in
-    taken_out ones c.push.new.self.items c.sink_last.new.ones c.args.i up pushed (λ place found. c.sink_last.ensures.sunk ones c.args.i place shown up found) c.retain.new.self.items
+    taken_out ones c.push.new.ones.items c.sink_last.new.ones c.args.i up pushed (λ place found. c.sink_last.ensures.sunk ones c.args.i place shown up found) c.retain.new.self.items
     (listed-contained ones c.args.i up ((c.sink_last.ensures.listed ones c.args.i shown).0 c.if-sink_last.true))
     (filter-from_retain _ (is_other c.args.i) _ (λ x b f' y called. search rules) _ _ c.retain.ensures.filtered)
 

@@ -2,7 +2,8 @@
 use Rattle.std.proofs.Common.{◌-◌, length, arith, w64}
 use Rattle.std.specs.Prelude.{bit_and}
 use Rattle.std.specs.Int.{trailing_zeros}
-use Rattle.rq_solver.proofs.ReducedWords.{clears_lowest, lowest_inside, takes_all, takes_few, takes_lowest, takes_none}
+use Rattle.rq_parts.proofs.LowestOnes.{clears_lowest}
+use Rattle.rq_solver.proofs.ReducedWords.{lowest_inside, takes_all, takes_few, takes_lowest, takes_none}
 use Rattle.rq_solver.proofs.pi_solver.reduced.take_bits.Goals as goal
 
 pub loop-rest-init : goal.loop-rest-init

@@ -2,7 +2,7 @@
 use Rattle.std.proofs.Common.{◌+◌, arith, inl, inr}
 use Rattle.std.proofs.lemmas.Bool.{cases_lt}
 use Rattle.rq_solver.proofs.NonzeroOctets.{all_zeros, first_one, ones_ahead, same_vector}
-use Rattle.rq_solver.proofs.ReducedWords.{clears_lowest}
+use Rattle.rq_parts.proofs.LowestOnes.{clears_lowest}
 use Rattle.rq_solver.proofs.pi_solver.entries.octet_row.next_in_vectors.Goals as goal
 
 pub returns-then-start-end-clause-next : goal.returns-then-start-end-clause-next
