@@ -1,9 +1,9 @@
 //! Steps that are done to symbols.
-ghost use Rattle.std.specs.Prelude.{◌≡◌, ◌+◌, ◌<◌, ◌≤◌, ◌∷◌, [], length, map, take, drop, replicate, true, All, IfSome};
+ghost use Rattle.std.specs.Prelude.{◌≡◌, ◌+◌, ◌<◌, ◌≤◌, ◌∷◌, [], length, map, take, drop, replicate, true, IfSome};
 ghost use Rattle.rq_algebra.specs.Operations.{AddAssign, MulAssign, Fma, AreAllowed};
 ghost use Rattle.rq_algebra.specs.Symbols.{AreSymbols};
 ghost use Rattle.rq_bytes.specs.Ranges.{range_of};
-ghost use Rattle.rq_bytes.specs.SymbolSlab.{after_all, Allows, HasPlace, symbol_in};
+ghost use Rattle.rq_bytes.specs.SymbolSlab.{after_all, HasPlace, symbol_in};
 ghost use Rattle.rq_standard.specs.OctetField.{octets};
 ghost use Rattle.rq_operations.specs.Steps.{operation_of_step, PerformsNext};
 
@@ -24,108 +24,123 @@ pub(crate) fn replay(steps: &[Step], symbols: &mut SymbolSlab)
     requires { AreAllowed (length symbols.old.values) symbols.old.order (map operation_of_step steps.now) }
     ensures { symbols.new ≡ after_all (map operation_of_step steps.now) symbols.old }
 {
-    let mut sources = [0; RUN];
-    let mut multiples = [Multiple { dest: 0, scalar: 0 }; MULTIPLES];
-    // Whether all symbols whose multiples were asked for are zeros.
-    let mut zeros = true;
+    let mut performer = Performer::new();
     let mut done = 0;
     while done < steps.len() {
-        done += perform_next(
-            steps,
-            done,
-            &mut sources,
-            &mut multiples,
-            &mut zeros,
-            symbols,
-        );
+        done += performer.perform_next(steps, done, symbols);
     }
 }
 
-// Performs the step at `start`, and those behind it that are done in the same pass over a symbol.
-// Returns how many steps these are.
-fn perform_next(
-    steps: &[Step],
-    start: usize,
-    sources: &mut [usize],
-    multiples: &mut [Multiple],
-    zeros: &mut bool,
-    symbols: &mut SymbolSlab,
-) -> usize
-    requires here { start < length steps.now }
-    requires sources { 0 < length sources.old }
-    requires multiples { 0 < length multiples.old }
-    requires allowed { AreAllowed (length symbols.old.values) symbols.old.order (drop start (map operation_of_step steps.now)) }
-    ensures { PerformsNext (map operation_of_step steps.now) start result symbols.old symbols.new }
-{
-    match &steps[start] {
-        Step::Add { dest, src } => {
-            let count = read_sources(steps, start, *dest, *src, sources);
-            symbols.add_all(*dest as usize, &sources[..count]);
-            count
-        }
-        Step::AddMultiple { scalar, dest, src } => {
-            let first = Multiple {
-                dest: *dest as usize,
-                scalar: scalar.byte(),
-            };
-            let count = read_multiples(steps, start, *src, first, multiples);
-            add_multiples(symbols, *src, &multiples[..count], zeros);
-            count
-        }
-        Step::Multiply { scalar, dest } => multiply(steps, start, scalar, *dest, zeros, symbols),
-    }
+// What is kept while steps are performed.
+#[derive(Debug, Drop)]
+struct Performer {
+    // Room for the sources and for the multiples of one pass, so that no pass sets up its own.
+    sources: [usize; RUN],
+    multiples: [Multiple; MULTIPLES],
+    // Whether all symbols whose multiples were asked for are zeros.
+    still_zeros: bool,
 }
 
-// Performs the multiplication at `start`. A doubling is done in one pass with an addition behind it to
-// the same symbol. Returns how many steps these are.
-fn multiply(
-    steps: &[Step],
-    start: usize,
-    scalar: &Octet,
-    dest: u32,
-    zeros: &mut bool,
-    symbols: &mut SymbolSlab,
-) -> usize
-    requires here { start < length steps.now }
-    requires step { range_of (map operation_of_step steps.now) start 1 ≡ MulAssign dest scalar.now ∷ [] }
-    requires allowed { AreAllowed (length symbols.old.values) symbols.old.order (drop start (map operation_of_step steps.now)) }
-    ensures { PerformsNext (map operation_of_step steps.now) start result symbols.old symbols.new }
-{
-    if scalar.byte() == 2 {
-        if let Some(src) = next_source(steps, start, dest) {
-            symbols.double_and_add(dest as usize, src as usize);
-            return 2;
+impl Performer {
+    // That of a replay of which no step was performed.
+    fn new() -> Self
+        ensures { result.still_zeros ≡ true }
+    {
+        Performer {
+            sources: [0; RUN],
+            multiples: [Multiple { dest: 0, scalar: 0 }; MULTIPLES],
+            still_zeros: true,
         }
     }
-    if !is_zero(symbols, dest, zeros) {
-        symbols.mulassign_scalar(dest as usize, scalar);
-    }
-    1
-}
 
-// Adds multiples of a symbol to others, where it isn't zeros.
-fn add_multiples(symbols: &mut SymbolSlab, src: u32, multiples: &[Multiple], zeros: &mut bool)
-    requires some { 0 < length multiples.now }
-    requires multiples { All (λ m. Allows symbols.old (Fma m.dest src m.scalar)) multiples.now }
-    ensures { symbols.new ≡ after_all (map (λ m. Fma m.dest src m.scalar) multiples.now) symbols.old }
-{
-    if !is_zero(symbols, src, zeros) {
-        symbols.add_multiples(src as usize, multiples);
+    // Performs the step at `start`, and those behind it that are done in the same pass over a symbol.
+    // Returns how many steps these are.
+    fn perform_next(&mut self, steps: &[Step], start: usize, symbols: &mut SymbolSlab) -> usize
+        requires here { start < length steps.now }
+        requires allowed { AreAllowed (length symbols.old.values) symbols.old.order (drop start (map operation_of_step steps.now)) }
+        ensures { PerformsNext (map operation_of_step steps.now) start result symbols.old symbols.new }
+    {
+        match &steps[start] {
+            Step::Add { dest, src } => {
+                let count = read_sources(steps, start, *dest, *src, &mut self.sources);
+                symbols.add_all(*dest as usize, &self.sources[..count]);
+                count
+            }
+            Step::AddMultiple { scalar, dest, src } => {
+                let first = Multiple {
+                    dest: *dest as usize,
+                    scalar: scalar.byte(),
+                };
+                self.add_multiples(steps, start, *src, first, symbols)
+            }
+            Step::Multiply { scalar, dest } => self.multiply(steps, start, scalar, *dest, symbols),
+        }
     }
-}
 
-// Whether the symbol at a place was found to be zeros, so that its multiples change nothing. The first
-// multiples that the solver records are such: they are of the sum of the HDPC equations' values, which
-// are all zeros. So a symbol is looked at only while all before it, `zeros`, were zeros.
-fn is_zero(symbols: &SymbolSlab, place: u32, zeros: &mut bool) -> bool
-    requires { HasPlace symbols.now place }
-    ensures zeros { (result ≡ true) → (symbol_in symbols.now place ≡ replicate symbols.now.symbol_size 0) }
-    ensures symbols { AreSymbols octets symbols.now.symbol_size (length symbols.now.values) symbols.now.values }
-{
-    // For the proof: the contract of `symbol_size` says that each symbol has that size.
-    let _size = symbols.symbol_size();
-    *zeros = *zeros && octets::is_zero(symbols.get(place as usize));
-    *zeros
+    // Performs the multiplication at `start`. A doubling is done in one pass with an addition behind it
+    // to the same symbol. Returns how many steps these are.
+    fn multiply(
+        &mut self,
+        steps: &[Step],
+        start: usize,
+        scalar: &Octet,
+        dest: u32,
+        symbols: &mut SymbolSlab,
+    ) -> usize
+        requires here { start < length steps.now }
+        requires step { range_of (map operation_of_step steps.now) start 1 ≡ MulAssign dest scalar.now ∷ [] }
+        requires allowed { AreAllowed (length symbols.old.values) symbols.old.order (drop start (map operation_of_step steps.now)) }
+        ensures { PerformsNext (map operation_of_step steps.now) start result symbols.old symbols.new }
+    {
+        if scalar.byte() == 2 {
+            if let Some(src) = next_source(steps, start, dest) {
+                symbols.double_and_add(dest as usize, src as usize);
+                return 2;
+            }
+        }
+        if !self.is_zero(symbols, dest) {
+            symbols.mulassign_scalar(dest as usize, scalar);
+        }
+        1
+    }
+
+    // Performs the additions of multiples of the symbol at `src` that follow each other from `start` on,
+    // the first one being known, as far as there is room. Multiples of zeros are left out. Returns how
+    // many steps these are.
+    fn add_multiples(
+        &mut self,
+        steps: &[Step],
+        start: usize,
+        src: u32,
+        first: Multiple,
+        symbols: &mut SymbolSlab,
+    ) -> usize
+        requires here { start < length steps.now }
+        requires first { range_of (map operation_of_step steps.now) start 1 ≡ Fma first.dest src first.scalar ∷ [] }
+        requires allowed { AreAllowed (length symbols.old.values) symbols.old.order (drop start (map operation_of_step steps.now)) }
+        ensures { PerformsNext (map operation_of_step steps.now) start result symbols.old symbols.new }
+    {
+        let count = read_multiples(steps, start, src, first, &mut self.multiples);
+        if !self.is_zero(symbols, src) {
+            symbols.add_multiples(src as usize, &self.multiples[..count]);
+        }
+        count
+    }
+
+    // Whether the symbol at a place was found to be zeros, so that its multiples change nothing. The
+    // first multiples that the solver records are such: they are of the sum of the HDPC equations'
+    // values, which are all zeros. So a symbol is looked at only while all before it were zeros.
+    fn is_zero(&mut self, symbols: &SymbolSlab, place: u32) -> bool
+        requires { HasPlace symbols.now place }
+        ensures zeros { (result ≡ true) → (symbol_in symbols.now place ≡ replicate symbols.now.symbol_size 0) }
+        ensures symbols { AreSymbols octets symbols.now.symbol_size (length symbols.now.values) symbols.now.values }
+        ensures kept { self.new ≡ record self.old { still_zeros = result } }
+    {
+        // For the proof: the contract of `symbol_size` says that each symbol has that size.
+        let _size = symbols.symbol_size();
+        self.still_zeros = self.still_zeros && octets::is_zero(symbols.get(place as usize));
+        self.still_zeros
+    }
 }
 
 // The source of the step behind `start`, where it is an addition to `dest`.

@@ -1,4 +1,4 @@
--- What the check leaves to show of `replay::multiply`.
+-- What the check leaves to show of `replay::Performer::multiply`.
 use Rattle.std.proofs.Common.{◌≡◌, [], ◌∷◌, length, map, refl, sym, ap, ◌∙◌, arith}
 use Rattle.std.proofs.lemmas.List.{length-map}
 use Rattle.rq_algebra.specs.Operations.{AddAssign, MulAssign}
@@ -6,7 +6,7 @@ use Rattle.rq_bytes.specs.SymbolSlab.{after_all}
 use Rattle.rq_operations.specs.Steps.{operation_of_step}
 use Rattle.rq_operations.proofs.Performed.{one_performed, two_performed, next_allowed}
 use Rattle.rq_operations.proofs.Zeros.{zeros_multiplied}
-use Rattle.rq_operations.proofs.replay.multiply.Goals as goal
+use Rattle.rq_operations.proofs.replay.Performer.multiply.Goals as goal
 
 pub double_and_add-requires : goal.double_and_add-requires
 double_and_add-requires c =
