@@ -2,7 +2,7 @@
 use Rattle.std.proofs.Common.{◌≡◌, ◌≢◌, ℕ, ◌+◌, ◌-◌, ◌%◌, ◌^◌, ◌<◌, ◌≤◌, Bool, false, List, length, map, min, eqb, not, cond, sym, ap, ◌∙◌, arith, inl, inr, w8, w64, lit<}
 use Rattle.std.specs.Prelude.{bit_and, replicate}
 use Rattle.std.specs.Int.{bit_at, bit_not}
-use Rattle.std.proofs.lemmas.Bool.{cases_eq, cases_lt, eq-eqb, ne_eqb}
+use Rattle.std.proofs.lemmas.Bool.{cases_eq, eq-eqb, ne_eqb}
 use Rattle.std.proofs.lemmas.List.{get_or-map, length-map}
 use Rattle.std.proofs.lemmas.Nat.Bits.{bit_at-lt, bit_at-zero, bit_at_above, bit_at_and, bit_at_not}
 use Rattle.std.proofs.lemmas.Simd.{length-chunk, get_or-chunk, bit_mask_l, bitmask_splat, mask_l-lt}
@@ -10,6 +10,7 @@ use lib.Lanes.{chunk, mask_l, top, zip2}
 use Rattle.rq_algebra.specs.Systems.{at}
 use Rattle.rq_solver.specs.NonzeroOctets.{nonzero, HasOnes}
 use Rattle.rq_solver.proofs.PivotTurns.{if_same, if_apart}
+use Rattle.rq_solver.proofs.ReducedWords.{lowest_before, lowest_from}
 use Rattle.rq_parts.proofs.LowestOnes.{ClearsLowest}
 
 pub nonzero_none : (x : ℕ) → x ≡ 0 → nonzero x ≡ 0
@@ -45,14 +46,8 @@ module _ (octets : List ℕ) (start place ones : ℕ) (v : HasOnes octets start 
 
   pub first_one : (lowest less : ℕ) → ClearsLowest ones lowest less → IsFirstOne lowest less
   first_one lowest less clears =
-      let inside : lowest < 32 = elim (cases_lt lowest 32) [
-        | inl l ↦ l
-        | inr past ↦ let none = v.beyond lowest past in let one = clears.one in absurd (omega (arith, none, one))
-      ] in
-      let after : place < start + lowest = elim (cases_lt place (start + lowest)) [
-        | inl l ↦ l
-        | inr early ↦ let none = v.behind lowest early in let one = clears.one in absurd (omega (arith, none, one))
-      ] in
+      let inside : lowest < 32 = lowest_before ones lowest less clears 32 v.beyond in
+      let after : place < start + lowest = (let from = lowest_from ones lowest less clears (place + 1 - start) (λ k l. v.behind k (omega arith)) in omega (arith, from)) in
       record {
         inside = inside;
         after = after;

@@ -11,11 +11,27 @@ use Rattle.rq_solver.specs.OperationCounts.{additions}
 use Rattle.rq_solver.specs.Recorded.{Recorded, Records, sum_step}
 use Rattle.rq_parts.specs.DenseOctetMatrix.{OctetTable}
 use Rattle.rq_parts.proofs.LowestOnes.{ClearsLowest}
-use Rattle.rq_solver.specs.RowSteps.{AreRows, rows_after}
+use Rattle.rq_solver.specs.RowSteps.{CanTake, rows_after}
 use Rattle.rq_solver.proofs.Performing.{records_more}
 use Rattle.rq_solver.proofs.PivotTurns.{if_same, if_apart}
 use Rattle.rq_solver.proofs.StepColumns.{rows_after-next}
 use Rattle.rq_solver.proofs.ReducedTurns.{reduced_none, reduced_next, reduced_zeros}
+
+-- ---- where the lowest one of a word is
+
+module _ (word lowest less : ℕ) (clears : ClearsLowest word lowest less) where
+  -- not before a place, or not from one on, where there are zeros
+  pub lowest_from : (place : ℕ) → ((k : ℕ) → k < place → bit_at word k ≡ 0) → place ≤ lowest
+  lowest_from place behind = elim (cases_lt lowest place) [
+    | inl early ↦ let zero = behind lowest early in let one = clears.one in absurd (omega (arith, zero, one))
+    | inr late ↦ late
+  ]
+
+  pub lowest_before : (end : ℕ) → ((k : ℕ) → end ≤ k → bit_at word k ≡ 0) → lowest < end
+  lowest_before end beyond = elim (cases_lt lowest end) [
+    | inl inside ↦ inside
+    | inr past ↦ let zero = beyond lowest past in let one = clears.one in absurd (omega (arith, zero, one))
+  ]
 
 -- ---- the rows that are taken
 
@@ -43,21 +59,12 @@ module _ (reduced : List ℕ) (row end word : ℕ) (old : Recorded) where
 
   module _ (rest : ℕ) (cur : Recorded) (v : TakesOnes reduced row end word rest old cur) where
     module _ (lowest less : ℕ) (clears : ClearsLowest rest lowest less) where
-      lowest_after : v.place ≤ lowest
-      lowest_after = elim (cases_lt lowest v.place) [
-        | inl early ↦ let zero = v.behind lowest early in let one = clears.one in absurd (omega (arith, zero, one))
-        | inr late ↦ late
-      ]
-
       pub lowest_inside : lowest < end
-      lowest_inside = elim (cases_lt lowest end) [
-        | inl inside ↦ inside
-        | inr past ↦ let zero = v.beyond lowest past in let one = clears.one in absurd (omega (arith, zero, one))
-      ]
+      lowest_inside = lowest_before rest lowest less clears end v.beyond
 
       pub takes_lowest : row ≢ at reduced lowest → (new : Recorded) → Records (sum_step row (at reduced lowest) 1 ∷ []) cur new → additions new.operations ≡ additions cur.operations + 1 → TakesOnes reduced row end word less old new
       takes_lowest apart new records counted =
-          let late = lowest_after in
+          let late = lowest_from rest lowest less clears v.place v.behind in
           let inside = lowest_inside in
           let one : 1 ≡ bit_at word lowest = sym (sym (v.ahead lowest late inside) ∙ clears.one) in
           record {
@@ -139,12 +146,16 @@ module _ (reduced some : List ℕ) (row from count : ℕ) (same : (k : ℕ) → 
         rest = λ m column units f l n. absurd (omega (arith, l, n));
       }
 
-  pub rows_part : (table : OctetTable) → from + count ≤ length reduced → length some ≡ count → AreRows reduced table → AreRows some table
-  rows_part table within long are = record {
-    below = λ i l. let inside : i < count = omega (arith, l, long) in rw (same i inside) (are.below (from + i) (omega (arith, inside, within)));
-    apart = λ i j l n e.
-        let in_i : i < count = omega (arith, l, long) in
-        let in_j : j < count = omega (arith, n, long) in
-        let both = are.apart (from + i) (from + j) (omega (arith, in_i, within)) (omega (arith, in_j, within)) (sym (same i in_i) ∙ e ∙ same j in_j) in
-        omega (arith, both);
+  pub can_take_part : (table : OctetTable) → from + count ≤ length reduced → length some ≡ count → CanTake row reduced table → CanTake row some table
+  can_take_part table within long v = record {
+    row = v.row;
+    reduced = record {
+      below = λ i l. let inside : i < count = omega (arith, l, long) in rw (same i inside) (v.reduced.below (from + i) (omega (arith, inside, within)));
+      apart = λ i j l n e.
+          let in_i : i < count = omega (arith, l, long) in
+          let in_j : j < count = omega (arith, n, long) in
+          let both = v.reduced.apart (from + i) (from + j) (omega (arith, in_i, within)) (omega (arith, in_j, within)) (sym (same i in_i) ∙ e ∙ same j in_j) in
+          omega (arith, both);
+    };
+    apart = λ f l e. let inside : f < count = omega (arith, l, long) in v.apart (from + f) (omega (arith, inside, within)) (e ∙ same f inside);
   }

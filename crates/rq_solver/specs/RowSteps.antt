@@ -13,6 +13,12 @@ use Rattle.rq_parts.specs.DenseOctetMatrix.{OctetTable, entry_of}
 abbrev pub AreRows : List ℕ → OctetTable → Type 0
 AreRows rows table = ArePlaces (length rows) (length table.rows) (at rows)
 
+-- these rows of a table can be taken by another one of it, which is none of them
+pub record CanTake (taker : ℕ) (rows : List ℕ) (table : OctetTable) : Type 0 where
+  pub row : taker < length table.rows
+  pub reduced : AreRows rows table
+  pub apart : (f : ℕ) → f < length rows → taker ≢ at rows f
+
 -- the rows after an operation, which does to them what it does to the values
 unfoldable pub row_step : Field → Operation → (ℕ → ℕ → ℕ) → ℕ → ℕ → ℕ
 row_step F (AddAssign dest src) a = with_at a dest (λ k. F.add (a dest k) (a src k))

@@ -1,13 +1,12 @@
 //! Rows take reduced rows, those that are bits a word of them at a time.
-ghost use Rattle.std.specs.Prelude.{◌≡◌, ◌≢◌, ℕ, ◌+◌, ◌*◌, ◌^◌, ◌<◌, ◌≤◌, length, OnOk, IfErr};
+ghost use Rattle.std.specs.Prelude.{◌≡◌, ◌+◌, ◌*◌, ◌^◌, ◌<◌, ◌≤◌, length, OnOk, IfErr};
 ghost use Rattle.std.specs.Int.{bit_at};
-ghost use Rattle.rq_algebra.specs.Systems.{at};
 ghost use Rattle.rq_bytes.specs.declared.error.Error.TheVariants.{OutOfMemory};
 ghost use Rattle.rq_parts.specs.DenseOctetMatrix.{entry_of, HasOctets};
 ghost use Rattle.rq_solver.specs.Cleared.{TakesReduced};
 ghost use Rattle.rq_solver.specs.OperationCounts.{additions};
 ghost use Rattle.rq_solver.specs.Recorded.{AddsAtMost};
-ghost use Rattle.rq_solver.specs.RowSteps.{AreRows};
+ghost use Rattle.rq_solver.specs.RowSteps.{CanTake};
 
 use super::recorded::RecordedRows;
 use rq_bytes::error::Error;
@@ -24,10 +23,8 @@ pub(super) fn take_reduced_rows(
     inactive: usize,
     recorded: &mut RecordedRows,
 ) -> Result<(), Error>
-    requires row { row < length recorded.old.table.rows }
-    requires reduced { AreRows reduced.now recorded.old.table }
+    requires rows { CanTake row reduced.now recorded.old.table }
     requires many { inactive ≤ length reduced.now }
-    requires apart { (f : ℕ) → f < length reduced.now → row ≢ at reduced.now f }
     requires width { inactive ≤ recorded.old.table.width }
     requires octets { HasOctets recorded.old.table }
     ensures taken { OnOk result (TakesReduced reduced.now row 0 inactive inactive (entry_of recorded.old.table row) recorded.old recorded.new) }
@@ -48,11 +45,9 @@ fn take_word(
     word: usize,
     recorded: &mut RecordedRows,
 ) -> Result<(), Error>
-    requires row { row < length recorded.old.table.rows }
-    requires reduced { AreRows reduced.now recorded.old.table }
+    requires rows { CanTake row reduced.now recorded.old.table }
     requires some { 0 < length reduced.now }
     requires few { length reduced.now ≤ 64 }
-    requires apart { (f : ℕ) → f < length reduced.now → row ≢ at reduced.now f }
     requires width { 64 * word + length reduced.now ≤ recorded.old.table.width }
     requires fits { 64 * word + length reduced.now < 2 ^ 64 }
     requires octets { HasOctets recorded.old.table }
@@ -75,11 +70,9 @@ fn take_bits(
     bits: u64,
     recorded: &mut RecordedRows,
 ) -> Result<(), Error>
-    requires row { row < length recorded.old.table.rows }
-    requires reduced { AreRows reduced.now recorded.old.table }
+    requires rows { CanTake row reduced.now recorded.old.table }
     requires some { 0 < length reduced.now }
     requires few { length reduced.now ≤ 64 }
-    requires apart { (f : ℕ) → f < length reduced.now → row ≢ at reduced.now f }
     ensures taken { OnOk result (TakesReduced reduced.now row 0 (length reduced.now) (length reduced.now) (bit_at bits) recorded.old recorded.new) }
     ensures few { OnOk result (AddsAtMost (length reduced.now) recorded.old recorded.new) }
     ensures err { IfErr result (λ e. e ≡ OutOfMemory) }
@@ -101,9 +94,7 @@ fn take_octets(
     start: usize,
     recorded: &mut RecordedRows,
 ) -> Result<(), Error>
-    requires row { row < length recorded.old.table.rows }
-    requires reduced { AreRows reduced.now recorded.old.table }
-    requires apart { (f : ℕ) → f < length reduced.now → row ≢ at reduced.now f }
+    requires rows { CanTake row reduced.now recorded.old.table }
     requires width { start + length reduced.now ≤ recorded.old.table.width }
     requires fits { start + length reduced.now < 2 ^ 64 }
     requires octets { HasOctets recorded.old.table }

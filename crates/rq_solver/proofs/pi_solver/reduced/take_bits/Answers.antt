@@ -17,7 +17,7 @@ bounds-reduced-f c =
 pub record_sum-requires-clause-two : goal.record_sum-requires-clause-two
 record_sum-requires-clause-two c =
     let rest = c.loop-rest.rest in
-    c.requires.apart (trailing_zeros w64 rest) (lowest_inside c.args.reduced.now c.args.row (length c.args.reduced.now) c.args.bits c.args.recorded.now rest c.loop-rest.recorded c.loop-rest.invariant _ _ (clears_lowest rest c.loop-rest-test.true (omega arith)))
+    c.requires.rows.apart (trailing_zeros w64 rest) (lowest_inside c.args.reduced.now c.args.row (length c.args.reduced.now) c.args.bits c.args.recorded.now rest c.loop-rest.recorded c.loop-rest.invariant _ _ (clears_lowest rest c.loop-rest-test.true (omega arith)))
 
 pub loop-rest-preserved : goal.loop-rest-preserved
 loop-rest-preserved c =
@@ -27,7 +27,7 @@ loop-rest-preserved c =
     let clears = clears_lowest rest c.loop-rest-test.true (omega arith) in
     let inside = lowest_inside c.args.reduced.now c.args.row end c.args.bits c.args.recorded.now rest c.loop-rest.recorded v _ _ clears in
     takes_lowest c.args.reduced.now c.args.row end c.args.bits c.args.recorded.now rest c.loop-rest.recorded v (trailing_zeros w64 rest) (bit_and rest (rest - 1)) clears
-    (c.requires.apart (trailing_zeros w64 rest) inside) c.record_sum.new.self (rw c.one.ensures at c.in_ok-record_sum.ensures.recorded) c.in_ok-record_sum.ensures.counted
+    (c.requires.rows.apart (trailing_zeros w64 rest) inside) c.record_sum.new.self (rw c.one.ensures at c.in_ok-record_sum.ensures.recorded) c.in_ok-record_sum.ensures.counted
 
 pub returns-clause-taken : goal.returns-clause-taken
 returns-clause-taken c = takes_all c.args.reduced.now c.args.row (length c.args.reduced.now) c.args.bits c.args.recorded.now c.loop-rest.rest c.loop-rest.recorded c.loop-rest.invariant c.loop-rest-test.false

@@ -31,13 +31,13 @@ loop-column-preserved c =
     let here : start + (column - start) ≡ column = omega (arith, first, forward) in
     let next : column + 1 - start ≡ column - start + 1 = omega (arith, first, forward) in
     let scalar_is : c.in-Some.scalar ≡ entries (column - start) = c.in-Some.ensures.1 ∙ same column ∙ ap (λ (k : ℕ). entry_of c.args.recorded.now.table c.args.row k) (sym here) in
-    let small : c.in-Some.scalar < 256 = rw scalar_is (c.requires.octets.elements c.args.row (start + (column - start)) c.requires.row (omega (arith, here, inside, c.requires.width))) in
+    let small : c.in-Some.scalar < 256 = rw scalar_is (c.requires.octets.elements c.args.row (start + (column - start)) c.requires.rows.row (omega (arith, here, inside, c.requires.width))) in
     record {
       from = omega (arith, first, forward);
       within = omega (arith, c.in-Some.ensures.0.1);
       taken = rw next (reduced_next rows c.args.row 0 count entries (c.loop-column.from - start) (column - start) (omega arith) (omega (arith, first, forward)) inside c.args.recorded.now c.loop-column.recorded v.taken
           (λ k l n. sym (same (start + k)) ∙ c.in-Some.ensures.0.3 (start + k) (omega (arith, l, first)) (omega (arith, n, first, forward)))
-          (c.requires.apart (column - start) inside) c.in-Some.scalar small scalar_is c.record_sum.new.self c.in_ok-record_sum.ensures.recorded);
+          (c.requires.rows.apart (column - start) inside) c.in-Some.scalar small scalar_is c.record_sum.new.self c.in_ok-record_sum.ensures.recorded);
       few =
           let more = c.in_ok-record_sum.ensures.counted in
           let so_far = v.few in

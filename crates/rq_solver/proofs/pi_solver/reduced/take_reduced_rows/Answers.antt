@@ -7,7 +7,7 @@ use Rattle.rq_algebra.specs.Systems.{at}
 use Rattle.rq_parts.specs.DenseOctetMatrix.{entry_of}
 use Rattle.rq_solver.specs.Cleared.{TakesReduced}
 use Rattle.rq_solver.proofs.ReducedTurns.{reduced_none}
-use Rattle.rq_solver.proofs.ReducedWords.{reduced_join, reduced_part, reduced_same, rows_part}
+use Rattle.rq_solver.proofs.ReducedWords.{can_take_part, reduced_join, reduced_part, reduced_same}
 use Rattle.rq_solver.proofs.pi_solver.reduced.take_reduced_rows.Goals as goal
 
 -- the first of the rows that are left
@@ -42,8 +42,8 @@ loop-word-init c =
       few = omega arith;
     }
 
-pub take_word-requires-clause-reduced : goal.take_word-requires-clause-reduced
-take_word-requires-clause-reduced c =
+pub take_word-requires-clause-rows : goal.take_word-requires-clause-rows
+take_word-requires-clause-rows c =
     let v = c.loop-word.invariant in
     let reduced = c.args.reduced.now in
     let rest = chunks_rest (enumerate_source c.loop-word.word-iterator) in
@@ -53,7 +53,7 @@ take_word-requires-clause-reduced c =
     let long = ap (λ (xs : List ℕ). length xs) split ∙ length-append some others in
     let from = c.args.inactive - length rest in
     let short = v.short in
-    rw v.taken.records.table (rows_part reduced some c.args.row from (length some) (part_same reduced rest some others from split v.same) (entry_of c.args.recorded.now.table c.args.row) c.args.recorded.now.table (omega (arith, long, short, c.requires.many)) (omega arith) c.requires.reduced)
+    rw v.taken.records.table (can_take_part reduced some c.args.row from (length some) (part_same reduced rest some others from split v.same) (entry_of c.args.recorded.now.table c.args.row) c.args.recorded.now.table (omega (arith, long, short, c.requires.many)) (omega arith) c.requires.rows)
 
 pub loop-word-preserved : goal.loop-word-preserved
 loop-word-preserved c =
@@ -88,7 +88,7 @@ loop-word-preserved c =
       short = omega (arith, long, short);
       same = others_same reduced rest some others from next split there v.same;
       place = λ more. (let stands = v.place steps.0.1.2 in let counted = steps.2 in omega (arith, stands, counted, long, whole, more));
-      taken = reduced_join reduced row 0 inactive entries from next (omega arith) (omega (arith, there)) (omega arith) old cur new (λ f l n. c.requires.apart f (omega (arith, n, c.requires.many))) v.taken
+      taken = reduced_join reduced row 0 inactive entries from next (omega arith) (omega (arith, there)) (omega arith) old cur new (λ f l n. c.requires.rows.apart f (omega (arith, n, c.requires.many))) v.taken
           (subst (λ t. TakesReduced reduced row from t t entries cur new) there part);
       few =
           let added = c.in_ok-take_word.ensures.few in
