@@ -98,7 +98,7 @@ impl Performer {
                 return 2;
             }
         }
-        if !self.is_zero(symbols, dest) {
+        if !self.is_found_zero(symbols, dest) {
             symbols.mulassign_scalar(dest as usize, scalar);
         }
         1
@@ -121,7 +121,7 @@ impl Performer {
         ensures { PerformsNext (map operation_of_step steps.now) start result symbols.old symbols.new }
     {
         let count = read_multiples(steps, start, src, first, &mut self.multiples);
-        if !self.is_zero(symbols, src) {
+        if !self.is_found_zero(symbols, src) {
             symbols.add_multiples(src as usize, &self.multiples[..count]);
         }
         count
@@ -130,7 +130,7 @@ impl Performer {
     // Whether the symbol at a place was found to be zeros, so that its multiples change nothing. The
     // first multiples that the solver records are such: they are of the sum of the HDPC equations'
     // values, which are all zeros. So a symbol is looked at only while all before it were zeros.
-    fn is_zero(&mut self, symbols: &SymbolSlab, place: u32) -> bool
+    fn is_found_zero(&mut self, symbols: &SymbolSlab, place: u32) -> bool
         requires { HasPlace symbols.now place }
         ensures zeros { (result ≡ true) → (symbol_in symbols.now place ≡ replicate symbols.now.symbol_size 0) }
         ensures symbols { AreSymbols octets symbols.now.symbol_size (length symbols.now.values) symbols.now.values }

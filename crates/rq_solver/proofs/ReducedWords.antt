@@ -148,13 +148,13 @@ module _ (reduced some : List ℕ) (row from count : ℕ) (same : (k : ℕ) → 
 
   pub can_take_part : (table : OctetTable) → from + count ≤ length reduced → length some ≡ count → CanTake row reduced table → CanTake row some table
   can_take_part table within long v = record {
-    row = v.row;
-    reduced = record {
-      below = λ i l. let inside : i < count = omega (arith, l, long) in rw (same i inside) (v.reduced.below (from + i) (omega (arith, inside, within)));
+    taker = v.taker;
+    rows = record {
+      below = λ i l. let inside : i < count = omega (arith, l, long) in rw (same i inside) (v.rows.below (from + i) (omega (arith, inside, within)));
       apart = λ i j l n e.
           let in_i : i < count = omega (arith, l, long) in
           let in_j : j < count = omega (arith, n, long) in
-          let both = v.reduced.apart (from + i) (from + j) (omega (arith, in_i, within)) (omega (arith, in_j, within)) (sym (same i in_i) ∙ e ∙ same j in_j) in
+          let both = v.rows.apart (from + i) (from + j) (omega (arith, in_i, within)) (omega (arith, in_j, within)) (sym (same i in_i) ∙ e ∙ same j in_j) in
           omega (arith, both);
     };
     apart = λ f l e. let inside : f < count = omega (arith, l, long) in v.apart (from + f) (omega (arith, inside, within)) (e ∙ same f inside);

@@ -64,7 +64,7 @@ pub record ListedRows : Type 0 where
   pub rows : List ℕ
   pub room : ℕ
 
--- rows of these degrees are listed, and among the first of them each that has degree 1
+-- rows of these degrees are listed, and the first list has each that has degree 1
 pub record AreListed (degrees singles pairs : List ℕ) : Type 0 where
   pub singles_below : All (λ row. row < length degrees) singles
   pub pairs_below : All (λ row. row < length degrees) pairs

@@ -13,11 +13,11 @@ use Rattle.rq_parts.specs.DenseOctetMatrix.{OctetTable, entry_of}
 abbrev pub AreRows : List ℕ → OctetTable → Type 0
 AreRows rows table = ArePlaces (length rows) (length table.rows) (at rows)
 
--- these rows of a table can be taken by another one of it, which is none of them
-pub record CanTake (taker : ℕ) (rows : List ℕ) (table : OctetTable) : Type 0 where
-  pub row : taker < length table.rows
-  pub reduced : AreRows rows table
-  pub apart : (f : ℕ) → f < length rows → taker ≢ at rows f
+-- a row of a table can take these other ones of it
+pub record CanTake (row : ℕ) (others : List ℕ) (table : OctetTable) : Type 0 where
+  pub taker : row < length table.rows
+  pub rows : AreRows others table
+  pub apart : (f : ℕ) → f < length others → row ≢ at others f
 
 -- the rows after an operation, which does to them what it does to the values
 unfoldable pub row_step : Field → Operation → (ℕ → ℕ → ℕ) → ℕ → ℕ → ℕ

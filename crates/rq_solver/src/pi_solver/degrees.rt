@@ -168,7 +168,7 @@ fn lower_rows(rows: &[u32], degrees: &mut [u16], singles: &mut RowList, pairs: &
 // Rows that are listed one behind the other. Contracts see these, and for how many more there is room.
 #[derive(Drop)]
 struct RowList {
-    // So many rows are listed, and behind them is room for more.
+    // The first `count` are listed, and behind them is room for more.
     rows: Vec<u32>,
     count: usize,
 }

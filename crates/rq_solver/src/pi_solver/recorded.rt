@@ -86,8 +86,8 @@ impl RecordedRows {
         self.table.next_entry(row, from, end)
     }
 
-    /// What a row has in the columns of a word, 64 of them, as its bits, the first lowest. `None` where
-    /// the row has octets of its own.
+    /// What a row has in the columns of a word, 64 of them or as many as there are, as its bits, the
+    /// first lowest. `None` where the row has octets of its own.
     #[inline(always)]
     pub(super) fn word_of(&self, row: usize, word: usize) -> Option<u64>
         requires row { row < length self.now.table.rows }

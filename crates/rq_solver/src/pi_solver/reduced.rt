@@ -61,8 +61,8 @@ fn take_word(
     }
 }
 
-// Records that a row takes those reduced rows for which a word has ones. Its lowest bit is that of
-// the first of them.
+// Records that a row takes those reduced rows for which a word has ones. Its lowest bit is for the
+// first reduced row.
 #[inline(always)]
 fn take_bits(
     row: usize,

@@ -38,8 +38,8 @@ pub(crate) fn nonzero_after_first(octets: &[u8]) -> u64
     nonzero_lanes(octets, 0) & !1
 }
 
-/// The first octet after a place and before another one that isn't 0, and where it is. `rest` has
-/// ones for those in the place's vector that come after it, and so for the next that is found.
+/// The first octet that isn't 0, after a place and before an end, and where it is. `rest` has ones for
+/// those in the place's vector that come after it, and so for the next that is found.
 #[inline(always)]
 pub(crate) fn next_in_vectors(
     octets: &[u8],

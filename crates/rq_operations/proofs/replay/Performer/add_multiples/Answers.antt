@@ -12,11 +12,11 @@ pub add_multiples-requires : goal.add_multiples-requires
 add_multiples-requires c =
     let run = c.read_multiples-count in
     let slab = c.args.symbols.now in
-    rw c.is_zero.ensures.kept
+    rw c.is_found_zero.ensures.kept
     (run_allowed (λ m. Fma m.dest c.args.src m.scalar) (λ order m. refl) (length slab.values) slab.order (map operation_of_step c.args.steps.now) c.args.start run.result (take run.result run.new.multiples) c.requires.allowed run.ensures.run)
 
-pub returns-else-not-is_zero : goal.returns-else-not-is_zero
-returns-else-not-is_zero c =
+pub returns-else-not-is_found_zero : goal.returns-else-not-is_found_zero
+returns-else-not-is_found_zero c =
     let run = c.read_multiples-count in
     let slab = c.args.symbols.now in
     record {
@@ -24,5 +24,5 @@ returns-else-not-is_zero c =
       within = omega (arith, run.ensures.within, length-map c.args.steps.now operation_of_step);
       performed = sym (
           ap (λ (l : List Operation). after_all l slab) run.ensures.run
-          ∙ all_zeros_added slab c.args.src (c.is_zero.ensures.zeros c.if-not-is_zero.false) c.is_zero.ensures.symbols (λ m. m.dest) (λ m. m.scalar) (take run.result run.new.multiples));
+          ∙ all_zeros_added slab c.args.src (c.is_found_zero.ensures.zeros c.if-not-is_found_zero.false) c.is_found_zero.ensures.symbols (λ m. m.dest) (λ m. m.scalar) (take run.result run.new.multiples));
     }

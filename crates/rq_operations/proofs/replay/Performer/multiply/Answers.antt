@@ -23,12 +23,12 @@ returns-in-Some c =
     (omega (arith, c.in-Some.ensures.0, length-map c.args.steps.now operation_of_step)) c.in-Some.ensures.1
     (c.double_and_add.ensures ∙ ap (λ scalar. after_all (MulAssign dest scalar ∷ add ∷ []) c.args.symbols.now) (sym two))
 
-pub returns-then-not-is_zero : goal.returns-then-not-is_zero
-returns-then-not-is_zero c =
+pub returns-then-not-is_found_zero : goal.returns-then-not-is_found_zero
+returns-then-not-is_found_zero c =
     one_performed (map operation_of_step c.args.steps.now) c.args.start (MulAssign c.args.dest c.args.scalar.now) c.requires.step c.args.symbols.now c.mulassign_scalar.new.self c.mulassign_scalar.ensures
 
-pub returns-else-not-is_zero : goal.returns-else-not-is_zero
-returns-else-not-is_zero c =
+pub returns-else-not-is_found_zero : goal.returns-else-not-is_found_zero
+returns-else-not-is_found_zero c =
     let slab = c.args.symbols.now in
     one_performed (map operation_of_step c.args.steps.now) c.args.start (MulAssign c.args.dest c.args.scalar.now) c.requires.step slab slab
-    (sym (zeros_multiplied slab c.args.dest (c.is_zero.ensures.zeros c.if-not-is_zero.false) c.args.scalar.now))
+    (sym (zeros_multiplied slab c.args.dest (c.is_found_zero.ensures.zeros c.if-not-is_found_zero.false) c.args.scalar.now))

@@ -17,8 +17,8 @@ take_reduced_rows-requires-clause-rows c =
     let t = c.loop-place.place in
     let in_rows : t < length c.args.peeling.now.rows = omega (arith, c.loop-place-test.true, c.pivots-place-end.ensures) in
     rw (c.row_of-row.ensures, c.loop-place.invariant.finished.records.table) (record {
-      row = rw c.requires.height (c.requires.peeled.peeled.in_rows.below t in_rows);
-      reduced = c.requires.reduced;
+      taker = rw c.requires.height (c.requires.peeled.peeled.in_rows.below t in_rows);
+      rows = c.requires.reduced;
       apart = λ f l. c.requires.apart t f in_rows l;
     })
 

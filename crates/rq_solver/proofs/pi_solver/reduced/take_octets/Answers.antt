@@ -31,7 +31,7 @@ loop-column-preserved c =
     let here : start + (column - start) ≡ column = omega (arith, first, forward) in
     let next : column + 1 - start ≡ column - start + 1 = omega (arith, first, forward) in
     let scalar_is : c.in-Some.scalar ≡ entries (column - start) = c.in-Some.ensures.1 ∙ same column ∙ ap (λ (k : ℕ). entry_of c.args.recorded.now.table c.args.row k) (sym here) in
-    let small : c.in-Some.scalar < 256 = rw scalar_is (c.requires.octets.elements c.args.row (start + (column - start)) c.requires.rows.row (omega (arith, here, inside, c.requires.width))) in
+    let small : c.in-Some.scalar < 256 = rw scalar_is (c.requires.octets.elements c.args.row (start + (column - start)) c.requires.rows.taker (omega (arith, here, inside, c.requires.width))) in
     record {
       from = omega (arith, first, forward);
       within = omega (arith, c.in-Some.ensures.0.1);
