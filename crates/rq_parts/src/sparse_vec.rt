@@ -219,10 +219,23 @@ impl SparseBinaryVec {
     }
 }
 
-// Lists an index behind all others. It stays a call of its own: most lists have room, and what is done
-// where one has none, written at each use, costs the others registers.
-#[inline(never)]
+// Lists an index behind all others. Nearly all lists have room, so that what is done where one has none
+// stays a call, which costs the others nothing.
+#[inline(always)]
 fn push(ones: &mut SmallVec<u16, INLINE_ONES>, one: u16) -> Result<(), AllocError>
+    ensures ok { OnOk result (ones.new.items ≡ ones.old.items ++ one ∷ []) }
+    ensures refused { OnErr result (ones.new.items ≡ ones.old.items) }
+{
+    if ones.len() < ones.capacity() {
+        ones.push_reserved(one);
+        return Ok(());
+    }
+    push_with_room(ones, one)
+}
+
+// The same where there is no room yet.
+#[inline(never)]
+fn push_with_room(ones: &mut SmallVec<u16, INLINE_ONES>, one: u16) -> Result<(), AllocError>
     ensures ok { OnOk result (ones.new.items ≡ ones.old.items ++ one ∷ []) }
     ensures refused { OnErr result (ones.new.items ≡ ones.old.items) }
 {
