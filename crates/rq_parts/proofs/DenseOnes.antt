@@ -6,17 +6,9 @@ use Rattle.std.proofs.lemmas.Bool.{cases_lt}
 use Rattle.std.proofs.lemmas.List.{get_or-drop}
 use Rattle.std.proofs.lemmas.Nat.Bits.{bit_at-lt, bit_at-zero, bit_at_and, bit_at_mask_inside, bit_at_mask_below, ones_shl}
 use Rattle.rq_bytes.specs.BinaryOctetVec.{packed_bit}
-use Rattle.rq_parts.specs.BitPairs.{bit_pairs, ones_among}
+use Rattle.rq_parts.specs.BitPairs.{bit_pairs, ones_among, from_word, ones_from}
 use Rattle.rq_parts.proofs.BitPairs.{packed_bit-at, bit_pairs-none, bit_pairs-next, bit_pairs-same, ones_among-skip, ones_among-first}
 use Rattle.rq_parts.proofs.LowestOnes.{ClearsLowest}
-
--- the words from one on, that one being known
-abbrev pub from_word : List ℕ → ℕ → ℕ → List ℕ
-from_word words word bits = bits ∷ drop (word + 1) words
-
--- the ones that they have before an end
-abbrev pub ones_from : List ℕ → ℕ → ℕ → ℕ → List (ℕ × ℕ)
-ones_from words end word bits = ones_among (bit_pairs (from_word words word bits) 0 (64 * word) (end - 64 * word))
 
 module _ (words : List ℕ) (word : ℕ) where
   here : (bits k : ℕ) → k < 64 → packed_bit (from_word words word bits) k ≡ bit_at bits k

@@ -64,8 +64,19 @@ clears_lowest word some fits =
       kept = keeps word lowest (word / 2 ^ (lowest + 1)) (word % 2 ^ (lowest + 1)) whole small found.1 found.2;
     }
 
+module _ (word lowest less : ℕ) (clears : ClearsLowest word lowest less) where
+  -- not before a place, or not from one on, where there are zeros
+  pub lowest_from : (place : ℕ) → ((k : ℕ) → k < place → bit_at word k ≡ 0) → place ≤ lowest
+  lowest_from place behind = elim (cases_lt lowest place) [
+    | inl early ↦ let zero = behind lowest early in let one = clears.one in absurd (omega (arith, zero, one))
+    | inr late ↦ late
+  ]
+
+  pub lowest_before : (end : ℕ) → ((k : ℕ) → end ≤ k → bit_at word k ≡ 0) → lowest < end
+  lowest_before end beyond = elim (cases_lt lowest end) [
+    | inl inside ↦ inside
+    | inr past ↦ let zero = beyond lowest past in let one = clears.one in absurd (omega (arith, zero, one))
+  ]
+
 pub lowest-lt : (word lowest less : ℕ) → word < 2 ^ 64 → ClearsLowest word lowest less → lowest < 64
-lowest-lt word lowest less fits clears = elim (cases_lt lowest 64) [
-  | inl inside ↦ inside
-  | inr past ↦ let none = bit_at_above word 64 lowest fits past in let one = clears.one in absurd (omega (arith, none, one))
-]
+lowest-lt word lowest less fits clears = lowest_before word lowest less clears 64 (λ k past. bit_at_above word 64 k fits past)

@@ -1,6 +1,6 @@
 -- What an iterator over a row has left.
-use Rattle.std.specs.Prelude.{ℕ, ◌+◌, ◌-◌, ◌*◌, ◌<◌, ◌≤◌, List, ◌∷◌, length, drop}
-use Rattle.rq_parts.specs.BitPairs.{bit_pairs, ones_among}
+use Rattle.std.specs.Prelude.{ℕ, ◌+◌, ◌-◌, ◌*◌, ◌<◌, ◌≤◌, List, length}
+use Rattle.rq_parts.specs.BitPairs.{bit_pairs, ones_from}
 use Rattle.rq_parts.specs.declared.iterators.DenseBits.TheInside.{Inside}
 use Rattle.rq_parts.specs.declared.iterators.DenseOnes.TheInside as dense_ones
 use Rattle.rq_parts.specs.declared.iterators.Left.{Left}
@@ -18,7 +18,7 @@ pub record IsWithinWords (b : Inside) : Type 0 where
 
 -- the ones that are left: those of the word at hand, and those of the words behind it
 abbrev pub dense_ones_left : dense_ones.Inside → List (ℕ × ℕ)
-dense_ones_left d = ones_among (bit_pairs (d.bits ∷ drop (d.word + 1) d.words.now) 0 (64 * d.word) (d.end - 64 * d.word))
+dense_ones_left d = ones_from d.words.now d.end d.word d.bits
 
 -- the word at hand doesn't begin past the end of the columns, for all of which there are words
 pub record IsWithinRow (d : dense_ones.Inside) : Type 0 where

@@ -17,8 +17,8 @@ use std::alloc::{AllocError, Global};
 use std::cmp::Ordering;
 use std::marker::Model;
 
-/// So many ones of a row take no allocation. Most rows have fewer, the LDPC rows of smaller blocks
-/// among them.
+/// So many ones of a row take no allocation. Most rows have a few, and the LDPC rows of a block of 497
+/// symbols no more.
 pub const INLINE_ONES: usize = 40;
 
 /// A row of bits as the ascending list of the indices that have a one, each below 65536. Contracts

@@ -10,8 +10,7 @@ use lib.Lanes.{chunk, mask_l, top, zip2}
 use Rattle.rq_algebra.specs.Systems.{at}
 use Rattle.rq_solver.specs.NonzeroOctets.{nonzero, HasOnes}
 use Rattle.rq_solver.proofs.PivotTurns.{if_same, if_apart}
-use Rattle.rq_solver.proofs.ReducedWords.{lowest_before, lowest_from}
-use Rattle.rq_parts.proofs.LowestOnes.{ClearsLowest}
+use Rattle.rq_parts.proofs.LowestOnes.{ClearsLowest, lowest_before, lowest_from}
 
 pub nonzero_none : (x : ℕ) → x ≡ 0 → nonzero x ≡ 0
 nonzero_none x e = if_same x 0 0 1 e

@@ -10,30 +10,12 @@ use Rattle.rq_solver.specs.Cleared.{AreUnits, TakesReduced}
 use Rattle.rq_solver.specs.OperationCounts.{additions}
 use Rattle.rq_solver.specs.Recorded.{Recorded, Records, sum_step}
 use Rattle.rq_parts.specs.DenseOctetMatrix.{OctetTable}
-use Rattle.rq_parts.proofs.LowestOnes.{ClearsLowest}
+use Rattle.rq_parts.proofs.LowestOnes.{ClearsLowest, lowest_before, lowest_from}
 use Rattle.rq_solver.specs.RowSteps.{CanTake, rows_after}
 use Rattle.rq_solver.proofs.Performing.{records_more}
 use Rattle.rq_solver.proofs.PivotTurns.{if_same, if_apart}
 use Rattle.rq_solver.proofs.StepColumns.{rows_after-next}
 use Rattle.rq_solver.proofs.ReducedTurns.{reduced_none, reduced_next, reduced_zeros}
-
--- ---- where the lowest one of a word is
-
-module _ (word lowest less : ℕ) (clears : ClearsLowest word lowest less) where
-  -- not before a place, or not from one on, where there are zeros
-  pub lowest_from : (place : ℕ) → ((k : ℕ) → k < place → bit_at word k ≡ 0) → place ≤ lowest
-  lowest_from place behind = elim (cases_lt lowest place) [
-    | inl early ↦ let zero = behind lowest early in let one = clears.one in absurd (omega (arith, zero, one))
-    | inr late ↦ late
-  ]
-
-  pub lowest_before : (end : ℕ) → ((k : ℕ) → end ≤ k → bit_at word k ≡ 0) → lowest < end
-  lowest_before end beyond = elim (cases_lt lowest end) [
-    | inl inside ↦ inside
-    | inr past ↦ let zero = beyond lowest past in let one = clears.one in absurd (omega (arith, zero, one))
-  ]
-
--- ---- the rows that are taken
 
 -- The reduced rows before a place are taken for which a word has ones, and the rest of the word has those from that place on.
 pub record TakesOnes (reduced : List ℕ) (row end word rest : ℕ) (old new : Recorded) : Type 0 where

@@ -1,6 +1,7 @@
 -- What the check leaves to show of `iterators::DenseOnes::new`.
 use Rattle.std.proofs.Common.{ℕ, ◌/◌, ap, ◌∙◌}
-use Rattle.rq_parts.proofs.DenseOnes.{ones_from, ones_of_range, none_of_range}
+use Rattle.rq_parts.specs.BitPairs.{ones_from}
+use Rattle.rq_parts.proofs.DenseOnes.{ones_of_range, none_of_range}
 use Rattle.rq_parts.proofs.iterators.DenseOnes.new.Goals as goal
 use Rattle.rq_parts.proofs.iterators.DenseOnes.new.Goals.{then-start-end, else-start-end}
 

@@ -4,7 +4,8 @@ use Rattle.std.specs.Prelude.{bit_and}
 use Rattle.std.specs.Int.{bit_at, trailing_zeros}
 use Rattle.std.proofs.lemmas.Nat.Bits.{bit_at-zero}
 use Rattle.rq_parts.specs.OctetIter.{dense_ones_left}
-use Rattle.rq_parts.proofs.DenseOnes.{ones_from, none_left, next_word, lowest_is_next}
+use Rattle.rq_parts.specs.BitPairs.{ones_from}
+use Rattle.rq_parts.proofs.DenseOnes.{none_left, next_word, lowest_is_next}
 use Rattle.rq_parts.proofs.LowestOnes.{clears_lowest, lowest-lt}
 use Rattle.rq_parts.proofs.iterators.DenseOnes.next_one.Goals as goal
 
