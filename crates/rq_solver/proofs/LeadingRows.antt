@@ -1,39 +1,72 @@
--- Rows whose entries in the inactive columns are filled in, one after another.
-use Rattle.std.proofs.Common.{◌≡◌, ℕ, ◌+◌, ◌<◌, ◌≤◌, ◌⊎◌, List, length, sym, ap, ◌∙◌, arith, inl, inr}
-use Rattle.std.proofs.lemmas.Bool.{cases_eq}
+-- Rows whose entries in the inactive columns are filled in: first those of the rows of bits, column by column, and then the rows of octets.
+use Rattle.std.proofs.Common.{◌≡◌, ◌≢◌, ℕ, ◌+◌, ◌<◌, ◌≤◌, ◌==◌, List, count_by, length, min, take, refl, sym, ap, ◌∙◌, arith, inl, inr}
+use Rattle.std.proofs.lemmas.Bool.{cases_eq, cases_lt}
 use Rattle.rq_algebra.specs.Systems.{at}
-use Rattle.rq_parts.specs.DenseOctetMatrix.{OctetTable, entry_of}
-use Rattle.rq_solver.specs.Cleared.{HasLeading, one_in, system_rows}
-use Rattle.rq_solver.specs.RowWrites.{FillsRow, WritesRow}
-use Rattle.rq_solver.proofs.OctetRows.{octet_row, bit_row}
+use Rattle.rq_parts.specs.DenseOctetMatrix.{OctetTable, entry_of, HasOctets}
+use Rattle.rq_standard.specs.ConstraintMatrix.{with_octet_rows}
+use Rattle.rq_solver.specs.Cleared.{HasLeading, one_in}
+use Rattle.rq_solver.specs.RowWrites.{FillsColumn, FillsRow}
+use Rattle.rq_solver.proofs.OctetRows.{octet_row, octet_row_or_bit_row, bit_row}
+use Rattle.rq_solver.proofs.PivotTurns.{count_next, count_skipped}
+use Rattle.rq_solver.proofs.Writes.{SetsEntry}
 
-pub fills_of_writes : (row count n : ℕ) (wanted : ℕ → ℕ) (old new : OctetTable) → n ≡ count → WritesRow row 0 n wanted old new → FillsRow row count wanted old new
-fills_of_writes row count n wanted old new same writes = record {
-  width = writes.width;
-  height = writes.height;
-  octets = writes.octets;
-  here = λ k l. writes.here k (omega arith) (omega arith);
-  elsewhere = writes.elsewhere;
+-- ---- a column
+
+pub column_first : (rows : List ℕ) (column : ℕ) (table : OctetTable) → HasOctets table → ((i : ℕ) → i < length table.rows → entry_of table i column ≡ 0) → FillsColumn (take 0 rows) column table table
+column_first rows column table are zeros = record { width = refl; height = refl; octets = are; here = zeros; beside = λ i k d. refl }
+
+-- one row more has 1 there
+pub column_next : (rows : List ℕ) (t column : ℕ) (old table new : OctetTable) → t < length rows → FillsColumn (take t rows) column old table → SetsEntry (at rows t) column 1 table new → FillsColumn (take (t + 1) rows) column old new
+column_next rows t column old table new l v sets = record {
+  width = sets.width ∙ v.width;
+  height = sets.height ∙ v.height;
+  octets = sets.octets;
+  here = λ i m. elim (cases_eq i (at rows t)) [
+    | inl e ↦ rw e (sets.here ∙ sym (ap (min 1) (count_next rows t (at rows t) l refl) ∙ omega arith))
+    | inr d ↦ sets.elsewhere i column d ∙ v.here i m ∙ sym (ap (min 1) (count_skipped rows t i l (λ e. d (sym e))))
+  ];
+  beside = λ i k d. elim (cases_eq i (at rows t)) [
+    | inl e ↦ rw e (sets.beside k d ∙ v.beside (at rows t) k d)
+    | inr apart ↦ sets.elsewhere i k apart ∙ v.beside i k d
+  ];
 }
 
-module _ (lists : List (List ℕ)) (first : ℕ) (hdpc : OctetTable) (order : List ℕ) (pivots inactive r : ℕ) (old new : OctetTable) (v : HasLeading (length lists) inactive r (λ i f. system_rows lists first hdpc i (at order (pivots + f))) old) where
-  leading_more : (wanted : ℕ → ℕ) → FillsRow r inactive wanted old new → ((f : ℕ) → wanted f ≡ system_rows lists first hdpc r (at order (pivots + f)))
-      → HasLeading (length lists) inactive (r + 1) (λ i f. system_rows lists first hdpc i (at order (pivots + f))) new
-  leading_more wanted fills same = record {
+-- ---- the rows of octets
+
+module _ (lists : List (List ℕ)) (first : ℕ) (hdpc : OctetTable) (order : List ℕ) (pivots : ℕ) where
+  -- what rows have in an inactive column while of the rows of octets the first ones alone stand there
+  abbrev pub rows_so_far : ℕ → ℕ → ℕ → ℕ
+  rows_so_far done r f = with_octet_rows first done (one_in lists) (entry_of hdpc) r (at order (pivots + f))
+
+  pub leading_first : (inactive : ℕ) (table : OctetTable) → HasLeading (length lists) inactive (length lists) (λ r f. one_in lists r (at order (pivots + f))) table → HasLeading (length lists) inactive (length lists) (rows_so_far 0) table
+  leading_first inactive table v = record {
+    height_is = v.height_is;
+    wide = v.wide;
+    octets = v.octets;
+    written = λ i k l m. v.written i k l m ∙ sym (bit_row first 0 (entry_of hdpc) (one_in lists) i (at order (pivots + k)) (λ j n. absurd (omega arith)));
+    left = v.left;
+  }
+
+  -- a row of octets changes no other row
+  apart : (done i f : ℕ) → first + done ≢ i → rows_so_far done i f ≡ rows_so_far (done + 1) i f
+  apart done i f d =
+      let k : ℕ = at order (pivots + f) in
+      elim (octet_row_or_bit_row first done (entry_of hdpc) i) [
+        | inl q ↦ rw (← q.2) (octet_row first done (entry_of hdpc) (one_in lists) q.0 k q.1 ∙ sym (octet_row first (done + 1) (entry_of hdpc) (one_in lists) q.0 k (omega (arith, q.1))))
+        | inr out ↦
+            bit_row first done (entry_of hdpc) (one_in lists) i k out
+            ∙ sym (bit_row first (done + 1) (entry_of hdpc) (one_in lists) i k (λ j l e. elim (cases_lt j done) [ inl m ↦ out j m e | inr m ↦ let last : j ≡ done = omega (arith, l, m) in d (ap (λ (n : ℕ). first + n) (sym last) ∙ e) ]))
+      ]
+
+  pub leading_next : (inactive done : ℕ) (old new : OctetTable) → HasLeading (length lists) inactive (length lists) (rows_so_far done) old → FillsRow (first + done) inactive (λ f. entry_of hdpc done (at order (pivots + f))) old new
+      → HasLeading (length lists) inactive (length lists) (rows_so_far (done + 1)) new
+  leading_next inactive done old new v fills = record {
     height_is = fills.height ∙ v.height_is;
     wide = rw fills.width v.wide;
     octets = fills.octets;
-    written = λ i k l m. elim (cases_eq i r) [ inl e ↦ rw e (fills.here k m ∙ same k) | inr d ↦ fills.elsewhere i k d ∙ v.written i k (omega arith) m ];
-    left = λ i k l m n. fills.elsewhere i k (omega arith) ∙ v.left i k (omega arith) m n;
+    written = λ i k l m. elim (cases_eq i (first + done)) [
+      | inl e ↦ rw e (fills.here k m ∙ sym (octet_row first (done + 1) (entry_of hdpc) (one_in lists) done (at order (pivots + k)) (omega arith)))
+      | inr d ↦ fills.elsewhere i k d ∙ v.written i k l m ∙ apart done i k (λ e. d (sym e))
+    ];
+    left = λ i k l m. absurd (omega (arith, l, m));
   }
-
-  pub leading_octets : (i : ℕ) → first + i ≡ r → i < length hdpc.rows → FillsRow r inactive (λ f. entry_of hdpc i (at order (pivots + f))) old new
-      → HasLeading (length lists) inactive (r + 1) (λ q f. system_rows lists first hdpc q (at order (pivots + f))) new
-  leading_octets i is l fills = leading_more (λ f. entry_of hdpc i (at order (pivots + f))) fills (λ f.
-      sym (octet_row first (length hdpc.rows) (entry_of hdpc) (one_in lists) i (at order (pivots + f)) l)
-      ∙ ap (λ q. system_rows lists first hdpc q (at order (pivots + f))) is)
-
-  pub leading_bits : (r < first) ⊎ (first + length hdpc.rows ≤ r) → FillsRow r inactive (λ f. one_in lists r (at order (pivots + f))) old new
-      → HasLeading (length lists) inactive (r + 1) (λ q f. system_rows lists first hdpc q (at order (pivots + f))) new
-  leading_bits out fills = leading_more (λ f. one_in lists r (at order (pivots + f))) fills (λ f.
-      sym (bit_row first (length hdpc.rows) (entry_of hdpc) (one_in lists) r (at order (pivots + f)) (λ i l e. elim out [ inl before ↦ omega (arith, e, before, l) | inr behind ↦ omega (arith, e, behind, l) ])))

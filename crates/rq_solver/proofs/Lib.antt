@@ -34,10 +34,8 @@ pub mod RowTurns
 pub mod ShownRows
 pub mod SolutionLaws
 pub mod StepColumns
-pub mod TailWrites
 pub mod Turns
 pub mod UnpackedBits
 pub mod WithOctets
-pub mod WithOnes
 pub mod Writes
 pub mod ZeroValues

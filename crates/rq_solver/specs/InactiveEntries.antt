@@ -1,5 +1,5 @@
 -- What rows have in the inactive columns: bits that are packed eight to an octet, or octets.
-use Rattle.std.specs.Prelude.{◌≡◌, ◌≢◌, ℕ, zero, suc, ◌+◌, ◌-◌, ◌*◌, ◌/◌, ◌%◌, ◌^◌, ◌<◌, ◌≤◌, List, [], ◌∷◌, ◌++◌, All, Option, None, Some, drop, length, map, nat_lt, slice_index, slice_index_or, slice_set, if◌then◌else◌}
+use Rattle.std.specs.Prelude.{◌≡◌, ◌≢◌, ℕ, zero, suc, ◌+◌, ◌-◌, ◌*◌, ◌/◌, ◌%◌, ◌^◌, ◌<◌, ◌≤◌, List, [], ◌∷◌, ◌++◌, All, Option, None, Some, drop, length, map, slice_index, slice_index_or}
 use Rattle.std.specs.Int.{bit_at}
 use Rattle.std.specs.List.{range_with_len}
 use Rattle.std.specs.Simd.Lanes.{zip2}
@@ -14,15 +14,6 @@ bit_in bits place = bit_at (slice_index bits (place / 8)) (place % 8)
 -- the first bits as octets
 abbrev pub unpacked : ℕ → List ℕ → List ℕ
 unpacked n bits = map (bit_in bits) (range_with_len 0 n)
-
--- a row with 1 at the place of a column, counted from `first` on, if it isn't before that
-abbrev pub with_one : List ℕ → ℕ → List ℕ → ℕ → List ℕ
-with_one places first row column = if nat_lt (at places column) first then row else slice_set row (at places column - first) 1
-
--- the same for one column after another
-abbrev pub with_ones : List ℕ → ℕ → List ℕ → List ℕ → List ℕ
-with_ones places first row [] = row
-with_ones places first row (column ∷ columns) = with_ones places first (with_one places first row column) columns
 
 -- a row whose first octets are those that another one has in columns
 abbrev pub with_octets : List ℕ → List ℕ → List ℕ → List ℕ

@@ -1,5 +1,5 @@
 -- Rows of a matrix of octets that are written place by place.
-use Rattle.std.specs.Prelude.{◌≡◌, ◌≢◌, ℕ, ◌<◌, ◌≤◌, ◌⊎◌, length}
+use Rattle.std.specs.Prelude.{◌≡◌, ◌≢◌, ℕ, ◌<◌, ◌≤◌, ◌==◌, ◌⊎◌, List, count_by, length, min}
 use Rattle.rq_parts.specs.DenseOctetMatrix.{OctetTable, entry_of, HasOctets}
 
 -- the entries of one row from `start` on and before `end` are these, and the others are as they were
@@ -26,3 +26,11 @@ pub record HoldsRows (height width n : ℕ) (wanted : ℕ → ℕ → ℕ) (tabl
   pub octets : HasOctets table
   pub written : (i k : ℕ) → i < n → k < width → entry_of table i k ≡ wanted i k
   pub left : (i k : ℕ) → n ≤ i → i < height → k < width → entry_of table i k ≡ 0
+
+-- A column that was zeros has 1 in these rows, and the others are as they were.
+pub record FillsColumn (rows : List ℕ) (column : ℕ) (old new : OctetTable) : Type 0 where
+  pub width : new.width ≡ old.width
+  pub height : length new.rows ≡ length old.rows
+  pub octets : HasOctets new
+  pub here : (i : ℕ) → i < length old.rows → entry_of new i column ≡ min 1 (count_by (λ row. row == i) rows)
+  pub beside : (i k : ℕ) → k ≢ column → entry_of new i k ≡ entry_of old i k

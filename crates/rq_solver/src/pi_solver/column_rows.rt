@@ -60,9 +60,9 @@ impl ColumnRows {
         })
     }
 
-    // The rows of a column's ones, the last first.
+    /// The rows of a column's ones, the last first.
     #[inline(always)]
-    fn rows_of(&self, column: usize) -> &[u32]
+    pub(super) fn rows_of(&self, column: usize) -> &[u32]
         requires { column < length self.now.lists }
         ensures rows { result.now ≡ slice_index_or self.now.lists column [] }
         ensures below { All (λ row. row < self.now.height) result.now }

@@ -1,9 +1,9 @@
 //! What rows have in the inactive columns.
-ghost use Rattle.std.specs.Prelude.{◌≡◌, ◌≢◌, ℕ, ◌+◌, ◌*◌, ◌%◌, ◌^◌, ◌<◌, ◌≤◌, All, length, replicate, IfSome, IfOk, OnOk, IfErr, OnErr};
+ghost use Rattle.std.specs.Prelude.{◌≡◌, ◌≢◌, ℕ, ◌+◌, ◌*◌, ◌%◌, ◌^◌, ◌<◌, ◌≤◌, All, length, replicate, slice_set, IfSome, IfOk, OnOk, IfErr, OnErr};
 ghost use Rattle.rq_bytes.specs.declared.error.Error.TheVariants.{OutOfMemory};
 ghost use Rattle.rq_parts.specs.DenseOctetMatrix.{entry_of, HasOctets, IsOctetRow, row_at, with_row};
 ghost use Rattle.rq_solver.specs.EntryRow.{HasWidth, octets_of};
-ghost use Rattle.rq_solver.specs.InactiveEntries.{IsNextOctet, with_octets, with_ones};
+ghost use Rattle.rq_solver.specs.InactiveEntries.{IsNextOctet, with_octets};
 ghost use Rattle.rq_solver.specs.Words.{AreBitsOfWord};
 ghost use Rattle.rq_standard.specs.Rows.{row_sum, row_multiple};
 
@@ -15,7 +15,7 @@ use super::elimination::OctetRows;
 pub(super) use octet_row::{next_in_vectors, nonzero_after_first};
 use octet_row::{EntryRow, count_octets, next_octet};
 use own_octets::OwnOctets;
-use packed_bits::{LANES, bit, count_ones, next_one, set_bits};
+use packed_bits::{LANES, bit, count_ones, next_one, set_bit};
 use rq_bytes::error::Error;
 use rq_bytes::octet::Octet;
 use rq_bytes::symbol_slab::SymbolSlab;
@@ -67,18 +67,17 @@ impl InactiveEntries {
         self.octets.width()
     }
 
-    /// Sets the entries of a row to 1 at the places of columns, counted from `first` on, and none for
-    /// those before.
-    pub(super) fn set_ones(&mut self, row: usize, columns: &[u16], places: &[u16], first: usize)
+    /// Sets the entry of a row in a column to 1.
+    #[inline(always)]
+    pub(super) fn set_one(&mut self, row: usize, column: usize)
         requires row { row < length self.old.rows }
-        requires columns { All (λ column. column < length places.now) columns.now }
-        requires room { All (λ place. place < first + self.old.width) places.now }
-        ensures { self.new ≡ with_row self.old row (with_ones places.now first (row_at self.old row) columns.now) }
+        requires column { column < self.old.width }
+        ensures { self.new ≡ with_row self.old row (slice_set (row_at self.old row) column 1) }
     {
         if self.octets.is_none(row) {
-            set_bits(self.bits.get_mut(row), columns, places, first);
+            set_bit(self.bits.get_mut(row), column);
         } else {
-            self.octets.set_ones(row, columns, places, first);
+            self.octets.set_one(row, column);
         }
     }
 

@@ -43,10 +43,12 @@ pub(super) fn clear_pivots(
     let table = fill_inactive(alloc, &system, peeling)?;
     let System {
         ones,
+        columns,
         hdpc,
         first_hdpc,
         ..
     } = system;
+    drop(columns);
     // Blocks of all sizes take two to three operations for each one.
     let room = ones.len().saturating_mul(3);
     let mut recorded = RecordedRows::new(alloc, table, room)?;

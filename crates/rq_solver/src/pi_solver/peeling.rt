@@ -114,7 +114,7 @@ pub(super) fn peel(alloc: Global, system: &System, degrees: Vec<u16>) -> Result<
 {
     let ones = &system.ones;
     let boundary = system.boundary;
-    let column_rows = ColumnRows::of_rows(alloc, ones, system.width)?;
+    let column_rows = &system.columns;
     let mut degrees = RowDegrees::new(alloc, degrees)?;
     let mut columns = ColumnOrder::new(alloc, system.width, boundary)?;
     let mut graph = ConnectedComponentGraph::new(alloc, boundary)?;
@@ -122,7 +122,7 @@ pub(super) fn peel(alloc: Global, system: &System, degrees: Vec<u16>) -> Result<
     for turn in 0..boundary {
         let next = next_row(
             ones,
-            &column_rows,
+            column_rows,
             &columns,
             boundary,
             &mut degrees,
@@ -135,7 +135,7 @@ pub(super) fn peel(alloc: Global, system: &System, degrees: Vec<u16>) -> Result<
         let taken = take_row(
             ones.row(row),
             degree,
-            &column_rows,
+            column_rows,
             boundary,
             &mut degrees,
             &mut graph,

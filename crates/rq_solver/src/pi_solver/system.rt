@@ -3,8 +3,10 @@ ghost use Rattle.std.specs.Prelude.{◌≡◌, ℕ, ◌+◌, ◌*◌, ◌^◌, �
 ghost use Rattle.rq_bytes.specs.declared.error.Error.TheVariants.{OutOfMemory};
 ghost use Rattle.rq_parts.specs.DenseOctetMatrix.{HasOctets};
 ghost use Rattle.rq_solver.specs.Cleared.{AreOctetRows, AreRowsOfBits};
+ghost use Rattle.rq_solver.specs.ColumnRows.{ListsColumns};
 ghost use Rattle.rq_solver.specs.OperationCounts.{additions};
 
+use super::column_rows::ColumnRows;
 use super::ones::RowOnes;
 use super::peeling::peel;
 use super::phases::{Attempt, find_operations};
@@ -14,15 +16,20 @@ use rq_parts::octet_matrix::DenseOctetMatrix;
 use std::alloc::Global;
 
 /// The equations of a block, row by row: the ones of rows of bits, but octets in the HDPC rows, which
-/// have the places from `first_hdpc` on. Columns from `boundary` on are dense.
+/// have the places from `first_hdpc` on. The ones are listed column by column too. Columns from
+/// `boundary` on are dense.
 #[derive(Drop)]
 pub(super) struct System {
     pub ones: RowOnes,
+    pub columns: ColumnRows,
     pub hdpc: DenseOctetMatrix,
     pub first_hdpc: usize,
     pub width: usize,
     pub boundary: usize,
     pub ghost bits: { AreRowsOfBits width ones },
+    pub ghost column_lists: { ListsColumns ones columns },
+    pub ghost column_count: { length columns.lists ≡ width },
+    pub ghost row_count: { columns.height ≡ length ones },
     pub ghost octet_rows: { AreOctetRows ones first_hdpc width hdpc },
     pub ghost octets: { HasOctets hdpc },
     pub ghost few_hdpc: { length hdpc.rows ≤ width },
@@ -58,8 +65,10 @@ impl System {
     {
         let width = hdpc.width();
         let (ones, degrees) = RowOnes::of_matrix(alloc, bits, boundary)?;
+        let columns = ColumnRows::of_rows(alloc, &ones, width)?;
         let system = System {
             ones,
+            columns,
             hdpc,
             first_hdpc,
             width,

@@ -1,9 +1,9 @@
 //! The octets that rows have of their own.
-ghost use Rattle.std.specs.Prelude.{◌≡◌, ◌≢◌, ℕ, ◌*◌, ◌%◌, ◌+◌, ◌^◌, ◌<◌, ◌≤◌, ◌++◌, ◌∷◌, [], true, false, None, All, length, replicate, IfOk, OnOk, IfErr, OnErr};
+ghost use Rattle.std.specs.Prelude.{◌≡◌, ◌≢◌, ℕ, ◌*◌, ◌%◌, ◌+◌, ◌^◌, ◌<◌, ◌≤◌, ◌++◌, ◌∷◌, [], true, false, None, All, length, replicate, slice_set, IfOk, OnOk, IfErr, OnErr};
 ghost use Rattle.rq_algebra.specs.Systems.{at};
 ghost use Rattle.rq_bytes.specs.declared.error.Error.TheVariants.{OutOfMemory};
 ghost use Rattle.rq_parts.specs.DenseOctetMatrix.{IsOctetRow, row_at, with_row};
-ghost use Rattle.rq_solver.specs.InactiveEntries.{place_before, row_of, unpacked, with_octets, with_ones};
+ghost use Rattle.rq_solver.specs.InactiveEntries.{place_before, row_of, unpacked, with_octets};
 ghost use Rattle.rq_standard.specs.Rows.{row_sum, row_multiple};
 
 use super::packed_bits::add_bits;
@@ -126,19 +126,17 @@ impl OwnOctets {
         }
     }
 
-    /// Sets the octets of a row to 1 at the places of columns, counted from `first` on, and none for
-    /// those before.
-    pub(super) fn set_ones(&mut self, row: usize, columns: &[u16], places: &[u16], first: usize)
+    /// Sets an octet of a row to 1.
+    pub(super) fn set_one(&mut self, row: usize, column: usize)
         requires row { row < length self.old.rows }
         requires own { length (row_at self.old row) ≡ self.old.width }
-        requires columns { All (λ column. column < length places.now) columns.now }
-        requires room { All (λ place. place < first + self.old.width) places.now }
-        ensures set { self.new ≡ with_row self.old row (with_ones places.now first (row_at self.old row) columns.now) }
+        requires column { column < self.old.width }
+        ensures set { self.new ≡ with_row self.old row (slice_set (row_at self.old row) column 1) }
         ensures octets { IsOctetRow self.old.width (row_at self.new row) }
     {
         if let Some(place) = place_of(self.places.as_slice(), row) {
             let octets = self.rows.get_mut(place);
-            set_octets(octets, columns, places, first);
+            octets[column] = 1;
             are_octets(octets);
         }
     }
@@ -212,20 +210,6 @@ fn copy_columns(own: &mut [u8], octets: &DenseOctetMatrix, from: usize, columns:
 {
     for (f, column) in columns.iter().enumerate() {
         own[f] = octets.get(from, *column as usize).byte();
-    }
-}
-
-// Sets octets to 1 at the places of columns, counted from `first` on.
-fn set_octets(octets: &mut [u8], columns: &[u16], places: &[u16], first: usize)
-    requires columns { All (λ column. column < length places.now) columns.now }
-    requires room { All (λ place. place < first + length octets.old) places.now }
-    ensures { octets.new ≡ with_ones places.now first octets.old columns.now }
-{
-    for column in columns {
-        let place = places[*column as usize] as usize;
-        if place >= first {
-            octets[place - first] = 1;
-        }
     }
 }
 

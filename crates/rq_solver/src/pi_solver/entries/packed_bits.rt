@@ -2,7 +2,7 @@
 ghost use Rattle.std.specs.Prelude.{◌≡◌, ℕ, ◌+◌, ◌*◌, ◌/◌, ◌%◌, ◌^◌, ◌<◌, ◌≤◌, All, length, map, slice_set};
 ghost use Rattle.std.specs.Int.{bit_at};
 ghost use Rattle.std.specs.List.{range_with_len};
-ghost use Rattle.rq_solver.specs.InactiveEntries.{IsNextEntry, bit_in, unpacked, with_ones};
+ghost use Rattle.rq_solver.specs.InactiveEntries.{IsNextEntry, bit_in, unpacked};
 ghost use Rattle.rq_standard.specs.Octets.{octet_mul};
 ghost use Rattle.rq_standard.specs.Rows.{row_sum, row_multiple};
 
@@ -33,27 +33,13 @@ pub(super) fn bit(bits: &[u8], place: usize) -> u8
     (bits[place / 8] >> (place % 8)) & 1
 }
 
-// Sets the bit at a place.
+/// Sets the bit at a place.
 #[inline(always)]
-fn set_bit(bits: &mut [u8], place: usize)
+pub(super) fn set_bit(bits: &mut [u8], place: usize)
     requires { place / 8 < length bits.old }
     ensures { (n : ℕ) → place < n → unpacked n bits.new ≡ slice_set (unpacked n bits.old) place 1 }
 {
     bits[place / 8] |= 1 << (place % 8);
-}
-
-/// Sets the bits at the places of columns, counted from `first` on, and none for those before.
-pub(super) fn set_bits(bits: &mut [u8], columns: &[u16], places: &[u16], first: usize)
-    requires columns { All (λ column. column < length places.now) columns.now }
-    requires room { All (λ place. place < first + 8 * length bits.old) places.now }
-    ensures { (n : ℕ) → All (λ place. place < first + n) places.now → unpacked n bits.new ≡ with_ones places.now first (unpacked n bits.old) columns.now }
-{
-    for column in columns {
-        let place = places[*column as usize] as usize;
-        if place >= first {
-            set_bit(bits, place - first);
-        }
-    }
 }
 
 /// The first place, from one on and before another, of a bit that is set.

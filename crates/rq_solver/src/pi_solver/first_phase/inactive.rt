@@ -1,15 +1,14 @@
 //! The entries of rows in inactive columns.
-ghost use Rattle.std.specs.Prelude.{◌≡◌, ℕ, ◌+◌, ◌-◌, ◌%◌, ◌<◌, ◌≤◌, length, IfOk, OnOk, IfErr};
-ghost use Rattle.rq_algebra.specs.Systems.{at};
+ghost use Rattle.std.specs.Prelude.{◌≡◌, ◌<◌, ◌≤◌, ◌+◌, ◌-◌, ℕ, All, length, IfOk, OnOk, IfErr};
 ghost use Rattle.rq_bytes.specs.declared.error.Error.TheVariants.{OutOfMemory};
+ghost use Rattle.rq_algebra.specs.Systems.{at};
 ghost use Rattle.rq_parts.specs.DenseOctetMatrix.{entry_of, HasOctets};
-ghost use Rattle.rq_solver.specs.Cleared.{HasLeading, PeelsRows, one_in};
+ghost use Rattle.rq_solver.specs.Cleared.{one_in, HasLeading};
 ghost use Rattle.rq_solver.specs.Peeled.{IsOrderOf, IsPeeled};
-ghost use Rattle.rq_solver.specs.RowWrites.{FillsRow, WritesRow};
+ghost use Rattle.rq_solver.specs.RowWrites.{FillsColumn, FillsRow};
 ghost use Rattle.rq_solver.specs.System.{rows_of};
 
 use super::super::entries::{InactiveEntries, whole_vectors};
-use super::super::ones::RowOnes;
 use super::super::peeling::Peeling;
 use super::super::system::System;
 use rq_bytes::error::Error;
@@ -26,18 +25,47 @@ pub(super) fn fill_inactive(
     ensures entries { IfOk result (HasLeading (length system.now.ones) (system.now.width - length peeling.now.rows) (length system.now.ones) (λ r f. rows_of system.now r (at peeling.now.order (length peeling.now.rows + f)))) }
     ensures err { IfErr result (λ e. e ≡ OutOfMemory) }
 {
-    let height = system.ones.height();
     let inactive = system.width - peeling.pivots();
-    let mut entries = InactiveEntries::new(alloc, height, whole_vectors(inactive))?;
-    for row in 0..height {
-        if row >= system.first_hdpc && row - system.first_hdpc < system.hdpc.height() {
-            let from = row - system.first_hdpc;
-            fill_octets(&system.hdpc, from, peeling, inactive, row, &mut entries)?;
-        } else {
-            fill_bits(&system.ones, row, peeling, &mut entries);
-        }
+    let mut entries =
+        InactiveEntries::new(alloc, system.ones.height(), whole_vectors(inactive))?;
+    fill_columns(system, peeling, inactive, &mut entries);
+    for from in 0..system.hdpc.height() {
+        let row = system.first_hdpc + from;
+        fill_octets(&system.hdpc, from, peeling, inactive, row, &mut entries)?;
     }
     Ok(entries)
+}
+
+// Sets the entries to 1 where rows have ones in the inactive columns, of which there are so many. A
+// column is filled at a time: so no one is asked whether its column is inactive.
+fn fill_columns(
+    system: &System,
+    peeling: &Peeling,
+    inactive: usize,
+    entries: &mut InactiveEntries,
+)
+    requires peeled { IsPeeled system.now.width system.now.ones peeling.now }
+    requires inactive { length peeling.now.rows + inactive ≡ system.now.width }
+    requires zeros { HasLeading (length system.now.ones) inactive 0 (λ r f. one_in system.now.ones r (at peeling.now.order (length peeling.now.rows + f))) entries.old }
+    ensures { HasLeading (length system.now.ones) inactive (length system.now.ones) (λ r f. one_in system.now.ones r (at peeling.now.order (length peeling.now.rows + f))) entries.new }
+{
+    for f in 0..inactive {
+        let column = peeling.column_at(peeling.pivots() + f);
+        fill_column(system.columns.rows_of(column), f, entries);
+    }
+}
+
+// Sets the entries of rows in a column of zeros to 1.
+fn fill_column(rows: &[u32], column: usize, entries: &mut InactiveEntries)
+    requires rows { All (λ row. row < length entries.old.rows) rows.now }
+    requires column { column < entries.old.width }
+    requires octets { HasOctets entries.old }
+    requires zeros { (i : ℕ) → i < length entries.old.rows → entry_of entries.old i column ≡ 0 }
+    ensures { FillsColumn rows.now column entries.old entries.new }
+{
+    for row in rows {
+        entries.set_one(*row as usize, column);
+    }
 }
 
 // Sets the entries of a row to those of a row of octets in the inactive columns.
@@ -59,17 +87,4 @@ fn fill_octets(
     ensures err { IfErr result (λ e. e ≡ OutOfMemory) }
 {
     entries.fill(row, octets, from, peeling.inactive_columns())
-}
-
-// Sets the ones of a row of zeros that are in inactive columns.
-fn fill_bits(ones: &RowOnes, row: usize, peeling: &Peeling, entries: &mut InactiveEntries)
-    requires peeled { PeelsRows ones.now peeling.now }
-    requires row { row < length ones.now }
-    requires height { length entries.old.rows ≡ length ones.now }
-    requires width { length peeling.now.places ≤ length peeling.now.rows + entries.old.width }
-    requires octets { HasOctets entries.old }
-    requires zeros { (f : ℕ) → f < length peeling.now.places - length peeling.now.rows → entry_of entries.old row f ≡ 0 }
-    ensures { WritesRow row 0 (length peeling.now.places - length peeling.now.rows) (λ f. one_in ones.now row (at peeling.now.order (length peeling.now.rows + f))) entries.old entries.new }
-{
-    entries.set_ones(row, ones.row(row), peeling.places(), peeling.pivots());
 }

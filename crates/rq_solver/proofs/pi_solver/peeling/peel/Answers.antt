@@ -18,9 +18,6 @@ node_count (Err e) = 0
 columns : (system : System) → All (λ row. All (λ column. column < system.width) row) system.ones
 columns system = columns_below system.width system.ones system.bits
 
-pub of_rows-requires-clause-columns : goal.of_rows-requires-clause-columns
-of_rows-requires-clause-columns c = columns c.args.system.now
-
 pub next_row-next-requires-clause-columns : goal.next_row-next-requires-clause-columns
 next_row-next-requires-clause-columns c = rw c.loop-turn.invariant.width (columns c.args.system.now)
 
@@ -58,7 +55,7 @@ loop-turn-preserved c =
           let within : All (λ row. All (λ column. column < length cur.order) row) lists = rw v.width (columns c.args.system.now) in
           let rows : c.if-taken.rows.items ≡ taken ++ row ∷ [] = ap (λ (v : Vec ℕ Global). v.items) w.rows-is ∙ w.in_ok-push.ensures.items in
           let before : CountsActive lists cur c.next_row-next.new.degrees = subst (CountsActive lists cur) (sym c.next_row-next.ensures.degrees) v.counts in
-          let all = c.in_ok-column_rows.ensures in
+          let system = c.args.system.now in
           let pick = fewest_left lists boundary width taken cur (columns c.args.system.now) v.left c.loop-turn.degrees v.degrees v.counts row least in
           let long = length-append taken (row ∷ []) in
           rw rows
@@ -68,7 +65,7 @@ loop-turn-preserved c =
             turns = omega (arith, long, v.turns);
             end = omega (arith, takes.fewer, v.end);
             left = λ k l. left_next lists boundary taken row cur c.take_row.new.columns takes (λ j m. v.left j (rw v.width at m)) k (rw v.width l);
-            counts = c.in_ok-taken.ensures.counted lists all.lists (sym all.height) (rw all.width (columns c.args.system.now)) before;
+            counts = c.in_ok-taken.ensures.counted lists system.column_lists (sym system.row_count) (rw system.column_count (columns system)) before;
             fewest = takes_more lists boundary taken row v.fewest pick;
             degrees = degrees;
             graph = c.take_row.ensures.graph;

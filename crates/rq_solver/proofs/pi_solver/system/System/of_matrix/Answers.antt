@@ -1,7 +1,14 @@
 -- What the check leaves to show of `pi_solver::system::System::of_matrix`.
 use Rattle.std.proofs.Common.{◌∙◌}
 use Rattle.rq_solver.proofs.BitRows.{rows_of_bits, octet_rows}
+use Rattle.rq_solver.proofs.PeelingLaws.{columns_below}
 use Rattle.rq_solver.proofs.pi_solver.system.System.of_matrix.Goals as goal
+
+pub of_rows-requires-clause-columns : goal.of_rows-requires-clause-columns
+of_rows-requires-clause-columns g c =
+    let m = g.T.BinaryMatrix.content c.args.bits.now in
+    let wide = c.width-width.ensures.width ∙ c.requires.width in
+    rw wide (columns_below m.width c.in_ok-ones.ones (rows_of_bits m.height m.width m.bit c.in_ok-ones.ones c.in_ok-ones.ensures.ones (g.met.T.BinaryMatrix.is_table c.args.bits.now).bits))
 
 pub invariant_of-system-clause-bits : goal.invariant_of-system-clause-bits
 invariant_of-system-clause-bits g c =
