@@ -58,10 +58,6 @@ module _ (table : OctetTable) (are : HasOctets table) (row column octet : ℕ) (
   unfolding written
   sets_entry new e = rw e sets
 
--- a row in which a range is as wanted
-pub writes_wanted : (row start end : ℕ) (wanted : ℕ → ℕ) (table : OctetTable) → HasOctets table → ((k : ℕ) → start ≤ k → k < end → entry_of table row k ≡ wanted k) → WritesRow row start end wanted table table
-writes_wanted row start end wanted table are is = record { width = refl; height = refl; octets = are; here = is; beside = λ k l. refl; elsewhere = λ i k d. refl }
-
 module _ (row start : ℕ) (old table new : OctetTable) where
   -- one entry of the range is written anew
   pub writes_again : (end column octet : ℕ) (before after : ℕ → ℕ) → start ≤ column → column < end → WritesRow row start end before old table → SetsEntry row column octet table new → octet ≡ after column
@@ -77,14 +73,3 @@ module _ (row start : ℕ) (old table new : OctetTable) where
     ];
     elsewhere = λ i k d. sets.elsewhere i k d ∙ writes.elsewhere i k d;
   }
-
--- the range holds what is wanted of it
-pub writes_same : (row start end : ℕ) (before after : ℕ → ℕ) (old new : OctetTable) → ((k : ℕ) → start ≤ k → k < end → before k ≡ after k) → WritesRow row start end before old new → WritesRow row start end after old new
-writes_same row start end before after old new same writes = record {
-  width = writes.width;
-  height = writes.height;
-  octets = writes.octets;
-  here = λ k l m. writes.here k l m ∙ same k l m;
-  beside = writes.beside;
-  elsewhere = writes.elsewhere;
-}

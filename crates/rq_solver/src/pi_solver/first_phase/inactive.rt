@@ -26,8 +26,7 @@ pub(super) fn fill_inactive(
     ensures err { IfErr result (λ e. e ≡ OutOfMemory) }
 {
     let inactive = system.width - peeling.pivots();
-    let mut entries =
-        InactiveEntries::new(alloc, system.ones.height(), whole_vectors(inactive))?;
+    let mut entries = InactiveEntries::new(alloc, system.ones.height(), whole_vectors(inactive))?;
     fill_columns(system, peeling, inactive, &mut entries);
     for from in 0..system.hdpc.height() {
         let row = system.first_hdpc + from;
@@ -36,14 +35,9 @@ pub(super) fn fill_inactive(
     Ok(entries)
 }
 
-// Sets the entries to 1 where rows have ones in the inactive columns, of which there are so many. A
-// column is filled at a time: so no one is asked whether its column is inactive.
-fn fill_columns(
-    system: &System,
-    peeling: &Peeling,
-    inactive: usize,
-    entries: &mut InactiveEntries,
-)
+// Sets the entries to 1 where rows have ones in the inactive columns, of which there are so many. By
+// rows each of their ones would have to be asked whether its column is inactive.
+fn fill_columns(system: &System, peeling: &Peeling, inactive: usize, entries: &mut InactiveEntries)
     requires peeled { IsPeeled system.now.width system.now.ones peeling.now }
     requires inactive { length peeling.now.rows + inactive ≡ system.now.width }
     requires zeros { HasLeading (length system.now.ones) inactive 0 (λ r f. one_in system.now.ones r (at peeling.now.order (length peeling.now.rows + f))) entries.old }

@@ -1,5 +1,5 @@
 -- What the check leaves to show of `pi_solver::first_phase::inactive::fill_column`.
-use Rattle.std.proofs.Common.{◌<◌, ℕ, length, lit<, arith}
+use Rattle.std.proofs.Common.{◌<◌, length, lit<, arith}
 use Rattle.rq_algebra.specs.Systems.{at}
 use Rattle.rq_solver.proofs.LeadingRows.{column_first, column_next}
 use Rattle.rq_solver.proofs.Writes.{sets_entry}

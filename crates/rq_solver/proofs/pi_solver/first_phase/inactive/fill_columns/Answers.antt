@@ -1,5 +1,5 @@
 -- What the check leaves to show of `pi_solver::first_phase::inactive::fill_columns`.
-use Rattle.std.proofs.Common.{◌≡◌, ◌+◌, ◌<◌, ◌==◌, ℕ, List, count_by, length, min, ap, ◌∙◌, arith, inl, inr}
+use Rattle.std.proofs.Common.{◌≡◌, ◌+◌, ◌<◌, ◌==◌, ℕ, count_by, length, min, ap, ◌∙◌, arith, inl, inr}
 use Rattle.std.proofs.lemmas.Bool.{cases_eq}
 use Rattle.rq_algebra.specs.Systems.{at}
 use Rattle.rq_solver.specs.Cleared.{one_in}
@@ -22,9 +22,9 @@ loop-f-preserved c =
     let is : c.column_at-column.result ≡ column = c.column_at-column.ensures ∙ ap (λ (n : ℕ). at order (n + f)) c.pivots.ensures in
     let rows : c.rows_of.result.now ≡ rows_with lists column (length lists) = c.rows_of.ensures.rows ∙ system.column_lists c.column_at-column.result (rw (is, system.column_count) in_width) ∙ ap (λ (k : ℕ). rows_with lists k (length lists)) is in
     let here : (i : ℕ) → i < length lists → min 1 (count_by (λ row. row == i) c.rows_of.result.now) ≡ one_in lists i column = (λ (i : ℕ) (l : i < length lists).
-        let counted = ap (count_by (λ row. row == i)) rows ∙ count_rows lists column (length lists) i l in
-        let once = system.bits.once i column l in_width in
-        omega (arith, counted, once)) in
+    let counted = ap (count_by (λ row. row == i)) rows ∙ count_rows lists column (length lists) i l in
+    let once = system.bits.once i column l in_width in
+    omega (arith, counted, once)) in
     record {
       height = fills.height ∙ v.height;
       wide = rw fills.width v.wide;

@@ -1,10 +1,10 @@
 -- What the check leaves to show of `pi_solver::entries::own_octets::OwnOctets::set_one`.
-use Rattle.std.proofs.Common.{List, [], ℕ, length, set, sym, ap, ◌∙◌, arith}
+use Rattle.std.proofs.Common.{List, ℕ, set, sym, ap, ◌∙◌, arith}
 use Rattle.std.proofs.lemmas.List.{length-set}
 use Rattle.rq_algebra.specs.Systems.{at}
-use Rattle.rq_parts.specs.DenseOctetMatrix.{row_at, with_row}
+use Rattle.rq_parts.specs.DenseOctetMatrix.{with_row}
 use Rattle.rq_solver.specs.InactiveEntries.{place_before}
-use Rattle.rq_solver.proofs.OwnRows.{is_none, no_place, read, some_place, width_is, written, written_octets}
+use Rattle.rq_solver.proofs.OwnRows.{is_none, no_place, read, some_place, written, written_octets}
 use Rattle.rq_solver.proofs.pi_solver.entries.own_octets.OwnOctets.set_one.Goals as goal
 
 pub returns-in-Some-clause-set : goal.returns-in-Some-clause-set
