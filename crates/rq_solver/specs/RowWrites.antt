@@ -27,7 +27,7 @@ pub record HoldsRows (height width n : ℕ) (wanted : ℕ → ℕ → ℕ) (tabl
   pub written : (i k : ℕ) → i < n → k < width → entry_of table i k ≡ wanted i k
   pub left : (i k : ℕ) → n ≤ i → i < height → k < width → entry_of table i k ≡ 0
 
--- A column that was zeros has 1 in these rows, and the others are as they were.
+-- a column that was zeros has 1 in these rows, and the others are as they were
 pub record FillsColumn (rows : List ℕ) (column : ℕ) (old new : OctetTable) : Type 0 where
   pub width : new.width ≡ old.width
   pub height : length new.rows ≡ length old.rows
