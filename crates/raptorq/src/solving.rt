@@ -1,5 +1,5 @@
 //! The intermediate symbols of a block.
-ghost use Rattle.std.specs.Prelude.{◌≡◌, ◌+◌, ◌^◌, ◌<◌, ◌≤◌, length, IfSome, IfOk, IfErr};
+ghost use Rattle.std.specs.Prelude.{◌≡◌, ◌+◌, ◌^◌, ◌<◌, ◌≤◌, IfSome, IfOk, IfErr};
 ghost use Rattle.rq_standard.specs.TableRows.{IsChecked, intermediate_symbols};
 ghost use Rattle.rq_standard.specs.Equations.{equation_count, equations};
 ghost use Rattle.rq_solver.specs.Homogeneous.{ShowsHomogeneous};

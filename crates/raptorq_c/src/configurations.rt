@@ -1,9 +1,9 @@
 //! Configurations: how an object is cut (RFC 6330, 3.3 and 4.3), as twelve bytes.
-ghost use Rattle.std.specs.Prelude.{◌≡◌, ◌≢◌, Result, Ok, Err, OnOk, OnErr};
+ghost use Rattle.std.specs.Prelude.{◌≡◌, ◌≢◌, Result, Ok, OnOk, OnErr};
 ghost use Rattle.rq_standard.specs.Configuration.{header_bytes, configuration_of_bytes};
 ghost use Rattle.rq_standard.specs.TableRows.{built_in_rows, greatest_size};
 ghost use Rattle.rq_base.specs.Defaults.{wanted_parameters};
-ghost use Rattle.rq_base.specs.RefusedInput.{configuration_of, new_configuration, checked_configuration};
+ghost use Rattle.rq_base.specs.RefusedInput.{new_configuration, checked_configuration};
 ghost use Rattle.raptorq_c.specs.Numbers.{number_of, refusal_number, IsNumber, IsWritten};
 ghost use Rattle.raptorq_c.specs.Parameters.{parameters_of};
 

@@ -4,10 +4,10 @@ ghost use Rattle.rq_bytes.specs.Refusals.{IsRefusal};
 ghost use Rattle.rq_standard.specs.Configuration.{configuration_of_bytes};
 ghost use Rattle.rq_standard.specs.Headline.{HasNonsingularRows};
 ghost use Rattle.rq_standard.specs.TableRows.{built_in_rows, greatest_size};
-ghost use Rattle.raptorq.specs.Encoder.{encoded_of, IsPacketIn};
+ghost use Rattle.raptorq.specs.Encoder.{encoded_of};
 ghost use Rattle.raptorq.specs.Refused.{new_encoder, RefusesEncoder};
 ghost use Rattle.raptorq_c.specs.Handles.{coder_of, encoder_in, encoder_of, wanted_id, IsCodeWhere, IsEncoderIn, IsPacketAt, IsPacketNumber, HasNoRoom};
-ghost use Rattle.raptorq_c.specs.Numbers.{number_of, IsNumber};
+ghost use Rattle.raptorq_c.specs.Numbers.{number_of};
 
 use crate::buffers::fill;
 use crate::handle::Handle;

@@ -1,5 +1,5 @@
 //! Products of an octet, looked up by the halves of bytes.
-ghost use Rattle.std.specs.Prelude.{◌≡◌, ℕ, ◌+◌, ◌<◌, length, map, slice_index};
+ghost use Rattle.std.specs.Prelude.{◌≡◌, ℕ, ◌<◌, length, map, slice_index};
 ghost use Rattle.rq_standard.specs.Octets.{octet_mul};
 ghost use Rattle.rq_bytes.specs.HalfProducts.{half_byte, AreHalfProducts};
 

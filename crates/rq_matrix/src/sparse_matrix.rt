@@ -1,8 +1,6 @@
 //! The sparse matrix of bits.
-ghost use Rattle.std.specs.Prelude.{◌≡◌, ◌≢◌, ℕ, ◌+◌, ◌-◌, ◌^◌, ◌<◌, ◌≤◌, All, length, IfOk, IfErr, [], slice_index, slice_index_or};
-ghost use Rattle.std.specs.Prelude.{OnOk, OnErr};
+ghost use Rattle.std.specs.Prelude.{◌≡◌, ◌-◌, ◌^◌, ◌<◌, ◌≤◌, All, length, slice_index};
 ghost use Rattle.std.specs.Option.{ForSome};
-ghost use Rattle.rq_bytes.specs.declared.error.Error.TheVariants.{OutOfMemory};
 ghost use Rattle.rq_matrix.specs.Orders.{IsOrder};
 ghost use Rattle.rq_matrix.specs.SparseRows.{IsSparseRow, IsColumnIndex};
 

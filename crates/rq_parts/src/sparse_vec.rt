@@ -17,8 +17,8 @@ use std::alloc::{AllocError, Global};
 use std::cmp::Ordering;
 use std::marker::Model;
 
-/// So many ones of a row take no allocation. Most rows have a few, and the LDPC rows of a block of 497
-/// symbols no more.
+/// So many ones of a row take no allocation. Most rows have a few, and an LDPC row of a block of 497
+/// symbols has no more than these.
 pub const INLINE_ONES: usize = 40;
 
 /// A row of bits as the ascending list of the indices that have a one, each below 65536. Contracts
@@ -219,8 +219,8 @@ impl SparseBinaryVec {
     }
 }
 
-// Lists an index behind all others. Nearly all lists have room, so that what is done where one has none
-// stays a call, which costs the others nothing.
+// Lists an index behind all others. Nearly all lists have room. Making it is a call of its own, so that
+// the others don't carry its code.
 #[inline(always)]
 fn push(ones: &mut SmallVec<u16, INLINE_ONES>, one: u16) -> Result<(), AllocError>
     ensures ok { OnOk result (ones.new.items ≡ ones.old.items ++ one ∷ []) }
@@ -230,12 +230,12 @@ fn push(ones: &mut SmallVec<u16, INLINE_ONES>, one: u16) -> Result<(), AllocErro
         ones.push_reserved(one);
         return Ok(());
     }
-    push_with_room(ones, one)
+    push_growing(ones, one)
 }
 
-// The same where there is no room yet.
+// The same, which makes room first.
 #[inline(never)]
-fn push_with_room(ones: &mut SmallVec<u16, INLINE_ONES>, one: u16) -> Result<(), AllocError>
+fn push_growing(ones: &mut SmallVec<u16, INLINE_ONES>, one: u16) -> Result<(), AllocError>
     ensures ok { OnOk result (ones.new.items ≡ ones.old.items ++ one ∷ []) }
     ensures refused { OnErr result (ones.new.items ≡ ones.old.items) }
 {

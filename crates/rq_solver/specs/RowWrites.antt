@@ -1,4 +1,4 @@
--- Rows of a matrix of octets that are written place by place.
+-- Rows and columns of a matrix of octets that are written place by place.
 use Rattle.std.specs.Prelude.{◌≡◌, ◌≢◌, ℕ, ◌<◌, ◌≤◌, ◌==◌, ◌⊎◌, List, count_by, length, min}
 use Rattle.rq_parts.specs.DenseOctetMatrix.{OctetTable, entry_of, HasOctets}
 

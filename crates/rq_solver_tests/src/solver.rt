@@ -1,5 +1,5 @@
 //! Tests of the solver and of recorded operations.
-ghost use Rattle.std.specs.Prelude.{◌≡◌, ℕ, ◌+◌, ◌≤◌, ◌<◌, false, None, length, IfOk};
+ghost use Rattle.std.specs.Prelude.{◌≡◌, ℕ, ◌+◌, ◌≤◌, ◌<◌, None, length, IfOk};
 ghost use Rattle.rq_algebra.specs.Operations.{AreAllowed};
 ghost use Rattle.rq_operations.specs.RecordedOperations.{operations_of};
 ghost use Rattle.rq_standard.specs.TableRows.{IsChecked, greatest_size, intermediate_symbols, row_of};

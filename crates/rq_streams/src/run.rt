@@ -1,6 +1,6 @@
 //! How a run reads its input and writes what it made.
-ghost use Rattle.std.specs.Prelude.{◌≡◌, ◌+◌, ◌^◌, ◌-◌, ◌<◌, ◌≤◌, ◌⊎◌, ℕ, length, take, OnOk, OnErr, IfOk, IfErr, IfSome, Ok, Err, Some, None, option_map, vec_items};
-ghost use Rattle.std.specs.Io.KnownBytes.{Keeps, Appends, Consumes};
+ghost use Rattle.std.specs.Prelude.{◌≡◌, ◌+◌, ◌^◌, ◌-◌, ◌<◌, ◌⊎◌, ℕ, take, OnOk, OnErr, IfOk, IfErr, IfSome, Ok, Err, Some, None, option_map, vec_items};
+ghost use Rattle.std.specs.Io.KnownBytes.{Appends};
 ghost use Rattle.rq_bytes.specs.declared.error.Error.TheVariants.{OutOfMemory};
 ghost use Rattle.rq_streams.specs.declared.run.Stop.TheVariants.{Fault, Refused};
 ghost use Rattle.rq_streams.specs.Counted.{failed_count, inner_of};

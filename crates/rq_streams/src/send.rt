@@ -1,5 +1,5 @@
 //! An object in, its stream out.
-ghost use Rattle.std.specs.Prelude.{◌≡◌, ◌^◌, ◌-◌, ◌<◌, Ok, option_map, vec_items};
+ghost use Rattle.std.specs.Prelude.{◌^◌, ◌-◌, ◌<◌, Ok, option_map, vec_items};
 ghost use Rattle.rq_bytes.specs.Refusals.{IsAnswer};
 ghost use Rattle.rq_standard.specs.Streams.{stream_of};
 ghost use Rattle.rq_streams.specs.Counted.{failed_count, inner_of};

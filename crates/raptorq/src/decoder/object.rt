@@ -1,6 +1,6 @@
 //! The decoder of an object.
-ghost use Rattle.std.specs.Prelude.{◌≡◌, ◌≢◌, ◌↔◌, ℕ, ◌*◌, ◌<◌, List, [], length, Ok, Some, None, IfSome, IfOk, IfErr, OnOk, OnErr, ◌⊎◌, All, map, option_map, vec_items, is_some, IsSome};
-ghost use Rattle.std.specs.List.{range_with_len, AllByRecursion};
+ghost use Rattle.std.specs.Prelude.{◌≡◌, ◌↔◌, ℕ, ◌*◌, ◌<◌, [], length, Ok, Some, None, IfSome, IfOk, IfErr, OnOk, All, map, option_map, vec_items, is_some, IsSome};
+ghost use Rattle.std.specs.List.{range_with_len};
 ghost use Rattle.rq_bytes.specs.Refusals.{IsAnswer};
 ghost use Rattle.rq_standard.specs.Configuration.{IsAccepted, IsAligned, largest_block, total_symbols};
 ghost use Rattle.rq_standard.specs.Cutting.{block_symbols};

@@ -1,9 +1,7 @@
 //! The stored rows that have a one in each stored column.
-ghost use Rattle.std.specs.Prelude.{◌≡◌, ℕ, ◌+◌, ◌^◌, ◌<◌, ◌≤◌, [], All, length, slice_index, slice_index_or, IfOk, IfErr, OnOk, OnErr};
-ghost use Rattle.std.specs.List.Sorted.{IsStrictlyIncreasing};
+ghost use Rattle.std.specs.Prelude.{◌≡◌, ◌^◌, ◌<◌, [], All, length, slice_index_or, IfOk, IfErr, OnOk, OnErr};
 ghost use Rattle.std.specs.Option.{ForSome};
 ghost use Rattle.rq_bytes.specs.declared.error.Error.TheVariants.{OutOfMemory};
-ghost use Rattle.rq_parts.specs.SparseBinaryVec.{listed_bit};
 ghost use Rattle.rq_matrix.specs.SparseRows.{IsSparseRow, IsColumnIndex, AddsOnes, places_between};
 
 use rq_bytes::error::Error;

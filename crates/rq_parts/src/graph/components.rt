@@ -2,7 +2,6 @@
 ghost use Rattle.std.specs.Prelude.{◌≡◌, ◌≢◌, ℕ, ◌+◌, ◌^◌, ◌<◌, ◌≤◌, ◌↔◌, IsTrue, length, replicate, Ok, IfSome, IfNone, slice_index, slice_set};
 ghost use Rattle.std.specs.List.{swap};
 ghost use Rattle.rq_bytes.specs.Refusals.{IsAnswer};
-ghost use Rattle.rq_parts.specs.ArrayMaps.{Numbers, number_at};
 
 use crate::arraymap::U16ArrayMap;
 use rq_bytes::error::Error;

@@ -12,7 +12,7 @@ use std::alloc::Global;
 use std::marker::Model;
 
 /// The rows of all ones, column by column, and where those of each column start. They tell which
-/// degrees fall. Contracts see the number of rows, and for each column the rows of its ones.
+/// degrees fall, and which rows have ones in an inactive column. Contracts see the number of rows, and for each column the rows of its ones.
 #[derive(Drop)]
 pub(super) struct ColumnRows {
     height: usize,
@@ -62,7 +62,7 @@ impl ColumnRows {
 
     /// The rows of a column's ones, the last first.
     #[inline(always)]
-    pub(super) fn rows_of(&self, column: usize) -> &[u32]
+    pub(super) fn rows_in(&self, column: usize) -> &[u32]
         requires { column < length self.now.lists }
         ensures rows { result.now ≡ slice_index_or self.now.lists column [] }
         ensures below { All (λ row. row < self.now.height) result.now }
@@ -84,7 +84,7 @@ impl ColumnRows {
         ensures lowered { OnOk result (LowersRows (slice_index_or self.now.lists column []) degrees.old degrees.new) }
         ensures err { IfErr result (λ e. e ≡ OutOfMemory) }
     {
-        degrees.lower(self.rows_of(column))
+        degrees.lower(self.rows_in(column))
     }
 
     /// A row that has a one in a column and has two active columns.
@@ -93,7 +93,7 @@ impl ColumnRows {
         requires rows { self.now.height ≡ length degrees.now }
         ensures { IfSome result (λ row. (row < length degrees.now) × (at degrees.now row ≡ 2)) }
     {
-        for row in self.rows_of(column) {
+        for row in self.rows_in(column) {
             if degrees.degree(*row as usize) == 2 {
                 return Some(*row as usize);
             }

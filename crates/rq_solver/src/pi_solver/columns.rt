@@ -1,6 +1,5 @@
 //! The columns in an order: those with pivots, the active ones and the inactive ones.
 ghost use Rattle.std.specs.Prelude.{◌≡◌, ◌+◌, ◌<◌, ◌≤◌, ◌↔◌, length, IsTrue, IfOk, IfErr};
-ghost use Rattle.std.specs.List.{range_with_len};
 ghost use Rattle.rq_bytes.specs.declared.error.Error.TheVariants.{OutOfMemory};
 ghost use Rattle.rq_solver.specs.Peeled.{IsOrderOf, IsActive, first_columns, ExchangesColumns, EndsActive};
 ghost use Rattle.rq_algebra.specs.Systems.{at};

@@ -1,7 +1,7 @@
 //! What rows have in the inactive columns.
-ghost use Rattle.std.specs.Prelude.{◌≡◌, ◌≢◌, ℕ, ◌+◌, ◌*◌, ◌%◌, ◌^◌, ◌<◌, ◌≤◌, All, length, replicate, slice_set, IfSome, IfOk, OnOk, IfErr, OnErr};
+ghost use Rattle.std.specs.Prelude.{◌≡◌, ◌≢◌, ◌+◌, ◌*◌, ◌%◌, ◌^◌, ◌<◌, ◌≤◌, All, length, replicate, slice_set, IfSome, IfOk, OnOk, IfErr, OnErr};
 ghost use Rattle.rq_bytes.specs.declared.error.Error.TheVariants.{OutOfMemory};
-ghost use Rattle.rq_parts.specs.DenseOctetMatrix.{entry_of, HasOctets, IsOctetRow, row_at, with_row};
+ghost use Rattle.rq_parts.specs.DenseOctetMatrix.{entry_of, HasOctets, row_at, with_row};
 ghost use Rattle.rq_solver.specs.EntryRow.{HasWidth, octets_of};
 ghost use Rattle.rq_solver.specs.InactiveEntries.{IsNextOctet, with_octets};
 ghost use Rattle.rq_solver.specs.Words.{AreBitsOfWord};

@@ -1,6 +1,6 @@
 //! The first phase (RFC 6330, section 5.4.2.2): once pivots are chosen, all rows are cleared in the
 //! pivots' columns.
-ghost use Rattle.std.specs.Prelude.{◌≡◌, ◌≢◌, ℕ, ◌+◌, ◌*◌, ◌<◌, ◌≤◌, drop, length, IfOk, OnOk, IfErr};
+ghost use Rattle.std.specs.Prelude.{◌≡◌, ◌+◌, ◌*◌, ◌<◌, ◌≤◌, drop, length, IfOk, OnOk, IfErr};
 ghost use Rattle.rq_bytes.specs.declared.error.Error.TheVariants.{OutOfMemory};
 ghost use Rattle.rq_solver.specs.Recorded.{AddsAtMost};
 ghost use Rattle.rq_solver.specs.Cleared.{ClearsRows, ListsRows, PeelsRows, TakesPivots};
@@ -43,12 +43,13 @@ pub(super) fn clear_pivots(
     let table = fill_inactive(alloc, &system, peeling)?;
     let System {
         ones,
-        columns,
+        column_rows,
         hdpc,
         first_hdpc,
         ..
     } = system;
-    drop(columns);
+    // Nothing asks for a column's rows any more, and room for operations comes next.
+    drop(column_rows);
     // Blocks of all sizes take two to three operations for each one.
     let room = ones.len().saturating_mul(3);
     let mut recorded = RecordedRows::new(alloc, table, room)?;

@@ -1,5 +1,5 @@
 //! The first phase: columns get pivots among rows of bits while no row is changed.
-ghost use Rattle.std.specs.Prelude.{◌≡◌, false, ◌<◌, ◌≤◌, ◌+◌, [], drop, length, slice_index_or, All, Contains, IsTrue, IfSome, IfNone, OnOk, IfOk, IfErr};
+ghost use Rattle.std.specs.Prelude.{◌≡◌, false, ◌<◌, ◌≤◌, [], drop, length, slice_index_or, All, Contains, IsTrue, IfSome, IfNone, OnOk, IfOk, IfErr};
 ghost use Rattle.rq_bytes.specs.declared.error.Error.TheVariants.{OutOfMemory};
 ghost use Rattle.rq_algebra.specs.Systems.{at};
 ghost use Rattle.rq_solver.specs.Degrees.{CountsBefore, KeepsDegrees, LowersRows, TakesFewest, active_ones};
@@ -114,7 +114,7 @@ pub(super) fn peel(alloc: Global, system: &System, degrees: Vec<u16>) -> Result<
 {
     let ones = &system.ones;
     let boundary = system.boundary;
-    let column_rows = &system.columns;
+    let column_rows = &system.column_rows;
     let mut degrees = RowDegrees::new(alloc, degrees)?;
     let mut columns = ColumnOrder::new(alloc, system.width, boundary)?;
     let mut graph = ConnectedComponentGraph::new(alloc, boundary)?;

@@ -1,16 +1,16 @@
 //! The phases of the solver, one after another (RFC 6330, section 5.4.2).
-ghost use Rattle.std.specs.Prelude.{◌≡◌, ℕ, ◌+◌, ◌<◌, ◌≤◌, ◌*◌, ◌-◌, ◌∷◌, ◌++◌, [], Contains, IsPermutation, drop, length, map, IfOk, OnOk, IfErr, IfSome, MatchBool, MatchOption};
+ghost use Rattle.std.specs.Prelude.{◌≡◌, ℕ, ◌+◌, ◌<◌, ◌≤◌, ◌*◌, ◌-◌, ◌∷◌, ◌++◌, [], Contains, IsPermutation, drop, length, map, IfOk, OnOk, IfErr};
 ghost use Rattle.std.specs.Option.{option_map};
-ghost use Rattle.rq_algebra.specs.Operations.{Reorder, FindsColumn};
-ghost use Rattle.rq_algebra.specs.Systems.{at, HasHomogeneousColumn};
+ghost use Rattle.rq_algebra.specs.Operations.{Reorder};
+ghost use Rattle.rq_algebra.specs.Systems.{at};
 ghost use Rattle.rq_bytes.specs.declared.error.Error.TheVariants.{OutOfMemory};
 ghost use Rattle.rq_operations.specs.RecordedOperations.{operations_of};
 ghost use Rattle.rq_parts.specs.DenseOctetMatrix.{HasOctets};
 ghost use Rattle.rq_standard.specs.OctetField.{octets};
-ghost use Rattle.rq_solver.specs.Cleared.{HasPeeledPivots, LacksPivots, ListsRows, PeelsRows, SolvesInactive};
+ghost use Rattle.rq_solver.specs.Cleared.{ListsRows, PeelsRows};
 ghost use Rattle.rq_solver.specs.OperationCounts.{additions};
 ghost use Rattle.rq_solver.specs.PhaseCounts.{AreCountsOf};
-ghost use Rattle.rq_solver.specs.Peeled.{IsOrderOf, IsPeeled};
+ghost use Rattle.rq_solver.specs.Peeled.{IsPeeled};
 ghost use Rattle.rq_solver.specs.RowSteps.{AreRows};
 ghost use Rattle.rq_solver.specs.Phases.{FindsOrder, IsAttempt, SolvesLeft};
 

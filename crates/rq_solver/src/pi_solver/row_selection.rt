@@ -1,7 +1,7 @@
 //! Which row the first phase may take next (RFC 6330, section 5.4.2.2).
 ghost use Rattle.std.specs.Prelude.{◌≡◌, ℕ, ◌+◌, ◌<◌, ◌≤◌, length, IfNone, IfOk, IfSome, IfErr, slice_index};
 ghost use Rattle.rq_bytes.specs.declared.error.Error.TheVariants.{OutOfMemory};
-ghost use Rattle.rq_standard.specs.BitTableSteps.{ArePlacesOfOnes, SwapsColumns, SwapsRows, ones_between};
+ghost use Rattle.rq_standard.specs.BitTableSteps.{SwapsColumns, SwapsRows, ones_between};
 
 use rq_bytes::error::Error;
 use rq_matrix::matrix::BinaryMatrix;

@@ -1,5 +1,5 @@
 //! The second phase: elimination over the inactive columns (RFC 6330, section 5.4.2.3).
-ghost use Rattle.std.specs.Prelude.{◌≡◌, ◌≢◌, ℕ, ◌+◌, ◌-◌, ◌*◌, ◌<◌, ◌≤◌, ◌∷◌, [], length, OnOk, IfOk, IfErr, MatchBool, IsPermutation};
+ghost use Rattle.std.specs.Prelude.{◌≡◌, ◌≢◌, ◌+◌, ◌-◌, ◌*◌, ◌<◌, ◌≤◌, ◌∷◌, [], length, OnOk, IfOk, IfErr, MatchBool, IsPermutation};
 ghost use Rattle.rq_algebra.specs.Systems.{at};
 ghost use Rattle.rq_algebra.specs.Steps.{AddsRow, ScalesRow};
 ghost use Rattle.rq_standard.specs.OctetField.{octets};

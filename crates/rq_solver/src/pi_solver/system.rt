@@ -21,15 +21,15 @@ use std::alloc::Global;
 #[derive(Drop)]
 pub(super) struct System {
     pub ones: RowOnes,
-    pub columns: ColumnRows,
+    pub column_rows: ColumnRows,
     pub hdpc: DenseOctetMatrix,
     pub first_hdpc: usize,
     pub width: usize,
     pub boundary: usize,
     pub ghost bits: { AreRowsOfBits width ones },
-    pub ghost column_lists: { ListsColumns ones columns },
-    pub ghost column_count: { length columns.lists ≡ width },
-    pub ghost row_count: { columns.height ≡ length ones },
+    pub ghost column_lists: { ListsColumns ones column_rows },
+    pub ghost column_count: { length column_rows.lists ≡ width },
+    pub ghost row_count: { column_rows.height ≡ length ones },
     pub ghost octet_rows: { AreOctetRows ones first_hdpc width hdpc },
     pub ghost octets: { HasOctets hdpc },
     pub ghost few_hdpc: { length hdpc.rows ≤ width },
@@ -65,10 +65,10 @@ impl System {
     {
         let width = hdpc.width();
         let (ones, degrees) = RowOnes::of_matrix(alloc, bits, boundary)?;
-        let columns = ColumnRows::of_rows(alloc, &ones, width)?;
+        let column_rows = ColumnRows::of_rows(alloc, &ones, width)?;
         let system = System {
             ones,
-            columns,
+            column_rows,
             hdpc,
             first_hdpc,
             width,

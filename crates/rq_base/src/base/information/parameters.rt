@@ -1,6 +1,6 @@
 //! How an object is cut by default (RFC 6330, section 4.3).
 ghost use Rattle.std.specs.Prelude.{◌≡◌, ◌<◌, ◌≤◌, IfOk};
-ghost use Rattle.rq_standard.specs.Parameters.{alignment_for, symbol_size_for, most_sub_blocks, fitting_block, is_fitting, first_from, blocks_for, symbols_for, IsLeast};
+ghost use Rattle.rq_standard.specs.Parameters.{alignment_for, symbol_size_for, most_sub_blocks, fitting_block, is_fitting, first_from};
 
 use super::{MAX_TRANSFER_LENGTH, ObjectTransmissionInformation, total_symbols};
 use rq_bytes::error::Error;

@@ -45,7 +45,7 @@ fn fill_columns(system: &System, peeling: &Peeling, inactive: usize, entries: &m
 {
     for f in 0..inactive {
         let column = peeling.column_at(peeling.pivots() + f);
-        fill_column(system.columns.rows_of(column), f, entries);
+        fill_column(system.column_rows.rows_in(column), f, entries);
     }
 }
 

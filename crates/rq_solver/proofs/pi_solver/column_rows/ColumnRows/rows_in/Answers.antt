@@ -1,4 +1,4 @@
--- What the check leaves to show of `pi_solver::column_rows::ColumnRows::rows_of`.
+-- What the check leaves to show of `pi_solver::column_rows::ColumnRows::rows_in`.
 use Rattle.std.proofs.Common.{◌≡◌, ℕ, ◌+◌, ◌<◌, ◌≤◌, List, [], length, min, sym, ap, ◌∙◌, arith}
 use Rattle.std.specs.Prelude.{slice_index_or, slice_range}
 use Rattle.std.proofs.lemmas.Bool.{ltb-true, ltb-false}
@@ -6,8 +6,8 @@ use Rattle.std.proofs.lemmas.List.{get_or_default, get_or_past, get_or_read}
 use Rattle.std.proofs.lemmas.List.FromFn.{length-map-range_with_len, get_or-map-range_with_len}
 use Rattle.rq_algebra.specs.Systems.{at}
 use Rattle.rq_solver.specs.ColumnRows.{ColumnLists, rows_from}
-use Rattle.rq_solver.proofs.pi_solver.column_rows.ColumnRows.rows_of.Goals as goal
-use Rattle.rq_solver.proofs.pi_solver.column_rows.ColumnRows.rows_of.Goals.{in-Some, in-None}
+use Rattle.rq_solver.proofs.pi_solver.column_rows.ColumnRows.rows_in.Goals as goal
+use Rattle.rq_solver.proofs.pi_solver.column_rows.ColumnRows.rows_in.Goals.{in-Some, in-None}
 
 pub overflow_add-column : goal.overflow_add-column
 overflow_add-column c =
