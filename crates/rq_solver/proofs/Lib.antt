@@ -34,6 +34,7 @@ pub mod RowTurns
 pub mod ShownRows
 pub mod SolutionLaws
 pub mod StepColumns
+pub mod TakenAgain
 pub mod Turns
 pub mod UnpackedBits
 pub mod WithOctets

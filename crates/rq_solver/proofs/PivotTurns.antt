@@ -4,13 +4,13 @@ use Rattle.std.specs.List.{count_by}
 use Rattle.std.proofs.lemmas.Bool.{cases_eq, eq-eqb, ne_eqb}
 use Rattle.std.proofs.lemmas.List.{take_more, take-append-drop, length-take-le}
 use Rattle.std.proofs.lemmas.List.Sums.{count_by_more_yes, count_by_more_no, sum_by-append}
-use Rattle.std.proofs.lemmas.List.Elements.{Contains-append_left, Contains-push}
+use Rattle.std.proofs.lemmas.List.Elements.{All-nil, All-push, Contains-append_left, Contains-push}
 use Rattle.rq_algebra.specs.Arrangements.{ArePlaces}
 use Rattle.rq_algebra.specs.Operations.{Operation}
 use Rattle.rq_algebra.specs.Systems.{at}
 use Rattle.rq_algebra.proofs.Sums.{add_zero, mul_zero}
 use Rattle.rq_standard.specs.OctetField.{octets}
-use Rattle.rq_solver.specs.Cleared.{AreRowsOfBits, IsCleared, TakesPivotsBy}
+use Rattle.rq_solver.specs.Cleared.{AreRowsOfBits, IsCleared, IsSumOf, TakesPivotsBy}
 use Rattle.rq_solver.specs.Peeled.{IsOrderOf, ones_of}
 use Rattle.rq_solver.specs.Recorded.{Recorded, sum_step}
 use Rattle.rq_solver.specs.RowSteps.{rows_after}
@@ -80,6 +80,7 @@ module _ (Done : List Operation → Recorded → Recorded → Type 0) (rows orde
   takes_none table none_done = record {
     steps = [];
     done = none_done;
+    sums = All-nil (IsSumOf row (length table.table.rows));
     idle = λ e. refl;
     kept = λ m k zeros. rows_after-none octets m row k;
     elsewhere = λ m i k d. rows_after-none octets m i k;
@@ -102,6 +103,7 @@ module _ (Done : List Operation → Recorded → Recorded → Type 0) (rows orde
     takes_skipped why = record {
       steps = v.steps;
       done = v.done;
+      sums = v.sums;
       idle = λ e. absurd (not_empty e);
       kept = λ m k zeros. v.kept m k (λ j n c d. zeros j n (taken_before columns t (at order j) in_columns c) d);
       elsewhere = v.elsewhere;
@@ -118,7 +120,7 @@ module _ (Done : List Operation → Recorded → Recorded → Type 0) (rows orde
           ]);
     }
 
-    module _ (once : (k : ℕ) → k < width → count_by (λ x. x == k) columns ≤ 1) (bound : ℕ) (rows_are : ArePlaces (length rows) bound (at rows)) (j : ℕ) (place : at places (at columns t) ≡ j) (in_rows : j < length rows) (other : at rows j ≢ row)
+    module _ (once : (k : ℕ) → k < width → count_by (λ x. x == k) columns ≤ 1) (bound : ℕ) (rows_are : ArePlaces (length rows) bound (at rows)) (j : ℕ) (place : at places (at columns t) ≡ j) (in_rows : j < length rows) (other : at rows j ≢ row) (height : length old.table.rows ≡ bound)
         (new : Recorded) (more_done : Done (v.steps ++ sum_step row (at rows j) 1 ∷ []) old new) where
       column_is : at columns t ≡ at order j
       column_is = sym (arranged.placed (at columns t) in_width).1 ∙ ap (at order) place
@@ -175,6 +177,7 @@ module _ (Done : List Operation → Recorded → Recorded → Type 0) (rows orde
       takes_more = record {
         steps = v.steps ++ sum_step row (at rows j) 1 ∷ [];
         done = more_done;
+        sums = All-push (IsSumOf row (length old.table.rows)) v.steps (sum_step row (at rows j) 1) v.sums (record { source = at rows j; is = refl; within = rw height (rows_are.below j in_rows); other = other });
         idle = λ e. absurd (not_empty e);
         kept = λ m k zeros.
             let here : rows_after octets v.steps m (at rows j) k ≡ 0 = v.elsewhere m (at rows j) k other ∙ zeros j in_rows (subst (Contains (take (t + 1) columns)) column_is (taken_next columns t in_columns)) other in

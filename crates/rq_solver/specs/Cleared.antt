@@ -1,9 +1,9 @@
 -- What becomes of rows of which some have pivots while they are still as they were.
-use Rattle.std.specs.Prelude.{◌≡◌, ◌≢◌, ℕ, ◌+◌, ◌<◌, ◌≤◌, ◌==◌, if◌then◌else◌, Bool, true, false, List, [], All, Contains, count_by, length, slice_index_or}
+use Rattle.std.specs.Prelude.{◌≡◌, ◌≢◌, ℕ, ◌+◌, ◌<◌, ◌≤◌, ◌==◌, if◌then◌else◌, Bool, true, false, List, [], All, Contains, count_by, length, slice_index_or, slice_range}
 use Rattle.std.specs.List.{range_with_len}
 use Rattle.rq_algebra.specs.Arrangements.{ArePlaces}
 use Rattle.rq_algebra.specs.Systems.{at, HasElements}
-use Rattle.rq_algebra.specs.Operations.{Operation}
+use Rattle.rq_algebra.specs.Operations.{Operation, AddAssign}
 use Rattle.rq_standard.specs.ConstraintMatrix.{with_octet_rows}
 use Rattle.rq_standard.specs.OctetField.{octets}
 use Rattle.rq_parts.specs.DenseOctetMatrix.{OctetTable, entry_of, HasOctets}
@@ -72,10 +72,18 @@ AreUnits reduced start count column m = (t f : ℕ) → start ≤ t → t < coun
 abbrev pub AreShown : List ℕ → ℕ → (ℕ → ℕ) → (ℕ → ℕ → ℕ) → OctetTable → Type 0
 AreShown reduced count column m table = (t f : ℕ) → t < count → f < count → m (at reduced t) (column f) ≡ entry_of table (at reduced t) f
 
+-- a step adds another row to this one
+pub record IsSumOf (row height : ℕ) (step : Operation) : Type 0 where
+  pub source : ℕ
+  pub is : step ≡ AddAssign row source
+  pub within : source < height
+  pub other : source ≢ row
+
 -- A row takes the rows of the other pivots in whose columns it has these ones, by steps that are done as `Done` says. What it is in whole is `m`, whatever that is.
 pub record TakesPivotsBy (Done : List Operation → Recorded → Recorded → Type 0) (rows order : List ℕ) (row : ℕ) (columns : List ℕ) (old new : Recorded) : Type 0 where
   pub steps : List Operation
   pub done : Done steps old new
+  pub sums : All (IsSumOf row (length old.table.rows)) steps
   pub idle : columns ≡ [] → steps ≡ []
   pub elsewhere : (m : ℕ → ℕ → ℕ) (i k : ℕ) → i ≢ row → rows_after octets steps m i k ≡ m i k
   pub taken : (m : ℕ → ℕ → ℕ) → ((j : ℕ) → j < length rows → Contains columns (at order j) → at rows j ≢ row → IsCleared rows order m (at rows j))
@@ -89,6 +97,21 @@ TakesPivots rows order row columns old new = TakesPivotsBy Performs rows order r
 
 abbrev pub RecordsPivots : List ℕ → List ℕ → ℕ → List ℕ → Recorded → Recorded → Type 0
 RecordsPivots rows order row columns old new = TakesPivotsBy Records rows order row columns old new
+
+-- the steps are the operations from one place on and before another
+abbrev pub StandBetween : ℕ → ℕ → List Operation → Recorded → Recorded → Type 0
+StandBetween start end steps old new = steps ≡ slice_range new.operations start end
+
+-- By the operations between one bound and the next each of the first rows of a list took the rows of the other pivots in whose columns it has ones.
+pub record HaveTaken (lists : List (List ℕ)) (pivots : Pivots) (listed : List ℕ) (done : ℕ) (bounds : List ℕ) (state : Recorded) : Type 0 where
+  pub many : done < length bounds
+  pub ordered : (s : ℕ) → s < done → at bounds s ≤ at bounds (s + 1)
+  pub within : (s : ℕ) → s < done → at bounds (s + 1) ≤ length state.operations
+  pub taken : (s : ℕ) → s < done → TakesPivotsBy (StandBetween (at bounds s) (at bounds (s + 1))) pivots.rows pivots.order (at listed s) (ones_of lists (at listed s)) state state
+
+-- the same of the pivots' rows
+abbrev pub PivotsHaveTaken : List (List ℕ) → Pivots → List ℕ → Recorded → Type 0
+PivotsHaveTaken lists pivots bounds state = HaveTaken lists pivots pivots.rows (length pivots.rows) bounds state
 
 -- the first rows of a list are cleared, and the rest are as they were
 pub record ClearsRows (lists : List (List ℕ)) (rows order listed : List ℕ) (done : ℕ) (old new : Recorded) : Type 0 where

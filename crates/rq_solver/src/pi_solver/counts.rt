@@ -1,5 +1,6 @@
 //! How many operations the phases recorded.
-ghost use Rattle.std.specs.Prelude.{◌≡◌, ◌+◌, ◌<◌, ◌^◌, ◌∷◌, [], ◌++◌, List, length, map, IfOk, OnOk, IfErr};
+ghost use Rattle.std.specs.Prelude.{◌≡◌, ℕ, ◌+◌, ◌<◌, ◌^◌, ◌∷◌, [], ◌++◌, List, Some, length, map, slice_index_or, IfOk, OnOk, IfErr};
+ghost use Rattle.rq_algebra.specs.Operations.{Operation, AddAssign};
 ghost use Rattle.rq_bytes.specs.declared.error.Error.TheVariants.{OutOfMemory};
 ghost use Rattle.rq_operations.specs.Steps.{operation_of_step};
 ghost use Rattle.rq_solver.specs.OperationCounts.{additions, multiplications};
@@ -211,6 +212,25 @@ impl OperationList {
     }
 
     /// How many were recorded.
+    pub(super) fn len(&self) -> usize
+        ensures { result ≡ length self.now }
+    {
+        self.steps.len()
+    }
+
+    /// The symbol that an operation adds to another one, `None` where it does anything else.
+    #[inline(always)]
+    pub(super) fn source(&self, place: usize) -> Option<usize>
+        requires { place < length self.now }
+        ensures { (dest src : ℕ) (d : Operation) → slice_index_or self.now place d ≡ AddAssign dest src → result ≡ Some src }
+    {
+        match &self.steps[place] {
+            Step::Add { src, .. } => Some(*src as usize),
+            _ => None,
+        }
+    }
+
+    /// How many were recorded of each kind, by phases.
     pub(super) fn counts(&self) -> OperationCounts
         ensures { AreCountsOf result self.now }
     {

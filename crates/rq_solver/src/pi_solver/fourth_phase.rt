@@ -1,15 +1,14 @@
 //! The fourth phase: the pivots' rows get zeros in the inactive columns (RFC 6330, section 5.4.2.5).
-ghost use Rattle.std.specs.Prelude.{◌≡◌, ◌≢◌, ℕ, ◌+◌, ◌*◌, ◌<◌, ◌≤◌, true, false, length, slice_index_or, IsTrue, IfOk, OnOk, IfErr};
+ghost use Rattle.std.specs.Prelude.{◌≡◌, ◌≢◌, ℕ, ◌+◌, ◌-◌, ◌*◌, ◌<◌, ◌≤◌, true, false, All, length, slice_index_or, slice_range, IsTrue, IfOk, OnOk, IfErr};
 ghost use Rattle.rq_algebra.specs.Systems.{at};
 ghost use Rattle.rq_bytes.specs.declared.error.Error.TheVariants.{OutOfMemory};
-ghost use Rattle.rq_solver.specs.Recorded.{AddsAtMost};
-ghost use Rattle.rq_solver.specs.Cleared.{FinishesPivots, PeelsRows, RecordsPivots, TakesBack};
+ghost use Rattle.rq_solver.specs.Recorded.{AddsAtMost, Performs, Records};
+ghost use Rattle.rq_solver.specs.Cleared.{FinishesPivots, IsSumOf, PeelsRows, PivotsHaveTaken, TakesBack};
 ghost use Rattle.rq_solver.specs.OperationCounts.{additions};
-ghost use Rattle.rq_solver.specs.Peeled.{ones_of};
 ghost use Rattle.rq_solver.specs.RowSteps.{AreRows};
 ghost use Rattle.rq_parts.specs.DenseOctetMatrix.{HasOctets};
 
-use super::first_phase::take_pivots;
+use super::first_phase::ClearedRows;
 use super::ones::RowOnes;
 use super::peeling::Peeling;
 use super::recorded::RecordedRows;
@@ -19,101 +18,129 @@ use rq_bytes::octet::Octet;
 
 /// Adds again to some of the pivots' rows, the last first, the pivots' rows that they took in the
 /// first phase. So they are as they were handed in, and have few ones, where they came to have many
-/// in the inactive columns. Says which rows these are: each has `most` ones at most.
+/// in the inactive columns. Says which rows these are: each took `most` rows at most.
 pub(super) fn take_back(
-    ones: &RowOnes,
+    cleared: &ClearedRows,
     peeling: &Peeling,
     most: usize,
     recorded: &mut RecordedRows,
 ) -> Result<Vec<bool>, Error>
-    requires peeled { PeelsRows ones.now peeling.now }
-    requires height { length recorded.old.table.rows ≡ length ones.now }
+    requires peeled { PeelsRows cleared.now.ones peeling.now }
+    requires height { length recorded.old.table.rows ≡ length cleared.now.ones }
     requires wide { length peeling.now.places ≤ length peeling.now.rows + recorded.old.table.width }
     requires octets { HasOctets recorded.old.table }
-    ensures taken { IfOk result (λ marks. TakesBack ones.now peeling.now.rows peeling.now.order marks.items 0 recorded.old recorded.new) }
+    requires taken { PivotsHaveTaken cleared.now.ones peeling.now cleared.now.bounds.items recorded.old }
+    ensures taken { IfOk result (λ marks. TakesBack cleared.now.ones peeling.now.rows peeling.now.order marks.items 0 recorded.old recorded.new) }
     ensures long { IfOk result (λ marks. length marks.items ≡ length peeling.now.rows) }
-    ensures short { IfOk result (λ marks. (p : ℕ) → p < length peeling.now.rows → slice_index_or marks.items p false ≡ true → length (ones_of ones.now (at peeling.now.rows p)) ≤ most) }
+    ensures short { IfOk result (λ marks. (p : ℕ) → p < length peeling.now.rows → slice_index_or marks.items p false ≡ true → at cleared.now.bounds.items (p + 1) - at cleared.now.bounds.items p ≤ most) }
     ensures few { OnOk result (AddsAtMost (length peeling.now.rows * most) recorded.old recorded.new) }
     ensures err { IfErr result (λ e. e ≡ OutOfMemory) }
 {
     let mut marks = vec![in recorded.allocator(); false; peeling.pivots()]?;
-    take_back_rows(ones, peeling, most, marks.as_mut_slice(), recorded)?;
+    take_back_rows(cleared, peeling, most, marks.as_mut_slice(), recorded)?;
     Ok(marks)
 }
 
 // The same, with a mark for each of the rows.
 fn take_back_rows(
-    ones: &RowOnes,
+    cleared: &ClearedRows,
     peeling: &Peeling,
     most: usize,
     marks: &mut [bool],
     recorded: &mut RecordedRows,
 ) -> Result<(), Error>
-    requires peeled { PeelsRows ones.now peeling.now }
-    requires height { length recorded.old.table.rows ≡ length ones.now }
+    requires peeled { PeelsRows cleared.now.ones peeling.now }
+    requires height { length recorded.old.table.rows ≡ length cleared.now.ones }
     requires wide { length peeling.now.places ≤ length peeling.now.rows + recorded.old.table.width }
     requires octets { HasOctets recorded.old.table }
+    requires taken { PivotsHaveTaken cleared.now.ones peeling.now cleared.now.bounds.items recorded.old }
     requires long { length marks.old ≡ length peeling.now.rows }
-    ensures taken { OnOk result (TakesBack ones.now peeling.now.rows peeling.now.order marks.new 0 recorded.old recorded.new) }
-    ensures short { OnOk result ((p : ℕ) → p < length peeling.now.rows → slice_index_or marks.new p false ≡ true → length (ones_of ones.now (at peeling.now.rows p)) ≤ most) }
+    ensures taken { OnOk result (TakesBack cleared.now.ones peeling.now.rows peeling.now.order marks.new 0 recorded.old recorded.new) }
+    ensures short { OnOk result ((p : ℕ) → p < length peeling.now.rows → slice_index_or marks.new p false ≡ true → at cleared.now.bounds.items (p + 1) - at cleared.now.bounds.items p ≤ most) }
     ensures few { OnOk result (AddsAtMost (length peeling.now.rows * most) recorded.old recorded.new) }
     ensures err { IfErr result (λ e. e ≡ OutOfMemory) }
 {
+    let inactive = peeling.width() - peeling.pivots();
     for done in 0..marks.len() {
         let place = marks.len() - 1 - done;
         let row = peeling.row_of(place);
-        let saves = saves_additions(ones, row, peeling, most, recorded);
+        let (start, end) = (cleared.bounds[place], cleared.bounds[place + 1]);
+        let saves = saves_additions(&cleared.ones, row, end - start, most, inactive, recorded);
         marks[place] = saves;
         if saves {
-            take_pivots(ones, row, peeling, recorded)?;
+            add_again(row, start, end, recorded)?;
         }
     }
     Ok(())
 }
 
-// Whether a row has `most` ones at most, and more entries in the inactive columns than it would
-// take to take back the pivots' rows and to take them again, beside the ones that it was handed in
-// with.
+// Whether a row took `most` rows at most, and it saves additions to take them back. That takes as many
+// additions twice, since the row takes them again, and leaves it those of its ones that stand in
+// inactive columns: all but its own pivot's and one for each row that it took.
 fn saves_additions(
     ones: &RowOnes,
     row: usize,
-    peeling: &Peeling,
+    taken: usize,
     most: usize,
+    inactive: usize,
     recorded: &RecordedRows,
 ) -> bool
-    requires peeled { PeelsRows ones.now peeling.now }
     requires row { row < length ones.now }
     requires height { length recorded.now.table.rows ≡ length ones.now }
-    requires wide { length peeling.now.places ≤ length peeling.now.rows + recorded.now.table.width }
-    ensures { IsTrue result → length (ones_of ones.now row) ≤ most }
+    requires wide { inactive ≤ recorded.now.table.width }
+    ensures { IsTrue result → taken ≤ most }
 {
-    let inactive = peeling.width() - peeling.pivots();
-    let entries = recorded.count_entries(row, inactive);
-    // Each one costs two additions at most, and but for the row's own pivot, which isn't taken, one
-    // at least: so most rows need no look at where their ones stand.
-    if ones.row(row).len() > most.min(entries.saturating_add(1)) {
-        return false;
+    let cost = ones.row(row).len().saturating_add(taken);
+    taken <= most && recorded.count_entries(row, inactive) >= cost
+}
+
+// Adds to a row again the rows that it took by the operations from one place on and before another.
+fn add_again(row: usize, start: usize, end: usize, recorded: &mut RecordedRows) -> Result<(), Error>
+    requires row { row < length recorded.old.table.rows }
+    requires ordered { start ≤ end }
+    requires within { end ≤ length recorded.old.operations }
+    requires sums { All (IsSumOf row (length recorded.old.table.rows)) (slice_range recorded.old.operations start end) }
+    requires octets { HasOctets recorded.old.table }
+    ensures added { OnOk result (Performs (slice_range recorded.old.operations start end) recorded.old recorded.new) }
+    ensures few { OnOk result (AddsAtMost (end - start) recorded.old recorded.new) }
+    ensures err { IfErr result (λ e. e ≡ OutOfMemory) }
+{
+    for place in start..end {
+        if let Some(source) = recorded.source(place) {
+            recorded.add_row(row, source, Octet::one())?;
+        }
     }
-    if ones.row(row).len() <= entries / 2 {
-        return true;
+    Ok(())
+}
+
+// The same recorded alone, since no entry of the row is read any more.
+fn record_again(
+    row: usize,
+    start: usize,
+    end: usize,
+    recorded: &mut RecordedRows,
+) -> Result<(), Error>
+    requires row { row < length recorded.old.table.rows }
+    requires ordered { start ≤ end }
+    requires within { end ≤ length recorded.old.operations }
+    requires sums { All (IsSumOf row (length recorded.old.table.rows)) (slice_range recorded.old.operations start end) }
+    ensures recorded { OnOk result (Records (slice_range recorded.old.operations start end) recorded.old recorded.new) }
+    ensures few { OnOk result (AddsAtMost (end - start) recorded.old recorded.new) }
+    ensures err { IfErr result (λ e. e ≡ OutOfMemory) }
+{
+    for place in start..end {
+        if let Some(source) = recorded.source(place) {
+            recorded.record_sum(row, source, Octet::one())?;
+        }
     }
-    let mut cost = 0usize;
-    for column in ones.row(row) {
-        let each = if peeling.place_of(*column as usize) < peeling.pivots() {
-            2
-        } else {
-            1
-        };
-        cost = cost.saturating_add(each);
-    }
-    entries >= cost.saturating_sub(1)
+    Ok(())
 }
 
 /// Adds to the pivots' rows, the first first, multiples of reduced rows, each of which has 1 in its
 /// own inactive column and 0 in the others, so that they get 0 there. Those with a mark take the
 /// rows of earlier pivots again, which have only their own 1 left.
 pub(super) fn finish_pivots(
-    ones: &RowOnes,
+    cleared: &ClearedRows,
     peeling: &Peeling,
     marks: &[bool],
     most: usize,
@@ -121,16 +148,17 @@ pub(super) fn finish_pivots(
     inactive: usize,
     recorded: &mut RecordedRows,
 ) -> Result<(), Error>
-    requires peeled { PeelsRows ones.now peeling.now }
-    requires height { length recorded.old.table.rows ≡ length ones.now }
+    requires peeled { PeelsRows cleared.now.ones peeling.now }
+    requires height { length recorded.old.table.rows ≡ length cleared.now.ones }
+    requires taken { PivotsHaveTaken cleared.now.ones peeling.now cleared.now.bounds.items recorded.old }
     requires reduced { AreRows reduced.now recorded.old.table }
     requires many { inactive ≤ length reduced.now }
     requires apart { (p f : ℕ) → p < length peeling.now.rows → f < length reduced.now → at peeling.now.rows p ≢ at reduced.now f }
     requires width { inactive ≤ recorded.old.table.width }
     requires octets { HasOctets recorded.old.table }
     requires long { length marks.now ≡ length peeling.now.rows }
-    requires short { (p : ℕ) → p < length peeling.now.rows → slice_index_or marks.now p false ≡ true → length (ones_of ones.now (at peeling.now.rows p)) ≤ most }
-    ensures finished { OnOk result (FinishesPivots ones.now peeling.now.rows peeling.now.order reduced.now marks.now inactive (length peeling.now.rows) recorded.old recorded.new) }
+    requires short { (p : ℕ) → p < length peeling.now.rows → slice_index_or marks.now p false ≡ true → at cleared.now.bounds.items (p + 1) - at cleared.now.bounds.items p ≤ most }
+    ensures finished { OnOk result (FinishesPivots cleared.now.ones peeling.now.rows peeling.now.order reduced.now marks.now inactive (length peeling.now.rows) recorded.old recorded.new) }
     ensures few { OnOk result (AddsAtMost (length peeling.now.rows * (inactive + most)) recorded.old recorded.new) }
     ensures err { IfErr result (λ e. e ≡ OutOfMemory) }
 {
@@ -138,32 +166,12 @@ pub(super) fn finish_pivots(
         let row = peeling.row_of(place);
         take_reduced_rows(row, reduced, inactive, recorded)?;
         if marks[place] {
-            record_pivots(ones, row, peeling, recorded)?;
-        }
-    }
-    Ok(())
-}
-
-// Records that a row takes the rows of the other pivots in whose columns it has ones. No entry of it
-// is read any more.
-#[inline(always)]
-fn record_pivots(
-    ones: &RowOnes,
-    row: usize,
-    peeling: &Peeling,
-    recorded: &mut RecordedRows,
-) -> Result<(), Error>
-    requires peeled { PeelsRows ones.now peeling.now }
-    requires row { row < length ones.now }
-    requires height { length recorded.old.table.rows ≡ length ones.now }
-    ensures taken { OnOk result (RecordsPivots peeling.now.rows peeling.now.order row (ones_of ones.now row) recorded.old recorded.new) }
-    ensures each { OnOk result (AddsAtMost (length (ones_of ones.now row)) recorded.old recorded.new) }
-    ensures err { IfErr result (λ e. e ≡ OutOfMemory) }
-{
-    for column in ones.row(row) {
-        let place = peeling.place_of(*column as usize);
-        if place < peeling.pivots() && peeling.row_of(place) != row {
-            recorded.record_sum(row, peeling.row_of(place), Octet::one())?;
+            record_again(
+                row,
+                cleared.bounds[place],
+                cleared.bounds[place + 1],
+                recorded,
+            )?;
         }
     }
     Ok(())

@@ -7,7 +7,7 @@ ghost use Rattle.rq_bytes.specs.declared.error.Error.TheVariants.{OutOfMemory};
 ghost use Rattle.rq_operations.specs.RecordedOperations.{operations_of};
 ghost use Rattle.rq_parts.specs.DenseOctetMatrix.{HasOctets};
 ghost use Rattle.rq_standard.specs.OctetField.{octets};
-ghost use Rattle.rq_solver.specs.Cleared.{ListsRows, PeelsRows};
+ghost use Rattle.rq_solver.specs.Cleared.{ListsRows, PeelsRows, PivotsHaveTaken};
 ghost use Rattle.rq_solver.specs.OperationCounts.{additions};
 ghost use Rattle.rq_solver.specs.PhaseCounts.{AreCountsOf};
 ghost use Rattle.rq_solver.specs.Peeled.{IsPeeled};
@@ -15,10 +15,9 @@ ghost use Rattle.rq_solver.specs.RowSteps.{AreRows};
 ghost use Rattle.rq_solver.specs.Phases.{FindsOrder, IsAttempt, SolvesLeft};
 
 use super::counts::{OperationCounts, OperationList, Phase};
-use super::first_phase::clear_pivots;
 use super::first_phase::listing::rows_in_order;
+use super::first_phase::{ClearedRows, clear_pivots};
 use super::fourth_phase::{finish_pivots, take_back};
-use super::ones::RowOnes;
 use super::peeling::Peeling;
 use super::recorded::RecordedRows;
 use super::second_phase::{eliminate, reduce_back};
@@ -72,9 +71,9 @@ pub(super) fn find_operations(
         peeling.rows(),
     )?;
     let most = (system.width - system.hdpc.height()) / 2;
-    let (ones, mut recorded) = clear_pivots(alloc, system, peeling, listed.as_slice())?;
+    let (cleared, mut recorded) = clear_pivots(alloc, system, peeling, listed.as_slice())?;
     let rows = listed.as_mut_slice();
-    let order = rows_of_columns(alloc, &ones, peeling, rows, most, &mut recorded)?;
+    let order = rows_of_columns(alloc, &cleared, peeling, rows, most, &mut recorded)?;
     Ok(Attempt {
         recorded: recorded.into_operations(),
         order,
@@ -85,14 +84,15 @@ pub(super) fn find_operations(
 // the row that has its pivot. `None` where a column is left without one.
 fn rows_of_columns(
     alloc: Global,
-    ones: &RowOnes,
+    cleared: &ClearedRows,
     peeling: &Peeling,
     listed: &mut [usize],
     most: usize,
     recorded: &mut RecordedRows,
 ) -> Result<Option<Vec<usize>>, Error>
-    requires peeled { PeelsRows ones.now peeling.now }
-    requires height { length recorded.old.table.rows ≡ length ones.now }
+    requires peeled { PeelsRows cleared.now.ones peeling.now }
+    requires height { length recorded.old.table.rows ≡ length cleared.now.ones }
+    requires taken { PivotsHaveTaken cleared.now.ones peeling.now cleared.now.bounds.items recorded.old }
     requires listed { ListsRows (length recorded.old.table.rows) peeling.now.rows listed.old }
     requires wide { length peeling.now.places ≤ length peeling.now.rows + recorded.old.table.width }
     requires octets { HasOctets recorded.old.table }
@@ -103,7 +103,7 @@ fn rows_of_columns(
     let pivots = peeling.pivots();
     let inactive = peeling.width() - pivots;
     let left = &mut listed[pivots..];
-    if !solve_inactive(ones, peeling, left, inactive, most, recorded)? {
+    if !solve_inactive(cleared, peeling, left, inactive, most, recorded)? {
         return Ok(None);
     }
     Ok(Some(rows_at(alloc, listed, peeling.places())?))
@@ -112,22 +112,23 @@ fn rows_of_columns(
 // The second phase among the rows that are left, and then the fourth for the pivots' rows. False
 // where an inactive column is left without a pivot.
 fn solve_inactive(
-    ones: &RowOnes,
+    cleared: &ClearedRows,
     peeling: &Peeling,
     left: &mut [usize],
     inactive: usize,
     most: usize,
     recorded: &mut RecordedRows,
 ) -> Result<bool, Error>
-    requires peeled { PeelsRows ones.now peeling.now }
-    requires height { length recorded.old.table.rows ≡ length ones.now }
+    requires peeled { PeelsRows cleared.now.ones peeling.now }
+    requires height { length recorded.old.table.rows ≡ length cleared.now.ones }
+    requires taken { PivotsHaveTaken cleared.now.ones peeling.now cleared.now.bounds.items recorded.old }
     requires left { AreRows left.old recorded.old.table }
     requires apart { (p : ℕ) → p < length peeling.now.rows → Contains left.old (at peeling.now.rows p) → ⊥ }
     requires width { inactive ≤ recorded.old.table.width }
     requires wide { length peeling.now.places ≤ length peeling.now.rows + recorded.old.table.width }
     requires octets { HasOctets recorded.old.table }
     ensures permuted { IsPermutation left.old left.new }
-    ensures solved { IfOk result (SolvesLeft ones.now peeling.now inactive left.old left.new recorded.old recorded.new) }
+    ensures solved { IfOk result (SolvesLeft cleared.now.ones peeling.now inactive left.old left.new recorded.old recorded.new) }
     ensures few { OnOk result (additions recorded.new.operations ≤ additions recorded.old.operations + inactive * (length left.old + length peeling.now.rows - 1) + 2 * (length peeling.now.rows * most)) }
     ensures err { IfErr result (λ e. e ≡ OutOfMemory) }
 {
@@ -136,12 +137,12 @@ fn solve_inactive(
         return Ok(false);
     }
     recorded.enter(Phase::Fourth);
-    let marks = take_back(ones, peeling, most, recorded)?;
+    let marks = take_back(cleared, peeling, most, recorded)?;
     recorded.enter(Phase::Second);
     reduce_back(recorded, left, inactive)?;
     recorded.enter(Phase::Fourth);
     finish_pivots(
-        ones,
+        cleared,
         peeling,
         marks.as_slice(),
         most,

@@ -1,6 +1,6 @@
 //! Rows that are worked on, with the operations that are recorded for them.
-ghost use Rattle.std.specs.Prelude.{◌≡◌, ◌≢◌, ◌+◌, ◌*◌, ◌<◌, ◌≤◌, ◌^◌, ◌∷◌, [], length, IfSome, IfOk, OnOk, IfErr};
-ghost use Rattle.rq_algebra.specs.Operations.{MulAssign};
+ghost use Rattle.std.specs.Prelude.{◌≡◌, ◌≢◌, ◌+◌, ◌*◌, ◌<◌, ◌≤◌, ◌^◌, ℕ, Some, ◌∷◌, [], length, slice_index_or, IfSome, IfOk, OnOk, IfErr};
+ghost use Rattle.rq_algebra.specs.Operations.{Operation, AddAssign, MulAssign};
 ghost use Rattle.rq_bytes.specs.declared.error.Error.TheVariants.{OutOfMemory};
 ghost use Rattle.rq_operations.specs.Steps.{operation_of_step};
 ghost use Rattle.rq_parts.specs.DenseOctetMatrix.{entry_of, HasOctets};
@@ -156,6 +156,23 @@ impl RecordedRows {
         self.operations
             .push(addition(dest as u32, src as u32, scalar))?;
         Ok(())
+    }
+
+    /// How many operations were recorded.
+    #[inline(always)]
+    pub(super) fn operation_count(&self) -> usize
+        ensures { result ≡ length self.now.operations }
+    {
+        self.operations.len()
+    }
+
+    /// The row that an operation adds to another one, `None` where it does anything else.
+    #[inline(always)]
+    pub(super) fn source(&self, place: usize) -> Option<usize>
+        requires { place < length self.now.operations }
+        ensures { (dest src : ℕ) (d : Operation) → slice_index_or self.now.operations place d ≡ AddAssign dest src → result ≡ Some src }
+    {
+        self.operations.source(place)
     }
 
     /// A phase begins, or goes on.

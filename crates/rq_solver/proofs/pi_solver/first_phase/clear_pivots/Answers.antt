@@ -7,6 +7,7 @@ use Rattle.rq_solver.specs.Recorded.{Recorded}
 use Rattle.rq_solver.proofs.CountLaws.{few_places}
 use Rattle.rq_solver.proofs.PeelingLaws.{peels_rows}
 use Rattle.rq_solver.proofs.PivotsCleared.{peeled_pivots, pivot_of_bits}
+use Rattle.rq_solver.proofs.TakenAgain.{taken_performed}
 use Rattle.rq_solver.proofs.pi_solver.first_phase.clear_pivots.Goals as goal
 
 pub clear_rows-requires-clause-peeled : goal.clear_rows-requires-clause-peeled
@@ -24,8 +25,13 @@ returns-clause-cleared c =
     let inactive : ℕ = system.width - length pivots.rows in
     let wide : length pivots.rows + inactive ≡ system.width = omega (arith, c.requires.peeled.few) in
     peeled_pivots system.ones system.first_hdpc system.hdpc system.width system.bits system.octet_rows pivots.rows pivots.order pivots.places c.requires.peeled c.args.listed.now c.requires.listed
-    c.in_ok-recorded.recorded c.clear_rows.new.recorded c.clear_octets.new.recorded c.in_ok-clear_rows.ensures.cleared c.in_ok-clear_octets.ensures.cleared
+    c.in_ok-recorded.recorded c.clear_rows.new.recorded c.clear_octets.new.recorded c.in_ok-bounds.ensures.cleared c.in_ok-clear_octets.ensures.cleared
     inactive wide (ap (λ (s : Recorded). s.operations) c.in_ok-recorded.ensures.rows) (rw c.in_ok-recorded.ensures.rows c.in_ok-table.ensures.entries)
+
+pub returns-clause-taken : goal.returns-clause-taken
+returns-clause-taken c =
+    let pivots = c.args.peeling.now in
+    taken_performed c.args.system.ones pivots pivots.rows (length pivots.rows) c.in_ok-bounds.bounds.items c.clear_rows.new.recorded c.clear_octets.new.recorded c.in_ok-bounds.ensures.taken _ c.in_ok-clear_octets.ensures.cleared.performs
 
 pub returns-clause-few : goal.returns-clause-few
 returns-clause-few c =
@@ -34,6 +40,6 @@ returns-clause-few c =
     let few : length listed ≤ length c.args.system.ones = few_places (length listed) (length c.args.system.ones) (at listed) c.requires.listed.are in
     let most : length listed * pivots ≤ length c.args.system.ones * pivots = mul-le-mul_right pivots few in
     let start : additions c.in_ok-recorded.recorded.operations ≡ 0 = ap (λ (s : Recorded). additions s.operations) c.in_ok-recorded.ensures.rows in
-    let rows = c.in_ok-clear_rows.ensures.few in
+    let rows = c.in_ok-bounds.ensures.few in
     let batch = rw c.args.system.octet_rows.width_is at c.in_ok-clear_octets.ensures.few in
     omega (arith, most, start, rows, batch)

@@ -1,7 +1,6 @@
 -- What the check leaves to show of `pi_solver::first_phase::take_pivots`.
 use Rattle.std.proofs.Common.{◌≡◌, ◌≢◌, ◌+◌, ◌<◌, ℕ, [], ◌∷◌, length, sym, ap, ◌∙◌, arith, inl, inr}
 use Rattle.rq_algebra.specs.Systems.{at}
-use Rattle.rq_solver.specs.Peeled.{ones_of}
 use Rattle.rq_solver.specs.Recorded.{Performs, sum_step}
 use Rattle.rq_solver.proofs.CountLaws.{few_places, met_none, met_skipped, met_more, twice_counted}
 use Rattle.rq_solver.proofs.Performing.{performs_none, performs_more}
@@ -12,7 +11,6 @@ use Rattle.rq_solver.proofs.pi_solver.first_phase.take_pivots.Goals.{then-place-
 pub loop-column-init : goal.loop-column-init
 loop-column-init c = record {
   taken = takes_none Performs c.args.peeling.now.rows c.args.peeling.now.order c.args.row c.row-column-items.result.now c.args.recorded.now (performs_none c.args.recorded.now c.requires.octets);
-  each = omega arith;
   few = (0, met_none (length c.args.peeling.now.rows) (λ q. at c.args.peeling.now.places (at c.row-column-items.result.now q)), (omega arith));
 }
 
@@ -45,15 +43,13 @@ loop-column-preserved c =
           let tested : w.row_of.result ≡ at rows j = w.row_of.ensures in
           let read : w.row_of-then-row_of-row.result ≡ at rows j = w.row_of-then-row_of-row.ensures in
           rw w.recorded-is (record {
-            each = (let added = w.in_ok-add_row.ensures.counted in let so_far = v.each in omega (arith, added, so_far));
             few =
                 let added = w.in_ok-add_row.ensures.counted in
                 (v.few.0 + 1, met_more (length rows) met t v.few.0 v.few.1 (rw place in_rows) fresh, (let so_far = v.few.2 in omega (arith, added, so_far)));
-            taken = takes_more Performs rows order row columns places width peeled.columns peeled.few t in_columns in_width old cur v.taken are.once _ peeled.in_rows j place in_rows (λ e. w.if-row_of-row.true (tested ∙ e))
+            taken = takes_more Performs rows order row columns places width peeled.columns peeled.few t in_columns in_width old cur v.taken are.once _ peeled.in_rows j place in_rows (λ e. w.if-row_of-row.true (tested ∙ e)) c.requires.height
                 w.add_row.new.self (performs_more v.taken.steps (sum_step row (at rows j) 1 ∷ []) old cur w.add_row.new.self v.taken.done (rw (read, w.one.ensures) at w.in_ok-add_row.ensures.added));
           })
       | else-place-pivots w ↦ rw w.recorded-is (record {
-        each = (let so_far = v.each in omega (arith, so_far));
         few = (v.few.0, met_skipped (length rows) met t v.few.0 v.few.1, v.few.2);
         taken = elim w.else-place-pivots.branch [
           | else-place-pivots-via-then-place-pivots+else-row_of-row w' ↦
@@ -72,9 +68,3 @@ returns-clause-few c =
     let most = few_places few.0 (length c.args.peeling.now.rows) few.1.which few.1.are in
     let so_far = few.2 in
     omega (arith, most, so_far)
-
-pub returns-clause-each : goal.returns-clause-each
-returns-clause-each c =
-    let so_far = c.loop-column.invariant.each in
-    let all : length c.row-column-items.result.now ≡ length (ones_of c.args.ones.now c.args.row) = ap length c.row-column-items.ensures in
-    omega (arith, so_far, all)

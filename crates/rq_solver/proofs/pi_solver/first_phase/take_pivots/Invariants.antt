@@ -9,6 +9,5 @@ use Rattle.rq_solver.proofs.pi_solver.first_phase.take_pivots.Given as goal
 abbrev pub invariant-loop-column : goal.invariant-loop-column
 invariant-loop-column l = record {
   taken : TakesPivots l.peeling.rows l.peeling.order l.row (take l.column-index l.column-items) l.fn.recorded l.recorded;
-  each : additions l.recorded.operations ≤ additions l.fn.recorded.operations + l.column-index;
   few : (n : ℕ) × HasMet (length l.peeling.rows) (λ q. at l.peeling.places (at l.column-items q)) l.column-index n × (additions l.recorded.operations ≤ additions l.fn.recorded.operations + n);
 }

@@ -6,6 +6,6 @@ use Rattle.rq_solver.proofs.pi_solver.fourth_phase.finish_pivots.Given as goal
 
 abbrev pub invariant-loop-place : goal.invariant-loop-place
 invariant-loop-place l = record {
-  finished : FinishesPivots l.ones l.peeling.rows l.peeling.order l.reduced l.marks l.inactive l.place l.fn.recorded l.recorded;
+  finished : FinishesPivots l.cleared.ones l.peeling.rows l.peeling.order l.reduced l.marks l.inactive l.place l.fn.recorded l.recorded;
   few : additions l.recorded.operations ≤ additions l.fn.recorded.operations + l.place * (l.inactive + l.most);
 }

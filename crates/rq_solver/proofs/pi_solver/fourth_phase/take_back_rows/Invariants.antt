@@ -3,12 +3,11 @@ use Rattle.std.proofs.Common.{◌≡◌, ℕ, ◌+◌, ◌-◌, ◌*◌, ◌<◌
 use Rattle.rq_algebra.specs.Systems.{at}
 use Rattle.rq_solver.specs.Cleared.{TakesBack}
 use Rattle.rq_solver.specs.OperationCounts.{additions}
-use Rattle.rq_solver.specs.Peeled.{ones_of}
 use Rattle.rq_solver.proofs.pi_solver.fourth_phase.take_back_rows.Given as goal
 
 abbrev pub invariant-loop-done : goal.invariant-loop-done
 invariant-loop-done l = record {
-  taken : TakesBack l.ones l.peeling.rows l.peeling.order l.marks (length l.peeling.rows - l.done) l.fn.recorded l.recorded;
-  short : (p : ℕ) → length l.peeling.rows - l.done ≤ p → p < length l.peeling.rows → get_or l.marks p false ≡ true → length (ones_of l.ones (at l.peeling.rows p)) ≤ l.most;
+  taken : TakesBack l.cleared.ones l.peeling.rows l.peeling.order l.marks (length l.peeling.rows - l.done) l.fn.recorded l.recorded;
+  short : (p : ℕ) → length l.peeling.rows - l.done ≤ p → p < length l.peeling.rows → get_or l.marks p false ≡ true → at l.cleared.bounds.items (p + 1) - at l.cleared.bounds.items p ≤ l.most;
   few : additions l.recorded.operations ≤ additions l.fn.recorded.operations + l.done * l.most;
 }

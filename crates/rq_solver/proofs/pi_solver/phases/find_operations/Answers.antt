@@ -20,12 +20,12 @@ few_of M width h p most recorded phases fits rows columns first second =
     omega (arith, all, first, second)
 
 module _ (c : After-drop-listed-2) where
-  peeled : HasPeeledPivots (length c.args.system.ones) (length c.args.peeling.now.places) (rows_of c.args.system) c.args.peeling.now (drop (length c.args.peeling.now.rows) c.as_mut_slice-rows.result.now) c.in_ok-ones.recorded
+  peeled : HasPeeledPivots (length c.args.system.ones) (length c.args.peeling.now.places) (rows_of c.args.system) c.args.peeling.now (drop (length c.args.peeling.now.rows) c.as_mut_slice-rows.result.now) c.in_ok-cleared.recorded
   peeled =
       let system = c.args.system in
       let pivots = c.args.peeling.now in
       let listed = c.as_slice.ensures.value ∙ sym c.as_mut_slice-rows.ensures.value in
-      rw c.requires.columns.place_count (subst (λ (l : List ℕ). HasPeeledPivots (length system.ones) system.width (rows_of system) pivots (drop (length pivots.rows) l) c.in_ok-ones.recorded) listed c.in_ok-ones.ensures.cleared)
+      rw c.requires.columns.place_count (subst (λ (l : List ℕ). HasPeeledPivots (length system.ones) system.width (rows_of system) pivots (drop (length pivots.rows) l) c.in_ok-cleared.recorded) listed c.in_ok-cleared.ensures.cleared)
 
   few : additions c.into_operations.result ≤ 2 * c.args.system.width * length c.args.system.ones
   few =
@@ -43,18 +43,18 @@ module _ (c : After-drop-listed-2) where
       let together : length rows + length hdpc.rows ≤ height =
       few_together (length rows) (length hdpc.rows) system.first_hdpc height (at rows) pivots.in_rows system.octet_rows.within (λ i p l n. pivot_of_bits system.ones system.first_hdpc hdpc width system.bits system.octet_rows rows c.args.peeling.now.order c.args.peeling.now.places pivots p i n l) in
       let most : (width - length rows) * (length listed - 1) ≤ (width - length rows) * (height - 1) = mul-le-mul_left (width - length rows) (omega arith) in
-      let first : additions c.in_ok-ones.recorded.operations ≤ height * length rows + batch_bound (length hdpc.rows) width (length rows) = c.in_ok-ones.ensures.few in
-      let second : additions c.rows_of_columns.new.recorded.operations ≤ additions c.in_ok-ones.recorded.operations + (width - length rows) * (length listed - 1) + 2 * (length rows * most_ones) = rw pivots.columns.place_count at c.in_ok-order.ensures.few in
+      let first : additions c.in_ok-cleared.recorded.operations ≤ height * length rows + batch_bound (length hdpc.rows) width (length rows) = c.in_ok-cleared.ensures.few in
+      let second : additions c.rows_of_columns.new.recorded.operations ≤ additions c.in_ok-cleared.recorded.operations + (width - length rows) * (length listed - 1) + 2 * (length rows * most_ones) = rw pivots.columns.place_count at c.in_ok-order.ensures.few in
       let same : additions c.into_operations.result ≡ additions c.rows_of_columns.new.recorded.operations = ap additions c.into_operations.ensures in
-      few_of height width (length hdpc.rows) (length rows) most_ones (additions c.in_ok-ones.recorded.operations) (additions c.into_operations.result) pivots.few together room first (omega (arith, most, second, same))
+      few_of height width (length hdpc.rows) (length rows) most_ones (additions c.in_ok-cleared.recorded.operations) (additions c.into_operations.result) pivots.few together room first (omega (arith, most, second, same))
 
 pub rows_of_columns-requires-clause-peeled : goal.rows_of_columns-requires-clause-peeled
 rows_of_columns-requires-clause-peeled c =
-    rw c.in_ok-ones.ensures.ones (peels_rows c.args.system.width c.args.system.ones c.args.peeling.now c.args.system.bits c.requires)
+    rw c.in_ok-cleared.ensures.ones (peels_rows c.args.system.width c.args.system.ones c.args.peeling.now c.args.system.bits c.requires)
 
 pub returns-clause-found : goal.returns-clause-found
 returns-clause-found c =
-    let found = rw c.in_ok-ones.ensures.cleared.height_is at c.in_ok-order.ensures.found in
+    let found = rw c.in_ok-cleared.ensures.cleared.height_is at c.in_ok-order.ensures.found in
     rw (c.requires.columns.place_count, ← c.into_operations.ensures) at (found _ (peeled c))
 
 pub returns-clause-few : goal.returns-clause-few

@@ -71,8 +71,8 @@ returns-clause-found c = λ system peeled.
     let inactive : ℕ = c.width.result - pivots in
     let done = c.in_ok-solve_inactive.ensures in
     let permuted : IsPermutation (drop (length rows) listed) reduced = subst (λ (l : List ℕ). IsPermutation l reduced) (rest before) done.permuted in
-    let found : SolvesInactive c.args.ones.now rows order (take (length listed - pivots) (drop (pivots) listed)) reduced inactive middle final = rw c.if-not-branch.false at done.solved in
-    let here : SolvesInactive c.args.ones.now rows order (drop (length rows) listed) reduced inactive middle final = subst (λ (l : List ℕ). SolvesInactive c.args.ones.now rows order l reduced inactive middle final) (rest before) found in
+    let found : SolvesInactive c.args.cleared.now.ones rows order (take (length listed - pivots) (drop (pivots) listed)) reduced inactive middle final = rw c.if-not-branch.false at done.solved in
+    let here : SolvesInactive c.args.cleared.now.ones rows order (drop (length rows) listed) reduced inactive middle final = subst (λ (l : List ℕ). SolvesInactive c.args.cleared.now.ones rows order l reduced inactive middle final) (rest before) found in
     let pick : List ℕ = put_mid (pivots) (length listed - pivots) listed reduced in
     let within : pivots ≤ length listed = omega (arith, many before, c.requires.listed.few) in
     let long : (q : ℕ) → q < length reduced → at pick (length rows + q) ≡ at reduced q = (λ (q : ℕ) (l : q < length reduced).
@@ -81,7 +81,7 @@ returns-clause-found c = λ system peeled.
     placed_first (pivots) (length listed - pivots) listed reduced within p (omega (arith, many before)) ∙ c.requires.listed.starts p l) in
     rw (c.in_ok-rows_at.ensures.rows, c.places.ensures)
     (finds_by_peeled (length middle.table.rows) (length places) system rows order places c.requires.peeled.peeled.columns (rw c.requires.height c.requires.peeled.peeled.in_rows) listed c.requires.listed inactive middle here.middle peeled (wide before) (narrow before) here.changes reduced permuted
-    c.args.ones.now here.marks here.returned here.last final here.echelon here.back here.reduces here.finishes pick long starts)
+    c.args.cleared.now.ones here.marks here.returned here.last final here.echelon here.back here.reduces here.finishes pick long starts)
 
 pub returns-then-not-branch-clause-few : goal.returns-then-not-branch-clause-few
 returns-then-not-branch-clause-few c = counted (goal.at.returns-then-not-branch-clause-few c).After-solve_inactive _ _ _ c.in_ok-solve_inactive.ensures.few

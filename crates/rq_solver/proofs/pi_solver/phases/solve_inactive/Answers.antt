@@ -4,16 +4,38 @@ use Rattle.std.proofs.lemmas.List.Elements.{Contains-get_or}
 use Rattle.std.proofs.lemmas.List.Sorted.{Contains-permutation, IsPermutation-sym}
 use Rattle.std.specs.List.Sorted.{IsPermutation}
 use Rattle.rq_algebra.specs.Systems.{at}
+use Rattle.rq_solver.specs.Cleared.{HaveTaken}
 use Rattle.rq_solver.specs.OperationCounts.{additions, triangle}
 use Rattle.rq_solver.specs.Recorded.{Recorded}
 use Rattle.rq_solver.specs.RowSteps.{AreRows, IsEchelon}
 use Rattle.rq_solver.proofs.CountLaws.{inactive_bound, stuck_bound}
 use Rattle.rq_solver.proofs.FinalTurns.{echelon_stays}
+use Rattle.rq_solver.proofs.TakenAgain.{taken_performed, taken_recorded}
 use Rattle.rq_solver.proofs.pi_solver.phases.solve_inactive.Goals as goal
+use Rattle.rq_solver.proofs.pi_solver.phases.solve_inactive.Goals.{After-enter-2}
 
 -- a pivot's row is none of those that are left
 apart_left : (rows left reduced : List ℕ) → IsPermutation left reduced → ((p : ℕ) → p < length rows → Contains left (at rows p) → ⊥) → (p f : ℕ) → p < length rows → f < length reduced → at rows p ≢ at reduced f
 apart_left rows left reduced permuted out p f l n e = out p l (subst (Contains left) (sym e) (Contains-permutation reduced left (at reduced f) (IsPermutation-sym left reduced permuted) (Contains-get_or reduced f 0 n)))
+
+module _ (c : After-enter-2) where
+  -- what pivots' rows took is still recorded where it was
+  taken : HaveTaken c.args.cleared.now.ones c.args.peeling.now c.args.peeling.now.rows (length c.args.peeling.now.rows) c.args.cleared.now.bounds.items c.enter-2.new.self
+  taken =
+      let pivots = c.args.peeling.now in
+      rw c.enter-2.ensures (taken_performed c.args.cleared.now.ones pivots pivots.rows (length pivots.rows) c.args.cleared.now.bounds.items c.enter.new.self c.eliminate.new.recorded (rw c.enter.ensures c.requires.taken) _ c.in_ok-eliminate.ensures.steps.performs)
+
+pub take_back-requires-clause-taken : goal.take_back-requires-clause-taken
+take_back-requires-clause-taken c = taken (goal.at.take_back-requires-clause-taken c).After-enter-2
+
+pub finish_pivots-requires-clause-taken : goal.finish_pivots-requires-clause-taken
+finish_pivots-requires-clause-taken c =
+    let before = taken (goal.at.finish_pivots-requires-clause-taken c).After-enter-2 in
+    let pivots = c.args.peeling.now in
+    let lists = c.args.cleared.now.ones in
+    let bounds = c.args.cleared.now.bounds.items in
+    let back = taken_performed lists pivots pivots.rows (length pivots.rows) bounds c.enter-2.new.self c.take_back.new.recorded before _ c.in_ok-marks.ensures.taken.performs in
+    rw c.enter-4.ensures (taken_recorded lists pivots pivots.rows (length pivots.rows) bounds c.enter-3.new.self c.reduce_back.new.recorded (rw c.enter-3.ensures back) _ c.in_ok-reduce_back.ensures.reduced.records)
 
 pub reduce_back-requires-clause-echelon : goal.reduce_back-requires-clause-echelon
 reduce_back-requires-clause-echelon c =
@@ -25,7 +47,7 @@ reduce_back-requires-clause-echelon c =
     let before : IsEchelon reduced c.args.inactive c.enter-2.new.self.table = rw c.enter-2.ensures echelon in
     let are : AreRows reduced c.enter-2.new.self.table = rw (c.enter-2.ensures, done.steps.performs.height) done.rows in
     let narrow : c.args.inactive ≤ c.enter-2.new.self.table.width = rw (c.enter-2.ensures, done.steps.performs.width, c.enter.ensures) c.requires.width in
-    rw c.enter-3.ensures (echelon_stays c.args.ones.now rows c.args.peeling.now.order c.in_ok-marks.marks.items reduced c.args.inactive c.enter-2.new.self c.take_back.new.recorded c.in_ok-marks.ensures.taken are narrow apart before)
+    rw c.enter-3.ensures (echelon_stays c.args.cleared.now.ones rows c.args.peeling.now.order c.in_ok-marks.marks.items reduced c.args.inactive c.enter-2.new.self c.take_back.new.recorded c.in_ok-marks.ensures.taken are narrow apart before)
 
 pub finish_pivots-requires-clause-apart : goal.finish_pivots-requires-clause-apart
 finish_pivots-requires-clause-apart c = apart_left c.args.peeling.now.rows c.args.left.now c.eliminate.new.rows c.in_ok-eliminate.ensures.permuted c.requires.apart

@@ -1,0 +1,48 @@
+-- What the check leaves to show of `pi_solver::fourth_phase::record_again`.
+use Rattle.std.proofs.Common.{◌≡◌, [], ◌∷◌, length, sym, ◌∙◌, arith}
+use Rattle.std.proofs.lemmas.Option.{none-some, same_Some}
+use Rattle.rq_algebra.specs.Operations.{AddAssign}
+use Rattle.rq_solver.proofs.Performing.{records_none, records_more}
+use Rattle.rq_solver.proofs.TakenAgain.{NextSum, next_sum, range_none}
+use Rattle.rq_solver.proofs.pi_solver.fourth_phase.record_again.Goals as goal
+use Rattle.rq_solver.proofs.pi_solver.fourth_phase.record_again.Goals.{After-source, in-Some+in_ok-record_sum, in_default}
+
+pub loop-place-init : goal.loop-place-init
+loop-place-init c = record {
+  from = omega arith;
+  again = rw (range_none c.args.recorded.now.operations c.args.start) (records_none c.args.recorded.now);
+  few = omega arith;
+}
+
+next : (c : After-source) → NextSum c.args.row (length c.args.recorded.now.table.rows) c.args.recorded.now.operations c.args.start c.loop-place.place c.source.result
+next c =
+    let v = c.loop-place.invariant in
+    next_sum c.args.row (length c.args.recorded.now.table.rows) c.args.recorded.now.operations c.args.start c.args.end c.loop-place.place c.requires.sums c.requires.within v.from c.loop-place-test.true _ c.loop-place.recorded.operations c.source.result v.again.recorded c.source.ensures
+
+pub record_sum-requires-clause-two : goal.record_sum-requires-clause-two
+record_sum-requires-clause-two c = λ e.
+    let before = (goal.at.record_sum-requires-clause-two c).After-source in
+    let sum = next before in
+    sum.other (same_Some sum.source c.in-Some.source (sym sum.is ∙ c.in-Some.is) ∙ sym e)
+
+pub record_sum-requires-clause-src : goal.record_sum-requires-clause-src
+record_sum-requires-clause-src c =
+    let before = (goal.at.record_sum-requires-clause-src c).After-source in
+    let sum = next before in
+    rw (c.loop-place.invariant.again.table, ← same_Some sum.source c.in-Some.source (sym sum.is ∙ c.in-Some.is)) sum.within
+
+pub loop-place-preserved : goal.loop-place-preserved
+loop-place-preserved c =
+    let before = (goal.at.loop-place-preserved c).After-source in
+    let v = c.loop-place.invariant in
+    let sum = next before in
+    elim c.match-source.branch [
+      | in-Some+in_ok-record_sum w ↦
+          let is : sum.source ≡ w.in-Some.source = same_Some sum.source w.in-Some.source (sym sum.is ∙ w.in-Some.is) in
+          rw w.recorded-is (record {
+            from = omega (arith, v.from);
+            again = rw sum.steps (records_more _ (AddAssign c.args.row sum.source ∷ []) c.args.recorded.now c.loop-place.recorded w.record_sum.new.self v.again (rw (w.one.ensures, ← is) at w.in_ok-record_sum.ensures.recorded));
+            few = (let counted = w.in_ok-record_sum.ensures.counted in let so_far = v.few in omega (arith, counted, so_far, v.from));
+          })
+      | in_default w ↦ absurd (none-some sum.source (sym w.in_default.is ∙ sum.is))
+    ]
