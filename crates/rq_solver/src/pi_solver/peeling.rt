@@ -112,7 +112,6 @@ pub(super) fn peel(alloc: Global, system: &System, degrees: Vec<u16>) -> Result<
     ensures fewest { IfOk result (λ peeling. TakesFewest system.now.ones system.now.boundary peeling.rows) }
     ensures err { IfErr result (λ e. e ≡ OutOfMemory) }
 {
-    let ones = &system.ones;
     let boundary = system.boundary;
     let column_rows = &system.column_rows;
     let mut degrees = RowDegrees::new(alloc, degrees)?;
@@ -121,7 +120,7 @@ pub(super) fn peel(alloc: Global, system: &System, degrees: Vec<u16>) -> Result<
     let mut rows = Vec::with_capacity(alloc, boundary)?;
     for turn in 0..boundary {
         let next = next_row(
-            ones,
+            &system.ones,
             column_rows,
             &columns,
             boundary,
@@ -133,7 +132,7 @@ pub(super) fn peel(alloc: Global, system: &System, degrees: Vec<u16>) -> Result<
         };
         let degree = degrees.degree(row);
         let taken = take_row(
-            ones.row(row),
+            system.ones.row(row),
             degree,
             column_rows,
             boundary,

@@ -126,6 +126,7 @@ impl RecordedRows {
     }
 
     /// Multiplies a row by an octet that isn't 0.
+    #[inline(always)]
     pub(super) fn multiply_row(&mut self, dest: usize, scalar: Octet) -> Result<(), Error>
         requires dest { dest < length self.old.table.rows }
         requires scalar { scalar < octets.size }
