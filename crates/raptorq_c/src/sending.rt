@@ -15,7 +15,7 @@ use crate::owned::Coder;
 use crate::stop::{Stop, number};
 use raptorq::error::Error;
 use raptorq::systematic_constants::SystematicTable;
-use raptorq::{Encoder, EncodingPacket, ObjectTransmissionInformation, PayloadId};
+use raptorq::{Encoder, ObjectTransmissionInformation, PayloadId};
 use std::alloc::Global;
 
 // The encoder of an object in this configuration.

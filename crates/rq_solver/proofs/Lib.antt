@@ -10,6 +10,7 @@ pub mod EquationLaws
 pub mod FinalTurns
 pub mod FreeColumns
 pub mod LeadingRows
+pub mod ListParts
 pub mod ListingLaws
 pub mod NonzeroOctets
 pub mod OctetBatchLaws

@@ -3,7 +3,7 @@ use Rattle.std.proofs.Common.{refl, ◌≡◌, ℕ, zero, suc, ◌+◌, ◌-◌,
 use Rattle.std.specs.Prelude.{◌==◌, count_by, nat_lt, slice_index, slice_range}
 use Rattle.std.proofs.lemmas.Bool.{cases_lt, le-ltb, lt-ltb}
 use Rattle.std.proofs.lemmas.Bool.Decides.{eqb_tells}
-use Rattle.std.proofs.lemmas.List.{length-append, length-drop, take-append-le, drop-append-le, take-append-drop, take_all, take_rest, length-take-le}
+use Rattle.std.proofs.lemmas.List.{length-append, length-drop, take-append-drop, take_all, take_rest, length-take-le}
 use Rattle.std.proofs.lemmas.List.FromFn.{map-range_with_len_more, sum_by-map-range_with_len_more}
 use Rattle.std.proofs.lemmas.List.Folds.{concat-append}
 use Rattle.std.specs.List.{concat, range_with_len, sum_by}
@@ -16,6 +16,7 @@ use Rattle.rq_standard.specs.BitTableSteps as steps
 use Rattle.rq_standard.proofs.BitTableLaws.{is_one_at-one, is_one_at-zero, is_one_at-other, ones_at-cons}
 use Rattle.rq_parts.specs.ImmutableListMap.{lists_between}
 use Rattle.rq_parts.proofs.KeyedLists.{list_read, length-lists}
+use Rattle.rq_solver.proofs.ListParts as parts
 use Rattle.rq_solver.specs.Degrees.{CountsBefore}
 use Rattle.rq_solver.specs.Peeled.{ones_of, AreOnesOfRows, AddsOnes, AreAllBetween}
 use Rattle.rq_solver.proofs.ActiveOnes.{count_absent, count_nothing}
@@ -107,9 +108,7 @@ module _ (old new : List ℕ) (kept : take (length old) new ≡ old) where
 
   range_kept : (a b : ℕ) → a ≤ b → b ≤ length old → slice_range new a b ≡ slice_range old a b
   range_kept a b le within =
-      ap (λ l. slice_range l a b) behind
-      ∙ ap (take (b - a)) (drop-append-le a old (drop (length old) new) (omega arith))
-      ∙ take-append-le (b - a) (drop a old) (drop (length old) new) (omega (arith, length-drop a old))
+      ap (λ l. slice_range l a b) behind ∙ parts.range_kept old a (drop (length old) new) b le within
 
   module _ (starts : List ℕ) (all : AreAllBetween starts old) where
     start_kept : (key : ℕ) → key < length starts → slice_index (starts ++ length new ∷ []) key ≡ slice_index starts key

@@ -1,51 +1,21 @@
 -- Rows of pivots that take again what they took, by the operations that were recorded for it.
-use Rattle.std.proofs.Common.{◌≡◌, ◌≢◌, ℕ, ◌+◌, ◌-◌, ◌<◌, ◌≤◌, List, [], ◌∷◌, ◌++◌, All, Option, Some, get_or, length, take, drop, refl, sym, ap, ◌∙◌, subst, arith, inl, inr, length-append}
+use Rattle.std.proofs.Common.{◌≡◌, ◌≢◌, ℕ, ◌+◌, ◌-◌, ◌<◌, ◌≤◌, List, [], ◌∷◌, ◌++◌, All, Option, Some, get_or, length, drop, refl, sym, ap, ◌∙◌, subst, arith, inl, inr, length-append}
 use Rattle.std.specs.List.{slice_range}
 use Rattle.std.proofs.lemmas.Bool.{cases_eq}
-use Rattle.std.proofs.lemmas.List.{take_more, take-append-le, drop-append-le, get_or-drop, get_or-take, get_or_append_left, length-drop, length-take-le}
-use Rattle.std.proofs.Math.Seq.{drop-append_seam, get_or-append_seam, take-length}
+use Rattle.std.proofs.lemmas.List.{get_or_append_left, length-drop, length-take-le}
+use Rattle.std.proofs.Math.Seq.{get_or-append_seam}
 use Rattle.rq_algebra.specs.Operations.{Operation, AddAssign}
 use Rattle.rq_algebra.specs.Systems.{at}
 use Rattle.rq_parts.specs.DenseOctetMatrix.{OctetTable}
 use Rattle.rq_solver.specs.Cleared.{HaveTaken, IsSumOf, StandBetween, TakesPivots, TakesPivotsBy}
 use Rattle.rq_solver.specs.Peeled.{ones_of, Pivots}
 use Rattle.rq_solver.specs.Recorded.{Recorded, Performs, Records}
-
--- ---- parts of a list
-
-module _ {X : Type 0} (xs : List X) (a : ℕ) where
-  pub range_none : slice_range xs a a ≡ []
-  range_none = let e : a - a ≡ 0 = omega arith in ap (λ (n : ℕ). take n (drop a xs)) e
-
-  -- one element more
-  pub range_next : (t : ℕ) (d : X) → a ≤ t → t < length xs → slice_range xs a (t + 1) ≡ slice_range xs a t ++ get_or xs t d ∷ []
-  range_next t d l m =
-      let more : t + 1 - a ≡ t - a + 1 = omega arith in
-      let place : a + (t - a) ≡ t = omega arith in
-      ap (λ (n : ℕ). take n (drop a xs)) more
-      ∙ take_more (drop a xs) (t - a) d (omega (arith, length-drop a xs))
-      ∙ ap (λ (x : X). take (t - a) (drop a xs) ++ x ∷ []) (get_or-drop a xs (t - a) d ∙ ap (λ (n : ℕ). get_or xs n d) place)
-
-  pub range_at : (b t : ℕ) (d : X) → a ≤ t → t < b → get_or (slice_range xs a b) (t - a) d ≡ get_or xs t d
-  range_at b t d l m =
-      let place : a + (t - a) ≡ t = omega arith in
-      get_or-take (b - a) (drop a xs) (t - a) d (omega arith) ∙ get_or-drop a xs (t - a) d ∙ ap (λ (n : ℕ). get_or xs n d) place
-
-  -- what is appended changes no part of what was there
-  pub range_kept : (more : List X) (b : ℕ) → a ≤ b → b ≤ length xs → slice_range (xs ++ more) a b ≡ slice_range xs a b
-  range_kept more b l m =
-      ap (take (b - a)) (drop-append-le a xs more (omega arith)) ∙ take-append-le (b - a) (drop a xs) more (omega (arith, length-drop a xs))
-
--- what is appended is the part behind what was there
-pub range_appended : {X : Type 0} (xs more : List X) → slice_range (xs ++ more) (length xs) (length (xs ++ more)) ≡ more
-range_appended xs more =
-    let long : length (xs ++ more) - length xs ≡ length more = omega (arith, length-append xs more) in
-    ap (take (length (xs ++ more) - length xs)) (drop-append_seam xs more) ∙ ap (λ (n : ℕ). take n more) long ∙ take-length more
+use Rattle.rq_solver.proofs.ListParts.{range_appended, range_at, range_kept, range_next}
 
 -- ---- the same steps, done to other rows
 
--- what a row takes by steps it takes by them from any rows of the same number
-pub takes_again : (Done Again : List Operation → Recorded → Recorded → Type 0) (rows order : List ℕ) (row : ℕ) (columns : List ℕ) (old new first last : Recorded) (v : TakesPivotsBy Done rows order row columns old new)
+-- steps by which a row takes rows do so from any table of as many rows
+takes_again : (Done Again : List Operation → Recorded → Recorded → Type 0) (rows order : List ℕ) (row : ℕ) (columns : List ℕ) (old new first last : Recorded) (v : TakesPivotsBy Done rows order row columns old new)
     → length first.table.rows ≡ length old.table.rows → Again v.steps first last → TakesPivotsBy Again rows order row columns first last
 takes_again Done Again rows order row columns old new first last v height again = record {
   steps = v.steps;

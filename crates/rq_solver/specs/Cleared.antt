@@ -1,5 +1,5 @@
 -- What becomes of rows of which some have pivots while they are still as they were.
-use Rattle.std.specs.Prelude.{◌≡◌, ◌≢◌, ℕ, ◌+◌, ◌<◌, ◌≤◌, ◌==◌, if◌then◌else◌, Bool, true, false, List, [], All, Contains, count_by, length, slice_index_or, slice_range}
+use Rattle.std.specs.Prelude.{◌≡◌, ◌≢◌, ℕ, ◌+◌, ◌-◌, ◌<◌, ◌≤◌, ◌==◌, if◌then◌else◌, Bool, true, false, List, [], All, Contains, count_by, length, slice_index_or, slice_range}
 use Rattle.std.specs.List.{range_with_len}
 use Rattle.rq_algebra.specs.Arrangements.{ArePlaces}
 use Rattle.rq_algebra.specs.Systems.{at, HasElements}
@@ -72,14 +72,14 @@ AreUnits reduced start count column m = (t f : ℕ) → start ≤ t → t < coun
 abbrev pub AreShown : List ℕ → ℕ → (ℕ → ℕ) → (ℕ → ℕ → ℕ) → OctetTable → Type 0
 AreShown reduced count column m table = (t f : ℕ) → t < count → f < count → m (at reduced t) (column f) ≡ entry_of table (at reduced t) f
 
--- a step adds another row to this one
+-- a step adds another of so many rows to this one
 pub record IsSumOf (row height : ℕ) (step : Operation) : Type 0 where
   pub source : ℕ
   pub is : step ≡ AddAssign row source
   pub within : source < height
   pub other : source ≢ row
 
--- A row takes the rows of the other pivots in whose columns it has these ones, by steps that are done as `Done` says. What it is in whole is `m`, whatever that is.
+-- A row takes the rows of the other pivots in whose columns it has these ones, by steps of which `Done` holds. What it is in whole is `m`, whatever that is.
 pub record TakesPivotsBy (Done : List Operation → Recorded → Recorded → Type 0) (rows order : List ℕ) (row : ℕ) (columns : List ℕ) (old new : Recorded) : Type 0 where
   pub steps : List Operation
   pub done : Done steps old new
@@ -102,7 +102,7 @@ RecordsPivots rows order row columns old new = TakesPivotsBy Records rows order 
 abbrev pub StandBetween : ℕ → ℕ → List Operation → Recorded → Recorded → Type 0
 StandBetween start end steps old new = steps ≡ slice_range new.operations start end
 
--- By the operations between one bound and the next each of the first rows of a list took the rows of the other pivots in whose columns it has ones.
+-- Each of the first rows of a list took the rows of the other pivots in whose columns it has ones, by the operations from its bound on and before the next.
 pub record HaveTaken (lists : List (List ℕ)) (pivots : Pivots) (listed : List ℕ) (done : ℕ) (bounds : List ℕ) (state : Recorded) : Type 0 where
   pub many : done < length bounds
   pub ordered : (s : ℕ) → s < done → at bounds s ≤ at bounds (s + 1)
@@ -112,6 +112,10 @@ pub record HaveTaken (lists : List (List ℕ)) (pivots : Pivots) (listed : List 
 -- the same of the pivots' rows
 abbrev pub PivotsHaveTaken : List (List ℕ) → Pivots → List ℕ → Recorded → Type 0
 PivotsHaveTaken lists pivots bounds state = HaveTaken lists pivots pivots.rows (length pivots.rows) bounds state
+
+-- each row with a mark took so many rows at most
+abbrev pub TookAtMost : ℕ → List Bool → List ℕ → Type 0
+TookAtMost most marks bounds = (p : ℕ) → p < length marks → slice_index_or marks p false ≡ true → at bounds (p + 1) - at bounds p ≤ most
 
 -- the first rows of a list are cleared, and the rest are as they were
 pub record ClearsRows (lists : List (List ℕ)) (rows order listed : List ℕ) (done : ℕ) (old new : Recorded) : Type 0 where

@@ -1,5 +1,5 @@
 //! The decoder of an object.
-ghost use Rattle.std.specs.Prelude.{◌≡◌, ◌↔◌, ℕ, ◌*◌, ◌<◌, [], length, Ok, Some, None, IfSome, IfOk, IfErr, OnOk, All, map, option_map, vec_items, is_some, IsSome};
+ghost use Rattle.std.specs.Prelude.{◌≡◌, ◌↔◌, ℕ, ◌*◌, ◌<◌, [], Ok, Some, None, IfSome, IfOk, IfErr, OnOk, All, map, option_map, vec_items, is_some, IsSome};
 ghost use Rattle.std.specs.List.{range_with_len};
 ghost use Rattle.rq_bytes.specs.Refusals.{IsAnswer};
 ghost use Rattle.rq_standard.specs.Configuration.{IsAccepted, IsAligned, largest_block, total_symbols};

@@ -12,7 +12,8 @@ use std::alloc::Global;
 use std::marker::Model;
 
 /// The rows of all ones, column by column, and where those of each column start. They tell which
-/// degrees fall, and which rows have ones in an inactive column. Contracts see the number of rows, and for each column the rows of its ones.
+/// degrees fall, and which rows have ones in an inactive column. Contracts see the number of rows,
+/// and for each column the rows of its ones.
 #[derive(Drop)]
 pub(super) struct ColumnRows {
     height: usize,

@@ -218,7 +218,7 @@ impl OperationList {
         self.steps.len()
     }
 
-    /// The symbol that an operation adds to another one, `None` where it does anything else.
+    /// The symbol that an operation adds to another one, where it does that alone.
     #[inline(always)]
     pub(super) fn source(&self, place: usize) -> Option<usize>
         requires { place < length self.now }

@@ -25,16 +25,18 @@ use rq_bytes::error::Error;
 use rq_bytes::octet::Octet;
 use std::alloc::Global;
 
-/// Rows of bits that were cleared: their ones as they were handed in, and the bounds of the operations
-/// by which each pivot's row took others. Those of a row begin at its bound, and end before the next.
+/// Rows of bits that were cleared: their ones as they were handed in, and where in the operations those
+/// of each row begin by which it took others, in the order of the list, the pivots' rows first. They
+/// end where the next row's begin; behind the last row's beginning stands their end.
 #[derive(Drop)]
 pub(super) struct ClearedRows {
     pub ones: RowOnes,
     pub bounds: Vec<usize>,
 }
 
-/// Clears the pivots' columns in the other rows, which are listed behind the pivots'. These are
-/// returned, and all rows with their entries in the inactive columns.
+/// Clears the pivots' columns in the other rows, which are listed behind the pivots'. Answers the ones
+/// of the rows and by which operations each took others, and the rows with their entries in the
+/// inactive columns.
 pub(super) fn clear_pivots(
     alloc: Global,
     system: System,

@@ -1,10 +1,9 @@
 //! The fourth phase: the pivots' rows get zeros in the inactive columns (RFC 6330, section 5.4.2.5).
-ghost use Rattle.std.specs.Prelude.{◌≡◌, ◌≢◌, ℕ, ◌+◌, ◌-◌, ◌*◌, ◌<◌, ◌≤◌, true, false, All, length, slice_index_or, slice_range, IsTrue, IfOk, OnOk, IfErr};
+ghost use Rattle.std.specs.Prelude.{◌≡◌, ◌≢◌, ℕ, ◌+◌, ◌-◌, ◌*◌, ◌<◌, ◌≤◌, false, All, length, slice_range, IsTrue, IfOk, OnOk, IfErr};
 ghost use Rattle.rq_algebra.specs.Systems.{at};
 ghost use Rattle.rq_bytes.specs.declared.error.Error.TheVariants.{OutOfMemory};
 ghost use Rattle.rq_solver.specs.Recorded.{AddsAtMost, Performs, Records};
-ghost use Rattle.rq_solver.specs.Cleared.{FinishesPivots, IsSumOf, PeelsRows, PivotsHaveTaken, TakesBack};
-ghost use Rattle.rq_solver.specs.OperationCounts.{additions};
+ghost use Rattle.rq_solver.specs.Cleared.{FinishesPivots, IsSumOf, PeelsRows, PivotsHaveTaken, TakesBack, TookAtMost};
 ghost use Rattle.rq_solver.specs.RowSteps.{AreRows};
 ghost use Rattle.rq_parts.specs.DenseOctetMatrix.{HasOctets};
 
@@ -32,7 +31,7 @@ pub(super) fn take_back(
     requires taken { PivotsHaveTaken cleared.now.ones peeling.now cleared.now.bounds.items recorded.old }
     ensures taken { IfOk result (λ marks. TakesBack cleared.now.ones peeling.now.rows peeling.now.order marks.items 0 recorded.old recorded.new) }
     ensures long { IfOk result (λ marks. length marks.items ≡ length peeling.now.rows) }
-    ensures short { IfOk result (λ marks. (p : ℕ) → p < length peeling.now.rows → slice_index_or marks.items p false ≡ true → at cleared.now.bounds.items (p + 1) - at cleared.now.bounds.items p ≤ most) }
+    ensures short { IfOk result (λ marks. TookAtMost most marks.items cleared.now.bounds.items) }
     ensures few { OnOk result (AddsAtMost (length peeling.now.rows * most) recorded.old recorded.new) }
     ensures err { IfErr result (λ e. e ≡ OutOfMemory) }
 {
@@ -56,7 +55,7 @@ fn take_back_rows(
     requires taken { PivotsHaveTaken cleared.now.ones peeling.now cleared.now.bounds.items recorded.old }
     requires long { length marks.old ≡ length peeling.now.rows }
     ensures taken { OnOk result (TakesBack cleared.now.ones peeling.now.rows peeling.now.order marks.new 0 recorded.old recorded.new) }
-    ensures short { OnOk result ((p : ℕ) → p < length peeling.now.rows → slice_index_or marks.new p false ≡ true → at cleared.now.bounds.items (p + 1) - at cleared.now.bounds.items p ≤ most) }
+    ensures short { OnOk result (TookAtMost most marks.new cleared.now.bounds.items) }
     ensures few { OnOk result (AddsAtMost (length peeling.now.rows * most) recorded.old recorded.new) }
     ensures err { IfErr result (λ e. e ≡ OutOfMemory) }
 {
@@ -74,9 +73,9 @@ fn take_back_rows(
     Ok(())
 }
 
-// Whether a row took `most` rows at most, and it saves additions to take them back. That takes as many
-// additions twice, since the row takes them again, and leaves it those of its ones that stand in
-// inactive columns: all but its own pivot's and one for each row that it took.
+// Whether a row took `most` rows at most, and it saves additions to take them back. Each of them costs
+// two additions then, since the row takes it again, and each of its ones that stand in inactive
+// columns, all but its own pivot's and one for each of these rows, one: one less than both together.
 fn saves_additions(
     ones: &RowOnes,
     row: usize,
@@ -90,8 +89,8 @@ fn saves_additions(
     requires wide { inactive ≤ recorded.now.table.width }
     ensures { IsTrue result → taken ≤ most }
 {
-    let cost = ones.row(row).len().saturating_add(taken);
-    taken <= most && recorded.count_entries(row, inactive) >= cost
+    let ones_and_taken = ones.row(row).len().saturating_add(taken);
+    taken <= most && recorded.count_entries(row, inactive) >= ones_and_taken
 }
 
 // Adds to a row again the rows that it took by the operations from one place on and before another.
@@ -157,7 +156,7 @@ pub(super) fn finish_pivots(
     requires width { inactive ≤ recorded.old.table.width }
     requires octets { HasOctets recorded.old.table }
     requires long { length marks.now ≡ length peeling.now.rows }
-    requires short { (p : ℕ) → p < length peeling.now.rows → slice_index_or marks.now p false ≡ true → at cleared.now.bounds.items (p + 1) - at cleared.now.bounds.items p ≤ most }
+    requires short { TookAtMost most marks.now cleared.now.bounds.items }
     ensures finished { OnOk result (FinishesPivots cleared.now.ones peeling.now.rows peeling.now.order reduced.now marks.now inactive (length peeling.now.rows) recorded.old recorded.new) }
     ensures few { OnOk result (AddsAtMost (length peeling.now.rows * (inactive + most)) recorded.old recorded.new) }
     ensures err { IfErr result (λ e. e ≡ OutOfMemory) }

@@ -167,7 +167,7 @@ impl RecordedRows {
         self.operations.len()
     }
 
-    /// The row that an operation adds to another one, `None` where it does anything else.
+    /// The row that an operation adds to another one, where it does that alone.
     #[inline(always)]
     pub(super) fn source(&self, place: usize) -> Option<usize>
         requires { place < length self.now.operations }

@@ -17,7 +17,6 @@ use super::octet_batch::OctetBatch;
 use rq_bytes::error::Error;
 use rq_bytes::octet::Octet;
 use rq_parts::octet_matrix::DenseOctetMatrix;
-use std::alloc::Global;
 
 /// Gives the HDPC rows 0 in the pivots' columns: the first row takes all others, and clears them
 /// column by column, before all take the row of the column's pivot. This serves any octets. For

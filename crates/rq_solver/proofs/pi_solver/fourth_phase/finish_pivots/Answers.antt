@@ -76,7 +76,7 @@ loop-place-preserved c =
             finished = finish_again lists rows p.order p.places _ c.requires.peeled.bits peeled reduced marks count t in_rows old cur mid v.finished turn apart new again w.if-marks-place.true;
             few =
                 let each = rw (start, end) at w.in_ok-record_again.ensures.few in
-                let short = c.requires.short t in_rows w.if-marks-place.true in
+                let short = c.requires.short t in_marks w.if-marks-place.true in
                 one_turn_more (count + c.args.most) _ _ _ t v.few (omega (arith, sums, each, short));
           })
       | else-marks-place w ↦ rw w.recorded-is (record {

@@ -87,7 +87,7 @@ returns-clause-taken c =
     rw none at c.loop-done.invariant.taken
 
 pub returns-clause-short : goal.returns-clause-short
-returns-clause-short c = λ p l e. c.loop-done.invariant.short p (omega (arith, c.loop-done.auto.done-end, c.loop-done.auto.marks, c.requires.long, c.loop-done-test.false)) l e
+returns-clause-short c = λ p l e. c.loop-done.invariant.short p (omega (arith, c.loop-done.auto.done-end, c.loop-done.auto.marks, c.requires.long, c.loop-done-test.false)) (omega (arith, l, c.loop-done.auto.marks, c.requires.long)) e
 
 pub returns-clause-few : goal.returns-clause-few
 returns-clause-few c =

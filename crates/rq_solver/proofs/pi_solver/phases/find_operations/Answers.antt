@@ -36,17 +36,17 @@ module _ (c : After-drop-listed-2) where
       let rows = c.args.peeling.now.rows in
       let pivots = c.requires in
       let listed = c.as_mut_slice-rows.result.now in
-      let most_ones : ℕ = (width - c.height-3.result) / 2 in
-      let room : 2 * most_ones + length hdpc.rows ≤ width = omega (arith, system.few_hdpc, c.height-3.ensures) in
+      let most_rows : ℕ = (width - c.height-3.result) / 2 in
+      let room : 2 * most_rows + length hdpc.rows ≤ width = omega (arith, system.few_hdpc, c.height-3.ensures) in
       let listed_is : c.in_ok-listed.listed.items ≡ listed = sym c.as_mut_slice-rows.ensures.value in
       let fewer : length listed ≤ height = rw (← listed_is) (few_places (length c.in_ok-listed.listed.items) height (at c.in_ok-listed.listed.items) (rw c.height.ensures at c.in_ok-listed.ensures.listed.are)) in
       let together : length rows + length hdpc.rows ≤ height =
       few_together (length rows) (length hdpc.rows) system.first_hdpc height (at rows) pivots.in_rows system.octet_rows.within (λ i p l n. pivot_of_bits system.ones system.first_hdpc hdpc width system.bits system.octet_rows rows c.args.peeling.now.order c.args.peeling.now.places pivots p i n l) in
       let most : (width - length rows) * (length listed - 1) ≤ (width - length rows) * (height - 1) = mul-le-mul_left (width - length rows) (omega arith) in
       let first : additions c.in_ok-cleared.recorded.operations ≤ height * length rows + batch_bound (length hdpc.rows) width (length rows) = c.in_ok-cleared.ensures.few in
-      let second : additions c.rows_of_columns.new.recorded.operations ≤ additions c.in_ok-cleared.recorded.operations + (width - length rows) * (length listed - 1) + 2 * (length rows * most_ones) = rw pivots.columns.place_count at c.in_ok-order.ensures.few in
+      let second : additions c.rows_of_columns.new.recorded.operations ≤ additions c.in_ok-cleared.recorded.operations + (width - length rows) * (length listed - 1) + 2 * (length rows * most_rows) = rw pivots.columns.place_count at c.in_ok-order.ensures.few in
       let same : additions c.into_operations.result ≡ additions c.rows_of_columns.new.recorded.operations = ap additions c.into_operations.ensures in
-      few_of height width (length hdpc.rows) (length rows) most_ones (additions c.in_ok-cleared.recorded.operations) (additions c.into_operations.result) pivots.few together room first (omega (arith, most, second, same))
+      few_of height width (length hdpc.rows) (length rows) most_rows (additions c.in_ok-cleared.recorded.operations) (additions c.into_operations.result) pivots.few together room first (omega (arith, most, second, same))
 
 pub rows_of_columns-requires-clause-peeled : goal.rows_of_columns-requires-clause-peeled
 rows_of_columns-requires-clause-peeled c =
