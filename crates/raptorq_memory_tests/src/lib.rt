@@ -4,4 +4,6 @@
 #[cfg(test)]
 mod attempts;
 #[cfg(test)]
+mod compare;
+#[cfg(test)]
 mod tests;

@@ -1,4 +1,5 @@
 //! The tests, by what they are of.
+use crate::compare::holds;
 use rq_memory_kit::{Endings, Shortage, are_all_both};
 use std::process::Abort;
 
@@ -12,6 +13,6 @@ mod streams;
 fn assert_swept(rt: &impl Abort, shortage: Shortage, endings: &[Endings]) {
     let is_whole = shortage.is_whole();
     drop(shortage);
-    assert!(rt; is_whole);
-    assert!(rt; are_all_both(endings), "{endings:?}");
+    holds!(rt; is_whole);
+    holds!(rt; are_all_both(endings), endings);
 }

@@ -1,4 +1,5 @@
 //! Solvers where memory is refused: first all of it, then less and less of it.
+use crate::compare::{holds, same};
 use crate::solver::{MIRRORED, mirrored_solver};
 use rq_bytes::error::Error;
 use rq_bytes::operation_vector::SymbolOps;
@@ -66,9 +67,9 @@ fn solvers_are_refused_memory_in_turn(rt: HostRuntime) -> Result<(), Error> {
     }
     let is_whole = shortage.is_whole();
     drop(shortage);
-    assert!(rt; is_whole);
-    assert!(rt; endings.are_both(), "{endings:?}");
+    holds!(rt; is_whole);
+    holds!(rt; endings.are_both(), endings);
     let mut last = solvers.pop().expect(&rt, "no solver is left");
-    assert_eq!(rt; runs_once(&mut last), Ending::Answered);
+    same!(rt; runs_once(&mut last), Ending::Answered);
     Ok(())
 }

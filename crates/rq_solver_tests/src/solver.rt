@@ -5,6 +5,7 @@ ghost use Rattle.rq_operations.specs.RecordedOperations.{operations_of};
 ghost use Rattle.rq_standard.specs.TableRows.{IsChecked, greatest_size, intermediate_symbols, row_of};
 ghost use Rattle.rq_solver_tests.specs.Squares.{IsSquareOf};
 
+use crate::compare::{holds, same};
 use rq_bytes::error::Error;
 use rq_bytes::octet::Octet;
 use rq_bytes::operation_vector::SymbolOps;
@@ -131,7 +132,7 @@ fn assert_octets(rt: &impl Abort, slab: SymbolSlab, expected: &[u8]) -> Result<(
     let found = slab.into_symbols()?;
     assert_eq!(rt; found.len(), expected.len());
     for k in 0..found.len() {
-        assert_eq!(rt; found[k].as_bytes(), [expected[k]].as_slice(), "at {k}");
+        same!(rt; found[k].as_bytes(), [expected[k]].as_slice(), k);
     }
     Ok(())
 }
@@ -198,13 +199,10 @@ fn nothing_is_answered_without_the_last_hdpc_row(rt: HostRuntime) -> Result<(), 
     let ones = late_ones(rt.alloc())?;
     let octets = diagonal(rt.alloc(), 0, 9)?;
     let mut solver = numbered_solver(&rt, rt.alloc(), ones.as_slice(), octets.as_slice())?;
-    assert!(rt; solver.execute()?.is_none());
+    holds!(rt; solver.execute()?.is_none());
     let additions = solver.get_symbol_add_ops_by_phase();
-    assert!(rt; matches!(solver.execute(), Err(Error::AlreadyExecuted)));
-    assert_eq!(rt;
-        solver.get_symbol_add_ops_by_phase().as_slice(),
-        additions.as_slice()
-    );
+    holds!(rt; matches!(solver.execute(), Err(Error::AlreadyExecuted)));
+    same!(rt; solver.get_symbol_add_ops_by_phase().as_slice(), additions.as_slice());
     Ok(())
 }
 
@@ -220,22 +218,18 @@ fn rows_of_least_degree_take_few_additions(rt: HostRuntime) -> Result<(), Error>
     let (slab, _) = solver
         .execute()?
         .expect(&rt, "the equations have one solution");
-    assert_eq!(rt; solver.get_symbol_add_ops(), 16);
-    assert_eq!(rt; solver.get_symbol_mul_ops(), 0);
+    same!(rt; solver.get_symbol_add_ops(), 16);
+    same!(rt; solver.get_symbol_mul_ops(), 0);
     let additions = solver.get_symbol_add_ops_by_phase();
-    assert_eq!(rt; additions.as_slice(), [16, 0, 0, 0, 0].as_slice());
+    same!(rt; additions.as_slice(), [16, 0, 0, 0, 0].as_slice());
     let multiplications = solver.get_symbol_mul_ops_by_phase();
-    assert_eq!(rt; multiplications.as_slice(), [0, 0, 0, 0, 0].as_slice());
+    same!(rt; multiplications.as_slice(), [0, 0, 0, 0, 0].as_slice());
     let found = slab.into_symbols()?;
     assert_eq!(rt; found.len(), 27);
-    assert_eq!(rt; found[0].as_bytes(), [18].as_slice());
-    assert_eq!(rt; found[1].as_bytes(), [1].as_slice());
+    same!(rt; found[0].as_bytes(), [18].as_slice());
+    same!(rt; found[1].as_bytes(), [1].as_slice());
     for i in 0..10u8 {
-        assert_eq!(rt;
-            found[17 + i as usize].as_bytes(),
-            [7 + i].as_slice(),
-            "at {i}"
-        );
+        same!(rt; found[17 + i as usize].as_bytes(), [7 + i].as_slice(), i);
     }
     Ok(())
 }
@@ -252,10 +246,10 @@ fn rows_of_two_ones_are_taken_before_longer_ones(rt: HostRuntime) -> Result<(), 
     }
     let octets = diagonal(rt.alloc(), 17, 10)?;
     let mut solver = numbered_solver(&rt, rt.alloc(), ones.as_slice(), octets.as_slice())?;
-    assert!(rt; solver.execute()?.is_some());
+    holds!(rt; solver.execute()?.is_some());
     // One column is inactive: a row of the chain takes one other at most, the long row all, and
     // each that one.
-    assert!(rt; solver.get_symbol_add_ops() <= 48);
+    holds!(rt; solver.get_symbol_add_ops() <= 48);
     Ok(())
 }
 
@@ -327,7 +321,7 @@ fn zeros_determine_nothing_without_hdpc(rt: HostRuntime) -> Result<(), Error> {
     let dense: DenseBinaryMatrix = zero_bits(rt.alloc(), &row)?;
     let symbols = numbered(rt.alloc())?;
     let mut solver = IntermediateSymbolDecoder::new_no_hdpc(rt.alloc(), &table, dense, symbols, 10);
-    assert!(rt; solver.execute()?.is_none());
+    holds!(rt; solver.execute()?.is_none());
     let sparse: SparseBinaryMatrix = zero_bits(rt.alloc(), &row)?;
     let symbols = numbered(rt.alloc())?;
     let mut solver = IntermediateSymbolDecoder::new_no_hdpc(
@@ -337,7 +331,7 @@ fn zeros_determine_nothing_without_hdpc(rt: HostRuntime) -> Result<(), Error> {
         symbols,
         10,
     );
-    assert!(rt; solver.execute()?.is_none());
+    holds!(rt; solver.execute()?.is_none());
     Ok(())
 }
 
@@ -370,9 +364,9 @@ fn operations_are_replayed(rt: HostRuntime) -> Result<(), Error> {
     recorded_operations(rt.alloc())?.replay(&mut slab)?;
     let symbols = slab.into_symbols()?;
     assert_eq!(rt; symbols.len(), 3);
-    assert_eq!(rt; symbols[0].as_bytes(), [6, 197].as_slice());
-    assert_eq!(rt; symbols[1].as_bytes(), [7, 204].as_slice());
-    assert_eq!(rt; symbols[2].as_bytes(), [1, 65].as_slice());
+    same!(rt; symbols[0].as_bytes(), [6, 197].as_slice());
+    same!(rt; symbols[1].as_bytes(), [7, 204].as_slice());
+    same!(rt; symbols[2].as_bytes(), [1, 65].as_slice());
     Ok(())
 }
 
@@ -380,11 +374,11 @@ fn operations_are_replayed(rt: HostRuntime) -> Result<(), Error> {
 fn recorded_operations_are_copied_and_listed(rt: HostRuntime) -> Result<(), Error> {
     let recorded = recorded_operations(rt.alloc())?;
     let copy = recorded.clone()?;
-    assert!(rt; copy == recorded);
+    holds!(rt; copy == recorded);
     let steps = vec![in rt.alloc(); Step::Add { dest: 0, src: 1 }]?;
     let other = RecordedOperations::new(steps, vec![in rt.alloc(); 1]?);
-    assert!(rt; other != recorded);
-    assert_eq!(rt;
+    holds!(rt; other != recorded);
+    same!(rt;
         format!(in rt.alloc(); "{other:?}")?.as_str(),
         "RecordedOperations { steps: [Add { dest: 0, src: 1 }], order: [1] }"
     );
@@ -406,7 +400,7 @@ fn recorded_operations_are_copied_and_listed(rt: HostRuntime) -> Result<(), Erro
             order: vec![in rt.alloc(); 2, 0, 1]?,
         },
     ]?;
-    assert!(rt; operations == expected);
+    holds!(rt; operations == expected);
     Ok(())
 }
 

@@ -1,4 +1,5 @@
 //! Worked examples of repair packets.
+use crate::compare::{holds, same};
 use raptorq::Encoder;
 use raptorq::error::Error;
 use raptorq_test_kit::configurations::configured;
@@ -14,11 +15,11 @@ fn packets_of_zeros(rt: HostRuntime) -> Result<(), Fail> {
     assert_eq!(rt; packets.len(), 6);
     for esi in 0..6u32 {
         let packet = &packets[esi as usize];
-        assert_eq!(rt; packet.payload_id().source_block_number(), 0);
-        assert_eq!(rt; packet.payload_id().encoding_symbol_id(), esi);
-        assert_eq!(rt; packet.data(), [0, 0].as_slice());
+        same!(rt; packet.payload_id().source_block_number(), 0);
+        same!(rt; packet.payload_id().encoding_symbol_id(), esi);
+        same!(rt; packet.data(), [0, 0].as_slice());
     }
     let last = encoder.get_encoded_packets(16777214);
-    assert!(rt; last == Err(Error::EsiTooLarge));
+    holds!(rt; last == Err(Error::EsiTooLarge));
     Ok(())
 }

@@ -1,4 +1,5 @@
 //! Worked examples of encoders by their parameters.
+use crate::compare::holds;
 use raptorq::error::Error;
 use raptorq::systematic_constants::SystematicTable;
 use raptorq::{Encoder, EncoderBuilder, ObjectTransmissionInformation};
@@ -9,12 +10,12 @@ fn defaults(rt: HostRuntime) -> Result<(), Fail> {
     let alloc = rt.alloc();
     let table = SystematicTable::built_in(alloc)?;
     let mut builder = EncoderBuilder::new();
-    assert!(rt; builder == EncoderBuilder::default());
+    holds!(rt; builder == EncoderBuilder::default());
     builder.set_max_packet_size(1024);
-    assert!(rt; builder == EncoderBuilder::default());
+    holds!(rt; builder == EncoderBuilder::default());
     let encoder = builder.build(alloc, &table, &[0, 1, 2, 3])?;
-    assert!(rt; encoder == Encoder::with_defaults(alloc, &table, &[0, 1, 2, 3], 1024)?);
-    assert!(rt; Encoder::with_defaults(alloc, &table, &[], 1024) == Err(Error::TransferLengthZero));
+    holds!(rt; encoder == Encoder::with_defaults(alloc, &table, &[0, 1, 2, 3], 1024)?);
+    holds!(rt; Encoder::with_defaults(alloc, &table, &[], 1024) == Err(Error::TransferLengthZero));
     Ok(())
 }
 
@@ -29,6 +30,6 @@ fn parameters(rt: HostRuntime) -> Result<(), Fail> {
     builder.set_max_packet_size(500);
     builder.set_decoder_memory_requirement(1000);
     let encoder = builder.build(rt.alloc(), &table, &[7; 400])?;
-    assert!(rt; encoder.get_config() == wanted);
+    holds!(rt; encoder.get_config() == wanted);
     Ok(())
 }

@@ -1,4 +1,5 @@
 //! Packets that contradict each other.
+use crate::compare::holds;
 use raptorq::error::Error;
 use raptorq::systematic_constants::SystematicTable;
 use raptorq::{Decoder, EncodingPacket, ObjectTransmissionInformation, SourceBlockDecoder};
@@ -33,13 +34,13 @@ fn a_block_of_ten_zeros(rt: HostRuntime) -> Result<(), Fail> {
     let (table, config) = configured(alloc, (10, 1, 1, 1, 1))?;
     let mut decoder = SourceBlockDecoder::new(alloc, &table, 0, &config, 10)?;
     let zeros = decoder.decode(zeros_and(alloc, None, None)?)?;
-    assert!(rt; zeros.is_some_and(|block| block.as_slice() == [0; 10].as_slice()));
+    holds!(rt; zeros.is_some_and(|block| block.as_slice() == [0; 10].as_slice()));
     let mut fitting = decoder.clone()?;
     let zeros = fitting.decode(Some(packet(alloc, 0, 10, &[0])?))?;
-    assert!(rt; zeros.is_some_and(|block| block.as_slice() == [0; 10].as_slice()));
+    holds!(rt; zeros.is_some_and(|block| block.as_slice() == [0; 10].as_slice()));
     let refused = decoder.decode(Some(packet(alloc, 0, 10, &[1])?));
-    assert!(rt; refused == Err(Error::Contradiction));
-    assert!(rt; decoder.decode(None) == Err(Error::Contradiction));
+    holds!(rt; refused == Err(Error::Contradiction));
+    holds!(rt; decoder.decode(None) == Err(Error::Contradiction));
     let cases: [(u8, &[u8], Error); 3] = [
         (0, &[0], Error::Contradiction),
         (0, &[0, 0], Error::WrongPayloadSize),
@@ -47,7 +48,7 @@ fn a_block_of_ten_zeros(rt: HostRuntime) -> Result<(), Fail> {
     ];
     for (block, payload, wanted) in cases {
         let refused = decoder.decode(Some(packet(alloc, block, 9, payload)?));
-        assert!(rt; refused == Err(wanted), "{wanted:?}");
+        holds!(rt; refused == Err(wanted), wanted);
     }
     Ok(())
 }
@@ -62,7 +63,7 @@ fn all_in_one_call(rt: HostRuntime) -> Result<(), Fail> {
         zeros_and(alloc, None, Some(1))?,
     ] {
         let mut decoder = SourceBlockDecoder::new(alloc, &table, 0, &config, 10)?;
-        assert!(rt; decoder.decode(packets) == Err(Error::Contradiction));
+        holds!(rt; decoder.decode(packets) == Err(Error::Contradiction));
     }
     Ok(())
 }
@@ -78,8 +79,8 @@ fn an_answered_object(rt: HostRuntime) -> Result<(), Fail> {
     }
     let before = decoder.clone()?;
     let object = decoder.decode(packet(alloc, 0, 10, &[1])?)?;
-    assert!(rt; object.is_some_and(|object| object.as_slice() == [0; 10].as_slice()));
-    assert!(rt; decoder == before);
+    holds!(rt; object.is_some_and(|object| object.as_slice() == [0; 10].as_slice()));
+    holds!(rt; decoder == before);
     Ok(())
 }
 
@@ -97,14 +98,14 @@ fn a_singular_row(rt: HostRuntime) -> Result<(), Fail> {
             answer = decoder.decode(Some(packet(alloc, 0, esi, &[octet])?))?;
         }
         let block = answer.ok_or("no answer")?;
-        assert!(rt; block.as_slice() == [octet; 511].as_slice(), "{octet}");
+        holds!(rt; block.as_slice() == [octet; 511].as_slice(), octet);
         let wanted = if fits {
             Ok(Some(block))
         } else {
             Err(Error::Contradiction)
         };
         let beside = decoder.decode(Some(packet(alloc, 0, 511, &[1])?));
-        assert!(rt; beside == wanted, "{octet}");
+        holds!(rt; beside == wanted, octet);
     }
     Ok(())
 }

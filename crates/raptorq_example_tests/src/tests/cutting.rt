@@ -1,4 +1,5 @@
 //! Worked examples of how objects are cut into source blocks, sub-blocks and symbols.
+use crate::compare::{holds, same};
 use raptorq::error::Error;
 use raptorq::systematic_constants::SystematicTable;
 use raptorq::{Encoder, ObjectTransmissionInformation, PayloadId, calculate_block_offsets};
@@ -45,13 +46,10 @@ fn source_symbols(rt: HostRuntime) -> Result<(), Fail> {
     for (config, wanted) in cases {
         let object = &bytes[..(config.0 as usize).min(12)];
         let packets = encoder(alloc, config, object)?.get_encoded_packets(0)?;
-        assert_eq!(rt; packets.len(), wanted.len(), "{config:?}");
+        same!(rt; packets.len(), wanted.len(), config);
         for (packet, (block, esi, payload)) in packets.iter().zip(wanted) {
-            assert!(rt;
-                *packet.payload_id() == PayloadId::new(*block, *esi)?,
-                "{config:?}"
-            );
-            assert_eq!(rt; packet.data(), *payload, "{config:?}");
+            holds!(rt; *packet.payload_id() == PayloadId::new(*block, *esi)?, config);
+            same!(rt; packet.data(), *payload, config);
         }
     }
     Ok(())
@@ -72,7 +70,7 @@ fn padding(rt: HostRuntime) -> Result<(), Fail> {
         payloads.extend_from_slice(packet.data())?;
     }
     wanted.resize(2048, 0)?;
-    assert_eq!(rt; payloads, wanted);
+    same!(rt; payloads, wanted);
     Ok(())
 }
 
@@ -81,15 +79,15 @@ fn block_encoders(rt: HostRuntime) -> Result<(), Fail> {
     let alloc = rt.alloc();
     let object = [7u8; 120];
     let encoder = encoder(alloc, (120, 10, 10, 0, 2), &object)?;
-    assert_eq!(rt; encoder.get_block_encoders().len(), 10);
+    same!(rt; encoder.get_block_encoders().len(), 10);
     for (number, block) in encoder.get_block_encoders().iter().enumerate() {
         let packets = block.source_packets()?;
         let symbols: usize = if number < 2 { 2 } else { 1 };
         assert_eq!(rt; packets.len(), symbols, "{number}");
-        assert!(rt; usize::from(packets[0].payload_id().source_block_number()) == number);
+        holds!(rt; usize::from(packets[0].payload_id().source_block_number()) == number);
     }
     let refused = self::encoder(alloc, (120, 10, 10, 0, 2), &object[..119]);
-    assert!(rt; refused == Err(Error::WrongDataLength));
+    holds!(rt; refused == Err(Error::WrongDataLength));
     Ok(())
 }
 
@@ -107,7 +105,7 @@ fn offsets(rt: HostRuntime) -> Result<(), Fail> {
             length, size, blocks, sub_blocks, alignment,
         )?;
         let offsets = calculate_block_offsets(rt.alloc(), &[], &information)?;
-        assert_eq!(rt; offsets.as_slice(), wanted, "{config:?}");
+        same!(rt; offsets.as_slice(), wanted, config);
     }
     Ok(())
 }

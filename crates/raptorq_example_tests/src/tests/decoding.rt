@@ -1,4 +1,5 @@
 //! Worked examples of the coders.
+use crate::compare::{holds, same};
 use raptorq::error::Error;
 use raptorq::{Decoder, Encoder, SourceBlockDecoder};
 use raptorq_test_kit::configurations::configured;
@@ -17,7 +18,8 @@ fn refuses(rt: &impl Abort, alloc: Global, decoder: &mut Decoder) -> Result<(), 
     ];
     for (block, payload, wanted) in cases {
         let refused = decoder.decode(packet(alloc, block, 0, payload)?);
-        assert!(rt; refused == Err(wanted) && *decoder == before, "{block}");
+        holds!(rt; refused == Err(wanted), block);
+        holds!(rt; *decoder == before, block);
     }
     Ok(())
 }
@@ -30,16 +32,13 @@ fn a_decoder_of_ten_symbols(rt: HostRuntime) -> Result<(), Fail> {
     let mut decoder = Decoder::new(alloc, &table, information)?;
     for esi in 0..9u8 {
         let answer = decoder.decode(packet(alloc, 0, u32::from(esi), &[esi + 20])?)?;
-        assert!(rt; answer.is_none());
+        holds!(rt; answer.is_none());
     }
-    assert!(rt; decoder.decode(packet(alloc, 0, 0, &[99])?)?.is_none());
+    holds!(rt; decoder.decode(packet(alloc, 0, 0, &[99])?)?.is_none());
     refuses(&rt, alloc, &mut decoder)?;
     let answer = decoder.decode(packet(alloc, 0, 9, &[29])?)?;
     let object = answer.ok_or("no answer")?;
-    assert_eq!(rt;
-        object.as_slice(),
-        [20, 21, 22, 23, 24, 25, 26, 27, 28, 29].as_slice()
-    );
+    same!(rt; object.as_slice(), [20, 21, 22, 23, 24, 25, 26, 27, 28, 29].as_slice());
     refuses(&rt, alloc, &mut decoder)?;
     Ok(())
 }
@@ -50,16 +49,16 @@ fn an_object_there_and_back(rt: HostRuntime) -> Result<(), Fail> {
     let alloc = rt.alloc();
     let (table, information) = configured(alloc, (3, 2, 1, 1, 1))?;
     let encoder = Encoder::new(alloc, &table, &[7, 8, 9], information)?;
-    assert!(rt; encoder.get_config() == information);
+    holds!(rt; encoder.get_config() == information);
     let packets = encoder.get_encoded_packets(0)?;
     assert_eq!(rt; packets.len(), 2);
-    assert_eq!(rt; packets[1].data(), [9, 0].as_slice());
+    same!(rt; packets[1].data(), [9, 0].as_slice());
     let mut steps = Vec::new(alloc);
     for packet in packets {
         steps.push((0, packet))?;
     }
     let object = raptorq::decoder::decode_all(alloc, &table, information, steps)?;
-    assert_eq!(rt; object.ok_or("no answer")?.as_slice(), [7, 8, 9].as_slice());
+    same!(rt; object.ok_or("no answer")?.as_slice(), [7, 8, 9].as_slice());
     Ok(())
 }
 
@@ -71,7 +70,7 @@ fn a_block_in_two_calls(rt: HostRuntime) -> Result<(), Fail> {
     let empty = SourceBlockDecoder::new(alloc, &table, 0, &information, 4)?;
     let mut one_recorded = empty.clone()?;
     let answer = one_recorded.decode(Some(packet(alloc, 0, 0, &[7, 8])?))?;
-    assert!(rt; answer.is_none());
+    holds!(rt; answer.is_none());
     let cases: [(u8, &[u8], Error); 2] = [
         (1, &[0, 0], Error::UnknownBlock),
         (0, &[0], Error::WrongPayloadSize),
@@ -82,16 +81,11 @@ fn a_block_in_two_calls(rt: HostRuntime) -> Result<(), Fail> {
         let other = packet(alloc, block, 0, payload)?;
         let last = packet(alloc, 0, 1, &[9, 0])?;
         let refused = decoder.decode(vec![in alloc; first, other, last]?);
-        assert!(rt;
-            refused == Err(wanted) && decoder == one_recorded,
-            "{block}"
-        );
-        assert!(rt; decoder.decode(Vec::new(alloc))?.is_none());
+        holds!(rt; refused == Err(wanted), block);
+        holds!(rt; decoder == one_recorded, block);
+        holds!(rt; decoder.decode(Vec::new(alloc))?.is_none());
         let answer = decoder.decode(Some(packet(alloc, 0, 1, &[9, 0])?))?;
-        assert_eq!(rt;
-            answer.ok_or("no answer")?.as_slice(),
-            [7, 8, 9, 0].as_slice()
-        );
+        same!(rt; answer.ok_or("no answer")?.as_slice(), [7, 8, 9, 0].as_slice());
     }
     Ok(())
 }

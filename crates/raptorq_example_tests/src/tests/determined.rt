@@ -2,6 +2,7 @@
 ghost use Rattle.std.specs.Prelude.{◌≤◌};
 ghost use Rattle.rq_standard.specs.TableRows.{greatest_size, row_of};
 
+use crate::compare::{holds, same};
 use raptorq::constraint_matrix::generate_constraint_matrix;
 use raptorq::error::Error;
 use raptorq::matrix::{BinaryMatrix, DenseBinaryMatrix};
@@ -50,15 +51,11 @@ fn ten_packets_that_follow_one_another(rt: HostRuntime) -> Result<(), Fail> {
     let fixed = Basis::new(10).ok_or("equations repeat each other")?;
     for start in 0..100 {
         let is_answered = are_answered(alloc, &table, start)?;
-        assert_eq!(rt;
-            is_answered,
-            determine(&fixed, start, 10),
-            "from {start} on"
-        );
+        same!(rt; is_answered, determine(&fixed, start, 10), start);
     }
     for start in 358..366 {
-        assert!(rt; !are_answered(alloc, &table, start)?, "from {start} on");
-        assert!(rt; !determine(&fixed, start, 10), "from {start} on");
+        holds!(rt; !are_answered(alloc, &table, start)?, start);
+        holds!(rt; !determine(&fixed, start, 10), start);
     }
     Ok(())
 }
@@ -103,23 +100,16 @@ fn twenty_repair_packets(rt: HostRuntime) -> Result<(), Fail> {
         let first_id = start.saturating_add(10);
         let is_determined = determine(&fixed, first_id, 20);
         let is_dense_solved = is_solved::<DenseBinaryMatrix>(alloc, &table, first_id)?;
-        assert_eq!(rt; is_dense_solved, is_determined, "from {start} on");
+        same!(rt; is_dense_solved, is_determined, start);
         let is_sparse_solved = is_solved::<SparseBinaryMatrix>(alloc, &table, first_id)?;
-        assert_eq!(rt; is_sparse_solved, is_determined, "from {start} on");
+        same!(rt; is_sparse_solved, is_determined, start);
         for threshold in [0, u32::MAX] {
             let mut decoder = SourceBlockDecoder::new(alloc, &table, 0, &config, 10)?;
             decoder.set_sparse_threshold(threshold);
             let answer = decoder.decode(packets.clone()?)?;
-            assert_eq!(rt; answer.is_some(), is_determined, "from {start} on");
-            assert_eq!(rt;
-                decoder.homogeneous()?.is_none(),
-                is_determined,
-                "from {start} on"
-            );
-            assert!(rt;
-                answer.is_none_or(|found| found.as_slice() == block.as_slice()),
-                "from {start} on"
-            );
+            same!(rt; answer.is_some(), is_determined, start);
+            same!(rt; decoder.homogeneous()?.is_none(), is_determined, start);
+            holds!(rt; answer.is_none_or(|found| found.as_slice() == block.as_slice()), start);
         }
     }
     Ok(())

@@ -1,4 +1,5 @@
 //! Lists of packets that don't determine their object: another object makes them too.
+use crate::compare::{holds, same};
 use raptorq::error::Error;
 use raptorq::systematic_constants::SystematicTable;
 use raptorq::{Decoder, Encoder, EncodingPacket, ObjectTransmissionInformation};
@@ -47,20 +48,17 @@ fn nine_packets_of_ten_symbols(rt: HostRuntime) -> Result<(), Fail> {
     let (table, information) = configured(alloc, (10, 1, 1, 1, 1))?;
     for start in 10..100 {
         let mut decoder = nine_packets(alloc, &table, information, start)?;
-        assert!(rt; decoder.get_result()?.is_none(), "from {start} on");
+        holds!(rt; decoder.get_result()?.is_none(), start);
         let difference = decoder.difference()?.ok_or("no difference")?;
-        assert_eq!(rt; difference.len(), 10, "from {start} on");
-        assert!(rt;
-            difference.as_slice() != [0; 10].as_slice(),
-            "from {start} on"
-        );
+        same!(rt; difference.len(), 10, start);
+        holds!(rt; difference.as_slice() != [0; 10].as_slice(), start);
         let makes = makes_zeros(alloc, &table, information, difference.as_slice(), start)?;
-        assert!(rt; makes, "from {start} on");
+        holds!(rt; makes, start);
         for esi in 0..10 {
             decoder.add_new_packet(packet(alloc, 0, esi, &[0])?)?;
         }
-        assert!(rt; decoder.get_result()?.is_some(), "from {start} on");
-        assert!(rt; decoder.difference()?.is_none(), "from {start} on");
+        holds!(rt; decoder.get_result()?.is_some(), start);
+        holds!(rt; decoder.difference()?.is_none(), start);
     }
     Ok(())
 }
@@ -131,17 +129,18 @@ fn random_lists(rt: HostRuntime) -> Result<(), Fail> {
         match decoder.difference()? {
             None => {
                 answers = answers.saturating_add(1);
-                assert!(rt; answer == Some(object), "list {seed}");
+                holds!(rt; answer == Some(object), seed);
             }
             Some(difference) => {
-                assert!(rt; answer.is_none(), "list {seed}");
+                holds!(rt; answer.is_none(), seed);
                 let other = xor(alloc, object.as_slice(), difference.as_slice())?;
-                assert!(rt; other != object, "list {seed}");
+                holds!(rt; other != object, seed);
                 let same = received(alloc, &table, information, other.as_slice(), seed)?;
-                assert!(rt; same == packets, "list {seed}");
+                holds!(rt; same == packets, seed);
             }
         }
     }
-    assert!(rt; answers > 20 && answers < 280, "{answers}");
+    holds!(rt; answers > 20, answers);
+    holds!(rt; answers < 280, answers);
     Ok(())
 }

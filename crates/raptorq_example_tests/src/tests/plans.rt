@@ -1,6 +1,7 @@
 //! Worked examples of plans, of their cache, and of the encoder of one source block.
 ghost use Rattle.std.specs.Prelude.{◌<◌, IfOk};
 
+use crate::compare::{holds, same};
 use raptorq::error::Error;
 use raptorq::systematic_constants::{SYSTEMATIC_INDICES_AND_PARAMETERS, SystematicTable};
 use raptorq::{
@@ -37,9 +38,9 @@ fn packets_of_source_symbols(rt: HostRuntime) -> Result<(), Fail> {
     let alloc = rt.alloc();
     let source = three_symbols(alloc)?.source_packets()?;
     assert_eq!(rt; source.len(), 3);
-    assert!(rt; source[0] == packet(alloc, 0, 0, &[0, 1])?);
-    assert!(rt; source[1] == packet(alloc, 0, 1, &[2, 3])?);
-    assert!(rt; source[2] == packet(alloc, 0, 2, &[4, 5])?);
+    holds!(rt; source[0] == packet(alloc, 0, 0, &[0, 1])?);
+    holds!(rt; source[1] == packet(alloc, 0, 1, &[2, 3])?);
+    holds!(rt; source[2] == packet(alloc, 0, 2, &[4, 5])?);
     Ok(())
 }
 
@@ -49,13 +50,13 @@ fn packets_of_repair_symbols(rt: HostRuntime) -> Result<(), Fail> {
     let encoder = three_symbols(rt.alloc())?;
     for (start, count, first) in [(2, 4, 5), (16777212, 1, 16777215)] {
         let repair = encoder.repair_packets(start, count)?;
-        assert_eq!(rt; repair.len(), count as usize);
-        assert!(rt; ids_from(repair.as_slice(), first));
+        same!(rt; repair.len(), count as usize);
+        holds!(rt; ids_from(repair.as_slice(), first));
     }
-    assert_eq!(rt; encoder.repair_packets(u32::MAX, 0)?.len(), 0);
+    same!(rt; encoder.repair_packets(u32::MAX, 0)?.len(), 0);
     for (start, count) in [(16777212, 2), (u32::MAX, 1)] {
         let refused = encoder.repair_packets(start, count);
-        assert!(rt; refused == Err(Error::EsiTooLarge), "{start}");
+        holds!(rt; refused == Err(Error::EsiTooLarge), start);
     }
     Ok(())
 }
@@ -70,7 +71,7 @@ fn symbols_of_zeros(rt: HostRuntime) -> Result<(), Fail> {
         alloc, 0, &config, &[0; 6], &table, &plan,
     )?;
     for packet in &encoder.repair_packets(0, 20)? {
-        assert_eq!(rt; packet.data(), [0, 0].as_slice());
+        same!(rt; packet.data(), [0, 0].as_slice());
     }
     Ok(())
 }
@@ -82,12 +83,12 @@ fn no_symbols(rt: HostRuntime) -> Result<(), Fail> {
     let mut cache = SourceBlockEncodingPlanCache::new(alloc, &table)?;
     let config = ObjectTransmissionInformation::new(0, 2, 1, 1, 1)?;
     let encoder = SourceBlockEncoder::new(alloc, 0, &config, &[], &mut cache)?;
-    assert_eq!(rt; encoder.source_packets()?.len(), 0);
+    same!(rt; encoder.source_packets()?.len(), 0);
     let repair = encoder.repair_packets(0, 2)?;
     assert_eq!(rt; repair.len(), 2);
-    assert!(rt; ids_from(repair.as_slice(), 0));
-    assert_eq!(rt; repair[0].data(), [0, 0].as_slice());
-    assert_eq!(rt; repair[1].data(), [0, 0].as_slice());
+    holds!(rt; ids_from(repair.as_slice(), 0));
+    same!(rt; repair[0].data(), [0, 0].as_slice());
+    same!(rt; repair[1].data(), [0, 0].as_slice());
     Ok(())
 }
 
@@ -106,7 +107,7 @@ fn a_plan_made_held_and_handed_in(rt: HostRuntime) -> Result<(), Fail> {
     let mut cache = SourceBlockEncodingPlanCache::new(alloc, &table)?;
     let made = SourceBlockEncoder::new(alloc, 7, &config, &TWO_SYMBOLS, &mut cache)?;
     let held = SourceBlockEncoder::new(alloc, 7, &config, &TWO_SYMBOLS, &mut cache)?;
-    assert!(rt; made == held);
+    holds!(rt; made == held);
     let plan = SourceBlockEncodingPlan::generate(alloc, &table, 2)?.clone()?;
     let handed = SourceBlockEncoder::with_encoding_plan(
         alloc,
@@ -116,7 +117,7 @@ fn a_plan_made_held_and_handed_in(rt: HostRuntime) -> Result<(), Fail> {
         &table,
         &plan,
     )?;
-    assert!(rt; made == handed);
+    holds!(rt; made == handed);
     Ok(())
 }
 
@@ -126,7 +127,7 @@ fn a_plan_of_another_count(rt: HostRuntime) -> Result<(), Fail> {
     let (table, config) = configured(alloc, (6, 2, 1, 1, 1))?;
     let plan = SourceBlockEncodingPlan::generate(alloc, &table, 2)?;
     let refused = SourceBlockEncoder::with_encoding_plan(alloc, 0, &config, &[0; 6], &table, &plan);
-    assert!(rt; refused == Err(Error::PlanMismatch));
+    holds!(rt; refused == Err(Error::PlanMismatch));
     Ok(())
 }
 
@@ -139,7 +140,7 @@ fn a_plan_of_another_row(rt: HostRuntime) -> Result<(), Fail> {
     let refused = SourceBlockEncoder::with_encoding_plan(
         alloc, 0, &config, &[1; 500], &table, &plan,
     );
-    assert!(rt; refused == Err(Error::PlanMismatch));
+    holds!(rt; refused == Err(Error::PlanMismatch));
     Ok(())
 }
 
@@ -167,7 +168,7 @@ fn each_built_in_size_has_a_plan(rt: HostRuntime) -> Result<(), Fail> {
             &table,
             u16::try_from(symbols).unwrap_or(u16::MAX),
         );
-        assert!(rt; plan.is_ok(), "{symbols}");
+        holds!(rt; plan.is_ok(), symbols);
     }
     Ok(())
 }
@@ -180,15 +181,15 @@ fn first_in_first_out(rt: HostRuntime) -> Result<(), Fail> {
     for count in 1..66u16 {
         let _plan = cache.get_or_generate(count)?;
     }
-    assert_eq!(rt; cache.len(), 64);
-    assert!(rt; !cache.contains(1));
-    assert!(rt; cache.contains(2));
+    same!(rt; cache.len(), 64);
+    holds!(rt; !cache.contains(1));
+    holds!(rt; cache.contains(2));
     let _held = cache.get_or_generate(2)?;
     let _made = cache.get_or_generate(1)?;
-    assert_eq!(rt; cache.len(), 64);
-    assert!(rt; !cache.contains(2));
-    assert!(rt; cache.contains(3));
-    assert!(rt; cache.contains(1));
+    same!(rt; cache.len(), 64);
+    holds!(rt; !cache.contains(2));
+    holds!(rt; cache.contains(3));
+    holds!(rt; cache.contains(1));
     Ok(())
 }
 
@@ -198,9 +199,11 @@ fn counts_over_the_table(rt: HostRuntime) -> Result<(), Fail> {
     let table = SystematicTable::built_in(alloc)?;
     let mut cache = SourceBlockEncodingPlanCache::new(alloc, &table)?;
     let _plan = cache.get_or_generate(10)?;
-    assert!(rt; cache.get_or_generate(498).err() == Some(Error::BlockOverTable));
-    assert!(rt; cache.len() == 1 && cache.contains(10) && !cache.contains(498));
+    holds!(rt; cache.get_or_generate(498).err() == Some(Error::BlockOverTable));
+    holds!(rt; cache.len() == 1);
+    holds!(rt; cache.contains(10));
+    holds!(rt; !cache.contains(498));
     let refused = SourceBlockEncodingPlan::generate(alloc, &table, 65535);
-    assert!(rt; refused == Err(Error::BlockOverTable));
+    holds!(rt; refused == Err(Error::BlockOverTable));
     Ok(())
 }

@@ -1,5 +1,6 @@
 //! What is refused, in which order, and what is as before then. Each case removes a cause of the
 //! one before it.
+use crate::compare::{holds, same};
 use raptorq::error::Error;
 use raptorq::systematic_constants::SystematicTable;
 use raptorq::{
@@ -39,15 +40,9 @@ fn coders_of_objects(rt: HostRuntime) -> Result<(), Fail> {
     let table = SystematicTable::built_in(alloc)?;
     for (bytes, wanted) in HEADERS {
         let config = ObjectTransmissionInformation::deserialize(&bytes);
-        assert_eq!(rt; config.check(&table), Err(wanted));
-        assert!(rt;
-            Decoder::new(alloc, &table, config) == Err(wanted),
-            "{wanted:?}"
-        );
-        assert!(rt;
-            Encoder::new(alloc, &table, &[7], config) == Err(wanted),
-            "{wanted:?}"
-        );
+        same!(rt; config.check(&table), Err(wanted));
+        holds!(rt; Decoder::new(alloc, &table, config) == Err(wanted), wanted);
+        holds!(rt; Encoder::new(alloc, &table, &[7], config) == Err(wanted), wanted);
     }
     Ok(())
 }
@@ -61,10 +56,10 @@ fn coders_of_blocks(rt: HostRuntime) -> Result<(), Fail> {
     for (bytes, wanted) in HEADERS.into_iter().take(3) {
         let config = ObjectTransmissionInformation::deserialize(&bytes);
         let made = SourceBlockEncoder::new(alloc, 0, &config, &[7], &mut cache);
-        assert!(rt; made == Err(wanted), "{wanted:?}");
-        assert!(rt; cache.len() == 0, "{wanted:?}");
+        holds!(rt; made == Err(wanted), wanted);
+        holds!(rt; cache.len() == 0, wanted);
         let made = SourceBlockDecoder::new(alloc, &table, 0, &config, u64::MAX);
-        assert!(rt; made == Err(wanted), "{wanted:?}");
+        holds!(rt; made == Err(wanted), wanted);
     }
     Ok(())
 }
@@ -81,10 +76,11 @@ fn blocks_of_other_sizes(rt: HostRuntime) -> Result<(), Fail> {
         let mut cache = SourceBlockEncodingPlanCache::new(alloc, &table)?;
         let data = vec![in alloc; 7u8; length]?;
         let made = SourceBlockEncoder::new(alloc, 0, &config, data.as_slice(), &mut cache);
-        assert!(rt; made == Err(wanted) && cache.len() == 0, "{wanted:?}");
+        holds!(rt; made == Err(wanted), wanted);
+        holds!(rt; cache.len() == 0, wanted);
     }
     let (table, config) = configured(alloc, (0, 1, 1, 1, 1))?;
     let made = SourceBlockDecoder::new(alloc, &table, 0, &config, u64::MAX);
-    assert!(rt; made == Err(Error::BlockOverTable));
+    holds!(rt; made == Err(Error::BlockOverTable));
     Ok(())
 }

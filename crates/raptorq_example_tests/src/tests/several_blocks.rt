@@ -1,4 +1,5 @@
 //! Worked examples of objects of several blocks, of blocks of no symbols, and of no bytes.
+use crate::compare::{holds, same};
 use raptorq::systematic_constants::SystematicTable;
 use raptorq::{Decoder, Encoder, ObjectTransmissionInformation};
 use raptorq_test_kit::configurations::configured;
@@ -17,17 +18,17 @@ fn blocks_of_no_symbols(rt: HostRuntime) -> Result<(), Fail> {
         packet(alloc, 0, 0, &[7, 8])?,
         packet(alloc, 1, 0, &[9, 0])?,
     ]?;
-    assert!(rt; packets == wanted);
+    holds!(rt; packets == wanted);
     for block in &encoder.get_block_encoders()[2..] {
-        assert!(rt; block.source_packets()?.is_empty());
+        holds!(rt; block.source_packets()?.is_empty());
     }
     let mut decoder = Decoder::new(alloc, &table, information)?;
     let mut answer = None;
     for packet in packets {
-        assert!(rt; answer.is_none());
+        holds!(rt; answer.is_none());
         answer = decoder.decode(packet)?;
     }
-    assert_eq!(rt; answer.ok_or("no answer")?.as_slice(), [7, 8, 9].as_slice());
+    same!(rt; answer.ok_or("no answer")?.as_slice(), [7, 8, 9].as_slice());
     Ok(())
 }
 
@@ -36,10 +37,10 @@ fn an_object_of_no_bytes(rt: HostRuntime) -> Result<(), Fail> {
     let alloc = rt.alloc();
     let (table, information) = configured(alloc, (0, 2, 1, 1, 1))?;
     let encoder = Encoder::new(alloc, &table, &[], information)?;
-    assert!(rt; encoder.get_encoded_packets(0)?.is_empty());
+    holds!(rt; encoder.get_encoded_packets(0)?.is_empty());
     let decoder = Decoder::new(alloc, &table, information)?;
     let object = decoder.get_result()?;
-    assert!(rt; object.ok_or("no answer")?.is_empty());
+    holds!(rt; object.ok_or("no answer")?.is_empty());
     Ok(())
 }
 
@@ -57,13 +58,10 @@ fn blocks_in_turn(rt: HostRuntime) -> Result<(), Fail> {
         (0, 0, [0, 1]),
     ] {
         decoder.add_new_packet(packet(alloc, block, esi, &payload)?)?;
-        assert!(rt; decoder.get_result()?.is_none());
+        holds!(rt; decoder.get_result()?.is_none());
     }
     decoder.add_new_packet(packet(alloc, 0, 1, &[2, 3])?)?;
     let object = decoder.get_result()?.ok_or("no answer")?;
-    assert_eq!(rt;
-        object.as_slice(),
-        [0, 1, 2, 3, 4, 5, 6, 7, 8, 9].as_slice()
-    );
+    same!(rt; object.as_slice(), [0, 1, 2, 3, 4, 5, 6, 7, 8, 9].as_slice());
     Ok(())
 }

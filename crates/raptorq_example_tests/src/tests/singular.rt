@@ -1,4 +1,5 @@
 //! A row whose equations have less rank than unknowns, 549 of 550: no block of its size is encoded.
+use crate::compare::{holds, same};
 use raptorq::error::Error;
 use raptorq::systematic_constants::SystematicTable;
 use raptorq::{
@@ -33,7 +34,7 @@ fn singular_index(alloc: Global) -> Result<Option<u32>, Error> {
 
 #[test]
 fn the_least_index(rt: HostRuntime) -> Result<(), Fail> {
-    assert_eq!(rt; singular_index(rt.alloc())?, Some(2));
+    same!(rt; singular_index(rt.alloc())?, Some(2));
     Ok(())
 }
 
@@ -42,12 +43,14 @@ fn encoders(rt: HostRuntime) -> Result<(), Fail> {
     let alloc = rt.alloc();
     let (table, config) = singular(alloc)?;
     let object = [7u8; 511];
-    assert!(rt; Encoder::new(alloc, &table, &object, config) == Err(Error::Singular));
+    holds!(rt; Encoder::new(alloc, &table, &object, config) == Err(Error::Singular));
     let mut cache = SourceBlockEncodingPlanCache::new(alloc, &table)?;
     let _plan = cache.get_or_generate(10)?;
     let made = SourceBlockEncoder::new(alloc, 0, &config, &object, &mut cache);
-    assert!(rt; made == Err(Error::Singular));
-    assert!(rt; cache.len() == 1 && cache.contains(10) && !cache.contains(511));
+    holds!(rt; made == Err(Error::Singular));
+    holds!(rt; cache.len() == 1);
+    holds!(rt; cache.contains(10));
+    holds!(rt; !cache.contains(511));
     Ok(())
 }
 
@@ -60,7 +63,7 @@ fn a_decoder(rt: HostRuntime) -> Result<(), Fail> {
     for esi in 0..511 {
         let _answer = decoder.decode(Some(packet(alloc, 0, esi, &[7])?))?;
     }
-    assert!(rt; decoder.homogeneous()?.is_some());
+    holds!(rt; decoder.homogeneous()?.is_some());
     Ok(())
 }
 
@@ -79,7 +82,7 @@ fn a_repair_packet_too_few(rt: HostRuntime) -> Result<(), Fail> {
     }
     let mut decoder = SourceBlockDecoder::new(alloc, &table, 0, &config, 511)?;
     let answer = decoder.decode(packets)?;
-    assert!(rt; answer.is_some_and(|block| block.as_slice() == object.as_slice()));
-    assert!(rt; decoder.homogeneous()?.is_some());
+    holds!(rt; answer.is_some_and(|block| block.as_slice() == object.as_slice()));
+    holds!(rt; decoder.homogeneous()?.is_some());
     Ok(())
 }

@@ -1,5 +1,6 @@
 //! Blocks in sub-blocks: packets and answers of the Rust crate raptorq, for an object of 24 bytes
 //! in symbols of six with an alignment of two.
+use crate::compare::{holds, same};
 use raptorq::SourceBlockDecoder;
 use raptorq::error::Error;
 use raptorq_test_kit::configurations::configured;
@@ -67,9 +68,9 @@ fn answers(rt: HostRuntime) -> Result<(), Fail> {
     for (sub_blocks, before, last) in CASES {
         let (table, information) = configured(alloc, (24, 6, 1, sub_blocks, 2))?;
         let mut decoder = SourceBlockDecoder::new(alloc, &table, 0, &information, 24)?;
-        assert!(rt; answer(alloc, &mut decoder, &before)?.is_none());
+        holds!(rt; answer(alloc, &mut decoder, &before)?.is_none());
         let block = answer(alloc, &mut decoder, &[last])?;
-        assert_eq!(rt; block.ok_or("no answer")?.as_slice(), OBJECT.as_slice());
+        same!(rt; block.ok_or("no answer")?.as_slice(), OBJECT.as_slice());
     }
     Ok(())
 }

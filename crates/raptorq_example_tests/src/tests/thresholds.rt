@@ -1,4 +1,5 @@
 //! What is answered whether a block is solved over a sparse matrix or over a dense one.
+use crate::compare::holds;
 use raptorq::systematic_constants::SystematicTable;
 use raptorq::{ObjectTransmissionInformation, SourceBlockEncoder, SourceBlockEncodingPlanCache};
 use raptorq_test_kit::answers::{all_but_the_first, block_answers};
@@ -20,9 +21,9 @@ fn sparse_and_dense_blocks(rt: HostRuntime) -> Result<(), Fail> {
         let mut dense = block_answers(alloc, &table, &config, &packets, [99999, 99999])?;
         for thresholds in [[0, 0], [250, 250], [0, 99999]] {
             let answers = block_answers(alloc, &table, &config, &packets, thresholds)?;
-            assert!(rt; answers == dense, "{symbols} symbols");
+            holds!(rt; answers == dense, symbols);
         }
-        assert!(rt; dense.pop() == Some(Some(block)), "{symbols} symbols");
+        holds!(rt; dense.pop() == Some(Some(block)), symbols);
     }
     Ok(())
 }

@@ -1,4 +1,5 @@
 //! Packets of a block, of which one has another payload than was sent.
+use crate::compare::holds;
 use raptorq::error::Error;
 use raptorq::systematic_constants::SystematicTable;
 use raptorq::{
@@ -121,17 +122,15 @@ fn forged_payloads(rt: HostRuntime) -> Result<(), Fail> {
         let mut decoder = SourceBlockDecoder::new(alloc, &table, 0, &sent.config, length)?;
         decoder.set_sparse_threshold([0, u32::MAX][turn]);
         let answer = decoder.decode(packets.clone()?);
-        assert!(rt; end_as_ranked(sent, &fixed, &packets, &answer), "{number}");
+        holds!(rt; end_as_ranked(sent, &fixed, &packets, &answer), number);
         if answer.is_ok() {
             answered = answered.saturating_add(1);
         } else if packets.len() >= 20 {
             contradictory[turn] = contradictory[turn].saturating_add(1);
         }
     }
-    assert!(rt; answered > 0, "{answered}");
-    assert!(rt;
-        contradictory[0] > 0 && contradictory[1] > 0,
-        "{contradictory:?}"
-    );
+    holds!(rt; answered > 0, answered);
+    holds!(rt; contradictory[0] > 0, contradictory);
+    holds!(rt; contradictory[1] > 0, contradictory);
     Ok(())
 }

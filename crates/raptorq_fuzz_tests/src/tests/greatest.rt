@@ -1,4 +1,5 @@
 //! Configurations that ask for much memory, where there is little.
+use crate::compare::holds;
 use raptorq::error::Error;
 use raptorq::systematic_constants::SystematicTable;
 use raptorq::{Decoder, ObjectTransmissionInformation};
@@ -23,12 +24,12 @@ fn a_decoder_of_the_greatest_object(rt: HostRuntime) -> Result<(), Fail> {
     let last = packet(alloc, 254, 16777215, &payload)?;
     let mut shortage = Shortage::new(alloc, 1, LEFT)?;
     shortage.ease(LEFT);
-    assert!(rt; shortage.is_whole());
+    holds!(rt; shortage.is_whole());
     let mut decoder = Decoder::new(alloc, &table, config)?;
-    assert!(rt; decoder.decode(first)?.is_none());
-    assert!(rt; decoder.decode(last)?.is_none());
-    assert!(rt; decoder.get_result()?.is_none());
-    assert!(rt; decoder.difference() == Err(Error::OutOfMemory));
+    holds!(rt; decoder.decode(first)?.is_none());
+    holds!(rt; decoder.decode(last)?.is_none());
+    holds!(rt; decoder.get_result()?.is_none());
+    holds!(rt; decoder.difference() == Err(Error::OutOfMemory));
     drop(shortage);
     Ok(())
 }
@@ -50,12 +51,13 @@ fn streams_of_the_greatest_objects(rt: HostRuntime) -> Result<(), Fail> {
     ];
     let mut shortage = Shortage::new(alloc, 1, LEFT)?;
     shortage.ease(LEFT);
-    assert!(rt; shortage.is_whole());
+    holds!(rt; shortage.is_whole());
     for (header, wanted) in cases {
         let mut out: Vec<u8> = Vec::new(alloc);
         let mut reader = Counted::new(header.as_slice());
         let ended = run_receive(alloc, &table, &mut reader, &mut Counted::new(&mut out));
-        assert!(rt; ended == wanted && out.is_empty());
+        holds!(rt; ended == wanted);
+        holds!(rt; out.is_empty());
     }
     drop(shortage);
     Ok(())

@@ -1,6 +1,7 @@
 //! Arbitrary lists of packets.
 use super::model::{Model, block_symbols};
 use super::sent::{Sent, objects};
+use crate::compare::{holds, same};
 use raptorq::error::Error;
 use raptorq::systematic_constants::SystematicTable;
 use raptorq::{Decoder, EncodingPacket, PayloadId, SourceBlockDecoder};
@@ -114,14 +115,14 @@ fn object_ends(rt: &impl Abort, alloc: Global, round: &Round<'_>) -> Result<Ende
             None => model.take(packet, *is_honest)?,
             refusal => refusal,
         };
-        assert_eq!(rt; decoder.add_new_packet(packet.clone()?).err(), refusal);
+        same!(rt; decoder.add_new_packet(packet.clone()?).err(), refusal);
     }
     let answer = decoder.get_result()?;
-    assert_eq!(rt; Some(answer.is_some()), model.is_answered());
+    same!(rt; Some(answer.is_some()), model.is_answered());
     let is_answered = answer.is_some();
     if let Some(object) = answer {
-        assert!(rt; !model.is_honest() || object == sent.object);
-        assert_eq!(rt; object.len(), sent.object.len());
+        holds!(rt; !model.is_honest() || object == sent.object);
+        same!(rt; object.len(), sent.object.len());
     }
     Ok(if model.is_contradictory() == Some(true) {
         Err(Error::Contradiction)
@@ -155,7 +156,7 @@ fn block_answer(
     let Some(refusal) = refusal else {
         return Ok(answer);
     };
-    assert!(rt; answer == Err(refusal));
+    holds!(rt; answer == Err(refusal));
     Ok(decoder.decode(None))
 }
 
@@ -169,18 +170,18 @@ fn block_ends(rt: &impl Abort, alloc: Global, round: &Round<'_>) -> Result<Ended
     let mut model = Model::new(alloc, sent.config, 1)?;
     let answer = block_answer(rt, alloc, round, length, &mut model)?;
     if model.is_contradictory() == Some(true) {
-        assert!(rt; answer == Err(Error::Contradiction));
+        holds!(rt; answer == Err(Error::Contradiction));
         return Ok(Err(Error::Contradiction));
     }
     let answer = answer?;
-    assert_eq!(rt; Some(answer.is_some()), model.is_answered());
+    same!(rt; Some(answer.is_some()), model.is_answered());
     let Some(block) = answer else {
         return Ok(Ok(false));
     };
     let count = block.len().min(sent.object.len());
     let is_same = block.get(..count) == sent.object.as_slice().get(..count);
-    assert!(rt; !model.is_honest() || is_same);
-    assert!(rt; block.len() as u64 == length);
+    holds!(rt; !model.is_honest() || is_same);
+    holds!(rt; block.len() as u64 == length);
     Ok(Ok(true))
 }
 
@@ -205,7 +206,7 @@ fn any_lists(rt: HostRuntime) -> Result<(), Fail> {
         object_counts.add(object_ends(&rt, alloc, &round)?);
         block_counts.add(block_ends(&rt, alloc, &round)?);
     }
-    assert!(rt; object_counts.are_some(), "{object_counts:?}");
-    assert!(rt; block_counts.are_some(), "{block_counts:?}");
+    holds!(rt; object_counts.are_some(), &object_counts);
+    holds!(rt; block_counts.are_some(), &block_counts);
     Ok(())
 }

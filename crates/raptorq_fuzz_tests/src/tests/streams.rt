@@ -1,6 +1,7 @@
 //! Damaged streams.
 use super::model::{Model, configuration_refusal};
 use super::sent::{Sent, objects};
+use crate::compare::holds;
 use raptorq::error::Error;
 use raptorq::systematic_constants::SystematicTable;
 use raptorq::{EncodingPacket, ObjectTransmissionInformation};
@@ -105,22 +106,21 @@ fn frames_end(
     let skipped = take_frames(alloc, &mut model, size, frames, sent)?;
     if ended == Err(Stop::Refused(Error::Contradiction)) {
         let may_be = model.is_contradictory() != Some(false);
-        assert!(rt; may_be && out.is_empty(), "{bytes:?}");
+        holds!(rt; may_be, bytes);
+        holds!(rt; out.is_empty(), bytes);
         return Ok(Err(Error::Contradiction));
     }
-    assert!(rt; model.is_contradictory() != Some(true), "{bytes:?}");
+    holds!(rt; model.is_contradictory() != Some(true), bytes);
     if ended == Ok((Outcome::Written, skipped)) {
-        assert!(rt; model.is_answered() != Some(false), "{bytes:?}");
-        assert!(rt; out.len() as u64 == config.transfer_length(), "{bytes:?}");
+        holds!(rt; model.is_answered() != Some(false), bytes);
+        holds!(rt; out.len() as u64 == config.transfer_length(), bytes);
         let is_sent = model.is_honest() && config == sent.config;
-        assert!(rt; !is_sent || out == sent.object, "{bytes:?}");
+        holds!(rt; !is_sent || out == sent.object, bytes);
         return Ok(Ok(Outcome::Written));
     }
-    assert!(rt;
-        ended == Ok((Outcome::Incomplete, skipped)) && out.is_empty(),
-        "{bytes:?}"
-    );
-    assert!(rt; model.is_answered() != Some(true), "{bytes:?}");
+    holds!(rt; ended == Ok((Outcome::Incomplete, skipped)), bytes);
+    holds!(rt; out.is_empty(), bytes);
+    holds!(rt; model.is_answered() != Some(true), bytes);
     Ok(Ok(Outcome::Incomplete))
 }
 
@@ -134,15 +134,14 @@ fn ends(
 ) -> Result<Result<Outcome, Error>, Error> {
     let (ended, out) = receive(alloc, table, bytes);
     let Some(header) = bytes.first_chunk::<12>() else {
-        assert!(rt; ended == Err(Stop::Refused(Error::HeaderTooShort)) && out.is_empty());
+        holds!(rt; ended == Err(Stop::Refused(Error::HeaderTooShort)));
+        holds!(rt; out.is_empty());
         return Ok(Err(Error::HeaderTooShort));
     };
     let config = ObjectTransmissionInformation::deserialize(header);
     if let Some(refusal) = configuration_refusal(&config) {
-        assert!(rt;
-            ended == Err(Stop::Refused(refusal)) && out.is_empty(),
-            "{bytes:?}"
-        );
+        holds!(rt; ended == Err(Stop::Refused(refusal)), bytes);
+        holds!(rt; out.is_empty(), bytes);
         return Ok(Err(refusal));
     }
     frames_end(rt, alloc, config, (ended, out), bytes, sent)
@@ -171,8 +170,8 @@ fn damaged_streams(rt: HostRuntime) -> Result<(), Fail> {
         counts[place] = counts[place].saturating_add(1);
     }
     for place in [0, 1, 3] {
-        assert!(rt; counts[place] > STREAMS / 20, "{counts:?}");
+        holds!(rt; counts[place] > STREAMS / 20, counts);
     }
-    assert!(rt; counts[2] > 0, "{counts:?}");
+    holds!(rt; counts[2] > 0, counts);
     Ok(())
 }

@@ -2,6 +2,7 @@
 use super::assert_swept;
 use crate::attempts::decoders::{BlockAnswers, OBJECT, ObjectAnswers, Results, one_block, packets};
 use crate::attempts::encoders::{Blocks, Objects, Plans, Rows};
+use crate::compare::{holds, same};
 use raptorq::error::Error;
 use raptorq::systematic_constants::SystematicTable;
 use raptorq::{Decoder, EncodingPacket};
@@ -30,11 +31,11 @@ fn encoders_are_refused_memory_in_turn(rt: HostRuntime) -> Result<(), Fail> {
         shortage.ease(MORE);
     }
     assert_swept(&rt, shortage, endings.as_slice());
-    assert_eq!(rt; rows.attempt(), Ending::Answered);
-    assert_eq!(rt; objects.attempt(), Ending::Answered);
-    assert_eq!(rt; objects.attempt_packets(), Ending::Answered);
-    assert_eq!(rt; blocks.attempt(), Ending::Answered);
-    assert_eq!(rt; plans.attempt(), Ending::Answered);
+    same!(rt; rows.attempt(), Ending::Answered);
+    same!(rt; objects.attempt(), Ending::Answered);
+    same!(rt; objects.attempt_packets(), Ending::Answered);
+    same!(rt; blocks.attempt(), Ending::Answered);
+    same!(rt; plans.attempt(), Ending::Answered);
     Ok(())
 }
 
@@ -58,10 +59,10 @@ fn decoders_are_refused_memory_in_turn(rt: HostRuntime) -> Result<(), Fail> {
         shortage.ease(MORE);
     }
     assert_swept(&rt, shortage, endings.as_slice());
-    assert_eq!(rt; blocks.attempt(), Ending::Answered);
-    assert_eq!(rt; objects.attempt(), Ending::Answered);
-    assert_eq!(rt; results.attempt_object(), Ending::Answered);
-    assert_eq!(rt; results.attempt_difference(), Ending::Answered);
+    same!(rt; blocks.attempt(), Ending::Answered);
+    same!(rt; objects.attempt(), Ending::Answered);
+    same!(rt; results.attempt_object(), Ending::Answered);
+    same!(rt; results.attempt_difference(), Ending::Answered);
     Ok(())
 }
 
@@ -83,14 +84,14 @@ fn late(
 ) -> Result<Decoder, Error> {
     let table = SystematicTable::built_in(alloc)?;
     let mut decoder = Decoder::new(alloc, &table, one_block()?)?;
-    assert!(rt; take(&mut decoder, taken)?.is_none());
+    holds!(rt; take(&mut decoder, taken)?.is_none());
     let last = last.clone()?;
     let shortage = Shortage::new(alloc, 0, 0)?;
     let answer = decoder.add_new_packet(last);
     let is_whole = shortage.is_whole();
     drop(shortage);
-    assert!(rt; is_whole);
-    assert!(rt; answer == Err(Error::OutOfMemory));
+    holds!(rt; is_whole);
+    holds!(rt; answer == Err(Error::OutOfMemory));
     Ok(decoder)
 }
 
@@ -108,10 +109,11 @@ fn a_packet_not_recorded(rt: HostRuntime) -> Result<(), Fail> {
     let refused = decoder.add_new_packet(first);
     let is_whole = shortage.is_whole();
     drop(shortage);
-    assert!(rt; is_whole);
-    assert!(rt; refused == Err(Error::OutOfMemory) && decoder == before);
+    holds!(rt; is_whole);
+    holds!(rt; refused == Err(Error::OutOfMemory));
+    holds!(rt; decoder == before);
     let object = take(&mut decoder, &packets[..10])?.ok_or("no answer")?;
-    assert_eq!(rt; object.as_slice(), OBJECT.as_slice());
+    same!(rt; object.as_slice(), OBJECT.as_slice());
     Ok(())
 }
 
@@ -139,9 +141,10 @@ fn an_object_not_joined(rt: HostRuntime) -> Result<(), Fail> {
     let is_answered = decoder == answered;
     let is_whole = shortage.is_whole();
     drop(shortage);
-    assert!(rt; is_whole);
-    assert!(rt; refused == Err(Error::OutOfMemory) && is_answered);
-    assert!(rt; decoder.get_result()? == Some(object));
+    holds!(rt; is_whole);
+    holds!(rt; refused == Err(Error::OutOfMemory));
+    holds!(rt; is_answered);
+    holds!(rt; decoder.get_result()? == Some(object));
     Ok(())
 }
 
@@ -156,9 +159,9 @@ fn a_packet_stays_recorded(rt: HostRuntime) -> Result<(), Fail> {
     let repair = (&packets[2..11], &packets[11]);
     for (taken, last) in [source, repair] {
         let mut decoder = late(&rt, alloc, taken, last)?;
-        assert!(rt; decoder.get_result()?.is_none());
+        holds!(rt; decoder.get_result()?.is_none());
         let object = take(&mut decoder, taken)?.ok_or("no answer")?;
-        assert_eq!(rt; object.as_slice(), OBJECT.as_slice());
+        same!(rt; object.as_slice(), OBJECT.as_slice());
     }
     Ok(())
 }
@@ -174,7 +177,7 @@ fn a_late_contradiction(rt: HostRuntime) -> Result<(), Fail> {
     }
     let mut decoder = late(&rt, alloc, zeros.as_slice(), &packet(alloc, 0, 10, &[1])?)?;
     let refused = decoder.decode(packet(alloc, 0, 9, &[0])?);
-    assert!(rt; refused == Err(Error::Contradiction));
-    assert!(rt; decoder.get_result()?.is_none());
+    holds!(rt; refused == Err(Error::Contradiction));
+    holds!(rt; decoder.get_result()?.is_none());
     Ok(())
 }

@@ -1,5 +1,6 @@
 //! Readers and writers that move few bytes a call, and of which one call fails.
 use super::streams::{OBJECT, STREAM, run};
+use crate::compare::{holds, same};
 use raptorq::error::Error;
 use rq_streams::{Job, Outcome, Stop, report};
 use std::alloc::Global;
@@ -76,11 +77,15 @@ fn ends(
     let mut said: Vec<u8> = Vec::new(alloc);
     let status = report(Some(ended), &mut said);
     if is_fault {
-        assert!(rt; *ended == Err(Stop::Fault) && failed == 1 && status == 1);
-        assert_eq!(rt; said.as_slice(), b"fault\n".as_slice());
+        holds!(rt; *ended == Err(Stop::Fault));
+        holds!(rt; failed == 1);
+        holds!(rt; status == 1);
+        same!(rt; said.as_slice(), b"fault\n".as_slice());
     } else {
-        assert!(rt; *ended == Ok((Outcome::Written, 0)) && failed == 0 && status == 0);
-        assert!(rt; said.is_empty());
+        holds!(rt; *ended == Ok((Outcome::Written, 0)));
+        holds!(rt; failed == 0);
+        holds!(rt; status == 0);
+        holds!(rt; said.is_empty());
     }
     Ok(())
 }
@@ -98,7 +103,7 @@ fn each_read_fails_in_turn(rt: HostRuntime) -> Result<(), Fail> {
                 let (ended, failed) = run(alloc, asked, Source { rest, most, calls }, &mut out)?;
                 ends(&rt, alloc, &ended, failed, calls < needed)?;
                 let written: &[u8] = if calls < needed { &[] } else { output };
-                assert_eq!(rt; out.as_slice(), written, "{asked:?}, {most}, {calls}");
+                same!(rt; out.as_slice(), written, (asked, most, calls));
             }
         }
     }
@@ -119,11 +124,7 @@ fn fails_at(
     let needed = output.len().div_ceil(most).saturating_add(1);
     ends(rt, alloc, &ended, failed, calls < needed)?;
     let written = most.saturating_mul(calls).min(output.len());
-    assert_eq!(rt;
-        sink.bytes.as_slice(),
-        &output[..written],
-        "{asked:?}, {most}, {calls}"
-    );
+    same!(rt; sink.bytes.as_slice(), &output[..written], (asked, most, calls));
     Ok(())
 }
 

@@ -1,5 +1,6 @@
 //! Streams whose configuration is refused, and what is said of them.
 use super::streams::run;
+use crate::compare::{holds, same};
 use rq_streams::{Job, Stop, report};
 use std::test::Fail;
 
@@ -25,10 +26,11 @@ fn refused_configurations(rt: HostRuntime) -> Result<(), Fail> {
             Err(Stop::Refused(refusal)) => refusal.code(),
             _ => 0,
         };
-        assert_eq!(rt; refused, number, "{header:?}");
-        assert!(rt; out.is_empty() && failed == 0, "{header:?}");
-        assert_eq!(rt; report(Some(&ended), &mut out), 3);
-        assert_eq!(rt; out.as_slice(), line.as_bytes(), "{header:?}");
+        same!(rt; refused, number, header);
+        holds!(rt; out.is_empty(), header);
+        holds!(rt; failed == 0, header);
+        same!(rt; report(Some(&ended), &mut out), 3);
+        same!(rt; out.as_slice(), line.as_bytes(), header);
     }
     Ok(())
 }

@@ -1,6 +1,7 @@
 //! Runs where memory is refused: first all of it, then less and less of it.
 use super::assert_swept;
 use super::streams::{OBJECT, STREAM};
+use crate::compare::same;
 use raptorq::error::Error;
 use raptorq::systematic_constants::SystematicTable;
 use rq_memory_kit::{Ending, Endings, MORE, RESERVE, ROUNDS, Shortage};
@@ -80,7 +81,7 @@ fn runs_are_refused_memory_in_turn(rt: HostRuntime) -> Result<(), Fail> {
         shortage.ease(MORE);
     }
     assert_swept(&rt, shortage, endings.as_slice());
-    assert_eq!(rt; sends(alloc, &table), Ending::Answered);
-    assert_eq!(rt; receives(alloc, &table), Ending::Answered);
+    same!(rt; sends(alloc, &table), Ending::Answered);
+    same!(rt; receives(alloc, &table), Ending::Answered);
     Ok(())
 }

@@ -1,4 +1,5 @@
 //! Runs over memory, and what the program says.
+use crate::compare::{holds, same};
 use raptorq::error::Error;
 use raptorq::systematic_constants::SystematicTable;
 use rq_streams::{Counted, Job, Outcome, Stop, job, report, run_receive, run_send};
@@ -68,9 +69,9 @@ fn run_ends(
 ) -> Result<(), Error> {
     let mut out: Vec<u8> = Vec::new(alloc);
     let (ended, failed) = run(alloc, asked, input, &mut out)?;
-    assert!(rt; ended == wanted, "{asked:?}, {input:?}: {ended:?}");
-    assert_eq!(rt; out.as_slice(), written);
-    assert_eq!(rt; failed, 0);
+    holds!(rt; ended == wanted, (asked, input, ended));
+    same!(rt; out.as_slice(), written);
+    same!(rt; failed, 0);
     Ok(())
 }
 
@@ -226,7 +227,7 @@ fn asks(rt: HostRuntime) -> Result<(), Fail> {
         for word in line.split_whitespace() {
             words.push(String::from_str(rt.alloc(), word)?)?;
         }
-        assert!(rt; job(words.as_slice()) == wanted, "{line}");
+        holds!(rt; job(words.as_slice()) == wanted, line);
     }
     Ok(())
 }
@@ -240,9 +241,9 @@ fn is_reported(
     status: u8,
 ) -> Result<(), Fail> {
     let mut out: Vec<u8> = Vec::new(alloc);
-    assert_eq!(rt; report(ended.as_ref(), &mut out), status);
-    assert_eq!(rt; out.as_slice(), line.as_bytes());
-    assert_eq!(rt; report(ended.as_ref(), &mut Full), status);
+    same!(rt; report(ended.as_ref(), &mut out), status);
+    same!(rt; out.as_slice(), line.as_bytes());
+    same!(rt; report(ended.as_ref(), &mut Full), status);
     Ok(())
 }
 

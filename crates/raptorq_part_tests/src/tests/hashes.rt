@@ -1,8 +1,11 @@
 //! Hashes and orders of ids, of packets and of operations.
+use crate::compare::{holds, same};
 use raptorq::PayloadId;
+use raptorq::error::Error;
 use raptorq::octet::Octet;
 use raptorq::operation_vector::SymbolOps;
 use raptorq_test_kit::packets::packet;
+use std::alloc::Global;
 use std::hash::{DefaultHasher, Hash, Hasher};
 use std::test::Fail;
 
@@ -17,24 +20,42 @@ fn hash_of<T: Hash>(value: &T) -> u64 {
 fn ids(rt: HostRuntime) -> Result<(), Fail> {
     let first = PayloadId::new(0, 9)?;
     let second = PayloadId::new(1, 7)?;
-    assert!(rt; first < second && second < PayloadId::new(1, 8)?);
-    assert_eq!(rt; hash_of(&second), hash_of(&second.clone()?));
-    assert!(rt; hash_of(&second) != hash_of(&PayloadId::new(7, 1)?));
+    holds!(rt; first < second);
+    holds!(rt; second < PayloadId::new(1, 8)?);
+    same!(rt; hash_of(&second), hash_of(&second.clone()?));
+    holds!(rt; hash_of(&second) != hash_of(&PayloadId::new(7, 1)?));
     Ok(())
+}
+
+// Block number, encoding symbol id and payload of a packet.
+type Parts<'a> = (u8, u32, &'a [u8]);
+
+fn packet_hash(alloc: Global, (block, esi, payload): Parts<'_>) -> Result<u64, Error> {
+    Ok(hash_of(&packet(alloc, block, esi, payload)?))
+}
+
+fn copy_hash(alloc: Global, (block, esi, payload): Parts<'_>) -> Result<u64, Error> {
+    Ok(hash_of(&packet(alloc, block, esi, payload)?.clone()?))
+}
+
+fn is_less(alloc: Global, left: Parts<'_>, right: Parts<'_>) -> Result<bool, Error> {
+    let left = packet(alloc, left.0, left.1, left.2)?;
+    Ok(left < packet(alloc, right.0, right.1, right.2)?)
 }
 
 // The block's number counts first, then the symbol's, and then the payload, octet by octet.
 #[test]
 fn packets(rt: HostRuntime) -> Result<(), Fail> {
     let alloc = rt.alloc();
-    let first = packet(alloc, 0, 9, &[9])?;
-    let second = packet(alloc, 1, 7, &[9])?;
-    let third = packet(alloc, 1, 7, &[9, 0])?;
-    assert!(rt; first < second && second < third);
-    assert!(rt; third < packet(alloc, 1, 8, &[1])?);
-    assert_eq!(rt; hash_of(&first), hash_of(&first.clone()?));
-    assert!(rt; hash_of(&second) != hash_of(&third));
-    assert!(rt; hash_of(&second) != hash_of(&packet(alloc, 7, 1, &[9])?));
+    let first: Parts<'_> = (0, 9, &[9]);
+    let second: Parts<'_> = (1, 7, &[9]);
+    let third: Parts<'_> = (1, 7, &[9, 0]);
+    holds!(rt; is_less(alloc, first, second)?);
+    holds!(rt; is_less(alloc, second, third)?);
+    holds!(rt; is_less(alloc, third, (1, 8, &[1]))?);
+    same!(rt; packet_hash(alloc, first)?, copy_hash(alloc, first)?);
+    holds!(rt; packet_hash(alloc, second)? != packet_hash(alloc, third)?);
+    holds!(rt; packet_hash(alloc, second)? != packet_hash(alloc, (7, 1, &[9]))?);
     Ok(())
 }
 
@@ -50,9 +71,10 @@ fn operations(rt: HostRuntime) -> Result<(), Fail> {
     let order = SymbolOps::Reorder {
         order: vec![in alloc; 1, 0]?,
     };
-    assert!(rt; SymbolOps::AddAssign { dest: 6, src: 9 } < addition);
-    assert!(rt; addition < multiplication && multiplication < order);
-    assert_eq!(rt; hash_of(&order), hash_of(&order.clone()?));
-    assert!(rt; hash_of(&addition) != hash_of(&SymbolOps::AddAssign { dest: 8, src: 7 }));
+    holds!(rt; SymbolOps::AddAssign { dest: 6, src: 9 } < addition);
+    holds!(rt; addition < multiplication);
+    holds!(rt; multiplication < order);
+    same!(rt; hash_of(&order), hash_of(&order.clone()?));
+    holds!(rt; hash_of(&addition) != hash_of(&SymbolOps::AddAssign { dest: 8, src: 7 }));
     Ok(())
 }

@@ -1,4 +1,5 @@
 //! Maps kept in arrays, and graphs.
+use crate::compare::{holds, same};
 use raptorq::arraymap::{ImmutableListMapBuilder, U16ArrayMap, U32VecMap};
 use raptorq::graph::{ConnectedComponentGraph, UndirectedGraph};
 use std::process::Abort;
@@ -10,13 +11,13 @@ fn maps_in_arrays(rt: HostRuntime) -> Result<(), Fail> {
     map.insert(5, 1);
     map.insert(7, 2);
     map.swap(5, 7);
-    assert_eq!(rt; map.get(5), 2);
-    assert_eq!(rt; map.get(7), 1);
+    same!(rt; map.get(5), 2);
+    same!(rt; map.get(7), 1);
     map.increment(6);
     map.decrement(7);
-    assert_eq!(rt; map.get(6), 1);
-    assert_eq!(rt; map.get(7), 0);
-    assert_eq!(rt; map.keys().count(), 3);
+    same!(rt; map.get(6), 1);
+    same!(rt; map.get(7), 0);
+    same!(rt; map.keys().count(), 3);
     Ok(())
 }
 
@@ -24,14 +25,14 @@ fn maps_in_arrays(rt: HostRuntime) -> Result<(), Fail> {
 fn maps_that_grow(rt: HostRuntime) -> Result<(), Fail> {
     let mut map = U32VecMap::new(rt.alloc(), 3)?;
     map.insert(5, 9)?;
-    assert_eq!(rt; map.get(4), 0);
-    assert_eq!(rt; map.get(5), 9);
-    assert_eq!(rt; map.get(9), 0);
+    same!(rt; map.get(4), 0);
+    same!(rt; map.get(5), 9);
+    same!(rt; map.get(9), 0);
     let mut counts = U32VecMap::with_capacity(rt.alloc(), 3, 5)?;
     counts.increment(8)?;
-    assert_eq!(rt; counts.get(8), 1);
+    same!(rt; counts.get(8), 1);
     counts.decrement(8);
-    assert_eq!(rt; counts.get(8), 0);
+    same!(rt; counts.get(8), 0);
     Ok(())
 }
 
@@ -42,9 +43,9 @@ fn lists_of_ten_keys(rt: HostRuntime) -> Result<(), Fail> {
     builder.add(3, 1)?;
     builder.add(3, 2)?;
     let map = builder.build()?.clone()?;
-    assert_eq!(rt; map.get(0), [1].as_slice());
-    assert_eq!(rt; map.get(3), [1, 2].as_slice());
-    assert!(rt; map.get(2).is_empty());
+    same!(rt; map.get(0), [1].as_slice());
+    same!(rt; map.get(3), [1, 2].as_slice());
+    holds!(rt; map.get(2).is_empty());
     Ok(())
 }
 
@@ -52,7 +53,7 @@ fn lists_of_ten_keys(rt: HostRuntime) -> Result<(), Fail> {
 fn lists_of_nothing(rt: HostRuntime) -> Result<(), Fail> {
     let map = ImmutableListMapBuilder::new(rt.alloc(), 10).build()?;
     for key in 0..10 {
-        assert!(rt; map.get(key).is_empty(), "{key}");
+        holds!(rt; map.get(key).is_empty(), key);
     }
     Ok(())
 }
@@ -65,10 +66,10 @@ fn neighbours_of_nodes(rt: HostRuntime) -> Result<(), Fail> {
     }
     graph.build();
     let nodes = graph.nodes()?;
-    assert_eq!(rt; nodes.as_slice(), [3, 5, 8].as_slice());
-    assert_eq!(rt; graph.get_adjacent_nodes(3).count(), 2);
-    assert_eq!(rt; graph.get_adjacent_nodes(3).min(), Some(5));
-    assert_eq!(rt;
+    same!(rt; nodes.as_slice(), [3, 5, 8].as_slice());
+    same!(rt; graph.get_adjacent_nodes(3).count(), 2);
+    same!(rt; graph.get_adjacent_nodes(3).min(), Some(5));
+    same!(rt;
         graph
             .get_adjacent_nodes(8)
             .filter(|node| *node == 8)
@@ -78,6 +79,7 @@ fn neighbours_of_nodes(rt: HostRuntime) -> Result<(), Fail> {
     Ok(())
 }
 
+// The assertions are steps without which no proof is found of what the later calls require.
 #[test]
 fn connected_components(rt: HostRuntime) -> Result<(), Fail> {
     let mut graph = ConnectedComponentGraph::new(rt.alloc(), 6)?;

@@ -3,6 +3,7 @@
 ghost use Rattle.std.specs.Prelude.{◌≡◌, ℕ, ◌<◌, ◌≤◌, length, slice_index};
 ghost use Rattle.rq_parts.specs.DenseOctetMatrix.{row_at};
 
+use crate::compare::same;
 use raptorq::error::Error;
 use raptorq::iterators::OctetIter;
 use raptorq::matrix::{BinaryMatrix, DenseBinaryMatrix};
@@ -36,7 +37,7 @@ fn assert_ones<T: BinaryMatrix>(rt: &impl Abort, matrix: &T, ones: &[(usize, usi
     for i in 0..matrix.height() {
         for j in 0..matrix.width() {
             let wanted = u8::from(ones.contains(&(i, j)));
-            assert_eq!(rt; matrix.get(i, j).byte(), wanted, "at {i}, {j}");
+            same!(rt; matrix.get(i, j).byte(), wanted, (i, j));
         }
     }
 }
@@ -50,8 +51,8 @@ fn steps<T: BinaryMatrix>(rt: &impl Abort, alloc: Global) -> Result<(), Error> {
     matrix.swap_rows(0, 1);
     matrix.swap_columns(3, 10, 1);
     matrix.add_assign_rows(2, 1, 0)?;
-    assert_eq!(rt; matrix.count_ones(2, 0, 65), 2);
-    assert_eq!(rt; matrix.get_sub_row_as_octets(2, 65)?.len(), 5);
+    same!(rt; matrix.count_ones(2, 0, 65), 2);
+    same!(rt; matrix.get_sub_row_as_octets(2, 65)?.len(), 5);
     assert_ones(
         rt,
         &matrix.clone()?,
@@ -66,15 +67,15 @@ fn one_row_of_one_word(rt: HostRuntime) -> Result<(), Fail> {
     matrix.set(0, 0, Octet::one())?;
     matrix.set(0, 63, Octet::one())?;
     let mut ones = matrix.get_row_iter(0, 0, 64);
-    assert_eq!(rt; ones.next(), Some((0, Octet::one())));
-    assert_eq!(rt; ones.clone(rt.alloc())?.count(), 1);
-    assert_eq!(rt; ones.next(), Some((63, Octet::one())));
-    assert_eq!(rt; ones.next(), None);
+    same!(rt; ones.next(), Some((0, Octet::one())));
+    same!(rt; ones.clone(rt.alloc())?.count(), 1);
+    same!(rt; ones.next(), Some((63, Octet::one())));
+    same!(rt; ones.next(), None);
     let mut copy = DenseOctetMatrix::new(rt.alloc(), 1, 64, 0)?;
     copy_row(&matrix, 0, 64, &mut copy);
-    assert_eq!(rt; copy.get(0, 63), Octet::one());
-    assert_eq!(rt; copy.get(0, 62), Octet::zero());
-    assert_eq!(rt; DenseBinaryMatrix::select_mask(3), 8);
+    same!(rt; copy.get(0, 63), Octet::one());
+    same!(rt; copy.get(0, 62), Octet::zero());
+    same!(rt; DenseBinaryMatrix::select_mask(3), 8);
     Ok(())
 }
 
@@ -102,10 +103,10 @@ fn replaced_lists<T: BinaryMatrix>(rt: &impl Abort, alloc: Global) -> Result<(),
     matrix.enable_column_access_acceleration()?;
     let mut rows = vec![in alloc; 7]?;
     matrix.get_ones_in_column_into(0, 0, 2, &mut rows)?;
-    assert_eq!(rt; rows.as_slice(), [1].as_slice());
+    same!(rt; rows.as_slice(), [1].as_slice());
     let mut columns = vec![in alloc; 7]?;
     matrix.query_non_zero_columns_into(0, 2, &mut columns)?;
-    assert_eq!(rt; columns.as_slice(), [2].as_slice());
+    same!(rt; columns.as_slice(), [2].as_slice());
     Ok(())
 }
 
@@ -116,16 +117,13 @@ fn inactive_column<T: BinaryMatrix>(rt: &impl Abort, alloc: Global) -> Result<()
     matrix.set(1, 1, Octet::one())?;
     matrix.enable_column_access_acceleration()?;
     matrix.hint_column_dense_and_frozen(2)?;
-    assert_eq!(rt;
-        matrix.query_non_zero_columns(0, 2)?.as_slice(),
-        [2].as_slice()
-    );
+    same!(rt; matrix.query_non_zero_columns(0, 2)?.as_slice(), [2].as_slice());
     matrix.disable_column_access_acceleration();
     assert_ones(rt, &matrix, &[(0, 2), (1, 1)]);
     let mut other = T::new(alloc, 2, 3, 0)?;
     other.resize(2, 0)?;
-    assert_eq!(rt; other.height(), 2);
-    assert_eq!(rt; other.width(), 0);
+    same!(rt; other.height(), 2);
+    same!(rt; other.width(), 0);
     Ok(())
 }
 
@@ -138,8 +136,8 @@ fn added_columns<T: BinaryMatrix>(rt: &impl Abort, alloc: Global) -> Result<(), 
     matrix.enable_column_access_acceleration()?;
     matrix.hint_column_dense_and_frozen(2)?;
     matrix.add_assign_rows(1, 0, 2)?;
-    assert_eq!(rt; matrix.get(1, 2), Octet::zero());
-    assert_eq!(rt; matrix.get(1, 3), Octet::one());
+    same!(rt; matrix.get(1, 2), Octet::zero());
+    same!(rt; matrix.get(1, 3), Octet::one());
     Ok(())
 }
 
@@ -147,13 +145,10 @@ fn indexed_columns<T: BinaryMatrix>(rt: &impl Abort, alloc: Global) -> Result<()
     let mut wide = T::new(alloc, 1, 5, 0)?;
     wide.set(0, 4, Octet::one())?;
     wide.enable_column_access_acceleration()?;
-    assert_eq!(rt;
-        wide.get_ones_in_column(4, 0, 1)?.as_slice(),
-        [0].as_slice()
-    );
+    same!(rt; wide.get_ones_in_column(4, 0, 1)?.as_slice(), [0].as_slice());
     let mut zeros = T::new(alloc, 2, 3, 0)?;
     zeros.enable_column_access_acceleration()?;
-    assert_eq!(rt; zeros.get_ones_in_column(0, 0, 2)?.len(), 0);
+    same!(rt; zeros.get_ones_in_column(0, 0, 2)?.len(), 0);
     Ok(())
 }
 
@@ -166,44 +161,56 @@ fn another_word<T: BinaryMatrix>(rt: &impl Abort, alloc: Global) -> Result<(), E
     matrix.enable_column_access_acceleration()?;
     matrix.hint_column_dense_and_frozen(65)?;
     matrix.hint_column_dense_and_frozen(64)?;
-    assert_eq!(rt;
-        matrix.query_non_zero_columns(1, 64)?.as_slice(),
-        [64].as_slice()
-    );
+    same!(rt; matrix.query_non_zero_columns(1, 64)?.as_slice(), [64].as_slice());
     assert_ones(rt, &matrix, &[(0, 63), (1, 64), (2, 129)]);
     Ok(())
 }
 
-#[test]
-fn octet_matrix_rows(rt: HostRuntime) -> Result<(), Fail> {
-    let mut matrix = DenseOctetMatrix::new(rt.alloc(), 2, 3, 0)?;
-    assert_eq!(rt; matrix.height(), 2);
-    assert_eq!(rt; matrix.width(), 3);
-    let bits = BinaryOctetVec::new(vec![in rt.alloc(); 1 << 61]?, 3);
+// The rows 29 0 29 and 0 0 29: the second is twice 128, and added to 29 times one bit.
+fn summed_rows(alloc: Global) -> Result<DenseOctetMatrix, Error> {
+    let mut matrix = DenseOctetMatrix::new(alloc, 2, 3, 0)?;
+    let bits = BinaryOctetVec::new(vec![in alloc; 1 << 61]?, 3);
     matrix.fma_sub_row(0, 0, &Octet::new(29), &bits);
     matrix.set(1, 2, Octet::new(128));
     matrix.mul_assign_row(1, &Octet::new(2));
     matrix.fma_rows(0, 1, &Octet::one());
-    assert_eq!(rt; matrix.get(0, 0), Octet::new(29));
-    assert_eq!(rt; matrix.get(0, 2), Octet::new(29));
+    Ok(matrix)
+}
+
+#[test]
+fn octet_matrix_rows(rt: HostRuntime) -> Result<(), Fail> {
+    let matrix = summed_rows(rt.alloc())?;
+    assert_eq!(rt; matrix.height(), 2);
+    assert_eq!(rt; matrix.width(), 3);
+    same!(rt; matrix.get(0, 0), Octet::new(29));
+    same!(rt; matrix.get(0, 2), Octet::new(29));
+    Ok(())
+}
+
+#[test]
+fn exchanges_in_an_octet_matrix(rt: HostRuntime) -> Result<(), Fail> {
+    let matrix = summed_rows(rt.alloc())?;
+    assert_eq!(rt; matrix.height(), 2);
+    assert_eq!(rt; matrix.width(), 3);
     let mut exchanged = matrix.clone()?;
     exchanged.swap_rows(0, 1);
     exchanged.swap_columns(0, 1, 1);
-    assert_eq!(rt; exchanged.get(1, 1), Octet::new(29));
-    assert_eq!(rt; exchanged.get(0, 2), Octet::new(29));
-    assert_eq!(rt; matrix.get(0, 1), Octet::zero());
+    assert_eq!(rt; exchanged.height(), 2);
+    same!(rt; exchanged.get(1, 1), Octet::new(29));
+    same!(rt; exchanged.get(0, 2), Octet::new(29));
+    same!(rt; matrix.get(0, 1), Octet::zero());
     Ok(())
 }
 
 #[test]
 fn columns_with_their_bits(rt: HostRuntime) -> Result<(), Fail> {
     let mut columns = OctetIter::new_dense_binary(5, 9, 62, &[1 << 63, 2]);
-    assert_eq!(rt; columns.next(), Some((5, Octet::zero())));
-    assert_eq!(rt; columns.next(), Some((6, Octet::one())));
+    same!(rt; columns.next(), Some((5, Octet::zero())));
+    same!(rt; columns.next(), Some((6, Octet::one())));
     let mut copy = columns.clone(rt.alloc())?;
-    assert_eq!(rt; columns.next(), Some((7, Octet::zero())));
-    assert_eq!(rt; copy.next(), Some((7, Octet::zero())));
-    assert_eq!(rt; copy.next(), Some((8, Octet::one())));
-    assert_eq!(rt; copy.next(), None);
+    same!(rt; columns.next(), Some((7, Octet::zero())));
+    same!(rt; copy.next(), Some((7, Octet::zero())));
+    same!(rt; copy.next(), Some((8, Octet::one())));
+    same!(rt; copy.next(), None);
     Ok(())
 }

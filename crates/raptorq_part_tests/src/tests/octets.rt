@@ -1,6 +1,7 @@
 //! Octets, their tables, and the kernels on rows of them.
 ghost use Rattle.std.specs.Prelude.{◌≡◌, ◌+◌, ◌/◌, length, IfOk, vec_len};
 
+use crate::compare::{holds, same};
 use raptorq::octet::{Octet, octet_mul_hi_bits, octet_mul_low_bits, octet_mul_table};
 use raptorq::octets::{
     BinaryOctetVec, add_assign, fused_addassign_mul_scalar, fused_addassign_mul_scalar_binary,
@@ -12,73 +13,73 @@ use std::test::Fail;
 
 #[test]
 fn octets_are_a_field(rt: HostRuntime) {
-    assert_eq!(rt; &Octet::new(2) * &Octet::new(128), Octet::new(29));
-    assert_eq!(rt; &Octet::one() / &Octet::new(2), Octet::new(142));
-    assert_eq!(rt; Octet::new(2) * Octet::new(128), Octet::new(29));
-    assert_eq!(rt; Octet::one() / Octet::new(2), Octet::new(142));
-    assert_eq!(rt; Octet::new(5) + Octet::new(3), Octet::new(6));
-    assert_eq!(rt; Octet::new(5) - Octet::new(3), Octet::new(6));
-    assert_eq!(rt; &Octet::new(5) + &Octet::new(3), Octet::new(6));
-    assert_eq!(rt; Octet::alpha(8), Octet::new(29));
-    assert_eq!(rt; Octet::alpha(255), Octet::one());
-    assert!(rt; Octet::zero() < Octet::one());
+    same!(rt; &Octet::new(2) * &Octet::new(128), Octet::new(29));
+    same!(rt; &Octet::one() / &Octet::new(2), Octet::new(142));
+    same!(rt; Octet::new(2) * Octet::new(128), Octet::new(29));
+    same!(rt; Octet::one() / Octet::new(2), Octet::new(142));
+    same!(rt; Octet::new(5) + Octet::new(3), Octet::new(6));
+    same!(rt; Octet::new(5) - Octet::new(3), Octet::new(6));
+    same!(rt; &Octet::new(5) + &Octet::new(3), Octet::new(6));
+    same!(rt; Octet::alpha(8), Octet::new(29));
+    same!(rt; Octet::alpha(255), Octet::one());
+    holds!(rt; Octet::zero() < Octet::one());
     let mut sum = Octet::new(5);
     sum += Octet::new(3);
     sum += &Octet::new(1);
-    assert_eq!(rt; sum.byte(), 7);
+    same!(rt; sum.byte(), 7);
     sum.fma(&Octet::new(2), &Octet::new(128));
-    assert_eq!(rt; sum.byte(), 26);
+    same!(rt; sum.byte(), 26);
 }
 
 #[test]
 fn tables_hold_products(rt: HostRuntime) {
     let mut all = [[0; 256]; 256];
     octet_mul_table(&mut all);
-    assert_eq!(rt; all[2][128], 29);
-    assert_eq!(rt; all[255][0], 0);
+    same!(rt; all[2][128], 29);
+    same!(rt; all[255][0], 0);
     let mut high = [[0; 32]; 256];
     octet_mul_hi_bits(&mut high);
-    assert_eq!(rt; high[2][24], 29);
+    same!(rt; high[2][24], 29);
     let mut low = [[0; 32]; 256];
     octet_mul_low_bits(&mut low);
-    assert_eq!(rt; low[2][24], 16);
+    same!(rt; low[2][24], 16);
 }
 
 #[test]
 fn rows_of_one_value(rt: HostRuntime) {
     let mut scaled = [128; 41];
     mulassign_scalar(&mut scaled, &Octet::new(2));
-    assert_eq!(rt; scaled.as_slice(), [29; 41].as_slice());
+    same!(rt; scaled.as_slice(), [29; 41].as_slice());
     let mut sum = [1; 67];
     fused_addassign_mul_scalar(&mut sum, &[2; 67], &Octet::new(3));
-    assert_eq!(rt; sum.as_slice(), [7; 67].as_slice());
+    same!(rt; sum.as_slice(), [7; 67].as_slice());
     add_assign(&mut sum, &[5; 67]);
-    assert_eq!(rt; sum.as_slice(), [2; 67].as_slice());
+    same!(rt; sum.as_slice(), [2; 67].as_slice());
 }
 
 #[test]
 fn packed_rows_end_with_their_last_word(rt: HostRuntime) -> Result<(), Fail> {
     let ends = BinaryOctetVec::new([1 << 63, 1 << 63].to_vec(rt.alloc())?, 65);
-    assert_eq!(rt; ends.len(), 65);
-    assert_eq!(rt; ends.padding_bits(), 63);
+    same!(rt; ends.len(), 65);
+    same!(rt; ends.padding_bits(), 63);
     let mut sum = [0; 65];
     fused_addassign_mul_scalar_binary(&mut sum, &ends, &Octet::new(5));
     for i in 0..65usize {
         let expected = if i == 0 || i == 64 { 5 } else { 0 };
-        assert_eq!(rt; sum[i], expected, "at {i}");
+        same!(rt; sum[i], expected, i);
     }
     let before = BinaryOctetVec::new([1 << 62, 0].to_vec(rt.alloc())?, 65);
     fused_addassign_mul_scalar_binary(&mut sum, &before, &Octet::new(5));
     for i in 0..65usize {
         let expected = if i == 0 || i == 64 { 5 } else { 0 };
-        assert_eq!(rt; sum[i], expected, "at {i}");
+        same!(rt; sum[i], expected, i);
     }
     let first = BinaryOctetVec::new([1 << 61].to_vec(rt.alloc())?, 3);
-    assert_eq!(rt; first.padding_bits(), 61);
+    same!(rt; first.padding_bits(), 61);
     let mut few = [0; 3];
     fused_addassign_mul_scalar_binary(&mut few, &first, &Octet::new(29));
-    assert_eq!(rt; few.as_slice(), [29, 0, 0].as_slice());
-    assert_eq!(rt; BinaryOctetVec::select_mask(5), 32);
+    same!(rt; few.as_slice(), [29, 0, 0].as_slice());
+    same!(rt; BinaryOctetVec::select_mask(5), 32);
     Ok(())
 }
 
@@ -106,9 +107,9 @@ fn rows_agree(rt: &impl Abort, alloc: Global, length: usize, scalar: u8) -> Resu
     for i in 0..length {
         let x = Octet::new(octets[i]);
         let y = Octet::new(other[i]);
-        assert_eq!(rt; added[i], (&x + &y).byte());
-        assert_eq!(rt; scaled[i], (&scalar * &x).byte());
-        assert_eq!(rt; fused[i], (&x + &(&scalar * &y)).byte());
+        same!(rt; added[i], (&x + &y).byte());
+        same!(rt; scaled[i], (&scalar * &x).byte());
+        same!(rt; fused[i], (&x + &(&scalar * &y)).byte());
     }
     Ok(())
 }
@@ -127,7 +128,7 @@ fn packed_rows_agree(
     for i in 0..length {
         let set = (bits.padding_bits() + i) % 64 % 3 == 0;
         let expected = if set { octets[i] ^ scalar } else { octets[i] };
-        assert_eq!(rt; fused[i], expected, "at {i} of {length}");
+        same!(rt; fused[i], expected, (i, length));
     }
     Ok(())
 }

@@ -1,4 +1,5 @@
 //! Worked examples of packets, configurations and refusals.
+use crate::compare::{holds, same};
 use raptorq::error::Error;
 use raptorq::systematic_constants::SystematicTable;
 use raptorq::{EncodingPacket, ObjectTransmissionInformation, PayloadId};
@@ -8,26 +9,26 @@ use std::test::Fail;
 fn headers(rt: HostRuntime) -> Result<(), Fail> {
     let information = ObjectTransmissionInformation::new(120, 10, 10, 1, 2)?;
     let bytes = information.serialize();
-    assert!(rt; bytes == [0, 0, 0, 0, 120, 0, 0, 10, 10, 0, 1, 2]);
-    assert!(rt; ObjectTransmissionInformation::deserialize(&bytes) == information);
+    holds!(rt; bytes == [0, 0, 0, 0, 120, 0, 0, 10, 10, 0, 1, 2]);
+    holds!(rt; ObjectTransmissionInformation::deserialize(&bytes) == information);
     let id = PayloadId::new(1, 66051)?;
-    assert!(rt; id.clone()?.serialize() == [1, 1, 2, 3]);
-    assert!(rt; PayloadId::deserialize(&[1, 1, 2, 3]) == id);
-    assert!(rt; PayloadId::new(0, 16777216) == Err(Error::EsiTooLarge));
+    holds!(rt; id.clone()?.serialize() == [1, 1, 2, 3]);
+    holds!(rt; PayloadId::deserialize(&[1, 1, 2, 3]) == id);
+    holds!(rt; PayloadId::new(0, 16777216) == Err(Error::EsiTooLarge));
     Ok(())
 }
 
 #[test]
 fn limits(rt: HostRuntime) -> Result<(), Fail> {
     let greatest = ObjectTransmissionInformation::new(942574504275, 65535, 255, 1, 1)?;
-    assert_eq!(rt; greatest.transfer_length(), 942574504275);
+    same!(rt; greatest.transfer_length(), 942574504275);
     let longer = ObjectTransmissionInformation::new(942574504276, 65535, 255, 1, 1);
-    assert!(rt; longer == Err(Error::TransferTooLong));
+    holds!(rt; longer == Err(Error::TransferTooLong));
     let wide = ObjectTransmissionInformation::new(4294967296, 1, 1, 1, 1);
-    assert!(rt; wide == Err(Error::TooManySymbols));
+    holds!(rt; wide == Err(Error::TooManySymbols));
     let table = SystematicTable::built_in(rt.alloc())?;
     let over = ObjectTransmissionInformation::new(498, 1, 1, 1, 1)?;
-    assert!(rt; over.check(&table) == Err(Error::BlockOverTable));
+    holds!(rt; over.check(&table) == Err(Error::BlockOverTable));
     Ok(())
 }
 
@@ -35,19 +36,19 @@ fn limits(rt: HostRuntime) -> Result<(), Fail> {
 fn short_packets(rt: HostRuntime) -> Result<(), Fail> {
     for short in [&[], [1, 1, 2].as_slice()] {
         let refused = EncodingPacket::deserialize(rt.alloc(), short);
-        assert!(rt; refused == Err(Error::PacketTooShort), "{short:?}");
+        holds!(rt; refused == Err(Error::PacketTooShort), short);
     }
     let bare = EncodingPacket::deserialize(rt.alloc(), &[1, 1, 2, 3])?;
-    assert!(rt; *bare.payload_id() == PayloadId::new(1, 66051)?);
-    assert!(rt; bare.data().is_empty());
+    holds!(rt; *bare.payload_id() == PayloadId::new(1, 66051)?);
+    holds!(rt; bare.data().is_empty());
     Ok(())
 }
 
 #[test]
 fn names(rt: HostRuntime) -> Result<(), Fail> {
     let row = Error::RowRefused { place: 3, check: 2 };
-    assert_eq!(rt; row.to_string(rt.alloc())?.as_str(), "RowRefused");
-    assert_eq!(rt; Error::Singular.to_string(rt.alloc())?.as_str(), "Singular");
-    assert_eq!(rt; row.code(), 19);
+    same!(rt; row.to_string(rt.alloc())?.as_str(), "RowRefused");
+    same!(rt; Error::Singular.to_string(rt.alloc())?.as_str(), "Singular");
+    same!(rt; row.code(), 19);
     Ok(())
 }

@@ -1,4 +1,5 @@
 //! Default parameters of objects.
+use crate::compare::same;
 use raptorq::ObjectTransmissionInformation;
 use raptorq::error::Error;
 use raptorq::systematic_constants::SystematicTable;
@@ -35,7 +36,7 @@ fn parameters(rt: HostRuntime) -> Result<(), Fail> {
         let made = ObjectTransmissionInformation::generate_encoding_parameters(
             &table, length, size, memory,
         );
-        assert_eq!(rt; cut(made), wanted);
+        same!(rt; cut(made), wanted);
     }
     Ok(())
 }
@@ -54,10 +55,7 @@ fn defaults(rt: HostRuntime) -> Result<(), Fail> {
         ((0, 1), Err(Error::TransferLengthZero)),
     ];
     for ((length, size), wanted) in cases {
-        assert_eq!(rt;
-            cut(ObjectTransmissionInformation::with_defaults(&table, length, size)),
-            wanted
-        );
+        same!(rt; cut(ObjectTransmissionInformation::with_defaults(&table, length, size)), wanted);
     }
     Ok(())
 }

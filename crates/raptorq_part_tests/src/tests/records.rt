@@ -1,4 +1,5 @@
 //! The texts of records.
+use crate::compare::{holds, same};
 use raptorq::base::{
     EncodingPacket, EncodingPacketRecord, ObjectTransmissionInformation,
     ObjectTransmissionInformationRecord, PayloadId, PayloadIdRecord,
@@ -11,15 +12,12 @@ fn payload_ids(rt: HostRuntime) -> Result<(), Fail> {
     let alloc = rt.alloc();
     let id = PayloadId::new(1, 66051)?;
     let text = serde_json::to_string(alloc, &PayloadIdRecord::from_value(&id))?;
-    assert_eq!(rt;
-        text.as_str(),
-        "{\"source_block_number\":1,\"encoding_symbol_id\":66051}"
-    );
+    same!(rt; text.as_str(), "{\"source_block_number\":1,\"encoding_symbol_id\":66051}");
     let record: PayloadIdRecord = serde_json::from_str(alloc, text.as_str())?;
-    assert!(rt; record.into_value() == Ok(id));
+    holds!(rt; record.into_value() == Ok(id));
     let text = "{\"source_block_number\":0,\"encoding_symbol_id\":16777216}";
     let record: PayloadIdRecord = serde_json::from_str(alloc, text)?;
-    assert!(rt; record.into_value() == Err(Error::EsiTooLarge));
+    holds!(rt; record.into_value() == Err(Error::EsiTooLarge));
     Ok(())
 }
 
@@ -29,13 +27,13 @@ fn packets(rt: HostRuntime) -> Result<(), Fail> {
     let packet = EncodingPacket::new(PayloadId::new(1, 66051)?, vec![in alloc; 7, 8]?);
     let record = EncodingPacketRecord::from_value(alloc, &packet)?;
     let text = serde_json::to_string(alloc, &record)?;
-    assert_eq!(rt;
+    same!(rt;
         text.as_str(),
         "{\"payload_id\":{\"source_block_number\":1,\"encoding_symbol_id\":66051},\"data\":[7,8]}"
     );
     let read: EncodingPacketRecord = serde_json::from_str(alloc, text.as_str())?;
     let value = read.into_value()?;
-    assert_eq!(rt; value.data(), [7, 8].as_slice());
+    same!(rt; value.data(), [7, 8].as_slice());
     Ok(())
 }
 
@@ -45,11 +43,11 @@ fn configurations(rt: HostRuntime) -> Result<(), Fail> {
     let configuration = ObjectTransmissionInformation::new(120, 10, 10, 1, 2)?;
     let record = ObjectTransmissionInformationRecord::from_value(&configuration);
     let text = serde_json::to_string(alloc, &record)?;
-    assert_eq!(rt;
+    same!(rt;
         text.as_str(),
         "{\"transfer_length\":120,\"symbol_size\":10,\"num_source_blocks\":10,\"num_sub_blocks\":1,\"symbol_alignment\":2}"
     );
     let read: ObjectTransmissionInformationRecord = serde_json::from_str(alloc, text.as_str())?;
-    assert!(rt; read.into_value() == Ok(configuration));
+    holds!(rt; read.into_value() == Ok(configuration));
     Ok(())
 }

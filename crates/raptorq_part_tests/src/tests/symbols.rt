@@ -1,6 +1,7 @@
 //! Symbols, slabs of them, operations on them, and the helpers of `util` and `gf2`.
 ghost use Rattle.std.specs.Prelude.{◌≡◌, None, length, IfOk};
 
+use crate::compare::{holds, same};
 use raptorq::error::Error;
 use raptorq::gf2::add_assign_binary;
 use raptorq::octet::Octet;
@@ -16,35 +17,35 @@ use std::test::Fail;
 fn words_and_lists(rt: HostRuntime) {
     let mut words = [0b1100, 7];
     add_assign_binary(&mut words, &[0b1010, 1, 9]);
-    assert_eq!(rt; words.as_slice(), [0b0110, 6].as_slice());
+    same!(rt; words.as_slice(), [0b0110, 6].as_slice());
     let mut list = [1, 2, 3, 4, 5];
     let (later, first) = get_both_indices(&mut list, 3, 0);
     *later = 7;
     *first = 8;
-    assert_eq!(rt; list.as_slice(), [8, 2, 3, 7, 5].as_slice());
+    same!(rt; list.as_slice(), [8, 2, 3, 7, 5].as_slice());
     let (back, front) = get_both_ranges(&mut list, 3, 0, 2);
     back.copy_from_slice(&[6, 6]);
     front.copy_from_slice(&[9, 9]);
-    assert_eq!(rt; list.as_slice(), [9, 9, 3, 6, 6].as_slice());
-    assert_eq!(rt; int_div_ceil(10, 5), 2);
-    assert_eq!(rt; int_div_ceil(11, 5), 3);
+    same!(rt; list.as_slice(), [9, 9, 3, 6, 6].as_slice());
+    same!(rt; int_div_ceil(10, 5), 2);
+    same!(rt; int_div_ceil(11, 5), 3);
 }
 
 #[test]
 fn symbols_are_rows(rt: HostRuntime) -> Result<(), Fail> {
     let mut symbol = Symbol::new([1, 2].to_vec(rt.alloc())?);
-    assert_eq!(rt; symbol.len(), 2);
-    assert!(rt; !symbol.is_empty());
+    same!(rt; symbol.len(), 2);
+    holds!(rt; !symbol.is_empty());
     let other = symbol.clone()?;
-    assert_eq!(rt; other, symbol);
+    same!(rt; &other, &symbol);
     symbol.mulassign_scalar(&Octet::new(2));
-    assert_eq!(rt; symbol.as_bytes(), [2, 4].as_slice());
+    same!(rt; symbol.as_bytes(), [2, 4].as_slice());
     symbol += &other;
     symbol.fused_addassign_mul_scalar(&other, &Octet::new(4));
-    assert_eq!(rt; symbol.as_bytes(), [7, 14].as_slice());
-    assert!(rt; other < symbol);
+    same!(rt; symbol.as_bytes(), [7, 14].as_slice());
+    holds!(rt; other < symbol);
     let bytes = Symbol::zero(rt.alloc(), 3)?.into_bytes();
-    assert_eq!(rt; bytes.as_slice(), [0, 0, 0].as_slice());
+    same!(rt; bytes.as_slice(), [0, 0, 0].as_slice());
     Ok(())
 }
 
@@ -61,7 +62,7 @@ fn assert_symbols(rt: &impl Abort, slab: SymbolSlab, expected: &[u8]) -> Result<
     let symbols = slab.into_symbols()?;
     assert_eq!(rt; symbols.len(), expected.len());
     for i in 0..symbols.len() {
-        assert_eq!(rt; symbols[i].as_bytes(), [expected[i]].as_slice(), "at {i}");
+        same!(rt; symbols[i].as_bytes(), [expected[i]].as_slice(), i);
     }
     Ok(())
 }
@@ -70,13 +71,13 @@ fn assert_symbols(rt: &impl Abort, slab: SymbolSlab, expected: &[u8]) -> Result<
 #[tactic(auto, unfolding(rq_algebra::specs::Operations::step))]
 fn an_order_moves_no_symbol(rt: HostRuntime) -> Result<(), Error> {
     let mut slab = three(rt.alloc())?;
-    assert_eq!(rt; slab.get(1), [1].as_slice());
+    same!(rt; slab.get(1), [1].as_slice());
     slab.set_reorder([2, 0, 1].to_vec(rt.alloc())?);
-    assert_eq!(rt; slab.len(), 3);
-    assert_eq!(rt; slab.symbol_size(), 1);
-    assert_eq!(rt; slab.get(0), [2].as_slice());
-    assert_eq!(rt; slab.get(1), [0].as_slice());
-    assert_eq!(rt; slab.get(2), [1].as_slice());
+    same!(rt; slab.len(), 3);
+    same!(rt; slab.symbol_size(), 1);
+    same!(rt; slab.get(0), [2].as_slice());
+    same!(rt; slab.get(1), [0].as_slice());
+    same!(rt; slab.get(2), [1].as_slice());
     slab.set_reorder([1, 2].to_vec(rt.alloc())?);
     assert_symbols(&rt, slab, &[1, 2])
 }
@@ -87,7 +88,7 @@ fn a_multiple_is_added(rt: HostRuntime) -> Result<(), Error> {
     let mut slab = SymbolSlab::with_zeros(rt.alloc(), 2, 1)?;
     slab.copy_block_from(0, &[1, 2]);
     slab.fma(0, 1, &Octet::new(3));
-    assert_eq!(rt; slab.get(0), [7].as_slice());
+    same!(rt; slab.get(0), [7].as_slice());
     slab.add_all(1, &[0]);
     assert_symbols(&rt, slab, &[7, 5])
 }

@@ -1,4 +1,5 @@
 //! Tables: their sizes and look-ups, rows that are refused, and what a further row allows.
+use crate::compare::{holds, same};
 use raptorq::error::Error;
 use raptorq::systematic_constants::{SystematicTable, extended_source_block_symbols};
 use raptorq::{Decoder, Encoder, ObjectTransmissionInformation};
@@ -12,15 +13,12 @@ fn greatest_with(alloc: Global, rows: &[(u32, u32, u32, u32, u32)]) -> Result<u3
 
 #[test]
 fn sizes_of_blocks(rt: HostRuntime) {
-    assert_eq!(rt; extended_source_block_symbols(0), Ok(10));
-    assert_eq!(rt; extended_source_block_symbols(10), Ok(10));
-    assert_eq!(rt; extended_source_block_symbols(11), Ok(12));
-    assert_eq!(rt; extended_source_block_symbols(498), Ok(511));
-    assert_eq!(rt; extended_source_block_symbols(56403), Ok(56403));
-    assert_eq!(rt;
-        extended_source_block_symbols(56404),
-        Err(Error::TooManySymbols)
-    );
+    same!(rt; extended_source_block_symbols(0), Ok(10));
+    same!(rt; extended_source_block_symbols(10), Ok(10));
+    same!(rt; extended_source_block_symbols(11), Ok(12));
+    same!(rt; extended_source_block_symbols(498), Ok(511));
+    same!(rt; extended_source_block_symbols(56403), Ok(56403));
+    same!(rt; extended_source_block_symbols(56404), Err(Error::TooManySymbols));
 }
 
 #[test]
@@ -37,25 +35,19 @@ fn rows_refused(rt: HostRuntime) {
         ((526, 923, 41, 10, 541), 1),
     ];
     for (row, check) in cases {
-        assert_eq!(rt;
-            greatest_with(rt.alloc(), &[row]),
-            Err(Error::RowRefused { place: 0, check })
-        );
+        same!(rt; greatest_with(rt.alloc(), &[row]), Err(Error::RowRefused { place: 0, check }));
     }
 }
 
 #[test]
 fn rows_accepted(rt: HostRuntime) {
     let alloc = rt.alloc();
-    assert_eq!(rt; greatest_with(alloc, &[]), Ok(497));
-    assert_eq!(rt; greatest_with(alloc, &[(511, 800, 37, 10, 539)]), Ok(511));
-    assert_eq!(rt; greatest_with(alloc, &[(511, 1000, 37, 10, 523)]), Ok(511));
+    same!(rt; greatest_with(alloc, &[]), Ok(497));
+    same!(rt; greatest_with(alloc, &[(511, 800, 37, 10, 539)]), Ok(511));
+    same!(rt; greatest_with(alloc, &[(511, 1000, 37, 10, 523)]), Ok(511));
     let first = (511, 800, 37, 10, 523);
-    assert_eq!(rt;
-        greatest_with(alloc, &[first, (526, 923, 41, 10, 541)]),
-        Ok(526)
-    );
-    assert_eq!(rt;
+    same!(rt; greatest_with(alloc, &[first, (526, 923, 41, 10, 541)]), Ok(526));
+    same!(rt;
         greatest_with(alloc, &[first, (526, 923, 40, 10, 541)]),
         Err(Error::RowRefused { place: 1, check: 2 })
     );
@@ -66,14 +58,14 @@ fn look_ups(rt: HostRuntime) -> Result<(), Fail> {
     let table = SystematicTable::built_in(rt.alloc())?.clone()?;
     assert_eq!(rt; table.greatest(), 497);
     let row = table.row(0);
-    assert_eq!(rt; table.systematic_index(10), 254);
-    assert_eq!(rt; table.num_ldpc_symbols(10), 7);
-    assert_eq!(rt; table.num_hdpc_symbols(10), 10);
-    assert_eq!(rt; table.num_lt_symbols(10), 17);
-    assert_eq!(rt; table.num_intermediate_symbols(10), 27);
-    assert_eq!(rt; table.num_pi_symbols(10), 10);
-    assert_eq!(rt; table.calculate_p1(10), 11);
-    assert_eq!(rt; row.extended_symbols, 10);
+    same!(rt; table.systematic_index(10), 254);
+    same!(rt; table.num_ldpc_symbols(10), 7);
+    same!(rt; table.num_hdpc_symbols(10), 10);
+    same!(rt; table.num_lt_symbols(10), 17);
+    same!(rt; table.num_intermediate_symbols(10), 27);
+    same!(rt; table.num_pi_symbols(10), 10);
+    same!(rt; table.calculate_p1(10), 11);
+    same!(rt; row.extended_symbols, 10);
     Ok(())
 }
 
@@ -83,8 +75,8 @@ fn an_object_over_the_table(rt: HostRuntime) -> Result<(), Fail> {
     let alloc = rt.alloc();
     let table = SystematicTable::with_rows(alloc, &[(511, 800, 37, 10, 523)])?;
     let config = ObjectTransmissionInformation::new(498, 1, 1, 1, 1)?;
-    assert!(rt; config.check(&table).is_ok());
-    assert!(rt; config.check(&SystematicTable::built_in(alloc)?) == Err(Error::BlockOverTable));
+    holds!(rt; config.check(&table).is_ok());
+    holds!(rt; config.check(&SystematicTable::built_in(alloc)?) == Err(Error::BlockOverTable));
     let mut object: Vec<u8> = Vec::new(alloc);
     for i in 0..498u32 {
         object.push((i % 251) as u8)?;
@@ -94,6 +86,6 @@ fn an_object_over_the_table(rt: HostRuntime) -> Result<(), Fail> {
     for packet in encoder.get_encoded_packets(0)? {
         decoder.add_new_packet(packet)?;
     }
-    assert!(rt; decoder.get_result()? == Some(object));
+    holds!(rt; decoder.get_result()? == Some(object));
     Ok(())
 }

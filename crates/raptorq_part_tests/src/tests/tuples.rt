@@ -1,4 +1,5 @@
 //! Parts of a division, random numbers, degrees, tuples and the indices of an id.
+use crate::compare::{holds, same};
 use raptorq::base::{deg, intermediate_tuple};
 use raptorq::constraint_matrix::enc_indices;
 use raptorq::partition;
@@ -6,14 +7,14 @@ use raptorq::rng::rand;
 
 #[test]
 fn numbers(rt: HostRuntime) {
-    assert!(rt; partition(12, 10) == (2, 1, 2, 8));
-    assert!(rt; partition(0, 5) == (0, 0, 0, 5));
-    assert_eq!(rt; rand(0, 0, 1048576), 145433);
-    assert_eq!(rt; rand(4294967295, 1, 1048576), 145433);
+    holds!(rt; partition(12, 10) == (2, 1, 2, 8));
+    holds!(rt; partition(0, 5) == (0, 0, 0, 5));
+    same!(rt; rand(0, 0, 1048576), 145433);
+    same!(rt; rand(4294967295, 1, 1048576), 145433);
     for (v, degree) in [(5242, 1), (5243, 2), (1048575, 15)] {
-        assert_eq!(rt; deg(v, 17), degree);
+        same!(rt; deg(v, 17), degree);
     }
-    assert_eq!(rt; intermediate_tuple(0, 17, 254, 11), (2, 4, 9, 2, 5, 1));
+    same!(rt; intermediate_tuple(0, 17, 254, 11), (2, 4, 9, 2, 5, 1));
 }
 
 #[test]
@@ -26,5 +27,5 @@ fn indices_of_the_first_id(rt: HostRuntime) {
         11,
         |index| digits = digits.wrapping_mul(100).wrapping_add(index as u64),
     );
-    assert_eq!(rt; digits, 9131823);
+    same!(rt; digits, 9131823);
 }

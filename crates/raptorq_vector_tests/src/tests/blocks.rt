@@ -1,4 +1,5 @@
 //! The packets and answers of the Rust crate raptorq, for objects of symbols of four bytes.
+use crate::compare::same;
 use crate::tests::block_vectors::{DIGESTS, LISTS};
 use raptorq::error::Error;
 use raptorq::systematic_constants::SystematicTable;
@@ -42,25 +43,25 @@ fn first_difference(alloc: Global, start: usize, end: usize) -> Result<Option<us
 
 #[test]
 fn packets_of_small_blocks(rt: HostRuntime) -> Result<(), Fail> {
-    assert_eq!(rt; first_difference(rt.alloc(), 1, 250)?, None);
+    same!(rt; first_difference(rt.alloc(), 1, 250)?, None);
     Ok(())
 }
 
 #[test]
 fn packets_of_middle_blocks(rt: HostRuntime) -> Result<(), Fail> {
-    assert_eq!(rt; first_difference(rt.alloc(), 250, 350)?, None);
+    same!(rt; first_difference(rt.alloc(), 250, 350)?, None);
     Ok(())
 }
 
 #[test]
 fn packets_of_large_blocks(rt: HostRuntime) -> Result<(), Fail> {
-    assert_eq!(rt; first_difference(rt.alloc(), 350, 430)?, None);
+    same!(rt; first_difference(rt.alloc(), 350, 430)?, None);
     Ok(())
 }
 
 #[test]
 fn packets_of_the_largest_blocks(rt: HostRuntime) -> Result<(), Fail> {
-    assert_eq!(rt; first_difference(rt.alloc(), 430, 498)?, None);
+    same!(rt; first_difference(rt.alloc(), 430, 498)?, None);
     Ok(())
 }
 
@@ -104,7 +105,7 @@ fn answers_to_lists_with_losses(rt: HostRuntime) -> Result<(), Fail> {
     for (symbols, seed, count, wanted) in LISTS {
         let answer = answer_with_losses(rt.alloc(), &table, symbols, seed, count)?;
         let wanted = (count as usize, Some(wanted as usize));
-        assert_eq!(rt; answer, wanted, "{symbols}, {seed}");
+        same!(rt; answer, wanted, (symbols, seed));
     }
     Ok(())
 }

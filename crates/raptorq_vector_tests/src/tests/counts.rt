@@ -3,6 +3,7 @@
 ghost use Rattle.std.specs.Prelude.{◌≤◌};
 ghost use Rattle.rq_standard.specs.TableRows.{greatest_size};
 
+use crate::compare::holds;
 use crate::tests::matrices::first_ids;
 use raptorq::constraint_matrix::generate_constraint_matrix;
 use raptorq::error::Error;
@@ -58,9 +59,10 @@ fn additions_of_small_blocks(rt: HostRuntime) -> Result<(), Fail> {
     for (k, most) in [(10, 1458), (101, 32768)] {
         assert!(rt; k <= table.greatest());
         let mut solver = first_solver(rt.alloc(), &table, k)?;
-        assert!(rt; solver.execute()?.is_some(), "{k}");
+        holds!(rt; solver.execute()?.is_some(), k);
         let additions = solver.get_symbol_add_ops();
-        assert!(rt; additions > 0 && additions <= most, "{k}");
+        holds!(rt; additions > 0, k);
+        holds!(rt; additions <= most, k);
     }
     Ok(())
 }
@@ -77,8 +79,8 @@ fn operations_of_the_greatest_block(rt: HostRuntime) -> Result<(), Fail> {
     let (_symbols, operations) = solver
         .execute()?
         .expect(&rt, "the first ids determine the block");
-    assert!(rt; found.into_operations()? == operations);
-    assert!(rt; solver.get_symbol_add_ops() <= 10_500);
-    assert!(rt; products(operations.as_slice()) <= 520);
+    holds!(rt; found.into_operations()? == operations);
+    holds!(rt; solver.get_symbol_add_ops() <= 10_500);
+    holds!(rt; products(operations.as_slice()) <= 520);
     Ok(())
 }

@@ -5,6 +5,7 @@
 //! the digests here.
 ghost use Rattle.std.specs.Prelude.{◌≤◌};
 
+use crate::compare::same;
 use raptorq::rng::rand;
 use raptorq::systematic_constants::SystematicTable;
 use raptorq_test_kit::digests::mixed;
@@ -38,7 +39,7 @@ fn indices_digest(indices: Indices, digest: u64) -> u64 {
 #[test]
 fn random_numbers(rt: HostRuntime) {
     for (block, wanted) in RAND_DIGESTS.iter().enumerate() {
-        assert_eq!(rt; rand_digest(block as u32 * 100), *wanted);
+        same!(rt; rand_digest(block as u32 * 100), *wanted);
     }
 }
 
@@ -58,7 +59,7 @@ fn indices_of_ids(rt: HostRuntime) -> Result<(), Fail> {
         for n in 0..200 {
             digest = indices_digest(Indices::of_id(&row, id_of(n)), digest);
         }
-        assert_eq!(rt; digest, wanted);
+        same!(rt; digest, wanted);
     }
     Ok(())
 }

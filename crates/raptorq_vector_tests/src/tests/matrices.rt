@@ -6,6 +6,7 @@
 ghost use Rattle.std.specs.Prelude.{◌≡◌, ◌+◌, ◌≤◌, ◌<◌, IfOk, vec_len};
 ghost use Rattle.rq_standard.specs.TableRows.{greatest_size};
 
+use crate::compare::holds;
 use raptorq::constraint_matrix::{generate_constraint_matrix, generate_constraint_matrix_no_hdpc};
 use raptorq::error::Error;
 use raptorq::matrix::{BinaryMatrix, DenseBinaryMatrix};
@@ -74,7 +75,7 @@ fn matrices_of_blocks(rt: HostRuntime) -> Result<(), Fail> {
         assert!(rt; k <= table.greatest());
         let digest = block_digest(rt.alloc(), &table, k)?;
         let size = table.row(k).extended_symbols;
-        assert!(rt; MATRIX_DIGESTS.contains(&(size, digest)), "{k}");
+        holds!(rt; MATRIX_DIGESTS.contains(&(size, digest)), k);
     }
     Ok(())
 }

@@ -1,4 +1,5 @@
 //! The packets and answers of the Rust crate raptorq, for objects of several blocks and sub-blocks.
+use crate::compare::same;
 use crate::tests::object_vectors::{LOSSES, OBJECTS};
 use raptorq::error::Error;
 use raptorq::systematic_constants::SystematicTable;
@@ -43,7 +44,7 @@ fn packets_of_objects(rt: HostRuntime) -> Result<(), Fail> {
     let table = SystematicTable::built_in(alloc)?;
     for (config, wanted) in OBJECTS {
         let packets = packets(alloc, &table, config)?;
-        assert_eq!(rt; digest(packets.as_slice()), wanted, "{config:?}");
+        same!(rt; digest(packets.as_slice()), wanted, config);
     }
     Ok(())
 }
@@ -81,11 +82,11 @@ fn answers_for_objects(rt: HostRuntime) -> Result<(), Fail> {
     for (place, seed, lost, count, wanted) in LOSSES {
         let (config, _) = OBJECTS[place % 60];
         let received = received(alloc, packets(alloc, &table, config)?, seed, lost)?;
-        assert_eq!(rt; received.len(), count, "{config:?}, {seed}");
+        same!(rt; received.len(), count, (config, seed));
         let object = object(alloc, config.0)?;
         let information = information(config)?;
         let answer = answered(alloc, &table, information, object.as_slice(), received)?;
-        assert_eq!(rt; answer, Some(wanted), "{config:?}, {seed}");
+        same!(rt; answer, Some(wanted), (config, seed));
     }
     Ok(())
 }

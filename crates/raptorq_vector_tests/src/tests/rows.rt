@@ -1,11 +1,12 @@
 //! All further rows of RFC 6330.
+use crate::compare::same;
 use raptorq::systematic_constants::SystematicTable;
 use std::test::Fail;
 
 #[test]
 fn further_rows_of_the_standard(rt: HostRuntime) -> Result<(), Fail> {
     let table = SystematicTable::with_rows(rt.alloc(), &FURTHER_ROWS)?;
-    assert_eq!(rt; table.greatest(), 56403);
+    same!(rt; table.greatest(), 56403);
     Ok(())
 }
 
