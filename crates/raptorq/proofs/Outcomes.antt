@@ -25,7 +25,7 @@ use Rattle.rq_standard.specs.IdLists.{HasDeterminedRows}
 use Rattle.rq_base.specs.HdpcPart.{IsHdpcPart}
 use Rattle.rq_solver.specs.Solving.{AreEquations, AreEquationsWithoutHdpc, FindsOperations, solver_of}
 use Rattle.rq_solver.proofs.EquationLaws.{binary_equations, are_equations, finds_equations, homogeneous_of_equations}
-use Rattle.rq_solver.proofs.RowStepLaws.{SameEntries}
+use Rattle.rq_elimination.proofs.RowStepLaws.{SameEntries}
 use Rattle.rq_solver.proofs.SolutionLaws.{order-found, finds_same, is_solution}
 use Rattle.raptorq.specs.BlockSolutions.{FindsFrom, IsBlockSolution, first_equations}
 use Rattle.raptorq.specs.declared.solving.Solution.{Solution}

@@ -12,9 +12,9 @@ use Rattle.rq_standard.specs.TableRows.{intermediate_symbols}
 use Rattle.rq_standard.proofs.Known.{from_list, determined_by}
 use Rattle.rq_base.specs.HdpcPart.{IsHdpcPart}
 use Rattle.rq_parts.specs.DenseOctetMatrix.{OctetTable, entry_of}
-use Rattle.rq_solver.specs.Homogeneous.{ShowsHomogeneous}
+use Rattle.rq_null_vector.specs.Homogeneous.{ShowsHomogeneous}
 use Rattle.rq_solver.proofs.EquationLaws.{equations_same}
-use Rattle.rq_solver.proofs.FreeColumns.{shows_same}
+use Rattle.rq_null_vector.proofs.FreeColumns.{shows_same}
 use Rattle.rq_standard.specs.Held.{IsHomogeneous}
 
 -- the matrices of a list of ids stand for its equations

@@ -2,7 +2,7 @@
 ghost use Rattle.std.specs.Prelude.{◌≡◌, ◌+◌, ◌^◌, ◌<◌, ◌≤◌, IfSome, IfOk, IfErr};
 ghost use Rattle.rq_standard.specs.TableRows.{IsChecked, intermediate_symbols};
 ghost use Rattle.rq_standard.specs.Equations.{equation_count, equations};
-ghost use Rattle.rq_solver.specs.Homogeneous.{ShowsHomogeneous};
+ghost use Rattle.rq_null_vector.specs.Homogeneous.{ShowsHomogeneous};
 ghost use Rattle.raptorq.specs.BlockSolutions.{FindsFrom, FindsListed};
 
 use rq_base::constraint_matrix::{
@@ -12,8 +12,8 @@ use rq_bytes::error::Error;
 use rq_bytes::symbol_slab::SymbolSlab;
 use rq_matrix::matrix::{BinaryMatrix, DenseBinaryMatrix};
 use rq_matrix::sparse_matrix::SparseBinaryMatrix;
+use rq_null_vector::null_vector::null_vector;
 use rq_operations::recorded::RecordedOperations;
-use rq_solver::homogeneous::homogeneous_column;
 use rq_solver::pi_solver::IntermediateSymbolDecoder;
 use rq_standard::row::TableRow;
 use std::alloc::Global;
@@ -150,5 +150,5 @@ fn homogeneous_over<T: BinaryMatrix>(
 {
     let (matrix, hdpc) = generate_constraint_matrix_of_row::<T>(alloc, row, ids)?;
     let boundary = row.lt_symbols as usize;
-    homogeneous_column(alloc, &matrix, boundary, &hdpc, row.ldpc_symbols as usize)
+    null_vector(alloc, &matrix, boundary, &hdpc, row.ldpc_symbols as usize)
 }

@@ -1,111 +1,14 @@
 -- How many additions are recorded at most.
-use Rattle.std.proofs.Common.{add-one, zero-add, ◌≡◌, ◌≢◌, ℕ, zero, suc, ◌+◌, ◌-◌, ◌*◌, ◌<◌, ◌≤◌, ◌==◌, if◌then◌else◌, Bool, List, [], ◌∷◌, ◌++◌, length, take, refl, sym, ap, ◌∙◌, arith, inl, inr}
-use Rattle.std.proofs.lemmas.Bool.{cases_eq, cases_lt, eq-eqb, ne_eqb}
-use Rattle.std.proofs.lemmas.List.Sums.{sum_by-append}
+use Rattle.std.proofs.Common.{add-one, zero-add, ◌≡◌, ◌≢◌, ℕ, zero, suc, ◌+◌, ◌-◌, ◌*◌, ◌<◌, ◌≤◌, ◌==◌, if◌then◌else◌, refl, sym, ap, ◌∙◌, arith, inl, inr}
+use Rattle.std.proofs.lemmas.Bool.{cases_eq, cases_lt}
 use Rattle.std.proofs.Math.Nat.{mul-le-mul_left, mul-le-mul_right}
-use Rattle.std.specs.List.{count_by}
-use Rattle.std.proofs.lemmas.List.{length-take-le, get_or-take}
 use Rattle.rq_algebra.specs.Arrangements.{ArePlaces}
-use Rattle.rq_algebra.specs.Systems.{at, stacked}
+use Rattle.rq_algebra.specs.Systems.{stacked}
 use Rattle.rq_algebra.proofs.Stacks.{stacked_above, stacked_below}
-use Rattle.rq_algebra.specs.Operations.{Operation, AddAssign, MulAssign, Fma, Reorder}
-use Rattle.rq_solver.specs.OperationCounts.{additions, beyond_one, is_addition, is_multiplication, multiples, multiples-none, multiples-more, triangle, triangle-none, triangle-more}
-use Rattle.rq_solver.specs.OctetBatch.{batch_bound}
-use Rattle.rq_solver.specs.PhaseCounts.{AreCountsOf}
-use Rattle.rq_solver.specs.declared.pi_solver.counts.OperationCounts.{OperationCounts}
-use Rattle.rq_solver.specs.Recorded.{sum_step}
-use Rattle.rq_solver.proofs.PivotTurns.{AreColumnsOfRow, if_same, if_apart, count_next, count_taken}
-
--- ---- one more operation
-
-additions-push : (operations : List Operation) (operation : Operation) → additions (operations ++ operation ∷ []) ≡ additions operations + additions (operation ∷ [])
-additions-push operations operation = sum_by-append (λ (o : Operation). if is_addition o then 1 else 0) operations (operation ∷ [])
-
-pub additions-sum : (operations : List Operation) (dest src scalar : ℕ) → additions (operations ++ sum_step dest src scalar ∷ []) ≡ additions operations + 1
-additions-sum operations dest src scalar = additions-push operations (sum_step dest src scalar) ∙ ap (λ (n : ℕ). additions operations + n) (elim (cases_eq scalar 1) [
-  | inl e ↦ ap (λ (b : Bool). additions ((if b then AddAssign dest src else Fma dest src scalar) ∷ [])) (eq-eqb scalar 1 e)
-  | inr d ↦ ap (λ (b : Bool). additions ((if b then AddAssign dest src else Fma dest src scalar) ∷ [])) (ne_eqb scalar 1 d)
-])
-
-pub additions-scaling : (operations : List Operation) (dest scalar : ℕ) → additions (operations ++ MulAssign dest scalar ∷ []) ≡ additions operations
-additions-scaling operations dest scalar = additions-push operations (MulAssign dest scalar) ∙ omega arith
-
--- an order counts as none of them
-pub order_counted : (counts : OperationCounts) (operations : List Operation) (order : List ℕ) → AreCountsOf counts operations → AreCountsOf counts (operations ++ Reorder order ∷ [])
-order_counted counts operations order are =
-    let none = additions-push operations (Reorder order) in
-    let neither = sum_by-append (λ (o : Operation). if is_multiplication o then 1 else 0) operations (Reorder order ∷ []) in
-    record {
-      additions_are = omega (arith, none, are.additions_are);
-      multiplications_are = omega (arith, neither, are.multiplications_are);
-    }
-
--- a number that stands at two places of a list is counted twice
-pub twice_counted : (xs : List ℕ) (q t : ℕ) → q < t → t < length xs → at xs q ≡ at xs t → count_by (λ x. x == at xs t) xs ≤ 1 → ⊥
-twice_counted xs q t early l e once =
-    let k = at xs t in
-    let here = count_next xs t k l refl in
-    let before = count_next (take t xs) q k (omega (arith, length-take-le t xs (omega arith))) (get_or-take t xs q 0 early ∙ e) in
-    let some = count_taken (take t xs) (q + 1) k in
-    let all = count_taken xs (t + 1) k in
-    omega (arith, here, before, some, all, once)
-
--- ---- different places below a bound are at most as many as the bound
-
-module _ (n b : ℕ) (places : ℕ → ℕ) (are : ArePlaces (suc n) (suc b) places) where
-  -- the last place stands where the greatest stood
-  pub moved : ℕ → ℕ
-  moved i = if places i == b then places n else places i
-
-  moved_here : (i : ℕ) → places i ≡ b → moved i ≡ places n
-  unfolding moved
-  moved_here i e = if_same (places i) b (places n) (places i) e
-
-  moved_other : (i : ℕ) → places i ≢ b → moved i ≡ places i
-  unfolding moved
-  moved_other i d = if_apart (places i) b (places n) (places i) d
-
-  last_apart : (i : ℕ) → i < n → places i ≢ places n
-  last_apart i l e = let z : i ≡ n = are.apart i n (omega arith) (omega arith) e in omega (arith, z, l)
-
-  pub moved_are : ArePlaces n b moved
-  moved_are = record {
-    below = λ i l.
-        let first = are.below i (omega arith) in
-        let last = are.below n (omega arith) in
-        elim (cases_eq (places i) b) [
-          | inl e ↦ let other : places n ≢ b = (λ f. last_apart i l (e ∙ sym f)) in rw (moved_here i e) (omega arith)
-          | inr d ↦ rw (moved_other i d) (omega arith)
-        ];
-    apart = λ i j l m same. elim (cases_eq (places i) b) [
-      | inl e ↦ elim (cases_eq (places j) b) [
-        | inl f ↦ are.apart i j (omega arith) (omega arith) (e ∙ sym f)
-        | inr d ↦ absurd (last_apart j m (sym (moved_other j d) ∙ sym same ∙ moved_here i e))
-      ]
-      | inr d ↦ elim (cases_eq (places j) b) [
-        | inl f ↦ absurd (last_apart i l (sym (moved_other i d) ∙ same ∙ moved_here j f))
-        | inr g ↦ are.apart i j (omega arith) (omega arith) (sym (moved_other i d) ∙ same ∙ moved_other j g)
-      ]
-    ];
-  }
-
-pub few_places : (n b : ℕ) (places : ℕ → ℕ) → ArePlaces n b places → n ≤ b
-few_places zero b places are = omega arith
-few_places (suc n) zero places are = absurd (omega (arith, are.below 0 (omega arith)))
-few_places (suc n) (suc b) places are = let less = few_places n b (moved n b places are) (moved_are n b places are) in omega (arith, less)
-
--- a row of bits has at most as many ones as columns
-pub few_columns : (width : ℕ) (columns : List ℕ) → AreColumnsOfRow width columns → length columns ≤ width
-few_columns width columns are = few_places (length columns) width (at columns) (record {
-  below = λ i l. are.within i 0 l;
-  apart = λ i j l m e. elim (cases_lt i j) [
-    | inl before ↦ absurd (twice_counted columns i j before m e (are.once (at columns j) (are.within j 0 m)))
-    | inr after ↦ elim (cases_lt j i) [
-      | inl before ↦ absurd (twice_counted columns j i before l (sym e) (are.once (at columns i) (are.within i 0 l)))
-      | inr same ↦ omega (arith, after, same)
-    ]
-  ];
-})
+use Rattle.rq_elimination.specs.OperationCounts.{beyond_one, multiples, multiples-none, multiples-more, triangle, triangle-none, triangle-more}
+use Rattle.rq_solver.specs.HdpcRows.{batch_bound}
+use Rattle.rq_peeling.proofs.PlaceCounts.{few_places}
+use Rattle.rq_elimination.proofs.Choices.{if_same, if_apart}
 
 -- places, and others that follow each other
 module _ (n count first bound : ℕ) (places : ℕ → ℕ) (are : ArePlaces n bound places) (within : first + count ≤ bound) (other : (i q : ℕ) → i < count → q < n → first + i ≢ places q) where

@@ -13,7 +13,7 @@ use Rattle.rq_standard.specs.TableRows.{intermediate_symbols}
 use Rattle.rq_bytes.specs.SymbolSlab.{Slab}
 use Rattle.rq_parts.specs.DenseOctetMatrix.{OctetTable, entry_of}
 use Rattle.rq_solver.specs.Solving.{IsSolution, AreEquations, AreEquationsWithoutHdpc}
-use Rattle.rq_solver.proofs.RowStepLaws.{SameEntries}
+use Rattle.rq_elimination.proofs.RowStepLaws.{SameEntries}
 use Rattle.rq_solver.proofs.SolutionLaws.{finds_same, homogeneous_same, is_solution}
 
 module _ (row : TableRow) (ids : List ℕ) (bits : BitTable) (hdpc : OctetTable) (part : IsBinaryPart row ids bits) (are_hdpc : AreHdpcRows row (entry_of hdpc)) where

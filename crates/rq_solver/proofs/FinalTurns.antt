@@ -6,14 +6,15 @@ use Rattle.rq_algebra.specs.Systems.{at}
 use Rattle.rq_algebra.proofs.Sums.{add_zero}
 use Rattle.rq_standard.specs.OctetField.{octets}
 use Rattle.rq_parts.specs.DenseOctetMatrix.{entry_of, HasOctets}
-use Rattle.rq_solver.specs.Cleared.{AreRowsOfBits, AreUnits, FinishesPivots, IsCleared, IsFinished, IsUncleared, RecordsPivots, TakesBack, TakesPivots, TakesPivotsBy, TakesReduced, one_in}
-use Rattle.rq_solver.specs.Peeled.{ones_of, IsPeeled}
-use Rattle.rq_solver.specs.Recorded.{Recorded, Performs, Records}
-use Rattle.rq_solver.specs.RowSteps.{AreRows, IsEchelon, rows_after}
-use Rattle.rq_solver.proofs.Performing.{performs_none, performs_more, records_none, records_more}
-use Rattle.rq_solver.proofs.PivotTurns.{if_same, if_apart}
-use Rattle.rq_solver.proofs.RowTurns.{count_contains}
-use Rattle.rq_solver.proofs.StepColumns.{rows_after-none, rows_after-next}
+use Rattle.rq_peeling.specs.SystemRows.{AreRowsOfBits, one_in}
+use Rattle.rq_solver.specs.Cleared.{AreUnits, FinishesPivots, IsCleared, IsFinished, IsUncleared, RecordsPivots, TakesBack, TakesPivots, TakesPivotsBy, TakesReduced}
+use Rattle.rq_peeling.specs.Peeled.{ones_of, IsPeeled}
+use Rattle.rq_elimination.specs.Recorded.{Recorded, Performs, Records}
+use Rattle.rq_elimination.specs.RowSteps.{AreRows, IsEchelon, rows_after}
+use Rattle.rq_elimination.proofs.Performing.{performs_none, performs_more, records_none, records_more}
+use Rattle.rq_elimination.proofs.Choices.{if_same, if_apart}
+use Rattle.rq_peeling.proofs.PlaceCounts.{count_contains}
+use Rattle.rq_elimination.proofs.StepColumns.{rows_after-none, rows_after-next}
 
 true_is_not_false : (b : Bool) → b ≡ true → b ≡ false → ⊥
 true_is_not_false b t f =

@@ -8,13 +8,14 @@ use Rattle.rq_algebra.proofs.Sums.{add_zero, mul_zero, mul_one}
 use Rattle.rq_standard.specs.OctetField.{octets}
 use Rattle.rq_parts.specs.DenseOctetMatrix.{HasOctets}
 use Rattle.rq_solver.specs.Cleared.{ClearsOctets}
-use Rattle.rq_solver.specs.OctetBatch.{AreOctetsIn, HasPivotsBeside, PivotsAreCleared, AreShown, CombinesOctets, ChangesOctets, octets_from, with_zeros}
-use Rattle.rq_solver.specs.Recorded.{Recorded, sum_step, Performs}
-use Rattle.rq_solver.specs.RowSteps.{rows_after}
-use Rattle.rq_solver.proofs.StepColumns.{rows_after-none, rows_after-next}
-use Rattle.rq_solver.proofs.Performing.{sum_step-here, sum_step-elsewhere, scaling-here, scaling-elsewhere, performs_none, performs_more}
-use Rattle.rq_solver.proofs.PivotTurns.{if_same, if_apart, cleared_small}
-use Rattle.rq_solver.proofs.OctetBatchLaws.{before_column, from_column, zero_here, same_beside, same_behind, zeros_in_all}
+use Rattle.rq_solver.specs.HdpcRows.{AreOctetsIn, HasPivotsBeside, PivotsAreCleared, AreShown, CombinesOctets, ChangesOctets, octets_from, with_zeros}
+use Rattle.rq_elimination.specs.Recorded.{Recorded, sum_step, Performs}
+use Rattle.rq_elimination.specs.RowSteps.{rows_after}
+use Rattle.rq_elimination.proofs.StepColumns.{rows_after-none, rows_after-next}
+use Rattle.rq_elimination.proofs.Performing.{sum_step-here, sum_step-elsewhere, scaling-here, scaling-elsewhere, performs_none, performs_more}
+use Rattle.rq_elimination.proofs.Choices.{if_same, if_apart}
+use Rattle.rq_solver.proofs.PivotTurns.{cleared_small}
+use Rattle.rq_solver.proofs.OctetColumns.{before_column, from_column, zero_here, same_beside, same_behind, zeros_in_all}
 
 -- a multiple of zero adds nothing, and a multiple of 1 takes away what it is
 pub plus_zero_times : (x c y : ℕ) → y ≡ 0 → octets.add x (octets.mul c y) ≡ x

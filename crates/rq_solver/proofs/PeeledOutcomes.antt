@@ -20,14 +20,14 @@ use Rattle.rq_algebra.proofs.Stacks.{stacked_above, stacked_below}
 use Rattle.rq_standard.specs.OctetField.{octets}
 use Rattle.rq_parts.specs.DenseOctetMatrix.{entry_of}
 use Rattle.rq_solver.specs.Cleared.{AreUnits, FinishesPivots, HasPeeledPivots, IsCleared, IsFinished, ListsRows, ReducesBack, TakesBack}
-use Rattle.rq_solver.specs.Peeled.{IsOrderOf}
-use Rattle.rq_solver.specs.Recorded.{Recorded, ChangesRows}
-use Rattle.rq_solver.specs.RowSteps.{IsEchelon, IsStuck, IsStepAmong, rows_after}
-use Rattle.rq_solver.proofs.Performing.{below_range, changes_keep, shows_after}
-use Rattle.rq_solver.proofs.PivotTurns.{if_same, if_apart}
+use Rattle.rq_peeling.specs.Peeled.{IsOrderOf}
+use Rattle.rq_elimination.specs.Recorded.{Recorded, ChangesRows}
+use Rattle.rq_elimination.specs.RowSteps.{IsEchelon, IsStuck, IsStepAmong, rows_after}
+use Rattle.rq_elimination.proofs.Performing.{below_range, changes_keep, shows_after}
+use Rattle.rq_elimination.proofs.Choices.{if_same, if_apart}
 use Rattle.rq_solver.proofs.PivotsCleared.{left_below, left_apart, pivot_or_left}
-use Rattle.rq_solver.proofs.RowStepLaws.{rows_after-elements, follows_steps}
-use Rattle.rq_solver.proofs.StepColumns.{rows_after-next}
+use Rattle.rq_elimination.proofs.RowStepLaws.{rows_after-elements, follows_steps}
+use Rattle.rq_elimination.proofs.StepColumns.{rows_after-next}
 
 -- what was recorded for steps among all rows does to values what it did to the rows
 module _ (height width : ℕ) (system : ℕ → ℕ → ℕ) (steps : List Operation) (among : All (IsStepAmong octets (range_with_len 0 height)) steps) (small : HasElements octets height width system) where

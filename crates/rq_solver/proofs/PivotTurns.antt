@@ -1,50 +1,26 @@
 -- A row takes the rows of pivots, one by one, and so does one row after another.
-use Rattle.std.proofs.Common.{◌≡◌, ◌≢◌, ℕ, ◌+◌, ◌<◌, ◌≤◌, ◌⊎◌, Bool, List, All, [], ◌∷◌, ◌++◌, Contains, length, take, drop, refl, sym, ap, ◌∙◌, subst, arith, inl, inr, if◌then◌else◌, ◌==◌, lit<}
-use Rattle.std.specs.List.{count_by}
-use Rattle.std.proofs.lemmas.Bool.{cases_eq, eq-eqb, ne_eqb}
-use Rattle.std.proofs.lemmas.List.{take_more, take-append-drop, length-take-le}
-use Rattle.std.proofs.lemmas.List.Sums.{count_by_more_yes, count_by_more_no, sum_by-append}
+use Rattle.std.proofs.Common.{◌≡◌, ◌≢◌, ℕ, ◌+◌, ◌<◌, ◌≤◌, ◌⊎◌, List, [], ◌∷◌, ◌++◌, Contains, length, take, refl, sym, ap, ◌∙◌, subst, arith, inl, inr, if◌then◌else◌, ◌==◌, lit<}
+use Rattle.std.specs.List.{count_by, Contains}
+use Rattle.std.proofs.lemmas.Bool.{cases_eq}
+use Rattle.std.proofs.lemmas.List.{take_more, length-take-le}
 use Rattle.std.proofs.lemmas.List.Elements.{All-nil, All-push, Contains-append_left, Contains-push}
 use Rattle.rq_algebra.specs.Arrangements.{ArePlaces}
 use Rattle.rq_algebra.specs.Operations.{Operation}
 use Rattle.rq_algebra.specs.Systems.{at}
 use Rattle.rq_algebra.proofs.Sums.{add_zero, mul_zero}
 use Rattle.rq_standard.specs.OctetField.{octets}
-use Rattle.rq_solver.specs.Cleared.{AreRowsOfBits, IsCleared, IsSumOf, TakesPivotsBy}
-use Rattle.rq_solver.specs.Peeled.{IsOrderOf, ones_of}
-use Rattle.rq_solver.specs.Recorded.{Recorded, sum_step}
-use Rattle.rq_solver.specs.RowSteps.{rows_after}
-use Rattle.rq_solver.proofs.StepColumns.{rows_after-none, rows_after-next}
-use Rattle.rq_solver.proofs.Performing.{sum_step-here, sum_step-elsewhere}
-
--- the columns in which a row of bits has ones
-pub record AreColumnsOfRow (width : ℕ) (columns : List ℕ) : Type 0 where
-  pub within : All (λ k. k < width) columns
-  pub once : (k : ℕ) → k < width → count_by (λ x. x == k) columns ≤ 1
+use Rattle.rq_peeling.specs.SystemRows.{AreRowsOfBits}
+use Rattle.rq_solver.specs.Cleared.{IsCleared, IsSumOf, TakesPivotsBy, PeelsRows}
+use Rattle.rq_peeling.specs.Peeled.{IsOrderOf, ones_of, IsPeeled, Pivots}
+use Rattle.rq_elimination.specs.Recorded.{Recorded, sum_step}
+use Rattle.rq_elimination.specs.RowSteps.{rows_after}
+use Rattle.rq_elimination.proofs.StepColumns.{rows_after-none, rows_after-next}
+use Rattle.rq_elimination.proofs.Performing.{sum_step-here, sum_step-elsewhere}
+use Rattle.rq_peeling.proofs.PlaceCounts.{AreColumnsOfRow, count_taken, count_next, count_skipped}
+use Rattle.rq_elimination.proofs.Choices.{if_same, if_apart}
 
 pub columns_of_row : (width row : ℕ) (lists : List (List ℕ)) (columns : List ℕ) → AreRowsOfBits width lists → row < length lists → columns ≡ ones_of lists row → AreColumnsOfRow width columns
 columns_of_row width row lists columns bits l is = subst (AreColumnsOfRow width) (sym is) (record { within = bits.within row l; once = λ k. bits.once row k l })
-
--- ---- tests of numbers, and places of a list that are counted
-
-pub if_same : (a b x y : ℕ) → a ≡ b → (if a == b then x else y) ≡ x
-if_same a b x y e = ap (λ (t : Bool). if t then x else y) (eq-eqb a b e)
-
-pub if_apart : (a b x y : ℕ) → a ≢ b → (if a == b then x else y) ≡ y
-if_apart a b x y d = ap (λ (t : Bool). if t then x else y) (ne_eqb a b d)
-
-pub count_taken : (xs : List ℕ) (n k : ℕ) → count_by (λ x. x == k) (take n xs) ≤ count_by (λ x. x == k) xs
-count_taken xs n k =
-    let split : count_by (λ x. x == k) (take n xs ++ drop n xs) ≡ count_by (λ x. x == k) (take n xs) + count_by (λ x. x == k) (drop n xs) = sum_by-append (λ (x : ℕ). if x == k then 1 else 0) (take n xs) (drop n xs) in
-    let whole : count_by (λ x. x == k) (take n xs ++ drop n xs) ≡ count_by (λ x. x == k) xs = ap (λ (l : List ℕ). count_by (λ x. x == k) l) (take-append-drop n xs) in
-    omega (arith, split, whole)
-
--- the next number of a list is counted
-pub count_next : (xs : List ℕ) (t k : ℕ) → t < length xs → at xs t ≡ k → count_by (λ x. x == k) (take (t + 1) xs) ≡ count_by (λ x. x == k) (take t xs) + 1
-count_next xs t k l e = count_by_more_yes (λ x. x == k) xs t 0 l (eq-eqb (at xs t) k e)
-
-pub count_skipped : (xs : List ℕ) (t k : ℕ) → t < length xs → at xs t ≢ k → count_by (λ x. x == k) (take (t + 1) xs) ≡ count_by (λ x. x == k) (take t xs)
-count_skipped xs t k l d = count_by_more_no (λ x. x == k) xs t 0 l (ne_eqb (at xs t) k d)
 
 pub taken_before : (xs : List ℕ) (t x : ℕ) → t < length xs → Contains (take t xs) x → Contains (take (t + 1) xs) x
 taken_before xs t x l c = subst (λ (ys : List ℕ). Contains ys x) (sym (take_more xs t 0 l)) (Contains-append_left (take t xs) (at xs t ∷ []) x c)
@@ -188,3 +164,6 @@ module _ (Done : List Operation → Recorded → Recorded → Type 0) (rows orde
         elsewhere = λ m i k d. rows_after-next octets v.steps (sum_step row (at rows j) 1 ∷ []) m i k ∙ sum_step-elsewhere row (at rows j) 1 (rows_after octets v.steps m) i k d ∙ v.elsewhere m i k d;
         taken = λ m done i l. next_taken m done i l;
       }
+
+pub peels_rows : (width : ℕ) (lists : List (List ℕ)) (pivots : Pivots) → AreRowsOfBits width lists → IsPeeled width lists pivots → PeelsRows lists pivots
+peels_rows width lists pivots bits peeled = record { bits = rw peeled.columns.place_count bits; peeled = rw peeled.columns.place_count peeled }

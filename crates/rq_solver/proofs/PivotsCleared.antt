@@ -6,14 +6,15 @@ use Rattle.rq_algebra.specs.Operations.{Operation}
 use Rattle.rq_algebra.specs.Systems.{at}
 use Rattle.rq_standard.specs.OctetField.{octets}
 use Rattle.rq_parts.specs.DenseOctetMatrix.{OctetTable, entry_of}
-use Rattle.rq_solver.specs.Cleared.{AreRowsOfBits, AreOctetRows, ListsRows, IsCleared, IsUncleared, ClearsRows, ClearsOctets, HasLeading, HasPeeledPivots, one_in, system_rows}
-use Rattle.rq_solver.specs.Peeled.{ones_of, IsPeeled}
-use Rattle.rq_solver.specs.Recorded.{Recorded, Performs}
-use Rattle.rq_solver.specs.RowSteps.{rows_after}
+use Rattle.rq_peeling.specs.SystemRows.{AreRowsOfBits, AreOctetRows, one_in, system_rows}
+use Rattle.rq_solver.specs.Cleared.{ListsRows, IsCleared, IsUncleared, ClearsRows, ClearsOctets, HasLeading, HasPeeledPivots}
+use Rattle.rq_peeling.specs.Peeled.{ones_of, IsPeeled}
+use Rattle.rq_elimination.specs.Recorded.{Recorded, Performs}
+use Rattle.rq_elimination.specs.RowSteps.{rows_after}
 use Rattle.rq_solver.proofs.OctetRows.{octet_row, bit_row, octet_row_or_bit_row}
-use Rattle.rq_solver.proofs.PivotTurns.{if_apart}
-use Rattle.rq_solver.proofs.StepColumns.{rows_after-next}
-use Rattle.rq_solver.proofs.Performing.{performs_more, shows_after}
+use Rattle.rq_elimination.proofs.Choices.{if_apart}
+use Rattle.rq_elimination.proofs.StepColumns.{rows_after-next}
+use Rattle.rq_elimination.proofs.Performing.{performs_more, shows_after}
 
 -- in the pivots' columns their rows have their own 1 alone, and the other rows nothing
 pub record AreCleared (rows order left : List ℕ) (m : ℕ → ℕ → ℕ) : Type 0 where

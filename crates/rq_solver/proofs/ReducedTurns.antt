@@ -5,12 +5,12 @@ use Rattle.rq_algebra.specs.Systems.{at}
 use Rattle.rq_standard.specs.OctetField.{octets}
 use Rattle.rq_parts.specs.DenseOctetMatrix.{entry_of}
 use Rattle.rq_solver.specs.Cleared.{AreShown, AreUnits, GivesMultiples, ReducesBack, TakesReduced, one_of}
-use Rattle.rq_solver.specs.Recorded.{Recorded, sum_step, Records}
-use Rattle.rq_solver.specs.RowSteps.{AreRows, IsEchelon, rows_after}
-use Rattle.rq_solver.proofs.StepColumns.{rows_after-none, rows_after-next}
-use Rattle.rq_solver.proofs.Performing.{sum_step-here, sum_step-elsewhere, records_none, records_more}
+use Rattle.rq_elimination.specs.Recorded.{Recorded, sum_step, Records}
+use Rattle.rq_elimination.specs.RowSteps.{AreRows, IsEchelon, rows_after}
+use Rattle.rq_elimination.proofs.StepColumns.{rows_after-none, rows_after-next}
+use Rattle.rq_elimination.proofs.Performing.{sum_step-here, sum_step-elsewhere, records_none, records_more}
 use Rattle.rq_solver.proofs.OctetTurns.{plus_zero_times, plus_own}
-use Rattle.rq_solver.proofs.PivotTurns.{if_same, if_apart}
+use Rattle.rq_elimination.proofs.Choices.{if_same, if_apart}
 
 module _ (reduced : List ℕ) (row start count : ℕ) (entries : ℕ → ℕ) where
   pub reduced_none : (old : Recorded) → TakesReduced reduced row start count start entries old old

@@ -7,14 +7,14 @@ use Rattle.rq_algebra.specs.Systems.{at}
 use Rattle.rq_matrix.proofs.Words.{low_bits, low-same, low-none}
 use Rattle.rq_standard.specs.OctetField.{octets}
 use Rattle.rq_solver.specs.Cleared.{AreUnits, TakesReduced}
-use Rattle.rq_solver.specs.OperationCounts.{additions}
-use Rattle.rq_solver.specs.Recorded.{Recorded, Records, sum_step}
+use Rattle.rq_elimination.specs.OperationCounts.{additions}
+use Rattle.rq_elimination.specs.Recorded.{Recorded, Records, sum_step}
 use Rattle.rq_parts.specs.DenseOctetMatrix.{OctetTable}
 use Rattle.rq_parts.proofs.LowestOnes.{ClearsLowest, lowest_before, lowest_from}
-use Rattle.rq_solver.specs.RowSteps.{CanTake, rows_after}
-use Rattle.rq_solver.proofs.Performing.{records_more}
-use Rattle.rq_solver.proofs.PivotTurns.{if_same, if_apart}
-use Rattle.rq_solver.proofs.StepColumns.{rows_after-next}
+use Rattle.rq_elimination.specs.RowSteps.{CanTake, rows_after}
+use Rattle.rq_elimination.proofs.Performing.{records_more}
+use Rattle.rq_elimination.proofs.Choices.{if_same, if_apart}
+use Rattle.rq_elimination.proofs.StepColumns.{rows_after-next}
 use Rattle.rq_solver.proofs.ReducedTurns.{reduced_none, reduced_next, reduced_zeros}
 
 -- The reduced rows before a place are taken for which a word has ones, and the rest of the word has those from that place on.

@@ -1,26 +1,20 @@
 -- Rows are cleared one after the other, those of the pivots first.
-use Rattle.std.proofs.Common.{◌≡◌, ◌≢◌, ℕ, ◌+◌, ◌<◌, ◌≤◌, List, [], ◌++◌, Contains, length, sym, ap, ◌∙◌, subst, arith, inl, inr, if◌then◌else◌, ◌==◌}
-use Rattle.std.specs.List.{count_by}
+use Rattle.std.proofs.Common.{◌≡◌, ◌≢◌, ℕ, ◌+◌, ◌<◌, List, [], ◌++◌, Contains, length, sym, ap, ◌∙◌, subst, arith, inl, inr, if◌then◌else◌, ◌==◌}
 use Rattle.std.proofs.lemmas.Bool.{cases_eq, cases_lt}
-use Rattle.std.proofs.lemmas.List.{get_or_default}
 use Rattle.rq_algebra.specs.Operations.{Operation}
 use Rattle.rq_algebra.specs.Systems.{at}
 use Rattle.rq_algebra.proofs.Sums.{add_zero}
 use Rattle.rq_standard.specs.OctetField.{octets}
-use Rattle.rq_solver.specs.Cleared.{AreRowsOfBits, ListsRows, IsCleared, IsUncleared, TakesPivots, ClearsRows, one_in}
-use Rattle.rq_solver.specs.Peeled.{ones_of, IsPeeled}
-use Rattle.rq_solver.specs.Recorded.{Recorded}
-use Rattle.rq_solver.specs.RowSteps.{rows_after}
+use Rattle.rq_peeling.specs.SystemRows.{AreRowsOfBits, one_in}
+use Rattle.rq_solver.specs.Cleared.{ListsRows, IsCleared, IsUncleared, TakesPivots, ClearsRows}
+use Rattle.rq_peeling.specs.Peeled.{ones_of, IsPeeled}
+use Rattle.rq_elimination.specs.Recorded.{Recorded}
+use Rattle.rq_elimination.specs.RowSteps.{rows_after}
 use Rattle.rq_parts.specs.DenseOctetMatrix.{HasOctets}
-use Rattle.rq_solver.proofs.StepColumns.{rows_after-none, rows_after-next}
-use Rattle.rq_solver.proofs.Performing.{performs_none, performs_more}
-use Rattle.rq_solver.proofs.PivotTurns.{if_same, if_apart, count_next, count_taken}
-
--- a number of a list is counted
-pub count_contains : (xs : List ℕ) (x : ℕ) → Contains xs x → 1 ≤ count_by (λ y. y == x) xs
-count_contains xs x c =
-    let next = count_next xs c.0 x c.1 (get_or_default xs c.0 0 x c.1 ∙ c.2) in
-    omega (arith, next, count_taken xs (c.0 + 1) x)
+use Rattle.rq_elimination.proofs.StepColumns.{rows_after-none, rows_after-next}
+use Rattle.rq_elimination.proofs.Performing.{performs_none, performs_more}
+use Rattle.rq_elimination.proofs.Choices.{if_same, if_apart}
+use Rattle.rq_peeling.proofs.PlaceCounts.{count_contains}
 
 module _ (lists : List (List ℕ)) (rows order listed : List ℕ) where
   pub clears_none : (table : Recorded) → HasOctets table.table → ClearsRows lists rows order listed 0 table table

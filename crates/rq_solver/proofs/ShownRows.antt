@@ -6,7 +6,7 @@ use Rattle.std.proofs.lemmas.List.Elements.{All-head, All-tail}
 use Rattle.rq_algebra.specs.Field.{Field}
 use Rattle.rq_algebra.specs.Operations.{Operation, AddAssign, MulAssign, Fma, Reorder}
 use Rattle.rq_algebra.proofs.Changes.{with_at, with_at_same, with_at_other}
-use Rattle.rq_solver.specs.RowSteps.{row_step, rows_after, IsStepAmong}
+use Rattle.rq_elimination.specs.RowSteps.{row_step, rows_after, IsStepAmong}
 
 -- an operation on the values of rows
 abbrev pub on_values : (ℕ → ℕ) → Operation → Operation

@@ -17,13 +17,13 @@ use Rattle.rq_bytes.specs.declared.operation_vector.SymbolOps.{SymbolOps}
 use Rattle.rq_bytes.specs.SymbolSlab.{Slab, store_of, after_all, symbol_in, HasPlace}
 use Rattle.rq_operations.specs.RecordedOperations.{operations_of}
 use Rattle.rq_operations.specs.declared.recorded.RecordedOperations.{RecordedOperations}
-use Rattle.rq_solver.specs.PhaseCounts.{AreCountsOf}
+use Rattle.rq_elimination.specs.PhaseCounts.{AreCountsOf}
 use Rattle.rq_solver.specs.Phases.{SolvesRows}
 use Rattle.rq_solver.specs.Solving.{IsSolution, IsOutcome, Solver}
-use Rattle.rq_solver.specs.declared.pi_solver.counts.OperationCounts.{OperationCounts}
+use Rattle.rq_elimination.specs.declared.counts.OperationCounts.{OperationCounts}
 use Rattle.rq_solver.specs.declared.pi_solver.phases.Attempt.{Attempt}
-use Rattle.rq_solver.proofs.CountLaws.{order_counted}
-use Rattle.rq_solver.proofs.RowStepLaws.{SameEntries}
+use Rattle.rq_elimination.proofs.AdditionLaws.{order_counted}
+use Rattle.rq_elimination.proofs.RowStepLaws.{SameEntries}
 
 -- systems with the same entries have the same solutions
 module _ (F : Field) (height width : ℕ) (a b : ℕ → ℕ → ℕ) (same : SameEntries height width a b) where

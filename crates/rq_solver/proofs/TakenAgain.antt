@@ -8,9 +8,9 @@ use Rattle.rq_algebra.specs.Operations.{Operation, AddAssign}
 use Rattle.rq_algebra.specs.Systems.{at}
 use Rattle.rq_parts.specs.DenseOctetMatrix.{OctetTable}
 use Rattle.rq_solver.specs.Cleared.{HaveTaken, IsSumOf, StandBetween, TakesPivots, TakesPivotsBy}
-use Rattle.rq_solver.specs.Peeled.{ones_of, Pivots}
-use Rattle.rq_solver.specs.Recorded.{Recorded, Performs, Records}
-use Rattle.rq_solver.proofs.ListParts.{range_appended, range_at, range_kept, range_next}
+use Rattle.rq_peeling.specs.Peeled.{ones_of, Pivots}
+use Rattle.rq_elimination.specs.Recorded.{Recorded, Performs, Records}
+use Rattle.rq_peeling.proofs.ListParts.{range_appended, range_at, range_kept, range_next}
 
 -- ---- the same steps, done to other rows
 

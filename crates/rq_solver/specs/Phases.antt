@@ -5,10 +5,10 @@ use Rattle.rq_algebra.specs.Operations.{Operation, Reorder, FindsColumn}
 use Rattle.rq_algebra.specs.Systems.{HasHomogeneousColumn}
 use Rattle.rq_standard.specs.OctetField.{octets}
 use Rattle.rq_solver.specs.Cleared.{HasPeeledPivots, LacksPivots, SolvesInactive}
-use Rattle.rq_solver.specs.Peeled.{Pivots}
-use Rattle.rq_solver.specs.Recorded.{Recorded}
-use Rattle.rq_solver.specs.System.{rows_of}
-use Rattle.rq_solver.specs.declared.pi_solver.system.System.{System}
+use Rattle.rq_peeling.specs.Peeled.{Pivots}
+use Rattle.rq_elimination.specs.Recorded.{Recorded}
+use Rattle.rq_peeling.specs.System.{rows_of}
+use Rattle.rq_peeling.specs.declared.system.System.{System}
 
 -- what was recorded solves rows, read in an order; or there is none, and they have a homogeneous column
 abbrev pub SolvesRows : ℕ → ℕ → (ℕ → ℕ → ℕ) → List Operation → Option (Vec ℕ Global) → Type 0

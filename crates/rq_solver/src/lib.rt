@@ -1,5 +1,4 @@
 //! The solver: a block's intermediate symbols from its equations.
 #![tactic(auto)]
 
-pub mod homogeneous;
 pub mod pi_solver;

@@ -4,42 +4,29 @@ ghost use Rattle.std.specs.Option.{ForSome};
 ghost use Rattle.rq_standard.specs.TableRows.{greatest_size, row_of};
 ghost use Rattle.rq_bytes.specs.declared.error.Error.TheVariants.{AlreadyExecuted, OutOfMemory};
 ghost use Rattle.rq_bytes.specs.SymbolOps.{operation_of};
-ghost use Rattle.rq_solver.specs.OperationCounts.{additions};
-ghost use Rattle.rq_solver.specs.PhaseCounts.{total_of};
+ghost use Rattle.rq_elimination.specs.OperationCounts.{additions};
+ghost use Rattle.rq_elimination.specs.PhaseCounts.{total_of};
 ghost use Rattle.rq_solver.specs.Solving.{AreEquations, AreEquationsWithoutHdpc, CountsOperations, FindsOperations, solver_of, solver_without_hdpc, IsOutcome, IsSpent};
 
-mod column_rows;
-mod columns;
-mod counts;
-mod degrees;
-pub(crate) mod elimination;
-mod entries;
 mod first_phase;
 mod fourth_phase;
-mod next_row;
-mod ones;
-mod peeling;
 mod phases;
-mod recorded;
 mod reduced;
-mod row_selection;
-pub(crate) mod rows;
 mod second_phase;
-mod system;
 
-use counts::OperationCounts;
-use phases::Attempt;
-pub use row_selection::FirstPhaseRowSelectionStats;
+use phases::{Attempt, solve};
 use rq_bytes::error::Error;
 use rq_bytes::operation_vector::SymbolOps;
 use rq_bytes::symbol_slab::SymbolSlab;
+use rq_elimination::counts::OperationCounts;
 use rq_matrix::matrix::BinaryMatrix;
 use rq_operations::recorded::RecordedOperations;
 use rq_parts::octet_matrix::DenseOctetMatrix;
+pub use rq_peeling::row_selection::FirstPhaseRowSelectionStats;
+use rq_peeling::system::System;
 use rq_standard::row::TableRow;
 use rq_tables::systematic_constants::SystematicTable;
 use std::alloc::Global;
-use system::System;
 
 /// Solves the equations of a block for its intermediate symbols (RFC 6330, section 5.4.2.1), once.
 /// Contracts see the equations, and the symbols until it has run.
@@ -230,7 +217,7 @@ impl<T: BinaryMatrix> IntermediateSymbolDecoder<T> {
         drop(symbols);
         let (system, degrees) = System::of_matrix(alloc, &matrix, hdpc, first_hdpc, boundary)?;
         drop(matrix);
-        let attempt = system.solve(alloc, degrees)?;
+        let attempt = solve(alloc, system, degrees)?;
         Ok(attempt.into_operations())
     }
 
@@ -248,7 +235,7 @@ impl<T: BinaryMatrix> IntermediateSymbolDecoder<T> {
             self.first_hdpc,
             self.boundary,
         )?;
-        system.solve(self.alloc, degrees)
+        solve(self.alloc, system, degrees)
     }
 }
 

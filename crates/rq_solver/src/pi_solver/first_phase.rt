@@ -2,27 +2,26 @@
 //! pivots' columns.
 ghost use Rattle.std.specs.Prelude.{◌≡◌, ◌+◌, ◌*◌, ◌<◌, ◌≤◌, drop, length, IfOk, OnOk, IfErr};
 ghost use Rattle.rq_bytes.specs.declared.error.Error.TheVariants.{OutOfMemory};
-ghost use Rattle.rq_solver.specs.Recorded.{AddsAtMost};
+ghost use Rattle.rq_elimination.specs.Recorded.{AddsAtMost};
 ghost use Rattle.rq_solver.specs.Cleared.{ClearsRows, ListsRows, PeelsRows, PivotsHaveTaken, TakesPivots};
-ghost use Rattle.rq_solver.specs.OperationCounts.{additions};
-ghost use Rattle.rq_solver.specs.OctetBatch.{batch_bound};
-ghost use Rattle.rq_solver.specs.Peeled.{ones_of, IsPeeled};
+ghost use Rattle.rq_elimination.specs.OperationCounts.{additions};
+ghost use Rattle.rq_solver.specs.HdpcRows.{batch_bound};
+ghost use Rattle.rq_peeling.specs.Peeled.{ones_of, IsPeeled};
 ghost use Rattle.rq_solver.specs.Phases.{ClearsPivots};
 ghost use Rattle.rq_parts.specs.DenseOctetMatrix.{HasOctets};
 
 mod hdpc;
 mod inactive;
 pub(super) mod listing;
-mod octet_batch;
 
-use super::ones::RowOnes;
-use super::peeling::Peeling;
-use super::recorded::RecordedRows;
-use super::system::System;
 use hdpc::clear_octets;
 use inactive::fill_inactive;
 use rq_bytes::error::Error;
 use rq_bytes::octet::Octet;
+use rq_elimination::recorded::RecordedRows;
+use rq_peeling::ones::RowOnes;
+use rq_peeling::peeling::Peeling;
+use rq_peeling::system::System;
 use std::alloc::Global;
 
 /// Rows of bits that were cleared: their ones as they were handed in, and where in the operations those

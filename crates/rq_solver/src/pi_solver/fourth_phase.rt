@@ -2,18 +2,18 @@
 ghost use Rattle.std.specs.Prelude.{◌≡◌, ◌≢◌, ℕ, ◌+◌, ◌-◌, ◌*◌, ◌<◌, ◌≤◌, false, All, length, slice_range, IsTrue, IfOk, OnOk, IfErr};
 ghost use Rattle.rq_algebra.specs.Systems.{at};
 ghost use Rattle.rq_bytes.specs.declared.error.Error.TheVariants.{OutOfMemory};
-ghost use Rattle.rq_solver.specs.Recorded.{AddsAtMost, Performs, Records};
+ghost use Rattle.rq_elimination.specs.Recorded.{AddsAtMost, Performs, Records};
 ghost use Rattle.rq_solver.specs.Cleared.{FinishesPivots, IsSumOf, PeelsRows, PivotsHaveTaken, TakesBack, TookAtMost};
-ghost use Rattle.rq_solver.specs.RowSteps.{AreRows};
+ghost use Rattle.rq_elimination.specs.RowSteps.{AreRows};
 ghost use Rattle.rq_parts.specs.DenseOctetMatrix.{HasOctets};
 
 use super::first_phase::ClearedRows;
-use super::ones::RowOnes;
-use super::peeling::Peeling;
-use super::recorded::RecordedRows;
 use super::reduced::take_reduced_rows;
 use rq_bytes::error::Error;
 use rq_bytes::octet::Octet;
+use rq_elimination::recorded::RecordedRows;
+use rq_peeling::ones::RowOnes;
+use rq_peeling::peeling::Peeling;
 
 /// Adds again to some of the pivots' rows, the last first, the pivots' rows that they took in the
 /// first phase. So they are as they were handed in, and have few ones, where they came to have many

@@ -8,22 +8,23 @@ ghost use Rattle.rq_operations.specs.RecordedOperations.{operations_of};
 ghost use Rattle.rq_parts.specs.DenseOctetMatrix.{HasOctets};
 ghost use Rattle.rq_standard.specs.OctetField.{octets};
 ghost use Rattle.rq_solver.specs.Cleared.{ListsRows, PeelsRows, PivotsHaveTaken};
-ghost use Rattle.rq_solver.specs.OperationCounts.{additions};
-ghost use Rattle.rq_solver.specs.PhaseCounts.{AreCountsOf};
-ghost use Rattle.rq_solver.specs.Peeled.{IsPeeled};
-ghost use Rattle.rq_solver.specs.RowSteps.{AreRows};
+ghost use Rattle.rq_elimination.specs.OperationCounts.{additions};
+ghost use Rattle.rq_elimination.specs.PhaseCounts.{AreCountsOf};
+ghost use Rattle.rq_peeling.specs.Degrees.{CountsBefore};
+ghost use Rattle.rq_peeling.specs.Peeled.{IsPeeled};
+ghost use Rattle.rq_elimination.specs.RowSteps.{AreRows};
 ghost use Rattle.rq_solver.specs.Phases.{FindsOrder, IsAttempt, SolvesLeft};
 
-use super::counts::{OperationCounts, OperationList, Phase};
 use super::first_phase::listing::rows_in_order;
 use super::first_phase::{ClearedRows, clear_pivots};
 use super::fourth_phase::{finish_pivots, take_back};
-use super::peeling::Peeling;
-use super::recorded::RecordedRows;
 use super::second_phase::{eliminate, reduce_back};
-use super::system::System;
 use rq_bytes::error::Error;
+use rq_elimination::counts::{OperationCounts, OperationList, Phase};
+use rq_elimination::recorded::RecordedRows;
 use rq_operations::recorded::RecordedOperations;
+use rq_peeling::peeling::{Peeling, peel};
+use rq_peeling::system::System;
 use std::alloc::Global;
 
 /// What was found for rows: the operations that were recorded, and the order of rows in which they
@@ -52,12 +53,21 @@ impl Attempt {
     }
 }
 
-/// Looks for the operations that solve a system, of whose rows of bits some have pivots.
-pub(super) fn find_operations(
-    alloc: Global,
-    system: System,
-    peeling: &Peeling,
-) -> Result<Attempt, Error>
+/// Looks for the operations that solve a system, of which each row has so many ones before the dense
+/// columns.
+pub(super) fn solve(alloc: Global, system: System, degrees: Vec<u16>) -> Result<Attempt, Error>
+    requires rows { length degrees.items ≡ length system.ones }
+    requires counted { CountsBefore system.boundary system.ones degrees.items }
+    ensures found { IfOk result (λ attempt. IsAttempt system attempt.recorded attempt.order) }
+    ensures few { IfOk result (λ attempt. additions attempt.recorded ≤ 2 * system.width * length system.ones) }
+    ensures memory { IfErr result (λ e. e ≡ OutOfMemory) }
+{
+    let peeling = peel(alloc, &system, degrees)?;
+    find_operations(alloc, system, &peeling)
+}
+
+// Looks for the operations that solve a system, of whose rows of bits some have pivots.
+fn find_operations(alloc: Global, system: System, peeling: &Peeling) -> Result<Attempt, Error>
     requires { IsPeeled system.width system.ones peeling.now }
     ensures found { IfOk result (λ attempt. IsAttempt system attempt.recorded attempt.order) }
     ensures few { IfOk result (λ attempt. additions attempt.recorded ≤ 2 * system.width * length system.ones) }

@@ -4,12 +4,12 @@ ghost use Rattle.std.specs.Int.{bit_at};
 ghost use Rattle.rq_bytes.specs.declared.error.Error.TheVariants.{OutOfMemory};
 ghost use Rattle.rq_parts.specs.DenseOctetMatrix.{entry_of, HasOctets};
 ghost use Rattle.rq_solver.specs.Cleared.{TakesReduced};
-ghost use Rattle.rq_solver.specs.Recorded.{AddsAtMost};
-ghost use Rattle.rq_solver.specs.RowSteps.{CanTake};
+ghost use Rattle.rq_elimination.specs.Recorded.{AddsAtMost};
+ghost use Rattle.rq_elimination.specs.RowSteps.{CanTake};
 
-use super::recorded::RecordedRows;
 use rq_bytes::error::Error;
 use rq_bytes::octet::Octet;
+use rq_elimination::recorded::RecordedRows;
 
 const WORD_BITS: usize = 64;
 

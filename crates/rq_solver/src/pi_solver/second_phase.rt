@@ -6,14 +6,14 @@ ghost use Rattle.rq_standard.specs.OctetField.{octets};
 ghost use Rattle.rq_bytes.specs.declared.error.Error.TheVariants.{OutOfMemory};
 ghost use Rattle.rq_parts.specs.DenseOctetMatrix.{entry_of, HasOctets};
 ghost use Rattle.rq_solver.specs.Cleared.{GivesMultiples, ReducesBack, TakesReduced, one_of};
-ghost use Rattle.rq_solver.specs.OperationCounts.{additions, multiples, triangle};
-ghost use Rattle.rq_solver.specs.Recorded.{ChangesRows};
-ghost use Rattle.rq_solver.specs.RowSteps.{AreRows, ClearsBelow, IsEchelon, IsStuck};
+ghost use Rattle.rq_elimination.specs.OperationCounts.{additions, multiples, triangle};
+ghost use Rattle.rq_elimination.specs.Recorded.{ChangesRows};
+ghost use Rattle.rq_elimination.specs.RowSteps.{AreRows, ClearsBelow, IsEchelon, IsStuck};
 
-use super::elimination::find_pivot;
-use super::recorded::RecordedRows;
 use rq_bytes::error::Error;
 use rq_bytes::octet::Octet;
+use rq_elimination::elimination::find_pivot;
+use rq_elimination::recorded::RecordedRows;
 
 /// Gives each of the first `count` columns a pivot: a row with 1 there, where the rows behind it
 /// have 0. Works on the listed rows alone. The list is put in the order of the pivots' columns.

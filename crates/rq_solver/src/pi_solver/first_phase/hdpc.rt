@@ -3,20 +3,21 @@ ghost use Rattle.std.specs.Prelude.{◌≡◌, ◌≢◌, ℕ, ◌+◌, ◌-◌,
 ghost use Rattle.rq_algebra.specs.Systems.{at};
 ghost use Rattle.rq_bytes.specs.declared.error.Error.TheVariants.{OutOfMemory};
 ghost use Rattle.rq_parts.specs.DenseOctetMatrix.{entry_of, HasOctets};
-ghost use Rattle.rq_solver.specs.Recorded.{AddsAtMost};
+ghost use Rattle.rq_elimination.specs.Recorded.{AddsAtMost};
 ghost use Rattle.rq_solver.specs.Cleared.{ClearsOctets};
-ghost use Rattle.rq_solver.specs.OperationCounts.{additions};
-ghost use Rattle.rq_solver.specs.OctetBatch.{batch_bound, octet_in, AreOctetsIn, ClearsPivotColumn, CombinesFrom, CombinesOctets, HasZeros, IsFirstAlone, StandsBeside, SumsRows};
-ghost use Rattle.rq_solver.specs.Peeled.{IsOrderOf};
-ghost use Rattle.rq_solver.specs.RowSteps.{AreRows};
+ghost use Rattle.rq_elimination.specs.OperationCounts.{additions};
+ghost use Rattle.rq_solver.specs.HdpcRows.{batch_bound, AreOctetsIn, ClearsPivotColumn, CombinesFrom, CombinesOctets, HasZeros, IsFirstAlone, StandsBeside, SumsRows};
+ghost use Rattle.rq_elimination.specs.OctetBatch.{octet_in};
+ghost use Rattle.rq_peeling.specs.Peeled.{IsOrderOf};
+ghost use Rattle.rq_elimination.specs.RowSteps.{AreRows};
 
-use super::super::entries::{next_in_vectors, nonzero_after_first};
-use super::super::peeling::Peeling;
-use super::super::recorded::RecordedRows;
-use super::octet_batch::OctetBatch;
 use rq_bytes::error::Error;
 use rq_bytes::octet::Octet;
+use rq_elimination::entries::{next_in_vectors, nonzero_after_first};
+use rq_elimination::octet_batch::OctetBatch;
+use rq_elimination::recorded::RecordedRows;
 use rq_parts::octet_matrix::DenseOctetMatrix;
+use rq_peeling::peeling::Peeling;
 
 /// Gives the HDPC rows 0 in the pivots' columns: the first row takes all others, and clears them
 /// column by column, before all take the row of the column's pivot. This serves any octets. For

@@ -3,16 +3,17 @@ ghost use Rattle.std.specs.Prelude.{◌≡◌, ◌<◌, ◌≤◌, ◌+◌, ◌-
 ghost use Rattle.rq_bytes.specs.declared.error.Error.TheVariants.{OutOfMemory};
 ghost use Rattle.rq_algebra.specs.Systems.{at};
 ghost use Rattle.rq_parts.specs.DenseOctetMatrix.{entry_of, HasOctets};
-ghost use Rattle.rq_solver.specs.Cleared.{one_in, HasLeading};
-ghost use Rattle.rq_solver.specs.Peeled.{IsOrderOf, IsPeeled};
-ghost use Rattle.rq_solver.specs.RowWrites.{FillsColumn, FillsRow};
-ghost use Rattle.rq_solver.specs.System.{rows_of};
+ghost use Rattle.rq_peeling.specs.SystemRows.{one_in};
+ghost use Rattle.rq_solver.specs.Cleared.{HasLeading};
+ghost use Rattle.rq_peeling.specs.Peeled.{IsOrderOf, IsPeeled};
+ghost use Rattle.rq_elimination.specs.RowWrites.{FillsColumn, FillsRow};
+ghost use Rattle.rq_peeling.specs.System.{rows_of};
 
-use super::super::entries::{InactiveEntries, whole_vectors};
-use super::super::peeling::Peeling;
-use super::super::system::System;
 use rq_bytes::error::Error;
+use rq_elimination::entries::{InactiveEntries, whole_vectors};
 use rq_parts::octet_matrix::DenseOctetMatrix;
+use rq_peeling::peeling::Peeling;
+use rq_peeling::system::System;
 use std::alloc::Global;
 
 /// The entries of the rows in the inactive columns, in their order.

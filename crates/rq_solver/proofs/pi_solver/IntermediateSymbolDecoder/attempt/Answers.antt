@@ -1,7 +1,7 @@
 -- What the check leaves to show of `pi_solver::IntermediateSymbolDecoder::attempt`.
 use Rattle.std.proofs.lemmas.Result.{IfOk-weaker}
-use Rattle.rq_solver.specs.System.{IsSystemOf}
-use Rattle.rq_solver.proofs.BitRows.{attempt_of_bits}
+use Rattle.rq_peeling.specs.System.{IsSystemOf}
+use Rattle.rq_solver.proofs.BitAttempts.{attempt_of_bits}
 use Rattle.rq_solver.proofs.pi_solver.IntermediateSymbolDecoder.attempt.Goals as goal
 
 pub returns-clause-found : goal.returns-clause-found

@@ -1,5 +1,5 @@
 -- What the check leaves to show of `pi_solver::IntermediateSymbolDecoder::into_operations`.
-use Rattle.rq_solver.proofs.BitRows.{attempt_of_bits}
+use Rattle.rq_solver.proofs.BitAttempts.{attempt_of_bits}
 use Rattle.rq_solver.proofs.SolutionLaws.{recorded_found}
 use Rattle.rq_solver.proofs.pi_solver.IntermediateSymbolDecoder.into_operations.Goals as goal
 

@@ -2,10 +2,10 @@
 use Rattle.std.proofs.Common.{◌+◌, ◌-◌, ◌*◌, ◌≤◌, ◌≡◌, ℕ, length, ap, arith}
 use Rattle.std.proofs.Math.Nat.{mul-le-mul_right}
 use Rattle.rq_algebra.specs.Systems.{at}
-use Rattle.rq_solver.specs.OperationCounts.{additions}
-use Rattle.rq_solver.specs.Recorded.{Recorded}
-use Rattle.rq_solver.proofs.CountLaws.{few_places}
-use Rattle.rq_solver.proofs.PeelingLaws.{peels_rows}
+use Rattle.rq_elimination.specs.OperationCounts.{additions}
+use Rattle.rq_elimination.specs.Recorded.{Recorded}
+use Rattle.rq_peeling.proofs.PlaceCounts.{few_places}
+use Rattle.rq_solver.proofs.PivotTurns.{peels_rows}
 use Rattle.rq_solver.proofs.PivotsCleared.{peeled_pivots, pivot_of_bits}
 use Rattle.rq_solver.proofs.TakenAgain.{taken_performed}
 use Rattle.rq_solver.proofs.pi_solver.first_phase.clear_pivots.Goals as goal

@@ -1,7 +1,7 @@
 -- What the loops keep in `pi_solver::first_phase::clear_rows`.
 use Rattle.std.proofs.Common.{◌≡◌, ◌+◌, ◌*◌, ◌≤◌, [], ◌∷◌, ◌++◌, length}
 use Rattle.rq_solver.specs.Cleared.{ClearsRows, HaveTaken}
-use Rattle.rq_solver.specs.OperationCounts.{additions}
+use Rattle.rq_elimination.specs.OperationCounts.{additions}
 use Rattle.rq_solver.proofs.pi_solver.first_phase.clear_rows.Given as goal
 
 abbrev pub invariant-loop-row : goal.invariant-loop-row

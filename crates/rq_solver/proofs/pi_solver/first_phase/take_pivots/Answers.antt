@@ -1,9 +1,10 @@
 -- What the check leaves to show of `pi_solver::first_phase::take_pivots`.
 use Rattle.std.proofs.Common.{◌≡◌, ◌≢◌, ◌+◌, ◌<◌, ℕ, [], ◌∷◌, length, sym, ap, ◌∙◌, arith, inl, inr}
 use Rattle.rq_algebra.specs.Systems.{at}
-use Rattle.rq_solver.specs.Recorded.{Performs, sum_step}
-use Rattle.rq_solver.proofs.CountLaws.{few_places, met_none, met_skipped, met_more, twice_counted}
-use Rattle.rq_solver.proofs.Performing.{performs_none, performs_more}
+use Rattle.rq_elimination.specs.Recorded.{Performs, sum_step}
+use Rattle.rq_peeling.proofs.PlaceCounts.{few_places, twice_counted}
+use Rattle.rq_solver.proofs.CountLaws.{met_none, met_skipped, met_more}
+use Rattle.rq_elimination.proofs.Performing.{performs_none, performs_more}
 use Rattle.rq_solver.proofs.PivotTurns.{columns_of_row, takes_none, takes_skipped, takes_more}
 use Rattle.rq_solver.proofs.pi_solver.first_phase.take_pivots.Goals as goal
 use Rattle.rq_solver.proofs.pi_solver.first_phase.take_pivots.Goals.{then-place-pivots+then-row_of-row+in_ok-add_row, else-place-pivots, else-place-pivots-via-then-place-pivots+else-row_of-row, else-place-pivots-via-else-place-pivots}

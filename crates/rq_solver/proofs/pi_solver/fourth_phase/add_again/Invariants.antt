@@ -1,8 +1,8 @@
 -- What the loop keeps in `pi_solver::fourth_phase::add_again`.
 use Rattle.std.proofs.Common.{◌+◌, ◌-◌, ◌≤◌}
 use Rattle.std.specs.List.{slice_range}
-use Rattle.rq_solver.specs.OperationCounts.{additions}
-use Rattle.rq_solver.specs.Recorded.{Performs}
+use Rattle.rq_elimination.specs.OperationCounts.{additions}
+use Rattle.rq_elimination.specs.Recorded.{Performs}
 use Rattle.rq_solver.proofs.pi_solver.fourth_phase.add_again.Given as goal
 
 abbrev pub invariant-loop-place : goal.invariant-loop-place

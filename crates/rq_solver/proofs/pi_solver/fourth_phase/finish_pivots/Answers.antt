@@ -3,7 +3,7 @@ use Rattle.rq_solver.proofs.FinalTurns.{finish_none, finish_plain, finish_again}
 use Rattle.std.proofs.Common.{◌≡◌, ◌≢◌, ◌+◌, ◌<◌, ℕ, length, arith}
 use Rattle.std.proofs.lemmas.List.{get_or_read}
 use Rattle.rq_algebra.specs.Systems.{at}
-use Rattle.rq_solver.specs.Recorded.{Records}
+use Rattle.rq_elimination.specs.Recorded.{Records}
 use Rattle.rq_solver.proofs.CountLaws.{one_turn_more}
 use Rattle.rq_solver.proofs.TakenAgain.{sums_between, taken_between, taken_recorded}
 use Rattle.rq_solver.proofs.pi_solver.fourth_phase.finish_pivots.Goals as goal

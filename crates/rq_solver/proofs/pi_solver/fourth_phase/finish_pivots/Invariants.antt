@@ -1,7 +1,7 @@
 -- What the loops keep in `pi_solver::fourth_phase::finish_pivots`.
 use Rattle.std.proofs.Common.{◌+◌, ◌*◌, ◌≤◌}
 use Rattle.rq_solver.specs.Cleared.{FinishesPivots}
-use Rattle.rq_solver.specs.OperationCounts.{additions}
+use Rattle.rq_elimination.specs.OperationCounts.{additions}
 use Rattle.rq_solver.proofs.pi_solver.fourth_phase.finish_pivots.Given as goal
 
 abbrev pub invariant-loop-place : goal.invariant-loop-place

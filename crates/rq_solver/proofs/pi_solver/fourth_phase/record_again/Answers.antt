@@ -2,8 +2,8 @@
 use Rattle.std.proofs.Common.{◌≡◌, [], ◌∷◌, length, sym, ◌∙◌, arith}
 use Rattle.std.proofs.lemmas.Option.{none-some, same_Some}
 use Rattle.rq_algebra.specs.Operations.{AddAssign}
-use Rattle.rq_solver.proofs.ListParts.{range_none}
-use Rattle.rq_solver.proofs.Performing.{records_none, records_more}
+use Rattle.rq_peeling.proofs.ListParts.{range_none}
+use Rattle.rq_elimination.proofs.Performing.{records_none, records_more}
 use Rattle.rq_solver.proofs.TakenAgain.{NextSum, next_sum}
 use Rattle.rq_solver.proofs.pi_solver.fourth_phase.record_again.Goals as goal
 use Rattle.rq_solver.proofs.pi_solver.fourth_phase.record_again.Goals.{After-source, in-Some+in_ok-record_sum, in_default}

@@ -1,8 +1,8 @@
 -- What the loop keeps in `pi_solver::fourth_phase::record_again`.
 use Rattle.std.proofs.Common.{◌+◌, ◌-◌, ◌≤◌}
 use Rattle.std.specs.List.{slice_range}
-use Rattle.rq_solver.specs.OperationCounts.{additions}
-use Rattle.rq_solver.specs.Recorded.{Records}
+use Rattle.rq_elimination.specs.OperationCounts.{additions}
+use Rattle.rq_elimination.specs.Recorded.{Records}
 use Rattle.rq_solver.proofs.pi_solver.fourth_phase.record_again.Given as goal
 
 abbrev pub invariant-loop-place : goal.invariant-loop-place

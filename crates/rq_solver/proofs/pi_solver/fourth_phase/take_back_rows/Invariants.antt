@@ -2,7 +2,7 @@
 use Rattle.std.proofs.Common.{◌≡◌, ℕ, ◌+◌, ◌-◌, ◌*◌, ◌<◌, ◌≤◌, true, false, get_or, length}
 use Rattle.rq_algebra.specs.Systems.{at}
 use Rattle.rq_solver.specs.Cleared.{TakesBack}
-use Rattle.rq_solver.specs.OperationCounts.{additions}
+use Rattle.rq_elimination.specs.OperationCounts.{additions}
 use Rattle.rq_solver.proofs.pi_solver.fourth_phase.take_back_rows.Given as goal
 
 abbrev pub invariant-loop-done : goal.invariant-loop-done

@@ -2,13 +2,14 @@
 use Rattle.std.proofs.Common.{◌≡◌, ℕ, ◌+◌, ◌-◌, ◌*◌, ◌/◌, ◌≤◌, List, length, drop, sym, ap, ◌∙◌, subst, arith}
 use Rattle.std.proofs.Math.Nat.{mul-le-mul_left}
 use Rattle.rq_algebra.specs.Systems.{at}
-use Rattle.rq_solver.specs.OperationCounts.{additions}
-use Rattle.rq_solver.specs.OctetBatch.{batch_bound}
-use Rattle.rq_solver.proofs.CountLaws.{few_in_all, few_places, few_together}
+use Rattle.rq_elimination.specs.OperationCounts.{additions}
+use Rattle.rq_solver.specs.HdpcRows.{batch_bound}
+use Rattle.rq_solver.proofs.CountLaws.{few_in_all, few_together}
+use Rattle.rq_peeling.proofs.PlaceCounts.{few_places}
 use Rattle.rq_solver.proofs.PivotsCleared.{pivot_of_bits}
 use Rattle.rq_solver.specs.Cleared.{HasPeeledPivots}
-use Rattle.rq_solver.specs.System.{rows_of}
-use Rattle.rq_solver.proofs.PeelingLaws.{peels_rows}
+use Rattle.rq_peeling.specs.System.{rows_of}
+use Rattle.rq_solver.proofs.PivotTurns.{peels_rows}
 use Rattle.rq_solver.proofs.pi_solver.phases.find_operations.Goals as goal
 use Rattle.rq_solver.proofs.pi_solver.phases.find_operations.Goals.{After-drop-listed-2}
 

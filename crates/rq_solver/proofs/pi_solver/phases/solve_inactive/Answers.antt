@@ -5,9 +5,9 @@ use Rattle.std.proofs.lemmas.List.Sorted.{Contains-permutation, IsPermutation-sy
 use Rattle.std.specs.List.Sorted.{IsPermutation}
 use Rattle.rq_algebra.specs.Systems.{at}
 use Rattle.rq_solver.specs.Cleared.{HaveTaken}
-use Rattle.rq_solver.specs.OperationCounts.{additions, triangle}
-use Rattle.rq_solver.specs.Recorded.{Recorded}
-use Rattle.rq_solver.specs.RowSteps.{AreRows, IsEchelon}
+use Rattle.rq_elimination.specs.OperationCounts.{additions, triangle}
+use Rattle.rq_elimination.specs.Recorded.{Recorded}
+use Rattle.rq_elimination.specs.RowSteps.{AreRows, IsEchelon}
 use Rattle.rq_solver.proofs.CountLaws.{inactive_bound, stuck_bound}
 use Rattle.rq_solver.proofs.FinalTurns.{echelon_stays}
 use Rattle.rq_solver.proofs.TakenAgain.{taken_performed, taken_recorded}

@@ -2,7 +2,7 @@
 use Rattle.std.proofs.Common.{◌+◌, ◌-◌, ◌≤◌, length}
 use Rattle.rq_parts.specs.DenseOctetMatrix.{entry_of}
 use Rattle.rq_solver.specs.Cleared.{TakesReduced}
-use Rattle.rq_solver.specs.OperationCounts.{additions}
+use Rattle.rq_elimination.specs.OperationCounts.{additions}
 use Rattle.rq_solver.proofs.pi_solver.reduced.take_octets.Given as goal
 
 abbrev pub invariant-loop-column : goal.invariant-loop-column

@@ -5,7 +5,7 @@ use Rattle.std.specs.Slice.Iter.{chunks_rest, chunks_size}
 use Rattle.rq_algebra.specs.Systems.{at}
 use Rattle.rq_parts.specs.DenseOctetMatrix.{entry_of}
 use Rattle.rq_solver.specs.Cleared.{TakesReduced}
-use Rattle.rq_solver.specs.OperationCounts.{additions}
+use Rattle.rq_elimination.specs.OperationCounts.{additions}
 use Rattle.rq_solver.proofs.pi_solver.reduced.take_reduced_rows.Given as goal
 
 abbrev pub invariant-loop-word : goal.invariant-loop-word

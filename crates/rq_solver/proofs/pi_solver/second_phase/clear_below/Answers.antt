@@ -1,7 +1,7 @@
 -- What the check leaves to show of `pi_solver::second_phase::clear_below`.
 use Rattle.std.proofs.Common.{◌<◌, length, [], ◌∷◌, arith}
 use Rattle.rq_algebra.specs.Systems.{at}
-use Rattle.rq_solver.proofs.Performing.{changes_none, changes_among, two_among, changes_more}
+use Rattle.rq_elimination.proofs.Performing.{changes_none, changes_among, two_among, changes_more}
 use Rattle.rq_solver.proofs.Turns.{below_none, below_more}
 use Rattle.rq_solver.proofs.pi_solver.second_phase.clear_below.Goals as goal
 

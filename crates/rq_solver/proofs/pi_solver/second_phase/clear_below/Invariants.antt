@@ -1,8 +1,8 @@
 -- What the loops keep in `pi_solver::second_phase::clear_below`.
 use Rattle.std.proofs.Common.{◌+◌, ◌≤◌}
-use Rattle.rq_solver.specs.OperationCounts.{additions}
-use Rattle.rq_solver.specs.Recorded.{ChangesRows}
-use Rattle.rq_solver.specs.RowSteps.{ClearsBelow}
+use Rattle.rq_elimination.specs.OperationCounts.{additions}
+use Rattle.rq_elimination.specs.Recorded.{ChangesRows}
+use Rattle.rq_elimination.specs.RowSteps.{ClearsBelow}
 use Rattle.rq_parts.specs.DenseOctetMatrix.{HasOctets}
 use Rattle.rq_solver.proofs.pi_solver.second_phase.clear_below.Given as goal
 

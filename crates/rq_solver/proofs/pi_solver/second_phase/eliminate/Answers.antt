@@ -3,10 +3,11 @@ use Rattle.std.proofs.Common.{◌≡◌, refl, ◌∙◌, ◌+◌, ◌-◌, ◌�
 use Rattle.std.proofs.lemmas.List.Elements.{All-nil, All-cons, Contains-get_or}
 use Rattle.std.proofs.lemmas.List.Sorted.{Contains-permutation, IsPermutation-refl, IsPermutation-sym, IsPermutation-trans}
 use Rattle.rq_algebra.specs.Systems.{at}
-use Rattle.rq_solver.specs.OperationCounts.{additions}
+use Rattle.rq_elimination.specs.OperationCounts.{additions}
 use Rattle.rq_solver.proofs.CountLaws.{triangle-start, forward_more, forward_bound}
-use Rattle.rq_solver.proofs.Performing.{changes_none, changes_among, changes_more}
-use Rattle.rq_solver.proofs.Turns.{echelon_none, swapped_rows, swapped_echelon, echelon_more}
+use Rattle.rq_elimination.proofs.Performing.{changes_none, changes_among, changes_more}
+use Rattle.rq_solver.proofs.Turns.{echelon_none, swapped_echelon, echelon_more}
+use Rattle.rq_elimination.proofs.SwappedRows.{swapped_rows}
 use Rattle.rq_solver.proofs.pi_solver.second_phase.eliminate.Goals as goal
 
 pub loop-done-init : goal.loop-done-init

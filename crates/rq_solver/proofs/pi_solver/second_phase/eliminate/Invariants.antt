@@ -1,9 +1,9 @@
 -- What the loops keep in `pi_solver::second_phase::eliminate`.
 use Rattle.std.proofs.Common.{◌≡◌, ◌+◌, ◌-◌, ◌*◌, ◌≤◌, length}
 use Rattle.std.specs.List.Sorted.{IsPermutation}
-use Rattle.rq_solver.specs.OperationCounts.{additions, triangle}
-use Rattle.rq_solver.specs.Recorded.{ChangesRows}
-use Rattle.rq_solver.specs.RowSteps.{AreRows, IsEchelon}
+use Rattle.rq_elimination.specs.OperationCounts.{additions, triangle}
+use Rattle.rq_elimination.specs.Recorded.{ChangesRows}
+use Rattle.rq_elimination.specs.RowSteps.{AreRows, IsEchelon}
 use Rattle.rq_parts.specs.DenseOctetMatrix.{HasOctets}
 use Rattle.rq_solver.proofs.pi_solver.second_phase.eliminate.Given as goal
 

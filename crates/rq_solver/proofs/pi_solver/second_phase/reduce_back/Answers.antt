@@ -2,7 +2,7 @@
 use Rattle.std.proofs.Common.{◌≡◌, ◌+◌, ◌-◌, ◌≤◌, ◌<◌, ℕ, ◌∙◌, arith}
 use Rattle.rq_algebra.specs.Systems.{at}
 use Rattle.rq_parts.specs.DenseOctetMatrix.{entry_of}
-use Rattle.rq_solver.specs.OperationCounts.{additions, multiples}
+use Rattle.rq_elimination.specs.OperationCounts.{additions, multiples}
 use Rattle.rq_solver.proofs.CountLaws.{back_turn}
 use Rattle.rq_solver.proofs.ReducedTurns.{back_none, back_more}
 use Rattle.rq_solver.proofs.pi_solver.second_phase.reduce_back.Goals as goal

@@ -3,7 +3,7 @@ use Rattle.std.proofs.Common.{◌+◌, ◌-◌, ◌≤◌}
 use Rattle.rq_algebra.specs.Systems.{at}
 use Rattle.rq_parts.specs.DenseOctetMatrix.{entry_of}
 use Rattle.rq_solver.specs.Cleared.{ReducesBack}
-use Rattle.rq_solver.specs.OperationCounts.{additions, triangle}
+use Rattle.rq_elimination.specs.OperationCounts.{additions, triangle}
 use Rattle.rq_solver.proofs.CountLaws.{given_before}
 use Rattle.rq_solver.proofs.pi_solver.second_phase.reduce_back.Given as goal
 

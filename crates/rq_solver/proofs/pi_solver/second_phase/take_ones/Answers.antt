@@ -4,7 +4,7 @@ use Rattle.std.proofs.lemmas.Bool.{cases_lt}
 use Rattle.rq_algebra.specs.Systems.{at}
 use Rattle.rq_parts.specs.DenseOctetMatrix.{entry_of}
 use Rattle.rq_solver.specs.Cleared.{one_of}
-use Rattle.rq_solver.specs.OperationCounts.{additions, multiples, multiples-none}
+use Rattle.rq_elimination.specs.OperationCounts.{additions, multiples, multiples-none}
 use Rattle.rq_solver.proofs.CountLaws.{ones_passed, ones_taken}
 use Rattle.rq_solver.proofs.ReducedTurns.{one_of-one, one_of-other, reduced_none, reduced_next, reduced_zeros}
 use Rattle.rq_solver.proofs.pi_solver.second_phase.take_ones.Goals as goal

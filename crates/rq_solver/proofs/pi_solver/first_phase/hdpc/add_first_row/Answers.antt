@@ -4,10 +4,12 @@ use Rattle.std.proofs.lemmas.Bool.{cases_eq, cases_lt}
 use Rattle.rq_algebra.specs.Steps.{AddsRow, ScalesRow}
 use Rattle.rq_standard.specs.OctetField.{octets}
 use Rattle.rq_parts.specs.DenseOctetMatrix.{HasOctets}
-use Rattle.rq_solver.specs.OctetBatch.{octet_in, octets_from}
-use Rattle.rq_solver.proofs.Entries.{one-div, inverse_nonzero}
+use Rattle.rq_elimination.specs.OctetBatch.{octet_in}
+use Rattle.rq_solver.specs.HdpcRows.{octets_from}
+use Rattle.rq_elimination.proofs.OctetEntries.{one-div, inverse_nonzero}
 use Rattle.rq_solver.proofs.OctetSums.{quotient_times, plus_quotient_times}
-use Rattle.rq_solver.proofs.OctetBatchLaws.{elements_beside, adds_beside, scales_beside, from_elements, from_adds, from_scales}
+use Rattle.rq_elimination.proofs.OctetBatchLaws.{elements_beside, adds_beside, scales_beside}
+use Rattle.rq_solver.proofs.OctetColumns.{from_elements, from_adds, from_scales}
 use Rattle.rq_solver.proofs.OctetTurns.{combines_none, combines_more, combines_sum, combines_scaling}
 use Rattle.rq_solver.proofs.pi_solver.first_phase.hdpc.add_first_row.Goals as goal
 

@@ -1,8 +1,9 @@
 -- What the loops keep in `pi_solver::first_phase::hdpc::add_first_row`.
 use Rattle.std.proofs.Common.{◌≡◌, ℕ, ◌+◌, ◌-◌, ◌%◌, ◌<◌, ◌≤◌, length}
-use Rattle.rq_solver.specs.OperationCounts.{additions}
-use Rattle.rq_solver.specs.NonzeroOctets.{HasOnesAfter}
-use Rattle.rq_solver.specs.OctetBatch.{AreBeside, CombinesOctets, octet_in, octets_from}
+use Rattle.rq_elimination.specs.OperationCounts.{additions}
+use Rattle.rq_elimination.specs.NonzeroOctets.{HasOnesAfter}
+use Rattle.rq_elimination.specs.OctetBatch.{AreBeside, octet_in}
+use Rattle.rq_solver.specs.HdpcRows.{CombinesOctets, octets_from}
 use Rattle.rq_solver.proofs.pi_solver.first_phase.hdpc.add_first_row.Given as goal
 
 abbrev pub invariant-loop-row : goal.invariant-loop-row

@@ -1,8 +1,9 @@
 -- What the check leaves to show of `pi_solver::first_phase::hdpc::add_pivot`.
 use Rattle.std.proofs.Common.{◌≡◌, ℕ, ◌+◌, ◌<◌, length, sym, ap, ◌∙◌, arith}
 use Rattle.rq_algebra.specs.Systems.{at}
-use Rattle.rq_solver.specs.OctetBatch.{HasPivotsBeside, octet_in, octets_from, with_zeros}
-use Rattle.rq_solver.proofs.OctetBatchLaws.{from_column, same_behind}
+use Rattle.rq_solver.specs.HdpcRows.{HasPivotsBeside, octets_from, with_zeros}
+use Rattle.rq_elimination.specs.OctetBatch.{octet_in}
+use Rattle.rq_solver.proofs.OctetColumns.{from_column, same_behind}
 use Rattle.rq_solver.proofs.OctetTurns.{beside_still, changes_none, changes_same, changes_pivot, changes_more, zeros_skipped, column_cleared}
 use Rattle.rq_solver.proofs.pi_solver.first_phase.hdpc.add_pivot.Goals as goal
 use Rattle.rq_solver.proofs.pi_solver.first_phase.hdpc.add_pivot.Goals.{then-byte-ne0+in_ok-add_row, else-byte-ne0}

@@ -1,8 +1,9 @@
 -- What the loops keep in `pi_solver::first_phase::hdpc::add_pivot`.
 use Rattle.std.proofs.Common.{◌+◌, ◌≤◌, length}
 use Rattle.rq_algebra.specs.Systems.{at}
-use Rattle.rq_solver.specs.OperationCounts.{additions}
-use Rattle.rq_solver.specs.OctetBatch.{ChangesOctets, octet_in, octets_from, with_zeros}
+use Rattle.rq_elimination.specs.OperationCounts.{additions}
+use Rattle.rq_solver.specs.HdpcRows.{ChangesOctets, octets_from, with_zeros}
+use Rattle.rq_elimination.specs.OctetBatch.{octet_in}
 use Rattle.rq_solver.proofs.pi_solver.first_phase.hdpc.add_pivot.Given as goal
 
 abbrev pub invariant-loop-row : goal.invariant-loop-row

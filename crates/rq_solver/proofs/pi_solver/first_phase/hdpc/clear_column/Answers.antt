@@ -2,7 +2,8 @@
 use Rattle.std.proofs.Common.{◌≡◌, ◌≢◌, ℕ, ◌<◌, ◌+◌, length, ap, sym, ◌∙◌, subst, arith}
 use Rattle.rq_algebra.specs.Systems.{at}
 use Rattle.rq_parts.specs.DenseOctetMatrix.{OctetTable}
-use Rattle.rq_solver.specs.OctetBatch.{octet_in, octets_from, ChangesOctets}
+use Rattle.rq_elimination.specs.OctetBatch.{octet_in}
+use Rattle.rq_solver.specs.HdpcRows.{octets_from, ChangesOctets}
 use Rattle.rq_solver.proofs.OctetTurns.{octets_still, beside_still, changes_combined, changes_more, column_skipped}
 use Rattle.rq_solver.proofs.pi_solver.first_phase.hdpc.clear_column.Goals as goal
 use Rattle.rq_solver.proofs.pi_solver.first_phase.hdpc.clear_column.Goals.{After-place_of-place}

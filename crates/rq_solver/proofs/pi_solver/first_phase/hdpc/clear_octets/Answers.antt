@@ -2,10 +2,12 @@
 use Rattle.std.proofs.Common.{◌≡◌, ◌≢◌, ℕ, ◌+◌, ◌-◌, ◌<◌, ◌≤◌, length, refl, sym, ap, ◌∙◌, subst, arith, inl, inr}
 use Rattle.std.proofs.lemmas.Bool.{cases_lt}
 use Rattle.rq_algebra.specs.Systems.{at}
-use Rattle.rq_solver.proofs.CountLaws.{batch_sum, few_places, met_none, met_skipped, met_more}
+use Rattle.rq_solver.proofs.CountLaws.{batch_sum, met_none, met_skipped, met_more}
+use Rattle.rq_peeling.proofs.PlaceCounts.{few_places}
 use Rattle.rq_parts.specs.DenseOctetMatrix.{OctetTable, entry_of}
-use Rattle.rq_solver.specs.OctetBatch.{AreOctetsIn, HasPivotsBeside, ChangesOctets, CombinesOctets, octet_in, octets_from}
-use Rattle.rq_solver.proofs.OctetBatchLaws.{from_column}
+use Rattle.rq_solver.specs.HdpcRows.{AreOctetsIn, HasPivotsBeside, ChangesOctets, CombinesOctets, octets_from}
+use Rattle.rq_elimination.specs.OctetBatch.{octet_in}
+use Rattle.rq_solver.proofs.OctetColumns.{from_column}
 use Rattle.rq_solver.proofs.OctetTurns.{octets_still, beside_still, in_width, changes_none, changes_same, changes_combined, changes_more, clears_octets, clears_none}
 use Rattle.rq_solver.proofs.pi_solver.first_phase.hdpc.clear_octets.Goals as goal
 use Rattle.rq_solver.proofs.pi_solver.first_phase.hdpc.clear_octets.Goals.{then-height-eq0-via-then-height-eq0, then-height-eq0-via-else-height-eq0+then-are_zeros_at_pivots}

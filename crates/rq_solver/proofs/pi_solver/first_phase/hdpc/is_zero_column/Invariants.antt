@@ -1,5 +1,5 @@
 -- What the loops keep in `pi_solver::first_phase::hdpc::is_zero_column`.
-use Rattle.rq_solver.specs.OctetBatch.{HasZeros}
+use Rattle.rq_solver.specs.HdpcRows.{HasZeros}
 use Rattle.rq_solver.proofs.pi_solver.first_phase.hdpc.is_zero_column.Given as goal
 
 abbrev pub invariant-loop-row : goal.invariant-loop-row

@@ -3,8 +3,8 @@ use Rattle.std.proofs.Common.{◌≡◌, ℕ, ◌+◌, ◌-◌, ◌<◌, ◌≤�
 use Rattle.rq_algebra.specs.Systems.{sum_below}
 use Rattle.rq_standard.specs.OctetField.{octets}
 use Rattle.rq_parts.specs.DenseOctetMatrix.{entry_of, HasOctets}
-use Rattle.rq_solver.specs.OperationCounts.{additions}
-use Rattle.rq_solver.specs.OctetBatch.{CombinesOctets}
+use Rattle.rq_elimination.specs.OperationCounts.{additions}
+use Rattle.rq_solver.specs.HdpcRows.{CombinesOctets}
 use Rattle.rq_solver.proofs.pi_solver.first_phase.hdpc.sum_rows.Given as goal
 
 abbrev pub invariant-loop-row : goal.invariant-loop-row

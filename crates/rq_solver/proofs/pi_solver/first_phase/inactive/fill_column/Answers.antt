@@ -2,7 +2,7 @@
 use Rattle.std.proofs.Common.{◌<◌, length, lit<, arith}
 use Rattle.rq_algebra.specs.Systems.{at}
 use Rattle.rq_solver.proofs.LeadingRows.{column_first, column_next}
-use Rattle.rq_solver.proofs.Writes.{sets_entry}
+use Rattle.rq_elimination.proofs.Writes.{sets_entry}
 use Rattle.rq_solver.proofs.pi_solver.first_phase.inactive.fill_column.Goals as goal
 
 pub loop-row-init : goal.loop-row-init

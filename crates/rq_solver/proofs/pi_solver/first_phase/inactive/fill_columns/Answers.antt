@@ -2,9 +2,9 @@
 use Rattle.std.proofs.Common.{◌≡◌, ◌+◌, ◌<◌, ◌==◌, ℕ, count_by, length, min, ap, ◌∙◌, arith, inl, inr}
 use Rattle.std.proofs.lemmas.Bool.{cases_eq}
 use Rattle.rq_algebra.specs.Systems.{at}
-use Rattle.rq_solver.specs.Cleared.{one_in}
-use Rattle.rq_solver.specs.ColumnRows.{rows_with}
-use Rattle.rq_solver.proofs.ActiveOnes.{count_rows}
+use Rattle.rq_peeling.specs.SystemRows.{one_in}
+use Rattle.rq_peeling.specs.ColumnRows.{rows_with}
+use Rattle.rq_peeling.proofs.ActiveOnes.{count_rows}
 use Rattle.rq_solver.proofs.pi_solver.first_phase.inactive.fill_columns.Goals as goal
 
 pub loop-f-preserved : goal.loop-f-preserved

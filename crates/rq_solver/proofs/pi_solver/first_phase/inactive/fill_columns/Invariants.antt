@@ -2,7 +2,7 @@
 use Rattle.std.proofs.Common.{◌≡◌, ℕ, ◌+◌, ◌<◌, ◌≤◌, length}
 use Rattle.rq_algebra.specs.Systems.{at}
 use Rattle.rq_parts.specs.DenseOctetMatrix.{entry_of, HasOctets}
-use Rattle.rq_solver.specs.Cleared.{one_in}
+use Rattle.rq_peeling.specs.SystemRows.{one_in}
 use Rattle.rq_solver.proofs.pi_solver.first_phase.inactive.fill_columns.Given as goal
 
 abbrev pub invariant-loop-f : goal.invariant-loop-f

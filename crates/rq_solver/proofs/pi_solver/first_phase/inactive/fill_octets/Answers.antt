@@ -4,7 +4,7 @@ use Rattle.std.proofs.lemmas.List.{get_or-drop, length-drop}
 use Rattle.std.proofs.lemmas.Result.{on_ok_weaker}
 use Rattle.rq_algebra.specs.Systems.{at}
 use Rattle.rq_parts.specs.DenseOctetMatrix.{entry_of, row_at}
-use Rattle.rq_solver.proofs.WithOctets.{octets_filled}
+use Rattle.rq_elimination.proofs.WithOctets.{octets_filled}
 use Rattle.rq_solver.proofs.pi_solver.first_phase.inactive.fill_octets.Goals as goal
 
 pub returns-clause-written : goal.returns-clause-written

@@ -1,0 +1,15 @@
+pub mod AdditionLaws
+pub mod Choices
+pub mod EntryRows
+pub mod NonzeroOctets
+pub mod OctetBatchLaws
+pub mod OctetEntries
+pub mod OwnRows
+pub mod Performing
+pub mod RecordedLaws
+pub mod RowStepLaws
+pub mod StepColumns
+pub mod SwappedRows
+pub mod UnpackedBits
+pub mod WithOctets
+pub mod Writes

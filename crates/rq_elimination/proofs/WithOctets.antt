@@ -1,0 +1,45 @@
+-- Rows whose first octets are those that another one has in columns.
+use Rattle.std.proofs.Common.{◌≡◌, ℕ, ◌+◌, ◌<◌, ◌≤◌, List, [], ◌∷◌, ◌++◌, length, map, take, drop, set, sym, ap, ◌∙◌, arith}
+use Rattle.std.proofs.Math.ListN.{get_or-append}
+use Rattle.std.proofs.Math.Seq.{append_snoc, set-append_seam}
+use Rattle.std.proofs.lemmas.List.{drop_more, ext_get_or, get_or-map, length-append, length-drop, length-map, length-set, length-take-le, map-append, take_more}
+use Rattle.rq_algebra.specs.Systems.{at}
+use Rattle.rq_parts.specs.DenseOctetMatrix.{OctetTable, entry_of, HasOctets, row_at, with_row}
+use Rattle.rq_elimination.specs.InactiveEntries.{with_octets}
+use Rattle.rq_elimination.specs.RowWrites.{FillsRow}
+use Rattle.rq_elimination.proofs.OctetEntries.{entry_of-with_row_same, entry_of-with_row_other}
+
+module _ (octets columns row : List ℕ) where
+  pub length-octets : length columns ≤ length row → length (with_octets octets columns row) ≡ length row
+  length-octets room = omega (arith, length-append (map (at octets) columns) (drop (length columns) row), length-map columns (at octets), length-drop (length columns) row)
+
+  -- one octet more
+  pub octets_next : (f : ℕ) → f < length columns → f < length row → set (map (at octets) (take f columns) ++ drop f row) f (at octets (at columns f)) ≡ map (at octets) (take (f + 1) columns) ++ drop (f + 1) row
+  octets_next f l m =
+      let first : List ℕ = map (at octets) (take f columns) in
+      let next : ℕ = at octets (at columns f) in
+      let long : length first ≡ f = length-map (take f columns) (at octets) ∙ length-take-le f columns (omega arith) in
+      ap (λ (behind : List ℕ). set (first ++ behind) f next) (drop_more row f 0 m)
+      ∙ ap (λ n. set (first ++ at row f ∷ drop (f + 1) row) n next) (sym long)
+      ∙ set-append_seam first (at row f) (drop (f + 1) row) next
+      ∙ sym (append_snoc first next (drop (f + 1) row))
+      ∙ ap (λ (r : List ℕ). r ++ drop (f + 1) row) (sym (map-append (at octets) (take f columns) (at columns f ∷ [])) ∙ ap (map (at octets)) (sym (take_more columns f 0 l)))
+
+  pub octets_of_none : length row ≡ 0 → length columns ≤ length row → with_octets octets columns row ≡ row
+  octets_of_none none room =
+      let long = length-octets room in
+      ext_get_or 0 (with_octets octets columns row) row long (λ i l. absurd (omega (arith, l, long, none)))
+
+  pub octet_first : (f : ℕ) → f < length columns → at (with_octets octets columns row) f ≡ at octets (at columns f)
+  octet_first f l = get_or-append (map (at octets) columns) (drop (length columns) row) 0 f (omega (arith, length-map columns (at octets))) ∙ get_or-map (at octets) columns f 0 0 l
+
+-- the first entries of a row are then these
+pub octets_filled : (row count : ℕ) (octets columns : List ℕ) (wanted : ℕ → ℕ) (old new : OctetTable) → row < length old.rows → count ≤ length columns → ((f : ℕ) → f < count → at octets (at columns f) ≡ wanted f) → HasOctets new
+    → new ≡ with_row old row (with_octets octets columns (row_at old row)) → FillsRow row count wanted old new
+octets_filled row count octets columns wanted old new inside few same are is = record {
+  width = ap (λ (t : OctetTable). t.width) is;
+  height = ap (λ (t : OctetTable). length t.rows) is ∙ length-set old.rows row _;
+  octets = are;
+  here = λ f l. ap (λ (t : OctetTable). entry_of t row f) is ∙ entry_of-with_row_same old row _ f inside ∙ octet_first octets columns (row_at old row) f (omega arith) ∙ same f l;
+  elsewhere = λ i k d. ap (λ (t : OctetTable). entry_of t i k) is ∙ entry_of-with_row_other old row _ i k d;
+}

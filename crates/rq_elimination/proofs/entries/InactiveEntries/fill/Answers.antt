@@ -1,0 +1,29 @@
+-- What the check leaves to show of `pi_solver::entries::InactiveEntries::fill`.
+use Rattle.std.proofs.Common.{List, ℕ, ap, ◌∙◌}
+use Rattle.rq_parts.specs.DenseOctetMatrix.{row_at, with_row}
+use Rattle.rq_elimination.specs.InactiveEntries.{with_octets}
+use Rattle.rq_elimination.proofs.EntryRows.{bits_place, filled_long, filled_place, filled_read, filled_written, filled_written_seen, has_octets, own_place}
+use Rattle.rq_elimination.proofs.entries.InactiveEntries.fill.Goals as goal
+
+pub get-bits-requires : goal.get-bits-requires
+get-bits-requires c = bits_place c.self.inside c.self.invariant c.self.view_is c.args.row c.requires.row
+
+pub ensure-requires-clause-row : goal.ensure-requires-clause-row
+ensure-requires-clause-row c = own_place c.self.inside c.self.invariant c.self.view_is c.args.row c.requires.row
+
+pub fill-requires-clause-row : goal.fill-requires-clause-row
+fill-requires-clause-row c = filled_place c.self.inside c.self.invariant c.self.view_is c.args.row c.requires.row c.ensure.new.self _ c.get-bits.ensures.symbol c.in_ok-ensure.ensures.row c.args.row (own_place c.self.inside c.self.invariant c.self.view_is c.args.row c.requires.row)
+
+pub fill-requires-clause-own : goal.fill-requires-clause-own
+fill-requires-clause-own c = filled_long c.self.inside c.self.invariant c.self.view_is c.args.row c.requires.row c.ensure.new.self _ c.get-bits.ensures.symbol c.in_ok-ensure.ensures.row
+
+pub invariant_of-self-2 : goal.invariant_of-self-2
+invariant_of-self-2 c = filled_written c.self.inside c.self.invariant c.self.view_is c.args.row c.requires.row c.ensure.new.self _ c.get-bits.ensures.symbol c.in_ok-ensure.ensures.row c.fill.new.self _ c.fill.ensures.filled c.fill.ensures.octets
+
+pub returns-clause-ok : goal.returns-clause-ok
+returns-clause-ok c =
+    filled_written_seen c.self.inside c.self.invariant c.self.view_is c.args.row c.requires.row c.ensure.new.self _ c.get-bits.ensures.symbol c.in_ok-ensure.ensures.row c.fill.new.self _ c.fill.ensures.filled c.fill.ensures.octets
+    ∙ ap (λ (r : List ℕ). with_row c.args.self.now c.args.row (with_octets (row_at c.args.octets.now c.args.from) c.args.columns.now r)) (filled_read c.self.inside c.self.invariant c.self.view_is c.args.row c.requires.row c.ensure.new.self _ c.get-bits.ensures.symbol c.in_ok-ensure.ensures.row)
+
+pub returns-clause-octets : goal.returns-clause-octets
+returns-clause-octets c = has_octets c.fill.new.self.width c.self.inside.bits c.fill.new.self.rows (filled_written c.self.inside c.self.invariant c.self.view_is c.args.row c.requires.row c.ensure.new.self _ c.get-bits.ensures.symbol c.in_ok-ensure.ensures.row c.fill.new.self _ c.fill.ensures.filled c.fill.ensures.octets)

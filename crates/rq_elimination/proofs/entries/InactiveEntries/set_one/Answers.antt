@@ -1,0 +1,48 @@
+-- What the check leaves to show of `pi_solver::entries::InactiveEntries::set_one`.
+use Rattle.std.proofs.Common.{ℕ, List, set, ap, refl, ◌∙◌}
+use Rattle.rq_parts.specs.DenseOctetMatrix.{with_row}
+use Rattle.rq_elimination.specs.InactiveEntries.{unpacked}
+use Rattle.rq_elimination.proofs.EntryRows.{bits_place, bits_written, bits_written_seen, own_octets, own_place, read_is, row_unpacked, width_is, written, written_seen}
+use Rattle.rq_elimination.proofs.entries.InactiveEntries.set_one.Goals as goal
+
+-- ---- a row of bits
+
+pub is_none-requires : goal.is_none-requires
+is_none-requires c = own_place c.self.inside c.self.invariant c.self.view_is c.args.row c.requires.row
+
+pub get_mut-requires : goal.get_mut-requires
+get_mut-requires c = bits_place c.self.inside c.self.invariant c.self.view_is c.args.row c.requires.row
+
+pub invariant_of-self : goal.invariant_of-self
+invariant_of-self c =
+    let bits = c.set_bit.new.bits in
+    let long = c.set_bit.auto.bits ∙ c.get_mut.ensures.len in
+    bits_written c.self.inside c.self.invariant c.self.view_is c.args.row c.requires.row (c.if-is_none.ensures.none refl) bits long _ (c.get_mut.ensures.whole_symbol bits long)
+
+pub returns-then-is_none : goal.returns-then-is_none
+returns-then-is_none c =
+    let width = c.self.inside.octets.width in
+    let bits = c.set_bit.new.bits in
+    let long = c.set_bit.auto.bits ∙ c.get_mut.ensures.len in
+    let one = λ (r : List ℕ). set r c.args.column 1 in
+    bits_written_seen c.self.inside c.self.invariant c.self.view_is c.args.row c.requires.row (c.if-is_none.ensures.none refl) bits long _ (c.get_mut.ensures.whole_symbol bits long)
+    ∙ ap (with_row c.args.self.now c.args.row) (
+    c.set_bit.ensures width (rw (width_is c.self.inside c.self.invariant c.self.view_is) c.requires.column)
+    ∙ ap (λ (b : List ℕ). one (unpacked width b)) (c.get_mut.ensures.symbol ∙ read_is c.self.inside c.self.invariant c.self.view_is c.args.row c.requires.row)
+    ∙ ap one (row_unpacked c.self.inside c.self.invariant c.self.view_is c.args.row c.requires.row (c.if-is_none.ensures.none refl)))
+
+-- ---- a row of octets
+
+pub set_one-requires-clause-row : goal.set_one-requires-clause-row
+set_one-requires-clause-row c = own_place c.self.inside c.self.invariant c.self.view_is c.args.row c.requires.row
+
+pub set_one-requires-clause-column : goal.set_one-requires-clause-column
+set_one-requires-clause-column c = rw (width_is c.self.inside c.self.invariant c.self.view_is) c.requires.column
+
+pub invariant_of-self-else-is_none : goal.invariant_of-self-else-is_none
+invariant_of-self-else-is_none c = written c.self.inside c.self.invariant c.self.view_is c.args.row c.requires.row c.self.inside.octets c.set_one.new.self _ c.set_one.ensures.set c.set_one.ensures.octets refl
+
+pub returns-else-is_none : goal.returns-else-is_none
+returns-else-is_none c =
+    written_seen c.self.inside c.self.invariant c.self.view_is c.args.row c.requires.row c.self.inside.octets c.set_one.new.self _ c.set_one.ensures.set c.set_one.ensures.octets refl
+    ∙ ap (λ (r : List ℕ). with_row c.args.self.now c.args.row (set r c.args.column 1)) (own_octets c.self.inside c.self.invariant c.self.view_is c.args.row c.requires.row (c.if-is_none.ensures.own refl))

@@ -1,0 +1,14 @@
+-- What the check leaves to show of `pi_solver::entries::packed_bits::bit_products`.
+use Rattle.std.proofs.Common.{◌++◌, ap, ◌∙◌, eqb, replicate, w8}
+use Rattle.std.proofs.lemmas.Simd.{tops_compared}
+use lib.Bits.{bit_and}
+use lib.Lanes.{zip2, sel_l, pick_l}
+use Rattle.rq_elimination.specs.declared.entries.packed_bits.TheConstants.{MASKS, PLACES}
+use Rattle.rq_elimination.proofs.UnpackedBits.{masked_bits}
+use Rattle.rq_elimination.proofs.entries.packed_bits.bit_products.Goals as goal
+
+pub returns : goal.returns
+returns c =
+    let lanes = pick_l 0 (c.args.bits ++ c.args.bits) PLACES in
+    ap (λ ms. sel_l ms (replicate 32 c.args.scalar) (replicate 32 0)) (tops_compared w8 eqb (zip2 bit_and lanes MASKS) MASKS)
+    ∙ masked_bits c.args.scalar c.args.bits c.ranges.scalar.fits c.requires

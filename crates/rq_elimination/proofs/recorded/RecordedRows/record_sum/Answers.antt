@@ -1,0 +1,12 @@
+-- What the check leaves to show of `pi_solver::recorded::RecordedRows::record_sum`.
+use Rattle.std.proofs.Common.{sym}
+use Rattle.rq_elimination.proofs.RecordedLaws.{sum_counted, sum_recorded}
+use Rattle.rq_elimination.proofs.recorded.RecordedRows.record_sum.Goals as goal
+
+pub returns-clause-recorded : goal.returns-clause-recorded
+returns-clause-recorded c =
+    sum_recorded c.self.inside.table c.self.inside.operations c.push.new.self c.args.self.now c.self.view_is _ c.in_ok-push.ensures.recorded c.args.dest c.requires.dest c.args.scalar
+    c.args.src (λ e. c.requires.two (sym e)) c.requires.src c.addition.ensures
+
+pub returns-clause-counted : goal.returns-clause-counted
+returns-clause-counted c = sum_counted c.self.inside.table c.self.inside.operations c.push.new.self c.args.self.now c.self.view_is _ c.in_ok-push.ensures.recorded c.args.dest c.args.src c.args.scalar c.addition.ensures

@@ -1,0 +1,234 @@
+//! The octets that rows have of their own.
+ghost use Rattle.std.specs.Prelude.{◌≡◌, ◌≢◌, ◌*◌, ◌%◌, ◌+◌, ◌^◌, ◌<◌, ◌≤◌, ◌++◌, ◌∷◌, [], true, false, None, All, length, replicate, slice_set, IfOk, OnOk, IfErr, OnErr};
+ghost use Rattle.rq_algebra.specs.Systems.{at};
+ghost use Rattle.rq_bytes.specs.declared.error.Error.TheVariants.{OutOfMemory};
+ghost use Rattle.rq_parts.specs.DenseOctetMatrix.{IsOctetRow, row_at, with_row};
+ghost use Rattle.rq_elimination.specs.InactiveEntries.{place_before, row_of, unpacked, with_octets};
+ghost use Rattle.rq_standard.specs.Rows.{row_sum, row_multiple};
+
+use super::packed_bits::add_bits;
+use rq_bytes::error::Error;
+use rq_bytes::factor::{add_row_multiple, multiply_row};
+use rq_bytes::octet::Octet;
+use rq_bytes::octets::are_octets;
+use rq_bytes::symbol_slab::SymbolSlab;
+use rq_parts::octet_matrix::DenseOctetMatrix;
+use std::alloc::Global;
+use std::marker::Model;
+
+// For how many rows room is made with the first. The standard's tables have no more HDPC rows; where
+// one's own have more, the buffer grows.
+const FIRST_ROWS: usize = 16;
+
+/// The octets that rows have of their own, none where a row is bits. They stand in one buffer, in the
+/// order in which the rows got them. Contracts see the lists of all rows.
+#[derive(Drop)]
+pub(super) struct OwnOctets {
+    rows: SymbolSlab,
+    // The place of each row in the buffer, counted from 1, and 0 where the row has none. Rows are asked
+    // in any order, and these stay in a near cache.
+    places: Vec<u32>,
+}
+
+impl Model for OwnOctets {
+    ghost use Rattle.rq_parts.specs.DenseOctetMatrix.{OctetTable};
+    ghost use Rattle.rq_elimination.specs.InactiveEntries.{ArePlaced, own_rows};
+
+    ghost Value = { OctetTable };
+
+    ghost view = { λ own. record { width = own.rows.symbol_size; rows = own_rows own.rows.values own.places.items } };
+
+    ghost invariant = { λ own. ArePlaced own.rows own.places.items };
+}
+
+impl OwnOctets {
+    /// Rows that have none, and that each get so many where they get some.
+    pub(super) fn new(alloc: Global, height: usize, width: usize) -> Result<OwnOctets, Error>
+        requires few { height < 2 ^ 31 }
+        requires narrow { width < 2 ^ 17 }
+        requires whole { width % 32 ≡ 0 }
+        ensures none { IfOk result (λ own. own ≡ record { width = width; rows = replicate height [] }) }
+        ensures err { IfErr result (λ e. e ≡ OutOfMemory) }
+    {
+        Ok(OwnOctets {
+            rows: SymbolSlab::from_bytes(Vec::new(alloc), 0, width),
+            places: vec![in alloc; 0; height]?,
+        })
+    }
+
+    /// How many octets a row has that has some.
+    #[inline(always)]
+    pub(super) fn width(&self) -> usize
+        ensures { result ≡ self.now.width }
+    {
+        self.rows.symbol_size()
+    }
+
+    /// Whether a row has none.
+    #[inline(always)]
+    pub(super) fn is_none(&self, row: usize) -> bool
+        requires { row < length self.now.rows }
+        ensures none { result ≡ true → length (row_at self.now row) ≡ 0 }
+        ensures own { result ≡ false → length (row_at self.now row) ≡ self.now.width }
+    {
+        self.places[row] == 0
+    }
+
+    /// Those of a row that has some.
+    #[inline(always)]
+    pub(super) fn row(&self, row: usize) -> &[u8]
+        requires row { row < length self.now.rows }
+        requires own { length (row_at self.now row) ≡ self.now.width }
+        ensures { result.now ≡ row_at self.now row }
+    {
+        match place_of(self.places.as_slice(), row) {
+            Some(place) => self.rows.get(place),
+            None => &[],
+        }
+    }
+
+    /// Makes octets of a row's bits, where it has none.
+    #[inline(always)]
+    pub(super) fn ensure(&mut self, row: usize, bits: &[u8]) -> Result<(), Error>
+        requires row { row < length self.old.rows }
+        requires room { self.old.width ≤ 8 * length bits.now }
+        ensures row { OnOk result (self.new ≡ with_row self.old row (row_of self.old.width bits.now (row_at self.old row))) }
+        ensures refused { OnErr result (self.new ≡ self.old) }
+        ensures err { IfErr result (λ e. e ≡ OutOfMemory) }
+    {
+        if self.places[row] == 0 {
+            push_bits(&mut self.rows, bits)?;
+            self.places[row] = self.rows.len() as u32;
+        }
+        Ok(())
+    }
+
+    /// Sets the first octets of a row to those of another matrix's row in columns.
+    pub(super) fn fill(
+        &mut self,
+        row: usize,
+        octets: &DenseOctetMatrix,
+        from: usize,
+        columns: &[u16],
+    )
+        requires row { row < length self.old.rows }
+        requires own { length (row_at self.old row) ≡ self.old.width }
+        requires from { from < length octets.now.rows }
+        requires columns { All (λ column. column < octets.now.width) columns.now }
+        requires room { length columns.now ≤ self.old.width }
+        ensures filled { self.new ≡ with_row self.old row (with_octets (row_at octets.now from) columns.now (row_at self.old row)) }
+        ensures octets { IsOctetRow self.old.width (row_at self.new row) }
+    {
+        if let Some(place) = place_of(self.places.as_slice(), row) {
+            let own = self.rows.get_mut(place);
+            copy_columns(own, octets, from, columns);
+            are_octets(own);
+        }
+    }
+
+    /// Sets an octet of a row to 1.
+    pub(super) fn set_one(&mut self, row: usize, column: usize)
+        requires row { row < length self.old.rows }
+        requires own { length (row_at self.old row) ≡ self.old.width }
+        requires column { column < self.old.width }
+        ensures set { self.new ≡ with_row self.old row (slice_set (row_at self.old row) column 1) }
+        ensures octets { IsOctetRow self.old.width (row_at self.new row) }
+    {
+        if let Some(place) = place_of(self.places.as_slice(), row) {
+            let octets = self.rows.get_mut(place);
+            octets[column] = 1;
+            are_octets(octets);
+        }
+    }
+
+    /// Multiplies the octets of a row.
+    pub(super) fn multiply(&mut self, row: usize, scalar: &Octet)
+        requires row { row < length self.old.rows }
+        requires own { length (row_at self.old row) ≡ self.old.width }
+        ensures multiple { self.new ≡ with_row self.old row (row_multiple scalar.now (row_at self.old row)) }
+        ensures octets { IsOctetRow self.old.width (row_at self.new row) }
+    {
+        if let Some(place) = place_of(self.places.as_slice(), row) {
+            let octets = self.rows.get_mut(place);
+            multiply_row(octets, scalar);
+            are_octets(octets);
+        }
+    }
+
+    /// Adds a multiple of a row of bits to a row's octets.
+    pub(super) fn add_bits(&mut self, row: usize, bits: &[u8], scalar: &Octet)
+        requires row { row < length self.old.rows }
+        requires own { length (row_at self.old row) ≡ self.old.width }
+        requires room { self.old.width ≤ 8 * length bits.now }
+        ensures sum { self.new ≡ with_row self.old row (row_sum (row_at self.old row) (row_multiple scalar.now (unpacked self.old.width bits.now))) }
+        ensures octets { IsOctetRow self.old.width (row_at self.new row) }
+    {
+        if let Some(place) = place_of(self.places.as_slice(), row) {
+            let octets = self.rows.get_mut(place);
+            add_bits(octets, bits, scalar.byte());
+            are_octets(octets);
+        }
+    }
+
+    /// Adds a multiple of a row's octets to those of another one.
+    pub(super) fn add_multiple(&mut self, dest: usize, src: usize, scalar: &Octet)
+        requires two { dest ≢ src }
+        requires dest { dest < length self.old.rows }
+        requires src { src < length self.old.rows }
+        requires own { length (row_at self.old dest) ≡ self.old.width }
+        requires other { length (row_at self.old src) ≡ self.old.width }
+        ensures sum { self.new ≡ with_row self.old dest (row_sum (row_at self.old dest) (row_multiple scalar.now (row_at self.old src))) }
+        ensures octets { IsOctetRow self.old.width (row_at self.new dest) }
+    {
+        let places = self.places.as_slice();
+        if let (Some(to), Some(from)) = (place_of(places, dest), place_of(places, src)) {
+            let (sum, other) = self.rows.get_pair_mut(to, from);
+            add_row_multiple(sum, other, scalar);
+            are_octets(sum);
+        }
+    }
+}
+
+// The place in the buffer of the octets of a row, counted from 0. A row of no octets may have none.
+#[inline(always)]
+fn place_of(places: &[u32], row: usize) -> Option<usize>
+    requires { row < length places.now }
+    ensures { result ≡ place_before (at places.now row) }
+{
+    match places[row] {
+        0 => None,
+        place => Some(place as usize - 1),
+    }
+}
+
+// Sets the first octets to those of a matrix's row in columns.
+fn copy_columns(own: &mut [u8], octets: &DenseOctetMatrix, from: usize, columns: &[u16])
+    requires from { from < length octets.now.rows }
+    requires columns { All (λ column. column < octets.now.width) columns.now }
+    requires room { length columns.now ≤ length own.old }
+    ensures { own.new ≡ with_octets (row_at octets.now from) columns.now own.old }
+{
+    for (f, column) in columns.iter().enumerate() {
+        own[f] = octets.get(from, *column as usize).byte();
+    }
+}
+
+// Appends a row of bits as octets.
+fn push_bits(rows: &mut SymbolSlab, bits: &[u8]) -> Result<(), Error>
+    requires no_order { rows.old.order ≡ None }
+    requires few { length rows.old.values < 2 ^ 31 }
+    requires room { rows.old.symbol_size ≤ 8 * length bits.now }
+    requires narrow { rows.old.symbol_size < 2 ^ 17 }
+    requires whole { rows.old.symbol_size % 32 ≡ 0 }
+    ensures ok { OnOk result (rows.new ≡ record rows.old { values = rows.old.values ++ unpacked rows.old.symbol_size bits.now ∷ [] }) }
+    ensures refused { OnErr result (rows.new ≡ rows.old) }
+    ensures err { IfErr result (λ e. e ≡ OutOfMemory) }
+{
+    let place = rows.len();
+    if place == 0 {
+        rows.reserve(FIRST_ROWS)?;
+    }
+    rows.push_zeros()?;
+    add_bits(rows.get_mut(place), bits, 1);
+    Ok(())
+}

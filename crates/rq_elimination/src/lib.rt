@@ -1,0 +1,9 @@
+//! What an elimination over the inactive columns works on (RFC 6330, sections 5.4.2.3 to 5.4.2.6): the
+//! entries of rows there, and the operations that are recorded for the symbols. Behind `rq_solver`.
+#![tactic(auto)]
+
+pub mod counts;
+pub mod elimination;
+pub mod entries;
+pub mod octet_batch;
+pub mod recorded;

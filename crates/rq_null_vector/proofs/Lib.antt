@@ -1,0 +1,4 @@
+pub mod FreeColumns
+pub mod Outcomes
+pub mod ReducedRows
+pub mod ZeroValues

@@ -1,0 +1,7 @@
+-- What the loops keep in `pi_solver::rows::copy_dense_bits`.
+use Rattle.std.proofs.Common.{min, count_by, take, ◌==◌}
+use Rattle.rq_elimination.specs.RowWrites.{WritesRow}
+use Rattle.rq_null_vector.proofs.octet_rows.copy_dense_bits.Given as goal
+
+abbrev pub invariant-loop-column : goal.invariant-loop-column
+invariant-loop-column g l = WritesRow l.row l.boundary l.fn.rows.width (λ k. min 1 (count_by (λ place. place == k) (take l.column-index l.column-items))) l.fn.rows l.rows

@@ -1,0 +1,40 @@
+-- Columns that solve rows with all values zero, and an elimination that looks for one.
+use Rattle.std.specs.Prelude.{◌≡◌, ◌≢◌, ℕ, ◌<◌, ◌≤◌, List, length, Option, MatchOption, Vec}
+use Rattle.std.specs.Global.{Global}
+use Rattle.rq_algebra.specs.Steps.{SameSolutions}
+use Rattle.rq_algebra.specs.Systems.{at, IsColumn, IsDetermined, Solves}
+use Rattle.rq_standard.specs.BitTable.{BitTable}
+use Rattle.rq_standard.specs.ConstraintMatrix.{with_octet_rows}
+use Rattle.rq_standard.specs.OctetField.{octets}
+use Rattle.rq_parts.specs.DenseOctetMatrix.{OctetTable, entry_of, HasOctets}
+use Rattle.rq_elimination.specs.RowSteps.{IsReduced}
+
+-- octets, not all of them zero, that solve the rows with all values zero
+pub record IsHomogeneousColumn (height width : ℕ) (rows : ℕ → ℕ → ℕ) (column : List ℕ) : Type 0 where
+  pub count : length column ≡ width
+  pub elements : IsColumn octets width (at column)
+  pub solves : Solves octets height width rows (at column) (λ _. 0)
+  pub index : ℕ
+  pub below : index < width
+  pub nonzero : at column index ≢ 0
+
+-- such a column, and none where only zeros solve the rows
+abbrev pub ShowsHomogeneous : ℕ → ℕ → (ℕ → ℕ → ℕ) → Option (Vec ℕ Global) → Type 0
+ShowsHomogeneous height width rows answer = MatchOption answer (IsDetermined octets height width rows) (λ column. IsHomogeneousColumn height width rows column.items)
+
+-- the same of the rows of a matrix of bits, but those of a matrix of octets in the places from `first` on
+abbrev pub ShowsHomogeneousRows : BitTable → OctetTable → ℕ → Option (Vec ℕ Global) → Type 0
+ShowsHomogeneousRows bits octet_rows first = ShowsHomogeneous bits.height bits.width (with_octet_rows first (length octet_rows.rows) bits.bit (entry_of octet_rows))
+
+-- with all values zero the rows of both tables have the same solutions
+pub record KeepsZeros (old new : OctetTable) : Type 0 where
+  pub width : new.width ≡ old.width
+  pub height : length new.rows ≡ length old.rows
+  pub octets_are : HasOctets new
+  pub same : SameSolutions octets (length old.rows) old.width (entry_of old) (λ _. 0) (entry_of new) (λ _. 0)
+
+-- the first rows have pivots in the columns before this one, and the others have 0 in it
+pub record LacksPivot (rows : List ℕ) (column : ℕ) (table : OctetTable) : Type 0 where
+  pub below : column < table.width
+  pub reduced : IsReduced rows 0 column table
+  pub empty : (i : ℕ) → column ≤ i → i < length rows → entry_of table (at rows i) column ≡ 0

@@ -1,0 +1,105 @@
+//! A solver's equations as rows of octets.
+ghost use Rattle.std.specs.Prelude.{◌≡◌, ℕ, ◌<◌, ◌≤◌, length, IfOk, OnOk, IfErr};
+ghost use Rattle.rq_bytes.specs.declared.error.Error.TheVariants.{OutOfMemory};
+ghost use Rattle.rq_standard.specs.ConstraintMatrix.{with_octet_rows};
+ghost use Rattle.rq_parts.specs.DenseOctetMatrix.{entry_of, HasOctets};
+ghost use Rattle.rq_elimination.specs.RowWrites.{WritesRow, HoldsRows};
+
+use rq_bytes::error::Error;
+use rq_bytes::octet::Octet;
+use rq_matrix::matrix::BinaryMatrix;
+use rq_parts::octet_matrix::DenseOctetMatrix;
+use std::alloc::Global;
+
+/// The rows of a matrix of bits, but those of a matrix of octets in the places from `first_hdpc`
+/// on.
+pub fn octet_rows<T: BinaryMatrix>(
+    alloc: Global,
+    bits: &T,
+    boundary: usize,
+    hdpc: &DenseOctetMatrix,
+    first_hdpc: usize,
+) -> Result<DenseOctetMatrix, Error>
+    requires boundary { boundary ≡ (T.content bits.now).boundary }
+    requires hdpc_width { hdpc.now.width ≡ (T.content bits.now).width }
+    ensures rows { IfOk result (HoldsRows (T.content bits.now).height (T.content bits.now).width (T.content bits.now).height (with_octet_rows first_hdpc (length hdpc.now.rows) (T.content bits.now).bit (entry_of hdpc.now))) }
+    ensures err { IfErr result (λ e. e ≡ OutOfMemory) }
+{
+    let width = bits.width();
+    let mut rows = DenseOctetMatrix::new(alloc, bits.height(), width, 0)?;
+    let mut dense_ones = Vec::new(alloc);
+    for row in 0..bits.height() {
+        if row >= first_hdpc && row - first_hdpc < hdpc.height() {
+            copy_octets(hdpc, row - first_hdpc, width, &mut rows, row);
+        } else {
+            copy_leading_bits(bits, row, boundary, &mut rows);
+            copy_dense_bits(bits, row, boundary, &mut dense_ones, &mut rows)?;
+        }
+    }
+    Ok(rows)
+}
+
+// Copies a row of octets to a row.
+fn copy_octets(
+    octets: &DenseOctetMatrix,
+    from: usize,
+    width: usize,
+    rows: &mut DenseOctetMatrix,
+    to: usize,
+)
+    requires from { from < length octets.now.rows }
+    requires width { octets.now.width ≡ width }
+    requires to { to < length rows.old.rows }
+    requires same { rows.old.width ≡ width }
+    requires octets { HasOctets rows.old }
+    ensures { WritesRow to 0 width (entry_of octets.now from) rows.old rows.new }
+{
+    for column in 0..width {
+        let octet = Octet::new(octets.get(from, column).byte());
+        rows.set(to, column, octet);
+    }
+}
+
+// Copies the columns of a row of bits before the boundary to a row of zeros.
+fn copy_leading_bits<T: BinaryMatrix>(
+    bits: &T,
+    row: usize,
+    boundary: usize,
+    rows: &mut DenseOctetMatrix,
+)
+    requires boundary { boundary ≡ (T.content bits.now).boundary }
+    requires row { row < (T.content bits.now).height }
+    requires height { length rows.old.rows ≡ (T.content bits.now).height }
+    requires width { rows.old.width ≡ (T.content bits.now).width }
+    requires octets { HasOctets rows.old }
+    requires zeros { (k : ℕ) → k < boundary → entry_of rows.old row k ≡ 0 }
+    ensures { WritesRow row 0 boundary ((T.content bits.now).bit row) rows.old rows.new }
+{
+    for (column, octet) in bits.get_row_iter(row, 0, boundary) {
+        rows.set(row, column, octet);
+    }
+}
+
+// Copies the columns of a row of bits from the boundary on to a row of zeros.
+fn copy_dense_bits<T: BinaryMatrix>(
+    bits: &T,
+    row: usize,
+    boundary: usize,
+    ones: &mut Vec<usize>,
+    rows: &mut DenseOctetMatrix,
+) -> Result<(), Error>
+    requires boundary { boundary ≡ (T.content bits.now).boundary }
+    requires row { row < (T.content bits.now).height }
+    requires height { length rows.old.rows ≡ (T.content bits.now).height }
+    requires width { rows.old.width ≡ (T.content bits.now).width }
+    requires octets { HasOctets rows.old }
+    requires zeros { (k : ℕ) → boundary ≤ k → k < rows.old.width → entry_of rows.old row k ≡ 0 }
+    ensures ok { OnOk result (WritesRow row boundary rows.old.width ((T.content bits.now).bit row) rows.old rows.new) }
+    ensures err { IfErr result (λ e. e ≡ OutOfMemory) }
+{
+    bits.query_non_zero_columns_into(row, boundary, ones)?;
+    for column in ones.as_slice() {
+        rows.set(row, *column, Octet::one());
+    }
+    Ok(())
+}

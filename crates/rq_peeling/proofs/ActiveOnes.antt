@@ -1,0 +1,253 @@
+-- How many ones rows have in active columns.
+use Rattle.std.proofs.Common.{◌≡◌, ◌≢◌, ℕ, zero, suc, ◌+◌, ◌<◌, ◌≤◌, ◌==◌, ◌&&◌, cond, Bool, true, false, List, [], ◌∷◌, ◌++◌, All, length, take, get_or, replicate, count_by, refl, sym, ap, ◌∙◌, subst, arith, inl, inr, add-zero, zero-add}
+use Rattle.std.specs.Prelude.{nat_lt, slice_index_or}
+use Rattle.std.specs.List.{Contains, sum_by, range_with_len}
+use Rattle.std.proofs.lemmas.Bool.{cases_lt, ltb-true, lt-ltb, false_from_ne_true}
+use Rattle.std.proofs.lemmas.Bool.Decides.{eqb_tells, nat_tests}
+use Rattle.std.proofs.lemmas.List.{length-append, get_or_push, take_all, take-append-le}
+use Rattle.std.proofs.lemmas.List.FromFn.{get_or-range_with_len}
+use Rattle.std.proofs.lemmas.List.Sums.{sum_by-cons, sum_by-append, sum_by_push, get_or-le-sum_by}
+use Rattle.std.proofs.Math.ListN.{get_or-append}
+use Rattle.rq_algebra.specs.Systems.{at}
+use Rattle.rq_peeling.specs.SystemRows.{one_in}
+use Rattle.rq_peeling.specs.ColumnRows.{ColumnLists, rows_with}
+use Rattle.rq_peeling.specs.Degrees.{is_left, ones_left, is_active, active_ones, CountsActive, CountsBefore, KeepsDegrees, LowersRows, HasFewestLeft, HasLeastDegree, AllHaveNone}
+use Rattle.rq_peeling.specs.Peeled.{ones_of, ColumnState, IsActive, HasNoActive, EndsActive, TakesRow, first_columns}
+use Rattle.rq_peeling.proofs.ColumnPlacing.{count-replicate}
+
+-- ---- tests
+
+-- two tests that pass alike are the same
+pub bool_same : (a b : Bool) → (a ≡ true → b ≡ true) → (b ≡ true → a ≡ true) → a ≡ b
+bool_same true b to from = sym (to refl)
+bool_same false true to from = from refl
+bool_same false false to from = refl
+
+pub active_true : (state : ColumnState) (k : ℕ) → IsActive state k → is_active state k ≡ true
+active_true state k active = let from = active.from in let below = active.below in grind (arith, nat_tests, from, below)
+
+pub true_active : (state : ColumnState) (k : ℕ) → is_active state k ≡ true → IsActive state k
+true_active state k e = record { from = grind (arith, nat_tests, e); below = grind (arith, nat_tests, e) }
+
+pub both_true : (a b : Bool) → a ≡ true → b ≡ true → (a && b) ≡ true
+both_true true true e f = refl
+both_true false b e f = e
+both_true true false e f = f
+
+pub true_both : (a b : Bool) → (a && b) ≡ true → (a ≡ true) × (b ≡ true)
+true_both true b e = (refl, e)
+true_both false b e = (e, absurd_false b e) where
+  absurd_false : (b : Bool) → false ≡ true → b ≡ true
+  absurd_false true e = refl
+  absurd_false false e = e
+
+pub not_both : (b : Bool) → b ≡ true → b ≡ false → ⊥
+not_both b e f = let n : ◌≡◌ {A = ℕ} 1 0 = sym (ap (λ b. cond b 1 0) e) ∙ ap (λ b. cond b 1 0) f in omega (arith, n)
+
+-- ---- counts of elements
+
+-- tests that agree on all elements count the same
+pub count_same : (p q : ℕ → Bool) (xs : List ℕ) → ((k : ℕ) → Contains xs k → p k ≡ q k) → count_by p xs ≡ count_by q xs
+count_same p q [] same = refl
+count_same p q (x ∷ xs) same =
+    sum_by-cons (λ k. cond (p k) 1 0) x xs
+    ∙ ap (λ b. cond b 1 0 + count_by p xs) (same x (0, omega arith, refl))
+    ∙ ap (λ (n : ℕ). cond (q x) 1 0 + n) (count_same p q xs (λ k is. same k (is.0 + 1, omega (arith, is.1), there k is)))
+    ∙ sym (sum_by-cons (λ k. cond (q k) 1 0) x xs)
+  where
+    there : (k : ℕ) (is : Contains xs k) → get_or (x ∷ xs) (is.0 + 1) k ≡ k
+    there k is = let next : is.0 + 1 ≡ suc is.0 = omega arith in ap (λ (i : ℕ). get_or (x ∷ xs) i k) next ∙ is.2
+
+pub count_nothing : (p : ℕ → Bool) (xs : List ℕ) → ((k : ℕ) → Contains xs k → p k ≡ false) → count_by p xs ≡ 0
+count_nothing p xs none = count_same p (λ _. false) xs none ∙ nothing xs where
+  nothing : (ys : List ℕ) → count_by (λ (_ : ℕ). false) ys ≡ 0
+  nothing [] = refl
+  nothing (y ∷ ys) = sum_by-cons (λ (_ : ℕ). 0) y ys ∙ zero-add (sum_by (λ (_ : ℕ). 0) ys) ∙ nothing ys
+
+pub count_absent : (xs : List ℕ) (k : ℕ) → (Contains xs k → ⊥) → count_by (λ x. x == k) xs ≡ 0
+count_absent xs k out = count_nothing (λ x. x == k) xs (λ j is. elim (eqb_tells j k) [ inl e ↦ absurd (out (subst (Contains xs) e.1 is)) | inr e ↦ e.0 ])
+
+pub count_present : (xs : List ℕ) (k : ℕ) → Contains xs k → 0 < count_by (λ x. x == k) xs
+count_present xs k is =
+    let most = get_or-le-sum_by (λ (x : ℕ). cond (x == k) 1 0) xs is.0 k is.1 in
+    let one : ◌≡◌ {A = ℕ} (cond (get_or xs is.0 k == k) 1 0) 1 = elim (eqb_tells (get_or xs is.0 k) k) [ inl e ↦ ap (λ b. cond b 1 0) e.0 | inr e ↦ absurd (e.1 is.2) ] in
+    omega (arith, most, one)
+
+-- tests that agree but on one element, which the first passes and the second doesn't
+pub count_split : (p q : ℕ → Bool) (c : ℕ) (xs : List ℕ) → ((k : ℕ) → Contains xs k → k ≢ c → p k ≡ q k) → p c ≡ true → q c ≡ false → count_by p xs ≡ count_by q xs + count_by (λ x. x == c) xs
+count_split p q c [] same passes fails = refl
+count_split p q c (x ∷ xs) same passes fails =
+    let first = sum_by-cons (λ k. cond (p k) 1 0) x xs in
+    let second = sum_by-cons (λ k. cond (q k) 1 0) x xs in
+    let third = sum_by-cons (λ k. cond (k == c) 1 0) x xs in
+    let rest = count_split p q c xs (λ k is. same k (is.0 + 1, omega (arith, is.1), there k is)) passes fails in
+    let here : ◌≡◌ {A = ℕ} (cond (p x) 1 0) (cond (q x) 1 0 + cond (x == c) 1 0) = elim (eqb_tells x c) [
+      | inl e ↦
+          ap (λ (k : ℕ). cond (p k) 1 0) e.1 ∙ ap (λ b. cond b 1 0) passes
+          ∙ sym (ap (λ (k : ℕ). cond (q k) 1 0 + cond (x == c) 1 0) e.1 ∙ ap (λ b. cond b 1 0 + cond (x == c) 1 0) fails ∙ ap (λ b. 0 + cond b 1 0) e.0)
+      | inr e ↦ ap (λ b. cond b 1 0) (same x (0, omega arith, refl) e.1) ∙ sym (add-zero (cond (q x) 1 0)) ∙ ap (λ b. cond (q x) 1 0 + cond b 1 0) (sym e.0)
+    ] in
+    omega (arith, first, second, third, rest, here)
+  where
+    there : (k : ℕ) (is : Contains xs k) → get_or (x ∷ xs) (is.0 + 1) k ≡ k
+    there k is = let next : is.0 + 1 ≡ suc is.0 = omega arith in ap (λ (i : ℕ). get_or (x ∷ xs) i k) next ∙ is.2
+
+-- ---- a column's rows
+
+count_rows_none : (lists : List (List ℕ)) (k n r : ℕ) → n ≤ r → count_by (λ x. x == r) (rows_with lists k n) ≡ 0
+count_rows_none lists k zero r l = refl
+count_rows_none lists k (suc n) r l =
+    let parts = sum_by-append (λ (x : ℕ). cond (x == r) 1 0) (replicate (one_in lists n k) n) (rows_with lists k n) in
+    let here : count_by (λ x. x == r) (replicate (one_in lists n k) n) ≡ 0 = count-replicate (one_in lists n k) n r ∙ elim (eqb_tells n r) [ inl e ↦ absurd (omega (arith, e.1, l)) | inr e ↦ ap (λ b. cond b (one_in lists n k) 0) e.0 ] in
+    let rest = count_rows_none lists k n r (omega (arith, l)) in
+    omega (arith, parts, here, rest)
+
+-- a row is there as often as it has ones in the column
+pub count_rows : (lists : List (List ℕ)) (k n r : ℕ) → r < n → count_by (λ x. x == r) (rows_with lists k n) ≡ one_in lists r k
+count_rows lists k zero r l = absurd (omega arith)
+count_rows lists k (suc n) r l =
+    let parts = sum_by-append (λ (x : ℕ). cond (x == r) 1 0) (replicate (one_in lists n k) n) (rows_with lists k n) in
+    let these = count-replicate (one_in lists n k) n r in
+    elim (eqb_tells n r) [
+      | inl e ↦
+          let here : count_by (λ x. x == r) (replicate (one_in lists n k) n) ≡ one_in lists n k = these ∙ ap (λ b. cond b (one_in lists n k) 0) e.0 in
+          let rest = count_rows_none lists k n r (omega (arith, e.1)) in
+          let same : one_in lists n k ≡ one_in lists r k = ap (λ (i : ℕ). one_in lists i k) e.1 in
+          omega (arith, parts, here, rest, same)
+      | inr e ↦
+          let here : count_by (λ x. x == r) (replicate (one_in lists n k) n) ≡ 0 = these ∙ ap (λ b. cond b (one_in lists n k) 0) e.0 in
+          let rest = count_rows lists k n r (omega (arith, l, e.1)) in
+          omega (arith, parts, here, rest)
+    ]
+
+-- what holds of each one of each row holds of the ones of a row
+pub in_row : (lists : List (List ℕ)) (width r k : ℕ) → All (λ row. All (λ column. column < width) row) lists → r < length lists → Contains (ones_of lists r) k → k < width
+in_row lists width r k below l is = subst (λ (c : ℕ). c < width) is.2 (below r [] l is.0 k is.1)
+
+-- where a column isn't active any more, and its rows' degrees are lowered
+pub degrees_lowered :
+    (columns : ColumnLists) (old new : ColumnState) (column : ℕ) (was now : List ℕ) → length columns.lists ≡ length old.order → column < length old.order → IsActive old column → EndsActive column old new → columns.height ≡ length was
+    → LowersRows (slice_index_or columns.lists column []) was now → KeepsDegrees columns old new was now
+degrees_lowered columns old new column was now width inside active ends height lowered lists holds high below counts r l =
+    let row = ones_of lists r in
+    let fell = lowered r (omega (arith, high, height, l)) in
+    let listed = holds column (omega (arith, width, inside)) in
+    let often : count_by (λ x. x == r) (slice_index_or columns.lists column []) ≡ one_in lists r column = ap (count_by (λ x. x == r)) listed ∙ count_rows lists column (length lists) r l in
+    let gone : is_active new column ≡ false = false_from_ne_true (is_active new column) (λ e. (ends.left column inside (true_active new column e)).1 refl) in
+    let parts : active_ones old row ≡ active_ones new row + one_in lists r column = count_split (is_active old) (is_active new) column row
+    (λ k is d.
+    let k_in : k < length old.order = omega (arith, width, in_row lists (length columns.lists) r k below l is) in
+    bool_same (is_active old k) (is_active new k) (λ e. active_true new k (ends.kept k k_in (true_active old k e) d)) (λ e. active_true old k (ends.left k k_in (true_active new k e)).0))
+    (active_true old column active) gone in
+    omega (arith, fell, often, parts, counts r l)
+
+-- a row's active column that isn't active any more was its only one
+pub none_behind :
+    (row : List ℕ) (old new : ColumnState) (column : ℕ) → All (λ k. k < length old.order) row → Contains row column → IsActive old column → EndsActive column old new → active_ones old row ≤ 1
+    → HasNoActive row new
+none_behind row old new column below is active ends few k there still =
+    let within = λ (j : ℕ) (is : Contains row j). subst (λ (c : ℕ). c < length old.order) is.2 (below is.0 j is.1) in
+    let gone : is_active new column ≡ false = false_from_ne_true (is_active new column) (λ e. (ends.left column (within column is) (true_active new column e)).1 refl) in
+    let parts : active_ones old row ≡ active_ones new row + count_by (λ x. x == column) row = count_split (is_active old) (is_active new) column row
+    (λ j in_row d. bool_same (is_active old j) (is_active new j) (λ e. active_true new j (ends.kept j (within j in_row) (true_active old j e) d)) (λ e. active_true old j (ends.left j (within j in_row) (true_active new j e)).0))
+    (active_true old column active) gone in
+    let some = count_present row column is in
+    let most = get_or-le-sum_by (λ (x : ℕ). cond (is_active new x) 1 0) row there.0 k there.1 in
+    let one : ◌≡◌ {A = ℕ} (cond (is_active new (get_or row there.0 k)) 1 0) 1 = ap (λ (x : ℕ). cond (is_active new x) 1 0) there.2 ∙ ap (λ b. cond b 1 0) (active_true new k still) in
+    omega (arith, few, parts, some, most, one)
+
+-- ---- columns that are left
+
+zero_tested : (n : ℕ) → n ≡ 0 → (n == 0) ≡ true
+zero_tested n e = elim (eqb_tells n 0) [ inl is ↦ is.0 | inr is ↦ absurd (is.1 e) ]
+
+tested_zero : (n : ℕ) → (n == 0) ≡ true → n ≡ 0
+tested_zero n e = elim (eqb_tells n 0) [ inl is ↦ is.1 | inr is ↦ absurd (not_both (n == 0) e is.0) ]
+
+-- before a row is taken, these are the first active ones
+pub left_first : (lists : List (List ℕ)) (width boundary k : ℕ) → k < width → is_left lists boundary [] k ≡ is_active (first_columns width boundary) k
+left_first lists width boundary k l =
+    let own : at (range_with_len 0 width) k ≡ k = get_or-range_with_len 0 width k 0 l ∙ zero-add k in
+    bool_same (is_left lists boundary [] k) (is_active (first_columns width boundary) k)
+    (λ e. active_true (first_columns width boundary) k (record { from = omega arith; below = rw own (ltb-true k boundary (true_both (nat_lt k boundary) (0 == 0) e).0) }))
+    (λ e. both_true (nat_lt k boundary) (0 == 0) (lt-ltb k boundary (rw own at (true_active (first_columns width boundary) k e).below)) (zero_tested 0 refl))
+
+module _ (lists : List (List ℕ)) (boundary : ℕ) (rows : List ℕ) (row : ℕ) (old new : ColumnState) (takes : TakesRow (ones_of lists row) old new) (left : (k : ℕ) → k < length old.order → is_left lists boundary rows k ≡ is_active old k) where
+  pub left_next : (k : ℕ) → k < length old.order → is_left lists boundary (rows ++ row ∷ []) k ≡ is_active new k
+  left_next k l =
+      let before = sum_by (λ r. one_in lists r k) rows in
+      let after = sum_by (λ r. one_in lists r k) (rows ++ row ∷ []) in
+      let more : after ≡ before + one_in lists row k = sum_by_push (λ r. one_in lists r k) rows row in
+      bool_same (is_left lists boundary (rows ++ row ∷ []) k) (is_active new k)
+      (λ e.
+      let both = true_both (nat_lt k boundary) (after == 0) e in
+      let none = tested_zero after both.1 in
+      let was : is_left lists boundary rows k ≡ true = both_true (nat_lt k boundary) (before == 0) both.0 (zero_tested before (omega (arith, none, more))) in
+      active_true new k (takes.kept k l (true_active old k (sym (left k l) ∙ was)) (λ is. let some = count_present (ones_of lists row) k is in omega (arith, none, more, some))))
+      (λ e.
+      let active = true_active new k e in
+      let was : is_left lists boundary rows k ≡ true = left k l ∙ active_true old k (takes.left k l active) in
+      let both = true_both (nat_lt k boundary) (before == 0) was in
+      let none = tested_zero before both.1 in
+      let absent = count_absent (ones_of lists row) k (λ is. takes.ended k is active) in
+      both_true (nat_lt k boundary) (after == 0) both.0 (zero_tested after (omega (arith, more, none, absent))))
+
+-- ---- rows by their degrees
+
+module _ (lists : List (List ℕ)) (boundary width : ℕ) (taken : List ℕ) (state : ColumnState) (below : All (λ row. All (λ column. column < width) row) lists) (left : (k : ℕ) → k < width → is_left lists boundary taken k ≡ is_active state k) where
+  -- how many ones a row has in the columns that are left
+  pub left_active : (r : ℕ) → r < length lists → ones_left lists boundary taken r ≡ active_ones state (ones_of lists r)
+  left_active r l = count_same (is_left lists boundary taken) (is_active state) (ones_of lists r) (λ k is. left k (in_row lists width r k below l is))
+
+  -- where no column is active there are none
+  pub none_left : ((k : ℕ) → IsActive state k → ⊥) → (r : ℕ) → r < length lists → ones_left lists boundary taken r ≡ 0
+  none_left none r l = left_active r l ∙ count_nothing (is_active state) (ones_of lists r) (λ k is. false_from_ne_true (is_active state k) (λ e. none k (true_active state k e)))
+
+  module _ (degrees : List ℕ) (long : length degrees ≡ length lists) (counts : CountsActive lists state degrees) where
+    degree_is : (r : ℕ) → r < length lists → at degrees r ≡ ones_left lists boundary taken r
+    degree_is r l = counts r l ∙ sym (left_active r l)
+
+    pub fewest_left : (row : ℕ) → HasLeastDegree degrees row → HasFewestLeft lists boundary taken row
+    fewest_left row is =
+        let in_lists : row < length lists = omega (arith, is.below, long) in
+        let here = degree_is row in_lists in
+        let some = is.some in
+        record {
+          some = omega (arith, here, some);
+          least = λ r l more. let there = degree_is r l in let least = is.least r (omega arith) (omega (arith, l, long)) (omega (arith, there, more)) in omega (arith, here, there, least);
+        }
+
+    -- no row has any where all degrees are 0
+    pub all_done : AllHaveNone degrees → (r : ℕ) → r < length lists → ones_left lists boundary taken r ≡ 0
+    all_done none r l = let zero = none r (omega (arith, l, long)) in omega (arith, zero, degree_is r l)
+
+    -- a row of positive degree has an active column
+    pub has_active : (row : ℕ) → HasLeastDegree degrees row → HasNoActive (ones_of lists row) state → ⊥
+    has_active row is none =
+        let in_lists : row < length lists = omega (arith, is.below, long) in
+        let zero = count_nothing (is_active state) (ones_of lists row) (λ k there. false_from_ne_true (is_active state k) (λ e. none k there (true_active state k e))) in
+        let some = is.some in
+        omega (arith, zero, some, counts row in_lists)
+
+-- the degrees at the start are the numbers of ones in the columns that are active then
+pub counts_first : (lists : List (List ℕ)) (boundary width : ℕ) (degrees : List ℕ) → All (λ row. All (λ column. column < width) row) lists → CountsBefore boundary lists degrees → CountsActive lists (first_columns width boundary) degrees
+counts_first lists boundary width degrees below counts r l =
+    counts r l ∙ count_same (λ column. nat_lt column boundary) (is_active (first_columns width boundary)) (ones_of lists r) (λ k is.
+    let inside = in_row lists width r k below l is in
+    let own : at (range_with_len 0 width) k ≡ k = get_or-range_with_len 0 width k 0 inside ∙ zero-add k in
+    bool_same (nat_lt k boundary) (is_active (first_columns width boundary) k)
+    (λ e. active_true (first_columns width boundary) k (record { from = omega arith; below = rw own (ltb-true k boundary e) }))
+    (λ e. lt-ltb k boundary (rw own at (true_active (first_columns width boundary) k e).below)))
+
+-- one more row is taken
+pub takes_more : (lists : List (List ℕ)) (boundary : ℕ) (taken : List ℕ) (row : ℕ) → ((p : ℕ) → p < length taken → HasFewestLeft lists boundary (take p taken) (at taken p)) → HasFewestLeft lists boundary taken row
+    → (p : ℕ) → p < length (taken ++ row ∷ []) → HasFewestLeft lists boundary (take p (taken ++ row ∷ [])) (at (taken ++ row ∷ []) p)
+takes_more lists boundary taken row each is p l =
+    let long = length-append taken (row ∷ []) in
+    elim (cases_lt p (length taken)) [
+      | inl before ↦ rw (take-append-le p taken (row ∷ []) (omega arith), get_or-append taken (row ∷ []) 0 p before) (each p before)
+      | inr after ↦
+          let last : length taken ≡ p = omega (arith, long, l) in
+          let all : take p (taken ++ row ∷ []) ≡ taken = take-append-le p taken (row ∷ []) (omega (arith, last)) ∙ take_all p taken (omega (arith, last)) in
+          rw (all, get_or_push taken row 0 p last) is
+    ]

@@ -1,0 +1,10 @@
+pub mod ActiveOnes
+pub mod BitRows
+pub mod ColumnLaws
+pub mod ColumnPlacing
+pub mod DegreeLists
+pub mod ListParts
+pub mod PeelingLaws
+pub mod PlaceCounts
+pub mod RowCounts
+pub mod RowLists

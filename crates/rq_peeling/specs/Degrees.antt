@@ -1,0 +1,75 @@
+-- How many active columns rows have, while pivots are chosen.
+use Rattle.std.specs.Prelude.{◌≡◌, ◌≢◌, ℕ, ◌-◌, ◌<◌, ◌≤◌, ◌==◌, ◌&&◌, ◌∷◌, ◌++◌, ◌⊎◌, [], Bool, List, All, Contains, count_by, length, nat_le, nat_lt, sum_by, take}
+use Rattle.rq_algebra.specs.Systems.{at}
+use Rattle.rq_peeling.specs.FirstPhaseRowSelectionStats.{HasLeastOnes}
+use Rattle.rq_peeling.specs.SystemRows.{one_in}
+use Rattle.rq_peeling.specs.ColumnRows.{ColumnLists, ListsColumns}
+use Rattle.rq_peeling.specs.Peeled.{ones_of, ColumnState}
+
+-- of all degrees that aren't 0 a row has the least
+abbrev pub HasLeastDegree : List ℕ → ℕ → Type 0
+HasLeastDegree degrees row = HasLeastOnes (at degrees) 0 (length degrees) (row, at degrees row)
+
+-- for each row how many of its ones stand in columns before the boundary
+abbrev pub CountsBefore : ℕ → List (List ℕ) → List ℕ → Type 0
+CountsBefore boundary lists degrees = (row : ℕ) → row < length lists → at degrees row ≡ count_by (λ column. nat_lt column boundary) (ones_of lists row)
+
+-- no row has this degree
+abbrev pub NoneHas : ℕ → List ℕ → Type 0
+NoneHas degree degrees = (row : ℕ) → row < length degrees → at degrees row ≢ degree
+
+-- a column isn't inactive from the start, and none of the rows that were taken has a one in it
+abbrev pub is_left : List (List ℕ) → ℕ → List ℕ → ℕ → Bool
+is_left lists boundary taken k = nat_lt k boundary && (sum_by (λ r. one_in lists r k) taken == 0)
+
+-- how many ones a row has in such columns
+abbrev pub ones_left : List (List ℕ) → ℕ → List ℕ → ℕ → ℕ
+ones_left lists boundary taken row = count_by (is_left lists boundary taken) (ones_of lists row)
+
+-- of the rows that have ones in the columns that are left, this one has the fewest there
+pub record HasFewestLeft (lists : List (List ℕ)) (boundary : ℕ) (taken : List ℕ) (row : ℕ) : Type 0 where
+  pub some : 0 < ones_left lists boundary taken row
+  pub least : (r : ℕ) → r < length lists → 0 < ones_left lists boundary taken r → ones_left lists boundary taken row ≤ ones_left lists boundary taken r
+
+-- each row that was taken had the fewest ones in the columns that were left by those before it, and in those that are left now no row has any
+pub record TakesFewest (lists : List (List ℕ)) (boundary : ℕ) (taken : List ℕ) : Type 0 where
+  pub each : (p : ℕ) → p < length taken → HasFewestLeft lists boundary (take p taken) (at taken p)
+  pub last : (r : ℕ) → r < length lists → ones_left lists boundary taken r ≡ 0
+
+-- whether a column is active, and how many of a row's ones stand in such columns
+abbrev pub is_active : ColumnState → ℕ → Bool
+is_active state k = nat_le state.pivots (at state.places k) && nat_lt (at state.places k) state.end
+
+abbrev pub active_ones : ColumnState → List ℕ → ℕ
+active_ones state row = count_by (is_active state) row
+
+-- for each row how many of its ones stand in active columns
+abbrev pub CountsActive : List (List ℕ) → ColumnState → List ℕ → Type 0
+CountsActive lists state degrees = (row : ℕ) → row < length lists → at degrees row ≡ active_ones state (ones_of lists row)
+
+-- for any rows that these are the columns of: where the degrees were the numbers of their ones in active columns, they are so again
+abbrev pub KeepsDegrees : ColumnLists → ColumnState → ColumnState → List ℕ → List ℕ → Type 0
+KeepsDegrees columns old new was now = (lists : List (List ℕ)) → ListsColumns lists columns → length lists ≡ columns.height → All (λ row. All (λ column. column < length columns.lists) row) lists → CountsActive lists old was → CountsActive lists new now
+
+-- each row has degree 0
+abbrev pub AllHaveNone : List ℕ → Type 0
+AllHaveNone degrees = (row : ℕ) → row < length degrees → at degrees row ≡ 0
+
+-- each row has one less for each time that it is among these rows
+abbrev pub LowersRows : List ℕ → List ℕ → List ℕ → Type 0
+LowersRows rows old new = (row : ℕ) → row < length old → at new row ≡ at old row - count_by (λ r. r == row) rows
+
+-- rows that are listed, and for how many more there is room
+pub record ListedRows : Type 0 where
+  pub rows : List ℕ
+  pub room : ℕ
+
+-- rows of these degrees are listed, and the first list has each that has degree 1
+pub record AreListed (degrees singles pairs : List ℕ) : Type 0 where
+  pub singles_below : All (λ row. row < length degrees) singles
+  pub pairs_below : All (λ row. row < length degrees) pairs
+  pub single : (row : ℕ) → row < length degrees → at degrees row ≡ 1 → Contains singles row
+
+-- a row is listed behind others, or they are left as they were
+abbrev pub MayAdd : ℕ → List ℕ → List ℕ → Type 0
+MayAdd row old new = (new ≡ old) ⊎ (new ≡ old ++ row ∷ [])

@@ -1,0 +1,143 @@
+//! The ones of a matrix of bits, row by row.
+ghost use Rattle.std.specs.Prelude.{◌≡◌, ℕ, ◌^◌, ◌<◌, ◌≤◌, ◌++◌, All, count_by, drop, length, nat_lt, IfOk, OnOk, IfErr, slice_range};
+ghost use Rattle.std.specs.List.{concat, sum_by};
+ghost use Rattle.rq_bytes.specs.declared.error.Error.TheVariants.{OutOfMemory};
+ghost use Rattle.rq_peeling.specs.Degrees.{CountsBefore};
+ghost use Rattle.rq_peeling.specs.Peeled.{ones_of, AreOnesOfRows, AddsOnes};
+
+use rq_bytes::error::Error;
+use rq_matrix::matrix::BinaryMatrix;
+use std::alloc::Global;
+use std::marker::Model;
+
+// How many ones there is room for a row: in blocks of all sizes rows have ten on average, or fewer.
+const USUAL_ONES: usize = 12;
+
+/// The columns of the ones of each row. Contracts see a list for each row.
+#[derive(Drop)]
+pub struct RowOnes {
+    starts: Vec<usize>,
+    // Rows are read in any order: of narrow columns more stay in a near cache.
+    columns: Vec<u16>,
+}
+
+impl Model for RowOnes {
+    ghost use Rattle.std.specs.Prelude.{ℕ, List};
+    ghost use Rattle.rq_parts.specs.ImmutableListMap.{lists_between};
+    ghost use Rattle.rq_peeling.specs.Degrees.{CountsBefore};
+    ghost use Rattle.rq_peeling.specs.Peeled.{AreAllBetween};
+
+    ghost Value = { List (List ℕ) };
+
+    ghost view = { λ ones. lists_between ones.starts.items ones.columns.items };
+
+    ghost invariant = { λ ones. AreAllBetween ones.starts.items ones.columns.items };
+}
+
+impl RowOnes {
+    /// The ones of a matrix, of which `boundary` is the first dense column, and how many of them each
+    /// row has before it.
+    pub fn of_matrix<T: BinaryMatrix>(
+        alloc: Global,
+        bits: &T,
+        boundary: usize,
+    ) -> Result<(RowOnes, Vec<u16>), Error>
+        requires boundary { boundary ≡ (T.content bits.now).boundary }
+        ensures ones { IfOk result (λ listed. AreOnesOfRows (T.content bits.now).height (T.content bits.now).width (T.content bits.now).bit listed.0) }
+        ensures few { IfOk result (λ listed. length listed.0 < 2 ^ 31) }
+        ensures rows { IfOk result (λ listed. length listed.1.items ≡ length listed.0) }
+        ensures counted { IfOk result (λ listed. CountsBefore boundary listed.0 listed.1.items) }
+        ensures err { IfErr result (λ e. e ≡ OutOfMemory) }
+    {
+        let mut starts = Vec::with_capacity(alloc, bits.height() + 1)?;
+        let mut columns = Vec::with_capacity(alloc, USUAL_ONES * bits.height())?;
+        let mut counts = Vec::with_capacity(alloc, bits.height())?;
+        let mut dense = Vec::new(alloc);
+        starts.push(0)?;
+        for row in 0..bits.height() {
+            counts.push(push_ones(bits, row, boundary, &mut dense, &mut columns)?)?;
+            starts.push(columns.len())?;
+        }
+        Ok((RowOnes { starts, columns }, counts))
+    }
+
+    /// The number of rows.
+    pub fn height(&self) -> usize
+        ensures { result ≡ length self.now }
+    {
+        self.starts.len() - 1
+    }
+
+    /// The columns of all ones, row by row.
+    pub fn columns(&self) -> &[u16]
+        ensures { result.now ≡ concat self.now }
+    {
+        self.columns.as_slice()
+    }
+
+    /// The number of ones.
+    pub fn len(&self) -> usize
+        ensures { result ≡ sum_by length self.now }
+    {
+        self.columns.len()
+    }
+
+    /// The columns of the ones of a row.
+    #[inline(always)]
+    pub fn row(&self, row: usize) -> &[u16]
+        requires { row < length self.now }
+        ensures { result.now ≡ ones_of self.now row }
+    {
+        let starts = self.starts.as_slice();
+        part(self.columns.as_slice(), starts[row], starts[row + 1])
+    }
+}
+
+/// The values from `start` on and before `end`.
+#[inline(always)]
+pub fn part<T>(values: &[T], start: usize, end: usize) -> &[T]
+    requires order { start ≤ end }
+    requires within { end ≤ length values.now }
+    ensures { result.now ≡ slice_range values.now start end }
+{
+    &values[start..end]
+}
+
+// The columns of the ones of a row behind other columns. Says how many of them stand before the
+// boundary.
+fn push_ones<T: BinaryMatrix>(
+    bits: &T,
+    row: usize,
+    boundary: usize,
+    dense: &mut Vec<usize>,
+    columns: &mut Vec<u16>,
+) -> Result<u16, Error>
+    requires boundary { boundary ≡ (T.content bits.now).boundary }
+    requires row { row < (T.content bits.now).height }
+    ensures counted { IfOk result (λ count. count ≡ count_by (λ column. nat_lt column boundary) (drop (length columns.old.items) columns.new.items)) }
+    ensures ones { OnOk result (AddsOnes ((T.content bits.now).bit row) (T.content bits.now).width columns.old.items columns.new.items) }
+    ensures err { IfErr result (λ e. e ≡ OutOfMemory) }
+{
+    let start = columns.len();
+    for (column, octet) in bits.get_row_iter(row, 0, boundary) {
+        if octet.byte() == 1 {
+            columns.push(column as u16)?;
+        }
+    }
+    let count = columns.len() - start;
+    bits.query_non_zero_columns_into(row, boundary, dense)?;
+    push_columns(dense.as_slice(), columns)?;
+    Ok(count as u16)
+}
+
+// Lists columns behind others.
+fn push_columns(more: &[usize], columns: &mut Vec<u16>) -> Result<(), Error>
+    requires { All (λ column. column < 65536) more.now }
+    ensures pushed { OnOk result (columns.new.items ≡ columns.old.items ++ more.now) }
+    ensures err { IfErr result (λ e. e ≡ OutOfMemory) }
+{
+    for column in more {
+        columns.push(*column as u16)?;
+    }
+    Ok(())
+}

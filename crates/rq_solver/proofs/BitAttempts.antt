@@ -1,0 +1,28 @@
+-- What is found of a system is found of the bits and octets that it was made of.
+use Rattle.std.proofs.Common.{ℕ, List, [], ◌∷◌, ◌++◌, Option, None, Some, length, arith}
+use Rattle.std.specs.Prelude.{Vec}
+use Rattle.std.specs.Global.{Global}
+use Rattle.rq_algebra.specs.Operations.{Operation, Reorder}
+use Rattle.rq_standard.specs.BitTable.{BitTable}
+use Rattle.rq_standard.specs.ConstraintMatrix.{with_octet_rows}
+use Rattle.rq_standard.specs.OctetField.{octets}
+use Rattle.rq_parts.specs.DenseOctetMatrix.{OctetTable, entry_of}
+use Rattle.rq_peeling.specs.SystemRows.{one_in}
+use Rattle.rq_solver.specs.Phases.{IsAttempt, SolvesRows}
+use Rattle.rq_peeling.specs.System.{IsSystemOf, rows_of}
+use Rattle.rq_peeling.specs.declared.system.System.{System}
+use Rattle.rq_solver.proofs.OctetRows.{same_rows}
+use Rattle.rq_elimination.proofs.RowStepLaws.{SameEntries}
+use Rattle.rq_solver.proofs.SolutionLaws.{finds_same, homogeneous_same}
+
+module _ (bits : BitTable) (hdpc : OctetTable) (first : ℕ) (system : System) (is : IsSystemOf bits hdpc first system) where
+  same_entries : SameEntries (length system.ones) system.width (rows_of system) (with_octet_rows system.first_hdpc (length system.hdpc.rows) bits.bit (entry_of system.hdpc))
+  same_entries =
+      same_rows system.first_hdpc (length system.hdpc.rows) (entry_of system.hdpc) (length system.ones) system.width (one_in system.ones) bits.bit
+      (λ i k l m. (is.ones_are.each i (rw is.ones_are.count at l)).once k (omega arith) (rw is.width_is at m))
+
+  -- what is found of a system is found of the bits and the octets that it was made of
+  pub attempt_of_bits : (recorded : List Operation) (answer : Option (Vec ℕ Global)) → IsAttempt system recorded answer
+      → SolvesRows bits.height bits.width (with_octet_rows first (length hdpc.rows) bits.bit (entry_of hdpc)) recorded answer
+  attempt_of_bits recorded None found = rw (← is.hdpc_is, ← is.first_is, ← is.width_is, ← is.ones_are.count) (homogeneous_same octets (length system.ones) system.width _ _ same_entries found)
+  attempt_of_bits recorded (Some order) found = rw (← is.hdpc_is, ← is.first_is, ← is.width_is, ← is.ones_are.count) (finds_same octets (length system.ones) system.width _ _ same_entries (recorded ++ Reorder order.items ∷ []) found)

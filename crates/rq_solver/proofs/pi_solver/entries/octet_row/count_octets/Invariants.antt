@@ -1,6 +1,0 @@
--- What the loops keep in `pi_solver::entries::octet_row::count_octets`.
-use Rattle.std.proofs.Common.{◌≤◌}
-use Rattle.rq_solver.proofs.pi_solver.entries.octet_row.count_octets.Given as goal
-
-abbrev pub invariant-loop-column : goal.invariant-loop-column
-invariant-loop-column l = l.found ≤ l.column

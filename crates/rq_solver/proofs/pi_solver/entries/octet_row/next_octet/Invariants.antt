@@ -1,7 +1,0 @@
--- What the loops keep in `pi_solver::entries::octet_row::next_octet`.
-use Rattle.std.proofs.Common.{◌≡◌, ℕ, ◌<◌, ◌≤◌}
-use Rattle.rq_algebra.specs.Systems.{at}
-use Rattle.rq_solver.proofs.pi_solver.entries.octet_row.next_octet.Given as goal
-
-abbrev pub invariant-loop-column : goal.invariant-loop-column
-invariant-loop-column l = (k : ℕ) → l.from ≤ k → k < l.column → at l.octets k ≡ 0

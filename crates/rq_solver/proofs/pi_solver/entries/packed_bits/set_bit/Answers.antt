@@ -1,6 +1,0 @@
--- What the check leaves to show of `pi_solver::entries::packed_bits::set_bit`.
-use Rattle.rq_solver.proofs.UnpackedBits.{unpacked-set}
-use Rattle.rq_solver.proofs.pi_solver.entries.packed_bits.set_bit.Goals as goal
-
-pub returns : goal.returns
-returns c = unpacked-set c.args.bits.now c.args.place c.requires

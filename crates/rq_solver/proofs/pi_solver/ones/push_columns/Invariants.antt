@@ -1,6 +1,0 @@
--- What the loops keep in `pi_solver::ones::push_columns`.
-use Rattle.std.proofs.Common.{◌≡◌, ◌++◌, take}
-use Rattle.rq_solver.proofs.pi_solver.ones.push_columns.Given as goal
-
-abbrev pub invariant-loop-column : goal.invariant-loop-column
-invariant-loop-column l = l.columns.items ≡ l.fn.columns.items ++ take l.column-index l.more

@@ -1,7 +1,0 @@
--- What the loops keep in `pi_solver::peeling::first_active`.
-use Rattle.std.proofs.Common.{take}
-use Rattle.rq_solver.specs.Peeled.{HasNoActive}
-use Rattle.rq_solver.proofs.pi_solver.peeling.first_active.Given as goal
-
-abbrev pub invariant-loop-column : goal.invariant-loop-column
-invariant-loop-column l = HasNoActive (take l.column-index l.row) l.columns
