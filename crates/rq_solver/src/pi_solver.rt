@@ -153,7 +153,8 @@ impl<T: BinaryMatrix> IntermediateSymbolDecoder<T> {
     }
 
     /// How many symbols each of the five phases added, counting multiples that were added (RFC 6330,
-    /// sections 5.4.2.2 to 5.4.2.6). The third and the fifth have nothing to do.
+    /// sections 5.4.2.2 to 5.4.2.6). The fourth does the work of the third and of the fifth, row by row,
+    /// and it is counted there.
     pub fn get_symbol_add_ops_by_phase(&self) -> [u64; 5]
         ensures counted { result ≡ (solver_state self.now).additions }
         ensures third { slice_index result 2 ≡ 0 }
@@ -163,7 +164,8 @@ impl<T: BinaryMatrix> IntermediateSymbolDecoder<T> {
     }
 
     /// How many symbols each of the five phases multiplied, counting multiples that were added (RFC
-    /// 6330, sections 5.4.2.2 to 5.4.2.6). The third and the fifth have nothing to do.
+    /// 6330, sections 5.4.2.2 to 5.4.2.6). The fourth does the work of the third and of the fifth, row by
+    /// row, and it is counted there.
     pub fn get_symbol_mul_ops_by_phase(&self) -> [u64; 5]
         ensures counted { result ≡ (solver_state self.now).multiplications }
         ensures third { slice_index result 2 ≡ 0 }
@@ -176,12 +178,13 @@ impl<T: BinaryMatrix> IntermediateSymbolDecoder<T> {
     /// it, which find the solution of the same equations with other symbols too. `None` where the
     /// equations don't determine the symbols.
     ///
-    /// Refuses `AlreadyExecuted` in each call after the first, whatever that answered.
+    /// Refuses `AlreadyExecuted` in each call after the first, whatever that answered, and counts stay.
     pub fn execute(&mut self) -> Result<Option<(SymbolSlab, Vec<SymbolOps>)>, Error>
         ensures solved { IfSome (solver_state self.old).symbols (λ handed. IfOk result (IsOutcome (solver_state self.old) handed)) }
         ensures memory { OnSome (solver_state self.old).symbols (IfErr result (λ e. e ≡ OutOfMemory)) }
         ensures once { IfNone (solver_state self.old).symbols (result ≡ Err AlreadyExecuted) }
         ensures spent { IsSpent (solver_state self.old) (solver_state self.new) }
+        ensures kept { IfNone (solver_state self.old).symbols (solver_state self.new ≡ solver_state self.old) }
         ensures bound { sum (solver_state self.new).additions ≤ 2 * (solver_state self.new).width * (solver_state self.new).height }
         ensures counted { IfOk result (λ answer. IfSome answer (λ found. CountsOperations (solver_state self.new) (map operation_of found.1.items))) }
     {

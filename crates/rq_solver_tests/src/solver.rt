@@ -200,30 +200,45 @@ fn nothing_is_answered_without_the_last_hdpc_row(rt: HostRuntime) -> Result<(), 
     let octets = diagonal(rt.alloc(), 0, 9)?;
     let mut solver = numbered_solver(&rt, rt.alloc(), ones.as_slice(), octets.as_slice())?;
     holds!(rt; solver.execute()?.is_none());
-    let additions = solver.get_symbol_add_ops_by_phase();
     holds!(rt; matches!(solver.execute(), Err(Error::AlreadyExecuted)));
-    same!(rt; solver.get_symbol_add_ops_by_phase().as_slice(), additions.as_slice());
     Ok(())
 }
 
-#[test]
-fn rows_of_least_degree_take_few_additions(rt: HostRuntime) -> Result<(), Error> {
-    let mut ones = Vec::new(rt.alloc());
+// Each of 17 rows has a one in the first column, and one in a column of its own, which for one row is the
+// first.
+fn chain(alloc: Global) -> Result<Vec<(usize, usize)>, Error> {
+    let mut ones = Vec::new(alloc);
     for k in 0..17 {
         ones.push((bit_row(k), 0))?;
         ones.push((bit_row(k), (k + 9) % 17))?;
     }
+    Ok(ones)
+}
+
+#[test]
+fn rows_of_least_degree_take_few_additions(rt: HostRuntime) -> Result<(), Error> {
+    let ones = chain(rt.alloc())?;
+    let octets = diagonal(rt.alloc(), 17, 10)?;
+    let mut solver = numbered_solver(&rt, rt.alloc(), ones.as_slice(), octets.as_slice())?;
+    holds!(rt; solver.execute()?.is_some());
+    same!(rt; solver.get_symbol_mul_ops(), 0);
+    let multiplications = solver.get_symbol_mul_ops_by_phase();
+    same!(rt; multiplications.as_slice(), [0, 0, 0, 0, 0].as_slice());
+    holds!(rt; matches!(solver.execute(), Err(Error::AlreadyExecuted)));
+    same!(rt; solver.get_symbol_add_ops(), 16);
+    let additions = solver.get_symbol_add_ops_by_phase();
+    same!(rt; additions.as_slice(), [16, 0, 0, 0, 0].as_slice());
+    Ok(())
+}
+
+#[test]
+fn rows_of_least_degree_are_solved(rt: HostRuntime) -> Result<(), Error> {
+    let ones = chain(rt.alloc())?;
     let octets = diagonal(rt.alloc(), 17, 10)?;
     let mut solver = numbered_solver(&rt, rt.alloc(), ones.as_slice(), octets.as_slice())?;
     let (slab, _) = solver
         .execute()?
         .expect(&rt, "the equations have one solution");
-    same!(rt; solver.get_symbol_add_ops(), 16);
-    same!(rt; solver.get_symbol_mul_ops(), 0);
-    let additions = solver.get_symbol_add_ops_by_phase();
-    same!(rt; additions.as_slice(), [16, 0, 0, 0, 0].as_slice());
-    let multiplications = solver.get_symbol_mul_ops_by_phase();
-    same!(rt; multiplications.as_slice(), [0, 0, 0, 0, 0].as_slice());
     let found = slab.into_symbols()?;
     assert_eq!(rt; found.len(), 27);
     same!(rt; found[0].as_bytes(), [18].as_slice());
