@@ -44,11 +44,42 @@ fn short_packets(rt: HostRuntime) -> Result<(), Fail> {
     Ok(())
 }
 
+// The refusals in the order of their numbers, from 1, and what each prints. A row's place and check
+// aren't printed.
+const NAMES: [(Error, &str); 23] = [
+    (Error::TransferTooLong, "TransferTooLong"),
+    (Error::AlignmentZero, "AlignmentZero"),
+    (Error::Misaligned, "Misaligned"),
+    (Error::TooManySymbols, "TooManySymbols"),
+    (Error::SymbolSizeZero, "SymbolSizeZero"),
+    (Error::SourceBlocksZero, "SourceBlocksZero"),
+    (Error::BlockOverTable, "BlockOverTable"),
+    (Error::WrongDataLength, "WrongDataLength"),
+    (Error::Singular, "Singular"),
+    (Error::PlanMismatch, "PlanMismatch"),
+    (Error::EsiTooLarge, "EsiTooLarge"),
+    (Error::PacketTooShort, "PacketTooShort"),
+    (Error::WrongPayloadSize, "WrongPayloadSize"),
+    (Error::UnknownBlock, "UnknownBlock"),
+    (Error::PacketSizeZero, "PacketSizeZero"),
+    (Error::TransferLengthZero, "TransferLengthZero"),
+    (
+        Error::MemoryRequirementTooSmall,
+        "MemoryRequirementTooSmall",
+    ),
+    (Error::TooManyBlocks, "TooManyBlocks"),
+    (Error::RowRefused { place: 3, check: 2 }, "RowRefused"),
+    (Error::AlreadyExecuted, "AlreadyExecuted"),
+    (Error::OutOfMemory, "OutOfMemory"),
+    (Error::Contradiction, "Contradiction"),
+    (Error::HeaderTooShort, "HeaderTooShort"),
+];
+
 #[test]
 fn names(rt: HostRuntime) -> Result<(), Fail> {
-    let row = Error::RowRefused { place: 3, check: 2 };
-    same!(rt; row.to_string(rt.alloc())?.as_str(), "RowRefused");
-    same!(rt; Error::Singular.to_string(rt.alloc())?.as_str(), "Singular");
-    same!(rt; row.code(), 19);
+    for (number, (refusal, name)) in (1u8..).zip(NAMES) {
+        same!(rt; refusal.to_string(rt.alloc())?.as_str(), name);
+        same!(rt; refusal.code(), number, name);
+    }
     Ok(())
 }
