@@ -1,8 +1,13 @@
 //! What is answered whether a block is solved over a sparse matrix or over a dense one.
-use crate::compare::holds;
+use crate::compare::{holds, same};
+use raptorq::encoder::SPARSE_MATRIX_THRESHOLD;
 use raptorq::systematic_constants::SystematicTable;
-use raptorq::{ObjectTransmissionInformation, SourceBlockEncoder, SourceBlockEncodingPlanCache};
+use raptorq::{
+    ObjectTransmissionInformation, SourceBlockDecoder, SourceBlockEncoder,
+    SourceBlockEncodingPlanCache,
+};
 use raptorq_test_kit::answers::{all_but_the_first, block_answers};
+use raptorq_test_kit::configurations::configured;
 use raptorq_test_kit::sequence::bytes;
 use std::test::Fail;
 
@@ -25,5 +30,25 @@ fn sparse_and_dense_blocks(rt: HostRuntime) -> Result<(), Fail> {
         }
         holds!(rt; dense.pop() == Some(Some(block)), symbols);
     }
+    Ok(())
+}
+
+// It is the Rust crate's.
+#[test]
+fn the_first_threshold(rt: HostRuntime) {
+    same!(rt; SPARSE_MATRIX_THRESHOLD, 250);
+}
+
+// No clause speaks of the threshold, so no proof sees a clone that begins with the first one again.
+#[test]
+fn a_clone_keeps_the_threshold(rt: HostRuntime) -> Result<(), Fail> {
+    let alloc = rt.alloc();
+    let (table, config) = configured(alloc, (10, 1, 1, 1, 1))?;
+    let mut decoder = SourceBlockDecoder::new(alloc, &table, 0, &config, 10)?;
+    decoder.set_sparse_threshold(0);
+    let mut clone = decoder.clone()?;
+    holds!(rt; clone == decoder);
+    clone.set_sparse_threshold(SPARSE_MATRIX_THRESHOLD);
+    holds!(rt; clone != decoder);
     Ok(())
 }
