@@ -8,8 +8,6 @@ use Rattle.rq_elimination.specs.PhaseCounts.{AreCountsOf}
 use Rattle.rq_elimination.specs.declared.counts.OperationCounts.{OperationCounts}
 use Rattle.rq_elimination.specs.Recorded.{sum_step}
 
--- ---- one more operation
-
 additions-push : (operations : List Operation) (operation : Operation) → additions (operations ++ operation ∷ []) ≡ additions operations + additions (operation ∷ [])
 additions-push operations operation = sum_by-append (λ (o : Operation). if is_addition o then 1 else 0) operations (operation ∷ [])
 

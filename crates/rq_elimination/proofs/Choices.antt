@@ -2,8 +2,6 @@
 use Rattle.std.proofs.Common.{◌≡◌, ◌≢◌, ℕ, Bool, ap, if◌then◌else◌, ◌==◌}
 use Rattle.std.proofs.lemmas.Bool.{eq-eqb, ne_eqb}
 
--- ---- tests of numbers, and places of a list that are counted
-
 pub if_same : (a b x y : ℕ) → a ≡ b → (if a == b then x else y) ≡ x
 if_same a b x y e = ap (λ (t : Bool). if t then x else y) (eq-eqb a b e)
 

@@ -10,8 +10,8 @@ use rq_operations::steps::Step;
 use std::alloc::Global;
 use std::marker::Model;
 
-/// The phases of RFC 6330 (section 5.4.2) that record operations. The third and the fifth have
-/// nothing to do here.
+/// The phases of RFC 6330 (section 5.4.2) that record operations. The fourth does the work of the
+/// third and of the fifth, row by row.
 #[derive(Clone, Copy)]
 pub enum Phase {
     First,

@@ -1,5 +1,6 @@
-//! What an elimination over the inactive columns works on (RFC 6330, sections 5.4.2.3 to 5.4.2.6): the
-//! entries of rows there, and the operations that are recorded for the symbols. Behind `rq_solver`.
+//! What an elimination over the inactive columns works on (RFC 6330, sections 5.4.2.2 to 5.4.2.6): the
+//! entries of rows there, and the operations that are recorded for the symbols. For `rq_solver` and
+//! `rq_null_vector` alone.
 #![tactic(auto)]
 
 pub mod counts;

@@ -1,4 +1,5 @@
-//! A column that shows that rows don't determine one, by an elimination that records nothing.
+//! A column that shows that rows don't determine one (a homogeneous column), by an elimination that
+//! records nothing.
 ghost use Rattle.std.specs.Prelude.{◌≡◌, ◌≢◌, ◌-◌, ◌<◌, ◌∷◌, ◌++◌, All, length, map, replicate, MatchOption, IfOk, IfErr};
 ghost use Rattle.rq_algebra.proofs.Elimination.{ClearsColumn};
 ghost use Rattle.rq_algebra.specs.Steps.{AddsRow, ScalesRow};

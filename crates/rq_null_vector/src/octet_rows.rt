@@ -1,4 +1,4 @@
-//! A solver's equations as rows of octets.
+//! Rows of bits, some of them of octets, as one matrix of octets.
 ghost use Rattle.std.specs.Prelude.{◌≡◌, ℕ, ◌<◌, ◌≤◌, length, IfOk, OnOk, IfErr};
 ghost use Rattle.rq_bytes.specs.declared.error.Error.TheVariants.{OutOfMemory};
 ghost use Rattle.rq_standard.specs.ConstraintMatrix.{with_octet_rows};

@@ -10,7 +10,7 @@ use Rattle.std.proofs.lemmas.List.Sums.{sum_by-cons, sum_by-append, sum_by_push,
 use Rattle.std.proofs.Math.ListN.{get_or-append}
 use Rattle.rq_algebra.specs.Systems.{at}
 use Rattle.rq_peeling.specs.SystemRows.{one_in}
-use Rattle.rq_peeling.specs.ColumnRows.{ColumnLists, rows_with}
+use Rattle.rq_peeling.specs.ColumnRows.{ColumnLists, ListsColumns, rows_with}
 use Rattle.rq_peeling.specs.Degrees.{is_left, ones_left, is_active, active_ones, CountsActive, CountsBefore, KeepsDegrees, LowersRows, HasFewestLeft, HasLeastDegree, AllHaveNone}
 use Rattle.rq_peeling.specs.Peeled.{ones_of, ColumnState, IsActive, HasNoActive, EndsActive, TakesRow, first_columns}
 use Rattle.rq_peeling.proofs.ColumnPlacing.{count-replicate}
@@ -126,9 +126,9 @@ in_row lists width r k below l is = subst (λ (c : ℕ). c < width) is.2 (below 
 
 -- where a column isn't active any more, and its rows' degrees are lowered
 pub degrees_lowered :
-    (columns : ColumnLists) (old new : ColumnState) (column : ℕ) (was now : List ℕ) → length columns.lists ≡ length old.order → column < length old.order → IsActive old column → EndsActive column old new → columns.height ≡ length was
-    → LowersRows (slice_index_or columns.lists column []) was now → KeepsDegrees columns old new was now
-degrees_lowered columns old new column was now width inside active ends height lowered lists holds high below counts r l =
+    (lists : List (List ℕ)) (columns : ColumnLists) → ListsColumns lists columns → length lists ≡ columns.height → All (λ row. All (λ column. column < length columns.lists) row) lists → (old new : ColumnState) (column : ℕ) (was now : List ℕ) → length columns.lists ≡ length old.order → column < length old.order → IsActive old column → EndsActive column old new → columns.height ≡ length was
+    → LowersRows (slice_index_or columns.lists column []) was now → KeepsDegrees lists old new was now
+degrees_lowered lists columns holds high below old new column was now width inside active ends height lowered counts r l =
     let row = ones_of lists r in
     let fell = lowered r (omega (arith, high, height, l)) in
     let listed = holds column (omega (arith, width, inside)) in
@@ -220,14 +220,6 @@ module _ (lists : List (List ℕ)) (boundary width : ℕ) (taken : List ℕ) (st
     -- no row has any where all degrees are 0
     pub all_done : AllHaveNone degrees → (r : ℕ) → r < length lists → ones_left lists boundary taken r ≡ 0
     all_done none r l = let zero = none r (omega (arith, l, long)) in omega (arith, zero, degree_is r l)
-
-    -- a row of positive degree has an active column
-    pub has_active : (row : ℕ) → HasLeastDegree degrees row → HasNoActive (ones_of lists row) state → ⊥
-    has_active row is none =
-        let in_lists : row < length lists = omega (arith, is.below, long) in
-        let zero = count_nothing (is_active state) (ones_of lists row) (λ k there. false_from_ne_true (is_active state k) (λ e. none k there (true_active state k e))) in
-        let some = is.some in
-        omega (arith, zero, some, counts row in_lists)
 
 -- the degrees at the start are the numbers of ones in the columns that are active then
 pub counts_first : (lists : List (List ℕ)) (boundary width : ℕ) (degrees : List ℕ) → All (λ row. All (λ column. column < width) row) lists → CountsBefore boundary lists degrees → CountsActive lists (first_columns width boundary) degrees

@@ -1,4 +1,4 @@
--- What the ones of rows of bits are to an elimination over peeled rows, and what that finds is to the bits.
+-- The ones of a matrix of bits are rows of bits, and leave the HDPC rows empty.
 use Rattle.std.proofs.Common.{◌≡◌, ℕ, ◌+◌, ◌<◌, ◌≤◌, List, [], ◌∷◌, length, refl, ◌∙◌, arith}
 use Rattle.std.proofs.lemmas.List.Elements.{All-weaker}
 use Rattle.rq_standard.specs.BitTableSteps.{ArePlacesOfOnes}

@@ -4,6 +4,7 @@ pub mod ColumnLaws
 pub mod ColumnPlacing
 pub mod DegreeLists
 pub mod ListParts
+pub mod PeelerLaws
 pub mod PeelingLaws
 pub mod PlaceCounts
 pub mod RowCounts

@@ -5,18 +5,10 @@ use Rattle.std.proofs.lemmas.Bool.{cases_lt}
 use Rattle.std.proofs.lemmas.List.{length-append, get_or_push, get_or_default, take_more}
 use Rattle.std.proofs.lemmas.List.Elements.{All-take, Contains-append_cases, Contains-append_left, Contains-push}
 use Rattle.std.proofs.Math.ListN.{get_or-append}
-use Rattle.rq_algebra.specs.Arrangements.{ArePlaces}
 use Rattle.rq_algebra.specs.Systems.{at}
 use Rattle.rq_peeling.specs.SystemRows.{AreRowsOfBits}
 use Rattle.rq_peeling.specs.Peeled.{ones_of, ColumnState, EndsActive, InactivatesRow, IsActive, TakesRow, IsPeeled, IsOrderOf, first_columns}
-
--- the pivots so far: none of their rows has an active column any more
-pub record IsPeeledSo (lists : List (List ℕ)) (rows : List ℕ) (state : ColumnState) : Type 0 where
-  pub count : length rows ≡ state.pivots
-  pub in_rows : ArePlaces (length rows) (length lists) (at rows)
-  pub own : (p : ℕ) → p < length rows → Contains (ones_of lists (at rows p)) (at state.order p)
-  pub later : (p q : ℕ) → p < q → q < length rows → Contains (ones_of lists (at rows p)) (at state.order q) → ⊥
-  pub ended : (p k : ℕ) → p < length rows → Contains (ones_of lists (at rows p)) k → IsActive state k → ⊥
+use Rattle.rq_peeling.specs.Chosen.{IsPeeledSo}
 
 pub peeled_none : (lists : List (List ℕ)) (width boundary : ℕ) → IsPeeledSo lists [] (first_columns width boundary)
 peeled_none lists width boundary = record {

@@ -1,4 +1,4 @@
--- Different places are counted.
+-- How often a list has a number, and that different places below a bound are no more than the bound.
 use Rattle.std.proofs.Common.{Bool, ◌≡◌, ◌≢◌, ℕ, ◌+◌, ◌<◌, ◌≤◌, List, All, ◌++◌, Contains, length, take, drop, refl, sym, ap, ◌∙◌, arith, inl, inr, if◌then◌else◌, ◌==◌, zero, suc}
 use Rattle.std.specs.List.{count_by}
 use Rattle.std.proofs.lemmas.Bool.{cases_eq, eq-eqb, ne_eqb, cases_lt}

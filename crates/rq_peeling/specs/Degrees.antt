@@ -3,7 +3,6 @@ use Rattle.std.specs.Prelude.{◌≡◌, ◌≢◌, ℕ, ◌-◌, ◌<◌, ◌�
 use Rattle.rq_algebra.specs.Systems.{at}
 use Rattle.rq_peeling.specs.FirstPhaseRowSelectionStats.{HasLeastOnes}
 use Rattle.rq_peeling.specs.SystemRows.{one_in}
-use Rattle.rq_peeling.specs.ColumnRows.{ColumnLists, ListsColumns}
 use Rattle.rq_peeling.specs.Peeled.{ones_of, ColumnState}
 
 -- of all degrees that aren't 0 a row has the least
@@ -47,9 +46,9 @@ active_ones state row = count_by (is_active state) row
 abbrev pub CountsActive : List (List ℕ) → ColumnState → List ℕ → Type 0
 CountsActive lists state degrees = (row : ℕ) → row < length lists → at degrees row ≡ active_ones state (ones_of lists row)
 
--- for any rows that these are the columns of: where the degrees were the numbers of their ones in active columns, they are so again
-abbrev pub KeepsDegrees : ColumnLists → ColumnState → ColumnState → List ℕ → List ℕ → Type 0
-KeepsDegrees columns old new was now = (lists : List (List ℕ)) → ListsColumns lists columns → length lists ≡ columns.height → All (λ row. All (λ column. column < length columns.lists) row) lists → CountsActive lists old was → CountsActive lists new now
+-- where the degrees were the numbers of rows' ones in active columns, they are so again
+abbrev pub KeepsDegrees : List (List ℕ) → ColumnState → ColumnState → List ℕ → List ℕ → Type 0
+KeepsDegrees lists old new was now = CountsActive lists old was → CountsActive lists new now
 
 -- each row has degree 0
 abbrev pub AllHaveNone : List ℕ → Type 0

@@ -1,3 +1,4 @@
+pub mod Chosen
 pub mod ColumnRows
 pub mod Degrees
 pub mod FirstPhaseRowSelectionStats

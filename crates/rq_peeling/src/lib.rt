@@ -5,8 +5,8 @@
 pub mod column_rows;
 pub mod columns;
 pub mod degrees;
-pub mod next_row;
 pub mod ones;
+mod peeler;
 pub mod peeling;
 pub mod row_selection;
 pub mod system;

@@ -41,7 +41,7 @@ impl System {
 
     /// The equations of a matrix of bits, of which `boundary` is the first dense column, but of the HDPC
     /// rows from row `first_hdpc` on, where the matrix has zeros. And how many ones each row has before
-    /// the dense columns, which `solve` takes.
+    /// the dense columns, which `peel` takes.
     pub fn of_matrix<T: BinaryMatrix>(
         alloc: Global,
         bits: &T,

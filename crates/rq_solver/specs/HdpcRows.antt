@@ -12,11 +12,11 @@ use Rattle.rq_elimination.specs.OctetBatch.{Batch, octet_in}
 
 -- ---- what the rows have
 
--- the same from this column on, and zeros before it
+-- these octets from a column on, and zeros before it
 abbrev pub octets_from : ℕ → (ℕ → ℕ → ℕ) → ℕ → ℕ → ℕ
 octets_from column octet i k = if nat_lt k column then 0 else octet i k
 
--- the same, but zeros in a column of the first rows
+-- these octets, but zeros in a column of the first rows
 abbrev pub with_zeros : ℕ → ℕ → (ℕ → ℕ → ℕ) → ℕ → ℕ → ℕ
 with_zeros column done octet i k = if nat_lt i done then (if k == column then 0 else octet i k) else octet i k
 

@@ -1,4 +1,4 @@
--- What the loop keeps in `pi_solver::counts::count_steps`.
+-- What the loop keeps in `counts::count_steps`.
 use Rattle.std.proofs.Common.{◌≡◌, ◌≤◌, map, take}
 use Rattle.rq_operations.specs.Steps.{operation_of_step}
 use Rattle.rq_elimination.specs.OperationCounts.{additions, multiplications}

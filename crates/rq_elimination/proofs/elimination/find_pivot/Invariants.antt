@@ -1,4 +1,4 @@
--- What the loops keep in `pi_solver::elimination::find_pivot`.
+-- What the loops keep in `elimination::find_pivot`.
 use Rattle.std.proofs.Common.{◌≡◌, ◌<◌, ◌≤◌, ℕ}
 use Rattle.rq_algebra.specs.Systems.{at}
 use Rattle.rq_elimination.proofs.elimination.find_pivot.Given as goal

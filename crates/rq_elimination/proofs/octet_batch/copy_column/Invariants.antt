@@ -1,4 +1,4 @@
--- What the loops keep in `pi_solver::first_phase::octet_batch::copy_column`.
+-- What the loops keep in `octet_batch::copy_column`.
 use Rattle.std.proofs.Common.{◌≡◌, ℕ, ◌<◌, length}
 use Rattle.rq_algebra.specs.Systems.{at}
 use Rattle.rq_parts.specs.DenseOctetMatrix.{entry_of}

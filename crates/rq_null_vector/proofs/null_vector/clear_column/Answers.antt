@@ -1,4 +1,4 @@
--- What the check leaves to show of `homogeneous::clear_column`.
+-- What the check leaves to show of `null_vector::clear_column`.
 use Rattle.std.proofs.Common.{length, arith}
 use Rattle.rq_algebra.specs.Systems.{at}
 use Rattle.rq_algebra.proofs.Reduction.{clears_none, clears_pivot, clears_more}

@@ -1,4 +1,4 @@
--- What the loops keep in `homogeneous::clear_column`.
+-- What the loops keep in `null_vector::clear_column`.
 use Rattle.std.proofs.Common.{length}
 use Rattle.rq_algebra.specs.Systems.{at}
 use Rattle.rq_algebra.proofs.Elimination.{ClearsColumn}

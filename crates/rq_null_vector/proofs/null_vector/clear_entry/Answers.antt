@@ -1,4 +1,4 @@
--- What the check leaves to show of `homogeneous::clear_entry`.
+-- What the check leaves to show of `null_vector::clear_entry`.
 use Rattle.std.proofs.Common.{◌<◌, sym, ◌∙◌, subst, ℕ, length}
 use Rattle.rq_algebra.specs.Steps.{AddsRow}
 use Rattle.rq_standard.specs.OctetField.{octets}

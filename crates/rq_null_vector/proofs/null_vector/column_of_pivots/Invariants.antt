@@ -1,4 +1,4 @@
--- What the loops keep in `homogeneous::column_of_pivots`.
+-- What the loops keep in `null_vector::column_of_pivots`.
 use Rattle.std.proofs.Common.{◌≡◌, map, take}
 use Rattle.rq_parts.specs.DenseOctetMatrix.{entry_of}
 use Rattle.rq_null_vector.proofs.null_vector.column_of_pivots.Given as goal

@@ -1,4 +1,4 @@
--- What the check leaves to show of `homogeneous::reduce`.
+-- What the check leaves to show of `null_vector::reduce`.
 use Rattle.std.proofs.Common.{◌<◌, ◌+◌, length, zero-add, arith}
 use Rattle.rq_elimination.proofs.SwappedRows.{swapped_rows}
 use Rattle.rq_null_vector.proofs.ReducedRows.{swapped_reduced, reduced_more}

@@ -1,4 +1,4 @@
--- What the loops keep in `homogeneous::reduce`.
+-- What the loops keep in `null_vector::reduce`.
 use Rattle.rq_null_vector.specs.Homogeneous.{KeepsZeros}
 use Rattle.rq_elimination.specs.RowSteps.{AreRows, IsReduced}
 use Rattle.rq_null_vector.proofs.null_vector.reduce.Given as goal

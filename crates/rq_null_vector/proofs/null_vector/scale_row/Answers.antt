@@ -1,4 +1,4 @@
--- What the check leaves to show of `homogeneous::scale_row`.
+-- What the check leaves to show of `null_vector::scale_row`.
 use Rattle.std.proofs.Common.{◌≡◌, ℕ, ◌<◌, subst, length}
 use Rattle.rq_algebra.specs.Steps.{ScalesRow}
 use Rattle.rq_standard.specs.OctetField.{octets}

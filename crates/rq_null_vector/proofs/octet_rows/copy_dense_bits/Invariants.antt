@@ -1,4 +1,4 @@
--- What the loops keep in `pi_solver::rows::copy_dense_bits`.
+-- What the loops keep in `octet_rows::copy_dense_bits`.
 use Rattle.std.proofs.Common.{min, count_by, take, ◌==◌}
 use Rattle.rq_elimination.specs.RowWrites.{WritesRow}
 use Rattle.rq_null_vector.proofs.octet_rows.copy_dense_bits.Given as goal

@@ -1,4 +1,4 @@
--- What the check leaves to show of `pi_solver::rows::copy_leading_bits`.
+-- What the check leaves to show of `octet_rows::copy_leading_bits`.
 use Rattle.std.proofs.Common.{◌≡◌, ℕ, ◌<◌, ◌≤◌, ◌++◌, ◌∷◌, [], sym, subst, arith, append_assoc}
 use Rattle.rq_standard.specs.BitTableSteps.{AreOnesOf, ones_at}
 use Rattle.rq_standard.proofs.BitTableLaws.{is_next_pair}

@@ -1,4 +1,4 @@
--- What the loops keep in `pi_solver::rows::copy_leading_bits`.
+-- What the loops keep in `octet_rows::copy_leading_bits`.
 use Rattle.std.proofs.Common.{◌++◌}
 use Rattle.rq_standard.specs.BitTableSteps.{AreOnesOf, ones_at}
 use Rattle.rq_elimination.specs.RowWrites.{WritesRow}

@@ -1,4 +1,4 @@
--- What the loops keep in `pi_solver::rows::octet_rows`.
+-- What the loops keep in `octet_rows::octet_rows`.
 use Rattle.std.proofs.Common.{length}
 use Rattle.rq_standard.specs.ConstraintMatrix.{with_octet_rows}
 use Rattle.rq_elimination.specs.RowWrites.{HoldsRows}

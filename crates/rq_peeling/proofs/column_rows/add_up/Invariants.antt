@@ -1,4 +1,4 @@
--- What the loops keep in `pi_solver::column_rows::add_up`.
+-- What the loops keep in `column_rows::add_up`.
 use Rattle.std.proofs.Common.{◌≡◌, ℕ, ◌+◌, ◌<◌, ◌≤◌, length, take}
 use Rattle.std.specs.List.{sum}
 use Rattle.rq_algebra.specs.Systems.{at}

@@ -1,4 +1,4 @@
--- What the check leaves to show of `pi_solver::column_rows::column_ends`.
+-- What the check leaves to show of `column_rows::column_ends`.
 use Rattle.std.proofs.Common.{◌≡◌, ℕ, ◌<◌, ◌==◌, List, All, cond, count_by, length, replicate, sym, ap, ◌∙◌, subst, arith}
 use Rattle.std.specs.List.{sum}
 use Rattle.std.proofs.lemmas.List.{get_or-replicate}

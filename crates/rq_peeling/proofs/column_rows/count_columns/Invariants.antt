@@ -1,4 +1,4 @@
--- What the loops keep in `pi_solver::column_rows::count_columns`.
+-- What the loops keep in `column_rows::count_columns`.
 use Rattle.std.proofs.Common.{◌≡◌, ℕ, ◌+◌, ◌<◌, ◌==◌, count_by, length, take}
 use Rattle.std.specs.List.{sum}
 use Rattle.rq_algebra.specs.Systems.{at}

@@ -1,4 +1,4 @@
--- What the check leaves to show of `pi_solver::column_rows::place_row`.
+-- What the check leaves to show of `column_rows::place_row`.
 use Rattle.std.proofs.Common.{◌≡◌, ℕ, ◌+◌, ◌-◌, ◌<◌, ◌==◌, ◌++◌, List, count_by, length, replicate, take, ◌∙◌, subst, arith}
 use Rattle.std.proofs.lemmas.List.{length-set, take_all}
 use Rattle.std.proofs.lemmas.List.Elements.{All-set}

@@ -1,4 +1,4 @@
--- What the loops keep in `pi_solver::column_rows::place_row`.
+-- What the loops keep in `column_rows::place_row`.
 use Rattle.std.proofs.Common.{◌≡◌, ℕ, ◌+◌, ◌<◌, ◌≤◌, ◌==◌, ◌++◌, All, List, count_by, length, replicate, take}
 use Rattle.rq_algebra.specs.Systems.{at}
 use Rattle.rq_peeling.specs.ColumnRows.{HasPlaced}

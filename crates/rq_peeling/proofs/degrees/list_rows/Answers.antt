@@ -1,4 +1,4 @@
--- What the check leaves to show of `pi_solver::degrees::list_rows`.
+-- What the check leaves to show of `degrees::list_rows`.
 use Rattle.std.proofs.Common.{◌≡◌, ◌<◌, length, sym, ap, ◌∙◌, subst, arith, inl, inr}
 use Rattle.std.specs.List.{Contains}
 use Rattle.std.proofs.lemmas.Bool.{cases_lt, eq-eqb}

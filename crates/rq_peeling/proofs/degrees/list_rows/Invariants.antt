@@ -1,4 +1,4 @@
--- What the loops keep in `pi_solver::degrees::list_rows`.
+-- What the loops keep in `degrees::list_rows`.
 use Rattle.std.proofs.Common.{◌≡◌, ◌+◌, ◌<◌, ◌≤◌, ℕ, All, Contains, length}
 use Rattle.rq_algebra.specs.Systems.{at}
 use Rattle.rq_peeling.proofs.degrees.list_rows.Given as goal

@@ -1,4 +1,4 @@
--- What the check leaves to show of `pi_solver::degrees::lower_rows`.
+-- What the check leaves to show of `degrees::lower_rows`.
 use Rattle.std.proofs.Common.{◌≡◌, ◌-◌, ◌<◌, length, ◌∙◌, arith}
 use Rattle.std.proofs.lemmas.Bool.{eq-eqb}
 use Rattle.std.proofs.lemmas.List.{length-set}

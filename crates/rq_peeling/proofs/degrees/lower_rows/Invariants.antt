@@ -1,4 +1,4 @@
--- What the loops keep in `pi_solver::degrees::lower_rows`.
+-- What the loops keep in `degrees::lower_rows`.
 use Rattle.std.proofs.Common.{◌≡◌, ◌+◌, ◌≤◌, length, take}
 use Rattle.rq_peeling.specs.Degrees.{AreListed, LowersRows}
 use Rattle.rq_peeling.proofs.degrees.lower_rows.Given as goal

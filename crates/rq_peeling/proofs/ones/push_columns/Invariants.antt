@@ -1,4 +1,4 @@
--- What the loops keep in `pi_solver::ones::push_columns`.
+-- What the loops keep in `ones::push_columns`.
 use Rattle.std.proofs.Common.{◌≡◌, ◌++◌, take}
 use Rattle.rq_peeling.proofs.ones.push_columns.Given as goal
 

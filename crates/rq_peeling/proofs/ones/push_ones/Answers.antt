@@ -1,4 +1,4 @@
--- What the check leaves to show of `pi_solver::ones::push_ones`.
+-- What the check leaves to show of `ones::push_ones`.
 use Rattle.std.proofs.Common.{◌<◌, ◌≤◌, ◌++◌, length, ap, ◌∙◌, subst, append-nil, arith}
 use Rattle.std.proofs.lemmas.List.{length-append}
 use Rattle.std.proofs.lemmas.List.Elements.{All-weaker}

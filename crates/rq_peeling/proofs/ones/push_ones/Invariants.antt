@@ -1,4 +1,4 @@
--- What the loops keep in `pi_solver::ones::push_ones`.
+-- What the loops keep in `ones::push_ones`.
 use Rattle.std.proofs.Common.{◌≡◌, ◌++◌}
 use Rattle.rq_standard.specs.BitTableSteps.{AreOnesOf}
 use Rattle.rq_peeling.proofs.RowLists.{places_among}

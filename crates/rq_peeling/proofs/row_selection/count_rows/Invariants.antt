@@ -1,4 +1,4 @@
--- What the loop keeps in `pi_solver::row_selection::count_rows`.
+-- What the loop keeps in `row_selection::count_rows`.
 use Rattle.std.proofs.Common.{◌≡◌, ℕ, ◌<◌, ◌≤◌, get_or}
 use Rattle.rq_standard.specs.BitTableSteps.{ones_between}
 use Rattle.rq_peeling.proofs.row_selection.count_rows.Given as goal

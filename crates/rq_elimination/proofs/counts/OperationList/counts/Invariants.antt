@@ -1,4 +1,4 @@
--- What the loop keeps in `pi_solver::counts::OperationList::counts`.
+-- What the loop keeps in `counts::OperationList::counts`.
 use Rattle.std.proofs.Common.{◌≤◌, length, map, drop}
 use Rattle.rq_operations.specs.Steps.{operation_of_step}
 use Rattle.rq_elimination.specs.PhaseCounts.{AreCountsOf}

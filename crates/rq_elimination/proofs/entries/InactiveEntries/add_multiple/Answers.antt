@@ -1,4 +1,4 @@
--- What the check leaves to show of `pi_solver::entries::InactiveEntries::add_multiple`.
+-- What the check leaves to show of `entries::InactiveEntries::add_multiple`.
 use Rattle.std.proofs.Common.{refl, sym, ◌∙◌}
 use Rattle.rq_elimination.proofs.EntryRows.{allowed, own_place, sum_are, sum_seen}
 use Rattle.rq_elimination.proofs.entries.InactiveEntries.add_multiple.Goals as goal

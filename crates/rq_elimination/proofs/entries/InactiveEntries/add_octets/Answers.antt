@@ -1,4 +1,4 @@
--- What the check leaves to show of `pi_solver::entries::InactiveEntries::add_octets`.
+-- What the check leaves to show of `entries::InactiveEntries::add_octets`.
 use Rattle.std.proofs.Common.{List, ℕ, length, refl, sym, ap, ◌∙◌, arith}
 use Rattle.rq_parts.specs.DenseOctetMatrix.{row_at, with_row}
 use Rattle.rq_standard.specs.Rows.{row_sum, row_multiple}

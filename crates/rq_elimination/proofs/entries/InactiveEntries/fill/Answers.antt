@@ -1,4 +1,4 @@
--- What the check leaves to show of `pi_solver::entries::InactiveEntries::fill`.
+-- What the check leaves to show of `entries::InactiveEntries::fill`.
 use Rattle.std.proofs.Common.{List, ℕ, ap, ◌∙◌}
 use Rattle.rq_parts.specs.DenseOctetMatrix.{row_at, with_row}
 use Rattle.rq_elimination.specs.InactiveEntries.{with_octets}

@@ -1,4 +1,4 @@
--- What the check leaves to show of `pi_solver::entries::InactiveEntries::multiply_row`.
+-- What the check leaves to show of `entries::InactiveEntries::multiply_row`.
 use Rattle.std.proofs.Common.{List, ℕ, ap, ◌∙◌}
 use Rattle.rq_parts.specs.DenseOctetMatrix.{with_row}
 use Rattle.rq_standard.specs.Rows.{row_multiple}

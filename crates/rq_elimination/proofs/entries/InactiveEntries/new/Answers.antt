@@ -1,4 +1,4 @@
--- What the check leaves to show of `pi_solver::entries::InactiveEntries::new`.
+-- What the check leaves to show of `entries::InactiveEntries::new`.
 use Rattle.std.proofs.Common.{◌*◌, ◌^◌, ◌≤◌, ◌≡◌, ℕ, List, [], replicate, refl, ap, sym, subst, ◌∙◌, arith}
 use Rattle.std.proofs.Math.Nat.{mul-le-mul}
 use Rattle.rq_bytes.specs.SymbolSlab.{Slab, slab_of}

@@ -1,4 +1,4 @@
--- What the check leaves to show of `pi_solver::entries::InactiveEntries::next_entry`.
+-- What the check leaves to show of `entries::InactiveEntries::next_entry`.
 use Rattle.std.proofs.Common.{◌≡◌, ◌<◌, ℕ, List, None, Some, get_or, slice_index, sym, ap, ◌∙◌, arith}
 use Rattle.rq_parts.specs.DenseOctetMatrix.{row_at}
 use Rattle.rq_elimination.specs.InactiveEntries.{bit_in}

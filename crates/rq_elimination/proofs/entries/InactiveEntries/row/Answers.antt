@@ -1,4 +1,4 @@
--- What the check leaves to show of `pi_solver::entries::InactiveEntries::row`.
+-- What the check leaves to show of `entries::InactiveEntries::row`.
 use Rattle.rq_elimination.proofs.EntryRows.{bits_place, own_octets, own_place, width_is}
 use Rattle.std.proofs.Common.{refl, ap, ◌∙◌, length}
 use Rattle.rq_elimination.proofs.entries.InactiveEntries.row.Goals as goal

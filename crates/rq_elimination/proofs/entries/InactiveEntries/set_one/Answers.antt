@@ -1,4 +1,4 @@
--- What the check leaves to show of `pi_solver::entries::InactiveEntries::set_one`.
+-- What the check leaves to show of `entries::InactiveEntries::set_one`.
 use Rattle.std.proofs.Common.{ℕ, List, set, ap, refl, ◌∙◌}
 use Rattle.rq_parts.specs.DenseOctetMatrix.{with_row}
 use Rattle.rq_elimination.specs.InactiveEntries.{unpacked}

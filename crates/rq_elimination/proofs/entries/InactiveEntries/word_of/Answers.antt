@@ -1,4 +1,4 @@
--- What the check leaves to show of `pi_solver::entries::InactiveEntries::word_of`.
+-- What the check leaves to show of `entries::InactiveEntries::word_of`.
 use Rattle.std.proofs.Common.{◌+◌, ◌*◌, List, ℕ, get_or, sym, ap, ◌∙◌}
 use Rattle.rq_elimination.proofs.UnpackedBits.{at-unpacked}
 use Rattle.rq_elimination.proofs.entries.InactiveEntries.word_of.Goals as goal

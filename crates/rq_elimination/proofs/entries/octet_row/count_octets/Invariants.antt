@@ -1,4 +1,4 @@
--- What the loops keep in `pi_solver::entries::octet_row::count_octets`.
+-- What the loops keep in `entries::octet_row::count_octets`.
 use Rattle.std.proofs.Common.{◌≤◌}
 use Rattle.rq_elimination.proofs.entries.octet_row.count_octets.Given as goal
 

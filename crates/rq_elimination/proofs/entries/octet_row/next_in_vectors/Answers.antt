@@ -1,4 +1,4 @@
--- What the check leaves to show of `pi_solver::entries::octet_row::next_in_vectors`.
+-- What the check leaves to show of `entries::octet_row::next_in_vectors`.
 use Rattle.std.proofs.Common.{◌+◌, arith, inl, inr}
 use Rattle.std.proofs.lemmas.Bool.{cases_lt}
 use Rattle.rq_elimination.proofs.NonzeroOctets.{all_zeros, first_one, ones_ahead, same_vector}

@@ -1,4 +1,4 @@
--- What the loop keeps in `pi_solver::entries::octet_row::next_in_vectors`.
+-- What the loop keeps in `entries::octet_row::next_in_vectors`.
 use Rattle.std.proofs.Common.{◌≡◌, ℕ, ◌+◌, ◌-◌, ◌%◌, ◌<◌, ◌≤◌, length}
 use Rattle.rq_algebra.specs.Systems.{at}
 use Rattle.rq_elimination.specs.NonzeroOctets.{HasOnes}

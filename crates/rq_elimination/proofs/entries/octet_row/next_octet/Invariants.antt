@@ -1,4 +1,4 @@
--- What the loops keep in `pi_solver::entries::octet_row::next_octet`.
+-- What the loops keep in `entries::octet_row::next_octet`.
 use Rattle.std.proofs.Common.{◌≡◌, ℕ, ◌<◌, ◌≤◌}
 use Rattle.rq_algebra.specs.Systems.{at}
 use Rattle.rq_elimination.proofs.entries.octet_row.next_octet.Given as goal

@@ -1,4 +1,4 @@
--- What the check leaves to show of `pi_solver::entries::octet_row::nonzero_after_first`.
+-- What the check leaves to show of `entries::octet_row::nonzero_after_first`.
 use Rattle.rq_elimination.proofs.NonzeroOctets.{ones_after_first}
 use Rattle.rq_elimination.proofs.entries.octet_row.nonzero_after_first.Goals as goal
 

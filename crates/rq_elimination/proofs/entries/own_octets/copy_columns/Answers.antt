@@ -1,4 +1,4 @@
--- What the check leaves to show of `pi_solver::entries::own_octets::copy_columns`.
+-- What the check leaves to show of `entries::own_octets::copy_columns`.
 use Rattle.std.proofs.Common.{◌<◌, List, ℕ, ap, ◌∙◌, set, length, arith}
 use Rattle.rq_parts.specs.DenseOctetMatrix.{row_at}
 use Rattle.rq_elimination.proofs.WithOctets.{octets_next}

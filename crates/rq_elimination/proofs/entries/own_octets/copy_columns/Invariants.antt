@@ -1,4 +1,4 @@
--- What the loops keep in `pi_solver::entries::own_octets::copy_columns`.
+-- What the loops keep in `entries::own_octets::copy_columns`.
 use Rattle.std.proofs.Common.{◌≡◌, ◌++◌, drop, map, take}
 use Rattle.rq_algebra.specs.Systems.{at}
 use Rattle.rq_parts.specs.DenseOctetMatrix.{row_at}

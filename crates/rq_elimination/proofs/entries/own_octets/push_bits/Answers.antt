@@ -1,4 +1,4 @@
--- What the check leaves to show of `pi_solver::entries::own_octets::push_bits`.
+-- What the check leaves to show of `entries::own_octets::push_bits`.
 use Rattle.std.proofs.Common.{◌≡◌, ap, ◌∙◌}
 use Rattle.std.specs.Prelude.{◌++◌, ◌∷◌, [], replicate}
 use Rattle.rq_bytes.specs.SymbolSlab.{Slab}

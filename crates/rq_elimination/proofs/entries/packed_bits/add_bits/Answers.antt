@@ -1,4 +1,4 @@
--- What the check leaves to show of `pi_solver::entries::packed_bits::add_bits`.
+-- What the check leaves to show of `entries::packed_bits::add_bits`.
 use Rattle.std.proofs.Common.{◌≡◌, ◌+◌, ◌*◌, length, ◌∙◌, arith}
 use Rattle.rq_standard.specs.Octets.{octet_mul}
 use Rattle.rq_bytes.proofs.ZipUpto.{added_store, added_all}

@@ -1,4 +1,4 @@
--- What the loops keep in `pi_solver::entries::packed_bits::add_bits`.
+-- What the loops keep in `entries::packed_bits::add_bits`.
 use Rattle.std.proofs.Common.{◌≡◌, ◌*◌, length}
 use Rattle.std.specs.Int.Bits.{bit_xor}
 use Rattle.rq_standard.specs.Octets.{octet_mul}

@@ -1,4 +1,4 @@
--- What the check leaves to show of `pi_solver::entries::packed_bits::bit_products`.
+-- What the check leaves to show of `entries::packed_bits::bit_products`.
 use Rattle.std.proofs.Common.{◌++◌, ap, ◌∙◌, eqb, replicate, w8}
 use Rattle.std.proofs.lemmas.Simd.{tops_compared}
 use lib.Bits.{bit_and}

@@ -1,4 +1,4 @@
--- What the check leaves to show of `pi_solver::entries::packed_bits::next_one`.
+-- What the check leaves to show of `entries::packed_bits::next_one`.
 use Rattle.std.proofs.Common.{refl, arith}
 use Rattle.rq_elimination.proofs.UnpackedBits.{first_one, next_if, zeros_to_next, zeros_before_next}
 use Rattle.rq_elimination.proofs.entries.packed_bits.next_one.Goals as goal

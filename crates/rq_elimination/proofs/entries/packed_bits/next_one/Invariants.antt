@@ -1,4 +1,4 @@
--- What the loops keep in `pi_solver::entries::packed_bits::next_one`.
+-- What the loops keep in `entries::packed_bits::next_one`.
 use Rattle.std.proofs.Common.{◌≡◌, ℕ, ◌-◌, ◌<◌, ◌≤◌}
 use Rattle.rq_elimination.specs.InactiveEntries.{bit_in}
 use Rattle.rq_elimination.proofs.entries.packed_bits.next_one.Given as goal

@@ -1,4 +1,4 @@
--- What the check leaves to show of `pi_solver::entries::packed_bits::set_bit`.
+-- What the check leaves to show of `entries::packed_bits::set_bit`.
 use Rattle.rq_elimination.proofs.UnpackedBits.{unpacked-set}
 use Rattle.rq_elimination.proofs.entries.packed_bits.set_bit.Goals as goal
 

@@ -1,4 +1,4 @@
--- What the check leaves to show of `pi_solver::entries::packed_bits::word`.
+-- What the check leaves to show of `entries::packed_bits::word`.
 use Rattle.rq_elimination.proofs.UnpackedBits.{block_word}
 use Rattle.rq_elimination.proofs.entries.packed_bits.word.Goals as goal
 

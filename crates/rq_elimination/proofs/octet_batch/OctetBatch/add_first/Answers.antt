@@ -1,4 +1,4 @@
--- What the check leaves to show of `pi_solver::first_phase::octet_batch::OctetBatch::add_first`.
+-- What the check leaves to show of `octet_batch::OctetBatch::add_first`.
 use Rattle.std.proofs.Common.{◌≡◌, ℕ, ◌<◌, List, length, set, refl, sym, ap, ◌∙◌, arith}
 use Rattle.std.proofs.lemmas.List.{get_or_read, get_or-set_same, get_or-set_other}
 use Rattle.rq_algebra.specs.Systems.{at}

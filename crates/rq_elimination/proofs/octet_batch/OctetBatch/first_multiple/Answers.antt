@@ -1,4 +1,4 @@
--- What the check leaves to show of `pi_solver::first_phase::octet_batch::OctetBatch::first_multiple`.
+-- What the check leaves to show of `octet_batch::OctetBatch::first_multiple`.
 use Rattle.std.proofs.Common.{◌≡◌, ◌<◌, length, sym, ap, ◌∙◌, arith}
 use Rattle.std.proofs.lemmas.List.{get_or_read}
 use Rattle.rq_algebra.specs.Systems.{at}

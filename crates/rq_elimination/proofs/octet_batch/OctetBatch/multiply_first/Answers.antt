@@ -1,4 +1,4 @@
--- What the check leaves to show of `pi_solver::first_phase::octet_batch::OctetBatch::multiply_first`.
+-- What the check leaves to show of `octet_batch::OctetBatch::multiply_first`.
 use Rattle.std.proofs.Common.{◌<◌, length, set, ap, ◌∙◌, arith}
 use Rattle.std.proofs.lemmas.List.{get_or-set_same, get_or-set_other}
 use Rattle.rq_algebra.specs.Systems.{at}

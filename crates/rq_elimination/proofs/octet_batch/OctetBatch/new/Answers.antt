@@ -1,4 +1,4 @@
--- What the check leaves to show of `pi_solver::first_phase::octet_batch::OctetBatch::new`.
+-- What the check leaves to show of `octet_batch::OctetBatch::new`.
 use Rattle.std.proofs.Common.{◌≡◌, ◌≤◌, ℕ, length, set, replicate, ap, ◌∙◌, arith, inl, inr, List}
 use Rattle.std.proofs.lemmas.Bool.{cases_lt}
 use Rattle.std.proofs.lemmas.List.{get_or-set_same, get_or-set_other, get_or-replicate, get_or_past, length-replicate}

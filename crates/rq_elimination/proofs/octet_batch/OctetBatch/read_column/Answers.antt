@@ -1,4 +1,4 @@
--- What the check leaves to show of `pi_solver::first_phase::octet_batch::OctetBatch::read_column`.
+-- What the check leaves to show of `octet_batch::OctetBatch::read_column`.
 use Rattle.std.proofs.Common.{◌≡◌, ◌≢◌, ℕ, ◌<◌, List, length, sym, ap, ◌∙◌, arith}
 use Rattle.std.specs.Int.Bits.{bit_xor}
 use Rattle.std.proofs.lemmas.List.{length-map}

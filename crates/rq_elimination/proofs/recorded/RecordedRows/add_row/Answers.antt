@@ -1,4 +1,4 @@
--- What the check leaves to show of `pi_solver::recorded::RecordedRows::add_row`.
+-- What the check leaves to show of `recorded::RecordedRows::add_row`.
 use Rattle.std.proofs.Common.{sym}
 use Rattle.rq_elimination.proofs.RecordedLaws.{sum_counted, sum_performed}
 use Rattle.rq_elimination.proofs.recorded.RecordedRows.add_row.Goals as goal

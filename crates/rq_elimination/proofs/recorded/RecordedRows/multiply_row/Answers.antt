@@ -1,4 +1,4 @@
--- What the check leaves to show of `pi_solver::recorded::RecordedRows::multiply_row`.
+-- What the check leaves to show of `recorded::RecordedRows::multiply_row`.
 use Rattle.std.proofs.Common.{refl}
 use Rattle.rq_elimination.proofs.RecordedLaws.{scaling_counted, scaling_performed}
 use Rattle.rq_elimination.proofs.recorded.RecordedRows.multiply_row.Goals as goal

@@ -1,4 +1,4 @@
--- What the check leaves to show of `pi_solver::recorded::RecordedRows::record_sum`.
+-- What the check leaves to show of `recorded::RecordedRows::record_sum`.
 use Rattle.std.proofs.Common.{sym}
 use Rattle.rq_elimination.proofs.RecordedLaws.{sum_counted, sum_recorded}
 use Rattle.rq_elimination.proofs.recorded.RecordedRows.record_sum.Goals as goal

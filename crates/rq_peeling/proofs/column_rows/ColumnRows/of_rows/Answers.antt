@@ -1,4 +1,4 @@
--- What the check leaves to show of `pi_solver::column_rows::ColumnRows::of_rows`.
+-- What the check leaves to show of `column_rows::ColumnRows::of_rows`.
 use Rattle.std.proofs.Common.{◌≡◌, ℕ, ◌+◌, ◌<◌, ◌==◌, ◌++◌, List, [], All, count_by, length, replicate, sym, ap, ◌∙◌, subst, arith}
 use Rattle.std.specs.List.{sum_by}
 use Rattle.std.proofs.lemmas.List.{take_all}

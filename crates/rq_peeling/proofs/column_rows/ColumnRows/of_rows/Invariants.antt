@@ -1,4 +1,4 @@
--- What the loops keep in `pi_solver::column_rows::ColumnRows::of_rows`.
+-- What the loops keep in `column_rows::ColumnRows::of_rows`.
 use Rattle.std.proofs.Common.{◌≡◌, ℕ, ◌<◌, All, List, length}
 use Rattle.rq_peeling.specs.ColumnRows.{AreEnds, HasPlaced, rows_with}
 use Rattle.rq_peeling.proofs.column_rows.ColumnRows.of_rows.Given as goal

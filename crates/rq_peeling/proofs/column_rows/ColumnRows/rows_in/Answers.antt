@@ -1,4 +1,4 @@
--- What the check leaves to show of `pi_solver::column_rows::ColumnRows::rows_in`.
+-- What the check leaves to show of `column_rows::ColumnRows::rows_in`.
 use Rattle.std.proofs.Common.{◌≡◌, ℕ, ◌+◌, ◌<◌, ◌≤◌, List, [], length, min, sym, ap, ◌∙◌, arith}
 use Rattle.std.specs.Prelude.{slice_index_or, slice_range}
 use Rattle.std.proofs.lemmas.Bool.{ltb-true, ltb-false}

@@ -1,4 +1,4 @@
--- What the check leaves to show of `pi_solver::columns::ColumnOrder::exchange`.
+-- What the check leaves to show of `columns::ColumnOrder::exchange`.
 use Rattle.std.proofs.Common.{◌≡◌, ◌<◌, length, set, ap, subst}
 use Rattle.std.proofs.lemmas.List.{get_or_read}
 use Rattle.rq_algebra.specs.Systems.{at}

@@ -1,4 +1,4 @@
--- What the check leaves to show of `pi_solver::columns::ColumnOrder::inactivate`.
+-- What the check leaves to show of `columns::ColumnOrder::inactivate`.
 use Rattle.std.proofs.Common.{◌≡◌, ◌-◌, ◌+◌, ap, arith}
 use Rattle.std.proofs.lemmas.List.{get_or_read}
 use Rattle.rq_algebra.specs.Systems.{at}

@@ -1,4 +1,4 @@
--- What the check leaves to show of `pi_solver::columns::ColumnOrder::new`.
+-- What the check leaves to show of `columns::ColumnOrder::new`.
 use Rattle.std.proofs.Common.{◌≡◌, refl, ◌∙◌}
 use Rattle.std.specs.List.{range_with_len}
 use Rattle.rq_matrix.proofs.Orders.{first_numbers}

@@ -1,4 +1,4 @@
--- What the loops keep in `pi_solver::degrees::RowDegrees::least`.
+-- What the loops keep in `degrees::RowDegrees::least`.
 use Rattle.std.proofs.Common.{◌≡◌, ℕ, ◌<◌}
 use Rattle.rq_algebra.specs.Systems.{at}
 use Rattle.rq_peeling.specs.FirstPhaseRowSelectionStats.{HasLeastOnes}

@@ -1,4 +1,4 @@
--- What the loops keep in `pi_solver::degrees::RowDegrees::next_pair`.
+-- What the loops keep in `degrees::RowDegrees::next_pair`.
 use Rattle.std.proofs.Common.{◌≡◌, ◌-◌, length}
 use Rattle.rq_peeling.specs.Degrees.{AreListed}
 use Rattle.rq_peeling.proofs.degrees.RowDegrees.next_pair.Given as goal

@@ -1,4 +1,4 @@
--- What the loops keep in `pi_solver::degrees::RowDegrees::next_single`.
+-- What the loops keep in `degrees::RowDegrees::next_single`.
 use Rattle.std.proofs.Common.{◌≡◌, length}
 use Rattle.rq_peeling.specs.Degrees.{AreListed}
 use Rattle.rq_peeling.proofs.degrees.RowDegrees.next_single.Given as goal

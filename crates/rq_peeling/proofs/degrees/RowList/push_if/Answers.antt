@@ -1,4 +1,4 @@
--- What the check leaves to show of `pi_solver::degrees::RowList::push_if`.
+-- What the check leaves to show of `degrees::RowList::push_if`.
 use Rattle.std.proofs.Common.{◌≡◌, ◌+◌, ap, arith}
 use mir.Val.{bool_byte}
 use Rattle.rq_peeling.specs.Degrees.{ListedRows}

@@ -1,4 +1,4 @@
--- What the check leaves to show of `pi_solver::ones::RowOnes::columns`.
+-- What the check leaves to show of `ones::RowOnes::columns`.
 use Rattle.std.proofs.Common.{sym, ap, ◌∙◌}
 use Rattle.std.specs.List.{concat}
 use Rattle.rq_peeling.proofs.RowLists.{lists_joined}

@@ -1,4 +1,4 @@
--- What the check leaves to show of `pi_solver::ones::RowOnes::height`.
+-- What the check leaves to show of `ones::RowOnes::height`.
 use Rattle.std.proofs.Common.{length, sym, ap, ◌∙◌, ◌-◌, ℕ}
 use Rattle.rq_parts.proofs.KeyedLists.{length-lists}
 use Rattle.rq_peeling.proofs.ones.RowOnes.height.Goals as goal

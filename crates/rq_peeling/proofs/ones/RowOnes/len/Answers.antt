@@ -1,4 +1,4 @@
--- What the check leaves to show of `pi_solver::ones::RowOnes::len`.
+-- What the check leaves to show of `ones::RowOnes::len`.
 use Rattle.std.proofs.Common.{ℕ, List, length, sym, ap, ◌∙◌}
 use Rattle.std.specs.List.{sum_by}
 use Rattle.rq_peeling.proofs.RowLists.{ones_counted}

@@ -1,4 +1,4 @@
--- What the check leaves to show of `pi_solver::ones::RowOnes::of_matrix`.
+-- What the check leaves to show of `ones::RowOnes::of_matrix`.
 use Rattle.std.proofs.Common.{◌≡◌, ◌+◌, ◌++◌, ◌∷◌, [], ◌∙◌, ap, length, subst, arith, ℕ}
 use Rattle.std.proofs.lemmas.List.{length-append}
 use Rattle.rq_parts.specs.ImmutableListMap.{lists_between}

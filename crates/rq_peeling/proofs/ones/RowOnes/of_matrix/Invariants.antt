@@ -1,4 +1,4 @@
--- What the loops keep in `pi_solver::ones::RowOnes::of_matrix`.
+-- What the loops keep in `ones::RowOnes::of_matrix`.
 use Rattle.std.proofs.Common.{◌≡◌, length}
 use Rattle.rq_parts.specs.ImmutableListMap.{lists_between}
 use Rattle.rq_peeling.specs.Degrees.{CountsBefore}

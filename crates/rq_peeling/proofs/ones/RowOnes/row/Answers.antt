@@ -1,4 +1,4 @@
--- What the check leaves to show of `pi_solver::ones::RowOnes::row`.
+-- What the check leaves to show of `ones::RowOnes::row`.
 use Rattle.std.proofs.Common.{ℕ, List, length, ap, ◌∙◌, arith}
 use Rattle.rq_parts.proofs.KeyedLists.{list_read, key_within}
 use Rattle.rq_peeling.specs.Peeled.{ones_of}

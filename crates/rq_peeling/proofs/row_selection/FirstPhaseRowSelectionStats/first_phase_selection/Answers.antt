@@ -1,4 +1,4 @@
--- What the check leaves to show of `pi_solver::row_selection::FirstPhaseRowSelectionStats::first_phase_selection`.
+-- What the check leaves to show of `row_selection::FirstPhaseRowSelectionStats::first_phase_selection`.
 use Rattle.std.proofs.Common.{◌<◌, get_or, arith}
 use Rattle.rq_peeling.specs.FirstPhaseRowSelectionStats.{ones_left}
 use Rattle.rq_peeling.proofs.RowCounts.{least_same}

@@ -1,4 +1,4 @@
--- What the check leaves to show of `pi_solver::row_selection::FirstPhaseRowSelectionStats::recompute_row`.
+-- What the check leaves to show of `row_selection::FirstPhaseRowSelectionStats::recompute_row`.
 use Rattle.std.proofs.Common.{◌≡◌, set, sym, ap, subst, ◌∙◌}
 use Rattle.rq_peeling.specs.FirstPhaseRowSelectionStats.{RowCounts, KeepsCounts, ChangesRow, ones_left}
 use Rattle.rq_peeling.proofs.RowCounts.{row_counted}

@@ -1,4 +1,4 @@
--- What the check leaves to show of `pi_solver::row_selection::FirstPhaseRowSelectionStats::swap_columns`.
+-- What the check leaves to show of `row_selection::FirstPhaseRowSelectionStats::swap_columns`.
 use Rattle.rq_peeling.proofs.RowCounts.{columns_kept}
 use Rattle.rq_peeling.proofs.row_selection.FirstPhaseRowSelectionStats.swap_columns.Goals as goal
 

@@ -1,4 +1,4 @@
--- What the check leaves to show of `pi_solver::row_selection::FirstPhaseRowSelectionStats::swap_rows`.
+-- What the check leaves to show of `row_selection::FirstPhaseRowSelectionStats::swap_rows`.
 use Rattle.std.proofs.Common.{ℕ, List, sym, ap, subst, ◌∙◌}
 use Rattle.std.specs.List.{swap}
 use Rattle.rq_standard.specs.BitTableSteps.{SwapsRows}

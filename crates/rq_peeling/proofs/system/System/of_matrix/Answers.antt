@@ -1,4 +1,4 @@
--- What the check leaves to show of `pi_solver::system::System::of_matrix`.
+-- What the check leaves to show of `system::System::of_matrix`.
 use Rattle.std.proofs.Common.{◌∙◌}
 use Rattle.rq_peeling.proofs.BitRows.{rows_of_bits, octet_rows}
 use Rattle.rq_peeling.proofs.PeelingLaws.{columns_below}

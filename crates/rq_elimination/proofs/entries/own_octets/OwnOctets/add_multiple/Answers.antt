@@ -1,4 +1,4 @@
--- What the check leaves to show of `pi_solver::entries::own_octets::OwnOctets::add_multiple`.
+-- What the check leaves to show of `entries::own_octets::OwnOctets::add_multiple`.
 use Rattle.std.proofs.Common.{List, ℕ, sym, ap, ◌∙◌}
 use Rattle.rq_algebra.specs.Systems.{at}
 use Rattle.rq_parts.specs.DenseOctetMatrix.{row_at, with_row}

@@ -1,4 +1,4 @@
--- What the check leaves to show of `pi_solver::entries::own_octets::OwnOctets::ensure`.
+-- What the check leaves to show of `entries::own_octets::OwnOctets::ensure`.
 use Rattle.std.proofs.Common.{sym, ap, ◌∙◌}
 use Rattle.std.proofs.lemmas.List.{get_or_default}
 use Rattle.rq_parts.specs.DenseOctetMatrix.{row_at, with_row}

@@ -1,4 +1,4 @@
--- What the check leaves to show of `pi_solver::entries::own_octets::OwnOctets::fill`.
+-- What the check leaves to show of `entries::own_octets::OwnOctets::fill`.
 use Rattle.std.proofs.Common.{List, [], ℕ, length, sym, ap, ◌∙◌, ◌≤◌, arith}
 use Rattle.std.proofs.lemmas.List.{set-get_or}
 use Rattle.rq_algebra.specs.Systems.{at}

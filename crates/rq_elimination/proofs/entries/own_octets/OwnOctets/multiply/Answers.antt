@@ -1,4 +1,4 @@
--- What the check leaves to show of `pi_solver::entries::own_octets::OwnOctets::multiply`.
+-- What the check leaves to show of `entries::own_octets::OwnOctets::multiply`.
 use Rattle.std.proofs.Common.{sym, ap, ◌∙◌}
 use Rattle.rq_algebra.specs.Systems.{at}
 use Rattle.rq_parts.specs.DenseOctetMatrix.{with_row}

@@ -1,4 +1,4 @@
--- What the check leaves to show of `pi_solver::entries::own_octets::OwnOctets::new`.
+-- What the check leaves to show of `entries::own_octets::OwnOctets::new`.
 use Rattle.rq_elimination.proofs.OwnRows.{none_placed, none_seen}
 use Rattle.rq_elimination.proofs.entries.own_octets.OwnOctets.new.Goals as goal
 

@@ -1,4 +1,4 @@
--- What the check leaves to show of `pi_solver::entries::own_octets::OwnOctets::set_one`.
+-- What the check leaves to show of `entries::own_octets::OwnOctets::set_one`.
 use Rattle.std.proofs.Common.{List, ℕ, set, sym, ap, ◌∙◌, arith}
 use Rattle.std.proofs.lemmas.List.{length-set}
 use Rattle.rq_algebra.specs.Systems.{at}

@@ -1,7 +1,7 @@
--- What the loops keep in `pi_solver::peeling::first_active`.
+-- What the loops keep in `peeler::first_active`.
 use Rattle.std.proofs.Common.{take}
 use Rattle.rq_peeling.specs.Peeled.{HasNoActive}
-use Rattle.rq_peeling.proofs.peeling.first_active.Given as goal
+use Rattle.rq_peeling.proofs.peeler.first_active.Given as goal
 
 abbrev pub invariant-loop-column : goal.invariant-loop-column
 invariant-loop-column l = HasNoActive (take l.column-index l.row) l.columns

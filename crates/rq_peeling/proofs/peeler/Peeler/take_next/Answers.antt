@@ -1,0 +1,23 @@
+-- What the check leaves to show of `peeler::Peeler::take_next`.
+use Rattle.rq_peeling.specs.Degrees.{KeepsDegrees}
+use Rattle.rq_peeling.specs.Peeled.{HasNoActive, ones_of}
+use Rattle.rq_peeling.proofs.PeelerLaws.{least_active}
+use Rattle.rq_peeling.proofs.peeler.Peeler.take_next.Goals as goal
+
+pub returns-then-branch-clause-counted : goal.returns-then-branch-clause-counted
+returns-then-branch-clause-counted c =
+    let p = c.args.self.now in
+    let keeps : KeepsDegrees p.system.now.ones p.columns c.take_row.new.self.columns p.degrees c.take_row.new.self.degrees = rw (c.next_row.ensures.system, c.next_row.ensures.columns, c.next_row.ensures.degrees) at c.in_ok-take_row.ensures.counted in
+    keeps c.requires
+
+pub returns-else-branch-clause-none : goal.returns-else-branch-clause-none
+returns-else-branch-clause-none c =
+    let p = c.args.self.now in
+    let none : HasNoActive (ones_of p.system.now.ones c.in-Some.row) p.columns = rw (c.next_row.ensures.system, c.next_row.ensures.columns) at (c.in_ok-take_row.ensures.none c.if-branch.false) in
+    absurd (least_active p.system.now.ones p.columns p.degrees c.in-Some.row p.row_count c.requires c.in-Some.ensures.least none)
+
+pub returns-else-branch-clause-left : goal.returns-else-branch-clause-left
+returns-else-branch-clause-left c =
+    let p = c.args.self.now in
+    let none : HasNoActive (ones_of p.system.now.ones c.in-Some.row) p.columns = rw (c.next_row.ensures.system, c.next_row.ensures.columns) at (c.in_ok-take_row.ensures.none c.if-branch.false) in
+    absurd (least_active p.system.now.ones p.columns p.degrees c.in-Some.row p.row_count c.requires c.in-Some.ensures.least none)

@@ -1,0 +1,49 @@
+-- What the check leaves to show of `peeler::Peeler::take_row`.
+use Rattle.std.proofs.Common.{◌<◌, ◌≤◌, ℕ, List, length, subst, sym, arith}
+use Rattle.std.specs.List.{Contains}
+use Rattle.rq_peeling.specs.Degrees.{KeepsDegrees, active_ones}
+use Rattle.rq_peeling.specs.Peeled.{IsActive, ones_of}
+use Rattle.rq_peeling.proofs.ActiveOnes.{none_behind}
+use Rattle.rq_peeling.proofs.PeelerLaws.{leave_lowered, row_below}
+use Rattle.rq_peeling.proofs.PeelingLaws.{of_contained}
+use Rattle.rq_peeling.proofs.peeler.Peeler.take_row.Goals as goal
+
+pub returns-in_ok-inactivate_columns-clause-counted : goal.returns-in_ok-inactivate_columns-clause-counted
+returns-in_ok-inactivate_columns-clause-counted c = λ counts.
+    let p = c.args.self.now in
+    let row = ones_of p.system.now.ones c.args.row in
+    let there : Contains row c.in-Some.pivot = subst (λ (xs : List ℕ). Contains xs c.in-Some.pivot) c.row-row.ensures c.in-Some.ensures.column in
+    let inside = of_contained (λ (column : ℕ). column < length p.columns.order) row c.in-Some.pivot (row_below p c.args.row c.requires.row) there in
+    let first = leave_lowered p c.take_pivot.new.self c.in-Some.pivot c.leave_column.new.self.degrees inside c.in-Some.ensures.active c.take_pivot.ensures.ended c.in_ok-leave_column.ensures.lowered in
+    let others : KeepsDegrees p.system.now.ones c.take_pivot.new.self c.inactivate_columns.new.self.columns c.leave_column.new.self.degrees c.inactivate_columns.new.self.degrees = rw (c.leave_column.ensures.system, c.leave_column.ensures.columns) at c.in_ok-inactivate_columns.ensures.counted in
+    others (first counts)
+
+-- ---- a row of degree 1
+
+pub returns-else-degree-gt1-clause-taken : goal.returns-else-degree-gt1-clause-taken
+returns-else-degree-gt1-clause-taken c = λ _.
+    let p = c.args.self.now in
+    let row = ones_of p.system.now.ones c.args.row in
+    let there : Contains row c.in-Some.pivot = subst (λ (xs : List ℕ). Contains xs c.in-Some.pivot) c.row-row.ensures c.in-Some.ensures.column in
+    let ends = c.take_pivot.ensures.ended in
+    let few : active_ones p.columns row ≤ 1 = omega (arith, c.requires.degree, c.degree-degree.ensures, c.if-degree-gt1.false) in
+    let here = sym c.take_pivot.ensures.here in
+    rw c.leave_column.ensures.columns (record {
+      width = ends.width;
+      pivots = c.take_pivot.ensures.pivots;
+      own = subst (Contains row) here there;
+      was = subst (IsActive p.columns) here c.in-Some.ensures.active;
+      before = ends.before;
+      left = λ k l a. (ends.left k l a).0;
+      kept = λ k l a out. ends.kept k l a (λ e. out (subst (Contains row) (sym e) there));
+      fewer = ends.fewer;
+      ended = none_behind row p.columns c.take_pivot.new.self c.in-Some.pivot (row_below p c.args.row c.requires.row) there c.in-Some.ensures.active ends few;
+    })
+
+pub returns-else-degree-gt1-clause-counted : goal.returns-else-degree-gt1-clause-counted
+returns-else-degree-gt1-clause-counted c =
+    let p = c.args.self.now in
+    let row = ones_of p.system.now.ones c.args.row in
+    let there : Contains row c.in-Some.pivot = subst (λ (xs : List ℕ). Contains xs c.in-Some.pivot) c.row-row.ensures c.in-Some.ensures.column in
+    let inside = of_contained (λ (column : ℕ). column < length p.columns.order) row c.in-Some.pivot (row_below p c.args.row c.requires.row) there in
+    rw c.leave_column.ensures.columns (leave_lowered p c.take_pivot.new.self c.in-Some.pivot c.leave_column.new.self.degrees inside c.in-Some.ensures.active c.take_pivot.ensures.ended c.in_ok-leave_column.ensures.lowered)
