@@ -1,11 +1,12 @@
 pub mod AdditionLaws
 pub mod Choices
 pub mod EntryRows
-pub mod NonzeroOctets
-pub mod OctetBatchLaws
+pub mod NonzeroLanes
+pub mod HdpcFactors
 pub mod OctetEntries
 pub mod OwnRows
 pub mod Performing
+pub mod PhaseTotals
 pub mod RecordedLaws
 pub mod RowStepLaws
 pub mod StepColumns

@@ -78,8 +78,8 @@ module _ {octets : Slab} {places : List ℕ} (are : ArePlaced octets places) {no
     below : at places row ≤ length octets.values
     below = are.inside row 0 in_places
 
-    pub is_none : at places row ≡ 0 → length (row_at now row) ≡ 0
-    is_none none = ap length row_now ∙ ap (λ p. length (row_placed octets.values p)) none
+    pub is_bits : at places row ≡ 0 → length (row_at now row) ≡ 0
+    is_bits none = ap length row_now ∙ ap (λ p. length (row_placed octets.values p)) none
 
     pub is_some : at places row ≢ 0 → length (row_at now row) ≡ now.width
     is_some some = ap length row_now ∙ of_place (at places row) below some ∙ width_is where

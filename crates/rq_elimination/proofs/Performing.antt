@@ -10,9 +10,10 @@ use Rattle.rq_algebra.specs.Systems.{at}
 use Rattle.rq_algebra.proofs.Changes.{find_place}
 use Rattle.rq_algebra.specs.Operations.{Operation, AddAssign, MulAssign, Fma, Reorder}
 use Rattle.rq_standard.specs.OctetField.{octets}
-use Rattle.rq_parts.specs.DenseOctetMatrix.{entry_of, HasOctets}
-use Rattle.rq_elimination.specs.Recorded.{Recorded, sum_step, Performs, Records, ChangesRows}
-use Rattle.rq_elimination.specs.RowSteps.{row_step, rows_after, IsStepAmong}
+use Rattle.rq_parts.specs.DenseOctetMatrix.{entry_of}
+use Rattle.rq_elimination.specs.Recorded.{Performs, Records, ChangesRows}
+use Rattle.rq_elimination.specs.declared.recorded.RecordedRows.{RecordedRows}
+use Rattle.rq_elimination.specs.RowSteps.{row_step, rows_after, sum_step, IsStepAmong}
 use Rattle.rq_elimination.proofs.RowStepLaws.{rows_after-same}
 use Rattle.rq_elimination.proofs.StepColumns.{changed_here, changed_other, rows_after-none, rows_after-next, rows_after-column, rows_after-apart, rows_after-zero, Contains-range}
 
@@ -61,7 +62,7 @@ module _ (dest scalar : ℕ) (m : ℕ → ℕ → ℕ) where
 
 -- ---- one step that was done and recorded
 
-module _ (old new : Recorded) where
+module _ (old new : RecordedRows) where
   pub all_one : (step : Operation) → IsStepAmong octets (range_with_len 0 (length old.table.rows)) step → All (IsStepAmong octets (range_with_len 0 (length old.table.rows))) (step ∷ [])
   all_one step is = let among = IsStepAmong octets (range_with_len 0 (length old.table.rows)) in All-cons among step [] is (All-nil among)
 
@@ -70,20 +71,19 @@ module _ (old new : Recorded) where
       let rows = range_with_len 0 (length old.table.rows) in
       all_one (sum_step dest src scalar) (sum_among dest src scalar (entry_of old.table) rows (Contains-range (length old.table.rows) dest in_dest) (Contains-range (length old.table.rows) src in_src) apart)
 
-  module _ (width : new.table.width ≡ old.table.width) (height : length new.table.rows ≡ length old.table.rows) (are_new : HasOctets new.table) where
+  module _ (width : new.table.width ≡ old.table.width) (height : length new.table.rows ≡ length old.table.rows) where
     pub performs_sum : (dest src scalar : ℕ) → new.operations ≡ old.operations ++ sum_step dest src scalar ∷ [] → src ≢ dest → dest < length old.table.rows → src < length old.table.rows
-        → HasOctets old.table → AddsRow octets (length old.table.rows) old.table.width dest src scalar (entry_of old.table) (entry_of new.table)
+        → AddsRow octets (length old.table.rows) old.table.width dest src scalar (entry_of old.table) (entry_of new.table)
         → Performs (sum_step dest src scalar ∷ []) old new
-    performs_sum dest src scalar recorded apart in_dest in_src are adds = record {
+    performs_sum dest src scalar recorded apart in_dest in_src adds = record {
       recorded = recorded;
       among = one_sum dest src scalar apart in_dest in_src;
       width = width;
       height = height;
       entries = λ i k l m. elim (cases_eq i dest) [
-        | inl e ↦ rw e (adds.at_dest k m ∙ sym (sum_step-here dest src scalar (entry_of old.table) k (are.elements src k in_src m)))
+        | inl e ↦ rw e (adds.at_dest k m ∙ sym (sum_step-here dest src scalar (entry_of old.table) k (old.octets.elements src k in_src m)))
         | inr d ↦ adds.elsewhere i k l m d ∙ sym (sum_step-elsewhere dest src scalar (entry_of old.table) i k d)
       ];
-      octets = are_new;
     }
 
     pub performs_scaling : (dest scalar : ℕ) → new.operations ≡ old.operations ++ MulAssign dest scalar ∷ [] → dest < length old.table.rows → scalar < 256 → scalar ≢ 0
@@ -98,14 +98,13 @@ module _ (old new : Recorded) where
         | inl e ↦ rw e (scales.at_dest k m ∙ sym (scaling-here dest scalar (entry_of old.table) k))
         | inr d ↦ scales.elsewhere i k l m d ∙ sym (scaling-elsewhere dest scalar (entry_of old.table) i k d)
       ];
-      octets = are_new;
     }
 
   -- what such a step does to the table
-  pub adds_of_sum : (dest src scalar : ℕ) → dest < length old.table.rows → src < length old.table.rows → HasOctets old.table → Performs (sum_step dest src scalar ∷ []) old new
+  pub adds_of_sum : (dest src scalar : ℕ) → dest < length old.table.rows → src < length old.table.rows → Performs (sum_step dest src scalar ∷ []) old new
       → AddsRow octets (length old.table.rows) old.table.width dest src scalar (entry_of old.table) (entry_of new.table)
-  adds_of_sum dest src scalar in_dest in_src are performs = record {
-    at_dest = λ k l. performs.entries dest k in_dest l ∙ sum_step-here dest src scalar (entry_of old.table) k (are.elements src k in_src l);
+  adds_of_sum dest src scalar in_dest in_src performs = record {
+    at_dest = λ k l. performs.entries dest k in_dest l ∙ sum_step-here dest src scalar (entry_of old.table) k (old.octets.elements src k in_src l);
     elsewhere = λ i k l m d. performs.entries i k l m ∙ sum_step-elsewhere dest src scalar (entry_of old.table) i k d;
   }
 
@@ -117,20 +116,19 @@ module _ (old new : Recorded) where
 
 -- ---- nothing, and one after the other
 
-pub performs_none : (table : Recorded) → HasOctets table.table → Performs [] table table
-performs_none table are = record {
-  recorded = sym (append-nil table.operations);
-  among = All-nil (IsStepAmong octets (range_with_len 0 (length table.table.rows)));
+pub performs_none : (rows : RecordedRows) → Performs [] rows rows
+performs_none rows = record {
+  recorded = sym (append-nil rows.operations);
+  among = All-nil (IsStepAmong octets (range_with_len 0 (length rows.table.rows)));
   width = refl;
   height = refl;
-  entries = λ i k l m. sym (rows_after-none octets (entry_of table.table) i k);
-  octets = are;
+  entries = λ i k l m. sym (rows_after-none octets (entry_of rows.table) i k);
 }
 
 pub below_range : (height : ℕ) → All (λ r. r < height) (range_with_len 0 height)
 below_range height = All-from_get_or (λ r. r < height) (range_with_len 0 height) 0 (λ i l. let n = length-range_with_len 0 height in let e = get_or-range_with_len 0 height i 0 (omega (arith, n)) in omega (arith, n))
 
-module _ (steps more : List Operation) (first second third : Recorded) where
+module _ (steps more : List Operation) (first second third : RecordedRows) where
   pub performs_more : Performs steps first second → Performs more second third → Performs (steps ++ more) first third
   performs_more done next = record {
     recorded = next.recorded ∙ ap (λ (l : List Operation). l ++ more) done.recorded ∙ append_assoc first.operations steps more;
@@ -141,7 +139,6 @@ module _ (steps more : List Operation) (first second third : Recorded) where
         next.entries i k (rw done.height l) (rw done.width m)
         ∙ rows_after-same octets (length first.table.rows) first.table.width (range_with_len 0 (length first.table.rows)) (below_range (length first.table.rows)) more (entry_of second.table) (rows_after octets steps (entry_of first.table)) (rw done.height at next.among) done.entries i k l m
         ∙ sym (rows_after-next octets steps more (entry_of first.table) i k);
-    octets = next.octets;
   }
 
   pub records_more : Records steps first second → Records more second third → Records (steps ++ more) first third
@@ -151,7 +148,7 @@ module _ (steps more : List Operation) (first second third : Recorded) where
     table = next.table ∙ done.table;
   }
 
-pub records_none : (rows : Recorded) → Records [] rows rows
+pub records_none : (rows : RecordedRows) → Records [] rows rows
 records_none rows = record {
   recorded = sym (append-nil rows.operations);
   among = All-nil (IsStepAmong octets (range_with_len 0 (length rows.table.rows)));
@@ -174,24 +171,24 @@ module _ (few rows : List ℕ) (all : All (Contains rows) few) where
   step_among (Fma dest src scalar) is = (All-contains (Contains rows) few dest all is.0, All-contains (Contains rows) few src all is.1, is.2)
   step_among (Reorder order) is = is
 
-  pub changes_among : (old new : Recorded) → ChangesRows few old new → ChangesRows rows old new
+  pub changes_among : (old new : RecordedRows) → ChangesRows few old new → ChangesRows rows old new
   changes_among old new changes = record {
     steps = changes.steps;
     performs = changes.performs;
     within = λ k d l. step_among _ (changes.within k d l);
   }
 
-pub changes_none : (rows : List ℕ) (table : Recorded) → HasOctets table.table → ChangesRows rows table table
-changes_none rows table are = record { steps = []; performs = performs_none table are; within = All-nil (IsStepAmong octets rows) }
+pub changes_none : (rows : List ℕ) (state : RecordedRows) → ChangesRows rows state state
+changes_none rows state = record { steps = []; performs = performs_none state; within = All-nil (IsStepAmong octets rows) }
 
-pub changes_sum : (old new : Recorded) (dest src scalar : ℕ) → src ≢ dest → Performs (sum_step dest src scalar ∷ []) old new → ChangesRows (dest ∷ src ∷ []) old new
+pub changes_sum : (old new : RecordedRows) (dest src scalar : ℕ) → src ≢ dest → Performs (sum_step dest src scalar ∷ []) old new → ChangesRows (dest ∷ src ∷ []) old new
 changes_sum old new dest src scalar apart performs = record {
   steps = sum_step dest src scalar ∷ [];
   performs = performs;
   within = let rows : List ℕ = dest ∷ src ∷ [] in All-cons (IsStepAmong octets rows) (sum_step dest src scalar) [] (sum_among dest src scalar (entry_of old.table) rows (Contains-get_or rows 0 0 (omega arith)) (Contains-get_or rows 1 0 (omega arith)) apart) (All-nil (IsStepAmong octets rows));
 }
 
-pub changes_scaling : (old new : Recorded) (dest scalar : ℕ) → scalar < 256 → scalar ≢ 0 → Performs (MulAssign dest scalar ∷ []) old new → ChangesRows (dest ∷ []) old new
+pub changes_scaling : (old new : RecordedRows) (dest scalar : ℕ) → scalar < 256 → scalar ≢ 0 → Performs (MulAssign dest scalar ∷ []) old new → ChangesRows (dest ∷ []) old new
 changes_scaling old new dest scalar small nonzero performs = record {
   steps = MulAssign dest scalar ∷ [];
   performs = performs;
@@ -199,7 +196,7 @@ changes_scaling old new dest scalar small nonzero performs = record {
 }
 
 -- one after the other
-pub changes_more : (rows : List ℕ) (first second third : Recorded) → ChangesRows rows first second → ChangesRows rows second third → ChangesRows rows first third
+pub changes_more : (rows : List ℕ) (first second third : RecordedRows) → ChangesRows rows first second → ChangesRows rows second third → ChangesRows rows first third
 changes_more rows first second third done next = record {
   steps = done.steps ++ next.steps;
   performs = performs_more done.steps next.steps first second third done.performs next.performs;
@@ -217,7 +214,7 @@ changes_keep rows steps within m k zeros r = elim (find_place (length rows) (at 
 
 -- ---- a table that shows columns of rows goes on showing them
 
-pub shows_after : (steps : List Operation) (old new : Recorded) (m : ℕ → ℕ → ℕ) (column : ℕ → ℕ) (count : ℕ) → count ≤ old.table.width → Performs steps old new
+pub shows_after : (steps : List Operation) (old new : RecordedRows) (m : ℕ → ℕ → ℕ) (column : ℕ → ℕ) (count : ℕ) → count ≤ old.table.width → Performs steps old new
     → ((i f : ℕ) → i < length old.table.rows → f < count → entry_of old.table i f ≡ m i (column f))
     → (i f : ℕ) → i < length old.table.rows → f < count → entry_of new.table i f ≡ rows_after octets steps m i (column f)
 shows_after steps old new m column count fits performs shows i f l n =

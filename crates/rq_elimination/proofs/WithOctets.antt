@@ -4,10 +4,7 @@ use Rattle.std.proofs.Math.ListN.{get_or-append}
 use Rattle.std.proofs.Math.Seq.{append_snoc, set-append_seam}
 use Rattle.std.proofs.lemmas.List.{drop_more, ext_get_or, get_or-map, length-append, length-drop, length-map, length-set, length-take-le, map-append, take_more}
 use Rattle.rq_algebra.specs.Systems.{at}
-use Rattle.rq_parts.specs.DenseOctetMatrix.{OctetTable, entry_of, HasOctets, row_at, with_row}
 use Rattle.rq_elimination.specs.InactiveEntries.{with_octets}
-use Rattle.rq_elimination.specs.RowWrites.{FillsRow}
-use Rattle.rq_elimination.proofs.OctetEntries.{entry_of-with_row_same, entry_of-with_row_other}
 
 module _ (octets columns row : List ℕ) where
   pub length-octets : length columns ≤ length row → length (with_octets octets columns row) ≡ length row
@@ -32,14 +29,3 @@ module _ (octets columns row : List ℕ) where
 
   pub octet_first : (f : ℕ) → f < length columns → at (with_octets octets columns row) f ≡ at octets (at columns f)
   octet_first f l = get_or-append (map (at octets) columns) (drop (length columns) row) 0 f (omega (arith, length-map columns (at octets))) ∙ get_or-map (at octets) columns f 0 0 l
-
--- the first entries of a row are then these
-pub octets_filled : (row count : ℕ) (octets columns : List ℕ) (wanted : ℕ → ℕ) (old new : OctetTable) → row < length old.rows → count ≤ length columns → ((f : ℕ) → f < count → at octets (at columns f) ≡ wanted f) → HasOctets new
-    → new ≡ with_row old row (with_octets octets columns (row_at old row)) → FillsRow row count wanted old new
-octets_filled row count octets columns wanted old new inside few same are is = record {
-  width = ap (λ (t : OctetTable). t.width) is;
-  height = ap (λ (t : OctetTable). length t.rows) is ∙ length-set old.rows row _;
-  octets = are;
-  here = λ f l. ap (λ (t : OctetTable). entry_of t row f) is ∙ entry_of-with_row_same old row _ f inside ∙ octet_first octets columns (row_at old row) f (omega arith) ∙ same f l;
-  elsewhere = λ i k d. ap (λ (t : OctetTable). entry_of t i k) is ∙ entry_of-with_row_other old row _ i k d;
-}

@@ -1,10 +1,9 @@
--- A row of a matrix of octets that is written entry by entry.
-use Rattle.std.proofs.Common.{◌≡◌, ◌≢◌, ℕ, ◌<◌, ◌≤◌, [], length, set, refl, sym, ◌∙◌, arith, inl, inr}
+-- An entry of a matrix of octets that is written.
+use Rattle.std.proofs.Common.{◌≡◌, ◌≢◌, ℕ, ◌<◌, ◌≤◌, [], length, set, refl, ◌∙◌, arith, inl, inr}
 use Rattle.std.proofs.lemmas.Bool.{cases_eq}
 use Rattle.std.proofs.lemmas.List.{get_or-set_same, get_or-set_other, length-set}
 use Rattle.std.proofs.lemmas.List.Elements.{All-set}
 use Rattle.rq_parts.specs.DenseOctetMatrix.{OctetTable, row_at, with_row, entry_of, HasOctets}
-use Rattle.rq_elimination.specs.RowWrites.{WritesRow}
 use Rattle.rq_elimination.proofs.OctetEntries.{entry_of-with_row_same, entry_of-with_row_other}
 
 -- one entry is written
@@ -57,19 +56,3 @@ module _ (table : OctetTable) (are : HasOctets table) (row column octet : ℕ) (
   pub sets_entry : (new : OctetTable) → new ≡ with_row table row (set (row_at table row) column octet) → SetsEntry row column octet table new
   unfolding written
   sets_entry new e = rw e sets
-
-module _ (row start : ℕ) (old table new : OctetTable) where
-  -- one entry of the range is written anew
-  pub writes_again : (end column octet : ℕ) (before after : ℕ → ℕ) → start ≤ column → column < end → WritesRow row start end before old table → SetsEntry row column octet table new → octet ≡ after column
-      → ((k : ℕ) → k ≢ column → after k ≡ before k) → WritesRow row start end after old new
-  writes_again end column octet before after from below writes sets is others = record {
-    width = sets.width ∙ writes.width;
-    height = sets.height ∙ writes.height;
-    octets = sets.octets;
-    here = λ k l m. elim (cases_eq k column) [ inl e ↦ rw e (sets.here ∙ is) | inr d ↦ sets.beside k d ∙ writes.here k l m ∙ sym (others k d) ];
-    beside = λ k out. elim out [
-      | inl l ↦ sets.beside k (omega arith) ∙ writes.beside k (inl l)
-      | inr l ↦ sets.beside k (omega arith) ∙ writes.beside k (inr l)
-    ];
-    elsewhere = λ i k d. sets.elsewhere i k d ∙ writes.elsewhere i k d;
-  }

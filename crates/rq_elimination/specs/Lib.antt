@@ -1,10 +1,9 @@
 pub mod EntryRow
 pub mod InactiveEntries
 pub mod NonzeroOctets
-pub mod OctetBatch
+pub mod HdpcRows
 pub mod OperationCounts
 pub mod PhaseCounts
 pub mod Recorded
 pub mod RowSteps
-pub mod RowWrites
 pub mod Words

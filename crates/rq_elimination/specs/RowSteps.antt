@@ -1,10 +1,9 @@
 -- Operations done to the rows of a matrix, as they are recorded for the values.
-use Rattle.std.specs.Prelude.{◌≡◌, ◌≢◌, ℕ, ◌+◌, ◌<◌, ◌≤◌, List, [], ◌∷◌, Contains, length}
+use Rattle.std.specs.Prelude.{◌≡◌, ◌≢◌, ℕ, ◌+◌, ◌<◌, ◌≤◌, ◌==◌, if◌then◌else◌, List, [], ◌∷◌, Contains, length}
 use Rattle.rq_algebra.specs.Field.{Field}
 use Rattle.rq_algebra.specs.Arrangements.{ArePlaces}
 use Rattle.rq_algebra.specs.Systems.{at}
 use Rattle.rq_algebra.specs.Operations.{Operation, AddAssign, MulAssign, Fma, Reorder}
-use Rattle.rq_algebra.proofs.Elimination.{HasFirstPivots}
 use Rattle.rq_algebra.proofs.Changes.{with_at}
 use Rattle.rq_standard.specs.OctetField.{octets}
 use Rattle.rq_parts.specs.DenseOctetMatrix.{OctetTable, entry_of}
@@ -18,6 +17,10 @@ pub record CanTake (row : ℕ) (others : List ℕ) (table : OctetTable) : Type 0
   pub taker : row < length table.rows
   pub rows : AreRows others table
   pub apart : (f : ℕ) → f < length others → row ≢ at others f
+
+-- a multiple of a row is added
+abbrev pub sum_step : ℕ → ℕ → ℕ → Operation
+sum_step dest src scalar = if scalar == 1 then AddAssign dest src else Fma dest src scalar
 
 -- the rows after an operation, which does to them what it does to the values
 unfoldable pub row_step : Field → Operation → (ℕ → ℕ → ℕ) → ℕ → ℕ → ℕ
@@ -37,11 +40,6 @@ IsStepAmong F rows (AddAssign dest src) = Contains rows dest × Contains rows sr
 IsStepAmong F rows (MulAssign dest scalar) = Contains rows dest × (scalar < F.size) × (scalar ≢ 0)
 IsStepAmong F rows (Fma dest src scalar) = Contains rows dest × Contains rows src × (src ≢ dest)
 IsStepAmong F rows (Reorder order) = ⊥
-
--- the first rows have pivots in columns `first`, `first + 1`, .., and the others of these rows have 0 there
-pub record IsReduced (rows : List ℕ) (first done : ℕ) (table : OctetTable) : Type 0 where
-  pub fits : done ≤ length rows
-  pub pivots : HasFirstPivots (length rows) done (entry_of table) (at rows) (λ p. first + p)
 
 -- the first of these rows have 1 in their own columns, the first of all, and the rows behind each of them have 0 there
 pub record IsEchelon (rows : List ℕ) (done : ℕ) (table : OctetTable) : Type 0 where

@@ -1,5 +1,5 @@
 //! How many operations the phases recorded.
-ghost use Rattle.std.specs.Prelude.{◌≡◌, ℕ, ◌+◌, ◌<◌, ◌^◌, ◌∷◌, [], ◌++◌, List, Some, length, map, slice_index_or, IfOk, OnOk, IfErr};
+ghost use Rattle.std.specs.Prelude.{◌≡◌, ℕ, ◌+◌, ◌<◌, ◌≤◌, ◌^◌, ◌∷◌, [], ◌++◌, List, Some, length, map, slice_index_or, IfOk, OnOk, IfErr};
 ghost use Rattle.rq_algebra.specs.Operations.{Operation, AddAssign};
 ghost use Rattle.rq_bytes.specs.declared.error.Error.TheVariants.{OutOfMemory};
 ghost use Rattle.rq_operations.specs.Steps.{operation_of_step};
@@ -9,15 +9,6 @@ use rq_bytes::error::Error;
 use rq_operations::steps::Step;
 use std::alloc::Global;
 use std::marker::Model;
-
-/// The phases of RFC 6330 (section 5.4.2) that record operations. The fourth does the work of the
-/// third and of the fifth, row by row.
-#[derive(Clone, Copy)]
-pub enum Phase {
-    First,
-    Second,
-    Fourth,
-}
 
 /// How many operations of a kind each phase recorded.
 #[derive(Clone, Copy)]
@@ -37,35 +28,6 @@ impl PhaseCounts {
             first: 0,
             second: 0,
             fourth: 0,
-        }
-    }
-
-    // Counts so many more in a phase.
-    fn count(self, phase: Phase, more: u64) -> PhaseCounts
-        requires { self.first + self.second + self.fourth + more < 2 ^ 64 }
-        ensures { result.first + result.second + result.fourth ≡ self.first + self.second + self.fourth + more }
-    {
-        let PhaseCounts {
-            first,
-            second,
-            fourth,
-        } = self;
-        match phase {
-            Phase::First => PhaseCounts {
-                first: first + more,
-                second,
-                fourth,
-            },
-            Phase::Second => PhaseCounts {
-                first,
-                second: second + more,
-                fourth,
-            },
-            Phase::Fourth => PhaseCounts {
-                first,
-                second,
-                fourth: fourth + more,
-            },
         }
     }
 
@@ -104,26 +66,14 @@ impl OperationCounts {
             multiplications: PhaseCounts::none(),
         }
     }
-
-    // Counts steps in a phase.
-    fn count(self, phase: Phase, steps: &[Step]) -> OperationCounts
-        requires additions { total_of self.additions + length steps.now < 2 ^ 64 }
-        requires multiplications { total_of self.multiplications + length steps.now < 2 ^ 64 }
-        ensures additions { total_of result.additions ≡ total_of self.additions + additions (map operation_of_step steps.now) }
-        ensures multiplications { total_of result.multiplications ≡ total_of self.multiplications + multiplications (map operation_of_step steps.now) }
-    {
-        let (added, multiplied) = count_steps(steps);
-        OperationCounts {
-            additions: self.additions.count(phase, added),
-            multiplications: self.multiplications.count(phase, multiplied),
-        }
-    }
 }
 
 // How many of the steps add symbols, and how many multiply them.
 fn count_steps(steps: &[Step]) -> (u64, u64)
     ensures additions { result.0 ≡ additions (map operation_of_step steps.now) }
     ensures multiplications { result.1 ≡ multiplications (map operation_of_step steps.now) }
+    ensures few_additions { result.0 ≤ length steps.now }
+    ensures few_multiplications { result.1 ≤ length steps.now }
 {
     let mut added = 0;
     let mut multiplied = 0;
@@ -138,21 +88,25 @@ fn count_steps(steps: &[Step]) -> (u64, u64)
     (added, multiplied)
 }
 
-/// Where a stretch of operations begins that one phase recorded.
+/// Where the stretches of operations end that the phases record, one behind the other (RFC 6330,
+/// sections 5.4.2.2 to 5.4.2.6). The fourth phase does the work of the third and of the fifth, row by
+/// row, and its first stretch stands between the two of the second. Its other one ends with the list.
 #[derive(Clone, Copy)]
-struct Stretch {
-    start: usize,
-    phase: Phase,
+pub struct PhaseEnds {
+    /// The end of the first phase.
+    pub cleared: usize,
+    /// The end of the second phase's elimination.
+    pub eliminated: usize,
+    /// The end of what the fourth phase does before rows are substituted back.
+    pub sparsified: usize,
+    /// The end of the second phase's substitution back.
+    pub substituted: usize,
 }
 
-/// Operations that are recorded, as steps, and the phases that they belong to. Contracts see the
-/// operations.
+/// Operations that are recorded, as steps. Contracts see the operations.
 #[derive(Drop)]
 pub struct OperationList {
     steps: Vec<Step>,
-    // The last stretches, the newest first: as many as the phases are entered. What stands before
-    // them belongs to the first phase.
-    stretches: [Stretch; 4],
 }
 
 impl Model for OperationList {
@@ -166,39 +120,21 @@ impl Model for OperationList {
 }
 
 impl OperationList {
-    ghost use Rattle.rq_elimination.specs.PhaseCounts.{AreCountsOf};
+    ghost use Rattle.rq_elimination.specs.PhaseCounts.{AreCountsOf, AreInOrder};
 
-    /// Nothing is recorded yet, and the first phase begins. There is room for so many operations
-    /// before the list grows.
+    /// Nothing is recorded yet. There is room for `room` operations before the list grows.
     pub fn with_room(alloc: Global, room: usize) -> Result<OperationList, Error>
         ensures empty { IfOk result (λ list. list ≡ []) }
         ensures err { IfErr result (λ e. e ≡ OutOfMemory) }
     {
-        let first = Stretch {
-            start: 0,
-            phase: Phase::First,
-        };
         Ok(OperationList {
             steps: Vec::with_capacity(alloc, room)?,
-            stretches: [first; 4],
         })
     }
 
     /// The allocator of the list.
     pub fn allocator(&self) -> Global {
         *self.steps.allocator()
-    }
-
-    /// A phase begins, or goes on. This is done four times at most.
-    pub fn enter(&mut self, phase: Phase)
-        ensures { self.new ≡ self.old }
-    {
-        let newest = Stretch {
-            start: self.steps.len(),
-            phase,
-        };
-        let [last, third, second, _] = self.stretches;
-        self.stretches = [newest, last, third, second];
     }
 
     /// Records a step.
@@ -231,25 +167,36 @@ impl OperationList {
     }
 
     /// How many were recorded of each kind, by phases.
-    pub fn counts(&self) -> OperationCounts
-        ensures { AreCountsOf result self.now }
+    pub fn counts(&self, ends: PhaseEnds) -> OperationCounts
+        requires { AreInOrder ends (length self.now) }
+        ensures { AreCountsOf ends self.now result }
     {
         let steps = self.steps.as_slice();
-        let mut counts = OperationCounts::none();
-        let mut end = steps.len();
-        for stretch in &self.stretches {
-            let start = stretch.start.min(end);
-            counts = counts.count(stretch.phase, &steps[start..end]);
-            end = start;
+        let (cleared, sparsified) = (ends.cleared, ends.sparsified);
+        let clearing = count_steps(&steps[..cleared]);
+        let forward = count_steps(&steps[cleared..ends.eliminated]);
+        let sparsifying = count_steps(&steps[ends.eliminated..sparsified]);
+        let back = count_steps(&steps[sparsified..ends.substituted]);
+        let last = count_steps(&steps[ends.substituted..]);
+        OperationCounts {
+            additions: PhaseCounts {
+                first: clearing.0,
+                second: forward.0 + back.0,
+                fourth: sparsifying.0 + last.0,
+            },
+            multiplications: PhaseCounts {
+                first: clearing.1,
+                second: forward.1 + back.1,
+                fourth: sparsifying.1 + last.1,
+            },
         }
-        counts.count(Phase::First, &steps[..end])
     }
 
     /// The steps.
     pub fn into_steps(self) -> Vec<Step>
         ensures { map operation_of_step result.items ≡ self }
     {
-        let OperationList { steps, .. } = self;
+        let OperationList { steps } = self;
         steps
     }
 }

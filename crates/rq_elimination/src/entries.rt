@@ -74,7 +74,7 @@ impl InactiveEntries {
         requires column { column < self.old.width }
         ensures { self.new ≡ with_row self.old row (slice_set (row_at self.old row) column 1) }
     {
-        if self.octets.is_none(row) {
+        if self.octets.is_bits(row) {
             set_bit(self.bits.get_mut(row), column);
         } else {
             self.octets.set_one(row, column);
@@ -99,7 +99,7 @@ impl InactiveEntries {
         ensures err { IfErr result (λ e. e ≡ OutOfMemory) }
     {
         let bits = self.bits.get(row);
-        self.octets.ensure(row, bits)?;
+        self.octets.unpack_row(row, bits)?;
         self.octets.fill(row, octets, from, columns);
         Ok(())
     }
@@ -165,11 +165,12 @@ impl InactiveEntries {
     pub fn multiply_row(&mut self, row: usize, scalar: &Octet) -> Result<(), Error>
         requires row { row < length self.old.rows }
         ensures ok { OnOk result (self.new ≡ with_row self.old row (row_multiple scalar.now (row_at self.old row))) }
+        ensures octets { HasOctets self.new }
         ensures height { OnErr result (length self.new.rows ≡ length self.old.rows) }
         ensures err { IfErr result (λ e. e ≡ OutOfMemory) }
     {
         let bits = self.bits.get(row);
-        self.octets.ensure(row, bits)?;
+        self.octets.unpack_row(row, bits)?;
         self.octets.multiply(row, scalar);
         Ok(())
     }
@@ -181,10 +182,11 @@ impl InactiveEntries {
         requires dest { dest < length self.old.rows }
         requires src { src < length self.old.rows }
         ensures ok { OnOk result (self.new ≡ with_row self.old dest (row_sum (row_at self.old dest) (row_multiple scalar.now (row_at self.old src)))) }
+        ensures octets { HasOctets self.new }
         ensures height { OnErr result (length self.new.rows ≡ length self.old.rows) }
         ensures err { IfErr result (λ e. e ≡ OutOfMemory) }
     {
-        if scalar.byte() == 1 && self.octets.is_none(dest) && self.octets.is_none(src) {
+        if scalar.byte() == 1 && self.octets.is_bits(dest) && self.octets.is_bits(src) {
             self.bits.add_assign(dest, src);
             return Ok(());
         }
@@ -198,12 +200,13 @@ impl InactiveEntries {
         requires dest { dest < length self.old.rows }
         requires src { src < length self.old.rows }
         ensures ok { OnOk result (self.new ≡ with_row self.old dest (row_sum (row_at self.old dest) (row_multiple scalar.now (row_at self.old src)))) }
+        ensures octets { HasOctets self.new }
         ensures height { OnErr result (length self.new.rows ≡ length self.old.rows) }
         ensures err { IfErr result (λ e. e ≡ OutOfMemory) }
     {
         let bits = self.bits.get(dest);
-        self.octets.ensure(dest, bits)?;
-        if self.octets.is_none(src) {
+        self.octets.unpack_row(dest, bits)?;
+        if self.octets.is_bits(src) {
             self.octets.add_bits(dest, self.bits.get(src), scalar);
         } else {
             self.octets.add_multiple(dest, src, scalar);
@@ -219,7 +222,7 @@ impl InactiveEntries {
         ensures width { HasWidth self.now.width result }
         ensures fits { self.now.width < 2 ^ 63 + 32 }
     {
-        if self.octets.is_none(row) {
+        if self.octets.is_bits(row) {
             EntryRow::Bits(self.bits.get(row))
         } else {
             EntryRow::Octets(self.octets.row(row))

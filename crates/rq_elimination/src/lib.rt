@@ -6,5 +6,5 @@
 pub mod counts;
 pub mod elimination;
 pub mod entries;
-pub mod octet_batch;
+pub mod hdpc_rows;
 pub mod recorded;

@@ -11,8 +11,9 @@ use Rattle.rq_algebra.proofs.Sums.{mul_one, zero_mul, mul_zero, dot_one, dot_zer
 use Rattle.rq_standard.specs.OctetField.{octets}
 use Rattle.rq_parts.specs.DenseOctetMatrix.{OctetTable, entry_of}
 use Rattle.rq_null_vector.specs.Homogeneous.{IsHomogeneousColumn, ShowsHomogeneous, KeepsZeros, LacksPivot}
-use Rattle.rq_elimination.specs.RowSteps.{AreRows, IsReduced}
-use Rattle.rq_elimination.specs.RowWrites.{HoldsRows}
+use Rattle.rq_elimination.specs.RowSteps.{AreRows}
+use Rattle.rq_null_vector.specs.Reduced.{IsReduced}
+use Rattle.rq_null_vector.specs.RowWrites.{HoldsRows}
 use Rattle.rq_elimination.proofs.RowStepLaws.{SameEntries}
 
 -- a row with a 1, and another entry, makes zero of a column that has that entry and a 1 in these places

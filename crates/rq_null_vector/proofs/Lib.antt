@@ -1,4 +1,5 @@
 pub mod FreeColumns
-pub mod Outcomes
+pub mod AllRows
 pub mod ReducedRows
 pub mod ZeroValues
+pub mod WrittenRows

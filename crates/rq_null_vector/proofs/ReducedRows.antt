@@ -7,7 +7,8 @@ use Rattle.rq_algebra.proofs.Elimination.{ClearsColumn}
 use Rattle.rq_algebra.proofs.Reduction.{first_pivots_none, first_pivots_rows, first_pivots_more}
 use Rattle.rq_standard.specs.OctetField.{octets}
 use Rattle.rq_parts.specs.DenseOctetMatrix.{OctetTable, entry_of, HasOctets}
-use Rattle.rq_elimination.specs.RowSteps.{AreRows, IsReduced}
+use Rattle.rq_elimination.specs.RowSteps.{AreRows}
+use Rattle.rq_null_vector.specs.Reduced.{IsReduced}
 use Rattle.rq_elimination.proofs.SwappedRows.{at-swapped}
 
 pub reduced_none : (rows : List ℕ) (first : ℕ) (table : OctetTable) → IsReduced rows first 0 table

@@ -7,7 +7,7 @@ use Rattle.rq_standard.specs.BitTable.{BitTable}
 use Rattle.rq_standard.specs.ConstraintMatrix.{with_octet_rows}
 use Rattle.rq_standard.specs.OctetField.{octets}
 use Rattle.rq_parts.specs.DenseOctetMatrix.{OctetTable, entry_of, HasOctets}
-use Rattle.rq_elimination.specs.RowSteps.{IsReduced}
+use Rattle.rq_null_vector.specs.Reduced.{IsReduced}
 
 -- octets, not all of them zero, that solve the rows with all values zero
 pub record IsHomogeneousColumn (height width : ℕ) (rows : ℕ → ℕ → ℕ) (column : List ℕ) : Type 0 where

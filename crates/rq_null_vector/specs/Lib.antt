@@ -1,1 +1,3 @@
 pub mod Homogeneous
+pub mod Reduced
+pub mod RowWrites

@@ -7,7 +7,8 @@ ghost use Rattle.rq_algebra.specs.Systems.{at};
 ghost use Rattle.rq_bytes.specs.declared.error.Error.TheVariants.{OutOfMemory};
 ghost use Rattle.rq_parts.specs.DenseOctetMatrix.{entry_of, HasOctets};
 ghost use Rattle.rq_null_vector.specs.Homogeneous.{ShowsHomogeneousRows, KeepsZeros, LacksPivot};
-ghost use Rattle.rq_elimination.specs.RowSteps.{AreRows, IsReduced};
+ghost use Rattle.rq_elimination.specs.RowSteps.{AreRows};
+ghost use Rattle.rq_null_vector.specs.Reduced.{IsReduced};
 ghost use Rattle.rq_standard.specs.OctetField.{octets};
 
 use crate::octet_rows::octet_rows;

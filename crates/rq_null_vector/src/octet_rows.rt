@@ -3,7 +3,7 @@ ghost use Rattle.std.specs.Prelude.{◌≡◌, ℕ, ◌<◌, ◌≤◌, length, 
 ghost use Rattle.rq_bytes.specs.declared.error.Error.TheVariants.{OutOfMemory};
 ghost use Rattle.rq_standard.specs.ConstraintMatrix.{with_octet_rows};
 ghost use Rattle.rq_parts.specs.DenseOctetMatrix.{entry_of, HasOctets};
-ghost use Rattle.rq_elimination.specs.RowWrites.{WritesRow, HoldsRows};
+ghost use Rattle.rq_null_vector.specs.RowWrites.{WritesRow, HoldsRows};
 
 use rq_bytes::error::Error;
 use rq_bytes::octet::Octet;

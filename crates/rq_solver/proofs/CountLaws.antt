@@ -6,7 +6,7 @@ use Rattle.rq_algebra.specs.Arrangements.{ArePlaces}
 use Rattle.rq_algebra.specs.Systems.{stacked}
 use Rattle.rq_algebra.proofs.Stacks.{stacked_above, stacked_below}
 use Rattle.rq_elimination.specs.OperationCounts.{beyond_one, multiples, multiples-none, multiples-more, triangle, triangle-none, triangle-more}
-use Rattle.rq_solver.specs.HdpcRows.{batch_bound}
+use Rattle.rq_solver.specs.HdpcOctets.{batch_bound}
 use Rattle.rq_peeling.proofs.PlaceCounts.{few_places}
 use Rattle.rq_elimination.proofs.Choices.{if_same, if_apart}
 

@@ -1,12 +1,11 @@
 -- Rows that are listed once each.
-use Rattle.std.proofs.Common.{◌≡◌, ℕ, ◌+◌, ◌-◌, ◌<◌, ◌≤◌, Bool, true, false, List, [], ◌∷◌, ◌++◌, Contains, length, take, refl, sym, ap, ◌∙◌, arith, inl, inr, slice_index_or}
+use Rattle.std.proofs.Common.{◌≡◌, ℕ, ◌+◌, ◌-◌, ◌<◌, ◌≤◌, Bool, true, false, List, [], ◌∷◌, ◌++◌, Contains, length, drop, take, refl, sym, ap, ◌∙◌, arith, inl, inr, slice_index_or, append-nil, length-append}
 use Rattle.std.proofs.lemmas.Bool.{cases_lt}
-use Rattle.std.proofs.lemmas.List.{length-take-le, get_or-take, get_or_append_left, get_or-append_right, take_more, get_or_default}
-use borrow.Rule.Slice.PartMut.{put_mid, post_of}
+use Rattle.std.proofs.lemmas.List.{drop_all, drop_at, length-take-le, get_or-take, get_or_append_left, get_or-append_right, take_more, get_or_default}
+use borrow.Rule.Slice.PartMut.{put_mid, post_of, Post-is}
 use Rattle.rq_algebra.specs.Arrangements.{ArePlaces}
 use Rattle.rq_algebra.specs.Systems.{at}
-use Rattle.rq_solver.specs.Cleared.{ListsRows}
-use Rattle.rq_solver.specs.Listing.{IsMarked, ListsMore}
+use Rattle.rq_solver.specs.RowOrder.{ListsRows, IsMarked, ListsMore}
 
 pub more_none : (listed : List ℕ) → ListsMore listed listed
 more_none listed = record { longer = omega arith; same = λ i l. refl }
@@ -67,3 +66,16 @@ module _ (a k : ℕ) (xs ys : List ℕ) (within : a ≤ length xs) where
       get_or-append_right (take a xs) (ys ++ post_of a k xs) a (a + q) 0 (length-take-le a xs within) (omega arith)
       ∙ ap (λ (i : ℕ). at (ys ++ post_of a k xs) i) back
       ∙ get_or_append_left ys (post_of a k xs) 0 q l
+
+-- all behind the first `a`
+module _ (a : ℕ) (xs ys : List ℕ) (within : a ≤ length xs) where
+  pub placed_left : drop a (put_mid a (length xs - a) xs ys) ≡ ys
+  placed_left =
+      let none : post_of a (length xs - a) xs ≡ [] = Post-is a (length xs) xs within ∙ drop_all (length xs) xs (omega arith) in
+      drop_at (take a xs) (ys ++ post_of a (length xs - a) xs) a (length-take-le a xs within) ∙ ap (λ (zs : List ℕ). ys ++ zs) none ∙ append-nil ys
+
+  pub placed_many : a ≤ length (put_mid a (length xs - a) xs ys)
+  placed_many =
+      let long = length-append (take a xs) (ys ++ post_of a (length xs - a) xs) in
+      let first = length-take-le a xs within in
+      omega (arith, long, first)

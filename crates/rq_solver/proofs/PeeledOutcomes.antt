@@ -19,9 +19,14 @@ use Rattle.rq_algebra.proofs.Runs.{follows_none}
 use Rattle.rq_algebra.proofs.Stacks.{stacked_above, stacked_below}
 use Rattle.rq_standard.specs.OctetField.{octets}
 use Rattle.rq_parts.specs.DenseOctetMatrix.{entry_of}
-use Rattle.rq_solver.specs.Cleared.{AreUnits, FinishesPivots, HasPeeledPivots, IsCleared, IsFinished, ListsRows, ReducesBack, TakesBack}
+use Rattle.rq_solver.specs.FirstPhase.{HasPeeledPivots}
+use Rattle.rq_solver.specs.FourthPhase.{FinishesPivots, IsFinished, TakesBack}
+use Rattle.rq_solver.specs.PivotAdditions.{IsCleared}
+use Rattle.rq_solver.specs.RowOrder.{ListsRows}
+use Rattle.rq_solver.specs.SecondPhase.{AreUnits, ReducesBack}
 use Rattle.rq_peeling.specs.Peeled.{IsOrderOf}
-use Rattle.rq_elimination.specs.Recorded.{Recorded, ChangesRows}
+use Rattle.rq_elimination.specs.Recorded.{ChangesRows}
+use Rattle.rq_elimination.specs.declared.recorded.RecordedRows.{RecordedRows}
 use Rattle.rq_elimination.specs.RowSteps.{IsEchelon, IsStuck, IsStepAmong, rows_after}
 use Rattle.rq_elimination.proofs.Performing.{below_range, changes_keep, shows_after}
 use Rattle.rq_elimination.proofs.Choices.{if_same, if_apart}
@@ -38,7 +43,7 @@ module _ (height width : ℕ) (system : ℕ → ℕ → ℕ) (steps : List Opera
   steps_elements = rows_after-elements octets height width (range_with_len 0 height) (below_range height) steps system among small
 
 module _ (height width : ℕ) (system : ℕ → ℕ → ℕ) (rows order places : List ℕ) (arranged : IsOrderOf width order places) (rows_are : ArePlaces (length rows) height (at rows)) (listed : List ℕ) (listing : ListsRows height rows listed)
-    (inactive : ℕ) (middle last : Recorded) (peeled : HasPeeledPivots height width system (record { rows = rows; order = order; places = places }) (drop (length rows) listed) middle) (wide : length rows + inactive ≡ width) (narrow : inactive ≤ middle.table.width)
+    (inactive : ℕ) (middle last : RecordedRows) (peeled : HasPeeledPivots height width system (record { rows = rows; order = order; places = places }) (drop (length rows) listed) middle) (wide : length rows + inactive ≡ width) (narrow : inactive ≤ middle.table.width)
     (changes : ChangesRows (drop (length rows) listed) middle last) (reduced : List ℕ) (permuted : IsPermutation (drop (length rows) listed) reduced) where
   abbrev pivots : ℕ
   pivots = length rows
@@ -153,7 +158,7 @@ module _ (height width : ℕ) (system : ℕ → ℕ → ℕ) (rows order places 
 
   -- ---- all columns with pivots
 
-  module _ (lists : List (List ℕ)) (marks : List Bool) (returned reduced_state final : Recorded) (echelon : IsEchelon reduced inactive last.table) (back : TakesBack lists rows order marks 0 last returned) (reduces : ReducesBack reduced inactive 0 returned reduced_state)
+  module _ (lists : List (List ℕ)) (marks : List Bool) (returned reduced_state final : RecordedRows) (echelon : IsEchelon reduced inactive last.table) (back : TakesBack lists rows order marks 0 last returned) (reduces : ReducesBack reduced inactive 0 returned reduced_state)
       (finishes : FinishesPivots lists rows order reduced marks inactive (length rows) reduced_state final)
       (placed : List ℕ) (long : (q : ℕ) → q < length reduced → at placed (length rows + q) ≡ at reduced q) (starts : (p : ℕ) → p < length rows → at placed p ≡ at rows p) where
     abbrev late_steps : List Operation

@@ -7,9 +7,14 @@ use Rattle.rq_algebra.specs.Systems.{at}
 use Rattle.rq_standard.specs.OctetField.{octets}
 use Rattle.rq_parts.specs.DenseOctetMatrix.{OctetTable, entry_of}
 use Rattle.rq_peeling.specs.SystemRows.{AreRowsOfBits, AreOctetRows, one_in, system_rows}
-use Rattle.rq_solver.specs.Cleared.{ListsRows, IsCleared, IsUncleared, ClearsRows, ClearsOctets, HasLeading, HasPeeledPivots}
+use Rattle.rq_solver.specs.FirstPhase.{HasPeeledPivots}
+use Rattle.rq_solver.specs.HdpcOctets.{ClearsOctets}
+use Rattle.rq_solver.specs.InactiveColumns.{HasLeading}
+use Rattle.rq_solver.specs.PivotAdditions.{IsCleared, IsUncleared, ClearsRows}
+use Rattle.rq_solver.specs.RowOrder.{ListsRows}
 use Rattle.rq_peeling.specs.Peeled.{ones_of, IsPeeled}
-use Rattle.rq_elimination.specs.Recorded.{Recorded, Performs}
+use Rattle.rq_elimination.specs.Recorded.{Performs}
+use Rattle.rq_elimination.specs.declared.recorded.RecordedRows.{RecordedRows}
 use Rattle.rq_elimination.specs.RowSteps.{rows_after}
 use Rattle.rq_solver.proofs.OctetRows.{octet_row, bit_row, octet_row_or_bit_row}
 use Rattle.rq_elimination.proofs.Choices.{if_apart}
@@ -82,7 +87,7 @@ module _ (lists : List (List ℕ)) (first : ℕ) (hdpc : OctetTable) where
       pivots_uncleared p l = uncleared (at rows p) (λ i n. pivot_of_bits p i l n)
 
       module _ (listed : List ℕ) (listing : ListsRows (length lists) rows listed) where
-        module _ (zero one two : Recorded) (clears : ClearsRows lists rows order listed (length listed) zero one) (wipes : ClearsOctets rows order (entry_of hdpc) first (length hdpc.rows) one two) where
+        module _ (zero one two : RecordedRows) (clears : ClearsRows lists rows order listed (length listed) zero one) (wipes : ClearsOctets rows order (entry_of hdpc) first (length hdpc.rows) one two) where
           system : ℕ → ℕ → ℕ
           system = system_rows lists first hdpc
 
@@ -157,5 +162,4 @@ module _ (lists : List (List ℕ)) (first : ℕ) (hdpc : OctetTable) where
                     (λ i g o u. holds.written i g (rw holds.height_is at o) u) r f (rw holds.height_is l) (omega arith));
                 pivots = λ p l. rw recorded (both.pivots p l);
                 others = λ r p c l. rw recorded (both.others r c p l);
-                octets = performs.octets;
               }

@@ -6,19 +6,20 @@ use Rattle.std.proofs.lemmas.Bool.{cases_eq, cases_lt}
 use Rattle.rq_algebra.specs.Systems.{at}
 use Rattle.rq_matrix.proofs.Words.{low_bits, low-same, low-none}
 use Rattle.rq_standard.specs.OctetField.{octets}
-use Rattle.rq_solver.specs.Cleared.{AreUnits, TakesReduced}
+use Rattle.rq_solver.specs.SecondPhase.{AreUnits, TakesReduced}
 use Rattle.rq_elimination.specs.OperationCounts.{additions}
-use Rattle.rq_elimination.specs.Recorded.{Recorded, Records, sum_step}
+use Rattle.rq_elimination.specs.Recorded.{Records}
+use Rattle.rq_elimination.specs.RowSteps.{sum_step, CanTake, rows_after}
+use Rattle.rq_elimination.specs.declared.recorded.RecordedRows.{RecordedRows}
 use Rattle.rq_parts.specs.DenseOctetMatrix.{OctetTable}
 use Rattle.rq_parts.proofs.LowestOnes.{ClearsLowest, lowest_before, lowest_from}
-use Rattle.rq_elimination.specs.RowSteps.{CanTake, rows_after}
 use Rattle.rq_elimination.proofs.Performing.{records_more}
 use Rattle.rq_elimination.proofs.Choices.{if_same, if_apart}
 use Rattle.rq_elimination.proofs.StepColumns.{rows_after-next}
-use Rattle.rq_solver.proofs.ReducedTurns.{reduced_none, reduced_next, reduced_zeros}
+use Rattle.rq_solver.proofs.Substitution.{reduced_none, reduced_next, reduced_zeros}
 
 -- The reduced rows before a place are taken for which a word has ones, and the rest of the word has those from that place on.
-pub record TakesOnes (reduced : List ℕ) (row end word rest : ℕ) (old new : Recorded) : Type 0 where
+pub record TakesOnes (reduced : List ℕ) (row end word rest : ℕ) (old new : RecordedRows) : Type 0 where
   pub place : ℕ
   pub before : place ≤ end
   pub behind : (k : ℕ) → k < place → bit_at rest k ≡ 0
@@ -27,7 +28,7 @@ pub record TakesOnes (reduced : List ℕ) (row end word rest : ℕ) (old new : R
   pub taken : TakesReduced reduced row 0 end place (bit_at word) old new
   pub few : additions new.operations ≤ additions old.operations + place
 
-module _ (reduced : List ℕ) (row end word : ℕ) (old : Recorded) where
+module _ (reduced : List ℕ) (row end word : ℕ) (old : RecordedRows) where
   pub takes_none : end ≤ 64 → TakesOnes reduced row end word (low_bits word end) old old
   takes_none within = record {
     place = 0;
@@ -39,12 +40,12 @@ module _ (reduced : List ℕ) (row end word : ℕ) (old : Recorded) where
     few = omega arith;
   }
 
-  module _ (rest : ℕ) (cur : Recorded) (v : TakesOnes reduced row end word rest old cur) where
+  module _ (rest : ℕ) (cur : RecordedRows) (v : TakesOnes reduced row end word rest old cur) where
     module _ (lowest less : ℕ) (clears : ClearsLowest rest lowest less) where
       pub lowest_inside : lowest < end
       lowest_inside = lowest_before rest lowest less clears end v.beyond
 
-      pub takes_lowest : row ≢ at reduced lowest → (new : Recorded) → Records (sum_step row (at reduced lowest) 1 ∷ []) cur new → additions new.operations ≡ additions cur.operations + 1 → TakesOnes reduced row end word less old new
+      pub takes_lowest : row ≢ at reduced lowest → (new : RecordedRows) → Records (sum_step row (at reduced lowest) 1 ∷ []) cur new → additions new.operations ≡ additions cur.operations + 1 → TakesOnes reduced row end word less old new
       takes_lowest apart new records counted =
           let late = lowest_from rest lowest less clears v.place v.behind in
           let inside = lowest_inside in
@@ -70,7 +71,7 @@ module _ (reduced : List ℕ) (row end word : ℕ) (old : Recorded) where
 
 module _ (reduced : List ℕ) (row start count : ℕ) (entries : ℕ → ℕ) where
   -- the row takes those before one place, and then those up to another one
-  pub reduced_join : (t next : ℕ) → start ≤ t → t ≤ next → next ≤ count → (old cur new : Recorded) → ((f : ℕ) → t ≤ f → f < next → row ≢ at reduced f)
+  pub reduced_join : (t next : ℕ) → start ≤ t → t ≤ next → next ≤ count → (old cur new : RecordedRows) → ((f : ℕ) → t ≤ f → f < next → row ≢ at reduced f)
       → TakesReduced reduced row start count t entries old cur → TakesReduced reduced row t next next entries cur new → TakesReduced reduced row start count next entries old new
   reduced_join t next from forward within old cur new apart v w =
       let source = λ (m : ℕ → ℕ → ℕ) (s k : ℕ) (l : t ≤ s) (n : s < next). v.elsewhere m (at reduced s) k (λ e. apart s l n (sym e)) in
@@ -96,7 +97,7 @@ module _ (reduced : List ℕ) (row start count : ℕ) (entries : ℕ → ℕ) wh
       }
 
   -- entries that are the same in those columns
-  pub reduced_same : (others : ℕ → ℕ) (done : ℕ) (old new : Recorded) → ((f : ℕ) → start ≤ f → f < count → others f ≡ entries f) → TakesReduced reduced row start count done entries old new → TakesReduced reduced row start count done others old new
+  pub reduced_same : (others : ℕ → ℕ) (done : ℕ) (old new : RecordedRows) → ((f : ℕ) → start ≤ f → f < count → others f ≡ entries f) → TakesReduced reduced row start count done entries old new → TakesReduced reduced row start count done others old new
   reduced_same others done old new same v = record {
     steps = v.steps;
     records = v.records;
@@ -108,7 +109,7 @@ module _ (reduced : List ℕ) (row start count : ℕ) (entries : ℕ → ℕ) wh
 
 -- some of the rows that follow each other, in a list of their own
 module _ (reduced some : List ℕ) (row from count : ℕ) (same : (k : ℕ) → k < count → at some k ≡ at reduced (from + k)) (entries : ℕ → ℕ) where
-  pub reduced_part : (old new : Recorded) → TakesReduced some row 0 count count (λ f. entries (from + f)) old new → TakesReduced reduced row from (from + count) (from + count) entries old new
+  pub reduced_part : (old new : RecordedRows) → TakesReduced some row 0 count count (λ f. entries (from + f)) old new → TakesReduced reduced row from (from + count) (from + count) entries old new
   reduced_part old new v =
       let unit = λ (m : ℕ → ℕ → ℕ) (column : ℕ → ℕ) (units : AreUnits reduced from (from + count) column m) (s g : ℕ) (first : 0 ≤ s) (l : s < count) (n : g < count). ap (λ r. m r (column (from + g))) (same s l)
       ∙ units (from + s) (from + g) (omega arith) (omega arith) (omega arith)

@@ -7,15 +7,16 @@ use Rattle.std.proofs.Math.Seq.{get_or-append_seam}
 use Rattle.rq_algebra.specs.Operations.{Operation, AddAssign}
 use Rattle.rq_algebra.specs.Systems.{at}
 use Rattle.rq_parts.specs.DenseOctetMatrix.{OctetTable}
-use Rattle.rq_solver.specs.Cleared.{HaveTaken, IsSumOf, StandBetween, TakesPivots, TakesPivotsBy}
+use Rattle.rq_solver.specs.PivotAdditions.{HaveTaken, IsSumOf, StandBetween, TakesPivots, TakesPivotsBy}
 use Rattle.rq_peeling.specs.Peeled.{ones_of, Pivots}
-use Rattle.rq_elimination.specs.Recorded.{Recorded, Performs, Records}
+use Rattle.rq_elimination.specs.Recorded.{Performs, Records}
+use Rattle.rq_elimination.specs.declared.recorded.RecordedRows.{RecordedRows}
 use Rattle.rq_peeling.proofs.ListParts.{range_appended, range_at, range_kept, range_next}
 
 -- ---- the same steps, done to other rows
 
 -- steps by which a row takes rows do so from any table of as many rows
-takes_again : (Done Again : List Operation → Recorded → Recorded → Type 0) (rows order : List ℕ) (row : ℕ) (columns : List ℕ) (old new first last : Recorded) (v : TakesPivotsBy Done rows order row columns old new)
+takes_again : (Done Again : List Operation → RecordedRows → RecordedRows → Type 0) (rows order : List ℕ) (row : ℕ) (columns : List ℕ) (old new first last : RecordedRows) (v : TakesPivotsBy Done rows order row columns old new)
     → length first.table.rows ≡ length old.table.rows → Again v.steps first last → TakesPivotsBy Again rows order row columns first last
 takes_again Done Again rows order row columns old new first last v height again = record {
   steps = v.steps;
@@ -29,7 +30,7 @@ takes_again Done Again rows order row columns old new first last v height again 
 
 module _ (lists : List (List ℕ)) (pivots : Pivots) (listed : List ℕ) where
   -- what is recorded later changes nothing
-  taken_stays : (done : ℕ) (bounds : List ℕ) (old new : Recorded) (more : List Operation) → HaveTaken lists pivots listed done bounds old → new.operations ≡ old.operations ++ more → length new.table.rows ≡ length old.table.rows
+  pub taken_stays : (done : ℕ) (bounds : List ℕ) (old new : RecordedRows) (more : List Operation) → HaveTaken lists pivots listed done bounds old → new.operations ≡ old.operations ++ more → length new.table.rows ≡ length old.table.rows
       → HaveTaken lists pivots listed done bounds new
   taken_stays done bounds old new more v recorded height = record {
     many = v.many;
@@ -43,26 +44,26 @@ module _ (lists : List (List ℕ)) (pivots : Pivots) (listed : List ℕ) where
         (w.done ∙ sym (range_kept old.operations a more b (v.ordered s l) (v.within s l)) ∙ ap (λ (xs : List Operation). slice_range xs a b) (sym recorded));
   }
 
-  module _ (done : ℕ) (bounds : List ℕ) (old new : Recorded) (v : HaveTaken lists pivots listed done bounds old) (steps : List Operation) where
+  module _ (done : ℕ) (bounds : List ℕ) (old new : RecordedRows) (v : HaveTaken lists pivots listed done bounds old) (steps : List Operation) where
     pub taken_performed : Performs steps old new → HaveTaken lists pivots listed done bounds new
     taken_performed performs = taken_stays done bounds old new steps v performs.recorded performs.height
 
     pub taken_recorded : Records steps old new → HaveTaken lists pivots listed done bounds new
     taken_recorded records = taken_stays done bounds old new steps v records.recorded (ap (λ (table : OctetTable). length table.rows) records.table)
 
-  module _ (done : ℕ) (bounds : List ℕ) (state : Recorded) (v : HaveTaken lists pivots listed done bounds state) (s : ℕ) (inside : s < done) where
+  module _ (done : ℕ) (bounds : List ℕ) (state : RecordedRows) (v : HaveTaken lists pivots listed done bounds state) (s : ℕ) (inside : s < done) where
     -- the steps of a row are sums of it
     pub sums_between : All (IsSumOf (at listed s) (length state.table.rows)) (slice_range state.operations (at bounds s) (at bounds (s + 1)))
     sums_between = let w = v.taken s inside in subst (All (IsSumOf (at listed s) (length state.table.rows))) w.done w.sums
 
     -- and done again the row takes the same again
-    pub taken_between : (Again : List Operation → Recorded → Recorded → Type 0) (new : Recorded) → Again (slice_range state.operations (at bounds s) (at bounds (s + 1))) state new
+    pub taken_between : (Again : List Operation → RecordedRows → RecordedRows → Type 0) (new : RecordedRows) → Again (slice_range state.operations (at bounds s) (at bounds (s + 1))) state new
         → TakesPivotsBy Again pivots.rows pivots.order (at listed s) (ones_of lists (at listed s)) state new
     taken_between Again new again =
         let w = v.taken s inside in
         takes_again (StandBetween (at bounds s) (at bounds (s + 1))) Again pivots.rows pivots.order (at listed s) (ones_of lists (at listed s)) state state state new w refl (subst (λ (steps : List Operation). Again steps state new) (sym w.done) again)
 
-  pub taken_first : (state : Recorded) → HaveTaken lists pivots listed 0 (length state.operations ∷ []) state
+  pub taken_first : (state : RecordedRows) → HaveTaken lists pivots listed 0 (length state.operations ∷ []) state
   taken_first state = record {
     many = omega arith;
     ordered = λ s l. absurd (omega arith);
@@ -71,7 +72,7 @@ module _ (lists : List (List ℕ)) (pivots : Pivots) (listed : List ℕ) where
   }
 
   -- one row more has taken its own
-  pub taken_next : (done : ℕ) (bounds : List ℕ) (old new : Recorded) → length bounds ≡ done → HaveTaken lists pivots listed done (bounds ++ length old.operations ∷ []) old
+  pub taken_next : (done : ℕ) (bounds : List ℕ) (old new : RecordedRows) → length bounds ≡ done → HaveTaken lists pivots listed done (bounds ++ length old.operations ∷ []) old
       → (turn : TakesPivots pivots.rows pivots.order (at listed done) (ones_of lists (at listed done)) old new)
       → HaveTaken lists pivots listed (done + 1) ((bounds ++ length old.operations ∷ []) ++ length new.operations ∷ []) new
   taken_next done bounds old new long v turn =
@@ -105,7 +106,7 @@ module _ (lists : List (List ℕ)) (pivots : Pivots) (listed : List ℕ) where
       }
 
 -- the pivots' rows come first in the list
-pub taken_by_pivots : (lists : List (List ℕ)) (pivots : Pivots) (listed bounds : List ℕ) (state : Recorded) → length pivots.rows ≤ length listed → ((p : ℕ) → p < length pivots.rows → at listed p ≡ at pivots.rows p)
+pub taken_by_pivots : (lists : List (List ℕ)) (pivots : Pivots) (listed bounds : List ℕ) (state : RecordedRows) → length pivots.rows ≤ length listed → ((p : ℕ) → p < length pivots.rows → at listed p ≡ at pivots.rows p)
     → HaveTaken lists pivots listed (length listed) bounds state → HaveTaken lists pivots pivots.rows (length pivots.rows) bounds state
 taken_by_pivots lists pivots listed bounds state few starts v = record {
   many = let n = v.many in omega (arith, n, few);

@@ -1,6 +1,12 @@
-pub mod Cleared
-pub mod HdpcRows
-pub mod Listing
+pub mod Elimination
+pub mod FirstPhase
+pub mod FourthPhase
+pub mod HdpcOctets
+pub mod InactiveColumns
+pub mod PhaseOperations
 pub mod Phases
+pub mod PivotAdditions
+pub mod RowOrder
+pub mod SecondPhase
 pub mod SolverState
 pub mod Solving

@@ -1,35 +1,74 @@
 -- What the phases answer together.
-use Rattle.std.specs.Prelude.{ℕ, ◌∷◌, ◌++◌, [], Bool, List, Option, Vec, MatchBool, MatchOption, drop, length}
+use Rattle.std.specs.Prelude.{◌≡◌, ℕ, ◌∷◌, ◌++◌, [], Bool, List, Option, Vec, MatchOption, drop, length}
 use Rattle.std.specs.Global.{Global}
 use Rattle.rq_algebra.specs.Operations.{Operation, Reorder, FindsColumn}
 use Rattle.rq_algebra.specs.Systems.{HasHomogeneousColumn}
 use Rattle.rq_standard.specs.OctetField.{octets}
-use Rattle.rq_solver.specs.Cleared.{HasPeeledPivots, LacksPivots, SolvesInactive}
 use Rattle.rq_peeling.specs.Peeled.{Pivots}
-use Rattle.rq_elimination.specs.Recorded.{Recorded}
 use Rattle.rq_peeling.specs.System.{rows_of}
 use Rattle.rq_peeling.specs.declared.system.System.{System}
+use Rattle.rq_elimination.specs.Recorded.{ChangesRows}
+use Rattle.rq_elimination.specs.RowSteps.{IsEchelon, IsStuck}
+use Rattle.rq_elimination.specs.declared.recorded.RecordedRows.{RecordedRows}
+use Rattle.rq_solver.specs.Elimination.{eliminated_at, inactive_count, left_rows}
+use Rattle.rq_solver.specs.FirstPhase.{HasPeeledPivots}
+use Rattle.rq_solver.specs.FourthPhase.{FinishesPivots, TakesBack}
+use Rattle.rq_solver.specs.SecondPhase.{ReducesBack}
+use Rattle.rq_solver.specs.declared.pi_solver.elimination.Elimination.{Elimination}
+use Rattle.rq_solver.specs.declared.pi_solver.phase_operations.PhaseOperations.{PhaseOperations}
 
 -- what was recorded solves rows, read in an order; or there is none, and they have a homogeneous column
 abbrev pub SolvesRows : ℕ → ℕ → (ℕ → ℕ → ℕ) → List Operation → Option (Vec ℕ Global) → Type 0
 SolvesRows height width rows recorded answer =
     MatchOption answer (HasHomogeneousColumn octets height width rows) (λ order. FindsColumn octets height width rows (recorded ++ Reorder order.items ∷ []))
 
--- the same of the rows of a system
+-- what was recorded solves the rows of a system, or they have such a column
 abbrev pub IsAttempt : System → List Operation → Option (Vec ℕ Global) → Type 0
 IsAttempt system recorded order = SolvesRows (length system.ones) system.width (rows_of system) recorded order
 
 -- what was recorded gives the rows of a system the pivots of a peeling; the others are listed behind its rows
-abbrev pub ClearsPivots : System → Pivots → List ℕ → Recorded → Type 0
-ClearsPivots system peeling listed state = HasPeeledPivots (length system.ones) system.width (rows_of system) peeling (drop (length peeling.rows) listed) state
+abbrev pub ClearsPivots : System → Pivots → List ℕ → RecordedRows → Type 0
+ClearsPivots system peeling row_order state = HasPeeledPivots (length system.ones) system.width (rows_of system) peeling (drop (length peeling.rows) row_order) state
 
--- the same of rows that had the pivots of a peeling
-abbrev pub FindsOrder : Pivots → List ℕ → Recorded → Recorded → Option (Vec ℕ Global) → Type 0
-FindsOrder peeling left old new answer = (system : ℕ → ℕ → ℕ)
-    → HasPeeledPivots (length old.table.rows) (length peeling.places) system peeling left old
-    → SolvesRows (length old.table.rows) (length peeling.places) system new.operations answer
+-- whatever rows had the pivots of an elimination, what is recorded solves them
+abbrev pub FindsOrder : Elimination → Elimination → Option (Vec ℕ Global) → Type 0
+FindsOrder old new answer = (system : ℕ → ℕ → ℕ)
+    → HasPeeledPivots (length old.recorded.table.rows) (length old.peeling.places) system old.peeling (left_rows old) old.recorded
+    → SolvesRows (length old.recorded.table.rows) (length old.peeling.places) system new.recorded.operations answer
 
--- whether the inactive columns have pivots among the rows that are left, and what was done
-abbrev pub SolvesLeft : List (List ℕ) → Pivots → ℕ → List ℕ → List ℕ → Recorded → Recorded → Bool → Type 0
-SolvesLeft lists peeling count left reduced old new found =
-    MatchBool found (SolvesInactive lists peeling.rows peeling.order left reduced count old new) (LacksPivots left reduced count old new)
+-- ---- the phases behind the first
+
+-- the second phase worked on the rows that are left among themselves, and an inactive column has no pivot
+pub record LacksPivots (old new : Elimination) : Type 0 where
+  pub changes : ChangesRows (left_rows old) old.recorded new.recorded
+  pub stuck : IsStuck (left_rows new) (inactive_count old) new.recorded.table
+  pub ends : new.ends ≡ eliminated_at old.ends (length new.recorded.operations)
+
+-- The second phase worked on the rows that are left among themselves until each inactive column had its pivot in one of them. The fourth
+-- made some of the pivots' rows sparse, the second substituted back, and the fourth cleared the inactive columns. What each recorded stands
+-- between its ends.
+pub record SolvesInactive (old new : Elimination) : Type 0 where
+  pub forward : RecordedRows
+  pub sparse : RecordedRows
+  pub back : RecordedRows
+  pub marks : List Bool
+  pub changes : ChangesRows (left_rows old) old.recorded forward
+  pub echelon : IsEchelon (left_rows new) (inactive_count old) forward.table
+  pub sparsifies : TakesBack old.additions.ones old.peeling.rows old.peeling.order marks 0 forward sparse
+  pub reduces : ReducesBack (left_rows new) (inactive_count old) 0 sparse back
+  pub finishes : FinishesPivots old.additions.ones old.peeling.rows old.peeling.order (left_rows new) marks (inactive_count old) (length old.peeling.rows) back new.recorded
+  pub ends : new.ends ≡ record { cleared = old.ends.cleared; eliminated = length forward.operations; sparsified = length sparse.operations; substituted = length back.operations }
+
+-- whether the inactive columns have pivots, and what was done
+abbrev pub RunsLater : Elimination → Elimination → Option (Vec ℕ Global) → Type 0
+RunsLater old new answer = MatchOption answer (LacksPivots old new) (λ order. SolvesInactive old new)
+
+-- the first phase gave the rows of a system pivots, the others went on from there, and each recorded the operations up to its end
+pub record RunsPhases (system : System) (found : PhaseOperations) : Type 0 where
+  pub first : Elimination
+  pub last : Elimination
+  pub cleared : ClearsPivots system first.peeling first.row_order.items first.recorded
+  pub first_end : first.ends.cleared ≡ length first.recorded.operations
+  pub later : RunsLater first last found.order
+  pub recorded : found.recorded ≡ last.recorded.operations
+  pub ends : found.ends ≡ last.ends

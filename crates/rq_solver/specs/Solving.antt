@@ -1,5 +1,5 @@
 -- What a solver is handed, and what it answers.
-use Rattle.std.specs.Prelude.{◌≡◌, ℕ, ◌+◌, ◌<◌, ◌≤◌, false, List, Option, None, Some, MatchOption, Vec, length, map, replicate, sum}
+use Rattle.std.specs.Prelude.{◌≡◌, ℕ, ◌+◌, ◌<◌, ◌≤◌, false, List, [], ◌∷◌, Option, None, Some, MatchOption, Vec, length, map, replicate, sum}
 use Rattle.std.specs.Global.{Global}
 use Rattle.rq_algebra.specs.Systems.{HasHomogeneousColumn}
 use Rattle.rq_algebra.specs.Operations.{Operation, FindsColumn, found_by}
@@ -16,6 +16,8 @@ use Rattle.rq_operations.specs.RecordedOperations.{operations_of}
 use Rattle.rq_operations.specs.declared.recorded.RecordedOperations.{RecordedOperations}
 use Rattle.rq_parts.specs.DenseOctetMatrix.{OctetTable, entry_of}
 use Rattle.rq_elimination.specs.OperationCounts.{additions, multiplications}
+use Rattle.rq_elimination.specs.PhaseCounts.{AreInOrder, first_of, second_of, fourth_of}
+use Rattle.rq_elimination.specs.declared.counts.PhaseEnds.{PhaseEnds}
 
 -- the equations of a block of that row of the table but for those of HDPC: a matrix of bits, and a symbol for each equation
 pub record AreEquationsWithoutHdpc (row : TableRow) (bits : BitTable) (handed : Slab) : Type 0 where
@@ -57,8 +59,13 @@ solver_of row bits hdpc handed = record {
 abbrev pub solver_without_hdpc : TableRow → BitTable → Slab → Solver
 solver_without_hdpc row bits handed = record { height = length handed.values; width = intermediate_symbols row; rows = bits.bit; symbols = Some handed; additions = replicate 5 0; multiplications = replicate 5 0 }
 
--- the phases' counts sum to those of the operations
+-- The phases' counts sum to those of the operations, and each phase's are those of the stretches that it recorded: the first one, then two of
+-- the second phase and two of the fourth in turn.
 pub record CountsOperations (solver : Solver) (operations : List Operation) : Type 0 where
+  pub ends : PhaseEnds
+  pub in_order : AreInOrder ends (length operations)
+  pub added : solver.additions ≡ additions (first_of ends operations) ∷ additions (second_of ends operations) ∷ 0 ∷ additions (fourth_of ends operations) ∷ 0 ∷ []
+  pub multiplied : solver.multiplications ≡ multiplications (first_of ends operations) ∷ multiplications (second_of ends operations) ∷ 0 ∷ multiplications (fourth_of ends operations) ∷ 0 ∷ []
   pub additions_are : sum solver.additions ≡ additions operations
   pub multiplications_are : sum solver.multiplications ≡ multiplications operations
 

@@ -8,13 +8,15 @@ ghost use Rattle.rq_elimination.specs.OperationCounts.{additions};
 ghost use Rattle.rq_elimination.specs.PhaseCounts.{total_of};
 ghost use Rattle.rq_solver.specs.Solving.{AreEquations, AreEquationsWithoutHdpc, CountsOperations, FindsOperations, solver_of, solver_without_hdpc, IsOutcome, IsSpent};
 
+mod elimination;
 mod first_phase;
 mod fourth_phase;
+mod phase_operations;
 mod phases;
-mod reduced;
 mod second_phase;
 
-use phases::{Attempt, solve};
+use phase_operations::PhaseOperations;
+use phases::run_phases;
 use rq_bytes::error::Error;
 use rq_bytes::operation_vector::SymbolOps;
 use rq_bytes::symbol_slab::SymbolSlab;
@@ -50,11 +52,11 @@ pub struct IntermediateSymbolDecoder<T: BinaryMatrix> {
 }
 
 impl<T: BinaryMatrix> IntermediateSymbolDecoder<T> {
-    ghost use Rattle.rq_solver.specs.Phases.{SolvesRows};
+    ghost use Rattle.rq_solver.specs.PhaseOperations.{SolvesEquations};
     ghost use Rattle.rq_solver.specs.SolverState.{solver_state};
 
-    /// A solver of the equations of a block with so many source symbols: a matrix of bits, the HDPC
-    /// rows, and a symbol for each equation.
+    /// A solver of the equations of a block with `num_source_symbols` source symbols: a matrix of bits,
+    /// the HDPC rows, and a symbol for each equation.
     pub fn new(
         alloc: Global,
         table: &SystematicTable,
@@ -99,8 +101,8 @@ impl<T: BinaryMatrix> IntermediateSymbolDecoder<T> {
         }
     }
 
-    /// A solver of the equations of a block with so many source symbols, but for those of HDPC: a
-    /// matrix of bits, and a symbol for each equation.
+    /// A solver of the equations of a block with `num_source_symbols` source symbols, but for those of
+    /// HDPC: a matrix of bits, and a symbol for each equation.
     pub fn new_no_hdpc(
         alloc: Global,
         table: &SystematicTable,
@@ -191,9 +193,9 @@ impl<T: BinaryMatrix> IntermediateSymbolDecoder<T> {
         let Some(mut symbols) = self.symbols.take() else {
             return Err(Error::AlreadyExecuted);
         };
-        let attempt = self.attempt()?;
-        self.counts = attempt.counts();
-        let Some(operations) = attempt.into_operations() else {
+        let found = self.find_operations()?;
+        self.counts = found.counts();
+        let Some(operations) = found.into_operations() else {
             return Ok(None);
         };
         operations.replay(&mut symbols)?;
@@ -220,14 +222,14 @@ impl<T: BinaryMatrix> IntermediateSymbolDecoder<T> {
         drop(symbols);
         let (system, degrees) = System::of_matrix(alloc, &matrix, hdpc, first_hdpc, boundary)?;
         drop(matrix);
-        let attempt = solve(alloc, system, degrees)?;
-        Ok(attempt.into_operations())
+        let found = run_phases(alloc, system, degrees)?;
+        Ok(found.into_operations())
     }
 
-    // Looks for the operations.
-    fn attempt(&self) -> Result<Attempt, Error>
-        ensures found { IfOk result (λ attempt. SolvesRows (solver_state self.now).height (solver_state self.now).width (solver_state self.now).rows attempt.recorded attempt.order) }
-        ensures few { IfOk result (λ attempt. additions attempt.recorded ≤ 2 * (solver_state self.now).width * (solver_state self.now).height) }
+    // Looks for the operations, for which the matrix stays.
+    fn find_operations(&self) -> Result<PhaseOperations, Error>
+        ensures found { IfOk result (SolvesEquations (solver_state self.now)) }
+        ensures few { IfOk result (λ found. additions found.recorded ≤ 2 * (solver_state self.now).width * (solver_state self.now).height) }
         ensures memory { IfErr result (λ e. e ≡ OutOfMemory) }
     {
         let hdpc = self.hdpc.clone()?;
@@ -238,13 +240,13 @@ impl<T: BinaryMatrix> IntermediateSymbolDecoder<T> {
             self.first_hdpc,
             self.boundary,
         )?;
-        solve(self.alloc, system, degrees)
+        run_phases(self.alloc, system, degrees)
     }
 }
 
-/// Solves the equations of a block with so many source symbols, which are a matrix of bits, the HDPC
-/// rows, and a symbol for each equation: the slab with the intermediate symbols, and the operations
-/// that made it. `None` where the equations don't determine the symbols.
+/// Solves the equations of a block with `num_source_symbols` source symbols, which are a matrix of bits,
+/// the HDPC rows, and a symbol for each equation: the slab with the intermediate symbols, and the
+/// operations that made it. `None` where the equations don't determine the symbols.
 pub fn fused_inverse_mul_symbols<T: BinaryMatrix>(
     alloc: Global,
     table: &SystematicTable,
@@ -268,10 +270,10 @@ pub fn fused_inverse_mul_symbols<T: BinaryMatrix>(
     ).execute()
 }
 
-/// Solves the equations of a block with so many source symbols, but for those of HDPC: a matrix of
-/// bits, and a symbol for each equation. It answers the slab with the intermediate symbols, and the
-/// operations that made it. `None` where these equations don't determine the symbols; all equations
-/// may.
+/// Solves the equations of a block with `num_source_symbols` source symbols, but for those of HDPC: a
+/// matrix of bits, and a symbol for each equation. It answers the slab with the intermediate symbols,
+/// and the operations that made it. `None` where these equations don't determine the symbols; all
+/// equations may.
 pub fn fused_inverse_mul_symbols_no_hdpc<T: BinaryMatrix>(
     alloc: Global,
     table: &SystematicTable,

@@ -66,7 +66,7 @@ impl OwnOctets {
 
     /// Whether a row has none.
     #[inline(always)]
-    pub(super) fn is_none(&self, row: usize) -> bool
+    pub(super) fn is_bits(&self, row: usize) -> bool
         requires { row < length self.now.rows }
         ensures none { result ≡ true → length (row_at self.now row) ≡ 0 }
         ensures own { result ≡ false → length (row_at self.now row) ≡ self.now.width }
@@ -89,7 +89,7 @@ impl OwnOctets {
 
     /// Makes octets of a row's bits, where it has none.
     #[inline(always)]
-    pub(super) fn ensure(&mut self, row: usize, bits: &[u8]) -> Result<(), Error>
+    pub(super) fn unpack_row(&mut self, row: usize, bits: &[u8]) -> Result<(), Error>
         requires row { row < length self.old.rows }
         requires room { self.old.width ≤ 8 * length bits.now }
         ensures row { OnOk result (self.new ≡ with_row self.old row (row_of self.old.width bits.now (row_at self.old row))) }

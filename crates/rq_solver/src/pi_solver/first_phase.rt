@@ -1,51 +1,90 @@
-//! The first phase (RFC 6330, section 5.4.2.2): once pivots are chosen, all rows are cleared in the
-//! pivots' columns.
-ghost use Rattle.std.specs.Prelude.{◌≡◌, ◌+◌, ◌*◌, ◌<◌, ◌≤◌, drop, length, IfOk, OnOk, IfErr};
+//! The first phase behind the choice of pivots (RFC 6330, section 5.4.2.2): the pivots' columns are
+//! cleared in all rows, in those of bits and in the HDPC rows.
+ghost use Rattle.std.specs.Prelude.{◌≡◌, ◌+◌, ◌-◌, ◌*◌, ◌/◌, ◌≤◌, length, IfOk, IfErr};
 ghost use Rattle.rq_bytes.specs.declared.error.Error.TheVariants.{OutOfMemory};
-ghost use Rattle.rq_elimination.specs.Recorded.{AddsAtMost};
-ghost use Rattle.rq_solver.specs.Cleared.{ClearsRows, ListsRows, PeelsRows, PivotsHaveTaken, TakesPivots};
 ghost use Rattle.rq_elimination.specs.OperationCounts.{additions};
-ghost use Rattle.rq_solver.specs.HdpcRows.{batch_bound};
-ghost use Rattle.rq_peeling.specs.Peeled.{ones_of, IsPeeled};
+ghost use Rattle.rq_peeling.specs.Peeled.{IsPeeled};
+ghost use Rattle.rq_solver.specs.Elimination.{starts_at, IsUnderWay};
+ghost use Rattle.rq_solver.specs.HdpcOctets.{batch_bound};
 ghost use Rattle.rq_solver.specs.Phases.{ClearsPivots};
-ghost use Rattle.rq_parts.specs.DenseOctetMatrix.{HasOctets};
+ghost use Rattle.rq_solver.specs.PivotAdditions.{PivotsHaveTaken};
+ghost use Rattle.rq_solver.specs.RowOrder.{ListsRows};
 
-mod hdpc;
+mod clearing;
+mod hdpc_rows;
 mod inactive;
-pub(super) mod listing;
+mod row_order;
 
-use hdpc::clear_octets;
+use super::elimination::{Elimination, PivotAdditions};
+use clearing::clear_rows;
+use hdpc_rows::clear_octets;
 use inactive::fill_inactive;
+use row_order::rows_in_order;
 use rq_bytes::error::Error;
-use rq_bytes::octet::Octet;
+use rq_elimination::counts::PhaseEnds;
 use rq_elimination::recorded::RecordedRows;
-use rq_peeling::ones::RowOnes;
 use rq_peeling::peeling::Peeling;
 use rq_peeling::system::System;
 use std::alloc::Global;
 
-/// Rows of bits that were cleared: their ones as they were handed in, and where in the operations those
-/// of each row begin by which it took others, in the order of the list, the pivots' rows first. They
-/// end where the next row's begin; behind the last row's beginning stands their end.
-#[derive(Drop)]
-pub(super) struct ClearedRows {
-    pub ones: RowOnes,
-    pub bounds: Vec<usize>,
+impl Elimination {
+    /// The rows of a system whose columns have the pivots of a peeling, cleared in these columns.
+    pub(super) fn first_phase(
+        alloc: Global,
+        system: System,
+        peeling: Peeling,
+    ) -> Result<Elimination, Error>
+        requires { IsPeeled system.width system.ones peeling }
+        ensures peeling { IfOk result (λ made. made.peeling ≡ peeling) }
+        ensures ones { IfOk result (λ made. made.additions.ones ≡ system.ones) }
+        ensures limit { IfOk result (λ made. made.sparsify_limit ≡ (system.width - length system.hdpc.rows) / 2) }
+        ensures under_way { IfOk result IsUnderWay }
+        ensures ordered { IfOk result (λ made. ListsRows (length system.ones) peeling.rows made.row_order.items) }
+        ensures cleared { IfOk result (λ made. ClearsPivots system peeling made.row_order.items made.recorded) }
+        ensures ends { IfOk result (λ made. made.ends ≡ starts_at (length made.recorded.operations)) }
+        ensures few { IfOk result (λ made. additions made.recorded.operations ≤ length system.ones * length peeling.rows + batch_bound (length system.hdpc.rows) system.width (length peeling.rows)) }
+        ensures err { IfErr result (λ e. e ≡ OutOfMemory) }
+    {
+        let height = system.ones.height();
+        let hdpc_count = system.hdpc.height();
+        let sparsify_limit = (system.width - hdpc_count) / 2;
+        let row_order = rows_in_order(
+            alloc,
+            height,
+            system.first_hdpc,
+            hdpc_count,
+            peeling.rows(),
+        )?;
+        let (additions, recorded) = clear_pivots(alloc, system, &peeling, row_order.as_slice())?;
+        let end = recorded.operations.len();
+        Ok(Elimination {
+            peeling,
+            additions,
+            row_order,
+            sparsify_limit,
+            recorded,
+            ends: PhaseEnds {
+                cleared: end,
+                eliminated: end,
+                sparsified: end,
+                substituted: end,
+            },
+        })
+    }
 }
 
-/// Clears the pivots' columns in the other rows, which are listed behind the pivots'. Answers the ones
-/// of the rows and by which operations each took others, and the rows with their entries in the
-/// inactive columns.
-pub(super) fn clear_pivots(
+// Clears the pivots' columns in all rows, in their order. Answers which rows each row of bits took, and
+// the rows with their entries in the inactive columns.
+fn clear_pivots(
     alloc: Global,
     system: System,
     peeling: &Peeling,
-    listed: &[usize],
-) -> Result<(ClearedRows, RecordedRows), Error>
+    row_order: &[usize],
+) -> Result<(PivotAdditions, RecordedRows), Error>
     requires peeled { IsPeeled system.width system.ones peeling.now }
-    requires listed { ListsRows (length system.ones) peeling.now.rows listed.now }
+    requires ordered { ListsRows (length system.ones) peeling.now.rows row_order.now }
     ensures ones { IfOk result (λ answer. answer.0.ones ≡ system.ones) }
-    ensures cleared { IfOk result (λ answer. ClearsPivots system peeling.now listed.now answer.1) }
+    ensures cleared { IfOk result (λ answer. ClearsPivots system peeling.now row_order.now answer.1) }
     ensures taken { IfOk result (λ answer. PivotsHaveTaken system.ones peeling.now answer.0.bounds.items answer.1) }
     ensures few { IfOk result (λ answer. additions answer.1.operations ≤ length system.ones * length peeling.now.rows + batch_bound (length system.hdpc.rows) system.width (length peeling.now.rows)) }
     ensures err { IfErr result (λ e. e ≡ OutOfMemory) }
@@ -63,60 +102,7 @@ pub(super) fn clear_pivots(
     // Blocks of all sizes take two to three operations for each one.
     let room = ones.len().saturating_mul(3);
     let mut recorded = RecordedRows::new(alloc, table, room)?;
-    let bounds = clear_rows(&ones, listed, peeling, &mut recorded)?;
+    let bounds = clear_rows(&ones, row_order, peeling, &mut recorded)?;
     clear_octets(hdpc, first_hdpc, peeling, &mut recorded)?;
-    Ok((ClearedRows { ones, bounds }, recorded))
-}
-
-// Adds to each listed row the rows of the other pivots in whose columns it has ones. The pivots'
-// rows come first in the list, in their order. Says where in the operations those of each row begin,
-// and where the last end.
-fn clear_rows(
-    ones: &RowOnes,
-    listed: &[usize],
-    peeling: &Peeling,
-    recorded: &mut RecordedRows,
-) -> Result<Vec<usize>, Error>
-    requires peeled { PeelsRows ones.now peeling.now }
-    requires listed { ListsRows (length ones.now) peeling.now.rows listed.now }
-    requires height { length recorded.old.table.rows ≡ length ones.now }
-    requires octets { HasOctets recorded.old.table }
-    ensures cleared { OnOk result (ClearsRows ones.now peeling.now.rows peeling.now.order listed.now (length listed.now) recorded.old recorded.new) }
-    ensures taken { IfOk result (λ bounds. PivotsHaveTaken ones.now peeling.now bounds.items recorded.new) }
-    ensures few { OnOk result (AddsAtMost (length listed.now * length peeling.now.rows) recorded.old recorded.new) }
-    ensures err { IfErr result (λ e. e ≡ OutOfMemory) }
-{
-    let room = listed.len().saturating_add(1);
-    let mut bounds = Vec::with_capacity(recorded.allocator(), room)?;
-    for row in listed {
-        bounds.push(recorded.operation_count())?;
-        take_pivots(ones, *row, peeling, recorded)?;
-    }
-    bounds.push(recorded.operation_count())?;
-    Ok(bounds)
-}
-
-// Adds to a row the rows of the other pivots in whose columns it has ones.
-#[inline(always)]
-fn take_pivots(
-    ones: &RowOnes,
-    row: usize,
-    peeling: &Peeling,
-    recorded: &mut RecordedRows,
-) -> Result<(), Error>
-    requires peeled { PeelsRows ones.now peeling.now }
-    requires row { row < length ones.now }
-    requires height { length recorded.old.table.rows ≡ length ones.now }
-    requires octets { HasOctets recorded.old.table }
-    ensures taken { OnOk result (TakesPivots peeling.now.rows peeling.now.order row (ones_of ones.now row) recorded.old recorded.new) }
-    ensures few { OnOk result (AddsAtMost (length peeling.now.rows) recorded.old recorded.new) }
-    ensures err { IfErr result (λ e. e ≡ OutOfMemory) }
-{
-    for column in ones.row(row) {
-        let place = peeling.place_of(*column as usize);
-        if place < peeling.pivots() && peeling.row_of(place) != row {
-            recorded.add_row(row, peeling.row_of(place), Octet::one())?;
-        }
-    }
-    Ok(())
+    Ok((PivotAdditions { ones, bounds }, recorded))
 }

@@ -1,41 +1,87 @@
-//! The second phase: elimination over the inactive columns (RFC 6330, section 5.4.2.3).
-ghost use Rattle.std.specs.Prelude.{◌≡◌, ◌≢◌, ◌+◌, ◌-◌, ◌*◌, ◌<◌, ◌≤◌, ◌∷◌, [], length, OnOk, IfOk, IfErr, MatchBool, IsPermutation};
+//! The second phase: elimination over the inactive columns among the rows that have no pivot yet, and
+//! substitution back (RFC 6330, section 5.4.2.3).
+ghost use Rattle.std.specs.Prelude.{◌≡◌, ◌≢◌, ◌+◌, ◌-◌, ◌*◌, ◌<◌, ◌≤◌, ◌∷◌, [], length, OnOk, IfOk, IfErr, IsPermutation};
 ghost use Rattle.rq_algebra.specs.Systems.{at};
-ghost use Rattle.rq_algebra.specs.Steps.{AddsRow, ScalesRow};
-ghost use Rattle.rq_standard.specs.OctetField.{octets};
 ghost use Rattle.rq_bytes.specs.declared.error.Error.TheVariants.{OutOfMemory};
-ghost use Rattle.rq_parts.specs.DenseOctetMatrix.{entry_of, HasOctets};
-ghost use Rattle.rq_solver.specs.Cleared.{GivesMultiples, ReducesBack, TakesReduced, one_of};
+ghost use Rattle.rq_parts.specs.DenseOctetMatrix.{entry_of};
 ghost use Rattle.rq_elimination.specs.OperationCounts.{additions, multiples, triangle};
-ghost use Rattle.rq_elimination.specs.Recorded.{ChangesRows};
-ghost use Rattle.rq_elimination.specs.RowSteps.{AreRows, ClearsBelow, IsEchelon, IsStuck};
+ghost use Rattle.rq_elimination.specs.Recorded.{AddsAtMost, ChangesRows};
+ghost use Rattle.rq_elimination.specs.RowSteps.{AreRows, ClearsBelow, IsEchelon};
+ghost use Rattle.rq_solver.specs.Elimination.{inactive_count, left_rows, eliminated_at, substituted_at, IsUnderWay, KeepsPivots};
+ghost use Rattle.rq_solver.specs.SecondPhase.{AddsForward, AddsOnes, ClearsEntry, EndsForward, GivesMultiples, ReducesBack, ScalesToOne, TakesOnesBehind};
 
+use super::elimination::Elimination;
 use rq_bytes::error::Error;
 use rq_bytes::octet::Octet;
 use rq_elimination::elimination::find_pivot;
 use rq_elimination::recorded::RecordedRows;
 
-/// Gives each of the first `count` columns a pivot: a row with 1 there, where the rows behind it
-/// have 0. Works on the listed rows alone. The list is put in the order of the pivots' columns.
-/// Where a column is left without a pivot the answer is false.
-pub(super) fn eliminate(
+impl Elimination {
+    /// Gives the inactive columns pivots among the rows that are left, and puts these in the order of
+    /// their columns. Where a column is left without a pivot the answer is false.
+    pub(super) fn eliminate(&mut self) -> Result<bool, Error>
+        requires { IsUnderWay self.old }
+        ensures same { KeepsPivots self.old self.new }
+        ensures under_way { OnOk result (IsUnderWay self.new) }
+        ensures permuted { OnOk result (IsPermutation (left_rows self.old) (left_rows self.new)) }
+        ensures changed { OnOk result (ChangesRows (left_rows self.old) self.old.recorded self.new.recorded) }
+        ensures pivots { IfOk result (EndsForward (left_rows self.new) (inactive_count self.old) self.new.recorded) }
+        ensures ends { OnOk result (self.new.ends ≡ eliminated_at self.old.ends (length self.new.recorded.operations)) }
+        ensures few { IfOk result (AddsForward (length (left_rows self.old)) (inactive_count self.old) self.old.recorded self.new.recorded) }
+        ensures err { IfErr result (λ e. e ≡ OutOfMemory) }
+    {
+        let pivots = self.peeling.pivots();
+        let inactive = self.peeling.width() - pivots;
+        let rows = &mut self.row_order.as_mut_slice()[pivots..];
+        let found = eliminate_rows(&mut self.recorded, rows, inactive)?;
+        let end = self.recorded.operations.len();
+        self.ends.eliminated = end;
+        self.ends.sparsified = end;
+        self.ends.substituted = end;
+        Ok(found)
+    }
+
+    /// Substitutes the rows with the inactive columns' pivots back in one another, so that each has 0
+    /// in the columns of the others.
+    pub(super) fn back_substitute(&mut self) -> Result<(), Error>
+        requires under_way { IsUnderWay self.old }
+        requires echelon { IsEchelon (left_rows self.old) (inactive_count self.old) self.old.recorded.table }
+        ensures same { KeepsPivots self.old self.new }
+        ensures rows { self.new.row_order ≡ self.old.row_order }
+        ensures under_way { OnOk result (IsUnderWay self.new) }
+        ensures reduced { OnOk result (ReducesBack (left_rows self.old) (inactive_count self.old) 0 self.old.recorded self.new.recorded) }
+        ensures ends { OnOk result (self.new.ends ≡ substituted_at self.old.ends (length self.new.recorded.operations)) }
+        ensures few { OnOk result (AddsAtMost (triangle (inactive_count self.old)) self.old.recorded self.new.recorded) }
+        ensures err { IfErr result (λ e. e ≡ OutOfMemory) }
+    {
+        let pivots = self.peeling.pivots();
+        let inactive = self.peeling.width() - pivots;
+        let rows = &self.row_order[pivots..];
+        substitute_rows(&mut self.recorded, rows, inactive)?;
+        self.ends.substituted = self.recorded.operations.len();
+        Ok(())
+    }
+}
+
+// Gives each of the first `count` columns a pivot: a row with 1 there, where the rows behind it
+// have 0. Works on these rows alone. The list is put in the order of the pivots' columns.
+// Where a column is left without a pivot the answer is false.
+fn eliminate_rows(
     recorded: &mut RecordedRows,
     rows: &mut [usize],
     count: usize,
 ) -> Result<bool, Error>
     requires rows { AreRows rows.old recorded.old.table }
     requires columns { count ≤ recorded.old.table.width }
-    requires octets { HasOctets recorded.old.table }
     ensures permuted { IsPermutation rows.old rows.new }
-    ensures octets { OnOk result (HasOctets recorded.new.table) }
     ensures rows { OnOk result (AreRows rows.new recorded.old.table) }
     ensures steps { OnOk result (ChangesRows rows.old recorded.old recorded.new) }
-    ensures pivots { IfOk result (λ found. MatchBool found (IsEchelon rows.new count recorded.new.table) (IsStuck rows.new count recorded.new.table)) }
-    ensures few { IfOk result (λ found. MatchBool found (additions recorded.new.operations + triangle count ≤ additions recorded.old.operations + count * (length rows.old - 1)) (additions recorded.new.operations ≤ additions recorded.old.operations + count * (length rows.old - 1))) }
+    ensures pivots { IfOk result (EndsForward rows.new count recorded.new) }
+    ensures few { IfOk result (AddsForward (length rows.old) count recorded.old recorded.new) }
     ensures err { IfErr result (λ e. e ≡ OutOfMemory) }
 {
     for done in 0..count {
-        let Some(pivot) = find_pivot(recorded.table(), rows, done, done) else {
+        let Some(pivot) = find_pivot(&recorded.table, rows, done, done) else {
             return Ok(false);
         };
         rows.swap(done, pivot);
@@ -45,23 +91,18 @@ pub(super) fn eliminate(
     Ok(true)
 }
 
-/// Adds to each row in echelon form, the last first, multiples of those behind it, so that it has 0
-/// in their columns. Entries are bits or octets as they were, so that most of what is recorded are
-/// plain additions. What the rows have is stored as it was.
-///
-/// A row takes the rows behind it one after another where it has 1, and then is given, as a multiple,
-/// to one row after another that has any other octet: replay does each such run in one pass.
-pub(super) fn reduce_back(
-    recorded: &mut RecordedRows,
-    rows: &[usize],
-    count: usize,
-) -> Result<(), Error>
+// Adds to each row in echelon form, the last first, multiples of those behind it, so that it has 0
+// in their columns. Entries are bits or octets as they were, so that most of what is recorded are
+// plain additions. What the rows have is stored as it was.
+//
+// A row takes the rows behind it one after another where it has 1, and then is given, as a multiple,
+// to one row after another that has any other octet: replay does each such run in one pass.
+fn substitute_rows(recorded: &mut RecordedRows, rows: &[usize], count: usize) -> Result<(), Error>
     requires rows { AreRows rows.now recorded.old.table }
     requires columns { count ≤ recorded.old.table.width }
-    requires octets { HasOctets recorded.old.table }
     requires echelon { IsEchelon rows.now count recorded.old.table }
     ensures reduced { OnOk result (ReducesBack rows.now count 0 recorded.old recorded.new) }
-    ensures few { OnOk result (additions recorded.new.operations ≤ additions recorded.old.operations + triangle count) }
+    ensures few { OnOk result (AddsAtMost (triangle count) recorded.old recorded.new) }
     ensures err { IfErr result (λ e. e ≡ OutOfMemory) }
 {
     for done in 0..count {
@@ -83,16 +124,15 @@ fn take_ones(
     requires place { place < count }
     requires many { count ≤ length rows.now }
     requires columns { count ≤ recorded.old.table.width }
-    requires octets { HasOctets recorded.old.table }
-    ensures taken { OnOk result (TakesReduced rows.now (at rows.now place) (place + 1) count count (λ f. one_of (entry_of recorded.old.table (at rows.now place) f)) recorded.old recorded.new) }
-    ensures few { OnOk result (additions recorded.new.operations + multiples (entry_of recorded.old.table (at rows.now place)) (place + 1) (count - (place + 1)) ≤ additions recorded.old.operations + (count - (place + 1))) }
+    ensures taken { OnOk result (TakesOnesBehind rows.now place count recorded.old recorded.new) }
+    ensures few { OnOk result (AddsOnes rows.now place count recorded.old recorded.new) }
     ensures err { IfErr result (λ e. e ≡ OutOfMemory) }
 {
     let row = rows[place];
     let mut from = place + 1;
-    while let Some((f, scalar)) = recorded.next_entry(row, from, count) {
+    while let Some((f, scalar)) = recorded.table.next_entry(row, from, count) {
         if scalar.byte() == 1 {
-            recorded.record_sum(row, rows[f], scalar)?;
+            recorded.record_multiple(row, rows[f], scalar)?;
         }
         from = f + 1;
     }
@@ -105,15 +145,14 @@ fn give_multiples(recorded: &mut RecordedRows, rows: &[usize], place: usize) -> 
     requires rows { AreRows rows.now recorded.old.table }
     requires place { place < length rows.now }
     requires column { place < recorded.old.table.width }
-    requires octets { HasOctets recorded.old.table }
     ensures given { OnOk result (GivesMultiples rows.now place place recorded.old recorded.new) }
-    ensures few { OnOk result (additions recorded.new.operations ≤ additions recorded.old.operations + multiples (λ i. entry_of recorded.old.table (at rows.now i) place) 0 place) }
+    ensures few { OnOk result (AddsAtMost (multiples (λ i. entry_of recorded.old.table (at rows.now i) place) 0 place) recorded.old recorded.new) }
     ensures err { IfErr result (λ e. e ≡ OutOfMemory) }
 {
     for i in 0..place {
-        let scalar = recorded.get(rows[i], place);
+        let scalar = recorded.table.get(rows[i], place);
         if scalar.byte() > 1 {
-            recorded.record_sum(rows[i], rows[place], scalar)?;
+            recorded.record_multiple(rows[i], rows[place], scalar)?;
         }
     }
     Ok(())
@@ -123,15 +162,13 @@ fn give_multiples(recorded: &mut RecordedRows, rows: &[usize], place: usize) -> 
 fn scale_row(recorded: &mut RecordedRows, row: usize, column: usize) -> Result<(), Error>
     requires row { row < length recorded.old.table.rows }
     requires column { column < recorded.old.table.width }
-    requires octets { HasOctets recorded.old.table }
     requires nonzero { entry_of recorded.old.table row column ≢ 0 }
     ensures steps { OnOk result (ChangesRows (row ∷ []) recorded.old recorded.new) }
-    ensures octets { OnOk result (HasOctets recorded.new.table) }
-    ensures scaled { OnOk result (ScalesRow octets (length recorded.old.table.rows) recorded.old.table.width row (octets.inverse (entry_of recorded.old.table row column)) (entry_of recorded.old.table) (entry_of recorded.new.table)) }
-    ensures few { OnOk result (additions recorded.new.operations ≤ additions recorded.old.operations + 0) }
+    ensures scaled { OnOk result (ScalesToOne row column recorded.old.table recorded.new.table) }
+    ensures few { OnOk result (AddsAtMost 0 recorded.old recorded.new) }
     ensures err { IfErr result (λ e. e ≡ OutOfMemory) }
 {
-    let entry = recorded.get(row, column);
+    let entry = recorded.table.get(row, column);
     if entry.byte() == 1 {
         return Ok(());
     }
@@ -146,9 +183,7 @@ fn clear_below(recorded: &mut RecordedRows, rows: &[usize], pivot: usize) -> Res
     requires rows { AreRows rows.now recorded.old.table }
     requires pivot { pivot < length rows.now }
     requires column { pivot < recorded.old.table.width }
-    requires octets { HasOctets recorded.old.table }
     ensures steps { OnOk result (ChangesRows rows.now recorded.old recorded.new) }
-    ensures octets { OnOk result (HasOctets recorded.new.table) }
     ensures cleared { OnOk result (ClearsBelow rows.now pivot (length rows.now) recorded.old.table recorded.new.table) }
     ensures few { OnOk result (additions recorded.new.operations + (pivot + 1) ≤ additions recorded.old.operations + length rows.now) }
     ensures err { IfErr result (λ e. e ≡ OutOfMemory) }
@@ -170,17 +205,15 @@ fn clear_entry(
     requires dest { dest < length recorded.old.table.rows }
     requires src { src < length recorded.old.table.rows }
     requires column { column < recorded.old.table.width }
-    requires octets { HasOctets recorded.old.table }
     ensures steps { OnOk result (ChangesRows (dest ∷ src ∷ []) recorded.old recorded.new) }
-    ensures octets { OnOk result (HasOctets recorded.new.table) }
-    ensures added { OnOk result (AddsRow octets (length recorded.old.table.rows) recorded.old.table.width dest src (entry_of recorded.old.table dest column) (entry_of recorded.old.table) (entry_of recorded.new.table)) }
-    ensures few { OnOk result (additions recorded.new.operations ≤ additions recorded.old.operations + 1) }
+    ensures added { OnOk result (ClearsEntry dest src column recorded.old.table recorded.new.table) }
+    ensures few { OnOk result (AddsAtMost 1 recorded.old recorded.new) }
     ensures err { IfErr result (λ e. e ≡ OutOfMemory) }
 {
-    let scalar = recorded.get(dest, column);
+    let scalar = recorded.table.get(dest, column);
     if scalar.byte() == 0 {
         return Ok(());
     }
-    recorded.add_row(dest, src, scalar)?;
+    recorded.add_multiple(dest, src, scalar)?;
     Ok(())
 }

@@ -8,7 +8,7 @@ use Rattle.rq_matrix.proofs.Orders.{first_numbers}
 use Rattle.rq_parts.specs.DenseOctetMatrix.{entry_of}
 use Rattle.rq_standard.specs.ConstraintMatrix.{with_octet_rows}
 use Rattle.rq_null_vector.proofs.FreeColumns.{determined_rows, homogeneous_rows}
-use Rattle.rq_null_vector.proofs.Outcomes.{all_rows}
+use Rattle.rq_null_vector.proofs.AllRows.{all_rows}
 use Rattle.rq_null_vector.proofs.null_vector.null_vector.Goals as goal
 
 pub reduce-requires-clause-rows : goal.reduce-requires-clause-rows

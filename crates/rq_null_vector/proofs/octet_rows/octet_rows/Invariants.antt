@@ -1,7 +1,7 @@
 -- What the loops keep in `octet_rows::octet_rows`.
 use Rattle.std.proofs.Common.{length}
 use Rattle.rq_standard.specs.ConstraintMatrix.{with_octet_rows}
-use Rattle.rq_elimination.specs.RowWrites.{HoldsRows}
+use Rattle.rq_null_vector.specs.RowWrites.{HoldsRows}
 use Rattle.rq_null_vector.proofs.octet_rows.octet_rows.Given as goal
 use Rattle.rq_parts.specs.DenseOctetMatrix.{entry_of}
 

@@ -1,17 +1,13 @@
 //! The entries of rows in inactive columns.
 ghost use Rattle.std.specs.Prelude.{◌≡◌, ◌<◌, ◌≤◌, ◌+◌, ◌-◌, ℕ, All, length, IfOk, OnOk, IfErr};
 ghost use Rattle.rq_bytes.specs.declared.error.Error.TheVariants.{OutOfMemory};
-ghost use Rattle.rq_algebra.specs.Systems.{at};
 ghost use Rattle.rq_parts.specs.DenseOctetMatrix.{entry_of, HasOctets};
-ghost use Rattle.rq_peeling.specs.SystemRows.{one_in};
-ghost use Rattle.rq_solver.specs.Cleared.{HasLeading};
+ghost use Rattle.rq_solver.specs.InactiveColumns.{AreFilled, FillsColumn, FillsHdpcRow, HasInactive};
 ghost use Rattle.rq_peeling.specs.Peeled.{IsOrderOf, IsPeeled};
-ghost use Rattle.rq_elimination.specs.RowWrites.{FillsColumn, FillsRow};
 ghost use Rattle.rq_peeling.specs.System.{rows_of};
 
 use rq_bytes::error::Error;
 use rq_elimination::entries::{InactiveEntries, whole_vectors};
-use rq_parts::octet_matrix::DenseOctetMatrix;
 use rq_peeling::peeling::Peeling;
 use rq_peeling::system::System;
 use std::alloc::Global;
@@ -23,26 +19,25 @@ pub(super) fn fill_inactive(
     peeling: &Peeling,
 ) -> Result<InactiveEntries, Error>
     requires { IsPeeled system.now.width system.now.ones peeling.now }
-    ensures entries { IfOk result (HasLeading (length system.now.ones) (system.now.width - length peeling.now.rows) (length system.now.ones) (λ r f. rows_of system.now r (at peeling.now.order (length peeling.now.rows + f)))) }
+    ensures entries { IfOk result (HasInactive (length system.now.ones) system.now.width (rows_of system.now) peeling.now) }
     ensures err { IfErr result (λ e. e ≡ OutOfMemory) }
 {
     let inactive = system.width - peeling.pivots();
     let mut entries = InactiveEntries::new(alloc, system.ones.height(), whole_vectors(inactive))?;
     fill_columns(system, peeling, inactive, &mut entries);
     for from in 0..system.hdpc.height() {
-        let row = system.first_hdpc + from;
-        fill_octets(&system.hdpc, from, peeling, inactive, row, &mut entries)?;
+        fill_octets(system, from, peeling, inactive, &mut entries)?;
     }
     Ok(entries)
 }
 
-// Sets the entries to 1 where rows have ones in the inactive columns, of which there are so many. By
-// rows each of their ones would have to be asked whether its column is inactive.
+// Sets the entries to 1 where rows have ones in the `inactive` inactive columns. By rows each of their
+// ones would have to be asked whether its column is inactive.
 fn fill_columns(system: &System, peeling: &Peeling, inactive: usize, entries: &mut InactiveEntries)
     requires peeled { IsPeeled system.now.width system.now.ones peeling.now }
     requires inactive { length peeling.now.rows + inactive ≡ system.now.width }
-    requires zeros { HasLeading (length system.now.ones) inactive 0 (λ r f. one_in system.now.ones r (at peeling.now.order (length peeling.now.rows + f))) entries.old }
-    ensures { HasLeading (length system.now.ones) inactive (length system.now.ones) (λ r f. one_in system.now.ones r (at peeling.now.order (length peeling.now.rows + f))) entries.new }
+    requires zeros { AreFilled system.now.ones peeling.now inactive 0 entries.old }
+    ensures { AreFilled system.now.ones peeling.now inactive (length system.now.ones) entries.new }
 {
     for f in 0..inactive {
         let column = peeling.column_at(peeling.pivots() + f);
@@ -63,23 +58,23 @@ fn fill_column(rows: &[u32], column: usize, entries: &mut InactiveEntries)
     }
 }
 
-// Sets the entries of a row to those of a row of octets in the inactive columns.
+// Sets the entries of an HDPC row to its octets in the `inactive` inactive columns.
 fn fill_octets(
-    octets: &DenseOctetMatrix,
+    system: &System,
     from: usize,
     peeling: &Peeling,
     inactive: usize,
-    row: usize,
     entries: &mut InactiveEntries,
 ) -> Result<(), Error>
-    requires order { IsOrderOf octets.now.width peeling.now.order peeling.now.places }
-    requires inactive { length peeling.now.rows + inactive ≡ octets.now.width }
-    requires from { from < length octets.now.rows }
-    requires row { row < length entries.old.rows }
+    requires order { IsOrderOf system.now.hdpc.width peeling.now.order peeling.now.places }
+    requires inactive { length peeling.now.rows + inactive ≡ system.now.hdpc.width }
+    requires from { from < length system.now.hdpc.rows }
+    requires row { system.now.first_hdpc + from < length entries.old.rows }
     requires width { inactive ≤ entries.old.width }
     requires octets { HasOctets entries.old }
-    ensures written { OnOk result (FillsRow row inactive (λ f. entry_of octets.now from (at peeling.now.order (length peeling.now.rows + f))) entries.old entries.new) }
+    ensures written { OnOk result (FillsHdpcRow system.now from peeling.now inactive entries.old entries.new) }
     ensures err { IfErr result (λ e. e ≡ OutOfMemory) }
 {
-    entries.fill(row, octets, from, peeling.inactive_columns())
+    let row = system.first_hdpc + from;
+    entries.fill(row, &system.hdpc, from, peeling.inactive_columns())
 }

@@ -7,8 +7,8 @@ use Rattle.rq_elimination.proofs.entries.InactiveEntries.set_one.Goals as goal
 
 -- ---- a row of bits
 
-pub is_none-requires : goal.is_none-requires
-is_none-requires c = own_place c.self.inside c.self.invariant c.self.view_is c.args.row c.requires.row
+pub is_bits-requires : goal.is_bits-requires
+is_bits-requires c = own_place c.self.inside c.self.invariant c.self.view_is c.args.row c.requires.row
 
 pub get_mut-requires : goal.get_mut-requires
 get_mut-requires c = bits_place c.self.inside c.self.invariant c.self.view_is c.args.row c.requires.row
@@ -17,19 +17,19 @@ pub invariant_of-self : goal.invariant_of-self
 invariant_of-self c =
     let bits = c.set_bit.new.bits in
     let long = c.set_bit.auto.bits ∙ c.get_mut.ensures.len in
-    bits_written c.self.inside c.self.invariant c.self.view_is c.args.row c.requires.row (c.if-is_none.ensures.none refl) bits long _ (c.get_mut.ensures.whole_symbol bits long)
+    bits_written c.self.inside c.self.invariant c.self.view_is c.args.row c.requires.row (c.if-is_bits.ensures.none refl) bits long _ (c.get_mut.ensures.whole_symbol bits long)
 
-pub returns-then-is_none : goal.returns-then-is_none
-returns-then-is_none c =
+pub returns-then-is_bits : goal.returns-then-is_bits
+returns-then-is_bits c =
     let width = c.self.inside.octets.width in
     let bits = c.set_bit.new.bits in
     let long = c.set_bit.auto.bits ∙ c.get_mut.ensures.len in
     let one = λ (r : List ℕ). set r c.args.column 1 in
-    bits_written_seen c.self.inside c.self.invariant c.self.view_is c.args.row c.requires.row (c.if-is_none.ensures.none refl) bits long _ (c.get_mut.ensures.whole_symbol bits long)
+    bits_written_seen c.self.inside c.self.invariant c.self.view_is c.args.row c.requires.row (c.if-is_bits.ensures.none refl) bits long _ (c.get_mut.ensures.whole_symbol bits long)
     ∙ ap (with_row c.args.self.now c.args.row) (
     c.set_bit.ensures width (rw (width_is c.self.inside c.self.invariant c.self.view_is) c.requires.column)
     ∙ ap (λ (b : List ℕ). one (unpacked width b)) (c.get_mut.ensures.symbol ∙ read_is c.self.inside c.self.invariant c.self.view_is c.args.row c.requires.row)
-    ∙ ap one (row_unpacked c.self.inside c.self.invariant c.self.view_is c.args.row c.requires.row (c.if-is_none.ensures.none refl)))
+    ∙ ap one (row_unpacked c.self.inside c.self.invariant c.self.view_is c.args.row c.requires.row (c.if-is_bits.ensures.none refl)))
 
 -- ---- a row of octets
 
@@ -39,10 +39,10 @@ set_one-requires-clause-row c = own_place c.self.inside c.self.invariant c.self.
 pub set_one-requires-clause-column : goal.set_one-requires-clause-column
 set_one-requires-clause-column c = rw (width_is c.self.inside c.self.invariant c.self.view_is) c.requires.column
 
-pub invariant_of-self-else-is_none : goal.invariant_of-self-else-is_none
-invariant_of-self-else-is_none c = written c.self.inside c.self.invariant c.self.view_is c.args.row c.requires.row c.self.inside.octets c.set_one.new.self _ c.set_one.ensures.set c.set_one.ensures.octets refl
+pub invariant_of-self-else-is_bits : goal.invariant_of-self-else-is_bits
+invariant_of-self-else-is_bits c = written c.self.inside c.self.invariant c.self.view_is c.args.row c.requires.row c.self.inside.octets c.set_one.new.self _ c.set_one.ensures.set c.set_one.ensures.octets refl
 
-pub returns-else-is_none : goal.returns-else-is_none
-returns-else-is_none c =
+pub returns-else-is_bits : goal.returns-else-is_bits
+returns-else-is_bits c =
     written_seen c.self.inside c.self.invariant c.self.view_is c.args.row c.requires.row c.self.inside.octets c.set_one.new.self _ c.set_one.ensures.set c.set_one.ensures.octets refl
-    ∙ ap (λ (r : List ℕ). with_row c.args.self.now c.args.row (set r c.args.column 1)) (own_octets c.self.inside c.self.invariant c.self.view_is c.args.row c.requires.row (c.if-is_none.ensures.own refl))
+    ∙ ap (λ (r : List ℕ). with_row c.args.self.now c.args.row (set r c.args.column 1)) (own_octets c.self.inside c.self.invariant c.self.view_is c.args.row c.requires.row (c.if-is_bits.ensures.own refl))

@@ -1,7 +1,7 @@
 -- What the check leaves to show of `entries::octet_row::next_in_vectors`.
 use Rattle.std.proofs.Common.{◌+◌, arith, inl, inr}
 use Rattle.std.proofs.lemmas.Bool.{cases_lt}
-use Rattle.rq_elimination.proofs.NonzeroOctets.{all_zeros, first_one, ones_ahead, same_vector}
+use Rattle.rq_elimination.proofs.NonzeroLanes.{all_zeros, first_one, ones_ahead, same_vector}
 use Rattle.rq_parts.proofs.LowestOnes.{clears_lowest}
 use Rattle.rq_elimination.proofs.entries.octet_row.next_in_vectors.Goals as goal
 

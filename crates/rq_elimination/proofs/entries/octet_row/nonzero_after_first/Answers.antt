@@ -1,5 +1,5 @@
 -- What the check leaves to show of `entries::octet_row::nonzero_after_first`.
-use Rattle.rq_elimination.proofs.NonzeroOctets.{ones_after_first}
+use Rattle.rq_elimination.proofs.NonzeroLanes.{ones_after_first}
 use Rattle.rq_elimination.proofs.entries.octet_row.nonzero_after_first.Goals as goal
 
 pub returns : goal.returns

@@ -1,6 +1,6 @@
 -- What the check leaves to show of `entries::octet_row::nonzero_lanes`.
 use Rattle.std.proofs.Common.{refl}
-use Rattle.rq_elimination.proofs.NonzeroOctets.{lane_bits, lanes_few}
+use Rattle.rq_elimination.proofs.NonzeroLanes.{lane_bits, lanes_few}
 use Rattle.rq_elimination.proofs.entries.octet_row.nonzero_lanes.Goals as goal
 
 pub returns-clause-bits : goal.returns-clause-bits

@@ -4,9 +4,7 @@ use Rattle.rq_elimination.proofs.RecordedLaws.{scaling_counted, scaling_performe
 use Rattle.rq_elimination.proofs.recorded.RecordedRows.multiply_row.Goals as goal
 
 pub returns-clause-multiplied : goal.returns-clause-multiplied
-returns-clause-multiplied c =
-    scaling_performed c.self.inside.table c.self.inside.operations c.push.new.self c.args.self.now c.self.view_is _ c.in_ok-push.ensures.recorded c.args.dest c.requires.dest c.args.scalar c.requires.octets c.requires.scalar
-    c.multiply_row.new.self c.requires.nonzero refl c.in_ok-multiply_row.ensures.ok
+returns-clause-multiplied c = scaling_performed c.args.self.now _ _ c.in_ok-push.ensures.recorded c.args.dest c.requires.dest c.args.scalar c.requires.scalar c.requires.nonzero refl c.in_ok-multiply_row.ensures.ok
 
 pub returns-clause-counted : goal.returns-clause-counted
-returns-clause-counted c = scaling_counted c.self.inside.table c.self.inside.operations c.push.new.self c.args.self.now c.self.view_is _ c.in_ok-push.ensures.recorded c.args.dest c.args.scalar refl
+returns-clause-counted c = scaling_counted c.args.self.now.operations _ _ c.in_ok-push.ensures.recorded c.args.dest c.args.scalar refl

@@ -4,21 +4,22 @@ use Rattle.rq_algebra.specs.Operations.{AreAllowed}
 use Rattle.rq_standard.specs.ConstraintMatrix.{with_octet_rows}
 use Rattle.rq_operations.specs.RecordedOperations.{operations_of}
 use Rattle.rq_parts.specs.DenseOctetMatrix.{entry_of}
-use Rattle.rq_solver.proofs.SolutionLaws.{is_solution, if_some, recorded_counted, recorded_found}
+use Rattle.rq_elimination.proofs.PhaseTotals.{totals_of}
+use Rattle.rq_solver.proofs.SolutionLaws.{by_phases, is_solution, if_some, recorded_counted, recorded_found}
 use Rattle.rq_solver.proofs.pi_solver.IntermediateSymbolDecoder.execute.Goals as goal
 
 pub replay-requires : goal.replay-requires
 replay-requires g c =
     let solver = c.args.self.now in
     let operations = operations_of c.in-Some-into_operations.operations in
-    let finds = rw c.in-Some-into_operations.is at (recorded_found c.in_ok-attempt.attempt _ _ _ c.into_operations.result c.in_ok-attempt.ensures.found c.into_operations.ensures) in
+    let finds = rw c.in-Some-into_operations.is at (recorded_found c.in_ok-found.found _ _ _ c.into_operations.result c.in_ok-found.ensures.found c.into_operations.ensures) in
     let handed = c.in-Some.symbols in
     let some = sym c.in-Some.ensures.value in
     subst (λ o. AreAllowed (length handed.values) o operations) (sym (solver.unordered handed some)) (subst (λ n. AreAllowed n None operations) (sym (solver.counted handed some)) finds.allowed)
 
 pub returns-in_default-into_operations-clause-solved : goal.returns-in_default-into_operations-clause-solved
 returns-in_default-into_operations-clause-solved g c =
-    if_some c.args.self.now.symbols c.in-Some.symbols _ (sym c.in-Some.ensures.value) (rw c.in_default-into_operations.is at (recorded_found c.in_ok-attempt.attempt _ _ _ c.into_operations.result c.in_ok-attempt.ensures.found c.into_operations.ensures))
+    if_some c.args.self.now.symbols c.in-Some.symbols _ (sym c.in-Some.ensures.value) (rw c.in_default-into_operations.is at (recorded_found c.in_ok-found.found _ _ _ c.into_operations.result c.in_ok-found.ensures.found c.into_operations.ensures))
 
 pub returns-clause-solved : goal.returns-clause-solved
 returns-clause-solved g c =
@@ -27,15 +28,29 @@ returns-clause-solved g c =
     let rows = with_octet_rows solver.first_hdpc (length solver.hdpc.rows) m.bit (entry_of solver.hdpc) in
     let handed = c.in-Some.symbols in
     let operations = operations_of c.in-Some-into_operations.operations in
-    let finds = rw c.in-Some-into_operations.is at (recorded_found c.in_ok-attempt.attempt _ _ _ c.into_operations.result c.in_ok-attempt.ensures.found c.into_operations.ensures) in
+    let finds = rw c.in-Some-into_operations.is at (recorded_found c.in_ok-found.found _ _ _ c.into_operations.result c.in_ok-found.ensures.found c.into_operations.ensures) in
     if_some solver.symbols handed _ (sym c.in-Some.ensures.value)
     (rw c.in_ok-into_operations.ensures.operations
     (is_solution m.height m.width rows operations finds handed _ (solver.unordered handed (sym c.in-Some.ensures.value)) (c.symbols-2.view_is ∙ c.in_ok-replay.ensures.ok)))
 
 pub returns-clause-counted : goal.returns-clause-counted
 returns-clause-counted g c =
-    let are = recorded_counted c.in_ok-attempt.attempt c.counts-self.result c.into_operations.result c.in-Some-into_operations.operations c.counts-self.ensures c.in-Some-into_operations.is c.into_operations.ensures in
+    let counted = recorded_counted c.in_ok-found.found c.counts-self.result c.into_operations.result c.in-Some-into_operations.operations c.counts-self.ensures c.in-Some-into_operations.is c.into_operations.ensures in
+    let operations = operations_of c.in-Some-into_operations.operations in
+    let totals = totals_of counted.ends operations c.counts-self.result counted.in_order counted.are in
+    let a = counted.are.additions_are in
+    let m = counted.are.multiplications_are in
     rw c.in_ok-into_operations.ensures.operations (record {
-      additions_are = omega (arith, are.additions_are);
-      multiplications_are = omega (arith, are.multiplications_are);
+      ends = counted.ends;
+      in_order = counted.in_order;
+      added = by_phases _ _ _ _ _ _ a.first a.second a.fourth;
+      multiplied = by_phases _ _ _ _ _ _ m.first m.second m.fourth;
+      additions_are = omega (arith, totals.additions_are);
+      multiplications_are = omega (arith, totals.multiplications_are);
     })
+
+pub invariant_of-self-2-clause-few_additions : goal.invariant_of-self-2-clause-few_additions
+invariant_of-self-2-clause-few_additions g c =
+    let found = c.in_ok-found.found in
+    let totals = totals_of found.ends found.recorded c.counts-self.result found.in_order c.counts-self.ensures in
+    omega (arith, totals.additions_are, c.in_ok-found.ensures.few)

@@ -7,6 +7,6 @@ pub returns-clause-found : goal.returns-clause-found
 returns-clause-found g c =
     let solver = c.args.self in
     let bits = g.T.BinaryMatrix.content solver.matrix in
-    let attempt = c.in_ok-attempt.attempt in
-    recorded_found attempt bits.height bits.width _ c.into_operations.result
-    (attempt_of_bits bits solver.hdpc solver.first_hdpc c.in_ok-system.system c.in_ok-system.ensures.system attempt.recorded attempt.order c.in_ok-attempt.ensures.found) c.into_operations.ensures
+    let phases = c.in_ok-found.found in
+    recorded_found phases bits.height bits.width _ c.into_operations.result
+    (attempt_of_bits bits solver.hdpc solver.first_hdpc c.in_ok-system.system c.in_ok-system.ensures.system phases.recorded phases.order c.in_ok-found.ensures.found) c.into_operations.ensures

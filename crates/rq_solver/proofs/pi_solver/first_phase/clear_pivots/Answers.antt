@@ -3,9 +3,8 @@ use Rattle.std.proofs.Common.{◌+◌, ◌-◌, ◌*◌, ◌≤◌, ◌≡◌, �
 use Rattle.std.proofs.Math.Nat.{mul-le-mul_right}
 use Rattle.rq_algebra.specs.Systems.{at}
 use Rattle.rq_elimination.specs.OperationCounts.{additions}
-use Rattle.rq_elimination.specs.Recorded.{Recorded}
 use Rattle.rq_peeling.proofs.PlaceCounts.{few_places}
-use Rattle.rq_solver.proofs.PivotTurns.{peels_rows}
+use Rattle.rq_solver.proofs.PivotsTaken.{peels_rows}
 use Rattle.rq_solver.proofs.PivotsCleared.{peeled_pivots, pivot_of_bits}
 use Rattle.rq_solver.proofs.TakenAgain.{taken_performed}
 use Rattle.rq_solver.proofs.pi_solver.first_phase.clear_pivots.Goals as goal
@@ -24,9 +23,9 @@ returns-clause-cleared c =
     let pivots = c.args.peeling.now in
     let inactive : ℕ = system.width - length pivots.rows in
     let wide : length pivots.rows + inactive ≡ system.width = omega (arith, c.requires.peeled.few) in
-    peeled_pivots system.ones system.first_hdpc system.hdpc system.width system.bits system.octet_rows pivots.rows pivots.order pivots.places c.requires.peeled c.args.listed.now c.requires.listed
+    peeled_pivots system.ones system.first_hdpc system.hdpc system.width system.bits system.octet_rows pivots.rows pivots.order pivots.places c.requires.peeled c.args.row_order.now c.requires.ordered
     c.in_ok-recorded.recorded c.clear_rows.new.recorded c.clear_octets.new.recorded c.in_ok-bounds.ensures.cleared c.in_ok-clear_octets.ensures.cleared
-    inactive wide (ap (λ (s : Recorded). s.operations) c.in_ok-recorded.ensures.rows) (rw c.in_ok-recorded.ensures.rows c.in_ok-table.ensures.entries)
+    inactive wide c.in_ok-recorded.ensures.operations (rw c.in_ok-recorded.ensures.table c.in_ok-table.ensures.entries)
 
 pub returns-clause-taken : goal.returns-clause-taken
 returns-clause-taken c =
@@ -35,11 +34,11 @@ returns-clause-taken c =
 
 pub returns-clause-few : goal.returns-clause-few
 returns-clause-few c =
-    let listed = c.args.listed.now in
+    let listed = c.args.row_order.now in
     let pivots = length c.args.peeling.now.rows in
-    let few : length listed ≤ length c.args.system.ones = few_places (length listed) (length c.args.system.ones) (at listed) c.requires.listed.are in
+    let few : length listed ≤ length c.args.system.ones = few_places (length listed) (length c.args.system.ones) (at listed) c.requires.ordered.are in
     let most : length listed * pivots ≤ length c.args.system.ones * pivots = mul-le-mul_right pivots few in
-    let start : additions c.in_ok-recorded.recorded.operations ≡ 0 = ap (λ (s : Recorded). additions s.operations) c.in_ok-recorded.ensures.rows in
+    let start : additions c.in_ok-recorded.recorded.operations ≡ 0 = ap additions c.in_ok-recorded.ensures.operations in
     let rows = c.in_ok-bounds.ensures.few in
     let batch = rw c.args.system.octet_rows.width_is at c.in_ok-clear_octets.ensures.few in
     omega (arith, most, start, rows, batch)

@@ -2,15 +2,14 @@
 use Rattle.std.proofs.Common.{◌<◌, length, [], ◌∷◌, arith}
 use Rattle.rq_algebra.specs.Systems.{at}
 use Rattle.rq_elimination.proofs.Performing.{changes_none, changes_among, two_among, changes_more}
-use Rattle.rq_solver.proofs.Turns.{below_none, below_more}
+use Rattle.rq_solver.proofs.EchelonRows.{below_none, below_more}
 use Rattle.rq_solver.proofs.pi_solver.second_phase.clear_below.Goals as goal
 
 pub loop-i-init : goal.loop-i-init
 loop-i-init c = record {
-  steps = changes_none _ _ c.requires.octets;
+  steps = changes_none _ _;
   cleared = below_none c.args.rows.now c.args.pivot c.requires.pivot c.args.recorded.now.table;
   few = omega arith;
-  octets = c.requires.octets;
 }
 
 pub loop-i-preserved : goal.loop-i-preserved
@@ -27,5 +26,4 @@ loop-i-preserved c =
       steps = changes_more rows old cur new v.steps more;
       cleared = below_more rows pivot c.requires.pivot c.loop-i.i old.table cur.table new.table c.requires.rows (omega (arith, c.loop-i.auto.i)) in_rows c.requires.column v.steps.performs.height v.steps.performs.width v.cleared c.in_ok-clear_entry.ensures.added;
       few = (let one = c.in_ok-clear_entry.ensures.few in let so_far = v.few in omega (arith, one, so_far));
-      octets = c.in_ok-clear_entry.ensures.octets;
     }

@@ -3,7 +3,6 @@ use Rattle.std.proofs.Common.{◌+◌, ◌≤◌}
 use Rattle.rq_elimination.specs.OperationCounts.{additions}
 use Rattle.rq_elimination.specs.Recorded.{ChangesRows}
 use Rattle.rq_elimination.specs.RowSteps.{ClearsBelow}
-use Rattle.rq_parts.specs.DenseOctetMatrix.{HasOctets}
 use Rattle.rq_solver.proofs.pi_solver.second_phase.clear_below.Given as goal
 
 abbrev pub invariant-loop-i : goal.invariant-loop-i
@@ -11,5 +10,4 @@ invariant-loop-i l = record {
   steps : ChangesRows l.rows l.fn.recorded l.recorded;
   cleared : ClearsBelow l.rows l.pivot l.i l.fn.recorded.table l.recorded.table;
   few : additions l.recorded.operations + (l.pivot + 1) ≤ additions l.fn.recorded.operations + l.i;
-  octets : HasOctets l.recorded.table;
 }

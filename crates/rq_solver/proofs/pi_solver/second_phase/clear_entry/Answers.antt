@@ -8,25 +8,22 @@ use Rattle.rq_elimination.proofs.Performing.{adds_of_sum, changes_none, changes_
 use Rattle.rq_solver.proofs.pi_solver.second_phase.clear_entry.Goals as goal
 
 pub returns-then-byte-eq0-clause-steps : goal.returns-then-byte-eq0-clause-steps
-returns-then-byte-eq0-clause-steps c = changes_none _ _ c.requires.octets
+returns-then-byte-eq0-clause-steps c = changes_none _ _
 
 pub returns-then-byte-eq0-clause-added : goal.returns-then-byte-eq0-clause-added
 returns-then-byte-eq0-clause-added c = zero_adds _ _ _ _ (sym c.get-scalar.ensures ∙ sym c.byte.ensures ∙ c.if-byte-eq0.true)
 
-pub add_row-requires-clause-scalar : goal.add_row-requires-clause-scalar
-add_row-requires-clause-scalar c =
-    let small : entry_of c.args.recorded.now.table c.args.dest c.args.column < 256 = c.requires.octets.elements c.args.dest c.args.column c.requires.dest c.requires.column in
+pub add_multiple-requires-clause-scalar : goal.add_multiple-requires-clause-scalar
+add_multiple-requires-clause-scalar c =
+    let small : entry_of c.args.recorded.now.table c.args.dest c.args.column < 256 = c.args.recorded.now.octets.elements c.args.dest c.args.column c.requires.dest c.requires.column in
     rw c.get-scalar.ensures small
 
 pub returns-clause-steps : goal.returns-clause-steps
-returns-clause-steps c = changes_sum c.args.recorded.now c.add_row.new.self c.args.dest c.args.src c.get-scalar.result (λ e. c.requires.two (sym e)) c.in_ok-add_row.ensures.added
-
-pub returns-clause-octets : goal.returns-clause-octets
-returns-clause-octets c = c.in_ok-add_row.ensures.added.octets
+returns-clause-steps c = changes_sum c.args.recorded.now c.add_multiple.new.self c.args.dest c.args.src c.get-scalar.result (λ e. c.requires.two (sym e)) c.in_ok-add_multiple.ensures.added
 
 pub returns-clause-added : goal.returns-clause-added
 returns-clause-added c =
     let old = c.args.recorded.now.table in
-    let new = c.add_row.new.self.table in
+    let new = c.add_multiple.new.self.table in
     subst (λ (s : ℕ). AddsRow octets (length old.rows) old.width c.args.dest c.args.src s (entry_of old) (entry_of new)) c.get-scalar.ensures
-    (adds_of_sum c.args.recorded.now c.add_row.new.self c.args.dest c.args.src c.get-scalar.result c.requires.dest c.requires.src c.requires.octets c.in_ok-add_row.ensures.added)
+    (adds_of_sum c.args.recorded.now c.add_multiple.new.self c.args.dest c.args.src c.get-scalar.result c.requires.dest c.requires.src c.in_ok-add_multiple.ensures.added)

@@ -3,9 +3,9 @@ use Rattle.std.proofs.Common.{◌≡◌, ◌≢◌, ℕ, ◌<◌, length, ap, �
 use Rattle.rq_algebra.specs.Systems.{at}
 use Rattle.rq_parts.specs.DenseOctetMatrix.{entry_of}
 use Rattle.rq_solver.proofs.CountLaws.{multiples-counted, multiples-grow}
-use Rattle.rq_solver.proofs.ReducedTurns.{given_none, given_nothing, given_more}
+use Rattle.rq_solver.proofs.Substitution.{given_none, given_nothing, given_more}
 use Rattle.rq_solver.proofs.pi_solver.second_phase.give_multiples.Goals as goal
-use Rattle.rq_solver.proofs.pi_solver.second_phase.give_multiples.Goals.{then-byte-gt1+in_ok-record_sum, else-byte-gt1}
+use Rattle.rq_solver.proofs.pi_solver.second_phase.give_multiples.Goals.{then-byte-gt1+in_ok-record_multiple, else-byte-gt1}
 
 pub loop-i-init : goal.loop-i-init
 loop-i-init c = record { given = given_none c.args.rows.now c.args.place c.args.recorded.now; few = omega arith }
@@ -22,15 +22,15 @@ loop-i-preserved c =
     let in_rows : place < length rows = c.requires.place in
     let entries = λ (k : ℕ). entry_of old.table (at rows k) place in
     let scalar_is : c.get-scalar.result ≡ entry_of old.table (at rows i) place = c.get-scalar.ensures ∙ ap (λ table. entry_of table (at rows i) place) v.given.records.table in
-    let small : c.get-scalar.result < 256 = rw scalar_is (c.requires.octets.elements (at rows i) place (c.requires.rows.below i (omega arith)) c.requires.column) in
+    let small : c.get-scalar.result < 256 = rw scalar_is (c.args.recorded.now.octets.elements (at rows i) place (c.requires.rows.below i (omega arith)) c.requires.column) in
     elim c.if-byte-gt1.branch [
-      | then-byte-gt1+in_ok-record_sum w ↦
+      | then-byte-gt1+in_ok-record_multiple w ↦
           let above : 1 < c.get-scalar.result = omega (arith, w.if-byte-gt1.true, c.byte.ensures) in
           let other : c.get-scalar.result ≢ 1 = omega (arith, above) in
-          let more = w.in_ok-record_sum.ensures.counted in
+          let more = w.in_ok-record_multiple.ensures.counted in
           let counted = multiples-counted entries i (rw scalar_is at above) in
           rw w.recorded-is (record {
-            given = given_more rows place i early in_rows old cur c.requires.rows v.given c.get-scalar.result small other scalar_is w.record_sum.new.self w.in_ok-record_sum.ensures.recorded;
+            given = given_more rows place i early in_rows old cur c.requires.rows v.given c.get-scalar.result small other scalar_is w.record_multiple.new.self w.in_ok-record_multiple.ensures.recorded;
             few = omega (arith, v.few, more, counted);
           })
       | else-byte-gt1 w ↦

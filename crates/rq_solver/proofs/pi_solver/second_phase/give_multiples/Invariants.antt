@@ -2,7 +2,7 @@
 use Rattle.std.proofs.Common.{◌+◌, ◌≤◌}
 use Rattle.rq_algebra.specs.Systems.{at}
 use Rattle.rq_parts.specs.DenseOctetMatrix.{entry_of}
-use Rattle.rq_solver.specs.Cleared.{GivesMultiples}
+use Rattle.rq_solver.specs.SecondPhase.{GivesMultiples}
 use Rattle.rq_elimination.specs.OperationCounts.{additions, multiples}
 use Rattle.rq_solver.proofs.pi_solver.second_phase.give_multiples.Given as goal
 

@@ -11,7 +11,7 @@ use Rattle.rq_solver.proofs.pi_solver.second_phase.scale_row.Goals.{After-div-sc
 -- the factor makes the entry 1
 module _ (c : After-div-scalar) where
   small : entry_of c.args.recorded.now.table c.args.row c.args.column < 256
-  small = c.requires.octets.elements c.args.row c.args.column c.requires.row c.requires.column
+  small = c.args.recorded.now.octets.elements c.args.row c.args.column c.requires.row c.requires.column
 
   is : c.div-scalar.result ≡ octets.inverse (entry_of c.args.recorded.now.table c.args.row c.args.column)
   is = cc (c.div-scalar.ensures, c.one.ensures, c.get-entry.ensures, one-div (entry_of c.args.recorded.now.table c.args.row c.args.column) small c.requires.nonzero)
@@ -23,10 +23,10 @@ module _ (c : After-div-scalar) where
   scalar_nonzero = rw is (inverse_nonzero _ small c.requires.nonzero)
 
 pub returns-then-byte-eq1-clause-steps : goal.returns-then-byte-eq1-clause-steps
-returns-then-byte-eq1-clause-steps c = changes_none _ _ c.requires.octets
+returns-then-byte-eq1-clause-steps c = changes_none _ _
 
 pub returns-then-byte-eq1-clause-scaled : goal.returns-then-byte-eq1-clause-scaled
-returns-then-byte-eq1-clause-scaled c = one_scales c.args.recorded.now.table c.args.row _ c.requires.octets c.requires.row (sym c.get-entry.ensures ∙ sym c.byte.ensures ∙ c.if-byte-eq1.true)
+returns-then-byte-eq1-clause-scaled c = one_scales c.args.recorded.now.table c.args.row _ c.args.recorded.now.octets c.requires.row (sym c.get-entry.ensures ∙ sym c.byte.ensures ∙ c.if-byte-eq1.true)
 
 pub multiply_row-requires-clause-nonzero : goal.multiply_row-requires-clause-nonzero
 multiply_row-requires-clause-nonzero c = scalar_nonzero (goal.at.multiply_row-requires-clause-nonzero c).After-div-scalar
@@ -35,9 +35,6 @@ pub returns-clause-steps : goal.returns-clause-steps
 returns-clause-steps c =
     let at = (goal.at.returns-clause-steps c).After-div-scalar in
     changes_scaling c.args.recorded.now c.multiply_row.new.self c.args.row c.div-scalar.result (scalar_small at) (scalar_nonzero at) c.in_ok-multiply_row.ensures.multiplied
-
-pub returns-clause-octets : goal.returns-clause-octets
-returns-clause-octets c = c.in_ok-multiply_row.ensures.multiplied.octets
 
 pub returns-clause-scaled : goal.returns-clause-scaled
 returns-clause-scaled c =

@@ -3,12 +3,12 @@ use Rattle.std.proofs.Common.{◌≡◌, ◌≢◌, ℕ, ◌+◌, ◌-◌, ◌<�
 use Rattle.std.proofs.lemmas.Bool.{cases_lt}
 use Rattle.rq_algebra.specs.Systems.{at}
 use Rattle.rq_parts.specs.DenseOctetMatrix.{entry_of}
-use Rattle.rq_solver.specs.Cleared.{one_of}
+use Rattle.rq_solver.specs.SecondPhase.{one_of}
 use Rattle.rq_elimination.specs.OperationCounts.{additions, multiples, multiples-none}
 use Rattle.rq_solver.proofs.CountLaws.{ones_passed, ones_taken}
-use Rattle.rq_solver.proofs.ReducedTurns.{one_of-one, one_of-other, reduced_none, reduced_next, reduced_zeros}
+use Rattle.rq_solver.proofs.Substitution.{one_of-one, one_of-other, reduced_none, reduced_next, reduced_zeros}
 use Rattle.rq_solver.proofs.pi_solver.second_phase.take_ones.Goals as goal
-use Rattle.rq_solver.proofs.pi_solver.second_phase.take_ones.Goals.{then-byte-eq1+in_ok-record_sum, else-byte-eq1}
+use Rattle.rq_solver.proofs.pi_solver.second_phase.take_ones.Goals.{then-byte-eq1+in_ok-record_multiple, else-byte-eq1}
 
 pub loop-f-init : goal.loop-f-init
 loop-f-init c =
@@ -45,16 +45,16 @@ loop-f-preserved c =
     let scalar_is : scalar ≡ entry_of old.table row f = c.in-Some.ensures.1 ∙ same f in
     let none : (k : ℕ) → from ≤ k → k < f → entries k ≡ 0 = (λ (k : ℕ) (l : from ≤ k) (n : k < f). let zero = sym (same k) ∙ c.in-Some.ensures.0.3 k l n in one_of-other (has k) (λ e. omega (arith, e, zero))) in
     elim c.if-byte-eq1.branch [
-      | then-byte-eq1+in_ok-record_sum w ↦
+      | then-byte-eq1+in_ok-record_multiple w ↦
           let one : scalar ≡ 1 = omega (arith, w.if-byte-eq1.true, c.byte.ensures) in
           let entry_one : has f ≡ 1 = sym scalar_is ∙ one in
-          let more = w.in_ok-record_sum.ensures.counted in
+          let more = w.in_ok-record_multiple.ensures.counted in
           let taken = ones_taken has start from (additions old.operations) (additions cur.operations) v.from v.few f forward entry_one in
           let apart : row ≢ at rows f = (λ e. let z : place ≡ f = c.requires.rows.apart place f (omega (arith, c.requires.place, c.requires.many)) (omega (arith, c.requires.many)) e in omega (arith, z, v.from, forward)) in
           rw w.recorded-is (record {
             from = omega (arith, v.from, forward);
             within = omega arith;
-            taken = reduced_next rows row start count entries from f (omega (arith, v.from, forward)) forward inside old cur v.taken none apart scalar (omega (arith, one)) (one ∙ sym (one_of-one (has f) entry_one)) w.record_sum.new.self w.in_ok-record_sum.ensures.recorded;
+            taken = reduced_next rows row start count entries from f (omega (arith, v.from, forward)) forward inside old cur v.taken none apart scalar (omega (arith, one)) (one ∙ sym (one_of-one (has f) entry_one)) w.record_multiple.new.self w.in_ok-record_multiple.ensures.recorded;
             few = omega (arith, taken, more);
           })
       | else-byte-eq1 w ↦

@@ -4,7 +4,7 @@ use Rattle.std.proofs.lemmas.List.{set-get_or}
 use Rattle.rq_algebra.specs.Systems.{at}
 use Rattle.rq_parts.specs.DenseOctetMatrix.{row_at, with_row}
 use Rattle.rq_elimination.specs.InactiveEntries.{place_before, with_octets}
-use Rattle.rq_elimination.proofs.OwnRows.{is_none, no_place, read, some_place, width_is, written, written_octets}
+use Rattle.rq_elimination.proofs.OwnRows.{is_bits, no_place, read, some_place, width_is, written, written_octets}
 use Rattle.rq_elimination.proofs.WithOctets.{length-octets, octets_of_none}
 use Rattle.rq_elimination.proofs.entries.own_octets.OwnOctets.fill.Goals as goal
 
@@ -40,7 +40,7 @@ returns-in_default-clause-filled c =
     let now = c.args.self.now in
     let row = row_at now c.args.row in
     let none = no_place (at c.self.inside.places.items c.args.row) (ap (λ ps. place_before (at ps c.args.row)) (sym c.as_slice.ensures.value) ∙ sym c.place_of.ensures ∙ c.in_default.is) in
-    let empty = is_none c.self.invariant c.self.view_is c.args.row c.requires.row none in
+    let empty = is_bits c.self.invariant c.self.view_is c.args.row c.requires.row none in
     sym (
     ap (with_row now c.args.row) (octets_of_none (row_at c.args.octets.now c.args.from) c.args.columns.now row empty (omega (arith, c.requires.room, c.requires.own)))
     ∙ ap (λ (rows : List (List ℕ)). record now { rows = rows }) (set-get_or now.rows c.args.row []))

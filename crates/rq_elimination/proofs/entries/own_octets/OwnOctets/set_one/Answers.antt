@@ -4,7 +4,7 @@ use Rattle.std.proofs.lemmas.List.{length-set}
 use Rattle.rq_algebra.specs.Systems.{at}
 use Rattle.rq_parts.specs.DenseOctetMatrix.{with_row}
 use Rattle.rq_elimination.specs.InactiveEntries.{place_before}
-use Rattle.rq_elimination.proofs.OwnRows.{is_none, no_place, read, some_place, written, written_octets}
+use Rattle.rq_elimination.proofs.OwnRows.{is_bits, no_place, read, some_place, written, written_octets}
 use Rattle.rq_elimination.proofs.entries.own_octets.OwnOctets.set_one.Goals as goal
 
 pub returns-in-Some-clause-set : goal.returns-in-Some-clause-set
@@ -28,5 +28,5 @@ returns-in-Some-clause-octets c =
 pub returns-in_default-clause-set : goal.returns-in_default-clause-set
 returns-in_default-clause-set c =
     let none = no_place (at c.self.inside.places.items c.args.row) (ap (λ ps. place_before (at ps c.args.row)) (sym c.as_slice.ensures.value) ∙ sym c.place_of.ensures ∙ c.in_default.is) in
-    let empty = is_none c.self.invariant c.self.view_is c.args.row c.requires.row none in
+    let empty = is_bits c.self.invariant c.self.view_is c.args.row c.requires.row none in
     absurd (omega (arith, empty, c.requires.own, c.requires.column))

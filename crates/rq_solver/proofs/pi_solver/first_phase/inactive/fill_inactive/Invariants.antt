@@ -1,6 +1,6 @@
 -- What the loops keep in `pi_solver::first_phase::inactive::fill_inactive`.
 use Rattle.std.proofs.Common.{length}
-use Rattle.rq_solver.specs.Cleared.{HasLeading}
+use Rattle.rq_solver.specs.InactiveColumns.{HasLeading}
 use Rattle.rq_solver.proofs.LeadingRows.{rows_so_far}
 use Rattle.rq_solver.proofs.pi_solver.first_phase.inactive.fill_inactive.Given as goal
 

@@ -1,0 +1,20 @@
+-- Rows of a matrix of octets that are written place by place.
+use Rattle.std.specs.Prelude.{◌≡◌, ◌≢◌, ℕ, ◌<◌, ◌≤◌, ◌⊎◌, List, length}
+use Rattle.rq_parts.specs.DenseOctetMatrix.{OctetTable, entry_of, HasOctets}
+
+-- the entries of one row from `start` on and before `end` are these, and the others are as they were
+pub record WritesRow (row start end : ℕ) (wanted : ℕ → ℕ) (old new : OctetTable) : Type 0 where
+  pub width : new.width ≡ old.width
+  pub height : length new.rows ≡ length old.rows
+  pub octets : HasOctets new
+  pub here : (k : ℕ) → start ≤ k → k < end → entry_of new row k ≡ wanted k
+  pub beside : (k : ℕ) → (k < start) ⊎ (end ≤ k) → entry_of new row k ≡ entry_of old row k
+  pub elsewhere : (i k : ℕ) → i ≢ row → entry_of new i k ≡ entry_of old i k
+
+-- the first n rows are these, and the rest are zeros
+pub record HoldsRows (height width n : ℕ) (wanted : ℕ → ℕ → ℕ) (table : OctetTable) : Type 0 where
+  pub width_is : table.width ≡ width
+  pub height_is : length table.rows ≡ height
+  pub octets : HasOctets table
+  pub written : (i k : ℕ) → i < n → k < width → entry_of table i k ≡ wanted i k
+  pub left : (i k : ℕ) → n ≤ i → i < height → k < width → entry_of table i k ≡ 0

@@ -1,0 +1,279 @@
+-- The pivots' rows: some take back what they took, and all are finished one after another.
+use Rattle.std.proofs.Common.{◌≡◌, ◌≢◌, ℕ, ◌+◌, ◌<◌, ◌≤◌, ◌==◌, if◌then◌else◌, Bool, true, false, List, [], ◌++◌, Contains, get_or, length, sym, ap, ◌∙◌, arith, inl, inr}
+use Rattle.std.proofs.lemmas.Bool.{cases_eq, cases_lt}
+use Rattle.rq_algebra.specs.Operations.{Operation}
+use Rattle.rq_algebra.specs.Systems.{at}
+use Rattle.rq_algebra.proofs.Sums.{add_zero}
+use Rattle.rq_standard.specs.OctetField.{octets}
+use Rattle.rq_parts.specs.DenseOctetMatrix.{OctetTable, entry_of}
+use Rattle.rq_peeling.specs.SystemRows.{AreRowsOfBits, one_in}
+use Rattle.rq_solver.specs.FourthPhase.{FinishesPivots, IsFinished, TakesBack}
+use Rattle.rq_solver.specs.PivotAdditions.{IsCleared, IsUncleared, RecordsPivots, TakesPivots, TakesPivotsBy}
+use Rattle.rq_solver.specs.SecondPhase.{AreUnits, TakesReduced}
+use Rattle.rq_peeling.specs.Peeled.{ones_of, IsPeeled}
+use Rattle.rq_elimination.specs.Recorded.{Performs, Records}
+use Rattle.rq_elimination.specs.declared.recorded.RecordedRows.{RecordedRows}
+use Rattle.rq_elimination.specs.RowSteps.{AreRows, IsEchelon, rows_after}
+use Rattle.rq_elimination.proofs.Performing.{performs_none, performs_more, records_none, records_more}
+use Rattle.rq_elimination.proofs.Choices.{if_same, if_apart}
+use Rattle.rq_peeling.proofs.PlaceCounts.{count_contains}
+use Rattle.rq_elimination.proofs.StepColumns.{rows_after-none, rows_after-next}
+
+true_is_not_false : (b : Bool) → b ≡ true → b ≡ false → ⊥
+true_is_not_false b t f =
+    let number : Bool → ℕ = λ x. if x then 1 else 0 in
+    let one : number b ≡ 1 = ap number t in
+    let none : number b ≡ 0 = ap number f in
+    omega (arith, one, none)
+
+module _ (lists : List (List ℕ)) (rows order places : List ℕ) (width : ℕ) (bits : AreRowsOfBits width lists) (peeled : IsPeeled width lists (record { rows = rows; order = order; places = places })) where
+  rows_apart : (p q : ℕ) → p < length rows → q < length rows → p ≢ q → at rows p ≢ at rows q
+  rows_apart p q l n d e = d (peeled.in_rows.apart p q l n e)
+
+  -- a row has a one in its own pivot's column
+  own_one : (p : ℕ) → p < length rows → one_in lists (at rows p) (at order p) ≡ 1
+  own_one p l =
+      let some = count_contains (ones_of lists (at rows p)) (at order p) (peeled.own p l) in
+      let most = bits.once (at rows p) (at order p) (peeled.in_rows.below p l) (peeled.columns.ordered p (omega (arith, peeled.few))).0 in
+      omega (arith, some, most)
+
+  -- a row takes rows of earlier pivots alone
+  only_earlier : (p j : ℕ) → p < length rows → j < length rows → Contains (ones_of lists (at rows p)) (at order j) → at rows j ≢ at rows p → j < p
+  only_earlier p j l n c d = elim (cases_lt j p) [
+    | inl early ↦ early
+    | inr late ↦
+        let other : j ≢ p = (λ e. d (ap (at rows) e)) in
+        absurd (peeled.later p j (omega arith) n c)
+  ]
+
+  module _ (Done : List Operation → RecordedRows → RecordedRows → Type 0) (p : ℕ) (in_rows : p < length rows) (old new : RecordedRows) (taken : TakesPivotsBy Done rows order (at rows p) (ones_of lists (at rows p)) old new) (m : ℕ → ℕ → ℕ)
+      (earlier : (j : ℕ) → j < p → j < length rows → IsCleared rows order m (at rows j)) where
+    needed : (j : ℕ) → j < length rows → Contains (ones_of lists (at rows p)) (at order j) → at rows j ≢ at rows p → IsCleared rows order m (at rows j)
+    needed j n c d = earlier j (only_earlier p j in_rows n c d) n
+
+    -- a cleared row is as it was, and one that is as it was is cleared
+    pub turns_back : IsCleared rows order m (at rows p) → IsUncleared lists rows order (rows_after octets taken.steps m) (at rows p)
+    turns_back cleared = record {
+      entries = λ i l.
+          let row = at rows p in
+          let bit = one_in lists row (at order i) in
+          taken.taken m needed i l ∙ elim (cases_eq (at rows i) row) [
+            | inl e ↦
+                let same : i ≡ p = peeled.in_rows.apart i p l in_rows e in
+                let own : bit ≡ 1 = ap (λ (n : ℕ). one_in lists row (at order n)) same ∙ own_one p in_rows in
+                ap (octets.add (m row (at order i))) (if_same (at rows i) row 0 bit e) ∙ add_zero octets (m row (at order i)) ∙ cleared.entries i l ∙ if_same (at rows i) row 1 0 e ∙ sym own
+            | inr d ↦
+                ap (octets.add (m row (at order i))) (if_apart (at rows i) row 0 bit d) ∙ ap (λ (x : ℕ). octets.add x bit) (cleared.entries i l ∙ if_apart (at rows i) row 1 0 d) ∙ octets.zero_add bit
+          ];
+    }
+
+    pub turns_again : IsUncleared lists rows order m (at rows p) → IsCleared rows order (rows_after octets taken.steps m) (at rows p)
+    turns_again raw = record {
+      entries = λ i l.
+          let row = at rows p in
+          let bit = one_in lists row (at order i) in
+          taken.taken m needed i l ∙ ap (λ (x : ℕ). octets.add x (if at rows i == row then 0 else bit)) (raw.entries i l) ∙ elim (cases_eq (at rows i) row) [
+            | inl e ↦
+                let same : i ≡ p = peeled.in_rows.apart i p l in_rows e in
+                let own : bit ≡ 1 = ap (λ (n : ℕ). one_in lists row (at order n)) same ∙ own_one p in_rows in
+                ap (octets.add bit) (if_same (at rows i) row 0 bit e) ∙ add_zero octets bit ∙ own ∙ sym (if_same (at rows i) row 1 0 e)
+            | inr d ↦ ap (octets.add bit) (if_apart (at rows i) row 0 bit d) ∙ octets.add_self bit ∙ sym (if_apart (at rows i) row 1 0 d)
+          ];
+    }
+
+  -- ---- back
+
+  pub takes_none : (marks : List Bool) (old : RecordedRows) → TakesBack lists rows order marks (length rows) old old
+  takes_none marks old = record {
+    steps = [];
+    performs = performs_none old;
+    elsewhere = λ m r k out. rows_after-none octets m r k;
+    unmarked = λ m p k late l e. rows_after-none octets m (at rows p) k;
+    uncleared = λ m pivots p late l e. absurd (omega arith);
+  }
+
+  module _ (marks now : List Bool) (q : ℕ) (in_rows : q < length rows) (old cur : RecordedRows) (v : TakesBack lists rows order marks (q + 1) old cur) (same : (p : ℕ) → p ≢ q → get_or now p false ≡ get_or marks p false) where
+    own_stays : (m : ℕ → ℕ → ℕ) (k : ℕ) → rows_after octets v.steps m (at rows q) k ≡ m (at rows q) k
+    own_stays m k = v.elsewhere m (at rows q) k (λ p late l. rows_apart p q l in_rows (λ e. omega (arith, e, late)))
+
+    pub back_skipped : get_or now q false ≡ false → TakesBack lists rows order now q old cur
+    back_skipped unset = record {
+      steps = v.steps;
+      performs = v.performs;
+      elsewhere = λ m r k out. v.elsewhere m r k (λ p late l. out p (omega arith) l);
+      unmarked = λ m p k late l e. elim (cases_eq p q) [
+        | inl f ↦ rw f (own_stays m k)
+        | inr d ↦ v.unmarked m p k (omega arith) l (sym (same p d) ∙ e)
+      ];
+      uncleared = λ m pivots p late l e. elim (cases_eq p q) [
+        | inl f ↦ absurd (true_is_not_false (get_or now p false) e (ap (λ (n : ℕ). get_or now n false) f ∙ unset))
+        | inr d ↦ v.uncleared m pivots p (omega arith) l (sym (same p d) ∙ e)
+      ];
+    }
+
+    module _ (new : RecordedRows) (taken : TakesPivots rows order (at rows q) (ones_of lists (at rows q)) cur new) (yes : get_or now q false ≡ true) where
+      after_both : (m : ℕ → ℕ → ℕ) (r k : ℕ) → rows_after octets (v.steps ++ taken.steps) m r k ≡ rows_after octets taken.steps (rows_after octets v.steps m) r k
+      after_both m r k = rows_after-next octets v.steps taken.steps m r k
+
+      other_stays : (m : ℕ → ℕ → ℕ) (p k : ℕ) → p < length rows → p ≢ q → rows_after octets (v.steps ++ taken.steps) m (at rows p) k ≡ rows_after octets v.steps m (at rows p) k
+      other_stays m p k l d = after_both m (at rows p) k ∙ taken.elsewhere (rows_after octets v.steps m) (at rows p) k (rows_apart p q l in_rows d)
+
+      module _ (m : ℕ → ℕ → ℕ) (pivots : (p : ℕ) → p < length rows → IsCleared rows order m (at rows p)) where
+        early_cleared : (j : ℕ) → j < q + 1 → j < length rows → IsCleared rows order (rows_after octets v.steps m) (at rows j)
+        early_cleared j l n = record { entries = λ i o. v.elsewhere m (at rows j) (at order i) (λ p late u. rows_apart p j u n (λ e. omega (arith, e, late, l))) ∙ (pivots j n).entries i o }
+
+        own_uncleared : IsUncleared lists rows order (rows_after octets (v.steps ++ taken.steps) m) (at rows q)
+        own_uncleared =
+            let turned = turns_back Performs q in_rows cur new taken (rows_after octets v.steps m) (λ j l n. early_cleared j (omega arith) n) (early_cleared q (omega arith) in_rows) in
+            record { entries = λ i l. after_both m (at rows q) (at order i) ∙ turned.entries i l }
+
+      pub back_taken : TakesBack lists rows order now q old new
+      back_taken = record {
+        steps = v.steps ++ taken.steps;
+        performs = performs_more v.steps taken.steps old cur new v.performs taken.done;
+        elsewhere = λ m r k out. after_both m r k ∙ taken.elsewhere (rows_after octets v.steps m) r k (λ e. out q (omega arith) in_rows (sym e)) ∙ v.elsewhere m r k (λ p late l. out p (omega arith) l);
+        unmarked = λ m p k late l e. elim (cases_eq p q) [
+          | inl f ↦ absurd (true_is_not_false (get_or now q false) yes (ap (λ (n : ℕ). get_or now n false) (sym f) ∙ e))
+          | inr d ↦ other_stays m p k l d ∙ v.unmarked m p k (omega arith) l (sym (same p d) ∙ e)
+        ];
+        uncleared = λ m pivots p late l e. elim (cases_eq p q) [
+          | inl f ↦ rw f (own_uncleared m pivots)
+          | inr d ↦ record { entries = λ i o. other_stays m p (at order i) l d ∙ (v.uncleared m pivots p (omega arith) l (sym (same p d) ∙ e)).entries i o }
+        ];
+      }
+
+  -- ---- the end
+
+  module _ (reduced : List ℕ) (marks : List Bool) (count : ℕ) where
+    pub finish_none : (old : RecordedRows) → FinishesPivots lists rows order reduced marks count 0 old old
+    finish_none old = record {
+      steps = [];
+      records = records_none old;
+      elsewhere = λ m r k out. rows_after-none octets m r k;
+      final = λ m column units zeros shown plain raw p l. absurd (omega arith);
+    }
+
+    module _ (t : ℕ) (in_rows : t < length rows) (old cur mid : RecordedRows) (v : FinishesPivots lists rows order reduced marks count t old cur) (turn : TakesReduced reduced (at rows t) 0 count count (entry_of cur.table (at rows t)) cur mid)
+        (apart : (p f : ℕ) → p < length rows → f < count → at rows p ≢ at reduced f) where
+      first_recorded : Records (v.steps ++ turn.steps) old mid
+      first_recorded = records_more v.steps turn.steps old cur mid v.records turn.records
+
+      first_is : (m : ℕ → ℕ → ℕ) (r k : ℕ) → rows_after octets (v.steps ++ turn.steps) m r k ≡ rows_after octets turn.steps (rows_after octets v.steps m) r k
+      first_is m r k = rows_after-next octets v.steps turn.steps m r k
+
+      first_other : (m : ℕ → ℕ → ℕ) (p k : ℕ) → p < length rows → p ≢ t → rows_after octets (v.steps ++ turn.steps) m (at rows p) k ≡ rows_after octets v.steps m (at rows p) k
+      first_other m p k l d = first_is m (at rows p) k ∙ turn.elsewhere (rows_after octets v.steps m) (at rows p) k (rows_apart p t l in_rows d)
+
+      first_elsewhere : (m : ℕ → ℕ → ℕ) (r k : ℕ) → ((p : ℕ) → p < t + 1 → at rows p ≢ r) → rows_after octets (v.steps ++ turn.steps) m r k ≡ m r k
+      first_elsewhere m r k out = first_is m r k ∙ turn.elsewhere (rows_after octets v.steps m) r k (λ e. out t (omega arith) (sym e)) ∙ v.elsewhere m r k (λ p l. out p (omega arith))
+
+      module _ (m : ℕ → ℕ → ℕ) (column : ℕ → ℕ) (units : AreUnits reduced 0 count column m) (zeros : (f i : ℕ) → f < count → i < length rows → m (at reduced f) (at order i) ≡ 0)
+          (shown : (p f : ℕ) → p < length rows → f < count → m (at rows p) (column f) ≡ entry_of old.table (at rows p) f) where
+        reduced_stay : (f k : ℕ) → f < count → rows_after octets v.steps m (at reduced f) k ≡ m (at reduced f) k
+        reduced_stay f k l = v.elsewhere m (at reduced f) k (λ p n. apart p f (omega arith) l)
+
+        own_stays_yet : (k : ℕ) → rows_after octets v.steps m (at rows t) k ≡ m (at rows t) k
+        own_stays_yet k = v.elsewhere m (at rows t) k (λ p l. rows_apart p t (omega arith) in_rows (λ e. omega (arith, e, l)))
+
+        first_pivots : (i : ℕ) → i < length rows → rows_after octets (v.steps ++ turn.steps) m (at rows t) (at order i) ≡ m (at rows t) (at order i)
+        first_pivots i l = first_is m (at rows t) (at order i) ∙ turn.kept (rows_after octets v.steps m) (at order i) (λ f from n. reduced_stay f (at order i) n ∙ zeros f i n l) ∙ own_stays_yet (at order i)
+
+        first_zero : (f : ℕ) → f < count → rows_after octets (v.steps ++ turn.steps) m (at rows t) (column f) ≡ 0
+        first_zero f l =
+            first_is m (at rows t) (column f)
+            ∙ turn.cleared (rows_after octets v.steps m) column (λ a g from n o. reduced_stay a (column g) n ∙ units a g from n o)
+            (λ g from n. own_stays_yet (column g) ∙ shown t g in_rows n ∙ ap (λ table. entry_of table (at rows t) g) (sym v.records.table)) f (omega arith) l l
+
+      pub finish_plain : get_or marks t false ≡ false → FinishesPivots lists rows order reduced marks count (t + 1) old mid
+      finish_plain unset = record {
+        steps = v.steps ++ turn.steps;
+        records = first_recorded;
+        elsewhere = first_elsewhere;
+        final = λ m column units zeros shown plain raw p l. elim (cases_eq p t) [
+          | inl e ↦ rw e (record {
+            cleared = record { entries = λ i n. first_pivots m column units zeros shown i n ∙ (plain t in_rows unset).entries i n };
+            zeros = first_zero m column units zeros shown;
+          })
+          | inr d ↦
+              let done = v.final m column units zeros shown plain raw p (omega arith) in
+              record {
+                cleared = record { entries = λ i n. first_other m p (at order i) (omega arith) d ∙ done.cleared.entries i n };
+                zeros = λ f n. first_other m p (column f) (omega arith) d ∙ done.zeros f n;
+              }
+        ];
+      }
+
+      module _ (new : RecordedRows) (taken : RecordsPivots rows order (at rows t) (ones_of lists (at rows t)) mid new) (yes : get_or marks t false ≡ true) where
+        all_is : (m : ℕ → ℕ → ℕ) (r k : ℕ) → rows_after octets ((v.steps ++ turn.steps) ++ taken.steps) m r k ≡ rows_after octets taken.steps (rows_after octets (v.steps ++ turn.steps) m) r k
+        all_is m r k = rows_after-next octets (v.steps ++ turn.steps) taken.steps m r k
+
+        all_other : (m : ℕ → ℕ → ℕ) (p k : ℕ) → p < length rows → p ≢ t → rows_after octets ((v.steps ++ turn.steps) ++ taken.steps) m (at rows p) k ≡ rows_after octets v.steps m (at rows p) k
+        all_other m p k l d = all_is m (at rows p) k ∙ taken.elsewhere (rows_after octets (v.steps ++ turn.steps) m) (at rows p) k (rows_apart p t l in_rows d) ∙ first_other m p k l d
+
+        module _ (m : ℕ → ℕ → ℕ) (column : ℕ → ℕ) (units : AreUnits reduced 0 count column m) (zeros : (f i : ℕ) → f < count → i < length rows → m (at reduced f) (at order i) ≡ 0)
+            (shown : (p f : ℕ) → p < length rows → f < count → m (at rows p) (column f) ≡ entry_of old.table (at rows p) f)
+            (plain : (p : ℕ) → p < length rows → get_or marks p false ≡ false → IsCleared rows order m (at rows p)) (raw : (p : ℕ) → p < length rows → get_or marks p false ≡ true → IsUncleared lists rows order m (at rows p)) where
+          done_before : (j : ℕ) → j < t → j < length rows → IsFinished rows order count column (rows_after octets (v.steps ++ turn.steps) m) (at rows j)
+          done_before j l n =
+              let done = v.final m column units zeros shown plain raw j l in
+              let d : j ≢ t = omega arith in
+              record {
+                cleared = record { entries = λ i o. first_other m j (at order i) n d ∙ done.cleared.entries i o };
+                zeros = λ f o. first_other m j (column f) n d ∙ done.zeros f o;
+              }
+
+          own_finished : IsFinished rows order count column (rows_after octets ((v.steps ++ turn.steps) ++ taken.steps) m) (at rows t)
+          own_finished =
+              let again = turns_again Records t in_rows mid new taken (rows_after octets (v.steps ++ turn.steps) m) (λ j l n. (done_before j l n).cleared)
+              (record { entries = λ i n. first_pivots m column units zeros shown i n ∙ (raw t in_rows yes).entries i n }) in
+              record {
+                cleared = record { entries = λ i n. all_is m (at rows t) (at order i) ∙ again.entries i n };
+                zeros = λ f n.
+                    all_is m (at rows t) (column f)
+                    ∙ taken.kept (rows_after octets (v.steps ++ turn.steps) m) (column f) (λ j o c d. (done_before j (only_earlier t j in_rows o c d) o).zeros f n)
+                    ∙ first_zero m column units zeros shown f n;
+              }
+
+        pub finish_again : FinishesPivots lists rows order reduced marks count (t + 1) old new
+        finish_again = record {
+          steps = (v.steps ++ turn.steps) ++ taken.steps;
+          records = records_more (v.steps ++ turn.steps) taken.steps old mid new first_recorded taken.done;
+          elsewhere = λ m r k out. all_is m r k ∙ taken.elsewhere (rows_after octets (v.steps ++ turn.steps) m) r k (λ e. out t (omega arith) (sym e)) ∙ first_elsewhere m r k out;
+          final = λ m column units zeros shown plain raw p l. elim (cases_eq p t) [
+            | inl e ↦ rw e (own_finished m column units zeros shown plain raw)
+            | inr d ↦
+                let done = v.final m column units zeros shown plain raw p (omega arith) in
+                record {
+                  cleared = record { entries = λ i n. all_other m p (at order i) (omega arith) d ∙ done.cleared.entries i n };
+                  zeros = λ f n. all_other m p (column f) (omega arith) d ∙ done.zeros f n;
+                }
+          ];
+        }
+
+-- rows in echelon form that are no pivots' stay so where these take back what they took
+pub echelon_stays : (lists : List (List ℕ)) (rows order : List ℕ) (marks : List Bool) (reduced : List ℕ) (count : ℕ) (old new : RecordedRows) → TakesBack lists rows order marks 0 old new → AreRows reduced old.table → count ≤ old.table.width
+    → ((p f : ℕ) → p < length rows → f < length reduced → at rows p ≢ at reduced f) → IsEchelon reduced count old.table → IsEchelon reduced count new.table
+echelon_stays lists rows order marks reduced count old new back are narrow apart echelon =
+    let same : (i k : ℕ) → i < length reduced → k < count → entry_of new.table (at reduced i) k ≡ entry_of old.table (at reduced i) k = (λ (i k : ℕ) (l : i < length reduced) (n : k < count).
+    back.performs.entries (at reduced i) k (are.below i l) (omega arith) ∙ back.elsewhere (entry_of old.table) (at reduced i) k (λ p from o. apart p i o l)) in
+    record {
+      fits = echelon.fits;
+      ones = λ p l. same p p (omega (arith, echelon.fits)) l ∙ echelon.ones p l;
+      zeros = λ i p l early n. same i p l n ∙ echelon.zeros i p l early n;
+    }
+
+-- what was done is told of the table and the operations alone
+pub takes_back_as : (lists : List (List ℕ)) (rows order : List ℕ) (marks : List Bool) (low : ℕ) (old new again : RecordedRows) → again.table ≡ new.table → again.operations ≡ new.operations → TakesBack lists rows order marks low old new → TakesBack lists rows order marks low old again
+takes_back_as lists rows order marks low old new again table operations back = record {
+  steps = back.steps;
+  performs = record {
+    recorded = operations ∙ back.performs.recorded;
+    among = back.performs.among;
+    width = ap (λ (t : OctetTable). t.width) table ∙ back.performs.width;
+    height = ap (λ (t : OctetTable). length t.rows) table ∙ back.performs.height;
+    entries = λ i k l m. ap (λ (t : OctetTable). entry_of t i k) table ∙ back.performs.entries i k l m;
+  };
+  elsewhere = back.elsewhere;
+  unmarked = back.unmarked;
+  uncleared = back.uncleared;
+}

@@ -1,0 +1,231 @@
+-- HDPC rows take one another, factors, and rows of pivots.
+use Rattle.std.proofs.Common.{◌≡◌, ◌≢◌, ℕ, ◌+◌, ◌<◌, ◌≤◌, List, [], ◌∷◌, ◌++◌, length, refl, sym, ap, ◌∙◌, arith, inl, inr, lit<}
+use Rattle.std.proofs.lemmas.Bool.{cases_eq, cases_lt}
+use Rattle.rq_algebra.specs.Operations.{MulAssign}
+use Rattle.rq_algebra.specs.Steps.{AddsRow, ScalesRow}
+use Rattle.rq_algebra.specs.Systems.{at, HasElements}
+use Rattle.rq_algebra.proofs.Sums.{add_zero, mul_zero, mul_one}
+use Rattle.rq_standard.specs.OctetField.{octets}
+use Rattle.rq_solver.specs.HdpcOctets.{ClearsOctets, AreOctetsIn, HasPivotsBeside, PivotsAreCleared, AreShown, CombinesOctets, ChangesOctets, octets_from, with_zeros}
+use Rattle.rq_elimination.specs.Recorded.{Performs}
+use Rattle.rq_elimination.specs.RowSteps.{sum_step, rows_after}
+use Rattle.rq_elimination.specs.declared.recorded.RecordedRows.{RecordedRows}
+use Rattle.rq_elimination.proofs.StepColumns.{rows_after-none, rows_after-next}
+use Rattle.rq_elimination.proofs.Performing.{sum_step-here, sum_step-elsewhere, scaling-here, scaling-elsewhere, performs_none, performs_more}
+use Rattle.rq_elimination.proofs.Choices.{if_same, if_apart}
+use Rattle.rq_solver.proofs.PivotsTaken.{cleared_small}
+use Rattle.rq_solver.proofs.OctetColumns.{before_column, from_column, zero_here, same_beside, same_behind, zeros_in_all}
+
+-- a multiple of zero adds nothing, and a multiple of 1 takes away what it is
+pub plus_zero_times : (x c y : ℕ) → y ≡ 0 → octets.add x (octets.mul c y) ≡ x
+plus_zero_times x c y e = ap (λ (z : ℕ). octets.add x (octets.mul c z)) e ∙ ap (octets.add x) (mul_zero octets c) ∙ add_zero octets x
+
+pub plus_own : (x c y : ℕ) → c < 256 → x ≡ c → y ≡ 1 → octets.add x (octets.mul c y) ≡ 0
+plus_own x c y small e f = ap (λ (z : ℕ). octets.add x (octets.mul c z)) f ∙ ap (octets.add x) (mul_one octets c small) ∙ ap (λ (z : ℕ). octets.add z c) e ∙ octets.add_self c
+
+-- ---- steps among the HDPC rows
+
+module _ (first count width : ℕ) where
+  pub combines_none : (octet : ℕ → ℕ → ℕ) (state : RecordedRows) → CombinesOctets first count width octet octet state state
+  combines_none octet state = record {
+    steps = [];
+    performs = performs_none state;
+    elsewhere = λ m r k out. rows_after-none octets m r k;
+    shown = λ m l k n had i o. rows_after-none octets m (first + i) l ∙ had i o;
+  }
+
+  pub combines_more : (a b c : ℕ → ℕ → ℕ) (old cur new : RecordedRows) → CombinesOctets first count width a b old cur → CombinesOctets first count width b c cur new → CombinesOctets first count width a c old new
+  combines_more a b c old cur new done next = record {
+    steps = done.steps ++ next.steps;
+    performs = performs_more done.steps next.steps old cur new done.performs next.performs;
+    elsewhere = λ m r k out. rows_after-next octets done.steps next.steps m r k ∙ next.elsewhere (rows_after octets done.steps m) r k out ∙ done.elsewhere m r k out;
+    shown = λ m l k n had i o. rows_after-next octets done.steps next.steps m (first + i) l ∙ next.shown (rows_after octets done.steps m) l k n (done.shown m l k n had) i o;
+  }
+
+  module _ (was now : ℕ → ℕ → ℕ) (old new : RecordedRows) (are : HasElements octets count width was) (dest row scalar : ℕ) (in_dest : dest < count) (row_is : row ≡ first + dest) where
+    pub combines_sum : (src from : ℕ) → src < count → from ≡ first + src → AddsRow octets count width dest src scalar was now
+        → Performs (sum_step row from scalar ∷ []) old new → CombinesOctets first count width was now old new
+    combines_sum src from in_src from_is adds performs = record {
+      steps = sum_step (first + dest) (first + src) scalar ∷ [];
+      performs = rw (row_is, from_is) at performs;
+      elsewhere = λ m r k out. sum_step-elsewhere (first + dest) (first + src) scalar m r k (λ e. out dest in_dest (sym e));
+      shown = λ m l k n had i o. elim (cases_eq i dest) [
+        | inl e ↦
+            let small : m (first + src) l < 256 = rw (had src in_src) (are src k in_src n) in
+            rw e (sum_step-here (first + dest) (first + src) scalar m l small ∙ cc (had dest in_dest, had src in_src, adds.at_dest k n))
+        | inr d ↦ sum_step-elsewhere (first + dest) (first + src) scalar m (first + i) l (λ e. d (omega (arith, e))) ∙ had i o ∙ sym (adds.elsewhere i k o n d)
+      ];
+    }
+
+    pub combines_scaling : ScalesRow octets count width dest scalar was now → Performs (MulAssign row scalar ∷ []) old new → CombinesOctets first count width was now old new
+    combines_scaling scales performs = record {
+      steps = MulAssign (first + dest) scalar ∷ [];
+      performs = rw row_is at performs;
+      elsewhere = λ m r k out. scaling-elsewhere (first + dest) scalar m r k (λ e. out dest in_dest (sym e));
+      shown = λ m l k n had i o. elim (cases_eq i dest) [
+        | inl e ↦ rw e (scaling-here (first + dest) scalar m l ∙ cc (had dest in_dest, scales.at_dest k n))
+        | inr d ↦ scaling-elsewhere (first + dest) scalar m (first + i) l (λ e. d (omega (arith, e))) ∙ had i o ∙ sym (scales.elsewhere i k o n d)
+      ];
+    }
+
+-- ---- steps with the pivots' rows
+
+-- the rows still stand where they stood
+pub octets_still : (first count : ℕ) (old new : RecordedRows) → AreOctetsIn first count old → length new.table.rows ≡ length old.table.rows → AreOctetsIn first count new
+octets_still first count old new are heights = record { within = omega (arith, are.within, heights); fits = are.fits }
+
+module _ (rows order places : List ℕ) (first count width : ℕ) where
+  pub beside_still : (old new : RecordedRows) → HasPivotsBeside rows order places first count width old → length new.table.rows ≡ length old.table.rows → HasPivotsBeside rows order places first count width new
+  beside_still old new beside heights = record { columns = beside.columns; few = beside.few; pivots = rw heights beside.pivots; apart = beside.apart }
+
+  pub changes_none : (octet : ℕ → ℕ → ℕ) (state : RecordedRows) → ChangesOctets rows order first count octet octet state state
+  changes_none octet state = record {
+    steps = [];
+    performs = performs_none state;
+    elsewhere = λ m r k out. rows_after-none octets m r k;
+    shown = λ m pivots had i p l n. rows_after-none octets m (first + i) (at order p) ∙ had i p l n;
+  }
+
+  -- the octets matter in the pivots' columns alone
+  pub changes_same : (was now after : ℕ → ℕ → ℕ) (old new : RecordedRows) → ((i p : ℕ) → i < count → p < length rows → now i (at order p) ≡ after i (at order p)) → ChangesOctets rows order first count was now old new → ChangesOctets rows order first count was after old new
+  changes_same was now after old new same changes = record {
+    steps = changes.steps;
+    performs = changes.performs;
+    elsewhere = changes.elsewhere;
+    shown = λ m pivots had i p l n. changes.shown m pivots had i p l n ∙ same i p l n;
+  }
+
+  pub in_width : (old : RecordedRows) → HasPivotsBeside rows order places first count width old → (p : ℕ) → p < length rows → at order p < width
+  in_width old beside p l = (beside.columns.ordered p (omega (arith, beside.few, l))).0
+
+  pub changes_combined : (was now : ℕ → ℕ → ℕ) (old new : RecordedRows) → HasPivotsBeside rows order places first count width old → CombinesOctets first count width was now old new → ChangesOctets rows order first count was now old new
+  changes_combined was now old new beside combines = record {
+    steps = combines.steps;
+    performs = combines.performs;
+    elsewhere = combines.elsewhere;
+    shown = λ m pivots had i p l n. combines.shown m (at order p) (at order p) (in_width old beside p n) (λ j o. had j p o n) i l;
+  }
+
+  pub changes_more : (a b c : ℕ → ℕ → ℕ) (old cur new : RecordedRows) → HasPivotsBeside rows order places first count width old
+      → ChangesOctets rows order first count a b old cur → ChangesOctets rows order first count b c cur new → ChangesOctets rows order first count a c old new
+  changes_more a b c old cur new beside done next = record {
+    steps = done.steps ++ next.steps;
+    performs = performs_more done.steps next.steps old cur new done.performs next.performs;
+    elsewhere = λ m r k out. rows_after-next octets done.steps next.steps m r k ∙ next.elsewhere (rows_after octets done.steps m) r k out ∙ done.elsewhere m r k out;
+    shown = λ m pivots had i p l n.
+        let between_m : ℕ → ℕ → ℕ = rows_after octets done.steps m in
+        let still : PivotsAreCleared rows order between_m = (λ (q : ℕ) (o : q < length rows). record { entries = λ j u. done.elsewhere m (at rows q) (at order j) (λ i v. beside.apart i q v o) ∙ (pivots q o).entries j u }) in
+        rows_after-next octets done.steps next.steps m (first + i) (at order p) ∙ next.shown between_m still (done.shown m pivots had) i p l n;
+  }
+
+  -- ---- the rows get 0 in a pivot's column, one after another
+
+  module _ (octet : ℕ → ℕ → ℕ) (old new : RecordedRows) (beside : HasPivotsBeside rows order places first count width old) (row place scalar : ℕ) (in_rows : row < count) (is_pivot : place < length rows) where
+    now : ℕ → ℕ → ℕ
+    now = with_zeros (at order place) (row + 1) octet
+
+    was : ℕ → ℕ → ℕ
+    was = with_zeros (at order place) row octet
+
+    other_rows : (i k : ℕ) → i ≢ row → now i k ≡ was i k
+    unfolding now was
+    other_rows i k d = elim (cases_lt i row) [
+      | inl before ↦ elim (cases_eq k (at order place)) [
+        | inl e ↦ rw e (zero_here (at order place) (row + 1) octet i (omega (arith, before)) ∙ sym (zero_here (at order place) row octet i before))
+        | inr other ↦ same_beside (at order place) (row + 1) octet i k other ∙ sym (same_beside (at order place) row octet i k other)
+      ]
+      | inr from ↦ same_behind (at order place) (row + 1) octet i k (omega (arith, from, d)) ∙ sym (same_behind (at order place) row octet i k from)
+    ]
+
+    -- a row that has 0 there takes nothing
+    module _ (zero : octet row (at order place) ≡ 0) where
+      pub zeros_skipped : (i p : ℕ) → i < count → p < length rows → with_zeros (at order place) row octet i (at order p) ≡ with_zeros (at order place) (row + 1) octet i (at order p)
+      unfolding now was
+      zeros_skipped i p l n = elim (cases_eq i row) [
+        | inr d ↦ sym (other_rows i (at order p) d)
+        | inl e ↦ rw e (same_behind (at order place) row octet row (at order p) (omega arith) ∙ elim (cases_eq (at order p) (at order place)) [
+          | inl f ↦ rw f (zero ∙ sym (zero_here (at order place) (row + 1) octet row (omega arith)))
+          | inr f ↦ sym (same_beside (at order place) (row + 1) octet row (at order p) f)
+        ])
+      ]
+
+    -- another takes its octet times the pivot's row
+    module _ (small : scalar < 256) (scalar_is : scalar ≡ octet row (at order place)) (performs : Performs (sum_step (first + row) (at rows place) scalar ∷ []) old new) where
+      module _ (m : ℕ → ℕ → ℕ) (pivots : PivotsAreCleared rows order m) (had : AreShown rows order first count was m) where
+        had_octet : (p : ℕ) → p < length rows → m (first + row) (at order p) ≡ octet row (at order p)
+        unfolding was
+        had_octet p l = had row p in_rows l ∙ same_behind (at order place) row octet row (at order p) (omega arith)
+
+        next_row : (p : ℕ) → p < length rows → rows_after octets (sum_step (first + row) (at rows place) scalar ∷ []) m (first + row) (at order p) ≡ octets.add (m (first + row) (at order p)) (octets.mul scalar (m (at rows place) (at order p)))
+        next_row p l = sum_step-here (first + row) (at rows place) scalar m (at order p) (cleared_small rows order m (at rows place) p (pivots place is_pivot) l)
+
+        -- in the column of another pivot
+        other_column : (p : ℕ) → p < length rows → p ≢ place → rows_after octets (sum_step (first + row) (at rows place) scalar ∷ []) m (first + row) (at order p) ≡ now row (at order p)
+        unfolding now
+        other_column p l d =
+            let zero : m (at rows place) (at order p) ≡ 0 = (pivots place is_pivot).entries p l ∙ if_apart (at rows p) (at rows place) 1 0 (λ e. d (beside.pivots.apart p place l is_pivot e)) in
+            let known = beside.few in
+            let other : at order p ≢ at order place = (λ e. d (sym (beside.columns.ordered p (omega arith)).1 ∙ ap (at places) e ∙ (beside.columns.ordered place (omega arith)).1)) in
+            next_row p l ∙ plus_zero_times (m (first + row) (at order p)) scalar (m (at rows place) (at order p)) zero ∙ had_octet p l ∙ sym (same_beside (at order place) (row + 1) octet row (at order p) other)
+
+        this_column : rows_after octets (sum_step (first + row) (at rows place) scalar ∷ []) m (first + row) (at order place) ≡ now row (at order place)
+        unfolding now
+        this_column =
+            let one : m (at rows place) (at order place) ≡ 1 = (pivots place is_pivot).entries place is_pivot ∙ if_same (at rows place) (at rows place) 1 0 refl in
+            next_row place is_pivot ∙ plus_own (m (first + row) (at order place)) scalar (m (at rows place) (at order place)) small (had_octet place is_pivot ∙ sym scalar_is) one ∙ sym (zero_here (at order place) (row + 1) octet row (omega arith))
+
+      pub changes_pivot : ChangesOctets rows order first count (with_zeros (at order place) row octet) (with_zeros (at order place) (row + 1) octet) old new
+      unfolding now was
+      changes_pivot = record {
+        steps = sum_step (first + row) (at rows place) scalar ∷ [];
+        performs = performs;
+        elsewhere = λ m r k out. sum_step-elsewhere (first + row) (at rows place) scalar m r k (λ e. out row in_rows (sym e));
+        shown = λ m pivots had i p l n. elim (cases_eq i row) [
+          | inl e ↦ rw e (elim (cases_eq p place) [ inl f ↦ rw f (this_column m pivots had) | inr d ↦ other_column m pivots had p n d ])
+          | inr d ↦ sum_step-elsewhere (first + row) (at rows place) scalar m (first + i) (at order p) (λ e. d (omega (arith, e))) ∙ had i p l n ∙ sym (other_rows i (at order p) d)
+        ];
+      }
+
+  -- ---- one column after another
+
+  -- all rows have 0 in the column
+  pub column_cleared : (column done : ℕ) (octet was : ℕ → ℕ → ℕ) (old new : RecordedRows) → ((i : ℕ) → done ≤ i → i < count → octet i column ≡ 0)
+      → ChangesOctets rows order first count was (with_zeros column done (octets_from column octet)) old new → ChangesOctets rows order first count was (octets_from (column + 1) octet) old new
+  column_cleared column done octet was old new zeros changes =
+      changes_same was (with_zeros column done (octets_from column octet)) (octets_from (column + 1) octet) old new (λ i p l n. zeros_in_all column done count octet zeros i (at order p) l) changes
+
+  -- the column has no pivot
+  pub column_skipped : (column : ℕ) (octet was : ℕ → ℕ → ℕ) (old new : RecordedRows) → ((p : ℕ) → p < length rows → at order p ≢ column) → ChangesOctets rows order first count was (octets_from column octet) old new → ChangesOctets rows order first count was (octets_from (column + 1) octet) old new
+  column_skipped column octet was old new none changes = changes_same was (octets_from column octet) (octets_from (column + 1) octet) old new
+      (λ i p l n. elim (cases_lt (at order p) column) [
+        | inl before ↦ before_column column octet i (at order p) before ∙ sym (before_column (column + 1) octet i (at order p) (omega (arith, before)))
+        | inr from ↦ let other = none p n in from_column column octet i (at order p) from ∙ sym (from_column (column + 1) octet i (at order p) (omega (arith, from, other)))
+      ])
+      changes
+
+  -- there are zeros in the columns of all pivots
+  pub clears_octets : (octet last : ℕ → ℕ → ℕ) (old new : RecordedRows) (end : ℕ) → HasPivotsBeside rows order places first count width old → HasElements octets count width octet
+      → ChangesOctets rows order first count octet (octets_from end last) old new → ((k : ℕ) → end ≤ k → k < length places → length rows ≤ at places k) → ClearsOctets rows order octet first count old new
+  clears_octets octet last old new end beside are changes none = record {
+    steps = changes.steps;
+    performs = changes.performs;
+    elements = λ i p l n. are i (at order p) l (in_width old beside p n);
+    elsewhere = changes.elsewhere;
+    cleared = λ m pivots had i p l n.
+        let place : at places (at order p) ≡ p = (beside.columns.ordered p (omega (arith, beside.few, n))).1 in
+        let early : at order p < end = elim (cases_lt (at order p) end) [
+          | inl before_end ↦ before_end
+          | inr late ↦ let without = none (at order p) late (rw beside.columns.place_count (in_width old beside p n)) in absurd (omega (arith, without, place, n))
+        ] in
+        changes.shown m pivots had i p l n ∙ before_column end last i (at order p) early;
+  }
+
+-- the HDPC rows have zeros in the pivots' columns, or there are none
+pub clears_none : (rows order : List ℕ) (octet : ℕ → ℕ → ℕ) (first count : ℕ) (state : RecordedRows) → ((p : ℕ) → p < length rows → (i : ℕ) → i < count → octet i (at order p) ≡ 0) → ClearsOctets rows order octet first count state state
+clears_none rows order octet first count state none = record {
+  steps = [];
+  performs = performs_none state;
+  elements = λ i p l n. rw (none p n i l) (lit< tt);
+  elsewhere = λ m r k out. rows_after-none octets m r k;
+  cleared = λ m pivots had i p l n. rows_after-none octets m (first + i) (at order p) ∙ had i p l n ∙ none p n i l;
+}

@@ -1,0 +1,95 @@
+-- What the check leaves to show of `pi_solver::fourth_phase::sparsify::sparsify_rows`.
+use Rattle.std.proofs.Common.{◌≡◌, ◌≢◌, ℕ, ◌+◌, ◌-◌, ◌<◌, ◌≤◌, List, Bool, true, false, get_or, set, length, sym, ◌∙◌, ap, arith, inl, inr}
+use Rattle.std.proofs.lemmas.Bool.{cases_eq}
+use Rattle.std.proofs.lemmas.List.{get_or-set_same, get_or-set_other, get_or_read}
+use Rattle.rq_algebra.specs.Systems.{at}
+use Rattle.rq_elimination.specs.Recorded.{Performs}
+use Rattle.rq_solver.proofs.CountLaws.{one_turn_more}
+use Rattle.rq_solver.proofs.FinishedPivots.{takes_none, back_skipped, back_taken}
+use Rattle.rq_solver.proofs.TakenAgain.{sums_between, taken_between, taken_performed}
+use Rattle.rq_solver.proofs.pi_solver.fourth_phase.sparsify.sparsify_rows.Goals as goal
+use Rattle.rq_solver.proofs.pi_solver.fourth_phase.sparsify.sparsify_rows.Goals.{then-saves+in_ok-redo_on_rows, else-saves}
+
+pub loop-done-init : goal.loop-done-init
+loop-done-init c =
+    let all : length c.args.peeling.now.rows - 0 ≡ length c.args.peeling.now.rows = omega arith in
+    record {
+      taken = rw all (takes_none c.args.additions.now.ones c.args.peeling.now.rows c.args.peeling.now.order c.args.peeling.now.places _ c.requires.peeled.bits c.requires.peeled.peeled c.args.sparse.now c.args.recorded.now);
+      short = λ p late l e. absurd (omega arith);
+      few = omega arith;
+    }
+
+pub redo_on_rows-requires-clause-sums : goal.redo_on_rows-requires-clause-sums
+redo_on_rows-requires-clause-sums c =
+    let rows = c.args.peeling.now.rows in
+    let bounds = c.args.additions.now.bounds.items in
+    let place : ℕ = length c.loop-done.sparse - 1 - c.loop-done.done in
+    let taken = c.requires.taken in
+    let in_rows : place < length rows = omega (arith, c.loop-done.auto.sparse, c.requires.long, c.loop-done-test.true) in
+    let start : c.index.result.now ≡ at bounds place = get_or_read bounds place c.index.result.now (omega (arith, taken.many, in_rows)) c.index.ensures 0 in
+    let end : c.index-in-loop-done.result.now ≡ at bounds (place + 1) = get_or_read bounds (place + 1) c.index-in-loop-done.result.now (omega (arith, taken.many, in_rows)) c.index-in-loop-done.ensures 0 in
+    let stands = taken_performed c.args.additions.now.ones c.args.peeling.now rows (length rows) bounds c.args.recorded.now c.loop-done.recorded taken _ c.loop-done.invariant.taken.performs in
+    rw (c.row_of-row.ensures, start, end) (sums_between c.args.additions.now.ones c.args.peeling.now rows (length rows) bounds c.loop-done.recorded stands place in_rows)
+
+pub loop-done-preserved : goal.loop-done-preserved
+loop-done-preserved c =
+    let lists = c.args.additions.now.ones in
+    let rows = c.args.peeling.now.rows in
+    let order = c.args.peeling.now.order in
+    let places = c.args.peeling.now.places in
+    let bounds = c.args.additions.now.bounds.items in
+    let bits = c.requires.peeled.bits in
+    let peeled = c.requires.peeled.peeled in
+    let marks = c.loop-done.sparse in
+    let done = c.loop-done.done in
+    let long : length marks ≡ length rows = c.loop-done.auto.sparse ∙ c.requires.long in
+    let place : ℕ = length marks - 1 - done in
+    let saves = c.saves_additions-saves.result in
+    let now : List Bool = set marks place saves in
+    let in_rows : place < length rows = omega (arith, long, c.loop-done-test.true) in
+    let in_marks : place < length marks = omega (arith, long, in_rows) in
+    let was : length rows - done ≡ place + 1 = omega (arith, long, c.loop-done-test.true) in
+    let next : length rows - (done + 1) ≡ place = omega (arith, long, c.loop-done-test.true) in
+    let v = c.loop-done.invariant in
+    let old = c.args.recorded.now in
+    let cur = c.loop-done.recorded in
+    let taken = c.requires.taken in
+    let start : c.index.result.now ≡ at bounds place = get_or_read bounds place c.index.result.now (omega (arith, taken.many, in_rows)) c.index.ensures 0 in
+    let end : c.index-in-loop-done.result.now ≡ at bounds (place + 1) = get_or_read bounds (place + 1) c.index-in-loop-done.result.now (omega (arith, taken.many, in_rows)) c.index-in-loop-done.ensures 0 in
+    let stands = taken_performed lists c.args.peeling.now rows (length rows) bounds old cur taken _ v.taken.performs in
+    let read : c.row_of-row.result ≡ at rows place = c.row_of-row.ensures in
+    let same : (p : ℕ) → p ≢ place → get_or now p false ≡ get_or marks p false = (λ (p : ℕ) (d : p ≢ place). get_or-set_other marks place p saves false d) in
+    let here : get_or now place false ≡ saves = get_or-set_same marks place saves false in_marks in
+    let so_far = rw was at v.taken in
+    let short : (p : ℕ) → length rows - (done + 1) ≤ p → p < length rows → get_or now p false ≡ true → at bounds (p + 1) - at bounds p ≤ c.args.limit = (λ (p : ℕ) (late : length rows - (done + 1) ≤ p) (l : p < length rows) (e : get_or now p false ≡ true). elim (cases_eq p place) [
+      | inl f ↦ rw (f, ← start, ← end) (c.saves_additions-saves.ensures (sym here ∙ ap (λ (n : ℕ). get_or now n false) (sym f) ∙ e))
+      | inr d ↦ v.short p (omega (arith, was, next, late, d)) l (sym (same p d) ∙ e)
+    ]) in
+    elim c.if-saves.branch [
+      | then-saves+in_ok-redo_on_rows w ↦ rw w.recorded-is (record {
+        taken = rw next (back_taken lists rows order places _ bits peeled marks now place in_rows old cur so_far same w.redo_on_rows.new.recorded (taken_between lists c.args.peeling.now rows (length rows) bounds cur stands place in_rows Performs w.redo_on_rows.new.recorded (rw (start, end) at w.in_ok-redo_on_rows.ensures.added)) (here ∙ w.if-saves.true));
+        short = short;
+        few =
+            let few_rows = c.saves_additions-saves.ensures w.if-saves.true in
+            let each = w.in_ok-redo_on_rows.ensures.few in
+            one_turn_more c.args.limit _ _ _ done v.few (omega (arith, each, few_rows));
+      })
+      | else-saves w ↦ rw w.recorded-is (record {
+        taken = rw next (back_skipped lists rows order places _ bits peeled marks now place in_rows old cur so_far same (here ∙ w.if-saves.false));
+        short = short;
+        few = one_turn_more c.args.limit _ _ _ done v.few (omega arith);
+      })
+    ]
+
+pub returns-clause-taken : goal.returns-clause-taken
+returns-clause-taken c =
+    let none : length c.args.peeling.now.rows - c.loop-done.done ≡ 0 = omega (arith, c.loop-done.auto.done-end, c.loop-done.auto.sparse, c.requires.long, c.loop-done-test.false) in
+    rw none at c.loop-done.invariant.taken
+
+pub returns-clause-short : goal.returns-clause-short
+returns-clause-short c = λ p l e. c.loop-done.invariant.short p (omega (arith, c.loop-done.auto.done-end, c.loop-done.auto.sparse, c.requires.long, c.loop-done-test.false)) (omega (arith, l, c.loop-done.auto.sparse, c.requires.long)) e
+
+pub returns-clause-few : goal.returns-clause-few
+returns-clause-few c =
+    let all : c.loop-done.done ≡ length c.args.peeling.now.rows = omega (arith, c.loop-done.auto.done-end, c.loop-done.auto.sparse, c.requires.long, c.loop-done-test.false) in
+    rw all at c.loop-done.invariant.few

@@ -1,0 +1,21 @@
+-- What the first phase makes of the rows of a system.
+use Rattle.std.specs.Prelude.{◌≡◌, ℕ, ◌+◌, ◌<◌, ◌≤◌, List, All, Contains, length}
+use Rattle.std.specs.List.{range_with_len}
+use Rattle.rq_algebra.specs.Systems.{at, HasElements}
+use Rattle.rq_standard.specs.OctetField.{octets}
+use Rattle.rq_parts.specs.DenseOctetMatrix.{entry_of}
+use Rattle.rq_peeling.specs.Peeled.{Pivots}
+use Rattle.rq_elimination.specs.RowSteps.{IsStepAmong, rows_after}
+use Rattle.rq_elimination.specs.declared.recorded.RecordedRows.{RecordedRows}
+use Rattle.rq_solver.specs.PivotAdditions.{IsCleared}
+
+-- After what was recorded the rows of a system have the pivots of the peeling: each pivot's column has one 1, in the pivot's row, and zeros
+-- in the rows that are left. The table shows the inactive columns.
+pub record HasPeeledPivots (height width : ℕ) (system : ℕ → ℕ → ℕ) (peeled : Pivots) (left : List ℕ) (state : RecordedRows) : Type 0 where
+  pub elements : HasElements octets height width system
+  pub among : All (IsStepAmong octets (range_with_len 0 height)) state.operations
+  pub height_is : length state.table.rows ≡ height
+  pub wide : width ≤ length peeled.rows + state.table.width
+  pub shows : (r f : ℕ) → r < height → length peeled.rows + f < width → entry_of state.table r f ≡ rows_after octets state.operations system r (at peeled.order (length peeled.rows + f))
+  pub pivots : (p : ℕ) → p < length peeled.rows → IsCleared peeled.rows peeled.order (rows_after octets state.operations system) (at peeled.rows p)
+  pub others : (r p : ℕ) → Contains left r → p < length peeled.rows → rows_after octets state.operations system r (at peeled.order p) ≡ 0

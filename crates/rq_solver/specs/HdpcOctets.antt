@@ -1,0 +1,104 @@
+-- HDPC rows whose octets are cleared in the pivots' columns, all of them together.
+use Rattle.std.specs.Prelude.{◌≡◌, ◌≢◌, ℕ, ◌+◌, ◌-◌, ◌*◌, ◌^◌, ◌<◌, ◌≤◌, ◌==◌, if◌then◌else◌, nat_lt, List, length}
+use Rattle.rq_algebra.specs.Systems.{at, sum_below}
+use Rattle.rq_algebra.specs.Operations.{Operation}
+use Rattle.rq_standard.specs.OctetField.{octets}
+use Rattle.rq_parts.specs.DenseOctetMatrix.{OctetTable, entry_of}
+use Rattle.rq_solver.specs.PivotAdditions.{IsCleared}
+use Rattle.rq_peeling.specs.Peeled.{IsOrderOf, Pivots}
+use Rattle.rq_elimination.specs.Recorded.{Performs}
+use Rattle.rq_elimination.specs.declared.recorded.RecordedRows.{RecordedRows}
+use Rattle.rq_elimination.specs.RowSteps.{AreRows, rows_after}
+use Rattle.rq_elimination.specs.HdpcRows.{Batch, octet_in}
+
+-- ---- what the rows have
+
+-- these octets from a column on, and zeros before it
+abbrev pub octets_from : ℕ → (ℕ → ℕ → ℕ) → ℕ → ℕ → ℕ
+octets_from column octet i k = if nat_lt k column then 0 else octet i k
+
+-- these octets, but zeros in a column of the first rows
+abbrev pub with_zeros : ℕ → ℕ → (ℕ → ℕ → ℕ) → ℕ → ℕ → ℕ
+with_zeros column done octet i k = if nat_lt i done then (if k == column then 0 else octet i k) else octet i k
+
+-- the first row became the sum of all, and the others are as they were
+pub record SumsRows (was now : OctetTable) : Type 0 where
+  pub sum : (k : ℕ) → k < was.width → entry_of now 0 k ≡ sum_below octets (length was.rows) (λ i. entry_of was i k)
+  pub others : (i k : ℕ) → 0 < i → i < length was.rows → k < was.width → entry_of now i k ≡ entry_of was i k
+
+-- in a column the first row has 1, and the others have 0
+pub record IsFirstAlone (column : ℕ) (batch : Batch) : Type 0 where
+  pub one : octet_in batch 0 column ≡ 1
+  pub zeros : (i : ℕ) → 0 < i → i < length batch.table.rows → octet_in batch i column ≡ 0
+
+-- the first rows have 0 in a column
+abbrev pub HasZeros : ℕ → ℕ → OctetTable → Type 0
+HasZeros column done table = (i : ℕ) → i < done → entry_of table i column ≡ 0
+
+-- ---- where they stand
+
+-- so many HDPC rows stand in a table from row `first` on
+pub record AreOctetsIn (first count : ℕ) (state : RecordedRows) : Type 0 where
+  pub within : first + count ≤ length state.table.rows
+  pub fits : first + count < 2 ^ 64
+
+-- the pivots are those of other rows
+pub record HasPivotsBeside (rows order places : List ℕ) (first count width : ℕ) (state : RecordedRows) : Type 0 where
+  pub columns : IsOrderOf width order places
+  pub few : length rows ≤ width
+  pub pivots : AreRows rows state.table
+  pub apart : (i p : ℕ) → i < count → p < length rows → first + i ≢ at rows p
+
+-- ---- steps
+
+-- how many additions clear so many HDPC rows in the columns of pivots at most, where there are so many columns and pivots
+abbrev pub batch_bound : ℕ → ℕ → ℕ → ℕ
+batch_bound count width pivots = (count - 1) * (1 + width) + count * pivots
+
+-- each pivot's column has one 1 among the pivots' rows, in its own
+abbrev pub PivotsAreCleared : List ℕ → List ℕ → (ℕ → ℕ → ℕ) → Type 0
+PivotsAreCleared rows order m = (p : ℕ) → p < length rows → IsCleared rows order m (at rows p)
+
+-- the HDPC rows of a system have these octets in the pivots' columns
+abbrev pub AreShown : List ℕ → List ℕ → ℕ → ℕ → (ℕ → ℕ → ℕ) → (ℕ → ℕ → ℕ) → Type 0
+AreShown rows order first count octet m = (i p : ℕ) → i < count → p < length rows → m (first + i) (at order p) ≡ octet i (at order p)
+
+-- Steps among the HDPC rows were done, and were recorded: a column of theirs that was one of these columns is the new one afterwards.
+pub record CombinesOctets (first count width : ℕ) (was now : ℕ → ℕ → ℕ) (old new : RecordedRows) : Type 0 where
+  pub steps : List Operation
+  pub performs : Performs steps old new
+  pub elsewhere : (m : ℕ → ℕ → ℕ) (r k : ℕ) → ((i : ℕ) → i < count → first + i ≢ r) → rows_after octets steps m r k ≡ m r k
+  pub shown : (m : ℕ → ℕ → ℕ) (l k : ℕ) → k < width → ((i : ℕ) → i < count → m (first + i) l ≡ was i k)
+      → (i : ℕ) → i < count → rows_after octets steps m (first + i) l ≡ now i k
+
+-- The same where the HDPC rows took rows of pivots too: the pivots' columns, in systems in which the pivots' rows are cleared.
+pub record ChangesOctets (rows order : List ℕ) (first count : ℕ) (was now : ℕ → ℕ → ℕ) (old new : RecordedRows) : Type 0 where
+  pub steps : List Operation
+  pub performs : Performs steps old new
+  pub elsewhere : (m : ℕ → ℕ → ℕ) (r k : ℕ) → ((i : ℕ) → i < count → first + i ≢ r) → rows_after octets steps m r k ≡ m r k
+  pub shown : (m : ℕ → ℕ → ℕ) → PivotsAreCleared rows order m → AreShown rows order first count was m → AreShown rows order first count now (rows_after octets steps m)
+
+-- ---- the same of a batch
+
+-- the rows of a batch stand from row `first` on, and the pivots are those of other rows
+abbrev pub StandsBeside : Pivots → ℕ → Batch → RecordedRows → Type 0
+StandsBeside peeling first batch state = HasPivotsBeside peeling.rows peeling.order peeling.places first (length batch.table.rows) batch.table.width state
+
+-- from this column on the batch shows what steps among its rows did, and it shows nothing of the columns before
+abbrev pub CombinesFrom : ℕ → ℕ → Batch → Batch → RecordedRows → RecordedRows → Type 0
+CombinesFrom column first was now old new = CombinesOctets first (length was.table.rows) was.table.width (octets_from column (octet_in was)) (octets_from column (octet_in now)) old new
+
+-- the rows had 0 in the pivots' columns before this one, and have 0 in this one too, if it has a pivot
+abbrev pub ClearsPivotColumn : Pivots → ℕ → ℕ → Batch → Batch → RecordedRows → RecordedRows → Type 0
+ClearsPivotColumn peeling column first was now old new = ChangesOctets peeling.rows peeling.order first (length was.table.rows) (octets_from column (octet_in was)) (octets_from (column + 1) (octet_in now)) old new
+
+-- ---- all steps
+
+-- the HDPC rows of a system, which have these octets in the pivots' columns, get 0 there
+pub record ClearsOctets (rows order : List ℕ) (octet : ℕ → ℕ → ℕ) (first count : ℕ) (old new : RecordedRows) : Type 0 where
+  pub steps : List Operation
+  pub performs : Performs steps old new
+  pub elements : (i p : ℕ) → i < count → p < length rows → octet i (at order p) < octets.size
+  pub elsewhere : (m : ℕ → ℕ → ℕ) (r k : ℕ) → ((i : ℕ) → i < count → first + i ≢ r) → rows_after octets steps m r k ≡ m r k
+  pub cleared : (m : ℕ → ℕ → ℕ) → ((p : ℕ) → p < length rows → IsCleared rows order m (at rows p))
+      → ((i p : ℕ) → i < count → p < length rows → m (first + i) (at order p) ≡ octet i (at order p)) → (i p : ℕ) → i < count → p < length rows → rows_after octets steps m (first + i) (at order p) ≡ 0

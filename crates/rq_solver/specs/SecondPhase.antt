@@ -1,0 +1,92 @@
+-- The second phase: rows that have no pivot yet are brought into echelon form, and then substituted back.
+use Rattle.std.specs.Prelude.{◌≡◌, ◌≢◌, ℕ, ◌+◌, ◌-◌, ◌*◌, ◌<◌, ◌≤◌, ◌==◌, if◌then◌else◌, Bool, List, length, MatchBool}
+use Rattle.rq_algebra.specs.Steps.{AddsRow, ScalesRow}
+use Rattle.rq_algebra.specs.Systems.{at}
+use Rattle.rq_algebra.specs.Operations.{Operation}
+use Rattle.rq_standard.specs.OctetField.{octets}
+use Rattle.rq_parts.specs.DenseOctetMatrix.{OctetTable, entry_of}
+use Rattle.rq_elimination.specs.OperationCounts.{additions, multiples, triangle}
+use Rattle.rq_elimination.specs.Recorded.{Records}
+use Rattle.rq_elimination.specs.RowSteps.{IsEchelon, IsStuck, rows_after}
+use Rattle.rq_elimination.specs.declared.recorded.RecordedRows.{RecordedRows}
+
+-- ---- forward
+
+-- a row is multiplied so that it has 1 in a column
+abbrev pub ScalesToOne : ℕ → ℕ → OctetTable → OctetTable → Type 0
+ScalesToOne row column old new = ScalesRow octets (length old.rows) old.width row (octets.inverse (entry_of old row column)) (entry_of old) (entry_of new)
+
+-- a row takes what it has in a column times another one
+abbrev pub ClearsEntry : ℕ → ℕ → ℕ → OctetTable → OctetTable → Type 0
+ClearsEntry dest src column old new = AddsRow octets (length old.rows) old.width dest src (entry_of old dest column) (entry_of old) (entry_of new)
+
+-- the first `count` columns have pivots, or one of them has none
+abbrev pub EndsForward : List ℕ → ℕ → RecordedRows → Bool → Type 0
+EndsForward rows count state found = MatchBool found (IsEchelon rows count state.table) (IsStuck rows count state.table)
+
+-- each of `count` pivots' rows is added to the rows behind it at most
+abbrev pub AddsForward : ℕ → ℕ → RecordedRows → RecordedRows → Bool → Type 0
+AddsForward rows count old new found =
+    MatchBool found (additions new.operations + triangle count ≤ additions old.operations + count * (rows - 1)) (additions new.operations ≤ additions old.operations + count * (rows - 1))
+
+-- ---- rows that take others, each of which has 1 in its own inactive column
+
+-- in the inactive columns each of these rows, from place `start` on, has 1 in its own, and 0 in the others
+abbrev pub AreUnits : List ℕ → ℕ → ℕ → (ℕ → ℕ) → (ℕ → ℕ → ℕ) → Type 0
+AreUnits reduced start count column m = (t f : ℕ) → start ≤ t → t < count → f < count → m (at reduced t) (column f) ≡ (if t == f then 1 else 0)
+
+-- the table shows what these rows have in the inactive columns
+abbrev pub AreShown : List ℕ → ℕ → (ℕ → ℕ) → (ℕ → ℕ → ℕ) → OctetTable → Type 0
+AreShown reduced count column m table = (t f : ℕ) → t < count → f < count → m (at reduced t) (column f) ≡ entry_of table (at reduced t) f
+
+-- A row takes multiples of reduced rows, those from place `start` on, so that it gets 0 in their inactive columns that come before column
+-- `done`, where it has these entries. What the rows are in whole is `m`, whatever that is: `column f` is the place of inactive column f in it.
+pub record TakesReduced (reduced : List ℕ) (row start count done : ℕ) (entries : ℕ → ℕ) (old new : RecordedRows) : Type 0 where
+  pub steps : List Operation
+  pub records : Records steps old new
+  pub elsewhere : (m : ℕ → ℕ → ℕ) (i k : ℕ) → i ≢ row → rows_after octets steps m i k ≡ m i k
+  pub kept : (m : ℕ → ℕ → ℕ) (k : ℕ) → ((f : ℕ) → start ≤ f → f < count → m (at reduced f) k ≡ 0) → rows_after octets steps m row k ≡ m row k
+  pub cleared : (m : ℕ → ℕ → ℕ) (column : ℕ → ℕ) → AreUnits reduced start count column m → ((f : ℕ) → start ≤ f → f < count → m row (column f) ≡ entries f)
+      → (f : ℕ) → start ≤ f → f < done → f < count → rows_after octets steps m row (column f) ≡ 0
+  pub rest : (m : ℕ → ℕ → ℕ) (column : ℕ → ℕ) → AreUnits reduced start count column m → (f : ℕ) → done ≤ f → f < count → rows_after octets steps m row (column f) ≡ m row (column f)
+
+-- all of the first `count` rows, so that it gets 0 in their columns
+abbrev pub TakesAll : List ℕ → ℕ → ℕ → (ℕ → ℕ) → RecordedRows → RecordedRows → Type 0
+TakesAll reduced count row entries old new = TakesReduced reduced row 0 count count entries old new
+
+-- ---- back
+
+-- 1 stays, and any other octet is 0
+abbrev pub one_of : ℕ → ℕ
+one_of entry = if entry == 1 then 1 else 0
+
+-- the row at a place takes those behind it in whose columns it has 1
+abbrev pub TakesOnesBehind : List ℕ → ℕ → ℕ → RecordedRows → RecordedRows → Type 0
+TakesOnesBehind rows place count old new = TakesReduced rows (at rows place) (place + 1) count count (λ f. one_of (entry_of old.table (at rows place) f)) old new
+
+-- by no additions for other octets than 1
+abbrev pub AddsOnes : List ℕ → ℕ → ℕ → RecordedRows → RecordedRows → Type 0
+AddsOnes rows place count old new =
+    additions new.operations + multiples (entry_of old.table (at rows place)) (place + 1) (count - (place + 1)) ≤ additions old.operations + (count - (place + 1))
+
+-- Of the first rows those whose entry in the column of the row at a place is neither 0 nor 1 take that multiple of it. Where it is 1 they then
+-- have 0, and where it is 0 they stay.
+pub record GivesMultiples (reduced : List ℕ) (place done : ℕ) (old new : RecordedRows) : Type 0 where
+  pub steps : List Operation
+  pub records : Records steps old new
+  pub elsewhere : (m : ℕ → ℕ → ℕ) (r k : ℕ) → ((q : ℕ) → q < done → at reduced q ≢ r) → rows_after octets steps m r k ≡ m r k
+  pub kept : (m : ℕ → ℕ → ℕ) (r k : ℕ) → m (at reduced place) k ≡ 0 → rows_after octets steps m r k ≡ m r k
+  pub given : (m : ℕ → ℕ → ℕ) (k q : ℕ) → m (at reduced place) k ≡ 1 → q < done → m (at reduced q) k ≡ entry_of old.table (at reduced q) place
+      → rows_after octets steps m (at reduced q) k ≡ one_of (entry_of old.table (at reduced q) place)
+
+-- The rows in echelon form have 1 in their own inactive column alone, from the last up to place `low`. Those before it took the multiples of
+-- these rows by which they had an octet other than 0 and 1 in their columns.
+pub record ReducesBack (reduced : List ℕ) (count low : ℕ) (old new : RecordedRows) : Type 0 where
+  pub steps : List Operation
+  pub records : Records steps old new
+  pub elsewhere : (m : ℕ → ℕ → ℕ) (r k : ℕ) → ((q : ℕ) → q < count → at reduced q ≢ r) → rows_after octets steps m r k ≡ m r k
+  pub kept : (m : ℕ → ℕ → ℕ) (r k : ℕ) → ((f : ℕ) → f < count → m (at reduced f) k ≡ 0) → rows_after octets steps m r k ≡ m r k
+  pub units : (m : ℕ → ℕ → ℕ) (column : ℕ → ℕ) → AreShown reduced count column m old.table → AreUnits reduced low count column (rows_after octets steps m)
+  pub before : (m : ℕ → ℕ → ℕ) (column : ℕ → ℕ) → AreShown reduced count column m old.table → (t f : ℕ) → t < low → f < low → rows_after octets steps m (at reduced t) (column f) ≡ entry_of old.table (at reduced t) f
+  pub left : (m : ℕ → ℕ → ℕ) (column : ℕ → ℕ) → AreShown reduced count column m old.table → (t f : ℕ) → t < low → low ≤ f → f < count
+      → rows_after octets steps m (at reduced t) (column f) ≡ one_of (entry_of old.table (at reduced t) f)

@@ -1,0 +1,145 @@
+//! The inactive columns in the pivots' rows (RFC 6330, section 5.4.2.5). Rows of bits take the rows with
+//! the inactive columns' pivots a word of them at a time.
+ghost use Rattle.std.specs.Prelude.{◌≡◌, ◌+◌, ◌*◌, ◌^◌, ◌<◌, ◌≤◌, length, OnOk, IfErr};
+ghost use Rattle.std.specs.Int.{bit_at};
+ghost use Rattle.rq_bytes.specs.declared.error.Error.TheVariants.{OutOfMemory};
+ghost use Rattle.rq_parts.specs.DenseOctetMatrix.{entry_of};
+ghost use Rattle.rq_elimination.specs.Recorded.{AddsAtMost};
+ghost use Rattle.rq_elimination.specs.RowSteps.{CanTake};
+ghost use Rattle.rq_solver.specs.Elimination.{inactive_count, left_rows, IsUnderWay, KeepsPivots};
+ghost use Rattle.rq_solver.specs.FourthPhase.{FinishesPivotRows, TookAtMost};
+ghost use Rattle.rq_solver.specs.SecondPhase.{TakesAll};
+
+use super::redo_additions::redo_on_symbols;
+use crate::pi_solver::elimination::Elimination;
+use rq_bytes::error::Error;
+use rq_bytes::octet::Octet;
+use rq_elimination::recorded::RecordedRows;
+
+const WORD_BITS: usize = 64;
+
+impl Elimination {
+    /// Adds to the pivots' rows, the first first, multiples of the rows with the inactive columns'
+    /// pivots, each of which has 1 in its own inactive column and 0 in the others, so that they get 0
+    /// there. Those that were made sparse take the rows of earlier pivots again, which have only their
+    /// own 1 left.
+    pub(in crate::pi_solver) fn clear_inactive(&mut self, sparse: &[bool]) -> Result<(), Error>
+        requires under_way { IsUnderWay self.old }
+        requires many { inactive_count self.old ≤ length (left_rows self.old) }
+        requires long { length sparse.now ≡ length self.old.peeling.rows }
+        requires short { TookAtMost self.old.sparsify_limit sparse.now self.old.additions.bounds.items }
+        ensures same { KeepsPivots self.old self.new }
+        ensures rows { self.new.row_order ≡ self.old.row_order }
+        ensures ends { self.new.ends ≡ self.old.ends }
+        ensures under_way { OnOk result (IsUnderWay self.new) }
+        ensures finished { OnOk result (FinishesPivotRows sparse.now self.old self.new.recorded) }
+        ensures few { OnOk result (AddsAtMost (length self.old.peeling.rows * (inactive_count self.old + self.old.sparsify_limit)) self.old.recorded self.new.recorded) }
+        ensures err { IfErr result (λ e. e ≡ OutOfMemory) }
+    {
+        let peeling = &self.peeling;
+        let bounds = &self.additions.bounds;
+        let inactive = peeling.width() - peeling.pivots();
+        let inactive_rows = &self.row_order[peeling.pivots()..];
+        let recorded = &mut self.recorded;
+        for place in 0..peeling.pivots() {
+            let row = peeling.row_of(place);
+            clear_columns(row, inactive_rows, inactive, recorded)?;
+            if sparse[place] {
+                redo_on_symbols(row, bounds[place], bounds[place + 1], recorded)?;
+            }
+        }
+        Ok(())
+    }
+}
+
+// Adds to a row multiples of the rows with the inactive columns' pivots, so that it gets 0 in these
+// columns. What it has there is not read again, and stays stored.
+#[inline(always)]
+fn clear_columns(
+    row: usize,
+    inactive_rows: &[usize],
+    inactive: usize,
+    recorded: &mut RecordedRows,
+) -> Result<(), Error>
+    requires rows { CanTake row inactive_rows.now recorded.old.table }
+    requires many { inactive ≤ length inactive_rows.now }
+    requires width { inactive ≤ recorded.old.table.width }
+    ensures taken { OnOk result (TakesAll inactive_rows.now inactive row (entry_of recorded.old.table row) recorded.old recorded.new) }
+    ensures few { OnOk result (AddsAtMost inactive recorded.old recorded.new) }
+    ensures err { IfErr result (λ e. e ≡ OutOfMemory) }
+{
+    for (word, rows) in inactive_rows[..inactive].chunks(WORD_BITS).enumerate() {
+        take_word(row, rows, word, recorded)?;
+    }
+    Ok(())
+}
+
+// Adds to a row multiples of the rows whose columns have bits in one word.
+#[inline(always)]
+fn take_word(
+    row: usize,
+    inactive_rows: &[usize],
+    word: usize,
+    recorded: &mut RecordedRows,
+) -> Result<(), Error>
+    requires rows { CanTake row inactive_rows.now recorded.old.table }
+    requires some { 0 < length inactive_rows.now }
+    requires few { length inactive_rows.now ≤ 64 }
+    requires width { 64 * word + length inactive_rows.now ≤ recorded.old.table.width }
+    requires fits { 64 * word + length inactive_rows.now < 2 ^ 64 }
+    ensures taken { OnOk result (TakesAll inactive_rows.now (length inactive_rows.now) row (λ f. entry_of recorded.old.table row (64 * word + f)) recorded.old recorded.new) }
+    ensures few { OnOk result (AddsAtMost (length inactive_rows.now) recorded.old recorded.new) }
+    ensures err { IfErr result (λ e. e ≡ OutOfMemory) }
+{
+    match recorded.table.word_of(row, word) {
+        Some(bits) => take_bits(row, inactive_rows, bits, recorded),
+        None => take_octets(row, inactive_rows, WORD_BITS * word, recorded),
+    }
+}
+
+// Records that a row takes those rows for which a word has ones, its lowest bit for the first of them.
+#[inline(always)]
+fn take_bits(
+    row: usize,
+    inactive_rows: &[usize],
+    bits: u64,
+    recorded: &mut RecordedRows,
+) -> Result<(), Error>
+    requires rows { CanTake row inactive_rows.now recorded.old.table }
+    requires some { 0 < length inactive_rows.now }
+    requires few { length inactive_rows.now ≤ 64 }
+    ensures taken { OnOk result (TakesAll inactive_rows.now (length inactive_rows.now) row (bit_at bits) recorded.old recorded.new) }
+    ensures few { OnOk result (AddsAtMost (length inactive_rows.now) recorded.old recorded.new) }
+    ensures err { IfErr result (λ e. e ≡ OutOfMemory) }
+{
+    let mut rest = bits & (u64::MAX >> (WORD_BITS - inactive_rows.len()));
+    while rest != 0 {
+        let f = rest.trailing_zeros() as usize;
+        recorded.record_multiple(row, inactive_rows[f], Octet::one())?;
+        rest &= rest - 1;
+    }
+    Ok(())
+}
+
+// Adds multiples of rows to a row for the columns from `start` on, one that isn't 0 after another.
+fn take_octets(
+    row: usize,
+    inactive_rows: &[usize],
+    start: usize,
+    recorded: &mut RecordedRows,
+) -> Result<(), Error>
+    requires rows { CanTake row inactive_rows.now recorded.old.table }
+    requires width { start + length inactive_rows.now ≤ recorded.old.table.width }
+    requires fits { start + length inactive_rows.now < 2 ^ 64 }
+    ensures taken { OnOk result (TakesAll inactive_rows.now (length inactive_rows.now) row (λ f. entry_of recorded.old.table row (start + f)) recorded.old recorded.new) }
+    ensures few { OnOk result (AddsAtMost (length inactive_rows.now) recorded.old recorded.new) }
+    ensures err { IfErr result (λ e. e ≡ OutOfMemory) }
+{
+    let end = start + inactive_rows.len();
+    let mut from = start;
+    while let Some((column, scalar)) = recorded.table.next_entry(row, from, end) {
+        recorded.record_multiple(row, inactive_rows[column - start], scalar)?;
+        from = column + 1;
+    }
+    Ok(())
+}

@@ -1,0 +1,90 @@
+//! Rows of pivots that are made sparse again (RFC 6330, section 5.4.2.4, for single rows).
+ghost use Rattle.std.specs.Prelude.{◌≡◌, ◌+◌, ◌*◌, ◌≤◌, length, IsTrue, IfOk, OnOk, IfErr};
+ghost use Rattle.rq_bytes.specs.declared.error.Error.TheVariants.{OutOfMemory};
+ghost use Rattle.rq_elimination.specs.Recorded.{AddsAtMost};
+ghost use Rattle.rq_solver.specs.Elimination.{sparsified_at, IsUnderWay, KeepsPivots};
+ghost use Rattle.rq_solver.specs.FourthPhase.{TakesBack, TookAtMost};
+ghost use Rattle.rq_solver.specs.PivotAdditions.{PeelsRows, PivotsHaveTaken};
+
+use super::redo_additions::redo_on_rows;
+use crate::pi_solver::elimination::{Elimination, PivotAdditions};
+use rq_bytes::error::Error;
+use rq_elimination::recorded::RecordedRows;
+use rq_peeling::peeling::Peeling;
+
+impl Elimination {
+    /// Adds to some of the pivots' rows, the last first, the pivots' rows again that they took in the
+    /// first phase. So they are as they were handed in, and have few ones, where they came to have many
+    /// in the inactive columns. Says which rows these are: each took `sparsify_limit` rows at most.
+    pub(in crate::pi_solver) fn sparsify(&mut self) -> Result<Vec<bool>, Error>
+        requires { IsUnderWay self.old }
+        ensures same { KeepsPivots self.old self.new }
+        ensures rows { self.new.row_order ≡ self.old.row_order }
+        ensures under_way { OnOk result (IsUnderWay self.new) }
+        ensures taken { IfOk result (λ sparse. TakesBack self.old.additions.ones self.old.peeling.rows self.old.peeling.order sparse.items 0 self.old.recorded self.new.recorded) }
+        ensures long { IfOk result (λ sparse. length sparse.items ≡ length self.old.peeling.rows) }
+        ensures short { IfOk result (λ sparse. TookAtMost self.old.sparsify_limit sparse.items self.old.additions.bounds.items) }
+        ensures ends { OnOk result (self.new.ends ≡ sparsified_at self.old.ends (length self.new.recorded.operations)) }
+        ensures few { OnOk result (AddsAtMost (length self.old.peeling.rows * self.old.sparsify_limit) self.old.recorded self.new.recorded) }
+        ensures err { IfErr result (λ e. e ≡ OutOfMemory) }
+    {
+        let alloc = self.recorded.operations.allocator();
+        let mut sparse = vec![in alloc; false; self.peeling.pivots()]?;
+        sparsify_rows(
+            &self.additions,
+            &self.peeling,
+            self.sparsify_limit,
+            sparse.as_mut_slice(),
+            &mut self.recorded,
+        )?;
+        let end = self.recorded.operations.len();
+        self.ends.sparsified = end;
+        self.ends.substituted = end;
+        Ok(sparse)
+    }
+}
+
+// Makes the rows of pivots sparse that took `limit` rows at most, where that saves additions, and marks
+// them.
+fn sparsify_rows(
+    additions: &PivotAdditions,
+    peeling: &Peeling,
+    limit: usize,
+    sparse: &mut [bool],
+    recorded: &mut RecordedRows,
+) -> Result<(), Error>
+    requires peeled { PeelsRows additions.now.ones peeling.now }
+    requires height { length recorded.old.table.rows ≡ length additions.now.ones }
+    requires wide { length peeling.now.places ≤ length peeling.now.rows + recorded.old.table.width }
+    requires taken { PivotsHaveTaken additions.now.ones peeling.now additions.now.bounds.items recorded.old }
+    requires long { length sparse.old ≡ length peeling.now.rows }
+    ensures taken { OnOk result (TakesBack additions.now.ones peeling.now.rows peeling.now.order sparse.new 0 recorded.old recorded.new) }
+    ensures short { OnOk result (TookAtMost limit sparse.new additions.now.bounds.items) }
+    ensures few { OnOk result (AddsAtMost (length peeling.now.rows * limit) recorded.old recorded.new) }
+    ensures err { IfErr result (λ e. e ≡ OutOfMemory) }
+{
+    let inactive = peeling.width() - peeling.pivots();
+    for done in 0..sparse.len() {
+        let place = sparse.len() - 1 - done;
+        let row = peeling.row_of(place);
+        let (start, end) = (additions.bounds[place], additions.bounds[place + 1]);
+        let ones = additions.ones.row(row).len();
+        let entries = recorded.table.count_entries(row, inactive);
+        let saves = saves_additions(ones, end - start, limit, entries);
+        sparse[place] = saves;
+        if saves {
+            redo_on_rows(row, start, end, recorded)?;
+        }
+    }
+    Ok(())
+}
+
+// Whether a row with `ones` ones that took `taken` rows took `limit` at most, and it saves additions to
+// take them back. Each of them costs two additions then, since the row takes it again, and each of its
+// entries in the inactive columns one, as do all of its ones but its own pivot's and one for each of
+// these rows: one less than both together.
+fn saves_additions(ones: usize, taken: usize, limit: usize, entries: usize) -> bool
+    ensures { IsTrue result → taken ≤ limit }
+{
+    taken <= limit && entries >= ones.saturating_add(taken)
+}

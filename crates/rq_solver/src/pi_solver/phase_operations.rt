@@ -1,0 +1,42 @@
+//! The operations that the phases recorded, phase by phase.
+ghost use Rattle.std.specs.Prelude.{◌≡◌, ◌∷◌, ◌++◌, [], length};
+ghost use Rattle.std.specs.Option.{option_map};
+ghost use Rattle.rq_algebra.specs.Operations.{Reorder};
+ghost use Rattle.rq_operations.specs.RecordedOperations.{operations_of};
+ghost use Rattle.rq_elimination.specs.PhaseCounts.{AreCountsOf, AreInOrder};
+
+use rq_elimination::counts::{OperationCounts, OperationList, PhaseEnds};
+use rq_operations::recorded::RecordedOperations;
+
+/// The operations that the phases recorded for rows, where the stretches of each phase end, and the
+/// order of rows in which they leave the column that solves the rows, or none where the rows don't
+/// determine a column.
+#[derive(Drop)]
+pub(super) struct PhaseOperations {
+    pub recorded: OperationList,
+    pub ends: PhaseEnds,
+    pub order: Option<Vec<usize>>,
+    pub ghost in_order: { AreInOrder ends (length recorded) },
+}
+
+impl PhaseOperations {
+    /// How many operations each phase recorded, whether they find the column or not.
+    pub(super) fn counts(&self) -> OperationCounts
+        ensures { AreCountsOf self.now.ends self.now.recorded result }
+    {
+        self.recorded.counts(self.ends)
+    }
+
+    /// The operations that take values of the rows to the column that solves the rows with them.
+    pub(super) fn into_operations(self) -> Option<RecordedOperations>
+        ensures { option_map operations_of result ≡ option_map (λ order. self.recorded ++ Reorder order.items ∷ []) self.order }
+    {
+        let PhaseOperations {
+            recorded,
+            order,
+            ..
+        } = self;
+        let order = order?;
+        Some(RecordedOperations::new(recorded.into_steps(), order))
+    }
+}
