@@ -1,9 +1,9 @@
 pub mod AdditionLaws
+pub mod ChangedEntries
 pub mod Choices
 pub mod EntryRows
-pub mod NonzeroLanes
 pub mod HdpcFactors
-pub mod OctetEntries
+pub mod NonzeroLanes
 pub mod OwnRows
 pub mod Performing
 pub mod PhaseTotals

@@ -9,7 +9,7 @@ use Rattle.rq_elimination.specs.Recorded.{Performs, Records}
 use Rattle.rq_elimination.specs.RowSteps.{sum_step}
 use Rattle.rq_elimination.specs.declared.recorded.RecordedRows.{RecordedRows}
 use Rattle.rq_elimination.proofs.AdditionLaws.{additions-sum, additions-scaling}
-use Rattle.rq_elimination.proofs.OctetEntries.{multiplied_row, summed_row}
+use Rattle.rq_elimination.proofs.ChangedEntries.{multiplied_row, summed_row}
 use Rattle.rq_elimination.proofs.Performing.{performs_sum, performs_scaling, one_sum}
 
 -- how many additions there are then

@@ -2,7 +2,7 @@
 use Rattle.std.proofs.Common.{◌≡◌, ℕ, ◌+◌, ◌<◌, ◌≤◌, List, [], ◌∷◌, ◌++◌, length, map, take, drop, set, sym, ap, ◌∙◌, arith}
 use Rattle.std.proofs.Math.ListN.{get_or-append}
 use Rattle.std.proofs.Math.Seq.{append_snoc, set-append_seam}
-use Rattle.std.proofs.lemmas.List.{drop_more, ext_get_or, get_or-map, length-append, length-drop, length-map, length-set, length-take-le, map-append, take_more}
+use Rattle.std.proofs.lemmas.List.{drop_more, ext_get_or, get_or-map, length-append, length-drop, length-map, length-take-le, map-append, take_more}
 use Rattle.rq_algebra.specs.Systems.{at}
 use Rattle.rq_elimination.specs.InactiveEntries.{with_octets}
 

@@ -1,10 +1,10 @@
 -- An entry of a matrix of octets that is written.
-use Rattle.std.proofs.Common.{◌≡◌, ◌≢◌, ℕ, ◌<◌, ◌≤◌, [], length, set, refl, ◌∙◌, arith, inl, inr}
+use Rattle.std.proofs.Common.{◌≡◌, ◌≢◌, ℕ, ◌<◌, [], length, set, refl, ◌∙◌, arith, inl, inr}
 use Rattle.std.proofs.lemmas.Bool.{cases_eq}
 use Rattle.std.proofs.lemmas.List.{get_or-set_same, get_or-set_other, length-set}
 use Rattle.std.proofs.lemmas.List.Elements.{All-set}
 use Rattle.rq_parts.specs.DenseOctetMatrix.{OctetTable, row_at, with_row, entry_of, HasOctets}
-use Rattle.rq_elimination.proofs.OctetEntries.{entry_of-with_row_same, entry_of-with_row_other}
+use Rattle.rq_elimination.proofs.ChangedEntries.{entry_of-with_row_same, entry_of-with_row_other}
 
 -- one entry is written
 pub record SetsEntry (row column octet : ℕ) (old new : OctetTable) : Type 0 where

@@ -4,12 +4,12 @@ use Rattle.rq_elimination.specs.InactiveEntries.{unpacked}
 use Rattle.rq_elimination.specs.declared.entries.octet_row.EntryRow.{EntryRow}
 use Rattle.rq_elimination.specs.declared.entries.octet_row.EntryRow.TheVariants.{Octets, Bits}
 
--- its octets, or so many of its bits as octets
+-- its octets, or its first `width` bits as octets
 abbrev pub octets_of : ℕ → EntryRow → List ℕ
 octets_of width (Octets octets) = octets.now
 octets_of width (Bits bits) = unpacked width bits.now
 
--- so many octets, or at least as many bits, which fill whole vectors
+-- `width` octets, or at least as many bits, which fill whole vectors
 abbrev pub HasWidth : ℕ → EntryRow → Type 0
 HasWidth width (Octets octets) = length octets.now ≡ width
 HasWidth width (Bits bits) = (width ≤ 8 * length bits.now) × (length bits.now % 32 ≡ 0)

@@ -74,7 +74,7 @@ abbrev pub IsNextEntry : (ℕ → ℕ) → ℕ → ℕ → Option ℕ → Type 0
 IsNextEntry entry from end None = (k : ℕ) → from ≤ k → k < end → entry k ≡ 0
 IsNextEntry entry from end (Some place) = (from ≤ place) × (place < end) × (entry place ≢ 0) × ((k : ℕ) → from ≤ k → k < place → entry k ≡ 0)
 
--- the same with what is there
+-- that place with what is there
 abbrev pub IsNextOctet : (ℕ → ℕ) → ℕ → ℕ → Option (ℕ × ℕ) → Type 0
 IsNextOctet entry from end None = IsNextEntry entry from end None
 IsNextOctet entry from end (Some found) = IsNextEntry entry from end (Some found.0) × (found.1 ≡ entry found.0)

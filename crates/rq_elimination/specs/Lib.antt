@@ -1,9 +1,9 @@
 pub mod EntryRow
+pub mod EntryWords
+pub mod HdpcRows
 pub mod InactiveEntries
 pub mod NonzeroOctets
-pub mod HdpcRows
 pub mod OperationCounts
 pub mod PhaseCounts
 pub mod Recorded
 pub mod RowSteps
-pub mod Words

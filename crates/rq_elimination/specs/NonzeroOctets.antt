@@ -12,6 +12,6 @@ pub record HasOnes (octets : List ℕ) (start place ones : ℕ) : Type 0 where
   pub ahead : (k : ℕ) → place < start + k → k < 32 → bit_at ones k ≡ nonzero (slice_index octets (start + k))
   pub beyond : (k : ℕ) → 32 ≤ k → bit_at ones k ≡ 0
 
--- the same in the vector in which that place is
+-- those of the vector in which that place is
 abbrev pub HasOnesAfter : List ℕ → ℕ → ℕ → Type 0
 HasOnesAfter octets place ones = HasOnes octets (place - place % 32) place ones

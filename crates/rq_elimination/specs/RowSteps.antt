@@ -1,5 +1,5 @@
 -- Operations done to the rows of a matrix, as they are recorded for the values.
-use Rattle.std.specs.Prelude.{◌≡◌, ◌≢◌, ℕ, ◌+◌, ◌<◌, ◌≤◌, ◌==◌, if◌then◌else◌, List, [], ◌∷◌, Contains, length}
+use Rattle.std.specs.Prelude.{◌≡◌, ◌≢◌, ℕ, ◌<◌, ◌≤◌, ◌==◌, if◌then◌else◌, List, [], ◌∷◌, Contains, length}
 use Rattle.rq_algebra.specs.Field.{Field}
 use Rattle.rq_algebra.specs.Arrangements.{ArePlaces}
 use Rattle.rq_algebra.specs.Systems.{at}
@@ -8,7 +8,7 @@ use Rattle.rq_algebra.proofs.Changes.{with_at}
 use Rattle.rq_standard.specs.OctetField.{octets}
 use Rattle.rq_parts.specs.DenseOctetMatrix.{OctetTable, entry_of}
 
--- rows of a table, no two of them the same
+-- rows of a table, each at most once
 abbrev pub AreRows : List ℕ → OctetTable → Type 0
 AreRows rows table = ArePlaces (length rows) (length table.rows) (at rows)
 
@@ -29,7 +29,7 @@ row_step F (MulAssign dest scalar) a = with_at a dest (λ k. F.mul scalar (a des
 row_step F (Fma dest src scalar) a = with_at a dest (λ k. F.add (a dest k) (F.mul scalar (a src k)))
 row_step F (Reorder order) a = a
 
--- the same of all of them, first to last
+-- the rows after operations, done first to last
 unfoldable pub rows_after : Field → List Operation → (ℕ → ℕ → ℕ) → ℕ → ℕ → ℕ
 rows_after F [] a = a
 rows_after F (operation ∷ operations) a = rows_after F operations (row_step F operation a)

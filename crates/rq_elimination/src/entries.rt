@@ -4,7 +4,7 @@ ghost use Rattle.rq_bytes.specs.declared.error.Error.TheVariants.{OutOfMemory};
 ghost use Rattle.rq_parts.specs.DenseOctetMatrix.{entry_of, HasOctets, row_at, with_row};
 ghost use Rattle.rq_elimination.specs.EntryRow.{HasWidth, octets_of};
 ghost use Rattle.rq_elimination.specs.InactiveEntries.{IsNextOctet, with_octets};
-ghost use Rattle.rq_elimination.specs.Words.{AreBitsOfWord};
+ghost use Rattle.rq_elimination.specs.EntryWords.{AreBitsOfWord};
 ghost use Rattle.rq_standard.specs.Rows.{row_sum, row_multiple};
 
 mod octet_row;
@@ -238,8 +238,8 @@ impl OctetRows for InactiveEntries {
     }
 }
 
-/// The least number of octets, from this one on, that fills whole vectors: rows of such a length are
-/// added without octets that are left over.
+/// The least number from `octets` on that fills whole vectors: rows of that many octets are added
+/// without any left over.
 pub fn whole_vectors(octets: usize) -> usize
     requires { octets < 2 ^ 63 }
     ensures whole { result % 32 ≡ 0 }

@@ -8,7 +8,7 @@ use Rattle.rq_standard.specs.OctetField.{octets}
 use Rattle.rq_standard.specs.Rows.{row_sum, row_multiple}
 use Rattle.rq_parts.specs.DenseOctetMatrix.{OctetTable, row_at, with_row, entry_of, HasOctets}
 use Rattle.rq_null_vector.specs.Homogeneous.{KeepsZeros}
-use Rattle.rq_elimination.proofs.OctetEntries.{multiplied_row, multiplied_octets, summed_row, summed_octets}
+use Rattle.rq_elimination.proofs.ChangedEntries.{multiplied_row, multiplied_octets, summed_row, summed_octets}
 
 pub keeps_none : (table : OctetTable) → HasOctets table → KeepsZeros table table
 keeps_none table are = record { width = refl; height = refl; octets_are = are; same = SameSolutions-refl octets (length table.rows) table.width (entry_of table) (λ _. 0) }

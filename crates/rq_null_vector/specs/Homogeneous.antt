@@ -22,7 +22,7 @@ pub record IsHomogeneousColumn (height width : ℕ) (rows : ℕ → ℕ → ℕ)
 abbrev pub ShowsHomogeneous : ℕ → ℕ → (ℕ → ℕ → ℕ) → Option (Vec ℕ Global) → Type 0
 ShowsHomogeneous height width rows answer = MatchOption answer (IsDetermined octets height width rows) (λ column. IsHomogeneousColumn height width rows column.items)
 
--- the same of the rows of a matrix of bits, but those of a matrix of octets in the places from `first` on
+-- so it is for the rows of a matrix of bits, but those of a matrix of octets in the places from `first` on
 abbrev pub ShowsHomogeneousRows : BitTable → OctetTable → ℕ → Option (Vec ℕ Global) → Type 0
 ShowsHomogeneousRows bits octet_rows first = ShowsHomogeneous bits.height bits.width (with_octet_rows first (length octet_rows.rows) bits.bit (entry_of octet_rows))
 

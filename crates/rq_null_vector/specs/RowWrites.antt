@@ -1,5 +1,7 @@
 -- Rows of a matrix of octets that are written place by place.
-use Rattle.std.specs.Prelude.{◌≡◌, ◌≢◌, ℕ, ◌<◌, ◌≤◌, ◌⊎◌, List, length}
+use Rattle.std.specs.Prelude.{◌≡◌, ◌≢◌, ℕ, ◌<◌, ◌≤◌, ◌⊎◌, length}
+use Rattle.rq_standard.specs.BitTable.{BitTable}
+use Rattle.rq_standard.specs.ConstraintMatrix.{with_octet_rows}
 use Rattle.rq_parts.specs.DenseOctetMatrix.{OctetTable, entry_of, HasOctets}
 
 -- the entries of one row from `start` on and before `end` are these, and the others are as they were
@@ -18,3 +20,7 @@ pub record HoldsRows (height width n : ℕ) (wanted : ℕ → ℕ → ℕ) (tabl
   pub octets : HasOctets table
   pub written : (i k : ℕ) → i < n → k < width → entry_of table i k ≡ wanted i k
   pub left : (i k : ℕ) → n ≤ i → i < height → k < width → entry_of table i k ≡ 0
+
+-- all rows are those of a matrix of bits, but of octets in the places from `first` on
+abbrev pub HoldsEquations : BitTable → OctetTable → ℕ → OctetTable → Type 0
+HoldsEquations bits hdpc first table = HoldsRows bits.height bits.width bits.height (with_octet_rows first (length hdpc.rows) bits.bit (entry_of hdpc)) table

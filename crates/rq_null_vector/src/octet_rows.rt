@@ -1,9 +1,8 @@
 //! Rows of bits, some of them of octets, as one matrix of octets.
 ghost use Rattle.std.specs.Prelude.{◌≡◌, ℕ, ◌<◌, ◌≤◌, length, IfOk, OnOk, IfErr};
 ghost use Rattle.rq_bytes.specs.declared.error.Error.TheVariants.{OutOfMemory};
-ghost use Rattle.rq_standard.specs.ConstraintMatrix.{with_octet_rows};
 ghost use Rattle.rq_parts.specs.DenseOctetMatrix.{entry_of, HasOctets};
-ghost use Rattle.rq_null_vector.specs.RowWrites.{WritesRow, HoldsRows};
+ghost use Rattle.rq_null_vector.specs.RowWrites.{HoldsEquations, WritesRow};
 
 use rq_bytes::error::Error;
 use rq_bytes::octet::Octet;
@@ -22,7 +21,7 @@ pub fn octet_rows<T: BinaryMatrix>(
 ) -> Result<DenseOctetMatrix, Error>
     requires boundary { boundary ≡ (T.content bits.now).boundary }
     requires hdpc_width { hdpc.now.width ≡ (T.content bits.now).width }
-    ensures rows { IfOk result (HoldsRows (T.content bits.now).height (T.content bits.now).width (T.content bits.now).height (with_octet_rows first_hdpc (length hdpc.now.rows) (T.content bits.now).bit (entry_of hdpc.now))) }
+    ensures rows { IfOk result (HoldsEquations (T.content bits.now) hdpc.now first_hdpc) }
     ensures err { IfErr result (λ e. e ≡ OutOfMemory) }
 {
     let width = bits.width();

@@ -4,7 +4,7 @@ use Rattle.std.proofs.lemmas.List.{length-set}
 use Rattle.rq_algebra.specs.Systems.{at}
 use Rattle.rq_parts.specs.DenseOctetMatrix.{OctetTable, entry_of, HasOctets, row_at, with_row}
 use Rattle.rq_elimination.specs.InactiveEntries.{with_octets}
-use Rattle.rq_elimination.proofs.OctetEntries.{entry_of-with_row_same, entry_of-with_row_other}
+use Rattle.rq_elimination.proofs.ChangedEntries.{entry_of-with_row_same, entry_of-with_row_other}
 use Rattle.rq_elimination.proofs.WithOctets.{octet_first}
 use Rattle.rq_solver.specs.InactiveColumns.{FillsRow}
 

@@ -1,16 +1,15 @@
 -- The phases behind the first, one after another.
-use Rattle.std.proofs.Common.{◌≡◌, ◌≢◌, ℕ, ◌+◌, ◌-◌, ◌*◌, ◌<◌, ◌≤◌, Bool, List, Option, None, Some, Vec, length, drop, map, sym, ap, ◌∙◌, arith}
+use Rattle.std.proofs.Common.{◌≡◌, ℕ, ◌+◌, ◌-◌, ◌*◌, ◌<◌, ◌≤◌, Bool, List, None, Some, Vec, length, drop, map, sym, ap, ◌∙◌, arith}
 use Rattle.std.specs.Global.{Global}
 use Rattle.std.specs.List.Sorted.{IsPermutation}
 use Rattle.std.proofs.lemmas.List.{get_or-drop, length-drop}
 use Rattle.rq_algebra.specs.Systems.{at}
 use Rattle.rq_elimination.specs.Recorded.{ChangesRows}
 use Rattle.rq_elimination.specs.OperationCounts.{additions, triangle}
-use Rattle.rq_elimination.specs.RowSteps.{IsEchelon, IsStuck}
+use Rattle.rq_elimination.specs.RowSteps.{IsEchelon}
 use Rattle.rq_elimination.specs.declared.counts.PhaseEnds.{PhaseEnds}
-use Rattle.rq_elimination.specs.declared.recorded.RecordedRows.{RecordedRows}
 use Rattle.rq_peeling.specs.Peeled.{Pivots}
-use Rattle.rq_solver.specs.Elimination.{eliminated_at, inactive_count, left_rows, sparsified_at, substituted_at, AddsLater, IsUnderWay, KeepsPivots}
+use Rattle.rq_solver.specs.EliminationState.{eliminated_at, inactive_count, left_rows, sparsified_at, substituted_at, AddsLater, IsUnderWay, KeepsPivots}
 use Rattle.rq_solver.specs.FourthPhase.{FinishesPivotRows, TakesBack}
 use Rattle.rq_solver.specs.Phases.{FindsOrder, LacksPivots, SolvesInactive}
 use Rattle.rq_solver.specs.RowOrder.{ListsRows}

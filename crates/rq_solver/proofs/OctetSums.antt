@@ -4,7 +4,7 @@ use Rattle.rq_algebra.specs.Systems.{sum_below}
 use Rattle.rq_algebra.proofs.Sums.{mul_one}
 use Rattle.rq_standard.specs.Octets.{octet_div}
 use Rattle.rq_standard.specs.OctetField.{octets}
-use Rattle.rq_elimination.proofs.OctetEntries.{mul_is}
+use Rattle.rq_elimination.proofs.ChangedEntries.{mul_is}
 
 pub sum_of_one : (f : ℕ → ℕ) → sum_below octets 1 f ≡ f 0
 unfolding sum_below

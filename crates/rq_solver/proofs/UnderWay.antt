@@ -1,5 +1,5 @@
 -- An elimination stays under way while phases record more.
-use Rattle.std.proofs.Common.{◌≡◌, ◌≢◌, ℕ, ◌+◌, ◌-◌, ◌<◌, ◌≤◌, List, ◌++◌, Contains, Vec, length, drop, get_or, refl, sym, ap, ◌∙◌, subst, arith, length-append}
+use Rattle.std.proofs.Common.{◌≡◌, ◌≢◌, ℕ, ◌+◌, ◌-◌, ◌<◌, ◌≤◌, List, ◌++◌, Contains, Vec, length, drop, refl, sym, ap, ◌∙◌, arith, length-append}
 use Rattle.std.specs.Global.{Global}
 use Rattle.std.specs.List.Sorted.{IsPermutation}
 use Rattle.std.proofs.lemmas.List.{get_or_default, get_or-drop, length-drop}
@@ -14,7 +14,7 @@ use Rattle.rq_elimination.specs.RowSteps.{AreRows}
 use Rattle.rq_elimination.specs.declared.counts.PhaseEnds.{PhaseEnds}
 use Rattle.rq_peeling.specs.Peeled.{IsPeeled, Pivots}
 use Rattle.rq_peeling.specs.declared.system.System.{System}
-use Rattle.rq_solver.specs.Elimination.{eliminated_at, left_rows, sparsified_at, starts_at, substituted_at, HasEndsInOrder, IsUnderWay, KeepsPivots}
+use Rattle.rq_solver.specs.EliminationState.{eliminated_at, left_rows, sparsified_at, starts_at, substituted_at, HasEndsInOrder, IsUnderWay, KeepsPivots}
 use Rattle.rq_solver.specs.Phases.{ClearsPivots}
 use Rattle.rq_solver.specs.PivotAdditions.{PeelsRows, PivotsHaveTaken}
 use Rattle.rq_solver.specs.RowOrder.{ListsRows}

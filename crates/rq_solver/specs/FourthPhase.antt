@@ -7,12 +7,12 @@ use Rattle.rq_parts.specs.DenseOctetMatrix.{entry_of}
 use Rattle.rq_elimination.specs.Recorded.{Performs, Records}
 use Rattle.rq_elimination.specs.RowSteps.{rows_after}
 use Rattle.rq_elimination.specs.declared.recorded.RecordedRows.{RecordedRows}
-use Rattle.rq_solver.specs.Elimination.{inactive_count, left_rows}
+use Rattle.rq_solver.specs.EliminationState.{inactive_count, left_rows}
 use Rattle.rq_solver.specs.PivotAdditions.{IsCleared, IsUncleared}
 use Rattle.rq_solver.specs.SecondPhase.{AreUnits}
 use Rattle.rq_solver.specs.declared.pi_solver.elimination.Elimination.{Elimination}
 
--- each row with a mark took so many rows at most
+-- each row with a mark took `most` rows at most
 abbrev pub TookAtMost : ℕ → List Bool → List ℕ → Type 0
 TookAtMost most marks bounds = (p : ℕ) → p < length marks → slice_index_or marks p false ≡ true → at bounds (p + 1) - at bounds p ≤ most
 

@@ -37,7 +37,7 @@ HasZeros column done table = (i : ℕ) → i < done → entry_of table i column 
 
 -- ---- where they stand
 
--- so many HDPC rows stand in a table from row `first` on
+-- `count` HDPC rows stand in a table from row `first` on
 pub record AreOctetsIn (first count : ℕ) (state : RecordedRows) : Type 0 where
   pub within : first + count ≤ length state.table.rows
   pub fits : first + count < 2 ^ 64
@@ -51,7 +51,7 @@ pub record HasPivotsBeside (rows order places : List ℕ) (first count width : �
 
 -- ---- steps
 
--- how many additions clear so many HDPC rows in the columns of pivots at most, where there are so many columns and pivots
+-- how many additions clear `count` HDPC rows in the columns of `pivots` pivots at most, among `width` columns
 abbrev pub batch_bound : ℕ → ℕ → ℕ → ℕ
 batch_bound count width pivots = (count - 1) * (1 + width) + count * pivots
 
@@ -78,7 +78,7 @@ pub record ChangesOctets (rows order : List ℕ) (first count : ℕ) (was now : 
   pub elsewhere : (m : ℕ → ℕ → ℕ) (r k : ℕ) → ((i : ℕ) → i < count → first + i ≢ r) → rows_after octets steps m r k ≡ m r k
   pub shown : (m : ℕ → ℕ → ℕ) → PivotsAreCleared rows order m → AreShown rows order first count was m → AreShown rows order first count now (rows_after octets steps m)
 
--- ---- the same of a batch
+-- ---- steps among the rows of a batch
 
 -- the rows of a batch stand from row `first` on, and the pivots are those of other rows
 abbrev pub StandsBeside : Pivots → ℕ → Batch → RecordedRows → Type 0

@@ -1,4 +1,4 @@
-pub mod Elimination
+pub mod EliminationState
 pub mod FirstPhase
 pub mod FourthPhase
 pub mod HdpcOctets

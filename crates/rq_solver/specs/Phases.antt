@@ -1,5 +1,5 @@
 -- What the phases answer together.
-use Rattle.std.specs.Prelude.{◌≡◌, ℕ, ◌∷◌, ◌++◌, [], Bool, List, Option, Vec, MatchOption, drop, length}
+use Rattle.std.specs.Prelude.{◌≡◌, ℕ, ◌+◌, ◌*◌, ◌≤◌, ◌∷◌, ◌++◌, [], Bool, List, Option, Vec, MatchOption, drop, length}
 use Rattle.std.specs.Global.{Global}
 use Rattle.rq_algebra.specs.Operations.{Operation, Reorder, FindsColumn}
 use Rattle.rq_algebra.specs.Systems.{HasHomogeneousColumn}
@@ -7,12 +7,14 @@ use Rattle.rq_standard.specs.OctetField.{octets}
 use Rattle.rq_peeling.specs.Peeled.{Pivots}
 use Rattle.rq_peeling.specs.System.{rows_of}
 use Rattle.rq_peeling.specs.declared.system.System.{System}
+use Rattle.rq_elimination.specs.OperationCounts.{additions}
 use Rattle.rq_elimination.specs.Recorded.{ChangesRows}
 use Rattle.rq_elimination.specs.RowSteps.{IsEchelon, IsStuck}
 use Rattle.rq_elimination.specs.declared.recorded.RecordedRows.{RecordedRows}
-use Rattle.rq_solver.specs.Elimination.{eliminated_at, inactive_count, left_rows}
+use Rattle.rq_solver.specs.EliminationState.{eliminated_at, inactive_count, left_rows}
 use Rattle.rq_solver.specs.FirstPhase.{HasPeeledPivots}
 use Rattle.rq_solver.specs.FourthPhase.{FinishesPivots, TakesBack}
+use Rattle.rq_solver.specs.HdpcOctets.{batch_bound}
 use Rattle.rq_solver.specs.SecondPhase.{ReducesBack}
 use Rattle.rq_solver.specs.declared.pi_solver.elimination.Elimination.{Elimination}
 use Rattle.rq_solver.specs.declared.pi_solver.phase_operations.PhaseOperations.{PhaseOperations}
@@ -29,6 +31,10 @@ IsAttempt system recorded order = SolvesRows (length system.ones) system.width (
 -- what was recorded gives the rows of a system the pivots of a peeling; the others are listed behind its rows
 abbrev pub ClearsPivots : System → Pivots → List ℕ → RecordedRows → Type 0
 ClearsPivots system peeling row_order state = HasPeeledPivots (length system.ones) system.width (rows_of system) peeling (drop (length peeling.rows) row_order) state
+
+-- each pivot's row is added to each row of bits at most, and the HDPC rows are cleared
+abbrev pub AddsFirst : System → Pivots → RecordedRows → Type 0
+AddsFirst system peeling state = additions state.operations ≤ length system.ones * length peeling.rows + batch_bound (length system.hdpc.rows) system.width (length peeling.rows)
 
 -- whatever rows had the pivots of an elimination, what is recorded solves them
 abbrev pub FindsOrder : Elimination → Elimination → Option (Vec ℕ Global) → Type 0

@@ -26,7 +26,7 @@ pub record IsCleared (rows order : List ℕ) (m : ℕ → ℕ → ℕ) (r : ℕ)
 
 -- ---- what rows take
 
--- a step adds another of so many rows to this one
+-- a step adds another of `height` rows to row `row`
 pub record IsSumOf (row height : ℕ) (step : Operation) : Type 0 where
   pub source : ℕ
   pub is : step ≡ AddAssign row source
@@ -45,7 +45,7 @@ pub record TakesPivotsBy (Done : List Operation → RecordedRows → RecordedRow
   -- where these rows have zeros it stays as it was
   pub kept : (m : ℕ → ℕ → ℕ) (k : ℕ) → ((j : ℕ) → j < length rows → Contains columns (at order j) → at rows j ≢ row → m (at rows j) k ≡ 0) → rows_after octets steps m row k ≡ m row k
 
--- the same, done to the rows, and recorded alone
+-- it takes them by steps that are done to the rows, or recorded alone
 abbrev pub TakesPivots : List ℕ → List ℕ → ℕ → List ℕ → RecordedRows → RecordedRows → Type 0
 TakesPivots rows order row columns old new = TakesPivotsBy Performs rows order row columns old new
 
@@ -63,7 +63,7 @@ pub record HaveTaken (lists : List (List ℕ)) (pivots : Pivots) (listed : List 
   pub within : (s : ℕ) → s < done → at bounds (s + 1) ≤ length state.operations
   pub taken : (s : ℕ) → s < done → TakesPivotsBy (StandBetween (at bounds s) (at bounds (s + 1))) pivots.rows pivots.order (at listed s) (ones_of lists (at listed s)) state state
 
--- the same of the pivots' rows
+-- the pivots' rows have taken others so
 abbrev pub PivotsHaveTaken : List (List ℕ) → Pivots → List ℕ → RecordedRows → Type 0
 PivotsHaveTaken lists pivots bounds state = HaveTaken lists pivots pivots.rows (length pivots.rows) bounds state
 

@@ -42,7 +42,7 @@ impl Model for OwnOctets {
 }
 
 impl OwnOctets {
-    /// Rows that have none, and that each get so many where they get some.
+    /// `height` rows that have none, and that each get `width` of them where they get some.
     pub(super) fn new(alloc: Global, height: usize, width: usize) -> Result<OwnOctets, Error>
         requires few { height < 2 ^ 31 }
         requires narrow { width < 2 ^ 17 }

@@ -74,7 +74,7 @@ pub(super) fn count_ones(bits: &[u8], count: usize) -> usize
     found.min(count)
 }
 
-/// A word of bits, so many words behind the first.
+/// Word `block` of bits, counted from 0.
 #[inline(always)]
 pub(super) fn word(bits: &[u8], block: usize) -> u64
     requires { 8 * block + 8 ≤ length bits.now }

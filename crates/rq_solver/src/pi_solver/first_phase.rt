@@ -2,11 +2,9 @@
 //! cleared in all rows, in those of bits and in the HDPC rows.
 ghost use Rattle.std.specs.Prelude.{◌≡◌, ◌+◌, ◌-◌, ◌*◌, ◌/◌, ◌≤◌, length, IfOk, IfErr};
 ghost use Rattle.rq_bytes.specs.declared.error.Error.TheVariants.{OutOfMemory};
-ghost use Rattle.rq_elimination.specs.OperationCounts.{additions};
 ghost use Rattle.rq_peeling.specs.Peeled.{IsPeeled};
-ghost use Rattle.rq_solver.specs.Elimination.{starts_at, IsUnderWay};
-ghost use Rattle.rq_solver.specs.HdpcOctets.{batch_bound};
-ghost use Rattle.rq_solver.specs.Phases.{ClearsPivots};
+ghost use Rattle.rq_solver.specs.EliminationState.{starts_at, IsUnderWay};
+ghost use Rattle.rq_solver.specs.Phases.{AddsFirst, ClearsPivots};
 ghost use Rattle.rq_solver.specs.PivotAdditions.{PivotsHaveTaken};
 ghost use Rattle.rq_solver.specs.RowOrder.{ListsRows};
 
@@ -42,7 +40,7 @@ impl Elimination {
         ensures ordered { IfOk result (λ made. ListsRows (length system.ones) peeling.rows made.row_order.items) }
         ensures cleared { IfOk result (λ made. ClearsPivots system peeling made.row_order.items made.recorded) }
         ensures ends { IfOk result (λ made. made.ends ≡ starts_at (length made.recorded.operations)) }
-        ensures few { IfOk result (λ made. additions made.recorded.operations ≤ length system.ones * length peeling.rows + batch_bound (length system.hdpc.rows) system.width (length peeling.rows)) }
+        ensures few { IfOk result (λ made. AddsFirst system peeling made.recorded) }
         ensures err { IfErr result (λ e. e ≡ OutOfMemory) }
     {
         let height = system.ones.height();
@@ -86,7 +84,7 @@ fn clear_pivots(
     ensures ones { IfOk result (λ answer. answer.0.ones ≡ system.ones) }
     ensures cleared { IfOk result (λ answer. ClearsPivots system peeling.now row_order.now answer.1) }
     ensures taken { IfOk result (λ answer. PivotsHaveTaken system.ones peeling.now answer.0.bounds.items answer.1) }
-    ensures few { IfOk result (λ answer. additions answer.1.operations ≤ length system.ones * length peeling.now.rows + batch_bound (length system.hdpc.rows) system.width (length peeling.now.rows)) }
+    ensures few { IfOk result (λ answer. AddsFirst system peeling.now answer.1) }
     ensures err { IfErr result (λ e. e ≡ OutOfMemory) }
 {
     let table = fill_inactive(alloc, &system, peeling)?;

@@ -1,4 +1,4 @@
-//! The operations that the phases recorded, phase by phase.
+//! The operations that the phases recorded, phase by phase (RFC 6330, sections 5.4.2.2 to 5.4.2.6).
 ghost use Rattle.std.specs.Prelude.{◌≡◌, ◌∷◌, ◌++◌, [], length};
 ghost use Rattle.std.specs.Option.{option_map};
 ghost use Rattle.rq_algebra.specs.Operations.{Reorder};

@@ -4,7 +4,7 @@ ghost use Rattle.rq_algebra.specs.Systems.{at};
 ghost use Rattle.rq_bytes.specs.declared.error.Error.TheVariants.{OutOfMemory};
 ghost use Rattle.rq_elimination.specs.OperationCounts.{additions};
 ghost use Rattle.rq_peeling.specs.Degrees.{CountsBefore};
-ghost use Rattle.rq_solver.specs.Elimination.{AddsLater, HasEndsInOrder, IsUnderWay};
+ghost use Rattle.rq_solver.specs.EliminationState.{AddsLater, HasEndsInOrder, IsUnderWay};
 ghost use Rattle.rq_solver.specs.Phases.{FindsOrder, IsAttempt, RunsLater, RunsPhases};
 ghost use Rattle.rq_solver.specs.RowOrder.{ListsRows};
 

@@ -7,7 +7,7 @@ ghost use Rattle.rq_parts.specs.DenseOctetMatrix.{entry_of};
 ghost use Rattle.rq_elimination.specs.OperationCounts.{additions, multiples, triangle};
 ghost use Rattle.rq_elimination.specs.Recorded.{AddsAtMost, ChangesRows};
 ghost use Rattle.rq_elimination.specs.RowSteps.{AreRows, ClearsBelow, IsEchelon};
-ghost use Rattle.rq_solver.specs.Elimination.{inactive_count, left_rows, eliminated_at, substituted_at, IsUnderWay, KeepsPivots};
+ghost use Rattle.rq_solver.specs.EliminationState.{inactive_count, left_rows, eliminated_at, substituted_at, IsUnderWay, KeepsPivots};
 ghost use Rattle.rq_solver.specs.SecondPhase.{AddsForward, AddsOnes, ClearsEntry, EndsForward, GivesMultiples, ReducesBack, ScalesToOne, TakesOnesBehind};
 
 use super::elimination::Elimination;

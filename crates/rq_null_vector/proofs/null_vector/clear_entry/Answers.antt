@@ -3,7 +3,7 @@ use Rattle.std.proofs.Common.{◌<◌, sym, ◌∙◌, subst, ℕ, length}
 use Rattle.rq_algebra.specs.Steps.{AddsRow}
 use Rattle.rq_standard.specs.OctetField.{octets}
 use Rattle.rq_parts.specs.DenseOctetMatrix.{entry_of}
-use Rattle.rq_elimination.proofs.OctetEntries.{zero_adds}
+use Rattle.rq_elimination.proofs.ChangedEntries.{zero_adds}
 use Rattle.rq_null_vector.proofs.ZeroValues.{adds_row, added_keeps}
 use Rattle.rq_null_vector.proofs.null_vector.clear_entry.Goals as goal
 

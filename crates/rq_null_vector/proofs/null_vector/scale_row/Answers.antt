@@ -3,7 +3,7 @@ use Rattle.std.proofs.Common.{◌≡◌, ℕ, ◌<◌, subst, length}
 use Rattle.rq_algebra.specs.Steps.{ScalesRow}
 use Rattle.rq_standard.specs.OctetField.{octets}
 use Rattle.rq_parts.specs.DenseOctetMatrix.{entry_of}
-use Rattle.rq_elimination.proofs.OctetEntries.{one-div, inverse_nonzero}
+use Rattle.rq_elimination.proofs.ChangedEntries.{one-div, inverse_nonzero}
 use Rattle.rq_null_vector.proofs.ZeroValues.{scales_row, scaled_keeps}
 use Rattle.rq_null_vector.proofs.null_vector.scale_row.Goals as goal
 

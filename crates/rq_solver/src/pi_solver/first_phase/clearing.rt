@@ -1,4 +1,4 @@
-//! The pivots' columns in the rows of bits.
+//! The pivots' columns in the rows of bits (RFC 6330, section 5.4.2.2).
 ghost use Rattle.std.specs.Prelude.{◌≡◌, ◌*◌, ◌<◌, length, IfOk, OnOk, IfErr};
 ghost use Rattle.rq_bytes.specs.declared.error.Error.TheVariants.{OutOfMemory};
 ghost use Rattle.rq_elimination.specs.Recorded.{AddsAtMost};

@@ -150,7 +150,7 @@ fn clear_column(
     ensures lanes { length column_octets.new ≡ length batch.new.factors }
     ensures changed { OnOk result (ClearsPivotColumn places.now.peeling.now column places.now.first batch.old batch.new recorded.old recorded.new) }
     ensures few { OnOk result (AddsAtMost ((length batch.old.table.rows - 1) + length batch.old.table.rows) recorded.old recorded.new) }
-    ensures idle { OnOk result (length places.now.peeling.now.rows ≤ at places.now.peeling.now.places column → additions recorded.new.operations ≤ additions recorded.old.operations + (length batch.old.table.rows - 1)) }
+    ensures idle { OnOk result (length places.now.peeling.now.rows ≤ at places.now.peeling.now.places column → AddsAtMost (length batch.old.table.rows - 1) recorded.old recorded.new) }
     ensures err { IfErr result (λ e. e ≡ OutOfMemory) }
 {
     let lead = batch.get(0, column);

@@ -6,11 +6,11 @@ ghost use Rattle.rq_bytes.specs.declared.error.Error.TheVariants.{OutOfMemory};
 ghost use Rattle.rq_parts.specs.DenseOctetMatrix.{entry_of};
 ghost use Rattle.rq_elimination.specs.Recorded.{AddsAtMost};
 ghost use Rattle.rq_elimination.specs.RowSteps.{CanTake};
-ghost use Rattle.rq_solver.specs.Elimination.{inactive_count, left_rows, IsUnderWay, KeepsPivots};
+ghost use Rattle.rq_solver.specs.EliminationState.{inactive_count, left_rows, IsUnderWay, KeepsPivots};
 ghost use Rattle.rq_solver.specs.FourthPhase.{FinishesPivotRows, TookAtMost};
 ghost use Rattle.rq_solver.specs.SecondPhase.{TakesAll};
 
-use super::redo_additions::redo_on_symbols;
+use super::redo_additions::{OnSymbols, redo_additions};
 use crate::pi_solver::elimination::Elimination;
 use rq_bytes::error::Error;
 use rq_bytes::octet::Octet;
@@ -45,7 +45,7 @@ impl Elimination {
             let row = peeling.row_of(place);
             clear_columns(row, inactive_rows, inactive, recorded)?;
             if sparse[place] {
-                redo_on_symbols(row, bounds[place], bounds[place + 1], recorded)?;
+                redo_additions(&OnSymbols, row, bounds[place], bounds[place + 1], recorded)?;
             }
         }
         Ok(())

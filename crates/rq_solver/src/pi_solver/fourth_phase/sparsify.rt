@@ -2,11 +2,11 @@
 ghost use Rattle.std.specs.Prelude.{◌≡◌, ◌+◌, ◌*◌, ◌≤◌, length, IsTrue, IfOk, OnOk, IfErr};
 ghost use Rattle.rq_bytes.specs.declared.error.Error.TheVariants.{OutOfMemory};
 ghost use Rattle.rq_elimination.specs.Recorded.{AddsAtMost};
-ghost use Rattle.rq_solver.specs.Elimination.{sparsified_at, IsUnderWay, KeepsPivots};
+ghost use Rattle.rq_solver.specs.EliminationState.{sparsified_at, IsUnderWay, KeepsPivots};
 ghost use Rattle.rq_solver.specs.FourthPhase.{TakesBack, TookAtMost};
 ghost use Rattle.rq_solver.specs.PivotAdditions.{PeelsRows, PivotsHaveTaken};
 
-use super::redo_additions::redo_on_rows;
+use super::redo_additions::{OnRows, redo_additions};
 use crate::pi_solver::elimination::{Elimination, PivotAdditions};
 use rq_bytes::error::Error;
 use rq_elimination::recorded::RecordedRows;
@@ -73,7 +73,7 @@ fn sparsify_rows(
         let saves = saves_additions(ones, end - start, limit, entries);
         sparse[place] = saves;
         if saves {
-            redo_on_rows(row, start, end, recorded)?;
+            redo_additions(&OnRows, row, start, end, recorded)?;
         }
     }
     Ok(())

@@ -4,7 +4,7 @@ use Rattle.std.proofs.lemmas.List.{get_or_read}
 use Rattle.rq_algebra.specs.Systems.{at}
 use Rattle.rq_standard.specs.OctetField.{octets}
 use Rattle.rq_elimination.specs.HdpcRows.{Batch}
-use Rattle.rq_elimination.proofs.OctetEntries.{mul_is}
+use Rattle.rq_elimination.proofs.ChangedEntries.{mul_is}
 use Rattle.rq_elimination.proofs.hdpc_rows.HdpcRows.first_multiple.Goals as goal
 
 pub returns : goal.returns

@@ -9,7 +9,7 @@ use Rattle.rq_standard.specs.OctetField.{octets}
 use Rattle.rq_standard.specs.Rows.{row_multiple}
 use Rattle.rq_parts.specs.DenseOctetMatrix.{entry_of}
 use Rattle.rq_elimination.specs.HdpcRows.{Batch}
-use Rattle.rq_elimination.proofs.OctetEntries.{at-row_multiple}
+use Rattle.rq_elimination.proofs.ChangedEntries.{at-row_multiple}
 use Rattle.rq_elimination.proofs.Choices.{if_apart}
 use Rattle.rq_elimination.proofs.hdpc_rows.HdpcRows.read_column.Goals as goal
 

@@ -9,7 +9,7 @@ use Rattle.rq_elimination.specs.declared.counts.PhaseEnds.{PhaseEnds}
 use Rattle.rq_peeling.specs.Peeled.{IsPeeled, Pivots}
 use Rattle.rq_peeling.specs.System.{rows_of}
 use Rattle.rq_peeling.specs.declared.system.System.{System}
-use Rattle.rq_solver.specs.Elimination.{inactive_count, left_rows, AddsLater}
+use Rattle.rq_solver.specs.EliminationState.{inactive_count, left_rows, AddsLater}
 use Rattle.rq_solver.specs.FirstPhase.{HasPeeledPivots}
 use Rattle.rq_solver.specs.HdpcOctets.{batch_bound}
 use Rattle.rq_solver.specs.Phases.{ClearsPivots, FindsOrder, IsAttempt}

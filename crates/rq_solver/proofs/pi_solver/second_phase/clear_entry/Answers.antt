@@ -3,7 +3,7 @@ use Rattle.std.proofs.Common.{ℕ, ◌<◌, length, sym, ◌∙◌, subst}
 use Rattle.rq_algebra.specs.Steps.{AddsRow}
 use Rattle.rq_standard.specs.OctetField.{octets}
 use Rattle.rq_parts.specs.DenseOctetMatrix.{entry_of}
-use Rattle.rq_elimination.proofs.OctetEntries.{zero_adds}
+use Rattle.rq_elimination.proofs.ChangedEntries.{zero_adds}
 use Rattle.rq_elimination.proofs.Performing.{adds_of_sum, changes_none, changes_sum}
 use Rattle.rq_solver.proofs.pi_solver.second_phase.clear_entry.Goals as goal
 

@@ -3,7 +3,7 @@ use Rattle.std.proofs.Common.{◌≡◌, ◌≢◌, ℕ, ◌<◌, length, ◌∙
 use Rattle.rq_algebra.specs.Steps.{ScalesRow}
 use Rattle.rq_standard.specs.OctetField.{octets}
 use Rattle.rq_parts.specs.DenseOctetMatrix.{entry_of}
-use Rattle.rq_elimination.proofs.OctetEntries.{one_scales, one-div, inverse_nonzero}
+use Rattle.rq_elimination.proofs.ChangedEntries.{one_scales, one-div, inverse_nonzero}
 use Rattle.rq_elimination.proofs.Performing.{changes_none, changes_scaling, scales_of_scaling}
 use Rattle.rq_solver.proofs.pi_solver.second_phase.scale_row.Goals as goal
 use Rattle.rq_solver.proofs.pi_solver.second_phase.scale_row.Goals.{After-div-scalar}

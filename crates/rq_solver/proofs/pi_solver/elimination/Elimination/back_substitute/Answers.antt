@@ -2,7 +2,7 @@
 use Rattle.std.proofs.Common.{◌≡◌, ◌-◌, ℕ, List, length, drop, take, refl, ap, ◌∙◌, arith}
 use Rattle.std.proofs.lemmas.List.{take_rest}
 use Rattle.rq_parts.specs.DenseOctetMatrix.{OctetTable}
-use Rattle.rq_solver.specs.Elimination.{inactive_count, left_rows}
+use Rattle.rq_solver.specs.EliminationState.{inactive_count, left_rows}
 use Rattle.rq_solver.specs.SecondPhase.{ReducesBack}
 use Rattle.rq_solver.proofs.Substitution.{reduces_as}
 use Rattle.rq_solver.proofs.UnderWay.{ends_substituted, longer_by, still_under_way}

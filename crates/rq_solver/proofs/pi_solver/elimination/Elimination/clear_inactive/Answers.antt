@@ -4,14 +4,14 @@ use Rattle.std.proofs.Common.{◌≡◌, ◌≢◌, ◌+◌, ◌-◌, ◌<◌, �
 use Rattle.std.proofs.lemmas.List.{get_or_read, take_rest}
 use Rattle.rq_algebra.specs.Systems.{at}
 use Rattle.rq_elimination.specs.Recorded.{Records}
-use Rattle.rq_solver.specs.Elimination.{inactive_count, left_rows}
+use Rattle.rq_solver.specs.EliminationState.{inactive_count, left_rows}
 use Rattle.rq_solver.specs.declared.pi_solver.elimination.Elimination.{Elimination}
 use Rattle.rq_solver.proofs.CountLaws.{one_turn_more}
 use Rattle.rq_solver.proofs.TakenAgain.{sums_between, taken_between, taken_recorded}
 use Rattle.rq_parts.specs.DenseOctetMatrix.{OctetTable}
 use Rattle.rq_solver.proofs.UnderWay.{ends_kept, longer_by, still_under_way}
 use Rattle.rq_solver.proofs.pi_solver.elimination.Elimination.clear_inactive.Goals as goal
-use Rattle.rq_solver.proofs.pi_solver.elimination.Elimination.clear_inactive.Goals.{then-sparse-place+in_ok-redo_on_symbols, else-sparse-place}
+use Rattle.rq_solver.proofs.pi_solver.elimination.Elimination.clear_inactive.Goals.{then-sparse-place+in_ok-redo_additions, else-sparse-place}
 
 module _ (e : Elimination) (slice : List ℕ) (same : slice ≡ e.row_order.items) (pivots : ℕ) (pivots_are : pivots ≡ length e.peeling.rows) where
   rows_are : take (length slice - pivots) (drop pivots slice) ≡ left_rows e
@@ -33,8 +33,8 @@ clear_columns-requires-clause-rows c =
       apart = λ f l. c.requires.under_way.apart t f in_rows l;
     })
 
-pub redo_on_symbols-requires-clause-sums : goal.redo_on_symbols-requires-clause-sums
-redo_on_symbols-requires-clause-sums c =
+pub redo_additions-requires-clause-sums : goal.redo_additions-requires-clause-sums
+redo_additions-requires-clause-sums c =
     let v = c.loop-place.invariant in
     let p = c.args.self.now.peeling in
     let lists = c.args.self.now.additions.ones in
@@ -75,17 +75,17 @@ loop-place-preserved c =
     let turn = rw (read, all, counted) at c.in_ok-clear_columns.ensures.taken in
     let apart : (p f : ℕ) → p < length rows → f < count → at rows p ≢ at reduced f = (λ (p f : ℕ) (l : p < length rows) (n : f < count). c.requires.under_way.apart p f l (omega (arith, c.requires.many))) in
     elim c.if-sparse-place.branch [
-      | then-sparse-place+in_ok-redo_on_symbols w ↦
+      | then-sparse-place+in_ok-redo_additions w ↦
           let start : w.index.result.now ≡ at bounds t = get_or_read bounds t w.index.result.now (omega (arith, many, in_rows)) w.index.ensures 0 in
           let end : w.index-then-sparse-place.result.now ≡ at bounds (t + 1) = get_or_read bounds (t + 1) w.index-then-sparse-place.result.now (omega (arith, many, in_rows)) w.index-then-sparse-place.ensures 0 in
-          let new = w.redo_on_symbols.new.recorded in
+          let new = w.redo_additions.new.recorded in
           let first = taken_recorded lists p rows (length rows) bounds old cur c.requires.under_way.taken _ v.finished.records in
           let stands = taken_recorded lists p rows (length rows) bounds cur mid first _ turn.records in
-          let again = taken_between lists p rows (length rows) bounds mid stands t in_rows Records new (rw (start, end) at w.in_ok-redo_on_symbols.ensures.recorded) in
+          let again = taken_between lists p rows (length rows) bounds mid stands t in_rows Records new (rw (start, end) at w.in_ok-redo_additions.ensures.done) in
           rw w.recorded-is (record {
             finished = finish_again lists rows p.order p.places _ c.requires.under_way.peeled.bits peeled reduced marks count t in_rows old cur mid v.finished turn apart new again w.if-sparse-place.true;
             few =
-                let each = rw (start, end) at w.in_ok-redo_on_symbols.ensures.few in
+                let each = rw (start, end) at w.in_ok-redo_additions.ensures.few in
                 let short = c.requires.short t in_marks w.if-sparse-place.true in
                 one_turn_more (count + c.args.self.now.sparsify_limit) _ _ _ t v.few (omega (arith, sums, each, short));
           })

@@ -4,7 +4,7 @@ use Rattle.std.specs.List.Sorted.{IsPermutation}
 use Rattle.std.proofs.lemmas.List.{take_rest, with_items_is}
 use Rattle.std.specs.Vec.{with_items}
 use borrow.Rule.Slice.PartMut.{put_mid, same_len_mid}
-use Rattle.rq_solver.specs.Elimination.{left_rows}
+use Rattle.rq_solver.specs.EliminationState.{left_rows}
 use Rattle.rq_solver.proofs.UnderWay.{ends_eliminated, longer_by, reordered_under_way}
 use Rattle.rq_solver.proofs.pi_solver.elimination.Elimination.eliminate.Goals as goal
 

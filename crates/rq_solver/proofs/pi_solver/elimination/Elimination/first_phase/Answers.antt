@@ -1,5 +1,5 @@
 -- What the check leaves to show of `pi_solver::elimination::Elimination::first_phase`.
-use Rattle.std.proofs.Common.{◌≡◌, List, ℕ, length, sym, ◌∙◌, subst, arith}
+use Rattle.std.proofs.Common.{length, arith}
 use Rattle.rq_solver.specs.Phases.{ClearsPivots}
 use Rattle.rq_solver.specs.RowOrder.{ListsRows}
 use Rattle.rq_solver.proofs.UnderWay.{first_under_way, starts_in_order}

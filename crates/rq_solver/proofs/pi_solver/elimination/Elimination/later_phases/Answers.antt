@@ -1,14 +1,12 @@
 -- What the check leaves to show of `pi_solver::elimination::Elimination::later_phases`.
-use Rattle.std.proofs.Common.{◌≡◌, ◌+◌, ◌<◌, ◌≤◌, ℕ, length, sym, ap, ◌∙◌, arith}
+use Rattle.std.proofs.Common.{◌≡◌, sym}
 use Rattle.std.proofs.lemmas.List.Sorted.{length_permutation}
-use Rattle.rq_algebra.specs.Systems.{at}
 use Rattle.rq_elimination.specs.RowSteps.{IsEchelon}
-use Rattle.rq_peeling.specs.Peeled.{Pivots}
-use Rattle.rq_solver.specs.Elimination.{inactive_count, left_rows, KeepsPivots}
+use Rattle.rq_solver.specs.EliminationState.{inactive_count, left_rows, KeepsPivots}
 use Rattle.rq_solver.specs.declared.pi_solver.elimination.Elimination.{Elimination}
 use Rattle.rq_solver.specs.FourthPhase.{FinishesPivotRows}
 use Rattle.rq_solver.specs.Phases.{SolvesInactive}
-use Rattle.rq_solver.proofs.LaterPhases.{echelon_kept, few_solved, few_stuck, finds_none, finds_rows, left_many, same_count, same_left, solves, to_last, RunsAll}
+use Rattle.rq_solver.proofs.LaterPhases.{echelon_kept, few_solved, few_stuck, finds_none, finds_rows, same_count, same_left, solves, RunsAll}
 use Rattle.rq_solver.proofs.pi_solver.elimination.Elimination.later_phases.Goals as goal
 use Rattle.rq_solver.proofs.pi_solver.elimination.Elimination.later_phases.Goals.{After-clear_inactive}
 

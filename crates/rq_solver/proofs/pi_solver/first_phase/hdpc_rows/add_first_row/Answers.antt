@@ -6,7 +6,7 @@ use Rattle.rq_standard.specs.OctetField.{octets}
 use Rattle.rq_parts.specs.DenseOctetMatrix.{HasOctets}
 use Rattle.rq_elimination.specs.HdpcRows.{octet_in}
 use Rattle.rq_solver.specs.HdpcOctets.{octets_from}
-use Rattle.rq_elimination.proofs.OctetEntries.{one-div, inverse_nonzero}
+use Rattle.rq_elimination.proofs.ChangedEntries.{one-div, inverse_nonzero}
 use Rattle.rq_solver.proofs.OctetSums.{quotient_times, plus_quotient_times}
 use Rattle.rq_elimination.proofs.HdpcFactors.{elements_beside, adds_beside, scales_beside}
 use Rattle.rq_solver.proofs.OctetColumns.{from_elements, from_adds, from_scales}

@@ -4,7 +4,7 @@ use Rattle.std.proofs.lemmas.List.{length-set}
 use Rattle.rq_algebra.specs.Steps.{AddsRow}
 use Rattle.rq_standard.specs.OctetField.{octets}
 use Rattle.rq_parts.specs.DenseOctetMatrix.{OctetTable, entry_of}
-use Rattle.rq_elimination.proofs.OctetEntries.{summed_row, summed_octets}
+use Rattle.rq_elimination.proofs.ChangedEntries.{summed_row, summed_octets}
 use Rattle.rq_solver.proofs.HdpcClearing.{combines_none, combines_more, combines_sum}
 use Rattle.rq_solver.proofs.OctetSums.{sum_of_one, sum_of_more}
 use Rattle.rq_solver.proofs.pi_solver.first_phase.hdpc_rows.sum_rows.Goals as goal

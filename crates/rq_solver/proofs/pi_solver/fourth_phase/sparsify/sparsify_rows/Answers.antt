@@ -8,7 +8,7 @@ use Rattle.rq_solver.proofs.CountLaws.{one_turn_more}
 use Rattle.rq_solver.proofs.FinishedPivots.{takes_none, back_skipped, back_taken}
 use Rattle.rq_solver.proofs.TakenAgain.{sums_between, taken_between, taken_performed}
 use Rattle.rq_solver.proofs.pi_solver.fourth_phase.sparsify.sparsify_rows.Goals as goal
-use Rattle.rq_solver.proofs.pi_solver.fourth_phase.sparsify.sparsify_rows.Goals.{then-saves+in_ok-redo_on_rows, else-saves}
+use Rattle.rq_solver.proofs.pi_solver.fourth_phase.sparsify.sparsify_rows.Goals.{then-saves+in_ok-redo_additions, else-saves}
 
 pub loop-done-init : goal.loop-done-init
 loop-done-init c =
@@ -19,8 +19,8 @@ loop-done-init c =
       few = omega arith;
     }
 
-pub redo_on_rows-requires-clause-sums : goal.redo_on_rows-requires-clause-sums
-redo_on_rows-requires-clause-sums c =
+pub redo_additions-requires-clause-sums : goal.redo_additions-requires-clause-sums
+redo_additions-requires-clause-sums c =
     let rows = c.args.peeling.now.rows in
     let bounds = c.args.additions.now.bounds.items in
     let place : ℕ = length c.loop-done.sparse - 1 - c.loop-done.done in
@@ -66,12 +66,12 @@ loop-done-preserved c =
       | inr d ↦ v.short p (omega (arith, was, next, late, d)) l (sym (same p d) ∙ e)
     ]) in
     elim c.if-saves.branch [
-      | then-saves+in_ok-redo_on_rows w ↦ rw w.recorded-is (record {
-        taken = rw next (back_taken lists rows order places _ bits peeled marks now place in_rows old cur so_far same w.redo_on_rows.new.recorded (taken_between lists c.args.peeling.now rows (length rows) bounds cur stands place in_rows Performs w.redo_on_rows.new.recorded (rw (start, end) at w.in_ok-redo_on_rows.ensures.added)) (here ∙ w.if-saves.true));
+      | then-saves+in_ok-redo_additions w ↦ rw w.recorded-is (record {
+        taken = rw next (back_taken lists rows order places _ bits peeled marks now place in_rows old cur so_far same w.redo_additions.new.recorded (taken_between lists c.args.peeling.now rows (length rows) bounds cur stands place in_rows Performs w.redo_additions.new.recorded (rw (start, end) at w.in_ok-redo_additions.ensures.done)) (here ∙ w.if-saves.true));
         short = short;
         few =
             let few_rows = c.saves_additions-saves.ensures w.if-saves.true in
-            let each = w.in_ok-redo_on_rows.ensures.few in
+            let each = w.in_ok-redo_additions.ensures.few in
             one_turn_more c.args.limit _ _ _ done v.few (omega (arith, each, few_rows));
       })
       | else-saves w ↦ rw w.recorded-is (record {
