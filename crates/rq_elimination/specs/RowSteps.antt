@@ -2,6 +2,7 @@
 use Rattle.std.specs.Prelude.{◌≡◌, ◌≢◌, ℕ, ◌<◌, ◌≤◌, ◌==◌, if◌then◌else◌, List, [], ◌∷◌, Contains, length}
 use Rattle.rq_algebra.specs.Field.{Field}
 use Rattle.rq_algebra.specs.Arrangements.{ArePlaces}
+use Rattle.rq_algebra.specs.Steps.{AddsRow, ScalesRow}
 use Rattle.rq_algebra.specs.Systems.{at}
 use Rattle.rq_algebra.specs.Operations.{Operation, AddAssign, MulAssign, Fma, Reorder}
 use Rattle.rq_algebra.proofs.Changes.{with_at}
@@ -40,6 +41,14 @@ IsStepAmong F rows (AddAssign dest src) = Contains rows dest × Contains rows sr
 IsStepAmong F rows (MulAssign dest scalar) = Contains rows dest × (scalar < F.size) × (scalar ≢ 0)
 IsStepAmong F rows (Fma dest src scalar) = Contains rows dest × Contains rows src × (src ≢ dest)
 IsStepAmong F rows (Reorder order) = ⊥
+
+-- a row is multiplied so that it has 1 in a column
+abbrev pub ScalesToOne : ℕ → ℕ → OctetTable → OctetTable → Type 0
+ScalesToOne row column old new = ScalesRow octets (length old.rows) old.width row (octets.inverse (entry_of old row column)) (entry_of old) (entry_of new)
+
+-- a row takes what it has in a column times another one
+abbrev pub ClearsEntry : ℕ → ℕ → ℕ → OctetTable → OctetTable → Type 0
+ClearsEntry dest src column old new = AddsRow octets (length old.rows) old.width dest src (entry_of old dest column) (entry_of old) (entry_of new)
 
 -- the first of these rows have 1 in their own columns, the first of all, and the rows behind each of them have 0 there
 pub record IsEchelon (rows : List ℕ) (done : ℕ) (table : OctetTable) : Type 0 where

@@ -1,15 +1,12 @@
 //! A column that shows that rows don't determine one (a homogeneous column), by an elimination that
 //! records nothing.
 ghost use Rattle.std.specs.Prelude.{◌≡◌, ◌≢◌, ◌-◌, ◌<◌, ◌∷◌, ◌++◌, All, length, map, replicate, MatchOption, IfOk, IfErr};
-ghost use Rattle.rq_algebra.proofs.Elimination.{ClearsColumn};
-ghost use Rattle.rq_algebra.specs.Steps.{AddsRow, ScalesRow};
 ghost use Rattle.rq_algebra.specs.Systems.{at};
 ghost use Rattle.rq_bytes.specs.declared.error.Error.TheVariants.{OutOfMemory};
 ghost use Rattle.rq_parts.specs.DenseOctetMatrix.{entry_of, HasOctets};
 ghost use Rattle.rq_null_vector.specs.Homogeneous.{ShowsHomogeneousRows, KeepsZeros, LacksPivot};
-ghost use Rattle.rq_elimination.specs.RowSteps.{AreRows};
-ghost use Rattle.rq_null_vector.specs.Reduced.{IsReduced};
-ghost use Rattle.rq_standard.specs.OctetField.{octets};
+ghost use Rattle.rq_elimination.specs.RowSteps.{AreRows, ClearsEntry, ScalesToOne};
+ghost use Rattle.rq_null_vector.specs.Reduced.{ClearsOthers, IsPivotColumn, IsReduced};
 
 use crate::octet_rows::octet_rows;
 use rq_bytes::error::Error;
@@ -74,7 +71,7 @@ fn scale_row(matrix: &mut DenseOctetMatrix, row: usize, column: usize)
     requires octets { HasOctets matrix.old }
     requires nonzero { entry_of matrix.old row column ≢ 0 }
     ensures keeps { KeepsZeros matrix.old matrix.new }
-    ensures scaled { ScalesRow octets (length matrix.old.rows) matrix.old.width row (octets.inverse (entry_of matrix.old row column)) (entry_of matrix.old) (entry_of matrix.new) }
+    ensures scaled { ScalesToOne row column matrix.old matrix.new }
 {
     let scalar = Octet::one() / matrix.get(row, column);
     matrix.mul_assign_row(row, &scalar);
@@ -88,7 +85,7 @@ fn clear_column(matrix: &mut DenseOctetMatrix, rows: &[usize], column: usize)
     requires column { column < matrix.old.width }
     requires octets { HasOctets matrix.old }
     ensures keeps { KeepsZeros matrix.old matrix.new }
-    ensures cleared { ClearsColumn octets (length rows.now) matrix.old.width column column (length rows.now) (at rows.now) (entry_of matrix.old) (entry_of matrix.new) }
+    ensures cleared { ClearsOthers rows.now column matrix.old matrix.new }
 {
     for i in 0..rows.len() {
         if i != column {
@@ -105,7 +102,7 @@ fn clear_entry(matrix: &mut DenseOctetMatrix, dest: usize, src: usize, column: u
     requires column { column < matrix.old.width }
     requires octets { HasOctets matrix.old }
     ensures keeps { KeepsZeros matrix.old matrix.new }
-    ensures added { AddsRow octets (length matrix.old.rows) matrix.old.width dest src (entry_of matrix.old dest column) (entry_of matrix.old) (entry_of matrix.new) }
+    ensures added { ClearsEntry dest src column matrix.old matrix.new }
 {
     let scalar = matrix.get(dest, column);
     if scalar.byte() != 0 {
@@ -124,7 +121,7 @@ fn column_of_pivots(
     requires width { width ≡ matrix.now.width }
     requires free { length pivots.now < matrix.now.width }
     requires rows { All (λ row. row < length matrix.now.rows) pivots.now }
-    ensures { IfOk result (λ column. column.items ≡ map (λ row. entry_of matrix.now row (length pivots.now)) pivots.now ++ 1 ∷ replicate (width - length pivots.now - 1) 0) }
+    ensures { IfOk result (λ column. IsPivotColumn pivots.now width matrix.now column.items) }
 {
     let free = pivots.len();
     let mut column = Vec::with_capacity(alloc, width)?;

@@ -38,7 +38,11 @@ pub record KeepsPivots (old new : Elimination) : Type 0 where
   pub additions : new.additions ≡ old.additions
   pub limit : new.sparsify_limit ≡ old.sparsify_limit
 
--- the second phase and the fourth add at most so often
+-- how often the pivots' rows take others at most when they are cleared in the inactive columns
+abbrev pub finish_bound : Elimination → ℕ
+finish_bound e = length e.peeling.rows * (inactive_count e + e.sparsify_limit)
+
+-- how often the second phase and the fourth add a row at most
 abbrev pub AddsLater : Elimination → Elimination → Type 0
 AddsLater old new =
     additions new.recorded.operations ≤ additions old.recorded.operations + inactive_count old * (length old.row_order.items - 1) + 2 * (length old.peeling.rows * old.sparsify_limit)

@@ -42,6 +42,10 @@ pub record FinishesPivots (lists : List (List ℕ)) (rows order reduced : List �
       → ((p : ℕ) → p < length rows → slice_index_or marks p false ≡ true → IsUncleared lists rows order m (at rows p))
       → (p : ℕ) → p < done → IsFinished rows order count column (rows_after octets steps m) (at rows p)
 
--- all pivots' rows of an elimination do so
+-- of the pivots' rows of an elimination those that have a mark do so
+abbrev pub SparsifiesRows : List Bool → Elimination → RecordedRows → Type 0
+SparsifiesRows sparse old new = TakesBack old.additions.ones old.peeling.rows old.peeling.order sparse 0 old.recorded new
+
+-- all pivots' rows of an elimination are finished
 abbrev pub FinishesPivotRows : List Bool → Elimination → RecordedRows → Type 0
 FinishesPivotRows sparse old new = FinishesPivots old.additions.ones old.peeling.rows old.peeling.order (left_rows old) sparse (inactive_count old) (length old.peeling.rows) old.recorded new

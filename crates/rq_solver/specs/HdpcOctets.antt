@@ -92,6 +92,18 @@ CombinesFrom column first was now old new = CombinesOctets first (length was.tab
 abbrev pub ClearsPivotColumn : Pivots → ℕ → ℕ → Batch → Batch → RecordedRows → RecordedRows → Type 0
 ClearsPivotColumn peeling column first was now old new = ChangesOctets peeling.rows peeling.order first (length was.table.rows) (octets_from column (octet_in was)) (octets_from (column + 1) (octet_in now)) old new
 
+-- the first row of HDPC rows takes the others
+abbrev pub CombinesTables : ℕ → OctetTable → OctetTable → RecordedRows → RecordedRows → Type 0
+CombinesTables first was now old new = CombinesOctets first (length was.rows) was.width (entry_of was) (entry_of now) old new
+
+-- the rows have 0 in the column of the pivot at a place
+abbrev pub ClearsOwnColumn : Pivots → ℕ → ℕ → Batch → RecordedRows → RecordedRows → Type 0
+ClearsOwnColumn peeling place first batch old new = ClearsPivotColumn peeling (at peeling.order place) first batch batch old new
+
+-- a column is inactive
+abbrev pub HasNoPivot : Pivots → ℕ → Type 0
+HasNoPivot peeling column = length peeling.rows ≤ at peeling.places column
+
 -- ---- all steps
 
 -- the HDPC rows of a system, which have these octets in the pivots' columns, get 0 there

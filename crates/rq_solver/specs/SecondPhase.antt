@@ -1,6 +1,5 @@
 -- The second phase: rows that have no pivot yet are brought into echelon form, and then substituted back.
 use Rattle.std.specs.Prelude.{◌≡◌, ◌≢◌, ℕ, ◌+◌, ◌-◌, ◌*◌, ◌<◌, ◌≤◌, ◌==◌, if◌then◌else◌, Bool, List, length, MatchBool}
-use Rattle.rq_algebra.specs.Steps.{AddsRow, ScalesRow}
 use Rattle.rq_algebra.specs.Systems.{at}
 use Rattle.rq_algebra.specs.Operations.{Operation}
 use Rattle.rq_standard.specs.OctetField.{octets}
@@ -11,14 +10,6 @@ use Rattle.rq_elimination.specs.RowSteps.{IsEchelon, IsStuck, rows_after}
 use Rattle.rq_elimination.specs.declared.recorded.RecordedRows.{RecordedRows}
 
 -- ---- forward
-
--- a row is multiplied so that it has 1 in a column
-abbrev pub ScalesToOne : ℕ → ℕ → OctetTable → OctetTable → Type 0
-ScalesToOne row column old new = ScalesRow octets (length old.rows) old.width row (octets.inverse (entry_of old row column)) (entry_of old) (entry_of new)
-
--- a row takes what it has in a column times another one
-abbrev pub ClearsEntry : ℕ → ℕ → ℕ → OctetTable → OctetTable → Type 0
-ClearsEntry dest src column old new = AddsRow octets (length old.rows) old.width dest src (entry_of old dest column) (entry_of old) (entry_of new)
 
 -- the first `count` columns have pivots, or one of them has none
 abbrev pub EndsForward : List ℕ → ℕ → RecordedRows → Bool → Type 0
@@ -53,6 +44,10 @@ pub record TakesReduced (reduced : List ℕ) (row start count done : ℕ) (entri
 -- all of the first `count` rows, so that it gets 0 in their columns
 abbrev pub TakesAll : List ℕ → ℕ → ℕ → (ℕ → ℕ) → RecordedRows → RecordedRows → Type 0
 TakesAll reduced count row entries old new = TakesReduced reduced row 0 count count entries old new
+
+-- all of these rows, whose columns begin at column `start`
+abbrev pub TakesFrom : List ℕ → ℕ → ℕ → RecordedRows → RecordedRows → Type 0
+TakesFrom reduced row start old new = TakesAll reduced (length reduced) row (λ f. entry_of old.table row (start + f)) old new
 
 -- ---- back
 

@@ -6,9 +6,9 @@ ghost use Rattle.rq_bytes.specs.declared.error.Error.TheVariants.{OutOfMemory};
 ghost use Rattle.rq_parts.specs.DenseOctetMatrix.{entry_of};
 ghost use Rattle.rq_elimination.specs.OperationCounts.{additions, multiples, triangle};
 ghost use Rattle.rq_elimination.specs.Recorded.{AddsAtMost, ChangesRows};
-ghost use Rattle.rq_elimination.specs.RowSteps.{AreRows, ClearsBelow, IsEchelon};
+ghost use Rattle.rq_elimination.specs.RowSteps.{AreRows, ClearsBelow, ClearsEntry, IsEchelon, ScalesToOne};
 ghost use Rattle.rq_solver.specs.EliminationState.{inactive_count, left_rows, eliminated_at, substituted_at, IsUnderWay, KeepsPivots};
-ghost use Rattle.rq_solver.specs.SecondPhase.{AddsForward, AddsOnes, ClearsEntry, EndsForward, GivesMultiples, ReducesBack, ScalesToOne, TakesOnesBehind};
+ghost use Rattle.rq_solver.specs.SecondPhase.{AddsForward, AddsOnes, EndsForward, GivesMultiples, ReducesBack, TakesOnesBehind};
 
 use super::elimination::Elimination;
 use rq_bytes::error::Error;

@@ -5,7 +5,8 @@ ghost use Rattle.rq_bytes.specs.declared.error.Error.TheVariants.{OutOfMemory};
 ghost use Rattle.rq_parts.specs.DenseOctetMatrix.{entry_of, HasOctets};
 ghost use Rattle.rq_elimination.specs.Recorded.{AddsAtMost};
 ghost use Rattle.rq_elimination.specs.OperationCounts.{additions};
-ghost use Rattle.rq_solver.specs.HdpcOctets.{batch_bound, AreOctetsIn, ClearsOctets, ClearsPivotColumn, CombinesFrom, CombinesOctets, HasZeros, IsFirstAlone, StandsBeside, SumsRows};
+ghost use Rattle.rq_solver.specs.HdpcOctets.{batch_bound, AreOctetsIn, ClearsOctets, ClearsOwnColumn, ClearsPivotColumn, CombinesFrom};
+ghost use Rattle.rq_solver.specs.HdpcOctets.{CombinesTables, HasNoPivot, HasZeros, IsFirstAlone, StandsBeside, SumsRows};
 ghost use Rattle.rq_elimination.specs.HdpcRows.{octet_in};
 ghost use Rattle.rq_peeling.specs.Peeled.{IsOrderOf};
 ghost use Rattle.rq_elimination.specs.RowSteps.{AreRows};
@@ -120,7 +121,7 @@ fn sum_rows(
     ensures height { OnOk result (length rows.new.rows ≡ length rows.old.rows) }
     ensures octets { OnOk result (HasOctets rows.new) }
     ensures sum { OnOk result (SumsRows rows.old rows.new) }
-    ensures summed { OnOk result (CombinesOctets first_hdpc (length rows.old.rows) rows.old.width (entry_of rows.old) (entry_of rows.new) recorded.old recorded.new) }
+    ensures summed { OnOk result (CombinesTables first_hdpc rows.old rows.new recorded.old recorded.new) }
     ensures few { OnOk result (AddsAtMost (length rows.old.rows - 1) recorded.old recorded.new) }
     ensures err { IfErr result (λ e. e ≡ OutOfMemory) }
 {
@@ -150,7 +151,7 @@ fn clear_column(
     ensures lanes { length column_octets.new ≡ length batch.new.factors }
     ensures changed { OnOk result (ClearsPivotColumn places.now.peeling.now column places.now.first batch.old batch.new recorded.old recorded.new) }
     ensures few { OnOk result (AddsAtMost ((length batch.old.table.rows - 1) + length batch.old.table.rows) recorded.old recorded.new) }
-    ensures idle { OnOk result (length places.now.peeling.now.rows ≤ at places.now.peeling.now.places column → AddsAtMost (length batch.old.table.rows - 1) recorded.old recorded.new) }
+    ensures idle { OnOk result (HasNoPivot places.now.peeling.now column → AddsAtMost (length batch.old.table.rows - 1) recorded.old recorded.new) }
     ensures err { IfErr result (λ e. e ≡ OutOfMemory) }
 {
     let lead = batch.get(0, column);
@@ -221,7 +222,7 @@ fn add_pivot(
     requires place { place < length places.now.peeling.now.rows }
     requires count { count ≤ length batch.now.table.rows }
     requires zeros { (i : ℕ) → count ≤ i → i < length batch.now.table.rows → octet_in batch.now i (at places.now.peeling.now.order place) ≡ 0 }
-    ensures changed { OnOk result (ClearsPivotColumn places.now.peeling.now (at places.now.peeling.now.order place) places.now.first batch.now batch.now recorded.old recorded.new) }
+    ensures changed { OnOk result (ClearsOwnColumn places.now.peeling.now place places.now.first batch.now recorded.old recorded.new) }
     ensures few { OnOk result (AddsAtMost (length batch.now.table.rows) recorded.old recorded.new) }
     ensures err { IfErr result (λ e. e ≡ OutOfMemory) }
 {

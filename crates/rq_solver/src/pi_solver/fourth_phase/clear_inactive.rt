@@ -6,9 +6,9 @@ ghost use Rattle.rq_bytes.specs.declared.error.Error.TheVariants.{OutOfMemory};
 ghost use Rattle.rq_parts.specs.DenseOctetMatrix.{entry_of};
 ghost use Rattle.rq_elimination.specs.Recorded.{AddsAtMost};
 ghost use Rattle.rq_elimination.specs.RowSteps.{CanTake};
-ghost use Rattle.rq_solver.specs.EliminationState.{inactive_count, left_rows, IsUnderWay, KeepsPivots};
+ghost use Rattle.rq_solver.specs.EliminationState.{finish_bound, inactive_count, left_rows, IsUnderWay, KeepsPivots};
 ghost use Rattle.rq_solver.specs.FourthPhase.{FinishesPivotRows, TookAtMost};
-ghost use Rattle.rq_solver.specs.SecondPhase.{TakesAll};
+ghost use Rattle.rq_solver.specs.SecondPhase.{TakesAll, TakesFrom};
 
 use super::redo_additions::{OnSymbols, redo_additions};
 use crate::pi_solver::elimination::Elimination;
@@ -33,7 +33,7 @@ impl Elimination {
         ensures ends { self.new.ends ≡ self.old.ends }
         ensures under_way { OnOk result (IsUnderWay self.new) }
         ensures finished { OnOk result (FinishesPivotRows sparse.now self.old self.new.recorded) }
-        ensures few { OnOk result (AddsAtMost (length self.old.peeling.rows * (inactive_count self.old + self.old.sparsify_limit)) self.old.recorded self.new.recorded) }
+        ensures few { OnOk result (AddsAtMost (finish_bound self.old) self.old.recorded self.new.recorded) }
         ensures err { IfErr result (λ e. e ≡ OutOfMemory) }
     {
         let peeling = &self.peeling;
@@ -87,7 +87,7 @@ fn take_word(
     requires few { length inactive_rows.now ≤ 64 }
     requires width { 64 * word + length inactive_rows.now ≤ recorded.old.table.width }
     requires fits { 64 * word + length inactive_rows.now < 2 ^ 64 }
-    ensures taken { OnOk result (TakesAll inactive_rows.now (length inactive_rows.now) row (λ f. entry_of recorded.old.table row (64 * word + f)) recorded.old recorded.new) }
+    ensures taken { OnOk result (TakesFrom inactive_rows.now row (64 * word) recorded.old recorded.new) }
     ensures few { OnOk result (AddsAtMost (length inactive_rows.now) recorded.old recorded.new) }
     ensures err { IfErr result (λ e. e ≡ OutOfMemory) }
 {
@@ -131,7 +131,7 @@ fn take_octets(
     requires rows { CanTake row inactive_rows.now recorded.old.table }
     requires width { start + length inactive_rows.now ≤ recorded.old.table.width }
     requires fits { start + length inactive_rows.now < 2 ^ 64 }
-    ensures taken { OnOk result (TakesAll inactive_rows.now (length inactive_rows.now) row (λ f. entry_of recorded.old.table row (start + f)) recorded.old recorded.new) }
+    ensures taken { OnOk result (TakesFrom inactive_rows.now row start recorded.old recorded.new) }
     ensures few { OnOk result (AddsAtMost (length inactive_rows.now) recorded.old recorded.new) }
     ensures err { IfErr result (λ e. e ≡ OutOfMemory) }
 {

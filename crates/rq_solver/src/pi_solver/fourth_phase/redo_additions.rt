@@ -29,7 +29,7 @@ pub(super) trait Redo {
 
     ghost none: { (state : RecordedRows) → done [] state state };
 
-    ghost more: { (steps later : List Operation) (first second third : RecordedRows) → done steps first second → done later second third → done (steps ++ later) first third };
+    ghost more: { (a b : List Operation) (first mid last : RecordedRows) → done a first mid → done b mid last → done (a ++ b) first last };
 
     ghost recorded: { (steps : List Operation) (old new : RecordedRows) → done steps old new → new.operations ≡ old.operations ++ steps };
 
@@ -43,6 +43,7 @@ pub(super) struct OnRows;
 impl Redo for OnRows {
     ghost done = { λ steps old new. Performs steps old new };
 
+    #[inline(always)]
     fn redo(&self, row: usize, source: usize, recorded: &mut RecordedRows) -> Result<(), Error> {
         recorded.add_multiple(row, source, Octet::one())
     }
@@ -63,6 +64,7 @@ pub(super) struct OnSymbols;
 impl Redo for OnSymbols {
     ghost done = { λ steps old new. Records steps old new };
 
+    #[inline(always)]
     fn redo(&self, row: usize, source: usize, recorded: &mut RecordedRows) -> Result<(), Error> {
         recorded.record_multiple(row, source, Octet::one())
     }

@@ -3,7 +3,7 @@ ghost use Rattle.std.specs.Prelude.{◌≡◌, ◌+◌, ◌*◌, ◌≤◌, leng
 ghost use Rattle.rq_bytes.specs.declared.error.Error.TheVariants.{OutOfMemory};
 ghost use Rattle.rq_elimination.specs.Recorded.{AddsAtMost};
 ghost use Rattle.rq_solver.specs.EliminationState.{sparsified_at, IsUnderWay, KeepsPivots};
-ghost use Rattle.rq_solver.specs.FourthPhase.{TakesBack, TookAtMost};
+ghost use Rattle.rq_solver.specs.FourthPhase.{SparsifiesRows, TakesBack, TookAtMost};
 ghost use Rattle.rq_solver.specs.PivotAdditions.{PeelsRows, PivotsHaveTaken};
 
 use super::redo_additions::{OnRows, redo_additions};
@@ -21,7 +21,7 @@ impl Elimination {
         ensures same { KeepsPivots self.old self.new }
         ensures rows { self.new.row_order ≡ self.old.row_order }
         ensures under_way { OnOk result (IsUnderWay self.new) }
-        ensures taken { IfOk result (λ sparse. TakesBack self.old.additions.ones self.old.peeling.rows self.old.peeling.order sparse.items 0 self.old.recorded self.new.recorded) }
+        ensures taken { IfOk result (λ sparse. SparsifiesRows sparse.items self.old self.new.recorded) }
         ensures long { IfOk result (λ sparse. length sparse.items ≡ length self.old.peeling.rows) }
         ensures short { IfOk result (λ sparse. TookAtMost self.old.sparsify_limit sparse.items self.old.additions.bounds.items) }
         ensures ends { OnOk result (self.new.ends ≡ sparsified_at self.old.ends (length self.new.recorded.operations)) }
