@@ -7,6 +7,7 @@ mod coders;
 mod devices;
 mod headers;
 mod runs;
+mod slabs;
 mod streams;
 
 // All memory could be taken, and each call was refused some, and answered where there was enough.

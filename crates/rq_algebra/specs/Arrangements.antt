@@ -20,7 +20,7 @@ pub record IsFewOn (height width n : ℕ) (a : ℕ → ℕ → ℕ) (rows column
 abbrev pub RowsStandIn : ℕ → ℕ → (ℕ → ℕ → ℕ) → ℕ → (ℕ → ℕ → ℕ) → Type 0
 RowsStandIn width old_height old new_height new = (i : ℕ) → i < old_height → (j : ℕ) × (j < new_height) × ((k : ℕ) → k < width → new j k ≡ old i k)
 
--- the same with the values of the rows
+-- each equation of the old system, a row with its value, stands somewhere in the new one
 abbrev pub EquationsStandIn : ℕ → ℕ → (ℕ → ℕ → ℕ) → (ℕ → ℕ) → ℕ → (ℕ → ℕ → ℕ) → (ℕ → ℕ) → Type 0
 EquationsStandIn width old_height old v new_height new w = (i : ℕ) → i < old_height → (j : ℕ) × (j < new_height) × ((k : ℕ) → k < width → new j k ≡ old i k) × (w j ≡ v i)
 

@@ -81,7 +81,7 @@ order_after order (MulAssign dest scalar) = order
 order_after order (Fma dest src scalar) = order
 order_after order (Reorder new) = Some new
 
--- the same of all of them, first to last
+-- what operations ask of n values, each in the order that those before it set
 abbrev pub AreAllowed : ℕ → Option (List ℕ) → List Operation → Type 0
 AreAllowed n order [] = ⊤
 AreAllowed n order (operation ∷ operations) = IsAllowed n order operation × AreAllowed n (order_after order operation) operations

@@ -81,7 +81,7 @@ SumIsDotOfParities =
     → All (λ k. k < width) indices → IsColumn F width column
     → sum_listed (plain F) indices column ≡ dot F width (parity indices) column
 
--- the same of symbols, at each place
+-- at each place of symbols, their sum at listed indices is the dot with their parities
 abbrev pub SymbolSumIsDotOfParities : Type 0
 SymbolSumIsDotOfParities =
     (F : Field) (width size : ℕ) (indices : List ℕ) (column : ℕ → List ℕ) (place : ℕ)

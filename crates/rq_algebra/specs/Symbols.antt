@@ -14,7 +14,7 @@ add_symbols F (x ∷ xs) (y ∷ ys) = F.add x y ∷ add_symbols F xs ys
 abbrev pub symbols : Field → Space (List ℕ)
 symbols F = record { zero = []; add = add_symbols F; scale = λ c xs. map (F.mul c) xs }
 
--- so many elements of the field
+-- `size` elements of the field
 pub record IsSymbol (F : Field) (size : ℕ) (symbol : List ℕ) : Type 0 where
   pub size_is : length symbol ≡ size
   pub elements : All (λ x. x < F.size) symbol
@@ -27,7 +27,7 @@ IsSymbolColumn F size n column = (k : ℕ) → k < n → IsSymbol F size (column
 abbrev pub symbol_at : List (List ℕ) → ℕ → List ℕ
 symbol_at xs k = slice_index_or xs k []
 
--- a list of so many symbols of that size
+-- a list of `count` symbols of `size` elements each
 pub record AreSymbols (F : Field) (size count : ℕ) (xs : List (List ℕ)) : Type 0 where
   pub count_is : length xs ≡ count
   pub each : IsSymbolColumn F size count (symbol_at xs)

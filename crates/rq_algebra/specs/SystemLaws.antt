@@ -67,7 +67,7 @@ DeterminedStays =
     (F : Field) (width old_height new_height : ℕ) (old new : ℕ → ℕ → ℕ)
     → RowsStandIn width old_height old new_height new → IsDetermined F old_height width old → IsDetermined F new_height width new
 
--- the same of the ids that have one equation each, below some equations that stay
+-- ids, of which each has one equation below some that stay, may be added, repeated and put in another order
 abbrev pub DeterminedByIds : Type 0
 DeterminedByIds =
     (F : Field) (width height : ℕ) (above row : ℕ → ℕ → ℕ) (old new : List ℕ)
@@ -95,7 +95,7 @@ FewEquationsHaveHomogeneousColumn =
     (F : Field) (width height : ℕ) (rows : ℕ → ℕ → ℕ)
     → height < width → HasElements F height width rows → HasHomogeneousColumn F height width rows
 
--- the same where on n + 1 of the columns only n of the rows are not zero
+-- there is a homogeneous column where on n + 1 of the columns only n of the rows are not zero
 abbrev pub FewOnColumnsHaveHomogeneousColumn : Type 0
 FewOnColumnsHaveHomogeneousColumn =
     (F : Field) (height width n : ℕ) (a : ℕ → ℕ → ℕ) (rows columns : ℕ → ℕ)

@@ -8,7 +8,7 @@ use Rattle.rq_standard.specs.BitTableSteps.{HasSameShape}
 use Rattle.rq_standard.specs.TableRows.{intermediate_symbols, b_of}
 use Rattle.rq_standard.specs.Equations.{one_if, is_ldpc_row, ldpc_coefficient, symbol_coefficient}
 
--- so many rows of L columns, of which the LT symbols' ones aren't dense, and none is indexed
+-- `rows` rows of L columns, of which the LT symbols' ones aren't dense, and none is indexed
 pub record HasRows (row : TableRow) (rows : ℕ) (m : BitTable) : Type 0 where
   pub height : m.height ≡ rows
   pub width : m.width ≡ intermediate_symbols row

@@ -6,7 +6,7 @@ use Rattle.rq_standard.specs.TableRows.{intermediate_symbols}
 use Rattle.rq_standard.specs.Equations.{hdpc_coefficient}
 use Rattle.rq_standard.specs.ConstraintMatrix.{AreHdpcRows}
 
--- so many rows, of so many octets each
+-- `height` rows of `width` octets each
 pub record HasShape (height width : ℕ) (table : OctetTable) : Type 0 where
   pub tall : length table.rows ≡ height
   pub wide : table.width ≡ width

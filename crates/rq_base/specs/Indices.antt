@@ -7,7 +7,7 @@ unfoldable pub walk : (m step x n : ℕ) → List ℕ
 walk m step x zero = []
 walk m step x (suc n) = x ∷ walk m step ((x + step) % m) n
 
--- the first value of that walk that is below p, within so many steps
+-- the first value of that walk that is below p, within `more` steps
 unfoldable pub next_below : (p m step more x : ℕ) → ℕ
 next_below p m step zero x = x
 next_below p m step (suc more) x = if nat_lt x p then x else next_below p m step more ((x + step) % m)

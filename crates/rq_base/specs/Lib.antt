@@ -4,4 +4,5 @@ pub mod Defaults
 pub mod HdpcPart
 pub mod ObjectTransmissionInformation
 pub mod Indices
+pub mod Records
 pub mod RefusedInput

@@ -13,7 +13,7 @@ abbrev pub IsAnswer : {X Y : Type 0} → (X → Y) → Result X Error → Result
 IsAnswer view (Ok x) wanted = wanted ≡ Ok (view x)
 IsAnswer view (Err e) wanted = IsRefusal e wanted
 
--- The same, where want of memory may come before another refusal.
+-- An answer, seen by `view`, is the wanted one, and so is a refusal; want of memory may come where another refusal is wanted too.
 abbrev pub Answers : {X Y : Type 0} → (X → Y) → Result X Error → Result Y Error → Type 0
 Answers view (Ok x) wanted = wanted ≡ Ok (view x)
 Answers view (Err e) wanted = (e ≡ OutOfMemory) ⊎ (wanted ≡ Err e)

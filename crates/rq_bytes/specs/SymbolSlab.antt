@@ -23,7 +23,7 @@ store_of slab = record { values = slab.values; order = slab.order }
 abbrev pub slab_of : ℕ → List (List ℕ) → Slab
 slab_of size values = record { values = values; symbol_size = size; order = None }
 
--- these symbols from a place on among so many, and zeros in all other places
+-- `count` symbols: these from `start` on, and zeros in all other places
 abbrev pub among_zeros : ℕ → ℕ → ℕ → List (List ℕ) → List (List ℕ)
 among_zeros size start count values = replicate start (replicate size 0) ++ (values ++ replicate (count - start - length values) (replicate size 0))
 
@@ -63,7 +63,7 @@ IsZeroUnread slab = ForSome slab.order (λ order. (i : ℕ) → IsUnread (length
 abbrev pub IsZeroUnmarked : Slab → List Bool → Type 0
 IsZeroUnmarked slab marks = (i : ℕ) → i < length slab.values → slice_index_or marks i false ≡ false → symbol_at slab.values i ≡ replicate slab.symbol_size 0
 
--- of so many values those have a mark that the order reads
+-- of `count` values those have a mark that the order reads
 pub record MarksRead (count : ℕ) (order : List ℕ) (marks : List Bool) : Type 0 where
   pub count_is : length marks ≡ count
   pub marked : (k : ℕ) → k < length order → slice_index_or marks (at order k) false ≡ true

@@ -5,7 +5,7 @@ ghost use Rattle.rq_bytes.specs.SymbolSlab.{MarksRead};
 
 use std::alloc::{AllocError, Global};
 
-/// A mark for each of so many values that the order reads.
+/// For each of `count` values whether the order reads it.
 pub(crate) fn marks_of(
     alloc: Global,
     order: &[usize],

@@ -179,6 +179,8 @@ impl Div<&Octet> for &Octet {
 }
 
 /// Fills a table with the products of all octets: row i has i times j at place j.
+///
+/// Kept for the surface of `raptorq`; no coder calls it.
 pub fn octet_mul_table(table: &mut [[u8; 256]; 256])
     ensures { IsTableOf 256 256 octet_mul table.new }
 {
@@ -189,6 +191,8 @@ pub fn octet_mul_table(table: &mut [[u8; 256]; 256])
 
 /// Fills a table with the products of all octets and the upper half bytes: row i has i times 16 *
 /// (j mod 16) at place j.
+///
+/// Kept for the surface of `raptorq`; no coder calls it.
 pub fn octet_mul_hi_bits(table: &mut [[u8; 32]; 256])
     ensures { IsTableOf 256 32 (λ i j. octet_mul i (j % 16 * 16)) table.new }
 {
@@ -199,6 +203,8 @@ pub fn octet_mul_hi_bits(table: &mut [[u8; 32]; 256])
 
 /// Fills a table with the products of all octets and the lower half bytes: row i has i times (j mod
 /// 16) at place j.
+///
+/// Kept for the surface of `raptorq`; no coder calls it.
 pub fn octet_mul_low_bits(table: &mut [[u8; 32]; 256])
     ensures { IsTableOf 256 32 (λ i j. octet_mul i (j % 16)) table.new }
 {

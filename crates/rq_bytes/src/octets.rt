@@ -107,6 +107,8 @@ pub fn add_assign(octets: &mut [u8], other: &[u8])
 }
 
 /// Multiplies a row by an octet.
+///
+/// Kept for the surface of `raptorq`; no coder calls it.
 pub fn mulassign_scalar(octets: &mut [u8], scalar: &Octet)
     ensures octet { scalar.now < 256 }
     ensures multiple { octets.new ≡ row_multiple scalar.now octets.old }
@@ -124,6 +126,8 @@ pub fn mulassign_scalar(octets: &mut [u8], scalar: &Octet)
 }
 
 /// Adds a multiple of a row to a row of the same length.
+///
+/// Kept for the surface of `raptorq`; no coder calls it.
 pub fn fused_addassign_mul_scalar(octets: &mut [u8], other: &[u8], scalar: &Octet)
     requires { length other.now ≡ length octets.old }
     ensures octet { scalar.now < 256 }
@@ -143,6 +147,8 @@ pub fn fused_addassign_mul_scalar(octets: &mut [u8], other: &[u8], scalar: &Octe
 }
 
 /// Adds a multiple of a packed row to a row of the same length.
+///
+/// Kept for the surface of `raptorq`; no coder calls it.
 pub fn fused_addassign_mul_scalar_binary(octets: &mut [u8], other: &BinaryOctetVec, scalar: &Octet)
     requires { length other.now ≡ length octets.old }
     ensures octet { scalar.now < 256 }

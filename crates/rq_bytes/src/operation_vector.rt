@@ -35,6 +35,8 @@ pub enum SymbolOps {
 
 /// Performs an operation on the symbols of a slab. `Reorder` alone takes memory, for a copy of its
 /// order.
+///
+/// Kept for the surface of `raptorq`; no coder calls it.
 pub fn perform_op(op: &SymbolOps, symbols: &mut SymbolSlab) -> Result<(), Error>
     requires { Allows symbols.old (operation_of op.now) }
     ensures ok { OnOk result (symbols.new ≡ after (operation_of op.now) symbols.old) }

@@ -34,7 +34,7 @@ pub(crate) fn add_multiples(bytes: &mut [u8], src: usize, targets: &[Target], le
     }
 }
 
-// The same for a piece, `at` octets after each start.
+// Adds the multiples of one piece, the octets from `at` on of each range.
 #[inline(always)]
 fn add_pieces(bytes: &mut [u8], src: usize, targets: &[Target], at: usize)
     requires src { src + at + 32 ≤ length bytes.old }
@@ -49,7 +49,7 @@ fn add_pieces(bytes: &mut [u8], src: usize, targets: &[Target], at: usize)
     }
 }
 
-// The same for one octet, `at` octets after each start.
+// Adds the multiples of one octet, the one at `at` of each range.
 #[inline(always)]
 fn add_octets(bytes: &mut [u8], src: usize, targets: &[Target], at: usize)
     requires src { src + at < length bytes.old }

@@ -1,7 +1,7 @@
 //! Sums of ranges of one buffer.
 ghost use Rattle.std.specs.Prelude.{◌≡◌, ◌+◌, ◌-◌, ◌<◌, ◌≤◌, length, All};
-ghost use Rattle.rq_bytes.specs.Ranges.{range_of, with_range};
-ghost use Rattle.rq_bytes.specs.RangeSums.{with_ranges_added, sum_of_ranges, IsRangeBeside};
+ghost use Rattle.rq_bytes.specs.Ranges.{with_range};
+ghost use Rattle.rq_bytes.specs.RangeSums.{with_ranges_added, with_part_added, sum_of_ranges, IsRangeBeside};
 
 use std::simd::Simd;
 
@@ -18,7 +18,8 @@ pub(crate) fn add_ranges(bytes: &mut [u8], dest: usize, sources: &[usize], len: 
     add_pieces::<1>(bytes, dest, sources, len, narrow);
 }
 
-// The same for the octets from `start` on, in whole pieces of N. Returns where the last piece ends.
+// Adds ranges of octets, those from their `start` on, in whole pieces of N. Returns where the last
+// piece ends.
 #[inline(always)]
 fn add_pieces<const N: usize>(
     bytes: &mut [u8],
@@ -59,7 +60,8 @@ pub(crate) fn add_ranges_to(row: &mut [u8], bytes: &[u8], sources: &[usize])
     add_pieces_to::<1>(row, bytes, sources, narrow);
 }
 
-// The same for the octets from `start` on, in whole pieces of N. Returns where the last piece ends.
+// Adds ranges of octets to a row, from `start` on in each, in whole pieces of N. Returns where the
+// last piece ends.
 #[inline(always)]
 fn add_pieces_to<const N: usize>(
     row: &mut [u8],
@@ -74,7 +76,7 @@ fn add_pieces_to<const N: usize>(
     ensures forward { start ≤ result }
     ensures within { result ≤ length row.old }
     ensures rest { length row.old < result + N }
-    ensures sum { row.new ≡ with_range row.old start (with_ranges_added (range_of row.old start (result - start)) bytes.now sources.now start (result - start)) }
+    ensures sum { row.new ≡ with_part_added row.old bytes.now sources.now start (result - start) }
 {
     let pieces = (row.len() - start) / N;
     for piece in 0..pieces {

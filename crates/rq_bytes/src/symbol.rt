@@ -10,7 +10,7 @@ ghost use Rattle.rq_standard.specs.Rows.{row_sum, row_multiple};
 ghost use Rattle.rq_bytes.specs.Refusals.{IsAnswer};
 
 use crate::error::Error;
-use crate::factor::{Factor, multiply_row};
+use crate::factor::{add_row_multiple, multiply_row};
 use crate::octet::Octet;
 use crate::octets::add_assign;
 use std::alloc::{AllocError, Global};
@@ -41,7 +41,7 @@ impl Symbol {
         Symbol { value }
     }
 
-    /// A symbol of so many zeros.
+    /// A symbol of `size` zeros.
     pub fn zero(alloc: Global, size: usize) -> Result<Self, Error>
         ensures { IsAnswer (λ symbol. symbol) result (Ok (replicate size 0)) }
     {
@@ -90,7 +90,7 @@ impl Symbol {
         requires { length other.now ≡ length self.old }
         ensures { self.new ≡ row_sum self.old (row_multiple scalar.now other.now) }
     {
-        Factor::new(scalar).add_multiple(self.value.as_mut_slice(), other.as_bytes());
+        add_row_multiple(self.value.as_mut_slice(), other.as_bytes(), scalar);
     }
 }
 
@@ -163,7 +163,7 @@ impl Hash for Symbol {
     }
 }
 
-/// So many zeros.
+/// A list of `len` zeros.
 pub(crate) fn zeros(alloc: Global, len: usize) -> Result<Vec<u8>, AllocError>
     ensures { IfOk result (λ v. v.items ≡ replicate len 0) }
 {

@@ -16,7 +16,7 @@ mod multiples;
 mod sums;
 
 use crate::error::Error;
-use crate::factor::{Factor, double_and_add, multiply_row};
+use crate::factor::{add_row_multiple, double_and_add, multiply_row};
 use crate::marks::marks_of;
 use crate::octet::Octet;
 use crate::octets;
@@ -53,7 +53,7 @@ impl Model for SymbolSlab {
 impl SymbolSlab {
     ghost use Rattle.rq_bytes.specs.SlabLends.{LendsSymbol, IsSymbolWrite};
 
-    /// So many symbols of zeros.
+    /// A slab of `count` symbols of zeros.
     pub fn with_zeros(alloc: Global, count: usize, symbol_size: usize) -> Result<Self, Error>
         requires { count * symbol_size < 2 ^ 64 }
         ensures { IsAnswer (λ slab. slab) result (Ok (slab_of symbol_size (replicate count (replicate symbol_size 0)))) }
@@ -100,7 +100,7 @@ impl SymbolSlab {
         }
     }
 
-    /// A slab of so many symbols that has these from `start` on, and zeros in all other places.
+    /// A slab of `count` symbols that has these from `start` on, and zeros in all other places.
     /// Where an order is set, it isn't taken over.
     pub fn among_zeros(&self, start: usize, count: usize) -> Result<Self, Error>
         requires fits { start + length self.now.values ≤ count }
@@ -186,7 +186,7 @@ impl SymbolSlab {
         ensures { self.new ≡ after (Fma dest src scalar.now) self.old }
     {
         let (dest, src) = self.get_pair_mut(dest, src);
-        Factor::new(scalar).add_multiple(dest, src);
+        add_row_multiple(dest, src, scalar);
     }
 
     /// Multiplies a symbol by 2 and adds another one to it, in one pass over their octets. Not in the
@@ -214,7 +214,7 @@ impl SymbolSlab {
         }
     }
 
-    /// Makes room for so many further symbols, so that `push_zeros` asks for no memory before they are
+    /// Makes room for `count` further symbols, so that `push_zeros` asks for no memory before they are
     /// there. The one error is `OutOfMemory`. Not in the Rust crate.
     pub fn reserve(&mut self, count: usize) -> Result<(), Error>
         requires { count * self.old.symbol_size < 2 ^ 64 }

@@ -1,6 +1,6 @@
 //! Two places of a list at once, and a rounded quotient.
 ghost use Rattle.std.specs.Prelude.{◌≡◌, ◌≢◌, ◌⊎◌, ◌+◌, ◌-◌, ◌/◌, ◌<◌, ◌≤◌, length, slice_set, slice_index_or, vec_len};
-ghost use Rattle.rq_bytes.specs.Ranges.{range_of, with_range};
+ghost use Rattle.rq_bytes.specs.Ranges.{range_of, with_ranges};
 ghost use Rattle.std.specs.Borrow.{sem, LendsBoth, Array};
 ghost use Rattle.std.specs.Vec.{vec_follows_range};
 
@@ -31,7 +31,7 @@ pub fn get_both_ranges<T>(slice: &mut [T], i: usize, j: usize, len: usize) -> (&
     requires apart { (i + len ≤ j) ⊎ (j + len ≤ i) }
     requires first { i + len ≤ length slice.old }
     requires second { j + len ≤ length slice.old }
-    ensures* writes_back { sem 𝓛 (LendsBoth (Array T.row 0) (Array T.row 0) (Array T.row 0) slice.entry result (λ x y. with_range (with_range slice.old i x) j y)) }
+    ensures* writes_back { sem 𝓛 (LendsBoth (Array T.row 0) (Array T.row 0) (Array T.row 0) slice.entry result (with_ranges slice.old i j)) }
     ensures first { result.0.now ≡ range_of slice.old i len }
     ensures second { result.1.now ≡ range_of slice.old j len }
 {
@@ -51,7 +51,7 @@ pub fn swap_ranges<T>(slice: &mut [T], i: usize, j: usize, len: usize)
     requires apart { (i + len ≤ j) ⊎ (j + len ≤ i) }
     requires first { i + len ≤ length slice.old }
     requires second { j + len ≤ length slice.old }
-    ensures { slice.new ≡ with_range (with_range slice.old i (range_of slice.old j len)) j (range_of slice.old i len) }
+    ensures { slice.new ≡ with_ranges slice.old i j (range_of slice.old j len) (range_of slice.old i len) }
 {
     let (first, second) = get_both_ranges(slice, i, j, len);
     first.swap_with_slice(second);

@@ -8,7 +8,7 @@ use Rattle.rq_bytes.specs.BinaryOctetVec.{packed_bit}
 use Rattle.rq_bytes.specs.Ranges.{joined_pieces}
 use Rattle.rq_standard.specs.BitTableSteps.{SwapsPlaces}
 
--- how many words a row of so many columns has
+-- how many words a row of `width` columns has
 abbrev pub word_count : ℕ → ℕ
 word_count width = (width + 63) / 64
 
@@ -43,6 +43,6 @@ pub record AreSwappedFrom (i j start end : ℕ) (old new : List (List ℕ)) : Ty
   pub above : (a : ℕ) → a < start → slice_index_or new a [] ≡ slice_index_or old a []
   pub after : (a : ℕ) → end ≤ a → slice_index_or new a [] ≡ slice_index_or old a []
 
--- whether as many rows have the same words
+-- whether two lists have as many rows, and these the same words
 abbrev pub same_rows : List (List ℕ) → List (List ℕ) → Bool
 same_rows = eq_of_both (on length ◌==◌) (on joined_pieces (pointwise ◌==◌))

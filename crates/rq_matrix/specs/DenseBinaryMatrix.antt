@@ -14,7 +14,7 @@ content_of m = record { height = length m.rows; width = m.width; boundary = m.bo
 pub is_table_of : (m : DenseBinaryMatrix) → IsBitTable (content_of m)
 is_table_of m = record { height_fits = m.height_fits; width_fits = m.width_fits; within = m.within; bits = λ i k _ _. bit_at-lt (slice_index (slice_index_or m.rows i []) (k / 64)) (k % 64) }
 
--- two matrices that have the same of all that they keep
+-- a matrix each of whose parts is equal to that of another one
 pub record IsCopy (old new : DenseBinaryMatrix) : Type 0 where
   pub width : new.width ≡ old.width
   pub boundary : new.boundary ≡ old.boundary

@@ -4,7 +4,7 @@ use Rattle.std.specs.Int.Bits.{bit_xor}
 use Rattle.rq_bytes.specs.BinaryOctetVec.{packed_bit}
 use Rattle.rq_parts.specs.SparseBinaryVec.{listed_bit}
 
--- so many rows and columns, and blocks of 64 columns, each with a word for each row
+-- how many rows and columns there are, and blocks of 64 columns, each with a word for each row
 pub record Tail : Type 0 where
   pub rows : ℕ
   pub columns : ℕ
@@ -22,7 +22,7 @@ pub record IsTail (tail : Tail) : Type 0 where
   pub few : 64 * length tail.blocks < tail.columns + 64
   pub spare : (row column : ℕ) → row < tail.rows → tail.columns ≤ column → tail_bit tail row column ≡ 0
 
--- so many rows and columns without ones
+-- `width` columns in `height` rows, without ones
 pub record IsZeroTail (height width : ℕ) (tail : Tail) : Type 0 where
   pub rows : tail.rows ≡ height
   pub columns : tail.columns ≡ width

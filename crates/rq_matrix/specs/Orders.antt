@@ -22,7 +22,7 @@ pub record IsOrder (o : Order) : Type 0 where
   pub ordered : (j : ℕ) → j < length o.order → (slice_index o.order j < length o.order) × (slice_index o.places (slice_index o.order j) ≡ j)
   pub placed : (k : ℕ) → k < length o.order → (slice_index o.places k < length o.order) × (slice_index o.order (slice_index o.places k) ≡ k)
 
--- so many numbers, each at its own place
+-- the numbers below `count`, each at its own place
 abbrev pub first_order : ℕ → Order
 first_order count = record { order = range_with_len 0 count; places = range_with_len 0 count }
 

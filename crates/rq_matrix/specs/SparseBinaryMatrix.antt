@@ -22,7 +22,7 @@ content_of m = record {
   bit = sparse_bit m.width m.boundary m.rows.items m.row_order m.column_order m.tail;
 }
 
--- two matrices that have the same of all that they keep
+-- a matrix each of whose parts is equal to that of another one
 pub record IsCopy (old new : SparseBinaryMatrix) : Type 0 where
   pub height : new.height ≡ old.height
   pub width : new.width ≡ old.width

@@ -5,12 +5,12 @@ use Rattle.rq_standard.specs.BitTableSteps.{ArePlacesOfOnes}
 use Rattle.rq_parts.specs.SparseBinaryVec.{listed_bit}
 use Rattle.rq_parts.specs.ImmutableListMap.{Pairs}
 
--- a stored row: its ones ascend, and each is one of so many stored columns
+-- a stored row: its ones ascend, and each is one of the stored columns, those below `columns`
 pub record IsSparseRow (columns : ℕ) (row : List ℕ) : Type 0 where
   pub rises : IsStrictlyIncreasing row
   pub below : All (λ one. one < columns) row
 
--- for each of so many stored columns the stored rows that have a one there
+-- for each stored column, those below `columns`, the stored rows that have a one there
 pub record IsColumnIndex (columns : ℕ) (rows : List (List ℕ)) (lists : List (List ℕ)) : Type 0 where
   pub count : length lists ≡ columns
   pub each : (column : ℕ) → column < columns → ArePlacesOfOnes (λ row. listed_bit (slice_index_or rows row []) column) 0 (length rows) (slice_index_or lists column [])

@@ -113,7 +113,7 @@ impl BitRow {
     }
 }
 
-/// The number of words that so many bits need.
+/// The number of words that `width` bits need.
 pub(crate) fn words_for(width: usize) -> usize
     requires { width < 2 ^ 40 }
     ensures { result ≡ word_count width }
@@ -250,7 +250,7 @@ pub(crate) fn last_one(word: u64, end: usize) -> Option<usize>
     Some(bits.checked_ilog2()? as usize)
 }
 
-// The number of ones among so many bits of a word from one on.
+// The number of ones among `count` bits of a word, from `bit` on.
 fn ones_in_word(word: u64, bit: usize, count: usize) -> usize
     requires some { 0 < count }
     requires within { bit + count ≤ 64 }

@@ -65,7 +65,7 @@ impl Eq for BitRows {
 impl BitRows {
     ghost use Rattle.rq_matrix.specs.RowLends.{LendsRow, IsRowWrite};
 
-    /// So many rows of zeros.
+    /// `height` rows of `width` zeros each.
     pub(crate) fn zeros(alloc: Global, height: usize, width: usize) -> Result<Self, AllocError>
         requires height { height < 2 ^ 31 }
         requires width { width < 65536 }
@@ -144,7 +144,7 @@ impl BitRows {
         self.count = height;
     }
 
-    /// Drops the words of each row that so many columns don't need.
+    /// Drops the words of each row that `width` columns don't need.
     pub(crate) fn narrow(&mut self, width: usize)
         requires { width < 65536 }
         ensures { self.new ≡ map (λ row. take (word_count width) row) self.old }

@@ -20,6 +20,10 @@ use std::alloc::{AllocError, Global};
 /// A matrix of bits. Its last columns, those from the boundary on, are dense, and its columns before
 /// may be indexed, which some calls ask for and others forbid. A matrix keeps the allocator that
 /// `new` was handed. A call that is refused memory, the only refusal, leaves the content as it was.
+///
+/// Coders call `new`, `set`, `flip`, `height`, `width`, `get_row_iter` and
+/// `query_non_zero_columns_into`. The others are kept for the surface of `raptorq`; no coder calls
+/// them.
 pub trait BinaryMatrix: Clone {
     ghost content: { Self → BitTable };
 

@@ -59,7 +59,7 @@ pub struct Shortage {
 }
 
 impl Shortage {
-    /// Takes all memory, and can ease so many times, each time to fewer free bytes than `size`.
+    /// Takes all memory, and can ease `rounds` times, each time to fewer free bytes than `size`.
     pub fn new(alloc: Global, rounds: usize, size: usize) -> Result<Shortage, AllocError> {
         let mut reserves: Vec<Vec<u8>> = Vec::with_capacity(alloc, rounds)?;
         for _ in 0..rounds {

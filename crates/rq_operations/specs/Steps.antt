@@ -11,7 +11,7 @@ operation_of_step (steps.Add dest src) = AddAssign dest src
 operation_of_step (steps.Multiply scalar dest) = MulAssign dest scalar
 operation_of_step (steps.AddMultiple scalar dest src) = Fma dest src scalar
 
--- so many operations from a place on were performed, one at least
+-- `count` operations from `start` on were performed, one at least
 pub record PerformsNext (operations : List Operation) (start count : ℕ) (old new : Slab) : Type 0 where
   pub some : 0 < count
   pub within : start + count ≤ length operations

@@ -2,7 +2,7 @@
 use Rattle.std.specs.Prelude.{ℕ, zero, suc, ◌+◌, ◌-◌, ◌*◌, ◌==◌, List, [], ◌∷◌, filter, map, drop, slice_index, not, nat_lt, ◌&&◌}
 use Rattle.rq_bytes.specs.BinaryOctetVec.{packed_bit}
 
--- so many columns from a first one on, with the bits of packed words from one of them on
+-- `count` columns from `column` on, with the bits of packed words from bit `bit` on
 unfoldable pub bit_pairs : List ℕ → ℕ → ℕ → ℕ → List (ℕ × ℕ)
 bit_pairs words bit column zero = []
 bit_pairs words bit column (suc count) = (column, packed_bit words bit) ∷ bit_pairs words (suc bit) (suc column) count

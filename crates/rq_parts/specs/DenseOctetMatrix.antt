@@ -18,7 +18,7 @@ row_at table i = slice_index_or table.rows i []
 abbrev pub entry_of : OctetTable → ℕ → ℕ → ℕ
 entry_of table i k = slice_index (row_at table i) k
 
--- a row of so many octets
+-- a row of `width` octets
 abbrev pub IsOctetRow : ℕ → List ℕ → Type 0
 IsOctetRow width row = (length row ≡ width) × All (λ octet. octet < 256) row
 

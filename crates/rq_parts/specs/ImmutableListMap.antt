@@ -21,12 +21,12 @@ pub record IsStart (pairs : List (ℕ × ℕ)) (key start : ℕ) : Type 0 where
   pub before : (k : ℕ) → k < start → (slice_index_or pairs k (0, 0)).0 < key
   pub after : (k : ℕ) → start ≤ k → k < length pairs → key ≤ (slice_index_or pairs k (0, 0)).0
 
--- the starts of so many keys, and then the end of the last one
+-- where the pairs of each key below `count` start, and then where those of the last one end
 pub record AreStartsOf (pairs : List (ℕ × ℕ)) (count : ℕ) (starts : List ℕ) : Type 0 where
   pub len : length starts ≡ count + 1
   pub each : (key : ℕ) → key ≤ count → IsStart pairs key (slice_index starts key)
 
--- starts of so many values, the last one their end
+-- starts of the lists that `count` values are cut into, which rise; behind the last list stands its end
 pub record AreStarts (starts : List ℕ) (count : ℕ) : Type 0 where
   pub some : 0 < length starts
   pub rise : (key : ℕ) → key + 1 < length starts → slice_index starts key ≤ slice_index starts (key + 1)

@@ -99,6 +99,8 @@ impl U16ArrayMap {
 
 /// A number for each key from a first one on. Contracts see the first key and the numbers, which
 /// are 0 from some key on.
+///
+/// Kept for the surface of `raptorq`; no coder calls it.
 #[derive(Debug, Drop)]
 pub struct U32VecMap {
     offset: usize,
@@ -191,7 +193,7 @@ impl U32VecMap {
     }
 }
 
-// So many zeros.
+// A list of `len` zeros.
 fn zeros(alloc: Global, len: usize) -> Result<Vec<u32>, Error>
     ensures zeros { IfOk result (λ v. v.items ≡ replicate len 0) }
     ensures err { IfErr result (λ e. e ≡ OutOfMemory) }

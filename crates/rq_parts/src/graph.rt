@@ -17,6 +17,8 @@ use std::marker::Model;
 /// A graph whose edges have no direction. Edges are added, and after `build` looked up. Contracts
 /// see each edge from both of its ends, in no order that is promised, and whether the graph is
 /// built.
+///
+/// Kept for the surface of `raptorq`; no coder calls it.
 #[derive(Debug, Drop)]
 pub struct UndirectedGraph {
     ends: Vec<(u16, u16)>,

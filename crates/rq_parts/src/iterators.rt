@@ -41,6 +41,8 @@ enum Left<'a> {
 impl<'a> OctetIter<'a> {
     /// The columns from `start_col` on and before `end_col`, with the bits of `elements` from bit
     /// `start_bit` of the first word on, the lowest bit of a word first.
+    ///
+    /// Kept for the surface of `raptorq`; no coder calls it.
     pub fn new_dense_binary(
         start_col: usize,
         end_col: usize,
@@ -223,9 +225,9 @@ impl<'a> DenseBits<'a> {
     }
 }
 
-// The ones of a row that are left in the columns before `end`, which `words` have as their bits: those
-// in `bits`, what is left of the word at `word`, and those of the words behind it. Contracts see the
-// list of their pairs.
+// The columns before `end` that have a one and weren't given yet. Column k is bit k mod 64 of the word
+// at k / 64. Of the word at `word` the bits that are left are in `bits`, and of the words behind it all
+// are left. Contracts see the list of the pairs that are left.
 #[derive(Debug, Drop)]
 struct DenseOnes<'a> {
     bits: u64,

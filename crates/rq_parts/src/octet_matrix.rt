@@ -57,6 +57,8 @@ impl DenseOctetMatrix {
     }
 
     /// Adds to a row, from a column on, a multiple of a packed row that ends within it.
+    ///
+    /// Kept for the surface of `raptorq`; no coder calls it.
     pub fn fma_sub_row(
         &mut self,
         row: usize,
@@ -116,6 +118,8 @@ impl DenseOctetMatrix {
     }
 
     /// Exchanges the octets of two rows.
+    ///
+    /// Kept for the surface of `raptorq`; no coder calls it.
     pub fn swap_rows(&mut self, i: usize, j: usize)
         requires first { i < length self.old.rows }
         requires second { j < length self.old.rows }
@@ -125,6 +129,8 @@ impl DenseOctetMatrix {
     }
 
     /// Exchanges two columns in the rows from `start_row_hint` on; the rows above stay.
+    ///
+    /// Kept for the surface of `raptorq`; no coder calls it.
     pub fn swap_columns(&mut self, i: usize, j: usize, start_row_hint: usize)
         requires first { i < self.old.width }
         requires second { j < self.old.width }

@@ -1,8 +1,9 @@
 //! Rows of bits of which the ones alone are stored.
-ghost use Rattle.std.specs.Prelude.{◌≡◌, ◌<◌, ◌↔◌, ◌==◌, ℕ, List, [], ◌∷◌, ◌++◌, length, map, slice_index, true, IfOk, IfErr, OnOk, OnErr, Contains};
+ghost use Rattle.std.specs.Prelude.{◌≡◌, ◌<◌, ◌↔◌, ◌==◌, ℕ, List, [], ◌∷◌, ◌++◌, length, map, slice_index, true, false, IfOk, IfErr, OnOk, OnErr, Contains};
 ghost use Rattle.std.proofs.Common.{rules};
 ghost use Rattle.std.specs.Cmp.Lexicographic.{pointwise};
 ghost use Rattle.std.specs.Cmp.Rules.{comparing};
+ghost use Rattle.std.specs.Fn.{FnReturnsAt};
 ghost use Rattle.std.specs.Iterator.{YieldsFirst, item_count};
 ghost use Rattle.std.specs.List.{insert};
 ghost use Rattle.std.specs.List.Sorted.{IsStrictlyIncreasing};
@@ -17,7 +18,7 @@ use std::alloc::{AllocError, Global};
 use std::cmp::Ordering;
 use std::marker::Model;
 
-/// So many ones of a row take no allocation. Most rows have a few, and an LDPC row of a block of 497
+/// How many ones a row has without an allocation. Most rows have a few, and an LDPC row of a block of 497
 /// symbols has no more than these.
 pub const INLINE_ONES: usize = 40;
 
@@ -120,6 +121,21 @@ impl SparseBinaryVec {
             }
             Err(_) => None,
         }
+    }
+
+    /// Keeps the ones for which a predicate answers `true`. It is asked of each one, in ascending order,
+    /// with its index and the octet 1.
+    ///
+    /// Kept for the surface of `raptorq`; no coder calls it.
+    pub fn retain<P: Fn(&(usize, Octet)) -> bool>(&mut self, predicate: P)
+        requires { P.IsAlwaysCallable predicate }
+        ensures listed { (k : ℕ) → listed_bit self.new k ≡ 1 → listed_bit self.old k ≡ 1 }
+        ensures kept { (k : ℕ) → listed_bit self.new k ≡ 1 → FnReturnsAt P.Fn predicate (k, 1) true }
+        ensures dropped { (k : ℕ) → listed_bit self.old k ≡ 1 → listed_bit self.new k ≡ 0 → FnReturnsAt P.Fn predicate (k, 1) false }
+        ensures increasing { IsStrictlyIncreasing self.new }
+    {
+        self.elements
+            .retain(|one| predicate(&(usize::from(*one), Octet::one())));
     }
 
     /// The octet 1 where the bit at an index is 1.
@@ -233,7 +249,7 @@ fn push(ones: &mut SmallVec<u16, INLINE_ONES>, one: u16) -> Result<(), AllocErro
     push_growing(ones, one)
 }
 
-// The same, which makes room first.
+// Lists an index behind all others, and makes room first.
 #[inline(never)]
 fn push_growing(ones: &mut SmallVec<u16, INLINE_ONES>, one: u16) -> Result<(), AllocError>
     ensures ok { OnOk result (ones.new.items ≡ ones.old.items ++ one ∷ []) }

@@ -1,4 +1,5 @@
-//! Which row the first phase may take next (RFC 6330, section 5.4.2.2).
+//! Which row the first phase may take next (RFC 6330, section 5.4.2.2). Kept for the surface of
+//! `raptorq`; no coder calls it.
 ghost use Rattle.std.specs.Prelude.{◌≡◌, ℕ, ◌+◌, ◌<◌, ◌≤◌, length, IfNone, IfOk, IfSome, IfErr, slice_index};
 ghost use Rattle.rq_bytes.specs.declared.error.Error.TheVariants.{OutOfMemory};
 ghost use Rattle.rq_standard.specs.BitTableSteps.{SwapsColumns, SwapsRows, ones_between};

@@ -1,7 +1,7 @@
 -- What callers see of a matrix of bits.
 use Rattle.std.specs.Prelude.{ℕ, ◌^◌, ◌<◌, ◌≤◌, Bool}
 
--- so many rows and columns, the first of the dense columns, whether the columns are indexed, and the bit in each row and column
+-- how many rows and columns there are, the first of the dense columns, whether the columns are indexed, and the bit in each row and column
 pub record BitTable : Type 0 where
   pub height : ℕ
   pub width : ℕ

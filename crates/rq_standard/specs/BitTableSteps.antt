@@ -93,7 +93,7 @@ pub record SwapsRows (old : BitTable) (i j : ℕ) (new : BitTable) : Type 0 wher
   pub second : (k : ℕ) → k < old.width → new.bit j k ≡ old.bit i k
   pub other_rows : (a k : ℕ) → a < old.height → k < old.width → a ≢ i → a ≢ j → new.bit a k ≡ old.bit a k
 
--- in a row of so many columns, the bits in columns i and j are exchanged
+-- in a row of `width` columns, the bits in columns i and j are exchanged
 pub record SwapsPlaces (width : ℕ) (old : ℕ → ℕ) (i j : ℕ) (new : ℕ → ℕ) : Type 0 where
   pub first : new i ≡ old j
   pub second : new j ≡ old i

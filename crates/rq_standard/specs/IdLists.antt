@@ -10,6 +10,6 @@ pub record IsListOf (known : ℕ → Bool) (ids : List ℕ) : Type 0 where
   pub listed : (j : ℕ) → j < length ids → known (at ids j) ≡ true
   pub place : (x : ℕ) → known x ≡ true → (j : ℕ) × (j < length ids) × (at ids j ≡ x)
 
--- the equations of the listed ids have only the zero solution, as a system of so many rows
+-- the equations of the listed ids, and those of LDPC and HDPC, have only the zero solution
 abbrev pub HasDeterminedRows : TableRow → List ℕ → Type 0
 HasDeterminedRows row ids = IsDetermined octets (equation_count row ids) (intermediate_symbols row) (equations row ids)

@@ -11,11 +11,11 @@ use Rattle.rq_standard.specs.Headline.{IsPacketOf}
 abbrev pub first_ids : ℕ → ℕ → List SymbolId
 first_ids n b = map (λ e. record { block = b; esi = e }) (range_with_len 0 n)
 
--- the ids of all source symbols and of so many repair symbols, block by block
+-- the ids of all source symbols and of `repair` repair symbols of each block, block by block
 abbrev pub packet_ids : Configuration → ℕ → List SymbolId
 packet_ids c repair = flat_map (λ b. first_ids (block_symbols c b + repair) b) (range_with_len 0 c.source_blocks)
 
--- the packets of all source symbols and of so many repair symbols, block by block
+-- the packets of all source symbols and of `repair` repair symbols of each block, block by block
 pub record AreEncoded (table : List TableRow) (c : Configuration) (object : List ℕ) (repair : ℕ) (packets : List Packet) : Type 0 where
   pub ids : map (λ p. p.id) packets ≡ packet_ids c repair
   pub each : AllByRecursion (IsPacketOf table c object) packets

@@ -37,11 +37,11 @@ symbols_for length s = div_ceil length (symbol_size_for s)
 abbrev pub blocks_for : List TableRow → ℕ → ℕ → ℕ → ℕ
 blocks_for rows length s memory = div_ceil (symbols_for length s) (fitting_block rows s memory (most_sub_blocks s))
 
--- whether a block of so many symbols fits the memory with n sub-blocks
+-- whether a block of `symbols` symbols fits the memory with n sub-blocks
 abbrev pub is_fitting : List TableRow → ℕ → ℕ → ℕ → ℕ → Bool
 is_fitting rows s memory symbols n = nat_le symbols (fitting_block rows s memory n)
 
--- of so many numbers from a first one on, the least that passes the test, or else the next after them
+-- of the numbers from `start` on, as many as the third argument says, the least that passes the test, or else the next after them
 unfoldable pub first_from : (ℕ → Bool) → ℕ → ℕ → ℕ
 first_from test start zero = start
 first_from test start (suc more) = if test start then start else first_from test (start + 1) more

@@ -113,7 +113,7 @@ HoldsMore old p new = (table : List TableRow) (packets : List Packet) → HoldsR
 abbrev pub StopsEarly : State → Packet → State → Type 0
 StopsEarly old p new = (new ≡ old) ⊎ RecordsOnly old p new
 
--- The same where the blocks are joined behind it: or the packet's block has the answer that it can have, and no block lost one.
+-- Where memory is refused for a packet behind which the blocks are joined: as where it is refused earlier, or the packet's block has the answer that it can have, and no block lost one.
 abbrev pub Stops : State → Packet → State → Type 0
 Stops old p new = StopsEarly old p new ⊎ Adds old p new
 
@@ -156,7 +156,7 @@ StandsForMore old p new =
     → StandsFor table object packets old → IsPacketOf table old.configuration object p
     → StandsFor table object (packets ++ p ∷ []) new
 
--- The same where blocks are late: the packet's own block isn't late any more.
+-- From a decoder that stands for a list but for late blocks, and a packet of the object, one that stands so for the longer list: the packet's own block isn't late any more.
 abbrev pub AnswersLateBlock : State → Packet → State → Type 0
 AnswersLateBlock old p new =
     (table : List TableRow) (object : List ℕ) (packets : List Packet) (late : ℕ → Bool)
@@ -170,7 +170,7 @@ LeavesBlockLate old p new =
     → StandsForButLate late table object packets old → IsPacketOf table old.configuration object p
     → StandsForButLate late table object packets new ⊎ StandsForButLate (with_late p.id.block true late) table object (packets ++ p ∷ []) new
 
--- the same where the blocks are joined behind the packet: or one that stands for the longer list
+-- where memory is refused for a packet behind which the blocks are joined: as where it is refused earlier, or the longer list, with an answer of its block
 abbrev pub LeavesOrAnswersLateBlock : State → Packet → State → Type 0
 LeavesOrAnswersLateBlock old p new = LeavesBlockLate old p new ⊎ AnswersLateBlock old p new
 

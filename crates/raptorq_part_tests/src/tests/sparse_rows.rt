@@ -63,3 +63,12 @@ fn single_bits(rt: HostRuntime) -> Result<(), Fail> {
     same!(rt; row.len(), 0);
     Ok(())
 }
+
+#[test]
+fn ones_that_a_predicate_keeps(rt: HostRuntime) -> Result<(), Fail> {
+    let mut row = sum_of_pairs(&rt, rt.alloc())?;
+    row.retain(|one| one.0 > 1);
+    same!(rt; row.get(1), None);
+    same!(rt; row.get(65535), Some(Octet::one()));
+    Ok(())
+}

@@ -1,7 +1,8 @@
 //! Plain records that serde reads and writes, and the values that they stand for.
 ghost use Rattle.std.specs.Prelude.{◌≡◌, Result, Ok, IfOk};
 ghost use Rattle.rq_bytes.specs.Refusals.{IsAnswer};
-ghost use Rattle.rq_base.specs.RefusedInput.{configuration_of, new_id, new_packet, new_configuration};
+ghost use Rattle.rq_base.specs.Records.{spelled_configuration};
+ghost use Rattle.rq_base.specs.RefusedInput.{new_id, new_packet, new_configuration};
 
 use crate::base::{EncodingPacket, ObjectTransmissionInformation, PayloadId};
 use rq_bytes::error::Error;
@@ -101,7 +102,7 @@ impl ObjectTransmissionInformationRecord {
     /// The configuration that the record spells. Refuses what
     /// [`ObjectTransmissionInformation::new`] does.
     pub fn into_value(self) -> Result<ObjectTransmissionInformation, Error>
-        ensures { result ≡ new_configuration (configuration_of self.transfer_length self.symbol_size self.num_source_blocks self.num_sub_blocks self.symbol_alignment) }
+        ensures { result ≡ new_configuration (spelled_configuration self) }
     {
         ObjectTransmissionInformation::new(
             self.transfer_length,

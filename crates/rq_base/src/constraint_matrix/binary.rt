@@ -34,7 +34,7 @@ pub(crate) fn binary_rows<T: BinaryMatrix>(
     Ok(matrix)
 }
 
-// So many rows of zeros, of L columns each.
+// `height` rows of L zeros each.
 fn zero_rows<T: BinaryMatrix>(alloc: Global, row: &TableRow, height: usize) -> Result<T, Error>
     requires checked { IsChecked row.now }
     requires fits { height < 2 ^ 31 }

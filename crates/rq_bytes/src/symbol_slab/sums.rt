@@ -66,7 +66,7 @@ impl SymbolSlab {
         }
     }
 
-    // The same of one to eight places, in one pass.
+    // Adds the symbols that one to eight places mean to a row, in one pass.
     fn add_few_to(&self, places: &[usize], row: &mut [u8])
         requires some { 0 < length places.now }
         requires few { length places.now ≤ 8 }
@@ -87,8 +87,8 @@ impl SymbolSlab {
         }
     }
 
-    // The same of C places. Where their symbols begin is found once, and not again for each piece of
-    // them.
+    // Adds the symbols that C places mean to a row. Where they begin is found once, and not again for
+    // each piece of them.
     #[inline(always)]
     fn add_places_to<const C: usize>(&self, places: &[usize], row: &mut [u8])
         requires count { length places.now ≡ C }

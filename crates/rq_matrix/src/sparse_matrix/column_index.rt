@@ -8,7 +8,7 @@ use rq_bytes::error::Error;
 use rq_parts::arraymap::{ImmutableListMap, ImmutableListMapBuilder};
 use rq_parts::sparse_vec::SparseBinaryVec;
 
-/// For each of so many columns the rows that have a one there.
+/// For each column below `columns` the rows that have a one there.
 pub(super) fn column_index(
     rows: &Vec<SparseBinaryVec>,
     columns: usize,

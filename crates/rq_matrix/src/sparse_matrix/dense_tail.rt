@@ -44,7 +44,7 @@ impl Clone for DenseTail {
 }
 
 impl DenseTail {
-    /// So many rows and columns of zeros.
+    /// Dense columns of zeros: `columns` of them, in `rows` rows.
     pub(super) fn new(alloc: Global, rows: usize, columns: usize) -> Result<DenseTail, AllocError>
         requires rows { rows < 2 ^ 31 }
         requires columns { columns < 65536 }
@@ -156,7 +156,7 @@ impl DenseTail {
     }
 }
 
-// So many rows of zeros.
+// `height` rows of `width` zeros each.
 fn zero_rows(alloc: Global, height: usize, width: usize) -> Result<Vec<BitRow>, AllocError>
     requires { width < 2 ^ 40 }
     ensures { IfOk result (λ rows. rows.items ≡ replicate height (replicate (word_count width) 0)) }

@@ -10,7 +10,7 @@ use rq_bytes::util::get_both_indices;
 use rq_parts::sparse_vec::{INLINE_ONES, SparseBinaryVec};
 use std::alloc::Global;
 
-/// So many rows without ones, each with room for the ones that most rows get.
+/// `count` rows without ones, each with room for the ones that most rows get.
 pub(super) fn empty_rows(alloc: Global, count: usize) -> Result<Vec<SparseBinaryVec>, Error>
     ensures ok { IfOk result (λ rows. rows.items ≡ replicate count []) }
     ensures err { IfErr result (λ e. e ≡ OutOfMemory) }

@@ -2,6 +2,7 @@
 ghost use Rattle.std.specs.Prelude.{◌≡◌, ◌≢◌, ℕ, ◌+◌, ◌^◌, ◌<◌, ◌≤◌, ◌↔◌, IsTrue, length, replicate, Ok, IfSome, IfNone, slice_index, slice_set};
 ghost use Rattle.std.specs.List.{swap};
 ghost use Rattle.rq_bytes.specs.Refusals.{IsAnswer};
+ghost use Rattle.rq_parts.specs.ConnectedComponentGraph.{with_edge};
 
 use crate::arraymap::U16ArrayMap;
 use rq_bytes::error::Error;
@@ -54,6 +55,7 @@ impl ConnectedComponentGraph {
     /// components as nodes.
     pub fn create_connected_component(&mut self) -> Option<u16>
         ensures created { IfSome result (λ component. (component ≡ self.old.created + 1) × (self.new ≡ record self.old { created = component })) }
+        ensures room { IfSome result (λ component. self.old.created < length self.old.labels) }
         ensures full { IfNone result ((self.old.created ≡ length self.old.labels) × (self.new ≡ self.old)) }
     {
         if self.created == self.labels.keys().end {
@@ -124,15 +126,13 @@ impl ConnectedComponentGraph {
         None
     }
 
-    /// Puts the ends of an edge into one component: that of one of them, or else a new one, if there
-    /// can be one.
+    /// Puts the ends of an edge into one component: that of the end that is in one, or else a new one
+    /// where there can be one. Where both are in one already, these two become one.
     pub fn add_edge(&mut self, node1: usize, node2: usize)
         requires first { node1 < length self.old.labels }
         requires second { node2 < length self.old.labels }
         ensures nodes { length self.new.labels ≡ length self.old.labels }
-        ensures created { self.old.created ≤ self.new.created }
-        ensures others { (node : ℕ) → node ≢ node1 → node ≢ node2 → slice_index self.new.labels node ≡ slice_index self.old.labels node }
-        ensures held { self.old.created < length self.old.labels → (slice_index self.new.labels node1 ≢ 0) × (slice_index self.new.labels node2 ≢ 0) }
+        ensures edge { self.new ≡ with_edge self.old node1 node2 }
     {
         let first = self.labels.get(node1);
         let second = self.labels.get(node2);

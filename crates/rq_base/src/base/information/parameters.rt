@@ -114,8 +114,8 @@ fn most_sub_blocks(packet_size: u16) -> u16
     }
 }
 
-// The greatest size of a block whose sub-blocks fit the memory, where there are so many of them; 0
-// where no row fits.
+// The greatest number of symbols of a block that is cut into `sub_blocks` sub-blocks which fit the
+// memory; 0 where no row fits.
 fn fitting_block(table: &SystematicTable, packet_size: u16, memory: u64, sub_blocks: u16) -> u32
     requires size { 0 < packet_size }
     requires some { 0 < sub_blocks }
@@ -126,7 +126,7 @@ fn fitting_block(table: &SystematicTable, packet_size: u16, memory: u64, sub_blo
     table.greatest_within(memory / (alignment * units))
 }
 
-// The least number of sub-blocks with which a block of so many symbols fits the memory, or one more
+// The least number of sub-blocks with which a block of `symbols` symbols fits the memory, or one more
 // than the greatest number of them.
 fn least_sub_blocks(table: &SystematicTable, packet_size: u16, memory: u64, symbols: u64) -> u16
     requires { 0 < packet_size }

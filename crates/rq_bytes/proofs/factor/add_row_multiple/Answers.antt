@@ -4,8 +4,8 @@ use Rattle.rq_standard.specs.Rows.{row_sum, row_multiple}
 use Rattle.rq_bytes.proofs.Multiples.{times_one}
 use Rattle.rq_bytes.proofs.factor.add_row_multiple.Goals as goal
 
-pub returns-then-byte-eq1 : goal.returns-then-byte-eq1
-returns-then-byte-eq1 c =
+pub returns-then-byte-eq1-clause-sum : goal.returns-then-byte-eq1-clause-sum
+returns-then-byte-eq1-clause-sum c =
     let other = c.args.other.now in
     let one : c.args.scalar.now ≡ 1 = sym c.byte.ensures ∙ c.if-byte-eq1.true in
     c.add_assign.ensures

@@ -1,5 +1,5 @@
 -- What the check leaves to show of `symbol_slab::SymbolSlab::fma`.
-use Rattle.std.proofs.Common.{◌≡◌, ◌<◌, List, ℕ, arith, length, map, set, sym, ap, ◌∙◌}
+use Rattle.std.proofs.Common.{◌≡◌, List, ℕ, length, map, set, sym, ap, ◌∙◌}
 use Rattle.std.proofs.lemmas.List.{length-map}
 use Rattle.rq_algebra.specs.Operations.{step, meant_at}
 use Rattle.rq_standard.specs.OctetField.{octets}
@@ -14,16 +14,14 @@ returns c =
     let slab = c.args.self.now in
     let pair = c.get_pair_mut-dest in
     let scalar = c.args.scalar.now in
-    let octet : scalar < 256 = omega (arith, c.new.ensures, c.add_multiple.ensures.octet) in
     let x = symbol_in slab c.args.dest in
     let y = symbol_in slab c.args.src in
     let as_long : length (map (octets.mul scalar) y) ≡ length x =
     length-map y (octets.mul scalar) ∙ ap length (sym pair.ensures.src) ∙ pair.ensures.src_len ∙ sym pair.ensures.dest_len ∙ ap length pair.ensures.dest in
-    pair.ensures.whole_symbol c.add_multiple.new.octets (c.add_multiple.auto.octets ∙ pair.ensures.dest_len)
+    pair.ensures.whole_symbol c.add_row_multiple.new.octets (c.add_row_multiple.auto.octets ∙ pair.ensures.dest_len)
     ∙ ap (λ (xs : List ℕ). record slab { values = set slab.values (meant_at slab.order c.args.dest) xs }) (
-    c.add_multiple.ensures.sum
-    ∙ ap (λ (a : ℕ). row_sum pair.result.0.now (row_multiple a pair.result.1.now)) c.new.ensures
+    c.add_row_multiple.ensures.sum
     ∙ ap (λ xs. row_sum xs (row_multiple scalar pair.result.1.now)) pair.ensures.dest
     ∙ ap (λ ys. row_sum x (row_multiple scalar ys)) pair.ensures.src
-    ∙ ap (row_sum x) (sym (scale-rows scalar y octet))
+    ∙ ap (row_sum x) (sym (scale-rows scalar y c.add_row_multiple.ensures.octet))
     ∙ sym (add_symbols-rows x (map (octets.mul scalar) y) as_long))

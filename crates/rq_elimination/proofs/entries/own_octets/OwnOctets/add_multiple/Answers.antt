@@ -18,7 +18,7 @@ returns-in-Some-Some-clause-sum c =
     let long = c.add_row_multiple.auto.octets ∙ pair.ensures.dest_len in
     written c.self.invariant c.self.view_is c.args.dest c.requires.dest c.in-Some-Some.to to _ ws long (pair.ensures.whole_symbol ws long)
     ∙ ap (with_row now c.args.dest) (
-    c.add_row_multiple.ensures
+    c.add_row_multiple.ensures.sum
     ∙ ap (λ (r : List ℕ). row_sum r (row_multiple scalar pair.result.1.now)) (pair.ensures.dest ∙ read c.self.invariant c.self.view_is c.args.dest c.requires.dest c.in-Some-Some.to to)
     ∙ ap (λ (r : List ℕ). row_sum (row_at now c.args.dest) (row_multiple scalar r)) (pair.ensures.src ∙ read c.self.invariant c.self.view_is c.args.src c.requires.src c.in-Some-Some.from from))
 
