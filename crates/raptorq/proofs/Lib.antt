@@ -5,6 +5,7 @@ pub mod CacheLaws
 pub mod Came
 pub mod EncodedBlocks
 pub mod Encodes
+pub mod Following
 pub mod HdpcSums
 pub mod HeldEquations
 pub mod HeldSolutions

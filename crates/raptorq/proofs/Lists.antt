@@ -1,25 +1,20 @@
 -- A list of an object's packets, taken one by one.
-use Rattle.std.proofs.Common.{◌≡◌, ◌↔◌, ℕ, false, List, [], ◌∷◌, ◌++◌, length, Result, Ok, Err, Option, refl, sym, ap, ◌∙◌, subst, inl, inr, append_assoc, append-nil, length-append, eq-eqb}
-use Rattle.std.specs.Prelude.{IsSome, IfErr}
+use Rattle.std.proofs.Common.{◌≡◌, ◌↔◌, ℕ, false, List, [], ◌∷◌, ◌++◌, length, Ok, Option, refl, sym, ap, ◌∙◌, subst, append_assoc, append-nil, length-append, eq-eqb}
+use Rattle.std.specs.Prelude.{IsSome}
 use Rattle.std.specs.List.{AllByRecursion}
 use Rattle.std.proofs.lemmas.Bool.{lt-ltb}
 use Rattle.std.proofs.lemmas.List.{map-append}
-use Rattle.rq_bytes.specs.declared.error.Error.{Error}
-use Rattle.rq_bytes.specs.declared.error.Error.TheVariants.{OutOfMemory, Contradiction}
-use Rattle.rq_bytes.specs.Refusals.{and_then, first_refusal}
-use Rattle.rq_bytes.proofs.RefusalFacts.{first_refusal-front}
-use Rattle.rq_base.specs.RefusedInput.{checked_configuration}
 use Rattle.rq_standard.specs.Packet.{Packet, id_bytes, packet_bytes}
 use Rattle.rq_standard.specs.Streams.{frame_size}
 use Rattle.rq_standard.specs.Configuration.{Configuration}
 use Rattle.rq_standard.specs.Headline.{IsHonestRun, IsOnlyObject, block_row, block_source, IsPacketOf, IsObjectAnswer, AnswersExactly, AnswersWhereAnyCan}
 use Rattle.rq_standard.specs.declared.row.TableRow.{TableRow}
-use Rattle.rq_standard.specs.TableRows.{IsChecked, greatest_size}
+use Rattle.rq_standard.specs.TableRows.{IsChecked}
 use Rattle.rq_standard.specs.Equations.{internal_id}
 use Rattle.rq_standard.specs.Standing.{State, StandsFor, AnswersObject, AnswersOnlyObject}
 use Rattle.rq_standard.proofs.Columns.{sum_symbol}
-use Rattle.raptorq.specs.Refused.{packet_refusal, IsPacketRefusal}
-use Rattle.raptorq.specs.Runs.{packets_of, run_refusal, ContradictedIn, AnswersRun}
+use Rattle.raptorq.specs.Refused.{packet_refusal}
+use Rattle.raptorq.specs.Runs.{packets_of}
 
 pub all_at : (P : Packet → Type 0) (front rest : List Packet) (p : Packet) → AllByRecursion P (front ++ p ∷ rest) → P p
 all_at P [] rest p h = h.0
@@ -69,29 +64,3 @@ module _ (table : List TableRow) (c : Configuration) (all : List Packet) (s : St
   -- an answer exactly where no other object fits the list
   pub answers_where_any_can : AnswersOnlyObject s r → AnswersWhereAnyCan table c all r
   answers_where_any_can is object run = subst (λ k. IsSome r ↔ IsOnlyObject table k all object) same (is table object all (stands object run))
-
--- ---- what is refused, whoever sent the packets
-
--- one packet more passes
-pub one_passes : (c : Configuration) (front : List Packet) (p : Packet) → first_refusal (packet_refusal c) front ≡ Ok tt → packet_refusal c p ≡ Ok tt → first_refusal (packet_refusal c) (front ++ p ∷ []) ≡ Ok tt
-one_passes c front p passed is = first_refusal-front (packet_refusal c) front (p ∷ []) passed ∙ ap (λ r. and_then r (λ _. Ok tt)) is
-
-module _ (table : List TableRow) (c : Configuration) (checked : checked_configuration (greatest_size table) c ≡ Ok tt) where
-  -- nothing is refused
-  pub run_passes : (packets : List Packet) → first_refusal (packet_refusal c) packets ≡ Ok tt → run_refusal table c packets ≡ Ok tt
-  run_passes packets passed = ap (λ r. and_then r (λ _. first_refusal (packet_refusal c) packets)) checked ∙ passed
-
-  -- so an answer stands, or memory is wanting
-  pub run_answers : {X : Type 0} (packets : List Packet) (r : Result X Error) → first_refusal (packet_refusal c) packets ≡ Ok tt → IfErr r (λ e. e ≡ OutOfMemory) → AnswersRun table c packets r
-  run_answers packets (Ok x) passed memory = run_passes packets passed
-  run_answers packets (Err e) passed memory = inl memory
-
-  -- one packet stops it
-  pub run_stops : (X : Type 0) (packets front rest : List Packet) (p : Packet) (e : Error) → packets ≡ (front ++ p ∷ []) ++ rest → first_refusal (packet_refusal c) front ≡ Ok tt → IsPacketRefusal e (packet_refusal c p)
-      → (packet_refusal c p ≡ Ok tt → e ≡ Contradiction → ContradictedIn table c packets) → AnswersRun {X = X} table c packets (Err e)
-  run_stops X packets front rest p e whole passed refused contradicted = by_tests (packet_refusal c p) refl refused where
-    by_tests : (r : Result (Unit {0}) Error) → packet_refusal c p ≡ r → IsPacketRefusal e r → AnswersRun {X = X} table c packets (Err e)
-    by_tests (Ok u) is (inl memory) = inl memory
-    by_tests (Ok u) is (inr contradiction) = inr (inr (contradiction, checked, contradicted is contradiction))
-    by_tests (Err w) is same = inr (inl (ap (λ r. and_then r (λ _. first_refusal (packet_refusal c) packets)) checked
-        ∙ ap (first_refusal (packet_refusal c)) (whole ∙ append_assoc front (p ∷ []) rest) ∙ first_refusal-front (packet_refusal c) front (p ∷ rest) passed ∙ ap (λ r. and_then r (λ _. first_refusal (packet_refusal c) rest)) is ∙ ap (λ x. Err x) (sym same)))

@@ -1,10 +1,8 @@
 -- What a decoder of an object stands for where the work on a packet stopped.
-use Rattle.std.proofs.Common.{◌≡◌, ◌≢◌, ◌⊎◌, ◌<◌, eqb, ltb, cond, Bool, true, false, length, Result, Ok, Err, sym, ◌∙◌, subst, refl, inl, inr}
-use Rattle.std.specs.Prelude.{not}
-use Rattle.std.proofs.lemmas.Bool.{ltb-true}
+use Rattle.std.proofs.Common.{◌≡◌, ◌≢◌, ◌⊎◌, eqb, ltb, Bool, true, false, length, Result, Ok, Err, sym, ◌∙◌, subst, refl, inl, inr}
 use Rattle.rq_bytes.specs.declared.error.Error.{Error}
-use Rattle.rq_bytes.specs.declared.error.Error.TheVariants.{OutOfMemory, Contradiction, UnknownBlock, WrongPayloadSize}
-use Rattle.rq_standard.specs.Configuration.{Configuration, IsAligned}
+use Rattle.rq_bytes.specs.declared.error.Error.TheVariants.{OutOfMemory, Contradiction}
+use Rattle.rq_standard.specs.Configuration.{IsAligned}
 use Rattle.rq_standard.specs.Packet.{Packet}
 use Rattle.rq_standard.specs.Standing.{State, Adds, StopsEarly, Stops, Contradicts, KeepsContradictions, IsHonestPacket, LeavesBlockLate, AnswersLateBlock}
 use Rattle.rq_standard.specs.TableRows.{IsChecked}
@@ -15,20 +13,10 @@ use Rattle.raptorq.specs.Stopping.{StopsAsTested, AddsOrStops, AddsAndJoinsOrSto
 use Rattle.raptorq.specs.Taking.{TakesPacket}
 use Rattle.raptorq.specs.declared.decoder.stopped.Stopped.{Stopped}
 use Rattle.raptorq.specs.declared.decoder.stopped.Stopped.TheVariants.{Refused, NotRecorded, NotSolved, Contradicted, NotJoined}
+use Rattle.raptorq.proofs.Following.{tests, passes_below, taken_fits, follows_more, refused_next}
 use Rattle.raptorq.proofs.Lists.{packet_refusal-packet}
 
 -- ---- what the tests say
-
-abbrev tests : Bool → Bool → Result (Unit {0}) Error
-tests b s = cond (not b) (Err UnknownBlock) (cond (not s) (Err WrongPayloadSize) (Ok tt))
-
-block_passes : (b s : Bool) → tests b s ≡ Ok tt → b ≡ true
-block_passes true s h = refl
-block_passes false s h = absurd (cc h)
-
--- a packet that passes them is of one of the blocks
-pub passes_below : (c : Configuration) (p : Packet) → packet_refusal c p ≡ Ok tt → p.id.block < c.source_blocks
-passes_below c p h = ltb-true p.id.block c.source_blocks (block_passes (ltb p.id.block c.source_blocks) (eqb (length p.payload) c.symbol_size) h)
 
 never_contradiction : (b s : Bool) → tests b s ≡ Err Contradiction → ⊥
 never_contradiction true true h = absurd (cc h)
@@ -122,6 +110,8 @@ takes_added old p x new aligned passes same adds = record {
   holds = holds_more old p new (passes_below old.configuration p passes) adds;
   goes_on = no_more old p new adds;
   keeps = keeps_added old p new adds;
+  next = λ table came follows. (passes, taken_fits table came p old new follows (passes_below old.configuration p passes) adds);
+  follows = λ table came follows. follows_more table came p old new follows (passes_below old.configuration p passes) adds;
   honest = tt;
   stands = stands_more p old new aligned adds;
   answers_late = answers_late p old new aligned adds;
@@ -138,6 +128,8 @@ takes_stopped old p at new tested same so = record {
   holds = tt;
   goes_on = tt;
   keeps = keeps_stopped old p at new so;
+  next = λ table came follows. refused_next table came p old new follows (refusal_of at) (refused_as_tested at (packet_refusal old.configuration p) tested) (contradicts old p at new tested so);
+  follows = tt;
   honest = honest_stops old p at new tested so;
   stands = tt;
   answers_late = tt;

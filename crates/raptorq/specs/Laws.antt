@@ -1,5 +1,6 @@
 -- Laws of packets, blocks and answers, in the words of the headline.
-use Rattle.std.specs.Prelude.{◌≡◌, ◌↔◌, ℕ, ◌*◌, ◌<◌, List, length, All, Option, IsSome}
+use Rattle.std.specs.Prelude.{◌≡◌, ◌↔◌, ℕ, ◌*◌, ◌<◌, List, length, All, Option, IsSome, Result}
+use Rattle.rq_bytes.specs.declared.error.Error.{Error}
 use Rattle.rq_standard.specs.declared.row.TableRow.{TableRow}
 use Rattle.rq_standard.specs.TableRows.{IsTable, greatest_size}
 use Rattle.rq_standard.specs.Configuration.{Configuration, IsAccepted, IsAligned}
@@ -10,6 +11,7 @@ use Rattle.rq_standard.specs.Received.{has_id}
 use Rattle.rq_standard.specs.Held.{Held, holds, recorded, AreHeldDetermining, IsContradictory}
 use Rattle.rq_standard.specs.SameIds.{HasIdsOf, HaveSameIds}
 use Rattle.rq_standard.specs.Headline.{IsNonsingular, DetermineBlock, IsIntermediateColumn, IsOnlyIntermediateColumn, IsPacketOf, IsHonestRun, IsAnswerable, IsOnlyObject, AnswersExactly}
+use Rattle.raptorq.specs.Runs.{IsRunRefusal}
 
 -- Over a row that isn't singular, intermediate symbols of a block are the only ones.
 abbrev pub IntermediateSymbolsAreOnly : Type 0
@@ -81,6 +83,14 @@ DeterminedByIdsAlone =
 -- and what is contradictory stays so when more is recorded.
 abbrev pub ContradictionsStay : Type 0
 ContradictionsStay = (h : Held) (esi : ℕ) (payload : List ℕ) → IsContradictory h → IsContradictory (recorded h esi payload)
+
+-- ---- refusals
+
+-- Of a run over any packets no two refusals are the first.
+abbrev pub FirstRefusalIsOne : Type 0
+FirstRefusalIsOne =
+    (table : List TableRow) (c : Configuration) (packets : List Packet) (one other : Result (Unit {0}) Error)
+    → IsRunRefusal table c packets one → IsRunRefusal table c packets other → one ≡ other
 
 -- ---- sub-blocks
 

@@ -1,15 +1,15 @@
 -- What comes of a list of packets, each with the sparse threshold that is set before it.
-use Rattle.std.specs.Prelude.{◌≡◌, ◌⊎◌, ℕ, ◌<◌, List, ◌++◌, map, Result, Ok, Err}
+use Rattle.std.specs.Prelude.{◌≡◌, ◌↔◌, ◌⊎◌, ℕ, ◌<◌, List, [], ◌∷◌, ◌++◌, map, Result, Ok, Err, MatchResult, IsErr, IsSome}
 use Rattle.rq_bytes.specs.declared.error.Error.{Error}
 use Rattle.rq_bytes.specs.declared.error.Error.TheVariants.{OutOfMemory, Contradiction}
-use Rattle.rq_bytes.specs.Refusals.{IsRefusal, and_then, first_refusal}
+use Rattle.rq_bytes.specs.Refusals.{IsRefusal}
 use Rattle.rq_standard.specs.declared.row.TableRow.{TableRow}
 use Rattle.rq_standard.specs.TableRows.{greatest_size}
 use Rattle.rq_standard.specs.Configuration.{Configuration}
 use Rattle.rq_standard.specs.Headline.{IsHonestRun}
-use Rattle.rq_standard.specs.Held.{IsContradictory}
+use Rattle.rq_standard.specs.Held.{CanAnswer, IsContradictory}
 use Rattle.rq_standard.specs.Packet.{Packet}
-use Rattle.rq_standard.specs.Standing.{held_after}
+use Rattle.rq_standard.specs.Standing.{State, held_after, HoldsRun}
 use Rattle.rq_base.specs.RefusedInput.{checked_configuration}
 use Rattle.raptorq.specs.Refused.{packet_refusal}
 
@@ -21,21 +21,45 @@ packets_of steps = map (λ step. step.1) steps
 abbrev pub RefusesConfiguration : List TableRow → Configuration → List Packet → Error → Type 0
 RefusesConfiguration table c packets e = (object : List ℕ) → IsHonestRun table c object packets → IsRefusal e (checked_configuration (greatest_size table) c)
 
--- whoever sent the packets: the first refusal of the configuration, and then of the packets in their order
-abbrev pub run_refusal : List TableRow → Configuration → List Packet → Result (Unit {0}) Error
-run_refusal table c packets = and_then (checked_configuration (greatest_size table) c) (λ _. first_refusal (packet_refusal c) packets)
+-- ---- whoever sent the packets
 
--- so many of the packets pass the tests, and those of one block are contradictory
-pub record ContradictedIn (table : List TableRow) (c : Configuration) (packets : List Packet) : Type 0 where
-  pub front : List Packet
-  pub rest : List Packet
-  pub whole : packets ≡ front ++ rest
-  pub passed : first_refusal (packet_refusal c) front ≡ Ok tt
-  pub block : ℕ
-  pub below : block < c.source_blocks
-  pub contradictory : IsContradictory (held_after table c block front)
+-- A packet contradicts those that came: these can't answer its block, and with it what came of the block is contradictory.
+pub record ContradictsCame (table : List TableRow) (c : Configuration) (came : List Packet) (p : Packet) : Type 0 where
+  pub unanswered : CanAnswer (held_after table c p.id.block came) → ⊥
+  pub contradictory : IsContradictory (held_after table c p.id.block (came ++ p ∷ []))
 
--- Whoever sent the packets: an answer where nothing is refused, and else the first refusal. Want of memory may come before it, and a contradiction before that of a packet.
+-- what is refused of a packet behind those that came, none of which was refused: by the tests, and then as a contradiction
+abbrev pub IsNextRefusal : List TableRow → Configuration → List Packet → Packet → Result (Unit {0}) Error → Type 0
+IsNextRefusal table c came p (Ok x) = (packet_refusal c p ≡ Ok tt) × ¬ (ContradictsCame table c came p)
+IsNextRefusal table c came p (Err e) =
+    (packet_refusal c p ≡ Err e) ⊎ ((packet_refusal c p ≡ Ok tt) × (e ≡ Contradiction) × ContradictsCame table c came p)
+
+-- what is answered of it: want of memory may come in place of any
+abbrev pub AnswersNext : {X : Type 0} → List TableRow → Configuration → List Packet → Packet → Result X Error → Type 0
+AnswersNext table c came p (Ok x) = IsNextRefusal table c came p (Ok tt)
+AnswersNext table c came p (Err e) = (e ≡ OutOfMemory) ⊎ IsNextRefusal table c came p (Err e)
+
+-- A decoder follows packets that came: a block has an answer exactly where what came of it can answer it, and of each block without one all that came is held.
+pub record FollowsRun (table : List TableRow) (came : List Packet) (s : State) : Type 0 where
+  pub holds : HoldsRun table came s
+  pub answers : (b : ℕ) → b < s.configuration.source_blocks → IsSome (s.answer b) ↔ CanAnswer (held_after table s.configuration b came)
+
+-- and so it does one packet later
+abbrev pub FollowsMore : State → Packet → State → Type 0
+FollowsMore old p new = (table : List TableRow) (came : List Packet) → FollowsRun table came old → FollowsRun table (came ++ p ∷ []) new
+
+-- the first refusal of a list of packets behind those that came
+abbrev pub IsRefusalBehind : List TableRow → Configuration → List Packet → List Packet → Result (Unit {0}) Error → Type 0
+IsRefusalBehind table c came [] r = r ≡ Ok tt
+IsRefusalBehind table c came (p ∷ packets) r =
+    (IsErr r × IsNextRefusal table c came p r)
+    ⊎ (IsNextRefusal table c came p (Ok tt) × IsRefusalBehind table c (came ++ p ∷ []) packets r)
+
+-- the first refusal of a run: of the configuration, and then of the packets in their order
+abbrev pub IsRunRefusal : List TableRow → Configuration → List Packet → Result (Unit {0}) Error → Type 0
+IsRunRefusal table c packets r = MatchResult (checked_configuration (greatest_size table) c) (λ _. IsRefusalBehind table c [] packets r) (λ e. r ≡ Err e)
+
+-- An answer where nothing is refused, and else the first refusal. Want of memory may come before it.
 abbrev pub AnswersRun : {X : Type 0} → List TableRow → Configuration → List Packet → Result X Error → Type 0
-AnswersRun table c packets (Ok x) = run_refusal table c packets ≡ Ok tt
-AnswersRun table c packets (Err e) = (e ≡ OutOfMemory) ⊎ ((run_refusal table c packets ≡ Err e) ⊎ ((e ≡ Contradiction) × (checked_configuration (greatest_size table) c ≡ Ok tt) × ContradictedIn table c packets))
+AnswersRun table c packets (Ok x) = IsRunRefusal table c packets (Ok tt)
+AnswersRun table c packets (Err e) = (e ≡ OutOfMemory) ⊎ IsRunRefusal table c packets (Err e)

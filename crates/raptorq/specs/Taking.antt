@@ -1,10 +1,12 @@
 -- What a decoder of an object does with a packet, whoever sent it.
-use Rattle.std.specs.Prelude.{◌≡◌, ◌≢◌, Result, Ok, IfErr, OnOk}
+use Rattle.std.specs.Prelude.{◌≡◌, ◌≢◌, List, Result, Ok, IfErr, OnOk}
 use Rattle.rq_bytes.specs.declared.error.Error.{Error}
 use Rattle.rq_bytes.specs.declared.error.Error.TheVariants.{OutOfMemory, Contradiction}
+use Rattle.rq_standard.specs.declared.row.TableRow.{TableRow}
 use Rattle.rq_standard.specs.Packet.{Packet}
 use Rattle.rq_standard.specs.Standing.{State, Adds, Contradicts, IsBlockContradictory, KeepsContradictions, IsHonestPacket, HoldsMore, StandsForMore, AnswersLateBlock}
 use Rattle.raptorq.specs.Refused.{packet_refusal, IsPacketRefusal}
+use Rattle.raptorq.specs.Runs.{AnswersNext, FollowsRun, FollowsMore}
 
 pub record TakesPacket {X : Type 0} (old : State) (packet : Packet) (result : Result X Error) (new : State) : Type 0 where
   -- a refusal is the tests', in their order, or comes where these refuse nothing
@@ -20,6 +22,9 @@ pub record TakesPacket {X : Type 0} (old : State) (packet : Packet) (result : Re
   pub holds : OnOk result (HoldsMore old packet new)
   pub goes_on : OnOk result (IsBlockContradictory old packet.id.block → ⊥)
   pub keeps : KeepsContradictions old new
+  -- behind packets that the decoder follows, exactly what is to be refused is
+  pub next : (table : List TableRow) (came : List Packet) → FollowsRun table came old → AnswersNext table old.configuration came packet result
+  pub follows : OnOk result (FollowsMore old packet new)
   -- a packet of the object for whose packets the decoder stands is refused for want of memory alone
   pub honest : IfErr result (λ e. IsHonestPacket old packet → e ≡ OutOfMemory)
   -- from a decoder that stands for a list, one that stands for the longer list

@@ -1,5 +1,5 @@
 //! Laws of packets, blocks and answers: each is the contract of a function that does nothing.
-ghost use Rattle.raptorq.specs.Laws.{IntermediateSymbolsAreOnly, SourcePacketsAreSymbols, AnswerableIsOnlyObject, MorePacketsDetermine, MorePacketsAreAnswerable, AnswersStay, SameIdsAreAnswerable, SameIdsAnswerTheSame, DeterminedByIdsAlone, ContradictionsStay, JoiningUndoesCutting, CuttingUndoesJoining};
+ghost use Rattle.raptorq.specs.Laws.{IntermediateSymbolsAreOnly, SourcePacketsAreSymbols, AnswerableIsOnlyObject, MorePacketsDetermine, MorePacketsAreAnswerable, AnswersStay, SameIdsAreAnswerable, SameIdsAnswerTheSame, DeterminedByIdsAlone, ContradictionsStay, FirstRefusalIsOne, JoiningUndoesCutting, CuttingUndoesJoining};
 
 /// A block has no more than one column of intermediate symbols where its row isn't singular: any two
 /// are the same below L (RFC 6330, sections 5.3.3 and 5.4.2).
@@ -43,6 +43,12 @@ pub fn order_and_repeats()
 pub fn contradictions()
     ensures ids { DeterminedByIdsAlone }
     ensures stay { ContradictionsStay }
+{}
+
+/// Over any packets, whoever sent them, a run has one first refusal at most: what
+/// [`decode_all`](crate::decoder::decode_all) refuses but for want of memory.
+pub fn first_refusals()
+    ensures { FirstRefusalIsOne }
 {}
 
 /// Cutting a block of K symbols into sub-blocks and symbols loses nothing: joining its symbols by

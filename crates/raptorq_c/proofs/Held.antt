@@ -1,6 +1,6 @@
 -- What calls on handles say, by what the coders say.
 use Rattle.std.proofs.Common.{◌≡◌, ◌≢◌, ◌⊎◌, ℕ, Bool, true, false, cond, List, length, Option, Some, None, Result, Ok, Err, refl, sym, ap, ◌∙◌, subst, arith, inl, inr}
-use Rattle.std.specs.Prelude.{IsErr, IfErr, OnErr, not, nat_lt, ◌==◌}
+use Rattle.std.specs.Prelude.{IsErr, IfErr, OnErr, MatchResult, not, nat_lt, ◌==◌}
 use Rattle.rq_bytes.specs.declared.error.Error.{Error}
 use Rattle.rq_bytes.specs.declared.error.Error.TheVariants.{OutOfMemory, Contradiction, UnknownBlock, WrongPayloadSize}
 use Rattle.rq_bytes.specs.Error.{code_of}
@@ -12,8 +12,8 @@ use Rattle.rq_standard.specs.Streams.{frame_size, frames_in}
 use Rattle.rq_standard.specs.TableRows.{built_in_rows}
 use Rattle.rq_base.specs.RefusedInput.{read_packet}
 use Rattle.raptorq.specs.Refused.{packet_refusal, IsPacketRefusal}
-use Rattle.raptorq.specs.Runs.{run_refusal, AnswersRun}
-use Rattle.raptorq_c.specs.Decoding.{Answered, IsRefused, IsDecoded, decoding_refusal, frames_refusal, packets_in}
+use Rattle.raptorq.specs.Runs.{IsRunRefusal, AnswersRun}
+use Rattle.raptorq_c.specs.Decoding.{Answered, IsRefused, IsDecoded, IsDecodingRefusal, frames_refusal, packets_in}
 use Rattle.raptorq_c.specs.Handles.{coder_of, decoder_in, decoder_of, Becomes, IsTakenNumber, IsAdded, bytes_refusal}
 use Rattle.raptorq_c.specs.declared.handle.Handle.{Handle}
 use Rattle.raptorq_c.specs.declared.owned.Coder.{Coder}
@@ -85,33 +85,25 @@ refused_bytes old new bytes e why same stops contradiction keeps honest late who
 
 -- ---- packets in a buffer
 
--- what is refused where memory is wanting
-memory_number : (r : Result (Unit {0}) Error) → IsRefused 21 r
-memory_number (Ok x) = inl refl
-memory_number (Err w) = inl refl
-
-pub wants_memory : (header bytes : List ℕ) (e : Error) → e ≡ OutOfMemory → IsDecoded (code_of e) header bytes
-wants_memory header bytes e memory = inl (subst (λ n. IsRefused n (decoding_refusal header bytes)) (sym (ap code_of memory)) (memory_number (decoding_refusal header bytes)))
+-- what is refused of the frames, or of the run of the packets that they spell
+decoding_refused : (header bytes : List ℕ) (r t : Result (Unit {0}) Error) → frames_refusal (frames_in (frame_size (configuration_of_bytes header)) bytes) ≡ t
+    → MatchResult t (λ _. IsRunRefusal built_in_rows (configuration_of_bytes header) (packets_in (configuration_of_bytes header) bytes) r) (λ e. r ≡ Err e) → IsDecodingRefusal header bytes r
+decoding_refused header bytes r t is =
+    let c = configuration_of_bytes header in
+    subst (λ f. MatchResult f (λ _. IsRunRefusal built_in_rows c (packets_in c bytes) r) (λ e. r ≡ Err e)) (sym is)
 
 -- a frame that is refused
 pub refused_frames : (header bytes : List ℕ) (e : Error) → (e ≡ OutOfMemory) ⊎ (frames_refusal (frames_in (frame_size (configuration_of_bytes header)) bytes) ≡ Err e) → IsDecoded (code_of e) header bytes
-refused_frames header bytes e (inl memory) = wants_memory header bytes e memory
-refused_frames header bytes e (inr wanted) =
-    let c = configuration_of_bytes header in
-    inl (subst (IsRefused (code_of e)) (sym (ap (λ r. and_then r (λ _. run_refusal built_in_rows c (packets_in c bytes))) wanted)) (inr refl))
+refused_frames header bytes e (inl memory) = inl (ap code_of memory)
+refused_frames header bytes e (inr wanted) = inr (Err e, decoding_refused header bytes (Err e) (Err e) wanted refl, inr refl)
 
--- what is refused of the packets that they spell
+-- what is refused of the run
 pub refused_run : (header bytes : List ℕ) (e : Error) → frames_refusal (frames_in (frame_size (configuration_of_bytes header)) bytes) ≡ Ok tt
     → AnswersRun {X = Unit {0}} built_in_rows (configuration_of_bytes header) (packets_in (configuration_of_bytes header) bytes) (Err e) → IsDecoded (code_of e) header bytes
-refused_run header bytes e spelled (inl memory) = wants_memory header bytes e memory
-refused_run header bytes e spelled (inr (inl wanted)) =
-    let c = configuration_of_bytes header in
-    inl (subst (IsRefused (code_of e)) (sym (ap (λ r. and_then r (λ _. run_refusal built_in_rows c (packets_in c bytes))) spelled ∙ wanted)) (inr refl))
-refused_run header bytes e spelled (inr (inr contradiction)) = inr (ap code_of contradiction.0, record { spelled = spelled; accepted = contradiction.1; contradicted = contradiction.2 })
+refused_run header bytes e spelled (inl memory) = inl (ap code_of memory)
+refused_run header bytes e spelled (inr first) = inr (Err e, decoding_refused header bytes (Err e) (Ok tt) spelled first, inr refl)
 
--- nothing is refused of them
+-- nothing is refused
 pub filled_run : (header bytes : List ℕ) (number : ℕ) → frames_refusal (frames_in (frame_size (configuration_of_bytes header)) bytes) ≡ Ok tt
-    → run_refusal built_in_rows (configuration_of_bytes header) (packets_in (configuration_of_bytes header) bytes) ≡ Ok tt → IsRefused number (Ok tt) → IsDecoded number header bytes
-filled_run header bytes number spelled passed filled =
-    let c = configuration_of_bytes header in
-    inl (subst (IsRefused number) (sym (ap (λ r. and_then r (λ _. run_refusal built_in_rows c (packets_in c bytes))) spelled ∙ passed)) filled)
+    → IsRunRefusal built_in_rows (configuration_of_bytes header) (packets_in (configuration_of_bytes header) bytes) (Ok tt) → IsRefused number (Ok tt) → IsDecoded number header bytes
+filled_run header bytes number spelled passed filled = inr (Ok tt, decoding_refused header bytes (Ok tt) (Ok tt) spelled passed, filled)

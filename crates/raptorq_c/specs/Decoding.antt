@@ -1,5 +1,5 @@
 -- What decoding packets in a buffer ends with, over the built-in table.
-use Rattle.std.specs.Prelude.{◌≡◌, ◌≢◌, ◌⊎◌, ℕ, List, length, map, Option, Some, None, Result, Ok, Err}
+use Rattle.std.specs.Prelude.{◌≡◌, ◌≢◌, ◌⊎◌, ℕ, List, length, map, Option, Some, None, Result, Ok, Err, MatchResult}
 use Rattle.rq_bytes.specs.declared.error.Error.{Error}
 use Rattle.rq_bytes.specs.Error.{code_of}
 use Rattle.rq_bytes.specs.Refusals.{and_then, first_refusal}
@@ -7,9 +7,9 @@ use Rattle.rq_standard.specs.Configuration.{Configuration, configuration_of_byte
 use Rattle.rq_standard.specs.Headline.{AnswersExactly, AnswersWhereAnyCan}
 use Rattle.rq_standard.specs.Packet.{Packet, packet_of_bytes}
 use Rattle.rq_standard.specs.Streams.{frame_size, frames_in}
-use Rattle.rq_standard.specs.TableRows.{built_in_rows, greatest_size}
-use Rattle.rq_base.specs.RefusedInput.{read_packet, checked_configuration}
-use Rattle.raptorq.specs.Runs.{run_refusal, ContradictedIn}
+use Rattle.rq_standard.specs.TableRows.{built_in_rows}
+use Rattle.rq_base.specs.RefusedInput.{read_packet}
+use Rattle.raptorq.specs.Runs.{IsRunRefusal}
 
 -- the packets that bytes spell: cut at the length of a payload id and a symbol, of which the last may be shorter
 abbrev pub packets_in : Configuration → List ℕ → List Packet
@@ -19,11 +19,11 @@ packets_in c bytes = map packet_of_bytes (frames_in (frame_size c) bytes)
 abbrev pub frames_refusal : List (List ℕ) → Result (Unit {0}) Error
 frames_refusal frames = first_refusal (λ frame. and_then (read_packet frame) (λ _. Ok tt)) frames
 
--- what is refused: a last packet that is shorter than its id, the configuration, and then the packets in their order
-abbrev pub decoding_refusal : List ℕ → List ℕ → Result (Unit {0}) Error
-decoding_refusal header bytes =
+-- what is refused first: a last packet that is shorter than its id, and then what the run of the packets refuses
+abbrev pub IsDecodingRefusal : List ℕ → List ℕ → Result (Unit {0}) Error → Type 0
+IsDecodingRefusal header bytes r =
     let c = configuration_of_bytes header in
-    and_then (frames_refusal (frames_in (frame_size c) bytes)) (λ _. run_refusal built_in_rows c (packets_in c bytes))
+    MatchResult (frames_refusal (frames_in (frame_size c) bytes)) (λ _. IsRunRefusal built_in_rows c (packets_in c bytes) r) (λ e. r ≡ Err e)
 
 -- the numbers of a call that fills a buffer with an answer, where there is one
 abbrev pub IsFilled : ℕ → Type 0
@@ -34,15 +34,10 @@ abbrev pub IsRefused : ℕ → Result (Unit {0}) Error → Type 0
 IsRefused number (Ok x) = (number ≡ 21) ⊎ IsFilled number
 IsRefused number (Err e) = (number ≡ 21) ⊎ (number ≡ code_of e)
 
--- the packets in a buffer contradict each other, and nothing is refused of the frames and of the configuration
-pub record ContradictsBuffer (header bytes : List ℕ) : Type 0 where
-  pub spelled : let c = configuration_of_bytes header in frames_refusal (frames_in (frame_size c) bytes) ≡ Ok tt
-  pub accepted : checked_configuration (greatest_size built_in_rows) (configuration_of_bytes header) ≡ Ok tt
-  pub contradicted : let c = configuration_of_bytes header in ContradictedIn built_in_rows c (packets_in c bytes)
-
--- The numbers of a refusal, or of an answer, of packets in a buffer; 22 where they contradict each other.
+-- The numbers of the first refusal of packets in a buffer, or of an answer where nothing is refused.
 abbrev pub IsDecoded : ℕ → List ℕ → List ℕ → Type 0
-IsDecoded number header bytes = IsRefused number (decoding_refusal header bytes) ⊎ ((number ≡ 22) × ContradictsBuffer header bytes)
+IsDecoded number header bytes =
+    (number ≡ 21) ⊎ ((wanted : Result (Unit {0}) Error) × IsDecodingRefusal header bytes wanted × IsRefused number wanted)
 
 -- P of what a call answers of any packets: the object that is written (0), one of another length than the buffer (24), or none (25)
 pub record Answered (number : ℕ) (before after : List ℕ) (P : Option (List ℕ) → Type 0) : Type 0 where

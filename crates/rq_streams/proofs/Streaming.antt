@@ -1,28 +1,26 @@
 -- Of a mixed stream nothing is refused, and its packets are what is kept.
-use Rattle.std.proofs.Common.{◌≡◌, ℕ, ◌+◌, ◌%◌, ◌<◌, false, cond, ltb, eqb, List, [], ◌∷◌, ◌++◌, length, take, drop, Result, Ok, Err, Option, Some, None, refl, sym, ap, ◌∙◌, subst, arith, ◌⊎◌, inl, inr, eq-eqb, length-append}
-use Rattle.std.specs.Prelude.{IsSome, IfSome, flat_map}
+use Rattle.std.proofs.Common.{◌≡◌, ℕ, ◌%◌, ◌<◌, false, cond, ltb, eqb, List, [], ◌∷◌, length, take, drop, Result, Ok, Err, Option, Some, None, refl, sym, ap, ◌∙◌, subst, arith, inl, eq-eqb}
+use Rattle.std.specs.Prelude.{IsSome, IfSome}
 use Rattle.std.specs.List.{AllByRecursion}
 use Rattle.std.proofs.lemmas.Bool.{le-ltb, ne_eqb}
 use Rattle.std.proofs.KnownBytes.{Keeps-refl}
-use Rattle.std.proofs.lemmas.List.{take_at, drop_at}
 use Rattle.rq_bytes.specs.declared.error.Error.{Error}
-use Rattle.rq_bytes.specs.declared.error.Error.TheVariants.{HeaderTooShort, OutOfMemory}
+use Rattle.rq_bytes.specs.declared.error.Error.TheVariants.{HeaderTooShort}
 use Rattle.rq_standard.specs.Packet.{Packet}
-use Rattle.rq_standard.specs.Configuration.{Configuration, IsConfiguration, IsAccepted, largest_block, header_bytes, configuration_of_bytes}
+use Rattle.rq_standard.specs.Configuration.{Configuration, IsConfiguration, IsAccepted, largest_block, configuration_of_bytes}
 use Rattle.rq_standard.specs.declared.row.TableRow.{TableRow}
 use Rattle.rq_standard.specs.TableRows.{IsTable, greatest_size}
 use Rattle.rq_standard.specs.Headline.{IsPacketOf, IsObjectAnswer}
-use Rattle.rq_standard.proofs.HeaderBytes.{configuration_of_bytes-header_bytes}
 use Rattle.rq_standard.proofs.BlockRows.{block_has_row, answerable_only}
 use Rattle.rq_base.specs.RefusedInput.{checked_configuration}
 use Rattle.rq_streams.specs.declared.run.Outcome.{Outcome}
 use Rattle.rq_streams.specs.declared.run.Stop.{Stop}
 use Rattle.rq_standard.specs.Streams.{frame_size, frames_in}
 use Rattle.rq_streams.specs.Frames.{kept_packets, skipped_count, skipped_in}
-use Rattle.rq_streams.specs.MixedStreams.{Frame, frame_bytes, packets_among, other_count, IsMixedStream}
+use Rattle.rq_streams.specs.MixedStreams.{Frame, packets_among, other_count, IsMixedStream}
 use Rattle.rq_streams.specs.declared.run.Stop.TheVariants.{Refused}
-use Rattle.rq_streams.specs.ReceivedStreams.{header_configuration, WantsDetermined, WantsOnlyObject, AnswersStream, RefusesStream, AfterFrames, RefusesFirst, ReceivesExactly, ReceivesWhereAnyCan, CountsOthers}
-use Rattle.rq_streams.specs.Ends.{Wanted, Ends, outcome_of}
+use Rattle.rq_streams.specs.ReceivedStreams.{header_configuration, IsWantedOf, WantsDetermined, WantsOnlyObject, AnswersStream, RefusesStream, RefusesFirst, ReceivesExactly, ReceivesWhereAnyCan, CountsOthers}
+use Rattle.rq_streams.specs.Ends.{Wanted, Ends, EndsAs, outcome_of}
 use Rattle.rq_streams.proofs.Refusing.{if_some_all, if_some_more}
 use Rattle.rq_streams.proofs.Skipping.{FillsFrame, kept_packets-mixed, skipped_count-mixed}
 
@@ -36,10 +34,6 @@ positive_eqb n h = ne_eqb n 0 (λ e. absurd (omega arith))
 pub accepted_unrefused : (greatest : ℕ) (c : Configuration) → IsAccepted greatest c → checked_configuration greatest c ≡ Ok tt
 accepted_unrefused greatest c h =
     rw (positive_eqb c.symbol_size h.size_positive, positive_eqb c.alignment h.alignment_positive, eq-eqb (c.symbol_size % c.alignment) 0 h.aligned, positive_eqb c.source_blocks h.blocks_positive, le-ltb greatest (largest_block c) h.in_table) refl
-
-length-header_bytes : (c : Configuration) → length (header_bytes c) ≡ 12
-unfolding header_bytes
-length-header_bytes c = refl
 
 -- the row of each of its blocks is checked
 fills : (table : List TableRow) (c : Configuration) (object : List ℕ) (p : Packet) → IsTable table → IsAccepted (greatest_size table) c → IsConfiguration c → IsPacketOf table c object p → FillsFrame table c object p
@@ -57,26 +51,12 @@ none_of : (a : Option (List ℕ)) → (IsSome a → ⊥) → a ≡ None
 none_of None h = refl
 none_of (Some x) h = absurd (h refl)
 
-abbrev behind_header : List Frame → List ℕ → List ℕ
-behind_header frames rest = flat_map frame_bytes frames ++ rest
-
 module _ (table : List TableRow) (c : Configuration) (object : List ℕ) (frames : List Frame) (rest bytes : List ℕ) (s : IsMixedStream table c object frames rest bytes) where
-  header : take 12 bytes ≡ header_bytes c
-  header = ap (take 12) s.spelled ∙ take_at (header_bytes c) (behind_header frames rest) 12 (length-header_bytes c)
-
-  behind : drop 12 bytes ≡ behind_header frames rest
-  behind = ap (drop 12) s.spelled ∙ drop_at (header_bytes c) (behind_header frames rest) 12 (length-header_bytes c)
-
-  -- the stream's configuration is in its header
-  spelled_configuration : configuration_of_bytes (take 12 bytes) ≡ c
-  spelled_configuration = ap configuration_of_bytes header ∙ configuration_of_bytes-header_bytes c s.stream_run.fits
-
   pub stream_header : header_configuration bytes ≡ Ok c
   stream_header =
-      let long : length bytes ≡ 12 + length (behind_header frames rest) = ap length s.spelled ∙ length-append (header_bytes c) (behind_header frames rest) ∙ ap (λ n. n + length (behind_header frames rest)) (length-header_bytes c) in
-      let enough : ltb (length bytes) 12 ≡ false = le-ltb (length bytes) 12 (omega arith) in
+      let enough : ltb (length bytes) 12 ≡ false = le-ltb (length bytes) 12 s.long in
       ap (λ b. cond b (Err HeaderTooShort) (taken (configuration_of_bytes (take 12 bytes)))) enough
-      ∙ ap taken spelled_configuration
+      ∙ ap taken s.header
 
   -- a stream has one configuration
   pub same_header : (d : Configuration) → Ok d ≡ header_configuration bytes → d ≡ c
@@ -88,13 +68,13 @@ module _ (table : List TableRow) (c : Configuration) (object : List ℕ) (frames
 
   -- the packets that are kept are those among the frames
   pub stream_packets : kept_packets c (frames_in (frame_size c) (drop 12 bytes)) ≡ packets_among frames
-  stream_packets = ap (λ xs. kept_packets c (frames_in (frame_size c) xs)) behind ∙ kept_packets-mixed table c object frames rest stream_fills s.others s.short
+  stream_packets = ap (λ xs. kept_packets c (frames_in (frame_size c) xs)) s.spelled ∙ kept_packets-mixed table c object frames rest stream_fills s.others s.short
 
   -- and what is skipped are the other frames
   stream_skipped : skipped_in bytes ≡ other_count frames rest
   stream_skipped =
-      ap (λ d. skipped_count d (frames_in (frame_size d) (drop 12 bytes))) spelled_configuration
-      ∙ ap (λ xs. skipped_count c (frames_in (frame_size c) xs)) behind
+      ap (λ d. skipped_count d (frames_in (frame_size d) (drop 12 bytes))) s.header
+      ∙ ap (λ xs. skipped_count c (frames_in (frame_size c) xs)) s.spelled
       ∙ skipped_count-mixed table c object frames rest stream_fills s.others s.short
 
   -- what is answered is what is wanted
@@ -134,12 +114,9 @@ module _ (table : List TableRow) (input : Option (List ℕ)) (read bytes : List 
   receives_by result old new answer answers ends = if_some_more input (λ xs. read ≡ xs) _ (λ xs is c object frames rest s.
       wants_by table c object frames rest xs s answer (outcome_of result) old new (answers c object frames rest (mixed_before c object frames rest xs is s)) ends) all
 
-  -- the first refusal, or that of packets that contradict each other, and then nothing is written
-  pub receives_first : (e : Error) (old : Option (List ℕ)) → AfterFrames table bytes (λ wanted. (e ≡ OutOfMemory) ⊎ (wanted ≡ Err e)) → RefusesFirst table (Err (Refused e)) input old old
-  receives_first e old after = if_some_more input (λ xs. read ≡ xs) _ (λ xs is. subst (λ ys. AfterFrames table ys (Ends (Err (Refused e)) old old)) (same ∙ is) (elim after [
-    | inl first ↦ inl (first.0, (first.1, Keeps-refl old))
-    | inr found ↦ inr (found.0, (found.1, Keeps-refl old))
-  ])) all
+  -- what is wanted, where it ends so
+  pub receives_wanted : (result : Result (Outcome × ℕ) Stop) (old new : Option (List ℕ)) → EndsAs (outcome_of result) old new (IsWantedOf table bytes) → RefusesFirst table result input old new
+  receives_wanted result old new ends = if_some_more input (λ xs. read ≡ xs) _ (λ xs is. subst (λ ys. EndsAs (outcome_of result) old new (IsWantedOf table ys)) (same ∙ is) ends) all
 
   -- a refusal for want of memory, and then nothing is written
   pub receives_refused : (e : Error) (old : Option (List ℕ)) → RefusesStream table bytes e → ReceivesExactly table (Err (Refused e)) input old old

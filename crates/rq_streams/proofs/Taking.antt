@@ -1,21 +1,20 @@
 -- Packets of an object, taken frame by frame.
-use Rattle.std.proofs.Common.{◌≡◌, ℕ, ◌+◌, ◌<◌, ◌≤◌, min, length, length-append, true, false, cond, Bool, Option, List, [], ◌∷◌, ◌++◌, Some, None, Ok, refl, sym, ap, ◌∙◌, subst, arith, append_assoc, append-nil}
+use Rattle.std.proofs.Common.{◌≡◌, ℕ, ◌+◌, ◌<◌, ◌≤◌, min, length, length-append, true, false, cond, Bool, Option, List, [], ◌∷◌, ◌++◌, Some, None, Ok, Err, refl, sym, ap, ◌∙◌, subst, arith, append_assoc, append-nil, inl, inr}
 use Rattle.std.specs.List.{AllByRecursion, cons_option}
 use Rattle.rq_standard.specs.Packet.{Packet, packet_of_bytes}
 use Rattle.rq_standard.specs.Configuration.{Configuration}
 use Rattle.rq_standard.specs.declared.row.TableRow.{TableRow}
 use Rattle.rq_standard.specs.Headline.{IsPacketOf}
-use Rattle.rq_standard.specs.Standing.{State, StandsFor, StandsForMore, Contradicts, IsHonestPacket, held_after, HoldsRun, HoldsMore}
-use Rattle.rq_standard.specs.Held.{IsContradictory}
-use Rattle.rq_standard.proofs.Contradictions.{contradicted_after}
-use Rattle.rq_bytes.specs.Refusals.{first_refusal}
-use Rattle.raptorq.specs.Refused.{packet_refusal}
-use Rattle.raptorq.specs.Runs.{ContradictedIn}
-use Rattle.raptorq.proofs.Stops.{passes_below}
-use Rattle.raptorq.proofs.Lists.{all_at, one_passes}
+use Rattle.rq_standard.specs.Standing.{State, StandsFor, IsHonestPacket}
+use Rattle.rq_bytes.specs.declared.error.Error.{Error}
+use Rattle.rq_bytes.specs.declared.error.Error.TheVariants.{Contradiction}
+use Rattle.raptorq.specs.Runs.{IsNextRefusal, IsRefusalBehind, FollowsRun}
+use Rattle.raptorq.specs.Taking.{TakesPacket}
+use Rattle.raptorq.proofs.Following.{one_passes, one_stops}
+use Rattle.raptorq.proofs.Lists.{all_at}
 use Rattle.rq_standard.specs.Streams.{frame_size, frames_in}
 use Rattle.rq_streams.specs.Frames.{is_skipped, kept_packet, kept_packets, skipped_count}
-use Rattle.rq_streams.specs.ReceivedStreams.{StandsForFrames}
+use Rattle.rq_streams.specs.ReceivedStreams.{StandsForFrames, IsFramesRefusal}
 use Rattle.rq_standard.proofs.FrameLaws.{frames_in-next, frames_in-none}
 use Rattle.rq_streams.proofs.Skipping.{skipped_count-cons}
 
@@ -25,8 +24,8 @@ pub record AreFramesTaken (c : Configuration) (bytes left : List ℕ) (skipped :
   pub whole : kept_packets c (frames_in (frame_size c) bytes) ≡ done ++ kept_packets c (frames_in (frame_size c) left)
   pub counted : skipped_count c (frames_in (frame_size c) bytes) ≡ skipped + skipped_count c (frames_in (frame_size c) left)
   pub few : skipped + length left ≤ length bytes
-  pub passed : first_refusal (packet_refusal c) done ≡ Ok tt
-  pub holds : (table : List TableRow) → HoldsRun table [] old → HoldsRun table done now
+  pub passed : (table : List TableRow) → FollowsRun table [] old → IsRefusalBehind table c [] done (Ok tt)
+  pub follows : (table : List TableRow) → FollowsRun table [] old → FollowsRun table done now
   pub stands : (table : List TableRow) (object : List ℕ) → StandsFor table object [] old → AllByRecursion (IsPacketOf table c object) (kept_packets c (frames_in (frame_size c) bytes)) → StandsFor table object done now
 
 kept_by : (skipped : Bool) (q p : Packet) → Some p ≡ cond skipped None (Some q) → skipped ≡ false
@@ -72,32 +71,27 @@ module _ (c : Configuration) (bytes before after frame : List ℕ) (size skipped
   }
 
   -- a packet that contradicts those before it
-  pub contradicts_frames : (p : Packet) (new : State) → now.configuration ≡ c → Some p ≡ kept_packet c frame → packet_refusal c p ≡ Ok tt → Contradicts now p new → (table : List TableRow) → HoldsRun table [] old → ContradictedIn table c (kept_packets c (frames_in (frame_size c) bytes))
-  contradicts_frames p new same kept passes contradicts table none =
-      let within = passes_below c p passes in
-      record {
-        front = t.done ++ p ∷ [];
-        rest = kept_packets c (frames_in (frame_size c) after);
-        whole = whole_next (Some p) kept ∙ sym (append_assoc t.done (p ∷ []) (kept_packets c (frames_in (frame_size c) after)));
-        passed = one_passes c t.done p t.passed passes;
-        block = p.id.block;
-        below = within;
-        contradictory = subst (λ (k : Configuration). IsContradictory (held_after table k p.id.block (t.done ++ p ∷ []))) same
-            (contradicted_after table t.done now p new (subst (λ (k : Configuration). p.id.block < k.source_blocks) (sym same) within) (t.holds table none) contradicts);
-      }
+  pub contradicts_frames : {X : Type 0} (p : Packet) (new : State) (e : Error) → now.configuration ≡ c → Some p ≡ kept_packet c frame → e ≡ Contradiction → TakesPacket {X = X} now p (Err e) new → IsFramesRefusal c old bytes (Err e)
+  contradicts_frames p new e same kept is takes table none =
+      let next : IsNextRefusal table now.configuration t.done p (Err e) = elim (takes.next table t.done (t.follows table none)) [
+        | inl memory ↦ absurd (cc (memory, is))
+        | inr first ↦ first
+      ] in
+      subst (λ ps. IsRefusalBehind table c [] ps (Err e)) (sym (whole_next (Some p) kept))
+      (one_stops table c t.done (kept_packets c (frames_in (frame_size c) after)) p e (t.passed table none) (subst (λ k. IsNextRefusal table k t.done p (Err e)) same next))
 
   -- one packet more
-  pub taken_packet : (p : Packet) (new : State) → now.configuration ≡ c → Some p ≡ kept_packet c frame → packet_refusal c p ≡ Ok tt → HoldsMore now p new → StandsForMore now p new → AreFramesTaken c bytes after skipped old new
-  taken_packet p new same kept passes holds adds =
+  pub taken_packet : {X : Type 0} (p : Packet) (x : X) (new : State) → now.configuration ≡ c → Some p ≡ kept_packet c frame → TakesPacket now p (Ok x) new → AreFramesTaken c bytes after skipped old new
+  taken_packet p x new same kept takes =
       let more = kept_packets c (frames_in (frame_size c) after) in
       record {
         done = t.done ++ p ∷ [];
         whole = whole_next (Some p) kept ∙ sym (append_assoc t.done (p ∷ []) more);
         counted = counted_next false (kept_by (is_skipped c frame) (packet_of_bytes frame) p kept) ∙ omega arith;
         few = omega (arith, t.few, longer);
-        passed = one_passes c t.done p t.passed passes;
-        holds = λ table none. holds table t.done (t.holds table none);
-        stands = λ table object st honest. adds table object t.done (t.stands table object st honest) (honest_frame p same kept table object honest);
+        passed = λ table none. one_passes table c t.done p (t.passed table none) (subst (λ k. IsNextRefusal table k t.done p (Ok tt)) same (takes.next table t.done (t.follows table none)));
+        follows = λ table none. takes.follows table t.done (t.follows table none);
+        stands = λ table object st honest. takes.stands table object t.done (t.stands table object st honest) (honest_frame p same kept table object honest);
       }
 
   -- one frame skipped
@@ -108,7 +102,7 @@ module _ (c : Configuration) (bytes before after frame : List ℕ) (size skipped
     counted = counted_next true (skipped_by (is_skipped c frame) (packet_of_bytes frame) none) ∙ omega arith;
     few = omega (arith, t.few, is.1, is.2, wide, longer);
     passed = t.passed;
-    holds = t.holds;
+    follows = t.follows;
     stands = t.stands;
   }
 
@@ -120,5 +114,12 @@ module _ (c : Configuration) (bytes left : List ℕ) (skipped : ℕ) (old now : 
   pub taken_count : skipped ≡ skipped_count c (frames_in (frame_size c) bytes)
   taken_count = sym (t.counted ∙ ap (λ fs. skipped + skipped_count c fs) no_frames ∙ omega arith)
 
+  all_done : kept_packets c (frames_in (frame_size c) bytes) ≡ t.done
+  all_done = t.whole ∙ ap (λ fs. t.done ++ kept_packets c fs) no_frames ∙ append-nil t.done
+
   pub taken_all : StandsForFrames c old bytes now
-  taken_all table object st honest = subst (λ ps. StandsFor table object ps now) (sym (t.whole ∙ ap (λ fs. t.done ++ kept_packets c fs) no_frames ∙ append-nil t.done)) (t.stands table object st honest)
+  taken_all table object st honest = subst (λ ps. StandsFor table object ps now) (sym all_done) (t.stands table object st honest)
+
+  -- nothing was refused
+  pub taken_passed : IsFramesRefusal c old bytes (Ok tt)
+  taken_passed table none = subst (λ ps. IsRefusalBehind table c [] ps (Ok tt)) (sym all_done) (t.passed table none)

@@ -1,11 +1,13 @@
 -- A stream of an object's packets is a mixed stream with nothing skipped.
-use Rattle.std.proofs.Common.{◌≡◌, ℕ, List, [], ◌∷◌, ◌++◌, map, refl, sym, ap, ◌∙◌, subst, arith, append-nil, length}
+use Rattle.std.proofs.Common.{◌≡◌, ℕ, List, [], ◌∷◌, ◌++◌, map, take, drop, refl, sym, ap, ◌∙◌, subst, arith, append-nil, length, length-append}
 use Rattle.std.specs.Prelude.{flat_map}
 use Rattle.std.specs.List.{AllByRecursion}
+use Rattle.std.proofs.lemmas.List.{take_at, drop_at}
 use Rattle.rq_standard.specs.Packet.{Packet, packet_bytes}
-use Rattle.rq_standard.specs.Configuration.{Configuration, header_bytes}
+use Rattle.rq_standard.specs.Configuration.{Configuration, header_bytes, configuration_of_bytes}
 use Rattle.rq_standard.specs.declared.row.TableRow.{TableRow}
 use Rattle.rq_standard.specs.Streams.{frames_of}
+use Rattle.rq_standard.proofs.HeaderBytes.{configuration_of_bytes-header_bytes}
 use Rattle.rq_streams.specs.MixedStreams.{Frame, Holds, frame_bytes, packets_among, others_among, IsOtherFrame, IsStreamRun}
 use Rattle.rq_streams.specs.ReceivedStreams.{IsStreamOf}
 use Rattle.rq_streams.specs.SentStreams.{IsUnmixed}
@@ -25,6 +27,10 @@ bytes-held : (packets : List Packet) → frames_of packets ≡ flat_map frame_by
 bytes-held [] = refl
 bytes-held (p ∷ packets) = ap (λ xs. packet_bytes p ++ xs) (bytes-held packets)
 
+length-header_bytes : (c : Configuration) → length (header_bytes c) ≡ 12
+unfolding header_bytes
+length-header_bytes c = refl
+
 pub unmixed_stream : (table : List TableRow) (c : Configuration) (object : List ℕ) (packets : List Packet) (bytes : List ℕ) → IsStreamOf table c object packets bytes → IsUnmixed table c object packets bytes
 unmixed_stream table c object packets bytes s = record {
   frames = held packets;
@@ -32,7 +38,9 @@ unmixed_stream table c object packets bytes s = record {
     stream_run = subst (IsStreamRun table c object) (sym (packets-held packets)) s.stream_run;
     others = subst (AllByRecursion (IsOtherFrame c)) (sym (others-held packets)) tt;
     short = omega arith;
-    spelled = s.spelled ∙ ap (λ xs. header_bytes c ++ xs) (bytes-held packets ∙ sym (append-nil (flat_map frame_bytes (held packets))));
+    long = omega (arith, ap length s.spelled, length-append (header_bytes c) (frames_of packets), length-header_bytes c);
+    header = ap configuration_of_bytes (ap (take 12) s.spelled ∙ take_at (header_bytes c) (frames_of packets) 12 (length-header_bytes c)) ∙ configuration_of_bytes-header_bytes c s.stream_run.fits;
+    spelled = ap (drop 12) s.spelled ∙ drop_at (header_bytes c) (frames_of packets) 12 (length-header_bytes c) ∙ bytes-held packets ∙ sym (append-nil (flat_map frame_bytes (held packets)));
   };
   same = packets-held packets;
   none = omega (arith, ap length (others-held packets));

@@ -3,7 +3,6 @@ use Rattle.std.specs.Prelude.{◌≡◌, ◌↔◌, ℕ, ◌+◌, ◌<◌, List,
 use Rattle.std.specs.Io.KnownBytes.{Keeps, Appends}
 use Rattle.rq_bytes.specs.declared.error.Error.{Error}
 use Rattle.rq_bytes.specs.declared.error.Error.TheVariants.{OutOfMemory}
-use Rattle.rq_bytes.specs.Refusals.{and_then}
 use Rattle.rq_streams.specs.declared.counted.Counted.{Counted}
 use Rattle.rq_streams.specs.declared.run.Outcome.{Outcome}
 use Rattle.rq_streams.specs.declared.run.Outcome.TheVariants.{Written, Incomplete}
@@ -30,10 +29,6 @@ EndsAs (Err (Refused e)) old new IsWanted = ((e ≡ OutOfMemory) ⊎ IsWanted (E
 -- the same of what one thing is wanted
 abbrev pub Ends : Result Outcome Stop → Option (List ℕ) → Option (List ℕ) → Wanted → Type 0
 Ends result old new wanted = EndsAs result old new (λ w. wanted ≡ w)
-
--- P of what is wanted where this refusal comes first and then some answer
-abbrev pub AfterRefusal : Result (Unit {0}) Error → (Wanted → Type 0) → Type 0
-AfterRefusal refusal P = (answer : Option (List ℕ)) × P (and_then refusal (λ _. Ok answer))
 
 -- how many calls fail in a run that ends so: the first failed call ends it
 abbrev pub failed_calls : {X : Type 0} → Result X Stop → ℕ

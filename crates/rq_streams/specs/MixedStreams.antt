@@ -1,10 +1,10 @@
 -- Streams in which other frames stand among the packets of an object.
-use Rattle.std.specs.Prelude.{◌≡◌, ℕ, ◌+◌, ◌<◌, ◌≤◌, List, [], ◌∷◌, ◌++◌, length, flat_map, slice_index}
+use Rattle.std.specs.Prelude.{◌≡◌, ℕ, ◌+◌, ◌<◌, ◌≤◌, List, [], ◌∷◌, ◌++◌, length, take, drop, flat_map, slice_index}
 use Rattle.std.specs.List.{AllByRecursion}
 use Rattle.rq_standard.specs.declared.row.TableRow.{TableRow}
 use Rattle.rq_standard.specs.TableRows.{IsTable, greatest_size}
 use Rattle.rq_standard.specs.Packet.{Packet, packet_bytes}
-use Rattle.rq_standard.specs.Configuration.{Configuration, IsConfiguration, IsAccepted, header_bytes}
+use Rattle.rq_standard.specs.Configuration.{Configuration, IsConfiguration, IsAccepted, configuration_of_bytes}
 use Rattle.rq_standard.specs.Headline.{IsHonestRun}
 use Rattle.rq_standard.specs.Streams.{frame_size}
 
@@ -41,12 +41,14 @@ pub record IsStreamRun (table : List TableRow) (c : Configuration) (object : Lis
   pub accepted : IsAccepted (greatest_size table) c
   pub run : IsHonestRun table c object packets
 
--- The bytes are a configuration, then frames of packets of the object and other frames in any order, and then a rest shorter than a frame.
+-- Any twelve bytes that read as the configuration, then frames of packets of the object and other frames in any order, and then a rest shorter than a frame.
 pub record IsMixedStream (table : List TableRow) (c : Configuration) (object : List ℕ) (frames : List Frame) (rest bytes : List ℕ) : Type 0 where
   pub stream_run : IsStreamRun table c object (packets_among frames)
   pub others : AllByRecursion (IsOtherFrame c) (others_among frames)
   pub short : length rest < frame_size c
-  pub spelled : bytes ≡ header_bytes c ++ (flat_map frame_bytes frames ++ rest)
+  pub long : 12 ≤ length bytes
+  pub header : configuration_of_bytes (take 12 bytes) ≡ c
+  pub spelled : drop 12 bytes ≡ flat_map frame_bytes frames ++ rest
 
 -- one for a rest that isn't empty
 abbrev pub rest_count : List ℕ → ℕ

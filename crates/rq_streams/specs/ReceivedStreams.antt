@@ -1,31 +1,34 @@
 -- What a receiver refuses and skips of any bytes, and what it answers over a mixed stream of an object's packets.
-use Rattle.std.specs.Prelude.{◌≡◌, ℕ, List, [], length, take, Option, Result, Ok, Err, Some, None, IfSome, IfOk, if◌then◌else◌, nat_lt, drop, ◌⊎◌}
+use Rattle.std.specs.Prelude.{◌≡◌, ℕ, List, [], length, take, Option, Result, Ok, Err, MatchResult, Some, None, IfSome, IfOk, if◌then◌else◌, nat_lt, drop, ◌⊎◌}
 use Rattle.std.specs.List.{AllByRecursion}
 use Rattle.rq_bytes.specs.declared.error.Error.{Error}
-use Rattle.rq_bytes.specs.declared.error.Error.TheVariants.{HeaderTooShort, OutOfMemory, Contradiction}
-use Rattle.rq_bytes.specs.Refusals.{and_then}
+use Rattle.rq_bytes.specs.declared.error.Error.TheVariants.{HeaderTooShort, OutOfMemory}
 use Rattle.rq_standard.specs.Packet.{Packet}
 use Rattle.rq_standard.specs.Configuration.{Configuration, configuration_of_bytes}
 use Rattle.rq_standard.specs.declared.row.TableRow.{TableRow}
-use Rattle.rq_standard.specs.TableRows.{greatest_size}
 use Rattle.rq_standard.specs.Headline.{IsPacketOf, IsAnswerable, IsOnlyObject, IsObjectAnswer}
-use Rattle.rq_standard.specs.Standing.{State, StandsFor, HoldsRun}
+use Rattle.rq_standard.specs.Standing.{State, StandsFor}
 use Rattle.rq_standard.specs.Streams.{stream_of, frame_size, frames_in}
-use Rattle.rq_base.specs.RefusedInput.{checked_configuration}
-use Rattle.raptorq.specs.Runs.{ContradictedIn}
+use Rattle.raptorq.specs.Runs.{IsRefusalBehind, IsRunRefusal, FollowsRun}
 use Rattle.rq_streams.specs.declared.run.Outcome.{Outcome}
 use Rattle.rq_streams.specs.declared.run.Stop.{Stop}
-use Rattle.rq_streams.specs.Ends.{Wanted, Ends, AfterRefusal, outcome_of}
+use Rattle.rq_streams.specs.Ends.{Wanted, Ends, EndsAs, outcome_of}
 use Rattle.rq_streams.specs.Frames.{kept_packets, skipped_in}
-use Rattle.rq_streams.specs.MixedStreams.{Frame, packets_among, other_count, IsStreamRun, OverMixedStreams}
+use Rattle.rq_streams.specs.MixedStreams.{packets_among, other_count, IsStreamRun, OverMixedStreams}
 
 -- the configuration in a stream's header
 abbrev pub header_configuration : List ℕ → Result Configuration Error
 header_configuration bytes = if nat_lt (length bytes) 12 then Err HeaderTooShort else Ok (configuration_of_bytes (take 12 bytes))
 
--- The first refusal of a stream: of its header, and then of its configuration.
-abbrev pub receive_refusal : ℕ → List ℕ → Result (Unit {0}) Error
-receive_refusal greatest bytes = and_then (header_configuration bytes) (checked_configuration greatest)
+-- the first refusal of a stream: of its header, and then of the run of its packets, those of frames that aren't skipped
+abbrev pub IsStreamRefusal : List TableRow → List ℕ → Result (Unit {0}) Error → Type 0
+IsStreamRefusal table bytes r =
+    MatchResult (header_configuration bytes) (λ c. IsRunRefusal table c (kept_packets c (frames_in (frame_size c) (drop 12 bytes))) r) (λ e. r ≡ Err e)
+
+-- what is wanted of it: that refusal, and where nothing is refused some answer
+abbrev pub IsWantedOf : List TableRow → List ℕ → Wanted → Type 0
+IsWantedOf table bytes (Ok answer) = IsStreamRefusal table bytes (Ok tt)
+IsWantedOf table bytes (Err e) = IsStreamRefusal table bytes (Err e)
 
 -- the bytes are a stream of packets of the object
 pub record IsStreamOf (table : List TableRow) (c : Configuration) (object : List ℕ) (packets : List Packet) (bytes : List ℕ) : Type 0 where
@@ -40,9 +43,15 @@ StandsForFrames c old bytes new =
     StandsFor table object [] old → AllByRecursion (IsPacketOf table c object) packets
     → StandsFor table object packets new
 
--- why frames aren't all taken by a decoder that held nothing: want of memory, or packets that contradict each other
-abbrev pub StopsFrames : Configuration → State → List ℕ → Error → Type 0
-StopsFrames c old bytes e = (e ≡ OutOfMemory) ⊎ ((e ≡ Contradiction) × ((table : List TableRow) → HoldsRun table [] old → ContradictedIn table c (kept_packets c (frames_in (frame_size c) bytes))))
+-- the first refusal of the packets of frames that aren't skipped, by a decoder that followed no packets
+abbrev pub IsFramesRefusal : Configuration → State → List ℕ → Result (Unit {0}) Error → Type 0
+IsFramesRefusal c old bytes r =
+    (table : List TableRow) → FollowsRun table [] old → IsRefusalBehind table c [] (kept_packets c (frames_in (frame_size c) bytes)) r
+
+-- they are all taken where nothing is refused, and else stop at that refusal, or for want of memory
+abbrev pub AnswersFrames : {X : Type 0} → Configuration → State → List ℕ → Result X Error → Type 0
+AnswersFrames c old bytes (Ok x) = IsFramesRefusal c old bytes (Ok tt)
+AnswersFrames c old bytes (Err e) = (e ≡ OutOfMemory) ⊎ IsFramesRefusal c old bytes (Err e)
 
 -- where they hold the object's packets, want of memory alone
 abbrev pub StopsHonestFrames : Configuration → State → List ℕ → Error → Type 0
@@ -50,15 +59,6 @@ StopsHonestFrames c old bytes e =
     (table : List TableRow) (object : List ℕ)
     → StandsFor table object [] old → AllByRecursion (IsPacketOf table c object) (kept_packets c (frames_in (frame_size c) bytes))
     → e ≡ OutOfMemory
-
--- a stream isn't refused for its header, and the packets of its frames contradict each other
-pub record ContradictsItself (table : List TableRow) (bytes : List ℕ) : Type 0 where
-  pub accepted : receive_refusal (greatest_size table) bytes ≡ Ok tt
-  pub contradicted : let c = configuration_of_bytes (take 12 bytes) in ContradictedIn table c (kept_packets c (frames_in (frame_size c) (drop 12 bytes)))
-
--- P of what is wanted of a stream: its first refusal, or else some answer, or the refusal of packets that contradict each other
-abbrev pub AfterFrames : List TableRow → List ℕ → (Wanted → Type 0) → Type 0
-AfterFrames table bytes P = AfterRefusal (receive_refusal (greatest_size table) bytes) P ⊎ (ContradictsItself table bytes × P (Err Contradiction))
 
 -- the object of a mixed stream, exactly where the packets among its frames determine it
 abbrev pub AnswersStream : List TableRow → List ℕ → Option (List ℕ) → Type 0
@@ -80,9 +80,9 @@ pub record WantsOnlyObject (table : List TableRow) (c : Configuration) (object :
 
 -- ---- a run that reads this input, and behind whose writer this stood before and after
 
--- Whatever it reads, what is refused is the stream's first refusal, or packets that contradict each other, and then nothing is written.
+-- Whatever it reads, it refuses the stream's first refusal, and then nothing is written; where nothing is refused, it ends with an answer.
 abbrev pub RefusesFirst : List TableRow → Result (Outcome × ℕ) Stop → Option (List ℕ) → Option (List ℕ) → Option (List ℕ) → Type 0
-RefusesFirst table result input before after = IfSome input (λ bytes. AfterFrames table bytes (Ends (outcome_of result) before after))
+RefusesFirst table result input before after = IfSome input (λ bytes. EndsAs (outcome_of result) before after (IsWantedOf table bytes))
 
 -- Whatever it reads, it answers how many frames are skipped.
 abbrev pub CountsSkipped : Result (Outcome × ℕ) Stop → Option (List ℕ) → Type 0

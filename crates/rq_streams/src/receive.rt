@@ -1,12 +1,11 @@
 //! A stream in, its object out.
 ghost use Rattle.std.specs.Prelude.{◌≡◌, ◌^◌, ◌-◌, ◌<◌, ◌≤◌, length, OnOk, IfOk, IfErr, option_map, vec_items};
-ghost use Rattle.rq_bytes.specs.Refusals.{Answers};
 ghost use Rattle.raptorq.specs.Decoder.{state_of};
 ghost use Rattle.rq_streams.specs.Counted.{failed_count, inner_of};
 ghost use Rattle.rq_standard.specs.Streams.{frame_size, frames_in};
-ghost use Rattle.rq_streams.specs.Ends.{CountsFailures, FaultsWhereCounted, KeepsWhereUnread};
+ghost use Rattle.rq_streams.specs.Ends.{AnswersAs, CountsFailures, FaultsWhereCounted, KeepsWhereUnread};
 ghost use Rattle.rq_streams.specs.Frames.{kept_packet, skipped_count, skipped_in};
-ghost use Rattle.rq_streams.specs.ReceivedStreams.{header_configuration, StandsForFrames, StopsFrames, StopsHonestFrames, AfterFrames, AnswersStream, RefusesStream, RefusesFirst, CountsSkipped, ReceivesExactly, ReceivesWhereAnyCan, CountsOthers};
+ghost use Rattle.rq_streams.specs.ReceivedStreams.{header_configuration, StandsForFrames, AnswersFrames, StopsHonestFrames, IsWantedOf, AnswersStream, RefusesStream, RefusesFirst, CountsSkipped, ReceivesExactly, ReceivesWhereAnyCan, CountsOthers};
 
 use crate::counted::Counted;
 use crate::run::{Outcome, Stop, finish, read_all};
@@ -58,7 +57,7 @@ fn add_frames(
 ) -> Result<u64, Error>
     requires { config.now ≡ (state_of decoder.old).configuration }
     ensures skipped { IfOk result (λ n. n ≡ skipped_count config.now (frames_in (frame_size config.now) frames.now)) }
-    ensures stops { IfErr result (StopsFrames config.now (state_of decoder.old) frames.now) }
+    ensures refused { AnswersFrames config.now (state_of decoder.old) frames.now result }
     ensures honest { IfErr result (StopsHonestFrames config.now (state_of decoder.old) frames.now) }
     ensures configuration { (state_of decoder.new).configuration ≡ (state_of decoder.old).configuration }
     ensures stands { OnOk result (StandsForFrames config.now (state_of decoder.old) frames.now (state_of decoder.new)) }
@@ -81,7 +80,7 @@ fn received_object(
     table: &SystematicTable,
     bytes: Vec<u8>,
 ) -> Result<(Option<Vec<u8>>, u64), Error>
-    ensures refused { AfterFrames table.now bytes.items (Answers (λ r. option_map vec_items r.0) result) }
+    ensures refused { AnswersAs (λ r. option_map vec_items r.0) result (IsWantedOf table.now bytes.items) }
     ensures answer { IfOk result (λ r. AnswersStream table.now bytes.items (option_map vec_items r.0)) }
     ensures memory { IfErr result (RefusesStream table.now bytes.items) }
     ensures skipped { IfOk result (λ r. r.1 ≡ skipped_in bytes.items) }
@@ -124,8 +123,8 @@ pub fn run_receive<R: Read, W: Write>(
     ensures fault { FaultsWhereCounted reader.old writer.old result reader.new writer.new }
     ensures unread { KeepsWhereUnread reader.old reader.new (W.contents (inner_of writer.old)) (W.contents (inner_of writer.new)) }
 
-    // Whatever is read, what is refused is its first refusal, or packets that contradict each other,
-    // and then nothing is written.
+    // Whatever is read, its first refusal is refused, that of its packets that contradict each other
+    // among it, and then nothing is written.
     ensures refused { RefusesFirst table.now result
         (R.remaining (inner_of reader.old)) (W.contents (inner_of writer.old)) (W.contents (inner_of writer.new)) }
 

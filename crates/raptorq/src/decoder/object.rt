@@ -5,7 +5,7 @@ ghost use Rattle.rq_bytes.specs.Refusals.{IsAnswer};
 ghost use Rattle.rq_standard.specs.Configuration.{IsAccepted, IsAligned, largest_block, total_symbols};
 ghost use Rattle.rq_standard.specs.Cutting.{block_symbols};
 ghost use Rattle.rq_standard.specs.Headline.{AnswersExactly, AnswersWhereAnyCan};
-ghost use Rattle.raptorq.specs.Runs.{packets_of, AnswersRun, RefusesConfiguration};
+ghost use Rattle.raptorq.specs.Runs.{packets_of, AnswersRun, RefusesConfiguration, FollowsRun};
 ghost use Rattle.rq_standard.specs.TableRows.{greatest_size};
 ghost use Rattle.rq_base.specs.RefusedInput.{checked_configuration};
 ghost use Rattle.raptorq.specs.SourceBlockDecoder.{held_of};
@@ -114,7 +114,7 @@ pub struct Decoder {
 
 impl Decoder {
     ghost use Rattle.rq_standard.specs.Differences.{AreUnansweredDetermined, IsDifference, IsNoneWhereAnswered, MakesOthersFit};
-    ghost use Rattle.rq_standard.specs.Standing.{IsNewState, Stops, StopsEarly, IsBlockContradictory, HoldsRun, result_of};
+    ghost use Rattle.rq_standard.specs.Standing.{IsNewState, Stops, StopsEarly, IsBlockContradictory, result_of};
     ghost use Rattle.rq_standard.specs.Standing.{StandsForNone, LeavesBlockLate, LeavesOrAnswersLateBlock, AnswersObject, AnswersNothingElse, AnswersOnlyObject};
     ghost use Rattle.raptorq.specs.Taking.{TakesPacket};
     ghost use Rattle.raptorq.specs.Decoding.{shown};
@@ -134,7 +134,7 @@ impl Decoder {
         ensures accepted { OnOk result (IsAccepted (greatest_size table.now) config) }
         ensures state { IfOk result (λ d. IsNewState table.now config (state_of d)) }
         ensures stands { IfOk result (λ d. StandsForNone table.now config (state_of d)) }
-        ensures holds { IfOk result (λ d. HoldsRun table.now [] (state_of d)) }
+        ensures follows { IfOk result (λ d. FollowsRun table.now [] (state_of d)) }
     {
         config.check(table)?;
         let mut blocks = Vec::with_capacity(alloc, usize::from(config.source_blocks()))?;
@@ -328,9 +328,8 @@ fn set_sparse_thresholds(blocks: &mut [ObjectBlock], value: u32)
 /// What a decoder answers after a list of packets. Beside each packet stands the sparse threshold
 /// that is set before it ([`Decoder::set_sparse_threshold`]).
 ///
-/// Refuses what [`Decoder::new`] refuses, and then as [`Decoder::decode`] does, the first refused
-/// packet deciding. [`Error::OutOfMemory`], and [`Error::Contradiction`] where so many of the packets
-/// contradict each other, may come before a packet that is refused.
+/// Refuses what [`Decoder::new`] refuses, and then as [`Decoder::decode`] does, a contradiction among
+/// it: the first refused packet decides. [`Error::OutOfMemory`] may come before it.
 pub fn decode_all(
     alloc: Global,
     table: &SystematicTable,

@@ -1,17 +1,18 @@
-use Rattle.std.proofs.Common.{◌≡◌, ◌⊎◌, ℕ, ◌+◌, List, Option, Ok, Err, map, option_map, vec_items, sym, ap, ◌∙◌, subst, arith, inr}
+use Rattle.std.proofs.Common.{◌≡◌, ◌⊎◌, ℕ, ◌+◌, List, Option, Ok, Err, map, option_map, vec_items, sym, ap, ◌∙◌, subst, arith, inl, inr}
 use Rattle.std.proofs.lemmas.Result.{err_from_is_err_and}
 use Rattle.rq_bytes.specs.declared.error.Error.TheVariants.{OutOfMemory}
+use Rattle.rq_bytes.specs.Error.{code_of}
 use Rattle.rq_standard.specs.declared.row.TableRow.{TableRow}
 use Rattle.rq_standard.specs.Configuration.{Configuration, configuration_of_bytes}
 use Rattle.rq_standard.specs.Headline.{AnswersExactly, AnswersWhereAnyCan}
 use Rattle.rq_standard.specs.Packet.{Packet, packet_of_bytes}
 use Rattle.rq_standard.specs.Streams.{frame_size, frames_in}
 use Rattle.rq_standard.specs.TableRows.{built_in_rows}
-use Rattle.raptorq.specs.Runs.{packets_of, run_refusal, AnswersRun}
+use Rattle.raptorq.specs.Runs.{packets_of, IsRunRefusal, AnswersRun}
 use Rattle.raptorq_c.specs.Decoding.{Answered, frames_refusal, packets_in}
 use Rattle.raptorq_c.specs.Numbers.{number_of}
 use Rattle.raptorq_c.proofs.Encoded.{at_built_in}
-use Rattle.raptorq_c.proofs.Held.{answered_by, wants_memory, refused_frames, refused_run, filled_run}
+use Rattle.raptorq_c.proofs.Held.{answered_by, refused_frames, refused_run, filled_run}
 use Rattle.raptorq_c.proofs.decoding.decode.Goals as goal
 use Rattle.raptorq_c.proofs.decoding.decode.Goals.{After-from, In_ok-steps, In_ok-answer}
 
@@ -53,7 +54,7 @@ returns-clause-only_object c = filled (goal.at.returns-clause-only_object c).In_
 pub returns-in_err-table-clause-refused : goal.returns-in_err-table-clause-refused
 returns-in_err-table-clause-refused c =
     let p = err_from_is_err_and c.from_residual.result c.from_residual.ensures.1 in
-    rw (p.1, p.2) (wants_memory c.args.configuration.now c.args.packets.now c.in_err-table.field-0.0 c.in_err-table.ensures)
+    rw (p.1, p.2) (inl (ap code_of c.in_err-table.ensures))
 
 pub returns-in_err-steps-clause-refused : goal.returns-in_err-steps-clause-refused
 returns-in_err-steps-clause-refused c =
@@ -75,5 +76,5 @@ pub returns-clause-refused : goal.returns-clause-refused
 returns-clause-refused c =
     let read = (goal.at.returns-clause-refused c).In_ok-steps in
     let k = configuration_of_bytes c.args.configuration.now in
-    let passed = at_built_in (λ rows d. run_refusal rows d (packets_of c.in_ok-steps.steps.items) ≡ Ok tt) _ _ k c.in_ok-table.ensures c.deserialize-config.ensures c.in_ok-answer.ensures.in_order in
-    filled_run c.args.configuration.now c.args.packets.now (number_of c.fill_answer.result) (spelled read) (subst (λ ps. run_refusal built_in_rows k ps ≡ Ok tt) (came read) passed) (inr c.fill_answer.ensures.number)
+    let passed = at_built_in (λ rows d. IsRunRefusal rows d (packets_of c.in_ok-steps.steps.items) (Ok tt)) _ _ k c.in_ok-table.ensures c.deserialize-config.ensures c.in_ok-answer.ensures.in_order in
+    filled_run c.args.configuration.now c.args.packets.now (number_of c.fill_answer.result) (spelled read) (subst (λ ps. IsRunRefusal built_in_rows k ps (Ok tt)) (came read) passed) (inr c.fill_answer.ensures.number)

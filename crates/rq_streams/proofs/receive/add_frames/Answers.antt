@@ -1,12 +1,11 @@
 use Rattle.std.proofs.Common.{◌≡◌, ◌≤◌, ◌⊎◌, length, sym, ap, ◌∙◌, subst, arith, inl, inr, Ok, Some}
 use Rattle.std.proofs.lemmas.Result.{err_from_is_err_and}
 use Rattle.rq_bytes.specs.declared.error.Error.TheVariants.{OutOfMemory, Contradiction}
-use Rattle.raptorq.specs.Decoder.{state_of}
 use Rattle.raptorq.specs.Refused.{packet_refusal, IsPacketRefusal}
 use Rattle.rq_standard.specs.Streams.{frame_size}
 use Rattle.rq_streams.specs.Frames.{kept_packet}
 use Rattle.rq_streams.proofs.Skipping.{packet_refusal-kept}
-use Rattle.rq_streams.proofs.Taking.{taken_packet, taken_skipped, taken_count, taken_all, honest_packet, contradicts_frames}
+use Rattle.rq_streams.proofs.Taking.{taken_packet, taken_skipped, taken_count, taken_all, taken_passed, honest_packet, contradicts_frames}
 use Rattle.rq_streams.proofs.receive.add_frames.Goals as goal
 use Rattle.rq_streams.proofs.receive.add_frames.Goals.{In-Some-2}
 
@@ -30,7 +29,7 @@ loop-frame-preserved-in-Continue-branch-3 c =
       wide = kept_so.wide;
       size = step.0 ∙ kept_so.size;
       configuration = added.configuration ∙ kept_so.configuration;
-      taken = taken_packet _ _ _ _ c.in-Some.frame.now _ _ _ _ kept_so.size step.1 kept_so.taken c.in-Some-2.packet _ kept_so.configuration (kept at) (passes at) added.holds added.stands;
+      taken = taken_packet _ _ _ _ c.in-Some.frame.now _ _ _ _ kept_so.size step.1 kept_so.taken c.in-Some-2.packet tt _ kept_so.configuration (kept at) added;
     }
 
 pub loop-frame-preserved : goal.loop-frame-preserved
@@ -44,9 +43,9 @@ loop-frame-preserved c =
       taken = taken_skipped _ _ _ _ c.in-Some.frame.now _ _ _ _ kept_so.size step.1 kept_so.taken (sym c.in-None-2.is ∙ c.in_ok-packet.ensures.packet);
     }
 
-pub returns-in_err-add_new_packet-in-Some-2-clause-stops : goal.returns-in_err-add_new_packet-in-Some-2-clause-stops
-returns-in_err-add_new_packet-in-Some-2-clause-stops c =
-    let at = (goal.at.returns-in_err-add_new_packet-in-Some-2-clause-stops c).In-Some-2 in
+pub returns-in_err-add_new_packet-in-Some-2-clause-refused : goal.returns-in_err-add_new_packet-in-Some-2-clause-refused
+returns-in_err-add_new_packet-in-Some-2-clause-refused c =
+    let at = (goal.at.returns-in_err-add_new_packet-in-Some-2-clause-refused c).In-Some-2 in
     let kept_so = c.loop-frame.invariant in
     let step = c.in-Some.ensures.steps in
     let e = c.in_err-add_new_packet-in-Some-2.field-0.0 in
@@ -55,11 +54,7 @@ returns-in_err-add_new_packet-in-Some-2-clause-stops c =
     let p = err_from_is_err_and c.from_residual-in_err-add_new_packet-in-Some-2.result c.from_residual-in_err-add_new_packet-in-Some-2.ensures.1 in
     rw (p.1, p.2) (elim refused [
       | inl memory ↦ inl memory
-      | inr contradiction ↦ inr (
-        contradiction,
-        contradicts_frames _ _ _ _ c.in-Some.frame.now _ _ _ _ kept_so.size step.1 kept_so.taken packet _ kept_so.configuration (kept at) (passes at)
-            (c.in_err-add_new_packet-in-Some-2.ensures.takes.contradiction contradiction),
-      )
+      | inr contradiction ↦ inr (contradicts_frames _ _ _ _ c.in-Some.frame.now _ _ _ _ kept_so.size step.1 kept_so.taken packet _ e kept_so.configuration (kept at) contradiction c.in_err-add_new_packet-in-Some-2.ensures.takes)
     ])
 
 pub returns-in_err-add_new_packet-in-Some-2-clause-honest : goal.returns-in_err-add_new_packet-in-Some-2-clause-honest
@@ -75,3 +70,11 @@ returns-clause-skipped c = taken_count _ _ _ _ _ _ c.in-None.ensures.steps.1.0 c
 
 pub returns-clause-stands : goal.returns-clause-stands
 returns-clause-stands c = taken_all _ _ _ _ _ _ c.in-None.ensures.steps.1.0 c.loop-frame.invariant.taken
+
+pub returns-in_err-packet-clause-refused : goal.returns-in_err-packet-clause-refused
+returns-in_err-packet-clause-refused c =
+    let p = err_from_is_err_and c.from_residual.result c.from_residual.ensures.1 in
+    rw (p.1, p.2) (inl c.in_err-packet.ensures.memory)
+
+pub returns-clause-refused : goal.returns-clause-refused
+returns-clause-refused c = taken_passed _ _ _ _ _ _ c.in-None.ensures.steps.1.0 c.loop-frame.invariant.taken

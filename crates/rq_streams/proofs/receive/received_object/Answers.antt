@@ -1,4 +1,4 @@
-use Rattle.std.proofs.Common.{◌≡◌, ◌-◌, [], take, drop, length, sym, ap, ◌∙◌, subst, refl, vec_items, ℕ, false, Global, List, Ok, Err, None, inl, inr}
+use Rattle.std.proofs.Common.{◌≡◌, ◌-◌, [], take, drop, length, sym, ap, ◌∙◌, subst, refl, vec_items, ℕ, false, Global, List, Result, Ok, Err, inl, inr}
 use Rattle.std.specs.Prelude.{option_map}
 use Rattle.std.specs.List.{AllByRecursion}
 use Rattle.std.proofs.lemmas.List.{take_rest}
@@ -11,11 +11,14 @@ use Rattle.rq_base.specs.RefusedInput.{checked_configuration}
 use Rattle.raptorq.specs.Decoder.{state_of}
 use Rattle.rq_standard.specs.Streams.{frame_size, frames_in}
 use Rattle.rq_streams.specs.Frames.{kept_packets}
-use Rattle.rq_standard.specs.Configuration.{Configuration, configuration_of_bytes}
-use Rattle.raptorq.specs.Runs.{ContradictedIn}
+use Rattle.rq_standard.specs.Configuration.{Configuration}
+use Rattle.rq_standard.specs.Packet.{Packet}
+use Rattle.rq_bytes.specs.declared.error.Error.{Error}
+use Rattle.raptorq.specs.Runs.{IsRunRefusal}
+use Rattle.raptorq.proofs.Following.{run_behind, run_unmade}
 use Rattle.rq_streams.specs.MixedStreams.{Frame, IsMixedStream, packets_among}
-use Rattle.rq_streams.specs.ReceivedStreams.{receive_refusal, RefusesStream, AnswersStream, ContradictsItself}
-use Rattle.rq_streams.proofs.Refusing.{receive_refusal-read, header_read, answered_after}
+use Rattle.rq_streams.specs.ReceivedStreams.{RefusesStream, AnswersStream, IsStreamRefusal, IsFramesRefusal}
+use Rattle.rq_streams.proofs.Refusing.{refused_run, refused_header}
 use Rattle.rq_streams.proofs.Streaming.{accepted_unrefused, stream_header, stream_packets, same_header}
 use Rattle.rq_streams.proofs.receive.received_object.Goals as goal
 use Rattle.rq_streams.proofs.receive.received_object.Goals.{In_ok-decoder}
@@ -48,29 +51,30 @@ module _ (c : In_ok-decoder) where
   abbrev behind : List ℕ
   behind = take (length bytes - 12) (drop 12 bytes)
 
-  accepted : receive_refusal (greatest_size c.args.table.now) bytes ≡ Ok tt
-  accepted = receive_refusal-read (greatest_size c.args.table.now) config bytes c.in_ok-config.ensures.value ∙ c.in_ok-decoder.ensures.refused
+  -- the packets of the frames
+  abbrev packets : List Packet
+  packets = kept_packets config (frames_in (frame_size config) behind)
 
-  -- packets that contradict each other
-  contradicts : ContradictedIn c.args.table.now config (kept_packets config (frames_in (frame_size config) behind)) → ContradictsItself c.args.table.now bytes
-  contradicts contradicted = record {
-    accepted = accepted;
-    contradicted = subst (λ (d : Configuration). ContradictedIn c.args.table.now d (kept_packets d (frames_in (frame_size d) (drop 12 bytes)))) (header_read config bytes c.in_ok-config.ensures.value)
-        (subst (λ xs. ContradictedIn c.args.table.now config (kept_packets config (frames_in (frame_size config) xs))) (take_rest bytes 12) contradicted);
-  }
+  -- what is refused of the run is refused of the stream
+  of_stream : (r : Result (Unit {0}) Error) → IsRunRefusal c.args.table.now config packets r → IsStreamRefusal c.args.table.now bytes r
+  of_stream r run = refused_run c.args.table.now config bytes r c.in_ok-config.ensures.value (subst (λ xs. IsRunRefusal c.args.table.now config (kept_packets config (frames_in (frame_size config) xs)) r) (take_rest bytes 12) run)
+
+  -- and so is what is refused of the frames
+  of_frames : (r : Result (Unit {0}) Error) → IsFramesRefusal config (state_of c.in_ok-decoder.decoder) behind r → IsStreamRefusal c.args.table.now bytes r
+  of_frames r refused = of_stream r (run_behind c.args.table.now config packets c.in_ok-decoder.ensures.refused r (refused c.args.table.now c.in_ok-decoder.ensures.follows))
 
   -- the packets that are kept of a mixed stream are the object's
   module _ (k : Configuration) (object : List ℕ) (frames : List Frame) (rest : List ℕ) (s : IsMixedStream c.args.table.now k object frames rest bytes) where
     same : config ≡ k
     same = same_header c.args.table.now k object frames rest bytes s config c.in_ok-config.ensures.value
 
-    are : kept_packets config (frames_in (frame_size config) behind) ≡ packets_among frames
+    are : packets ≡ packets_among frames
     are = ap (λ d. kept_packets d (frames_in (frame_size d) behind)) same ∙ ap (λ xs. kept_packets k (frames_in (frame_size k) xs)) (take_rest bytes 12) ∙ stream_packets c.args.table.now k object frames rest bytes s
 
     starts : StandsFor c.args.table.now object [] (state_of c.in_ok-decoder.decoder)
     starts = c.in_ok-decoder.ensures.stands object (subst (λ d. IsHonestRun c.args.table.now d object []) (sym same) (record { long = s.stream_run.run.long; nonsingular = s.stream_run.run.nonsingular; honest = tt }))
 
-    honest : AllByRecursion (IsPacketOf c.args.table.now config object) (kept_packets config (frames_in (frame_size config) behind))
+    honest : AllByRecursion (IsPacketOf c.args.table.now config object) packets
     honest = subst (AllByRecursion (IsPacketOf c.args.table.now config object)) (sym are) (subst (λ d. AllByRecursion (IsPacketOf c.args.table.now d object) (packets_among frames)) (sym same) s.stream_run.run.honest)
 
 pub returns-in_err-skipped-clause-memory : goal.returns-in_err-skipped-clause-memory
@@ -80,20 +84,37 @@ returns-in_err-skipped-clause-memory c =
     rw (p.1, p.2) (subst (λ read. RefusesStream c.args.table.now read c.in_err-skipped.field-0.0) c.as_slice-stream.ensures.value (λ k object frames rest s.
     c.in_err-skipped.ensures.honest c.args.table.now object (starts at k object frames rest s) (honest at k object frames rest s)))
 
+pub returns-in_err-config-clause-refused : goal.returns-in_err-config-clause-refused
+returns-in_err-config-clause-refused c =
+    let e = c.in_err-config.field-0.0 in
+    let p = err_from_is_err_and c.from_residual.result c.from_residual.ensures.1 in
+    rw (p.1, p.2) (inr (subst (λ read. IsStreamRefusal c.args.table.now read (Err e)) c.as_slice-stream.ensures.value (refused_header c.args.table.now e c.as_slice-stream.result.now c.in_err-config.ensures.value)))
+
+pub returns-in_err-decoder-clause-refused : goal.returns-in_err-decoder-clause-refused
+returns-in_err-decoder-clause-refused c =
+    let table = c.args.table.now in
+    let config = c.in_ok-config.config in
+    let bytes = c.as_slice-stream.result.now in
+    let e = c.in_err-decoder.field-0.0 in
+    let p = err_from_is_err_and c.from_residual-in_err-decoder.result c.from_residual-in_err-decoder.ensures.1 in
+    rw (p.1, p.2) (elim (run_unmade (Unit {0}) table config (kept_packets config (frames_in (frame_size config) (drop 12 bytes))) e c.in_err-decoder.ensures.refused) [
+      | inl memory ↦ inl memory
+      | inr first ↦ inr (subst (λ read. IsStreamRefusal table read (Err e)) c.as_slice-stream.ensures.value (refused_run table config bytes (Err e) c.in_ok-config.ensures.value first))
+    ])
+
 pub returns-in_err-skipped-clause-refused : goal.returns-in_err-skipped-clause-refused
 returns-in_err-skipped-clause-refused c =
     let at = (goal.at.returns-in_err-skipped-clause-refused c).In_ok-decoder in
+    let e = c.in_err-skipped.field-0.0 in
     let p = err_from_is_err_and c.from_residual-in_err-skipped.result c.from_residual-in_err-skipped.ensures.1 in
-    rw (p.1, p.2) (elim c.in_err-skipped.ensures.stops [
-      | inl memory ↦ inl (None, inl memory)
-      | inr contradiction ↦ inr (subst (ContradictsItself c.args.table.now) c.as_slice-stream.ensures.value (contradicts at (contradiction.1 c.args.table.now c.in_ok-decoder.ensures.holds)), inr (ap (λ e. Err e) (sym contradiction.0)))
+    rw (p.1, p.2) (elim c.in_err-skipped.ensures.refused [
+      | inl memory ↦ inl memory
+      | inr first ↦ inr (subst (λ read. IsStreamRefusal c.args.table.now read (Err e)) c.as_slice-stream.ensures.value (of_frames at (Err e) first))
     ])
 
 pub returns-clause-refused : goal.returns-clause-refused
 returns-clause-refused c =
-    let greatest = greatest_size c.args.table.now in
-    inl (answered_after (receive_refusal greatest c.args.bytes.items) (option_map (vec_items {X = ℕ} {Z = Global}) c.in_ok-get_result.field-0)
-    (ap (receive_refusal greatest) (sym c.as_slice-stream.ensures.value) ∙ accepted (goal.at.returns-clause-refused c).In_ok-decoder))
+    subst (λ read. IsStreamRefusal c.args.table.now read (Ok tt)) c.as_slice-stream.ensures.value (of_frames (goal.at.returns-clause-refused c).In_ok-decoder (Ok tt) c.in_ok-skipped.ensures.refused)
 
 pub returns-clause-answer : goal.returns-clause-answer
 returns-clause-answer c =

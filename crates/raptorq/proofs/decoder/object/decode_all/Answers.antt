@@ -1,21 +1,17 @@
-use Rattle.std.proofs.Common.{◌≡◌, ℕ, Option, Vec, Global, ◌<◌, List, ◌∙◌, ◌∷◌, ◌++◌, [], Ok, false, sym, ap, subst, arith}
+use Rattle.std.proofs.Common.{◌≡◌, ℕ, Option, Vec, Global, ◌⊎◌, List, ◌∙◌, ◌∷◌, ◌++◌, [], Ok, Err, false, sym, ap, subst, arith}
 use Rattle.std.specs.Vec.Iter.{into_iter_items}
 use Rattle.std.proofs.lemmas.Result.{IfOk-weaker, err_from_is_err_and}
 use Rattle.std.proofs.lemmas.List.{nil_from_length, map-append}
-use Rattle.rq_bytes.specs.declared.error.Error.TheVariants.{Contradiction}
-use Rattle.rq_bytes.specs.Refusals.{IsRefusal, first_refusal}
-use Rattle.rq_standard.specs.Configuration.{Configuration}
+use Rattle.rq_bytes.specs.declared.error.Error.TheVariants.{OutOfMemory}
+use Rattle.rq_bytes.specs.Refusals.{IsRefusal}
 use Rattle.rq_standard.specs.Headline.{IsHonestRun}
-use Rattle.rq_standard.specs.Held.{IsContradictory}
-use Rattle.rq_standard.specs.Standing.{StandsFor, HoldsRun, held_after}
-use Rattle.rq_standard.proofs.Contradictions.{contradicted_after}
+use Rattle.rq_standard.specs.Standing.{StandsFor}
 use Rattle.raptorq.specs.Decoder.{state_of}
-use Rattle.raptorq.specs.Refused.{packet_refusal, IsPacketRefusal}
-use Rattle.raptorq.specs.Runs.{packets_of, ContradictedIn}
-use Rattle.raptorq.proofs.Lists.{next_whole, all_came, step_honest, packets_of-push, answers_exactly, answers_where_any_can, one_passes, run_answers, run_stops}
-use Rattle.raptorq.proofs.Stops.{passes_below}
+use Rattle.raptorq.specs.Runs.{packets_of, IsNextRefusal, IsRefusalBehind, FollowsRun}
+use Rattle.raptorq.proofs.Following.{one_passes, run_unmade, run_answers, run_stops}
+use Rattle.raptorq.proofs.Lists.{next_whole, all_came, step_honest, packets_of-push, answers_exactly, answers_where_any_can}
 use Rattle.raptorq.proofs.decoder.object.decode_all.Goals as goal
-use Rattle.raptorq.proofs.decoder.object.decode_all.Goals.{After-set_sparse_threshold, In-None, In_err-add_new_packet}
+use Rattle.raptorq.proofs.decoder.object.decode_all.Goals.{After-set_sparse_threshold, In-None}
 
 -- the step that is taken
 module _ (c : After-set_sparse_threshold) where
@@ -31,8 +27,8 @@ module _ (c : After-set_sparse_threshold) where
   stands : (object : List ℕ) → IsHonestRun c.args.table.now c.args.config object (packets_of c.args.steps.items) → StandsFor c.args.table.now object (packets_of c.loop-step.yielded) (state_of c.set_sparse_threshold.new.self)
   stands object run = subst (StandsFor c.args.table.now object (packets_of c.loop-step.yielded)) (sym c.set_sparse_threshold.ensures) (c.loop-step.invariant.stands object run)
 
-  holds : HoldsRun c.args.table.now (packets_of c.loop-step.yielded) (state_of c.set_sparse_threshold.new.self)
-  holds = subst (HoldsRun c.args.table.now (packets_of c.loop-step.yielded)) (sym c.set_sparse_threshold.ensures) c.loop-step.invariant.holds
+  follows : FollowsRun c.args.table.now (packets_of c.loop-step.yielded) (state_of c.set_sparse_threshold.new.self)
+  follows = subst (FollowsRun c.args.table.now (packets_of c.loop-step.yielded)) (sym c.set_sparse_threshold.ensures) c.loop-step.invariant.follows
 
   -- all packets, with the one that is taken behind those before it
   around : packets_of c.args.steps.items ≡ (packets_of c.loop-step.yielded ++ c.in-Some.step.1 ∷ []) ++ packets_of (into_iter_items c.next.new.self)
@@ -48,12 +44,13 @@ loop-step-preserved c =
     let k = c.args.config in
     let step = c.in-Some.step in
     let left = into_iter_items c.next.new.self in
+    let done = packets_of c.loop-step.yielded in
     record {
       configuration = c.in_ok-add_new_packet.ensures.takes.configuration ∙ same at;
       whole = next_whole c.args.steps.items c.loop-step.yielded (into_iter_items c.loop-step.step-iterator) left step kept.whole (next at);
-      passed = ap (first_refusal (packet_refusal k)) (packets_of-push c.loop-step.yielded step)
-          ∙ one_passes k (packets_of c.loop-step.yielded) step.1 kept.passed (subst (λ d. packet_refusal d step.1 ≡ Ok tt) (same at) c.in_ok-add_new_packet.ensures.takes.accepted);
-      holds = subst (λ ps. HoldsRun table ps (state_of c.add_new_packet.new.self)) (sym (packets_of-push c.loop-step.yielded step)) (c.in_ok-add_new_packet.ensures.takes.holds table (packets_of c.loop-step.yielded) (holds at));
+      passed = subst (λ ps. IsRefusalBehind table k [] ps (Ok tt)) (sym (packets_of-push c.loop-step.yielded step))
+          (one_passes table k done step.1 kept.passed (subst (λ d. IsNextRefusal table d done step.1 (Ok tt)) (same at) (c.in_ok-add_new_packet.ensures.takes.next table done (follows at))));
+      follows = subst (λ ps. FollowsRun table ps (state_of c.add_new_packet.new.self)) (sym (packets_of-push c.loop-step.yielded step)) (c.in_ok-add_new_packet.ensures.takes.follows table done (follows at));
       stands = λ object run. subst (λ ps. StandsFor table object ps (state_of c.add_new_packet.new.self)) (sym (packets_of-push c.loop-step.yielded step))
           (c.in_ok-add_new_packet.ensures.takes.stands table object (packets_of c.loop-step.yielded) (stands at object run)
           (step_honest table k (state_of c.set_sparse_threshold.new.self).configuration object c.args.steps.items c.loop-step.yielded left step (same at) (whole at) run));
@@ -93,42 +90,26 @@ returns-clause-only_object c =
     IfOk-weaker c.get_result.result _ _ (λ r is. answers_where_any_can c.args.table.now c.args.config (packets_of c.args.steps.items) (state_of c.loop-step.decoder) _ c.loop-step.invariant.configuration
     (stands_for_all (goal.at.returns-clause-only_object c).In-None) is) c.get_result.ensures.only_object
 
--- the packet that stops it
-module _ (c : In_err-add_new_packet) where
-  abbrev at : After-set_sparse_threshold
-  at = (goal.at.In_err-add_new_packet c).After-set_sparse_threshold
-
-  contradicted : packet_refusal c.args.config c.in-Some.step.1 ≡ Ok tt → c.in_err-add_new_packet.field-0.0 ≡ Contradiction → ContradictedIn c.args.table.now c.args.config (packets_of c.args.steps.items)
-  contradicted passes is =
-      let table = c.args.table.now in
-      let k = c.args.config in
-      let p = c.in-Some.step.1 in
-      let done = packets_of c.loop-step.yielded in
-      let old = state_of c.set_sparse_threshold.new.self in
-      let within = passes_below k p passes in
-      record {
-        front = done ++ p ∷ [];
-        rest = packets_of (into_iter_items c.next.new.self);
-        whole = around at;
-        passed = one_passes k done p c.loop-step.invariant.passed passes;
-        block = p.id.block;
-        below = within;
-        contradictory = subst (λ (d : Configuration). IsContradictory (held_after table d p.id.block (done ++ p ∷ []))) (same at)
-            (contradicted_after table done old p (state_of c.add_new_packet.new.self) (subst (λ (d : Configuration). p.id.block < d.source_blocks) (sym (same at)) within) (holds at) (c.in_err-add_new_packet.ensures.takes.contradiction is));
-      }
+pub returns-in_err-decoder-clause-in_order : goal.returns-in_err-decoder-clause-in_order
+returns-in_err-decoder-clause-in_order c =
+    let p = err_from_is_err_and c.from_residual.result c.from_residual.ensures.1 in
+    rw (p.1, p.2) (run_unmade (Option (Vec ℕ Global)) c.args.table.now c.args.config (packets_of c.args.steps.items) c.in_err-decoder.field-0.0 c.in_err-decoder.ensures.refused)
 
 pub returns-in_err-add_new_packet-clause-in_order : goal.returns-in_err-add_new_packet-clause-in_order
 returns-in_err-add_new_packet-clause-in_order c =
-    let here = (goal.at.returns-in_err-add_new_packet-clause-in_order c).In_err-add_new_packet in
+    let at = (goal.at.returns-in_err-add_new_packet-clause-in_order c).After-set_sparse_threshold in
+    let table = c.args.table.now in
     let k = c.args.config in
+    let done = packets_of c.loop-step.yielded in
     let packet = c.in-Some.step.1 in
     let e = c.in_err-add_new_packet.field-0.0 in
     let p = err_from_is_err_and c.from_residual-in_err-add_new_packet.result c.from_residual-in_err-add_new_packet.ensures.1 in
-    rw (p.1, p.2) (run_stops c.args.table.now k c.in_ok-decoder.ensures.refused (Option (Vec ℕ Global)) (packets_of c.args.steps.items) (packets_of c.loop-step.yielded) (packets_of (into_iter_items c.next.new.self)) packet e (around (at here)) c.loop-step.invariant.passed
-    (subst (λ d. IsPacketRefusal e (packet_refusal d packet)) (same (at here)) c.in_err-add_new_packet.ensures.takes.refused) (contradicted here))
+    rw (p.1, p.2) (run_stops table k (packets_of c.args.steps.items) c.in_ok-decoder.ensures.refused (Option (Vec ℕ Global)) done (packets_of (into_iter_items c.next.new.self)) packet e (around at) c.loop-step.invariant.passed
+    (subst (λ d. (e ≡ OutOfMemory) ⊎ IsNextRefusal table d done packet (Err e)) (same at) (c.in_err-add_new_packet.ensures.takes.next table done (follows at))))
 
 pub returns-clause-in_order : goal.returns-clause-in_order
 returns-clause-in_order c =
+    let table = c.args.table.now in
     let k = c.args.config in
     let all = ap packets_of (all_came c.args.steps.items c.loop-step.yielded (into_iter_items c.loop-step.step-iterator) c.loop-step.invariant.whole (none (goal.at.returns-clause-in_order c).In-None)) in
-    run_answers c.args.table.now k c.in_ok-decoder.ensures.refused (packets_of c.args.steps.items) c.get_result.result (ap (first_refusal (packet_refusal k)) (sym all) ∙ c.loop-step.invariant.passed) c.get_result.ensures.memory
+    run_answers table k (packets_of c.args.steps.items) c.in_ok-decoder.ensures.refused c.get_result.result (subst (λ ps. IsRefusalBehind table k [] ps (Ok tt)) all c.loop-step.invariant.passed) c.get_result.ensures.memory

@@ -2,10 +2,10 @@ use Rattle.std.proofs.Common.{◌≡◌, map, refl, ap, ◌∙◌, arith}
 use Rattle.std.specs.List.{range_with_len}
 use borrow.Author.Count.{below_more}
 use Rattle.rq_standard.specs.Standing.{IsHeldOf, IsNewState, new_held, new_answer}
-use Rattle.rq_standard.proofs.Contradictions.{holds_none}
 use Rattle.rq_standard.proofs.Standing.{stands_new}
 use Rattle.raptorq.specs.SourceBlockDecoder.{held_of}
 use Rattle.raptorq.specs.Decoder.{answer_of}
+use Rattle.raptorq.proofs.Following.{follows_none}
 use Rattle.raptorq.proofs.Numbered.{mapped_more, new_numbers}
 use Rattle.raptorq.proofs.ObjectBlocks.{state, new_each, IsCut, new_state}
 use Rattle.raptorq.proofs.decoder.object.Decoder.new.Goals as goal
@@ -57,5 +57,7 @@ returns-clause-stands c =
     let at = (goal.at.returns-clause-stands c).After-loop-number in
     stands_new c.args.table.now c.args.config (state c.args.config c.loop-number.blocks.items) (λ b below. c.loop-number.invariant.shape b (omega (arith, all at))) (new at)
 
-pub returns-clause-holds : goal.returns-clause-holds
-returns-clause-holds c = holds_none c.args.table.now c.args.config (state c.args.config c.loop-number.blocks.items) (new (goal.at.returns-clause-holds c).After-loop-number)
+pub returns-clause-follows : goal.returns-clause-follows
+returns-clause-follows c =
+    let at = (goal.at.returns-clause-follows c).After-loop-number in
+    follows_none c.args.table.now c.args.config (state c.args.config c.loop-number.blocks.items) (λ b below. c.loop-number.invariant.shape b (omega (arith, all at))) (new at)

@@ -1,0 +1,205 @@
+-- A decoder that follows a list of packets refuses of the next one what is to be refused, and so of a whole list its first refusal.
+use Rattle.std.proofs.Common.{◌≡◌, ◌↔◌, ◌⊎◌, ℕ, ◌<◌, ◌≤◌, eqb, ltb, cond, Bool, true, false, length, List, [], ◌∷◌, ◌++◌, Result, Ok, Err, Option, Some, None, refl, sym, ap, ◌∙◌, subst, inl, inr, append_assoc, append-nil, eq-eqb, arith}
+use Rattle.std.specs.Prelude.{IsSome, IfErr, MatchResult, is_some, is_err, not}
+use Rattle.std.proofs.lemmas.Bool.{cases_eq, ne_eqb, ltb-true}
+use Rattle.rq_bytes.specs.declared.error.Error.{Error}
+use Rattle.rq_bytes.specs.declared.error.Error.TheVariants.{OutOfMemory, Contradiction, UnknownBlock, WrongPayloadSize}
+use Rattle.rq_bytes.specs.Refusals.{IsRefusal}
+use Rattle.rq_base.specs.RefusedInput.{checked_configuration}
+use Rattle.rq_standard.specs.declared.row.TableRow.{TableRow}
+use Rattle.rq_standard.specs.TableRows.{greatest_size}
+use Rattle.rq_standard.specs.Configuration.{Configuration}
+use Rattle.rq_standard.specs.Cutting.{block_symbols}
+use Rattle.rq_standard.specs.Packet.{Packet}
+use Rattle.rq_standard.specs.Headline.{block_row}
+use Rattle.rq_standard.specs.Held.{Held, holds, recorded, CanAnswer, IsContradictory}
+use Rattle.rq_standard.specs.Standing.{State, IsHeldOf, new_held, new_answer, IsNewState, AddsToBlock, Adds, Contradicts, held_after}
+use Rattle.rq_standard.proofs.Known.{block_more, none_determined}
+use Rattle.rq_standard.proofs.Firsts.{has_id-push, first_payload-elsewhere}
+use Rattle.rq_standard.proofs.Standing.{held_with}
+use Rattle.rq_standard.proofs.Contradictions.{contradictory-no_answer, held_later, contradicted_after, holds_more, holds_none}
+use Rattle.raptorq.specs.Refused.{packet_refusal, IsPacketRefusal}
+use Rattle.raptorq.specs.Runs.{ContradictsCame, IsNextRefusal, IsRefusalBehind, IsRunRefusal, AnswersRun, FollowsRun}
+
+-- ---- the tests
+
+abbrev pub tests : Bool → Bool → Result (Unit {0}) Error
+tests b s = cond (not b) (Err UnknownBlock) (cond (not s) (Err WrongPayloadSize) (Ok tt))
+
+block_passes : (b s : Bool) → tests b s ≡ Ok tt → b ≡ true
+block_passes true s h = refl
+block_passes false s h = absurd (cc h)
+
+-- a packet that passes them is of one of the blocks
+pub passes_below : (c : Configuration) (p : Packet) → packet_refusal c p ≡ Ok tt → p.id.block < c.source_blocks
+passes_below c p h = ltb-true p.id.block c.source_blocks (block_passes (ltb p.id.block c.source_blocks) (eqb (length p.payload) c.symbol_size) h)
+
+-- ---- a block
+
+-- what can be answered still can be one packet later
+can_more : (table : List TableRow) (c : Configuration) (b : ℕ) (came : List Packet) (p : Packet) → CanAnswer (held_after table c b came) → CanAnswer (held_after table c b (came ++ p ∷ []))
+can_more table c b came p (inl all) = inl (record { each = λ e below. has_id-push b came p e (all.each e below) })
+can_more table c b came p (inr d) =
+    let now = held_after table c b came in
+    let later = held_after table c b (came ++ p ∷ []) in
+    inr (block_more now.row now.symbols (holds now) (holds later) (has_id-push b came p) d)
+
+-- what a packet makes of its block
+module _ (table : List TableRow) (c : Configuration) (came : List Packet) (p : Packet) (old : Held) (new : Held) (after : Option (List ℕ)) where
+  abbrev b : ℕ
+  b = p.id.block
+
+  answered_here : (before : Option (List ℕ)) → AddsToBlock old before p new after → (before ≡ None → old ≡ held_after table c b came) → (IsSome before ↔ CanAnswer (held_after table c b came)) → IsSome after ↔ CanAnswer (held_after table c b (came ++ p ∷ []))
+  answered_here None add holds answers =
+      let is : new ≡ held_after table c b (came ++ p ∷ []) = add.held ∙ ap (λ h. recorded h p.id.esi p.payload) (holds refl) ∙ held_later table c came p in
+      subst (λ h. IsSome after ↔ CanAnswer h) is (add.answers.some, add.answers.none)
+  answered_here (Some bytes) add holds answers = (λ some. can_more table c b came p (answers.0 refl), λ can. ap is_some add.1)
+
+  -- which doesn't contradict it
+  fits_here : (before : Option (List ℕ)) → AddsToBlock old before p new after → (before ≡ None → old ≡ held_after table c b came) → (IsSome before ↔ CanAnswer (held_after table c b came)) → ContradictsCame table c came p → ⊥
+  fits_here None add holds answers x =
+      let is : new ≡ held_after table c b (came ++ p ∷ []) = add.held ∙ ap (λ h. recorded h p.id.esi p.payload) (holds refl) ∙ held_later table c came p in
+      contradictory-no_answer new after add.answers (subst IsContradictory (sym is) x.contradictory)
+  fits_here (Some bytes) add holds answers x = x.unanswered (answers.0 refl)
+
+-- ---- all blocks
+
+module _ (table : List TableRow) (came : List Packet) (p : Packet) (old new : State) (follows : FollowsRun table came old) where
+  -- a packet that is taken doesn't contradict what came,
+  pub taken_fits : p.id.block < old.configuration.source_blocks → Adds old p new → ContradictsCame table old.configuration came p → ⊥
+  taken_fits within add =
+      let b = p.id.block in
+      fits_here table old.configuration came p (old.held b) (new.held b) (new.answer b) (old.answer b) add.here (follows.holds b within) (follows.answers b within)
+
+  -- and is followed
+  pub follows_more : p.id.block < old.configuration.source_blocks → Adds old p new → FollowsRun table (came ++ p ∷ []) new
+  follows_more within add = record {
+    holds = holds_more old p new within add table came follows.holds;
+    answers = λ b below.
+        let c = old.configuration in
+        let here = p.id.block in
+        let in_old : b < c.source_blocks = subst (λ (k : Configuration). b < k.source_blocks) add.elsewhere.configuration below in
+        subst (λ (k : Configuration). IsSome (new.answer b) ↔ CanAnswer (held_after table k b (came ++ p ∷ []))) (sym add.elsewhere.configuration)
+        (elim (cases_eq here b) [
+          | inl e ↦
+              subst (λ n. IsSome (new.answer n) ↔ CanAnswer (held_after table c n (came ++ p ∷ []))) e
+              (answered_here table c came p (old.held here) (new.held here) (new.answer here) (old.answer here) add.here (follows.holds here within) (follows.answers here within))
+          | inr ne ↦
+              let q = add.elsewhere.other b in_old (λ e. ne (sym e)) in
+              subst (λ h. IsSome (new.answer b) ↔ CanAnswer h) (ap (held_with table c b) (λ i e. sym (first_payload-elsewhere b came p e ne) i))
+              (subst (λ o. IsSome o ↔ CanAnswer (held_after table c b came)) (sym q.1) (follows.answers b in_old))
+        ]);
+  }
+
+  contradicted : p.id.block < old.configuration.source_blocks → Contradicts old p new → ContradictsCame table old.configuration came p
+  contradicted within x =
+      let b = p.id.block in
+      record {
+        unanswered = λ can. absurd (cc (ap is_some x.records.here.unanswered, (follows.answers b within).1 can));
+        contradictory = contradicted_after table came old p new within follows.holds x;
+      }
+
+  -- one that is refused is refused for what is to be, memory aside
+  pub refused_next : (e : Error) → IsPacketRefusal e (packet_refusal old.configuration p) → (e ≡ Contradiction → Contradicts old p new) → (e ≡ OutOfMemory) ⊎ IsNextRefusal table old.configuration came p (Err e)
+  refused_next e refused contradicts = by_tests (packet_refusal old.configuration p) refl refused where
+    by_tests : (r : Result (Unit {0}) Error) → packet_refusal old.configuration p ≡ r → IsPacketRefusal e r → (e ≡ OutOfMemory) ⊎ IsNextRefusal table old.configuration came p (Err e)
+    by_tests (Ok u) passes (inl memory) = inl memory
+    by_tests (Ok u) passes (inr is) = inr (inr (passes, is, contradicted (passes_below old.configuration p passes) (contradicts is)))
+    by_tests (Err w) tested is = inr (inl (tested ∙ ap (λ x. Err x) (sym is)))
+
+-- ---- before any packet
+
+-- a block is answered then exactly where it has no symbols
+new_answers : (table : List TableRow) (c : Configuration) (b : ℕ) → block_symbols c b ≤ (block_row table c b).extended_symbols → IsSome (new_answer c b) ↔ CanAnswer (held_after table c b [])
+new_answers table c b fits = elim (cases_eq (block_symbols c b) 0) [
+  | inl none ↦ (
+    λ some. inl (record { each = λ e below. absurd (omega (arith, none)) }),
+    λ can. rw (eq-eqb (block_symbols c b) 0 none) refl,
+  )
+  | inr some ↦
+      let a : new_answer c b ≡ None = rw (ne_eqb (block_symbols c b) 0 some) refl in (
+        λ is. absurd (cc (ap is_some a, is)),
+        λ can. absurd (elim can [
+          | inl all ↦ let first : false ≡ true = all.each 0 (omega (arith, some)) in cc first
+          | inr d ↦ none_determined (block_row table c b) (block_symbols c b) (omega (arith, some)) fits d
+        ]),
+      )
+]
+
+pub follows_none : (table : List TableRow) (c : Configuration) (s : State) → ((b : ℕ) → b < c.source_blocks → IsHeldOf table c b (new_held table c b)) → IsNewState table c s → FollowsRun table [] s
+follows_none table c s shape new = record {
+  holds = holds_none table c s new;
+  answers = λ b below.
+      let in_new : b < c.source_blocks = subst (λ (k : Configuration). b < k.source_blocks) new.configuration below in
+      subst (λ (k : Configuration). IsSome (s.answer b) ↔ CanAnswer (held_after table k b [])) (sym new.configuration)
+      (subst (λ o. IsSome o ↔ CanAnswer (held_after table c b [])) (sym (new.answer b in_new)) (new_answers table c b (shape b in_new).fits));
+}
+
+-- ---- a list of packets
+
+module _ (table : List TableRow) (c : Configuration) where
+  -- what is refused of the rest is refused of the whole, where nothing is refused before
+  pub refusal_behind-front : (came front rest : List Packet) (r : Result (Unit {0}) Error) → IsRefusalBehind table c came front (Ok tt) → IsRefusalBehind table c (came ++ front) rest r → IsRefusalBehind table c came (front ++ rest) r
+  refusal_behind-front came [] rest r passed behind = subst (λ xs. IsRefusalBehind table c xs rest r) (append-nil came) behind
+  refusal_behind-front came (p ∷ front) rest r (inl refused) behind = absurd (cc refused.0)
+  refusal_behind-front came (p ∷ front) rest r (inr passed) behind = inr (passed.0, refusal_behind-front (came ++ p ∷ []) front rest r passed.1 (subst (λ xs. IsRefusalBehind table c xs rest r) (sym (append_assoc came (p ∷ []) front)) behind))
+
+  -- one packet more passes,
+  pub one_passes : (front : List Packet) (p : Packet) → IsRefusalBehind table c [] front (Ok tt) → IsNextRefusal table c front p (Ok tt) → IsRefusalBehind table c [] (front ++ p ∷ []) (Ok tt)
+  one_passes front p passed next = refusal_behind-front [] front (p ∷ []) (Ok tt) passed (inr (next, refl))
+
+  -- or is the first that is refused
+  pub one_stops : (front rest : List Packet) (p : Packet) (e : Error) → IsRefusalBehind table c [] front (Ok tt) → IsNextRefusal table c front p (Err e) → IsRefusalBehind table c [] (front ++ p ∷ rest) (Err e)
+  one_stops front rest p e passed next = refusal_behind-front [] front (p ∷ rest) (Err e) passed (inl (refl, next))
+
+  -- there is one
+  next_is_one : (came : List Packet) (p : Packet) (r s : Result (Unit {0}) Error) → IsNextRefusal table c came p r → IsNextRefusal table c came p s → r ≡ s
+  next_is_one came p (Ok x) (Ok y) one other = refl
+  next_is_one came p (Ok x) (Err e) one (inl tested) = absurd (cc (one.0, tested))
+  next_is_one came p (Ok x) (Err e) one (inr found) = absurd (one.1 found.2)
+  next_is_one came p (Err e) (Ok y) (inl tested) other = absurd (cc (other.0, tested))
+  next_is_one came p (Err e) (Ok y) (inr found) other = absurd (other.1 found.2)
+  next_is_one came p (Err e) (Err w) (inl tested) (inl also) = sym tested ∙ also
+  next_is_one came p (Err e) (Err w) (inl tested) (inr found) = absurd (cc (tested, found.0))
+  next_is_one came p (Err e) (Err w) (inr found) (inl tested) = absurd (cc (tested, found.0))
+  next_is_one came p (Err e) (Err w) (inr found) (inr also) = ap (λ x. Err x) (found.1 ∙ sym also.1)
+
+  pub refusal_is_one : (came packets : List Packet) (r s : Result (Unit {0}) Error) → IsRefusalBehind table c came packets r → IsRefusalBehind table c came packets s → r ≡ s
+  refusal_is_one came [] r s one other = one ∙ sym other
+  refusal_is_one came (p ∷ packets) r s (inl here) (inl there) = next_is_one came p r s here.1 there.1
+  refusal_is_one came (p ∷ packets) r s (inl here) (inr later) = absurd (cc (ap is_err (next_is_one came p r (Ok tt) here.1 later.0), here.0))
+  refusal_is_one came (p ∷ packets) r s (inr later) (inl there) = absurd (cc (ap is_err (next_is_one came p s (Ok tt) there.1 later.0), there.0))
+  refusal_is_one came (p ∷ packets) r s (inr later) (inr also) = refusal_is_one (came ++ p ∷ []) packets r s later.1 also.1
+
+-- ---- a run
+
+pub run_refusal_is_one : (table : List TableRow) (c : Configuration) (packets : List Packet) (r s : Result (Unit {0}) Error) → IsRunRefusal table c packets r → IsRunRefusal table c packets s → r ≡ s
+run_refusal_is_one table c packets r s = by_check (checked_configuration (greatest_size table) c) where
+  by_check : (t : Result (Unit {0}) Error) → MatchResult t (λ _. IsRefusalBehind table c [] packets r) (λ e. r ≡ Err e) → MatchResult t (λ _. IsRefusalBehind table c [] packets s) (λ e. s ≡ Err e) → r ≡ s
+  by_check (Ok u) one other = refusal_is_one table c [] packets r s one other
+  by_check (Err e) one other = one ∙ sym other
+
+abbrev pub refused_by : Error → Result (Unit {0}) Error
+refused_by e = Err e
+
+-- a decoder that isn't made
+pub run_unmade : (X : Type 0) (table : List TableRow) (c : Configuration) (packets : List Packet) (e : Error) → IsRefusal e (checked_configuration (greatest_size table) c) → AnswersRun {X = X} table c packets (Err e)
+run_unmade X table c packets e = by_check (checked_configuration (greatest_size table) c) where
+  by_check : (t : Result (Unit {0}) Error) → IsRefusal e t → (e ≡ OutOfMemory) ⊎ MatchResult t (λ _. IsRefusalBehind table c [] packets (Err e)) (λ w. refused_by e ≡ Err w)
+  by_check (Ok u) memory = inl memory
+  by_check (Err w) is = inr (ap refused_by is)
+
+module _ (table : List TableRow) (c : Configuration) (packets : List Packet) (checked : checked_configuration (greatest_size table) c ≡ Ok tt) where
+  -- what is refused of the packets is refused of the run
+  pub run_behind : (r : Result (Unit {0}) Error) → IsRefusalBehind table c [] packets r → IsRunRefusal table c packets r
+  run_behind r behind = subst (λ t. MatchResult t (λ _. IsRefusalBehind table c [] packets r) (λ e. r ≡ Err e)) (sym checked) behind
+
+  -- nothing is, so an answer stands, or memory is wanting
+  pub run_answers : {X : Type 0} (r : Result X Error) → IsRefusalBehind table c [] packets (Ok tt) → IfErr r (λ e. e ≡ OutOfMemory) → AnswersRun table c packets r
+  run_answers (Ok x) passed memory = run_behind (Ok tt) passed
+  run_answers (Err e) passed memory = inl memory
+
+  -- one packet stops it
+  pub run_stops : (X : Type 0) (front rest : List Packet) (p : Packet) (e : Error) → packets ≡ (front ++ p ∷ []) ++ rest → IsRefusalBehind table c [] front (Ok tt) → (e ≡ OutOfMemory) ⊎ IsNextRefusal table c front p (Err e) → AnswersRun {X = X} table c packets (Err e)
+  run_stops X front rest p e whole passed (inl memory) = inl memory
+  run_stops X front rest p e whole passed (inr next) = inr (run_behind (Err e) (subst (λ ps. IsRefusalBehind table c [] ps (Err e)) (sym (whole ∙ append_assoc front (p ∷ []) rest)) (one_stops table c front rest p e passed next)))

@@ -1,0 +1,5 @@
+use Rattle.raptorq.proofs.Following.{run_refusal_is_one}
+use Rattle.raptorq.proofs.laws.first_refusals.Goals as goal
+
+pub returns : goal.returns
+returns c = run_refusal_is_one
