@@ -6,7 +6,7 @@ use Rattle.std.proofs.lemmas.List.{length-map}
 use Rattle.rq_algebra.specs.Arrangements.{RowsStandIn}
 use Rattle.rq_algebra.specs.Operations.{Operation, Store, run, unordered, found_by, IsUnread, FindsColumn}
 use Rattle.rq_algebra.specs.Symbols.{symbols, IsSymbol, IsSymbolColumn, AreSymbols, SolvesSymbols, symbol_at}
-use Rattle.rq_algebra.specs.Systems.{rows_of}
+use Rattle.rq_algebra.specs.Systems.{HasHomogeneousColumn, rows_of}
 use Rattle.rq_algebra.proofs.Found.{finds_determined, found_are_symbols, found_leaves, found_fits}
 use Rattle.rq_algebra.proofs.Solutions.{determined_stays, homogeneous_not_determined}
 use Rattle.rq_algebra.proofs.Stacks.{stacked_above, stacked_below}
@@ -26,8 +26,8 @@ use Rattle.rq_base.specs.HdpcPart.{IsHdpcPart}
 use Rattle.rq_solver.specs.Solving.{AreEquations, AreEquationsWithoutHdpc, FindsOperations, solver_of}
 use Rattle.rq_solver.proofs.EquationLaws.{binary_equations, are_equations, finds_equations, homogeneous_of_equations}
 use Rattle.rq_elimination.proofs.RowStepLaws.{SameEntries}
-use Rattle.rq_solver.proofs.SolutionLaws.{order-found, finds_same, is_solution}
-use Rattle.raptorq.specs.BlockSolutions.{FindsFrom, IsBlockSolution, first_equations}
+use Rattle.rq_solver.proofs.SolutionLaws.{order-found, finds_same, homogeneous_same, is_solution}
+use Rattle.raptorq.specs.BlockSolutions.{FindsFrom, IsBlockSolution, NeedsNoHdpc, first_equations}
 use Rattle.raptorq.specs.declared.solving.Solution.{Solution}
 
 -- the matrices of a block's ids are equations for its values
@@ -83,6 +83,12 @@ module _ (row : TableRow) (ids : List ℕ) (bits : BitTable) (part : IsBinaryPar
       → FindsColumn octets (row.ldpc_symbols + length ids) (intermediate_symbols row) (first_equations row row.ldpc_symbols ids) operations
   finds_without_hdpc height operations count finds =
       finds_same octets (row.ldpc_symbols + length ids) (intermediate_symbols row) bits.bit (first_equations row row.ldpc_symbols ids) same_without operations (rw count at finds)
+
+  -- where the rows handed in don't determine the block, it needs those of HDPC
+  pub needs_hdpc : (height : ℕ) → height ≡ row.ldpc_symbols + length ids → HasHomogeneousColumn octets height (intermediate_symbols row) bits.bit → NeedsNoHdpc row ids → ⊥
+  needs_hdpc height count null needs =
+      homogeneous_not_determined octets (row.ldpc_symbols + length ids) (intermediate_symbols row) (first_equations row row.ldpc_symbols ids)
+      (homogeneous_same octets (row.ldpc_symbols + length ids) (intermediate_symbols row) bits.bit (first_equations row row.ldpc_symbols ids) same_without (rw count at null)) needs.determined
 
 -- ---- of any of the equations
 

@@ -1,8 +1,8 @@
 -- What a solver finds of a block.
-use Rattle.std.specs.Prelude.{◌≡◌, ℕ, ◌+◌, ◌<◌, ◌≤◌, List, length, Option, MatchOption}
+use Rattle.std.specs.Prelude.{◌≡◌, ℕ, ◌+◌, ◌<◌, ◌≤◌, List, length, Option, MatchOption, IsSomeAnd}
 use Rattle.rq_algebra.specs.Operations.{FindsColumn}
 use Rattle.rq_algebra.specs.Symbols.{IsSymbolColumn, SolvesSymbols, symbol_at}
-use Rattle.rq_algebra.specs.Systems.{stacked, rows_of}
+use Rattle.rq_algebra.specs.Systems.{IsDetermined, stacked, rows_of}
 use Rattle.rq_bytes.specs.SymbolSlab.{Slab, symbol_in, symbols_in, IsZeroUnread}
 use Rattle.rq_operations.specs.RecordedOperations.{operations_of}
 use Rattle.rq_standard.specs.declared.row.TableRow.{TableRow}
@@ -26,6 +26,19 @@ pub record FindsFrom (row : TableRow) (ids : List ℕ) (solution : Solution) : T
 -- the operations that find the intermediate symbols, exactly where the ids determine them
 abbrev pub FindsListed : TableRow → List ℕ → Option Solution → Type 0
 FindsListed row ids answer = MatchOption answer (HasDeterminedRows row ids → ⊥) (FindsFrom row ids)
+
+-- the LDPC equations and those of the ids are as many as the intermediate symbols, and determine them without those of HDPC
+pub record NeedsNoHdpc (row : TableRow) (ids : List ℕ) : Type 0 where
+  pub enough : intermediate_symbols row ≤ row.ldpc_symbols + length ids
+  pub determined : IsDetermined octets (row.ldpc_symbols + length ids) (intermediate_symbols row) (first_equations row row.ldpc_symbols ids)
+
+-- operations over the LDPC equations and those of the ids, exactly where no other ones are needed
+abbrev pub FindsWithoutHdpc : TableRow → List ℕ → Option Solution → Type 0
+FindsWithoutHdpc row ids answer = MatchOption answer (NeedsNoHdpc row ids → ⊥) (λ solution. solution.fixed ≡ row.ldpc_symbols)
+
+-- no HDPC equation is used where none is needed
+abbrev pub SparesHdpc : TableRow → List ℕ → Option Solution → Type 0
+SparesHdpc row ids answer = NeedsNoHdpc row ids → IsSomeAnd answer (λ solution. solution.fixed ≡ row.ldpc_symbols)
 
 -- the intermediate symbols in a slab, from the values of the equations
 pub record IsBlockSolution (row : TableRow) (fixed : ℕ) (ids : List ℕ) (size : ℕ) (values : List (List ℕ)) (slab : Slab) : Type 0 where

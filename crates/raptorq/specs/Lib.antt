@@ -20,4 +20,5 @@ pub mod SourceBlockEncoder
 pub mod SourceBlockEncodingPlan
 pub mod SourceBlockEncodingPlanCache
 pub mod Stopping
+pub mod SubBlocks
 pub mod Taking

@@ -1,9 +1,10 @@
 -- What a map of payloads says of each encoding symbol id, and how many source symbols are missing.
-use Rattle.std.specs.Prelude.{ℕ, zero, suc, ◌+◌, Bool, List, Option, option_map, is_some, if◌then◌else◌, vec_items}
+use Rattle.std.specs.Prelude.{◌≡◌, ◌==◌, ℕ, zero, suc, ◌+◌, Bool, List, Option, Some, None, option_map, is_some, if◌then◌else◌, vec_items}
 use Rattle.std.specs.declared.vec.Vec.{Vec}
 use Rattle.std.specs.declared.alloc.Global.{Global}
 use Rattle.std.specs.Ordering.{nat_cmp}
 use Rattle.std.specs.BTreeMap.{BTreeMap, get}
+use Rattle.rq_standard.specs.Received.{or_later}
 
 -- the payload of an id
 abbrev pub payload_of : BTreeMap ℕ (Vec ℕ Global) → ℕ → Option (List ℕ)
@@ -11,6 +12,10 @@ payload_of received e = option_map vec_items (get nat_cmp received e)
 
 abbrev pub has_payload : BTreeMap ℕ (Vec ℕ Global) → ℕ → Bool
 has_payload received e = is_some (payload_of received e)
+
+-- the payload of an id was put there, unless one of it was there
+abbrev pub KeepsFirst : ℕ → List ℕ → BTreeMap ℕ (Vec ℕ Global) → BTreeMap ℕ (Vec ℕ Global) → Type 0
+KeepsFirst esi payload old new = (e : ℕ) → payload_of new e ≡ or_later (payload_of old e) (if esi == e then Some payload else None)
 
 -- how many of the ids below n are missing
 unfoldable pub missing_count : ℕ → (ℕ → Bool) → ℕ

@@ -32,6 +32,10 @@ wanted_count greatest c bytes =
     else if nat_lt greatest (bytes / c.symbol_size) then Err BlockOverTable
     else Ok (bytes / c.symbol_size))
 
+-- so many bytes are whole symbols of a block for which a table has a row
+abbrev pub AreWholeSymbols : ℕ → Configuration → ℕ → Type 0
+AreWholeSymbols greatest c bytes = wanted_count greatest c bytes ≡ Ok (bytes / c.symbol_size)
+
 -- whether the decoder of a block takes a packet: the block's number comes first
 abbrev pub block_refusal : Held → Packet → Result (Unit {0}) Error
 block_refusal h p =

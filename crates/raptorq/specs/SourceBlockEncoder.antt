@@ -1,6 +1,7 @@
 -- What the encoder of a block shows.
 use Rattle.std.specs.Prelude.{◌≡◌, ℕ, ◌<◌, ◌^◌, List, map}
 use Rattle.std.specs.List.{range_with_len, AllByRecursion}
+use Rattle.rq_bytes.specs.SymbolSlab.{Slab}
 use Rattle.rq_standard.specs.declared.row.TableRow.{TableRow}
 use Rattle.rq_standard.specs.Configuration.{Configuration}
 use Rattle.rq_standard.specs.Headline.{block_row, block_source, IsEncodingSymbol}
@@ -20,6 +21,14 @@ block_encoded_of b = record { number = b.number; row = b.row; size = b.intermedi
 -- what is encoded of a block of this object, over this table
 abbrev pub new_block_encoded : List TableRow → Configuration → List ℕ → ℕ → BlockEncoded
 new_block_encoded table c object b = record { number = b; row = block_row table c b; size = c.symbol_size; source = block_source c object b }
+
+-- what is encoded of a block of that number and row, which has these source symbols
+abbrev pub block_encoded : ℕ → TableRow → Slab → BlockEncoded
+block_encoded number row source = record { number = number; row = row; size = source.symbol_size; source = source.values }
+
+-- what is encoded of all blocks of this object
+abbrev pub blocks_encoded : List TableRow → Configuration → List ℕ → List BlockEncoded
+blocks_encoded table c object = map (new_block_encoded table c object) (range_with_len 0 c.source_blocks)
 
 -- a packet of the block
 pub record IsBlockPacket (b : BlockEncoded) (p : Packet) : Type 0 where

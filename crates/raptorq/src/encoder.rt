@@ -8,7 +8,7 @@ ghost use Rattle.rq_standard.specs.Headline.{HasNonsingularRows, IsNonsingular, 
 ghost use Rattle.rq_standard.specs.TableRows.{greatest_size, row_of};
 ghost use Rattle.raptorq.specs.SourceBlockEncodingPlan.{plan_of};
 ghost use Rattle.raptorq.specs.BlockData.{IsPlanFor};
-ghost use Rattle.raptorq.specs.SourceBlockEncoder.{block_encoded_of, new_block_encoded};
+ghost use Rattle.raptorq.specs.SourceBlockEncoder.{block_encoded_of, blocks_encoded};
 
 mod block;
 mod builder;
@@ -172,7 +172,7 @@ fn block_encoders(
 ) -> Result<Vec<SourceBlockEncoder>, Error>
     requires accepted { IsAccepted (greatest_size table.now) config.now }
     requires few { largest_block config.now < 65536 }
-    ensures encoded { IfOk result (λ v. map block_encoded_of v.items ≡ map (new_block_encoded table.now config.now object.now) (range_with_len 0 config.now.source_blocks)) }
+    ensures encoded { IfOk result (λ v. map block_encoded_of v.items ≡ blocks_encoded table.now config.now object.now) }
     ensures nonsingular { OnOk result (HasNonsingularRows table.now config.now) }
     ensures refused { IfErr result (λ e. (e ≡ Error.OutOfMemory) ⊎ ((e ≡ Error.Singular) × ¬ HasNonsingularRows table.now config.now)) }
 {

@@ -3,7 +3,7 @@ ghost use Rattle.std.specs.Prelude.{◌≡◌, ◌+◌, ◌^◌, ◌<◌, ◌≤
 ghost use Rattle.rq_standard.specs.TableRows.{IsChecked, intermediate_symbols};
 ghost use Rattle.rq_standard.specs.Equations.{equation_count, equations};
 ghost use Rattle.rq_null_vector.specs.Homogeneous.{ShowsHomogeneous};
-ghost use Rattle.raptorq.specs.BlockSolutions.{FindsFrom, FindsListed};
+ghost use Rattle.raptorq.specs.BlockSolutions.{FindsFrom, FindsListed, FindsWithoutHdpc, SparesHdpc};
 
 use rq_base::constraint_matrix::{
     generate_constraint_matrix_no_hdpc_of_row, generate_constraint_matrix_of_row,
@@ -39,6 +39,7 @@ pub(crate) fn find_operations(
     requires enough { intermediate_symbols row.now ≤ equation_count row.now ids.now }
     requires fits { equation_count row.now ids.now < 2 ^ 31 }
     ensures found { IfOk result (FindsListed row.now ids.now) }
+    ensures spares { IfOk result (SparesHdpc row.now ids.now) }
     ensures memory { IfErr result (λ e. e ≡ Error.OutOfMemory) }
 {
     let listed = Listed { alloc, row, ids };
@@ -65,6 +66,7 @@ impl Listed<'_> {
     // symbols came, and cost the most.
     fn find_over<T: BinaryMatrix>(&self) -> Result<Option<Solution>, Error>
         ensures found { IfOk result (FindsListed self.now.row.now self.now.ids.now) }
+        ensures spares { IfOk result (SparesHdpc self.now.row.now self.now.ids.now) }
         ensures memory { IfErr result (λ e. e ≡ Error.OutOfMemory) }
     {
         if let Some(solution) = self.find_without_hdpc::<T>()? {
@@ -77,6 +79,7 @@ impl Listed<'_> {
     // symbols. `None` says nothing of all equations.
     fn find_without_hdpc<T: BinaryMatrix>(&self) -> Result<Option<Solution>, Error>
         ensures found { IfOk result (λ answer. IfSome answer (FindsFrom self.now.row.now self.now.ids.now)) }
+        ensures alone { IfOk result (FindsWithoutHdpc self.now.row.now self.now.ids.now) }
         ensures memory { IfErr result (λ e. e ≡ Error.OutOfMemory) }
     {
         let fixed = self.row.ldpc_symbols as usize;

@@ -1,10 +1,11 @@
 //! How the bytes of a source block and of its symbols lie in one another (RFC 6330, 4.4.1.2).
-ghost use Rattle.std.specs.Prelude.{◌≡◌, ℕ, ◌+◌, ◌*◌, ◌^◌, ◌<◌, ◌≤◌, ◌++◌, length, map, slice_index, slice_range, IfOk, OnOk, vec_len};
-ghost use Rattle.std.specs.List.{flat_map, range_with_len};
+ghost use Rattle.std.specs.Prelude.{◌≡◌, ◌+◌, ◌*◌, ◌^◌, ◌<◌, ◌≤◌, ◌++◌, length, map, slice_index, IfOk, OnOk, vec_len};
+ghost use Rattle.std.specs.List.{range_with_len};
 ghost use Rattle.rq_bytes.specs.SymbolSlab.{slab_of};
 ghost use Rattle.rq_standard.specs.Configuration.{IsAligned};
-ghost use Rattle.rq_standard.specs.Cutting.{sub_block_size, symbol_of_block, plain_symbol};
+ghost use Rattle.rq_standard.specs.Cutting.{sub_block_size, symbol_of_block};
 ghost use Rattle.raptorq.specs.Refused.{checked_symbols};
+ghost use Rattle.raptorq.specs.SubBlocks.{symbols_of_block, parts_of_symbols, IsCutInto};
 
 use rq_base::base::{ObjectTransmissionInformation, partition};
 use rq_bytes::error::Error;
@@ -101,7 +102,7 @@ pub(crate) fn source_symbols(
 ) -> Result<SymbolSlab, AllocError>
     requires { IsAligned config.now }
     ensures small { OnOk result (config.now.symbol_size < 65536) }
-    ensures symbols { IfOk result (λ slab. slab ≡ slab_of config.now.symbol_size (map (symbol_of_block config.now symbols block.now) (range_with_len 0 symbols))) }
+    ensures symbols { IfOk result (λ slab. slab ≡ slab_of config.now.symbol_size (symbols_of_block config.now symbols block.now)) }
 {
     let size = usize::from(config.symbol_size());
     let mut bytes = Vec::with_capacity(alloc, symbols as usize * size)?;
@@ -123,7 +124,7 @@ fn append_sub_block(
     requires small { size < 65536 }
     requires within { start + width ≤ size }
     requires long { length plain.now ≡ symbols * size }
-    ensures { OnOk result (block.new.items ≡ block.old.items ++ flat_map (λ e. slice_range plain.now (e * size + start) (e * size + start + width)) (range_with_len 0 symbols)) }
+    ensures { OnOk result (block.new.items ≡ block.old.items ++ parts_of_symbols plain.now symbols size start width) }
 {
     for e in 0..symbols {
         let from = e as usize * size + start;
@@ -142,7 +143,7 @@ pub(crate) fn into_sub_blocks(
     requires aligned { IsAligned config.now }
     requires long { length plain.items ≡ symbols * config.now.symbol_size }
     ensures long { IfOk result (λ block. length block.items ≡ symbols * config.now.symbol_size) }
-    ensures each { IfOk result (λ block. (e : ℕ) → e < symbols → symbol_of_block config.now symbols block.items e ≡ plain_symbol config.now.symbol_size plain.items e) }
+    ensures each { IfOk result (λ block. IsCutInto config.now symbols block.items plain.items) }
 {
     if config.sub_blocks() <= 1 {
         return Ok(plain);

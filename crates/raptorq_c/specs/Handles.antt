@@ -3,15 +3,16 @@ use Rattle.std.specs.Prelude.{◌≡◌, ◌≢◌, ◌⊎◌, ℕ, List, length
 use Rattle.rq_bytes.specs.declared.error.Error.{Error}
 use Rattle.rq_bytes.specs.Error.{code_of}
 use Rattle.rq_bytes.specs.Refusals.{and_then}
-use Rattle.rq_standard.specs.Configuration.{Configuration}
+use Rattle.rq_standard.specs.Configuration.{Configuration, configuration_of_bytes}
 use Rattle.rq_standard.specs.Packet.{SymbolId, Packet, packet_bytes, packet_of_bytes}
 use Rattle.rq_standard.specs.Standing.{State, Adds, StopsEarly, Contradicts, IsBlockContradictory, KeepsContradictions, IsHonestPacket, StandsForMore, AnswersLateBlock, LeavesBlockLate}
 use Rattle.rq_standard.specs.TableRows.{built_in_rows}
 use Rattle.rq_base.specs.RefusedInput.{new_id, read_packet}
 use Rattle.raptorq.specs.Decoder.{state_of}
 use Rattle.raptorq.specs.Encoder.{Encoded, encoded_of, id_in, IsEncoderOf, IsPacketIn}
-use Rattle.raptorq.specs.Refused.{packet_refusal}
+use Rattle.raptorq.specs.Refused.{packet_refusal, RefusesEncoder}
 use Rattle.raptorq_c.specs.Numbers.{IsNumber}
+use Rattle.raptorq.specs.declared.decoder.object.Decoder.{Decoder}
 use Rattle.raptorq_c.specs.declared.handle.Handle.{Handle}
 use Rattle.raptorq_c.specs.declared.owned.Coder.{Coder}
 use Rattle.raptorq_c.specs.declared.owned.Coder.TheVariants.{Sender, Receiver}
@@ -38,6 +39,14 @@ encoder_of h = option_and_then encoder_in (coder_of h)
 abbrev pub Becomes : {X : Type 0} → Option X → Option X → (X → X → Type 0) → Type 0
 Becomes before after P = IfSome before (λ x. IsSomeAnd after (P x))
 
+-- what a packet's bytes make of a decoder
+abbrev pub DecoderBy : (State → Packet → State → Type 0) → Decoder → List ℕ → Decoder → Type 0
+DecoderBy P old bytes new = P (state_of old) (packet_of_bytes bytes) (state_of new)
+
+-- what they make of the decoder that a handle holds, if it holds one
+abbrev pub BecomesBy : (State → Packet → State → Type 0) → Handle → List ℕ → Handle → Type 0
+BecomesBy P old bytes new = Becomes (decoder_of old) (decoder_of new) (λ s t. P s (packet_of_bytes bytes) t)
+
 -- what a decoder refuses of the bytes of a packet
 abbrev pub bytes_refusal : Configuration → List ℕ → Result (Unit {0}) Error
 bytes_refusal c bytes = and_then (read_packet bytes) (packet_refusal c)
@@ -45,6 +54,10 @@ bytes_refusal c bytes = and_then (read_packet bytes) (packet_refusal c)
 -- The number of what is refused of them, or 21; where nothing is, it may be 22, that of a contradiction.
 abbrev pub IsTakenNumber : ℕ → Result (Unit {0}) Error → Type 0
 IsTakenNumber number wanted = IsNumber number wanted ⊎ ((number ≡ 22) × (wanted ≡ Ok tt))
+
+-- bytes that are refused anyway leave a decoder as it was
+abbrev pub LeavesRefused : List ℕ → State → State → Type 0
+LeavesRefused bytes old new = IsErr (bytes_refusal old.configuration bytes) → new ≡ old
 
 -- what the bytes of a packet do to a decoder: as the packet does, and where memory is refused for them, nothing
 pub record IsAdded (old : State) (bytes : List ℕ) (number : ℕ) (new : State) : Type 0 where
@@ -59,7 +72,7 @@ pub record IsAdded (old : State) (bytes : List ℕ) (number : ℕ) (new : State)
   pub stands : number ≡ 0 → StandsForMore old (packet_of_bytes bytes) new
   pub answers_late : number ≡ 0 → AnswersLateBlock old (packet_of_bytes bytes) new
   pub leaves_late : number ≡ 21 → LeavesBlockLate old (packet_of_bytes bytes) new
-  pub leaves_refused : number ≡ 21 → IsErr (bytes_refusal old.configuration bytes) → new ≡ old
+  pub leaves_refused : number ≡ 21 → LeavesRefused bytes old new
 
 -- the id of a packet of these numbers, unless it has none
 abbrev pub wanted_id : Configuration → ℕ → ℕ → Result SymbolId Error
@@ -74,6 +87,10 @@ IsPacketNumber (Err e) number = number ≡ code_of e
 pub record IsEncoderIn (c : Configuration) (object : List ℕ) (e : Encoded) : Type 0 where
   pub configuration : e.configuration ≡ c
   pub encoder : IsEncoderOf built_in_rows object e
+
+-- what an encoder of this object, in the configuration that a header has, is refused for over the built-in table
+abbrev pub RefusesSender : List ℕ → List ℕ → Error → Type 0
+RefusesSender header object e = RefusesEncoder built_in_rows (configuration_of_bytes header) (length object) e
 
 -- the number of a refusal of which P
 pub record IsCodeWhere (P : Error → Type 0) (number : ℕ) : Type 0 where

@@ -1,5 +1,5 @@
 //! A decoder that C keeps: packets one at a time, and the object once they determine it.
-ghost use Rattle.std.specs.Prelude.{◌≡◌, ◌≢◌, ◌↔◌, ◌⊎◌, Ok, None, IfSome, IsSomeAnd, IsErr, IfOk, IfErr, OnOk, OnErr};
+ghost use Rattle.std.specs.Prelude.{◌≡◌, ◌≢◌, ◌↔◌, ◌⊎◌, Ok, None, IfSome, IsSomeAnd, IfOk, IfErr, OnOk, OnErr};
 ghost use Rattle.rq_bytes.specs.Refusals.{Answers};
 ghost use Rattle.rq_standard.specs.Configuration.{configuration_of_bytes};
 ghost use Rattle.rq_standard.specs.Packet.{packet_of_bytes};
@@ -9,7 +9,7 @@ ghost use Rattle.rq_base.specs.RefusedInput.{checked_configuration};
 ghost use Rattle.raptorq.specs.Decoder.{state_of};
 ghost use Rattle.raptorq.specs.Refused.{IsPacketRefusal};
 ghost use Rattle.raptorq_c.specs.Decoding.{Answered, IsRefused};
-ghost use Rattle.raptorq_c.specs.Handles.{coder_of, decoder_in, decoder_of, encoder_in, encoder_of, bytes_refusal, Becomes, IsTakenNumber, IsAdded};
+ghost use Rattle.raptorq_c.specs.Handles.{coder_of, decoder_in, decoder_of, encoder_in, encoder_of, bytes_refusal, Becomes, BecomesBy, DecoderBy, IsTakenNumber, IsAdded, LeavesRefused};
 ghost use Rattle.raptorq_c.specs.Numbers.{number_of, IsNumber};
 
 use crate::buffers::fill_answer;
@@ -68,16 +68,16 @@ fn add_bytes(alloc: Global, decoder: &mut Decoder, packet: &[u8]) -> Result<(), 
     ensures taken { OnOk result (bytes_refusal (state_of decoder.old).configuration packet.now ≡ Ok tt) }
     ensures refused { IfErr result (λ e. (e ≡ Error.OutOfMemory) ⊎ IsPacketRefusal e (bytes_refusal (state_of decoder.old).configuration packet.now)) }
     ensures unchanged { IfErr result (λ e. e ≢ Error.OutOfMemory → e ≢ Error.Contradiction → state_of decoder.new ≡ state_of decoder.old) }
-    ensures adds { OnOk result (Adds (state_of decoder.old) (packet_of_bytes packet.now) (state_of decoder.new)) }
-    ensures stops { IfErr result (λ e. e ≡ Error.OutOfMemory → StopsEarly (state_of decoder.old) (packet_of_bytes packet.now) (state_of decoder.new)) }
-    ensures contradiction { IfErr result (λ e. e ≡ Error.Contradiction → Contradicts (state_of decoder.old) (packet_of_bytes packet.now) (state_of decoder.new)) }
+    ensures adds { OnOk result (DecoderBy Adds decoder.old packet.now decoder.new) }
+    ensures stops { IfErr result (λ e. e ≡ Error.OutOfMemory → DecoderBy StopsEarly decoder.old packet.now decoder.new) }
+    ensures contradiction { IfErr result (λ e. e ≡ Error.Contradiction → DecoderBy Contradicts decoder.old packet.now decoder.new) }
     ensures goes_on { OnOk result (IsBlockContradictory (state_of decoder.old) (packet_of_bytes packet.now).id.block → ⊥) }
     ensures keeps { KeepsContradictions (state_of decoder.old) (state_of decoder.new) }
     ensures honest { IfErr result (λ e. e ≡ Error.Contradiction → IsHonestPacket (state_of decoder.old) (packet_of_bytes packet.now) → ⊥) }
-    ensures stands { OnOk result (StandsForMore (state_of decoder.old) (packet_of_bytes packet.now) (state_of decoder.new)) }
-    ensures answers_late { OnOk result (AnswersLateBlock (state_of decoder.old) (packet_of_bytes packet.now) (state_of decoder.new)) }
-    ensures leaves_late { IfErr result (λ e. e ≡ Error.OutOfMemory → LeavesBlockLate (state_of decoder.old) (packet_of_bytes packet.now) (state_of decoder.new)) }
-    ensures leaves_refused { OnErr result (IsErr (bytes_refusal (state_of decoder.old).configuration packet.now) → state_of decoder.new ≡ state_of decoder.old) }
+    ensures stands { OnOk result (DecoderBy StandsForMore decoder.old packet.now decoder.new) }
+    ensures answers_late { OnOk result (DecoderBy AnswersLateBlock decoder.old packet.now decoder.new) }
+    ensures leaves_late { IfErr result (λ e. e ≡ Error.OutOfMemory → DecoderBy LeavesBlockLate decoder.old packet.now decoder.new) }
+    ensures leaves_refused { OnErr result (LeavesRefused packet.now (state_of decoder.old) (state_of decoder.new)) }
 {
     decoder.add_new_packet(EncodingPacket::deserialize(alloc, packet)?)
 }
@@ -105,16 +105,16 @@ pub extern "C" fn reamertan_add_packet(alloc: Global, handle: &mut Handle, packe
     ensures none { (result ≡ 26) ↔ (decoder_of handle.old ≡ None) }
     ensures refused { IfSome (decoder_of handle.old) (λ s. IsTakenNumber result (bytes_refusal s.configuration packet.now)) }
     ensures unchanged { result ≢ 0 → result ≢ 21 → result ≢ 22 → decoder_of handle.new ≡ decoder_of handle.old }
-    ensures adds { result ≡ 0 → Becomes (decoder_of handle.old) (decoder_of handle.new) (λ s t. Adds s (packet_of_bytes packet.now) t) }
-    ensures stops { result ≡ 21 → Becomes (decoder_of handle.old) (decoder_of handle.new) (λ s t. StopsEarly s (packet_of_bytes packet.now) t) }
-    ensures contradiction { result ≡ 22 → Becomes (decoder_of handle.old) (decoder_of handle.new) (λ s t. Contradicts s (packet_of_bytes packet.now) t) }
+    ensures adds { result ≡ 0 → BecomesBy Adds handle.old packet.now handle.new }
+    ensures stops { result ≡ 21 → BecomesBy StopsEarly handle.old packet.now handle.new }
+    ensures contradiction { result ≡ 22 → BecomesBy Contradicts handle.old packet.now handle.new }
     ensures goes_on { result ≡ 0 → IfSome (decoder_of handle.old) (λ s. IsBlockContradictory s (packet_of_bytes packet.now).id.block → ⊥) }
     ensures keeps { Becomes (decoder_of handle.old) (decoder_of handle.new) KeepsContradictions }
     ensures honest { result ≡ 22 → IfSome (decoder_of handle.old) (λ s. IsHonestPacket s (packet_of_bytes packet.now) → ⊥) }
-    ensures stands { result ≡ 0 → Becomes (decoder_of handle.old) (decoder_of handle.new) (λ s t. StandsForMore s (packet_of_bytes packet.now) t) }
-    ensures answers_late { result ≡ 0 → Becomes (decoder_of handle.old) (decoder_of handle.new) (λ s t. AnswersLateBlock s (packet_of_bytes packet.now) t) }
-    ensures leaves_late { result ≡ 21 → Becomes (decoder_of handle.old) (decoder_of handle.new) (λ s t. LeavesBlockLate s (packet_of_bytes packet.now) t) }
-    ensures leaves_refused { result ≡ 21 → Becomes (decoder_of handle.old) (decoder_of handle.new) (λ s t. IsErr (bytes_refusal s.configuration packet.now) → t ≡ s) }
+    ensures stands { result ≡ 0 → BecomesBy StandsForMore handle.old packet.now handle.new }
+    ensures answers_late { result ≡ 0 → BecomesBy AnswersLateBlock handle.old packet.now handle.new }
+    ensures leaves_late { result ≡ 21 → BecomesBy LeavesBlockLate handle.old packet.now handle.new }
+    ensures leaves_refused { result ≡ 21 → Becomes (decoder_of handle.old) (decoder_of handle.new) (LeavesRefused packet.now) }
     ensures other { encoder_of handle.new ≡ encoder_of handle.old }
 {
     let Some(mut coder) = handle.take(alloc) else {

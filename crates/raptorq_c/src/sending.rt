@@ -5,8 +5,8 @@ ghost use Rattle.rq_standard.specs.Configuration.{configuration_of_bytes};
 ghost use Rattle.rq_standard.specs.Headline.{HasNonsingularRows};
 ghost use Rattle.rq_standard.specs.TableRows.{built_in_rows, greatest_size};
 ghost use Rattle.raptorq.specs.Encoder.{encoded_of};
-ghost use Rattle.raptorq.specs.Refused.{new_encoder, RefusesEncoder};
-ghost use Rattle.raptorq_c.specs.Handles.{coder_of, encoder_in, encoder_of, wanted_id, IsCodeWhere, IsEncoderIn, IsPacketAt, IsPacketNumber, HasNoRoom};
+ghost use Rattle.raptorq.specs.Refused.{new_encoder};
+ghost use Rattle.raptorq_c.specs.Handles.{coder_of, encoder_in, encoder_of, wanted_id, RefusesSender, IsCodeWhere, IsEncoderIn, IsPacketAt, IsPacketNumber, HasNoRoom};
 ghost use Rattle.raptorq_c.specs.Numbers.{number_of};
 
 use crate::buffers::fill;
@@ -20,7 +20,7 @@ use std::alloc::Global;
 
 // The encoder of an object in this configuration.
 fn sender(alloc: Global, configuration: &[u8; 12], object: &[u8]) -> Result<Box<Coder>, Error>
-    ensures refused { IfErr result (λ e. (e ≡ Error.OutOfMemory) ⊎ RefusesEncoder built_in_rows (configuration_of_bytes configuration.now) (length object.now) e) }
+    ensures refused { IfErr result (λ e. (e ≡ Error.OutOfMemory) ⊎ RefusesSender configuration.now object.now e) }
     ensures taken { OnOk result (new_encoder (greatest_size built_in_rows) (configuration_of_bytes configuration.now) (length object.now) ≡ Ok tt) }
     ensures nonsingular { OnOk result (HasNonsingularRows built_in_rows (configuration_of_bytes configuration.now)) }
     ensures encoder { IfOk result (λ b. IsSomeAnd (encoder_in b.value) (IsEncoderIn (configuration_of_bytes configuration.now) object.now)) }
@@ -38,7 +38,7 @@ fn open(
     object: &[u8],
     handle: &mut Handle,
 ) -> Result<(), Stop>
-    ensures refused { OnErr result ((number_of result ≡ 21) ⊎ IsCodeWhere (RefusesEncoder built_in_rows (configuration_of_bytes configuration.now) (length object.now)) (number_of result)) }
+    ensures refused { OnErr result ((number_of result ≡ 21) ⊎ IsCodeWhere (RefusesSender configuration.now object.now) (number_of result)) }
     ensures taken { OnOk result (new_encoder (greatest_size built_in_rows) (configuration_of_bytes configuration.now) (length object.now) ≡ Ok tt) }
     ensures nonsingular { OnOk result (HasNonsingularRows built_in_rows (configuration_of_bytes configuration.now)) }
     ensures encoder { OnOk result (IsSomeAnd (encoder_of handle.new) (IsEncoderIn (configuration_of_bytes configuration.now) object.now)) }
@@ -60,7 +60,7 @@ pub extern "C" fn reamertan_open_encoder(
     object: &[u8],
     handle: &mut Handle,
 ) -> u8
-    ensures refused { result ≢ 0 → (result ≡ 21) ⊎ IsCodeWhere (RefusesEncoder built_in_rows (configuration_of_bytes configuration.now) (length object.now)) result }
+    ensures refused { result ≢ 0 → (result ≡ 21) ⊎ IsCodeWhere (RefusesSender configuration.now object.now) result }
     ensures taken { result ≡ 0 → new_encoder (greatest_size built_in_rows) (configuration_of_bytes configuration.now) (length object.now) ≡ Ok tt }
     ensures nonsingular { result ≡ 0 → HasNonsingularRows built_in_rows (configuration_of_bytes configuration.now) }
     ensures encoder { result ≡ 0 → IsSomeAnd (encoder_of handle.new) (IsEncoderIn (configuration_of_bytes configuration.now) object.now) }

@@ -37,3 +37,14 @@ pub record HasPlaced (counts : List ℕ) (done : ℕ → List ℕ) (starts rows 
   pub start : (k : ℕ) → k < length counts → at starts k + length (done k) ≡ sum (take (k + 1) counts)
   pub room : (k : ℕ) → k < length counts → length (done k) ≤ at counts k
   pub here : (k j : ℕ) → k < length counts → j < length (done k) → at rows (at starts k + j) ≡ at (done k) j
+
+-- how many of a row's columns are column k
+abbrev pub times_listed : List ℕ → ℕ → ℕ
+times_listed columns k = count_by (λ column. column == k) columns
+
+-- a row is put before those that are there of its columns, where these have room for it
+abbrev pub PlacesRow : ℕ → List ℕ → List ℕ → List ℕ → List ℕ → List ℕ → Type 0
+PlacesRow row columns old_starts old_rows starts rows =
+    (counts : List ℕ) (done : ℕ → List ℕ)
+    → HasPlaced counts done old_starts old_rows → ((k : ℕ) → k < length counts → length (done k) + times_listed columns k ≤ at counts k)
+    → HasPlaced counts (λ k. replicate (times_listed columns k) row ++ done k) starts rows

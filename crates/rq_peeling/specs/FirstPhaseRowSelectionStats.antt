@@ -21,6 +21,10 @@ pub record IsLeftOf (m : BitTable) (counts : RowCounts) : Type 0 where
 abbrev pub ones_left : BitTable → RowCounts → ℕ → ℕ
 ones_left m counts i = ones_between (m.bit i) counts.start_col counts.end_col
 
+-- from a first row on, as far as row n, these are the numbers of the rows' ones in a range of columns
+abbrev pub CountsFrom : BitTable → ℕ → ℕ → ℕ → ℕ → List ℕ → Type 0
+CountsFrom m start_col end_col first n counts = (i : ℕ) → first ≤ i → i < n → slice_index counts i ≡ ones_between (m.bit i) start_col end_col
+
 -- the counts are those of a matrix
 pub record CountsOnes (m : BitTable) (counts : RowCounts) : Type 0 where
   pub left : IsLeftOf m counts

@@ -1,8 +1,8 @@
 //! The rows that have ones in a column.
-ghost use Rattle.std.specs.Prelude.{◌≡◌, ℕ, ◌+◌, ◌-◌, ◌*◌, ◌^◌, ◌<◌, ◌≤◌, ◌==◌, ◌++◌, [], List, length, replicate, count_by, sum, sum_by, take, All, IfSome, IfOk, OnOk, IfErr, slice_index_or};
+ghost use Rattle.std.specs.Prelude.{◌≡◌, ℕ, ◌+◌, ◌-◌, ◌*◌, ◌^◌, ◌<◌, ◌≤◌, ◌==◌, [], List, length, count_by, sum, sum_by, take, All, IfSome, IfOk, OnOk, IfErr, slice_index_or};
 ghost use Rattle.rq_algebra.specs.Systems.{at};
 ghost use Rattle.rq_bytes.specs.declared.error.Error.TheVariants.{OutOfMemory};
-ghost use Rattle.rq_peeling.specs.ColumnRows.{AreEnds, HasPlaced, ListsColumns};
+ghost use Rattle.rq_peeling.specs.ColumnRows.{AreEnds, ListsColumns, PlacesRow};
 ghost use Rattle.rq_peeling.specs.Degrees.{LowersRows};
 
 use crate::degrees::RowDegrees;
@@ -111,7 +111,7 @@ fn place_row(row: u32, columns: &[u16], starts: &mut [usize], rows: &mut [u32])
     ensures long { length starts.new ≡ length starts.old }
     ensures wide { length rows.new ≡ length rows.old }
     ensures below { (height : ℕ) → row < height → All (λ r. r < height) rows.old → All (λ r. r < height) rows.new }
-    ensures placed { (counts : List ℕ) (done : ℕ → List ℕ) → HasPlaced counts done starts.old rows.old → ((k : ℕ) → k < length counts → length (done k) + count_by (λ column. column == k) columns.now ≤ at counts k) → HasPlaced counts (λ k. replicate (count_by (λ column. column == k) columns.now) row ++ done k) starts.new rows.new }
+    ensures placed { PlacesRow row columns.now starts.old rows.old starts.new rows.new }
 {
     for column in columns {
         let place = starts[*column as usize] - 1;

@@ -1,8 +1,9 @@
 //! Which row the first phase may take next (RFC 6330, section 5.4.2.2). Kept for the surface of
 //! `raptorq`; no coder calls it.
-ghost use Rattle.std.specs.Prelude.{◌≡◌, ℕ, ◌+◌, ◌<◌, ◌≤◌, length, IfNone, IfOk, IfSome, IfErr, slice_index};
+ghost use Rattle.std.specs.Prelude.{◌≡◌, ℕ, ◌+◌, ◌<◌, ◌≤◌, length, IfNone, IfOk, IfSome, IfErr};
 ghost use Rattle.rq_bytes.specs.declared.error.Error.TheVariants.{OutOfMemory};
-ghost use Rattle.rq_standard.specs.BitTableSteps.{SwapsColumns, SwapsRows, ones_between};
+ghost use Rattle.rq_standard.specs.BitTableSteps.{SwapsColumns, SwapsRows};
+ghost use Rattle.rq_peeling.specs.FirstPhaseRowSelectionStats.{CountsFrom};
 
 use rq_bytes::error::Error;
 use rq_matrix::matrix::BinaryMatrix;
@@ -159,7 +160,7 @@ fn count_rows<T: BinaryMatrix>(
     requires rows { length ones_per_row.old ≤ (T.content matrix.now).height }
     requires range { start_col ≤ end_col }
     requires before { end_col ≤ (T.content matrix.now).boundary }
-    ensures { (i : ℕ) → first ≤ i → i < length ones_per_row.old → slice_index ones_per_row.new i ≡ ones_between ((T.content matrix.now).bit i) start_col end_col }
+    ensures { CountsFrom (T.content matrix.now) start_col end_col first (length ones_per_row.old) ones_per_row.new }
 {
     for row in first..ones_per_row.len() {
         ones_per_row[row] = matrix.count_ones(row, start_col, end_col);

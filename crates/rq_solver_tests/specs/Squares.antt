@@ -1,5 +1,5 @@
 -- The matrices of the tests.
-use Rattle.std.specs.Prelude.{◌≡◌, false}
+use Rattle.std.specs.Prelude.{◌≡◌, ℕ, ◌+◌, ◌<◌, false}
 use Rattle.rq_standard.specs.declared.row.TableRow.{TableRow}
 use Rattle.rq_standard.specs.BitTable.{BitTable}
 use Rattle.rq_standard.specs.TableRows.{intermediate_symbols}
@@ -10,3 +10,7 @@ pub record IsSquareOf (row : TableRow) (bits : BitTable) : Type 0 where
   pub width : bits.width ≡ intermediate_symbols row
   pub boundary : bits.boundary ≡ row.lt_symbols
   pub indexed : bits.indexed ≡ false
+
+-- n rows from a first one on are zeros
+abbrev pub HasZeroRows : TableRow → BitTable → ℕ → ℕ → Type 0
+HasZeroRows row bits first n = (i k : ℕ) → i < n → k < intermediate_symbols row → bits.bit (first + i) k ≡ 0

@@ -3,7 +3,7 @@ ghost use Rattle.std.specs.Prelude.{◌≡◌, ℕ, ◌+◌, ◌≤◌, ◌<◌,
 ghost use Rattle.rq_algebra.specs.Operations.{AreAllowed};
 ghost use Rattle.rq_operations.specs.RecordedOperations.{operations_of};
 ghost use Rattle.rq_standard.specs.TableRows.{IsChecked, greatest_size, intermediate_symbols, row_of};
-ghost use Rattle.rq_solver_tests.specs.Squares.{IsSquareOf};
+ghost use Rattle.rq_solver_tests.specs.Squares.{HasZeroRows, IsSquareOf};
 
 use crate::compare::{holds, same};
 use rq_bytes::error::Error;
@@ -65,7 +65,7 @@ fn bits_at<T: BinaryMatrix>(
 ) -> Result<T, Error>
     requires { IsChecked row.now }
     ensures square { IfOk result (λ bits. IsSquareOf row.now (T.content bits)) }
-    ensures zeros { IfOk result (λ bits. (i k : ℕ) → i < row.now.hdpc_symbols → k < intermediate_symbols row.now → (T.content bits).bit (row.now.ldpc_symbols + i) k ≡ 0) }
+    ensures zeros { IfOk result (λ bits. HasZeroRows row.now (T.content bits) row.now.ldpc_symbols row.now.hdpc_symbols) }
 {
     let mut bits: T = zero_bits(alloc, row)?;
     let width = width_of(row);

@@ -8,7 +8,7 @@ ghost use Rattle.rq_standard.specs.Cutting.{plain_symbol};
 ghost use Rattle.rq_standard.specs.Held.{CanAnswer, IsContradictory};
 ghost use Rattle.rq_standard.specs.Received.{or_later};
 ghost use Rattle.rq_standard.specs.TableRows.{IsChecked};
-ghost use Rattle.raptorq.specs.Missing.{payload_of, has_payload, missing_count};
+ghost use Rattle.raptorq.specs.Missing.{payload_of, has_payload, missing_count, KeepsFirst};
 ghost use Rattle.raptorq.specs.declared.decoder.block.Found.TheVariants.{Undetermined, Contradictory};
 
 use crate::decoder::fitting::fits;
@@ -83,7 +83,7 @@ fn keep_first(
     payload: Vec<u8>,
 ) -> Result<bool, AllocError>
     ensures kept { IfOk result (λ kept. has_payload received.old esi ≡ not kept) }
-    ensures ok { OnOk result ((e : ℕ) → payload_of received.new e ≡ or_later (payload_of received.old e) (if esi == e then Some payload.items else None)) }
+    ensures ok { OnOk result (KeepsFirst esi payload.items received.old received.new) }
     ensures err { OnErr result ((e : ℕ) → payload_of received.new e ≡ payload_of received.old e) }
 {
     match received.entry(esi)? {

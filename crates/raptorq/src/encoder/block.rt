@@ -5,7 +5,7 @@ ghost use Rattle.rq_bytes.specs.SymbolSlab.{symbol_in, symbols_in};
 ghost use Rattle.rq_standard.specs.Configuration.{IsAligned};
 ghost use Rattle.rq_standard.specs.Headline.{IsNonsingular, IsOnlyIntermediateColumn, IsEncodingSymbol};
 ghost use Rattle.rq_standard.specs.TableRows.{IsChecked, greatest_size, intermediate_symbols};
-ghost use Rattle.raptorq.specs.Refused.{wanted_count, repair_refusal};
+ghost use Rattle.raptorq.specs.Refused.{wanted_count, repair_refusal, AreWholeSymbols};
 
 use crate::enc::encoding_symbol;
 use crate::encoder::cache::SourceBlockEncodingPlanCache;
@@ -38,7 +38,7 @@ pub struct SourceBlockEncoder {
 
 impl SourceBlockEncoder {
     ghost use Rattle.rq_base.specs.RefusedInput.{new_id};
-    ghost use Rattle.raptorq.specs.SourceBlockEncoder.{block_encoded_of, IsBlockPacket, AreBlockPackets};
+    ghost use Rattle.raptorq.specs.SourceBlockEncoder.{block_encoded, block_encoded_of, IsBlockPacket, AreBlockPackets};
     ghost use Rattle.raptorq.specs.BlockData.{block_of, block_by_plan, IsPlanFor, RefusesBlock, RefusesPlanned};
     ghost use Rattle.raptorq.specs.SourceBlockEncodingPlanCache.{used};
     ghost use Rattle.raptorq.specs.SourceBlockEncodingPlan.{plan_of};
@@ -59,7 +59,7 @@ impl SourceBlockEncoder {
         cache: &mut SourceBlockEncodingPlanCache,
     ) -> Result<SourceBlockEncoder, Error>
         ensures refused { IfErr result (RefusesBlock cache.old.table config.now (length block.now)) }
-        ensures taken { OnOk result (wanted_count (greatest_size cache.old.table) config.now (length block.now) ≡ Ok (length block.now / config.now.symbol_size)) }
+        ensures taken { OnOk result (AreWholeSymbols (greatest_size cache.old.table) config.now (length block.now)) }
         ensures encoded { IfOk result (λ b. block_encoded_of b ≡ block_of cache.old.table config.now source_block_number block.now) }
         ensures nonsingular { IfOk result (λ b. IsNonsingular (block_encoded_of b).row) }
         ensures used { OnOk result (cache.new ≡ used cache.old (length block.now / config.now.symbol_size)) }
@@ -97,7 +97,7 @@ impl SourceBlockEncoder {
         plan: &SourceBlockEncodingPlan,
     ) -> Result<SourceBlockEncoder, Error>
         ensures refused { IfErr result (RefusesPlanned table.now config.now (length block.now) (plan_of plan.now)) }
-        ensures taken { OnOk result (wanted_count (greatest_size table.now) config.now (length block.now) ≡ Ok (length block.now / config.now.symbol_size)) }
+        ensures taken { OnOk result (AreWholeSymbols (greatest_size table.now) config.now (length block.now)) }
         ensures fits { OnOk result (IsPlanFor table.now (length block.now / config.now.symbol_size) (plan_of plan.now)) }
         ensures encoded { IfOk result (λ b. block_encoded_of b ≡ block_of table.now config.now source_block_number block.now) }
     {
@@ -169,7 +169,7 @@ impl SourceBlockEncoder {
         requires small { source.symbol_size < 65536 }
         requires few { length source.values ≤ (plan_of plan.now).row.extended_symbols }
         requires sized { All (λ symbol. length symbol ≡ source.symbol_size) source.values }
-        ensures encoded { IfOk result (λ b. block_encoded_of b ≡ record { number = number; row = (plan_of plan.now).row; size = source.symbol_size; source = source.values }) }
+        ensures encoded { IfOk result (λ b. block_encoded_of b ≡ block_encoded number (plan_of plan.now).row source) }
         ensures memory { IfErr result (λ e. e ≡ Error.OutOfMemory) }
     {
         let row = plan.row();
