@@ -7,6 +7,7 @@ use raptorq::systematic_constants::SystematicTable;
 use raptorq::{
     Decoder, Encoder, EncodingPacket, ObjectTransmissionInformation, calculate_block_offsets,
 };
+use std::alloc::Global;
 
 /// Random bytes: the high bits of a linear congruence.
 #[derive(Drop)]
@@ -30,78 +31,116 @@ struct Tally {
     whole_after: Option<u32>,
 }
 
+/// What takes packets until it has the object. It knows the configuration and nothing else.
+#[derive(Drop)]
+struct Receiver {
+    decoder: Decoder,
+    offsets: Vec<(usize, usize)>,
+    tallies: Vec<Tally>,
+}
+
+impl Receiver {
+    fn new(
+        alloc: Global,
+        table: &SystematicTable,
+        config: ObjectTransmissionInformation,
+    ) -> Result<Receiver> {
+        let offsets = calculate_block_offsets(alloc, &[], &config)?;
+        let tallies = vec![in alloc; Tally::default(); offsets.len()]?;
+        let decoder = Decoder::new(alloc, table, config)?;
+        Ok(Receiver {
+            decoder,
+            offsets,
+            tallies,
+        })
+    }
+
+    // All packets go by once.
+    fn turn(&mut self, packets: &[EncodingPacket], random: &mut Random) -> Result<()> {
+        for packet in packets {
+            let number = usize::from(packet.payload_id().source_block_number());
+            let lost = random.byte() < 85;
+            if let Some(tally) = self.tallies.get_mut(number) {
+                tally.lost = tally.lost.saturating_add(u32::from(lost));
+                tally.came = tally.came.saturating_add(u32::from(!lost));
+            }
+            if !lost {
+                self.decoder.add_new_packet(packet.clone()?)?;
+            }
+        }
+        Ok(())
+    }
+
+    // Notes the blocks that can't be others any more: where the difference is zeros.
+    fn note_whole(&mut self, round: u32) -> Result<()> {
+        let difference = self.decoder.difference()?;
+        for (tally, &(start, end)) in self.tallies.iter_mut().zip(&self.offsets) {
+            let mut bytes = difference.iter().flatten().take(end).skip(start);
+            if tally.whole_after.is_none() && bytes.all(|&byte| byte == 0) {
+                tally.whole_after = Some(round);
+            }
+        }
+        Ok(())
+    }
+
+    // How many blocks could still be others.
+    fn open(&self) -> usize {
+        self.tallies
+            .iter()
+            .filter(|tally| tally.whole_after.is_none())
+            .count()
+    }
+}
+
 fn main(rt: HostRuntime) -> Result<()> {
     let mut random = Random { state: 1 };
-    let mut object = Vec::new(rt.alloc());
-    for _ in 0..4000 {
-        object.push(random.byte())?;
-    }
+    let object = random_object(rt.alloc(), &mut random)?;
     // Four blocks of 20 symbols of 50 bytes, and two repair packets a block.
     let table = SystematicTable::built_in(rt.alloc())?;
     let config = ObjectTransmissionInformation::new(4000, 50, 4, 1, 1)?;
-    let encoder = Encoder::new(rt.alloc(), &table, object.as_slice(), config)?;
-    let packets = encoder.get_encoded_packets(2)?;
+    let packets = Encoder::new(rt.alloc(), &table, &object, config)?.get_encoded_packets(2)?;
+    let mut receiver = Receiver::new(rt.alloc(), &table, config)?;
+    go_round(&rt, &packets, &mut random, &mut receiver)?;
+    report(&rt, &receiver, &object)
+}
 
-    // The receiver knows the configuration and nothing else.
-    let mut decoder = Decoder::new(rt.alloc(), &table, config)?;
-    let offsets = calculate_block_offsets(rt.alloc(), &[], &config)?;
-    let mut tallies = vec![in rt.alloc(); Tally::default(); offsets.len()]?;
+fn random_object(alloc: Global, random: &mut Random) -> Result<Vec<u8>> {
+    let mut object = Vec::new(alloc);
+    for _ in 0..4000 {
+        object.push(random.byte())?;
+    }
+    Ok(object)
+}
+
+// The packets go round until no block could be another.
+fn go_round(
+    rt: &HostRuntime,
+    packets: &[EncodingPacket],
+    random: &mut Random,
+    receiver: &mut Receiver,
+) -> Result<()> {
     for round in 1..10 {
-        turn(&packets, &mut random, &mut decoder, &mut tallies)?;
-        note_whole(round, &offsets, &decoder.difference()?, &mut tallies);
-        let open = tallies
-            .iter()
-            .filter(|tally| tally.whole_after.is_none())
-            .count();
+        receiver.turn(packets, random)?;
+        receiver.note_whole(round)?;
+        let open = receiver.open();
         println!(rt; "after round {round}, blocks that could still be others: {open}")?;
         if open == 0 {
             break;
         }
     }
-    for tally in &tallies {
+    Ok(())
+}
+
+fn report(rt: &HostRuntime, receiver: &Receiver, object: &[u8]) -> Result<()> {
+    for tally in &receiver.tallies {
         let round = tally.whole_after.unwrap_or(0);
         println!(rt;
             "{} packets came, {} lost, whole after round {round}",
             tally.came, tally.lost
         )?;
     }
-    let equal = decoder.get_result()?.is_some_and(|answer| answer == object);
+    let answer = receiver.decoder.get_result()?;
+    let equal = answer.is_some_and(|bytes| bytes.as_slice() == object);
     println!(rt; "the object came: {equal}")?;
     Ok(())
-}
-
-// All packets go by once.
-fn turn(
-    packets: &[EncodingPacket],
-    random: &mut Random,
-    decoder: &mut Decoder,
-    tallies: &mut [Tally],
-) -> Result<()> {
-    for packet in packets {
-        let number = usize::from(packet.payload_id().source_block_number());
-        let lost = random.byte() < 85;
-        if let Some(tally) = tallies.get_mut(number) {
-            tally.lost = tally.lost.saturating_add(u32::from(lost));
-            tally.came = tally.came.saturating_add(u32::from(!lost));
-        }
-        if !lost {
-            decoder.add_new_packet(packet.clone()?)?;
-        }
-    }
-    Ok(())
-}
-
-// Notes the blocks that can't be others any more: where the difference is zeros.
-fn note_whole(
-    round: u32,
-    offsets: &[(usize, usize)],
-    difference: &Option<Vec<u8>>,
-    tallies: &mut [Tally],
-) {
-    for (tally, &(start, end)) in tallies.iter_mut().zip(offsets) {
-        let mut bytes = difference.iter().flatten().take(end).skip(start);
-        if tally.whole_after.is_none() && bytes.all(|&byte| byte == 0) {
-            tally.whole_after = Some(round);
-        }
-    }
 }

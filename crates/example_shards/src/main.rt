@@ -28,36 +28,40 @@ fn main(rt: HostRuntime) -> Result<()> {
         .collect(alloc)?;
     let table = SystematicTable::built_in(alloc)?;
     let config = ObjectTransmissionInformation::new(2000, 50, BLOCKS, 1, 1)?;
-    let mut plans = SourceBlockEncodingPlanCache::new(alloc, &table)?;
-    let mut shards = cut(alloc, &table, &config, &object, &mut plans)?;
-    let made = plans.len();
-    println!(rt; "{BLOCKS} blocks in {SHARDS} shards, by {made} plan")?;
-
-    // Each bit of a number says whether a shard is lost.
-    let mut whole = 0u32;
-    for lost in (0u32..1 << SHARDS).filter(|lost| lost.count_ones() == 2) {
-        let answer = rebuild(alloc, &table, &config, &shards, lost)?;
-        whole = whole.wrapping_add(u32::from(answer.is_some_and(|bytes| bytes == object)));
-    }
-    println!(rt; "two of them lost: the object came back {whole} times of 78")?;
-
-    if let Some(packet) = shards.get_mut(7).and_then(|shard| shard.get_mut(2)) {
-        *packet = EncodingPacket::new(PayloadId::new(2, 7)?, vec![in alloc; 0; 50]?);
-    }
-    if let Err(refusal) = rebuild(alloc, &table, &config, &shards, 0) {
-        println!(rt; "one is damaged: {refusal}, number {}", refusal.code())?;
-    }
+    let mut shards = cut(&rt, &table, &config, &object)?;
+    lose_two(&rt, &table, &config, &shards, &object)?;
+    damage(alloc, &mut shards)?;
     find_damaged(&rt, &table, &config, &shards, &object)
 }
 
 // The shards of an object. The plan for the blocks' number of symbols is made once, and then lent.
 fn cut(
+    rt: &HostRuntime,
+    table: &SystematicTable,
+    config: &ObjectTransmissionInformation,
+    object: &[u8],
+) -> Result<Vec<Shard>> {
+    let mut plans = SourceBlockEncodingPlanCache::new(rt.alloc(), table)?;
+    let encoders = encode(rt.alloc(), table, config, object, &mut plans)?;
+    let made = plans.len();
+    println!(rt; "{BLOCKS} blocks in {SHARDS} shards, by {made} plan")?;
+    let shards = (0..SHARDS)
+        .map(|id| encoders
+            .iter()
+            .map(|encoder| encoder.packet(id))
+            .try_collect(rt.alloc()))
+        .try_collect(rt.alloc())?;
+    Ok(shards)
+}
+
+// The encoders of an object's blocks.
+fn encode(
     alloc: Global,
     table: &SystematicTable,
     config: &ObjectTransmissionInformation,
     object: &[u8],
     plans: &mut SourceBlockEncodingPlanCache,
-) -> Result<Vec<Shard>, Error> {
+) -> Result<Vec<SourceBlockEncoder>, Error> {
     let mut encoders = Vec::new(alloc);
     for (number, block) in (0..BLOCKS).zip(object.chunks(BLOCK_LENGTH as usize)) {
         let plan = plans.get_or_generate(10)?;
@@ -65,12 +69,33 @@ fn cut(
             alloc, number, config, block, table, plan,
         )?)?;
     }
-    (0..SHARDS)
-        .map(|id| encoders
-            .iter()
-            .map(|encoder| encoder.packet(id))
-            .try_collect(alloc))
-        .try_collect(alloc)
+    Ok(encoders)
+}
+
+// Loses each two of the shards. Each bit of a number says whether one is lost.
+fn lose_two(
+    rt: &HostRuntime,
+    table: &SystematicTable,
+    config: &ObjectTransmissionInformation,
+    shards: &[Shard],
+    object: &[u8],
+) -> Result<()> {
+    let mut whole = 0u32;
+    for lost in (0u32..1 << SHARDS).filter(|lost| lost.count_ones() == 2) {
+        let answer = rebuild(rt.alloc(), table, config, shards, lost)?;
+        whole = whole.wrapping_add(u32::from(answer.is_some_and(|bytes| bytes.as_slice()
+            == object)));
+    }
+    println!(rt; "two of them lost: the object came back {whole} times of 78")?;
+    Ok(())
+}
+
+// Writes zeros over a packet of one shard.
+fn damage(alloc: Global, shards: &mut [Shard]) -> Result<(), Error> {
+    if let Some(packet) = shards.get_mut(7).and_then(|shard| shard.get_mut(2)) {
+        *packet = EncodingPacket::new(PayloadId::new(2, 7)?, vec![in alloc; 0; 50]?);
+    }
+    Ok(())
 }
 
 // The object that the shards hold but for the lost ones, if these determine it.
@@ -98,7 +123,7 @@ fn rebuild(
     Ok(Some(object))
 }
 
-// Leaves out each shard in turn. Where the others agree, that one is damaged.
+// Says that one is damaged, and leaves out each shard in turn. Where the others agree, it is that one.
 fn find_damaged(
     rt: &HostRuntime,
     table: &SystematicTable,
@@ -106,6 +131,9 @@ fn find_damaged(
     shards: &[Shard],
     object: &[u8],
 ) -> Result<()> {
+    if let Err(refusal) = rebuild(rt.alloc(), table, config, shards, 0) {
+        println!(rt; "one is damaged: {refusal}, number {}", refusal.code())?;
+    }
     for place in 0..SHARDS {
         match rebuild(rt.alloc(), table, config, shards, 1 << place) {
             Err(Error::Contradiction) => (),

@@ -13,27 +13,22 @@ use std::{env, fs};
 type Row = (u32, u32, u32, u32, u32);
 
 fn main(rt: HostRuntime) -> Result<()> {
-    let alloc = rt.alloc();
-    let path = env::args(&rt)?.nth(1).context("which file has the rows?")?;
-    let text = fs::read_to_string(&rt, path.as_str()).context("reading the rows")?;
-    let mut rows: Vec<Row> = text
-        .lines()
-        .map(|line| row_of(alloc, line))
-        .try_collect(alloc)?;
-    let table = SystematicTable::with_rows(alloc, &rows)?;
+    let rows = read_rows(&rt)?;
+    let table = SystematicTable::with_rows(rt.alloc(), &rows)?;
     let (count, greatest) = (rows.len(), table.greatest());
     println!(rt; "{count} further rows, for blocks of up to {greatest} symbols")?;
     send(&rt, &table)?;
+    damage(&rt, rows)
+}
 
-    // The first row of all, with an even number of LDPC symbols.
-    if let Some(row) = rows.first_mut() {
-        row.2 = 36;
-    }
-    if let Err(refusal) = SystematicTable::with_rows(alloc, &rows) {
-        let number = refusal.code();
-        println!(rt; "with a damaged row: {refusal:?}, number {number}")?;
-    }
-    Ok(())
+// The rows in the file that the program's argument names.
+fn read_rows(rt: &HostRuntime) -> Result<Vec<Row>> {
+    let alloc = rt.alloc();
+    let path = env::args(rt)?.nth(1).context("which file has the rows?")?;
+    let text = fs::read_to_string(rt, path.as_str()).context("reading the rows")?;
+    text.lines()
+        .map(|line| row_of(alloc, line))
+        .try_collect(alloc)
 }
 
 // The row that a line of five numbers is.
@@ -46,6 +41,18 @@ fn row_of(alloc: Global, line: &str) -> Result<Row> {
         [size, index, ldpc, hdpc, lt] => Ok((*size, *index, *ldpc, *hdpc, *lt)),
         _ => bail!("{line:?} is no row"),
     }
+}
+
+// Gives the first row an even number of LDPC symbols: no table has it.
+fn damage(rt: &HostRuntime, mut rows: Vec<Row>) -> Result<()> {
+    if let Some(row) = rows.first_mut() {
+        row.2 = 36;
+    }
+    if let Err(refusal) = SystematicTable::with_rows(rt.alloc(), &rows) {
+        let number = refusal.code();
+        println!(rt; "with a damaged row: {refusal:?}, number {number}")?;
+    }
+    Ok(())
 }
 
 // Sends an object of 1002 symbols of 16 bytes in one block, and loses each tenth packet.
