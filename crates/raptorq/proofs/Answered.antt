@@ -19,23 +19,23 @@ some_by None h = absurd (cc h)
 some_by (Some x) h = refl
 
 -- a source symbol that came is the sum of any column that solves what is held
-came_source : (h : Held) (column : ℕ → List ℕ) (e : ℕ) (x : List ℕ) → SolvesHeld h column → e < h.symbols → h.received e ≡ Some x → x ≡ tuple_sum h.row column e
-came_source h column e x z below is = came_sum (h.received e) x (tuple_sum h.row column (internal_id h.row h.symbols e)) is (z.received e) ∙ ap (tuple_sum h.row column) (internal_below h.row h.symbols e below)
+came_source : (h : Held) (column : ℕ → List ℕ) (e : ℕ) (x : List ℕ) → SolvesHeld h column → e < h.source_symbols → h.received e ≡ Some x → x ≡ tuple_sum h.row column e
+came_source h column e x z below is = came_sum (h.received e) x (tuple_sum h.row column (internal_id h.row h.source_symbols e)) is (z.received e) ∙ ap (tuple_sum h.row column) (internal_below h.row h.source_symbols e below)
 
 -- ---- from all source symbols
 
 -- nothing is missing
-pub holds_source : (h : Held) (missing : ℕ) → missing ≡ missing_count h.symbols (holds h) → missing ≡ 0 → HasSourceSymbols h.symbols (holds h)
-holds_source h missing counted none = record { each = missing_count-zero h.symbols (holds h) (sym counted ∙ none) }
+pub holds_source : (h : Held) (missing : ℕ) → missing ≡ missing_count h.source_symbols (holds h) → missing ≡ 0 → HasSourceSymbols h.source_symbols (holds h)
+holds_source h missing counted none = record { each = missing_count-zero h.source_symbols (holds h) (sym counted ∙ none) }
 
-pub answer-all : (h : Held) (block : List ℕ) → HasSourceSymbols h.symbols (holds h) → IsBlockWith h block → (AreHeldDetermining h → HasSolution h) → IsBlockAnswer h (Some block)
+pub answer-all : (h : Held) (block : List ℕ) → HasSourceSymbols h.source_symbols (holds h) → IsBlockWith h block → (AreHeldDetermining h → HasSolution h) → IsBlockAnswer h (Some block)
 answer-all h block all is solved = record { some = λ _. inl all; none = λ _. refl; block = is; solved = λ _. solved }
 
 -- ---- from the intermediate symbols
 
 -- a block cut into symbols that stand elsewhere one after another
-abbrev pub IsCutAs : (h : Held) (plain block : List ℕ) → Type 0
-IsCutAs h plain block = (e : ℕ) → e < h.symbols → symbol_of_block h.configuration h.symbols block e ≡ plain_symbol h.configuration.symbol_size plain e
+abbrev pub IsCutAs : (h : Held) (symbol_bytes block : List ℕ) → Type 0
+IsCutAs h symbol_bytes block = (e : ℕ) → e < h.source_symbols → symbol_of_block h.configuration h.source_symbols block e ≡ plain_symbol h.configuration.symbol_size symbol_bytes e
 
 rebuilt_length : (o : Option (List ℕ)) (sum : List ℕ) (size : ℕ) → ForSome o (λ payload. length payload ≡ size) → length sum ≡ size → length (unwrap_or o sum) ≡ size
 rebuilt_length None sum size sized long = long
@@ -55,24 +55,24 @@ solved_by (Some x) sum other came same = came x refl
 payload_from : (x y : List ℕ) → Some x ≡ Some y → x ≡ y
 payload_from x y e = cc
 
-pub rebuilt_block : (h : Held) (slab : Slab) (plain block : List ℕ) (n : ℕ) → IsCutAs h plain block → IsChecked h.row → IsHeldSolution h slab → n ≡ h.symbols → length block ≡ h.symbols * h.configuration.symbol_size
-    → ((k : ℕ) → k < n → Some (rebuilt_symbol h slab k) ≡ Some (plain_symbol h.configuration.symbol_size plain k)) → IsBlockWith h block
-rebuilt_block h slab plain block n same checked s all long each =
-    let cut : (e : ℕ) → e < h.symbols → rebuilt_symbol h slab e ≡ symbol_of_block h.configuration h.symbols block e =
-    λ e below. payload_from (rebuilt_symbol h slab e) (plain_symbol h.configuration.symbol_size plain e) (each e (omega (arith, all))) ∙ sym (same e below) in
+pub rebuilt_block : (h : Held) (slab : Slab) (symbol_bytes block : List ℕ) (n : ℕ) → IsCutAs h symbol_bytes block → IsChecked h.row → IsHeldSolution h slab → n ≡ h.source_symbols → length block ≡ h.source_symbols * h.configuration.symbol_size
+    → ((k : ℕ) → k < n → Some (rebuilt_symbol h slab k) ≡ Some (plain_symbol h.configuration.symbol_size symbol_bytes k)) → IsBlockWith h block
+rebuilt_block h slab symbol_bytes block n same checked s all long each =
+    let cut : (e : ℕ) → e < h.source_symbols → rebuilt_symbol h slab e ≡ symbol_of_block h.configuration h.source_symbols block e =
+    λ e below. payload_from (rebuilt_symbol h slab e) (plain_symbol h.configuration.symbol_size symbol_bytes e) (each e (omega (arith, all))) ∙ sym (same e below) in
     record {
       long = long;
-      each = λ e below. each_by (h.received e) (tuple_sum h.row (symbol_in slab) e) (symbol_of_block h.configuration h.symbols block e) (cut e below);
+      each = λ e below. each_by (h.received e) (tuple_sum h.row (symbol_in slab) e) (symbol_of_block h.configuration h.source_symbols block e) (cut e below);
       solved = λ d column z e below. sym (cut e below)
           ∙ solved_by (h.received e) (tuple_sum h.row (symbol_in slab) e) (tuple_sum h.row column e) (λ x is. came_source h column e x z below is) (sum_same h.row e (symbol_in slab) column checked (λ k lt. sym (s.only column z k lt)));
     }
 
 -- something is missing, and what came determines nothing
-pub answer-none : (h : Held) (missing : ℕ) → missing ≡ missing_count h.symbols (holds h) → 0 < missing → (AreHeldDetermining h → ⊥) → IsBlockAnswer h None
+pub answer-none : (h : Held) (missing : ℕ) → missing ≡ missing_count h.source_symbols (holds h) → 0 < missing → (AreHeldDetermining h → ⊥) → IsBlockAnswer h None
 answer-none h missing counted some undetermined = record {
   some = λ s. absurd (cc s);
   none = λ can. absurd (elim can [
-    | inl all ↦ omega (arith, counted, missing_count-none h.symbols (holds h) all.each)
+    | inl all ↦ omega (arith, counted, missing_count-none h.source_symbols (holds h) all.each)
     | inr d ↦ undetermined d
   ]);
   block = tt;

@@ -11,7 +11,7 @@ use Rattle.rq_standard.specs.declared.row.TableRow.{TableRow}
 use Rattle.rq_standard.specs.TableRows.{greatest_size, row_of}
 use Rattle.raptorq.specs.declared.encoder.plan.SourceBlockEncodingPlan.{SourceBlockEncodingPlan}
 use Rattle.raptorq.specs.SourceBlockEncodingPlan.{plan_refusal}
-use Rattle.raptorq.specs.SourceBlockEncodingPlanCache.{PlanCache, holds_count, cached, IsPlanOver}
+use Rattle.raptorq.specs.SourceBlockEncodingPlanCache.{PlanCache, holds_count, counts_after_use, IsPlanOver}
 use Rattle.raptorq.proofs.Encodes.{at_any}
 
 -- ---- whether a count is held
@@ -87,22 +87,22 @@ held_known table plans counts count place shown over found =
 
 -- ---- a use of a count
 
-pub cached-held : (counts : List ℕ) (count : ℕ) → holds_count counts count ≡ true → cached counts count ≡ counts
-cached-held counts count held = rw held refl
+pub counts_after_use-held : (counts : List ℕ) (count : ℕ) → holds_count counts count ≡ true → counts_after_use counts count ≡ counts
+counts_after_use-held counts count held = rw held refl
 
-pub cached-new : (counts : List ℕ) (count : ℕ) → holds_count counts count ≡ false → cached counts count ≡ cond (nat_lt (length counts) 64) counts (drop 1 counts) ++ count ∷ []
-cached-new counts count new = rw new (go (nat_lt (length counts) 64))
+pub counts_after_use-new : (counts : List ℕ) (count : ℕ) → holds_count counts count ≡ false → counts_after_use counts count ≡ cond (nat_lt (length counts) 64) counts (drop 1 counts) ++ count ∷ []
+counts_after_use-new counts count new = rw new (go (nat_lt (length counts) 64))
   where
     go : (b : Bool) → cond b (counts ++ count ∷ []) (drop 1 counts ++ count ∷ []) ≡ cond b counts (drop 1 counts) ++ count ∷ []
     go true = refl
     go false = refl
 
 -- a new count is the last
-pub new_last : (counts : List ℕ) (count n : ℕ) → holds_count counts count ≡ false → n ≡ length (cached counts count) → (1 ≤ n) × (slice_get (cached counts count) (n - 1) ≡ Some count)
+pub new_last : (counts : List ℕ) (count n : ℕ) → holds_count counts count ≡ false → n ≡ length (counts_after_use counts count) → (1 ≤ n) × (slice_get (counts_after_use counts count) (n - 1) ≡ Some count)
 new_last counts count n new long =
     let front = cond (nat_lt (length counts) 64) counts (drop 1 counts) in
-    let is = cached-new counts count new in
+    let is = counts_after_use-new counts count new in
     let count_is : n ≡ length front + 1 = long ∙ ap length is ∙ length-append front (count ∷ []) in
     let read : count ≡ get_or (front ++ count ∷ []) (n - 1) count =
     sym (get_or-append_right front (count ∷ []) (length front) (n - 1) count refl (omega arith) ∙ ap (λ i. get_or (count ∷ []) i count) (let z : n - 1 - length front ≡ 0 = omega arith in z)) in
-    (omega arith, slice_get_read (cached counts count) n (n - 1) count long (omega arith) (read ∙ ap (λ xs. get_or xs (n - 1) count) (sym is)))
+    (omega arith, slice_get_read (counts_after_use counts count) n (n - 1) count long (omega arith) (read ∙ ap (λ xs. get_or xs (n - 1) count) (sym is)))

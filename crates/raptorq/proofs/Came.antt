@@ -13,7 +13,7 @@ use Rattle.rq_bytes.specs.Ranges.{cut}
 use Rattle.rq_bytes.proofs.Cuts.{cut-append, cut-replicate}
 use Rattle.rq_standard.specs.declared.row.TableRow.{TableRow}
 use Rattle.rq_standard.specs.Equations.{internal_id, zero_symbol}
-use Rattle.raptorq.specs.Known.{known_list, known_values}
+use Rattle.raptorq.specs.Known.{known_list, values_after}
 use Rattle.raptorq.specs.Missing.{has_payload, payload_of}
 use Rattle.raptorq.proofs.Listing.{each_entry}
 
@@ -72,10 +72,9 @@ appends_more m zeros size ordered sized done rest left v old new so next put =
     }
 
 -- all of them
-pub appends_all : (row : TableRow) (k fixed size : ℕ) (m : Payloads) (done rest : List (Vec ℕ Global)) (bytes : List ℕ) (count : ℕ) → AppendsSoFar (fixed + (row.extended_symbols - k)) size (values m) done rest bytes → rest ≡ [] → count ≡ fixed + (row.extended_symbols - k) + length (values m)
-    → (length bytes ≡ count * size) × (cut count size bytes ≡ known_values row k fixed size m.entries)
-appends_all row k fixed size m done rest bytes count so none is =
-    let zeros : ℕ = fixed + (row.extended_symbols - k) in
+pub appends_all : (zeros size : ℕ) (m : Payloads) (done rest : List (Vec ℕ Global)) (bytes : List ℕ) (count : ℕ) → AppendsSoFar zeros size (values m) done rest bytes → rest ≡ [] → count ≡ zeros + length (values m)
+    → (length bytes ≡ count * size) × (cut count size bytes ≡ values_after zeros size m.entries)
+appends_all zeros size m done rest bytes count so none is =
     let all : done ≡ values m = sym (append-nil done) ∙ ap (λ r. done ++ r) (sym none) ∙ so.whole in
     let same : zeros + length done ≡ count = ap (λ xs. zeros + length xs) all ∙ sym is in
     (so.long ∙ ap (λ n. n * size) same, ap (λ n. cut n size bytes) (sym same) ∙ so.symbols ∙ ap (λ xs. replicate zeros (zero_symbol size) ++ map vec_items xs) all ∙ ap (λ xs. replicate zeros (zero_symbol size) ++ xs) (map-map vec_items (λ e. e.1) m.entries))

@@ -15,14 +15,14 @@ use Rattle.rq_standard.specs.TableRows.{greatest_size, row_of}
 use Rattle.rq_standard.specs.Headline.{IsEncodingSymbol, IsSingular, block_row, block_source, IsPacketOf, HasNonsingularRows}
 use Rattle.rq_standard.specs.ObjectPackets.{first_ids, AreEncoded}
 use Rattle.rq_standard.proofs.PlainCut.{length-block_bytes}
-use Rattle.rq_standard.proofs.Standing.{length-block_source}
+use Rattle.rq_standard.proofs.StandingSteps.{length-block_source}
 use Rattle.rq_standard.proofs.BlockCuts.{block_symbols_few, symbols_before-first, symbols_before-next}
 use Rattle.raptorq.specs.SourceBlockEncodingPlan.{RefusesPlan}
 use Rattle.raptorq.specs.Encoder.{Encoded, IsEncoderOf, IsPacketIn, no_block}
 use Rattle.raptorq.proofs.Encodes.{at_any}
 use Rattle.raptorq.proofs.Numbered.{mapped_through}
 use Rattle.raptorq.proofs.PlanLaws.{plan_refused}
-use Rattle.raptorq.proofs.Ranges.{flat_map-push}
+use Rattle.raptorq.proofs.NumberRanges.{flat_map-push}
 use Rattle.raptorq.specs.declared.encoder.block.SourceBlockEncoder.{SourceBlockEncoder}
 use Rattle.rq_base.specs.RefusedInput.{checked_configuration}
 use Rattle.raptorq.specs.Refused.{new_encoder, RefusesEncoder}
@@ -157,7 +157,7 @@ new_encoder-taken greatest c n checked long = rw (checked, eq-eqb n c.transfer_l
 pub block_singular : (table : List TableRow) (c : Configuration) (b : ℕ) → b < c.source_blocks → IsSingular (block_row table c b) → ¬ (HasNonsingularRows table c)
 block_singular table c b below singular all = singular (all b below)
 
--- what a plan for so many is refused for
+-- what a plan for a block's number of symbols is refused for
 pub refuses_block : (table : List TableRow) (c : Configuration) (b count : ℕ) (e : Error) → b < c.source_blocks → count ≡ block_symbols c b → (e ≡ OutOfMemory) ⊎ ((e ≡ Singular) × IsSingular (row_of table count)) → (e ≡ OutOfMemory) ⊎ ((e ≡ Singular) × ¬ (HasNonsingularRows table c))
 refuses_block table c b count e below is (inl memory) = inl memory
 refuses_block table c b count e below is (inr singular) = inr (singular.0, block_singular table c b below (subst (λ k. IsSingular (row_of table k)) is singular.1))

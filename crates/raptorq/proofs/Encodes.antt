@@ -13,7 +13,7 @@ use Rattle.rq_standard.specs.declared.row.TableRow.{TableRow}
 use Rattle.rq_standard.specs.TableRows.{IsChecked}
 use Rattle.rq_standard.specs.Equations.{zero_symbol, tuple_sum}
 use Rattle.rq_standard.proofs.Columns.{source_sum}
-use Rattle.rq_standard.proofs.Standing.{push-all}
+use Rattle.rq_standard.proofs.StandingSteps.{push-all}
 use Rattle.raptorq.specs.Encoder.{id_in}
 use Rattle.raptorq.specs.SourceBlockEncoder.{BlockEncoded, IsBlockPacket, AreBlockPackets}
 use Rattle.raptorq.proofs.HeldEquations.{internal_below}

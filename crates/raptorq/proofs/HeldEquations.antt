@@ -19,7 +19,7 @@ use Rattle.rq_standard.specs.Equations.{fixed_equations, symbol_coefficient, zer
 use Rattle.rq_standard.specs.IdLists.{IsListOf, HasDeterminedRows}
 use Rattle.rq_standard.specs.Headline.{known_ids, DetermineBlock}
 use Rattle.rq_standard.specs.Held.{Held, holds, SolvesHeld, AreHeldDetermining}
-use Rattle.rq_standard.proofs.Known.{known_source, known_padding, known_repair, range_at, determined_by, determined_list, block_same, few_not_determining}
+use Rattle.rq_standard.proofs.KnownIds.{known_source, known_padding, known_repair, range_at, determined_by, determined_list, block_same, few_not_determining}
 use Rattle.rq_standard.proofs.Columns.{sum_at}
 use Rattle.raptorq.specs.Known.{known_list, known_values}
 use Rattle.raptorq.specs.BlockSolutions.{first_equations}
@@ -183,13 +183,13 @@ module _ (row : TableRow) (k size : ℕ) (m : Payloads) (fits : k ≤ row.extend
 
 -- ---- of a block
 
-module _ (h : Held) (m : Payloads) (fits : h.symbols ≤ h.row.extended_symbols) (ordered : IsOrdered nat_cmp m) (checked : IsChecked h.row) (same : (e : ℕ) → h.received e ≡ payload_of m e) where
+module _ (h : Held) (m : Payloads) (fits : h.source_symbols ≤ h.row.extended_symbols) (ordered : IsOrdered nat_cmp m) (checked : IsChecked h.row) (same : (e : ℕ) → h.received e ≡ payload_of m e) where
   -- a column that solves what is held solves the first of the equations with their values
   pub values_solved : (fixed : ℕ) → fixed ≤ h.row.ldpc_symbols + h.row.hdpc_symbols → (column : ℕ → List ℕ) → SolvesHeld h column
-      → SolvesSymbols octets (fixed + length (known_list h.row h.symbols m.entries)) (intermediate_symbols h.row) (first_equations h.row fixed (known_list h.row h.symbols m.entries)) column (symbol_at (known_values h.row h.symbols fixed h.configuration.symbol_size m.entries))
+      → SolvesSymbols octets (fixed + length (known_list h.row h.source_symbols m.entries)) (intermediate_symbols h.row) (first_equations h.row fixed (known_list h.row h.source_symbols m.entries)) column (symbol_at (known_values h.row h.source_symbols fixed h.configuration.symbol_size m.entries))
   values_solved f few column z =
       let row = h.row in
-      let k = h.symbols in
+      let k = h.source_symbols in
       let size = h.configuration.symbol_size in
       let ids = known_list row k m.entries in
       let values = known_values row k f size m.entries in
@@ -215,16 +215,16 @@ module _ (h : Held) (m : Payloads) (fits : h.symbols ≤ h.row.extended_symbols)
       }
 
   -- where it finds something, they do
-  pub is_held : HasDeterminedRows h.row (known_list h.row h.symbols m.entries) → AreHeldDetermining h
+  pub is_held : HasDeterminedRows h.row (known_list h.row h.source_symbols m.entries) → AreHeldDetermining h
   is_held d =
-      block_same h.row h.symbols (has_payload m) (holds h) (λ e. sym (ap is_some (same e)))
-      (determined_by h.row (known_ids h.row h.symbols (has_payload m)) (known_list h.row h.symbols m.entries) (known_listed h.row h.symbols h.configuration.symbol_size m fits ordered).listed d)
+      block_same h.row h.source_symbols (has_payload m) (holds h) (λ e. sym (ap is_some (same e)))
+      (determined_by h.row (known_ids h.row h.source_symbols (has_payload m)) (known_list h.row h.source_symbols m.entries) (known_listed h.row h.source_symbols h.configuration.symbol_size m fits ordered).listed d)
 
   -- and where they do, so do the rows
-  pub held_rows : AreHeldDetermining h → HasDeterminedRows h.row (known_list h.row h.symbols m.entries)
+  pub held_rows : AreHeldDetermining h → HasDeterminedRows h.row (known_list h.row h.source_symbols m.entries)
   held_rows d =
-      determined_list h.row (known_ids h.row h.symbols (has_payload m)) (known_list h.row h.symbols m.entries) (known_listed h.row h.symbols h.configuration.symbol_size m fits ordered)
-      (block_same h.row h.symbols (holds h) (has_payload m) (λ e. ap is_some (same e)) d)
+      determined_list h.row (known_ids h.row h.source_symbols (has_payload m)) (known_list h.row h.source_symbols m.entries) (known_listed h.row h.source_symbols h.configuration.symbol_size m fits ordered)
+      (block_same h.row h.source_symbols (holds h) (has_payload m) (λ e. ap is_some (same e)) d)
 
-  pub too_few : (h.row.extended_symbols - h.symbols) + length m.entries < h.row.extended_symbols → AreHeldDetermining h → ⊥
-  too_few few d = few_held h.row h.symbols h.configuration.symbol_size m fits ordered few (block_same h.row h.symbols (holds h) (has_payload m) (λ e. ap is_some (same e)) d)
+  pub too_few : (h.row.extended_symbols - h.source_symbols) + length m.entries < h.row.extended_symbols → AreHeldDetermining h → ⊥
+  too_few few d = few_held h.row h.source_symbols h.configuration.symbol_size m fits ordered few (block_same h.row h.source_symbols (holds h) (has_payload m) (λ e. ap is_some (same e)) d)

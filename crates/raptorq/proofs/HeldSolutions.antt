@@ -8,7 +8,7 @@ use Rattle.std.proofs.lemmas.Bool.{cases_lt}
 use Rattle.std.proofs.lemmas.List.{ext_get_or, length-replicate}
 use Rattle.rq_algebra.specs.Systems.{dot, at, rows_of, IsDetermined}
 use Rattle.rq_algebra.specs.Symbols.{IsSymbol, IsSymbolColumn, SolvesSymbols, symbol_at, slice_at}
-use Rattle.rq_algebra.proofs.Squares.{square_symbols}
+use Rattle.rq_algebra.proofs.SquareSystems.{square_symbols}
 use Rattle.rq_algebra.proofs.Stacks.{stacked_above, stacked_below}
 use Rattle.rq_algebra.proofs.SymbolSums.{zeros_are_symbol}
 use Rattle.rq_algebra.proofs.Sums.{dot_same, dot_mul_row, dot_below_size}
@@ -31,22 +31,22 @@ if_some_by : (o : Option (List ℕ)) (y : List ℕ) → ((x : List ℕ) → o �
 if_some_by None y each = tt
 if_some_by (Some x) y each = each x refl
 
-module _ (h : Held) (m : Payloads) (fits : h.symbols ≤ h.row.extended_symbols) (ordered : IsOrdered nat_cmp m) (checked : IsChecked h.row) (same : (e : ℕ) → h.received e ≡ payload_of m e) where
+module _ (h : Held) (m : Payloads) (fits : h.source_symbols ≤ h.row.extended_symbols) (ordered : IsOrdered nat_cmp m) (checked : IsChecked h.row) (same : (e : ℕ) → h.received e ≡ payload_of m e) where
   -- the first equations of what is held, with their values
   abbrev SolvesFirst : ℕ → (ℕ → List ℕ) → Type 0
-  SolvesFirst fixed column = SolvesSymbols octets (fixed + length (known_list h.row h.symbols m.entries)) (intermediate_symbols h.row) (first_equations h.row fixed (known_list h.row h.symbols m.entries)) column (symbol_at (known_values h.row h.symbols fixed h.configuration.symbol_size m.entries))
+  SolvesFirst fixed column = SolvesSymbols octets (fixed + length (known_list h.row h.source_symbols m.entries)) (intermediate_symbols h.row) (first_equations h.row fixed (known_list h.row h.source_symbols m.entries)) column (symbol_at (known_values h.row h.source_symbols fixed h.configuration.symbol_size m.entries))
 
   -- ---- a column that solves the equations
 
   module _ (fixed : ℕ) (ldpc : h.row.ldpc_symbols ≤ fixed) (few : fixed ≤ h.row.ldpc_symbols + h.row.hdpc_symbols) (column : ℕ → List ℕ) (are : IsSymbolColumn octets h.configuration.symbol_size (intermediate_symbols h.row) column) (first : SolvesFirst fixed column) where
     -- an id's sum is its value
-    sum_is : (j x : ℕ) (value : List ℕ) → j < length (known_list h.row h.symbols m.entries) → at (known_list h.row h.symbols m.entries) j ≡ x → symbol_at (known_values h.row h.symbols fixed h.configuration.symbol_size m.entries) (fixed + j) ≡ value → length value ≡ h.configuration.symbol_size → tuple_sum h.row column x ≡ value
+    sum_is : (j x : ℕ) (value : List ℕ) → j < length (known_list h.row h.source_symbols m.entries) → at (known_list h.row h.source_symbols m.entries) j ≡ x → symbol_at (known_values h.row h.source_symbols fixed h.configuration.symbol_size m.entries) (fixed + j) ≡ value → length value ≡ h.configuration.symbol_size → tuple_sum h.row column x ≡ value
     sum_is j x value below id is long =
         let n : ℕ = intermediate_symbols h.row in
         ext_get_or 0 (tuple_sum h.row column x) value ((sum_symbol h.row h.configuration.symbol_size x column checked are).size_is ∙ sym long) (λ p _.
         sum_at h.row h.configuration.symbol_size x column checked are p
         ∙ ap (λ y. dot octets n (symbol_coefficient h.row y) (slice_at p column)) (sym id)
-        ∙ ap (λ (r : ℕ → ℕ). dot octets n r (slice_at p column)) (sym (stacked_below fixed (fixed_equations h.row) (rows_of (symbol_coefficient h.row) (known_list h.row h.symbols m.entries)) j))
+        ∙ ap (λ (r : ℕ → ℕ). dot octets n r (slice_at p column)) (sym (stacked_below fixed (fixed_equations h.row) (rows_of (symbol_coefficient h.row) (known_list h.row h.source_symbols m.entries)) j))
         ∙ (first.at_place p).at (fixed + j) (omega arith) ∙ ap (λ xs. at xs p) is)
 
     -- an equation of LDPC or HDPC
@@ -54,8 +54,8 @@ module _ (h : Held) (m : Payloads) (fits : h.symbols ≤ h.row.extended_symbols)
         → dot octets (intermediate_symbols h.row) (fixed_equations h.row i) (slice_at p column) ≡ at (zero_symbol h.configuration.symbol_size) p
     fixed_is hdpc p i l = elim (cases_lt i fixed) [
       | inl above ↦
-          ap (λ (r : ℕ → ℕ). dot octets (intermediate_symbols h.row) r (slice_at p column)) (sym (stacked_above fixed (fixed_equations h.row) (rows_of (symbol_coefficient h.row) (known_list h.row h.symbols m.entries)) i above))
-          ∙ (first.at_place p).at i (omega arith) ∙ ap (λ xs. at xs p) (zero_at h.row h.symbols h.configuration.symbol_size m fits ordered fixed i (omega arith))
+          ap (λ (r : ℕ → ℕ). dot octets (intermediate_symbols h.row) r (slice_at p column)) (sym (stacked_above fixed (fixed_equations h.row) (rows_of (symbol_coefficient h.row) (known_list h.row h.source_symbols m.entries)) i above))
+          ∙ (first.at_place p).at i (omega arith) ∙ ap (λ xs. at xs p) (zero_at h.row h.source_symbols h.configuration.symbol_size m fits ordered fixed i (omega arith))
       | inr past ↦
           let j : ℕ = i - h.row.ldpc_symbols in
           let e : h.row.ldpc_symbols + j ≡ i = omega arith in
@@ -69,18 +69,18 @@ module _ (h : Held) (m : Payloads) (fits : h.symbols ≤ h.row.extended_symbols)
       symbols = are;
       fixed = record { at_place = λ p. record { at = λ i l. fixed_is hdpc p i l } };
       padding = λ x from below.
-          let j : ℕ = x - h.symbols in
-          let long = length-known_list h.row h.symbols m.entries in
-          sum_is j x (zero_symbol h.configuration.symbol_size) (omega arith) (padding_at h.row h.symbols h.configuration.symbol_size m fits ordered j (omega arith) ∙ omega arith) (zero_at h.row h.symbols h.configuration.symbol_size m fits ordered fixed (fixed + j) (omega arith)) (length-replicate {A = ℕ} h.configuration.symbol_size 0);
-      received = λ e. if_some_by (h.received e) (tuple_sum h.row column (internal_id h.row h.symbols e)) (λ x is.
-          let q = place_of h.row h.symbols h.configuration.symbol_size m fits ordered fixed e x (sym (same e) ∙ is) in
-          sym (sum_is q.0 (internal_id h.row h.symbols e) x q.1 q.2 q.3 (sized e x is)));
+          let j : ℕ = x - h.source_symbols in
+          let long = length-known_list h.row h.source_symbols m.entries in
+          sum_is j x (zero_symbol h.configuration.symbol_size) (omega arith) (padding_at h.row h.source_symbols h.configuration.symbol_size m fits ordered j (omega arith) ∙ omega arith) (zero_at h.row h.source_symbols h.configuration.symbol_size m fits ordered fixed (fixed + j) (omega arith)) (length-replicate {A = ℕ} h.configuration.symbol_size 0);
+      received = λ e. if_some_by (h.received e) (tuple_sum h.row column (internal_id h.row h.source_symbols e)) (λ x is.
+          let q = place_of h.row h.source_symbols h.configuration.symbol_size m fits ordered fixed e x (sym (same e) ∙ is) in
+          sym (sum_is q.0 (internal_id h.row h.source_symbols e) x q.1 q.2 q.3 (sized e x is)));
     }
 
   -- ---- what is found
 
   module _ (sized : (e : ℕ) → ForSome (h.received e) (λ x. length x ≡ h.configuration.symbol_size)) (fixed : ℕ) (ldpc : h.row.ldpc_symbols ≤ fixed) (few : fixed ≤ h.row.ldpc_symbols + h.row.hdpc_symbols) (slab : Slab)
-      (s : IsBlockSolution h.row fixed (known_list h.row h.symbols m.entries) h.configuration.symbol_size (known_values h.row h.symbols fixed h.configuration.symbol_size m.entries) slab) where
+      (s : IsBlockSolution h.row fixed (known_list h.row h.source_symbols m.entries) h.configuration.symbol_size (known_values h.row h.source_symbols fixed h.configuration.symbol_size m.entries) slab) where
     -- it solves what is held where it fits
     fitting : Fits h.row fixed slab → SolvesHeld h (symbol_in slab)
     fitting fit = first_solve fixed ldpc few (symbol_in slab) s.symbols (s.solves fit.unread) sized (λ less. subst (λ n. SolvesHdpc h.row n (symbol_in slab)) s.size_is (fit.hdpc less))
@@ -115,26 +115,26 @@ module _ (h : Held) (m : Payloads) (fits : h.symbols ≤ h.row.extended_symbols)
     held_contradiction none = record { determined = is_held h m fits ordered checked same s.determined; unsolved = λ z. none (fits_solution z) }
 
   -- a solution that was found of a list and values that are those of what is held
-  pub listed_solution : (fixed size : ℕ) (list : List ℕ) (given slab : Slab) → size ≡ h.configuration.symbol_size → list ≡ known_list h.row h.symbols m.entries → given ≡ slab_of size (known_values h.row h.symbols fixed size m.entries)
+  pub listed_solution : (fixed size : ℕ) (list : List ℕ) (given slab : Slab) → size ≡ h.configuration.symbol_size → list ≡ known_list h.row h.source_symbols m.entries → given ≡ slab_of size (known_values h.row h.source_symbols fixed size m.entries)
       → IsBlockSolution h.row fixed list given.symbol_size given.values slab
-      → IsBlockSolution h.row fixed (known_list h.row h.symbols m.entries) h.configuration.symbol_size (known_values h.row h.symbols fixed h.configuration.symbol_size m.entries) slab
+      → IsBlockSolution h.row fixed (known_list h.row h.source_symbols m.entries) h.configuration.symbol_size (known_values h.row h.source_symbols fixed h.configuration.symbol_size m.entries) slab
   listed_solution fixed size list given slab is listed values found =
-      subst (λ n. IsBlockSolution h.row fixed (known_list h.row h.symbols m.entries) n (known_values h.row h.symbols fixed n m.entries) slab) is
-      (subst (λ l. IsBlockSolution h.row fixed l size (known_values h.row h.symbols fixed size m.entries) slab) listed (subst (λ (g : Slab). IsBlockSolution h.row fixed list g.symbol_size g.values slab) values found))
+      subst (λ n. IsBlockSolution h.row fixed (known_list h.row h.source_symbols m.entries) n (known_values h.row h.source_symbols fixed n m.entries) slab) is
+      (subst (λ l. IsBlockSolution h.row fixed l size (known_values h.row h.source_symbols fixed size m.entries) slab) listed (subst (λ (g : Slab). IsBlockSolution h.row fixed list g.symbol_size g.values slab) values found))
 
   -- ---- as many ids as source symbols
 
   module _ (payloads : (e : ℕ) → ForSome (h.received e) (IsSymbol octets h.configuration.symbol_size)) where
-    value_is : (i : ℕ) → i < h.row.ldpc_symbols + h.row.hdpc_symbols + length (known_list h.row h.symbols m.entries) → IsSymbol octets h.configuration.symbol_size (symbol_at (known_values h.row h.symbols (h.row.ldpc_symbols + h.row.hdpc_symbols) h.configuration.symbol_size m.entries) i)
+    value_is : (i : ℕ) → i < h.row.ldpc_symbols + h.row.hdpc_symbols + length (known_list h.row h.source_symbols m.entries) → IsSymbol octets h.configuration.symbol_size (symbol_at (known_values h.row h.source_symbols (h.row.ldpc_symbols + h.row.hdpc_symbols) h.configuration.symbol_size m.entries) i)
     value_is i below =
         let f : ℕ = h.row.ldpc_symbols + h.row.hdpc_symbols in
         elim (cases_lt i f) [
-          | inl lt ↦ subst (IsSymbol octets h.configuration.symbol_size) (sym (zero_at h.row h.symbols h.configuration.symbol_size m fits ordered f i (omega arith))) (zeros_are_symbol octets h.configuration.symbol_size)
+          | inl lt ↦ subst (IsSymbol octets h.configuration.symbol_size) (sym (zero_at h.row h.source_symbols h.configuration.symbol_size m fits ordered f i (omega arith))) (zeros_are_symbol octets h.configuration.symbol_size)
           | inr past ↦
               let j : ℕ = i - f in
               let e : f + j ≡ i = omega arith in
-              subst (λ n. IsSymbol octets h.configuration.symbol_size (symbol_at (known_values h.row h.symbols f h.configuration.symbol_size m.entries) n)) e
-              (elim (known_at h.row h.symbols h.configuration.symbol_size m fits ordered f j (omega arith)) [
+              subst (λ n. IsSymbol octets h.configuration.symbol_size (symbol_at (known_values h.row h.source_symbols f h.configuration.symbol_size m.entries) n)) e
+              (elim (known_at h.row h.source_symbols h.configuration.symbol_size m fits ordered f j (omega arith)) [
                 | inl q ↦ subst (IsSymbol octets h.configuration.symbol_size) (sym q.is_zero) (zeros_are_symbol octets h.configuration.symbol_size)
                 | inr q ↦ payloads q.esi _ (same q.esi ∙ q.came)
               ])
@@ -142,25 +142,25 @@ module _ (h : Held) (m : Payloads) (fits : h.symbols ≤ h.row.extended_symbols)
 
     -- the coefficients as elements: what is below 256 of them counts
     rows : ℕ → ℕ → ℕ
-    rows i k = octets.mul 1 (equations h.row (known_list h.row h.symbols m.entries) i k)
+    rows i k = octets.mul 1 (equations h.row (known_list h.row h.source_symbols m.entries) i k)
 
-    same_dot : (i : ℕ) (x : ℕ → ℕ) → dot octets (intermediate_symbols h.row) (rows i) x ≡ dot octets (intermediate_symbols h.row) (equations h.row (known_list h.row h.symbols m.entries) i) x
+    same_dot : (i : ℕ) (x : ℕ → ℕ) → dot octets (intermediate_symbols h.row) (rows i) x ≡ dot octets (intermediate_symbols h.row) (equations h.row (known_list h.row h.source_symbols m.entries) i) x
     unfolding rows
     same_dot i x =
-        let r = equations h.row (known_list h.row h.symbols m.entries) i in
+        let r = equations h.row (known_list h.row h.source_symbols m.entries) i in
         dot_mul_row octets (intermediate_symbols h.row) 1 r x ∙ octets.one_mul _ (dot_below_size octets (intermediate_symbols h.row) r x)
 
     -- they determine the block only where a column solves all that is held, whatever came
-    pub square_held : length m.entries ≡ h.symbols → AreHeldDetermining h → HasSolution h
+    pub square_held : length m.entries ≡ h.source_symbols → AreHeldDetermining h → HasSolution h
     unfolding rows
     square_held count d =
         let f : ℕ = h.row.ldpc_symbols + h.row.hdpc_symbols in
         let n : ℕ = intermediate_symbols h.row in
-        let list = known_list h.row h.symbols m.entries in
-        let square : equation_count h.row list ≡ n = omega (arith, length-known_list h.row h.symbols m.entries) in
+        let list = known_list h.row h.source_symbols m.entries in
+        let square : equation_count h.row list ≡ n = omega (arith, length-known_list h.row h.source_symbols m.entries) in
         let determined : IsDetermined octets n n rows =
         λ column is z k l. held_rows h m fits ordered checked same d column is (record { at = λ i below. sym (same_dot i column) ∙ z.at i (omega (arith, square)) }) k l in
-        let z = square_symbols octets n rows h.configuration.symbol_size (symbol_at (known_values h.row h.symbols f h.configuration.symbol_size m.entries)) (λ i k _ _. octets.mul_below 1 _) (λ i l. value_is i (omega (arith, square))) determined in
+        let z = square_symbols octets n rows h.configuration.symbol_size (symbol_at (known_values h.row h.source_symbols f h.configuration.symbol_size m.entries)) (λ i k _ _. octets.mul_below 1 _) (λ i l. value_is i (omega (arith, square))) determined in
         record {
           column = z.column;
           solves = first_solve f (omega arith) (omega arith) z.column z.are_symbols

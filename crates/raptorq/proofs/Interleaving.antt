@@ -7,7 +7,7 @@ use Rattle.std.proofs.Math.Nat.{mul-le-mul_right}
 use Rattle.std.proofs.lemmas.Nat.{mul-le}
 use Rattle.std.proofs.lemmas.Bool.{cases_lt, lt-ltb, le-ltb}
 use Rattle.std.proofs.lemmas.List.{get_or-take, get_or-drop, get_or-replicate, get_or_past, get_or_append_left, get_or-append_right, get_or-append-add, length-take-le, length-drop, length-replicate, take_all}
-use Rattle.raptorq.proofs.Ranges.{flat_map-push}
+use Rattle.raptorq.proofs.NumberRanges.{flat_map-push}
 use Rattle.std.proofs.lemmas.List.FromFn.{fill_by_all, length-map-range_with_len, get_or-map-range_with_len}
 use Rattle.rq_standard.specs.Configuration.{Configuration, IsAligned}
 use Rattle.rq_standard.specs.Cutting.{sub_block_count, sub_block_parts, larger_bytes, sub_block_size, sub_block_start, place_in_block, symbol_of_block, plain_symbol}
@@ -171,35 +171,35 @@ get_or-pieces f z (suc k) e i long below lt =
 -- ---- a block from symbols that come one after another
 
 -- the sub-blocks before byte o of a symbol
-pub record HasParts (c : Configuration) (k : ℕ) (plain block : List ℕ) (o : ℕ) : Type 0 where
+pub record HasParts (c : Configuration) (k : ℕ) (symbol_bytes block : List ℕ) (o : ℕ) : Type 0 where
   pub long : length block ≡ o * k
-  pub each : (e t : ℕ) → e < k → t < o → (place_in_block c k e t < o * k) × (get_or block (place_in_block c k e t) 0 ≡ get_or plain (e * c.symbol_size + t) 0)
+  pub each : (e t : ℕ) → e < k → t < o → (place_in_block c k e t < o * k) × (get_or block (place_in_block c k e t) 0 ≡ get_or symbol_bytes (e * c.symbol_size + t) 0)
 
-pub parts_none : (c : Configuration) (k : ℕ) (plain block : List ℕ) → block ≡ [] → HasParts c k plain block 0
-parts_none c k plain block is = record { long = ap length is ∙ omega arith; each = λ e t below none. absurd (omega arith) }
+pub parts_none : (c : Configuration) (k : ℕ) (symbol_bytes block : List ℕ) → block ≡ [] → HasParts c k symbol_bytes block 0
+parts_none c k symbol_bytes block is = record { long = ap length is ∙ omega arith; each = λ e t below none. absurd (omega arith) }
 
 -- bytes of a symbol
-pub symbol_part : (size start width : ℕ) (plain : List ℕ) (e : ℕ) → List ℕ
-symbol_part size start width plain e = take (e * size + start + width - (e * size + start)) (drop (e * size + start) plain)
+pub symbol_part : (size start width : ℕ) (symbol_bytes : List ℕ) (e : ℕ) → List ℕ
+symbol_part size start width symbol_bytes e = take (e * size + start + width - (e * size + start)) (drop (e * size + start) symbol_bytes)
 
-module _ (size k start width : ℕ) (plain : List ℕ) (within : start + width ≤ size) (whole : length plain ≡ k * size) where
-  length-symbol_part : (e : ℕ) → e < k → length (symbol_part size start width plain e) ≡ width
+module _ (size k start width : ℕ) (symbol_bytes : List ℕ) (within : start + width ≤ size) (whole : length symbol_bytes ≡ k * size) where
+  length-symbol_part : (e : ℕ) → e < k → length (symbol_part size start width symbol_bytes e) ≡ width
   unfolding symbol_part
   length-symbol_part e below =
       let b : e + 1 ≤ k = omega arith in
       let width_is : e * size + start + width - (e * size + start) ≡ width = omega arith in
-      length-take-le (e * size + start + width - (e * size + start)) (drop (e * size + start) plain) (omega (arith, mul-le-mul_right size b, length-drop (e * size + start) plain)) ∙ width_is
+      length-take-le (e * size + start + width - (e * size + start)) (drop (e * size + start) symbol_bytes) (omega (arith, mul-le-mul_right size b, length-drop (e * size + start) symbol_bytes)) ∙ width_is
 
-  get_or-symbol_part : (e i : ℕ) → i < width → get_or (symbol_part size start width plain e) i 0 ≡ get_or plain (e * size + (start + i)) 0
+  get_or-symbol_part : (e i : ℕ) → i < width → get_or (symbol_part size start width symbol_bytes e) i 0 ≡ get_or symbol_bytes (e * size + (start + i)) 0
   unfolding symbol_part
   get_or-symbol_part e i lt =
       let there : e * size + start + i ≡ e * size + (start + i) = omega arith in
-      get_or-take (e * size + start + width - (e * size + start)) (drop (e * size + start) plain) i 0 (omega arith) ∙ get_or-drop (e * size + start) plain i 0 ∙ ap (λ n. get_or plain n 0) there
+      get_or-take (e * size + start + width - (e * size + start)) (drop (e * size + start) symbol_bytes) i 0 (omega arith) ∙ get_or-drop (e * size + start) symbol_bytes i 0 ∙ ap (λ n. get_or symbol_bytes n 0) there
 
-parts_step : (c : Configuration) (k o z : ℕ) (plain xs : List ℕ) → IsSubBlock c o z → length plain ≡ k * c.symbol_size → HasParts c k plain xs o → HasParts c k plain (xs ++ flat_map (symbol_part c.symbol_size o z plain) (range_with_len 0 k)) (o + z)
-parts_step c k o z plain xs part whole h =
-    let f = symbol_part c.symbol_size o z plain in
-    let sized = length-symbol_part c.symbol_size k o z plain part.room whole in
+parts_step : (c : Configuration) (k o z : ℕ) (symbol_bytes xs : List ℕ) → IsSubBlock c o z → length symbol_bytes ≡ k * c.symbol_size → HasParts c k symbol_bytes xs o → HasParts c k symbol_bytes (xs ++ flat_map (symbol_part c.symbol_size o z symbol_bytes) (range_with_len 0 k)) (o + z)
+parts_step c k o z symbol_bytes xs part whole h =
+    let f = symbol_part c.symbol_size o z symbol_bytes in
+    let sized = length-symbol_part c.symbol_size k o z symbol_bytes part.room whole in
     let back = flat_map f (range_with_len 0 k) in record {
       long = length-append xs back ∙ omega (arith, h.long, length-pieces f z k sized);
       each = λ e t below lt. elim (cases_lt t o) [
@@ -213,22 +213,22 @@ parts_step c k o z plain xs part whole h =
             let byte : o + (t - o) ≡ t = omega arith in (
               omega (arith, is, low),
               ap (λ n. get_or (xs ++ back) n 0) there ∙ get_or-append-add xs back (e * z + (t - o)) 0 ∙ get_or-pieces f z k e (t - o) sized below (omega arith)
-                  ∙ get_or-symbol_part c.symbol_size k o z plain part.room whole e (t - o) (omega arith) ∙ ap (λ n. get_or plain (e * c.symbol_size + n) 0) byte,
+                  ∙ get_or-symbol_part c.symbol_size k o z symbol_bytes part.room whole e (t - o) (omega arith) ∙ ap (λ n. get_or symbol_bytes (e * c.symbol_size + n) 0) byte,
             )
       ];
     }
 
 -- one sub-block more
-pub parts_more : (c : Configuration) (k o z size : ℕ) (plain shown xs ys : List ℕ) → IsAligned c → Reaches c o → o < c.symbol_size → z ≡ sub_block_size c o → size ≡ c.symbol_size → shown ≡ plain → length plain ≡ k * c.symbol_size → HasParts c k plain xs o
-    → ys ≡ xs ++ flat_map (λ e. take (e * size + o + z - (e * size + o)) (drop (e * size + o) shown)) (range_with_len 0 k) → HasParts c k plain ys (o + z)
+pub parts_more : (c : Configuration) (k o z size : ℕ) (symbol_bytes shown xs ys : List ℕ) → IsAligned c → Reaches c o → o < c.symbol_size → z ≡ sub_block_size c o → size ≡ c.symbol_size → shown ≡ symbol_bytes → length symbol_bytes ≡ k * c.symbol_size → HasParts c k symbol_bytes xs o
+    → ys ≡ xs ++ flat_map (λ e. take (e * size + o + z - (e * size + o)) (drop (e * size + o) shown)) (range_with_len 0 k) → HasParts c k symbol_bytes ys (o + z)
 unfolding symbol_part
-parts_more c k o z size plain shown xs ys aligned at below is same seen whole h grown =
+parts_more c k o z size symbol_bytes shown xs ys aligned at below is same seen whole h grown =
     let part : IsSubBlock c o z = subst (λ w. IsSubBlock c o w) (sym is) (part_from c o aligned at below) in
-    subst (λ l. HasParts c k plain l (o + z)) (sym (grown ∙ ap (λ p. xs ++ flat_map (symbol_part size o z p) (range_with_len 0 k)) seen ∙ ap (λ s. xs ++ flat_map (symbol_part s o z plain) (range_with_len 0 k)) same)) (parts_step c k o z plain xs part whole h)
+    subst (λ l. HasParts c k symbol_bytes l (o + z)) (sym (grown ∙ ap (λ p. xs ++ flat_map (symbol_part size o z p) (range_with_len 0 k)) seen ∙ ap (λ s. xs ++ flat_map (symbol_part s o z symbol_bytes) (range_with_len 0 k)) same)) (parts_step c k o z symbol_bytes xs part whole h)
 
 -- all sub-blocks
-pub parts_all : (c : Configuration) (k o : ℕ) (plain block : List ℕ) → o ≡ c.symbol_size → length plain ≡ k * c.symbol_size → HasParts c k plain block o → (e : ℕ) → e < k → symbol_of_block c k block e ≡ plain_symbol c.symbol_size plain e
+pub parts_all : (c : Configuration) (k o : ℕ) (symbol_bytes block : List ℕ) → o ≡ c.symbol_size → length symbol_bytes ≡ k * c.symbol_size → HasParts c k symbol_bytes block o → (e : ℕ) → e < k → symbol_of_block c k block e ≡ plain_symbol c.symbol_size symbol_bytes e
 unfolding symbol_of_block plain_symbol
-parts_all c k o plain block all whole h e below =
+parts_all c k o symbol_bytes block all whole h e below =
     let b : e + 1 ≤ k = omega arith in
-    map-range_is_take plain (λ t. get_or block (place_in_block c k e t) 0) (e * c.symbol_size) c.symbol_size (omega (arith, whole, mul-le-mul_right c.symbol_size b)) (λ t lt. (h.each e t below (omega (arith, all))).1)
+    map-range_is_take symbol_bytes (λ t. get_or block (place_in_block c k e t) 0) (e * c.symbol_size) c.symbol_size (omega (arith, whole, mul-le-mul_right c.symbol_size b)) (λ t lt. (h.each e t below (omega (arith, all))).1)

@@ -18,10 +18,10 @@ use Rattle.rq_standard.specs.declared.row.TableRow.{TableRow}
 use Rattle.rq_standard.specs.OctetField.{octets}
 use Rattle.rq_standard.specs.TableRows.{intermediate_symbols}
 use Rattle.rq_standard.specs.Equations.{equations, equation_count, equation_values, zero_symbol, extended_ids}
-use Rattle.rq_standard.proofs.Known.{rows_nonsingular}
+use Rattle.rq_standard.proofs.KnownIds.{rows_nonsingular}
 use Rattle.raptorq.specs.BlockSolutions.{FindsFrom, first_equations}
-use Rattle.raptorq.specs.declared.solving.Solution.{Solution}
-use Rattle.raptorq.specs.Planned.{source_values, planned, IsPlanOf}
+use Rattle.raptorq.specs.declared.solving.BlockOperations.{BlockOperations}
+use Rattle.raptorq.specs.Planned.{source_values, planned_slab, IsPlanOf}
 use Rattle.raptorq.proofs.Encodes.{at_any}
 use Rattle.raptorq.proofs.Outcomes.{places_count}
 use Rattle.rq_standard.specs.Headline.{IsIntermediateColumn, IsNonsingular}
@@ -103,7 +103,7 @@ module _ (row : TableRow) (operations : List Operation) (finds : FindsColumn oct
   plan_nonsingular = rows_nonsingular row (finds_determined octets (equation_count row (extended_ids row)) (intermediate_symbols row) (equations row (extended_ids row)) operations finds)
 
   module _ (size : ℕ) (source : List (List ℕ)) (fits : length source ≤ row.extended_symbols) (are : AreSymbols octets size (length source) source) where
-    plan_column : IsIntermediateColumn row size source (symbol_in (planned row operations size source))
+    plan_column : IsIntermediateColumn row size source (symbol_in (planned_slab row operations size source))
     plan_column =
         let values = values_are_symbols row size source fits are in
         record {
@@ -112,22 +112,22 @@ module _ (row : TableRow) (operations : List Operation) (finds : FindsColumn oct
               (found_solves octets (equation_count row (extended_ids row)) (intermediate_symbols row) (equations row (extended_ids row)) operations finds size (source_values row size source) values (count_source row));
         }
 
-    plan_only : (other : ℕ → List ℕ) → IsIntermediateColumn row size source other → (k : ℕ) → k < intermediate_symbols row → other k ≡ symbol_in (planned row operations size source) k
+    plan_only : (other : ℕ → List ℕ) → IsIntermediateColumn row size source other → (k : ℕ) → k < intermediate_symbols row → other k ≡ symbol_in (planned_slab row operations size source) k
     plan_only other is = found_only octets (equation_count row (extended_ids row)) (intermediate_symbols row) (equations row (extended_ids row)) operations finds size (source_values row size source) (values_are_symbols row size source fits are) other is.symbols
         (same_values row size source fits other (equation_values row size source) (symbol_at (source_values row size source)) (λ i l. sym (values_are row size i source fits l)) is.solves)
 
   -- operations that find the column of a row's equations are its plan
   pub plan_is : IsPlanOf row operations
   plan_is = record {
-    enough = λ size source fits. places_count (planned row operations size source) (intermediate_symbols row)
+    enough = λ size source fits. places_count (planned_slab row operations size source) (intermediate_symbols row)
         (found_places (equation_count row (extended_ids row)) (intermediate_symbols row) (equations row (extended_ids row)) operations finds (slab_of size (source_values row size source)));
     column = λ size source fits are. record { is = plan_column size source fits are; only = plan_only size source fits are };
   }
 
 -- with the ids of the source and padding symbols alone, all equations are needed
-pub finds_source : (row : TableRow) (solution : Solution) → FindsFrom row (extended_ids row) solution
+pub finds_source : (row : TableRow) (solution : BlockOperations) → FindsFrom row (extended_ids row) solution
     → FindsColumn octets (equation_count row (extended_ids row)) (intermediate_symbols row) (equations row (extended_ids row)) (operations_of solution.operations)
 finds_source row solution from =
     let ids = extended_ids row in
-    let all : solution.fixed ≡ row.ldpc_symbols + row.hdpc_symbols = omega (arith, from.few, from.enough, count_source row) in
+    let all : solution.precode_rows ≡ row.ldpc_symbols + row.hdpc_symbols = omega (arith, from.few, from.enough, count_source row) in
     subst (λ (fixed : ℕ). FindsColumn octets (fixed + length ids) (intermediate_symbols row) (first_equations row fixed ids) (operations_of solution.operations)) all from.finds

@@ -15,14 +15,14 @@ use Rattle.rq_standard.specs.Configuration.{Configuration}
 use Rattle.rq_standard.specs.Cutting.{block_symbols}
 use Rattle.rq_standard.specs.TableRows.{no_row}
 use Rattle.rq_standard.specs.Held.{Held, nothing_held, IsContradictory}
-use Rattle.rq_standard.specs.Standing.{State, new_held, new_answer, IsNewState, AddsToBlock, RecordsInBlock, IsSameElsewhere, Adds, RecordsOnly, append_both, joined, result_of}
+use Rattle.rq_standard.specs.Standing.{State, new_held, new_answer, IsNewState, AddsToBlock, RecordsInBlock, IsSameElsewhere, Adds, RecordsOnly, append_both, first_blocks, result_of}
 use Rattle.rq_standard.proofs.ObjectAnswers.{joined_some, joined_each, some_of}
 use Rattle.raptorq.specs.SourceBlockDecoder.{held_of}
 use Rattle.raptorq.specs.Decoder.{held_at, answer_at, answer_of}
 use Rattle.raptorq.specs.Refused.{block_refusal}
 use Rattle.raptorq.specs.Stopping.{AddsInBlockOrStops, AddsOrStops}
-use Rattle.raptorq.specs.declared.decoder.stopped.Stopped.{Stopped}
-use Rattle.raptorq.specs.declared.decoder.stopped.Stopped.TheVariants.{Refused, NotRecorded, NotSolved, Contradicted, NotJoined}
+use Rattle.raptorq.specs.declared.decoder.packet_stop.PacketStop.{PacketStop}
+use Rattle.raptorq.specs.declared.decoder.packet_stop.PacketStop.TheVariants.{Refused, NotRecorded, NotSolved, Contradicted, NotJoined}
 use Rattle.raptorq.proofs.Numbered.{length-mapped, length-numbered}
 use Rattle.raptorq.specs.declared.decoder.object.ObjectBlock.{ObjectBlock}
 
@@ -32,9 +32,9 @@ number_of b = (held_of b.decoder).number
 abbrev pub state : Configuration → List ObjectBlock → State
 state c items = record { configuration = c; held = held_at c items; answer = answer_at items }
 
--- what is held of it is of so many symbols as the configuration says
+-- what is held of it has as many symbols as the configuration says of its number
 abbrev pub IsCut : Configuration → Held → Type 0
-IsCut c h = h.symbols ≡ block_symbols c h.number
+IsCut c h = h.source_symbols ≡ block_symbols c h.number
 
 -- what is read of it
 pub held_here : (c : Configuration) (items : List ObjectBlock) (i : ℕ) (x : ObjectBlock) → i < length items → x ≡ get_or items i x → held_at c items i ≡ held_of x.decoder
@@ -109,7 +109,7 @@ module _ (c : Configuration) (items : List ObjectBlock) (p : Packet) (x y : Obje
       λ i. record { configuration = c; held = λ n. get_or (held_same i) n (nothing_held c n no_row 0); answer = λ n. get_or (answer_same i) n None }
 
   -- what the packet did to its block it did to the object's decoder
-  pub takes_at : (result : Result (Unit {0}) Stopped) → AddsInBlockOrStops (held_of x.decoder) (answer_of x) p result (held_of y.decoder) (answer_of y) → AddsOrStops (state c items) p result (state c (set items p.id.block y))
+  pub takes_at : (result : Result (Unit {0}) PacketStop) → AddsInBlockOrStops (held_of x.decoder) (answer_of x) p result (held_of y.decoder) (answer_of y) → AddsOrStops (state c items) p result (state c (set items p.id.block y))
   takes_at (Ok u) so = adds_at so
   takes_at (Err NotSolved) so = records_at so
   takes_at (Err Contradicted) so = record {
@@ -127,7 +127,7 @@ pub not_complete : (s : State) (b : ℕ) → b < s.configuration.source_blocks �
 not_complete s b below none = by_cases (is_some (result_of s)) refl where
   by_cases : (t : Bool) → t ≡ is_some (result_of s) → is_some (result_of s) ≡ false
   by_cases false e = sym e
-  by_cases true e = absurd (cc (joined_each s.answer s.configuration.source_blocks (some_of (take s.configuration.transfer_length) (joined s.configuration.source_blocks s.answer) (sym e)) b below, none))
+  by_cases true e = absurd (cc (joined_each s.answer s.configuration.source_blocks (some_of (take s.configuration.transfer_length) (first_blocks s.configuration.source_blocks s.answer) (sym e)) b below, none))
 
 unwrapped : (o : Option (List ℕ)) → IsSome o → o ≡ Some (unwrap_or o [])
 unwrapped None h = absurd (cc h)
@@ -137,14 +137,14 @@ pub complete : (s : State) → ((b : ℕ) → b < s.configuration.source_blocks 
 complete s each = ap (λ o. is_some (option_map (take s.configuration.transfer_length) o)) (joined_some (λ b. unwrap_or (s.answer b) []) s.answer s.configuration.source_blocks (λ b below. unwrapped (s.answer b) (each b below)))
 
 -- one block more
-pub join_next : (items : List ObjectBlock) (n : ℕ) (x : ObjectBlock) (done bytes new : List ℕ) → n < length items → x ≡ get_or items n x → answer_of x ≡ Some bytes → Some done ≡ joined n (answer_at items) → new ≡ done ++ bytes → Some new ≡ joined (n + 1) (answer_at items)
+pub join_next : (items : List ObjectBlock) (n : ℕ) (x : ObjectBlock) (done bytes new : List ℕ) → n < length items → x ≡ get_or items n x → answer_of x ≡ Some bytes → Some done ≡ first_blocks n (answer_at items) → new ≡ done ++ bytes → Some new ≡ first_blocks (n + 1) (answer_at items)
 join_next items n x done bytes new below is some so grown =
     let next : suc n ≡ n + 1 = omega arith in
-    ap (λ xs. Some xs) grown ∙ ap (λ o. append_both o (Some bytes)) so ∙ ap (append_both (joined n (answer_at items))) (sym some ∙ sym (answer_here items n x below is)) ∙ ap (λ m. joined m (answer_at items)) next
+    ap (λ xs. Some xs) grown ∙ ap (λ o. append_both o (Some bytes)) so ∙ ap (append_both (first_blocks n (answer_at items))) (sym some ∙ sym (answer_here items n x below is)) ∙ ap (λ m. first_blocks m (answer_at items)) next
 
 -- where all are answered, each is
 pub join_some : (c : Configuration) (items : List ObjectBlock) (n : ℕ) (x : ObjectBlock) → IsSome (result_of (state c items)) → n < c.source_blocks → n < length items → x ≡ get_or items n x → answer_of x ≡ None → ⊥
-join_some c items n x all below within is none = cc (joined_each (answer_at items) c.source_blocks (some_of (take c.transfer_length) (joined c.source_blocks (answer_at items)) all) n below, answer_here items n x within is, none)
+join_some c items n x all below within is none = cc (joined_each (answer_at items) c.source_blocks (some_of (take c.transfer_length) (first_blocks c.source_blocks (answer_at items)) all) n below, answer_here items n x within is, none)
 
 -- ---- before any packet
 

@@ -11,7 +11,7 @@ use Rattle.rq_standard.specs.TableRows.{IsChecked, intermediate_symbols}
 use Rattle.rq_standard.specs.Equations.{tuple_sum}
 use Rattle.rq_standard.specs.Differences.{plain_sum}
 use Rattle.rq_standard.proofs.Columns.{sum_same}
-use Rattle.rq_standard.proofs.Differences.{wide, wide_symbols, wide_sum}
+use Rattle.rq_standard.proofs.DifferenceColumns.{wide, wide_symbols, wide_sum}
 
 abbrev pub one_by_one : List ℕ → List (List ℕ)
 one_by_one xs = map (λ x. x ∷ []) xs

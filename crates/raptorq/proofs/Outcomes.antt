@@ -28,7 +28,7 @@ use Rattle.rq_solver.proofs.EquationLaws.{binary_equations, are_equations, finds
 use Rattle.rq_elimination.proofs.RowStepLaws.{SameEntries}
 use Rattle.rq_solver.proofs.SolutionLaws.{order-found, finds_same, homogeneous_same, is_solution}
 use Rattle.raptorq.specs.BlockSolutions.{FindsFrom, IsBlockSolution, NeedsNoHdpc, first_equations}
-use Rattle.raptorq.specs.declared.solving.Solution.{Solution}
+use Rattle.raptorq.specs.declared.solving.BlockOperations.{BlockOperations}
 
 -- the matrices of a block's ids are equations for its values
 pub handed_equations : (row : TableRow) (ids : List ℕ) (bits : BitTable) (hdpc : OctetTable) (handed : Slab) → IsBinaryPart row ids bits → IsHdpcPart row hdpc → length handed.values ≡ equation_count row ids → intermediate_symbols row ≤ equation_count row ids → handed.order ≡ None
@@ -161,15 +161,15 @@ module _ (height width : ℕ) (rows : ℕ → ℕ → ℕ) (operations : List Op
       ap (λ (xs : List (List ℕ)). symbol_at xs i) (sym left_is) ∙ zeros finds.order order_is i (subst (λ n. IsUnread n finds.order i) (sym count_is) unread) ∙ ap (λ n. replicate {A = ℕ} n 0) size_is))
 
 -- what the operations make of the values is the block's solution
-pub solution_found : (row : TableRow) (ids : List ℕ) (solution : Solution) (handed slab : Slab) → FindsFrom row ids solution → AreSymbols octets handed.symbol_size (solution.fixed + length ids) handed.values → handed.order ≡ None
-    → slab ≡ after_all (operations_of solution.operations) handed → IsBlockSolution row solution.fixed ids handed.symbol_size handed.values slab
+pub solution_found : (row : TableRow) (ids : List ℕ) (solution : BlockOperations) (handed slab : Slab) → FindsFrom row ids solution → AreSymbols octets handed.symbol_size (solution.precode_rows + length ids) handed.values → handed.order ≡ None
+    → slab ≡ after_all (operations_of solution.operations) handed → IsBlockSolution row solution.precode_rows ids handed.symbol_size handed.values slab
 solution_found row ids solution handed slab from symbols_are order made =
-    let height : ℕ = solution.fixed + length ids in
-    let rows = first_equations row solution.fixed ids in
+    let height : ℕ = solution.precode_rows + length ids in
+    let rows = first_equations row solution.precode_rows ids in
     let operations = operations_of solution.operations in
     let s = is_solution height (intermediate_symbols row) rows operations from.finds handed slab order made in
     record {
-      determined = first_determine row solution.fixed ids from.few operations from.finds;
+      determined = first_determine row solution.precode_rows ids from.few operations from.finds;
       enough = places_count slab (intermediate_symbols row) s.places;
       size_is = ap (λ (g : Slab). g.symbol_size) made;
       symbols = λ k l. subst (IsSymbol octets handed.symbol_size) (sym (s.reads k)) (found_are_symbols octets height (intermediate_symbols row) rows operations from.finds handed.symbol_size handed.values symbols_are k l);

@@ -7,13 +7,13 @@ use Rattle.rq_standard.specs.Packet.{Packet}
 use Rattle.rq_standard.specs.Standing.{State, Adds, StopsEarly, Stops, Contradicts, KeepsContradictions, IsHonestPacket, LeavesBlockLate, AnswersLateBlock}
 use Rattle.rq_standard.specs.TableRows.{IsChecked}
 use Rattle.rq_standard.proofs.Contradictions.{keeps_added, keeps_recorded, keeps_same, honest_fits, no_more, holds_more}
-use Rattle.rq_standard.proofs.Standing.{stands_more, answers_late, leaves_late}
+use Rattle.rq_standard.proofs.StandingSteps.{stands_more, answers_late, leaves_late}
 use Rattle.raptorq.specs.Refused.{packet_refusal, IsPacketRefusal}
 use Rattle.raptorq.specs.Stopping.{StopsAsTested, AddsOrStops, AddsAndJoinsOrStops, refusal_of}
 use Rattle.raptorq.specs.Taking.{TakesPacket}
-use Rattle.raptorq.specs.declared.decoder.stopped.Stopped.{Stopped}
-use Rattle.raptorq.specs.declared.decoder.stopped.Stopped.TheVariants.{Refused, NotRecorded, NotSolved, Contradicted, NotJoined}
-use Rattle.raptorq.proofs.Following.{tests, passes_below, taken_fits, follows_more, refused_next}
+use Rattle.raptorq.specs.declared.decoder.packet_stop.PacketStop.{PacketStop}
+use Rattle.raptorq.specs.declared.decoder.packet_stop.PacketStop.TheVariants.{Refused, NotRecorded, NotSolved, Contradicted, NotJoined}
+use Rattle.raptorq.proofs.FollowedRuns.{tests, passes_below, taken_fits, follows_more, refused_next}
 use Rattle.raptorq.proofs.Lists.{packet_refusal-packet}
 
 -- ---- what the tests say
@@ -24,7 +24,7 @@ never_contradiction true false h = absurd (cc h)
 never_contradiction false s h = absurd (cc h)
 
 -- what a caller sees is the tests' refusal, or comes where they refuse nothing
-refused_as_tested : (at : Stopped) (tested : Result (Unit {0}) Error) → StopsAsTested {X = Unit {0}} (Err at) tested → IsPacketRefusal (refusal_of at) tested
+refused_as_tested : (at : PacketStop) (tested : Result (Unit {0}) Error) → StopsAsTested {X = Unit {0}} (Err at) tested → IsPacketRefusal (refusal_of at) tested
 refused_as_tested (Refused e) tested is = subst (IsPacketRefusal e) (sym is) refl
 refused_as_tested NotRecorded tested is = subst (IsPacketRefusal OutOfMemory) (sym is) (inl refl)
 refused_as_tested NotSolved tested is = subst (IsPacketRefusal OutOfMemory) (sym is) (inl refl)
@@ -34,7 +34,7 @@ refused_as_tested NotJoined tested is = subst (IsPacketRefusal OutOfMemory) (sym
 -- ---- what is held then
 
 -- nothing changed, or the packet is recorded
-pub stops_early : (old : State) (p : Packet) (at : Stopped) (new : State) → AddsOrStops old p (Err at) new → StopsEarly old p new
+pub stops_early : (old : State) (p : Packet) (at : PacketStop) (new : State) → AddsOrStops old p (Err at) new → StopsEarly old p new
 stops_early old p (Refused e) new so = inl so
 stops_early old p NotRecorded new so = inl so
 stops_early old p NotSolved new so = inr so
@@ -42,14 +42,14 @@ stops_early old p Contradicted new so = inr so.records
 stops_early old p NotJoined new so = absurd so
 
 -- where no blocks are joined, less can stop
-pub not_joined : (old : State) (p : Packet) (at : Stopped) (new : State) → AddsOrStops old p (Err at) new → AddsAndJoinsOrStops old p (Err at) new
+pub not_joined : (old : State) (p : Packet) (at : PacketStop) (new : State) → AddsOrStops old p (Err at) new → AddsAndJoinsOrStops old p (Err at) new
 not_joined old p (Refused e) new so = so
 not_joined old p NotRecorded new so = so
 not_joined old p NotSolved new so = so
 not_joined old p Contradicted new so = so
 not_joined old p NotJoined new so = absurd so
 
-pub stops : (old : State) (p : Packet) (at : Stopped) (new : State) → AddsAndJoinsOrStops old p (Err at) new → Stops old p new
+pub stops : (old : State) (p : Packet) (at : PacketStop) (new : State) → AddsAndJoinsOrStops old p (Err at) new → Stops old p new
 stops old p (Refused e) new so = inl (inl so)
 stops old p NotRecorded new so = inl (inl so)
 stops old p NotSolved new so = inl (inr so)
@@ -57,14 +57,14 @@ stops old p Contradicted new so = inl (inr so.records)
 stops old p NotJoined new so = inr so
 
 -- a refusal by the tests changes nothing
-unchanged : (old : State) (p : Packet) (at : Stopped) (new : State) → AddsAndJoinsOrStops old p (Err at) new → refusal_of at ≢ OutOfMemory → refusal_of at ≢ Contradiction → new ≡ old
+unchanged : (old : State) (p : Packet) (at : PacketStop) (new : State) → AddsAndJoinsOrStops old p (Err at) new → refusal_of at ≢ OutOfMemory → refusal_of at ≢ Contradiction → new ≡ old
 unchanged old p (Refused e) new so memory contradiction = so
 unchanged old p NotRecorded new so memory contradiction = so
 unchanged old p NotSolved new so memory contradiction = absurd (memory refl)
 unchanged old p Contradicted new so memory contradiction = absurd (contradiction refl)
 unchanged old p NotJoined new so memory contradiction = absurd (memory refl)
 
-contradicts : (old : State) (p : Packet) (at : Stopped) (new : State) → StopsAsTested {X = Unit {0}} (Err at) (packet_refusal old.configuration p) → AddsAndJoinsOrStops old p (Err at) new → refusal_of at ≡ Contradiction → Contradicts old p new
+contradicts : (old : State) (p : Packet) (at : PacketStop) (new : State) → StopsAsTested {X = Unit {0}} (Err at) (packet_refusal old.configuration p) → AddsAndJoinsOrStops old p (Err at) new → refusal_of at ≡ Contradiction → Contradicts old p new
 contradicts old p (Refused e) new tested so is = absurd (never_contradiction (ltb p.id.block old.configuration.source_blocks) (eqb (length p.payload) old.configuration.symbol_size) (tested ∙ cc is))
 contradicts old p NotRecorded new tested so is = absurd (cc is)
 contradicts old p NotSolved new tested so is = absurd (cc is)
@@ -72,7 +72,7 @@ contradicts old p Contradicted new tested so is = so
 contradicts old p NotJoined new tested so is = absurd (cc is)
 
 -- a contradiction stays
-keeps_stopped : (old : State) (p : Packet) (at : Stopped) (new : State) → AddsAndJoinsOrStops old p (Err at) new → KeepsContradictions old new
+keeps_stopped : (old : State) (p : Packet) (at : PacketStop) (new : State) → AddsAndJoinsOrStops old p (Err at) new → KeepsContradictions old new
 keeps_stopped old p (Refused e) new so = keeps_same old new so
 keeps_stopped old p NotRecorded new so = keeps_same old new so
 keeps_stopped old p NotSolved new so = keeps_recorded old p new so
@@ -80,7 +80,7 @@ keeps_stopped old p Contradicted new so = keeps_recorded old p new so.records
 keeps_stopped old p NotJoined new so = keeps_added old p new so
 
 -- a packet of the object finds no memory, at the worst
-honest_stops : (old : State) (p : Packet) (at : Stopped) (new : State) → StopsAsTested {X = Unit {0}} (Err at) (packet_refusal old.configuration p) → AddsAndJoinsOrStops old p (Err at) new → IsHonestPacket old p → refusal_of at ≡ OutOfMemory
+honest_stops : (old : State) (p : Packet) (at : PacketStop) (new : State) → StopsAsTested {X = Unit {0}} (Err at) (packet_refusal old.configuration p) → AddsAndJoinsOrStops old p (Err at) new → IsHonestPacket old p → refusal_of at ≡ OutOfMemory
 honest_stops old p (Refused e) new tested so honest =
     let shape = honest.stands.shape p.id.block honest.of_object.block in
     absurd (cc (tested, packet_refusal-packet honest.table old.configuration honest.object p (subst IsChecked shape.row shape.checked) honest.of_object))
@@ -90,7 +90,7 @@ honest_stops old p Contradicted new tested so honest = absurd (honest_fits old p
 honest_stops old p NotJoined new tested so honest = refl
 
 -- where the blocks weren't joined, it stands for the longer list
-pub late_or_not : (old : State) (p : Packet) (at : Stopped) (new : State) → IsAligned old.configuration → AddsAndJoinsOrStops old p (Err at) new → LeavesBlockLate old p new ⊎ AnswersLateBlock old p new
+pub late_or_not : (old : State) (p : Packet) (at : PacketStop) (new : State) → IsAligned old.configuration → AddsAndJoinsOrStops old p (Err at) new → LeavesBlockLate old p new ⊎ AnswersLateBlock old p new
 late_or_not old p (Refused e) new aligned so = inl (leaves_late p old new (inl so))
 late_or_not old p NotRecorded new aligned so = inl (leaves_late p old new (inl so))
 late_or_not old p NotSolved new aligned so = inl (leaves_late p old new (inr so))
@@ -117,7 +117,7 @@ takes_added old p x new aligned passes same adds = record {
   answers_late = answers_late p old new aligned adds;
 }
 
-pub takes_stopped : {X : Type 0} (old : State) (p : Packet) (at : Stopped) (new : State) → StopsAsTested {X = Unit {0}} (Err at) (packet_refusal old.configuration p) → new.configuration ≡ old.configuration → AddsAndJoinsOrStops old p (Err at) new → TakesPacket {X = X} old p (Err (refusal_of at)) new
+pub takes_stopped : {X : Type 0} (old : State) (p : Packet) (at : PacketStop) (new : State) → StopsAsTested {X = Unit {0}} (Err at) (packet_refusal old.configuration p) → new.configuration ≡ old.configuration → AddsAndJoinsOrStops old p (Err at) new → TakesPacket {X = X} old p (Err (refusal_of at)) new
 takes_stopped old p at new tested same so = record {
   refused = refused_as_tested at (packet_refusal old.configuration p) tested;
   accepted = tt;

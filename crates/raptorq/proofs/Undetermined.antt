@@ -9,7 +9,7 @@ use Rattle.rq_standard.specs.Headline.{AreDetermined}
 use Rattle.rq_standard.specs.Equations.{equations, equation_count}
 use Rattle.rq_standard.specs.IdLists.{IsListOf}
 use Rattle.rq_standard.specs.TableRows.{intermediate_symbols}
-use Rattle.rq_standard.proofs.Known.{from_list, determined_by}
+use Rattle.rq_standard.proofs.KnownIds.{from_list, determined_by}
 use Rattle.rq_base.specs.HdpcPart.{IsHdpcPart}
 use Rattle.rq_parts.specs.DenseOctetMatrix.{OctetTable, entry_of}
 use Rattle.rq_null_vector.specs.Homogeneous.{ShowsHomogeneous}

@@ -12,7 +12,7 @@ use Rattle.rq_standard.specs.Headline.{SolvesZeros, known_ids}
 use Rattle.rq_standard.specs.Differences.{AreUnansweredDetermined, IsDifference, first_octets_block, plain_sum}
 use Rattle.rq_standard.specs.Held.{Held, holds, AreHeldDetermining}
 use Rattle.rq_standard.proofs.BlockCuts.{pieces}
-use Rattle.rq_standard.proofs.Differences.{zeros_solve, zeros_are_octets}
+use Rattle.rq_standard.proofs.DifferenceColumns.{zeros_solve, zeros_are_octets}
 use Rattle.rq_standard.proofs.OtherObjects.{HasRow, is_difference}
 use Rattle.raptorq.specs.SourceBlockDecoder.{held_of}
 use Rattle.raptorq.specs.Decoder.{held_at, answer_at}
@@ -63,11 +63,11 @@ module _ (c : Configuration) (items : List ObjectBlock) (n : ℕ) (none : Bool) 
   told_more true (Some xs) is all = (n, omega arith, subst IsSome (sym (here ∙ sym is)) refl)
   told_more false o is found = (found.0, omega (arith, found.1), subst IsSome (sym (before found.0 found.1)) found.2)
 
-  pub one_found : (t : Bool) (block new : List ℕ) → t ≡ (none && is_none column) → (held_at c items n).configuration ≡ c → (held_at c items n).symbols ≡ block_symbols c n → block ≡ octets_of_column (held_at c items n) column → new ≡ bytes ++ block → DifferenceSoFar c items (n + 1) t new
+  pub one_found : (t : Bool) (block new : List ℕ) → t ≡ (none && is_none column) → (held_at c items n).configuration ≡ c → (held_at c items n).source_symbols ≡ block_symbols c n → block ≡ octets_of_column (held_at c items n) column → new ≡ bytes ++ block → DifferenceSoFar c items (n + 1) t new
   one_found t block new flag same cut is grown =
       let next : n + 1 ≡ suc n = omega arith in
       let h = held_at c items n in
-      let own : block ≡ difference_block c items with_one n = is ∙ ap (λ k. first_octets_block k h.symbols (plain_sum h.row (at (unwrap_or column [])))) same ∙ ap (λ k. first_octets_block c k (plain_sum h.row (at (unwrap_or column [])))) cut ∙ ap (λ o. first_octets_block c (block_symbols c n) (plain_sum h.row (at (unwrap_or o [])))) (sym here) in
+      let own : block ≡ difference_block c items with_one n = is ∙ ap (λ k. first_octets_block k h.source_symbols (plain_sum h.row (at (unwrap_or column [])))) same ∙ ap (λ k. first_octets_block c k (plain_sum h.row (at (unwrap_or column [])))) cut ∙ ap (λ o. first_octets_block c (block_symbols c n) (plain_sum h.row (at (unwrap_or o [])))) (sym here) in
       record {
         columns = with_one;
         shows = λ b below. elim (cases_lt b n) [
@@ -102,8 +102,8 @@ module _ (c : Configuration) (items : List ObjectBlock) where
   elements_of h answer None shows = zeros_are_octets h.row
   elements_of h answer (Some xs) shows = shows.1.elements
 
-  solves_of : (h : Held) (answer column : Option (List ℕ)) → ShowsUnanswered h answer column → SolvesZeros h.row (known_ids h.row h.symbols (holds h)) (at (unwrap_or column []))
-  solves_of h answer None shows = zeros_solve h.row (known_ids h.row h.symbols (holds h))
+  solves_of : (h : Held) (answer column : Option (List ℕ)) → ShowsUnanswered h answer column → SolvesZeros h.row (known_ids h.row h.source_symbols (holds h)) (at (unwrap_or column []))
+  solves_of h answer None shows = zeros_solve h.row (known_ids h.row h.source_symbols (holds h))
   solves_of h answer (Some xs) shows = shows.1.solves
 
   zero_of : (h : Held) (answer column : Option (List ℕ)) → ShowsUnanswered h answer column → IsSome answer → (j : ℕ) → at (unwrap_or column []) j ≡ 0
@@ -114,7 +114,7 @@ module _ (c : Configuration) (items : List ObjectBlock) where
   place_of h answer None shows some = absurd (cc some)
   place_of h answer (Some xs) shows some = (shows.1.index, shows.1.below, shows.1.nonzero)
 
-  pub difference_found : (bytes : List ℕ) → 0 < c.symbol_size → 0 < c.source_blocks → IsAligned c → ((b : ℕ) → b < c.source_blocks → HasRow (held_at c items b).row (block_symbols c b)) → ((b : ℕ) → b < c.source_blocks → (held_at c items b).symbols ≡ block_symbols c b)
+  pub difference_found : (bytes : List ℕ) → 0 < c.symbol_size → 0 < c.source_blocks → IsAligned c → ((b : ℕ) → b < c.source_blocks → HasRow (held_at c items b).row (block_symbols c b)) → ((b : ℕ) → b < c.source_blocks → (held_at c items b).source_symbols ≡ block_symbols c b)
       → DifferenceSoFar c items c.source_blocks false bytes → IsDifference (state c items) (take c.transfer_length bytes)
   difference_found bytes pos some aligned rows cut so =
       let columns = columns_of so.columns in
@@ -130,19 +130,19 @@ module _ (c : Configuration) (items : List ObjectBlock) where
 
 -- ---- what is held of the object's blocks
 
-module _ (c : Configuration) (items : List ObjectBlock) (numbered : map number_of items ≡ range_with_len 0 c.source_blocks) (cut : All (λ b. (held_of b.decoder).symbols ≡ block_symbols c (held_of b.decoder).number) items) where
+module _ (c : Configuration) (items : List ObjectBlock) (numbered : map number_of items ≡ range_with_len 0 c.source_blocks) (cut : All (λ b. (held_of b.decoder).source_symbols ≡ block_symbols c (held_of b.decoder).number) items) where
   some_block : (xs : List ObjectBlock) (b : ℕ) → b < length xs → (x : ObjectBlock) × (x ≡ get_or xs b x)
   some_block [] b below = absurd (omega arith)
   some_block (x ∷ xs) zero below = (x, refl)
   some_block (x ∷ xs) (suc b) below = some_block xs b (omega arith)
 
-  pub block_is_cut : (b : ℕ) → b < c.source_blocks → (held_at c items b).symbols ≡ block_symbols c b
+  pub block_is_cut : (b : ℕ) → b < c.source_blocks → (held_at c items b).source_symbols ≡ block_symbols c b
   block_is_cut b below =
       let long = length-numbered number_of c.source_blocks items numbered in
       let inside : b < length items = omega (arith, long) in
       let found = some_block items b inside in
       let x = found.0 in
-      ap (λ h. h.symbols) (held_here c items b x inside found.1) ∙ ap (λ y. (held_of y.decoder).symbols) found.1 ∙ cut b x inside ∙ ap (λ y. block_symbols c (held_of y.decoder).number) (sym found.1) ∙ ap (block_symbols c) (number_at number_of c.source_blocks items numbered b x below found.1)
+      ap (λ h. h.source_symbols) (held_here c items b x inside found.1) ∙ ap (λ y. (held_of y.decoder).source_symbols) found.1 ∙ cut b x inside ∙ ap (λ y. block_symbols c (held_of y.decoder).number) (sym found.1) ∙ ap (block_symbols c) (number_at number_of c.source_blocks items numbered b x below found.1)
 
   pub block_has_row : (b : ℕ) → b < c.source_blocks → HasRow (held_at c items b).row (block_symbols c b)
   block_has_row b below =
@@ -153,5 +153,5 @@ module _ (c : Configuration) (items : List ObjectBlock) (numbered : map number_o
       let here = held_here c items b x inside found.1 in
       record {
         checked = subst (λ (h : Held). IsChecked h.row) (sym here) x.decoder.checked;
-        fits = subst (λ n. n ≤ (held_at c items b).row.extended_symbols) (block_is_cut b below) (subst (λ (h : Held). h.symbols ≤ h.row.extended_symbols) (sym here) x.decoder.fits);
+        fits = subst (λ n. n ≤ (held_at c items b).row.extended_symbols) (block_is_cut b below) (subst (λ (h : Held). h.source_symbols ≤ h.row.extended_symbols) (sym here) x.decoder.fits);
       }

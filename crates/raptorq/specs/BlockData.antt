@@ -29,7 +29,7 @@ RefusesBlock table c bytes e =
     (λ count. (e ≡ OutOfMemory) ⊎ ((e ≡ Singular) × IsSingular (row_of table count)))
     (λ wanted. e ≡ wanted)
 
--- a plan for blocks of so many source symbols over this table
+-- a plan for blocks of `count` source symbols over a table
 abbrev pub IsPlanFor : List TableRow → ℕ → Plan → Type 0
 IsPlanFor table count plan = (plan.count ≡ count) × (plan.row ≡ row_of table count)
 

@@ -10,21 +10,21 @@ use Rattle.rq_standard.specs.OctetField.{octets}
 use Rattle.rq_standard.specs.TableRows.{intermediate_symbols}
 use Rattle.rq_standard.specs.Equations.{fixed_equations, hdpc_coefficient, symbol_coefficient, zero_symbol}
 use Rattle.rq_standard.specs.IdLists.{HasDeterminedRows}
-use Rattle.raptorq.specs.declared.solving.Solution.{Solution}
+use Rattle.raptorq.specs.declared.solving.BlockOperations.{BlockOperations}
 
--- the first so many of the LDPC and HDPC equations, and then one for each id
+-- the first `fixed` of the LDPC and HDPC equations, and then one for each id
 abbrev pub first_equations : TableRow → ℕ → List ℕ → ℕ → ℕ → ℕ
 first_equations row fixed ids = stacked fixed (fixed_equations row) (rows_of (symbol_coefficient row) ids)
 
 -- the operations find the intermediate symbols from the values of these
-pub record FindsFrom (row : TableRow) (ids : List ℕ) (solution : Solution) : Type 0 where
-  pub few : solution.fixed ≤ row.ldpc_symbols + row.hdpc_symbols
-  pub ldpc : row.ldpc_symbols ≤ solution.fixed
-  pub enough : intermediate_symbols row ≤ solution.fixed + length ids
-  pub finds : FindsColumn octets (solution.fixed + length ids) (intermediate_symbols row) (first_equations row solution.fixed ids) (operations_of solution.operations)
+pub record FindsFrom (row : TableRow) (ids : List ℕ) (solution : BlockOperations) : Type 0 where
+  pub few : solution.precode_rows ≤ row.ldpc_symbols + row.hdpc_symbols
+  pub ldpc : row.ldpc_symbols ≤ solution.precode_rows
+  pub enough : intermediate_symbols row ≤ solution.precode_rows + length ids
+  pub finds : FindsColumn octets (solution.precode_rows + length ids) (intermediate_symbols row) (first_equations row solution.precode_rows ids) (operations_of solution.operations)
 
 -- the operations that find the intermediate symbols, exactly where the ids determine them
-abbrev pub FindsListed : TableRow → List ℕ → Option Solution → Type 0
+abbrev pub FindsListed : TableRow → List ℕ → Option BlockOperations → Type 0
 FindsListed row ids answer = MatchOption answer (HasDeterminedRows row ids → ⊥) (FindsFrom row ids)
 
 -- the LDPC equations and those of the ids are as many as the intermediate symbols, and determine them without those of HDPC
@@ -33,12 +33,12 @@ pub record NeedsNoHdpc (row : TableRow) (ids : List ℕ) : Type 0 where
   pub determined : IsDetermined octets (row.ldpc_symbols + length ids) (intermediate_symbols row) (first_equations row row.ldpc_symbols ids)
 
 -- operations over the LDPC equations and those of the ids, exactly where no other ones are needed
-abbrev pub FindsWithoutHdpc : TableRow → List ℕ → Option Solution → Type 0
-FindsWithoutHdpc row ids answer = MatchOption answer (NeedsNoHdpc row ids → ⊥) (λ solution. solution.fixed ≡ row.ldpc_symbols)
+abbrev pub FindsWithoutHdpc : TableRow → List ℕ → Option BlockOperations → Type 0
+FindsWithoutHdpc row ids answer = MatchOption answer (NeedsNoHdpc row ids → ⊥) (λ solution. solution.precode_rows ≡ row.ldpc_symbols)
 
 -- no HDPC equation is used where none is needed
-abbrev pub SparesHdpc : TableRow → List ℕ → Option Solution → Type 0
-SparesHdpc row ids answer = NeedsNoHdpc row ids → IsSomeAnd answer (λ solution. solution.fixed ≡ row.ldpc_symbols)
+abbrev pub SparesHdpc : TableRow → List ℕ → Option BlockOperations → Type 0
+SparesHdpc row ids answer = NeedsNoHdpc row ids → IsSomeAnd answer (λ solution. solution.precode_rows ≡ row.ldpc_symbols)
 
 -- the intermediate symbols in a slab, from the values of the equations
 pub record IsBlockSolution (row : TableRow) (fixed : ℕ) (ids : List ℕ) (size : ℕ) (values : List (List ℕ)) (slab : Slab) : Type 0 where
@@ -60,7 +60,7 @@ pub record IsBlockSolution (row : TableRow) (fixed : ℕ) (ids : List ℕ) (size
 abbrev pub SolvesHdpc : TableRow → ℕ → (ℕ → List ℕ) → Type 0
 SolvesHdpc row size column = SolvesSymbols octets row.hdpc_symbols (intermediate_symbols row) (hdpc_coefficient row) column (λ _. zero_symbol size)
 
--- intermediate symbols in a slab, from the values of so many of the LDPC and HDPC equations and those of ids, solve all equations: nothing is left over of the values, and the HDPC equations are solved where they weren't among those
+-- intermediate symbols in a slab, from the values of the first `fixed` of the LDPC and HDPC equations and those of ids, solve all equations: nothing is left over of the values, and the HDPC equations are solved where they weren't among those
 pub record Fits (row : TableRow) (fixed : ℕ) (slab : Slab) : Type 0 where
   pub unread : IsZeroUnread slab
   pub hdpc : fixed < row.ldpc_symbols + row.hdpc_symbols → SolvesHdpc row slab.symbol_size (symbol_in slab)

@@ -9,13 +9,13 @@ use Rattle.rq_standard.specs.Packet.{Packet}
 use Rattle.rq_standard.specs.Held.{Held, recorded, IsContradictory, IsBlockAnswer}
 use Rattle.raptorq.specs.Refused.{block_refusal}
 use Rattle.raptorq.specs.Stopping.{StopsPacket}
-use Rattle.raptorq.specs.declared.decoder.stopped.Stopped.{Stopped}
-use Rattle.raptorq.specs.declared.decoder.stopped.Stopped.TheVariants.{Refused, NotRecorded, NotSolved, Contradicted, NotJoined}
+use Rattle.raptorq.specs.declared.decoder.packet_stop.PacketStop.{PacketStop}
+use Rattle.raptorq.specs.declared.decoder.packet_stop.PacketStop.TheVariants.{Refused, NotRecorded, NotSolved, Contradicted, NotJoined}
 
 -- an answer, its bytes seen as a list
-abbrev pub shown : {V E : Type 0} → (V → List ℕ) → Result (Option V) E → Result (Option (List ℕ)) E
-shown f (Ok answer) = Ok (option_map f answer)
-shown f (Err e) = Err e
+abbrev pub answer_bytes : {V E : Type 0} → (V → List ℕ) → Result (Option V) E → Result (Option (List ℕ)) E
+answer_bytes f (Ok answer) = Ok (option_map f answer)
+answer_bytes f (Err e) = Err e
 
 -- with the payloads of packets, one after another
 abbrev pub all_recorded : Held → List Packet → Held
@@ -51,8 +51,8 @@ abbrev pub Decodes : {T : Type 0} → (T → Option Packet → T → Type 0) →
 Decodes steps iterator old packets (Ok answer) new = RecordsAll steps iterator old packets new × IsBlockAnswer new answer
 Decodes steps iterator old packets (Err e) new = (RecordsAll steps iterator old packets new × IsUnanswered new e) ⊎ StopsAtLast steps iterator old packets (IsRefusal e) new
 
--- the same by the place where the call stopped
-abbrev pub DecodesUntil : {T : Type 0} → (T → Option Packet → T → Type 0) → T → Held → List Packet → Result (Option (List ℕ)) Stopped → Held → Type 0
+-- what `Decodes` says, by the place where the call stopped
+abbrev pub DecodesUntil : {T : Type 0} → (T → Option Packet → T → Type 0) → T → Held → List Packet → Result (Option (List ℕ)) PacketStop → Held → Type 0
 DecodesUntil steps iterator old packets (Ok answer) new = RecordsAll steps iterator old packets new × IsBlockAnswer new answer
 DecodesUntil steps iterator old packets (Err NotSolved) new = RecordsAll steps iterator old packets new
 DecodesUntil steps iterator old packets (Err Contradicted) new = RecordsAll steps iterator old packets new × IsContradictory new
@@ -70,5 +70,5 @@ pub record OverPackets {S T : Type 0} (becomes : S → T → Type 0) (source : S
 abbrev pub DecodesFrom : {S T : Type 0} → (S → T → Type 0) → (T → Option Packet → T → Type 0) → S → Held → Result (Option (List ℕ)) Error → Held → Type 0
 DecodesFrom becomes steps source old result new = OverPackets becomes source (λ iterator packets. Decodes steps iterator old packets result new)
 
-abbrev pub DecodesFromUntil : {S T : Type 0} → (S → T → Type 0) → (T → Option Packet → T → Type 0) → S → Held → Result (Option (List ℕ)) Stopped → Held → Type 0
+abbrev pub DecodesFromUntil : {S T : Type 0} → (S → T → Type 0) → (T → Option Packet → T → Type 0) → S → Held → Result (Option (List ℕ)) PacketStop → Held → Type 0
 DecodesFromUntil becomes steps source old result new = OverPackets becomes source (λ iterator packets. DecodesUntil steps iterator old packets result new)

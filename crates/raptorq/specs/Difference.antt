@@ -7,8 +7,8 @@ use Rattle.rq_standard.specs.Held.{Held, holds, AreHeldDetermining, IsHomogeneou
 
 -- a column of octets, of a block without an answer; where there is none, what is held determines a block without an answer
 abbrev pub ShowsUnanswered : Held → Option (List ℕ) → Option (List ℕ) → Type 0
-ShowsUnanswered h answer column = MatchOption column (answer ≡ None → AreHeldDetermining h) (λ xs. (answer ≡ None) × IsHomogeneous h.row (known_ids h.row h.symbols (holds h)) xs)
+ShowsUnanswered h answer column = MatchOption column (answer ≡ None → AreHeldDetermining h) (λ xs. (answer ≡ None) × IsHomogeneous h.row (known_ids h.row h.source_symbols (holds h)) xs)
 
 -- the block whose symbols begin with the octets that a column has for them; no column is one of zeros
 abbrev pub octets_of_column : Held → Option (List ℕ) → List ℕ
-octets_of_column h column = first_octets_block h.configuration h.symbols (plain_sum h.row (at (unwrap_or column [])))
+octets_of_column h column = first_octets_block h.configuration h.source_symbols (plain_sum h.row (at (unwrap_or column [])))

@@ -29,7 +29,7 @@ pub record IsEncoderOf (table : List TableRow) (object : List ℕ) (e : Encoded)
   pub long : length object ≡ e.configuration.transfer_length
   pub block : (b : ℕ) → b < e.configuration.source_blocks → e.block b ≡ new_block_encoded table e.configuration object b
 
--- the source packets of the object whose encoder it is, and so many repair packets a block
+-- the source packets of the object whose encoder it is, and `repair` repair packets a block
 abbrev pub ArePacketsOf : Encoded → ℕ → List Packet → Type 0
 ArePacketsOf e repair packets = (table : List TableRow) (object : List ℕ) → IsEncoderOf table object e → AreEncoded table e.configuration object repair packets
 
@@ -41,6 +41,6 @@ IsPacketIn e p = (table : List TableRow) (object : List ℕ) → IsEncoderOf tab
 abbrev pub id_in : Configuration → SymbolId → Result SymbolId Error
 id_in c i = if nat_lt i.block c.source_blocks then Ok i else Err UnknownBlock
 
--- whether packets of so many repair symbols a block have ids: the first block is the largest
+-- whether packets of `repair` repair symbols a block have ids: the first block is the largest
 abbrev pub packets_refusal : Configuration → ℕ → Result (Unit {0}) Error
 packets_refusal c repair = if nat_lt (2 ^ 24) (block_symbols c 0 + repair) then Err EsiTooLarge else Ok tt

@@ -19,6 +19,6 @@ pub record AreHdpcSums (row : TableRow) (column : ℕ → List ℕ) (size n : �
       → octets.add (at (symbol_in sums h) p) (octets.mul (hdpc_coefficient row h n) (at (symbol_in sums row.hdpc_symbols) p))
       ≡ octets.add (at (column (before_hdpc row + h)) p) (dot octets (n + 1) (hdpc_coefficient row h) (slice_at p column))
 
--- each of so many sums is zero once its power of alpha, times the symbol behind them, is added to it
+-- each of the first `height` sums is zero once its power of alpha, times the symbol behind them, is added to it
 abbrev pub AreZeroWithLast : ℕ → Slab → Type 0
 AreZeroWithLast height sums = (h : ℕ) → h < height → (p : ℕ) → octets.add (at (symbol_in sums h) p) (octets.mul (octet_power h) (at (symbol_in sums height) p)) ≡ 0

@@ -18,9 +18,13 @@ use Rattle.raptorq.specs.Missing.{payload_of}
 abbrev pub known_list : TableRow → ℕ → List (ℕ × Vec ℕ Global) → List ℕ
 known_list row k entries = range_with_len k (row.extended_symbols - k) ++ map (λ e. internal_id row k e.0) entries
 
--- zeros for so many of the LDPC and HDPC equations and for the padding, and the payloads
+-- zeros, and behind them the payloads
+abbrev pub values_after : ℕ → ℕ → List (ℕ × Vec ℕ Global) → List (List ℕ)
+values_after zeros size entries = replicate zeros (zero_symbol size) ++ map (λ e. e.1.items) entries
+
+-- zeros for `fixed` of the LDPC and HDPC equations and for the padding, and the payloads
 abbrev pub known_values : TableRow → ℕ → ℕ → ℕ → List (ℕ × Vec ℕ Global) → List (List ℕ)
-known_values row k fixed size entries = replicate (fixed + (row.extended_symbols - k)) (zero_symbol size) ++ map (λ e. e.1.items) entries
+known_values row k fixed size entries = values_after (fixed + (row.extended_symbols - k)) size entries
 
 -- the intermediate symbols of what is held: they solve it, and no others do
 pub record IsHeldSolution (h : Held) (slab : Slab) : Type 0 where
@@ -41,4 +45,4 @@ rebuilt_symbol h slab e = unwrap_or (h.received e) (tuple_sum h.row (symbol_in s
 
 -- with these symbols besides those that came each source symbol is there
 pub record HasLostSymbols (h : Held) (slab : Slab) (lost : BTreeMap ℕ (Vec ℕ Global)) : Type 0 where
-  pub each : (e : ℕ) → e < h.symbols → or_later (h.received e) (payload_of lost e) ≡ Some (rebuilt_symbol h slab e)
+  pub each : (e : ℕ) → e < h.source_symbols → or_later (h.received e) (payload_of lost e) ≡ Some (rebuilt_symbol h slab e)

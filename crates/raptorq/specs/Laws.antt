@@ -77,7 +77,7 @@ SameIdsAnswerTheSame =
 abbrev pub DeterminedByIdsAlone : Type 0
 DeterminedByIdsAlone =
     (one other : Held)
-    → one.row ≡ other.row → one.symbols ≡ other.symbols → ((e : ℕ) → holds one e ≡ holds other e)
+    → one.row ≡ other.row → one.source_symbols ≡ other.source_symbols → ((e : ℕ) → holds one e ≡ holds other e)
     → AreHeldDetermining one ↔ AreHeldDetermining other
 
 -- and what is contradictory stays so when more is recorded.

@@ -19,12 +19,12 @@ checked_symbols c =
     else if not (c.symbol_size % c.alignment == 0) then Err Misaligned
     else Ok tt
 
--- whether the decoder of a block of this many symbols is made
+-- whether the decoder of a block of `source_symbols` symbols (K) is made
 abbrev pub checked_block : ℕ → Configuration → ℕ → Result (Unit {0}) Error
-checked_block greatest c symbols =
-    and_then (checked_symbols c) (λ _. if nat_lt greatest symbols then Err BlockOverTable else Ok tt)
+checked_block greatest c source_symbols =
+    and_then (checked_symbols c) (λ _. if nat_lt greatest source_symbols then Err BlockOverTable else Ok tt)
 
--- how many source symbols so many bytes are, where a table has a row for them
+-- how many source symbols a number of bytes is, where a table has a row for them
 abbrev pub wanted_count : ℕ → Configuration → ℕ → Result ℕ Error
 wanted_count greatest c bytes =
     and_then (checked_symbols c) (λ _.
@@ -32,7 +32,7 @@ wanted_count greatest c bytes =
     else if nat_lt greatest (bytes / c.symbol_size) then Err BlockOverTable
     else Ok (bytes / c.symbol_size))
 
--- so many bytes are whole symbols of a block for which a table has a row
+-- a number of bytes is that of whole symbols of a block for which a table has a row
 abbrev pub AreWholeSymbols : ℕ → Configuration → ℕ → Type 0
 AreWholeSymbols greatest c bytes = wanted_count greatest c bytes ≡ Ok (bytes / c.symbol_size)
 
@@ -66,6 +66,6 @@ RefusesEncoder table c length_of_data e =
     let wanted = new_encoder (greatest_size table) c length_of_data in
     IsRefusal e wanted ⊎ ((wanted ≡ Ok tt) × (e ≡ Singular) × ¬ HasNonsingularRows table c)
 
--- whether n repair packets from one on have ids, in a block of so many source symbols
+-- whether n repair packets from one on have ids, in a block of `count` source symbols
 abbrev pub repair_refusal : ℕ → ℕ → ℕ → Result (Unit {0}) Error
 repair_refusal count start n = if nat_lt 0 n && nat_lt (2 ^ 24) (count + start + n) then Err EsiTooLarge else Ok tt

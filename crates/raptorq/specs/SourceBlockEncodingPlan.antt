@@ -19,11 +19,11 @@ pub record Plan : Type 0 where
 abbrev pub plan_of : SourceBlockEncodingPlan → Plan
 plan_of p = record { count = p.source_symbol_count; row = p.row; operations = operations_of p.operations }
 
--- whether a table has a row for so many symbols
+-- whether a table has a row for `count` symbols
 abbrev pub plan_refusal : List TableRow → ℕ → Result (Unit {0}) Error
 plan_refusal table count = if nat_lt (greatest_size table) count then Err BlockOverTable else Ok tt
 
--- what a plan of so many symbols is refused for: first this, and then a singular row
+-- what a plan of `count` symbols is refused for: first this, and then a singular row
 abbrev pub RefusesPlan : List TableRow → ℕ → Error → Type 0
 RefusesPlan table count e =
     let wanted = plan_refusal table count in

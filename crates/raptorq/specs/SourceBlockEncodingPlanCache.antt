@@ -15,15 +15,15 @@ abbrev pub holds_count : List ℕ → ℕ → Bool
 holds_count counts count = list_any (λ n. n == count) counts
 
 -- the counts after a use of one: a count that is held changes nothing; a new one goes last, and the first falls out where there were 64
-abbrev pub cached : List ℕ → ℕ → List ℕ
-cached counts count =
+abbrev pub counts_after_use : List ℕ → ℕ → List ℕ
+counts_after_use counts count =
     if holds_count counts count then counts
     else if nat_lt (length counts) 64 then counts ++ count ∷ []
     else drop 1 counts ++ count ∷ []
 
 -- a cache after a use of a count
-abbrev pub used : PlanCache → ℕ → PlanCache
-used cache count = record cache { counts = cached cache.counts count }
+abbrev pub after_use : PlanCache → ℕ → PlanCache
+after_use cache count = record cache { counts = counts_after_use cache.counts count }
 
 -- a plan over that table
 pub record IsPlanOver (table : List TableRow) (p : SourceBlockEncodingPlan) : Type 0 where

@@ -5,11 +5,11 @@ use Rattle.rq_bytes.specs.declared.error.Error.TheVariants.{OutOfMemory, Contrad
 use Rattle.rq_standard.specs.Held.{Held, IsContradictory}
 use Rattle.rq_standard.specs.Packet.{Packet}
 use Rattle.rq_standard.specs.Standing.{State, AddsToBlock, RecordsInBlock, Adds, RecordsOnly, Contradicts, result_of}
-use Rattle.raptorq.specs.declared.decoder.stopped.Stopped.{Stopped}
-use Rattle.raptorq.specs.declared.decoder.stopped.Stopped.TheVariants.{Refused, NotRecorded, NotSolved, Contradicted, NotJoined}
+use Rattle.raptorq.specs.declared.decoder.packet_stop.PacketStop.{PacketStop}
+use Rattle.raptorq.specs.declared.decoder.packet_stop.PacketStop.TheVariants.{Refused, NotRecorded, NotSolved, Contradicted, NotJoined}
 
 -- what a caller sees of it
-abbrev pub refusal_of : Stopped → Error
+abbrev pub refusal_of : PacketStop → Error
 refusal_of (Refused e) = e
 refusal_of NotRecorded = OutOfMemory
 refusal_of NotSolved = OutOfMemory
@@ -17,7 +17,7 @@ refusal_of Contradicted = Contradiction
 refusal_of NotJoined = OutOfMemory
 
 -- the packet is refused exactly where the tests refuse it
-abbrev pub StopsAsTested : {X : Type 0} → Result X Stopped → Result (Unit {0}) Error → Type 0
+abbrev pub StopsAsTested : {X : Type 0} → Result X PacketStop → Result (Unit {0}) Error → Type 0
 StopsAsTested (Err (Refused e)) tested = tested ≡ Err e
 StopsAsTested (Err NotRecorded) tested = tested ≡ Ok tt
 StopsAsTested (Err NotSolved) tested = tested ≡ Ok tt
@@ -26,7 +26,7 @@ StopsAsTested (Err NotJoined) tested = tested ≡ Ok tt
 StopsAsTested (Ok x) tested = tested ≡ Ok tt
 
 -- a packet that isn't recorded is refused by the tests, or passes them and finds no memory
-abbrev pub StopsPacket : Stopped → Result (Unit {0}) Error → Type 0
+abbrev pub StopsPacket : PacketStop → Result (Unit {0}) Error → Type 0
 StopsPacket (Refused e) tested = tested ≡ Err e
 StopsPacket NotRecorded tested = tested ≡ Ok tt
 StopsPacket NotSolved tested = ⊥
@@ -34,7 +34,7 @@ StopsPacket Contradicted tested = ⊥
 StopsPacket NotJoined tested = ⊥
 
 -- why what is held has no answer
-abbrev pub StopsAnswer : Stopped → Held → Type 0
+abbrev pub StopsAnswer : PacketStop → Held → Type 0
 StopsAnswer NotSolved h = ⊤
 StopsAnswer Contradicted h = IsContradictory h
 StopsAnswer NotRecorded h = ⊥
@@ -42,7 +42,7 @@ StopsAnswer NotJoined h = ⊥
 StopsAnswer (Refused e) h = ⊥
 
 -- What a packet of a block did to what is held and to its answer: where it wasn't recorded, nothing; where the block wasn't solved or is contradictory, it is recorded.
-abbrev pub AddsInBlockOrStops : Held → Option (List ℕ) → Packet → Result (Unit {0}) Stopped → Held → Option (List ℕ) → Type 0
+abbrev pub AddsInBlockOrStops : Held → Option (List ℕ) → Packet → Result (Unit {0}) PacketStop → Held → Option (List ℕ) → Type 0
 AddsInBlockOrStops old before p (Ok x) new after = AddsToBlock old before p new after
 AddsInBlockOrStops old before p (Err NotSolved) new after = RecordsInBlock old before p new after
 AddsInBlockOrStops old before p (Err Contradicted) new after = RecordsInBlock old before p new after × IsContradictory new
@@ -50,8 +50,8 @@ AddsInBlockOrStops old before p (Err NotRecorded) new after = (new ≡ old) × (
 AddsInBlockOrStops old before p (Err NotJoined) new after = ⊥
 AddsInBlockOrStops old before p (Err (Refused e)) new after = ⊥
 
--- the same of an object's decoder; a refused packet does nothing
-abbrev pub AddsOrStops : State → Packet → Result (Unit {0}) Stopped → State → Type 0
+-- what `AddsInBlockOrStops` says, of an object's decoder; a refused packet does nothing
+abbrev pub AddsOrStops : State → Packet → Result (Unit {0}) PacketStop → State → Type 0
 AddsOrStops old p (Ok x) new = Adds old p new
 AddsOrStops old p (Err NotSolved) new = RecordsOnly old p new
 AddsOrStops old p (Err Contradicted) new = Contradicts old p new
@@ -59,8 +59,8 @@ AddsOrStops old p (Err NotRecorded) new = new ≡ old
 AddsOrStops old p (Err NotJoined) new = ⊥
 AddsOrStops old p (Err (Refused e)) new = new ≡ old
 
--- The same where the blocks are joined behind it: where they weren't joined, the packet's block has the answer that it can have.
-abbrev pub AddsAndJoinsOrStops : State → Packet → Result (Option (List ℕ)) Stopped → State → Type 0
+-- What `AddsOrStops` says, where the blocks are joined behind it: where they weren't joined, the packet's block has the answer that it can have.
+abbrev pub AddsAndJoinsOrStops : State → Packet → Result (Option (List ℕ)) PacketStop → State → Type 0
 AddsAndJoinsOrStops old p (Ok answer) new = Adds old p new × (answer ≡ result_of new)
 AddsAndJoinsOrStops old p (Err NotJoined) new = Adds old p new
 AddsAndJoinsOrStops old p (Err NotSolved) new = RecordsOnly old p new

@@ -10,8 +10,8 @@ symbols_of_block c k block = map (symbol_of_block c k block) (range_with_len 0 k
 
 -- of each of k symbols of a size, which come one after another, the bytes of a width from one on
 abbrev pub parts_of_symbols : List ℕ → ℕ → ℕ → ℕ → ℕ → List ℕ
-parts_of_symbols plain k size start width = flat_map (λ e. slice_range plain (e * size + start) (e * size + start + width)) (range_with_len 0 k)
+parts_of_symbols symbol_bytes k size start width = flat_map (λ e. slice_range symbol_bytes (e * size + start) (e * size + start + width)) (range_with_len 0 k)
 
 -- the symbols of a block of k are these, which come one after another
 abbrev pub IsCutInto : Configuration → ℕ → List ℕ → List ℕ → Type 0
-IsCutInto c k block plain = (e : ℕ) → e < k → symbol_of_block c k block e ≡ plain_symbol c.symbol_size plain e
+IsCutInto c k block symbol_bytes = (e : ℕ) → e < k → symbol_of_block c k block e ≡ plain_symbol c.symbol_size symbol_bytes e

@@ -3,7 +3,7 @@ mod block;
 mod fitting;
 mod known;
 mod object;
-mod stopped;
+mod packet_stop;
 
 pub use block::SourceBlockDecoder;
 pub use object::{Decoder, decode_all};

@@ -142,7 +142,7 @@ impl Encoder {
         }
         let mut packets = Vec::new(self.alloc);
         for block in &self.blocks {
-            let end = block.symbols() + repair_packets_per_block;
+            let end = block.source_symbol_count() + repair_packets_per_block;
             packets.extend(block.packets(0, end)?)?;
         }
         Ok(packets)
@@ -195,7 +195,7 @@ fn block_encoders(
     Ok(encoders)
 }
 
-// A plan of blocks with so many source symbols: the last one, where it is for as many.
+// A plan of blocks with `count` source symbols: `last`, where it is one.
 fn plan_for(
     alloc: Global,
     table: &SystematicTable,

@@ -7,34 +7,34 @@ ghost use Rattle.rq_standard.specs.TableRows.{IsChecked};
 use rq_standard::row::TableRow;
 use std::alloc::{AllocError, Global};
 
-/// The internal symbol id of an encoding symbol id, in a block of so many source symbols: padding
-/// symbols have no encoding symbol id (RFC 6330, section 5.3.1).
-pub(crate) fn internal_symbol_id(row: &TableRow, symbols: u32, esi: u32) -> u32
+/// The internal symbol id of an encoding symbol id, in a block of `source_symbols` symbols (K):
+/// padding symbols have no encoding symbol id (RFC 6330, section 5.3.1).
+pub(crate) fn internal_symbol_id(row: &TableRow, source_symbols: u32, esi: u32) -> u32
     requires checked { IsChecked row.now }
-    requires fits { symbols ≤ row.now.extended_symbols }
+    requires fits { source_symbols ≤ row.now.extended_symbols }
     requires esi { esi < 2 ^ 24 }
-    ensures { result ≡ internal_id row.now symbols esi }
+    ensures { result ≡ internal_id row.now source_symbols esi }
 {
-    if esi < symbols {
+    if esi < source_symbols {
         esi
     } else {
-        esi + (row.extended_symbols - symbols)
+        esi + (row.extended_symbols - source_symbols)
     }
 }
 
-/// The internal symbol ids from `symbols` on that source and padding symbols have, in a list with
+/// The internal symbol ids of the padding: those from `source_symbols` on below K', in a list with
 /// room for `count`.
 pub(crate) fn padding_ids(
     alloc: Global,
     row: &TableRow,
-    symbols: u32,
+    source_symbols: u32,
     count: usize,
 ) -> Result<Vec<u32>, AllocError>
-    requires { symbols ≤ row.now.extended_symbols }
-    ensures { IfOk result (λ ids. ids.items ≡ range_with_len symbols (row.now.extended_symbols - symbols)) }
+    requires { source_symbols ≤ row.now.extended_symbols }
+    ensures { IfOk result (λ ids. ids.items ≡ range_with_len source_symbols (row.now.extended_symbols - source_symbols)) }
 {
     let mut ids = Vec::with_capacity(alloc, count)?;
-    for id in symbols..row.extended_symbols {
+    for id in source_symbols..row.extended_symbols {
         ids.push(id)?;
     }
     Ok(ids)

@@ -18,23 +18,24 @@ use rq_solver::pi_solver::IntermediateSymbolDecoder;
 use rq_standard::row::TableRow;
 use std::alloc::Global;
 
-/// The operations that make the intermediate symbols from the values of equations: zeros for so many
-/// of the LDPC and HDPC equations, and then the symbols of the ids, whatever these are.
+/// The operations that make the intermediate symbols from the values of equations: `precode_rows`
+/// zeros for the LDPC and HDPC equations, or those of LDPC alone, and then the symbols of the ids,
+/// whatever these are.
 #[derive(Drop)]
-pub(crate) struct Solution {
-    pub fixed: usize,
+pub(crate) struct BlockOperations {
+    pub precode_rows: usize,
     pub operations: RecordedOperations,
 }
 
 /// What makes the intermediate symbols from the symbols of a list of internal symbol ids. `None`
-/// where the ids don't determine them. The matrix is sparse where the extended source block has so
-/// many symbols (K') or more, and dense else.
-pub(crate) fn find_operations(
+/// where the ids don't determine them. The matrix is sparse where the extended source block has
+/// `sparse_threshold` symbols (K') or more, and dense else.
+pub(crate) fn solve_block(
     alloc: Global,
     row: &TableRow,
     ids: &[u32],
     sparse_threshold: u32,
-) -> Result<Option<Solution>, Error>
+) -> Result<Option<BlockOperations>, Error>
     requires checked { IsChecked row.now }
     requires enough { intermediate_symbols row.now ≤ equation_count row.now ids.now }
     requires fits { equation_count row.now ids.now < 2 ^ 31 }
@@ -64,7 +65,7 @@ struct Listed<'a> {
 impl Listed<'_> {
     // Over one kind of matrix: first without the HDPC equations, which are not needed where enough
     // symbols came, and cost the most.
-    fn find_over<T: BinaryMatrix>(&self) -> Result<Option<Solution>, Error>
+    fn find_over<T: BinaryMatrix>(&self) -> Result<Option<BlockOperations>, Error>
         ensures found { IfOk result (FindsListed self.now.row.now self.now.ids.now) }
         ensures spares { IfOk result (SparesHdpc self.now.row.now self.now.ids.now) }
         ensures memory { IfErr result (λ e. e ≡ Error.OutOfMemory) }
@@ -77,13 +78,13 @@ impl Listed<'_> {
 
     // By the LDPC equations and those of the ids alone, where they are as many as the intermediate
     // symbols. `None` says nothing of all equations.
-    fn find_without_hdpc<T: BinaryMatrix>(&self) -> Result<Option<Solution>, Error>
+    fn find_without_hdpc<T: BinaryMatrix>(&self) -> Result<Option<BlockOperations>, Error>
         ensures found { IfOk result (λ answer. IfSome answer (FindsFrom self.now.row.now self.now.ids.now)) }
         ensures alone { IfOk result (FindsWithoutHdpc self.now.row.now self.now.ids.now) }
         ensures memory { IfErr result (λ e. e ≡ Error.OutOfMemory) }
     {
-        let fixed = self.row.ldpc_symbols as usize;
-        let count = fixed + self.ids.len();
+        let precode_rows = self.row.ldpc_symbols as usize;
+        let count = precode_rows + self.ids.len();
         if count < self.row.intermediate_symbols() as usize {
             return Ok(None);
         }
@@ -98,30 +99,36 @@ impl Listed<'_> {
         let Some(operations) = solver.into_operations()? else {
             return Ok(None);
         };
-        Ok(Some(Solution { fixed, operations }))
+        Ok(Some(BlockOperations {
+            precode_rows,
+            operations,
+        }))
     }
 
     // By all equations.
-    fn find_with_hdpc<T: BinaryMatrix>(&self) -> Result<Option<Solution>, Error>
+    fn find_with_hdpc<T: BinaryMatrix>(&self) -> Result<Option<BlockOperations>, Error>
         ensures found { IfOk result (FindsListed self.now.row.now self.now.ids.now) }
         ensures memory { IfErr result (λ e. e ≡ Error.OutOfMemory) }
     {
         let (matrix, hdpc) = generate_constraint_matrix_of_row::<T>(
             self.alloc, self.row, self.ids,
         )?;
-        let fixed = (self.row.ldpc_symbols + self.row.hdpc_symbols) as usize;
-        let values = SymbolSlab::with_zeros(self.alloc, fixed + self.ids.len(), 0)?;
+        let precode_rows = (self.row.ldpc_symbols + self.row.hdpc_symbols) as usize;
+        let values = SymbolSlab::with_zeros(self.alloc, precode_rows + self.ids.len(), 0)?;
         let solver = IntermediateSymbolDecoder::of_row(self.alloc, self.row, matrix, hdpc, values);
         let Some(operations) = solver.into_operations()? else {
             return Ok(None);
         };
-        Ok(Some(Solution { fixed, operations }))
+        Ok(Some(BlockOperations {
+            precode_rows,
+            operations,
+        }))
     }
 }
 
 /// A column that isn't all zeros and solves the equations of a list of internal symbol ids with all
 /// values zero. `None` where the ids determine the intermediate symbols. There may be any number of
-/// ids. The matrix is sparse or dense as that of [`find_operations`].
+/// ids. The matrix is sparse or dense as that of [`solve_block`].
 pub(crate) fn homogeneous(
     alloc: Global,
     row: &TableRow,
@@ -134,14 +141,14 @@ pub(crate) fn homogeneous(
     ensures memory { IfErr result (λ e. e ≡ Error.OutOfMemory) }
 {
     if row.extended_symbols >= sparse_threshold {
-        homogeneous_over::<SparseBinaryMatrix>(alloc, row, ids)
+        null_vector_over::<SparseBinaryMatrix>(alloc, row, ids)
     } else {
-        homogeneous_over::<DenseBinaryMatrix>(alloc, row, ids)
+        null_vector_over::<DenseBinaryMatrix>(alloc, row, ids)
     }
 }
 
 // Over one kind of matrix.
-fn homogeneous_over<T: BinaryMatrix>(
+fn null_vector_over<T: BinaryMatrix>(
     alloc: Global,
     row: &TableRow,
     ids: &[u32],
@@ -152,6 +159,6 @@ fn homogeneous_over<T: BinaryMatrix>(
     ensures memory { IfErr result (λ e. e ≡ Error.OutOfMemory) }
 {
     let (matrix, hdpc) = generate_constraint_matrix_of_row::<T>(alloc, row, ids)?;
-    let boundary = row.lt_symbols as usize;
-    null_vector(alloc, &matrix, boundary, &hdpc, row.ldpc_symbols as usize)
+    let lt_columns = row.lt_symbols as usize;
+    null_vector(alloc, &matrix, lt_columns, &hdpc, row.ldpc_symbols as usize)
 }

@@ -69,66 +69,72 @@ fn append_padded(
     symbol.resize(whole, 0)
 }
 
-// Appends a source symbol of a block of so many. The block may end before its last symbol does: the
-// rest are zeros.
+// Appends symbol `e` of a block of `source_symbols` symbols (K). The block may end before its last
+// symbol does: the rest are zeros.
 fn append_source_symbol(
     bytes: &mut Vec<u8>,
     config: &ObjectTransmissionInformation,
     block: &[u8],
-    symbols: u32,
+    source_symbols: u32,
     e: u32,
 ) -> Result<(), AllocError>
     requires aligned { IsAligned config.now }
     requires room { vec_len bytes.old + config.now.symbol_size < 2 ^ 64 }
-    ensures { OnOk result (bytes.new.items ≡ bytes.old.items ++ symbol_of_block config.now symbols block.now e) }
+    ensures { OnOk result (bytes.new.items ≡ bytes.old.items ++ symbol_of_block config.now source_symbols block.now e) }
 {
     let size = usize::from(config.symbol_size());
     let mut start = 0;
     while start < size {
         let width = size_at(config, start);
-        let place = start * symbols as usize + width * e as usize;
+        let place = start * source_symbols as usize + width * e as usize;
         append_padded(bytes, block, place, width)?;
         start += width;
     }
     Ok(())
 }
 
-/// The source symbols of a block of so many, which may end before its last symbol does.
-pub(crate) fn source_symbols(
+/// The `source_symbols` symbols (K) of a block, which may end before its last symbol does.
+pub(crate) fn symbols_of_block(
     alloc: Global,
     config: &ObjectTransmissionInformation,
     block: &[u8],
-    symbols: u32,
+    source_symbols: u32,
 ) -> Result<SymbolSlab, AllocError>
     requires { IsAligned config.now }
     ensures small { OnOk result (config.now.symbol_size < 65536) }
-    ensures symbols { IfOk result (λ slab. slab ≡ slab_of config.now.symbol_size (symbols_of_block config.now symbols block.now)) }
+    ensures symbols { IfOk result (λ slab. slab ≡ slab_of config.now.symbol_size (symbols_of_block config.now source_symbols block.now)) }
 {
     let size = usize::from(config.symbol_size());
-    let mut bytes = Vec::with_capacity(alloc, symbols as usize * size)?;
-    for e in 0..symbols {
-        append_source_symbol(&mut bytes, config, block, symbols, e)?;
+    let mut bytes = Vec::with_capacity(alloc, source_symbols as usize * size)?;
+    for e in 0..source_symbols {
+        append_source_symbol(&mut bytes, config, block, source_symbols, e)?;
     }
-    Ok(SymbolSlab::from_bytes(bytes, symbols as usize, size))
+    Ok(SymbolSlab::from_bytes(bytes, source_symbols as usize, size))
 }
 
-// Appends a sub-block: each symbol's bytes from `start` on.
-fn append_sub_block(
-    block: &mut Vec<u8>,
-    plain: &[u8],
-    symbols: u32,
-    size: usize,
+// The bytes that a sub-block has of each symbol: `width` of them from `start` on.
+#[derive(Clone, Copy)]
+struct SubBlock {
     start: usize,
     width: usize,
+}
+
+// Appends a sub-block of the block that has these symbols.
+fn append_sub_block(
+    block: &mut Vec<u8>,
+    symbol_bytes: &[u8],
+    source_symbols: u32,
+    size: usize,
+    part: SubBlock,
 ) -> Result<(), AllocError>
     requires small { size < 65536 }
-    requires within { start + width ≤ size }
-    requires long { length plain.now ≡ symbols * size }
-    ensures { OnOk result (block.new.items ≡ block.old.items ++ parts_of_symbols plain.now symbols size start width) }
+    requires within { part.start + part.width ≤ size }
+    requires long { length symbol_bytes.now ≡ source_symbols * size }
+    ensures { OnOk result (block.new.items ≡ block.old.items ++ parts_of_symbols symbol_bytes.now source_symbols size part.start part.width) }
 {
-    for e in 0..symbols {
-        let from = e as usize * size + start;
-        block.extend_from_slice(&plain[from..from + width])?;
+    for e in 0..source_symbols {
+        let from = e as usize * size + part.start;
+        block.extend_from_slice(&symbol_bytes[from..from + part.width])?;
     }
     Ok(())
 }
@@ -137,23 +143,30 @@ fn append_sub_block(
 pub(crate) fn into_sub_blocks(
     alloc: Global,
     config: &ObjectTransmissionInformation,
-    symbols: u32,
-    plain: Vec<u8>,
+    source_symbols: u32,
+    symbol_bytes: Vec<u8>,
 ) -> Result<Vec<u8>, AllocError>
     requires aligned { IsAligned config.now }
-    requires long { length plain.items ≡ symbols * config.now.symbol_size }
-    ensures long { IfOk result (λ block. length block.items ≡ symbols * config.now.symbol_size) }
-    ensures each { IfOk result (λ block. IsCutInto config.now symbols block.items plain.items) }
+    requires long { length symbol_bytes.items ≡ source_symbols * config.now.symbol_size }
+    ensures long { IfOk result (λ block. length block.items ≡ source_symbols * config.now.symbol_size) }
+    ensures each { IfOk result (λ block. IsCutInto config.now source_symbols block.items symbol_bytes.items) }
 {
     if config.sub_blocks() <= 1 {
-        return Ok(plain);
+        return Ok(symbol_bytes);
     }
     let size = usize::from(config.symbol_size());
-    let mut block = Vec::with_capacity(alloc, plain.len())?;
+    let mut block = Vec::with_capacity(alloc, symbol_bytes.len())?;
     let mut start = 0;
     while start < size {
         let width = size_at(config, start);
-        append_sub_block(&mut block, plain.as_slice(), symbols, size, start, width)?;
+        let part = SubBlock { start, width };
+        append_sub_block(
+            &mut block,
+            symbol_bytes.as_slice(),
+            source_symbols,
+            size,
+            part,
+        )?;
         start += width;
     }
     Ok(block)

@@ -4,8 +4,8 @@ use Rattle.std.specs.Prelude.{OnOk, OnErr}
 use Rattle.rq_bytes.specs.declared.error.Error.{Error}
 use Rattle.rq_bytes.specs.declared.error.Error.TheVariants.{TransferTooLong, AlignmentZero, Misaligned, TooManySymbols, SymbolSizeZero, SourceBlocksZero, BlockOverTable, WrongDataLength, Singular, PlanMismatch, EsiTooLarge, PacketTooShort, WrongPayloadSize, UnknownBlock, PacketSizeZero, TransferLengthZero, MemoryRequirementTooSmall, TooManyBlocks, RowRefused, AlreadyExecuted, OutOfMemory, Contradiction, HeaderTooShort}
 use Rattle.rq_bytes.specs.Error.{code_of}
-use Rattle.raptorq_c.specs.declared.stop.Stop.{Stop}
-use Rattle.raptorq_c.specs.declared.stop.Stop.TheVariants.{Refused, WrongBuffer, Incomplete, NoCoder}
+use Rattle.raptorq_c.specs.declared.call_end.CallEnd.{CallEnd}
+use Rattle.raptorq_c.specs.declared.call_end.CallEnd.TheVariants.{Refused, WrongBuffer, Incomplete, NoCoder}
 use Rattle.raptorq_c.specs.Numbers.{number_of}
 
 pub code_positive : (e : Error) → 0 < code_of e
@@ -34,7 +34,7 @@ code_positive Contradiction = lit< tt
 code_positive HeaderTooShort = lit< tt
 
 -- 0 is answered where the call is done alone
-pub is_done : (ended : Result (Unit {0}) Stop) (P : Type 0) → OnOk ended P → number_of ended ≡ 0 → P
+pub is_done : (ended : Result (Unit {0}) CallEnd) (P : Type 0) → OnOk ended P → number_of ended ≡ 0 → P
 is_done (Ok x) P done zero = done
 is_done (Err (Refused e)) P done zero = absurd (omega (arith, zero, code_positive e))
 is_done (Err WrongBuffer) P done zero = absurd (cc zero)
@@ -42,17 +42,17 @@ is_done (Err Incomplete) P done zero = absurd (cc zero)
 is_done (Err NoCoder) P done zero = absurd (cc zero)
 
 -- and another number where it isn't
-pub is_stopped : (ended : Result (Unit {0}) Stop) (P : Type 0) → OnErr ended P → number_of ended ≢ 0 → P
+pub is_stopped : (ended : Result (Unit {0}) CallEnd) (P : Type 0) → OnErr ended P → number_of ended ≢ 0 → P
 is_stopped (Ok x) P stopped other = absurd (other refl)
 is_stopped (Err s) P stopped other = stopped
 
 -- what follows where the call is done
-pub on_done : (ended : Result (Unit {0}) Stop) (P Q : Type 0) → OnOk ended P → (P → Q) → OnOk ended Q
+pub on_done : (ended : Result (Unit {0}) CallEnd) (P Q : Type 0) → OnOk ended P → (P → Q) → OnOk ended Q
 on_done (Ok x) P Q done more = more done
 on_done (Err s) P Q done more = tt
 
 -- and of a number where it isn't
-pub on_stopped : (ended : Result (Unit {0}) Stop) (n : ℕ) (P : Type 0) (Q : ℕ → Type 0) → OnErr ended (number_of ended ≡ n) → OnErr ended P → (P → Q n) → OnErr ended (Q (number_of ended))
+pub on_stopped : (ended : Result (Unit {0}) CallEnd) (n : ℕ) (P : Type 0) (Q : ℕ → Type 0) → OnErr ended (number_of ended ≡ n) → OnErr ended P → (P → Q n) → OnErr ended (Q (number_of ended))
 on_stopped (Ok x) n P Q is stopped more = tt
 on_stopped (Err s) n P Q is stopped more = subst Q (sym is) (more stopped)
 

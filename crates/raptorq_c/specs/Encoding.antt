@@ -11,7 +11,7 @@ use Rattle.rq_standard.specs.TableRows.{built_in_rows, greatest_size}
 use Rattle.raptorq.specs.Encoder.{packets_refusal}
 use Rattle.raptorq.specs.Refused.{new_encoder}
 
--- bytes of the packets of an object: those of its source symbols and of so many repair symbols, block by block
+-- bytes of the packets of an object: those of its source symbols and of `repair` repair symbols a block, block by block
 pub record AreFramesOf (c : Configuration) (object : List ℕ) (repair : ℕ) (bytes : List ℕ) : Type 0 where
   pub taken : new_encoder (greatest_size built_in_rows) c (length object) ≡ Ok tt
   pub enough : packets_refusal c repair ≡ Ok tt

@@ -2,11 +2,11 @@
 use Rattle.std.specs.Prelude.{◌≡◌, ◌⊎◌, ℕ, List, Result, Ok, Err}
 use Rattle.rq_bytes.specs.declared.error.Error.{Error}
 use Rattle.rq_bytes.specs.Error.{code_of}
-use Rattle.raptorq_c.specs.declared.stop.Stop.{Stop}
-use Rattle.raptorq_c.specs.declared.stop.Stop.TheVariants.{Refused, WrongBuffer, Incomplete, NoCoder}
+use Rattle.raptorq_c.specs.declared.call_end.CallEnd.{CallEnd}
+use Rattle.raptorq_c.specs.declared.call_end.CallEnd.TheVariants.{Refused, WrongBuffer, Incomplete, NoCoder}
 
 -- 0 where a call is done, the number of what the codec refuses, or one above these
-abbrev pub number_of : Result (Unit {0}) Stop → ℕ
+abbrev pub number_of : Result (Unit {0}) CallEnd → ℕ
 number_of (Ok x) = 0
 number_of (Err (Refused e)) = code_of e
 number_of (Err WrongBuffer) = 24

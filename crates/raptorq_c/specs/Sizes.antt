@@ -20,7 +20,7 @@ bytes_of_block header b =
     let c = configuration_of_bytes header in
     and_then (checked_offsets c) (λ _. if nat_lt b c.source_blocks then Ok (block_range c b) else Err UnknownBlock)
 
--- Kt source packets, and so many repair packets a block
+-- Kt source packets, and `repair` repair packets a block
 abbrev pub packets_length : Configuration → ℕ → ℕ
 packets_length c repair = (total_symbols c + c.source_blocks * repair) * frame_size c
 

@@ -3,10 +3,10 @@ ghost use Rattle.std.specs.Prelude.{◌≡◌, ◌≢◌, length, option_map, ve
 ghost use Rattle.raptorq_c.specs.Decoding.{Answered, IsFilled};
 ghost use Rattle.raptorq_c.specs.Numbers.{number_of};
 
-use crate::stop::Stop;
+use crate::call_end::CallEnd;
 
 /// Fills a buffer with bytes, where it has their length.
-pub(crate) fn fill(buffer: &mut [u8], bytes: &[u8]) -> Result<(), Stop>
+pub(crate) fn fill(buffer: &mut [u8], bytes: &[u8]) -> Result<(), CallEnd>
     ensures filled { OnOk result (buffer.new ≡ bytes.now) }
     ensures fits { OnOk result (length bytes.now ≡ length buffer.old) }
     ensures number { OnErr result (number_of result ≡ 24) }
@@ -14,20 +14,20 @@ pub(crate) fn fill(buffer: &mut [u8], bytes: &[u8]) -> Result<(), Stop>
     ensures kept { OnErr result (buffer.new ≡ buffer.old) }
 {
     if buffer.len() != bytes.len() {
-        return Err(Stop::WrongBuffer);
+        return Err(CallEnd::WrongBuffer);
     }
     buffer.copy_from_slice(bytes);
     Ok(())
 }
 
 /// Fills a buffer with the object that a decoder answers.
-pub(crate) fn fill_answer(object: &mut [u8], answer: &Option<Vec<u8>>) -> Result<(), Stop>
+pub(crate) fn fill_answer(object: &mut [u8], answer: &Option<Vec<u8>>) -> Result<(), CallEnd>
     ensures answered { Answered (number_of result) object.old object.new (λ r. r ≡ option_map vec_items answer.now) }
     ensures number { IsFilled (number_of result) }
     ensures kept { OnErr result (object.new ≡ object.old) }
 {
     match answer {
         Some(bytes) => fill(object, bytes.as_slice()),
-        None => Err(Stop::Incomplete),
+        None => Err(CallEnd::Incomplete),
     }
 }

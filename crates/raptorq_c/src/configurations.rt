@@ -7,7 +7,7 @@ ghost use Rattle.rq_base.specs.RefusedInput.{new_configuration, checked_configur
 ghost use Rattle.raptorq_c.specs.Numbers.{number_of, refusal_number, IsNumber, IsWritten};
 ghost use Rattle.raptorq_c.specs.Parameters.{parameters_of};
 
-use crate::stop::{Stop, number};
+use crate::call_end::{CallEnd, number};
 use raptorq::ObjectTransmissionInformation;
 use raptorq::systematic_constants::SystematicTable;
 use std::alloc::Global;
@@ -35,7 +35,7 @@ fn derive(
     packet_size: u16,
     decoder_memory: u64,
     configuration: &mut [u8; 12],
-) -> Result<(), Stop>
+) -> Result<(), CallEnd>
     ensures number { IsNumber (number_of result) (wanted_parameters built_in_rows object_length packet_size decoder_memory) }
     ensures written { OnOk result (IsWritten header_bytes (wanted_parameters built_in_rows object_length packet_size decoder_memory) configuration.new) }
     ensures kept { OnErr result (configuration.new ≡ configuration.old) }
@@ -77,7 +77,7 @@ pub extern "C" fn reamertan_derive_configuration(
 }
 
 // Writes the configuration of these numbers.
-fn write(parameters: &Parameters, configuration: &mut [u8; 12]) -> Result<(), Stop>
+fn write(parameters: &Parameters, configuration: &mut [u8; 12]) -> Result<(), CallEnd>
     ensures number { number_of result ≡ refusal_number (new_configuration (parameters_of parameters.now)) }
     ensures written { OnOk result (IsWritten header_bytes (new_configuration (parameters_of parameters.now)) configuration.new) }
     ensures kept { OnErr result (configuration.new ≡ configuration.old) }
@@ -126,7 +126,7 @@ pub extern "C" fn reamertan_read_configuration(
 }
 
 // Tests that coders take a configuration.
-fn check(alloc: Global, configuration: &[u8; 12]) -> Result<(), Stop>
+fn check(alloc: Global, configuration: &[u8; 12]) -> Result<(), CallEnd>
     ensures { IsNumber (number_of result) (checked_configuration (greatest_size built_in_rows) (configuration_of_bytes configuration.now)) }
 {
     let table = SystematicTable::built_in(alloc)?;

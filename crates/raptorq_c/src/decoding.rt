@@ -8,7 +8,7 @@ ghost use Rattle.raptorq_c.specs.Decoding.{frames_refusal, Answered, AnswersPack
 ghost use Rattle.raptorq_c.specs.Numbers.{number_of};
 
 use crate::buffers::fill_answer;
-use crate::stop::{Stop, number};
+use crate::call_end::{CallEnd, number};
 use raptorq::decoder::decode_all;
 use raptorq::encoder::SPARSE_MATRIX_THRESHOLD;
 use raptorq::error::Error;
@@ -38,7 +38,7 @@ fn decode(
     configuration: &[u8; 12],
     packets: &[u8],
     object: &mut [u8],
-) -> Result<(), Stop>
+) -> Result<(), CallEnd>
     ensures refused { IsDecoded (number_of result) configuration.now packets.now }
     ensures headline { Answered (number_of result) object.old object.new (AnswersPackets configuration.now packets.now) }
     ensures only_object { Answered (number_of result) object.old object.new (AnswersWhereOthersCan configuration.now packets.now) }

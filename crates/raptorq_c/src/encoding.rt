@@ -7,7 +7,7 @@ ghost use Rattle.raptorq_c.specs.Numbers.{number_of};
 ghost use Rattle.raptorq_c.specs.Sizes.{bytes_of_packets};
 
 use crate::buffers::fill;
-use crate::stop::{Stop, number};
+use crate::call_end::{CallEnd, number};
 use raptorq::error::Error;
 use raptorq::systematic_constants::SystematicTable;
 use raptorq::{Encoder, EncodingPacket, ObjectTransmissionInformation};
@@ -50,7 +50,7 @@ fn encode(
     object: &[u8],
     repair: u32,
     packets: &mut [u8],
-) -> Result<(), Stop>
+) -> Result<(), CallEnd>
     ensures packets { OnOk result (IsEncoding configuration.now object.now repair packets.new) }
     ensures room { OnOk result (bytes_of_packets configuration.now repair ≡ Ok (length packets.old)) }
     ensures stopped { OnErr result (StopsAt configuration.now object.now repair (length packets.old) (number_of result)) }

@@ -53,7 +53,7 @@ impl Handle {
     }
 
     /// Puts a coder in, and frees the one that there was.
-    pub(crate) fn hold(&mut self, alloc: Global, coder: Box<Coder>)
+    pub(crate) fn replace(&mut self, alloc: Global, coder: Box<Coder>)
         ensures { coder_of self.new ≡ Some coder.value }
     {
         drop(self.take(alloc));

@@ -8,6 +8,7 @@
 #![tactic(auto)]
 
 mod buffers;
+mod call_end;
 mod closing;
 mod configurations;
 mod decoding;
@@ -17,7 +18,6 @@ mod owned;
 mod receiving;
 mod sending;
 mod sizes;
-mod stop;
 #[cfg(test)]
 mod tests;
 

@@ -13,9 +13,9 @@ ghost use Rattle.raptorq_c.specs.Handles.{coder_of, decoder_in, decoder_of, enco
 ghost use Rattle.raptorq_c.specs.Numbers.{number_of, IsNumber};
 
 use crate::buffers::fill_answer;
+use crate::call_end::{CallEnd, number};
 use crate::handle::Handle;
 use crate::owned::Coder;
-use crate::stop::{Stop, number};
 use raptorq::error::Error;
 use raptorq::systematic_constants::SystematicTable;
 use raptorq::{Decoder, EncodingPacket, ObjectTransmissionInformation};
@@ -34,13 +34,13 @@ fn receiver(alloc: Global, configuration: &[u8; 12]) -> Result<Box<Coder>, Error
 }
 
 // Puts a new decoder into the handle, once it is made.
-fn open(alloc: Global, configuration: &[u8; 12], handle: &mut Handle) -> Result<(), Stop>
+fn open(alloc: Global, configuration: &[u8; 12], handle: &mut Handle) -> Result<(), CallEnd>
     ensures number { IsNumber (number_of result) (checked_configuration (greatest_size built_in_rows) (configuration_of_bytes configuration.now)) }
     ensures new { OnOk result (IsSomeAnd (decoder_of handle.new) (IsNewState built_in_rows (configuration_of_bytes configuration.now))) }
     ensures stands { OnOk result (IsSomeAnd (decoder_of handle.new) (StandsForNone built_in_rows (configuration_of_bytes configuration.now))) }
     ensures kept { OnErr result (coder_of handle.new ≡ coder_of handle.old) }
 {
-    handle.hold(alloc, receiver(alloc, configuration)?);
+    handle.replace(alloc, receiver(alloc, configuration)?);
     Ok(())
 }
 
@@ -83,14 +83,14 @@ fn add_bytes(alloc: Global, decoder: &mut Decoder, packet: &[u8]) -> Result<(), 
 }
 
 // Takes a packet, where the coder is a decoder.
-fn add(alloc: Global, coder: &mut Coder, packet: &[u8]) -> Result<(), Stop>
+fn add(alloc: Global, coder: &mut Coder, packet: &[u8]) -> Result<(), CallEnd>
     ensures none { (number_of result ≡ 26) ↔ (decoder_in coder.old ≡ None) }
     ensures added { Becomes (decoder_in coder.old) (decoder_in coder.new) (λ s t. IsAdded s packet.now (number_of result) t) }
     ensures other { encoder_in coder.new ≡ encoder_in coder.old }
 {
     match coder {
         Coder::Receiver(decoder) => Ok(add_bytes(alloc, decoder, packet)?),
-        Coder::Sender(_) => Err(Stop::NoCoder),
+        Coder::Sender(_) => Err(CallEnd::NoCoder),
     }
 }
 
@@ -118,7 +118,7 @@ pub extern "C" fn reamertan_add_packet(alloc: Global, handle: &mut Handle, packe
     ensures other { encoder_of handle.new ≡ encoder_of handle.old }
 {
     let Some(mut coder) = handle.take(alloc) else {
-        return number(Err(Stop::NoCoder));
+        return number(Err(CallEnd::NoCoder));
     };
     let ended = add(alloc, coder.as_mut(), packet);
     handle.put(coder);
@@ -126,7 +126,7 @@ pub extern "C" fn reamertan_add_packet(alloc: Global, handle: &mut Handle, packe
 }
 
 // Fills a buffer with the object, where the coder is a decoder.
-fn write(coder: &Coder, object: &mut [u8]) -> Result<(), Stop>
+fn write(coder: &Coder, object: &mut [u8]) -> Result<(), CallEnd>
     ensures none { (number_of result ≡ 26) ↔ (decoder_in coder.now ≡ None) }
     ensures refused { IfSome (decoder_in coder.now) (λ _. IsRefused (number_of result) (Ok tt)) }
     ensures value { IfSome (decoder_in coder.now) (λ s. Answered (number_of result) object.old object.new (λ r. r ≡ result_of s)) }
@@ -136,7 +136,7 @@ fn write(coder: &Coder, object: &mut [u8]) -> Result<(), Stop>
     ensures kept { OnErr result (object.new ≡ object.old) }
 {
     let Coder::Receiver(decoder) = coder else {
-        return Err(Stop::NoCoder);
+        return Err(CallEnd::NoCoder);
     };
     let answer = decoder.get_result()?;
     fill_answer(object, &answer)
@@ -163,7 +163,7 @@ pub extern "C" fn reamertan_write_object(
     ensures same { coder_of handle.new ≡ coder_of handle.old }
 {
     let Some(coder) = handle.take(alloc) else {
-        return number(Err(Stop::NoCoder));
+        return number(Err(CallEnd::NoCoder));
     };
     let ended = write(coder.as_ref(), object);
     handle.put(coder);

@@ -10,9 +10,9 @@ ghost use Rattle.raptorq_c.specs.Handles.{coder_of, encoder_in, encoder_of, want
 ghost use Rattle.raptorq_c.specs.Numbers.{number_of};
 
 use crate::buffers::fill;
+use crate::call_end::{CallEnd, number};
 use crate::handle::Handle;
 use crate::owned::Coder;
-use crate::stop::{Stop, number};
 use raptorq::error::Error;
 use raptorq::systematic_constants::SystematicTable;
 use raptorq::{Encoder, ObjectTransmissionInformation, PayloadId};
@@ -37,14 +37,14 @@ fn open(
     configuration: &[u8; 12],
     object: &[u8],
     handle: &mut Handle,
-) -> Result<(), Stop>
+) -> Result<(), CallEnd>
     ensures refused { OnErr result ((number_of result ≡ 21) ⊎ IsCodeWhere (RefusesSender configuration.now object.now) (number_of result)) }
     ensures taken { OnOk result (new_encoder (greatest_size built_in_rows) (configuration_of_bytes configuration.now) (length object.now) ≡ Ok tt) }
     ensures nonsingular { OnOk result (HasNonsingularRows built_in_rows (configuration_of_bytes configuration.now)) }
     ensures encoder { OnOk result (IsSomeAnd (encoder_of handle.new) (IsEncoderIn (configuration_of_bytes configuration.now) object.now)) }
     ensures kept { OnErr result (coder_of handle.new ≡ coder_of handle.old) }
 {
-    handle.hold(alloc, sender(alloc, configuration, object)?);
+    handle.replace(alloc, sender(alloc, configuration, object)?);
     Ok(())
 }
 
@@ -80,7 +80,13 @@ fn packet_bytes(alloc: Global, encoder: &Encoder, block: u8, esi: u32) -> Result
 }
 
 // Fills a buffer with a packet, where the coder is an encoder.
-fn write(alloc: Global, coder: &Coder, block: u8, esi: u32, packet: &mut [u8]) -> Result<(), Stop>
+fn write(
+    alloc: Global,
+    coder: &Coder,
+    block: u8,
+    esi: u32,
+    packet: &mut [u8],
+) -> Result<(), CallEnd>
     ensures none { (number_of result ≡ 26) ↔ (encoder_in coder.now ≡ None) }
     ensures number { IfSome (encoder_in coder.now) (λ e. IsPacketNumber (wanted_id e.configuration block esi) (number_of result)) }
     ensures packet { OnOk result (IsSomeAnd (encoder_in coder.now) (λ e. IsPacketAt e block esi packet.new)) }
@@ -88,7 +94,7 @@ fn write(alloc: Global, coder: &Coder, block: u8, esi: u32, packet: &mut [u8]) -
     ensures kept { OnErr result (packet.new ≡ packet.old) }
 {
     let Coder::Sender(encoder) = coder else {
-        return Err(Stop::NoCoder);
+        return Err(CallEnd::NoCoder);
     };
     let bytes = packet_bytes(alloc, encoder, block, esi)?;
     fill(packet, bytes.as_slice())
@@ -116,7 +122,7 @@ pub extern "C" fn reamertan_write_packet(
     ensures same { coder_of handle.new ≡ coder_of handle.old }
 {
     let Some(coder) = handle.take(alloc) else {
-        return number(Err(Stop::NoCoder));
+        return number(Err(CallEnd::NoCoder));
     };
     let ended = write(alloc, coder.as_ref(), block, esi, packet);
     handle.put(coder);

@@ -3,7 +3,7 @@ ghost use Rattle.std.specs.Prelude.{◌≡◌, ◌≢◌, Ok, OnOk, OnErr};
 ghost use Rattle.raptorq_c.specs.Numbers.{number_of, IsNumber};
 ghost use Rattle.raptorq_c.specs.Sizes.{bytes_of_block, bytes_of_packets, range_of};
 
-use crate::stop::{Stop, number};
+use crate::call_end::{CallEnd, number};
 use raptorq::error::Error;
 use raptorq::systematic_constants::SystematicTable;
 use raptorq::{ObjectTransmissionInformation, calculate_block_offsets};
@@ -25,7 +25,7 @@ fn block_range(
     configuration: &[u8; 12],
     block: u8,
     range: &mut Range,
-) -> Result<(), Stop>
+) -> Result<(), CallEnd>
     ensures number { IsNumber (number_of result) (bytes_of_block configuration.now block) }
     ensures written { OnOk result (bytes_of_block configuration.now block ≡ Ok (range_of range.new)) }
     ensures kept { OnErr result (range.new ≡ range.old) }
@@ -33,7 +33,7 @@ fn block_range(
     let config = ObjectTransmissionInformation::deserialize(configuration);
     let offsets = calculate_block_offsets(alloc, &[], &config)?;
     if block >= config.source_blocks() {
-        return Err(Stop::Refused(Error::UnknownBlock));
+        return Err(CallEnd::Refused(Error::UnknownBlock));
     }
     let (start, end) = offsets[usize::from(block)];
     *range = Range {
@@ -68,7 +68,7 @@ fn packets_length(
     configuration: &[u8; 12],
     repair: u32,
     length: &mut u64,
-) -> Result<(), Stop>
+) -> Result<(), CallEnd>
     ensures number { IsNumber (number_of result) (bytes_of_packets configuration.now repair) }
     ensures written { OnOk result (bytes_of_packets configuration.now repair ≡ Ok length.new) }
     ensures kept { OnErr result (length.new ≡ length.old) }
@@ -78,7 +78,7 @@ fn packets_length(
     config.check(&table)?;
     let repair = u64::from(repair);
     if config.largest_block() + repair > 1 << 24 {
-        return Err(Stop::Refused(Error::EsiTooLarge));
+        return Err(CallEnd::Refused(Error::EsiTooLarge));
     }
     let packets = config.total_symbols() + u64::from(config.source_blocks()) * repair;
     *length = packets * (4 + u64::from(config.symbol_size()));

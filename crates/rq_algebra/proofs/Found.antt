@@ -9,7 +9,7 @@ use Rattle.rq_algebra.specs.Operations.{Operation, Reorder, Store, run, plain, u
 use Rattle.rq_algebra.specs.Symbols.{symbols, IsSymbolColumn, AreSymbols, symbol_at, slice_at, SolvesSymbols}
 use Rattle.rq_algebra.proofs.Sums.{dot_same}
 use Rattle.rq_algebra.proofs.Solutions.{solves_same}
-use Rattle.rq_algebra.proofs.Runs.{zero_values, AreAllowed-middle}
+use Rattle.rq_algebra.proofs.OperationRuns.{zero_values, AreAllowed-middle}
 use Rattle.rq_algebra.proofs.Placewise.{place, place_linear, run_linear, read-run_linear, at-zeros, zeros_stay}
 use Rattle.rq_algebra.proofs.Pivots.{found-reorder}
 use Rattle.rq_algebra.proofs.SymbolColumns.{run_keeps_symbols}

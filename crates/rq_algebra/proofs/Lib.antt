@@ -3,15 +3,15 @@ pub mod Elements
 pub mod Elimination
 pub mod FewEquations
 pub mod Found
+pub mod OperationRuns
 pub mod Parity
 pub mod Pivots
 pub mod Places
 pub mod Placewise
 pub mod Reduction
-pub mod Runs
 pub mod SmallCases
 pub mod Solutions
-pub mod Squares
+pub mod SquareSystems
 pub mod Stacks
 pub mod Sums
 pub mod SymbolColumns

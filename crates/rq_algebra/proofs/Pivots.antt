@@ -10,7 +10,7 @@ use Rattle.rq_algebra.proofs.Sums.{dot_one, dot_zero, zero_mul}
 use Rattle.rq_algebra.proofs.Changes.{find_place}
 use Rattle.rq_algebra.proofs.FewEquations.{all_places}
 use Rattle.rq_algebra.proofs.Solutions.{solves_same}
-use Rattle.rq_algebra.proofs.Runs.{run_push, AreAllowed-push, zero_values}
+use Rattle.rq_algebra.proofs.OperationRuns.{run_push, AreAllowed-push, zero_values}
 use Rattle.rq_algebra.proofs.Placewise.{at-zeros, zeros_stay}
 
 -- what is read after an order has been set

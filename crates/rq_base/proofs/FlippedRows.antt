@@ -12,7 +12,7 @@ use Rattle.rq_standard.specs.BitTableSteps.{HasSameShape, SetsBit, bit_of}
 use Rattle.rq_standard.specs.TableRows.{intermediate_symbols}
 use Rattle.rq_standard.specs.Equations.{row_indices, symbol_coefficient}
 use Rattle.rq_base.specs.BinaryRows.{HasLdpcRows, HasSymbolRows, FillsRow}
-use Rattle.rq_base.proofs.BitRows.{same_shape, rows_stay}
+use Rattle.rq_base.proofs.BitRowSteps.{same_shape, rows_stay}
 
 -- what is left to flip of the indices of a row
 pub record IsFlipping (old : BitTable) (i : ℕ) (indices left : List ℕ) (new : BitTable) : Type 0 where

@@ -1,5 +1,5 @@
 pub mod FlippedRows
-pub mod BitRows
+pub mod BitRowSteps
 pub mod HdpcSteps
 pub mod OctetEntries
 pub mod DefaultParameters

@@ -8,15 +8,14 @@ pub mod Halves
 pub mod Multiples
 pub mod PackedRows
 pub mod PlaneFacts
+pub mod ProductSteps
 pub mod RangeFacts
 pub mod RangeLoans
 pub mod RangeMultiples
-pub mod RangeSums
-pub mod RefusalFacts
+pub mod RangeSumLaws
 pub mod SlabFacts
 pub mod SlabMultiples
 pub mod SlabSums
-pub mod Steps
 pub mod TableFacts
 pub mod UnreadFacts
 pub mod Zeros

@@ -10,7 +10,7 @@ use lib.Bits.{bit_and}
 use lib.Lanes.{zip2, sel_l}
 use Rattle.rq_standard.specs.Octets.{octet_mul, octet_times}
 use Rattle.rq_standard.specs.OctetProducts.{if_set}
-use Rattle.rq_bytes.proofs.Steps.{end}
+use Rattle.rq_bytes.proofs.ProductSteps.{end}
 
 -- the two tests of a bit are one
 eqb_scaled : (b p : ℕ) → b < 2 → 0 < p → eqb (b * p) p ≡ eqb b 1

@@ -4,7 +4,7 @@ use Rattle.std.proofs.lemmas.List.{get_or-set_same, get_or-set_other, set-set, s
 use Rattle.std.proofs.lemmas.List.Elements.{All-head, All-tail, All-map, All-weaker}
 use Rattle.rq_algebra.specs.Operations.{Operation, AddAssign, MulAssign, Store, step, run, meant_at}
 use Rattle.rq_algebra.specs.Symbols.{symbols, add_symbols}
-use Rattle.rq_algebra.proofs.Runs.{run-append}
+use Rattle.rq_algebra.proofs.OperationRuns.{run-append}
 use Rattle.rq_algebra.proofs.SymbolSums.{length-add_symbols}
 use Rattle.rq_standard.specs.OctetField.{octets}
 use Rattle.rq_standard.specs.Rows.{row_sum}
@@ -12,7 +12,7 @@ use Rattle.rq_standard.proofs.RowSymbols.{add_symbols-rows}
 use Rattle.rq_bytes.specs.Ranges.{range_of, with_range, cut}
 use Rattle.rq_bytes.specs.RangeSums.{with_ranges_added, sum_of_ranges, IsRangeBeside}
 use Rattle.rq_bytes.specs.SymbolSlab.{Slab, store_of, after, after_all, HasPlace, Allows, symbol_in, with_symbols_added}
-use Rattle.rq_bytes.proofs.RangeSums.{summed, length-summed}
+use Rattle.rq_bytes.proofs.RangeSumLaws.{summed, length-summed}
 use Rattle.rq_bytes.proofs.SlabFacts.{Holds, apart, range_at, length-range_at, size_is, within, one_written, meant_below}
 use Rattle.rq_bytes.specs.contracts.symbol_slab.SymbolSlab.{the_view, the_invariant}
 use Rattle.rq_bytes.specs.declared.symbol_slab.SymbolSlab.TheInside.{Inside}

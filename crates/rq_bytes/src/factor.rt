@@ -14,7 +14,7 @@ pub fn multiply_row(octets: &mut [u8], scalar: &Octet)
     ensures multiple { octets.new ≡ row_multiple scalar.now octets.old }
 {
     if scalar.byte() == 2 {
-        double(octets);
+        double_row(octets);
     } else {
         multiply(octets, &HalfProducts::new(scalar.byte()));
     }
@@ -68,7 +68,7 @@ fn add_multiple(octets: &mut [u8], other: &[u8], factor: &HalfProducts)
 }
 
 // Multiplies a row by x, as most multiplications of a plan do. Nothing is looked up for it.
-fn double(octets: &mut [u8])
+fn double_row(octets: &mut [u8])
     ensures { octets.new ≡ row_multiple 2 octets.old }
 {
     let blocks = octets.len() / LANES;

@@ -206,8 +206,8 @@ impl SymbolSlab {
         ensures { self.new ≡ record self.old { values = swap self.old.values (meant_at self.old.order i) (meant_at self.old.order j) } }
     {
         let size = self.symbol_size;
-        let first = self.meant(i);
-        let second = self.meant(j);
+        let first = self.stored_index(i);
+        let second = self.stored_index(j);
         if first != second {
             let bytes = self.data.as_mut_slice();
             swap_ranges(bytes, first * size, second * size, size);
@@ -340,11 +340,11 @@ impl SymbolSlab {
         ensures start { result ≡ meant_at self.now.order i * self.now.symbol_size }
         ensures below { meant_at self.now.order i < length self.now.values }
     {
-        self.meant(i) * self.symbol_size
+        self.stored_index(i) * self.symbol_size
     }
 
     // Which symbol a place means.
-    fn meant(&self, i: usize) -> usize
+    fn stored_index(&self, i: usize) -> usize
         requires { HasPlace self.now i }
         ensures is { result ≡ meant_at self.now.order i }
         ensures below { result < length self.now.values }

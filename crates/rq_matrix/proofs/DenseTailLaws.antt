@@ -10,7 +10,7 @@ use Rattle.std.proofs.lemmas.List.Elements.{All-append, All-cons, All-map}
 use Rattle.std.proofs.lemmas.Nat.Bits.{bit_at_xor, bit_at-lt}
 use Rattle.rq_bytes.specs.BinaryOctetVec.{packed_bit}
 use Rattle.rq_parts.specs.SparseBinaryVec.{listed_bit}
-use Rattle.rq_parts.proofs.BitPairs.{packed_bit-at}
+use Rattle.rq_parts.proofs.BitPairLaws.{packed_bit-at}
 use Rattle.rq_parts.proofs.ListedBits.{listed-append, listed-self, listed-other}
 use Rattle.rq_matrix.specs.BitRows.{with_word_added, IsLastOne}
 use Rattle.rq_matrix.specs.DenseTails.{Tail, tail_bit, IsTail, SetsTailBit, MarksRows, AddsTailRow, PushesColumn}

@@ -1,7 +1,7 @@
 pub mod ColumnIndexLaws
 pub mod DenseTailLaws
 pub mod Ones
-pub mod Orders
+pub mod OrderLaws
 pub mod Pairs
 pub mod Places
 pub mod RowBuffers

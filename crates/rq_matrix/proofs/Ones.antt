@@ -8,7 +8,7 @@ use Rattle.std.proofs.lemmas.Nat.Bits.{bit_at-lt}
 use Rattle.std.proofs.Math.Nat.{mod-lt}
 use lib.Count.{ones_cat, ones-ones}
 use Rattle.rq_standard.specs.BitTableSteps.{ones_below}
-use Rattle.rq_parts.proofs.BitPairs.{bit_at-shifted}
+use Rattle.rq_parts.proofs.BitPairLaws.{bit_at-shifted}
 
 pub ones_below-same : (f g : ℕ → ℕ) (n : ℕ) → ((k : ℕ) → k < n → f k ≡ g k) → ones_below f n ≡ ones_below g n
 ones_below-same f g zero same = refl

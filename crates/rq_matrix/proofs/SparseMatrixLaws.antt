@@ -11,7 +11,7 @@ use Rattle.rq_matrix.specs.DenseTails.{Tail, tail_bit, SetsTailBit, AddsTailRow,
 use Rattle.rq_matrix.specs.Orders.{Order, IsOrder, ExchangesPlaces}
 use Rattle.rq_matrix.specs.SparseBinaryMatrix.{sparse_bit}
 use Rattle.rq_matrix.specs.SparseTables.{bit-before, bit-from}
-use Rattle.rq_matrix.proofs.Orders.{order_apart}
+use Rattle.rq_matrix.proofs.OrderLaws.{order_apart}
 
 -- the bit of a stored row in column k
 abbrev pub row_bit : ℕ → ℕ → List (List ℕ) → Order → Tail → ℕ → ℕ → ℕ

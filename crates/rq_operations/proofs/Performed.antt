@@ -5,7 +5,7 @@ use Rattle.std.proofs.lemmas.List.Elements.{All-nil, All-cons}
 use Rattle.std.proofs.Math.Seq.{drop-cons, take-add}
 use Rattle.rq_algebra.specs.Operations.{Operation, AddAssign, MulAssign, Fma, Reorder, Store, step, run, meant_at, order_after, IsAllowed, AreAllowed}
 use Rattle.rq_algebra.specs.Symbols.{symbols}
-use Rattle.rq_algebra.proofs.Runs.{run-append, last_order, order-run}
+use Rattle.rq_algebra.proofs.OperationRuns.{run-append, last_order, order-run}
 use Rattle.rq_standard.specs.OctetField.{octets}
 use Rattle.rq_bytes.specs.Ranges.{range_of}
 use Rattle.rq_bytes.specs.SymbolSlab.{Slab, store_of, after, after_all}

@@ -31,6 +31,13 @@ pub(crate) fn replay(steps: &[Step], symbols: &mut SymbolSlab)
     }
 }
 
+// The steps that are left to perform: those from `start` on.
+#[derive(Clone, Copy)]
+struct StepsLeft<'a> {
+    steps: &'a [Step],
+    start: usize,
+}
+
 // What is kept while steps are performed.
 #[derive(Debug, Drop)]
 struct Performer {
@@ -60,6 +67,7 @@ impl Performer {
         requires allowed { AreAllowed (length symbols.old.values) symbols.old.order (drop start (map operation_of_step steps.now)) }
         ensures { PerformsNext (map operation_of_step steps.now) start result symbols.old symbols.new }
     {
+        let left = StepsLeft { steps, start };
         match &steps[start] {
             Step::Add { dest, src } => {
                 let count = read_sources(steps, start, *dest, *src, &mut self.sources);
@@ -71,29 +79,28 @@ impl Performer {
                     dest: *dest as usize,
                     scalar: scalar.byte(),
                 };
-                self.add_multiples(steps, start, *src, first, symbols)
+                self.add_multiples(left, *src, first, symbols)
             }
-            Step::Multiply { scalar, dest } => self.multiply(steps, start, scalar, *dest, symbols),
+            Step::Multiply { scalar, dest } => self.multiply(left, scalar, *dest, symbols),
         }
     }
 
-    // Performs the multiplication at `start`. A doubling is done in one pass with an addition behind it
-    // to the same symbol. Returns how many steps these are.
+    // Performs the multiplication that is first. A doubling is done in one pass with an addition behind
+    // it to the same symbol. Returns how many steps these are.
     fn multiply(
         &mut self,
-        steps: &[Step],
-        start: usize,
+        left: StepsLeft<'_>,
         scalar: &Octet,
         dest: u32,
         symbols: &mut SymbolSlab,
     ) -> usize
-        requires here { start < length steps.now }
-        requires step { range_of (map operation_of_step steps.now) start 1 ≡ MulAssign dest scalar.now ∷ [] }
-        requires allowed { AreAllowed (length symbols.old.values) symbols.old.order (drop start (map operation_of_step steps.now)) }
-        ensures { PerformsNext (map operation_of_step steps.now) start result symbols.old symbols.new }
+        requires here { left.start < length left.steps.now }
+        requires step { range_of (map operation_of_step left.steps.now) left.start 1 ≡ MulAssign dest scalar.now ∷ [] }
+        requires allowed { AreAllowed (length symbols.old.values) symbols.old.order (drop left.start (map operation_of_step left.steps.now)) }
+        ensures { PerformsNext (map operation_of_step left.entry.steps.now) left.entry.start result symbols.old symbols.new }
     {
         if scalar.byte() == 2 {
-            if let Some(src) = next_source(steps, start, dest) {
+            if let Some(src) = next_source(left.steps, left.start, dest) {
                 symbols.double_and_add(dest as usize, src as usize);
                 return 2;
             }
@@ -104,23 +111,22 @@ impl Performer {
         1
     }
 
-    // Performs the additions of multiples of the symbol at `src` that follow each other from `start` on,
+    // Performs the additions of multiples of the symbol at `src` that come first, one after another,
     // the first one being known, as far as there is room. Multiples of zeros are left out. Returns how
     // many steps these are.
     fn add_multiples(
         &mut self,
-        steps: &[Step],
-        start: usize,
+        left: StepsLeft<'_>,
         src: u32,
         first: Multiple,
         symbols: &mut SymbolSlab,
     ) -> usize
-        requires here { start < length steps.now }
-        requires first { range_of (map operation_of_step steps.now) start 1 ≡ Fma first.dest src first.scalar ∷ [] }
-        requires allowed { AreAllowed (length symbols.old.values) symbols.old.order (drop start (map operation_of_step steps.now)) }
-        ensures { PerformsNext (map operation_of_step steps.now) start result symbols.old symbols.new }
+        requires here { left.start < length left.steps.now }
+        requires first { range_of (map operation_of_step left.steps.now) left.start 1 ≡ Fma first.dest src first.scalar ∷ [] }
+        requires allowed { AreAllowed (length symbols.old.values) symbols.old.order (drop left.start (map operation_of_step left.steps.now)) }
+        ensures { PerformsNext (map operation_of_step left.entry.steps.now) left.entry.start result symbols.old symbols.new }
     {
-        let count = read_multiples(steps, start, src, first, &mut self.multiples);
+        let count = read_multiples(left.steps, left.start, src, first, &mut self.multiples);
         if !self.is_found_zero(symbols, src) {
             symbols.add_multiples(src as usize, &self.multiples[..count]);
         }

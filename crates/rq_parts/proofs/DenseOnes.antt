@@ -7,7 +7,7 @@ use Rattle.std.proofs.lemmas.List.{get_or-drop}
 use Rattle.std.proofs.lemmas.Nat.Bits.{bit_at-lt, bit_at-zero, bit_at_and, bit_at_mask_inside, bit_at_mask_below, ones_shl}
 use Rattle.rq_bytes.specs.BinaryOctetVec.{packed_bit}
 use Rattle.rq_parts.specs.BitPairs.{bit_pairs, ones_among, from_word, ones_from}
-use Rattle.rq_parts.proofs.BitPairs.{packed_bit-at, bit_pairs-none, bit_pairs-next, bit_pairs-same, ones_among-skip, ones_among-first}
+use Rattle.rq_parts.proofs.BitPairLaws.{packed_bit-at, bit_pairs-none, bit_pairs-next, bit_pairs-same, ones_among-skip, ones_among-first}
 use Rattle.rq_parts.proofs.LowestOnes.{ClearsLowest}
 
 module _ (words : List ℕ) (word : ℕ) where

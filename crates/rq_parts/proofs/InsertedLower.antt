@@ -77,8 +77,8 @@ module _ (xs : List ℕ) (one place : ℕ) (up : IsStrictlyIncreasing xs) (found
       let kept = set-get_or zs at 0 in
       cc
 
-  pub sunk-step : (far near : ℕ) → far ≡ max (suc at) place → near ≡ max at place → set ones (suc at) sinking ≡ insert xs far one → set (set ones (suc at) high) at low ≡ insert xs near one
-  sunk-step far near farther nearer is =
+  pub inserted-step : (far near : ℕ) → far ≡ max (suc at) place → near ≡ max at place → set ones (suc at) sinking ≡ insert xs far one → set (set ones (suc at) high) at low ≡ insert xs near one
+  inserted-step far near farther nearer is =
       elim (cases_lt at place) [
         | inl short ↦ sunk-below short (is ∙ ap (λ n. insert xs n one) {y = place} (omega arith)) ∙ ap (λ n. insert xs n one) {y = near} (omega arith)
         | inr past ↦ sunk-above past (is ∙ ap (λ n. insert xs n one) {y = suc at} (omega arith)) ∙ ap (λ n. insert xs n one) {y = near} (omega arith)

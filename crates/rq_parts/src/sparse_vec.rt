@@ -18,8 +18,8 @@ use std::alloc::{AllocError, Global};
 use std::cmp::Ordering;
 use std::marker::Model;
 
-/// How many ones a row has without an allocation. Most rows have a few, and an LDPC row of a block of 497
-/// symbols has no more than these.
+/// How many ones a row has without an allocation. Most rows have a few, and an LDPC row of a block of
+/// 497 symbols has no more than these.
 pub const INLINE_ONES: usize = 40;
 
 /// A row of bits as the ascending list of the indices that have a one, each below 65536. Contracts
@@ -186,7 +186,7 @@ impl SparseBinaryVec {
         ensures err { IfErr result (λ e. e ≡ OutOfMemory) }
     {
         push(&mut self.elements, i as u16)?;
-        if sink_last(&mut self.elements) {
+        if insert_last(&mut self.elements) {
             self.elements.retain(|one| usize::from(*one) != i);
         }
         Ok(())
@@ -203,7 +203,7 @@ impl SparseBinaryVec {
         ensures err { IfErr result (λ e. e ≡ OutOfMemory) }
     {
         push(&mut self.elements, i as u16)?;
-        last_to(&mut self.elements, gap);
+        move_last_to(&mut self.elements, gap);
         Ok(())
     }
 
@@ -235,8 +235,8 @@ impl SparseBinaryVec {
     }
 }
 
-// Lists an index behind all others. Nearly all lists have room. Making it is a call of its own, so that
-// the others don't carry its code.
+// Lists an index behind all others. Nearly all lists have room. Making it is a call of its own, so
+// that the others don't carry its code.
 #[inline(always)]
 fn push(ones: &mut SmallVec<u16, INLINE_ONES>, one: u16) -> Result<(), AllocError>
     ensures ok { OnOk result (ones.new.items ≡ ones.old.items ++ one ∷ []) }
@@ -260,7 +260,7 @@ fn push_growing(ones: &mut SmallVec<u16, INLINE_ONES>, one: u16) -> Result<(), A
 }
 
 // Moves the last one down to a place, and those from there on up. Most have little way to go.
-fn last_to(ones: &mut [u16], gap: usize)
+fn move_last_to(ones: &mut [u16], gap: usize)
     requires { gap < length ones.old }
     ensures { (xs : List ℕ) (one : ℕ) → ones.old ≡ xs ++ one ∷ [] → ones.new ≡ insert xs gap one }
 {
@@ -274,9 +274,9 @@ fn last_to(ones: &mut [u16], gap: usize)
 // Moves the last one down to its place among those before it, and answers whether one of these is
 // the same. Each step does the same whatever the place, and no step waits for another, so that
 // there is no branch to guess and several places are written at once.
-fn sink_last(ones: &mut [u16]) -> bool
+fn insert_last(ones: &mut [u16]) -> bool
     requires { 0 < length ones.old }
-    ensures sunk { (xs : List ℕ) (one place : ℕ) → ones.old ≡ xs ++ one ∷ [] → IsStrictlyIncreasing xs → IsPlace xs one place → ones.new ≡ insert xs place one }
+    ensures put { (xs : List ℕ) (one place : ℕ) → ones.old ≡ xs ++ one ∷ [] → IsStrictlyIncreasing xs → IsPlace xs one place → ones.new ≡ insert xs place one }
     ensures listed { (xs : List ℕ) (one : ℕ) → ones.old ≡ xs ++ one ∷ [] → (result ≡ true) ↔ Contains xs one }
 {
     let mut at = ones.len() - 1;

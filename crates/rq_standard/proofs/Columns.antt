@@ -19,7 +19,7 @@ use Rattle.rq_standard.specs.Equations.{fixed_equations, symbol_coefficient, equ
 use Rattle.rq_standard.specs.Held.{Held, SolvesHeld}
 use Rattle.rq_standard.proofs.PlaceLaws.{row_indices_below, enough_lt}
 use Rattle.rq_standard.proofs.TupleLaws.{between}
-use Rattle.rq_standard.proofs.Known.{range_at, nonsingular_rows}
+use Rattle.rq_standard.proofs.KnownIds.{range_at, nonsingular_rows}
 use Rattle.rq_standard.specs.Headline.{IsNonsingular, IsIntermediateColumn, IsOnlyIntermediateColumn, IsEncodingSymbol}
 
 -- ---- an id has a place at least
@@ -104,7 +104,7 @@ if_some-weaker None P Q weaker h = tt
 if_some-weaker (Some x) P Q weaker h = weaker x h
 
 -- what is held of a block whose symbols are those of a source is solved by the source's intermediate symbols
-pub solves_held : (h : Held) (source : List (List ℕ)) (column : ℕ → List ℕ) → IsChecked h.row → length source ≡ h.symbols → ((e : ℕ) → length (get_or source e (zero_symbol h.configuration.symbol_size)) ≡ h.configuration.symbol_size)
+pub solves_held : (h : Held) (source : List (List ℕ)) (column : ℕ → List ℕ) → IsChecked h.row → length source ≡ h.source_symbols → ((e : ℕ) → length (get_or source e (zero_symbol h.configuration.symbol_size)) ≡ h.configuration.symbol_size)
     → IsIntermediateColumn h.row h.configuration.symbol_size source column → ((e : ℕ) → IfSome (h.received e) (λ payload. IsEncodingSymbol h.row h.configuration.symbol_size source e payload)) → SolvesHeld h column
 solves_held h source column checked long are is honest =
     let row = h.row in

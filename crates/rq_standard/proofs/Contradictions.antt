@@ -12,10 +12,10 @@ use Rattle.rq_standard.specs.Received.{or_later, first_payload}
 use Rattle.rq_standard.specs.Headline.{IsIntermediateColumn, DetermineBlock, block_row, block_source, IsPacketOf}
 use Rattle.rq_standard.specs.Held.{Held, holds, recorded, SolvesHeld, HasSolution, AreHeldDetermining, IsContradictory, IsBlockAnswer}
 use Rattle.rq_standard.specs.Standing.{State, AddsOpen, AddsToBlock, IsSameElsewhere, Adds, RecordsOnly, Contradicts, IsBlockContradictory, KeepsContradictions, StopsEarly, Stops, IsHonestPacket, held_after, HoldsRun, HoldsMore, BlockStandsFor, IsNewState, IsHeldOf}
-use Rattle.rq_standard.proofs.Known.{block_more, block_same}
+use Rattle.rq_standard.proofs.KnownIds.{block_more, block_same}
 use Rattle.rq_standard.proofs.Columns.{solves_held}
 use Rattle.rq_standard.proofs.Firsts.{stays, first_payload-here, first_payload-elsewhere}
-use Rattle.rq_standard.proofs.Standing.{HoldsFirsts, push-all, length-block_source, source_sized, held_with, held_is, held_symbol, firsts_more, recorded_shape}
+use Rattle.rq_standard.proofs.StandingSteps.{HoldsFirsts, push-all, length-block_source, source_sized, held_with, held_is, held_symbol, firsts_more, recorded_shape}
 
 -- ---- a block
 
@@ -24,10 +24,10 @@ less None later P h = tt
 less (Some x) later P h = h
 
 -- the ids alone say whether what is held determines its block
-pub determined_by_ids : (one other : Held) → one.row ≡ other.row → one.symbols ≡ other.symbols → ((e : ℕ) → holds one e ≡ holds other e) → AreHeldDetermining one ↔ AreHeldDetermining other
+pub determined_by_ids : (one other : Held) → one.row ≡ other.row → one.source_symbols ≡ other.source_symbols → ((e : ℕ) → holds one e ≡ holds other e) → AreHeldDetermining one ↔ AreHeldDetermining other
 determined_by_ids one other row symbols same = (
-  λ d. subst (λ r. DetermineBlock r other.symbols (holds other)) row (subst (λ k. DetermineBlock one.row k (holds other)) symbols (block_same one.row one.symbols (holds one) (holds other) same d)),
-  λ d. block_same one.row one.symbols (holds other) (holds one) (λ e. sym (same e)) (subst (λ k. DetermineBlock one.row k (holds other)) (sym symbols) (subst (λ r. DetermineBlock r other.symbols (holds other)) (sym row) d)),
+  λ d. subst (λ r. DetermineBlock r other.source_symbols (holds other)) row (subst (λ k. DetermineBlock one.row k (holds other)) symbols (block_same one.row one.source_symbols (holds one) (holds other) same d)),
+  λ d. block_same one.row one.source_symbols (holds other) (holds one) (λ e. sym (same e)) (subst (λ k. DetermineBlock one.row k (holds other)) (sym symbols) (subst (λ r. DetermineBlock r other.source_symbols (holds other)) (sym row) d)),
 )
 
 -- a column that solves what is held solved what was held before
@@ -42,7 +42,7 @@ solves_less h esi payload column s = record {
 -- more that is recorded stays contradictory
 pub contradicts_more : (h : Held) (esi : ℕ) (payload : List ℕ) → IsContradictory h → IsContradictory (recorded h esi payload)
 contradicts_more h esi payload c = record {
-  determined = block_more h.row h.symbols (holds h) (holds (recorded h esi payload)) (λ e has. stays (h.received e) (cond (eqb esi e) (Some payload) None) has) c.determined;
+  determined = block_more h.row h.source_symbols (holds h) (holds (recorded h esi payload)) (λ e has. stays (h.received e) (cond (eqb esi e) (Some payload) None) has) c.determined;
   unsolved = λ s. c.unsolved (record { column = s.column; solves = solves_less h esi payload s.column s.solves });
 }
 
@@ -126,16 +126,17 @@ held_later table c packets p = λ i. record {
   configuration = c;
   number = p.id.block;
   row = block_row table c p.id.block;
-  symbols = block_symbols c p.id.block;
+  source_symbols = block_symbols c p.id.block;
   received = λ e. sym (first_payload-here p.id.block packets p e refl) i;
 }
 
-held_meanwhile : (table : List TableRow) (c : Configuration) (b : ℕ) (packets : List Packet) (p : Packet) → p.id.block ≢ b → held_after table c b packets ≡ held_after table c b (packets ++ p ∷ [])
+-- and what is held of another block
+pub held_meanwhile : (table : List TableRow) (c : Configuration) (b : ℕ) (packets : List Packet) (p : Packet) → p.id.block ≢ b → held_after table c b packets ≡ held_after table c b (packets ++ p ∷ [])
 held_meanwhile table c b packets p ne = λ i. record {
   configuration = c;
   number = b;
   row = block_row table c b;
-  symbols = block_symbols c b;
+  source_symbols = block_symbols c b;
   received = λ e. sym (first_payload-elsewhere b packets p e ne) i;
 }
 

@@ -15,7 +15,7 @@ use Rattle.rq_standard.specs.Differences.{first_octets_block}
 use Rattle.rq_standard.specs.Equations.{zero_symbol}
 use Rattle.rq_standard.proofs.BlockCuts.{pieces, symbols_before-first, symbols_before-next, symbols_before-all}
 use Rattle.rq_standard.proofs.Interleaved.{IsSubBlock, at_byte, place_in, place_below, get_or-symbol_of_block}
-use Rattle.rq_standard.proofs.Standing.{length-symbol_of_block}
+use Rattle.rq_standard.proofs.StandingSteps.{length-symbol_of_block}
 
 -- a symbol of which only the first octet may be nonzero
 abbrev pub first_octet : ℕ → ℕ → List ℕ

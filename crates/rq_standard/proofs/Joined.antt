@@ -7,7 +7,7 @@ use Rattle.rq_standard.specs.Configuration.{Configuration, IsAligned}
 use Rattle.rq_standard.specs.Cutting.{sub_block_size, sub_block_start, place_in_block, symbol_of_block}
 use Rattle.rq_standard.specs.Joining.{symbol_of_place, byte_of_place, symbols_of_block, joined_block}
 use Rattle.rq_standard.proofs.Interleaved.{at_byte, place_in, place_low, place_below, place_found, get_or-symbol_of_block}
-use Rattle.rq_standard.proofs.Standing.{length-symbol_of_block}
+use Rattle.rq_standard.proofs.StandingSteps.{length-symbol_of_block}
 
 -- ---- the byte of a symbol that stands at a place
 

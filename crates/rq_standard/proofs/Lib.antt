@@ -3,7 +3,7 @@ pub mod BlockCuts
 pub mod BlockRows
 pub mod Columns
 pub mod Contradictions
-pub mod Differences
+pub mod DifferenceColumns
 pub mod FirstOctets
 pub mod Firsts
 pub mod FrameLaws
@@ -11,7 +11,7 @@ pub mod HdpcLaws
 pub mod HeaderBytes
 pub mod Interleaved
 pub mod Joined
-pub mod Known
+pub mod KnownIds
 pub mod LeastNumbers
 pub mod MorePackets
 pub mod ObjectAnswers
@@ -25,5 +25,5 @@ pub mod Powers
 pub mod RowLaws
 pub mod RowSymbols
 pub mod SourcePackets
-pub mod Standing
+pub mod StandingSteps
 pub mod TupleLaws

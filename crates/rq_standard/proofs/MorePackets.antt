@@ -11,7 +11,7 @@ use Rattle.rq_standard.specs.Received.{first_payload, has_id}
 use Rattle.rq_standard.specs.SameIds.{ids_of, HasIdsOf, HaveSameIds}
 use Rattle.rq_standard.specs.Headline.{DetermineBlock, block_row, IsHonestRun, IsAnswerable, IsObjectAnswer, AnswersExactly}
 use Rattle.rq_standard.proofs.Firsts.{first_payload-packet}
-use Rattle.rq_standard.proofs.Known.{block_more}
+use Rattle.rq_standard.proofs.KnownIds.{block_more}
 use Rattle.rq_standard.proofs.OtherObjects.{all_came}
 
 -- ---- ids that came

@@ -8,13 +8,13 @@ use Rattle.rq_standard.specs.Cutting.{block_symbols, block_bytes}
 use Rattle.rq_standard.specs.Received.{has_id}
 use Rattle.rq_standard.specs.Headline.{DetermineBlock, block_row, IsObjectAnswer}
 use Rattle.rq_standard.specs.Held.{Held, holds, AreHeldDetermining}
-use Rattle.rq_standard.specs.Standing.{State, IsHeldOf, BlockStandsFor, StandsForButLate, append_both, joined, result_of, AnswersObject, AnswersNothingElse}
+use Rattle.rq_standard.specs.Standing.{State, IsHeldOf, BlockStandsFor, StandsForButLate, append_both, first_blocks, result_of, AnswersObject, AnswersNothingElse}
 use Rattle.rq_standard.specs.Differences.{AreUnansweredDetermined, IsNoneWhereAnswered}
 use Rattle.rq_standard.proofs.BlockCuts.{pieces, whole_object}
-use Rattle.rq_standard.proofs.Known.{block_same}
+use Rattle.rq_standard.proofs.KnownIds.{block_same}
 
 -- blocks are joined where each has an answer
-pub joined_some : (f : ℕ → List ℕ) (answer : ℕ → Option (List ℕ)) (n : ℕ) → ((b : ℕ) → b < n → answer b ≡ Some (f b)) → joined n answer ≡ Some (pieces f n)
+pub joined_some : (f : ℕ → List ℕ) (answer : ℕ → Option (List ℕ)) (n : ℕ) → ((b : ℕ) → b < n → answer b ≡ Some (f b)) → first_blocks n answer ≡ Some (pieces f n)
 joined_some f answer zero each = refl
 joined_some f answer (suc n) each = rw (joined_some f answer n (λ b below. each b (omega arith)), each n (omega arith)) refl
 
@@ -23,10 +23,10 @@ both_some None y h = absurd (cc h)
 both_some (Some xs) None h = absurd (cc h)
 both_some (Some xs) (Some ys) h = (refl, refl)
 
-pub joined_each : (answer : ℕ → Option (List ℕ)) (n : ℕ) → IsSome (joined n answer) → (b : ℕ) → b < n → IsSome (answer b)
+pub joined_each : (answer : ℕ → Option (List ℕ)) (n : ℕ) → IsSome (first_blocks n answer) → (b : ℕ) → b < n → IsSome (answer b)
 joined_each answer zero h b below = absurd (omega arith)
 joined_each answer (suc n) h b below =
-    let q = both_some (joined n answer) (answer n) h in
+    let q = both_some (first_blocks n answer) (answer n) h in
     elim (cases_lt b n) [
       | inl lt ↦ joined_each answer n q.0 b lt
       | inr past ↦ let here : n ≡ b = omega arith in subst (λ m. IsSome (answer m)) here q.1
@@ -38,11 +38,11 @@ some_of f (Some xs) h = refl
 
 module _ (table : List TableRow) (object : List ℕ) (packets : List Packet) (s : State) where
   -- the ids that came determine a block, by its row and by what is held
-  by_row : (b : ℕ) (h : Held) → IsHeldOf table s.configuration b h → DetermineBlock h.row h.symbols (has_id b packets) → DetermineBlock (block_row table s.configuration b) (block_symbols s.configuration b) (has_id b packets)
-  by_row b h shape d = subst (λ r. DetermineBlock r (block_symbols s.configuration b) (has_id b packets)) shape.row (subst (λ k. DetermineBlock h.row k (has_id b packets)) shape.symbols d)
+  by_row : (b : ℕ) (h : Held) → IsHeldOf table s.configuration b h → DetermineBlock h.row h.source_symbols (has_id b packets) → DetermineBlock (block_row table s.configuration b) (block_symbols s.configuration b) (has_id b packets)
+  by_row b h shape d = subst (λ r. DetermineBlock r (block_symbols s.configuration b) (has_id b packets)) shape.row (subst (λ k. DetermineBlock h.row k (has_id b packets)) shape.source_symbols d)
 
-  by_held : (b : ℕ) (h : Held) → IsHeldOf table s.configuration b h → DetermineBlock (block_row table s.configuration b) (block_symbols s.configuration b) (has_id b packets) → DetermineBlock h.row h.symbols (has_id b packets)
-  by_held b h shape d = subst (λ k. DetermineBlock h.row k (has_id b packets)) (sym shape.symbols) (subst (λ r. DetermineBlock r (block_symbols s.configuration b) (has_id b packets)) (sym shape.row) d)
+  by_held : (b : ℕ) (h : Held) → IsHeldOf table s.configuration b h → DetermineBlock (block_row table s.configuration b) (block_symbols s.configuration b) (has_id b packets) → DetermineBlock h.row h.source_symbols (has_id b packets)
+  by_held b h shape d = subst (λ k. DetermineBlock h.row k (has_id b packets)) (sym shape.source_symbols) (subst (λ r. DetermineBlock r (block_symbols s.configuration b) (has_id b packets)) (sym shape.row) d)
 
   -- a block with an answer
   answered : (late : Bool) (b : ℕ) (h : Held) (a : Option (List ℕ)) → IsHeldOf table s.configuration b h → BlockStandsFor late (block_bytes s.configuration object b) b packets h a → IsSome a
@@ -63,7 +63,7 @@ module _ (table : List TableRow) (object : List ℕ) (packets : List Packet) (s 
         ∙ ap (λ xs. Some xs) (whole_object s.configuration object some pos st.run.long)
 
     each_of : IsSome (result_of s) → (b : ℕ) → b < s.configuration.source_blocks → IsSome (s.answer b)
-    each_of h = joined_each s.answer s.configuration.source_blocks (some_of (take s.configuration.transfer_length) (joined s.configuration.source_blocks s.answer) h)
+    each_of h = joined_each s.answer s.configuration.source_blocks (some_of (take s.configuration.transfer_length) (first_blocks s.configuration.source_blocks s.answer) h)
 
     the_object : (r : Option (List ℕ)) → r ≡ result_of s → IfSome r (λ bytes. bytes ≡ object)
     the_object None is = tt
@@ -79,7 +79,7 @@ module _ (table : List TableRow) (object : List ℕ) (packets : List Packet) (s 
 
 -- no block without an answer is determined
 not_determined : (packets : List Packet) (block : List ℕ) (b : ℕ) (h : Held) (a : Option (List ℕ)) → BlockStandsFor false block b packets h a → a ≡ None → AreHeldDetermining h → ⊥
-not_determined packets block b h None st none d = st.1 refl (block_same h.row h.symbols (holds h) (has_id b packets) (λ e. ap is_some (st.0 e)) d)
+not_determined packets block b h None st none d = st.1 refl (block_same h.row h.source_symbols (holds h) (has_id b packets) (λ e. ap is_some (st.0 e)) d)
 not_determined packets block b h (Some bytes) st none d = absurd (cc none)
 
 is_answered : (a : Option (List ℕ)) → (a ≡ None → ⊥) → IsSome a

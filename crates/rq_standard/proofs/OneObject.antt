@@ -21,9 +21,9 @@ use Rattle.rq_standard.specs.Held.{Held, holds, SolvesHeld, AreHeldDetermining}
 use Rattle.rq_standard.proofs.BlockCuts.{pieces, whole_object}
 use Rattle.rq_standard.proofs.Columns.{sum_at, sum_same, source_sum, solves_held}
 use Rattle.rq_standard.proofs.Interleaved.{same_symbols}
-use Rattle.rq_standard.proofs.Known.{known_source, known_repair, none_determined, block_same}
+use Rattle.rq_standard.proofs.KnownIds.{known_source, known_repair, none_determined, block_same}
 use Rattle.rq_standard.proofs.PlainCut.{length-block_bytes}
-use Rattle.rq_standard.proofs.Standing.{held_with, held_symbol, length-block_source, source_at, source_sized}
+use Rattle.rq_standard.proofs.StandingSteps.{held_with, held_symbol, length-block_source, source_at, source_sized}
 
 -- ---- columns that solve what is held
 
@@ -31,12 +31,12 @@ both_are : (o : Option (List ℕ)) (x y : List ℕ) → is_some o ≡ true → I
 both_are None x y some is_x is_y = absurd (cc some)
 both_are (Some z) x y some is_x is_y = sym is_x ∙ is_y
 
-module _ (h : Held) (x y : ℕ → List ℕ) (checked : IsChecked h.row) (fits : h.symbols ≤ h.row.extended_symbols) (solves_x : SolvesHeld h x) (solves_y : SolvesHeld h y) where
+module _ (h : Held) (x y : ℕ → List ℕ) (checked : IsChecked h.row) (fits : h.source_symbols ≤ h.row.extended_symbols) (solves_x : SolvesHeld h x) (solves_y : SolvesHeld h y) where
   -- they have the same sums for all known ids
-  same_sums : (i : ℕ) → known_ids h.row h.symbols (holds h) i ≡ true → tuple_sum h.row x i ≡ tuple_sum h.row y i
+  same_sums : (i : ℕ) → known_ids h.row h.source_symbols (holds h) i ≡ true → tuple_sum h.row x i ≡ tuple_sum h.row y i
   same_sums i known =
       let row = h.row in
-      let k = h.symbols in
+      let k = h.source_symbols in
       let from : (e : ℕ) → holds h e ≡ true → internal_id row k e ≡ i → tuple_sum row x i ≡ tuple_sum row y i =
       λ e came is. subst (λ n. tuple_sum row x n ≡ tuple_sum row y n) is (both_are (h.received e) (tuple_sum row x (internal_id row k e)) (tuple_sum row y (internal_id row k e)) came (solves_x.received e) (solves_y.received e)) in
       elim (cases_lt i k) [
@@ -50,7 +50,7 @@ module _ (h : Held) (x y : ℕ → List ℕ) (checked : IsChecked h.row) (fits :
       ]
 
   -- so at each place of a symbol their sum solves all with values zero
-  sum_solves : (p : ℕ) → SolvesZeros h.row (known_ids h.row h.symbols (holds h)) (λ k. octets.add (slice_at p x k) (slice_at p y k))
+  sum_solves : (p : ℕ) → SolvesZeros h.row (known_ids h.row h.source_symbols (holds h)) (λ k. octets.add (slice_at p x k) (slice_at p y k))
   sum_solves p =
       let n = intermediate_symbols h.row in
       record {

@@ -23,12 +23,12 @@ use Rattle.rq_standard.specs.Standing.{State, IsHeldOf, BlockStandsFor, AnswersO
 use Rattle.rq_standard.specs.Differences.{xor_bytes, HoldsNonsingularRows, IsDifference, MakesOthersFit, plain_sum}
 use Rattle.rq_standard.proofs.BlockCuts.{block_byte}
 use Rattle.rq_standard.proofs.Columns.{sum_symbol}
-use Rattle.rq_standard.proofs.Differences.{length-zero, add_zero_symbols, encoding-add, known_are_zeros, zeros_solve, zeros_are_octets, zeros_encode, no_change_is_zero, some_change}
+use Rattle.rq_standard.proofs.DifferenceColumns.{length-zero, add_zero_symbols, encoding-add, known_are_zeros, zeros_solve, zeros_are_octets, zeros_encode, no_change_is_zero, some_change}
 use Rattle.rq_standard.proofs.FirstOctets.{first_octet, first_octets_object, zero_octets, length-first_octets_object, block_of_first_octets, symbol_of_object, object_at_first, first_is_before_end}
 use Rattle.rq_standard.proofs.Interleaved.{get_or-symbol_of_block}
 use Rattle.rq_standard.proofs.OneObject.{one_object}
 use Rattle.rq_standard.proofs.PlainCut.{length-block_bytes}
-use Rattle.rq_standard.proofs.Standing.{length-symbol_of_block, length-block_source, source_at}
+use Rattle.rq_standard.proofs.StandingSteps.{length-symbol_of_block, length-block_source, source_at}
 
 -- bytes of an object whose symbols with these ids, of each block, are zero
 pub record EncodesToZeros (table : List TableRow) (c : Configuration) (has : ℕ → ℕ → Bool) (bytes : List ℕ) : Type 0 where
@@ -43,7 +43,7 @@ pub record HasRow (row : TableRow) (k : ℕ) : Type 0 where
 pub row_of_shape : (table : List TableRow) (c : Configuration) (b : ℕ) (h : Held) → IsHeldOf table c b h → HasRow (block_row table c b) (block_symbols c b)
 row_of_shape table c b h shape = record {
   checked = subst IsChecked shape.row shape.checked;
-  fits = subst (λ (r : TableRow). block_symbols c b ≤ r.extended_symbols) shape.row (subst (λ n. n ≤ h.row.extended_symbols) shape.symbols shape.fits);
+  fits = subst (λ (r : TableRow). block_symbols c b ≤ r.extended_symbols) shape.row (subst (λ n. n ≤ h.row.extended_symbols) shape.source_symbols shape.fits);
 }
 
 -- ---- the xor of two objects

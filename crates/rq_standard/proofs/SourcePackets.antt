@@ -10,7 +10,7 @@ use Rattle.rq_standard.specs.Headline.{block_row, block_source, IsPacketOf}
 use Rattle.rq_standard.specs.Packet.{Packet}
 use Rattle.rq_standard.proofs.BlockRows.{block_has_row}
 use Rattle.rq_standard.proofs.Columns.{source_sum}
-use Rattle.rq_standard.proofs.Standing.{length-block_source, source_at, source_sized}
+use Rattle.rq_standard.proofs.StandingSteps.{length-block_source, source_at, source_sized}
 
 pub source_packet : (table : List TableRow) (c : Configuration) (object : List ℕ) (p : Packet) → IsTable table → IsAccepted (greatest_size table) c → IsPacketOf table c object p → p.id.esi < block_symbols c p.id.block → p.payload ≡ source_symbol c object p.id.block p.id.esi
 source_packet table c object p checked accepted is below =

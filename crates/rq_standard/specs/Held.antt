@@ -16,12 +16,12 @@ pub record Held : Type 0 where
   pub configuration : Configuration
   pub number : ℕ
   pub row : TableRow
-  pub symbols : ℕ
+  pub source_symbols : ℕ
   pub received : ℕ → Option (List ℕ)
 
 -- nothing is held yet
 abbrev pub nothing_held : Configuration → ℕ → TableRow → ℕ → Held
-nothing_held c number row symbols = record { configuration = c; number = number; row = row; symbols = symbols; received = λ _. None }
+nothing_held c number row source_symbols = record { configuration = c; number = number; row = row; source_symbols = source_symbols; received = λ _. None }
 
 -- which ids are held
 abbrev pub holds : Held → ℕ → Bool
@@ -35,8 +35,8 @@ recorded h esi payload = record h { received = λ e. or_later (h.received e) (if
 pub record SolvesHeld (h : Held) (column : ℕ → List ℕ) : Type 0 where
   pub symbols : IsSymbolColumn octets h.configuration.symbol_size (intermediate_symbols h.row) column
   pub fixed : SolvesSymbols octets (h.row.ldpc_symbols + h.row.hdpc_symbols) (intermediate_symbols h.row) (fixed_equations h.row) column (λ _. zero_symbol h.configuration.symbol_size)
-  pub padding : (x : ℕ) → h.symbols ≤ x → x < h.row.extended_symbols → tuple_sum h.row column x ≡ zero_symbol h.configuration.symbol_size
-  pub received : (e : ℕ) → IfSome (h.received e) (λ payload. payload ≡ tuple_sum h.row column (internal_id h.row h.symbols e))
+  pub padding : (x : ℕ) → h.source_symbols ≤ x → x < h.row.extended_symbols → tuple_sum h.row column x ≡ zero_symbol h.configuration.symbol_size
+  pub received : (e : ℕ) → IfSome (h.received e) (λ payload. payload ≡ tuple_sum h.row column (internal_id h.row h.source_symbols e))
 
 -- there is one
 pub record HasSolution (h : Held) : Type 0 where
@@ -45,7 +45,7 @@ pub record HasSolution (h : Held) : Type 0 where
 
 -- the ids that are held determine the block
 abbrev pub AreHeldDetermining : Held → Type 0
-AreHeldDetermining h = DetermineBlock h.row h.symbols (holds h)
+AreHeldDetermining h = DetermineBlock h.row h.source_symbols (holds h)
 
 -- what is held is contradictory: its ids determine the block, and no column solves all of it
 pub record IsContradictory (h : Held) : Type 0 where
@@ -63,19 +63,19 @@ pub record IsHomogeneous (row : TableRow) (known : ℕ → Bool) (column : List 
 
 -- such a column of what is held, and none where the ids that are held determine the block
 abbrev pub ShowsUndetermined : Held → Option (List ℕ) → Type 0
-ShowsUndetermined h answer = MatchOption answer (AreHeldDetermining h) (IsHomogeneous h.row (known_ids h.row h.symbols (holds h)))
+ShowsUndetermined h answer = MatchOption answer (AreHeldDetermining h) (IsHomogeneous h.row (known_ids h.row h.source_symbols (holds h)))
 
 -- what a decoder needs for its answer: all source symbols, or ids that determine the block
 abbrev pub CanAnswer : Held → Type 0
-CanAnswer h = HasSourceSymbols h.symbols (holds h) ⊎ AreHeldDetermining h
+CanAnswer h = HasSourceSymbols h.source_symbols (holds h) ⊎ AreHeldDetermining h
 
 -- a block of the held length
 pub record IsBlockWith (h : Held) (block : List ℕ) : Type 0 where
-  pub long : length block ≡ h.symbols * h.configuration.symbol_size
+  pub long : length block ≡ h.source_symbols * h.configuration.symbol_size
   -- the source symbols that are held are those of the block
-  pub each : (e : ℕ) → e < h.symbols → IfSome (h.received e) (λ payload. payload ≡ symbol_of_block h.configuration h.symbols block e)
+  pub each : (e : ℕ) → e < h.source_symbols → IfSome (h.received e) (λ payload. payload ≡ symbol_of_block h.configuration h.source_symbols block e)
   -- where the ids determine it and a column solves all that is held, it is that column's block
-  pub solved : AreHeldDetermining h → (column : ℕ → List ℕ) → SolvesHeld h column → (e : ℕ) → e < h.symbols → symbol_of_block h.configuration h.symbols block e ≡ tuple_sum h.row column e
+  pub solved : AreHeldDetermining h → (column : ℕ → List ℕ) → SolvesHeld h column → (e : ℕ) → e < h.source_symbols → symbol_of_block h.configuration h.source_symbols block e ≡ tuple_sum h.row column e
 
 -- what is answered, where what is held isn't contradictory
 pub record IsBlockAnswer (h : Held) (answer : Option (List ℕ)) : Type 0 where

@@ -21,22 +21,22 @@ append_both None b = None
 append_both (Some xs) b = option_map (λ ys. xs ++ ys) b
 
 -- the first n blocks, where each is answered
-abbrev pub joined : ℕ → (ℕ → Option (List ℕ)) → Option (List ℕ)
-joined zero answer = Some []
-joined (suc n) answer = append_both (joined n answer) (answer n)
+abbrev pub first_blocks : ℕ → (ℕ → Option (List ℕ)) → Option (List ℕ)
+first_blocks zero answer = Some []
+first_blocks (suc n) answer = append_both (first_blocks n answer) (answer n)
 
 -- what a decoder answers: the object's bytes, where each block is answered
 abbrev pub result_of : State → Option (List ℕ)
-result_of s = option_map (take s.configuration.transfer_length) (joined s.configuration.source_blocks s.answer)
+result_of s = option_map (take s.configuration.transfer_length) (first_blocks s.configuration.source_blocks s.answer)
 
 -- what is held is of block b of the configuration
 pub record IsHeldOf (table : List TableRow) (c : Configuration) (b : ℕ) (h : Held) : Type 0 where
   pub configuration : h.configuration ≡ c
   pub number : h.number ≡ b
   pub row : h.row ≡ block_row table c b
-  pub symbols : h.symbols ≡ block_symbols c b
+  pub source_symbols : h.source_symbols ≡ block_symbols c b
   pub checked : IsChecked h.row
-  pub fits : h.symbols ≤ h.row.extended_symbols
+  pub fits : h.source_symbols ≤ h.row.extended_symbols
 
 -- what a decoder holds of a block before any packet
 abbrev pub new_held : List TableRow → Configuration → ℕ → Held
@@ -99,7 +99,7 @@ KeepsContradictions old new = (b : ℕ) → IsBlockContradictory old b → IsBlo
 
 -- what is held of a block after these packets, where it takes them all
 abbrev pub held_after : List TableRow → Configuration → ℕ → List Packet → Held
-held_after table c b packets = record { configuration = c; number = b; row = block_row table c b; symbols = block_symbols c b; received = first_payload b packets }
+held_after table c b packets = record { configuration = c; number = b; row = block_row table c b; source_symbols = block_symbols c b; received = first_payload b packets }
 
 -- of each block without an answer this is held
 abbrev pub HoldsRun : List TableRow → List Packet → State → Type 0
@@ -119,8 +119,8 @@ Stops old p new = StopsEarly old p new ⊎ Adds old p new
 
 -- What is held of a block, and its answer, after a list: answered and determined, or holding the first payloads and not determined. An answer can be late, where memory was refused while it was solved.
 abbrev pub BlockStandsFor : Bool → List ℕ → ℕ → List Packet → Held → Option (List ℕ) → Type 0
-BlockStandsFor late block b packets h (Some bytes) = (bytes ≡ block) × DetermineBlock h.row h.symbols (has_id b packets)
-BlockStandsFor late block b packets h None = ((e : ℕ) → h.received e ≡ first_payload b packets e) × (late ≡ false → DetermineBlock h.row h.symbols (has_id b packets) → ⊥)
+BlockStandsFor late block b packets h (Some bytes) = (bytes ≡ block) × DetermineBlock h.row h.source_symbols (has_id b packets)
+BlockStandsFor late block b packets h None = ((e : ℕ) → h.received e ≡ first_payload b packets e) × (late ≡ false → DetermineBlock h.row h.source_symbols (has_id b packets) → ⊥)
 
 -- the decoder stands for the list of an honest run, but for blocks whose answers are late
 pub record StandsForButLate (late : ℕ → Bool) (table : List TableRow) (object : List ℕ) (packets : List Packet) (s : State) : Type 0 where

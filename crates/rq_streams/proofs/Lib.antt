@@ -1,8 +1,8 @@
 pub mod Bytes
-pub mod Cutting
+pub mod FrameCuts
 pub mod Skipping
 pub mod Refusing
-pub mod Taking
+pub mod TakenFrames
 pub mod Streaming
 pub mod Sending
 pub mod Wording

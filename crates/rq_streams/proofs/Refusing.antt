@@ -8,7 +8,7 @@ use Rattle.rq_standard.specs.Configuration.{Configuration}
 use Rattle.rq_standard.specs.Streams.{frame_size, frames_in}
 use Rattle.rq_standard.specs.declared.row.TableRow.{TableRow}
 use Rattle.raptorq.specs.Runs.{IsRunRefusal}
-use Rattle.raptorq.proofs.Following.{refused_by}
+use Rattle.raptorq.proofs.FollowedRuns.{refused_by}
 use Rattle.rq_streams.specs.Frames.{kept_packets}
 use Rattle.rq_streams.specs.declared.run.Outcome.{Outcome}
 use Rattle.rq_streams.specs.declared.run.Outcome.TheVariants.{Written, Incomplete}

@@ -16,7 +16,7 @@ use Rattle.raptorq.proofs.Lists.{length-packet_bytes}
 use Rattle.rq_standard.specs.Streams.{frame_size, frames_in}
 use Rattle.rq_streams.specs.Frames.{is_skipped, kept_packet, kept_packets, skipped_count}
 use Rattle.rq_streams.specs.MixedStreams.{Frame, Holds, Other, frame_bytes, packets_among, others_among, IsOtherFrame, rest_count, other_count}
-use Rattle.rq_streams.proofs.Cutting.{rest_frames, frames_in-mixed}
+use Rattle.rq_streams.proofs.FrameCuts.{rest_frames, frames_in-mixed}
 
 -- a packet of the object whose id fits its bytes, and whose block has a checked row, so that it fills a frame
 pub record FillsFrame (table : List TableRow) (c : Configuration) (object : List ℕ) (p : Packet) : Type 0 where

@@ -26,7 +26,7 @@ EndsAs (Ok Incomplete) old new IsWanted = IsWanted (Ok None) × Keeps old new
 EndsAs (Err Fault) old new IsWanted = Keeps old new ⊎ ((bytes : List ℕ) × (n : ℕ) × IsWanted (Ok (Some bytes)) × Appends old new (take n bytes))
 EndsAs (Err (Refused e)) old new IsWanted = ((e ≡ OutOfMemory) ⊎ IsWanted (Err e)) × Keeps old new
 
--- the same of what one thing is wanted
+-- what `EndsAs` says, where one thing alone is wanted
 abbrev pub Ends : Result Outcome Stop → Option (List ℕ) → Option (List ℕ) → Wanted → Type 0
 Ends result old new wanted = EndsAs result old new (λ w. wanted ≡ w)
 

@@ -1,7 +1,7 @@
 //! A stream in, its object out.
 ghost use Rattle.std.specs.Prelude.{◌≡◌, ◌^◌, ◌-◌, ◌<◌, ◌≤◌, length, OnOk, IfOk, IfErr, option_map, vec_items};
 ghost use Rattle.raptorq.specs.Decoder.{state_of};
-ghost use Rattle.rq_streams.specs.Counted.{failed_count, inner_of};
+ghost use Rattle.rq_streams.specs.Counted.{failed_count, bare};
 ghost use Rattle.rq_standard.specs.Streams.{frame_size, frames_in};
 ghost use Rattle.rq_streams.specs.Ends.{AnswersAs, CountsFailures, FaultsWhereCounted, KeepsWhereUnread};
 ghost use Rattle.rq_streams.specs.Frames.{kept_packet, skipped_count, skipped_in};
@@ -121,26 +121,26 @@ pub fn run_receive<R: Read, W: Write>(
     // The first failed call ends the run, and nothing else is a fault.
     ensures counts { CountsFailures reader.old writer.old result reader.new writer.new }
     ensures fault { FaultsWhereCounted reader.old writer.old result reader.new writer.new }
-    ensures unread { KeepsWhereUnread reader.old reader.new (W.contents (inner_of writer.old)) (W.contents (inner_of writer.new)) }
+    ensures unread { KeepsWhereUnread reader.old reader.new (W.contents (bare writer.old)) (W.contents (bare writer.new)) }
 
     // Whatever is read, its first refusal is refused, that of its packets that contradict each other
     // among it, and then nothing is written.
     ensures refused { RefusesFirst table.now result
-        (R.remaining (inner_of reader.old)) (W.contents (inner_of writer.old)) (W.contents (inner_of writer.new)) }
+        (R.remaining (bare reader.old)) (W.contents (bare writer.old)) (W.contents (bare writer.new)) }
 
     // Whatever is read, the frames that can't be used are counted.
-    ensures skipped { CountsSkipped result (R.remaining (inner_of reader.old)) }
+    ensures skipped { CountsSkipped result (R.remaining (bare reader.old)) }
 
     // Of an object's packets among other frames the object, exactly where they determine it.
     ensures ends { ReceivesExactly table.now result
-        (R.remaining (inner_of reader.old)) (W.contents (inner_of writer.old)) (W.contents (inner_of writer.new)) }
+        (R.remaining (bare reader.old)) (W.contents (bare writer.old)) (W.contents (bare writer.new)) }
 
     // No receiver can do better: the object exactly where no other object fits the packets.
     ensures where_any_can { ReceivesWhereAnyCan table.now result
-        (R.remaining (inner_of reader.old)) (W.contents (inner_of writer.old)) (W.contents (inner_of writer.new)) }
+        (R.remaining (bare reader.old)) (W.contents (bare writer.old)) (W.contents (bare writer.new)) }
 
     // The other frames are counted, and a rest that isn't empty.
-    ensures others { CountsOthers table.now result (R.remaining (inner_of reader.old)) }
+    ensures others { CountsOthers table.now result (R.remaining (bare reader.old)) }
 {
     let bytes = read_all(alloc, reader)?;
     let (object, skipped) = received_object(alloc, table, bytes)?;

@@ -1,5 +1,5 @@
 //! The decoder of one source block.
-ghost use Rattle.std.specs.Prelude.{◌≡◌, ℕ, ◌*◌, ◌^◌, ◌<◌, ◌≤◌, true, false, [], ◌∷◌, ◌++◌, All, length, map, Ok, Some, None, IfSome, IfOk, IfErr, OnOk, OnErr, IsSome, not, if◌then◌else◌, ◌==◌, option_map, unwrap_or, vec_items};
+ghost use Rattle.std.specs.Prelude.{◌≡◌, ◌≢◌, ℕ, ◌*◌, ◌^◌, ◌<◌, ◌≤◌, true, false, [], ◌∷◌, ◌++◌, All, length, map, Ok, Some, None, IfSome, IfOk, IfErr, OnOk, OnErr, IsSome, not, if◌then◌else◌, ◌==◌, option_map, unwrap_or, vec_items};
 ghost use Rattle.std.specs.Option.{ForSome};
 ghost use Rattle.rq_bytes.specs.Refusals.{IsAnswer};
 ghost use Rattle.rq_bytes.specs.SymbolSlab.{slab_of};
@@ -8,15 +8,15 @@ ghost use Rattle.rq_standard.specs.Cutting.{plain_symbol};
 ghost use Rattle.rq_standard.specs.Held.{CanAnswer, IsContradictory};
 ghost use Rattle.rq_standard.specs.Received.{or_later};
 ghost use Rattle.rq_standard.specs.TableRows.{IsChecked};
-ghost use Rattle.raptorq.specs.Missing.{payload_of, has_payload, missing_count, KeepsFirst};
-ghost use Rattle.raptorq.specs.declared.decoder.block.Found.TheVariants.{Undetermined, Contradictory};
+ghost use Rattle.raptorq.specs.Missing.{held_block, payload_of, has_payload, missing_count, KeepsFirst};
+ghost use Rattle.raptorq.specs.declared.decoder.block.LastOutcome.TheVariants.{Undetermined, Contradictory};
 
-use crate::decoder::fitting::fits;
+use crate::decoder::fitting::solves_all;
 use crate::decoder::known::{known_symbol_ids, known_symbol_values};
-use crate::decoder::stopped::Stopped;
+use crate::decoder::packet_stop::PacketStop;
 use crate::enc::encoding_symbol;
 use crate::encoder::SPARSE_MATRIX_THRESHOLD;
-use crate::solving::{find_operations, homogeneous};
+use crate::solving::{homogeneous, solve_block};
 use crate::sub_blocks::{check_symbols, into_sub_blocks, size_at};
 use rq_base::base::{EncodingPacket, ObjectTransmissionInformation};
 use rq_bytes::error::Error;
@@ -28,24 +28,24 @@ use std::alloc::{AllocError, Global};
 use std::collections::BTreeMap;
 use std::collections::btree_map::Entry;
 
-// What the last attempt to answer a block found of what is held.
+// What the last attempt to answer a block found of what came.
 #[derive(Clone, Copy)]
-enum Found {
-    Nothing,
+enum LastOutcome {
+    Untried,
     Undetermined,
     Contradictory,
 }
 
-impl Found {
-    // What is still known once a payload came: with one more id what is held may determine the
-    // block, but what is contradictory stays so.
-    fn after_payload(self, kept: bool) -> Found
-        ensures undetermined { result ≡ Found.Undetermined → (self ≡ Found.Undetermined) × (kept ≡ false) }
-        ensures contradictory { result ≡ Found.Contradictory → self ≡ Found.Contradictory }
+impl LastOutcome {
+    // What is still so once a payload of a new id came: with it the payloads may determine the block,
+    // but what is contradictory stays so.
+    fn after_new_payload(self) -> LastOutcome
+        ensures may_answer { result ≢ LastOutcome.Undetermined }
+        ensures contradictory { result ≡ LastOutcome.Contradictory → self ≡ LastOutcome.Contradictory }
     {
         match self {
-            Found::Undetermined if kept => Found::Nothing,
-            found => found,
+            LastOutcome::Undetermined => LastOutcome::Untried,
+            outcome => outcome,
         }
     }
 }
@@ -57,23 +57,23 @@ pub struct SourceBlockDecoder {
     config: ObjectTransmissionInformation,
     number: u8,
     row: TableRow,
-    symbols: u32,
+    source_symbols: u32,
     received: BTreeMap<u32, Vec<u8>>,
     missing: u32,
     sparse_threshold: u32,
     #[derive_where(skip)]
-    found: Found,
+    last_outcome: LastOutcome,
     alloc: Global,
     pub ghost sized: { (e : ℕ) → ForSome (payload_of received e) (λ payload. length payload ≡ config.symbol_size) },
     pub ghost bytes: { (e : ℕ) → ForSome (payload_of received e) (All (λ octet. octet < 256)) },
     pub ghost positive: { 0 < config.symbol_size },
     pub ghost aligned: { IsAligned config },
     pub ghost checked: { IsChecked row },
-    pub ghost fits: { symbols ≤ row.extended_symbols },
+    pub ghost fits: { source_symbols ≤ row.extended_symbols },
     pub ghost few: { (e : ℕ) → has_payload received e ≡ true → e < 2 ^ 24 },
-    pub ghost counted: { missing ≡ missing_count symbols (has_payload received) },
-    pub ghost waits: { found ≡ Undetermined → ¬ CanAnswer (record { configuration = config; number = number; row = row; symbols = symbols; received = payload_of received }) },
-    pub ghost contradicted: { found ≡ Contradictory → IsContradictory (record { configuration = config; number = number; row = row; symbols = symbols; received = payload_of received }) },
+    pub ghost counted: { missing ≡ missing_count source_symbols (has_payload received) },
+    pub ghost waits: { last_outcome ≡ Undetermined → ¬ CanAnswer (held_block config number row source_symbols received) },
+    pub ghost contradicted: { last_outcome ≡ Contradictory → IsContradictory (held_block config number row source_symbols received) },
 }
 
 // Keeps a payload, unless one of its id is there. Answers whether it was kept.
@@ -98,18 +98,18 @@ fn keep_first(
 // The symbols one after another, where each of them came.
 fn join(
     alloc: Global,
-    symbols: u32,
+    source_symbols: u32,
     size: usize,
     received: &BTreeMap<u32, Vec<u8>>,
 ) -> Result<Vec<u8>, AllocError>
     requires fits { size < 65536 }
-    requires all { (e : ℕ) → e < symbols → IsSome (payload_of received.now e) }
+    requires all { (e : ℕ) → e < source_symbols → IsSome (payload_of received.now e) }
     requires sized { (e : ℕ) → ForSome (payload_of received.now e) (λ payload. length payload ≡ size) }
-    ensures long { IfOk result (λ block. length block.items ≡ symbols * size) }
-    ensures each { IfOk result (λ block. (e : ℕ) → e < symbols → payload_of received.now e ≡ Some (plain_symbol size block.items e)) }
+    ensures long { IfOk result (λ block. length block.items ≡ source_symbols * size) }
+    ensures each { IfOk result (λ block. (e : ℕ) → e < source_symbols → payload_of received.now e ≡ Some (plain_symbol size block.items e)) }
 {
-    let mut block = Vec::with_capacity(alloc, symbols as usize * size)?;
-    for e in 0..symbols {
+    let mut block = Vec::with_capacity(alloc, source_symbols as usize * size)?;
+    for e in 0..source_symbols {
         let Some(symbol) = received.get(&e) else {
             unreachable!()
         };
@@ -137,7 +137,7 @@ impl SourceBlockDecoder {
     ghost use Rattle.raptorq.specs.Known.{SolvesBlock, IsHeldSolution, HasLostSymbols};
     ghost use Rattle.raptorq.specs.Refused.{checked_block, block_refusal};
     ghost use Rattle.raptorq.specs.SourceBlockDecoder.{held_of, empty_block};
-    ghost use Rattle.raptorq.specs.Decoding.{DecodesFrom, DecodesFromUntil, IsUnanswered, shown};
+    ghost use Rattle.raptorq.specs.Decoding.{DecodesFrom, DecodesFromUntil, IsUnanswered, answer_bytes};
     ghost use Rattle.raptorq.specs.Stopping.{StopsPacket, StopsAnswer};
     ghost use Rattle.std.specs.Iterator.{IsFinite};
 
@@ -157,47 +157,47 @@ impl SourceBlockDecoder {
     ) -> Result<SourceBlockDecoder, Error>
         ensures refused { IsAnswer (λ _. tt) result (checked_block (greatest_size table.now) config.now (div_ceil block_length config.now.symbol_size)) }
         ensures empty { IfOk result (λ d. held_of d ≡ empty_block table.now config.now number (div_ceil block_length config.now.symbol_size)) }
-        ensures row { IfOk result (λ d. IsChecked (held_of d).row × ((held_of d).symbols ≤ (held_of d).row.extended_symbols)) }
+        ensures row { IfOk result (λ d. IsChecked (held_of d).row × ((held_of d).source_symbols ≤ (held_of d).row.extended_symbols)) }
     {
         check_symbols(config)?;
-        let symbols = block_length.div_ceil(u64::from(config.symbol_size()));
-        if symbols > u64::from(table.greatest()) {
+        let source_symbols = block_length.div_ceil(u64::from(config.symbol_size()));
+        if source_symbols > u64::from(table.greatest()) {
             return Err(Error::BlockOverTable);
         }
-        Ok(SourceBlockDecoder::of_symbols(alloc, table, number, config, symbols as u32))
+        Ok(SourceBlockDecoder::of_symbols(alloc, table, number, config, source_symbols as u32))
     }
 
-    /// The decoder of a block of so many source symbols that holds nothing yet.
+    /// The decoder of a block of `source_symbols` symbols (K) that holds nothing yet.
     pub(crate) fn of_symbols(
         alloc: Global,
         table: &SystematicTable,
         number: u8,
         config: &ObjectTransmissionInformation,
-        symbols: u32,
+        source_symbols: u32,
     ) -> SourceBlockDecoder
         requires positive { 0 < config.now.symbol_size }
         requires aligned { IsAligned config.now }
-        requires in_table { symbols ≤ greatest_size table.now }
-        ensures empty { held_of result ≡ empty_block table.now config.now number symbols }
+        requires in_table { source_symbols ≤ greatest_size table.now }
+        ensures empty { held_of result ≡ empty_block table.now config.now number source_symbols }
         ensures checked { IsChecked (held_of result).row }
-        ensures fits { (held_of result).symbols ≤ (held_of result).row.extended_symbols }
+        ensures fits { (held_of result).source_symbols ≤ (held_of result).row.extended_symbols }
     {
         SourceBlockDecoder {
             config: *config,
             number,
-            row: table.row(symbols),
-            symbols,
+            row: table.row(source_symbols),
+            source_symbols,
             received: BTreeMap::new(alloc),
-            missing: symbols,
+            missing: source_symbols,
             sparse_threshold: SPARSE_MATRIX_THRESHOLD,
-            found: Found::Nothing,
+            last_outcome: LastOutcome::Untried,
             alloc,
         }
     }
 
     /// Sets the sparse threshold: from how many symbols of an extended source block (K') on the block
     /// is solved over a sparse matrix, and not over a dense one. It is
-    /// [`SPARSE_MATRIX_THRESHOLD`](crate::encoder::SPARSE_MATRIX_THRESHOLD) at first. What is held
+    /// [`SPARSE_MATRIX_THRESHOLD`](crate::encoder::SPARSE_MATRIX_THRESHOLD) at first. What came
     /// stays. Whether there is an answer doesn't depend on it, nor what is answered of an object's
     /// packets.
     pub fn set_sparse_threshold(&mut self, value: u32)
@@ -229,7 +229,7 @@ impl SourceBlockDecoder {
         packets: I,
     ) -> Result<Option<Vec<u8>>, Error>
         requires { (it : I.IntoIter) → I.into_iter_gives packets it → I.IntoIter.can_next it × IsFinite (I.IntoIter.remaining it) }
-        ensures { DecodesFrom I.into_iter_gives I.IntoIter.next_gives packets (held_of self.old) (shown vec_items result) (held_of self.new) }
+        ensures { DecodesFrom I.into_iter_gives I.IntoIter.next_gives packets (held_of self.old) (answer_bytes vec_items result) (held_of self.new) }
     {
         Ok(self.decode_until_stopped(packets)?)
     }
@@ -239,9 +239,9 @@ impl SourceBlockDecoder {
     fn decode_until_stopped<I: IntoIterator<Item = EncodingPacket>>(
         &mut self,
         packets: I,
-    ) -> Result<Option<Vec<u8>>, Stopped>
+    ) -> Result<Option<Vec<u8>>, PacketStop>
         requires { (it : I.IntoIter) → I.into_iter_gives packets it → I.IntoIter.can_next it × IsFinite (I.IntoIter.remaining it) }
-        ensures { DecodesFromUntil I.into_iter_gives I.IntoIter.next_gives packets (held_of self.old) (shown vec_items result) (held_of self.new) }
+        ensures { DecodesFromUntil I.into_iter_gives I.IntoIter.next_gives packets (held_of self.old) (answer_bytes vec_items result) (held_of self.new) }
     {
         for packet in packets {
             self.add(packet)?;
@@ -257,70 +257,72 @@ impl SourceBlockDecoder {
         ensures shown { IfOk result (λ answer. ShowsUndetermined (held_of self.now) (option_map vec_items answer)) }
         ensures memory { IfErr result (λ e. e ≡ Error.OutOfMemory) }
     {
-        let ids = known_symbol_ids(self.alloc, &self.row, self.symbols, &self.received)?;
+        let ids = known_symbol_ids(self.alloc, &self.row, self.source_symbols, &self.received)?;
         homogeneous(self.alloc, &self.row, ids.as_slice(), self.sparse_threshold)
     }
 
     // Tests a packet and records it.
-    fn add(&mut self, packet: EncodingPacket) -> Result<(), Stopped>
+    fn add(&mut self, packet: EncodingPacket) -> Result<(), PacketStop>
         ensures taken { OnOk result (block_refusal (held_of self.old) packet ≡ Ok tt) }
-        ensures stops { IfErr result (λ stopped. StopsPacket stopped (block_refusal (held_of self.old) packet)) }
+        ensures stops { IfErr result (λ stop. StopsPacket stop (block_refusal (held_of self.old) packet)) }
         ensures ok { OnOk result (held_of self.new ≡ recorded (held_of self.old) packet.id.esi packet.payload) }
         ensures err { OnErr result (held_of self.new ≡ held_of self.old) }
     {
         if packet.payload_id().source_block_number() != self.number {
-            return Err(Stopped::Refused(Error::UnknownBlock));
+            return Err(PacketStop::Refused(Error::UnknownBlock));
         }
         if packet.data().len() != self.symbol_size() {
-            return Err(Stopped::Refused(Error::WrongPayloadSize));
+            return Err(PacketStop::Refused(Error::WrongPayloadSize));
         }
         self.record(packet)
     }
 
     /// Records the payload of a packet of the block, unless one of its id came before.
-    pub(crate) fn record(&mut self, packet: EncodingPacket) -> Result<(), Stopped>
+    pub(crate) fn record(&mut self, packet: EncodingPacket) -> Result<(), PacketStop>
         requires { block_refusal (held_of self.old) packet ≡ Ok tt }
-        ensures stops { IfErr result (λ stopped. stopped ≡ Stopped.NotRecorded) }
+        ensures stops { IfErr result (λ stop. stop ≡ PacketStop.NotRecorded) }
         ensures ok { OnOk result (held_of self.new ≡ recorded (held_of self.old) packet.id.esi packet.payload) }
         ensures err { OnErr result (held_of self.new ≡ held_of self.old) }
     {
         let (id, payload) = packet.split();
         let esi = id.encoding_symbol_id();
-        let is_source = esi < self.symbols;
+        let is_source = esi < self.source_symbols;
         // For the proof: the payload's bytes are octets.
         octets::are_octets(payload.as_slice());
         let Ok(kept) = keep_first(&mut self.received, esi, payload) else {
-            return Err(Stopped::NotRecorded);
+            return Err(PacketStop::NotRecorded);
         };
-        self.missing -= u32::from(kept & is_source);
-        self.found = self.found.after_payload(kept);
+        if kept {
+            self.missing -= u32::from(is_source);
+            self.last_outcome = self.last_outcome.after_new_payload();
+        }
         Ok(())
     }
 
-    /// The block, where all its source symbols came or what came determines it. Nothing that is
-    /// held changes. What was found to be contradictory, or not to determine the block, isn't
+    /// The block, where all its source symbols came or what came determines it. What is recorded
+    /// stays as it is. What was found to be contradictory, or not to determine the block, isn't
     /// solved again.
-    pub(crate) fn answer(&mut self) -> Result<Option<Vec<u8>>, Stopped>
+    pub(crate) fn answer(&mut self) -> Result<Option<Vec<u8>>, PacketStop>
         ensures block { IfOk result (λ r. IsBlockAnswer (held_of self.old) (option_map vec_items r)) }
         ensures same { held_of self.new ≡ held_of self.old }
-        ensures stops { IfErr result (λ stopped. StopsAnswer stopped (held_of self.old)) }
+        ensures stops { IfErr result (λ stop. StopsAnswer stop (held_of self.old)) }
     {
-        match self.found {
-            Found::Undetermined => return Ok(None),
-            Found::Contradictory => return Err(Stopped::Contradicted),
-            Found::Nothing => {}
+        match self.last_outcome {
+            LastOutcome::Undetermined => return Ok(None),
+            LastOutcome::Contradictory => return Err(PacketStop::Contradicted),
+            LastOutcome::Untried => {}
         }
         match self.find_answer() {
             Ok(Some(block)) => Ok(Some(block)),
             Ok(None) => {
-                self.found = Found::Undetermined;
+                self.last_outcome = LastOutcome::Undetermined;
                 Ok(None)
             }
             Err(Error::Contradiction) => {
-                self.found = Found::Contradictory;
-                Err(Stopped::Contradicted)
+                self.last_outcome = LastOutcome::Contradictory;
+                Err(PacketStop::Contradicted)
             }
-            Err(_) => Err(Stopped::NotSolved),
+            Err(_) => Err(PacketStop::NotSolved),
         }
     }
 
@@ -331,7 +333,7 @@ impl SourceBlockDecoder {
         ensures unanswered { IfErr result (IsUnanswered (held_of self.now)) }
     {
         let all = self.missing == 0;
-        if all && self.received.len() == self.symbols as usize {
+        if all && self.received.len() == self.source_symbols as usize {
             return Ok(Some(self.join_source()?));
         }
         match self.solve()? {
@@ -343,11 +345,16 @@ impl SourceBlockDecoder {
 
     // The block, from its source symbols alone, all of which came.
     fn join_source(&self) -> Result<Vec<u8>, AllocError>
-        requires { HasSourceSymbols (held_of self.now).symbols (holds (held_of self.now)) }
+        requires { HasSourceSymbols (held_of self.now).source_symbols (holds (held_of self.now)) }
         ensures { IfOk result (λ block. IsBlockWith (held_of self.now) block.items) }
     {
-        let plain = join(self.alloc, self.symbols, self.symbol_size(), &self.received)?;
-        into_sub_blocks(self.alloc, &self.config, self.symbols, plain)
+        let symbol_bytes = join(
+            self.alloc,
+            self.source_symbols,
+            self.symbol_size(),
+            &self.received,
+        )?;
+        into_sub_blocks(self.alloc, &self.config, self.source_symbols, symbol_bytes)
     }
 
     /// The block whose symbols begin with the octets that a column has for them, and go on with
@@ -360,7 +367,7 @@ impl SourceBlockDecoder {
         match column {
             Some(octets) => self.first_octets(octets.as_slice()),
             None => {
-                let length = self.symbols as usize * self.symbol_size();
+                let length = self.source_symbols as usize * self.symbol_size();
                 Ok(vec![in self.alloc; 0u8; length]?)
             }
         }
@@ -373,9 +380,10 @@ impl SourceBlockDecoder {
         ensures memory { IfErr result (λ e. e ≡ Error.OutOfMemory) }
     {
         let octets = octet_symbols(self.alloc, column)?;
-        let mut block = vec![in self.alloc; 0u8; self.symbols as usize * self.symbol_size()]?;
+        let length = self.source_symbols as usize * self.symbol_size();
+        let mut block = vec![in self.alloc; 0u8; length]?;
         let width = size_at(&self.config, 0);
-        for e in 0..self.symbols {
+        for e in 0..self.source_symbols {
             let octet = encoding_symbol(self.alloc, &self.row, &octets, e)?;
             block[e as usize * width] = octet[0];
         }
@@ -388,31 +396,26 @@ impl SourceBlockDecoder {
         ensures unanswered { IfErr result (IsUnanswered (held_of self.now)) }
     {
         let row = &self.row;
-        if self.received.len() < self.symbols as usize {
+        if self.received.len() < self.source_symbols as usize {
             return Ok(None);
         }
-        let ids = known_symbol_ids(self.alloc, row, self.symbols, &self.received)?;
-        let Some(solution) = find_operations(
-            self.alloc,
-            row,
-            ids.as_slice(),
-            self.sparse_threshold,
-        )?
+        let ids = known_symbol_ids(self.alloc, row, self.source_symbols, &self.received)?;
+        let Some(solution) = solve_block(self.alloc, row, ids.as_slice(), self.sparse_threshold)?
         else {
             return Ok(None);
         };
+        let padding = (row.extended_symbols - self.source_symbols) as usize;
         let mut values = known_symbol_values(
             self.alloc,
-            row,
-            self.symbols,
-            solution.fixed,
+            solution.precode_rows + padding,
+            self.source_symbols,
             self.symbol_size(),
             &self.received,
         )?;
         // For the proof: the contract of `len` says that the values have one size.
         let _symbols = values.len();
         solution.operations.replay(&mut values)?;
-        if fits(self.alloc, row, &solution, &values)? {
+        if solves_all(self.alloc, row, &solution, &values)? {
             Ok(Some(values))
         } else {
             Err(Error::Contradiction)
@@ -426,12 +429,12 @@ impl SourceBlockDecoder {
         ensures { IfOk result (λ block. IsBlockWith (held_of self.now) block.items) }
     {
         let lost = self.lost_symbols(intermediate)?;
-        let whole = self.symbols as usize * self.symbol_size();
-        let mut plain = Vec::with_capacity(self.alloc, whole)?;
-        for e in 0..self.symbols {
-            self.push_symbol(&lost, e, &mut plain)?;
+        let whole = self.source_symbols as usize * self.symbol_size();
+        let mut symbol_bytes = Vec::with_capacity(self.alloc, whole)?;
+        for e in 0..self.source_symbols {
+            self.push_symbol(&lost, e, &mut symbol_bytes)?;
         }
-        into_sub_blocks(self.alloc, &self.config, self.symbols, plain)
+        into_sub_blocks(self.alloc, &self.config, self.source_symbols, symbol_bytes)
     }
 
     // The source symbols that didn't come, as sums of intermediate symbols.
@@ -440,7 +443,7 @@ impl SourceBlockDecoder {
         ensures { IfOk result (HasLostSymbols (held_of self.now) intermediate) }
     {
         let mut lost = BTreeMap::new(self.alloc);
-        for e in 0..self.symbols {
+        for e in 0..self.source_symbols {
             if !self.received.contains_key(&e) {
                 let symbol = encoding_symbol(self.alloc, &self.row, &intermediate, e)?;
                 let _new = keep_first(&mut lost, e, symbol)?;
@@ -454,18 +457,18 @@ impl SourceBlockDecoder {
         &self,
         lost: &BTreeMap<u32, Vec<u8>>,
         e: u32,
-        plain: &mut Vec<u8>,
+        bytes: &mut Vec<u8>,
     ) -> Result<(), AllocError>
         requires { IsSome (or_later ((held_of self.now).received e) (payload_of lost.now e)) }
-        ensures { OnOk result (plain.new.items ≡ plain.old.items ++ unwrap_or (or_later ((held_of self.now).received e) (payload_of lost.now e)) []) }
+        ensures { OnOk result (bytes.new.items ≡ bytes.old.items ++ unwrap_or (or_later ((held_of self.now).received e) (payload_of lost.now e)) []) }
     {
         if let Some(symbol) = self.received.get(&e) {
-            return plain.extend_from_slice(symbol.as_slice());
+            return bytes.extend_from_slice(symbol.as_slice());
         }
         let Some(symbol) = lost.get(&e) else {
             unreachable!()
         };
-        plain.extend_from_slice(symbol.as_slice())
+        bytes.extend_from_slice(symbol.as_slice())
     }
 }
 
@@ -479,11 +482,11 @@ impl Clone for SourceBlockDecoder {
             config: self.config,
             number: self.number,
             row: self.row,
-            symbols: self.symbols,
+            source_symbols: self.source_symbols,
             received: self.received.clone()?,
             missing: self.missing,
             sparse_threshold: self.sparse_threshold,
-            found: self.found,
+            last_outcome: self.last_outcome,
             alloc: self.alloc,
         })
     }

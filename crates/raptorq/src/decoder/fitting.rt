@@ -8,7 +8,7 @@ ghost use Rattle.rq_standard.specs.TableRows.{IsChecked, intermediate_symbols};
 ghost use Rattle.raptorq.specs.BlockSolutions.{SolvesHdpc, Fits};
 ghost use Rattle.raptorq.specs.HdpcSums.{AreHdpcSums, AreZeroWithLast};
 
-use crate::solving::Solution;
+use crate::solving::BlockOperations;
 use rq_base::constraint_matrix::hdpc::ones_of_mt;
 use rq_bytes::error::Error;
 use rq_bytes::factor::double_and_add;
@@ -21,23 +21,23 @@ use std::alloc::Global;
 /// Whether the intermediate symbols that the operations of a solution left in `values` solve all
 /// equations of its ids: the values that aren't read are zeros, and the HDPC equations have the sum
 /// zero, which are tested where they weren't among those that were solved.
-pub(crate) fn fits(
+pub(crate) fn solves_all(
     alloc: Global,
     row: &TableRow,
-    solution: &Solution,
+    solution: &BlockOperations,
     values: &SymbolSlab,
 ) -> Result<bool, Error>
     requires checked { IsChecked row.now }
     requires enough { intermediate_symbols row.now ≤ length (symbols_in values.now) }
     requires symbols { IsSymbolColumn octets values.now.symbol_size (intermediate_symbols row.now) (symbol_in values.now) }
-    ensures fits { IfOk result (λ fits. IsTrue fits ↔ Fits row.now solution.now.fixed values.now) }
+    ensures fits { IfOk result (λ fits. IsTrue fits ↔ Fits row.now solution.now.precode_rows values.now) }
     ensures memory { IfErr result (λ e. e ≡ Error.OutOfMemory) }
 {
     if !values.is_zero_unread()? {
         return Ok(false);
     }
-    let fixed = (row.ldpc_symbols + row.hdpc_symbols) as usize;
-    if solution.fixed >= fixed {
+    let precode_rows = (row.ldpc_symbols + row.hdpc_symbols) as usize;
+    if solution.precode_rows >= precode_rows {
         return Ok(true);
     }
     solves_hdpc(alloc, row, values)
@@ -93,8 +93,8 @@ fn add_column(sums: &mut SymbolSlab, row: &TableRow, intermediate: &SymbolSlab, 
     double_and_add(sums.get_mut(height), intermediate.get(column + 1));
 }
 
-// Whether each of so many sums is zero once its power of alpha, times the symbol behind them, is
-// added to it, as MT's last column has these powers.
+// Whether each of the first `height` sums is zero once its power of alpha, times the symbol behind
+// them, is added to it, as MT's last column has these powers.
 fn are_zero_with_last(sums: &mut SymbolSlab, height: usize) -> bool
     requires few { height < 256 }
     requires order { sums.old.order ≡ None }

@@ -6,7 +6,7 @@ ghost use Rattle.rq_standard.specs.Headline.{known_ids};
 ghost use Rattle.rq_standard.specs.Equations.{equation_count};
 ghost use Rattle.rq_standard.specs.IdLists.{IsListOf};
 ghost use Rattle.rq_standard.specs.TableRows.{IsChecked};
-ghost use Rattle.raptorq.specs.Known.{known_list, known_values};
+ghost use Rattle.raptorq.specs.Known.{known_list, values_after};
 ghost use Rattle.raptorq.specs.Missing.{payload_of, has_payload};
 
 use crate::ids::{internal_symbol_id, padding_ids};
@@ -20,50 +20,45 @@ use std::collections::BTreeMap;
 pub(crate) fn known_symbol_ids(
     alloc: Global,
     row: &TableRow,
-    symbols: u32,
+    source_symbols: u32,
     received: &BTreeMap<u32, Vec<u8>>,
 ) -> Result<Vec<u32>, AllocError>
     requires checked { IsChecked row.now }
-    requires fits { symbols ≤ row.now.extended_symbols }
+    requires fits { source_symbols ≤ row.now.extended_symbols }
     requires few { (e : ℕ) → has_payload received.now e ≡ true → e < 2 ^ 24 }
-    ensures ids { IfOk result (λ ids. ids.items ≡ known_list row.now symbols received.now.entries) }
-    ensures listed { IfOk result (λ ids. IsListOf (known_ids row.now symbols (has_payload received.now)) ids.items) }
+    ensures ids { IfOk result (λ ids. ids.items ≡ known_list row.now source_symbols received.now.entries) }
+    ensures listed { IfOk result (λ ids. IsListOf (known_ids row.now source_symbols (has_payload received.now)) ids.items) }
     ensures few { IfOk result (λ ids. equation_count row.now ids.items < 2 ^ 31) }
 {
-    let count = (row.extended_symbols - symbols) as usize + received.len();
-    let mut ids = padding_ids(alloc, row, symbols, count)?;
+    let count = (row.extended_symbols - source_symbols) as usize + received.len();
+    let mut ids = padding_ids(alloc, row, source_symbols, count)?;
     for esi in received.keys() {
-        ids.push(internal_symbol_id(row, symbols, *esi))?;
+        ids.push(internal_symbol_id(row, source_symbols, *esi))?;
     }
     Ok(ids)
 }
 
-/// The values of the equations: zeros for so many of those of LDPC and HDPC and for the padding, and
-/// then what came.
+/// The values of the equations: `zeros` zeros, for those of LDPC and HDPC and for the padding, and
+/// then what came. There is room for the `source_symbols` symbols (K) of the block too.
 pub(crate) fn known_symbol_values(
     alloc: Global,
-    row: &TableRow,
-    symbols: u32,
-    fixed: usize,
+    zeros: usize,
+    source_symbols: u32,
     size: usize,
     received: &BTreeMap<u32, Vec<u8>>,
 ) -> Result<SymbolSlab, Error>
-    requires checked { IsChecked row.now }
-    requires fits { symbols ≤ row.now.extended_symbols }
-    requires few_fixed { fixed ≤ row.now.ldpc_symbols + row.now.hdpc_symbols }
+    requires few_symbols { zeros + source_symbols ≤ 2 ^ 25 }
     requires positive { 0 < size }
     requires small { size < 65536 }
     requires few { (e : ℕ) → has_payload received.now e ≡ true → e < 2 ^ 24 }
     requires sized { (e : ℕ) → ForSome (payload_of received.now e) (λ payload. length payload ≡ size) }
-    ensures values { IfOk result (λ values. values ≡ slab_of size (known_values row.now symbols fixed size received.now.entries)) }
+    ensures values { IfOk result (λ values. values ≡ slab_of size (values_after zeros size received.now.entries)) }
     ensures memory { IfErr result (λ e. e ≡ Error.OutOfMemory) }
 {
-    let padding = row.extended_symbols - symbols;
-    let zeros = fixed + padding as usize;
     let count = zeros + received.len();
-    // Room for the block that is answered too: an allocator that is handed this buffer back then
-    // keeps as much for the next block.
-    let room = (count + symbols as usize) * size;
+    // An allocator that is handed this buffer back keeps as much for the next block, once this one
+    // is answered.
+    let room = (count + source_symbols as usize) * size;
     let mut bytes = Vec::with_capacity(alloc, room)?;
     bytes.resize(zeros * size, 0)?;
     for payload in received.values() {

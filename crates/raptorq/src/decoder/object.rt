@@ -12,7 +12,7 @@ ghost use Rattle.raptorq.specs.SourceBlockDecoder.{held_of};
 
 use crate::blocks::block_symbols;
 use crate::decoder::block::SourceBlockDecoder;
-use crate::decoder::stopped::Stopped;
+use crate::decoder::packet_stop::PacketStop;
 use rq_base::base::{EncodingPacket, ObjectTransmissionInformation};
 use rq_bytes::error::Error;
 use rq_tables::systematic_constants::SystematicTable;
@@ -46,9 +46,9 @@ impl ObjectBlock {
         ensures answer { answer_of result ≡ new_answer config.now number }
         ensures shape { IsHeldOf table.now config.now number (new_held table.now config.now number) }
     {
-        let symbols = block_symbols(config, number);
-        let decoder = SourceBlockDecoder::of_symbols(alloc, table, number, config, symbols);
-        let answer = if symbols == 0 {
+        let source_symbols = block_symbols(config, number);
+        let decoder = SourceBlockDecoder::of_symbols(alloc, table, number, config, source_symbols);
+        let answer = if source_symbols == 0 {
             Some(Vec::new(alloc))
         } else {
             None
@@ -58,12 +58,12 @@ impl ObjectBlock {
 
     // Takes a packet of the block, and answers the block where that is determined. An answered
     // block takes nothing more.
-    fn add_packet(&mut self, packet: EncodingPacket) -> Result<(), Stopped>
+    fn add_packet(&mut self, packet: EncodingPacket) -> Result<(), PacketStop>
         requires { block_refusal (held_of self.old.decoder) packet ≡ Ok tt }
         ensures adds { AddsInBlockOrStops (held_of self.old.decoder) (answer_of self.old) packet result (held_of self.new.decoder) (answer_of self.new) }
         ensures number { (held_of self.new.decoder).number ≡ (held_of self.old.decoder).number }
         ensures configuration { (held_of self.new.decoder).configuration ≡ (held_of self.old.decoder).configuration }
-        ensures symbols { (held_of self.new.decoder).symbols ≡ (held_of self.old.decoder).symbols }
+        ensures symbols { (held_of self.new.decoder).source_symbols ≡ (held_of self.old.decoder).source_symbols }
     {
         if self.answer.is_some() {
             return Ok(());
@@ -109,7 +109,7 @@ pub struct Decoder {
     pub ghost some: { 0 < config.source_blocks },
     pub ghost numbered: { map (λ b. (held_of b.decoder).number) blocks.items ≡ range_with_len 0 config.source_blocks },
     pub ghost same: { All (λ b. (held_of b.decoder).configuration ≡ config) blocks.items },
-    pub ghost cut: { All (λ b. (held_of b.decoder).symbols ≡ block_symbols config (held_of b.decoder).number) blocks.items },
+    pub ghost cut: { All (λ b. (held_of b.decoder).source_symbols ≡ block_symbols config (held_of b.decoder).number) blocks.items },
 }
 
 impl Decoder {
@@ -117,7 +117,7 @@ impl Decoder {
     ghost use Rattle.rq_standard.specs.Standing.{IsNewState, Stops, StopsEarly, IsBlockContradictory, result_of};
     ghost use Rattle.rq_standard.specs.Standing.{StandsForNone, LeavesBlockLate, LeavesOrAnswersLateBlock, AnswersObject, AnswersNothingElse, AnswersOnlyObject};
     ghost use Rattle.raptorq.specs.Taking.{TakesPacket};
-    ghost use Rattle.raptorq.specs.Decoding.{shown};
+    ghost use Rattle.raptorq.specs.Decoding.{answer_bytes};
     ghost use Rattle.raptorq.specs.Stopping.{StopsAsTested, AddsOrStops, AddsAndJoinsOrStops};
     ghost use Rattle.raptorq.specs.Refused.{packet_refusal};
     ghost use Rattle.raptorq.specs.Decoder.{state_of};
@@ -159,17 +159,17 @@ impl Decoder {
     }
 
     // Takes a packet, whoever sent it.
-    fn add_to_block(&mut self, packet: EncodingPacket) -> Result<(), Stopped>
+    fn add_to_block(&mut self, packet: EncodingPacket) -> Result<(), PacketStop>
         ensures tested { StopsAsTested result (packet_refusal (state_of self.old).configuration packet) }
         ensures adds { AddsOrStops (state_of self.old) packet result (state_of self.new) }
         ensures configuration { (state_of self.new).configuration ≡ (state_of self.old).configuration }
     {
         let number = packet.payload_id().source_block_number();
         if number >= self.config.source_blocks() {
-            return Err(Stopped::Refused(Error::UnknownBlock));
+            return Err(PacketStop::Refused(Error::UnknownBlock));
         }
         if packet.data().len() != usize::from(self.config.symbol_size()) {
-            return Err(Stopped::Refused(Error::WrongPayloadSize));
+            return Err(PacketStop::Refused(Error::WrongPayloadSize));
         }
         self.blocks[usize::from(number)].add_packet(packet)
     }
@@ -271,14 +271,14 @@ impl Decoder {
     }
 
     // Takes a packet, and then joins the blocks where each has an answer.
-    fn add_and_join(&mut self, packet: EncodingPacket) -> Result<Option<Vec<u8>>, Stopped>
+    fn add_and_join(&mut self, packet: EncodingPacket) -> Result<Option<Vec<u8>>, PacketStop>
         ensures tested { StopsAsTested result (packet_refusal (state_of self.old).configuration packet) }
-        ensures adds { AddsAndJoinsOrStops (state_of self.old) packet (shown vec_items result) (state_of self.new) }
+        ensures adds { AddsAndJoinsOrStops (state_of self.old) packet (answer_bytes vec_items result) (state_of self.new) }
         ensures configuration { (state_of self.new).configuration ≡ (state_of self.old).configuration }
     {
         self.add_to_block(packet)?;
         let Ok(object) = self.get_result() else {
-            return Err(Stopped::NotJoined);
+            return Err(PacketStop::NotJoined);
         };
         Ok(object)
     }

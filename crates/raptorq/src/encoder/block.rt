@@ -11,7 +11,7 @@ use crate::enc::encoding_symbol;
 use crate::encoder::cache::SourceBlockEncodingPlanCache;
 use crate::encoder::plan::SourceBlockEncodingPlan;
 use crate::ids::internal_symbol_id;
-use crate::sub_blocks::{check_symbols, source_symbols};
+use crate::sub_blocks::{check_symbols, symbols_of_block};
 use rq_base::base::{EncodingPacket, ObjectTransmissionInformation, PayloadId};
 use rq_bytes::error::Error;
 use rq_bytes::symbol_slab::SymbolSlab;
@@ -40,7 +40,7 @@ impl SourceBlockEncoder {
     ghost use Rattle.rq_base.specs.RefusedInput.{new_id};
     ghost use Rattle.raptorq.specs.SourceBlockEncoder.{block_encoded, block_encoded_of, IsBlockPacket, AreBlockPackets};
     ghost use Rattle.raptorq.specs.BlockData.{block_of, block_by_plan, IsPlanFor, RefusesBlock, RefusesPlanned};
-    ghost use Rattle.raptorq.specs.SourceBlockEncodingPlanCache.{used};
+    ghost use Rattle.raptorq.specs.SourceBlockEncodingPlanCache.{after_use};
     ghost use Rattle.raptorq.specs.SourceBlockEncodingPlan.{plan_of};
 
     /// The encoder of a source block, whose bytes are whole symbols. Its plan is the one in the
@@ -62,7 +62,7 @@ impl SourceBlockEncoder {
         ensures taken { OnOk result (AreWholeSymbols (greatest_size cache.old.table) config.now (length block.now)) }
         ensures encoded { IfOk result (λ b. block_encoded_of b ≡ block_of cache.old.table config.now source_block_number block.now) }
         ensures nonsingular { IfOk result (λ b. IsNonsingular (block_encoded_of b).row) }
-        ensures used { OnOk result (cache.new ≡ used cache.old (length block.now / config.now.symbol_size)) }
+        ensures used { OnOk result (cache.new ≡ after_use cache.old (length block.now / config.now.symbol_size)) }
         ensures unchanged { OnErr result (cache.new ≡ cache.old) }
     {
         let count = source_symbol_count(config, block, cache.table())?;
@@ -123,8 +123,8 @@ impl SourceBlockEncoder {
         ensures memory { IfErr result (λ e. e ≡ Error.OutOfMemory) }
     {
         let count = u32::from(plan.source_symbol_count());
-        let source = source_symbols(alloc, config, block, count)?;
-        SourceBlockEncoder::planned(alloc, number, source, plan)
+        let source = symbols_of_block(alloc, config, block, count)?;
+        SourceBlockEncoder::of_source(alloc, number, source, plan)
     }
 
     /// The packets of the source symbols, in their order (RFC 6330, section 4.4.2).
@@ -132,7 +132,7 @@ impl SourceBlockEncoder {
         ensures packets { let b = block_encoded_of self.now in IfOk result (λ v. AreBlockPackets b 0 (length b.source) v.items) }
         ensures memory { IfErr result (λ e. e ≡ Error.OutOfMemory) }
     {
-        self.packets(0, self.symbols())
+        self.packets(0, self.source_symbol_count())
     }
 
     /// The packets of `packets` repair symbols, from the repair symbol `start_repair_symbol` on,
@@ -150,7 +150,7 @@ impl SourceBlockEncoder {
         if packets == 0 {
             return Ok(Vec::new(self.alloc));
         }
-        let start = u64::from(self.symbols()) + u64::from(start_repair_symbol);
+        let start = u64::from(self.source_symbol_count()) + u64::from(start_repair_symbol);
         let end = start + u64::from(packets);
         if end > 1 << 24 {
             return Err(Error::EsiTooLarge);
@@ -159,7 +159,7 @@ impl SourceBlockEncoder {
     }
 
     /// The encoder of a block with these source symbols, by a plan of its row.
-    pub(crate) fn planned(
+    pub(crate) fn of_source(
         alloc: Global,
         number: u8,
         source: SymbolSlab,
@@ -184,7 +184,7 @@ impl SourceBlockEncoder {
     }
 
     /// The number of source symbols.
-    pub(crate) fn symbols(&self) -> u32
+    pub(crate) fn source_symbol_count(&self) -> u32
         ensures { result ≡ length (block_encoded_of self.now).source }
     {
         self.source.len() as u32
@@ -207,10 +207,10 @@ impl SourceBlockEncoder {
         requires { esi < 2 ^ 24 }
         ensures { IfOk result (λ v. let b = block_encoded_of self.now in IsEncodingSymbol b.row b.size b.source esi v.items) }
     {
-        if esi < self.symbols() {
+        if esi < self.source_symbol_count() {
             return Vec::from_slice(self.alloc, self.source.get(esi as usize));
         }
-        let id = internal_symbol_id(&self.row, self.symbols(), esi);
+        let id = internal_symbol_id(&self.row, self.source_symbol_count(), esi);
         encoding_symbol(self.alloc, &self.row, &self.intermediate, id)
     }
 

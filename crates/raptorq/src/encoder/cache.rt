@@ -3,7 +3,7 @@ ghost use Rattle.std.specs.Prelude.{◌≡◌, ◌≤◌, ◌<◌, ◌==◌, [],
 ghost use Rattle.std.specs.VecDeque.{deque_len, deque_capacity};
 ghost use Rattle.std.specs.Borrow.{sem};
 ghost use Rattle.rq_bytes.specs.Refusals.{IsAnswer};
-ghost use Rattle.raptorq.specs.SourceBlockEncodingPlanCache.{holds_count, used, IsPlanOver};
+ghost use Rattle.raptorq.specs.SourceBlockEncodingPlanCache.{holds_count, after_use, IsPlanOver};
 
 use crate::encoder::plan::SourceBlockEncodingPlan;
 use rq_bytes::error::Error;
@@ -64,7 +64,7 @@ impl SourceBlockEncodingPlanCache {
         ensures row { IfOk result (λ p. (plan_of p.now).row ≡ row_of self.old.table count) }
         ensures plan { IfOk result (λ p. IsPlanOf (row_of self.old.table count) (plan_of p.now).operations) }
     {
-        let index = self.hold(count)?;
+        let index = self.get_or_insert(count)?;
         Ok(&self.plans[index])
     }
 
@@ -90,7 +90,7 @@ impl SourceBlockEncodingPlanCache {
         &self.table
     }
 
-    /// The plan of so many source symbols, if it is held.
+    /// The plan of `count` source symbols, if it is held.
     pub(crate) fn get(&self, count: u16) -> Option<&SourceBlockEncodingPlan>
         ensures held { is_some result ≡ holds_count self.now.counts count }
         ensures count { IfSome result (λ p. (plan_of p.now).count ≡ count) }
@@ -100,9 +100,9 @@ impl SourceBlockEncodingPlanCache {
         Some(&self.plans[index])
     }
 
-    // Makes the plan of so many source symbols where none is held, and answers its index.
-    fn hold(&mut self, count: u16) -> Result<usize, Error>
-        ensures used { OnOk result (self.new ≡ used self.old count) }
+    // The index of the plan of `count` source symbols, which is made where none is held.
+    fn get_or_insert(&mut self, count: u16) -> Result<usize, Error>
+        ensures used { OnOk result (self.new ≡ after_use self.old count) }
         ensures index { IfOk result (λ index. slice_get self.new.counts index ≡ Some count) }
         ensures refused { IfErr result (λ e. (holds_count self.old.counts count ≡ false) × RefusesPlan self.old.table count e) }
         ensures taken { OnOk result (plan_refusal self.old.table count ≡ Ok tt) }
@@ -120,14 +120,14 @@ impl SourceBlockEncodingPlanCache {
     pub(crate) fn put(&mut self, plan: SourceBlockEncodingPlan)
         requires over { IsPlanOver self.old.table plan }
         requires new { holds_count self.old.counts (plan_of plan).count ≡ false }
-        ensures { self.new ≡ used self.old (plan_of plan).count }
+        ensures { self.new ≡ after_use self.old (plan_of plan).count }
     {
         make_room(&mut self.plans);
         self.plans.push_back_reserved(plan);
     }
 }
 
-// Where the plan of so many source symbols is.
+// Where the plan of `count` source symbols is.
 fn index_of(plans: &VecDeque<SourceBlockEncodingPlan>, count: u16) -> Option<usize>
     ensures { result ≡ position (λ n. n == count) (map (λ p. p.source_symbol_count) plans.now.items) }
 {

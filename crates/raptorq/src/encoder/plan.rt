@@ -10,7 +10,7 @@ ghost use Rattle.raptorq.specs.Planned.{IsPlanOf, source_values};
 
 use crate::encoder::SPARSE_MATRIX_THRESHOLD;
 use crate::ids::padding_ids;
-use crate::solving::find_operations;
+use crate::solving::solve_block;
 use rq_bytes::error::Error;
 use rq_bytes::symbol_slab::SymbolSlab;
 use rq_operations::recorded::RecordedOperations;
@@ -19,7 +19,8 @@ use rq_tables::systematic_constants::SystematicTable;
 use std::alloc::{AllocError, Global};
 
 /// The operations that make the intermediate symbols of a source block from its source symbols,
-/// whatever the symbols and their size. Blocks with as many source symbols share one.
+/// whatever the symbols and their size. Blocks with one number of source symbols share
+/// a plan.
 #[derive(Debug, PartialEq, Eq, Drop)]
 pub struct SourceBlockEncodingPlan {
     operations: RecordedOperations,
@@ -76,7 +77,7 @@ impl SourceBlockEncodingPlan {
         ensures refused { IfErr result (λ e. (e ≡ Error.OutOfMemory) ⊎ ((e ≡ Error.Singular) × IsSingular row)) }
     {
         let ids = padding_ids(alloc, &row, 0, row.extended_symbols as usize)?;
-        let Some(solution) = find_operations(alloc, &row, ids.as_slice(), SPARSE_MATRIX_THRESHOLD)?
+        let Some(solution) = solve_block(alloc, &row, ids.as_slice(), SPARSE_MATRIX_THRESHOLD)?
         else {
             return Err(Error::Singular);
         };
@@ -143,6 +144,6 @@ fn source_values(row: &TableRow, source: &SymbolSlab) -> Result<SymbolSlab, Erro
     ensures values { IfOk result (λ slab. slab ≡ slab_of source.now.symbol_size (source_values row.now source.now.symbol_size source.now.values)) }
     ensures memory { IfErr result (λ e. e ≡ Error.OutOfMemory) }
 {
-    let fixed = (row.ldpc_symbols + row.hdpc_symbols) as usize;
-    Ok(source.among_zeros(fixed, row.intermediate_symbols() as usize)?)
+    let precode_rows = (row.ldpc_symbols + row.hdpc_symbols) as usize;
+    Ok(source.among_zeros(precode_rows, row.intermediate_symbols() as usize)?)
 }

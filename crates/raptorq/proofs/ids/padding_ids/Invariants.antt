@@ -4,4 +4,4 @@ use Rattle.raptorq.proofs.ids.padding_ids.Given as goal
 
 -- the ids so far
 abbrev pub invariant-loop-id : goal.invariant-loop-id
-invariant-loop-id l = l.ids.items ≡ range_with_len l.fn.symbols (l.id - l.fn.symbols)
+invariant-loop-id l = l.ids.items ≡ range_with_len l.fn.source_symbols (l.id - l.fn.source_symbols)

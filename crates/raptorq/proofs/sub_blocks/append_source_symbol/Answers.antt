@@ -13,8 +13,8 @@ module _ (c : After-size_at-width) where
   within : (0 < c.size_at-width.result) × (c.loop-start.start + c.size_at-width.result ≤ c.from-size.result)
   within = width_within c.args.config.now c.loop-start.start c.size_at-width.result c.from-size.result c.requires.aligned c.loop-start.invariant.at c.loop-start-test.true (c.from-size.ensures ∙ c.symbol_size.ensures) c.size_at-width.ensures
 
-  fits : c.loop-start.start * c.args.symbols + c.size_at-width.result * c.args.e + c.size_at-width.result < 18446744073709551616
-  fits = place_fits c.loop-start.start c.size_at-width.result c.args.symbols c.args.e c.from-size.result within.1 (omega (arith, c.from-size.ensures, c.symbol_size.type_inv)) c.ranges.symbols.fits c.ranges.e.fits
+  fits : c.loop-start.start * c.args.source_symbols + c.size_at-width.result * c.args.e + c.size_at-width.result < 18446744073709551616
+  fits = place_fits c.loop-start.start c.size_at-width.result c.args.source_symbols c.args.e c.from-size.result within.1 (omega (arith, c.from-size.ensures, c.symbol_size.type_inv)) c.ranges.source_symbols.fits c.ranges.e.fits
 
 pub loop-start-init : goal.loop-start-init
 loop-start-init c = record { at = reaches_none c.args.config.now c.requires.aligned; so_far = sym (append-nil c.args.bytes.now.items) }
@@ -33,9 +33,9 @@ append_padded-requires-clause-room c =
     let k = c.args.config.now in
     let w = within (goal.at.append_padded-requires-clause-room c).After-size_at-width in
     let old = c.args.bytes.now in
-    let part = map (λ t. get_or c.args.block.now (place_in_block k c.args.symbols c.args.e t) 0) (range_with_len 0 c.loop-start.start) in
+    let part = map (λ t. get_or c.args.block.now (place_in_block k c.args.source_symbols c.args.e t) 0) (range_with_len 0 c.loop-start.start) in
     let long : vec_len c.loop-start.bytes ≡ vec_len old + c.loop-start.start =
-    c.loop-start.bytes.ok.0 ∙ ap length c.loop-start.invariant.so_far ∙ length-append old.items part ∙ omega (arith, old.ok.0, length-map-range_with_len (λ t. get_or c.args.block.now (place_in_block k c.args.symbols c.args.e t) 0) 0 c.loop-start.start) in
+    c.loop-start.bytes.ok.0 ∙ ap length c.loop-start.invariant.so_far ∙ length-append old.items part ∙ omega (arith, old.ok.0, length-map-range_with_len (λ t. get_or c.args.block.now (place_in_block k c.args.source_symbols c.args.e t) 0) 0 c.loop-start.start) in
     omega (arith, long, w.1, c.from-size.ensures, c.symbol_size.ensures, c.requires.room)
 
 pub overflow_add-start : goal.overflow_add-start
@@ -48,18 +48,18 @@ pub loop-start-preserved : goal.loop-start-preserved
 loop-start-preserved c =
     let at = c.loop-start.invariant.at in
     let k = c.args.config.now in
-    let place = c.loop-start.start * c.args.symbols + c.size_at-width.result * c.args.e in
+    let place = c.loop-start.start * c.args.source_symbols + c.size_at-width.result * c.args.e in
     let below : c.loop-start.start < k.symbol_size = omega (arith, c.loop-start-test.true, c.from-size.ensures, c.symbol_size.ensures) in
     record {
       at = reaches_more k c.loop-start.start c.size_at-width.result c.requires.aligned at below c.size_at-width.ensures;
       so_far =
           let old = c.args.bytes.now.items in
-          let parts = map (λ t. get_or c.args.block.now (place_in_block k c.args.symbols c.args.e t) 0) (range_with_len 0 c.loop-start.start) in
+          let parts = map (λ t. get_or c.args.block.now (place_in_block k c.args.source_symbols c.args.e t) 0) (range_with_len 0 c.loop-start.start) in
           let part = map (λ i. get_or c.args.block.now (place + i) 0) (range_with_len 0 c.size_at-width.result) in
           c.in_ok-append_padded.ensures
           ∙ ap (λ l. l ++ part) c.loop-start.invariant.so_far
           ∙ append_assoc old parts part
-          ∙ ap (λ l. old ++ l) (symbol_more k c.args.symbols c.args.e c.loop-start.start c.size_at-width.result place c.args.block.now parts (parts ++ part) c.requires.aligned at below c.size_at-width.ensures refl refl refl);
+          ∙ ap (λ l. old ++ l) (symbol_more k c.args.source_symbols c.args.e c.loop-start.start c.size_at-width.result place c.args.block.now parts (parts ++ part) c.requires.aligned at below c.size_at-width.ensures refl refl refl);
     }
 
 pub returns : goal.returns
@@ -67,4 +67,4 @@ unfolding symbol_of_block
 returns c =
     let k = c.args.config.now in
     let all : c.loop-start.start ≡ k.symbol_size = omega (arith, c.loop-start-test.false, c.loop-start.invariant.at.within, c.from-size.ensures, c.symbol_size.ensures) in
-    c.loop-start.invariant.so_far ∙ ap (λ n. c.args.bytes.now.items ++ map (λ t. get_or c.args.block.now (place_in_block k c.args.symbols c.args.e t) 0) (range_with_len 0 n)) all
+    c.loop-start.invariant.so_far ∙ ap (λ n. c.args.bytes.now.items ++ map (λ t. get_or c.args.block.now (place_in_block k c.args.source_symbols c.args.e t) 0) (range_with_len 0 n)) all

@@ -8,7 +8,7 @@ use Rattle.raptorq.proofs.sub_blocks.append_source_symbol.Given as goal
 abbrev pub invariant-loop-start : goal.invariant-loop-start
 invariant-loop-start l = record {
   at : Reaches l.config l.start;
-  so_far : l.bytes.items ≡ l.fn.bytes.items ++ map (λ t. get_or l.block (place_in_block l.config l.symbols l.e t) 0) (range_with_len 0 l.start);
+  so_far : l.bytes.items ≡ l.fn.bytes.items ++ map (λ t. get_or l.block (place_in_block l.config l.source_symbols l.e t) 0) (range_with_len 0 l.start);
 }
 
 abbrev pub decreases-loop-start : goal.decreases-loop-start

@@ -8,5 +8,5 @@ loop-e-init c = sym (append-nil c.args.block.now.items)
 
 pub loop-e-preserved : goal.loop-e-preserved
 loop-e-preserved c =
-    pieces_more (λ e. slice_range c.args.plain.now (e * c.args.size + c.args.start) (e * c.args.size + c.args.start + c.args.width)) c.loop-e.e c.args.block.now.items c.loop-e.block.items c.extend_from_slice.new.self.items
-    (slice_range c.args.plain.now (c.loop-e.e * c.args.size + c.args.start) (c.loop-e.e * c.args.size + c.args.start + c.args.width)) c.loop-e.invariant c.in_ok-extend_from_slice.ensures.items refl
+    pieces_more (λ e. slice_range c.args.symbol_bytes.now (e * c.args.size + c.args.part.start) (e * c.args.size + c.args.part.start + c.args.part.width)) c.loop-e.e c.args.block.now.items c.loop-e.block.items c.extend_from_slice.new.self.items
+    (slice_range c.args.symbol_bytes.now (c.loop-e.e * c.args.size + c.args.part.start) (c.loop-e.e * c.args.size + c.args.part.start + c.args.part.width)) c.loop-e.invariant c.in_ok-extend_from_slice.ensures.items refl

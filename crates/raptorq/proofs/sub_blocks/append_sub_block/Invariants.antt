@@ -5,4 +5,4 @@ use Rattle.raptorq.proofs.sub_blocks.append_sub_block.Given as goal
 
 -- the parts of the symbols before this one
 abbrev pub invariant-loop-e : goal.invariant-loop-e
-invariant-loop-e l = l.block.items ≡ l.fn.block.items ++ flat_map (λ e. slice_range l.plain (e * l.size + l.start) (e * l.size + l.start + l.width)) (range_with_len 0 l.e)
+invariant-loop-e l = l.block.items ≡ l.fn.block.items ++ flat_map (λ e. slice_range l.symbol_bytes (e * l.size + l.part.start) (e * l.size + l.part.start + l.part.width)) (range_with_len 0 l.e)

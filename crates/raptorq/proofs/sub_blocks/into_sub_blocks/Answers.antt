@@ -5,10 +5,10 @@ use Rattle.raptorq.proofs.sub_blocks.into_sub_blocks.Goals as goal
 use Rattle.raptorq.proofs.sub_blocks.into_sub_blocks.Goals.{After-loop-start, After-size_at-width}
 
 pub returns-then-sub_blocks-le1-clause-each : goal.returns-then-sub_blocks-le1-clause-each
-returns-then-sub_blocks-le1-clause-each c = λ e below. symbol_of_block-plain c.args.config.now c.args.symbols c.args.plain.items e (record { one = omega (arith, c.if-sub_blocks-le1.true, c.sub_blocks.ensures); aligned = c.requires.aligned.aligned; alignment_positive = c.requires.aligned.alignment_positive }) c.requires.long below
+returns-then-sub_blocks-le1-clause-each c = λ e below. symbol_of_block-plain c.args.config.now c.args.source_symbols c.args.symbol_bytes.items e (record { one = omega (arith, c.if-sub_blocks-le1.true, c.sub_blocks.ensures); aligned = c.requires.aligned.aligned; alignment_positive = c.requires.aligned.alignment_positive }) c.requires.long below
 
 pub loop-start-init : goal.loop-start-init
-loop-start-init c = record { at = reaches_none c.args.config.now c.requires.aligned; so_far = parts_none c.args.config.now c.args.symbols c.args.plain.items c.in_ok-block.block.items c.in_ok-block.ensures.items }
+loop-start-init c = record { at = reaches_none c.args.config.now c.requires.aligned; so_far = parts_none c.args.config.now c.args.source_symbols c.args.symbol_bytes.items c.in_ok-block.block.items c.in_ok-block.ensures.items }
 
 module _ (c : After-size_at-width) where
   -- the sub-block has bytes, and ends within the symbol
@@ -34,7 +34,7 @@ loop-start-preserved c =
     let below : c.loop-start.start < k.symbol_size = omega (arith, c.loop-start-test.true, size) in
     record {
       at = reaches_more k c.loop-start.start c.size_at-width.result c.requires.aligned v.at below c.size_at-width.ensures;
-      so_far = parts_more k c.args.symbols c.loop-start.start c.size_at-width.result c.from-size.result c.args.plain.items c.as_slice.result.now c.loop-start.block.items c.append_sub_block.new.block.items
+      so_far = parts_more k c.args.source_symbols c.loop-start.start c.size_at-width.result c.from-size.result c.args.symbol_bytes.items c.as_slice.result.now c.loop-start.block.items c.append_sub_block.new.block.items
           c.requires.aligned v.at below c.size_at-width.ensures size c.as_slice.ensures.value c.requires.long v.so_far c.in_ok-append_sub_block.ensures;
     }
 
@@ -43,8 +43,8 @@ module _ (c : After-loop-start) where
   all = omega (arith, c.loop-start-test.false, c.loop-start.invariant.at.within, c.from-size.ensures, c.symbol_size.ensures)
 
 pub returns-clause-long : goal.returns-clause-long
-returns-clause-long c = omega (arith, c.loop-start.invariant.so_far.long, ap (λ n. n * c.args.symbols) (all (goal.at.returns-clause-long c).After-loop-start))
+returns-clause-long c = omega (arith, c.loop-start.invariant.so_far.long, ap (λ n. n * c.args.source_symbols) (all (goal.at.returns-clause-long c).After-loop-start))
 
 pub returns-clause-each : goal.returns-clause-each
 returns-clause-each c =
-    parts_all c.args.config.now c.args.symbols c.loop-start.start c.args.plain.items c.loop-start.block.items (all (goal.at.returns-clause-each c).After-loop-start) c.requires.long c.loop-start.invariant.so_far
+    parts_all c.args.config.now c.args.source_symbols c.loop-start.start c.args.symbol_bytes.items c.loop-start.block.items (all (goal.at.returns-clause-each c).After-loop-start) c.requires.long c.loop-start.invariant.so_far

@@ -6,7 +6,7 @@ use Rattle.raptorq.proofs.sub_blocks.into_sub_blocks.Given as goal
 abbrev pub invariant-loop-start : goal.invariant-loop-start
 invariant-loop-start l = record {
   at : Reaches l.config l.start;
-  so_far : HasParts l.config l.symbols l.plain.items l.block.items l.start;
+  so_far : HasParts l.config l.source_symbols l.symbol_bytes.items l.block.items l.start;
 }
 
 abbrev pub decreases-loop-start : goal.decreases-loop-start

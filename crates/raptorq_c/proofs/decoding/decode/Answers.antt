@@ -12,7 +12,7 @@ use Rattle.raptorq.specs.Runs.{packets_of, IsRunRefusal, AnswersRun}
 use Rattle.raptorq_c.specs.Decoding.{Answered, frames_refusal, packets_in}
 use Rattle.raptorq_c.specs.Numbers.{number_of}
 use Rattle.raptorq_c.proofs.Encoded.{at_built_in}
-use Rattle.raptorq_c.proofs.Held.{answered_by, refused_frames, refused_run, filled_run}
+use Rattle.raptorq_c.proofs.HandleAnswers.{answered_by, refused_frames, refused_run, filled_run}
 use Rattle.raptorq_c.proofs.decoding.decode.Goals as goal
 use Rattle.raptorq_c.proofs.decoding.decode.Goals.{After-from, In_ok-steps, In_ok-answer}
 

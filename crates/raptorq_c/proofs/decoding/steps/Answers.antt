@@ -4,7 +4,7 @@ use Rattle.std.proofs.lemmas.Result.{err_from_is_err_and}
 use Rattle.rq_standard.specs.Packet.{packet_of_bytes}
 use Rattle.rq_standard.specs.Streams.{frames_in}
 use Rattle.raptorq.specs.Runs.{packets_of}
-use Rattle.raptorq_c.proofs.Frames.{packets_next, taken_next, refused_next, packets_all, taken_all}
+use Rattle.raptorq_c.proofs.PacketFrames.{packets_next, taken_next, refused_next, packets_all, taken_all}
 use Rattle.raptorq_c.proofs.decoding.steps.Goals as goal
 
 pub returns-in_err-deserialize-clause-refused : goal.returns-in_err-deserialize-clause-refused

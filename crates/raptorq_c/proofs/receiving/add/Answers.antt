@@ -3,7 +3,7 @@ use Rattle.std.proofs.lemmas.Result.{err_from_is_err_and}
 use Rattle.rq_bytes.specs.Error.{code_of}
 use Rattle.raptorq.specs.Decoder.{state_of}
 use Rattle.raptorq_c.specs.Handles.{Becomes, IsAdded, decoder_in}
-use Rattle.raptorq_c.proofs.Held.{refused_bytes}
+use Rattle.raptorq_c.proofs.HandleAnswers.{refused_bytes}
 use Rattle.raptorq_c.proofs.receiving.add.Goals as goal
 
 pub returns-in_err-add_bytes-in-Receiver-clause-added : goal.returns-in_err-add_bytes-in-Receiver-clause-added

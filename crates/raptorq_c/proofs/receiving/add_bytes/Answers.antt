@@ -2,8 +2,8 @@ use Rattle.std.proofs.Common.{◌≡◌, IfErr, OnOk, subst}
 use Rattle.rq_bytes.specs.declared.error.Error.TheVariants.{OutOfMemory}
 use Rattle.rq_standard.specs.Standing.{StandsForMore, AnswersLateBlock, LeavesBlockLate}
 use Rattle.raptorq.specs.Decoder.{state_of}
-use Rattle.raptorq_c.proofs.Frames.{packet_read}
-use Rattle.raptorq_c.proofs.Held.{refused_whole}
+use Rattle.raptorq_c.proofs.PacketFrames.{packet_read}
+use Rattle.raptorq_c.proofs.HandleAnswers.{refused_whole}
 use Rattle.raptorq_c.proofs.receiving.add_bytes.Goals as goal
 
 pub returns-clause-stands : goal.returns-clause-stands

@@ -5,7 +5,7 @@ use Rattle.rq_standard.specs.Standing.{State, AnswersLateBlock, LeavesBlockLate}
 use Rattle.raptorq_c.specs.declared.owned.Coder.{Coder}
 use Rattle.raptorq_c.specs.Handles.{bytes_refusal, coder_of, decoder_in, Becomes, IsAdded}
 use Rattle.raptorq_c.specs.Numbers.{number_of}
-use Rattle.raptorq_c.proofs.Held.{becomes_weaker, of_coders}
+use Rattle.raptorq_c.proofs.HandleAnswers.{becomes_weaker, of_coders}
 use Rattle.raptorq_c.proofs.receiving.reamertan_add_packet.Goals as goal
 use Rattle.raptorq_c.proofs.receiving.reamertan_add_packet.Goals.{After-number-2}
 

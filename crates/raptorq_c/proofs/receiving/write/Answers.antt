@@ -4,7 +4,7 @@ use Rattle.raptorq.specs.Decoder.{state_of}
 use Rattle.raptorq_c.specs.Decoding.{Answered}
 use Rattle.raptorq_c.specs.Handles.{decoder_in}
 use Rattle.raptorq_c.specs.Numbers.{number_of}
-use Rattle.raptorq_c.proofs.Held.{answered_by}
+use Rattle.raptorq_c.proofs.HandleAnswers.{answered_by}
 use Rattle.raptorq_c.proofs.receiving.write.Goals as goal
 
 pub returns-clause-object : goal.returns-clause-object

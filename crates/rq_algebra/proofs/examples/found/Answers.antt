@@ -4,7 +4,7 @@ use Rattle.rq_algebra.specs.Arrangements.{exchange}
 use Rattle.rq_algebra.specs.Examples.{rows, turned}
 use Rattle.rq_algebra.specs.Two.{two}
 use Rattle.rq_algebra.proofs.Places.{exchange_are}
-use Rattle.rq_algebra.proofs.Runs.{follows_none, follows_add}
+use Rattle.rq_algebra.proofs.OperationRuns.{follows_none, follows_add}
 use Rattle.rq_algebra.proofs.Pivots.{finds_by_pivots}
 use Rattle.rq_algebra.proofs.SmallCases.{below_two}
 use Rattle.rq_algebra.proofs.examples.found.Goals as goal

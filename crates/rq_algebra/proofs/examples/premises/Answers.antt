@@ -8,7 +8,7 @@ use Rattle.rq_algebra.specs.Two.{two}
 use Rattle.rq_algebra.specs.Examples.{triangular, single, empty, tall}
 use Rattle.rq_algebra.proofs.Sums.{dot_zero, zero_mul}
 use Rattle.rq_algebra.proofs.FewEquations.{few_rows}
-use Rattle.rq_algebra.proofs.Runs.{follows_none}
+use Rattle.rq_algebra.proofs.OperationRuns.{follows_none}
 use Rattle.rq_algebra.proofs.Pivots.{finds_by_pivots}
 use Rattle.rq_algebra.proofs.SmallCases.{below_one, below_two}
 use Rattle.rq_algebra.proofs.examples.premises.Goals as goal

@@ -126,15 +126,20 @@ fn fitting_block(table: &SystematicTable, packet_size: u16, memory: u64, sub_blo
     table.greatest_within(memory / (alignment * units))
 }
 
-// The least number of sub-blocks with which a block of `symbols` symbols fits the memory, or one more
-// than the greatest number of them.
-fn least_sub_blocks(table: &SystematicTable, packet_size: u16, memory: u64, symbols: u64) -> u16
+// The least number of sub-blocks with which a block of `source_symbols` symbols (K) fits the memory,
+// or one more than the greatest number of them.
+fn least_sub_blocks(
+    table: &SystematicTable,
+    packet_size: u16,
+    memory: u64,
+    source_symbols: u64,
+) -> u16
     requires { 0 < packet_size }
-    ensures { result ≡ first_from (is_fitting table.now packet_size memory symbols) 1 (most_sub_blocks packet_size) }
+    ensures { result ≡ first_from (is_fitting table.now packet_size memory source_symbols) 1 (most_sub_blocks packet_size) }
 {
     let end = most_sub_blocks(packet_size) + 1;
     for sub_blocks in 1..end {
-        if symbols <= u64::from(fitting_block(table, packet_size, memory, sub_blocks)) {
+        if source_symbols <= u64::from(fitting_block(table, packet_size, memory, sub_blocks)) {
             return sub_blocks;
         }
     }

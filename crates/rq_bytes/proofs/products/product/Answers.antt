@@ -3,7 +3,7 @@ use Rattle.std.proofs.Common.{◌≡◌, ◌+◌, ◌-◌, ◌/◌, ◌^◌, ap,
 use Rattle.std.specs.Int.Bits.{bit_xor}
 use Rattle.rq_standard.specs.Octets.{octet_mul, octet_times}
 use Rattle.rq_standard.specs.OctetProducts.{if_set}
-use Rattle.rq_bytes.proofs.Steps.{add_bit, start, end, set_term, unset_term}
+use Rattle.rq_bytes.proofs.ProductSteps.{add_bit, start, end, set_term, unset_term}
 use Rattle.rq_bytes.proofs.products.product.Goals as goal
 use Rattle.rq_bytes.proofs.products.product.Goals.{then-b-k-eq1, else-b-k-eq1}
 

@@ -2,7 +2,7 @@
 use Rattle.std.proofs.Common.{◌+◌, ◌*◌, ◌/◌, ◌-◌, ◌≤◌, refl, ap, ◌∙◌, arith}
 use Rattle.std.proofs.Math.Nat.{mul-le-mul_left}
 use Rattle.rq_bytes.specs.Ranges.{with_range}
-use Rattle.rq_bytes.proofs.RangeSums.{begins_beside, goes_on_beside}
+use Rattle.rq_bytes.proofs.RangeSumLaws.{begins_beside, goes_on_beside}
 use Rattle.rq_bytes.proofs.range_sums.add_pieces.Goals as goal
 
 pub loop-piece-init : goal.loop-piece-init

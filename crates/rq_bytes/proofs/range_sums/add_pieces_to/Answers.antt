@@ -2,7 +2,7 @@
 use Rattle.std.proofs.Common.{◌+◌, ◌*◌, ◌/◌, ◌-◌, ◌≤◌, length, refl, ap, ◌∙◌, arith}
 use Rattle.std.proofs.Math.Nat.{mul-le-mul_left}
 use Rattle.rq_bytes.specs.Ranges.{with_range}
-use Rattle.rq_bytes.proofs.RangeSums.{begins_row, goes_on_row}
+use Rattle.rq_bytes.proofs.RangeSumLaws.{begins_row, goes_on_row}
 use Rattle.rq_bytes.proofs.range_sums.add_pieces_to.Goals as goal
 
 pub loop-piece-init : goal.loop-piece-init

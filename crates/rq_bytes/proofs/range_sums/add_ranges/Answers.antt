@@ -2,7 +2,7 @@
 use Rattle.std.proofs.Common.{◌≡◌, ◌+◌, ◌-◌, ap, ◌∙◌, arith}
 use Rattle.rq_bytes.specs.Ranges.{with_range}
 use Rattle.rq_bytes.specs.RangeSums.{sum_of_ranges}
-use Rattle.rq_bytes.proofs.RangeSums.{goes_on_beside}
+use Rattle.rq_bytes.proofs.RangeSumLaws.{goes_on_beside}
 use Rattle.rq_bytes.proofs.range_sums.add_ranges.Goals as goal
 
 pub returns : goal.returns

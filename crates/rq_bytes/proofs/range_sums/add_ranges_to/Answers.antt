@@ -2,7 +2,7 @@
 use Rattle.std.proofs.Common.{◌≡◌, ◌-◌, length, ◌∙◌, arith}
 use Rattle.rq_bytes.specs.Ranges.{range_of, with_range}
 use Rattle.rq_bytes.specs.RangeSums.{with_ranges_added}
-use Rattle.rq_bytes.proofs.RangeSums.{goes_on_row, all_in_row}
+use Rattle.rq_bytes.proofs.RangeSumLaws.{goes_on_row, all_in_row}
 use Rattle.rq_bytes.proofs.range_sums.add_ranges_to.Goals as goal
 
 pub returns : goal.returns

@@ -1,6 +1,6 @@
 -- What the check leaves to show of `arraymap::grow`.
 use Rattle.std.proofs.Common.{ℕ, ◌+◌, ◌-◌, ◌≤◌, ◌++◌, List, length, replicate, vec_len, get_or, ap, ◌∙◌, arith}
-use Rattle.rq_parts.proofs.Rows.{take_whole}
+use Rattle.rq_parts.proofs.ListChanges.{take_whole}
 use Rattle.rq_parts.proofs.Zeros.{padded_reads}
 use Rattle.rq_parts.proofs.arraymap.grow.Goals as goal
 

@@ -5,7 +5,7 @@ use Rattle.raptorq.specs.Refused.{packet_refusal, IsPacketRefusal}
 use Rattle.rq_standard.specs.Streams.{frame_size}
 use Rattle.rq_streams.specs.Frames.{kept_packet}
 use Rattle.rq_streams.proofs.Skipping.{packet_refusal-kept}
-use Rattle.rq_streams.proofs.Taking.{taken_packet, taken_skipped, taken_count, taken_all, taken_passed, honest_packet, contradicts_frames}
+use Rattle.rq_streams.proofs.TakenFrames.{taken_packet, taken_skipped, taken_count, taken_all, taken_passed, honest_packet, contradicts_frames}
 use Rattle.rq_streams.proofs.receive.add_frames.Goals as goal
 use Rattle.rq_streams.proofs.receive.add_frames.Goals.{In-Some-2}
 

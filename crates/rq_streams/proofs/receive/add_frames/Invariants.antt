@@ -2,7 +2,7 @@ use Rattle.std.proofs.Common.{◌≡◌}
 use Rattle.std.specs.Slice.Iter.{chunks_size, chunks_rest}
 use Rattle.raptorq.specs.Decoder.{state_of}
 use Rattle.rq_standard.specs.Streams.{frame_size}
-use Rattle.rq_streams.proofs.Taking.{AreFramesTaken}
+use Rattle.rq_streams.proofs.TakenFrames.{AreFramesTaken}
 use Rattle.rq_streams.proofs.receive.add_frames.Given as goal
 
 -- the frames so far were taken or skipped

@@ -15,7 +15,7 @@ use Rattle.rq_standard.specs.Configuration.{Configuration}
 use Rattle.rq_standard.specs.Packet.{Packet}
 use Rattle.rq_bytes.specs.declared.error.Error.{Error}
 use Rattle.raptorq.specs.Runs.{IsRunRefusal}
-use Rattle.raptorq.proofs.Following.{run_behind, run_unmade}
+use Rattle.raptorq.proofs.FollowedRuns.{run_behind, run_unmade}
 use Rattle.rq_streams.specs.MixedStreams.{Frame, IsMixedStream, packets_among}
 use Rattle.rq_streams.specs.ReceivedStreams.{RefusesStream, AnswersStream, IsStreamRefusal, IsFramesRefusal}
 use Rattle.rq_streams.proofs.Refusing.{refused_run, refused_header}

@@ -3,7 +3,7 @@ use Rattle.rq_algebra.specs.Systems.{at}
 use Rattle.rq_algebra.proofs.SymbolSums.{symbol_elements}
 use Rattle.rq_bytes.specs.SymbolSlab.{symbol_in}
 use Rattle.rq_standard.specs.OctetField.{octets}
-use Rattle.raptorq.proofs.HdpcSums.{added, allowed, column_added, doubled_at, place_of_plain, written}
+use Rattle.raptorq.proofs.HdpcSumSteps.{added, allowed, column_added, doubled_at, place_of_plain, written}
 use Rattle.raptorq.proofs.decoder.fitting.add_column.Goals as goal
 
 pub add_assign-requires-2 : goal.add_assign-requires-2

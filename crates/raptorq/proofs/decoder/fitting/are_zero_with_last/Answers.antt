@@ -2,7 +2,7 @@ use Rattle.std.proofs.Common.{◌≡◌, ℕ, sym, ap, ◌∙◌, arith, below_m
 use Rattle.rq_algebra.specs.Systems.{at}
 use Rattle.rq_bytes.specs.SymbolSlab.{symbol_in}
 use Rattle.rq_standard.specs.OctetField.{octets}
-use Rattle.raptorq.proofs.HdpcSums.{multiple_added, multiple_at, place_of_plain, zeros_at, zeros_from}
+use Rattle.raptorq.proofs.HdpcSumSteps.{multiple_added, multiple_at, place_of_plain, zeros_at, zeros_from}
 use Rattle.raptorq.proofs.decoder.fitting.are_zero_with_last.Goals as goal
 
 pub get-requires : goal.get-requires

@@ -5,7 +5,7 @@ use Rattle.rq_standard.specs.OctetField.{octets}
 use Rattle.rq_standard.specs.Equations.{before_hdpc}
 use Rattle.rq_standard.specs.TableRows.{intermediate_symbols}
 use Rattle.raptorq.specs.HdpcSums.{AreHdpcSums}
-use Rattle.raptorq.proofs.HdpcSums.{answered, gathered_sums, range_numbers, places_below}
+use Rattle.raptorq.proofs.HdpcSumSteps.{answered, gathered_sums, range_numbers, places_below}
 use Rattle.raptorq.proofs.Summing.{place_of_slab}
 use Rattle.raptorq.proofs.decoder.fitting.first_sums.Goals as goal
 

@@ -2,7 +2,7 @@ use Rattle.std.proofs.Common.{◌≡◌, ◌-◌, arith, subst}
 use Rattle.rq_bytes.specs.SymbolSlab.{symbol_in}
 use Rattle.rq_standard.specs.Equations.{before_hdpc}
 use Rattle.raptorq.specs.HdpcSums.{AreHdpcSums}
-use Rattle.raptorq.proofs.HdpcSums.{sums_tell}
+use Rattle.raptorq.proofs.HdpcSumSteps.{sums_tell}
 use Rattle.raptorq.proofs.decoder.fitting.solves_hdpc.Goals as goal
 
 pub returns-clause-solves : goal.returns-clause-solves

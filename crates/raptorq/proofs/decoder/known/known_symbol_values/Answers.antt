@@ -12,15 +12,14 @@ use Rattle.raptorq.proofs.decoder.known.known_symbol_values.Goals as goal
 pub overflow_mul-room : goal.overflow_mul-room
 overflow_mul-room c =
     let count : c.len.result ≤ 2 ^ 24 = omega (arith, c.len.ensures.len, few_entries c.args.received.now (2 ^ 24) c.len.ensures.ordered c.requires.few) in
-    let fixed = c.args.fixed + (c.args.row.now.extended_symbols - c.args.symbols) in
-    let n = fixed + c.len.result + c.args.symbols in
-    let few : n ≤ 2 ^ 26 = omega (arith, count, c.requires.checked.few_columns, c.requires.few_fixed, c.requires.fits) in
+    let n = c.args.zeros + c.len.result + c.args.source_symbols in
+    let few : n ≤ 2 ^ 26 = omega (arith, count, c.requires.few_symbols) in
     let product : n * c.args.size ≤ 2 ^ 26 * 65535 = mul-le-mul few (let small : c.args.size ≤ 65535 = omega (arith, c.requires.small) in small) in
     record { fits = omega (arith, product) }
 
 pub loop-payload-init : goal.loop-payload-init
 loop-payload-init c =
-    let zeros : ℕ = c.args.fixed + (c.args.row.now.extended_symbols - c.args.symbols) in
+    let zeros : ℕ = c.args.zeros in
     let n = zeros * c.args.size in
     let empty = c.in_ok-bytes.ensures.items in
     appends_none zeros c.args.size (values c.args.received.now) c.into_iter-payload-iterator.result c.resize.new.self.items
@@ -32,13 +31,13 @@ loop-payload-init c =
 
 pub loop-payload-preserved : goal.loop-payload-preserved
 loop-payload-preserved c =
-    let zeros : ℕ = c.args.fixed + (c.args.row.now.extended_symbols - c.args.symbols) in
+    let zeros : ℕ = c.args.zeros in
     subst (λ d. AppendsSoFar zeros c.args.size (values c.args.received.now) d c.next.new.self c.extend_from_slice.new.self.items) (sym (map-append deref c.loop-payload.yielded (c.in-Some.payload ∷ [])))
     (appends_more c.args.received.now zeros c.args.size c.len.ensures.ordered c.requires.sized (map deref c.loop-payload.yielded) c.loop-payload.payload-iterator c.next.new.self c.in-Some.payload.now c.loop-payload.bytes.items c.extend_from_slice.new.self.items
     c.loop-payload.invariant c.in-Some.ensures.steps (c.in_ok-extend_from_slice.ensures.items ∙ ap (λ xs. c.loop-payload.bytes.items ++ xs) c.as_slice.ensures.value))
 
 pub returns-clause-values : goal.returns-clause-values
 returns-clause-values c =
-    let zeros : ℕ = c.args.fixed + (c.args.row.now.extended_symbols - c.args.symbols) in
+    let zeros : ℕ = c.args.zeros in
     let count = ap (λ n. zeros + n) (c.len.ensures.len ∙ sym (length-values_of c.args.received.now.entries)) in
-    c.from_bytes.ensures ∙ ap (slab_of c.args.size) (appends_all c.args.row.now c.args.symbols c.args.fixed c.args.size c.args.received.now (map deref c.loop-payload.yielded) c.loop-payload.payload-iterator c.loop-payload.bytes.items _ c.loop-payload.invariant c.in-None.ensures.steps.0 count).1
+    c.from_bytes.ensures ∙ ap (slab_of c.args.size) (appends_all zeros c.args.size c.args.received.now (map deref c.loop-payload.yielded) c.loop-payload.payload-iterator c.loop-payload.bytes.items _ c.loop-payload.invariant c.in-None.ensures.steps.0 count).1

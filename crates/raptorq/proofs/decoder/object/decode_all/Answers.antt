@@ -8,7 +8,7 @@ use Rattle.rq_standard.specs.Headline.{IsHonestRun}
 use Rattle.rq_standard.specs.Standing.{StandsFor}
 use Rattle.raptorq.specs.Decoder.{state_of}
 use Rattle.raptorq.specs.Runs.{packets_of, IsNextRefusal, IsRefusalBehind, FollowsRun}
-use Rattle.raptorq.proofs.Following.{one_passes, run_unmade, run_answers, run_stops}
+use Rattle.raptorq.proofs.FollowedRuns.{one_passes, run_unmade, run_answers, run_stops}
 use Rattle.raptorq.proofs.Lists.{next_whole, all_came, step_honest, packets_of-push, answers_exactly, answers_where_any_can}
 use Rattle.raptorq.proofs.decoder.object.decode_all.Goals as goal
 use Rattle.raptorq.proofs.decoder.object.decode_all.Goals.{After-set_sparse_threshold, In-None}

@@ -9,13 +9,13 @@ use Rattle.raptorq.specs.Encoder.{encoded_of}
 use Rattle.raptorq.proofs.EncodedBlocks.{number_of, count_of, encoded_more, encoded_all, block_at}
 use Rattle.raptorq.proofs.Numbered.{IsTurn, turn_of, length-numbered, mapped_at, number_at}
 use Rattle.raptorq.proofs.encoder.Encoder.get_encoded_packets.Goals as goal
-use Rattle.raptorq.proofs.encoder.Encoder.get_encoded_packets.Goals.{After-symbols}
+use Rattle.raptorq.proofs.encoder.Encoder.get_encoded_packets.Goals.{After-source_symbol_count}
 
 abbrev ok_of : Unit {0} → Result (Unit {0}) AllocError
 ok_of u = Ok u
 
 -- the block of this turn is its encoder's, and has the symbols of its number
-module _ (c : After-symbols) where
+module _ (c : After-source_symbol_count) where
   turn : IsTurn c.args.self.now.blocks.items c.loop-block.block-index c.block-item.result
   turn = turn_of c.args.self.now.blocks.items _ _ _ c.deref-block-items.ensures.value c.loop-block-test.true c.block-item.is
 
@@ -27,12 +27,12 @@ module _ (c : After-symbols) where
 
 pub packets-requires-clause-ids : goal.packets-requires-clause-ids
 packets-requires-clause-ids c =
-    let at = (goal.at.packets-requires-clause-ids c).After-symbols in
-    omega (arith, c.symbols.ensures, count at, first_is_largest c.args.self.now.config c.loop-block.block-index (within at), c.block_symbols.ensures, c.if-largest-from.false, c.from-largest.ensures, c.from.ensures)
+    let at = (goal.at.packets-requires-clause-ids c).After-source_symbol_count in
+    omega (arith, c.source_symbol_count.ensures, count at, first_is_largest c.args.self.now.config c.loop-block.block-index (within at), c.block_symbols.ensures, c.if-largest-from.false, c.from-largest.ensures, c.from.ensures)
 
 pub loop-block-preserved : goal.loop-block-preserved
 loop-block-preserved c =
-    let at = (goal.at.loop-block-preserved c).After-symbols in
+    let at = (goal.at.loop-block-preserved c).After-source_symbol_count in
     let s = c.args.self.now in
     let items = s.blocks.items in
     let x = c.block-item.result in
@@ -40,8 +40,8 @@ loop-block-preserved c =
     let more = c.in_ok-packets.field-0.items in
     let grown : c.extend.new.self.items ≡ c.loop-block.packets.items ++ more = fact_from_extend (λ p. p) (ok_of c.in_ok-extend.field-0) c.in_ok-extend.ensures.ran (λ it made. YieldsList-from_vec more made.0 (made.1 ∙ c.in_ok-packets.field-0.ok.0))
     (λ xs are grows. grows.0 ∙ ap (λ l. c.loop-block.packets.items ++ l) (sym (map-id xs) ∙ are)) in
-    encoded_more (encoded_of s) c.args.repair_packets_per_block n (c.symbols.result + c.args.repair_packets_per_block - 0) (block_encoded_of x) c.loop-block.packets.items more c.extend.new.self.items (within at)
-    (block_at s.config items n x (turn at).below (turn at).is) (number_at number_of s.config.source_blocks items s.numbered n x (within at) (turn at).is) (count at) (omega (arith, c.symbols.ensures)) c.loop-block.invariant c.in_ok-packets.ensures.packets grown
+    encoded_more (encoded_of s) c.args.repair_packets_per_block n (c.source_symbol_count.result + c.args.repair_packets_per_block - 0) (block_encoded_of x) c.loop-block.packets.items more c.extend.new.self.items (within at)
+    (block_at s.config items n x (turn at).below (turn at).is) (number_at number_of s.config.source_blocks items s.numbered n x (within at) (turn at).is) (count at) (omega (arith, c.source_symbol_count.ensures)) c.loop-block.invariant c.in_ok-packets.ensures.packets grown
 
 pub returns-clause-packets : goal.returns-clause-packets
 returns-clause-packets c =

@@ -1,4 +1,4 @@
-use Rattle.rq_base.proofs.BitRows.{ldpc_1_stepped, three_set}
+use Rattle.rq_base.proofs.BitRowSteps.{ldpc_1_stepped, three_set}
 use Rattle.rq_base.proofs.constraint_matrix.binary.set_ldpc_1_column.Goals as goal
 
 pub returns-clause-done : goal.returns-clause-done

@@ -1,4 +1,4 @@
-use Rattle.rq_base.proofs.BitRows.{ldpc_more, three_set}
+use Rattle.rq_base.proofs.BitRowSteps.{ldpc_more, three_set}
 use Rattle.rq_base.proofs.constraint_matrix.binary.set_ldpc_row.Goals as goal
 
 pub returns-clause-done : goal.returns-clause-done

@@ -6,5 +6,5 @@ use Rattle.rq_bytes.proofs.symbol_slab.SymbolSlab.start_of.Goals as goal
 pub overflow_mul-result : goal.overflow_mul-result
 overflow_mul-result c =
     let is = holds c.self.inside c.args.self.now c.self.view_is c.self.invariant in
-    let p = c.meant.result in
-    record { fits = omega (arith, within is p c.meant.ensures.below, ap (λ s. p * s) (size_is is), c.self.inside.data.small, c.self.inside.data.ok) }
+    let p = c.stored_index.result in
+    record { fits = omega (arith, within is p c.stored_index.ensures.below, ap (λ s. p * s) (size_is is), c.self.inside.data.small, c.self.inside.data.ok) }

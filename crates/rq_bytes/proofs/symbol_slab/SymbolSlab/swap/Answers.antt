@@ -10,38 +10,38 @@ use Rattle.rq_bytes.proofs.symbol_slab.SymbolSlab.swap.Goals as goal
 pub overflow_mul-first : goal.overflow_mul-first
 overflow_mul-first c =
     let is = holds c.self.inside c.args.self.now c.self.view_is c.self.invariant in
-    let p = c.meant-first.result in
-    record { fits = omega (arith, within is p c.meant-first.ensures.below, ap (λ s. p * s) (size_is is), c.self.inside.data.small, c.self.inside.data.ok) }
+    let p = c.stored_index-first.result in
+    record { fits = omega (arith, within is p c.stored_index-first.ensures.below, ap (λ s. p * s) (size_is is), c.self.inside.data.small, c.self.inside.data.ok) }
 
 pub overflow_mul-second : goal.overflow_mul-second
 overflow_mul-second c =
     let is = holds c.self.inside c.args.self.now c.self.view_is c.self.invariant in
-    let q = c.meant-second.result in
-    record { fits = omega (arith, within is q c.meant-second.ensures.below, ap (λ s. q * s) (size_is is), c.self.inside.data.small, c.self.inside.data.ok) }
+    let q = c.stored_index-second.result in
+    record { fits = omega (arith, within is q c.stored_index-second.ensures.below, ap (λ s. q * s) (size_is is), c.self.inside.data.small, c.self.inside.data.ok) }
 
 pub swap_ranges-requires-clause-apart : goal.swap_ranges-requires-clause-apart
 swap_ranges-requires-clause-apart c =
     let is = holds c.self.inside c.args.self.now c.self.view_is c.self.invariant in
-    let p = c.meant-first.result in
-    let q = c.meant-second.result in
+    let p = c.stored_index-first.result in
+    let q = c.stored_index-second.result in
     apart is p q _ _ (λ e. c.if-first-second.true (sym e)) (ap (λ s. p * s) (size_is is)) (ap (λ s. q * s) (size_is is))
 
 pub swap_ranges-requires-clause-first : goal.swap_ranges-requires-clause-first
 swap_ranges-requires-clause-first c =
     let is = holds c.self.inside c.args.self.now c.self.view_is c.self.invariant in
-    within_slice is c.meant-first.result _ _ c.meant-first.ensures.below (ap (λ s. c.meant-first.result * s) (size_is is)) c.as_mut_slice-bytes.ensures.value
+    within_slice is c.stored_index-first.result _ _ c.stored_index-first.ensures.below (ap (λ s. c.stored_index-first.result * s) (size_is is)) c.as_mut_slice-bytes.ensures.value
 
 pub swap_ranges-requires-clause-second : goal.swap_ranges-requires-clause-second
 swap_ranges-requires-clause-second c =
     let is = holds c.self.inside c.args.self.now c.self.view_is c.self.invariant in
-    within_slice is c.meant-second.result _ _ c.meant-second.ensures.below (ap (λ s. c.meant-second.result * s) (size_is is)) c.as_mut_slice-bytes.ensures.value
+    within_slice is c.stored_index-second.result _ _ c.stored_index-second.ensures.below (ap (λ s. c.stored_index-second.result * s) (size_is is)) c.as_mut_slice-bytes.ensures.value
 
 pub returns-then-first-second : goal.returns-then-first-second
 returns-then-first-second c =
     let slab = c.args.self.now in
     let inside = c.self.inside in
-    let p = c.meant-first in
-    let q = c.meant-second in
+    let p = c.stored_index-first in
+    let q = c.stored_index-second in
     let is = holds inside slab c.self.view_is c.self.invariant in
     let items =
     with_items_is inside.data c.swap_ranges.new.slice (c.swap_ranges.auto.slice ∙ c.as_mut_slice-bytes.ensures.len)
@@ -55,7 +55,7 @@ returns-then-first-second c =
 pub returns-else-first-second : goal.returns-else-first-second
 returns-else-first-second c =
     let slab = c.args.self.now in
-    let p = c.meant-first in
+    let p = c.stored_index-first in
     let one = p.result in
     let row = get_or slab.values one [] in
     ap (λ (v : List (List ℕ)). record slab { values = v }) (
@@ -63,4 +63,4 @@ returns-else-first-second c =
     ∙ sym (ap (λ l. set l one row) (set-get_or slab.values one []))
     ∙ swap_is slab.values one one [] p.ensures.below p.ensures.below
     ∙ ap (λ n. swap slab.values n one) p.ensures.is
-    ∙ ap (swap slab.values (meant_at slab.order c.args.i)) (c.if-first-second.false ∙ c.meant-second.ensures.is))
+    ∙ ap (swap slab.values (meant_at slab.order c.args.i)) (c.if-first-second.false ∙ c.stored_index-second.ensures.is))

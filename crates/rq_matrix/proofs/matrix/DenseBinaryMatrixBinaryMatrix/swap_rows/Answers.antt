@@ -3,7 +3,7 @@ use Rattle.std.proofs.Common.{◌≡◌, ◌<◌, ◌^◌, List, ℕ, [], length
 use Rattle.std.specs.List.{All}
 use Rattle.std.proofs.lemmas.List.Edits.{length-swap, swapped_from_swap}
 use Rattle.rq_bytes.specs.BinaryOctetVec.{packed_bit}
-use Rattle.rq_parts.proofs.Rows.{All-swap}
+use Rattle.rq_parts.proofs.ListChanges.{All-swap}
 use Rattle.rq_matrix.specs.BitRows.{word_count}
 use Rattle.rq_matrix.proofs.matrix.DenseBinaryMatrixBinaryMatrix.swap_rows.Goals as goal
 

@@ -5,7 +5,7 @@ use Rattle.std.specs.Option.{is_some}
 use Rattle.std.specs.Vec.{with_items}
 use Rattle.std.proofs.lemmas.List.{with_items_is}
 use Rattle.rq_bytes.specs.declared.error.Error.{Error}
-use Rattle.rq_matrix.proofs.Orders.{order_apart}
+use Rattle.rq_matrix.proofs.OrderLaws.{order_apart}
 use Rattle.rq_standard.specs.BitTableSteps.{AddsRowFrom}
 use Rattle.rq_parts.specs.SparseBinaryVec.{IsListedSum}
 use Rattle.rq_matrix.specs.declared.sparse_matrix.SparseBinaryMatrix.{SparseBinaryMatrix}

@@ -7,7 +7,7 @@ use Rattle.rq_parts.specs.SparseBinaryVec.{listed_bit}
 use Rattle.rq_matrix.specs.Orders.{Order, IsOrder, first_order}
 use Rattle.rq_matrix.specs.SparseRows.{IsSparseRow}
 use Rattle.rq_matrix.specs.SparseTables.{bit-before, bit-from}
-use Rattle.rq_matrix.proofs.Orders.{first_is_order, first_made, first_numbers}
+use Rattle.rq_matrix.proofs.OrderLaws.{first_is_order, first_made, first_numbers}
 use Rattle.rq_matrix.proofs.SparseRowLaws.{empty_rows_are, no_ones}
 use Rattle.rq_matrix.proofs.sparse_matrix.SparseBinaryMatrixBinaryMatrix.new.Goals as goal
 use Rattle.rq_matrix.proofs.sparse_matrix.SparseBinaryMatrixBinaryMatrix.new.Goals.{In_ok-new-3}

@@ -1,6 +1,6 @@
 -- What the check leaves to show of `sparse_matrix::SparseBinaryMatrix::swap_columns`.
 use Rattle.std.proofs.Common.{ℕ, refl, inl, ◌∙◌, arith}
-use Rattle.rq_matrix.proofs.Orders.{exchanges}
+use Rattle.rq_matrix.proofs.OrderLaws.{exchanges}
 use Rattle.rq_matrix.proofs.SparseMatrixLaws.{exchanged_columns}
 use Rattle.rq_matrix.proofs.StoredRows.{with_orders}
 use Rattle.rq_matrix.proofs.sparse_matrix.SparseBinaryMatrixBinaryMatrix.swap_columns.Goals as goal

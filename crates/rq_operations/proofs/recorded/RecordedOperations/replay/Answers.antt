@@ -4,7 +4,7 @@ use Rattle.std.specs.List.{AllZip}
 use Rattle.std.proofs.lemmas.List.{map-id}
 use Rattle.std.proofs.lemmas.Slice.Zip.{AllZip-map}
 use Rattle.rq_algebra.specs.Operations.{Operation, Reorder, IsOrder}
-use Rattle.rq_algebra.proofs.Runs.{AreAllowed-middle}
+use Rattle.rq_algebra.proofs.OperationRuns.{AreAllowed-middle}
 use Rattle.rq_bytes.specs.SymbolSlab.{after, after_all}
 use Rattle.rq_bytes.proofs.SlabSums.{after_more}
 use Rattle.rq_operations.specs.Steps.{operation_of_step}

@@ -13,7 +13,7 @@ add_multiples-requires c =
     let run = c.read_multiples-count in
     let slab = c.args.symbols.now in
     rw c.is_found_zero.ensures.kept
-    (run_allowed (λ m. Fma m.dest c.args.src m.scalar) (λ order m. refl) (length slab.values) slab.order (map operation_of_step c.args.steps.now) c.args.start run.result (take run.result run.new.multiples) c.requires.allowed run.ensures.run)
+    (run_allowed (λ m. Fma m.dest c.args.src m.scalar) (λ order m. refl) (length slab.values) slab.order (map operation_of_step c.args.left.steps.now) c.args.left.start run.result (take run.result run.new.multiples) c.requires.allowed run.ensures.run)
 
 pub returns-else-not-is_found_zero : goal.returns-else-not-is_found_zero
 returns-else-not-is_found_zero c =
@@ -21,7 +21,7 @@ returns-else-not-is_found_zero c =
     let slab = c.args.symbols.now in
     record {
       some = run.ensures.some;
-      within = omega (arith, run.ensures.within, length-map c.args.steps.now operation_of_step);
+      within = omega (arith, run.ensures.within, length-map c.args.left.steps.now operation_of_step);
       performed = sym (
           ap (λ (l : List Operation). after_all l slab) run.ensures.run
           ∙ all_zeros_added slab c.args.src (c.is_found_zero.ensures.zeros c.if-not-is_found_zero.false) c.is_found_zero.ensures.symbols (λ m. m.dest) (λ m. m.scalar) (take run.result run.new.multiples));

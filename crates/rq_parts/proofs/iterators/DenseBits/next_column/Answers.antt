@@ -1,7 +1,7 @@
 -- What the check leaves to show of `iterators::DenseBits::next_column`.
 use Rattle.std.proofs.Common.{◌≡◌, ℕ, ◌+◌, ◌-◌, ◌*◌, ◌<◌, ◌∷◌, [], ap, sym, ◌∙◌, arith}
 use Rattle.rq_parts.specs.BitPairs.{bit_pairs}
-use Rattle.rq_parts.proofs.BitPairs.{bit_pairs-none, bit_pairs-step}
+use Rattle.rq_parts.proofs.BitPairLaws.{bit_pairs-none, bit_pairs-step}
 use Rattle.rq_parts.proofs.iterators.DenseBits.next_column.Goals as goal
 use Rattle.rq_parts.proofs.iterators.DenseBits.next_column.Goals.{then-self-eq-WORD_BITS, else-self-eq-WORD_BITS}
 

@@ -4,7 +4,7 @@ use Rattle.std.specs.List.{swap}
 use Rattle.rq_algebra.specs.Operations.{meant_at}
 use Rattle.rq_bytes.specs.SymbolSlab.{Slab}
 use Rattle.rq_bytes.specs.SlabLends.{with_octets}
-use Rattle.rq_parts.proofs.Rows.{mapped_until-next, mapped_until-more}
+use Rattle.rq_parts.proofs.ListChanges.{mapped_until-next, mapped_until-more}
 use Rattle.rq_parts.proofs.octet_matrix.DenseOctetMatrix.swap_columns.Goals as goal
 
 pub loop-row-preserved : goal.loop-row-preserved

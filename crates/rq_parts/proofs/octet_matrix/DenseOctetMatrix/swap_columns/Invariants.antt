@@ -1,7 +1,7 @@
 -- What the loops keep in `octet_matrix::DenseOctetMatrix::swap_columns`.
 use Rattle.std.proofs.Common.{◌≡◌, None}
 use Rattle.std.specs.List.{swap}
-use Rattle.rq_parts.proofs.Rows.{mapped_until}
+use Rattle.rq_parts.proofs.ListChanges.{mapped_until}
 use Rattle.rq_parts.proofs.octet_matrix.DenseOctetMatrix.swap_columns.Given as goal
 
 abbrev pub invariant-loop-row : goal.invariant-loop-row

@@ -14,9 +14,9 @@ record IsFlipped (xs : List ℕ) (i : ℕ) (new : List ℕ) : Type 0 where
   increasing : IsStrictlyIncreasing new
   sets : SetsListed xs i (bit_xor (listed_bit xs i) 1) new
 
-module _ (xs ys zs : List ℕ) (i : ℕ) (up : IsStrictlyIncreasing xs) (pushed : ys ≡ xs ++ i ∷ []) (sunk : (place : ℕ) → IsPlace xs i place → zs ≡ insert xs place i) where
+module _ (xs ys zs : List ℕ) (i : ℕ) (up : IsStrictlyIncreasing xs) (pushed : ys ≡ xs ++ i ∷ []) (inserted : (place : ℕ) → IsPlace xs i place → zs ≡ insert xs place i) where
   whole : (place : ℕ) → IsPlace xs i place → refill (length ys) ys zs ≡ insert xs place i
-  whole place found = inserted_whole xs ys zs i place found.within pushed (sunk place found)
+  whole place found = inserted_whole xs ys zs i place found.within pushed (inserted place found)
 
   -- one that was missing is listed
   put_in : listed_bit xs i ≡ 0 → IsFlipped xs i (refill (length ys) ys zs)
@@ -39,14 +39,14 @@ module _ (xs ys zs : List ℕ) (i : ℕ) (up : IsStrictlyIncreasing xs) (pushed 
         sets = subst (SetsListed xs i (bit_xor (listed_bit xs i) 1)) (sym others) (subst (λ bit. SetsListed xs i (bit_xor bit 1) (filter (is_other i) xs)) (sym one) (sets-others xs i));
       }
 
-is_put_in : (c : goal.Else-sink_last) → IsFlipped c.args.self.now c.args.i (refill (length c.push.new.ones.items) c.push.new.ones.items c.sink_last.new.ones)
+is_put_in : (c : goal.Else-insert_last) → IsFlipped c.args.self.now c.args.i (refill (length c.push.new.ones.items) c.push.new.ones.items c.insert_last.new.ones)
 is_put_in c =
     let ones = c.args.self.now in
     let up = subst IsStrictlyIncreasing c.self.view_is c.self.invariant in
     let pushed = c.in_ok-push.ensures.ok ∙ ap (λ (xs : List ℕ). xs ++ c.args.i ∷ []) c.self.view_is in
     let shown = c.deref_mut.ensures.value ∙ pushed in
-    put_in ones c.push.new.ones.items c.sink_last.new.ones c.args.i up pushed (λ place found. c.sink_last.ensures.sunk ones c.args.i place shown up found)
-    (listed-missing ones c.args.i (λ found. false≢true (sym c.if-sink_last.false ∙ (c.sink_last.ensures.listed ones c.args.i shown).1 found)))
+    put_in ones c.push.new.ones.items c.insert_last.new.ones c.args.i up pushed (λ place found. c.insert_last.ensures.put ones c.args.i place shown up found)
+    (listed-missing ones c.args.i (λ found. false≢true (sym c.if-insert_last.false ∙ (c.insert_last.ensures.listed ones c.args.i shown).1 found)))
 
 is_taken_out : (c : goal.After-retain) → IsFlipped c.args.self.now c.args.i c.retain.new.self.items
 is_taken_out c =
@@ -54,24 +54,24 @@ is_taken_out c =
     let up = subst IsStrictlyIncreasing c.self.view_is c.self.invariant in
     let pushed = c.in_ok-push.ensures.ok ∙ ap (λ (xs : List ℕ). xs ++ c.args.i ∷ []) c.self.view_is in
     let shown = c.deref_mut.ensures.value ∙ pushed in
-    taken_out ones c.push.new.ones.items c.sink_last.new.ones c.args.i up pushed (λ place found. c.sink_last.ensures.sunk ones c.args.i place shown up found) c.retain.new.self.items
-    (listed-contained ones c.args.i up ((c.sink_last.ensures.listed ones c.args.i shown).0 c.if-sink_last.true))
+    taken_out ones c.push.new.ones.items c.insert_last.new.ones c.args.i up pushed (λ place found. c.insert_last.ensures.put ones c.args.i place shown up found) c.retain.new.self.items
+    (listed-contained ones c.args.i up ((c.insert_last.ensures.listed ones c.args.i shown).0 c.if-insert_last.true))
     (filter-from_retain _ (is_other c.args.i) _ (λ x b f' y called. search rules) _ _ c.retain.ensures.filtered)
 
-pub invariant_of-self-then-sink_last : goal.invariant_of-self-then-sink_last
-invariant_of-self-then-sink_last c = (is_taken_out c).increasing
+pub invariant_of-self-then-insert_last : goal.invariant_of-self-then-insert_last
+invariant_of-self-then-insert_last c = (is_taken_out c).increasing
 
-pub invariant_of-self-else-sink_last : goal.invariant_of-self-else-sink_last
-invariant_of-self-else-sink_last c = (is_put_in c).increasing
+pub invariant_of-self-else-insert_last : goal.invariant_of-self-else-insert_last
+invariant_of-self-else-insert_last c = (is_put_in c).increasing
 
-pub returns-then-sink_last-clause-ok : goal.returns-then-sink_last-clause-ok
-returns-then-sink_last-clause-ok c = (is_taken_out c).sets
+pub returns-then-insert_last-clause-ok : goal.returns-then-insert_last-clause-ok
+returns-then-insert_last-clause-ok c = (is_taken_out c).sets
 
-pub returns-then-sink_last-clause-increasing : goal.returns-then-sink_last-clause-increasing
-returns-then-sink_last-clause-increasing c = (is_taken_out c).increasing
+pub returns-then-insert_last-clause-increasing : goal.returns-then-insert_last-clause-increasing
+returns-then-insert_last-clause-increasing c = (is_taken_out c).increasing
 
-pub returns-else-sink_last-clause-ok : goal.returns-else-sink_last-clause-ok
-returns-else-sink_last-clause-ok c = (is_put_in c).sets
+pub returns-else-insert_last-clause-ok : goal.returns-else-insert_last-clause-ok
+returns-else-insert_last-clause-ok c = (is_put_in c).sets
 
-pub returns-else-sink_last-clause-increasing : goal.returns-else-sink_last-clause-increasing
-returns-else-sink_last-clause-increasing c = (is_put_in c).increasing
+pub returns-else-insert_last-clause-increasing : goal.returns-else-insert_last-clause-increasing
+returns-else-insert_last-clause-increasing c = (is_put_in c).increasing

@@ -7,11 +7,11 @@ use Rattle.rq_parts.proofs.ListedBits.{rises-with, sets-inserted}
 use Rattle.rq_parts.proofs.InsertedLower.{inserted_whole}
 use Rattle.rq_parts.proofs.sparse_vec.SparseBinaryVec.list_at.Goals as goal
 
-inserted : (c : goal.After-self-1) → refill (length c.push.new.ones.items) c.push.new.ones.items c.last_to.new.ones ≡ insert c.args.self.now c.args.gap c.args.i
+inserted : (c : goal.After-self-1) → refill (length c.push.new.ones.items) c.push.new.ones.items c.move_last_to.new.ones ≡ insert c.args.self.now c.args.gap c.args.i
 inserted c =
     let pushed = c.in_ok-push.ensures.ok ∙ ap (λ (xs : List ℕ). xs ++ c.args.i ∷ []) c.self.view_is in
-    inserted_whole c.args.self.now c.push.new.ones.items c.last_to.new.ones c.args.i c.args.gap c.requires.gap.within
-    pushed (c.last_to.ensures c.args.self.now c.args.i (c.deref_mut.ensures.value ∙ pushed))
+    inserted_whole c.args.self.now c.push.new.ones.items c.move_last_to.new.ones c.args.i c.args.gap c.requires.gap.within
+    pushed (c.move_last_to.ensures c.args.self.now c.args.i (c.deref_mut.ensures.value ∙ pushed))
 
 rises : (c : goal.After-self-1) → IsStrictlyIncreasing (insert c.args.self.now c.args.gap c.args.i)
 rises c = rises-with c.args.self.now c.args.i c.args.gap (subst IsStrictlyIncreasing c.self.view_is c.self.invariant) c.requires.gap

@@ -1,6 +1,6 @@
 use Rattle.std.proofs.lemmas.Result.{err_from_is_err_and}
 use Rattle.raptorq.specs.SourceBlockDecoder.{held_of}
-use Rattle.raptorq.proofs.Taking.{decodes_seen}
+use Rattle.raptorq.proofs.TakenPackets.{decodes_seen}
 use Rattle.raptorq.proofs.decoder.block.SourceBlockDecoder.decode.Goals as goal
 
 pub returns-in_err-decode_until_stopped : goal.returns-in_err-decode_until_stopped

@@ -1,7 +1,7 @@
 use Rattle.std.proofs.Common.{◌++◌, ◌∷◌, []}
 use Rattle.std.proofs.lemmas.Result.{err_from_is_err_and}
 use Rattle.raptorq.specs.SourceBlockDecoder.{held_of}
-use Rattle.raptorq.proofs.Taking.{taken-more, recorded-more, stopped, Yields-push}
+use Rattle.raptorq.proofs.TakenPackets.{taken-more, recorded-more, stopped, Yields-push}
 use Rattle.raptorq.proofs.decoder.block.SourceBlockDecoder.decode_until_stopped.Goals as goal
 
 pub loop-packet-preserved : goal.loop-packet-preserved

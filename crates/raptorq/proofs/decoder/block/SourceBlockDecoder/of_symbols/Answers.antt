@@ -14,4 +14,4 @@ pub invariant_of-result-clause-few : goal.invariant_of-result-clause-few
 invariant_of-result-clause-few c = λ e came. absurd (let none = ap is_some (payload_of-empty c.new.result c.new.ensures.empty e) in cc (sym none ∙ came))
 
 pub invariant_of-result-clause-counted : goal.invariant_of-result-clause-counted
-invariant_of-result-clause-counted c = sym (missing_count-all c.args.symbols _ (λ e. ap is_some (payload_of-empty c.new.result c.new.ensures.empty e)))
+invariant_of-result-clause-counted c = sym (missing_count-all c.args.source_symbols _ (λ e. ap is_some (payload_of-empty c.new.result c.new.ensures.empty e)))

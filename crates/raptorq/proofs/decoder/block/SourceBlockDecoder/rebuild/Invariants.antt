@@ -7,6 +7,6 @@ use Rattle.raptorq.proofs.decoder.block.SourceBlockDecoder.rebuild.Given as goal
 -- the block so far has the symbols before this one
 abbrev pub invariant-loop-e : goal.invariant-loop-e
 invariant-loop-e l = record {
-  long : length l.plain.items ≡ l.e * l.fn.self.config.symbol_size;
-  each : (k : ℕ) → k < l.e → Some (rebuilt_symbol (held_of l.fn.self) l.fn.intermediate k) ≡ Some (plain_symbol l.fn.self.config.symbol_size l.plain.items k);
+  long : length l.symbol_bytes.items ≡ l.e * l.fn.self.config.symbol_size;
+  each : (k : ℕ) → k < l.e → Some (rebuilt_symbol (held_of l.fn.self) l.fn.intermediate k) ≡ Some (plain_symbol l.fn.self.config.symbol_size l.symbol_bytes.items k);
 }

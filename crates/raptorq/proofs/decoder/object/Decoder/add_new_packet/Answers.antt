@@ -1,5 +1,5 @@
 use Rattle.std.proofs.lemmas.Result.{err_from_is_err_and}
-use Rattle.rq_standard.proofs.Standing.{leaves_late}
+use Rattle.rq_standard.proofs.StandingSteps.{leaves_late}
 use Rattle.raptorq.specs.Decoder.{state_of}
 use Rattle.raptorq.proofs.Stops.{stops_early, not_joined, takes_added, takes_stopped}
 use Rattle.raptorq.proofs.decoder.object.Decoder.add_new_packet.Goals as goal

@@ -54,7 +54,7 @@ invariant_of-self c =
       some = s.some;
       numbered = map-set_same number_of items c.from-2.result y x (c.add_packet.ensures.number ∙ ap number_of c.index_mut.ensures.value) ∙ s.numbered;
       same = All-set (λ b. (held_of b.decoder).configuration ≡ s.config) items c.from-2.result y (c.add_packet.ensures.configuration ∙ ap (λ b. (held_of b.decoder).configuration) at.is ∙ s.same p.id.block x at.below) s.same;
-      cut = All-set (λ b. IsCut s.config (held_of b.decoder)) items c.from-2.result y (c.add_packet.ensures.symbols ∙ ap (λ b. (held_of b.decoder).symbols) at.is ∙ s.cut p.id.block x at.below ∙ ap (λ b. block_symbols s.config (held_of b.decoder).number) (sym at.is) ∙ ap (block_symbols s.config) (sym c.add_packet.ensures.number)) s.cut;
+      cut = All-set (λ b. IsCut s.config (held_of b.decoder)) items c.from-2.result y (c.add_packet.ensures.symbols ∙ ap (λ b. (held_of b.decoder).source_symbols) at.is ∙ s.cut p.id.block x at.below ∙ ap (λ b. block_symbols s.config (held_of b.decoder).number) (sym at.is) ∙ ap (block_symbols s.config) (sym c.add_packet.ensures.number)) s.cut;
     }
 
 pub returns-clause-adds : goal.returns-clause-adds

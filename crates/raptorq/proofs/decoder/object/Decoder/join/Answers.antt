@@ -1,6 +1,6 @@
 use Rattle.std.proofs.Common.{◌≡◌, ◌++◌, take, Some, ap, ◌∙◌, arith, length}
 use Rattle.std.specs.Prelude.{option_map, vec_items}
-use Rattle.rq_standard.specs.Standing.{joined}
+use Rattle.rq_standard.specs.Standing.{first_blocks}
 use Rattle.raptorq.specs.Decoder.{answer_at}
 use Rattle.raptorq.proofs.Numbered.{length-numbered, turn_of}
 use Rattle.raptorq.proofs.ObjectBlocks.{number_of, join_next, join_some, none_otherwise}
@@ -24,5 +24,5 @@ returns c =
     let items = c.args.self.now.blocks.items in
     let k = c.args.self.now.config in
     let all : c.loop-block.block-index ≡ k.source_blocks = omega (arith, c.loop-block-test.false, c.loop-block.auto.block-index-end, ap length c.deref-block-items.ensures.value, length-numbered number_of k.source_blocks items c.args.self.now.numbered) in
-    let joined_all : Some c.loop-block.object.items ≡ joined k.source_blocks (answer_at items) = c.loop-block.invariant ∙ ap (λ n. joined n (answer_at items)) all in
+    let joined_all : Some c.loop-block.object.items ≡ first_blocks k.source_blocks (answer_at items) = c.loop-block.invariant ∙ ap (λ n. first_blocks n (answer_at items)) all in
     ap (λ xs. Some xs) (c.truncate.ensures.items ∙ ap (λ n. take n c.loop-block.object.items) c.transfer_length.ensures.value) ∙ ap (option_map (take k.transfer_length)) joined_all

@@ -2,10 +2,10 @@ use Rattle.std.proofs.Common.{◌≡◌, map, refl, ap, ◌∙◌, arith}
 use Rattle.std.specs.List.{range_with_len}
 use borrow.Author.Count.{below_more}
 use Rattle.rq_standard.specs.Standing.{IsHeldOf, IsNewState, new_held, new_answer}
-use Rattle.rq_standard.proofs.Standing.{stands_new}
+use Rattle.rq_standard.proofs.StandingSteps.{stands_new}
 use Rattle.raptorq.specs.SourceBlockDecoder.{held_of}
 use Rattle.raptorq.specs.Decoder.{answer_of}
-use Rattle.raptorq.proofs.Following.{follows_none}
+use Rattle.raptorq.proofs.FollowedRuns.{follows_none}
 use Rattle.raptorq.proofs.Numbered.{mapped_more, new_numbers}
 use Rattle.raptorq.proofs.ObjectBlocks.{state, new_each, IsCut, new_state}
 use Rattle.raptorq.proofs.decoder.object.Decoder.new.Goals as goal

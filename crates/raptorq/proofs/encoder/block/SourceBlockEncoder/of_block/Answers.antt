@@ -4,22 +4,22 @@ use Rattle.std.proofs.lemmas.List.Elements.{All-map}
 use Rattle.std.proofs.lemmas.List.FromFn.{length-map-range_with_len}
 use Rattle.rq_bytes.specs.SymbolSlab.{Slab}
 use Rattle.rq_standard.specs.Cutting.{symbol_of_block}
-use Rattle.rq_standard.proofs.Standing.{length-symbol_of_block}
+use Rattle.rq_standard.proofs.StandingSteps.{length-symbol_of_block}
 use Rattle.raptorq.proofs.encoder.block.SourceBlockEncoder.of_block.Goals as goal
 
-pub planned-requires-clause-unordered : goal.planned-requires-clause-unordered
-planned-requires-clause-unordered c = ap (λ (s : Slab). s.order) c.in_ok-source.ensures.symbols
+pub of_source-requires-clause-unordered : goal.of_source-requires-clause-unordered
+of_source-requires-clause-unordered c = ap (λ (s : Slab). s.order) c.in_ok-source.ensures.symbols
 
-pub planned-requires-clause-small : goal.planned-requires-clause-small
-planned-requires-clause-small c = omega (arith, c.in_ok-source.ensures.small, ap (λ (s : Slab). s.symbol_size) c.in_ok-source.ensures.symbols)
+pub of_source-requires-clause-small : goal.of_source-requires-clause-small
+of_source-requires-clause-small c = omega (arith, c.in_ok-source.ensures.small, ap (λ (s : Slab). s.symbol_size) c.in_ok-source.ensures.symbols)
 
-pub planned-requires-clause-few : goal.planned-requires-clause-few
-planned-requires-clause-few c =
+pub of_source-requires-clause-few : goal.of_source-requires-clause-few
+of_source-requires-clause-few c =
     let cut = symbol_of_block c.args.config.now c.from-count.result c.args.block.now in
     omega (arith, ap (λ (s : Slab). length s.values) c.in_ok-source.ensures.symbols, length-map-range_with_len cut 0 c.from-count.result, c.from-count.ensures, c.source_symbol_count.ensures, c.args.plan.now.few)
 
-pub planned-requires-clause-sized : goal.planned-requires-clause-sized
-planned-requires-clause-sized c =
+pub of_source-requires-clause-sized : goal.of_source-requires-clause-sized
+of_source-requires-clause-sized c =
     let config = c.args.config.now in
     let cut = symbol_of_block config c.from-count.result c.args.block.now in
     subst (λ (s : Slab). All (λ x. length x ≡ s.symbol_size) s.values) (sym c.in_ok-source.ensures.symbols)

@@ -8,15 +8,15 @@ use Rattle.raptorq.proofs.encoder.block.SourceBlockEncoder.payload.Goals as goal
 pub get-requires : goal.get-requires
 get-requires c =
     let b = c.args.self.now in
-    let below : c.args.esi < length b.source.values = omega (arith, c.if-esi-symbols.true, c.symbols.ensures) in
+    let below : c.args.esi < length b.source.values = omega (arith, c.if-esi-source_symbol_count.true, c.source_symbol_count.ensures) in
     subst (λ (o : Option (List ℕ)). IsPlace (length b.source.values) o c.args.esi) (sym b.unordered) below
 
-pub returns-then-esi-symbols : goal.returns-then-esi-symbols
-returns-then-esi-symbols c =
+pub returns-then-esi-source_symbol_count : goal.returns-then-esi-source_symbol_count
+returns-then-esi-source_symbol_count c =
     let b = c.args.self.now in
     let esi = c.args.esi in
     let values = b.source.values in
-    let below : esi < length values = omega (arith, c.if-esi-symbols.true, c.symbols.ensures) in
+    let below : esi < length values = omega (arith, c.if-esi-source_symbol_count.true, c.source_symbol_count.ensures) in
     let meant : symbol_in b.source esi ≡ get_or values esi [] = ap (λ (o : Option (List ℕ)). get_or values (meant_at o esi) []) b.unordered in
     IfOk-weaker c.from_slice.result _ _ (λ v is.
     source_encodes b.row b.intermediate.symbol_size esi values (symbol_in b.intermediate) v.items b.checked b.solved b.few b.sized below

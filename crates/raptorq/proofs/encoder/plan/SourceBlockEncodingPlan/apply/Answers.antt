@@ -2,7 +2,7 @@ use Rattle.std.proofs.Common.{◌≡◌, sym, ap, ◌∙◌, subst}
 use Rattle.rq_bytes.specs.SymbolSlab.{Slab, after_all, symbol_in}
 use Rattle.rq_operations.specs.RecordedOperations.{operations_of}
 use Rattle.rq_standard.specs.Headline.{IsOnlyIntermediateColumn}
-use Rattle.raptorq.specs.Planned.{planned}
+use Rattle.raptorq.specs.Planned.{planned_slab}
 use Rattle.raptorq.proofs.encoder.plan.SourceBlockEncodingPlan.apply.Goals as goal
 
 pub returns-clause-column : goal.returns-clause-column
@@ -11,6 +11,6 @@ returns-clause-column c =
     let source = c.args.source.now.values in
     let size = c.args.source.now.symbol_size in
     let operations = operations_of plan.operations in
-    let made : c.replay.new.symbols ≡ planned plan.row operations size source =
+    let made : c.replay.new.symbols ≡ planned_slab plan.row operations size source =
     c.in_ok-replay.ensures.ok ∙ ap (λ (s : Slab). after_all operations s) c.in_ok-symbols.ensures.values in
     subst (λ (s : Slab). IsOnlyIntermediateColumn plan.row size source (symbol_in s)) (sym made) (plan.finds.column size source c.requires.few c.symbol_size-size.ensures.symbols)

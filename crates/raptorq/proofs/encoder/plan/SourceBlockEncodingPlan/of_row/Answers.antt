@@ -1,20 +1,20 @@
 use Rattle.std.proofs.Common.{◌≡◌, refl, ap, ◌∙◌, subst, arith, inr}
 use Rattle.rq_operations.specs.RecordedOperations.{operations_of}
 use Rattle.rq_standard.specs.Equations.{equation_count, extended_ids}
-use Rattle.rq_standard.proofs.Known.{nonsingular_rows}
+use Rattle.rq_standard.proofs.KnownIds.{nonsingular_rows}
 use Rattle.raptorq.specs.BlockSolutions.{FindsFrom, FindsListed}
 use Rattle.raptorq.proofs.Intermediates.{count_source, extended_ids_are, finds_source, plan_allowed, plan_nonsingular, plan_is}
 use Rattle.rq_standard.specs.IdLists.{HasDeterminedRows}
 use Rattle.raptorq.proofs.encoder.plan.SourceBlockEncodingPlan.of_row.Goals as goal
 
-pub find_operations-requires-clause-enough : goal.find_operations-requires-clause-enough
-find_operations-requires-clause-enough c =
+pub solve_block-requires-clause-enough : goal.solve_block-requires-clause-enough
+solve_block-requires-clause-enough c =
     let row = c.args.row in
     let ids : c.as_slice.result.now ≡ extended_ids row = c.as_slice.ensures.value ∙ extended_ids_are row c.in_ok-ids.ids.items c.in_ok-ids.ensures in
     omega (arith, ap (equation_count row) ids, count_source row)
 
-pub find_operations-requires-clause-fits : goal.find_operations-requires-clause-fits
-find_operations-requires-clause-fits c =
+pub solve_block-requires-clause-fits : goal.solve_block-requires-clause-fits
+solve_block-requires-clause-fits c =
     let row = c.args.row in
     let ids : c.as_slice.result.now ≡ extended_ids row = c.as_slice.ensures.value ∙ extended_ids_are row c.in_ok-ids.ids.items c.in_ok-ids.ensures in
     omega (arith, ap (equation_count row) ids, count_source row, c.requires.checked.few_columns)

@@ -3,7 +3,7 @@ use Rattle.std.specs.List.{All}
 use Rattle.std.proofs.lemmas.List.Edits.{length-swap}
 use Rattle.rq_parts.specs.ArrayMaps.{Numbers}
 use Rattle.rq_parts.specs.ConnectedComponentGraph.{Components}
-use Rattle.rq_parts.proofs.Rows.{All-swap}
+use Rattle.rq_parts.proofs.ListChanges.{All-swap}
 use Rattle.rq_parts.proofs.ComponentLaws.{labels_kept}
 use Rattle.rq_parts.proofs.graph.components.ConnectedComponentGraph.swap.Goals as goal
 

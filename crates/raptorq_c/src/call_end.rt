@@ -1,13 +1,13 @@
 //! What ends a call without its result, and the numbers that calls answer.
 ghost use Rattle.std.specs.Prelude.{◌≡◌};
-ghost use Rattle.raptorq_c.specs.declared.stop.Stop.TheVariants.{Refused};
+ghost use Rattle.raptorq_c.specs.declared.call_end.CallEnd.TheVariants.{Refused};
 ghost use Rattle.raptorq_c.specs.Numbers.{number_of};
 
 use raptorq::error::Error;
 
 /// What ends a call without its result.
 #[derive(Clone, Copy, Debug, PartialEq, Eq)]
-pub enum Stop {
+pub enum CallEnd {
     /// The codec refuses.
     Refused(Error),
     /// The caller's buffer has another length than what is to be written.
@@ -18,23 +18,23 @@ pub enum Stop {
     NoCoder,
 }
 
-impl From<Error> for Stop {
+impl From<Error> for CallEnd {
     ghost from_gives = { λ e s. s ≡ Refused e };
 
-    fn from(refusal: Error) -> Stop {
-        Stop::Refused(refusal)
+    fn from(refusal: Error) -> CallEnd {
+        CallEnd::Refused(refusal)
     }
 }
 
 /// The number that a call answers: 0 where it is done.
-pub(crate) fn number(ended: Result<(), Stop>) -> u8
+pub(crate) fn number(ended: Result<(), CallEnd>) -> u8
     ensures { result ≡ number_of ended }
 {
     match ended {
         Ok(()) => 0,
-        Err(Stop::Refused(refusal)) => refusal.code(),
-        Err(Stop::WrongBuffer) => 24,
-        Err(Stop::Incomplete) => 25,
-        Err(Stop::NoCoder) => 26,
+        Err(CallEnd::Refused(refusal)) => refusal.code(),
+        Err(CallEnd::WrongBuffer) => 24,
+        Err(CallEnd::Incomplete) => 25,
+        Err(CallEnd::NoCoder) => 26,
     }
 }

@@ -1,9 +1,9 @@
--- What the check leaves to show of `sparse_vec::last_to`.
+-- What the check leaves to show of `sparse_vec::move_last_to`.
 use Rattle.std.proofs.Common.{◌-◌, [], ◌∷◌, length, ap, ◌∙◌, arith}
 use Rattle.std.specs.List.{swap}
 use Rattle.std.proofs.lemmas.List.{length-append}
 use Rattle.rq_parts.proofs.InsertedLower.{inserted_lower}
-use Rattle.rq_parts.proofs.sparse_vec.last_to.Goals as goal
+use Rattle.rq_parts.proofs.sparse_vec.move_last_to.Goals as goal
 
 pub loop-at-preserved : goal.loop-at-preserved
 loop-at-preserved c =

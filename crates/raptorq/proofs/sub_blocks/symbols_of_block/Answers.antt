@@ -4,18 +4,18 @@ use Rattle.std.proofs.lemmas.List.FromFn.{map-range_with_len_more}
 use Rattle.rq_bytes.specs.Ranges.{cut}
 use Rattle.rq_bytes.proofs.Cuts.{cut-append}
 use Rattle.rq_standard.specs.Cutting.{symbol_of_block}
-use Rattle.rq_standard.proofs.Standing.{length-symbol_of_block}
-use Rattle.raptorq.proofs.sub_blocks.source_symbols.Goals as goal
+use Rattle.rq_standard.proofs.StandingSteps.{length-symbol_of_block}
+use Rattle.raptorq.proofs.sub_blocks.symbols_of_block.Goals as goal
 
 pub loop-e-preserved : goal.loop-e-preserved
 loop-e-preserved c =
     let config = c.args.config.now in
-    let f = symbol_of_block config c.args.symbols c.args.block.now in
+    let f = symbol_of_block config c.args.source_symbols c.args.block.now in
     let e = c.loop-e.e in
     let size = c.from-size.result in
     let old = c.loop-e.bytes in
     let one = f e in
-    let long : length one ≡ size = length-symbol_of_block config c.args.symbols c.args.block.now e ∙ sym (c.from-size.ensures ∙ c.symbol_size.ensures) in
+    let long : length one ≡ size = length-symbol_of_block config c.args.source_symbols c.args.block.now e ∙ sym (c.from-size.ensures ∙ c.symbol_size.ensures) in
     record {
       symbols =
           ap (cut (e + 1) size) c.in_ok-append_source_symbol.ensures

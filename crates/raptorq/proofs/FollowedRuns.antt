@@ -14,10 +14,9 @@ use Rattle.rq_standard.specs.Packet.{Packet}
 use Rattle.rq_standard.specs.Headline.{block_row}
 use Rattle.rq_standard.specs.Held.{Held, holds, recorded, CanAnswer, IsContradictory}
 use Rattle.rq_standard.specs.Standing.{State, IsHeldOf, new_held, new_answer, IsNewState, AddsToBlock, Adds, Contradicts, held_after}
-use Rattle.rq_standard.proofs.Known.{block_more, none_determined}
-use Rattle.rq_standard.proofs.Firsts.{has_id-push, first_payload-elsewhere}
-use Rattle.rq_standard.proofs.Standing.{held_with}
-use Rattle.rq_standard.proofs.Contradictions.{contradictory-no_answer, held_later, contradicted_after, holds_more, holds_none}
+use Rattle.rq_standard.proofs.KnownIds.{block_more, none_determined}
+use Rattle.rq_standard.proofs.Firsts.{has_id-push}
+use Rattle.rq_standard.proofs.Contradictions.{contradictory-no_answer, held_later, held_meanwhile, contradicted_after, holds_more, holds_none}
 use Rattle.raptorq.specs.Refused.{packet_refusal, IsPacketRefusal}
 use Rattle.raptorq.specs.Runs.{ContradictsCame, IsNextRefusal, IsRefusalBehind, IsRunRefusal, AnswersRun, FollowsRun}
 
@@ -42,7 +41,7 @@ can_more table c b came p (inl all) = inl (record { each = λ e below. has_id-pu
 can_more table c b came p (inr d) =
     let now = held_after table c b came in
     let later = held_after table c b (came ++ p ∷ []) in
-    inr (block_more now.row now.symbols (holds now) (holds later) (has_id-push b came p) d)
+    inr (block_more now.row now.source_symbols (holds now) (holds later) (has_id-push b came p) d)
 
 -- what a packet makes of its block
 module _ (table : List TableRow) (c : Configuration) (came : List Packet) (p : Packet) (old : Held) (new : Held) (after : Option (List ℕ)) where
@@ -86,7 +85,7 @@ module _ (table : List TableRow) (came : List Packet) (p : Packet) (old new : St
               (answered_here table c came p (old.held here) (new.held here) (new.answer here) (old.answer here) add.here (follows.holds here within) (follows.answers here within))
           | inr ne ↦
               let q = add.elsewhere.other b in_old (λ e. ne (sym e)) in
-              subst (λ h. IsSome (new.answer b) ↔ CanAnswer h) (ap (held_with table c b) (λ i e. sym (first_payload-elsewhere b came p e ne) i))
+              subst (λ h. IsSome (new.answer b) ↔ CanAnswer h) (held_meanwhile table c b came p ne)
               (subst (λ o. IsSome o ↔ CanAnswer (held_after table c b came)) (sym q.1) (follows.answers b in_old))
         ]);
   }

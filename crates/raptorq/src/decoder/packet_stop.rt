@@ -7,27 +7,28 @@ use rq_bytes::error::Error;
 /// Where the work on a packet stopped. Callers see the refusal alone, but what a decoder holds after
 /// it depends on where that was, so the steps of a decoder say it.
 #[derive(Drop)]
-pub(crate) enum Stopped {
+pub(crate) enum PacketStop {
     /// The packet is refused.
     Refused(Error),
     /// There was no memory to record it.
     NotRecorded,
     /// It is recorded, and there was no memory to answer its block.
     NotSolved,
-    /// It is recorded, and what is held of its block is contradictory.
+    /// It is recorded, and what came of its block is contradictory.
     Contradicted,
     /// Its block has the answer that it can have, and there was no memory to join the blocks.
     NotJoined,
 }
 
-impl From<Stopped> for Error {
-    ghost from_gives = { λ stopped e. e ≡ refusal_of stopped };
+impl From<PacketStop> for Error {
+    ghost from_gives = { λ stop e. e ≡ refusal_of stop };
 
-    fn from(stopped: Stopped) -> Error {
-        match stopped {
-            Stopped::Refused(e) => e,
-            Stopped::Contradicted => Error::Contradiction,
-            Stopped::NotRecorded | Stopped::NotSolved | Stopped::NotJoined => Error::OutOfMemory,
+    fn from(stop: PacketStop) -> Error {
+        match stop {
+            PacketStop::Refused(e) => e,
+            PacketStop::Contradicted => Error::Contradiction,
+            PacketStop::NotRecorded | PacketStop::NotSolved | PacketStop::NotJoined =>
+                Error::OutOfMemory,
         }
     }
 }

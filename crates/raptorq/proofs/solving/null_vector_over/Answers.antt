@@ -1,6 +1,6 @@
 use Rattle.std.proofs.lemmas.Result.{IfOk-weaker}
 use Rattle.raptorq.proofs.Undetermined.{shows_equations}
-use Rattle.raptorq.proofs.solving.homogeneous_over.Goals as goal
+use Rattle.raptorq.proofs.solving.null_vector_over.Goals as goal
 
 pub returns-clause-shown : goal.returns-clause-shown
 returns-clause-shown g c =

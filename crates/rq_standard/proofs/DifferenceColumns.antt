@@ -18,7 +18,7 @@ use Rattle.rq_standard.specs.Headline.{IsNonsingular, IsIntermediateColumn, IsEn
 use Rattle.rq_standard.specs.Differences.{plain_sum}
 use Rattle.rq_standard.proofs.Columns.{sum_symbol, sum_at, only_column}
 use Rattle.rq_standard.proofs.FirstOctets.{first_octet}
-use Rattle.rq_standard.proofs.Known.{known_source, known_padding, known_repair, range_at}
+use Rattle.rq_standard.proofs.KnownIds.{known_source, known_padding, known_repair, range_at}
 
 -- ---- symbols are added
 

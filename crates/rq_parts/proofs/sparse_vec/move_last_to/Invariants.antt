@@ -1,7 +1,7 @@
--- What the loop keeps in `sparse_vec::last_to`.
+-- What the loop keeps in `sparse_vec::move_last_to`.
 use Rattle.std.proofs.Common.{◌≡◌, ◌-◌, ◌<◌, ◌≤◌, ℕ, List, [], ◌∷◌, ◌++◌, length}
 use Rattle.std.specs.List.{insert}
-use Rattle.rq_parts.proofs.sparse_vec.last_to.Given as goal
+use Rattle.rq_parts.proofs.sparse_vec.move_last_to.Given as goal
 
 abbrev pub invariant-loop-at : goal.invariant-loop-at
 invariant-loop-at l = record {

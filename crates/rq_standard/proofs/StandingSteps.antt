@@ -15,7 +15,7 @@ use Rattle.rq_standard.specs.Received.{or_later, first_payload, has_id}
 use Rattle.rq_standard.specs.Headline.{IsNonsingular, IsIntermediateColumn, IsEncodingSymbol, DetermineBlock, block_row, block_source, IsPacketOf}
 use Rattle.rq_standard.specs.Held.{Held, recorded, CanAnswer, IsBlockAnswer}
 use Rattle.rq_standard.specs.Standing.{State, IsHeldOf, new_held, new_answer, IsNewState, AddsToBlock, IsSameElsewhere, Adds, RecordsOnly, StopsEarly, BlockStandsFor, StandsForButLate, with_late, StandsForNone, StandsForMore, AnswersLateBlock, LeavesBlockLate}
-use Rattle.rq_standard.proofs.Known.{block_more, block_same, block_of_source, none_determined}
+use Rattle.rq_standard.proofs.KnownIds.{block_more, block_same, block_of_source, none_determined}
 use Rattle.rq_standard.proofs.Columns.{source_sum, solves_held}
 use Rattle.rq_standard.proofs.Firsts.{first_payload-here, first_payload-elsewhere, first_payload-packet, has_id-push}
 use Rattle.rq_standard.proofs.PlainCut.{length-block_bytes}
@@ -54,10 +54,10 @@ by_option (Some x) P h = h x refl
 -- ---- what is held of it
 
 abbrev pub held_with : List TableRow → Configuration → ℕ → (ℕ → Option (List ℕ)) → Held
-held_with table c b received = record { configuration = c; number = b; row = block_row table c b; symbols = block_symbols c b; received = received }
+held_with table c b received = record { configuration = c; number = b; row = block_row table c b; source_symbols = block_symbols c b; received = received }
 
 pub held_is : (table : List TableRow) (c : Configuration) (b : ℕ) (h : Held) → IsHeldOf table c b h → held_with table c b h.received ≡ h
-held_is table c b h shape = λ i. record { configuration = sym shape.configuration i; number = sym shape.number i; row = sym shape.row i; symbols = sym shape.symbols i; received = h.received }
+held_is table c b h shape = λ i. record { configuration = sym shape.configuration i; number = sym shape.number i; row = sym shape.row i; source_symbols = sym shape.source_symbols i; received = h.received }
 
 module _ (table : List TableRow) (c : Configuration) (object : List ℕ) (packets : List Packet) (b : ℕ) (received : ℕ → Option (List ℕ)) where
   -- each payload that counts is an encoding symbol of the block
@@ -97,7 +97,7 @@ stands_answered table c object packets b late h column answer aligned nonsingula
     let same = held_is table c b h shape in
     subst (λ g. BlockStandsFor late (block_bytes c object b) b packets g answer) same
     (answered_at table c object packets b h.received aligned nonsingular honest reads (subst IsChecked shape.row shape.checked)
-    (subst (λ (r : TableRow). block_symbols c b ≤ r.extended_symbols) shape.row (subst (λ n. n ≤ h.row.extended_symbols) shape.symbols shape.fits))
+    (subst (λ (r : TableRow). block_symbols c b ≤ r.extended_symbols) shape.row (subst (λ n. n ≤ h.row.extended_symbols) shape.source_symbols shape.fits))
     late column answer is (subst (λ g. IsBlockAnswer g answer) (sym same) ans))
 
 -- a packet more is recorded
@@ -106,16 +106,16 @@ firsts_more packets p old new reads is e = ap (λ h. h.received e) is ∙ ap (λ
 
 pub recorded_shape : (table : List TableRow) (c : Configuration) (b : ℕ) (p : Packet) (old new : Held) → IsHeldOf table c b old → new ≡ recorded old p.id.esi p.payload → IsHeldOf table c b new
 recorded_shape table c b p old new shape is =
-    subst (IsHeldOf table c b) (sym is) (record { configuration = shape.configuration; number = shape.number; row = shape.row; symbols = shape.symbols; checked = shape.checked; fits = shape.fits })
+    subst (IsHeldOf table c b) (sym is) (record { configuration = shape.configuration; number = shape.number; row = shape.row; source_symbols = shape.source_symbols; checked = shape.checked; fits = shape.fits })
 
 -- a block that was answered stays so
 answered_step : (late after : Bool) (block : List ℕ) (b : ℕ) (packets : List Packet) (p : Packet) (h : Held) (bytes : List ℕ) → BlockStandsFor late block b packets h (Some bytes) → BlockStandsFor after block b (packets ++ p ∷ []) h (Some bytes)
-answered_step late after block b packets p h bytes st = (st.0, block_more h.row h.symbols (has_id b packets) (has_id b (packets ++ p ∷ [])) (λ e has. has_id-push b packets p e has) st.1)
+answered_step late after block b packets p h bytes st = (st.0, block_more h.row h.source_symbols (has_id b packets) (has_id b (packets ++ p ∷ [])) (λ e has. has_id-push b packets p e has) st.1)
 
 -- a packet of another block
 other_step : (late : Bool) (block : List ℕ) (b : ℕ) (packets : List Packet) (p : Packet) (h : Held) (answer : Option (List ℕ)) → p.id.block ≢ b → BlockStandsFor late block b packets h answer → BlockStandsFor late block b (packets ++ p ∷ []) h answer
 other_step late block b packets p h None ne st =
-    (λ e. st.0 e ∙ sym (first_payload-elsewhere b packets p e ne), λ now d. st.1 now (block_same h.row h.symbols (has_id b (packets ++ p ∷ [])) (has_id b packets) (λ e. ap is_some (first_payload-elsewhere b packets p e ne)) d))
+    (λ e. st.0 e ∙ sym (first_payload-elsewhere b packets p e ne), λ now d. st.1 now (block_same h.row h.source_symbols (has_id b (packets ++ p ∷ [])) (has_id b packets) (λ e. ap is_some (first_payload-elsewhere b packets p e ne)) d))
 other_step late block b packets p h (Some bytes) ne st = answered_step late late block b packets p h bytes st
 
 -- the packet's own block, which isn't late any more

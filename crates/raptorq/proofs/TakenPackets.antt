@@ -8,12 +8,12 @@ use Rattle.rq_bytes.specs.declared.error.Error.TheVariants.{OutOfMemory, Unknown
 use Rattle.rq_bytes.specs.Refusals.{IsRefusal}
 use Rattle.rq_standard.specs.Packet.{Packet}
 use Rattle.rq_standard.specs.Held.{Held, recorded}
-use Rattle.rq_standard.proofs.Standing.{push-all}
+use Rattle.rq_standard.proofs.StandingSteps.{push-all}
 use Rattle.raptorq.specs.Refused.{block_refusal}
 use Rattle.raptorq.specs.Decoding.{all_recorded, AreTaken, StopsAtLast, Decodes, DecodesUntil}
 use Rattle.raptorq.specs.Stopping.{StopsPacket, refusal_of}
-use Rattle.raptorq.specs.declared.decoder.stopped.Stopped.{Stopped}
-use Rattle.raptorq.specs.declared.decoder.stopped.Stopped.TheVariants.{Refused, NotRecorded, NotSolved, Contradicted, NotJoined}
+use Rattle.raptorq.specs.declared.decoder.packet_stop.PacketStop.{PacketStop}
+use Rattle.raptorq.specs.declared.decoder.packet_stop.PacketStop.TheVariants.{Refused, NotRecorded, NotSolved, Contradicted, NotJoined}
 
 number_kept : (h : Held) (packets : List Packet) → (all_recorded h packets).number ≡ h.number
 number_kept h [] = refl
@@ -58,7 +58,7 @@ module _ {T : Type 0} (steps : T → Option Packet → T → Type 0) (iterator :
   stops_at h g new packets p after Stops gave taken is same stops = record { after = after; gave = gave; front = packets; last = p; whole = refl; taken = taken; holds = same ∙ is; stopped = subst Stops (refusal_kept h g packets p is) stops }
 
   -- the packet that stops the call
-  pub stopped : (h g new : Held) (packets : List Packet) (p : Packet) (after : T) (at : Stopped) → Yields steps iterator (packets ++ p ∷ []) after → AreTaken h packets → g ≡ all_recorded h packets → new ≡ g → StopsPacket at (block_refusal g p)
+  pub stopped : (h g new : Held) (packets : List Packet) (p : Packet) (after : T) (at : PacketStop) → Yields steps iterator (packets ++ p ∷ []) after → AreTaken h packets → g ≡ all_recorded h packets → new ≡ g → StopsPacket at (block_refusal g p)
       → DecodesUntil steps iterator h (packets ++ p ∷ []) (Err at) new
   stopped h g new packets p after (Refused e) gave taken is same stops = stops_at h g new packets p after (StopsPacket (Refused e)) gave taken is same stops
   stopped h g new packets p after NotRecorded gave taken is same stops = stops_at h g new packets p after (StopsPacket NotRecorded) gave taken is same stops
@@ -70,7 +70,7 @@ module _ {T : Type 0} (steps : T → Option Packet → T → Type 0) (iterator :
   seen_at old packets new Stops Seen weaker d = record { after = d.after; gave = d.gave; front = d.front; last = d.last; whole = d.whole; taken = d.taken; holds = d.holds; stopped = weaker (block_refusal old d.last) d.stopped }
 
   -- what a caller sees of it
-  pub decodes_seen : (old : Held) (packets : List Packet) (at : Stopped) (new : Held) → DecodesUntil steps iterator old packets (Err at) new → Decodes steps iterator old packets (Err (refusal_of at)) new
+  pub decodes_seen : (old : Held) (packets : List Packet) (at : PacketStop) (new : Held) → DecodesUntil steps iterator old packets (Err at) new → Decodes steps iterator old packets (Err (refusal_of at)) new
   decodes_seen old packets (Refused e) new d = inr (seen_at old packets new (StopsPacket (Refused e)) (IsRefusal e) (λ tested is. subst (IsRefusal e) (sym is) refl) d)
   decodes_seen old packets NotRecorded new d = inr (seen_at old packets new (StopsPacket NotRecorded) (IsRefusal OutOfMemory) (λ tested is. subst (IsRefusal OutOfMemory) (sym is) refl) d)
   decodes_seen old packets NotSolved new d = inl (d, inl refl)

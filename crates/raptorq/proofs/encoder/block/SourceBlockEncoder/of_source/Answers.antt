@@ -3,7 +3,7 @@ use Rattle.rq_bytes.specs.SymbolSlab.{symbol_in, symbols_in}
 use Rattle.rq_standard.specs.declared.row.TableRow.{TableRow}
 use Rattle.rq_standard.specs.Headline.{IsOnlyIntermediateColumn}
 use Rattle.rq_standard.specs.TableRows.{intermediate_symbols}
-use Rattle.raptorq.proofs.encoder.block.SourceBlockEncoder.planned.Goals as goal
+use Rattle.raptorq.proofs.encoder.block.SourceBlockEncoder.of_source.Goals as goal
 
 pub invariant_of-result : goal.invariant_of-result
 invariant_of-result c =

@@ -1,6 +1,6 @@
--- What the check leaves to show of `symbol_slab::SymbolSlab::meant`.
+-- What the check leaves to show of `symbol_slab::SymbolSlab::stored_index`.
 use Rattle.rq_bytes.proofs.SlabFacts.{entry_below}
-use Rattle.rq_bytes.proofs.symbol_slab.SymbolSlab.meant.Goals as goal
+use Rattle.rq_bytes.proofs.symbol_slab.SymbolSlab.stored_index.Goals as goal
 
 pub returns-in-Some-clause-below : goal.returns-in-Some-clause-below
 returns-in-Some-clause-below c =

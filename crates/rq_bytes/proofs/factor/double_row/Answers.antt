@@ -1,9 +1,9 @@
--- What the check leaves to show of `factor::double`.
+-- What the check leaves to show of `factor::double_row`.
 use Rattle.std.proofs.Common.{◌+◌, ◌*◌, arith}
 use Rattle.std.proofs.lemmas.Simd.{length-chunk}
 use Rattle.rq_standard.specs.Octets.{octet_mul}
 use Rattle.rq_bytes.proofs.ZipUpto.{made_one, made_store, made_all}
-use Rattle.rq_bytes.proofs.factor.double.Goals as goal
+use Rattle.rq_bytes.proofs.factor.double_row.Goals as goal
 
 pub doubled_lanes-multiple-requires : goal.doubled_lanes-multiple-requires
 doubled_lanes-multiple-requires c = length-chunk (32 * c.loop-block.block) 32 c.loop-block.octets (omega (arith, c.loop-block.auto.octets))
