@@ -14,12 +14,12 @@ use Rattle.rq_bytes.specs.SymbolSlab.{Slab, after, slab_of, HasPlace, symbol_in,
 use Rattle.rq_bytes.proofs.Multiples.{times_one}
 use Rattle.rq_parts.specs.DenseOctetMatrix.{OctetTable, HasOctets, IsOctetRow, row_at, with_row}
 use Rattle.rq_elimination.specs.declared.entries.InactiveEntries.TheInside.{Inside}
-use Rattle.rq_elimination.specs.InactiveEntries.{AreEntries, IsNextEntry, row_of, entry_rows, unpacked}
-use Rattle.rq_elimination.proofs.UnpackedBits.{is_unpacked, unpacked_row, unpacked-sum, unpacked-zeros}
+use Rattle.rq_elimination.specs.InactiveEntries.{AreEntries, IsNextEntry, row_of, entry_rows, octets_of_bits}
+use Rattle.rq_elimination.proofs.UnpackedBits.{is_unpacked, unpacked_row, octets_of_bits-sum, octets_of_bits-zeros}
 
 -- ---- a row
 
-pub row_of_none : (n : ℕ) (bits own : List ℕ) → length own ≡ 0 → row_of n bits own ≡ unpacked n bits
+pub row_of_none : (n : ℕ) (bits own : List ℕ) → length own ≡ 0 → row_of n bits own ≡ octets_of_bits n bits
 row_of_none n bits [] none = refl
 row_of_none n bits (o ∷ os) none = absurd (omega arith)
 
@@ -139,7 +139,7 @@ zero_rows width height size room owns is =
     ∙ ap (λ b. row_of width b (get_or owns k [])) (get_or-replicate height k (replicate size 0) [] inside)
     ∙ ap (λ (o : List (List ℕ)). row_of width (replicate size 0) (get_or o k [])) is
     ∙ ap (row_of width (replicate size 0)) (get_or-replicate height k [] [] inside)
-    ∙ unpacked-zeros width size room
+    ∙ octets_of_bits-zeros width size room
     ∙ sym (get_or-replicate height k (replicate width 0) [] inside))
 
 pub zeros_are : (width height size : ℕ) → width < 2 ^ 63 + 32 → width % 32 ≡ 0 → width ≤ 8 * size → size % 32 ≡ 0 → (owns : List (List ℕ)) → owns ≡ replicate height [] → AreEntries width (slab_of size (replicate height (replicate size 0))) owns
@@ -155,7 +155,7 @@ zeros_are width height size fits whole room vectors owns is = record {
       ap length (get_or-replicate height i (replicate size 0) [] inside) ∙ length-replicate {A = ℕ} size 0);
   rows = rw (zero_rows width height size room owns is) (All-from_get_or (IsOctetRow width) (replicate height (replicate width 0)) [] (λ i l.
       let inside : i < height = omega (arith, length-replicate {A = List ℕ} height (replicate width 0)) in
-      subst (IsOctetRow width) (unpacked-zeros width size room ∙ sym (get_or-replicate height i (replicate width 0) [] inside)) (unpacked_row width (replicate size 0))));
+      subst (IsOctetRow width) (octets_of_bits-zeros width size room ∙ sym (get_or-replicate height i (replicate width 0) [] inside)) (unpacked_row width (replicate size 0))));
 }
 
 -- ---- sums of bits
@@ -259,18 +259,18 @@ module _ (e : Inside) (are : AreEntries e.octets.width e.bits e.octets.rows) {no
 
     -- other bits of the row
     module _ (no_octets : length (row_at e.octets row) ≡ 0) where
-      pub row_unpacked : unpacked e.octets.width (get_or e.bits.values row []) ≡ row_at now row
+      pub row_unpacked : octets_of_bits e.octets.width (get_or e.bits.values row []) ≡ row_at now row
       row_unpacked = sym (row_of_none e.octets.width (get_or e.bits.values row []) (get_or e.octets.rows row []) no_octets) ∙ sym row_now
 
       module _ (symbol : List ℕ) (long : length symbol ≡ e.bits.symbol_size) where
         pub bits_set : AreEntries e.octets.width (record e.bits { values = set e.bits.values row symbol }) e.octets.rows
         bits_set = bits_are e.octets.width e.bits e.octets.rows are row in_symbols symbol long (rw (row_of_none e.octets.width symbol (get_or e.octets.rows row []) no_octets) (unpacked_row e.octets.width symbol))
 
-        pub bits_seen : table_of e.octets.width (record e.bits { values = set e.bits.values row symbol }) e.octets.rows ≡ with_row now row (unpacked e.octets.width symbol)
+        pub bits_seen : table_of e.octets.width (record e.bits { values = set e.bits.values row symbol }) e.octets.rows ≡ with_row now row (octets_of_bits e.octets.width symbol)
         bits_seen =
             table_with_bits e.octets.width e.bits e.octets.rows are row in_symbols symbol long
             ∙ ap (with_row (table_of e.octets.width e.bits e.octets.rows) row) (row_of_none e.octets.width symbol (get_or e.octets.rows row []) no_octets)
-            ∙ ap (λ t. with_row t row (unpacked e.octets.width symbol)) seen
+            ∙ ap (λ t. with_row t row (octets_of_bits e.octets.width symbol)) seen
 
         -- the same where the slab wrote them at the place that it keeps the row in
         module _ (new : Slab) (new_is : new ≡ record e.bits { values = set e.bits.values (meant_at e.bits.order row) symbol }) where
@@ -280,7 +280,7 @@ module _ (e : Inside) (are : AreEntries e.octets.width e.bits e.octets.rows) {no
           pub bits_written : AreEntries e.octets.width new e.octets.rows
           bits_written = rw write_is bits_set
 
-          pub bits_written_seen : table_of e.octets.width new e.octets.rows ≡ with_row now row (unpacked e.octets.width symbol)
+          pub bits_written_seen : table_of e.octets.width new e.octets.rows ≡ with_row now row (octets_of_bits e.octets.width symbol)
           bits_written_seen = ap (λ (s : Slab). table_of e.octets.width s e.octets.rows) write_is ∙ bits_seen
 
     row_elements : (i : ℕ) → i < length (row_at now row) → get_or (row_at now row) i 0 < 256
@@ -317,11 +317,11 @@ module _ (e : Inside) (are : AreEntries e.octets.width e.bits e.octets.rows) {no
       pub sum_are : AreEntries e.octets.width new e.octets.rows
       sum_are = rw now_is (bits_set dest in_dest none (row_sum a b) long_sum)
 
-      unpacked_a : unpacked e.octets.width a ≡ row_at now dest
+      unpacked_a : octets_of_bits e.octets.width a ≡ row_at now dest
       unfolding a
       unpacked_a = row_unpacked dest in_dest none
 
-      unpacked_b : unpacked e.octets.width b ≡ row_at now src
+      unpacked_b : octets_of_bits e.octets.width b ≡ row_at now src
       unfolding b
       unpacked_b = row_unpacked src in_src none_other
 
@@ -331,8 +331,8 @@ module _ (e : Inside) (are : AreEntries e.octets.width e.bits e.octets.rows) {no
           ap (λ (s : Slab). table_of e.octets.width s e.octets.rows) now_is
           ∙ bits_seen dest in_dest none (row_sum a b) long_sum
           ∙ ap (with_row now dest) (
-          unpacked-sum e.octets.width a b (long_a ∙ sym long_b) (omega (arith, long_a))
-          ∙ ap (λ r. row_sum r (unpacked e.octets.width b)) unpacked_a
+          octets_of_bits-sum e.octets.width a b (long_a ∙ sym long_b) (omega (arith, long_a))
+          ∙ ap (λ r. row_sum r (octets_of_bits e.octets.width b)) unpacked_a
           ∙ ap (row_sum (row_at now dest)) (unpacked_b ∙ sym (times_one (row_at now src) (row_elements src in_src)) ∙ ap (λ c. row_multiple c (row_at now src)) (sym one)))
 
 -- the next place where another row isn't 0, if it is the same before the end

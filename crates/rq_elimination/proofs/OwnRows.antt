@@ -10,7 +10,7 @@ use Rattle.rq_algebra.specs.Operations.{meant_at}
 use Rattle.rq_algebra.specs.Systems.{at}
 use Rattle.rq_bytes.specs.SymbolSlab.{Slab, slab_of, symbol_in}
 use Rattle.rq_parts.specs.DenseOctetMatrix.{OctetTable, IsOctetRow, row_at, with_row}
-use Rattle.rq_elimination.specs.InactiveEntries.{ArePlaced, own_rows, place_before, placeless, row_placed, unpacked}
+use Rattle.rq_elimination.specs.InactiveEntries.{ArePlaced, own_rows, place_before, placeless, row_placed, octets_of_bits}
 use Rattle.rq_standard.specs.Rows.{row_sum, row_multiple}
 use Rattle.rq_elimination.proofs.UnpackedBits.{bits_among_zeros}
 
@@ -220,8 +220,8 @@ none_seen width height octets places is none =
 -- ---- a buffer with more bits as octets
 
 pub appended : (old zeros : Slab) (bits ws lent : List ℕ) (place : ℕ) → old.order ≡ None → place ≡ length old.values → zeros ≡ record old { values = old.values ++ replicate old.symbol_size 0 ∷ [] }
-    → lent ≡ symbol_in zeros place → ws ≡ row_sum lent (row_multiple 1 (unpacked (length lent) bits))
-    → ◌≡◌ {A = Slab} (record zeros { values = set zeros.values (meant_at zeros.order place) ws }) (record old { values = old.values ++ unpacked old.symbol_size bits ∷ [] })
+    → lent ≡ symbol_in zeros place → ws ≡ row_sum lent (row_multiple 1 (octets_of_bits (length lent) bits))
+    → ◌≡◌ {A = Slab} (record zeros { values = set zeros.values (meant_at zeros.order place) ws }) (record old { values = old.values ++ octets_of_bits old.symbol_size bits ∷ [] })
 appended old zeros bits ws lent place no_order place_is zeros_is lent_is ws_is =
     let row = replicate {A = ℕ} old.symbol_size 0 in
     let more = old.values ++ row ∷ [] in

@@ -9,7 +9,7 @@ use Rattle.rq_algebra.specs.Operations.{Operation, AddAssign, MulAssign, Fma, Re
 use Rattle.rq_algebra.specs.Following.{Follows}
 use Rattle.rq_algebra.proofs.Changes.{with_at, with_at_same, with_at_other}
 use Rattle.rq_algebra.proofs.Elements.{adds_elements, scales_elements}
-use Rattle.rq_algebra.proofs.Runs.{follows_add, follows_fma, follows_scale}
+use Rattle.rq_algebra.proofs.OperationRuns.{follows_add, follows_fma, follows_scale}
 use Rattle.rq_elimination.specs.RowSteps.{row_step, rows_after, IsStepAmong}
 
 pub rows_after-append : (F : Field) (first second : List Operation) (a : ℕ → ℕ → ℕ) → rows_after F (first ++ second) a ≡ rows_after F second (rows_after F first a)

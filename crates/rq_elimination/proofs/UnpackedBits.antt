@@ -24,38 +24,38 @@ use Rattle.rq_elimination.specs.declared.entries.packed_bits.TheConstants.{MASKS
 use Rattle.rq_standard.specs.Rows.{row_sum, row_multiple}
 use Rattle.rq_bytes.proofs.BitLanes.{masked}
 use Rattle.rq_parts.specs.DenseOctetMatrix.{IsOctetRow}
-use Rattle.rq_parts.proofs.BitPairs.{bit_at-shifted}
-use Rattle.rq_elimination.specs.InactiveEntries.{IsNextEntry, bit_in, unpacked}
+use Rattle.rq_parts.proofs.BitPairLaws.{bit_at-shifted}
+use Rattle.rq_elimination.specs.InactiveEntries.{IsNextEntry, bit_in, octets_of_bits}
 
 map_at : (f : ℕ → ℕ) (xs : List ℕ) (k : ℕ) → k < length xs → at (map f xs) k ≡ f (at xs k)
 map_at f xs k l = get_or_default (map f xs) k 0 (f 0) (omega (arith, length-map xs f)) ∙ get_or-map f xs k 0
 
-pub length-unpacked : (n : ℕ) (bits : List ℕ) → length (unpacked n bits) ≡ n
-length-unpacked n bits = length-map-range_with_len (bit_in bits) 0 n
+pub length-octets_of_bits : (n : ℕ) (bits : List ℕ) → length (octets_of_bits n bits) ≡ n
+length-octets_of_bits n bits = length-map-range_with_len (bit_in bits) 0 n
 
-pub at-unpacked : (n : ℕ) (bits : List ℕ) (k : ℕ) → k < n → at (unpacked n bits) k ≡ bit_in bits k
-at-unpacked n bits k l = get_or-map-range_with_len (bit_in bits) 0 n k k 0 l (omega arith)
+pub at-octets_of_bits : (n : ℕ) (bits : List ℕ) (k : ℕ) → k < n → at (octets_of_bits n bits) k ≡ bit_in bits k
+at-octets_of_bits n bits k l = get_or-map-range_with_len (bit_in bits) 0 n k k 0 l (omega arith)
 
 pub bit_small : (bits : List ℕ) (k : ℕ) → bit_in bits k < 2
 bit_small bits k = bit_at-lt (at bits (k / 8)) (k % 8)
 
-pub unpacked_row : (n : ℕ) (bits : List ℕ) → IsOctetRow n (unpacked n bits)
+pub unpacked_row : (n : ℕ) (bits : List ℕ) → IsOctetRow n (octets_of_bits n bits)
 unpacked_row n bits = (
-  length-unpacked n bits,
-  All-from_get_or (λ octet. octet < 256) (unpacked n bits) 0 (λ i l.
-      let inside : i < n = omega (arith, length-unpacked n bits) in
-      let e = at-unpacked n bits i inside in
+  length-octets_of_bits n bits,
+  All-from_get_or (λ octet. octet < 256) (octets_of_bits n bits) 0 (λ i l.
+      let inside : i < n = omega (arith, length-octets_of_bits n bits) in
+      let e = at-octets_of_bits n bits i inside in
       let small = bit_small bits i in
       omega arith),
 )
 
 -- octets that are these bits one by one
-pub is_unpacked : (n : ℕ) (bits xs : List ℕ) → length xs ≡ n → ((k : ℕ) → k < n → at xs k ≡ bit_in bits k) → unpacked n bits ≡ xs
+pub is_unpacked : (n : ℕ) (bits xs : List ℕ) → length xs ≡ n → ((k : ℕ) → k < n → at xs k ≡ bit_in bits k) → octets_of_bits n bits ≡ xs
 is_unpacked n bits xs long same =
-    let len = length-unpacked n bits in
-    ext_get_or 0 (unpacked n bits) xs (len ∙ sym long) (λ i l.
+    let len = length-octets_of_bits n bits in
+    ext_get_or 0 (octets_of_bits n bits) xs (len ∙ sym long) (λ i l.
     let inside : i < n = omega arith in
-    at-unpacked n bits i inside ∙ sym (same i inside))
+    at-octets_of_bits n bits i inside ∙ sym (same i inside))
 
 -- ---- sums
 
@@ -71,24 +71,24 @@ xor_bits x y l m = elim (cases_eq x 0) [
       ]
 ]
 
-pub unpacked-sum : (n : ℕ) (a b : List ℕ) → length a ≡ length b → n ≤ 8 * length a → unpacked n (row_sum a b) ≡ row_sum (unpacked n a) (unpacked n b)
-unpacked-sum n a b long fits =
-    let len_a = length-unpacked n a in
-    let len_b = length-unpacked n b in
-    is_unpacked n (row_sum a b) (row_sum (unpacked n a) (unpacked n b)) (length-zip2 bit_xor (unpacked n a) (unpacked n b) (len_a ∙ sym len_b) ∙ len_a) (λ k l.
+pub octets_of_bits-sum : (n : ℕ) (a b : List ℕ) → length a ≡ length b → n ≤ 8 * length a → octets_of_bits n (row_sum a b) ≡ row_sum (octets_of_bits n a) (octets_of_bits n b)
+octets_of_bits-sum n a b long fits =
+    let len_a = length-octets_of_bits n a in
+    let len_b = length-octets_of_bits n b in
+    is_unpacked n (row_sum a b) (row_sum (octets_of_bits n a) (octets_of_bits n b)) (length-zip2 bit_xor (octets_of_bits n a) (octets_of_bits n b) (len_a ∙ sym len_b) ∙ len_a) (λ k l.
     let in_a : k / 8 < length a = omega arith in
     let in_b : k / 8 < length b = omega arith in
-    get_or-zip2 bit_xor (unpacked n a) (unpacked n b) k 0 0 0 (omega arith) (omega arith)
-    ∙ ap (λ x. bit_xor x (at (unpacked n b) k)) (at-unpacked n a k l)
-    ∙ ap (bit_xor (bit_in a k)) (at-unpacked n b k l)
+    get_or-zip2 bit_xor (octets_of_bits n a) (octets_of_bits n b) k 0 0 0 (omega arith) (omega arith)
+    ∙ ap (λ x. bit_xor x (at (octets_of_bits n b) k)) (at-octets_of_bits n a k l)
+    ∙ ap (bit_xor (bit_in a k)) (at-octets_of_bits n b k l)
     ∙ xor_bits (bit_in a k) (bit_in b k) (bit_small a k) (bit_small b k)
     ∙ sym (bit_at_xor (at a (k / 8)) (at b (k / 8)) (k % 8))
     ∙ ap (λ x. bit_at x (k % 8)) (sym (get_or-zip2 bit_xor a b (k / 8) 0 0 0 in_a in_b)))
 
 -- ---- zeros
 
-pub unpacked-zeros : (n size : ℕ) → n ≤ 8 * size → unpacked n (replicate size 0) ≡ replicate n 0
-unpacked-zeros n size fits =
+pub octets_of_bits-zeros : (n size : ℕ) → n ≤ 8 * size → octets_of_bits n (replicate size 0) ≡ replicate n 0
+octets_of_bits-zeros n size fits =
     is_unpacked n (replicate size 0) (replicate n 0) (length-replicate {A = ℕ} n 0) (λ k l.
     let inside : k / 8 < size = omega arith in
     get_or-replicate n k 0 0 l
@@ -118,13 +118,13 @@ module _ (bits : List ℕ) (place : ℕ) (within : place / 8 < length bits) wher
     | inr apart ↦ ap (λ x. bit_at x (k % 8)) (get_or-set_other bits (place / 8) (k / 8) _ 0 apart)
   ]
 
-  pub unpacked-set : (n : ℕ) → place < n → unpacked n (set bits (place / 8) (bit_or (at bits (place / 8)) (1 * 2 ^ (place % 8) % 2 ^ 8))) ≡ set (unpacked n bits) place 1
+  pub octets_of_bits-set : (n : ℕ) → place < n → octets_of_bits n (set bits (place / 8) (bit_or (at bits (place / 8)) (1 * 2 ^ (place % 8) % 2 ^ 8))) ≡ set (octets_of_bits n bits) place 1
   unfolding with_bit
-  unpacked-set n below =
-      let len = length-unpacked n bits in
-      is_unpacked n with_bit (set (unpacked n bits) place 1) (length-set (unpacked n bits) place 1 ∙ len) (λ k l. elim (cases_eq k place) [
-        | inl e ↦ rw e (get_or-set_same (unpacked n bits) place 1 0 (omega arith) ∙ sym bit_here)
-        | inr d ↦ get_or-set_other (unpacked n bits) place k 1 0 d ∙ at-unpacked n bits k l ∙ sym (bit_beside k d)
+  octets_of_bits-set n below =
+      let len = length-octets_of_bits n bits in
+      is_unpacked n with_bit (set (octets_of_bits n bits) place 1) (length-set (octets_of_bits n bits) place 1 ∙ len) (λ k l. elim (cases_eq k place) [
+        | inl e ↦ rw e (get_or-set_same (octets_of_bits n bits) place 1 0 (omega arith) ∙ sym bit_here)
+        | inr d ↦ get_or-set_other (octets_of_bits n bits) place k 1 0 d ∙ at-octets_of_bits n bits k l ∙ sym (bit_beside k d)
       ])
 
 -- ---- multiples of bits
@@ -155,13 +155,13 @@ masked_bits scalar bits small long =
 
 -- those of a block of 32 bits are those of its four octets
 pub block_bits : (scalar n first : ℕ) (bits : List ℕ) → first % 32 ≡ 0 → first + 32 ≤ n → n ≤ 8 * length bits
-    → map (λ i. octet_mul scalar (bit_in (chunk (first / 8) 4 bits) i)) (range_with_len 0 32) ≡ map (octet_mul scalar) (chunk first 32 (unpacked n bits))
+    → map (λ i. octet_mul scalar (bit_in (chunk (first / 8) 4 bits) i)) (range_with_len 0 32) ≡ map (octet_mul scalar) (chunk first 32 (octets_of_bits n bits))
 block_bits scalar n first bits aligned fits room =
-    let len = length-unpacked n bits in
-    let few = length-chunk first 32 (unpacked n bits) (omega arith) in
+    let len = length-octets_of_bits n bits in
+    let few = length-chunk first 32 (octets_of_bits n bits) (omega arith) in
     let count = length-map-range_with_len (λ i. octet_mul scalar (bit_in (chunk (first / 8) 4 bits) i)) 0 32 in
-    ext_get_or 0 (map (λ i. octet_mul scalar (bit_in (chunk (first / 8) 4 bits) i)) (range_with_len 0 32)) (map (octet_mul scalar) (chunk first 32 (unpacked n bits)))
-    (count ∙ sym (length-map (chunk first 32 (unpacked n bits)) (octet_mul scalar) ∙ few))
+    ext_get_or 0 (map (λ i. octet_mul scalar (bit_in (chunk (first / 8) 4 bits) i)) (range_with_len 0 32)) (map (octet_mul scalar) (chunk first 32 (octets_of_bits n bits)))
+    (count ∙ sym (length-map (chunk first 32 (octets_of_bits n bits)) (octet_mul scalar) ∙ few))
     (λ i under.
     let lt : i < 32 = omega arith in
     let quarter : i / 8 < 4 = omega arith in
@@ -171,15 +171,15 @@ block_bits scalar n first bits aligned fits room =
     ∙ ap (octet_mul scalar) (
     ap (λ x. bit_at x (i % 8)) (get_or-chunk (first / 8) 4 bits (i / 8) 0 quarter ∙ ap (λ k. get_or bits k 0) octet)
     ∙ ap (bit_at (get_or bits ((first + i) / 8) 0)) place
-    ∙ sym (get_or-chunk first 32 (unpacked n bits) i 0 lt ∙ at-unpacked n bits (first + i) (omega arith)))
-    ∙ sym (map_at (octet_mul scalar) (chunk first 32 (unpacked n bits)) i (omega arith)))
+    ∙ sym (get_or-chunk first 32 (octets_of_bits n bits) i 0 lt ∙ at-octets_of_bits n bits (first + i) (omega arith)))
+    ∙ sym (map_at (octet_mul scalar) (chunk first 32 (octets_of_bits n bits)) i (omega arith)))
 
 -- the bits, added to zeros
-pub bits_among_zeros : (n : ℕ) (bits sum : List ℕ) → sum ≡ replicate n 0 → row_sum sum (row_multiple 1 (unpacked (length sum) bits)) ≡ unpacked n bits
+pub bits_among_zeros : (n : ℕ) (bits sum : List ℕ) → sum ≡ replicate n 0 → row_sum sum (row_multiple 1 (octets_of_bits (length sum) bits)) ≡ octets_of_bits n bits
 bits_among_zeros n bits sum is =
     let long : length sum ≡ n = ap length is ∙ length-replicate {A = ℕ} n 0 in
-    let row = unpacked (length sum) bits in
-    let len = length-unpacked (length sum) bits in
+    let row = octets_of_bits (length sum) bits in
+    let len = length-octets_of_bits (length sum) bits in
     let multiple : length (row_multiple 1 row) ≡ length sum = length-map row (octet_mul 1) ∙ len in
     sym (is_unpacked n bits (row_sum sum (row_multiple 1 row)) (length-zip2 bit_xor sum (row_multiple 1 row) (sym multiple) ∙ long) (λ k l.
     let in_sum : k < length sum = omega arith in
@@ -190,7 +190,7 @@ bits_among_zeros n bits sum is =
     ∙ ap (λ x. bit_xor x (at (row_multiple 1 row) k)) (get_or-replicate n k 0 0 l)
     ∙ xor_zero_l (at (row_multiple 1 row) k)
     ∙ map_at (octet_mul 1) row k (omega (arith, len))
-    ∙ ap (octet_mul 1) (at-unpacked (length sum) bits k in_sum)
+    ∙ ap (octet_mul 1) (at-octets_of_bits (length sum) bits k in_sum)
     ∙ one-mul (bit_in bits k) (omega arith)))
 
 -- ---- words

@@ -1,13 +1,13 @@
 -- A row, to be read: octets of its own, or bits.
 use Rattle.std.specs.Prelude.{◌≡◌, ℕ, ◌*◌, ◌%◌, ◌≤◌, List, length}
-use Rattle.rq_elimination.specs.InactiveEntries.{unpacked}
+use Rattle.rq_elimination.specs.InactiveEntries.{octets_of_bits}
 use Rattle.rq_elimination.specs.declared.entries.octet_row.EntryRow.{EntryRow}
 use Rattle.rq_elimination.specs.declared.entries.octet_row.EntryRow.TheVariants.{Octets, Bits}
 
 -- its octets, or its first `width` bits as octets
 abbrev pub octets_of : ℕ → EntryRow → List ℕ
 octets_of width (Octets octets) = octets.now
-octets_of width (Bits bits) = unpacked width bits.now
+octets_of width (Bits bits) = octets_of_bits width bits.now
 
 -- `width` octets, or at least as many bits, which fill whole vectors
 abbrev pub HasWidth : ℕ → EntryRow → Type 0

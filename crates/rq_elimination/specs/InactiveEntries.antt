@@ -12,8 +12,8 @@ abbrev pub bit_in : List ℕ → ℕ → ℕ
 bit_in bits place = bit_at (slice_index bits (place / 8)) (place % 8)
 
 -- the first bits as octets
-abbrev pub unpacked : ℕ → List ℕ → List ℕ
-unpacked n bits = map (bit_in bits) (range_with_len 0 n)
+abbrev pub octets_of_bits : ℕ → List ℕ → List ℕ
+octets_of_bits n bits = map (bit_in bits) (range_with_len 0 n)
 
 -- a row whose first octets are those that another one has in columns
 abbrev pub with_octets : List ℕ → List ℕ → List ℕ → List ℕ
@@ -21,7 +21,7 @@ with_octets octets columns row = map (at octets) columns ++ drop (length columns
 
 -- a row: its own octets where it has some, and else its bits
 abbrev pub row_of : ℕ → List ℕ → List ℕ → List ℕ
-row_of width bits [] = unpacked width bits
+row_of width bits [] = octets_of_bits width bits
 row_of width bits (o ∷ os) = o ∷ os
 
 abbrev pub entry_rows : ℕ → List (List ℕ) → List (List ℕ) → List (List ℕ)

@@ -1,4 +1,6 @@
-//! How many operations the phases recorded.
+//! The operations that the phases recorded for the symbols, in a list, where each phase's stretches end
+//! in it, and how many they are (RFC 6330, sections 5.4.2.2 to 5.4.2.6). What the third and the fifth do
+//! is counted as the fourth's.
 ghost use Rattle.std.specs.Prelude.{◌≡◌, ℕ, ◌+◌, ◌<◌, ◌≤◌, ◌^◌, ◌∷◌, [], ◌++◌, List, Some, length, map, slice_index_or, IfOk, OnOk, IfErr};
 ghost use Rattle.rq_algebra.specs.Operations.{Operation, AddAssign};
 ghost use Rattle.rq_bytes.specs.declared.error.Error.TheVariants.{OutOfMemory};

@@ -1,4 +1,4 @@
-//! What rows have in the inactive columns.
+//! `InactiveEntries`: the matrix U of RFC 6330 (section 5.4.2.2), rows of bits or of octets.
 ghost use Rattle.std.specs.Prelude.{◌≡◌, ◌≢◌, ◌+◌, ◌*◌, ◌%◌, ◌^◌, ◌<◌, ◌≤◌, All, length, replicate, slice_set, IfSome, IfOk, OnOk, IfErr, OnErr};
 ghost use Rattle.rq_bytes.specs.declared.error.Error.TheVariants.{OutOfMemory};
 ghost use Rattle.rq_parts.specs.DenseOctetMatrix.{entry_of, HasOctets, row_at, with_row};
@@ -11,7 +11,7 @@ mod octet_row;
 mod own_octets;
 mod packed_bits;
 
-use crate::elimination::OctetRows;
+use crate::pivot_search::OctetRows;
 pub use octet_row::{next_in_vectors, nonzero_after_first};
 use octet_row::{EntryRow, count_octets, next_octet};
 use own_octets::OwnOctets;

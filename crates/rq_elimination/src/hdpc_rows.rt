@@ -1,4 +1,5 @@
-//! The octets of HDPC rows that are cleared together.
+//! `HdpcRows`: HDPC rows as multiples of their sum beside their own octets, while they are cleared
+//! together in the first phase (RFC 6330, section 5.4.2.2).
 ghost use Rattle.std.specs.Prelude.{◌≡◌, ℕ, ◌%◌, ◌^◌, ◌<◌, ◌≤◌, length, IfOk, IfErr};
 ghost use Rattle.rq_algebra.specs.Steps.{AddsRow, ScalesRow};
 ghost use Rattle.rq_algebra.specs.Systems.{at};

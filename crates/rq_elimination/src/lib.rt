@@ -4,7 +4,7 @@
 #![tactic(auto)]
 
 pub mod counts;
-pub mod elimination;
 pub mod entries;
 pub mod hdpc_rows;
+pub mod pivot_search;
 pub mod recorded;

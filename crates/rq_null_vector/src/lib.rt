@@ -1,5 +1,5 @@
-//! What rows that don't determine a column leave open: a column that isn't all zeros and solves them
-//! with zeros as values.
+//! What the equations of a block (RFC 6330, section 5.4.2.1) leave open where they don't determine its
+//! intermediate symbols: a column that isn't all zeros and solves them with zeros as values.
 #![tactic(auto)]
 
 pub mod null_vector;

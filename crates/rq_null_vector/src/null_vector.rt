@@ -1,5 +1,5 @@
-//! A column that shows that rows don't determine one (a homogeneous column), by an elimination that
-//! records nothing.
+//! The elimination that finds a null vector of a block's equations (RFC 6330, section 5.4.2.1), which is
+//! a homogeneous column. It records nothing.
 ghost use Rattle.std.specs.Prelude.{◌≡◌, ◌≢◌, ◌-◌, ◌<◌, ◌∷◌, ◌++◌, All, length, map, replicate, MatchOption, IfOk, IfErr};
 ghost use Rattle.rq_algebra.specs.Systems.{at};
 ghost use Rattle.rq_bytes.specs.declared.error.Error.TheVariants.{OutOfMemory};
@@ -11,7 +11,7 @@ ghost use Rattle.rq_null_vector.specs.Reduced.{ClearsOthers, IsPivotColumn, IsRe
 use crate::octet_rows::octet_rows;
 use rq_bytes::error::Error;
 use rq_bytes::octet::Octet;
-use rq_elimination::elimination::find_pivot;
+use rq_elimination::pivot_search::find_pivot;
 use rq_matrix::matrix::BinaryMatrix;
 use rq_parts::octet_matrix::DenseOctetMatrix;
 use std::alloc::{AllocError, Global};
@@ -19,21 +19,21 @@ use std::alloc::{AllocError, Global};
 /// A column that isn't all zeros and solves the rows with all values zero. `None` where only zeros
 /// do: then the rows determine a column.
 ///
-/// The rows are those of a matrix of bits, whose dense columns begin at `boundary`, but those of a
-/// matrix of octets in the places from `first_hdpc` on.
+/// The rows are those of a matrix of bits, whose first `lt_columns` columns are those of LT symbols,
+/// but those of a matrix of octets in the places from `first_hdpc` on.
 pub fn null_vector<T: BinaryMatrix>(
     alloc: Global,
     bits: &T,
-    boundary: usize,
+    lt_columns: usize,
     hdpc: &DenseOctetMatrix,
     first_hdpc: usize,
 ) -> Result<Option<Vec<u8>>, Error>
-    requires boundary { boundary ≡ (T.content bits.now).boundary }
+    requires lt_columns { lt_columns ≡ (T.content bits.now).boundary }
     requires hdpc_width { hdpc.now.width ≡ (T.content bits.now).width }
     ensures shown { IfOk result (ShowsHomogeneousRows (T.content bits.now) hdpc.now first_hdpc) }
     ensures memory { IfErr result (λ e. e ≡ OutOfMemory) }
 {
-    let mut matrix = octet_rows(alloc, bits, boundary, hdpc, first_hdpc)?;
+    let mut matrix = octet_rows(alloc, bits, lt_columns, hdpc, first_hdpc)?;
     let mut rows: Vec<usize> = (0..matrix.height()).collect(alloc)?;
     let Some(free) = reduce(&mut matrix, rows.as_mut_slice(), bits.width()) else {
         return Ok(None);

@@ -1,4 +1,4 @@
-//! Rows of bits, some of them of octets, as one matrix of octets.
+//! The matrix A of RFC 6330 (section 5.4.2.1) as one matrix of octets, for `null_vector` alone.
 ghost use Rattle.std.specs.Prelude.{◌≡◌, ℕ, ◌<◌, ◌≤◌, length, IfOk, OnOk, IfErr};
 ghost use Rattle.rq_bytes.specs.declared.error.Error.TheVariants.{OutOfMemory};
 ghost use Rattle.rq_parts.specs.DenseOctetMatrix.{entry_of, HasOctets};
@@ -15,11 +15,11 @@ use std::alloc::Global;
 pub fn octet_rows<T: BinaryMatrix>(
     alloc: Global,
     bits: &T,
-    boundary: usize,
+    lt_columns: usize,
     hdpc: &DenseOctetMatrix,
     first_hdpc: usize,
 ) -> Result<DenseOctetMatrix, Error>
-    requires boundary { boundary ≡ (T.content bits.now).boundary }
+    requires lt_columns { lt_columns ≡ (T.content bits.now).boundary }
     requires hdpc_width { hdpc.now.width ≡ (T.content bits.now).width }
     ensures rows { IfOk result (HoldsEquations (T.content bits.now) hdpc.now first_hdpc) }
     ensures err { IfErr result (λ e. e ≡ OutOfMemory) }
@@ -31,8 +31,8 @@ pub fn octet_rows<T: BinaryMatrix>(
         if row >= first_hdpc && row - first_hdpc < hdpc.height() {
             copy_octets(hdpc, row - first_hdpc, width, &mut rows, row);
         } else {
-            copy_leading_bits(bits, row, boundary, &mut rows);
-            copy_dense_bits(bits, row, boundary, &mut dense_ones, &mut rows)?;
+            copy_leading_bits(bits, row, lt_columns, &mut rows);
+            copy_dense_bits(bits, row, lt_columns, &mut dense_ones, &mut rows)?;
         }
     }
     Ok(rows)
@@ -59,44 +59,44 @@ fn copy_octets(
     }
 }
 
-// Copies the columns of a row of bits before the boundary to a row of zeros.
+// Copies the columns of a row of bits of LT symbols to a row of zeros.
 fn copy_leading_bits<T: BinaryMatrix>(
     bits: &T,
     row: usize,
-    boundary: usize,
+    lt_columns: usize,
     rows: &mut DenseOctetMatrix,
 )
-    requires boundary { boundary ≡ (T.content bits.now).boundary }
+    requires lt_columns { lt_columns ≡ (T.content bits.now).boundary }
     requires row { row < (T.content bits.now).height }
     requires height { length rows.old.rows ≡ (T.content bits.now).height }
     requires width { rows.old.width ≡ (T.content bits.now).width }
     requires octets { HasOctets rows.old }
-    requires zeros { (k : ℕ) → k < boundary → entry_of rows.old row k ≡ 0 }
-    ensures { WritesRow row 0 boundary ((T.content bits.now).bit row) rows.old rows.new }
+    requires zeros { (k : ℕ) → k < lt_columns → entry_of rows.old row k ≡ 0 }
+    ensures { WritesRow row 0 lt_columns ((T.content bits.now).bit row) rows.old rows.new }
 {
-    for (column, octet) in bits.get_row_iter(row, 0, boundary) {
+    for (column, octet) in bits.get_row_iter(row, 0, lt_columns) {
         rows.set(row, column, octet);
     }
 }
 
-// Copies the columns of a row of bits from the boundary on to a row of zeros.
+// Copies the dense columns of a row of bits to a row of zeros.
 fn copy_dense_bits<T: BinaryMatrix>(
     bits: &T,
     row: usize,
-    boundary: usize,
+    lt_columns: usize,
     ones: &mut Vec<usize>,
     rows: &mut DenseOctetMatrix,
 ) -> Result<(), Error>
-    requires boundary { boundary ≡ (T.content bits.now).boundary }
+    requires lt_columns { lt_columns ≡ (T.content bits.now).boundary }
     requires row { row < (T.content bits.now).height }
     requires height { length rows.old.rows ≡ (T.content bits.now).height }
     requires width { rows.old.width ≡ (T.content bits.now).width }
     requires octets { HasOctets rows.old }
-    requires zeros { (k : ℕ) → boundary ≤ k → k < rows.old.width → entry_of rows.old row k ≡ 0 }
-    ensures ok { OnOk result (WritesRow row boundary rows.old.width ((T.content bits.now).bit row) rows.old rows.new) }
+    requires zeros { (k : ℕ) → lt_columns ≤ k → k < rows.old.width → entry_of rows.old row k ≡ 0 }
+    ensures ok { OnOk result (WritesRow row lt_columns rows.old.width ((T.content bits.now).bit row) rows.old rows.new) }
     ensures err { IfErr result (λ e. e ≡ OutOfMemory) }
 {
-    bits.query_non_zero_columns_into(row, boundary, ones)?;
+    bits.query_non_zero_columns_into(row, lt_columns, ones)?;
     for column in ones.as_slice() {
         rows.set(row, *column, Octet::one());
     }

@@ -165,49 +165,49 @@ tested_zero : (n : ℕ) → (n == 0) ≡ true → n ≡ 0
 tested_zero n e = elim (eqb_tells n 0) [ inl is ↦ is.1 | inr is ↦ absurd (not_both (n == 0) e is.0) ]
 
 -- before a row is taken, these are the first active ones
-pub left_first : (lists : List (List ℕ)) (width boundary k : ℕ) → k < width → is_left lists boundary [] k ≡ is_active (first_columns width boundary) k
-left_first lists width boundary k l =
+pub left_first : (lists : List (List ℕ)) (width lt_columns k : ℕ) → k < width → is_left lists lt_columns [] k ≡ is_active (first_columns width lt_columns) k
+left_first lists width lt_columns k l =
     let own : at (range_with_len 0 width) k ≡ k = get_or-range_with_len 0 width k 0 l ∙ zero-add k in
-    bool_same (is_left lists boundary [] k) (is_active (first_columns width boundary) k)
-    (λ e. active_true (first_columns width boundary) k (record { from = omega arith; below = rw own (ltb-true k boundary (true_both (nat_lt k boundary) (0 == 0) e).0) }))
-    (λ e. both_true (nat_lt k boundary) (0 == 0) (lt-ltb k boundary (rw own at (true_active (first_columns width boundary) k e).below)) (zero_tested 0 refl))
+    bool_same (is_left lists lt_columns [] k) (is_active (first_columns width lt_columns) k)
+    (λ e. active_true (first_columns width lt_columns) k (record { from = omega arith; below = rw own (ltb-true k lt_columns (true_both (nat_lt k lt_columns) (0 == 0) e).0) }))
+    (λ e. both_true (nat_lt k lt_columns) (0 == 0) (lt-ltb k lt_columns (rw own at (true_active (first_columns width lt_columns) k e).below)) (zero_tested 0 refl))
 
-module _ (lists : List (List ℕ)) (boundary : ℕ) (rows : List ℕ) (row : ℕ) (old new : ColumnState) (takes : TakesRow (ones_of lists row) old new) (left : (k : ℕ) → k < length old.order → is_left lists boundary rows k ≡ is_active old k) where
-  pub left_next : (k : ℕ) → k < length old.order → is_left lists boundary (rows ++ row ∷ []) k ≡ is_active new k
+module _ (lists : List (List ℕ)) (lt_columns : ℕ) (rows : List ℕ) (row : ℕ) (old new : ColumnState) (takes : TakesRow (ones_of lists row) old new) (left : (k : ℕ) → k < length old.order → is_left lists lt_columns rows k ≡ is_active old k) where
+  pub left_next : (k : ℕ) → k < length old.order → is_left lists lt_columns (rows ++ row ∷ []) k ≡ is_active new k
   left_next k l =
       let before = sum_by (λ r. one_in lists r k) rows in
       let after = sum_by (λ r. one_in lists r k) (rows ++ row ∷ []) in
       let more : after ≡ before + one_in lists row k = sum_by_push (λ r. one_in lists r k) rows row in
-      bool_same (is_left lists boundary (rows ++ row ∷ []) k) (is_active new k)
+      bool_same (is_left lists lt_columns (rows ++ row ∷ []) k) (is_active new k)
       (λ e.
-      let both = true_both (nat_lt k boundary) (after == 0) e in
+      let both = true_both (nat_lt k lt_columns) (after == 0) e in
       let none = tested_zero after both.1 in
-      let was : is_left lists boundary rows k ≡ true = both_true (nat_lt k boundary) (before == 0) both.0 (zero_tested before (omega (arith, none, more))) in
+      let was : is_left lists lt_columns rows k ≡ true = both_true (nat_lt k lt_columns) (before == 0) both.0 (zero_tested before (omega (arith, none, more))) in
       active_true new k (takes.kept k l (true_active old k (sym (left k l) ∙ was)) (λ is. let some = count_present (ones_of lists row) k is in omega (arith, none, more, some))))
       (λ e.
       let active = true_active new k e in
-      let was : is_left lists boundary rows k ≡ true = left k l ∙ active_true old k (takes.left k l active) in
-      let both = true_both (nat_lt k boundary) (before == 0) was in
+      let was : is_left lists lt_columns rows k ≡ true = left k l ∙ active_true old k (takes.left k l active) in
+      let both = true_both (nat_lt k lt_columns) (before == 0) was in
       let none = tested_zero before both.1 in
       let absent = count_absent (ones_of lists row) k (λ is. takes.ended k is active) in
-      both_true (nat_lt k boundary) (after == 0) both.0 (zero_tested after (omega (arith, more, none, absent))))
+      both_true (nat_lt k lt_columns) (after == 0) both.0 (zero_tested after (omega (arith, more, none, absent))))
 
 -- ---- rows by their degrees
 
-module _ (lists : List (List ℕ)) (boundary width : ℕ) (taken : List ℕ) (state : ColumnState) (below : All (λ row. All (λ column. column < width) row) lists) (left : (k : ℕ) → k < width → is_left lists boundary taken k ≡ is_active state k) where
+module _ (lists : List (List ℕ)) (lt_columns width : ℕ) (taken : List ℕ) (state : ColumnState) (below : All (λ row. All (λ column. column < width) row) lists) (left : (k : ℕ) → k < width → is_left lists lt_columns taken k ≡ is_active state k) where
   -- how many ones a row has in the columns that are left
-  pub left_active : (r : ℕ) → r < length lists → ones_left lists boundary taken r ≡ active_ones state (ones_of lists r)
-  left_active r l = count_same (is_left lists boundary taken) (is_active state) (ones_of lists r) (λ k is. left k (in_row lists width r k below l is))
+  pub left_active : (r : ℕ) → r < length lists → ones_left lists lt_columns taken r ≡ active_ones state (ones_of lists r)
+  left_active r l = count_same (is_left lists lt_columns taken) (is_active state) (ones_of lists r) (λ k is. left k (in_row lists width r k below l is))
 
   -- where no column is active there are none
-  pub none_left : ((k : ℕ) → IsActive state k → ⊥) → (r : ℕ) → r < length lists → ones_left lists boundary taken r ≡ 0
+  pub none_left : ((k : ℕ) → IsActive state k → ⊥) → (r : ℕ) → r < length lists → ones_left lists lt_columns taken r ≡ 0
   none_left none r l = left_active r l ∙ count_nothing (is_active state) (ones_of lists r) (λ k is. false_from_ne_true (is_active state k) (λ e. none k (true_active state k e)))
 
   module _ (degrees : List ℕ) (long : length degrees ≡ length lists) (counts : CountsActive lists state degrees) where
-    degree_is : (r : ℕ) → r < length lists → at degrees r ≡ ones_left lists boundary taken r
+    degree_is : (r : ℕ) → r < length lists → at degrees r ≡ ones_left lists lt_columns taken r
     degree_is r l = counts r l ∙ sym (left_active r l)
 
-    pub fewest_left : (row : ℕ) → HasLeastDegree degrees row → HasFewestLeft lists boundary taken row
+    pub fewest_left : (row : ℕ) → HasLeastDegree degrees row → HasFewestLeft lists lt_columns taken row
     fewest_left row is =
         let in_lists : row < length lists = omega (arith, is.below, long) in
         let here = degree_is row in_lists in
@@ -218,23 +218,23 @@ module _ (lists : List (List ℕ)) (boundary width : ℕ) (taken : List ℕ) (st
         }
 
     -- no row has any where all degrees are 0
-    pub all_done : AllHaveNone degrees → (r : ℕ) → r < length lists → ones_left lists boundary taken r ≡ 0
+    pub all_done : AllHaveNone degrees → (r : ℕ) → r < length lists → ones_left lists lt_columns taken r ≡ 0
     all_done none r l = let zero = none r (omega (arith, l, long)) in omega (arith, zero, degree_is r l)
 
 -- the degrees at the start are the numbers of ones in the columns that are active then
-pub counts_first : (lists : List (List ℕ)) (boundary width : ℕ) (degrees : List ℕ) → All (λ row. All (λ column. column < width) row) lists → CountsBefore boundary lists degrees → CountsActive lists (first_columns width boundary) degrees
-counts_first lists boundary width degrees below counts r l =
-    counts r l ∙ count_same (λ column. nat_lt column boundary) (is_active (first_columns width boundary)) (ones_of lists r) (λ k is.
+pub counts_first : (lists : List (List ℕ)) (lt_columns width : ℕ) (degrees : List ℕ) → All (λ row. All (λ column. column < width) row) lists → CountsBefore lt_columns lists degrees → CountsActive lists (first_columns width lt_columns) degrees
+counts_first lists lt_columns width degrees below counts r l =
+    counts r l ∙ count_same (λ column. nat_lt column lt_columns) (is_active (first_columns width lt_columns)) (ones_of lists r) (λ k is.
     let inside = in_row lists width r k below l is in
     let own : at (range_with_len 0 width) k ≡ k = get_or-range_with_len 0 width k 0 inside ∙ zero-add k in
-    bool_same (nat_lt k boundary) (is_active (first_columns width boundary) k)
-    (λ e. active_true (first_columns width boundary) k (record { from = omega arith; below = rw own (ltb-true k boundary e) }))
-    (λ e. lt-ltb k boundary (rw own at (true_active (first_columns width boundary) k e).below)))
+    bool_same (nat_lt k lt_columns) (is_active (first_columns width lt_columns) k)
+    (λ e. active_true (first_columns width lt_columns) k (record { from = omega arith; below = rw own (ltb-true k lt_columns e) }))
+    (λ e. lt-ltb k lt_columns (rw own at (true_active (first_columns width lt_columns) k e).below)))
 
 -- one more row is taken
-pub takes_more : (lists : List (List ℕ)) (boundary : ℕ) (taken : List ℕ) (row : ℕ) → ((p : ℕ) → p < length taken → HasFewestLeft lists boundary (take p taken) (at taken p)) → HasFewestLeft lists boundary taken row
-    → (p : ℕ) → p < length (taken ++ row ∷ []) → HasFewestLeft lists boundary (take p (taken ++ row ∷ [])) (at (taken ++ row ∷ []) p)
-takes_more lists boundary taken row each is p l =
+pub takes_more : (lists : List (List ℕ)) (lt_columns : ℕ) (taken : List ℕ) (row : ℕ) → ((p : ℕ) → p < length taken → HasFewestLeft lists lt_columns (take p taken) (at taken p)) → HasFewestLeft lists lt_columns taken row
+    → (p : ℕ) → p < length (taken ++ row ∷ []) → HasFewestLeft lists lt_columns (take p (taken ++ row ∷ [])) (at (taken ++ row ∷ []) p)
+takes_more lists lt_columns taken row each is p l =
     let long = length-append taken (row ∷ []) in
     elim (cases_lt p (length taken)) [
       | inl before ↦ rw (take-append-le p taken (row ∷ []) (omega arith), get_or-append taken (row ∷ []) 0 p before) (each p before)

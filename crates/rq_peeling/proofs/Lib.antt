@@ -1,9 +1,9 @@
 pub mod ActiveOnes
-pub mod BitRows
 pub mod ColumnLaws
 pub mod ColumnPlacing
 pub mod DegreeLists
 pub mod ListParts
+pub mod MatrixRows
 pub mod PeelerLaws
 pub mod PeelingLaws
 pub mod PlaceCounts

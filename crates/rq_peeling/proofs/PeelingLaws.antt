@@ -10,8 +10,8 @@ use Rattle.rq_peeling.specs.SystemRows.{AreRowsOfBits}
 use Rattle.rq_peeling.specs.Peeled.{ones_of, ColumnState, EndsActive, InactivatesRow, IsActive, TakesRow, IsPeeled, IsOrderOf, first_columns}
 use Rattle.rq_peeling.specs.Chosen.{IsPeeledSo}
 
-pub peeled_none : (lists : List (List ℕ)) (width boundary : ℕ) → IsPeeledSo lists [] (first_columns width boundary)
-peeled_none lists width boundary = record {
+pub peeled_none : (lists : List (List ℕ)) (width lt_columns : ℕ) → IsPeeledSo lists [] (first_columns width lt_columns)
+peeled_none lists width lt_columns = record {
   count = refl;
   in_rows = record { below = λ i l. absurd (omega arith); apart = λ i j l m e. absurd (omega arith) };
   own = λ p l. absurd (omega arith);

@@ -169,10 +169,10 @@ module _ (old new : List ℕ) (kept : take (length old) new ≡ old) where
               ];
         }
 
-    -- and the number of its ones before the boundary
-    pub counts_next : (boundary count : ℕ) (counts : List ℕ) → length counts + 1 ≡ length starts → CountsBefore boundary (lists_between starts old) counts → count ≡ count_by (λ column. nat_lt column boundary) (drop (length old) new)
-        → CountsBefore boundary (lists_between (starts ++ length new ∷ []) new) (counts ++ count ∷ [])
-    counts_next boundary count counts long so is r l =
+    -- and the number of its ones before the dense columns
+    pub counts_next : (lt_columns count : ℕ) (counts : List ℕ) → length counts + 1 ≡ length starts → CountsBefore lt_columns (lists_between starts old) counts → count ≡ count_by (λ column. nat_lt column lt_columns) (drop (length old) new)
+        → CountsBefore lt_columns (lists_between (starts ++ length new ∷ []) new) (counts ++ count ∷ [])
+    counts_next lt_columns count counts long so is r l =
         elim (cases_lt r (length counts)) [
           | inl before ↦ rw (list_kept r (omega (arith, before, long)), get_or-append counts (count ∷ []) 0 r before) (so r (omega (arith, length-lists starts old, before, long)))
           | inr after ↦
@@ -243,28 +243,28 @@ pub All-concat : (P : ℕ → Type 0) (lists : List (List ℕ)) → All (All P) 
 All-concat P [] all = λ i d l. absurd (omega arith)
 All-concat P (list ∷ lists) all = All-append P list (concat lists) (all 0 [] (omega arith)) (All-concat P lists (λ i d l. all (suc i) d (omega arith)))
 
--- ---- how many ones stand before the boundary
+-- ---- how many ones stand before the dense columns
 
--- columns before the boundary, and others from it on
-pub counted_before : (boundary : ℕ) (xs ys : List ℕ) → All (λ k. k < boundary) xs → All (λ k. boundary ≤ k) ys → count_by (λ k. nat_lt k boundary) (xs ++ ys) ≡ length xs
-counted_before boundary xs ys low high =
-    sum_by-append (λ k. cond (nat_lt k boundary) 1 0) xs ys
-    ∙ ap (λ n. count_by (λ k. nat_lt k boundary) xs + n) (count_nothing (λ k. nat_lt k boundary) ys (λ k is. le-ltb k boundary (subst (λ (c : ℕ). boundary ≤ c) is.2 (high is.0 k is.1))))
-    ∙ add-zero (count_by (λ k. nat_lt k boundary) xs)
+-- columns before the dense ones, and others
+pub counted_before : (lt_columns : ℕ) (xs ys : List ℕ) → All (λ k. k < lt_columns) xs → All (λ k. lt_columns ≤ k) ys → count_by (λ k. nat_lt k lt_columns) (xs ++ ys) ≡ length xs
+counted_before lt_columns xs ys low high =
+    sum_by-append (λ k. cond (nat_lt k lt_columns) 1 0) xs ys
+    ∙ ap (λ n. count_by (λ k. nat_lt k lt_columns) xs + n) (count_nothing (λ k. nat_lt k lt_columns) ys (λ k is. le-ltb k lt_columns (subst (λ (c : ℕ). lt_columns ≤ c) is.2 (high is.0 k is.1))))
+    ∙ add-zero (count_by (λ k. nat_lt k lt_columns) xs)
     ∙ all xs low where
-      all : (xs : List ℕ) → All (λ k. k < boundary) xs → count_by (λ k. nat_lt k boundary) xs ≡ length xs
+      all : (xs : List ℕ) → All (λ k. k < lt_columns) xs → count_by (λ k. nat_lt k lt_columns) xs ≡ length xs
       all [] low = refl
       all (x ∷ xs) low =
-          let below : x < boundary = low 0 x (omega arith) in
-          let head : ◌≡◌ {A = ℕ} (cond (nat_lt x boundary) 1 0) 1 = ap (λ b. cond b 1 0) (lt-ltb x boundary below) in
-          sum_by-cons (λ k. cond (nat_lt k boundary) 1 0) x xs ∙ ap (λ n. n + count_by (λ k. nat_lt k boundary) xs) head ∙ ap (λ n. 1 + n) (all xs (λ i d l. low (suc i) d (omega arith))) ∙ omega arith
+          let below : x < lt_columns = low 0 x (omega arith) in
+          let head : ◌≡◌ {A = ℕ} (cond (nat_lt x lt_columns) 1 0) 1 = ap (λ b. cond b 1 0) (lt-ltb x lt_columns below) in
+          sum_by-cons (λ k. cond (nat_lt k lt_columns) 1 0) x xs ∙ ap (λ n. n + count_by (λ k. nat_lt k lt_columns) xs) head ∙ ap (λ n. 1 + n) (all xs (λ i d l. low (suc i) d (omega arith))) ∙ omega arith
 
--- a row's places behind a list, those before the boundary first
-pub adds_counted : (bit : ℕ → ℕ) (boundary width : ℕ) (old first second slice middle new : List ℕ) → middle ≡ old ++ first → new ≡ middle ++ slice → slice ≡ second → ArePlacesOfOnes bit 0 boundary first → ArePlacesOfOnes bit boundary width second
-    → length middle - length old ≡ count_by (λ k. nat_lt k boundary) (drop (length old) new)
-adds_counted bit boundary width old first second slice middle new is_middle is_new is_slice low high =
+-- a row's places behind a list, those before the dense columns first
+pub adds_counted : (bit : ℕ → ℕ) (lt_columns width : ℕ) (old first second slice middle new : List ℕ) → middle ≡ old ++ first → new ≡ middle ++ slice → slice ≡ second → ArePlacesOfOnes bit 0 lt_columns first → ArePlacesOfOnes bit lt_columns width second
+    → length middle - length old ≡ count_by (λ k. nat_lt k lt_columns) (drop (length old) new)
+adds_counted bit lt_columns width old first second slice middle new is_middle is_new is_slice low high =
     let is : new ≡ old ++ (first ++ second) = is_new ∙ ap (λ l. middle ++ l) is_slice ∙ ap (λ l. l ++ second) is_middle ∙ append_assoc old first second in
     let rest : drop (length old) new ≡ first ++ second = ap (drop (length old)) is ∙ drop-append_seam old (first ++ second) in
     let long : length middle ≡ length old + length first = ap length is_middle ∙ length-append old first in
-    let many = counted_before boundary first second (All-weaker (λ k. (0 ≤ k) × (k < boundary)) (λ k. k < boundary) (λ k b. b.1) first low.within) (All-weaker (λ k. (boundary ≤ k) × (k < width)) (λ k. boundary ≤ k) (λ k b. b.0) second high.within) in
+    let many = counted_before lt_columns first second (All-weaker (λ k. (0 ≤ k) × (k < lt_columns)) (λ k. k < lt_columns) (λ k b. b.1) first low.within) (All-weaker (λ k. (lt_columns ≤ k) × (k < width)) (λ k. lt_columns ≤ k) (λ k b. b.0) second high.within) in
     rw rest (omega (arith, long, many))

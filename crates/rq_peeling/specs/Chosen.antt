@@ -14,9 +14,9 @@ pub record IsPeeledSo (lists : List (List ℕ)) (rows : List ℕ) (state : Colum
   pub ended : (p k : ℕ) → p < length rows → Contains (ones_of lists (at rows p)) k → IsActive state k → ⊥
 
 -- these rows were taken, each with the fewest ones in the columns that were left, and the degrees tell how many ones of each row stand in active columns
-pub record HasChosen (width boundary : ℕ) (lists : List (List ℕ)) (rows : List ℕ) (state : ColumnState) (degrees : List ℕ) : Type 0 where
+pub record HasChosen (width lt_columns : ℕ) (lists : List (List ℕ)) (rows : List ℕ) (state : ColumnState) (degrees : List ℕ) : Type 0 where
   pub so : IsPeeledSo lists rows state
-  pub end : state.end ≤ boundary
-  pub left : (k : ℕ) → k < width → is_left lists boundary rows k ≡ is_active state k
+  pub end : state.end ≤ lt_columns
+  pub left : (k : ℕ) → k < width → is_left lists lt_columns rows k ≡ is_active state k
   pub counts : CountsActive lists state degrees
-  pub fewest : (p : ℕ) → p < length rows → HasFewestLeft lists boundary (take p rows) (at rows p)
+  pub fewest : (p : ℕ) → p < length rows → HasFewestLeft lists lt_columns (take p rows) (at rows p)

@@ -3,7 +3,7 @@ use Rattle.std.specs.Prelude.{◌≡◌, ℕ, zero, suc, ◌+◌, ◌<◌, ◌�
 use Rattle.rq_algebra.specs.Systems.{at}
 use Rattle.rq_peeling.specs.SystemRows.{one_in}
 
--- so many rows, and for each column rows that have ones in it
+-- how many rows there are, and for each column rows that have ones in it
 pub record ColumnLists : Type 0 where
   pub height : ℕ
   pub lists : List (List ℕ)

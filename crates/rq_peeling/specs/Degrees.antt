@@ -1,17 +1,24 @@
 -- How many active columns rows have, while pivots are chosen.
 use Rattle.std.specs.Prelude.{◌≡◌, ◌≢◌, ℕ, ◌-◌, ◌<◌, ◌≤◌, ◌==◌, ◌&&◌, ◌∷◌, ◌++◌, ◌⊎◌, [], Bool, List, All, Contains, count_by, length, nat_le, nat_lt, sum_by, take}
 use Rattle.rq_algebra.specs.Systems.{at}
-use Rattle.rq_peeling.specs.FirstPhaseRowSelectionStats.{HasLeastOnes}
 use Rattle.rq_peeling.specs.SystemRows.{one_in}
 use Rattle.rq_peeling.specs.Peeled.{ones_of, ColumnState}
+
+-- of the rows from `start_row` on and before `end_row` this one has the least number of ones that isn't 0
+pub record HasLeastOnes (ones : ℕ → ℕ) (start_row end_row : ℕ) (found : ℕ × ℕ) : Type 0 where
+  pub from : start_row ≤ found.0
+  pub below : found.0 < end_row
+  pub count : ones found.0 ≡ found.1
+  pub some : 0 < found.1
+  pub least : (i : ℕ) → start_row ≤ i → i < end_row → 0 < ones i → found.1 ≤ ones i
 
 -- of all degrees that aren't 0 a row has the least
 abbrev pub HasLeastDegree : List ℕ → ℕ → Type 0
 HasLeastDegree degrees row = HasLeastOnes (at degrees) 0 (length degrees) (row, at degrees row)
 
--- for each row how many of its ones stand in columns before the boundary
+-- for each row how many of its ones stand in columns of LT symbols, which are the first
 abbrev pub CountsBefore : ℕ → List (List ℕ) → List ℕ → Type 0
-CountsBefore boundary lists degrees = (row : ℕ) → row < length lists → at degrees row ≡ count_by (λ column. nat_lt column boundary) (ones_of lists row)
+CountsBefore lt_columns lists degrees = (row : ℕ) → row < length lists → at degrees row ≡ count_by (λ column. nat_lt column lt_columns) (ones_of lists row)
 
 -- no row has this degree
 abbrev pub NoneHas : ℕ → List ℕ → Type 0
@@ -19,21 +26,21 @@ NoneHas degree degrees = (row : ℕ) → row < length degrees → at degrees row
 
 -- a column isn't inactive from the start, and none of the rows that were taken has a one in it
 abbrev pub is_left : List (List ℕ) → ℕ → List ℕ → ℕ → Bool
-is_left lists boundary taken k = nat_lt k boundary && (sum_by (λ r. one_in lists r k) taken == 0)
+is_left lists lt_columns taken k = nat_lt k lt_columns && (sum_by (λ r. one_in lists r k) taken == 0)
 
 -- how many ones a row has in such columns
 abbrev pub ones_left : List (List ℕ) → ℕ → List ℕ → ℕ → ℕ
-ones_left lists boundary taken row = count_by (is_left lists boundary taken) (ones_of lists row)
+ones_left lists lt_columns taken row = count_by (is_left lists lt_columns taken) (ones_of lists row)
 
 -- of the rows that have ones in the columns that are left, this one has the fewest there
-pub record HasFewestLeft (lists : List (List ℕ)) (boundary : ℕ) (taken : List ℕ) (row : ℕ) : Type 0 where
-  pub some : 0 < ones_left lists boundary taken row
-  pub least : (r : ℕ) → r < length lists → 0 < ones_left lists boundary taken r → ones_left lists boundary taken row ≤ ones_left lists boundary taken r
+pub record HasFewestLeft (lists : List (List ℕ)) (lt_columns : ℕ) (taken : List ℕ) (row : ℕ) : Type 0 where
+  pub some : 0 < ones_left lists lt_columns taken row
+  pub least : (r : ℕ) → r < length lists → 0 < ones_left lists lt_columns taken r → ones_left lists lt_columns taken row ≤ ones_left lists lt_columns taken r
 
 -- each row that was taken had the fewest ones in the columns that were left by those before it, and in those that are left now no row has any
-pub record TakesFewest (lists : List (List ℕ)) (boundary : ℕ) (taken : List ℕ) : Type 0 where
-  pub each : (p : ℕ) → p < length taken → HasFewestLeft lists boundary (take p taken) (at taken p)
-  pub last : (r : ℕ) → r < length lists → ones_left lists boundary taken r ≡ 0
+pub record TakesFewest (lists : List (List ℕ)) (lt_columns : ℕ) (taken : List ℕ) : Type 0 where
+  pub each : (p : ℕ) → p < length taken → HasFewestLeft lists lt_columns (take p taken) (at taken p)
+  pub last : (r : ℕ) → r < length lists → ones_left lists lt_columns taken r ≡ 0
 
 -- whether a column is active, and how many of a row's ones stand in such columns
 abbrev pub is_active : ColumnState → ℕ → Bool

@@ -45,11 +45,3 @@ pub record HasLeft (start_row end_row start_col end_col : ℕ) (counts : RowCoun
   pub rows : length counts.ones ≡ end_row
   pub first_column : counts.start_col ≡ start_col
   pub columns : counts.end_col ≡ end_col
-
--- of the rows from `start_row` on and before `end_row` this one has so many ones, the least number that isn't 0
-pub record HasLeastOnes (ones : ℕ → ℕ) (start_row end_row : ℕ) (found : ℕ × ℕ) : Type 0 where
-  pub from : start_row ≤ found.0
-  pub below : found.0 < end_row
-  pub count : ones found.0 ≡ found.1
-  pub some : 0 < found.1
-  pub least : (i : ℕ) → start_row ≤ i → i < end_row → 0 < ones i → found.1 ≤ ones i

@@ -71,7 +71,7 @@ pub record IsActive (state : ColumnState) (column : ℕ) : Type 0 where
 abbrev pub HasNoActive : List ℕ → ColumnState → Type 0
 HasNoActive row state = (k : ℕ) → Contains row k → IsActive state k → ⊥
 
--- so many columns in their own order, those from `end` on inactive
+-- columns in their own order, as many as this, those from `end` on inactive
 abbrev pub first_columns : ℕ → ℕ → ColumnState
 first_columns width end = record { order = range_with_len 0 width; places = range_with_len 0 width; pivots = 0; end = end }
 

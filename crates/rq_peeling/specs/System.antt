@@ -13,7 +13,7 @@ rows_of system = system_rows system.ones system.first_hdpc system.hdpc
 -- the system of these bits, with the HDPC rows in the places from row `first` on
 pub record IsSystemOf (bits : BitTable) (hdpc : OctetTable) (first : ℕ) (system : System) : Type 0 where
   pub width_is : system.width ≡ bits.width
-  pub boundary_is : system.boundary ≡ bits.boundary
+  pub lt_columns_are : system.lt_columns ≡ bits.boundary
   pub ones_are : AreOnesOfRows bits.height bits.width bits.bit system.ones
   pub hdpc_is : system.hdpc ≡ hdpc
   pub first_is : system.first_hdpc ≡ first

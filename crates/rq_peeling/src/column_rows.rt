@@ -1,4 +1,5 @@
-//! The rows that have ones in a column.
+//! The rows that have ones in a column: a row loses an active column where one gets a pivot or is
+//! inactive (RFC 6330, section 5.4.2.2).
 ghost use Rattle.std.specs.Prelude.{◌≡◌, ℕ, ◌+◌, ◌-◌, ◌*◌, ◌^◌, ◌<◌, ◌≤◌, ◌==◌, [], List, length, count_by, sum, sum_by, take, All, IfSome, IfOk, OnOk, IfErr, slice_index_or};
 ghost use Rattle.rq_algebra.specs.Systems.{at};
 ghost use Rattle.rq_bytes.specs.declared.error.Error.TheVariants.{OutOfMemory};

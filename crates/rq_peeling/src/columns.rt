@@ -1,4 +1,5 @@
-//! The columns in an order: those with pivots, the active ones and the inactive ones.
+//! The columns in an order: those with pivots, the active ones and the inactive ones, which are I, V and
+//! U of RFC 6330 (section 5.4.2.2).
 ghost use Rattle.std.specs.Prelude.{◌≡◌, ◌+◌, ◌<◌, ◌≤◌, ◌↔◌, length, IsTrue, IfOk, IfErr};
 ghost use Rattle.rq_bytes.specs.declared.error.Error.TheVariants.{OutOfMemory};
 ghost use Rattle.rq_peeling.specs.Peeled.{IsOrderOf, IsActive, first_columns, ExchangesColumns, EndsActive};
@@ -29,18 +30,18 @@ impl Model for ColumnOrder {
 }
 
 impl ColumnOrder {
-    /// So many columns in their own order, those before `boundary` active and the others inactive.
-    pub fn new(alloc: Global, width: usize, boundary: usize) -> Result<ColumnOrder, Error>
-        requires boundary { boundary ≤ width }
+    /// `width` columns in their own order, the first `lt_columns` active and the others inactive.
+    pub fn new(alloc: Global, width: usize, lt_columns: usize) -> Result<ColumnOrder, Error>
+        requires lt_columns { lt_columns ≤ width }
         requires narrow { width < 65536 }
-        ensures columns { IfOk result (λ columns. columns ≡ first_columns width boundary) }
+        ensures columns { IfOk result (λ columns. columns ≡ first_columns width lt_columns) }
         ensures err { IfErr result (λ e. e ≡ OutOfMemory) }
     {
         Ok(ColumnOrder {
             order: (0..width as u16).collect(alloc)?,
             places: (0..width as u16).collect(alloc)?,
             pivots: 0,
-            end: boundary as u16,
+            end: lt_columns as u16,
         })
     }
 

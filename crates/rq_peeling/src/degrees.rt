@@ -1,5 +1,6 @@
-//! How many active columns each row has.
-ghost use Rattle.std.specs.Prelude.{◌≡◌, ◌+◌, ◌-◌, ◌^◌, ◌<◌, ◌≤◌, [], All, Contains, IsTrue, length, take, IfSome, IfNone, IfOk, OnOk, IfErr};
+//! `RowDegrees`: how many active columns each row has, which is r of RFC 6330 (section 5.4.2.2), and
+//! which row to take next.
+ghost use Rattle.std.specs.Prelude.{◌≡◌, ◌+◌, ◌-◌, ◌^◌, ◌<◌, ◌≤◌, [], All, Contains, length, take, IfSome, IfNone, IfOk, OnOk, IfErr};
 ghost use Rattle.rq_algebra.specs.Systems.{at};
 ghost use Rattle.rq_bytes.specs.declared.error.Error.TheVariants.{OutOfMemory};
 ghost use Rattle.rq_peeling.specs.Degrees.{AllHaveNone, AreListed, HasLeastDegree, LowersRows, MayAdd, NoneHas};
@@ -141,8 +142,8 @@ fn list_rows(degrees: &[u16], singles: &mut RowList, pairs: &mut RowList)
 {
     for row in 0..degrees.len() {
         let degree = degrees[row];
-        singles.push_if(row as u32, degree == 1);
-        pairs.push_if(row as u32, degree == 2);
+        singles.push_of_degree(1, row as u32, degree);
+        pairs.push_of_degree(2, row as u32, degree);
     }
 }
 
@@ -160,8 +161,8 @@ fn lower_rows(rows: &[u32], degrees: &mut [u16], singles: &mut RowList, pairs: &
     for row in rows {
         let degree = degrees[*row as usize].saturating_sub(1);
         degrees[*row as usize] = degree;
-        singles.push_if(*row, degree == 1);
-        pairs.push_if(*row, degree == 2);
+        singles.push_of_degree(1, *row, degree);
+        pairs.push_of_degree(2, *row, degree);
     }
 }
 
@@ -185,7 +186,7 @@ impl Model for RowList {
 }
 
 impl RowList {
-    // No rows, and room for so many.
+    // No rows, and room for `room` of them.
     fn with_room(alloc: Global, room: usize) -> Result<RowList, Error>
         ensures rows { IfOk result (λ made. made.rows ≡ []) }
         ensures room { IfOk result (λ made. made.room ≡ room) }
@@ -205,7 +206,7 @@ impl RowList {
         &self.rows[..self.count]
     }
 
-    // Makes room for so many more rows, where there is less.
+    // Makes room for `more` rows behind the listed ones, where there is less.
     fn make_room(&mut self, more: usize) -> Result<(), Error>
         requires { more < 2 ^ 62 }
         ensures rows { self.new.rows ≡ self.old.rows }
@@ -219,17 +220,17 @@ impl RowList {
         Ok(())
     }
 
-    // Lists a row behind the others, if it is wanted. Which rows are can't be foreseen, so nothing
-    // branches on it: a row is written always, and the next one over it where it wasn't wanted.
+    // Lists a row behind the others, if its degree is the wanted one. Which rows' is can't be foreseen,
+    // so nothing branches on it: a row is written always, and the next one over it where it isn't listed.
     #[inline(always)]
-    fn push_if(&mut self, row: u32, is_wanted: bool)
+    fn push_of_degree(&mut self, wanted: u16, row: u32, degree: u16)
         requires { 0 < self.old.room }
         ensures added { MayAdd row self.old.rows self.new.rows }
-        ensures there { IsTrue is_wanted → Contains self.new.rows row }
+        ensures there { degree ≡ wanted → Contains self.new.rows row }
         ensures room { self.old.room ≤ self.new.room + 1 }
     {
         self.rows[self.count] = row;
-        self.count += is_wanted as usize;
+        self.count += (degree == wanted) as usize;
     }
 
     // The last row is listed no more.

@@ -1,4 +1,4 @@
-//! The ones of a matrix of bits, row by row.
+//! The ones of a matrix of bits, row by row, as the phases read them (RFC 6330, section 5.4.2.1).
 ghost use Rattle.std.specs.Prelude.{◌≡◌, ℕ, ◌^◌, ◌<◌, ◌≤◌, ◌++◌, All, count_by, drop, length, nat_lt, IfOk, OnOk, IfErr, slice_range};
 ghost use Rattle.std.specs.List.{concat, sum_by};
 ghost use Rattle.rq_bytes.specs.declared.error.Error.TheVariants.{OutOfMemory};
@@ -35,18 +35,18 @@ impl Model for RowOnes {
 }
 
 impl RowOnes {
-    /// The ones of a matrix, of which `boundary` is the first dense column, and how many of them each
-    /// row has before it.
+    /// The ones of a matrix, and how many of them each row has in the first `lt_columns` columns, those of
+    /// LT symbols.
     pub fn of_matrix<T: BinaryMatrix>(
         alloc: Global,
         bits: &T,
-        boundary: usize,
+        lt_columns: usize,
     ) -> Result<(RowOnes, Vec<u16>), Error>
-        requires boundary { boundary ≡ (T.content bits.now).boundary }
+        requires lt_columns { lt_columns ≡ (T.content bits.now).boundary }
         ensures ones { IfOk result (λ listed. AreOnesOfRows (T.content bits.now).height (T.content bits.now).width (T.content bits.now).bit listed.0) }
         ensures few { IfOk result (λ listed. length listed.0 < 2 ^ 31) }
         ensures rows { IfOk result (λ listed. length listed.1.items ≡ length listed.0) }
-        ensures counted { IfOk result (λ listed. CountsBefore boundary listed.0 listed.1.items) }
+        ensures counted { IfOk result (λ listed. CountsBefore lt_columns listed.0 listed.1.items) }
         ensures err { IfErr result (λ e. e ≡ OutOfMemory) }
     {
         let mut starts = Vec::with_capacity(alloc, bits.height() + 1)?;
@@ -55,7 +55,7 @@ impl RowOnes {
         let mut dense = Vec::new(alloc);
         starts.push(0)?;
         for row in 0..bits.height() {
-            counts.push(push_ones(bits, row, boundary, &mut dense, &mut columns)?)?;
+            counts.push(push_ones(bits, row, lt_columns, &mut dense, &mut columns)?)?;
             starts.push(columns.len())?;
         }
         Ok((RowOnes { starts, columns }, counts))
@@ -103,29 +103,29 @@ pub fn part<T>(values: &[T], start: usize, end: usize) -> &[T]
     &values[start..end]
 }
 
-// The columns of the ones of a row behind other columns. Says how many of them stand before the
-// boundary.
+// The columns of the ones of a row behind other columns. Says how many of them are among the first
+// `lt_columns`.
 fn push_ones<T: BinaryMatrix>(
     bits: &T,
     row: usize,
-    boundary: usize,
+    lt_columns: usize,
     dense: &mut Vec<usize>,
     columns: &mut Vec<u16>,
 ) -> Result<u16, Error>
-    requires boundary { boundary ≡ (T.content bits.now).boundary }
+    requires lt_columns { lt_columns ≡ (T.content bits.now).boundary }
     requires row { row < (T.content bits.now).height }
-    ensures counted { IfOk result (λ count. count ≡ count_by (λ column. nat_lt column boundary) (drop (length columns.old.items) columns.new.items)) }
+    ensures counted { IfOk result (λ count. count ≡ count_by (λ column. nat_lt column lt_columns) (drop (length columns.old.items) columns.new.items)) }
     ensures ones { OnOk result (AddsOnes ((T.content bits.now).bit row) (T.content bits.now).width columns.old.items columns.new.items) }
     ensures err { IfErr result (λ e. e ≡ OutOfMemory) }
 {
     let start = columns.len();
-    for (column, octet) in bits.get_row_iter(row, 0, boundary) {
+    for (column, octet) in bits.get_row_iter(row, 0, lt_columns) {
         if octet.byte() == 1 {
             columns.push(column as u16)?;
         }
     }
     let count = columns.len() - start;
-    bits.query_non_zero_columns_into(row, boundary, dense)?;
+    bits.query_non_zero_columns_into(row, lt_columns, dense)?;
     push_columns(dense.as_slice(), columns)?;
     Ok(count as u16)
 }

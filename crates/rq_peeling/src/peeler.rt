@@ -1,8 +1,9 @@
-//! The work on rows of bits while columns get pivots.
+//! `Peeler`: the state of the choice of pivots, and one turn of it (RFC 6330, section 5.4.2.2). Where all
+//! rows have two active columns or more, a graph of components decides.
 ghost use Rattle.std.specs.Prelude.{◌≡◌, false, ◌<◌, ◌≤◌, [], length, slice_index_or, All, Contains, IsTrue, IfSome, IfNone, OnOk, IfOk, IfErr};
 ghost use Rattle.rq_bytes.specs.declared.error.Error.TheVariants.{OutOfMemory};
 ghost use Rattle.rq_algebra.specs.Systems.{at};
-ghost use Rattle.rq_peeling.specs.Degrees.{AllHaveNone, CountsActive, CountsBefore, HasLeastDegree, KeepsDegrees, LowersRows, TakesFewest, active_ones};
+ghost use Rattle.rq_peeling.specs.Degrees.{AllHaveNone, CountsActive, HasLeastDegree, KeepsDegrees, LowersRows, TakesFewest, active_ones};
 ghost use Rattle.rq_peeling.specs.Peeled.{IsOrderOf, IsActive, HasNoActive, TakesRow, InactivatesRow, ones_of};
 ghost use Rattle.rq_peeling.specs.Chosen.{HasChosen, IsPeeledSo};
 
@@ -23,22 +24,19 @@ pub struct Peeler<'a> {
     graph: ConnectedComponentGraph,
     ghost row_count: { length degrees ≡ length system.now.ones },
     ghost column_count: { length columns.order ≡ system.now.width },
-    ghost node_count: { length graph.labels ≡ system.now.boundary },
+    ghost node_count: { length graph.labels ≡ system.now.lt_columns },
 }
 
 impl<'a> Peeler<'a> {
-    /// No column has a pivot, and the rows have these degrees: so many ones before the dense columns,
-    /// which are inactive.
-    pub fn new(alloc: Global, system: &'a System, degrees: Vec<u16>) -> Result<Peeler<'a>, Error>
-        requires rows { length degrees.items ≡ length system.now.ones }
-        requires counted { CountsBefore system.now.boundary system.now.ones degrees.items }
+    /// No column has a pivot, and the dense columns are inactive.
+    pub fn new(alloc: Global, system: &'a System) -> Result<Peeler<'a>, Error>
         ensures system { IfOk result (λ peeler. peeler.system.now ≡ system.now) }
-        ensures chosen { IfOk result (λ peeler. HasChosen system.now.width system.now.boundary system.now.ones [] peeler.columns peeler.degrees) }
+        ensures chosen { IfOk result (λ peeler. HasChosen system.now.width system.now.lt_columns system.now.ones [] peeler.columns peeler.degrees) }
         ensures err { IfErr result (λ e. e ≡ OutOfMemory) }
     {
-        let degrees = RowDegrees::new(alloc, degrees)?;
-        let columns = ColumnOrder::new(alloc, system.width, system.boundary)?;
-        let graph = ConnectedComponentGraph::new(alloc, system.boundary)?;
+        let degrees = RowDegrees::new(alloc, system.degrees.clone()?)?;
+        let columns = ColumnOrder::new(alloc, system.width, system.lt_columns)?;
+        let graph = ConnectedComponentGraph::new(alloc, system.lt_columns)?;
         Ok(Peeler {
             system,
             degrees,
@@ -49,15 +47,15 @@ impl<'a> Peeler<'a> {
 
     /// Gives columns pivots in row after row, while rows have active columns. The rows that have them.
     pub fn choose_rows(&mut self, alloc: Global) -> Result<Vec<u32>, Error>
-        requires { HasChosen self.old.system.now.width self.old.system.now.boundary self.old.system.now.ones [] self.old.columns self.old.degrees }
+        requires { HasChosen self.old.system.now.width self.old.system.now.lt_columns self.old.system.now.ones [] self.old.columns self.old.degrees }
         ensures peeled { IfOk result (λ rows. IsPeeledSo self.old.system.now.ones rows.items self.new.columns) }
-        ensures fewest { IfOk result (λ rows. TakesFewest self.old.system.now.ones self.old.system.now.boundary rows.items) }
+        ensures fewest { IfOk result (λ rows. TakesFewest self.old.system.now.ones self.old.system.now.lt_columns rows.items) }
         ensures system { self.new.system ≡ self.old.system }
         ensures err { IfErr result (λ e. e ≡ OutOfMemory) }
     {
-        let boundary = self.system.boundary;
-        let mut rows = Vec::with_capacity(alloc, boundary)?;
-        for turn in 0..boundary {
+        let lt_columns = self.system.lt_columns;
+        let mut rows = Vec::with_capacity(alloc, lt_columns)?;
+        for turn in 0..lt_columns {
             let Some(row) = self.take_next()? else {
                 break;
             };
@@ -111,8 +109,11 @@ impl<'a> Peeler<'a> {
             return Some(row);
         }
         self.join_columns();
-        let nodes = self.system.boundary;
-        if let Some(column) = self.graph.get_node_in_largest_connected_component(0, nodes) {
+        let lt_columns = self.system.lt_columns;
+        if let Some(column) = self
+            .graph
+            .get_node_in_largest_connected_component(0, lt_columns)
+        {
             let column_rows = &self.system.column_rows;
             if let Some(row) = column_rows.row_of_two(column, &self.degrees) {
                 return Some(row);
@@ -137,7 +138,7 @@ impl<'a> Peeler<'a> {
         }
     }
 
-    // Joins the first two active columns of a row, if both are nodes.
+    // Joins the first two active columns of a row, if both are those of LT symbols.
     fn join_pair(&mut self, row: usize)
         requires { row < length self.old.degrees }
         ensures degrees { self.new.degrees ≡ self.old.degrees }
@@ -148,7 +149,7 @@ impl<'a> Peeler<'a> {
         let mut first = None;
         for column in system.ones.row(row) {
             let column = *column as usize;
-            if self.columns.is_active(column) && column < system.boundary {
+            if self.columns.is_active(column) && column < system.lt_columns {
                 if let Some(other) = first {
                     self.graph.add_edge(other, column);
                     return;
@@ -211,7 +212,7 @@ impl<'a> Peeler<'a> {
         ensures system { self.new.system ≡ self.old.system }
         ensures err { IfErr result (λ e. e ≡ OutOfMemory) }
     {
-        if column < self.system.boundary {
+        if column < self.system.lt_columns {
             self.graph.remove_node(column);
         }
         self.system

@@ -1,8 +1,9 @@
-//! The first phase: columns get pivots among rows of bits while no row is changed.
+//! `Peeling`: the whole choice of pivots (RFC 6330, section 5.4.2.2), turn after turn, and its result:
+//! which column has its pivot in which row, and the order of the columns.
 ghost use Rattle.std.specs.Prelude.{◌≡◌, ◌<◌, ◌≤◌, drop, length, IfOk, IfErr};
 ghost use Rattle.rq_bytes.specs.declared.error.Error.TheVariants.{OutOfMemory};
 ghost use Rattle.rq_algebra.specs.Systems.{at};
-ghost use Rattle.rq_peeling.specs.Degrees.{CountsBefore, TakesFewest};
+ghost use Rattle.rq_peeling.specs.Degrees.{TakesFewest};
 ghost use Rattle.rq_peeling.specs.Peeled.{IsPeeled};
 
 use crate::peeler::Peeler;
@@ -99,16 +100,13 @@ impl Peeling {
 
 /// Chooses pivots among rows of bits, of which the dense columns are inactive from the start (RFC
 /// 6330, section 5.4.2.2): again and again a row with least active columns has one of them as its
-/// pivot, and the others are inactive. The degrees are the numbers of ones that rows have before the
-/// dense columns.
-pub fn peel(alloc: Global, system: &System, degrees: Vec<u16>) -> Result<Peeling, Error>
-    requires rows { length degrees.items ≡ length system.now.ones }
-    requires counted { CountsBefore system.now.boundary system.now.ones degrees.items }
+/// pivot, and the others are inactive.
+pub fn peel(alloc: Global, system: &System) -> Result<Peeling, Error>
     ensures peeled { IfOk result (IsPeeled system.now.width system.now.ones) }
-    ensures fewest { IfOk result (λ peeling. TakesFewest system.now.ones system.now.boundary peeling.rows) }
+    ensures fewest { IfOk result (λ peeling. TakesFewest system.now.ones system.now.lt_columns peeling.rows) }
     ensures err { IfErr result (λ e. e ≡ OutOfMemory) }
 {
-    let mut peeler = Peeler::new(alloc, system, degrees)?;
+    let mut peeler = Peeler::new(alloc, system)?;
     let rows = peeler.choose_rows(alloc)?;
     let (order, places) = peeler.into_columns();
     Ok(Peeling {

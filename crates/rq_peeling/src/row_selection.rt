@@ -1,5 +1,5 @@
-//! Which row the first phase may take next (RFC 6330, section 5.4.2.2). Kept for the surface of
-//! `raptorq`; no coder calls it.
+//! The counts by which the Rust crate takes rows in its first phase (RFC 6330, section 5.4.2.2). Kept for
+//! the surface of `raptorq`; no coder calls it, and the solver goes by `degrees`.
 ghost use Rattle.std.specs.Prelude.{◌≡◌, ℕ, ◌+◌, ◌<◌, ◌≤◌, length, IfNone, IfOk, IfSome, IfErr};
 ghost use Rattle.rq_bytes.specs.declared.error.Error.TheVariants.{OutOfMemory};
 ghost use Rattle.rq_standard.specs.BitTableSteps.{SwapsColumns, SwapsRows};
@@ -29,7 +29,8 @@ impl Model for FirstPhaseRowSelectionStats {
 }
 
 impl FirstPhaseRowSelectionStats {
-    ghost use Rattle.rq_peeling.specs.FirstPhaseRowSelectionStats.{ChangesRow, CountsOnes, HasLeastOnes, HasLeft, IsLeftOf, KeepsCounts, ones_left};
+    ghost use Rattle.rq_peeling.specs.FirstPhaseRowSelectionStats.{ChangesRow, CountsOnes, HasLeft, IsLeftOf, KeepsCounts, ones_left};
+    ghost use Rattle.rq_peeling.specs.Degrees.{HasLeastOnes};
 
     /// The counts of a matrix of which all columns before `end_col`, and all rows before `end_row`,
     /// are left.

@@ -1,5 +1,5 @@
 -- What is found of a system is found of the bits and octets that it was made of.
-use Rattle.std.proofs.Common.{ℕ, List, [], ◌∷◌, ◌++◌, Option, None, Some, length, arith}
+use Rattle.std.proofs.Common.{◌≡◌, ◌<◌, ℕ, List, [], ◌∷◌, ◌++◌, Option, None, Some, length, arith}
 use Rattle.std.specs.Prelude.{Vec}
 use Rattle.std.specs.Global.{Global}
 use Rattle.rq_algebra.specs.Operations.{Operation, Reorder}
@@ -8,7 +8,7 @@ use Rattle.rq_standard.specs.ConstraintMatrix.{with_octet_rows}
 use Rattle.rq_standard.specs.OctetField.{octets}
 use Rattle.rq_parts.specs.DenseOctetMatrix.{OctetTable, entry_of}
 use Rattle.rq_peeling.specs.SystemRows.{one_in}
-use Rattle.rq_solver.specs.Phases.{IsAttempt, SolvesRows}
+use Rattle.rq_solver.specs.Phases.{SolvesSystem, SolvesRows}
 use Rattle.rq_peeling.specs.System.{IsSystemOf, rows_of}
 use Rattle.rq_peeling.specs.declared.system.System.{System}
 use Rattle.rq_solver.proofs.OctetRows.{same_rows}
@@ -21,8 +21,11 @@ module _ (bits : BitTable) (hdpc : OctetTable) (first : ℕ) (system : System) (
       same_rows system.first_hdpc (length system.hdpc.rows) (entry_of system.hdpc) (length system.ones) system.width (one_in system.ones) bits.bit
       (λ i k l m. (is.ones_are.each i (rw is.ones_are.count at l)).once k (omega arith) (rw is.width_is at m))
 
+  pub rows_of_bits : (i k : ℕ) → i < bits.height → k < bits.width → rows_of system i k ≡ with_octet_rows first (length hdpc.rows) bits.bit (entry_of hdpc) i k
+  rows_of_bits i k l m = rw (← is.hdpc_is, ← is.first_is) (same_entries i k (rw is.ones_are.count l) (rw is.width_is m))
+
   -- what is found of a system is found of the bits and the octets that it was made of
-  pub attempt_of_bits : (recorded : List Operation) (answer : Option (Vec ℕ Global)) → IsAttempt system recorded answer
+  pub attempt_of_bits : (recorded : List Operation) (answer : Option (Vec ℕ Global)) → SolvesSystem system recorded answer
       → SolvesRows bits.height bits.width (with_octet_rows first (length hdpc.rows) bits.bit (entry_of hdpc)) recorded answer
   attempt_of_bits recorded None found = rw (← is.hdpc_is, ← is.first_is, ← is.width_is, ← is.ones_are.count) (homogeneous_same octets (length system.ones) system.width _ _ same_entries found)
   attempt_of_bits recorded (Some order) found = rw (← is.hdpc_is, ← is.first_is, ← is.width_is, ← is.ones_are.count) (finds_same octets (length system.ones) system.width _ _ same_entries (recorded ++ Reorder order.items ∷ []) found)

@@ -52,7 +52,7 @@ module _ (n count first bound : ℕ) (places : ℕ → ℕ) (are : ArePlaces n b
   pub few_together : n + count ≤ bound
   few_together = few_places (n + count) bound both both_are
 
--- so many different places below the bound were met among the first t of these
+-- n different places below the bound were met among the first t of these
 pub record HasMet (bound : ℕ) (place : ℕ → ℕ) (t n : ℕ) : Type 0 where
   pub which : ℕ → ℕ
   pub are : ArePlaces n bound which

@@ -80,7 +80,7 @@ module _ (row : TableRow) (ids : List ℕ) (bits : BitTable) (hdpc : OctetTable)
     pub homogeneous_of_equations : HasHomogeneousColumn octets (length handed.values) (intermediate_symbols row) (with_octet_rows row.ldpc_symbols row.hdpc_symbols bits.bit (entry_of hdpc)) → HasHomogeneousColumn octets (equation_count row ids) (intermediate_symbols row) (equations row ids)
     homogeneous_of_equations null = homogeneous_same octets (equation_count row ids) (intermediate_symbols row) _ (equations row ids) equations_same (rw count at null)
 
--- a matrix of bits with so many rows, and as many symbols
+-- a matrix of bits, and as many symbols as it has rows
 pub binary_equations : (row : TableRow) (bits : BitTable) (handed : Slab) (count : ℕ) → bits.width ≡ intermediate_symbols row → bits.boundary ≡ row.lt_symbols → bits.indexed ≡ false → bits.height ≡ count
     → length handed.values ≡ count → handed.order ≡ None → intermediate_symbols row ≤ count → AreEquationsWithoutHdpc row bits handed
 binary_equations row bits handed count width boundary indexed height symbols order enough = record {

@@ -7,9 +7,9 @@ use Rattle.rq_algebra.proofs.Sums.{add_zero}
 use Rattle.rq_standard.specs.OctetField.{octets}
 use Rattle.rq_parts.specs.DenseOctetMatrix.{OctetTable, entry_of}
 use Rattle.rq_peeling.specs.SystemRows.{AreRowsOfBits, one_in}
-use Rattle.rq_solver.specs.FourthPhase.{FinishesPivots, IsFinished, TakesBack}
+use Rattle.rq_solver.specs.FourthPhase.{FinishesPivots, IsFinished, Sparsifies}
 use Rattle.rq_solver.specs.PivotAdditions.{IsCleared, IsUncleared, RecordsPivots, TakesPivots, TakesPivotsBy}
-use Rattle.rq_solver.specs.SecondPhase.{AreUnits, TakesReduced}
+use Rattle.rq_solver.specs.SecondPhase.{AreUnits, ClearsColumns}
 use Rattle.rq_peeling.specs.Peeled.{ones_of, IsPeeled}
 use Rattle.rq_elimination.specs.Recorded.{Performs, Records}
 use Rattle.rq_elimination.specs.declared.recorded.RecordedRows.{RecordedRows}
@@ -83,7 +83,7 @@ module _ (lists : List (List ℕ)) (rows order places : List ℕ) (width : ℕ) 
 
   -- ---- back
 
-  pub takes_none : (marks : List Bool) (old : RecordedRows) → TakesBack lists rows order marks (length rows) old old
+  pub takes_none : (marks : List Bool) (old : RecordedRows) → Sparsifies lists rows order marks (length rows) old old
   takes_none marks old = record {
     steps = [];
     performs = performs_none old;
@@ -92,11 +92,11 @@ module _ (lists : List (List ℕ)) (rows order places : List ℕ) (width : ℕ) 
     uncleared = λ m pivots p late l e. absurd (omega arith);
   }
 
-  module _ (marks now : List Bool) (q : ℕ) (in_rows : q < length rows) (old cur : RecordedRows) (v : TakesBack lists rows order marks (q + 1) old cur) (same : (p : ℕ) → p ≢ q → get_or now p false ≡ get_or marks p false) where
+  module _ (marks now : List Bool) (q : ℕ) (in_rows : q < length rows) (old cur : RecordedRows) (v : Sparsifies lists rows order marks (q + 1) old cur) (same : (p : ℕ) → p ≢ q → get_or now p false ≡ get_or marks p false) where
     own_stays : (m : ℕ → ℕ → ℕ) (k : ℕ) → rows_after octets v.steps m (at rows q) k ≡ m (at rows q) k
     own_stays m k = v.elsewhere m (at rows q) k (λ p late l. rows_apart p q l in_rows (λ e. omega (arith, e, late)))
 
-    pub back_skipped : get_or now q false ≡ false → TakesBack lists rows order now q old cur
+    pub back_skipped : get_or now q false ≡ false → Sparsifies lists rows order now q old cur
     back_skipped unset = record {
       steps = v.steps;
       performs = v.performs;
@@ -127,7 +127,7 @@ module _ (lists : List (List ℕ)) (rows order places : List ℕ) (width : ℕ) 
             let turned = turns_back Performs q in_rows cur new taken (rows_after octets v.steps m) (λ j l n. early_cleared j (omega arith) n) (early_cleared q (omega arith) in_rows) in
             record { entries = λ i l. after_both m (at rows q) (at order i) ∙ turned.entries i l }
 
-      pub back_taken : TakesBack lists rows order now q old new
+      pub back_taken : Sparsifies lists rows order now q old new
       back_taken = record {
         steps = v.steps ++ taken.steps;
         performs = performs_more v.steps taken.steps old cur new v.performs taken.done;
@@ -153,7 +153,7 @@ module _ (lists : List (List ℕ)) (rows order places : List ℕ) (width : ℕ) 
       final = λ m column units zeros shown plain raw p l. absurd (omega arith);
     }
 
-    module _ (t : ℕ) (in_rows : t < length rows) (old cur mid : RecordedRows) (v : FinishesPivots lists rows order reduced marks count t old cur) (turn : TakesReduced reduced (at rows t) 0 count count (entry_of cur.table (at rows t)) cur mid)
+    module _ (t : ℕ) (in_rows : t < length rows) (old cur mid : RecordedRows) (v : FinishesPivots lists rows order reduced marks count t old cur) (turn : ClearsColumns reduced (at rows t) 0 count count (entry_of cur.table (at rows t)) cur mid)
         (apart : (p f : ℕ) → p < length rows → f < count → at rows p ≢ at reduced f) where
       first_recorded : Records (v.steps ++ turn.steps) old mid
       first_recorded = records_more v.steps turn.steps old cur mid v.records turn.records
@@ -251,7 +251,7 @@ module _ (lists : List (List ℕ)) (rows order places : List ℕ) (width : ℕ) 
         }
 
 -- rows in echelon form that are no pivots' stay so where these take back what they took
-pub echelon_stays : (lists : List (List ℕ)) (rows order : List ℕ) (marks : List Bool) (reduced : List ℕ) (count : ℕ) (old new : RecordedRows) → TakesBack lists rows order marks 0 old new → AreRows reduced old.table → count ≤ old.table.width
+pub echelon_stays : (lists : List (List ℕ)) (rows order : List ℕ) (marks : List Bool) (reduced : List ℕ) (count : ℕ) (old new : RecordedRows) → Sparsifies lists rows order marks 0 old new → AreRows reduced old.table → count ≤ old.table.width
     → ((p f : ℕ) → p < length rows → f < length reduced → at rows p ≢ at reduced f) → IsEchelon reduced count old.table → IsEchelon reduced count new.table
 echelon_stays lists rows order marks reduced count old new back are narrow apart echelon =
     let same : (i k : ℕ) → i < length reduced → k < count → entry_of new.table (at reduced i) k ≡ entry_of old.table (at reduced i) k = (λ (i k : ℕ) (l : i < length reduced) (n : k < count).
@@ -263,7 +263,7 @@ echelon_stays lists rows order marks reduced count old new back are narrow apart
     }
 
 -- what was done is told of the table and the operations alone
-pub takes_back_as : (lists : List (List ℕ)) (rows order : List ℕ) (marks : List Bool) (low : ℕ) (old new again : RecordedRows) → again.table ≡ new.table → again.operations ≡ new.operations → TakesBack lists rows order marks low old new → TakesBack lists rows order marks low old again
+pub takes_back_as : (lists : List (List ℕ)) (rows order : List ℕ) (marks : List Bool) (low : ℕ) (old new again : RecordedRows) → again.table ≡ new.table → again.operations ≡ new.operations → Sparsifies lists rows order marks low old new → Sparsifies lists rows order marks low old again
 takes_back_as lists rows order marks low old new again table operations back = record {
   steps = back.steps;
   performs = record {

@@ -10,10 +10,10 @@ use Rattle.rq_elimination.specs.RowSteps.{IsEchelon}
 use Rattle.rq_elimination.specs.declared.counts.PhaseEnds.{PhaseEnds}
 use Rattle.rq_peeling.specs.Peeled.{Pivots}
 use Rattle.rq_solver.specs.EliminationState.{eliminated_at, inactive_count, left_rows, sparsified_at, substituted_at, AddsLater, IsUnderWay, KeepsPivots}
-use Rattle.rq_solver.specs.FourthPhase.{FinishesPivotRows, TakesBack}
+use Rattle.rq_solver.specs.FourthPhase.{FinishesPivotRows, Sparsifies}
 use Rattle.rq_solver.specs.Phases.{FindsOrder, LacksPivots, SolvesInactive}
 use Rattle.rq_solver.specs.RowOrder.{ListsRows}
-use Rattle.rq_solver.specs.SecondPhase.{ReducesBack}
+use Rattle.rq_solver.specs.SecondPhase.{SubstitutesBack}
 use Rattle.rq_solver.specs.declared.pi_solver.elimination.Elimination.{Elimination}
 use Rattle.rq_solver.proofs.CountLaws.{inactive_bound, stuck_bound}
 use Rattle.rq_solver.proofs.FinishedPivots.{echelon_stays}
@@ -41,7 +41,7 @@ module _ (e : Elimination) (under : IsUnderWay e) where
   all_columns few = omega (arith, few)
 
 -- rows in echelon form stay so while pivots' rows are made sparse
-pub echelon_kept : (old new : Elimination) (marks : List Bool) → KeepsPivots old new → new.row_order ≡ old.row_order → IsUnderWay old → TakesBack old.additions.ones old.peeling.rows old.peeling.order marks 0 old.recorded new.recorded
+pub echelon_kept : (old new : Elimination) (marks : List Bool) → KeepsPivots old new → new.row_order ≡ old.row_order → IsUnderWay old → Sparsifies old.additions.ones old.peeling.rows old.peeling.order marks 0 old.recorded new.recorded
     → IsEchelon (left_rows old) (inactive_count old) old.recorded.table → IsEchelon (left_rows new) (inactive_count new) new.recorded.table
 echelon_kept old new marks keeps rows under back echelon =
     rw (same_left old new keeps rows, same_count old new keeps)
@@ -75,10 +75,10 @@ pub record RunsAll (first forward sparse back last : Elimination) (marks : List 
   pub echelon : IsEchelon (left_rows forward) (inactive_count first) forward.recorded.table
   pub keeps_sparse : KeepsPivots forward sparse
   pub rows_sparse : sparse.row_order ≡ forward.row_order
-  pub takes : TakesBack forward.additions.ones forward.peeling.rows forward.peeling.order marks 0 forward.recorded sparse.recorded
+  pub takes : Sparsifies forward.additions.ones forward.peeling.rows forward.peeling.order marks 0 forward.recorded sparse.recorded
   pub keeps_back : KeepsPivots sparse back
   pub rows_back : back.row_order ≡ sparse.row_order
-  pub reduces : ReducesBack (left_rows sparse) (inactive_count sparse) 0 sparse.recorded back.recorded
+  pub reduces : SubstitutesBack (left_rows sparse) (inactive_count sparse) 0 sparse.recorded back.recorded
   pub keeps_last : KeepsPivots back last
   pub rows_last : last.row_order ≡ back.row_order
   pub finishes : FinishesPivotRows marks back last.recorded

@@ -15,15 +15,15 @@ use Rattle.rq_algebra.specs.Systems.{at, stacked, HasElements, HasHomogeneousCol
 use Rattle.rq_algebra.proofs.FewEquations.{homogeneous_of_few}
 use Rattle.rq_algebra.proofs.Pivots.{finds_by_pivots, homogeneous_back}
 use Rattle.rq_algebra.proofs.Reduction.{pivots_of_first}
-use Rattle.rq_algebra.proofs.Runs.{follows_none}
+use Rattle.rq_algebra.proofs.OperationRuns.{follows_none}
 use Rattle.rq_algebra.proofs.Stacks.{stacked_above, stacked_below}
 use Rattle.rq_standard.specs.OctetField.{octets}
 use Rattle.rq_parts.specs.DenseOctetMatrix.{entry_of}
 use Rattle.rq_solver.specs.FirstPhase.{HasPeeledPivots}
-use Rattle.rq_solver.specs.FourthPhase.{FinishesPivots, IsFinished, TakesBack}
+use Rattle.rq_solver.specs.FourthPhase.{FinishesPivots, IsFinished, Sparsifies}
 use Rattle.rq_solver.specs.PivotAdditions.{IsCleared}
 use Rattle.rq_solver.specs.RowOrder.{ListsRows}
-use Rattle.rq_solver.specs.SecondPhase.{AreUnits, ReducesBack}
+use Rattle.rq_solver.specs.SecondPhase.{AreUnits, SubstitutesBack}
 use Rattle.rq_peeling.specs.Peeled.{IsOrderOf}
 use Rattle.rq_elimination.specs.Recorded.{ChangesRows}
 use Rattle.rq_elimination.specs.declared.recorded.RecordedRows.{RecordedRows}
@@ -158,7 +158,7 @@ module _ (height width : ℕ) (system : ℕ → ℕ → ℕ) (rows order places 
 
   -- ---- all columns with pivots
 
-  module _ (lists : List (List ℕ)) (marks : List Bool) (returned reduced_state final : RecordedRows) (echelon : IsEchelon reduced inactive last.table) (back : TakesBack lists rows order marks 0 last returned) (reduces : ReducesBack reduced inactive 0 returned reduced_state)
+  module _ (lists : List (List ℕ)) (marks : List Bool) (returned reduced_state final : RecordedRows) (echelon : IsEchelon reduced inactive last.table) (back : Sparsifies lists rows order marks 0 last returned) (reduces : SubstitutesBack reduced inactive 0 returned reduced_state)
       (finishes : FinishesPivots lists rows order reduced marks inactive (length rows) reduced_state final)
       (placed : List ℕ) (long : (q : ℕ) → q < length reduced → at placed (length rows + q) ≡ at reduced q) (starts : (p : ℕ) → p < length rows → at placed p ≡ at rows p) where
     abbrev late_steps : List Operation

@@ -7,7 +7,8 @@ use Rattle.rq_algebra.specs.Systems.{at}
 use Rattle.rq_standard.specs.OctetField.{octets}
 use Rattle.rq_parts.specs.DenseOctetMatrix.{OctetTable, entry_of}
 use Rattle.rq_peeling.specs.SystemRows.{AreRowsOfBits, AreOctetRows, one_in, system_rows}
-use Rattle.rq_solver.specs.FirstPhase.{HasPeeledPivots}
+use Rattle.rq_peeling.specs.declared.system.System.{System}
+use Rattle.rq_solver.specs.FirstPhase.{HasPeeledPivots, TakesPivotsAlone}
 use Rattle.rq_solver.specs.HdpcOctets.{ClearsOctets}
 use Rattle.rq_solver.specs.InactiveColumns.{HasLeading}
 use Rattle.rq_solver.specs.PivotAdditions.{IsCleared, IsUncleared, ClearsRows}
@@ -163,3 +164,14 @@ module _ (lists : List (List ℕ)) (first : ℕ) (hdpc : OctetTable) where
                 pivots = λ p l. rw recorded (both.pivots p l);
                 others = λ r p c l. rw recorded (both.others r c p l);
               }
+
+-- ---- what rows of bits take
+
+pub takes_alone : (system : System) (rows order listed : List ℕ) (zero one two : RecordedRows) → ClearsRows system.ones rows order listed (length listed) zero one
+    → ClearsOctets rows order (entry_of system.hdpc) system.first_hdpc (length system.hdpc.rows) one two → zero.operations ≡ [] → TakesPivotsAlone system rows two.operations
+takes_alone system rows order listed zero one two clears wipes empty = λ m k none r out.
+    let done : List Operation = clears.steps ++ wipes.steps in
+    let performs : Performs done zero two = performs_more clears.steps wipes.steps zero one two clears.performs wipes.performs in
+    let recorded : two.operations ≡ done = performs.recorded ∙ ap (λ (l : List Operation). l ++ done) empty in
+    ap (λ (l : List Operation). rows_after octets l m r k) recorded ∙ rows_after-next octets clears.steps wipes.steps m r k
+    ∙ wipes.elsewhere (rows_after octets clears.steps m) r k out ∙ clears.kept m k none r

@@ -6,7 +6,7 @@ use Rattle.std.proofs.lemmas.Bool.{cases_eq, cases_lt}
 use Rattle.rq_algebra.specs.Systems.{at}
 use Rattle.rq_matrix.proofs.Words.{low_bits, low-same, low-none}
 use Rattle.rq_standard.specs.OctetField.{octets}
-use Rattle.rq_solver.specs.SecondPhase.{AreUnits, TakesReduced}
+use Rattle.rq_solver.specs.SecondPhase.{AreUnits, ClearsColumns}
 use Rattle.rq_elimination.specs.OperationCounts.{additions}
 use Rattle.rq_elimination.specs.Recorded.{Records}
 use Rattle.rq_elimination.specs.RowSteps.{sum_step, CanTake, rows_after}
@@ -25,7 +25,7 @@ pub record TakesOnes (reduced : List ℕ) (row end word rest : ℕ) (old new : R
   pub behind : (k : ℕ) → k < place → bit_at rest k ≡ 0
   pub ahead : (k : ℕ) → place ≤ k → k < end → bit_at rest k ≡ bit_at word k
   pub beyond : (k : ℕ) → end ≤ k → bit_at rest k ≡ 0
-  pub taken : TakesReduced reduced row 0 end place (bit_at word) old new
+  pub taken : ClearsColumns reduced row 0 end place (bit_at word) old new
   pub few : additions new.operations ≤ additions old.operations + place
 
 module _ (reduced : List ℕ) (row end word : ℕ) (old : RecordedRows) where
@@ -61,7 +61,7 @@ module _ (reduced : List ℕ) (row end word : ℕ) (old : RecordedRows) where
             few = let so_far = v.few in omega (arith, counted, so_far, late);
           }
 
-    pub takes_all : rest ≡ 0 → TakesReduced reduced row 0 end end (bit_at word) old cur
+    pub takes_all : rest ≡ 0 → ClearsColumns reduced row 0 end end (bit_at word) old cur
     takes_all none = reduced_zeros reduced row 0 end (bit_at word) v.place end old cur v.taken v.before (λ f l m. sym (v.ahead f l m) ∙ ap (λ n. bit_at n f) none ∙ bit_at-zero f)
 
     pub takes_few : additions cur.operations ≤ additions old.operations + end
@@ -72,7 +72,7 @@ module _ (reduced : List ℕ) (row end word : ℕ) (old : RecordedRows) where
 module _ (reduced : List ℕ) (row start count : ℕ) (entries : ℕ → ℕ) where
   -- the row takes those before one place, and then those up to another one
   pub reduced_join : (t next : ℕ) → start ≤ t → t ≤ next → next ≤ count → (old cur new : RecordedRows) → ((f : ℕ) → t ≤ f → f < next → row ≢ at reduced f)
-      → TakesReduced reduced row start count t entries old cur → TakesReduced reduced row t next next entries cur new → TakesReduced reduced row start count next entries old new
+      → ClearsColumns reduced row start count t entries old cur → ClearsColumns reduced row t next next entries cur new → ClearsColumns reduced row start count next entries old new
   reduced_join t next from forward within old cur new apart v w =
       let source = λ (m : ℕ → ℕ → ℕ) (s k : ℕ) (l : t ≤ s) (n : s < next). v.elsewhere m (at reduced s) k (λ e. apart s l n (sym e)) in
       let unit = λ (m : ℕ → ℕ → ℕ) (column : ℕ → ℕ) (units : AreUnits reduced start count column m) (s f : ℕ) (l : t ≤ s) (n : s < next) (inside : f < count). source m s (column f) l n ∙ units s f (omega arith) (omega arith) inside in
@@ -97,7 +97,7 @@ module _ (reduced : List ℕ) (row start count : ℕ) (entries : ℕ → ℕ) wh
       }
 
   -- entries that are the same in those columns
-  pub reduced_same : (others : ℕ → ℕ) (done : ℕ) (old new : RecordedRows) → ((f : ℕ) → start ≤ f → f < count → others f ≡ entries f) → TakesReduced reduced row start count done entries old new → TakesReduced reduced row start count done others old new
+  pub reduced_same : (others : ℕ → ℕ) (done : ℕ) (old new : RecordedRows) → ((f : ℕ) → start ≤ f → f < count → others f ≡ entries f) → ClearsColumns reduced row start count done entries old new → ClearsColumns reduced row start count done others old new
   reduced_same others done old new same v = record {
     steps = v.steps;
     records = v.records;
@@ -109,7 +109,7 @@ module _ (reduced : List ℕ) (row start count : ℕ) (entries : ℕ → ℕ) wh
 
 -- some of the rows that follow each other, in a list of their own
 module _ (reduced some : List ℕ) (row from count : ℕ) (same : (k : ℕ) → k < count → at some k ≡ at reduced (from + k)) (entries : ℕ → ℕ) where
-  pub reduced_part : (old new : RecordedRows) → TakesReduced some row 0 count count (λ f. entries (from + f)) old new → TakesReduced reduced row from (from + count) (from + count) entries old new
+  pub reduced_part : (old new : RecordedRows) → ClearsColumns some row 0 count count (λ f. entries (from + f)) old new → ClearsColumns reduced row from (from + count) (from + count) entries old new
   reduced_part old new v =
       let unit = λ (m : ℕ → ℕ → ℕ) (column : ℕ → ℕ) (units : AreUnits reduced from (from + count) column m) (s g : ℕ) (first : 0 ≤ s) (l : s < count) (n : g < count). ap (λ r. m r (column (from + g))) (same s l)
       ∙ units (from + s) (from + g) (omega arith) (omega arith) (omega arith)

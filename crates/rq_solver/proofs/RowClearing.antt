@@ -23,6 +23,7 @@ module _ (lists : List (List ℕ)) (rows order listed : List ℕ) where
     performs = performs_none state;
     idle = λ m i k e. rows_after-none octets m i k;
     rest = λ m s k l n. rows_after-none octets m (at listed s) k;
+    kept = λ m k none i. rows_after-none octets m i k;
     cleared = λ m pivots s l. absurd (omega arith);
   }
 
@@ -50,6 +51,13 @@ module _ (lists : List (List ℕ)) (rows order listed : List ℕ) where
             let nothing : taken.steps ≡ [] = taken.idle (ap (ones_of lists) (sym s) ∙ e) in
             after_all i k ∙ ap (λ (l : List Operation). rows_after octets l now i k) nothing ∙ rows_after-none octets now i k ∙ v.idle m i k e
         | inr d ↦ stays i k d ∙ v.idle m i k e
+      ]
+
+      kept_next : (k : ℕ) → ((p : ℕ) → p < length rows → m (at rows p) k ≡ 0) → (i : ℕ) → rows_after octets all_steps m i k ≡ m i k
+      unfolding now
+      kept_next k none i = elim (cases_eq i (at listed t)) [
+        | inl s ↦ rw s (after_all (at listed t) k ∙ taken.kept now k (λ j l c d. v.kept m k none (at rows j) ∙ none j l) ∙ v.kept m k none (at listed t))
+        | inr d ↦ stays i k d ∙ v.kept m k none i
       ]
 
       module _ (pivots : (p : ℕ) → p < length rows → IsUncleared lists rows order m (at rows p)) where
@@ -106,5 +114,6 @@ module _ (lists : List (List ℕ)) (rows order listed : List ℕ) where
       rest = λ m s k l n.
           let apart : at listed s ≢ at listed t = (λ e. let z : s ≡ t = listing.are.apart s t n in_listed e in omega (arith, z, l)) in
           stays m (at listed s) k apart ∙ v.rest m s k (omega arith) n;
+      kept = λ m k none i. kept_next m k none i;
       cleared = λ m pivots s l raw. cleared_next m pivots s l raw;
     }

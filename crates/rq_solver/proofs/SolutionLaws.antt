@@ -8,7 +8,7 @@ use Rattle.rq_algebra.specs.Systems.{HasHomogeneousColumn, at}
 use Rattle.rq_algebra.specs.Operations.{Operation, Reorder, Store, step, run, read, unordered, FindsColumn, found_by}
 use Rattle.rq_algebra.specs.Symbols.{symbols}
 use Rattle.rq_algebra.proofs.Solutions.{solves_same}
-use Rattle.rq_algebra.proofs.Runs.{run_push}
+use Rattle.rq_algebra.proofs.OperationRuns.{run_push}
 use Rattle.rq_algebra.proofs.Found.{found_only, found_solves}
 use Rattle.rq_algebra.proofs.Pivots.{homogeneous_back}
 use Rattle.rq_standard.specs.OctetField.{octets}
@@ -18,12 +18,13 @@ use Rattle.rq_bytes.specs.SymbolSlab.{Slab, store_of, after_all, symbol_in, HasP
 use Rattle.rq_operations.specs.RecordedOperations.{operations_of}
 use Rattle.rq_operations.specs.declared.recorded.RecordedOperations.{RecordedOperations}
 use Rattle.rq_elimination.specs.PhaseCounts.{AreCountsOf, AreInOrder}
+use Rattle.rq_solver.specs.PhaseOperations.{in_row_order}
 use Rattle.rq_solver.specs.Phases.{SolvesRows}
 use Rattle.rq_solver.specs.Solving.{IsSolution, IsOutcome, Solver}
 use Rattle.rq_elimination.specs.declared.counts.OperationCounts.{OperationCounts}
 use Rattle.rq_elimination.specs.declared.counts.PhaseEnds.{PhaseEnds}
 use Rattle.rq_solver.specs.declared.pi_solver.phase_operations.PhaseOperations.{PhaseOperations}
-use Rattle.rq_elimination.proofs.PhaseTotals.{counts_with_order, longer_in_order}
+use Rattle.rq_elimination.proofs.PhaseTotals.{AreTotalsOf, counts_with_order, longer_in_order, totals_of}
 use Rattle.rq_elimination.proofs.RowStepLaws.{SameEntries}
 
 -- systems with the same entries have the same solutions
@@ -102,26 +103,22 @@ found_among height width rows recorded (Some order) (Some ops) found e = rw (sam
 pub by_phases : (a b d e f h : ℕ) → a ≡ e → b ≡ f → d ≡ h → a ∷ b ∷ 0 ∷ d ∷ 0 ∷ [] ≡ e ∷ f ∷ 0 ∷ h ∷ 0 ∷ []
 by_phases a b d e f h first second fourth = ap (λ (n : ℕ). n ∷ b ∷ 0 ∷ d ∷ 0 ∷ []) first ∙ ap (λ (n : ℕ). e ∷ n ∷ 0 ∷ d ∷ 0 ∷ []) second ∙ ap (λ (n : ℕ). e ∷ f ∷ 0 ∷ n ∷ 0 ∷ []) fourth
 
--- each phase's operations are counted
-pub record HasCounted (counts : OperationCounts) (operations : List Operation) : Type 0 where
-  pub ends : PhaseEnds
-  pub in_order : AreInOrder ends (length operations)
-  pub are : AreCountsOf ends operations counts
-
-counted_among : (ends : PhaseEnds) (counts : OperationCounts) (recorded : List Operation) (order : Option (Vec ℕ Global)) (ops : RecordedOperations) → AreInOrder ends (length recorded) → AreCountsOf ends recorded counts
-    → Some (operations_of ops) ≡ option_map (λ o. recorded ++ Reorder o.items ∷ []) order → HasCounted counts (operations_of ops)
-counted_among ends counts recorded None ops in_order are e = absurd (none-some _ (sym e))
-counted_among ends counts recorded (Some order) ops in_order are e = rw (same_Some _ _ e) (record { ends = ends; in_order = longer_in_order recorded order.items ends in_order; are = counts_with_order recorded order.items ends in_order counts are })
+-- the counts of what was recorded are those of what is handed out
+totals_among : (ends : PhaseEnds) (counts : OperationCounts) (recorded : List Operation) (order : Option (Vec ℕ Global)) (ops : RecordedOperations) → AreInOrder ends (length recorded) → AreCountsOf ends recorded counts
+    → Some (operations_of ops) ≡ option_map (λ o. recorded ++ Reorder o.items ∷ []) order → AreTotalsOf counts (operations_of ops)
+totals_among ends counts recorded None ops in_order are e = absurd (none-some _ (sym e))
+totals_among ends counts recorded (Some order) ops in_order are e =
+    rw (same_Some _ _ e) (totals_of ends (recorded ++ Reorder order.items ∷ []) counts (longer_in_order recorded order.items ends in_order) (counts_with_order recorded order.items ends in_order counts are))
 
 module _ (phases : PhaseOperations) where
   pub recorded_found : (height width : ℕ) (rows : ℕ → ℕ → ℕ) (answer : Option RecordedOperations) → SolvesRows height width rows phases.recorded phases.order
-      → option_map operations_of answer ≡ option_map (λ order. phases.recorded ++ Reorder order.items ∷ []) phases.order
+      → option_map operations_of answer ≡ in_row_order phases
       → MatchOption answer (HasHomogeneousColumn octets height width rows) (λ ops. FindsColumn octets height width rows (operations_of ops))
   recorded_found height width rows answer found same = found_among height width rows phases.recorded phases.order answer found same
 
-  pub recorded_counted : (counts : OperationCounts) (answer : Option RecordedOperations) (ops : RecordedOperations) → AreCountsOf phases.ends phases.recorded counts → answer ≡ Some ops
-      → option_map operations_of answer ≡ option_map (λ order. phases.recorded ++ Reorder order.items ∷ []) phases.order → HasCounted counts (operations_of ops)
-  recorded_counted counts answer ops are is same = counted_among phases.ends counts phases.recorded phases.order ops phases.in_order are (rw is at same)
+  pub recorded_totals : (counts : OperationCounts) (answer : Option RecordedOperations) (ops : RecordedOperations) → AreCountsOf phases.ends phases.recorded counts → answer ≡ Some ops → option_map operations_of answer ≡ in_row_order phases
+      → AreTotalsOf counts (operations_of ops)
+  recorded_totals counts answer ops are is same = totals_among phases.ends counts phases.recorded phases.order ops phases.in_order are (rw is at same)
 
 -- the outcome of a solver that stands for these equations and has not run
 pub outcome_of : (s t : Solver) (handed : Slab) (r : Result (Option (Slab × Vec SymbolOps Global)) Error) → s ≡ t → t.symbols ≡ Some handed → IfSome s.symbols (λ h. IfOk r (IsOutcome s h)) → IfOk r (IsOutcome t handed)

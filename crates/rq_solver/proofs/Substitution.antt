@@ -4,7 +4,7 @@ use Rattle.std.proofs.lemmas.Bool.{cases_eq, cases_lt}
 use Rattle.rq_algebra.specs.Systems.{at}
 use Rattle.rq_standard.specs.OctetField.{octets}
 use Rattle.rq_parts.specs.DenseOctetMatrix.{entry_of}
-use Rattle.rq_solver.specs.SecondPhase.{AreShown, AreUnits, GivesMultiples, ReducesBack, TakesReduced, one_of}
+use Rattle.rq_solver.specs.SecondPhase.{AreShown, AreUnits, GivesMultiples, SubstitutesBack, ClearsColumns, one_of}
 use Rattle.rq_elimination.specs.Recorded.{Records}
 use Rattle.rq_elimination.specs.RowSteps.{sum_step, AreRows, IsEchelon, rows_after}
 use Rattle.rq_elimination.specs.declared.recorded.RecordedRows.{RecordedRows}
@@ -14,7 +14,7 @@ use Rattle.rq_solver.proofs.HdpcClearing.{plus_zero_times, plus_own}
 use Rattle.rq_elimination.proofs.Choices.{if_same, if_apart}
 
 module _ (reduced : List ℕ) (row start count : ℕ) (entries : ℕ → ℕ) where
-  pub reduced_none : (old : RecordedRows) → TakesReduced reduced row start count start entries old old
+  pub reduced_none : (old : RecordedRows) → ClearsColumns reduced row start count start entries old old
   reduced_none old = record {
     steps = [];
     records = records_none old;
@@ -25,7 +25,7 @@ module _ (reduced : List ℕ) (row start count : ℕ) (entries : ℕ → ℕ) wh
   }
 
   -- the row has 0 in the next columns
-  pub reduced_zeros : (t next : ℕ) (old cur : RecordedRows) → TakesReduced reduced row start count t entries old cur → t ≤ next → ((k : ℕ) → t ≤ k → k < next → entries k ≡ 0) → TakesReduced reduced row start count next entries old cur
+  pub reduced_zeros : (t next : ℕ) (old cur : RecordedRows) → ClearsColumns reduced row start count t entries old cur → t ≤ next → ((k : ℕ) → t ≤ k → k < next → entries k ≡ 0) → ClearsColumns reduced row start count next entries old cur
   reduced_zeros t next old cur v forward none = record {
     steps = v.steps;
     records = v.records;
@@ -38,7 +38,7 @@ module _ (reduced : List ℕ) (row start count : ℕ) (entries : ℕ → ℕ) wh
     rest = λ m column units f l n. v.rest m column units f (omega arith) n;
   }
 
-  module _ (t : ℕ) (from : start ≤ t) (inside : t < count) (old cur : RecordedRows) (v : TakesReduced reduced row start count t entries old cur) where
+  module _ (t : ℕ) (from : start ≤ t) (inside : t < count) (old cur : RecordedRows) (v : ClearsColumns reduced row start count t entries old cur) where
     module _ (apart : row ≢ at reduced t) (scalar : ℕ) (small : scalar < 256) (scalar_is : scalar ≡ entries t) (new : RecordedRows) (records : Records (sum_step row (at reduced t) scalar ∷ []) cur new) where
       module _ (m : ℕ → ℕ → ℕ) where
         now : ℕ → ℕ → ℕ
@@ -67,7 +67,7 @@ module _ (reduced : List ℕ) (row start count : ℕ) (entries : ℕ → ℕ) wh
               ∙ plus_own (now row (column t)) scalar (now (at reduced t) (column t)) small
               (v.rest m column units t (omega arith) inside ∙ shown ∙ sym scalar_is) (src_now (column t) ∙ one)
 
-      reduced_more : TakesReduced reduced row start count (t + 1) entries old new
+      reduced_more : ClearsColumns reduced row start count (t + 1) entries old new
       unfolding now
       reduced_more = record {
         steps = v.steps ++ sum_step row (at reduced t) scalar ∷ [];
@@ -82,8 +82,8 @@ module _ (reduced : List ℕ) (row start count : ℕ) (entries : ℕ → ℕ) wh
       }
 
   -- the next column where the row isn't 0 gets its multiple
-  pub reduced_next : (t next : ℕ) → start ≤ next → t ≤ next → next < count → (old cur : RecordedRows) → TakesReduced reduced row start count t entries old cur → ((k : ℕ) → t ≤ k → k < next → entries k ≡ 0)
-      → row ≢ at reduced next → (scalar : ℕ) → scalar < 256 → scalar ≡ entries next → (new : RecordedRows) → Records (sum_step row (at reduced next) scalar ∷ []) cur new → TakesReduced reduced row start count (next + 1) entries old new
+  pub reduced_next : (t next : ℕ) → start ≤ next → t ≤ next → next < count → (old cur : RecordedRows) → ClearsColumns reduced row start count t entries old cur → ((k : ℕ) → t ≤ k → k < next → entries k ≡ 0)
+      → row ≢ at reduced next → (scalar : ℕ) → scalar < 256 → scalar ≡ entries next → (new : RecordedRows) → Records (sum_step row (at reduced next) scalar ∷ []) cur new → ClearsColumns reduced row start count (next + 1) entries old new
   reduced_next t next from forward inside old cur v none = reduced_more next from inside old cur (reduced_zeros t next old cur v forward none)
 
 -- ---- the multiples of a row in echelon form
@@ -170,7 +170,7 @@ module _ (reduced : List ℕ) (place : ℕ) where
 -- ---- rows in echelon form, the last first
 
 module _ (reduced : List ℕ) (count : ℕ) where
-  pub back_none : (old : RecordedRows) → ReducesBack reduced count count old old
+  pub back_none : (old : RecordedRows) → SubstitutesBack reduced count count old old
   back_none old = record {
     steps = [];
     records = records_none old;
@@ -181,8 +181,8 @@ module _ (reduced : List ℕ) (count : ℕ) where
     left = λ m column shown t f l late n. absurd (omega arith);
   }
 
-  module _ (q : ℕ) (inside : q < count) (old cur mid new : RecordedRows) (are : AreRows reduced old.table) (echelon : IsEchelon reduced count old.table) (v : ReducesBack reduced count (q + 1) old cur)
-      (turn : TakesReduced reduced (at reduced q) (q + 1) count count (λ f. one_of (entry_of cur.table (at reduced q) f)) cur mid) (gives : GivesMultiples reduced q q mid new) where
+  module _ (q : ℕ) (inside : q < count) (old cur mid new : RecordedRows) (are : AreRows reduced old.table) (echelon : IsEchelon reduced count old.table) (v : SubstitutesBack reduced count (q + 1) old cur)
+      (turn : ClearsColumns reduced (at reduced q) (q + 1) count count (λ f. one_of (entry_of cur.table (at reduced q) f)) cur mid) (gives : GivesMultiples reduced q q mid new) where
     fits : (t : ℕ) → t < count → t < length reduced
     fits t l = omega (arith, echelon.fits)
 
@@ -271,7 +271,7 @@ module _ (reduced : List ℕ) (count : ℕ) where
             (after_elsewhere (at reduced t) (column q) (apart t q (omega arith) inside (omega arith)) ∙ was_before t q (omega arith) (omega arith) ∙ ap (λ table. entry_of table (at reduced t) q) (sym tables))
             ∙ ap (λ table. one_of (entry_of table (at reduced t) q)) tables
 
-    pub back_more : ReducesBack reduced count q old new
+    pub back_more : SubstitutesBack reduced count q old new
     unfolding before_turn after_turn
     back_more = record {
       steps = v.steps ++ (turn.steps ++ gives.steps);
@@ -287,7 +287,7 @@ module _ (reduced : List ℕ) (count : ℕ) where
     }
 
 -- what was recorded is told of the table and the operations alone
-pub reduces_as : (reduced : List ℕ) (count low : ℕ) (old new again : RecordedRows) → again.table ≡ new.table → again.operations ≡ new.operations → ReducesBack reduced count low old new → ReducesBack reduced count low old again
+pub reduces_as : (reduced : List ℕ) (count low : ℕ) (old new again : RecordedRows) → again.table ≡ new.table → again.operations ≡ new.operations → SubstitutesBack reduced count low old new → SubstitutesBack reduced count low old again
 reduces_as reduced count low old new again table operations back = record {
   steps = back.steps;
   records = record { recorded = operations ∙ back.records.recorded; among = back.records.among; table = table ∙ back.records.table };

@@ -1,10 +1,12 @@
 -- What the first phase makes of the rows of a system.
-use Rattle.std.specs.Prelude.{◌≡◌, ℕ, ◌+◌, ◌<◌, ◌≤◌, List, All, Contains, length}
+use Rattle.std.specs.Prelude.{◌≡◌, ◌≢◌, ℕ, ◌+◌, ◌<◌, ◌≤◌, List, All, Contains, length}
 use Rattle.std.specs.List.{range_with_len}
+use Rattle.rq_algebra.specs.Operations.{Operation}
 use Rattle.rq_algebra.specs.Systems.{at, HasElements}
 use Rattle.rq_standard.specs.OctetField.{octets}
 use Rattle.rq_parts.specs.DenseOctetMatrix.{entry_of}
 use Rattle.rq_peeling.specs.Peeled.{Pivots}
+use Rattle.rq_peeling.specs.declared.system.System.{System}
 use Rattle.rq_elimination.specs.RowSteps.{IsStepAmong, rows_after}
 use Rattle.rq_elimination.specs.declared.recorded.RecordedRows.{RecordedRows}
 use Rattle.rq_solver.specs.PivotAdditions.{IsCleared}
@@ -19,3 +21,8 @@ pub record HasPeeledPivots (height width : ℕ) (system : ℕ → ℕ → ℕ) (
   pub shows : (r f : ℕ) → r < height → length peeled.rows + f < width → entry_of state.table r f ≡ rows_after octets state.operations system r (at peeled.order (length peeled.rows + f))
   pub pivots : (p : ℕ) → p < length peeled.rows → IsCleared peeled.rows peeled.order (rows_after octets state.operations system) (at peeled.rows p)
   pub others : (r p : ℕ) → Contains left r → p < length peeled.rows → rows_after octets state.operations system r (at peeled.order p) ≡ 0
+
+-- Rows of bits take rows of pivots and no others: in a column in which those have zeros, rows of bits stay as they are.
+abbrev pub TakesPivotsAlone : System → List ℕ → List Operation → Type 0
+TakesPivotsAlone system pivots operations = (m : ℕ → ℕ → ℕ) (k : ℕ) → ((p : ℕ) → p < length pivots → m (at pivots p) k ≡ 0)
+    → (r : ℕ) → ((i : ℕ) → i < length system.hdpc.rows → system.first_hdpc + i ≢ r) → rows_after octets operations m r k ≡ m r k

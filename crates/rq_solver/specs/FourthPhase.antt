@@ -12,13 +12,13 @@ use Rattle.rq_solver.specs.PivotAdditions.{IsCleared, IsUncleared}
 use Rattle.rq_solver.specs.SecondPhase.{AreUnits}
 use Rattle.rq_solver.specs.declared.pi_solver.elimination.Elimination.{Elimination}
 
--- each row with a mark took `most` rows at most
+-- each row with a mark took `limit` rows at most
 abbrev pub TookAtMost : ℕ → List Bool → List ℕ → Type 0
-TookAtMost most marks bounds = (p : ℕ) → p < length marks → slice_index_or marks p false ≡ true → at bounds (p + 1) - at bounds p ≤ most
+TookAtMost limit marks bounds = (p : ℕ) → p < length marks → slice_index_or marks p false ≡ true → at bounds (p + 1) - at bounds p ≤ limit
 
 -- Of the pivots' rows, the last first and up to place `low`, those that have a mark take the pivots' rows that they took in the first phase, and
 -- so are as they were before, in the pivots' columns.
-pub record TakesBack (lists : List (List ℕ)) (rows order : List ℕ) (marks : List Bool) (low : ℕ) (old new : RecordedRows) : Type 0 where
+pub record Sparsifies (lists : List (List ℕ)) (rows order : List ℕ) (marks : List Bool) (low : ℕ) (old new : RecordedRows) : Type 0 where
   pub steps : List Operation
   pub performs : Performs steps old new
   pub elsewhere : (m : ℕ → ℕ → ℕ) (r k : ℕ) → ((p : ℕ) → low ≤ p → p < length rows → at rows p ≢ r) → rows_after octets steps m r k ≡ m r k
@@ -43,8 +43,8 @@ pub record FinishesPivots (lists : List (List ℕ)) (rows order reduced : List �
       → (p : ℕ) → p < done → IsFinished rows order count column (rows_after octets steps m) (at rows p)
 
 -- of the pivots' rows of an elimination those that have a mark do so
-abbrev pub SparsifiesRows : List Bool → Elimination → RecordedRows → Type 0
-SparsifiesRows sparse old new = TakesBack old.additions.ones old.peeling.rows old.peeling.order sparse 0 old.recorded new
+abbrev pub SparsifiesPivotRows : List Bool → Elimination → RecordedRows → Type 0
+SparsifiesPivotRows sparse old new = Sparsifies old.additions.ones old.peeling.rows old.peeling.order sparse 0 old.recorded new
 
 -- all pivots' rows of an elimination are finished
 abbrev pub FinishesPivotRows : List Bool → Elimination → RecordedRows → Type 0

@@ -1,10 +1,11 @@
 -- What the phases answer together.
-use Rattle.std.specs.Prelude.{◌≡◌, ℕ, ◌+◌, ◌*◌, ◌≤◌, ◌∷◌, ◌++◌, [], Bool, List, Option, Vec, MatchOption, drop, length}
+use Rattle.std.specs.Prelude.{◌≡◌, ℕ, ◌+◌, ◌*◌, ◌<◌, ◌≤◌, ◌∷◌, ◌++◌, [], Bool, List, Option, Vec, MatchOption, drop, length}
 use Rattle.std.specs.Global.{Global}
 use Rattle.rq_algebra.specs.Operations.{Operation, Reorder, FindsColumn}
 use Rattle.rq_algebra.specs.Systems.{HasHomogeneousColumn}
 use Rattle.rq_standard.specs.OctetField.{octets}
-use Rattle.rq_peeling.specs.Peeled.{Pivots}
+use Rattle.rq_peeling.specs.Degrees.{TakesFewest}
+use Rattle.rq_peeling.specs.Peeled.{IsPeeled, Pivots}
 use Rattle.rq_peeling.specs.System.{rows_of}
 use Rattle.rq_peeling.specs.declared.system.System.{System}
 use Rattle.rq_elimination.specs.OperationCounts.{additions}
@@ -12,10 +13,10 @@ use Rattle.rq_elimination.specs.Recorded.{ChangesRows}
 use Rattle.rq_elimination.specs.RowSteps.{IsEchelon, IsStuck}
 use Rattle.rq_elimination.specs.declared.recorded.RecordedRows.{RecordedRows}
 use Rattle.rq_solver.specs.EliminationState.{eliminated_at, inactive_count, left_rows}
-use Rattle.rq_solver.specs.FirstPhase.{HasPeeledPivots}
-use Rattle.rq_solver.specs.FourthPhase.{FinishesPivots, TakesBack}
+use Rattle.rq_solver.specs.FirstPhase.{HasPeeledPivots, TakesPivotsAlone}
+use Rattle.rq_solver.specs.FourthPhase.{FinishesPivots, Sparsifies}
 use Rattle.rq_solver.specs.HdpcOctets.{batch_bound}
-use Rattle.rq_solver.specs.SecondPhase.{ReducesBack}
+use Rattle.rq_solver.specs.SecondPhase.{SubstitutesBack}
 use Rattle.rq_solver.specs.declared.pi_solver.elimination.Elimination.{Elimination}
 use Rattle.rq_solver.specs.declared.pi_solver.phase_operations.PhaseOperations.{PhaseOperations}
 
@@ -25,8 +26,8 @@ SolvesRows height width rows recorded answer =
     MatchOption answer (HasHomogeneousColumn octets height width rows) (λ order. FindsColumn octets height width rows (recorded ++ Reorder order.items ∷ []))
 
 -- what was recorded solves the rows of a system, or they have such a column
-abbrev pub IsAttempt : System → List Operation → Option (Vec ℕ Global) → Type 0
-IsAttempt system recorded order = SolvesRows (length system.ones) system.width (rows_of system) recorded order
+abbrev pub SolvesSystem : System → List Operation → Option (Vec ℕ Global) → Type 0
+SolvesSystem system recorded order = SolvesRows (length system.ones) system.width (rows_of system) recorded order
 
 -- what was recorded gives the rows of a system the pivots of a peeling; the others are listed behind its rows
 abbrev pub ClearsPivots : System → Pivots → List ℕ → RecordedRows → Type 0
@@ -60,8 +61,8 @@ pub record SolvesInactive (old new : Elimination) : Type 0 where
   pub marks : List Bool
   pub changes : ChangesRows (left_rows old) old.recorded forward
   pub echelon : IsEchelon (left_rows new) (inactive_count old) forward.table
-  pub sparsifies : TakesBack old.additions.ones old.peeling.rows old.peeling.order marks 0 forward sparse
-  pub reduces : ReducesBack (left_rows new) (inactive_count old) 0 sparse back
+  pub sparsifies : Sparsifies old.additions.ones old.peeling.rows old.peeling.order marks 0 forward sparse
+  pub reduces : SubstitutesBack (left_rows new) (inactive_count old) 0 sparse back
   pub finishes : FinishesPivots old.additions.ones old.peeling.rows old.peeling.order (left_rows new) marks (inactive_count old) (length old.peeling.rows) back new.recorded
   pub ends : new.ends ≡ record { cleared = old.ends.cleared; eliminated = length forward.operations; sparsified = length sparse.operations; substituted = length back.operations }
 
@@ -69,12 +70,27 @@ pub record SolvesInactive (old new : Elimination) : Type 0 where
 abbrev pub RunsLater : Elimination → Elimination → Option (Vec ℕ Global) → Type 0
 RunsLater old new answer = MatchOption answer (LacksPivots old new) (λ order. SolvesInactive old new)
 
--- the first phase gave the rows of a system pivots, the others went on from there, and each recorded the operations up to its end
+-- Columns got pivots in rows of least degree of a system, the first phase cleared them, the others went on from there, and each recorded the
+-- operations up to its end.
 pub record RunsPhases (system : System) (found : PhaseOperations) : Type 0 where
   pub first : Elimination
   pub last : Elimination
+  pub peeled : IsPeeled system.width system.ones first.peeling
+  pub fewest : TakesFewest system.ones system.lt_columns first.peeling.rows
   pub cleared : ClearsPivots system first.peeling first.row_order.items first.recorded
+  pub alone : TakesPivotsAlone system first.peeling.rows first.recorded.operations
   pub first_end : first.ends.cleared ≡ length first.recorded.operations
   pub later : RunsLater first last found.order
   pub recorded : found.recorded ≡ last.recorded.operations
   pub ends : found.ends ≡ last.ends
+
+-- they ran over rows, of which those from one on are HDPC rows, and columns, of which the first are those of LT symbols: over that system
+pub record RunsOverRows (height width first_hdpc hdpc_rows lt_columns : ℕ) (rows : ℕ → ℕ → ℕ) (found : PhaseOperations) : Type 0 where
+  pub system : System
+  pub height_is : length system.ones ≡ height
+  pub width_is : system.width ≡ width
+  pub first_is : system.first_hdpc ≡ first_hdpc
+  pub hdpc_are : length system.hdpc.rows ≡ hdpc_rows
+  pub lt_columns_are : system.lt_columns ≡ lt_columns
+  pub rows_are : (i k : ℕ) → i < height → k < width → rows_of system i k ≡ rows i k
+  pub phases : RunsPhases system found

@@ -73,5 +73,7 @@ pub record ClearsRows (lists : List (List ℕ)) (rows order listed : List ℕ) (
   pub performs : Performs steps old new
   pub idle : (m : ℕ → ℕ → ℕ) (i k : ℕ) → ones_of lists i ≡ [] → rows_after octets steps m i k ≡ m i k
   pub rest : (m : ℕ → ℕ → ℕ) (s k : ℕ) → done ≤ s → s < length listed → rows_after octets steps m (at listed s) k ≡ m (at listed s) k
+  -- where the pivots' rows have zeros each row stays as it was
+  pub kept : (m : ℕ → ℕ → ℕ) (k : ℕ) → ((p : ℕ) → p < length rows → m (at rows p) k ≡ 0) → (i : ℕ) → rows_after octets steps m i k ≡ m i k
   pub cleared : (m : ℕ → ℕ → ℕ) → ((p : ℕ) → p < length rows → IsUncleared lists rows order m (at rows p))
       → (s : ℕ) → s < done → IsUncleared lists rows order m (at listed s) → IsCleared rows order (rows_after octets steps m) (at listed s)

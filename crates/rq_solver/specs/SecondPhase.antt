@@ -32,7 +32,7 @@ AreShown reduced count column m table = (t f : ℕ) → t < count → f < count 
 
 -- A row takes multiples of reduced rows, those from place `start` on, so that it gets 0 in their inactive columns that come before column
 -- `done`, where it has these entries. What the rows are in whole is `m`, whatever that is: `column f` is the place of inactive column f in it.
-pub record TakesReduced (reduced : List ℕ) (row start count done : ℕ) (entries : ℕ → ℕ) (old new : RecordedRows) : Type 0 where
+pub record ClearsColumns (reduced : List ℕ) (row start count done : ℕ) (entries : ℕ → ℕ) (old new : RecordedRows) : Type 0 where
   pub steps : List Operation
   pub records : Records steps old new
   pub elsewhere : (m : ℕ → ℕ → ℕ) (i k : ℕ) → i ≢ row → rows_after octets steps m i k ≡ m i k
@@ -43,7 +43,7 @@ pub record TakesReduced (reduced : List ℕ) (row start count done : ℕ) (entri
 
 -- all of the first `count` rows, so that it gets 0 in their columns
 abbrev pub TakesAll : List ℕ → ℕ → ℕ → (ℕ → ℕ) → RecordedRows → RecordedRows → Type 0
-TakesAll reduced count row entries old new = TakesReduced reduced row 0 count count entries old new
+TakesAll reduced count row entries old new = ClearsColumns reduced row 0 count count entries old new
 
 -- all of these rows, whose columns begin at column `start`
 abbrev pub TakesFrom : List ℕ → ℕ → ℕ → RecordedRows → RecordedRows → Type 0
@@ -57,7 +57,7 @@ one_of entry = if entry == 1 then 1 else 0
 
 -- the row at a place takes those behind it in whose columns it has 1
 abbrev pub TakesOnesBehind : List ℕ → ℕ → ℕ → RecordedRows → RecordedRows → Type 0
-TakesOnesBehind rows place count old new = TakesReduced rows (at rows place) (place + 1) count count (λ f. one_of (entry_of old.table (at rows place) f)) old new
+TakesOnesBehind rows place count old new = ClearsColumns rows (at rows place) (place + 1) count count (λ f. one_of (entry_of old.table (at rows place) f)) old new
 
 -- by no additions for other octets than 1
 abbrev pub AddsOnes : List ℕ → ℕ → ℕ → RecordedRows → RecordedRows → Type 0
@@ -76,7 +76,7 @@ pub record GivesMultiples (reduced : List ℕ) (place done : ℕ) (old new : Rec
 
 -- The rows in echelon form have 1 in their own inactive column alone, from the last up to place `low`. Those before it took the multiples of
 -- these rows by which they had an octet other than 0 and 1 in their columns.
-pub record ReducesBack (reduced : List ℕ) (count low : ℕ) (old new : RecordedRows) : Type 0 where
+pub record SubstitutesBack (reduced : List ℕ) (count low : ℕ) (old new : RecordedRows) : Type 0 where
   pub steps : List Operation
   pub records : Records steps old new
   pub elsewhere : (m : ℕ → ℕ → ℕ) (r k : ℕ) → ((q : ℕ) → q < count → at reduced q ≢ r) → rows_after octets steps m r k ≡ m r k

@@ -12,6 +12,9 @@ abbrev pub solver_state : {T : Type 0} {bits : matrix.Ghosts T} {clones : clone.
 solver_state {T} {bits} {clones} solver = record {
   height = (bits.content solver.matrix).height;
   width = (bits.content solver.matrix).width;
+  first_hdpc = solver.first_hdpc;
+  hdpc_rows = length solver.hdpc.rows;
+  lt_columns = solver.lt_columns;
   rows = with_octet_rows solver.first_hdpc (length solver.hdpc.rows) (bits.content solver.matrix).bit (entry_of solver.hdpc);
   symbols = solver.symbols;
   additions = solver.counts.additions.first ∷ solver.counts.additions.second ∷ 0 ∷ solver.counts.additions.fourth ∷ 0 ∷ [];

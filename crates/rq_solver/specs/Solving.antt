@@ -1,5 +1,5 @@
 -- What a solver is handed, and what it answers.
-use Rattle.std.specs.Prelude.{◌≡◌, ℕ, ◌+◌, ◌<◌, ◌≤◌, false, List, [], ◌∷◌, Option, None, Some, MatchOption, Vec, length, map, replicate, sum}
+use Rattle.std.specs.Prelude.{◌≡◌, ℕ, ◌+◌, ◌<◌, ◌≤◌, false, List, Option, None, Some, MatchOption, Vec, length, map, replicate}
 use Rattle.std.specs.Global.{Global}
 use Rattle.rq_algebra.specs.Systems.{HasHomogeneousColumn}
 use Rattle.rq_algebra.specs.Operations.{Operation, FindsColumn, found_by}
@@ -15,9 +15,6 @@ use Rattle.rq_bytes.specs.declared.operation_vector.SymbolOps.{SymbolOps}
 use Rattle.rq_operations.specs.RecordedOperations.{operations_of}
 use Rattle.rq_operations.specs.declared.recorded.RecordedOperations.{RecordedOperations}
 use Rattle.rq_parts.specs.DenseOctetMatrix.{OctetTable, entry_of}
-use Rattle.rq_elimination.specs.OperationCounts.{additions, multiplications}
-use Rattle.rq_elimination.specs.PhaseCounts.{AreInOrder, first_of, second_of, fourth_of}
-use Rattle.rq_elimination.specs.declared.counts.PhaseEnds.{PhaseEnds}
 
 -- the equations of a block of that row of the table but for those of HDPC: a matrix of bits, and a symbol for each equation
 pub record AreEquationsWithoutHdpc (row : TableRow) (bits : BitTable) (handed : Slab) : Type 0 where
@@ -35,10 +32,14 @@ pub record AreEquations (row : TableRow) (bits : BitTable) (hdpc : OctetTable) (
   pub hdpc_width : hdpc.width ≡ intermediate_symbols row
   pub zeros : (i k : ℕ) → i < row.hdpc_symbols → k < intermediate_symbols row → bits.bit (row.ldpc_symbols + i) k ≡ 0
 
--- a solver's equations, its symbols until it has run, and how often each of the five phases added symbols and multiplied them
+-- A solver's equations, its symbols until it has run, and how often each of the five phases added symbols and multiplied them. From row
+-- `first_hdpc` on stand `hdpc_rows` HDPC rows, and the first `lt_columns` columns are those of LT symbols.
 pub record Solver : Type 0 where
   pub height : ℕ
   pub width : ℕ
+  pub first_hdpc : ℕ
+  pub hdpc_rows : ℕ
+  pub lt_columns : ℕ
   pub rows : ℕ → ℕ → ℕ
   pub symbols : Option Slab
   pub additions : List ℕ
@@ -49,6 +50,9 @@ abbrev pub solver_of : TableRow → BitTable → OctetTable → Slab → Solver
 solver_of row bits hdpc handed = record {
   height = length handed.values;
   width = intermediate_symbols row;
+  first_hdpc = row.ldpc_symbols;
+  hdpc_rows = row.hdpc_symbols;
+  lt_columns = row.lt_symbols;
   rows = with_octet_rows row.ldpc_symbols row.hdpc_symbols bits.bit (entry_of hdpc);
   symbols = Some handed;
   additions = replicate 5 0;
@@ -57,17 +61,17 @@ solver_of row bits hdpc handed = record {
 
 -- a solver without HDPC equations that has not run
 abbrev pub solver_without_hdpc : TableRow → BitTable → Slab → Solver
-solver_without_hdpc row bits handed = record { height = length handed.values; width = intermediate_symbols row; rows = bits.bit; symbols = Some handed; additions = replicate 5 0; multiplications = replicate 5 0 }
-
--- The phases' counts sum to those of the operations, and each phase's are those of the stretches that it recorded: the first one, then two of
--- the second phase and two of the fourth in turn.
-pub record CountsOperations (solver : Solver) (operations : List Operation) : Type 0 where
-  pub ends : PhaseEnds
-  pub in_order : AreInOrder ends (length operations)
-  pub added : solver.additions ≡ additions (first_of ends operations) ∷ additions (second_of ends operations) ∷ 0 ∷ additions (fourth_of ends operations) ∷ 0 ∷ []
-  pub multiplied : solver.multiplications ≡ multiplications (first_of ends operations) ∷ multiplications (second_of ends operations) ∷ 0 ∷ multiplications (fourth_of ends operations) ∷ 0 ∷ []
-  pub additions_are : sum solver.additions ≡ additions operations
-  pub multiplications_are : sum solver.multiplications ≡ multiplications operations
+solver_without_hdpc row bits handed = record {
+  height = length handed.values;
+  width = intermediate_symbols row;
+  first_hdpc = 0;
+  hdpc_rows = 0;
+  lt_columns = row.lt_symbols;
+  rows = bits.bit;
+  symbols = Some handed;
+  additions = replicate 5 0;
+  multiplications = replicate 5 0;
+}
 
 -- after it has run: no symbols and the same equations, whatever it counted
 abbrev pub IsSpent : Solver → Solver → Type 0

@@ -1,4 +1,5 @@
-//! The solver of a block's equations (RFC 6330, section 5.4.2.1).
+//! `IntermediateSymbolDecoder`: a block's equations in, its symbols, operations and counts out (RFC 6330,
+//! section 5.4.2.1).
 ghost use Rattle.std.specs.Prelude.{◌≡◌, ℕ, ◌+◌, ◌*◌, ◌<◌, ◌≤◌, None, length, map, sum, slice_index, OnSome, IfSome, IfNone, IfOk, IfErr, Err};
 ghost use Rattle.std.specs.Option.{ForSome};
 ghost use Rattle.rq_standard.specs.TableRows.{greatest_size, row_of};
@@ -6,7 +7,7 @@ ghost use Rattle.rq_bytes.specs.declared.error.Error.TheVariants.{AlreadyExecute
 ghost use Rattle.rq_bytes.specs.SymbolOps.{operation_of};
 ghost use Rattle.rq_elimination.specs.OperationCounts.{additions};
 ghost use Rattle.rq_elimination.specs.PhaseCounts.{total_of};
-ghost use Rattle.rq_solver.specs.Solving.{AreEquations, AreEquationsWithoutHdpc, CountsOperations, FindsOperations, solver_of, solver_without_hdpc, IsOutcome, IsSpent};
+ghost use Rattle.rq_solver.specs.Solving.{AreEquations, AreEquationsWithoutHdpc, FindsOperations, solver_of, solver_without_hdpc, IsOutcome, IsSpent};
 
 mod elimination;
 mod first_phase;
@@ -38,10 +39,10 @@ pub struct IntermediateSymbolDecoder<T: BinaryMatrix> {
     matrix: T,
     hdpc: DenseOctetMatrix,
     first_hdpc: usize,
-    boundary: usize,
+    lt_columns: usize,
     symbols: Option<SymbolSlab>,
     counts: OperationCounts,
-    pub ghost dense_columns: { boundary ≡ (T.content matrix).boundary },
+    pub ghost dense_columns: { lt_columns ≡ (T.content matrix).boundary },
     pub ghost octet_columns: { hdpc.width ≡ (T.content matrix).width },
     pub ghost unordered: { ForSome symbols (λ slab. slab.order ≡ None) },
     pub ghost within: { first_hdpc + length hdpc.rows ≤ (T.content matrix).height },
@@ -52,7 +53,7 @@ pub struct IntermediateSymbolDecoder<T: BinaryMatrix> {
 }
 
 impl<T: BinaryMatrix> IntermediateSymbolDecoder<T> {
-    ghost use Rattle.rq_solver.specs.PhaseOperations.{SolvesEquations};
+    ghost use Rattle.rq_solver.specs.PhaseOperations.{CountsOperations, RunsOverEquations, SolvesEquations, answered_operations};
     ghost use Rattle.rq_solver.specs.SolverState.{solver_state};
 
     /// A solver of the equations of a block with `num_source_symbols` source symbols: a matrix of bits,
@@ -95,7 +96,7 @@ impl<T: BinaryMatrix> IntermediateSymbolDecoder<T> {
             matrix,
             hdpc,
             first_hdpc: row.ldpc_symbols as usize,
-            boundary: row.lt_symbols as usize,
+            lt_columns: row.lt_symbols as usize,
             symbols: Some(symbols),
             counts: OperationCounts::none(),
         }
@@ -130,7 +131,7 @@ impl<T: BinaryMatrix> IntermediateSymbolDecoder<T> {
             matrix,
             hdpc,
             first_hdpc: 0,
-            boundary: row.lt_symbols as usize,
+            lt_columns: row.lt_symbols as usize,
             symbols: Some(symbols),
             counts: OperationCounts::none(),
         }
@@ -188,7 +189,7 @@ impl<T: BinaryMatrix> IntermediateSymbolDecoder<T> {
         ensures spent { IsSpent (solver_state self.old) (solver_state self.new) }
         ensures kept { IfNone (solver_state self.old).symbols (solver_state self.new ≡ solver_state self.old) }
         ensures bound { sum (solver_state self.new).additions ≤ 2 * (solver_state self.new).width * (solver_state self.new).height }
-        ensures counted { IfOk result (λ answer. IfSome answer (λ found. CountsOperations (solver_state self.new) (map operation_of found.1.items))) }
+        ensures counted { IfOk result (λ answer. CountsOperations (solver_state self.old) (solver_state self.new) (answered_operations answer)) }
     {
         let Some(mut symbols) = self.symbols.take() else {
             return Err(Error::AlreadyExecuted);
@@ -215,32 +216,33 @@ impl<T: BinaryMatrix> IntermediateSymbolDecoder<T> {
             matrix,
             hdpc,
             first_hdpc,
-            boundary,
+            lt_columns,
             symbols,
             ..
         } = self;
         drop(symbols);
-        let (system, degrees) = System::of_matrix(alloc, &matrix, hdpc, first_hdpc, boundary)?;
+        let system = System::of_matrix(alloc, &matrix, hdpc, first_hdpc, lt_columns)?;
         drop(matrix);
-        let found = run_phases(alloc, system, degrees)?;
+        let found = run_phases(alloc, system)?;
         Ok(found.into_operations())
     }
 
     // Looks for the operations, for which the matrix stays.
     fn find_operations(&self) -> Result<PhaseOperations, Error>
         ensures found { IfOk result (SolvesEquations (solver_state self.now)) }
+        ensures phases { IfOk result (RunsOverEquations (solver_state self.now)) }
         ensures few { IfOk result (λ found. additions found.recorded ≤ 2 * (solver_state self.now).width * (solver_state self.now).height) }
         ensures memory { IfErr result (λ e. e ≡ OutOfMemory) }
     {
         let hdpc = self.hdpc.clone()?;
-        let (system, degrees) = System::of_matrix(
+        let system = System::of_matrix(
             self.alloc,
             &self.matrix,
             hdpc,
             self.first_hdpc,
-            self.boundary,
+            self.lt_columns,
         )?;
-        run_phases(self.alloc, system, degrees)
+        run_phases(self.alloc, system)
     }
 }
 

@@ -231,6 +231,40 @@ fn rows_of_least_degree_take_few_additions(rt: HostRuntime) -> Result<(), Error>
     Ok(())
 }
 
+// Each row of bits has a one in a column of its own, and the last one has one in the first inactive
+// column too.
+fn separate_ones(alloc: Global) -> Result<Vec<(usize, usize)>, Error> {
+    let mut ones = vec![in alloc; (26, 17)]?;
+    for k in 0..17 {
+        ones.push((bit_row(k), k))?;
+    }
+    Ok(ones)
+}
+
+// So has each HDPC row in an inactive column. The second one has a 1 in the first of them too, and the
+// third one a 2 in its own.
+fn separate_octets(alloc: Global) -> Result<Vec<(usize, usize, u8)>, Error> {
+    let mut octets = diagonal(alloc, 17, 10)?;
+    octets.push((1, 17, 1))?;
+    octets.push((2, 19, 2))?;
+    Ok(octets)
+}
+
+// The first phase has nothing to clear. The second adds the first HDPC row to the second one and scales
+// the third one, and the fourth adds the first to the last row of bits.
+#[test]
+fn each_phase_counts_its_own_operations(rt: HostRuntime) -> Result<(), Error> {
+    let ones = separate_ones(rt.alloc())?;
+    let octets = separate_octets(rt.alloc())?;
+    let mut solver = numbered_solver(&rt, rt.alloc(), ones.as_slice(), octets.as_slice())?;
+    holds!(rt; solver.execute()?.is_some());
+    let additions = solver.get_symbol_add_ops_by_phase();
+    same!(rt; additions.as_slice(), [0, 1, 0, 1, 0].as_slice());
+    let multiplications = solver.get_symbol_mul_ops_by_phase();
+    same!(rt; multiplications.as_slice(), [0, 1, 0, 0, 0].as_slice());
+    Ok(())
+}
+
 #[test]
 fn rows_of_least_degree_are_solved(rt: HostRuntime) -> Result<(), Error> {
     let ones = chain(rt.alloc())?;

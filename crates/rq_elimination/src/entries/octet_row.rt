@@ -1,4 +1,4 @@
-//! Rows that are octets.
+//! `EntryRow`: one row of the matrix U of RFC 6330 (section 5.4.2.2) to be read, as octets or as bits.
 ghost use Rattle.std.specs.Prelude.{◌≡◌, ℕ, ◌+◌, ◌%◌, ◌^◌, ◌<◌, ◌≤◌, length, slice_index, IfSome};
 ghost use Rattle.std.specs.Int.{bit_at};
 ghost use Rattle.rq_elimination.specs.InactiveEntries.{IsNextOctet};

@@ -1,9 +1,10 @@
-//! The octets that rows have of their own.
+//! `OwnOctets`: one buffer for all rows of the matrix U (RFC 6330, section 5.4.2.2) that are octets, and
+//! the place of each row in it.
 ghost use Rattle.std.specs.Prelude.{◌≡◌, ◌≢◌, ◌*◌, ◌%◌, ◌+◌, ◌^◌, ◌<◌, ◌≤◌, ◌++◌, ◌∷◌, [], true, false, None, All, length, replicate, slice_set, IfOk, OnOk, IfErr, OnErr};
 ghost use Rattle.rq_algebra.specs.Systems.{at};
 ghost use Rattle.rq_bytes.specs.declared.error.Error.TheVariants.{OutOfMemory};
 ghost use Rattle.rq_parts.specs.DenseOctetMatrix.{IsOctetRow, row_at, with_row};
-ghost use Rattle.rq_elimination.specs.InactiveEntries.{place_before, row_of, unpacked, with_octets};
+ghost use Rattle.rq_elimination.specs.InactiveEntries.{place_before, row_of, octets_of_bits, with_octets};
 ghost use Rattle.rq_standard.specs.Rows.{row_sum, row_multiple};
 
 use super::packed_bits::add_bits;
@@ -160,7 +161,7 @@ impl OwnOctets {
         requires row { row < length self.old.rows }
         requires own { length (row_at self.old row) ≡ self.old.width }
         requires room { self.old.width ≤ 8 * length bits.now }
-        ensures sum { self.new ≡ with_row self.old row (row_sum (row_at self.old row) (row_multiple scalar.now (unpacked self.old.width bits.now))) }
+        ensures sum { self.new ≡ with_row self.old row (row_sum (row_at self.old row) (row_multiple scalar.now (octets_of_bits self.old.width bits.now))) }
         ensures octets { IsOctetRow self.old.width (row_at self.new row) }
     {
         if let Some(place) = place_of(self.places.as_slice(), row) {
@@ -220,7 +221,7 @@ fn push_bits(rows: &mut SymbolSlab, bits: &[u8]) -> Result<(), Error>
     requires room { rows.old.symbol_size ≤ 8 * length bits.now }
     requires narrow { rows.old.symbol_size < 2 ^ 17 }
     requires whole { rows.old.symbol_size % 32 ≡ 0 }
-    ensures ok { OnOk result (rows.new ≡ record rows.old { values = rows.old.values ++ unpacked rows.old.symbol_size bits.now ∷ [] }) }
+    ensures ok { OnOk result (rows.new ≡ record rows.old { values = rows.old.values ++ octets_of_bits rows.old.symbol_size bits.now ∷ [] }) }
     ensures refused { OnErr result (rows.new ≡ rows.old) }
     ensures err { IfErr result (λ e. e ≡ OutOfMemory) }
 {

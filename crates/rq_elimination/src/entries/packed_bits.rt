@@ -1,8 +1,9 @@
-//! Bits that are packed eight to an octet, the first in its lowest bit.
+//! The buffer of the rows that are bits in the inactive columns (RFC 6330, section 5.4.2.2), packed eight
+//! to an octet, the first in its lowest bit.
 ghost use Rattle.std.specs.Prelude.{◌≡◌, ℕ, ◌+◌, ◌*◌, ◌/◌, ◌%◌, ◌^◌, ◌<◌, ◌≤◌, length, map, slice_set};
 ghost use Rattle.std.specs.Int.{bit_at};
 ghost use Rattle.std.specs.List.{range_with_len};
-ghost use Rattle.rq_elimination.specs.InactiveEntries.{IsNextEntry, bit_in, unpacked};
+ghost use Rattle.rq_elimination.specs.InactiveEntries.{IsNextEntry, bit_in, octets_of_bits};
 ghost use Rattle.rq_standard.specs.Octets.{octet_mul};
 ghost use Rattle.rq_standard.specs.Rows.{row_sum, row_multiple};
 
@@ -37,7 +38,7 @@ pub(super) fn bit(bits: &[u8], place: usize) -> u8
 #[inline(always)]
 pub(super) fn set_bit(bits: &mut [u8], place: usize)
     requires { place / 8 < length bits.old }
-    ensures { (n : ℕ) → place < n → unpacked n bits.new ≡ slice_set (unpacked n bits.old) place 1 }
+    ensures { (n : ℕ) → place < n → octets_of_bits n bits.new ≡ slice_set (octets_of_bits n bits.old) place 1 }
 {
     bits[place / 8] |= 1 << (place % 8);
 }
@@ -87,7 +88,7 @@ pub(super) fn word(bits: &[u8], block: usize) -> u64
 pub(super) fn add_bits(octets: &mut [u8], bits: &[u8], scalar: u8)
     requires room { length octets.old ≤ 8 * length bits.now }
     requires whole { length octets.old % 32 ≡ 0 }
-    ensures { octets.new ≡ row_sum octets.old (row_multiple scalar (unpacked (length octets.old) bits.now)) }
+    ensures { octets.new ≡ row_sum octets.old (row_multiple scalar (octets_of_bits (length octets.old) bits.now)) }
 {
     for block in 0..octets.len() / LANES {
         let at = LANES * block;

@@ -1,4 +1,4 @@
-//! What the phases work on once columns have pivots (RFC 6330, section 5.4.2).
+//! `Elimination`: the one state of the phases once columns have pivots (RFC 6330, section 5.4.2).
 ghost use Rattle.std.specs.Prelude.{◌≤◌, length};
 
 use rq_elimination::counts::PhaseEnds;

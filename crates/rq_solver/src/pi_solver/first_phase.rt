@@ -4,18 +4,19 @@ ghost use Rattle.std.specs.Prelude.{◌≡◌, ◌+◌, ◌-◌, ◌*◌, ◌/�
 ghost use Rattle.rq_bytes.specs.declared.error.Error.TheVariants.{OutOfMemory};
 ghost use Rattle.rq_peeling.specs.Peeled.{IsPeeled};
 ghost use Rattle.rq_solver.specs.EliminationState.{starts_at, IsUnderWay};
+ghost use Rattle.rq_solver.specs.FirstPhase.{TakesPivotsAlone};
 ghost use Rattle.rq_solver.specs.Phases.{AddsFirst, ClearsPivots};
 ghost use Rattle.rq_solver.specs.PivotAdditions.{PivotsHaveTaken};
 ghost use Rattle.rq_solver.specs.RowOrder.{ListsRows};
 
-mod clearing;
-mod hdpc_rows;
+mod clear_bits;
+mod clear_hdpc;
 mod inactive;
 mod row_order;
 
 use super::elimination::{Elimination, PivotAdditions};
-use clearing::clear_rows;
-use hdpc_rows::clear_octets;
+use clear_bits::clear_rows;
+use clear_hdpc::clear_octets;
 use inactive::fill_inactive;
 use row_order::rows_in_order;
 use rq_bytes::error::Error;
@@ -39,6 +40,7 @@ impl Elimination {
         ensures under_way { IfOk result IsUnderWay }
         ensures ordered { IfOk result (λ made. ListsRows (length system.ones) peeling.rows made.row_order.items) }
         ensures cleared { IfOk result (λ made. ClearsPivots system peeling made.row_order.items made.recorded) }
+        ensures alone { IfOk result (λ made. TakesPivotsAlone system peeling.rows made.recorded.operations) }
         ensures ends { IfOk result (λ made. made.ends ≡ starts_at (length made.recorded.operations)) }
         ensures few { IfOk result (λ made. AddsFirst system peeling made.recorded) }
         ensures err { IfErr result (λ e. e ≡ OutOfMemory) }
@@ -83,6 +85,7 @@ fn clear_pivots(
     requires ordered { ListsRows (length system.ones) peeling.now.rows row_order.now }
     ensures ones { IfOk result (λ answer. answer.0.ones ≡ system.ones) }
     ensures cleared { IfOk result (λ answer. ClearsPivots system peeling.now row_order.now answer.1) }
+    ensures alone { IfOk result (λ answer. TakesPivotsAlone system peeling.now.rows answer.1.operations) }
     ensures taken { IfOk result (λ answer. PivotsHaveTaken system.ones peeling.now answer.0.bounds.items answer.1) }
     ensures few { IfOk result (λ answer. AddsFirst system peeling.now answer.1) }
     ensures err { IfErr result (λ e. e ≡ OutOfMemory) }

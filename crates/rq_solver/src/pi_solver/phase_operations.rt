@@ -1,7 +1,7 @@
-//! The operations that the phases recorded, phase by phase (RFC 6330, sections 5.4.2.2 to 5.4.2.6).
-ghost use Rattle.std.specs.Prelude.{◌≡◌, ◌∷◌, ◌++◌, [], length};
+//! `PhaseOperations`: what the phases answer (RFC 6330, sections 5.4.2.2 to 5.4.2.6): operations, where
+//! each phase's end, and the order of the rows.
+ghost use Rattle.std.specs.Prelude.{◌≡◌, length};
 ghost use Rattle.std.specs.Option.{option_map};
-ghost use Rattle.rq_algebra.specs.Operations.{Reorder};
 ghost use Rattle.rq_operations.specs.RecordedOperations.{operations_of};
 ghost use Rattle.rq_elimination.specs.PhaseCounts.{AreCountsOf, AreInOrder};
 
@@ -20,6 +20,8 @@ pub(super) struct PhaseOperations {
 }
 
 impl PhaseOperations {
+    ghost use Rattle.rq_solver.specs.PhaseOperations.{in_row_order};
+
     /// How many operations each phase recorded, whether they find the column or not.
     pub(super) fn counts(&self) -> OperationCounts
         ensures { AreCountsOf self.now.ends self.now.recorded result }
@@ -29,7 +31,7 @@ impl PhaseOperations {
 
     /// The operations that take values of the rows to the column that solves the rows with them.
     pub(super) fn into_operations(self) -> Option<RecordedOperations>
-        ensures { option_map operations_of result ≡ option_map (λ order. self.recorded ++ Reorder order.items ∷ []) self.order }
+        ensures { option_map operations_of result ≡ in_row_order self }
     {
         let PhaseOperations {
             recorded,

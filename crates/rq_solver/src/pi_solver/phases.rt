@@ -1,11 +1,12 @@
-//! The phases of the solver, one after another (RFC 6330, section 5.4.2).
+//! The order of the phases (RFC 6330, section 5.4.2): the first; the second, forward; the third
+//! (`sparsify`); the second, back; the fourth (`clear_inactive`) with the fifth (`redo_additions`). The
+//! third and the fifth are done for single rows, and counted as the fourth's.
 ghost use Rattle.std.specs.Prelude.{◌≡◌, ℕ, ◌*◌, ◌<◌, ◌≤◌, length, map, IfOk, OnOk, IfErr};
 ghost use Rattle.rq_algebra.specs.Systems.{at};
 ghost use Rattle.rq_bytes.specs.declared.error.Error.TheVariants.{OutOfMemory};
 ghost use Rattle.rq_elimination.specs.OperationCounts.{additions};
-ghost use Rattle.rq_peeling.specs.Degrees.{CountsBefore};
 ghost use Rattle.rq_solver.specs.EliminationState.{AddsLater, HasEndsInOrder, IsUnderWay};
-ghost use Rattle.rq_solver.specs.Phases.{FindsOrder, IsAttempt, RunsLater, RunsPhases};
+ghost use Rattle.rq_solver.specs.Phases.{FindsOrder, SolvesSystem, RunsLater, RunsPhases};
 ghost use Rattle.rq_solver.specs.RowOrder.{ListsRows};
 
 use super::elimination::Elimination;
@@ -16,21 +17,14 @@ use rq_peeling::peeling::peel;
 use rq_peeling::system::System;
 use std::alloc::Global;
 
-/// Looks for the operations that solve a system, whose rows have `degrees` ones before the dense
-/// columns.
-pub(super) fn run_phases(
-    alloc: Global,
-    system: System,
-    degrees: Vec<u16>,
-) -> Result<PhaseOperations, Error>
-    requires rows { length degrees.items ≡ length system.ones }
-    requires counted { CountsBefore system.boundary system.ones degrees.items }
-    ensures found { IfOk result (λ found. IsAttempt system found.recorded found.order) }
+/// Looks for the operations that solve a system.
+pub(super) fn run_phases(alloc: Global, system: System) -> Result<PhaseOperations, Error>
+    ensures found { IfOk result (λ found. SolvesSystem system found.recorded found.order) }
     ensures phases { IfOk result (RunsPhases system) }
     ensures few { IfOk result (λ found. additions found.recorded ≤ 2 * system.width * length system.ones) }
     ensures memory { IfErr result (λ e. e ≡ OutOfMemory) }
 {
-    let peeling = peel(alloc, &system, degrees)?;
+    let peeling = peel(alloc, &system)?;
     let mut elimination = Elimination::first_phase(alloc, system, peeling)?;
     let order = elimination.later_phases(alloc)?;
     let Elimination { recorded, ends, .. } = elimination;

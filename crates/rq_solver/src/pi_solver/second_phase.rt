@@ -1,5 +1,5 @@
-//! The second phase: elimination over the inactive columns among the rows that have no pivot yet, and
-//! substitution back (RFC 6330, section 5.4.2.3).
+//! The second phase (RFC 6330, section 5.4.2.3): elimination over the inactive columns among the rows
+//! that have no pivot yet and, behind `sparsify`, substitution back.
 ghost use Rattle.std.specs.Prelude.{◌≡◌, ◌≢◌, ◌+◌, ◌-◌, ◌*◌, ◌<◌, ◌≤◌, ◌∷◌, [], length, OnOk, IfOk, IfErr, IsPermutation};
 ghost use Rattle.rq_algebra.specs.Systems.{at};
 ghost use Rattle.rq_bytes.specs.declared.error.Error.TheVariants.{OutOfMemory};
@@ -8,12 +8,12 @@ ghost use Rattle.rq_elimination.specs.OperationCounts.{additions, multiples, tri
 ghost use Rattle.rq_elimination.specs.Recorded.{AddsAtMost, ChangesRows};
 ghost use Rattle.rq_elimination.specs.RowSteps.{AreRows, ClearsBelow, ClearsEntry, IsEchelon, ScalesToOne};
 ghost use Rattle.rq_solver.specs.EliminationState.{inactive_count, left_rows, eliminated_at, substituted_at, IsUnderWay, KeepsPivots};
-ghost use Rattle.rq_solver.specs.SecondPhase.{AddsForward, AddsOnes, EndsForward, GivesMultiples, ReducesBack, TakesOnesBehind};
+ghost use Rattle.rq_solver.specs.SecondPhase.{AddsForward, AddsOnes, EndsForward, GivesMultiples, SubstitutesBack, TakesOnesBehind};
 
 use super::elimination::Elimination;
 use rq_bytes::error::Error;
 use rq_bytes::octet::Octet;
-use rq_elimination::elimination::find_pivot;
+use rq_elimination::pivot_search::find_pivot;
 use rq_elimination::recorded::RecordedRows;
 
 impl Elimination {
@@ -49,7 +49,7 @@ impl Elimination {
         ensures same { KeepsPivots self.old self.new }
         ensures rows { self.new.row_order ≡ self.old.row_order }
         ensures under_way { OnOk result (IsUnderWay self.new) }
-        ensures reduced { OnOk result (ReducesBack (left_rows self.old) (inactive_count self.old) 0 self.old.recorded self.new.recorded) }
+        ensures reduced { OnOk result (SubstitutesBack (left_rows self.old) (inactive_count self.old) 0 self.old.recorded self.new.recorded) }
         ensures ends { OnOk result (self.new.ends ≡ substituted_at self.old.ends (length self.new.recorded.operations)) }
         ensures few { OnOk result (AddsAtMost (triangle (inactive_count self.old)) self.old.recorded self.new.recorded) }
         ensures err { IfErr result (λ e. e ≡ OutOfMemory) }
@@ -101,7 +101,7 @@ fn substitute_rows(recorded: &mut RecordedRows, rows: &[usize], count: usize) ->
     requires rows { AreRows rows.now recorded.old.table }
     requires columns { count ≤ recorded.old.table.width }
     requires echelon { IsEchelon rows.now count recorded.old.table }
-    ensures reduced { OnOk result (ReducesBack rows.now count 0 recorded.old recorded.new) }
+    ensures reduced { OnOk result (SubstitutesBack rows.now count 0 recorded.old recorded.new) }
     ensures few { OnOk result (AddsAtMost (triangle count) recorded.old recorded.new) }
     ensures err { IfErr result (λ e. e ≡ OutOfMemory) }
 {

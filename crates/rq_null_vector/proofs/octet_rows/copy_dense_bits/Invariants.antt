@@ -4,4 +4,4 @@ use Rattle.rq_null_vector.specs.RowWrites.{WritesRow}
 use Rattle.rq_null_vector.proofs.octet_rows.copy_dense_bits.Given as goal
 
 abbrev pub invariant-loop-column : goal.invariant-loop-column
-invariant-loop-column g l = WritesRow l.row l.boundary l.fn.rows.width (λ k. min 1 (count_by (λ place. place == k) (take l.column-index l.column-items))) l.fn.rows l.rows
+invariant-loop-column g l = WritesRow l.row l.lt_columns l.fn.rows.width (λ k. min 1 (count_by (λ place. place == k) (take l.column-index l.column-items))) l.fn.rows l.rows

@@ -14,9 +14,9 @@ returns-clause-ones g c =
     let table = g.met.T.BinaryMatrix.is_table c.args.bits.now in
     let v = c.loop-column.invariant in
     let taken = c.loop-column.yielded in
-    let whole : AreOnesOf bit 0 c.args.boundary taken = subst (AreOnesOf bit 0 c.args.boundary) (ap (λ l. taken ++ l) c.in-None.ensures.steps.0 ∙ append-nil taken) v.whole in
+    let whole : AreOnesOf bit 0 c.args.lt_columns taken = subst (AreOnesOf bit 0 c.args.lt_columns) (ap (λ l. taken ++ l) c.in-None.ensures.steps.0 ∙ append-nil taken) v.whole in
     let dense = c.in_ok-query_non_zero_columns_into.ensures.ok in
-    let places = places_together bit 0 c.args.boundary content.width (places_among taken) c.query_non_zero_columns_into.new.out.items (omega arith) (omega (arith, c.requires.boundary, table.within)) (places_of_pairs bit 0 c.args.boundary taken whole) dense in
+    let places = places_together bit 0 c.args.lt_columns content.width (places_among taken) c.query_non_zero_columns_into.new.out.items (omega arith) (omega (arith, c.requires.lt_columns, table.within)) (places_of_pairs bit 0 c.args.lt_columns taken whole) dense in
     adds_ones bit content.width c.args.columns.now.items (places_among taken) c.query_non_zero_columns_into.new.out.items c.as_slice.result.now c.loop-column.columns.items c.push_columns.new.columns.items v.columns c.in_ok-push_columns.ensures.pushed c.as_slice.ensures.value places
 
 pub overflow_cast-result : goal.overflow_cast-result
@@ -26,24 +26,24 @@ overflow_cast-result g c =
     let table = g.met.T.BinaryMatrix.is_table c.args.bits.now in
     let v = c.loop-column.invariant in
     let first = places_among c.loop-column.yielded in
-    let whole : AreOnesOf bit 0 c.args.boundary c.loop-column.yielded = subst (AreOnesOf bit 0 c.args.boundary) (ap (λ l. c.loop-column.yielded ++ l) c.in-None.ensures.steps.0 ∙ append-nil c.loop-column.yielded) v.whole in
-    let low = places_of_pairs bit 0 c.args.boundary c.loop-column.yielded whole in
-    let few = few_columns c.args.boundary first (record {
-      within = All-weaker (λ k. (0 ≤ k) × (k < c.args.boundary)) (λ k. k < c.args.boundary) (λ k b. b.1) first low.within;
-      once = λ k l. omega (arith, low.once k (omega arith) l, table.bits c.args.row k c.requires.row (omega (arith, l, c.requires.boundary, table.within)));
+    let whole : AreOnesOf bit 0 c.args.lt_columns c.loop-column.yielded = subst (AreOnesOf bit 0 c.args.lt_columns) (ap (λ l. c.loop-column.yielded ++ l) c.in-None.ensures.steps.0 ∙ append-nil c.loop-column.yielded) v.whole in
+    let low = places_of_pairs bit 0 c.args.lt_columns c.loop-column.yielded whole in
+    let few = few_columns c.args.lt_columns first (record {
+      within = All-weaker (λ k. (0 ≤ k) × (k < c.args.lt_columns)) (λ k. k < c.args.lt_columns) (λ k b. b.1) first low.within;
+      once = λ k l. omega (arith, low.once k (omega arith) l, table.bits c.args.row k c.requires.row (omega (arith, l, c.requires.lt_columns, table.within)));
     }) in
     let long = ap length v.columns ∙ length-append c.args.columns.now.items first in
-    omega (arith, few, long, c.args.columns.now.ok.0, c.loop-column.columns.ok.0, c.requires.boundary, table.within, table.width_fits)
+    omega (arith, few, long, c.args.columns.now.ok.0, c.loop-column.columns.ok.0, c.requires.lt_columns, table.within, table.width_fits)
 
 pub returns-clause-counted : goal.returns-clause-counted
 returns-clause-counted g c =
     let content = g.T.BinaryMatrix.content c.args.bits.now in
     let bit = content.bit c.args.row in
     let v = c.loop-column.invariant in
-    let whole : AreOnesOf bit 0 c.args.boundary c.loop-column.yielded = subst (AreOnesOf bit 0 c.args.boundary) (ap (λ l. c.loop-column.yielded ++ l) c.in-None.ensures.steps.0 ∙ append-nil c.loop-column.yielded) v.whole in
-    let low = places_of_pairs bit 0 c.args.boundary c.loop-column.yielded whole in
+    let whole : AreOnesOf bit 0 c.args.lt_columns c.loop-column.yielded = subst (AreOnesOf bit 0 c.args.lt_columns) (ap (λ l. c.loop-column.yielded ++ l) c.in-None.ensures.steps.0 ∙ append-nil c.loop-column.yielded) v.whole in
+    let low = places_of_pairs bit 0 c.args.lt_columns c.loop-column.yielded whole in
     let dense = c.in_ok-query_non_zero_columns_into.ensures.ok in
-    let counted = adds_counted bit c.args.boundary content.width c.args.columns.now.items (places_among c.loop-column.yielded) c.query_non_zero_columns_into.new.out.items c.as_slice.result.now c.loop-column.columns.items c.push_columns.new.columns.items v.columns c.in_ok-push_columns.ensures.pushed c.as_slice.ensures.value low dense in
+    let counted = adds_counted bit c.args.lt_columns content.width c.args.columns.now.items (places_among c.loop-column.yielded) c.query_non_zero_columns_into.new.out.items c.as_slice.result.now c.loop-column.columns.items c.push_columns.new.columns.items v.columns c.in_ok-push_columns.ensures.pushed c.as_slice.ensures.value low dense in
     omega (arith, counted, c.args.columns.now.ok.0, c.loop-column.columns.ok.0)
 
 pub push_columns-requires : goal.push_columns-requires
@@ -51,4 +51,4 @@ push_columns-requires g c =
     let table = g.met.T.BinaryMatrix.is_table c.args.bits.now in
     let content = g.T.BinaryMatrix.content c.args.bits.now in
     let dense = c.in_ok-query_non_zero_columns_into.ensures.ok in
-    rw c.as_slice.ensures.value (All-weaker (λ k. (c.args.boundary ≤ k) × (k < content.width)) (λ k. k < 65536) (λ k b. let below = b.1 in omega (arith, below, table.width_fits)) c.query_non_zero_columns_into.new.out.items dense.within)
+    rw c.as_slice.ensures.value (All-weaker (λ k. (c.args.lt_columns ≤ k) × (k < content.width)) (λ k. k < 65536) (λ k b. let below = b.1 in omega (arith, below, table.width_fits)) c.query_non_zero_columns_into.new.out.items dense.within)

@@ -1,4 +1,5 @@
-//! The entries of rows in inactive columns, the matrix U of RFC 6330 (section 5.4.2.2).
+//! The first phase fills the matrix U of RFC 6330 (section 5.4.2.2) from the system: the entries of rows
+//! in the inactive columns.
 ghost use Rattle.std.specs.Prelude.{◌≡◌, ◌<◌, ◌≤◌, ◌+◌, ◌-◌, ℕ, All, length, IfOk, OnOk, IfErr};
 ghost use Rattle.rq_bytes.specs.declared.error.Error.TheVariants.{OutOfMemory};
 ghost use Rattle.rq_parts.specs.DenseOctetMatrix.{entry_of, HasOctets};

@@ -1,4 +1,5 @@
-//! The rows of a system in the order in which they are worked on (RFC 6330, section 5.4.2.2).
+//! The rows of a system in the order in which they are worked on, those with pivots first (RFC 6330,
+//! section 5.4.2.2).
 ghost use Rattle.std.specs.Prelude.{◌≡◌, ℕ, ◌+◌, ◌<◌, ◌≤◌, ◌∷◌, ◌++◌, [], false, Contains, length, slice_index_or, IfOk, OnOk, IfErr};
 ghost use Rattle.rq_algebra.specs.Arrangements.{ArePlaces};
 ghost use Rattle.rq_algebra.specs.Systems.{at};

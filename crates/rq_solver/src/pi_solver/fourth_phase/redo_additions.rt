@@ -1,4 +1,5 @@
-//! Rows of pivots that take again what they took (RFC 6330, section 5.4.2.6, for single rows).
+//! Pivots' rows take again what they took: to be sparse for a while (the third phase, RFC 6330, section
+//! 5.4.2.4), and for good (the fifth, section 5.4.2.6).
 ghost use Rattle.std.specs.Prelude.{◌≡◌, ◌≢◌, ◌+◌, ◌-◌, ◌<◌, ◌≤◌, ◌∷◌, [], ◌++◌, All, List, length, slice_range, OnOk, IfErr};
 ghost use Rattle.std.proofs.Common.{ap};
 ghost use Rattle.rq_algebra.specs.Operations.{Operation, AddAssign};

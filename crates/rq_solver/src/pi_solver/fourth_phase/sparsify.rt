@@ -1,9 +1,11 @@
-//! Rows of pivots that are made sparse again (RFC 6330, section 5.4.2.4, for single rows).
-ghost use Rattle.std.specs.Prelude.{◌≡◌, ◌+◌, ◌*◌, ◌≤◌, length, IsTrue, IfOk, OnOk, IfErr};
+//! The third phase's work (RFC 6330, section 5.4.2.4): pivots' rows are made sparse again, of those that
+//! took `sparsify_limit` rows at most.
+ghost use Rattle.std.specs.Prelude.{◌≡◌, ◌+◌, ◌-◌, ◌*◌, ◌<◌, ◌≤◌, length, IsTrue, IfOk, OnOk, IfErr};
+ghost use Rattle.rq_algebra.specs.Systems.{at};
 ghost use Rattle.rq_bytes.specs.declared.error.Error.TheVariants.{OutOfMemory};
 ghost use Rattle.rq_elimination.specs.Recorded.{AddsAtMost};
 ghost use Rattle.rq_solver.specs.EliminationState.{sparsified_at, IsUnderWay, KeepsPivots};
-ghost use Rattle.rq_solver.specs.FourthPhase.{SparsifiesRows, TakesBack, TookAtMost};
+ghost use Rattle.rq_solver.specs.FourthPhase.{SparsifiesPivotRows, Sparsifies, TookAtMost};
 ghost use Rattle.rq_solver.specs.PivotAdditions.{PeelsRows, PivotsHaveTaken};
 
 use super::redo_additions::{OnRows, redo_additions};
@@ -21,7 +23,7 @@ impl Elimination {
         ensures same { KeepsPivots self.old self.new }
         ensures rows { self.new.row_order ≡ self.old.row_order }
         ensures under_way { OnOk result (IsUnderWay self.new) }
-        ensures taken { IfOk result (λ sparse. SparsifiesRows sparse.items self.old self.new.recorded) }
+        ensures taken { IfOk result (λ sparse. SparsifiesPivotRows sparse.items self.old self.new.recorded) }
         ensures long { IfOk result (λ sparse. length sparse.items ≡ length self.old.peeling.rows) }
         ensures short { IfOk result (λ sparse. TookAtMost self.old.sparsify_limit sparse.items self.old.additions.bounds.items) }
         ensures ends { OnOk result (self.new.ends ≡ sparsified_at self.old.ends (length self.new.recorded.operations)) }
@@ -58,33 +60,44 @@ fn sparsify_rows(
     requires wide { length peeling.now.places ≤ length peeling.now.rows + recorded.old.table.width }
     requires taken { PivotsHaveTaken additions.now.ones peeling.now additions.now.bounds.items recorded.old }
     requires long { length sparse.old ≡ length peeling.now.rows }
-    ensures taken { OnOk result (TakesBack additions.now.ones peeling.now.rows peeling.now.order sparse.new 0 recorded.old recorded.new) }
+    ensures taken { OnOk result (Sparsifies additions.now.ones peeling.now.rows peeling.now.order sparse.new 0 recorded.old recorded.new) }
     ensures short { OnOk result (TookAtMost limit sparse.new additions.now.bounds.items) }
     ensures few { OnOk result (AddsAtMost (length peeling.now.rows * limit) recorded.old recorded.new) }
     ensures err { IfErr result (λ e. e ≡ OutOfMemory) }
 {
-    let inactive = peeling.width() - peeling.pivots();
     for done in 0..sparse.len() {
         let place = sparse.len() - 1 - done;
-        let row = peeling.row_of(place);
-        let (start, end) = (additions.bounds[place], additions.bounds[place + 1]);
-        let ones = additions.ones.row(row).len();
-        let entries = recorded.table.count_entries(row, inactive);
-        let saves = saves_additions(ones, end - start, limit, entries);
+        let saves = saves_additions(additions, peeling, place, limit, recorded);
         sparse[place] = saves;
         if saves {
-            redo_additions(&OnRows, row, start, end, recorded)?;
+            let (start, end) = (additions.bounds[place], additions.bounds[place + 1]);
+            redo_additions(&OnRows, peeling.row_of(place), start, end, recorded)?;
         }
     }
     Ok(())
 }
 
-// Whether a row with `ones` ones that took `taken` rows took `limit` at most, and it saves additions to
-// take them back. Each of them costs two additions then, since the row takes it again, and each of its
-// entries in the inactive columns one, as do all of its ones but its own pivot's and one for each of
-// these rows: one less than both together.
-fn saves_additions(ones: usize, taken: usize, limit: usize, entries: usize) -> bool
-    ensures { IsTrue result → taken ≤ limit }
+// Whether the row of the pivot at a place took `limit` rows at most, and it saves additions to take them
+// back. Each of them costs two additions then, since the row takes it again, and each of its entries in
+// the inactive columns one, as do all of its ones but its own pivot's and one for each of these rows:
+// one less than both together.
+fn saves_additions(
+    additions: &PivotAdditions,
+    peeling: &Peeling,
+    place: usize,
+    limit: usize,
+    recorded: &RecordedRows,
+) -> bool
+    requires peeled { PeelsRows additions.now.ones peeling.now }
+    requires height { length recorded.now.table.rows ≡ length additions.now.ones }
+    requires wide { length peeling.now.places ≤ length peeling.now.rows + recorded.now.table.width }
+    requires taken { PivotsHaveTaken additions.now.ones peeling.now additions.now.bounds.items recorded.now }
+    requires place { place < length peeling.now.rows }
+    ensures { IsTrue result → at additions.now.bounds.items (place + 1) - at additions.now.bounds.items place ≤ limit }
 {
-    taken <= limit && entries >= ones.saturating_add(taken)
+    let row = peeling.row_of(place);
+    let ones = additions.ones.row(row).len();
+    let taken = additions.bounds[place + 1] - additions.bounds[place];
+    let inactive = peeling.width() - peeling.pivots();
+    taken <= limit && recorded.table.count_entries(row, inactive) >= ones.saturating_add(taken)
 }

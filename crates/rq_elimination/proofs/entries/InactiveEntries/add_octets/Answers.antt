@@ -2,7 +2,7 @@
 use Rattle.std.proofs.Common.{List, ℕ, length, refl, sym, ap, ◌∙◌, arith}
 use Rattle.rq_parts.specs.DenseOctetMatrix.{row_at, with_row}
 use Rattle.rq_standard.specs.Rows.{row_sum, row_multiple}
-use Rattle.rq_elimination.specs.InactiveEntries.{unpacked}
+use Rattle.rq_elimination.specs.InactiveEntries.{octets_of_bits}
 use Rattle.rq_elimination.proofs.EntryRows.{bits_place, filled_long, filled_other, filled_place, filled_read, filled_width, filled_written, filled_written_seen, has_octets, own_octets, own_place, read_is, row_unpacked}
 use Rattle.rq_elimination.proofs.entries.InactiveEntries.add_octets.Goals as goal
 
@@ -40,10 +40,10 @@ pub returns-then-is_bits-clause-ok : goal.returns-then-is_bits-clause-ok
 returns-then-is_bits-clause-ok c =
     let none = ap length (sym (filled_other c.self.inside c.self.invariant c.self.view_is c.args.dest c.requires.dest c.unpack_row.new.self _ c.get-bits.ensures.symbol c.in_ok-unpack_row.ensures.row c.args.src (λ same. c.requires.two (sym same)))) ∙ c.if-is_bits.ensures.none refl in
     filled_written_seen c.self.inside c.self.invariant c.self.view_is c.args.dest c.requires.dest c.unpack_row.new.self _ c.get-bits.ensures.symbol c.in_ok-unpack_row.ensures.row c.add_bits.new.self _ c.add_bits.ensures.sum c.add_bits.ensures.octets
-    ∙ ap (λ (r : List ℕ). with_row c.args.self.now c.args.dest (row_sum r (row_multiple c.args.scalar.now (unpacked c.unpack_row.new.self.width c.get.result.now)))) (filled_read c.self.inside c.self.invariant c.self.view_is c.args.dest c.requires.dest c.unpack_row.new.self _ c.get-bits.ensures.symbol c.in_ok-unpack_row.ensures.row)
+    ∙ ap (λ (r : List ℕ). with_row c.args.self.now c.args.dest (row_sum r (row_multiple c.args.scalar.now (octets_of_bits c.unpack_row.new.self.width c.get.result.now)))) (filled_read c.self.inside c.self.invariant c.self.view_is c.args.dest c.requires.dest c.unpack_row.new.self _ c.get-bits.ensures.symbol c.in_ok-unpack_row.ensures.row)
     ∙ ap (λ (b : List ℕ). with_row c.args.self.now c.args.dest (row_sum (row_at c.args.self.now c.args.dest) (row_multiple c.args.scalar.now b))) (
-    ap (λ n. unpacked n c.get.result.now) (filled_width c.self.inside c.self.invariant c.self.view_is c.args.dest c.requires.dest c.unpack_row.new.self _ c.get-bits.ensures.symbol c.in_ok-unpack_row.ensures.row)
-    ∙ ap (unpacked c.self.inside.octets.width) (c.get.ensures.symbol ∙ read_is c.self.inside c.self.invariant c.self.view_is c.args.src c.requires.src)
+    ap (λ n. octets_of_bits n c.get.result.now) (filled_width c.self.inside c.self.invariant c.self.view_is c.args.dest c.requires.dest c.unpack_row.new.self _ c.get-bits.ensures.symbol c.in_ok-unpack_row.ensures.row)
+    ∙ ap (octets_of_bits c.self.inside.octets.width) (c.get.ensures.symbol ∙ read_is c.self.inside c.self.invariant c.self.view_is c.args.src c.requires.src)
     ∙ row_unpacked c.self.inside c.self.invariant c.self.view_is c.args.src c.requires.src none)
 
 -- ---- octets are added

@@ -3,13 +3,13 @@ use Rattle.std.proofs.Common.{◌≡◌, ◌<◌, ℕ, List, None, Some, get_or,
 use Rattle.rq_parts.specs.DenseOctetMatrix.{row_at}
 use Rattle.rq_elimination.specs.InactiveEntries.{bit_in}
 use Rattle.rq_elimination.proofs.EntryRows.{next_entry_same}
-use Rattle.rq_elimination.proofs.UnpackedBits.{at-unpacked, bit_small}
+use Rattle.rq_elimination.proofs.UnpackedBits.{at-octets_of_bits, bit_small}
 use Rattle.rq_elimination.proofs.entries.InactiveEntries.next_entry.Goals as goal
 use Rattle.rq_elimination.proofs.entries.InactiveEntries.next_entry.Goals.{In-Bits}
 
 -- the bits are what the row has
 same : (c : In-Bits) (k : ℕ) → k < c.args.end → bit_in c.in-Bits.bits.now k ≡ slice_index (row_at c.args.self.now c.args.row) k
-same c k l = sym (at-unpacked c.args.self.now.width c.in-Bits.bits.now k (omega (arith, c.requires.end))) ∙ ap (λ (r : List ℕ). get_or r k 0) c.in-Bits.ensures.octets
+same c k l = sym (at-octets_of_bits c.args.self.now.width c.in-Bits.bits.now k (omega (arith, c.requires.end))) ∙ ap (λ (r : List ℕ). get_or r k 0) c.in-Bits.ensures.octets
 
 pub returns-in-Some : goal.returns-in-Some
 returns-in-Some c =

@@ -1,7 +1,7 @@
 -- What the check leaves to show of `entries::InactiveEntries::set_one`.
 use Rattle.std.proofs.Common.{ℕ, List, set, ap, refl, ◌∙◌}
 use Rattle.rq_parts.specs.DenseOctetMatrix.{with_row}
-use Rattle.rq_elimination.specs.InactiveEntries.{unpacked}
+use Rattle.rq_elimination.specs.InactiveEntries.{octets_of_bits}
 use Rattle.rq_elimination.proofs.EntryRows.{bits_place, bits_written, bits_written_seen, own_octets, own_place, read_is, row_unpacked, width_is, written, written_seen}
 use Rattle.rq_elimination.proofs.entries.InactiveEntries.set_one.Goals as goal
 
@@ -28,7 +28,7 @@ returns-then-is_bits c =
     bits_written_seen c.self.inside c.self.invariant c.self.view_is c.args.row c.requires.row (c.if-is_bits.ensures.none refl) bits long _ (c.get_mut.ensures.whole_symbol bits long)
     ∙ ap (with_row c.args.self.now c.args.row) (
     c.set_bit.ensures width (rw (width_is c.self.inside c.self.invariant c.self.view_is) c.requires.column)
-    ∙ ap (λ (b : List ℕ). one (unpacked width b)) (c.get_mut.ensures.symbol ∙ read_is c.self.inside c.self.invariant c.self.view_is c.args.row c.requires.row)
+    ∙ ap (λ (b : List ℕ). one (octets_of_bits width b)) (c.get_mut.ensures.symbol ∙ read_is c.self.inside c.self.invariant c.self.view_is c.args.row c.requires.row)
     ∙ ap one (row_unpacked c.self.inside c.self.invariant c.self.view_is c.args.row c.requires.row (c.if-is_bits.ensures.none refl)))
 
 -- ---- a row of octets

@@ -1,11 +1,11 @@
 -- What the check leaves to show of `entries::InactiveEntries::word_of`.
 use Rattle.std.proofs.Common.{◌+◌, ◌*◌, List, ℕ, get_or, sym, ap, ◌∙◌}
-use Rattle.rq_elimination.proofs.UnpackedBits.{at-unpacked}
+use Rattle.rq_elimination.proofs.UnpackedBits.{at-octets_of_bits}
 use Rattle.rq_elimination.proofs.entries.InactiveEntries.word_of.Goals as goal
 
 pub returns-in-Bits : goal.returns-in-Bits
 returns-in-Bits c = λ k near inside.
     let place = 64 * c.args.word + k in
     c.word.ensures k near
-    ∙ sym (at-unpacked c.args.self.now.width c.in-Bits.bits.now place inside)
+    ∙ sym (at-octets_of_bits c.args.self.now.width c.in-Bits.bits.now place inside)
     ∙ ap (λ (r : List ℕ). get_or r place 0) c.in-Bits.ensures.octets

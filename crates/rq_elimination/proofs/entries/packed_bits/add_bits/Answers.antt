@@ -2,8 +2,8 @@
 use Rattle.std.proofs.Common.{◌≡◌, ◌+◌, ◌*◌, length, ◌∙◌, arith}
 use Rattle.rq_standard.specs.Octets.{octet_mul}
 use Rattle.rq_bytes.proofs.ZipUpto.{added_store, added_all}
-use Rattle.rq_elimination.specs.InactiveEntries.{unpacked}
-use Rattle.rq_elimination.proofs.UnpackedBits.{block_bits, length-unpacked}
+use Rattle.rq_elimination.specs.InactiveEntries.{octets_of_bits}
+use Rattle.rq_elimination.proofs.UnpackedBits.{block_bits, length-octets_of_bits}
 use Rattle.rq_elimination.proofs.entries.packed_bits.add_bits.Goals as goal
 
 pub loop-block-preserved : goal.loop-block-preserved
@@ -11,13 +11,13 @@ loop-block-preserved c =
     let s = c.args.scalar in
     let n = length c.args.octets.now in
     let at = 32 * c.loop-block.block in
-    let row = unpacked n c.args.bits.now in
+    let row = octets_of_bits n c.args.bits.now in
     let bits = block_bits s n at c.args.bits.now (omega arith) (omega arith) c.requires.room in
-    added_store (octet_mul s) c.loop-block.octets c.args.octets.now row at c.loop-block.invariant (omega (arith, length-unpacked n c.args.bits.now)) 32 (32 * (c.loop-block.block + 1)) _ (c.bit_products-multiple.ensures ∙ bits) (omega arith) (omega arith)
+    added_store (octet_mul s) c.loop-block.octets c.args.octets.now row at c.loop-block.invariant (omega (arith, length-octets_of_bits n c.args.bits.now)) 32 (32 * (c.loop-block.block + 1)) _ (c.bit_products-multiple.ensures ∙ bits) (omega arith) (omega arith)
 
 pub returns : goal.returns
 returns c =
     let n = length c.args.octets.now in
-    let row = unpacked n c.args.bits.now in
+    let row = octets_of_bits n c.args.bits.now in
     let whole : 32 * c.loop-block.block ≡ n = omega (arith, c.requires.whole) in
-    added_all (octet_mul c.args.scalar) c.loop-block.octets c.args.octets.now row _ c.loop-block.invariant (omega (arith, length-unpacked n c.args.bits.now)) whole
+    added_all (octet_mul c.args.scalar) c.loop-block.octets c.args.octets.now row _ c.loop-block.invariant (omega (arith, length-octets_of_bits n c.args.bits.now)) whole

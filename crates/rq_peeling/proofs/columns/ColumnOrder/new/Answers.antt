@@ -1,7 +1,7 @@
 -- What the check leaves to show of `columns::ColumnOrder::new`.
 use Rattle.std.proofs.Common.{◌≡◌, refl, ◌∙◌}
 use Rattle.std.specs.List.{range_with_len}
-use Rattle.rq_matrix.proofs.Orders.{first_numbers}
+use Rattle.rq_matrix.proofs.OrderLaws.{first_numbers}
 use Rattle.rq_peeling.proofs.ColumnLaws.{first_state}
 use Rattle.rq_peeling.proofs.columns.ColumnOrder.new.Goals as goal
 use Rattle.rq_peeling.proofs.columns.ColumnOrder.new.Goals.{In_ok-collect-2}
@@ -14,7 +14,7 @@ module _ (c : In_ok-collect-2) where
   places = c.in_ok-collect-2.ensures.ran.2.0 ∙ first_numbers c.args.width c.in_ok-collect-2.ensures.ran.0 c.in_ok-collect-2.ensures.ran.1
 
 pub invariant_of-result : goal.invariant_of-result
-invariant_of-result c = rw (order c, places c) (first_state c.args.width c.args.boundary c.requires.boundary)
+invariant_of-result c = rw (order c, places c) (first_state c.args.width c.args.lt_columns c.requires.lt_columns)
 
 pub returns-clause-columns : goal.returns-clause-columns
 returns-clause-columns c = rw (order c, places c) refl

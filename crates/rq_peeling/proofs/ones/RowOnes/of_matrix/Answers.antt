@@ -25,7 +25,7 @@ loop-row-preserved g c =
       between = between_next old new added.kept starts v.between;
       ones = ones_next old new added.kept starts v.between content.width c.loop-row.row content.bit v.ones added.ones;
       rows = length-append counts (before ∷ []) ∙ ap (λ (n : ℕ). n + 1) v.rows;
-      counted = counts_next old new added.kept starts v.between c.args.boundary before counts (omega (arith, v.rows, v.ones.count, length-lists starts old, v.between.rise.some)) v.counted c.in_ok-push_ones.ensures.counted;
+      counted = counts_next old new added.kept starts v.between c.args.lt_columns before counts (omega (arith, v.rows, v.ones.count, length-lists starts old, v.between.rise.some)) v.counted c.in_ok-push_ones.ensures.counted;
     })
 
 pub returns-clause-ones : goal.returns-clause-ones

@@ -12,5 +12,5 @@ invariant-loop-row g l =
       between : AreAllBetween l.starts.items l.columns.items;
       ones : AreOnesOfRows l.row content.width content.bit (lists_between l.starts.items l.columns.items);
       rows : length l.counts.items ≡ l.row;
-      counted : CountsBefore l.boundary (lists_between l.starts.items l.columns.items) l.counts.items;
+      counted : CountsBefore l.lt_columns (lists_between l.starts.items l.columns.items) l.counts.items;
     }

@@ -25,15 +25,15 @@ loop-turn-preserved c =
     let counted : CountsActive s.ones new.columns new.degrees = rw (c.in-Some.is, v.system) at c.in_ok-row.ensures.counted in
     let in_lists : row < length s.ones = omega (arith, least.below, long) in
     let within : All (λ row. All (λ column. column < length cur.columns.order) row) s.ones = rw width all in
-    let pick = fewest_left s.ones s.boundary s.width taken cur.columns all v.chosen.left cur.degrees long v.chosen.counts row least in
+    let pick = fewest_left s.ones s.lt_columns s.width taken cur.columns all v.chosen.left cur.degrees long v.chosen.counts row least in
     let grown = length-append taken (row ∷ []) in
     rw c.in_ok-push.ensures.items (record {
       chosen = record {
         so = peeled_next s.ones taken cur.columns new.columns within v.chosen.so row in_lists takes;
         end = omega (arith, takes.fewer, v.chosen.end);
-        left = λ k l. left_next s.ones s.boundary taken row cur.columns new.columns takes (λ j m. v.chosen.left j (rw width at m)) k (rw width l);
+        left = λ k l. left_next s.ones s.lt_columns taken row cur.columns new.columns takes (λ j m. v.chosen.left j (rw width at m)) k (rw width l);
         counts = counted;
-        fewest = takes_more s.ones s.boundary taken row v.chosen.fewest pick;
+        fewest = takes_more s.ones s.lt_columns taken row v.chosen.fewest pick;
       };
       turns = omega (arith, grown, v.turns);
       system = c.take_next.ensures.system ∙ v.system;
@@ -51,10 +51,10 @@ returns-clause-fewest c =
       each = v.chosen.fewest;
       last = elim c.loop-turn-test.branch [
         | else-loop-turn-test w ↦
-            none_left s.ones s.boundary s.width taken cur.columns all v.chosen.left
+            none_left s.ones s.lt_columns s.width taken cur.columns all v.chosen.left
             (λ k a. let from = a.from in let below = a.below in omega (arith, from, below, v.chosen.end, v.turns, v.chosen.so.count, w.loop-turn-test.false, c.loop-turn.auto.turn-end))
         | then-loop-turn-test+in_ok-row+in_default w ↦
             let none : AllHaveNone cur.degrees = rw w.in_default.is at w.in_ok-row.ensures.none in
-            all_done s.ones s.boundary s.width taken cur.columns all v.chosen.left cur.degrees long v.chosen.counts none
+            all_done s.ones s.lt_columns s.width taken cur.columns all v.chosen.left cur.degrees long v.chosen.counts none
       ];
     }

@@ -5,7 +5,7 @@ use Rattle.rq_standard.specs.ConstraintMatrix.{with_octet_rows}
 use Rattle.rq_operations.specs.RecordedOperations.{operations_of}
 use Rattle.rq_parts.specs.DenseOctetMatrix.{entry_of}
 use Rattle.rq_elimination.proofs.PhaseTotals.{totals_of}
-use Rattle.rq_solver.proofs.SolutionLaws.{by_phases, is_solution, if_some, recorded_counted, recorded_found}
+use Rattle.rq_solver.proofs.SolutionLaws.{by_phases, is_solution, if_some, recorded_found, recorded_totals}
 use Rattle.rq_solver.proofs.pi_solver.IntermediateSymbolDecoder.execute.Goals as goal
 
 pub replay-requires : goal.replay-requires
@@ -33,16 +33,32 @@ returns-clause-solved g c =
     (rw c.in_ok-into_operations.ensures.operations
     (is_solution m.height m.width rows operations finds handed _ (solver.unordered handed (sym c.in-Some.ensures.value)) (c.symbols-2.view_is ∙ c.in_ok-replay.ensures.ok)))
 
+pub returns-in_default-into_operations-clause-counted : goal.returns-in_default-into_operations-clause-counted
+returns-in_default-into_operations-clause-counted g c =
+    let a = c.counts-self.ensures.additions_are in
+    let m = c.counts-self.ensures.multiplications_are in
+    record {
+      found = c.in_ok-found.found;
+      runs = c.in_ok-found.ensures.phases;
+      answers = rw c.in_default-into_operations.is at c.into_operations.ensures;
+      in_order = c.in_ok-found.found.in_order;
+      added = by_phases _ _ _ _ _ _ a.first a.second a.fourth;
+      multiplied = by_phases _ _ _ _ _ _ m.first m.second m.fourth;
+      additions_are = tt;
+      multiplications_are = tt;
+    }
+
 pub returns-clause-counted : goal.returns-clause-counted
 returns-clause-counted g c =
-    let counted = recorded_counted c.in_ok-found.found c.counts-self.result c.into_operations.result c.in-Some-into_operations.operations c.counts-self.ensures c.in-Some-into_operations.is c.into_operations.ensures in
-    let operations = operations_of c.in-Some-into_operations.operations in
-    let totals = totals_of counted.ends operations c.counts-self.result counted.in_order counted.are in
-    let a = counted.are.additions_are in
-    let m = counted.are.multiplications_are in
+    let found = c.in_ok-found.found in
+    let totals = recorded_totals found c.counts-self.result c.into_operations.result c.in-Some-into_operations.operations c.counts-self.ensures c.in-Some-into_operations.is c.into_operations.ensures in
+    let a = c.counts-self.ensures.additions_are in
+    let m = c.counts-self.ensures.multiplications_are in
     rw c.in_ok-into_operations.ensures.operations (record {
-      ends = counted.ends;
-      in_order = counted.in_order;
+      found = found;
+      runs = c.in_ok-found.ensures.phases;
+      answers = rw c.in-Some-into_operations.is at c.into_operations.ensures;
+      in_order = found.in_order;
       added = by_phases _ _ _ _ _ _ a.first a.second a.fourth;
       multiplied = by_phases _ _ _ _ _ _ m.first m.second m.fourth;
       additions_are = omega (arith, totals.additions_are);

@@ -9,7 +9,17 @@ use Rattle.rq_solver.proofs.pi_solver.IntermediateSymbolDecoder.of_row_no_hdpc.G
 pub returns : goal.returns
 returns g c =
     let bits = g.T.BinaryMatrix.content c.args.matrix in
-    let of_rows : (ℕ → ℕ → ℕ) → Solver = λ rows. record { height = length c.args.symbols.values; width = intermediate_symbols c.args.row.now; rows = rows; symbols = Some c.args.symbols; additions = replicate 5 0; multiplications = replicate 5 0 } in
+    let of_rows : (ℕ → ℕ → ℕ) → Solver = λ rows. record {
+      height = length c.args.symbols.values;
+      width = intermediate_symbols c.args.row.now;
+      first_hdpc = 0;
+      hdpc_rows = 0;
+      lt_columns = c.args.row.now.lt_symbols;
+      rows = rows;
+      symbols = Some c.args.symbols;
+      additions = replicate 5 0;
+      multiplications = replicate 5 0;
+    } in
     let empty : length c.without_rows-hdpc.result.rows ≡ 0 = ap (λ (t : OctetTable). length t.rows) c.without_rows-hdpc.ensures in
     let counts = c.none.result in
     let a : counts.additions.first ≡ 0 = omega (arith, c.none.ensures.additions) in

@@ -5,7 +5,7 @@ use Rattle.rq_algebra.specs.Systems.{at}
 use Rattle.rq_elimination.specs.OperationCounts.{additions}
 use Rattle.rq_peeling.proofs.PlaceCounts.{few_places}
 use Rattle.rq_solver.proofs.PivotsTaken.{peels_rows}
-use Rattle.rq_solver.proofs.PivotsCleared.{peeled_pivots, pivot_of_bits}
+use Rattle.rq_solver.proofs.PivotsCleared.{peeled_pivots, pivot_of_bits, takes_alone}
 use Rattle.rq_solver.proofs.TakenAgain.{taken_performed}
 use Rattle.rq_solver.proofs.pi_solver.first_phase.clear_pivots.Goals as goal
 
@@ -26,6 +26,12 @@ returns-clause-cleared c =
     peeled_pivots system.ones system.first_hdpc system.hdpc system.width system.bits system.octet_rows pivots.rows pivots.order pivots.places c.requires.peeled c.args.row_order.now c.requires.ordered
     c.in_ok-recorded.recorded c.clear_rows.new.recorded c.clear_octets.new.recorded c.in_ok-bounds.ensures.cleared c.in_ok-clear_octets.ensures.cleared
     inactive wide c.in_ok-recorded.ensures.operations (rw c.in_ok-recorded.ensures.table c.in_ok-table.ensures.entries)
+
+pub returns-clause-alone : goal.returns-clause-alone
+returns-clause-alone c =
+    let pivots = c.args.peeling.now in
+    takes_alone c.args.system pivots.rows pivots.order c.args.row_order.now c.in_ok-recorded.recorded c.clear_rows.new.recorded c.clear_octets.new.recorded c.in_ok-bounds.ensures.cleared c.in_ok-clear_octets.ensures.cleared
+    c.in_ok-recorded.ensures.operations
 
 pub returns-clause-taken : goal.returns-clause-taken
 returns-clause-taken c =

@@ -12,7 +12,7 @@ use Rattle.rq_peeling.specs.declared.system.System.{System}
 use Rattle.rq_solver.specs.EliminationState.{inactive_count, left_rows, AddsLater}
 use Rattle.rq_solver.specs.FirstPhase.{HasPeeledPivots}
 use Rattle.rq_solver.specs.HdpcOctets.{batch_bound}
-use Rattle.rq_solver.specs.Phases.{ClearsPivots, FindsOrder, IsAttempt}
+use Rattle.rq_solver.specs.Phases.{ClearsPivots, FindsOrder, SolvesSystem}
 use Rattle.rq_solver.specs.RowOrder.{ListsRows}
 use Rattle.rq_solver.specs.declared.pi_solver.elimination.Elimination.{Elimination}
 use Rattle.rq_solver.proofs.CountLaws.{few_in_all, few_together}
@@ -53,7 +53,7 @@ returns-clause-few c =
 -- ---- what they find
 
 attempt_of : (system : System) (peeling : Pivots) (first last : Elimination) (answer : Option (Vec ℕ Global)) → IsPeeled system.width system.ones peeling → first.peeling ≡ peeling → ClearsPivots system peeling first.row_order.items first.recorded → FindsOrder first last answer
-    → IsAttempt system last.recorded.operations answer
+    → SolvesSystem system last.recorded.operations answer
 attempt_of system peeling first last answer peeled is cleared found =
     let here : HasPeeledPivots (length first.recorded.table.rows) (length first.peeling.places) (rows_of system) first.peeling (left_rows first) first.recorded = rw (is, cleared.height_is, peeled.columns.place_count) cleared in
     rw (cleared.height_is, is, peeled.columns.place_count) at (found (rows_of system) here)
@@ -69,7 +69,10 @@ returns-clause-phases c =
     record {
       first = c.in_ok-elimination.elimination;
       last = c.later_phases.new.self;
+      peeled = rw made.peeling c.in_ok-peeling.ensures.peeled;
+      fewest = rw made.peeling c.in_ok-peeling.ensures.fewest;
       cleared = rw made.peeling made.cleared;
+      alone = rw made.peeling made.alone;
       first_end = ap (λ (e : PhaseEnds). e.cleared) made.ends;
       later = c.in_ok-order.ensures.phases;
       recorded = refl;

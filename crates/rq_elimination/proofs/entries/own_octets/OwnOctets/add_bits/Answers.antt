@@ -3,7 +3,7 @@ use Rattle.std.proofs.Common.{List, ℕ, sym, ap, ◌∙◌}
 use Rattle.rq_algebra.specs.Systems.{at}
 use Rattle.rq_parts.specs.DenseOctetMatrix.{with_row}
 use Rattle.rq_standard.specs.Rows.{row_sum, row_multiple}
-use Rattle.rq_elimination.specs.InactiveEntries.{place_before, unpacked}
+use Rattle.rq_elimination.specs.InactiveEntries.{place_before, octets_of_bits}
 use Rattle.rq_elimination.proofs.OwnRows.{read, some_place, width_is, written, written_octets}
 use Rattle.rq_elimination.proofs.entries.own_octets.OwnOctets.add_bits.Goals as goal
 
@@ -18,9 +18,9 @@ returns-in-Some-clause-sum c =
     written c.self.invariant c.self.view_is c.args.row c.requires.row c.in-Some.place is _ ws long (lent.ensures.whole_symbol ws long)
     ∙ ap (with_row now c.args.row) (
     c.add_bits.ensures
-    ∙ ap (λ (n : ℕ). row_sum lent.result.now (row_multiple c.byte.result (unpacked n bits))) (lent.ensures.len ∙ width_is c.self.invariant c.self.view_is)
-    ∙ ap (λ (a : ℕ). row_sum lent.result.now (row_multiple a (unpacked now.width bits))) c.byte.ensures
-    ∙ ap (λ (r : List ℕ). row_sum r (row_multiple c.args.scalar.now (unpacked now.width bits))) (lent.ensures.symbol ∙ read c.self.invariant c.self.view_is c.args.row c.requires.row c.in-Some.place is))
+    ∙ ap (λ (n : ℕ). row_sum lent.result.now (row_multiple c.byte.result (octets_of_bits n bits))) (lent.ensures.len ∙ width_is c.self.invariant c.self.view_is)
+    ∙ ap (λ (a : ℕ). row_sum lent.result.now (row_multiple a (octets_of_bits now.width bits))) c.byte.ensures
+    ∙ ap (λ (r : List ℕ). row_sum r (row_multiple c.args.scalar.now (octets_of_bits now.width bits))) (lent.ensures.symbol ∙ read c.self.invariant c.self.view_is c.args.row c.requires.row c.in-Some.place is))
 
 pub returns-in-Some-clause-octets : goal.returns-in-Some-clause-octets
 returns-in-Some-clause-octets c =

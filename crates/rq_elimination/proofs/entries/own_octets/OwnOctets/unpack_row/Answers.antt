@@ -2,10 +2,10 @@
 use Rattle.std.proofs.Common.{sym, ap, ◌∙◌}
 use Rattle.std.proofs.lemmas.List.{get_or_default}
 use Rattle.rq_parts.specs.DenseOctetMatrix.{row_at, with_row}
-use Rattle.rq_elimination.specs.InactiveEntries.{unpacked}
+use Rattle.rq_elimination.specs.InactiveEntries.{octets_of_bits}
 use Rattle.rq_elimination.proofs.EntryRows.{row_of_none}
 use Rattle.rq_elimination.proofs.OwnRows.{in_places, is_bits, placed_next, seen_next, width_is}
-use Rattle.rq_elimination.proofs.UnpackedBits.{length-unpacked}
+use Rattle.rq_elimination.proofs.UnpackedBits.{length-octets_of_bits}
 use Rattle.rq_elimination.proofs.entries.own_octets.OwnOctets.unpack_row.Goals as goal
 
 pub invariant_of-self-then-index-eq0 : goal.invariant_of-self-then-index-eq0
@@ -14,7 +14,7 @@ invariant_of-self-then-index-eq0 c =
     let bits = c.args.bits.now in
     let size = e.rows.symbol_size in
     let none = sym (get_or_default e.places.items c.args.row c.index.result.now 0 (in_places c.self.invariant c.self.view_is c.args.row c.requires.row)) ∙ sym c.index.ensures ∙ c.if-index-eq0.true in
-    placed_next c.self.invariant c.self.view_is c.args.row c.requires.row none c.push_bits.new.rows (unpacked size bits) (length-unpacked size bits) c.in_ok-push_bits.ensures.ok c.len.result c.len.ensures.count
+    placed_next c.self.invariant c.self.view_is c.args.row c.requires.row none c.push_bits.new.rows (octets_of_bits size bits) (length-octets_of_bits size bits) c.in_ok-push_bits.ensures.ok c.len.result c.len.ensures.count
 
 pub returns-in_ok-push_bits-clause-row : goal.returns-in_ok-push_bits-clause-row
 returns-in_ok-push_bits-clause-row c =
@@ -24,5 +24,5 @@ returns-in_ok-push_bits-clause-row c =
     let size = e.rows.symbol_size in
     let row = row_at now c.args.row in
     let none = sym (get_or_default e.places.items c.args.row c.index.result.now 0 (in_places c.self.invariant c.self.view_is c.args.row c.requires.row)) ∙ sym c.index.ensures ∙ c.if-index-eq0.true in
-    seen_next c.self.invariant c.self.view_is c.args.row c.requires.row none c.push_bits.new.rows (unpacked size bits) (length-unpacked size bits) c.in_ok-push_bits.ensures.ok c.len.result c.len.ensures.count
-    ∙ ap (with_row now c.args.row) (ap (λ n. unpacked n bits) (width_is c.self.invariant c.self.view_is) ∙ sym (row_of_none now.width bits row (is_bits c.self.invariant c.self.view_is c.args.row c.requires.row none)))
+    seen_next c.self.invariant c.self.view_is c.args.row c.requires.row none c.push_bits.new.rows (octets_of_bits size bits) (length-octets_of_bits size bits) c.in_ok-push_bits.ensures.ok c.len.result c.len.ensures.count
+    ∙ ap (with_row now c.args.row) (ap (λ n. octets_of_bits n bits) (width_is c.self.invariant c.self.view_is) ∙ sym (row_of_none now.width bits row (is_bits c.self.invariant c.self.view_is c.args.row c.requires.row none)))

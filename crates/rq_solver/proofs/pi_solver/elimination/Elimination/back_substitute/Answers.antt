@@ -3,7 +3,7 @@ use Rattle.std.proofs.Common.{◌≡◌, ◌-◌, ℕ, List, length, drop, take,
 use Rattle.std.proofs.lemmas.List.{take_rest}
 use Rattle.rq_parts.specs.DenseOctetMatrix.{OctetTable}
 use Rattle.rq_solver.specs.EliminationState.{inactive_count, left_rows}
-use Rattle.rq_solver.specs.SecondPhase.{ReducesBack}
+use Rattle.rq_solver.specs.SecondPhase.{SubstitutesBack}
 use Rattle.rq_solver.proofs.Substitution.{reduces_as}
 use Rattle.rq_solver.proofs.UnderWay.{ends_substituted, longer_by, still_under_way}
 use Rattle.rq_solver.proofs.pi_solver.elimination.Elimination.back_substitute.Goals as goal
@@ -26,5 +26,5 @@ returns-clause-reduced c =
     let rows = c.deref.result.now in
     let rows_are : take (length rows - pivots) (drop pivots rows) ≡ left_rows e = take_rest rows pivots ∙ ap (λ (xs : List ℕ). drop pivots xs) c.deref.ensures.value ∙ ap (λ (n : ℕ). drop n e.row_order.items) c.pivots-pivots.ensures in
     let count : c.width.result - pivots ≡ inactive_count e = omega (arith, c.width.ensures, c.pivots-pivots.ensures) in
-    let made : ReducesBack (left_rows e) (inactive_count e) 0 e.recorded c.substitute_rows.new.recorded = rw (rows_are, count) at c.in_ok-substitute_rows.ensures.reduced in
+    let made : SubstitutesBack (left_rows e) (inactive_count e) 0 e.recorded c.substitute_rows.new.recorded = rw (rows_are, count) at c.in_ok-substitute_rows.ensures.reduced in
     reduces_as (left_rows e) (inactive_count e) 0 e.recorded c.substitute_rows.new.recorded _ refl refl made

@@ -5,7 +5,7 @@ use Rattle.std.specs.Iterator.Adapters.{enumerate_count, enumerate_source}
 use Rattle.std.specs.Slice.Iter.{chunks_rest, chunks_size}
 use Rattle.rq_algebra.specs.Systems.{at}
 use Rattle.rq_parts.specs.DenseOctetMatrix.{entry_of}
-use Rattle.rq_solver.specs.SecondPhase.{TakesReduced}
+use Rattle.rq_solver.specs.SecondPhase.{ClearsColumns}
 use Rattle.rq_solver.proofs.Substitution.{reduced_none}
 use Rattle.rq_solver.proofs.ReducedWords.{can_take_part, reduced_join, reduced_part, reduced_same}
 use Rattle.rq_solver.proofs.pi_solver.fourth_phase.clear_inactive.clear_columns.Goals as goal
@@ -89,7 +89,7 @@ loop-word-preserved c =
       same = others_same reduced rest some others from next split there v.same;
       place = λ more. (let stands = v.place steps.0.1.2 in let counted = steps.2 in omega (arith, stands, counted, long, whole, more));
       taken = reduced_join reduced row 0 inactive entries from next (omega arith) (omega (arith, there)) (omega arith) old cur new (λ f l n. c.requires.rows.apart f (omega (arith, n, c.requires.many))) v.taken
-          (subst (λ t. TakesReduced reduced row from t t entries cur new) there part);
+          (subst (λ t. ClearsColumns reduced row from t t entries cur new) there part);
       few =
           let added = c.in_ok-take_word.ensures.few in
           let so_far = v.few in

@@ -1,7 +1,7 @@
 -- What the loops keep in `pi_solver::fourth_phase::clear_inactive::take_octets`.
 use Rattle.std.proofs.Common.{◌+◌, ◌-◌, ◌≤◌, length}
 use Rattle.rq_parts.specs.DenseOctetMatrix.{entry_of}
-use Rattle.rq_solver.specs.SecondPhase.{TakesReduced}
+use Rattle.rq_solver.specs.SecondPhase.{ClearsColumns}
 use Rattle.rq_elimination.specs.OperationCounts.{additions}
 use Rattle.rq_solver.proofs.pi_solver.fourth_phase.clear_inactive.take_octets.Given as goal
 
@@ -9,7 +9,7 @@ abbrev pub invariant-loop-column : goal.invariant-loop-column
 invariant-loop-column l = record {
   from : l.start ≤ l.from;
   within : l.from ≤ l.start + length l.inactive_rows;
-  taken : TakesReduced l.inactive_rows l.row 0 (length l.inactive_rows) (l.from - l.start) (λ f. entry_of l.fn.recorded.table l.row (l.start + f)) l.fn.recorded l.recorded;
+  taken : ClearsColumns l.inactive_rows l.row 0 (length l.inactive_rows) (l.from - l.start) (λ f. entry_of l.fn.recorded.table l.row (l.start + f)) l.fn.recorded l.recorded;
   few : additions l.recorded.operations ≤ additions l.fn.recorded.operations + (l.from - l.start);
 }
 

@@ -19,6 +19,11 @@ loop-done-init c =
       few = omega arith;
     }
 
+pub saves_additions-saves-requires-clause-taken : goal.saves_additions-saves-requires-clause-taken
+saves_additions-saves-requires-clause-taken c =
+    let pivots = c.args.peeling.now in
+    taken_performed c.args.additions.now.ones pivots pivots.rows (length pivots.rows) c.args.additions.now.bounds.items c.args.recorded.now c.loop-done.recorded c.requires.taken _ c.loop-done.invariant.taken.performs
+
 pub redo_additions-requires-clause-sums : goal.redo_additions-requires-clause-sums
 redo_additions-requires-clause-sums c =
     let rows = c.args.peeling.now.rows in
@@ -27,9 +32,9 @@ redo_additions-requires-clause-sums c =
     let taken = c.requires.taken in
     let in_rows : place < length rows = omega (arith, c.loop-done.auto.sparse, c.requires.long, c.loop-done-test.true) in
     let start : c.index.result.now ≡ at bounds place = get_or_read bounds place c.index.result.now (omega (arith, taken.many, in_rows)) c.index.ensures 0 in
-    let end : c.index-in-loop-done.result.now ≡ at bounds (place + 1) = get_or_read bounds (place + 1) c.index-in-loop-done.result.now (omega (arith, taken.many, in_rows)) c.index-in-loop-done.ensures 0 in
+    let end : c.index-then-saves.result.now ≡ at bounds (place + 1) = get_or_read bounds (place + 1) c.index-then-saves.result.now (omega (arith, taken.many, in_rows)) c.index-then-saves.ensures 0 in
     let stands = taken_performed c.args.additions.now.ones c.args.peeling.now rows (length rows) bounds c.args.recorded.now c.loop-done.recorded taken _ c.loop-done.invariant.taken.performs in
-    rw (c.row_of-row.ensures, start, end) (sums_between c.args.additions.now.ones c.args.peeling.now rows (length rows) bounds c.loop-done.recorded stands place in_rows)
+    rw (c.row_of.ensures, start, end) (sums_between c.args.additions.now.ones c.args.peeling.now rows (length rows) bounds c.loop-done.recorded stands place in_rows)
 
 pub loop-done-preserved : goal.loop-done-preserved
 loop-done-preserved c =
@@ -54,26 +59,26 @@ loop-done-preserved c =
     let old = c.args.recorded.now in
     let cur = c.loop-done.recorded in
     let taken = c.requires.taken in
-    let start : c.index.result.now ≡ at bounds place = get_or_read bounds place c.index.result.now (omega (arith, taken.many, in_rows)) c.index.ensures 0 in
-    let end : c.index-in-loop-done.result.now ≡ at bounds (place + 1) = get_or_read bounds (place + 1) c.index-in-loop-done.result.now (omega (arith, taken.many, in_rows)) c.index-in-loop-done.ensures 0 in
     let stands = taken_performed lists c.args.peeling.now rows (length rows) bounds old cur taken _ v.taken.performs in
-    let read : c.row_of-row.result ≡ at rows place = c.row_of-row.ensures in
     let same : (p : ℕ) → p ≢ place → get_or now p false ≡ get_or marks p false = (λ (p : ℕ) (d : p ≢ place). get_or-set_other marks place p saves false d) in
     let here : get_or now place false ≡ saves = get_or-set_same marks place saves false in_marks in
     let so_far = rw was at v.taken in
     let short : (p : ℕ) → length rows - (done + 1) ≤ p → p < length rows → get_or now p false ≡ true → at bounds (p + 1) - at bounds p ≤ c.args.limit = (λ (p : ℕ) (late : length rows - (done + 1) ≤ p) (l : p < length rows) (e : get_or now p false ≡ true). elim (cases_eq p place) [
-      | inl f ↦ rw (f, ← start, ← end) (c.saves_additions-saves.ensures (sym here ∙ ap (λ (n : ℕ). get_or now n false) (sym f) ∙ e))
+      | inl f ↦ rw f (c.saves_additions-saves.ensures (sym here ∙ ap (λ (n : ℕ). get_or now n false) (sym f) ∙ e))
       | inr d ↦ v.short p (omega (arith, was, next, late, d)) l (sym (same p d) ∙ e)
     ]) in
     elim c.if-saves.branch [
-      | then-saves+in_ok-redo_additions w ↦ rw w.recorded-is (record {
-        taken = rw next (back_taken lists rows order places _ bits peeled marks now place in_rows old cur so_far same w.redo_additions.new.recorded (taken_between lists c.args.peeling.now rows (length rows) bounds cur stands place in_rows Performs w.redo_additions.new.recorded (rw (start, end) at w.in_ok-redo_additions.ensures.done)) (here ∙ w.if-saves.true));
-        short = short;
-        few =
-            let few_rows = c.saves_additions-saves.ensures w.if-saves.true in
-            let each = w.in_ok-redo_additions.ensures.few in
-            one_turn_more c.args.limit _ _ _ done v.few (omega (arith, each, few_rows));
-      })
+      | then-saves+in_ok-redo_additions w ↦
+          let start : w.index.result.now ≡ at bounds place = get_or_read bounds place w.index.result.now (omega (arith, taken.many, in_rows)) w.index.ensures 0 in
+          let end : w.index-then-saves.result.now ≡ at bounds (place + 1) = get_or_read bounds (place + 1) w.index-then-saves.result.now (omega (arith, taken.many, in_rows)) w.index-then-saves.ensures 0 in
+          rw w.recorded-is (record {
+            taken = rw next (back_taken lists rows order places _ bits peeled marks now place in_rows old cur so_far same w.redo_additions.new.recorded (taken_between lists c.args.peeling.now rows (length rows) bounds cur stands place in_rows Performs w.redo_additions.new.recorded (rw (start, end) at w.in_ok-redo_additions.ensures.done)) (here ∙ w.if-saves.true));
+            short = short;
+            few =
+                let few_rows = c.saves_additions-saves.ensures w.if-saves.true in
+                let each = w.in_ok-redo_additions.ensures.few in
+                one_turn_more c.args.limit _ _ _ done v.few (omega (arith, each, few_rows, start, end));
+          })
       | else-saves w ↦ rw w.recorded-is (record {
         taken = rw next (back_skipped lists rows order places _ bits peeled marks now place in_rows old cur so_far same (here ∙ w.if-saves.false));
         short = short;

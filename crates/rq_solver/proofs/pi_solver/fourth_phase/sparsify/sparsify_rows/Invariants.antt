@@ -1,13 +1,13 @@
 -- What the loops keep in `pi_solver::fourth_phase::sparsify::sparsify_rows`.
 use Rattle.std.proofs.Common.{◌≡◌, ℕ, ◌+◌, ◌-◌, ◌*◌, ◌<◌, ◌≤◌, true, false, get_or, length}
 use Rattle.rq_algebra.specs.Systems.{at}
-use Rattle.rq_solver.specs.FourthPhase.{TakesBack}
+use Rattle.rq_solver.specs.FourthPhase.{Sparsifies}
 use Rattle.rq_elimination.specs.OperationCounts.{additions}
 use Rattle.rq_solver.proofs.pi_solver.fourth_phase.sparsify.sparsify_rows.Given as goal
 
 abbrev pub invariant-loop-done : goal.invariant-loop-done
 invariant-loop-done l = record {
-  taken : TakesBack l.additions.ones l.peeling.rows l.peeling.order l.sparse (length l.peeling.rows - l.done) l.fn.recorded l.recorded;
+  taken : Sparsifies l.additions.ones l.peeling.rows l.peeling.order l.sparse (length l.peeling.rows - l.done) l.fn.recorded l.recorded;
   short : (p : ℕ) → length l.peeling.rows - l.done ≤ p → p < length l.peeling.rows → get_or l.sparse p false ≡ true → at l.additions.bounds.items (p + 1) - at l.additions.bounds.items p ≤ l.limit;
   few : additions l.recorded.operations ≤ additions l.fn.recorded.operations + l.done * l.limit;
 }

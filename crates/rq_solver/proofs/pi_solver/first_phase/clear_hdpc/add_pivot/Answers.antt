@@ -1,0 +1,74 @@
+-- What the check leaves to show of `pi_solver::first_phase::clear_hdpc::add_pivot`.
+use Rattle.std.proofs.Common.{◌≡◌, ℕ, ◌+◌, ◌<◌, length, sym, ap, ◌∙◌, arith}
+use Rattle.rq_algebra.specs.Systems.{at}
+use Rattle.rq_solver.specs.HdpcOctets.{HasPivotsBeside, octets_from, with_zeros}
+use Rattle.rq_elimination.specs.HdpcRows.{octet_in}
+use Rattle.rq_solver.proofs.OctetColumns.{from_column, same_behind}
+use Rattle.rq_solver.proofs.HdpcClearing.{beside_still, changes_none, changes_same, changes_pivot, changes_more, zeros_skipped, column_cleared}
+use Rattle.rq_solver.proofs.pi_solver.first_phase.clear_hdpc.add_pivot.Goals as goal
+use Rattle.rq_solver.proofs.pi_solver.first_phase.clear_hdpc.add_pivot.Goals.{then-byte-ne0+in_ok-add_multiple, else-byte-ne0}
+
+pub loop-row-init : goal.loop-row-init
+loop-row-init c =
+    let p = c.args.places.now.peeling.now in
+    let batch = c.args.batch.now in
+    let column = at p.order c.args.place in
+    let before = octets_from column (octet_in batch) in
+    record {
+      few = omega arith;
+      changed = changes_same p.rows p.order p.places c.args.places.now.first (length batch.table.rows) batch.table.width before before (with_zeros column 0 before) c.args.recorded.now c.args.recorded.now
+          (λ i q l n. sym (same_behind column 0 before i (at p.order q) (omega arith)))
+          (changes_none p.rows p.order p.places c.args.places.now.first (length batch.table.rows) batch.table.width before c.args.recorded.now);
+    }
+
+pub add_multiple-requires-clause-two : goal.add_multiple-requires-clause-two
+add_multiple-requires-clause-two c =
+    let rows = c.args.places.now.peeling.now.rows in
+    let read : c.row_of.result ≡ at rows c.args.place = c.row_of.ensures in
+    rw read (c.requires.pivots.apart c.loop-row.row c.args.place (omega arith) c.requires.place)
+
+pub loop-row-preserved : goal.loop-row-preserved
+loop-row-preserved c =
+    let p = c.args.places.now.peeling.now in
+    let first = c.args.places.now.first in
+    let place = c.args.place in
+    let row = c.loop-row.row in
+    let batch = c.args.batch.now in
+    let count = length batch.table.rows in
+    let width = batch.table.width in
+    let old = c.args.recorded.now in
+    let cur = c.loop-row.recorded in
+    let v = c.loop-row.invariant in
+    let beside = c.requires.pivots in
+    let here : ℕ = at p.order place in
+    let before = octets_from here (octet_in batch) in
+    let column : c.column_at-column.result ≡ here = c.column_at-column.ensures in
+    let in_rows : row < count = omega (arith, c.requires.count) in
+    let scalar_is : c.get-scalar.result ≡ before row here = c.get-scalar.ensures ∙ ap (octet_in batch row) column ∙ sym (from_column here (octet_in batch) row here (omega arith)) in
+    let still : HasPivotsBeside p.rows p.order p.places first count width cur = beside_still p.rows p.order p.places first count width old cur beside v.changed.performs.height in
+    elim c.if-byte-ne0.branch [
+      | then-byte-ne0+in_ok-add_multiple w ↦
+          let small : c.get-scalar.result < 256 = rw c.byte.ensures at c.byte.type_inv in
+          let read : w.row_of.result ≡ at p.rows place = w.row_of.ensures in
+          rw w.recorded-is (record {
+            few = (let more = w.in_ok-add_multiple.ensures.counted in let so_far = v.few in omega (arith, more, so_far));
+            changed = changes_more p.rows p.order p.places first count width before (with_zeros here row before) (with_zeros here (row + 1) before) old cur w.add_multiple.new.self beside v.changed
+                (changes_pivot p.rows p.order p.places first count width before cur w.add_multiple.new.self still row place c.get-scalar.result in_rows c.requires.place small scalar_is (rw read at w.in_ok-add_multiple.ensures.added));
+          })
+      | else-byte-ne0 w ↦
+          let none : before row here ≡ 0 = sym scalar_is ∙ sym c.byte.ensures ∙ w.if-byte-ne0.false in
+          rw w.recorded-is (record {
+            few = (let so_far = v.few in omega (arith, so_far));
+            changed = changes_same p.rows p.order p.places first count width before (with_zeros here row before) (with_zeros here (row + 1) before) old cur
+                (zeros_skipped p.rows p.order p.places first count width before cur cur still row place 0 in_rows c.requires.place none) v.changed;
+          })
+    ]
+
+pub returns-clause-changed : goal.returns-clause-changed
+returns-clause-changed c =
+    let p = c.args.places.now.peeling.now in
+    let table = c.args.batch.now.table in
+    let column = at p.order c.args.place in
+    let all : c.loop-row.row ≡ c.args.count = omega (arith, c.loop-row.auto) in
+    column_cleared p.rows p.order p.places c.args.places.now.first (length table.rows) table.width column c.args.count (octet_in c.args.batch.now) (octets_from column (octet_in c.args.batch.now)) c.args.recorded.now c.loop-row.recorded c.requires.zeros
+    (rw all at c.loop-row.invariant.changed)

@@ -1,0 +1,64 @@
+//! The first phase clears the pivots' columns in the rows of bits (RFC 6330, section 5.4.2.2).
+ghost use Rattle.std.specs.Prelude.{◌≡◌, ◌*◌, ◌<◌, length, IfOk, OnOk, IfErr};
+ghost use Rattle.rq_bytes.specs.declared.error.Error.TheVariants.{OutOfMemory};
+ghost use Rattle.rq_elimination.specs.Recorded.{AddsAtMost};
+ghost use Rattle.rq_peeling.specs.Peeled.{ones_of};
+ghost use Rattle.rq_solver.specs.PivotAdditions.{ClearsRows, PeelsRows, PivotsHaveTaken, TakesPivots};
+ghost use Rattle.rq_solver.specs.RowOrder.{ListsRows};
+
+use rq_bytes::error::Error;
+use rq_bytes::octet::Octet;
+use rq_elimination::recorded::RecordedRows;
+use rq_peeling::ones::RowOnes;
+use rq_peeling::peeling::Peeling;
+
+/// Adds to each row, in their order, the rows of the other pivots in whose columns it has ones. The
+/// pivots' rows come first. Says where in the operations those of each row begin, and where the last
+/// end.
+pub(super) fn clear_rows(
+    ones: &RowOnes,
+    row_order: &[usize],
+    peeling: &Peeling,
+    recorded: &mut RecordedRows,
+) -> Result<Vec<usize>, Error>
+    requires peeled { PeelsRows ones.now peeling.now }
+    requires ordered { ListsRows (length ones.now) peeling.now.rows row_order.now }
+    requires height { length recorded.old.table.rows ≡ length ones.now }
+    ensures cleared { OnOk result (ClearsRows ones.now peeling.now.rows peeling.now.order row_order.now (length row_order.now) recorded.old recorded.new) }
+    ensures taken { IfOk result (λ bounds. PivotsHaveTaken ones.now peeling.now bounds.items recorded.new) }
+    ensures few { OnOk result (AddsAtMost (length row_order.now * length peeling.now.rows) recorded.old recorded.new) }
+    ensures err { IfErr result (λ e. e ≡ OutOfMemory) }
+{
+    let room = row_order.len().saturating_add(1);
+    let mut bounds = Vec::with_capacity(recorded.operations.allocator(), room)?;
+    for row in row_order {
+        bounds.push(recorded.operations.len())?;
+        take_pivots(ones, *row, peeling, recorded)?;
+    }
+    bounds.push(recorded.operations.len())?;
+    Ok(bounds)
+}
+
+// Adds to a row the rows of the other pivots in whose columns it has ones.
+#[inline(always)]
+fn take_pivots(
+    ones: &RowOnes,
+    row: usize,
+    peeling: &Peeling,
+    recorded: &mut RecordedRows,
+) -> Result<(), Error>
+    requires peeled { PeelsRows ones.now peeling.now }
+    requires row { row < length ones.now }
+    requires height { length recorded.old.table.rows ≡ length ones.now }
+    ensures taken { OnOk result (TakesPivots peeling.now.rows peeling.now.order row (ones_of ones.now row) recorded.old recorded.new) }
+    ensures few { OnOk result (AddsAtMost (length peeling.now.rows) recorded.old recorded.new) }
+    ensures err { IfErr result (λ e. e ≡ OutOfMemory) }
+{
+    for column in ones.row(row) {
+        let place = peeling.place_of(*column as usize);
+        if place < peeling.pivots() && peeling.row_of(place) != row {
+            recorded.add_multiple(row, peeling.row_of(place), Octet::one())?;
+        }
+    }
+    Ok(())
+}

@@ -1,0 +1,237 @@
+//! The first phase clears the pivots' columns in the HDPC rows (RFC 6330, section 5.4.2.2).
+ghost use Rattle.std.specs.Prelude.{◌≡◌, ◌≢◌, ℕ, ◌+◌, ◌-◌, ◌^◌, ◌<◌, ◌≤◌, length, IsTrue, OnOk, IfErr};
+ghost use Rattle.rq_algebra.specs.Systems.{at};
+ghost use Rattle.rq_bytes.specs.declared.error.Error.TheVariants.{OutOfMemory};
+ghost use Rattle.rq_parts.specs.DenseOctetMatrix.{entry_of, HasOctets};
+ghost use Rattle.rq_elimination.specs.Recorded.{AddsAtMost};
+ghost use Rattle.rq_elimination.specs.OperationCounts.{additions};
+ghost use Rattle.rq_solver.specs.HdpcOctets.{batch_bound, AreOctetsIn, ClearsOctets, ClearsOwnColumn, ClearsPivotColumn, CombinesFrom};
+ghost use Rattle.rq_solver.specs.HdpcOctets.{CombinesTables, HasNoPivot, HasZeros, IsFirstAlone, StandsBeside, SumsRows};
+ghost use Rattle.rq_elimination.specs.HdpcRows.{octet_in};
+ghost use Rattle.rq_peeling.specs.Peeled.{IsOrderOf};
+ghost use Rattle.rq_elimination.specs.RowSteps.{AreRows};
+
+use rq_bytes::error::Error;
+use rq_bytes::octet::Octet;
+use rq_elimination::entries::{next_in_vectors, nonzero_after_first};
+use rq_elimination::hdpc_rows::HdpcRows;
+use rq_elimination::recorded::RecordedRows;
+use rq_parts::octet_matrix::DenseOctetMatrix;
+use rq_peeling::peeling::Peeling;
+
+// Where the HDPC rows stand, from row `first` on, and the pivots of other rows.
+#[derive(Drop)]
+struct HdpcPlaces<'a> {
+    first: usize,
+    peeling: &'a Peeling,
+}
+
+/// Gives the HDPC rows 0 in the pivots' columns: the first row takes all others, and clears them
+/// column by column, before all take the row of the column's pivot. This serves any octets. For
+/// those of RFC 6330 (section 5.3.3.3) it takes few products: a column is alpha times the next, but
+/// for ones in two rows, so that the sum of the rows is alpha times that in the next, and once it
+/// has cleared a column it is to be added to two rows at most to clear the next.
+pub(super) fn clear_octets(
+    hdpc: DenseOctetMatrix,
+    first_hdpc: usize,
+    peeling: &Peeling,
+    recorded: &mut RecordedRows,
+) -> Result<(), Error>
+    requires order { IsOrderOf hdpc.width peeling.now.order peeling.now.places }
+    requires hdpc_octets { HasOctets hdpc }
+    requires few { length peeling.now.rows ≤ hdpc.width }
+    requires few_octets { length hdpc.rows < 65536 }
+    requires pivots { AreRows peeling.now.rows recorded.old.table }
+    requires height { first_hdpc + length hdpc.rows ≤ length recorded.old.table.rows }
+    requires fits { first_hdpc + length hdpc.rows < 2 ^ 64 }
+    requires apart { (i p : ℕ) → i < length hdpc.rows → p < length peeling.now.rows → first_hdpc + i ≢ at peeling.now.rows p }
+    ensures cleared { OnOk result (ClearsOctets peeling.now.rows peeling.now.order (entry_of hdpc) first_hdpc (length hdpc.rows) recorded.old recorded.new) }
+    ensures few { OnOk result (AddsAtMost (batch_bound (length hdpc.rows) hdpc.width (length peeling.now.rows)) recorded.old recorded.new) }
+    ensures err { IfErr result (λ e. e ≡ OutOfMemory) }
+{
+    if hdpc.height() == 0 || are_zeros_at_pivots(&hdpc, peeling) {
+        return Ok(());
+    }
+    let mut sums = hdpc;
+    sum_rows(&mut sums, first_hdpc, recorded)?;
+    let mut batch = HdpcRows::new(recorded.operations.allocator(), sums)?;
+    let mut octets = vec![in recorded.operations.allocator(); 0; batch.lanes()]?;
+    let column_octets = octets.as_mut_slice();
+    let places = HdpcPlaces {
+        first: first_hdpc,
+        peeling,
+    };
+    for column in 0..end_of_pivots(peeling) {
+        clear_column(&mut batch, column, column_octets, &places, recorded)?;
+    }
+    Ok(())
+}
+
+// Whether all rows have 0 in the pivots' columns.
+fn are_zeros_at_pivots(hdpc: &DenseOctetMatrix, peeling: &Peeling) -> bool
+    requires order { IsOrderOf hdpc.now.width peeling.now.order peeling.now.places }
+    requires few { length peeling.now.rows ≤ hdpc.now.width }
+    ensures { IsTrue result → (p : ℕ) → p < length peeling.now.rows → HasZeros (at peeling.now.order p) (length hdpc.now.rows) hdpc.now }
+{
+    for place in 0..peeling.pivots() {
+        if !is_zero_column(hdpc, peeling.column_at(place)) {
+            return false;
+        }
+    }
+    true
+}
+
+// Whether all rows have 0 in a column.
+fn is_zero_column(octets: &DenseOctetMatrix, column: usize) -> bool
+    requires { column < octets.now.width }
+    ensures { IsTrue result → HasZeros column (length octets.now.rows) octets.now }
+{
+    for row in 0..octets.height() {
+        if octets.get(row, column).byte() != 0 {
+            return false;
+        }
+    }
+    true
+}
+
+// One more than the greatest column that has a pivot, and 0 where none has.
+fn end_of_pivots(peeling: &Peeling) -> usize
+    ensures within { result ≤ length peeling.now.places }
+    ensures last { (k : ℕ) → result ≤ k → k < length peeling.now.places → length peeling.now.rows ≤ at peeling.now.places k }
+{
+    let mut end = 0;
+    for column in 0..peeling.width() {
+        if peeling.place_of(column) < peeling.pivots() {
+            end = column + 1;
+        }
+    }
+    end
+}
+
+// Adds the other HDPC rows to the first.
+fn sum_rows(
+    rows: &mut DenseOctetMatrix,
+    first_hdpc: usize,
+    recorded: &mut RecordedRows,
+) -> Result<(), Error>
+    requires rows { AreOctetsIn first_hdpc (length rows.old.rows) recorded.old }
+    requires octets { HasOctets rows.old }
+    requires some { 0 < length rows.old.rows }
+    ensures width { OnOk result (rows.new.width ≡ rows.old.width) }
+    ensures height { OnOk result (length rows.new.rows ≡ length rows.old.rows) }
+    ensures octets { OnOk result (HasOctets rows.new) }
+    ensures sum { OnOk result (SumsRows rows.old rows.new) }
+    ensures summed { OnOk result (CombinesTables first_hdpc rows.old rows.new recorded.old recorded.new) }
+    ensures few { OnOk result (AddsAtMost (length rows.old.rows - 1) recorded.old recorded.new) }
+    ensures err { IfErr result (λ e. e ≡ OutOfMemory) }
+{
+    for row in 1..rows.height() {
+        let one = Octet::one();
+        rows.fma_rows(0, row, &one);
+        recorded.add_multiple(first_hdpc, first_hdpc + row, one)?;
+    }
+    Ok(())
+}
+
+// Gives the HDPC rows 0 in a column, if it has a pivot. They have 0 in the pivots' columns before
+// it, and keep that. What they have in the column is read into `column_octets`.
+fn clear_column(
+    batch: &mut HdpcRows,
+    column: usize,
+    column_octets: &mut [u8],
+    places: &HdpcPlaces,
+    recorded: &mut RecordedRows,
+) -> Result<(), Error>
+    requires rows { AreOctetsIn places.now.first (length batch.old.table.rows) recorded.old }
+    requires pivots { StandsBeside places.now.peeling.now places.now.first batch.old recorded.old }
+    requires some { 0 < length batch.old.table.rows }
+    requires column { column < batch.old.table.width }
+    requires lanes { length column_octets.old ≡ length batch.old.factors }
+    ensures table { batch.new.table ≡ batch.old.table }
+    ensures lanes { length column_octets.new ≡ length batch.new.factors }
+    ensures changed { OnOk result (ClearsPivotColumn places.now.peeling.now column places.now.first batch.old batch.new recorded.old recorded.new) }
+    ensures few { OnOk result (AddsAtMost ((length batch.old.table.rows - 1) + length batch.old.table.rows) recorded.old recorded.new) }
+    ensures idle { OnOk result (HasNoPivot places.now.peeling.now column → AddsAtMost (length batch.old.table.rows - 1) recorded.old recorded.new) }
+    ensures err { IfErr result (λ e. e ≡ OutOfMemory) }
+{
+    let lead = batch.get(0, column);
+    add_first_row(batch, column, column_octets, places.first, recorded)?;
+    let place = places.peeling.place_of(column);
+    if place < places.peeling.pivots() {
+        // Where the first row wasn't 0 in the column, the others are now.
+        let count = if lead.byte() == 0 { batch.height() } else { 1 };
+        add_pivot(places, place, batch, count, recorded)?;
+    }
+    Ok(())
+}
+
+// Adds multiples of the first HDPC row to the others, so that these have 0 in the column, and
+// multiplies it so that it has 1 there. Where it has 0, nothing is done.
+fn add_first_row(
+    batch: &mut HdpcRows,
+    column: usize,
+    column_octets: &mut [u8],
+    first_hdpc: usize,
+    recorded: &mut RecordedRows,
+) -> Result<(), Error>
+    requires rows { AreOctetsIn first_hdpc (length batch.old.table.rows) recorded.old }
+    requires some { 0 < length batch.old.table.rows }
+    requires column { column < batch.old.table.width }
+    requires lanes { length column_octets.old ≡ length batch.old.factors }
+    ensures table { batch.new.table ≡ batch.old.table }
+    ensures lanes { length column_octets.new ≡ length batch.new.factors }
+    ensures alone { OnOk result (octet_in batch.old 0 column ≢ 0 → IsFirstAlone column batch.new) }
+    ensures added { OnOk result (CombinesFrom column first_hdpc batch.old batch.new recorded.old recorded.new) }
+    ensures few { OnOk result (AddsAtMost (length batch.old.table.rows - 1) recorded.old recorded.new) }
+    ensures err { IfErr result (λ e. e ≡ OutOfMemory) }
+{
+    let lead = batch.get(0, column);
+    if lead.byte() == 0 {
+        return Ok(());
+    }
+    batch.read_column(column, column_octets);
+    let mut last = 0;
+    let mut rest = nonzero_after_first(column_octets);
+    while let Some((row, octet)) = next_in_vectors(column_octets, last, batch.height(), &mut rest) {
+        let scalar = &octet / &lead;
+        let factor = scalar.byte();
+        batch.add_first(row, factor);
+        recorded.add_multiple(first_hdpc + row, first_hdpc, scalar)?;
+        last = row;
+    }
+    if lead.byte() != 1 {
+        let scalar = Octet::one() / lead;
+        let factor = scalar.byte();
+        batch.multiply_first(factor);
+        recorded.multiply_row(first_hdpc, scalar)?;
+    }
+    Ok(())
+}
+
+// Adds multiples of a pivot's row to the first HDPC rows, so that they have 0 in its column, as the
+// others do.
+fn add_pivot(
+    places: &HdpcPlaces,
+    place: usize,
+    batch: &HdpcRows,
+    count: usize,
+    recorded: &mut RecordedRows,
+) -> Result<(), Error>
+    requires rows { AreOctetsIn places.now.first (length batch.now.table.rows) recorded.old }
+    requires pivots { StandsBeside places.now.peeling.now places.now.first batch.now recorded.old }
+    requires place { place < length places.now.peeling.now.rows }
+    requires count { count ≤ length batch.now.table.rows }
+    requires zeros { (i : ℕ) → count ≤ i → i < length batch.now.table.rows → octet_in batch.now i (at places.now.peeling.now.order place) ≡ 0 }
+    ensures changed { OnOk result (ClearsOwnColumn places.now.peeling.now place places.now.first batch.now recorded.old recorded.new) }
+    ensures few { OnOk result (AddsAtMost (length batch.now.table.rows) recorded.old recorded.new) }
+    ensures err { IfErr result (λ e. e ≡ OutOfMemory) }
+{
+    let column = places.peeling.column_at(place);
+    for row in 0..count {
+        let scalar = batch.get(row, column);
+        if scalar.byte() != 0 {
+            recorded.add_multiple(places.first + row, places.peeling.row_of(place), scalar)?;
+        }
+    }
+    Ok(())
+}
