@@ -13,3 +13,4 @@ mod several_blocks;
 mod singular;
 mod sub_blocks;
 mod thresholds;
+mod written;

@@ -49,7 +49,7 @@ pub fn block_answers(
     Ok(answers)
 }
 
-/// The source packets of a block but the first one, and so many repair packets.
+/// The source packets of a block but the first one, and `repair` repair packets.
 pub fn all_but_the_first(
     alloc: Global,
     encoder: &SourceBlockEncoder,

@@ -8,7 +8,7 @@ pub fn next(x: u64) -> u64 {
         .wrapping_add(1442695040888963407)
 }
 
-/// So many bytes: the upper ones of the numbers that follow `seed` in the sequence.
+/// `length` bytes: the upper ones of the numbers that follow `seed` in the sequence.
 pub fn bytes(alloc: Global, length: u64, seed: u64) -> Result<Vec<u8>, Error> {
     let mut bytes = Vec::new(alloc);
     let mut x = seed;

@@ -164,9 +164,9 @@ pub struct Basis {
 }
 
 impl Basis {
-    /// The LDPC and HDPC equations, and those of the padding behind so many source symbols. `None`
-    /// where they repeat each other.
-    pub fn new(symbols: u32) -> Option<Basis> {
+    /// The LDPC and HDPC equations, and those of the padding behind `source_symbols` symbols (K).
+    /// `None` where they repeat each other.
+    pub fn new(source_symbols: u32) -> Option<Basis> {
         let mut basis = Basis {
             rows: [[0; 32]; 27],
             count: 0,
@@ -178,27 +178,27 @@ impl Basis {
         for h in 0..H {
             basis.take(&hdpc_equation(h));
         }
-        for id in symbols..10 {
+        for id in source_symbols..10 {
             basis.take(&symbol_equation(id));
         }
-        if basis.count.saturating_add(symbols) == 27 {
+        if basis.count.saturating_add(source_symbols) == 27 {
             Some(basis)
         } else {
             None
         }
     }
 
-    /// Takes the equation of an encoding symbol of a block of so many source symbols.
-    pub fn add(&mut self, symbols: u32, esi: u32) {
-        self.add_with_value(symbols, esi, &[]);
+    /// Takes the equation of an encoding symbol of a block of `source_symbols` symbols (K).
+    pub fn add(&mut self, source_symbols: u32, esi: u32) {
+        self.add_with_value(source_symbols, esi, &[]);
     }
 
     /// Takes it with the symbol's value: five octets of it, and zeros for those that aren't given.
-    pub fn add_with_value(&mut self, symbols: u32, esi: u32, value: &[u8]) {
-        let padding = if esi < symbols {
+    pub fn add_with_value(&mut self, source_symbols: u32, esi: u32, value: &[u8]) {
+        let padding = if esi < source_symbols {
             0
         } else {
-            10u32.saturating_sub(symbols)
+            10u32.saturating_sub(source_symbols)
         };
         let mut equation = symbol_equation(esi.wrapping_add(padding));
         for i in 0..value.len().min(32 - L) {

@@ -3,11 +3,10 @@ use crate::compare::{holds, same};
 use raptorq::Encoder;
 use raptorq::error::Error;
 use raptorq_test_kit::configurations::configured;
-use std::test::Fail;
 
 // The equations of three source symbols have one solution, and that of zeros is zero.
 #[test]
-fn packets_of_zeros(rt: HostRuntime) -> Result<(), Fail> {
+fn packets_of_zeros(rt: HostRuntime) -> Result<(), Error> {
     let alloc = rt.alloc();
     let (table, config) = configured(alloc, (6, 2, 1, 1, 1))?;
     let encoder = Encoder::new(alloc, &table, &[0; 6], config)?;

@@ -1,27 +1,23 @@
 //! Worked examples of how objects are cut into source blocks, sub-blocks and symbols.
+use super::written::{Config, Written, packets};
 use crate::compare::{holds, same};
 use raptorq::error::Error;
 use raptorq::systematic_constants::SystematicTable;
-use raptorq::{Encoder, ObjectTransmissionInformation, PayloadId, calculate_block_offsets};
+use raptorq::{Encoder, ObjectTransmissionInformation, calculate_block_offsets};
 use raptorq_test_kit::configurations::configured;
 use std::alloc::Global;
-use std::test::Fail;
-
-// Transfer length, symbol size, source blocks, sub-blocks and alignment.
-type Config = (u64, u16, u8, u16, u8);
 
 fn encoder(alloc: Global, config: Config, object: &[u8]) -> Result<Encoder, Error> {
-    let (length, size, blocks, sub_blocks, alignment) = config;
-    let (table, information) = configured(alloc, (length, size, blocks, sub_blocks, alignment))?;
+    let (table, information) = configured(alloc, config)?;
     Encoder::new(alloc, &table, object, information)
 }
 
 // The source symbols of objects of the bytes 0, 1, 2 and so on.
 #[test]
-fn source_symbols(rt: HostRuntime) -> Result<(), Fail> {
+fn source_symbols(rt: HostRuntime) -> Result<(), Error> {
     let alloc = rt.alloc();
     let bytes: [u8; 12] = [0, 1, 2, 3, 4, 5, 6, 7, 8, 9, 10, 11];
-    let cases: [(Config, &[(u8, u32, &[u8])]); 5] = [
+    let cases: [(Config, &[Written<'_>]); 5] = [
         (
             (10, 2, 2, 1, 1),
             &[
@@ -45,37 +41,44 @@ fn source_symbols(rt: HostRuntime) -> Result<(), Fail> {
     ];
     for (config, wanted) in cases {
         let object = &bytes[..(config.0 as usize).min(12)];
-        let packets = encoder(alloc, config, object)?.get_encoded_packets(0)?;
-        same!(rt; packets.len(), wanted.len(), config);
-        for (packet, (block, esi, payload)) in packets.iter().zip(wanted) {
-            holds!(rt; *packet.payload_id() == PayloadId::new(*block, *esi)?, config);
-            same!(rt; packet.data(), *payload, config);
-        }
+        let found = encoder(alloc, config, object)?.get_encoded_packets(0)?;
+        holds!(rt; found == packets(alloc, wanted)?, config);
     }
     Ok(())
+}
+
+// The bytes 0 to 250 again and again.
+fn counted_bytes(alloc: Global, length: u32) -> Result<Vec<u8>, Error> {
+    let mut bytes = Vec::new(alloc);
+    for i in 0..length {
+        bytes.push((i % 251) as u8)?;
+    }
+    Ok(bytes)
+}
+
+// The payloads of an object's source packets of 1024 bytes, one after another.
+fn payloads(alloc: Global, object: &[u8]) -> Result<Vec<u8>, Error> {
+    let table = SystematicTable::built_in(alloc)?;
+    let packets = Encoder::with_defaults(alloc, &table, object, 1024)?.get_encoded_packets(0)?;
+    let mut payloads = Vec::new(alloc);
+    for packet in &packets {
+        payloads.extend_from_slice(packet.data())?;
+    }
+    Ok(payloads)
 }
 
 // Where the object ends inside its last symbol, that is filled up with zeros.
 #[test]
-fn padding(rt: HostRuntime) -> Result<(), Fail> {
-    let alloc = rt.alloc();
-    let table = SystematicTable::built_in(alloc)?;
-    let mut wanted: Vec<u8> = Vec::new(alloc);
-    for i in 0..2006u32 {
-        wanted.push((i % 251) as u8)?;
-    }
-    let encoder = Encoder::with_defaults(alloc, &table, wanted.as_slice(), 1024)?;
-    let mut payloads: Vec<u8> = Vec::new(alloc);
-    for packet in encoder.get_encoded_packets(0)? {
-        payloads.extend_from_slice(packet.data())?;
-    }
-    wanted.resize(2048, 0)?;
-    same!(rt; payloads, wanted);
+fn padding(rt: HostRuntime) -> Result<(), Error> {
+    let mut object = counted_bytes(rt.alloc(), 2006)?;
+    let payloads = payloads(rt.alloc(), object.as_slice())?;
+    object.resize(2048, 0)?;
+    same!(rt; payloads, object);
     Ok(())
 }
 
 #[test]
-fn block_encoders(rt: HostRuntime) -> Result<(), Fail> {
+fn block_encoders(rt: HostRuntime) -> Result<(), Error> {
     let alloc = rt.alloc();
     let object = [7u8; 120];
     let encoder = encoder(alloc, (120, 10, 10, 0, 2), &object)?;
@@ -92,7 +95,7 @@ fn block_encoders(rt: HostRuntime) -> Result<(), Fail> {
 }
 
 #[test]
-fn offsets(rt: HostRuntime) -> Result<(), Fail> {
+fn offsets(rt: HostRuntime) -> Result<(), Error> {
     let cases: [(Config, &[(usize, usize)]); 4] = [
         ((10, 2, 2, 1, 1), &[(0, 6), (6, 10)]),
         ((3, 2, 5, 1, 1), &[(0, 2), (2, 4), (4, 4), (4, 4), (4, 4)]),

@@ -1,12 +1,15 @@
 //! Worked examples of the coders.
+use super::written::{block_answer, block_decoder, object_answer, object_decoder, packets};
 use crate::compare::{holds, same};
+use raptorq::decoder::decode_all;
 use raptorq::error::Error;
-use raptorq::{Decoder, Encoder, SourceBlockDecoder};
+use raptorq::systematic_constants::SystematicTable;
+use raptorq::{
+    Decoder, Encoder, EncodingPacket, ObjectTransmissionInformation, SourceBlockDecoder,
+};
 use raptorq_test_kit::configurations::configured;
-use raptorq_test_kit::packets::packet;
 use std::alloc::Global;
 use std::process::Abort;
-use std::test::Fail;
 
 // A payload of another size and another block are refused, the block first, and change nothing.
 fn refuses(rt: &impl Abort, alloc: Global, decoder: &mut Decoder) -> Result<(), Error> {
@@ -17,7 +20,7 @@ fn refuses(rt: &impl Abort, alloc: Global, decoder: &mut Decoder) -> Result<(), 
         (1, &[1, 2], Error::UnknownBlock),
     ];
     for (block, payload, wanted) in cases {
-        let refused = decoder.decode(packet(alloc, block, 0, payload)?);
+        let refused = object_answer(alloc, decoder, (block, 0, payload));
         holds!(rt; refused == Err(wanted), block);
         holds!(rt; *decoder == before, block);
     }
@@ -26,66 +29,81 @@ fn refuses(rt: &impl Abort, alloc: Global, decoder: &mut Decoder) -> Result<(), 
 
 // Repeats are ignored, and refused packets are refused before the answer and after it.
 #[test]
-fn a_decoder_of_ten_symbols(rt: HostRuntime) -> Result<(), Fail> {
+fn a_decoder_of_ten_symbols(rt: HostRuntime) -> Result<(), Error> {
     let alloc = rt.alloc();
-    let (table, information) = configured(alloc, (10, 1, 1, 1, 1))?;
-    let mut decoder = Decoder::new(alloc, &table, information)?;
+    let mut decoder = object_decoder(alloc, (10, 1, 1, 1, 1))?;
     for esi in 0..9u8 {
-        let answer = decoder.decode(packet(alloc, 0, u32::from(esi), &[esi + 20])?)?;
-        holds!(rt; answer.is_none());
+        same!(rt; object_answer(alloc, &mut decoder, (0, u32::from(esi), &[esi + 20]))?, None);
     }
-    holds!(rt; decoder.decode(packet(alloc, 0, 0, &[99])?)?.is_none());
+    same!(rt; object_answer(alloc, &mut decoder, (0, 0, &[99]))?, None);
     refuses(&rt, alloc, &mut decoder)?;
-    let answer = decoder.decode(packet(alloc, 0, 9, &[29])?)?;
-    let object = answer.ok_or("no answer")?;
-    same!(rt; object.as_slice(), [20, 21, 22, 23, 24, 25, 26, 27, 28, 29].as_slice());
-    refuses(&rt, alloc, &mut decoder)?;
+    let object = object_answer(alloc, &mut decoder, (0, 9, &[29]))?;
+    same!(rt; object.as_deref(), Some([20, 21, 22, 23, 24, 25, 26, 27, 28, 29].as_slice()));
+    refuses(&rt, alloc, &mut decoder)
+}
+
+// The packets of an object that doesn't fill its last symbol, each behind a threshold.
+fn steps(
+    rt: &impl Abort,
+    alloc: Global,
+    table: &SystematicTable,
+    information: ObjectTransmissionInformation,
+) -> Result<Vec<(u32, EncodingPacket)>, Error> {
+    let encoder = Encoder::new(alloc, table, &[7, 8, 9], information)?;
+    holds!(rt; encoder.get_config() == information);
+    let mut steps = Vec::new(alloc);
+    for packet in encoder.get_encoded_packets(0)? {
+        steps.push((0, packet))?;
+    }
+    Ok(steps)
+}
+
+#[test]
+fn an_object_there_and_back(rt: HostRuntime) -> Result<(), Error> {
+    let alloc = rt.alloc();
+    let (table, information) = configured(alloc, (3, 2, 1, 1, 1))?;
+    let steps = steps(&rt, alloc, &table, information)?;
+    assert_eq!(rt; steps.len(), 2);
+    same!(rt; steps[1].1.data(), [9, 0].as_slice());
+    let object = decode_all(alloc, &table, information, steps)?;
+    same!(rt; object.as_deref(), Some([7, 8, 9].as_slice()));
     Ok(())
 }
 
-// An object that doesn't fill its last symbol.
-#[test]
-fn an_object_there_and_back(rt: HostRuntime) -> Result<(), Fail> {
-    let alloc = rt.alloc();
-    let (table, information) = configured(alloc, (3, 2, 1, 1, 1))?;
-    let encoder = Encoder::new(alloc, &table, &[7, 8, 9], information)?;
-    holds!(rt; encoder.get_config() == information);
-    let packets = encoder.get_encoded_packets(0)?;
-    assert_eq!(rt; packets.len(), 2);
-    same!(rt; packets[1].data(), [9, 0].as_slice());
-    let mut steps = Vec::new(alloc);
-    for packet in packets {
-        steps.push((0, packet))?;
-    }
-    let object = raptorq::decoder::decode_all(alloc, &table, information, steps)?;
-    same!(rt; object.ok_or("no answer")?.as_slice(), [7, 8, 9].as_slice());
+// Hands a packet in between the two of a block, one that is refused, and then the last of them.
+fn refuses_between(
+    rt: &impl Abort,
+    alloc: Global,
+    decoder: &mut SourceBlockDecoder,
+    one_recorded: &SourceBlockDecoder,
+    (block, payload, wanted): (u8, &[u8], Error),
+) -> Result<(), Error> {
+    let list = packets(
+        alloc,
+        &[(0, 0, &[7, 8]), (block, 0, payload), (0, 1, &[9, 0])],
+    )?;
+    let refused = decoder.decode(list);
+    holds!(rt; refused == Err(wanted), block);
+    holds!(rt; *decoder == *one_recorded, block);
+    same!(rt; decoder.decode(Vec::new(alloc))?, None);
+    let answer = block_answer(alloc, decoder, (0, 1, &[9, 0]))?;
+    same!(rt; answer.as_deref(), Some([7, 8, 9, 0].as_slice()));
     Ok(())
 }
 
 // Packets before a refused one stay recorded, and the rest isn't taken.
 #[test]
-fn a_block_in_two_calls(rt: HostRuntime) -> Result<(), Fail> {
+fn a_block_in_two_calls(rt: HostRuntime) -> Result<(), Error> {
     let alloc = rt.alloc();
-    let (table, information) = configured(alloc, (4, 2, 1, 1, 1))?;
-    let empty = SourceBlockDecoder::new(alloc, &table, 0, &information, 4)?;
+    let empty = block_decoder(alloc, (4, 2, 1, 1, 1))?;
     let mut one_recorded = empty.clone()?;
-    let answer = one_recorded.decode(Some(packet(alloc, 0, 0, &[7, 8])?))?;
-    holds!(rt; answer.is_none());
+    same!(rt; block_answer(alloc, &mut one_recorded, (0, 0, &[7, 8]))?, None);
     let cases: [(u8, &[u8], Error); 2] = [
         (1, &[0, 0], Error::UnknownBlock),
         (0, &[0], Error::WrongPayloadSize),
     ];
-    for (block, payload, wanted) in cases {
-        let mut decoder = empty.clone()?;
-        let first = packet(alloc, 0, 0, &[7, 8])?;
-        let other = packet(alloc, block, 0, payload)?;
-        let last = packet(alloc, 0, 1, &[9, 0])?;
-        let refused = decoder.decode(vec![in alloc; first, other, last]?);
-        holds!(rt; refused == Err(wanted), block);
-        holds!(rt; decoder == one_recorded, block);
-        holds!(rt; decoder.decode(Vec::new(alloc))?.is_none());
-        let answer = decoder.decode(Some(packet(alloc, 0, 1, &[9, 0])?))?;
-        same!(rt; answer.ok_or("no answer")?.as_slice(), [7, 8, 9, 0].as_slice());
+    for case in cases {
+        refuses_between(&rt, alloc, &mut empty.clone()?, &one_recorded, case)?;
     }
     Ok(())
 }

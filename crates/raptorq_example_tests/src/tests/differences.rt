@@ -1,4 +1,5 @@
 //! Lists of packets that don't determine their object: another object makes them too.
+use super::written::object_decoder;
 use crate::compare::{holds, same};
 use raptorq::error::Error;
 use raptorq::systematic_constants::SystematicTable;
@@ -7,16 +8,11 @@ use raptorq_test_kit::configurations::configured;
 use raptorq_test_kit::packets::packet;
 use raptorq_test_kit::sequence::{bytes, next};
 use std::alloc::Global;
-use std::test::Fail;
+use std::process::Abort;
 
-// Nine packets of zeros of an object of ten bytes, from an id on.
-fn nine_packets(
-    alloc: Global,
-    table: &SystematicTable,
-    information: ObjectTransmissionInformation,
-    start: u32,
-) -> Result<Decoder, Error> {
-    let mut decoder = Decoder::new(alloc, table, information)?;
+// A decoder of ten bytes, after nine packets of zeros from an id on.
+fn nine_packets(alloc: Global, start: u32) -> Result<Decoder, Error> {
+    let mut decoder = object_decoder(alloc, (10, 1, 1, 1, 1))?;
     for i in 0..9 {
         decoder.add_new_packet(packet(alloc, 0, start.saturating_add(i), &[0])?)?;
     }
@@ -42,23 +38,46 @@ fn makes_zeros(
     Ok(true)
 }
 
-#[test]
-fn nine_packets_of_ten_symbols(rt: HostRuntime) -> Result<(), Fail> {
-    let alloc = rt.alloc();
+// Where nine packets of zeros came, another object than zeros makes them too.
+fn has_difference(
+    rt: &impl Abort,
+    alloc: Global,
+    decoder: &Decoder,
+    start: u32,
+) -> Result<(), Error> {
+    same!(rt; decoder.get_result()?, None, start);
     let (table, information) = configured(alloc, (10, 1, 1, 1, 1))?;
+    let difference = decoder.difference()?;
+    let other = difference.as_deref().unwrap_or(&[]);
+    same!(rt; other.len(), 10, start);
+    holds!(rt; other != [0; 10].as_slice(), start);
+    let makes = makes_zeros(alloc, &table, information, other, start)?;
+    holds!(rt; makes, start);
+    Ok(())
+}
+
+// Where the source packets come behind them, none does.
+fn loses_difference(
+    rt: &impl Abort,
+    alloc: Global,
+    decoder: &mut Decoder,
+    start: u32,
+) -> Result<(), Error> {
+    for esi in 0..10 {
+        decoder.add_new_packet(packet(alloc, 0, esi, &[0])?)?;
+    }
+    holds!(rt; decoder.get_result()?.is_some(), start);
+    holds!(rt; decoder.difference()?.is_none(), start);
+    Ok(())
+}
+
+#[test]
+fn nine_packets_of_ten_symbols(rt: HostRuntime) -> Result<(), Error> {
+    let alloc = rt.alloc();
     for start in 10..100 {
-        let mut decoder = nine_packets(alloc, &table, information, start)?;
-        holds!(rt; decoder.get_result()?.is_none(), start);
-        let difference = decoder.difference()?.ok_or("no difference")?;
-        same!(rt; difference.len(), 10, start);
-        holds!(rt; difference.as_slice() != [0; 10].as_slice(), start);
-        let makes = makes_zeros(alloc, &table, information, difference.as_slice(), start)?;
-        holds!(rt; makes, start);
-        for esi in 0..10 {
-            decoder.add_new_packet(packet(alloc, 0, esi, &[0])?)?;
-        }
-        holds!(rt; decoder.get_result()?.is_some(), start);
-        holds!(rt; decoder.difference()?.is_none(), start);
+        let mut decoder = nine_packets(alloc, start)?;
+        has_difference(&rt, alloc, &decoder, start)?;
+        loses_difference(&rt, alloc, &mut decoder, start)?;
     }
     Ok(())
 }
@@ -115,29 +134,54 @@ fn decoder(
     Ok(decoder)
 }
 
+// Whether an object makes the packets that came.
+fn makes_them(
+    alloc: Global,
+    table: &SystematicTable,
+    object: &[u8],
+    packets: &[EncodingPacket],
+    seed: u64,
+) -> Result<bool, Error> {
+    let same = received(alloc, table, information(seed)?, object, seed)?;
+    Ok(same.as_slice() == packets)
+}
+
+// Whether a list is answered. Where it isn't, another object makes it, which differs by the difference.
+fn is_answered(
+    rt: &impl Abort,
+    alloc: Global,
+    table: &SystematicTable,
+    seed: u64,
+) -> Result<bool, Error> {
+    let information = information(seed)?;
+    let object = bytes(alloc, information.transfer_length(), seed)?;
+    let packets = received(alloc, table, information, &object, seed)?;
+    let decoder = decoder(alloc, table, information, &packets)?;
+    let answer = decoder.get_result()?;
+    match decoder.difference()? {
+        None => {
+            same!(rt; answer.as_deref(), Some(object.as_slice()), seed);
+            Ok(true)
+        }
+        Some(difference) => {
+            holds!(rt; answer.is_none(), seed);
+            let other = xor(alloc, &object, &difference)?;
+            holds!(rt; other != object, seed);
+            let same = makes_them(alloc, table, &other, &packets, seed)?;
+            holds!(rt; same, seed);
+            Ok(false)
+        }
+    }
+}
+
 #[test]
-fn random_lists(rt: HostRuntime) -> Result<(), Fail> {
+fn random_lists(rt: HostRuntime) -> Result<(), Error> {
     let alloc = rt.alloc();
     let table = SystematicTable::built_in(alloc)?;
     let mut answers: usize = 0;
     for seed in 0..300 {
-        let information = information(seed)?;
-        let object = bytes(alloc, information.transfer_length(), seed)?;
-        let packets = received(alloc, &table, information, object.as_slice(), seed)?;
-        let decoder = decoder(alloc, &table, information, packets.as_slice())?;
-        let answer = decoder.get_result()?;
-        match decoder.difference()? {
-            None => {
-                answers = answers.saturating_add(1);
-                holds!(rt; answer == Some(object), seed);
-            }
-            Some(difference) => {
-                holds!(rt; answer.is_none(), seed);
-                let other = xor(alloc, object.as_slice(), difference.as_slice())?;
-                holds!(rt; other != object, seed);
-                let same = received(alloc, &table, information, other.as_slice(), seed)?;
-                holds!(rt; same == packets, seed);
-            }
+        if is_answered(&rt, alloc, &table, seed)? {
+            answers = answers.saturating_add(1);
         }
     }
     holds!(rt; answers > 20, answers);

@@ -1,6 +1,7 @@
 //! Worked examples of plans, of their cache, and of the encoder of one source block.
 ghost use Rattle.std.specs.Prelude.{◌<◌, IfOk};
 
+use super::written::{Config, cache, packets};
 use crate::compare::{holds, same};
 use raptorq::error::Error;
 use raptorq::systematic_constants::{SYSTEMATIC_INDICES_AND_PARAMETERS, SystematicTable};
@@ -9,9 +10,7 @@ use raptorq::{
     SourceBlockEncodingPlanCache,
 };
 use raptorq_test_kit::configurations::configured;
-use raptorq_test_kit::packets::packet;
 use std::alloc::Global;
-use std::test::Fail;
 
 // Whether packets have the encoding symbol ids from one on.
 fn ids_from(packets: &[EncodingPacket], first: u32) -> bool {
@@ -25,29 +24,27 @@ fn ids_from(packets: &[EncodingPacket], first: u32) -> bool {
     true
 }
 
-// The encoder of a block of three symbols, by a cache of its own.
-fn three_symbols(alloc: Global) -> Result<SourceBlockEncoder, Error> {
-    let table = SystematicTable::built_in(alloc)?;
-    let mut cache = SourceBlockEncodingPlanCache::new(alloc, &table)?;
+// The encoder of a block of symbols of two bytes, by a cache of its own.
+fn encoder(alloc: Global, block: &[u8]) -> Result<SourceBlockEncoder, Error> {
     let config = ObjectTransmissionInformation::new(0, 2, 1, 1, 1)?;
-    SourceBlockEncoder::new(alloc, 0, &config, &[0, 1, 2, 3, 4, 5], &mut cache)
+    SourceBlockEncoder::new(alloc, 0, &config, block, &mut cache(alloc)?)
 }
 
 #[test]
-fn packets_of_source_symbols(rt: HostRuntime) -> Result<(), Fail> {
-    let alloc = rt.alloc();
-    let source = three_symbols(alloc)?.source_packets()?;
-    assert_eq!(rt; source.len(), 3);
-    holds!(rt; source[0] == packet(alloc, 0, 0, &[0, 1])?);
-    holds!(rt; source[1] == packet(alloc, 0, 1, &[2, 3])?);
-    holds!(rt; source[2] == packet(alloc, 0, 2, &[4, 5])?);
+fn packets_of_source_symbols(rt: HostRuntime) -> Result<(), Error> {
+    let source = encoder(rt.alloc(), &[0, 1, 2, 3, 4, 5])?.source_packets()?;
+    let wanted = packets(
+        rt.alloc(),
+        &[(0, 0, &[0, 1]), (0, 1, &[2, 3]), (0, 2, &[4, 5])],
+    )?;
+    holds!(rt; source == wanted);
     Ok(())
 }
 
 // Some of them, and the last one.
 #[test]
-fn packets_of_repair_symbols(rt: HostRuntime) -> Result<(), Fail> {
-    let encoder = three_symbols(rt.alloc())?;
+fn packets_of_repair_symbols(rt: HostRuntime) -> Result<(), Error> {
+    let encoder = encoder(rt.alloc(), &[0, 1, 2, 3, 4, 5])?;
     for (start, count, first) in [(2, 4, 5), (16777212, 1, 16777215)] {
         let repair = encoder.repair_packets(start, count)?;
         same!(rt; repair.len(), count as usize);
@@ -61,15 +58,21 @@ fn packets_of_repair_symbols(rt: HostRuntime) -> Result<(), Fail> {
     Ok(())
 }
 
+// The encoder of a block of zeros, by a plan of so many symbols.
+fn encoder_by_plan(
+    alloc: Global,
+    count: u16,
+    config: Config,
+    zeros: &[u8],
+) -> Result<SourceBlockEncoder, Error> {
+    let (table, information) = configured(alloc, config)?;
+    let plan = SourceBlockEncodingPlan::generate(alloc, &table, count)?;
+    SourceBlockEncoder::with_encoding_plan(alloc, 0, &information, zeros, &table, &plan)
+}
+
 #[test]
-fn symbols_of_zeros(rt: HostRuntime) -> Result<(), Fail> {
-    let alloc = rt.alloc();
-    let table = SystematicTable::built_in(alloc)?;
-    let plan = SourceBlockEncodingPlan::generate(alloc, &table, 3)?;
-    let config = ObjectTransmissionInformation::new(6, 2, 1, 1, 1)?;
-    let encoder = SourceBlockEncoder::with_encoding_plan(
-        alloc, 0, &config, &[0; 6], &table, &plan,
-    )?;
+fn symbols_of_zeros(rt: HostRuntime) -> Result<(), Error> {
+    let encoder = encoder_by_plan(rt.alloc(), 3, (6, 2, 1, 1, 1), &[0; 6])?;
     for packet in &encoder.repair_packets(0, 20)? {
         same!(rt; packet.data(), [0, 0].as_slice());
     }
@@ -77,18 +80,18 @@ fn symbols_of_zeros(rt: HostRuntime) -> Result<(), Fail> {
 }
 
 #[test]
-fn no_symbols(rt: HostRuntime) -> Result<(), Fail> {
-    let alloc = rt.alloc();
-    let table = SystematicTable::built_in(alloc)?;
-    let mut cache = SourceBlockEncodingPlanCache::new(alloc, &table)?;
-    let config = ObjectTransmissionInformation::new(0, 2, 1, 1, 1)?;
-    let encoder = SourceBlockEncoder::new(alloc, 0, &config, &[], &mut cache)?;
+fn a_plan_of_another_count(rt: HostRuntime) {
+    let refused = encoder_by_plan(rt.alloc(), 2, (6, 2, 1, 1, 1), &[0; 6]);
+    holds!(rt; refused == Err(Error::PlanMismatch));
+}
+
+#[test]
+fn no_symbols(rt: HostRuntime) -> Result<(), Error> {
+    let encoder = encoder(rt.alloc(), &[])?;
     same!(rt; encoder.source_packets()?.len(), 0);
     let repair = encoder.repair_packets(0, 2)?;
-    assert_eq!(rt; repair.len(), 2);
-    holds!(rt; ids_from(repair.as_slice(), 0));
-    same!(rt; repair[0].data(), [0, 0].as_slice());
-    same!(rt; repair[1].data(), [0, 0].as_slice());
+    let wanted = packets(rt.alloc(), &[(0, 0, &[0, 0]), (0, 1, &[0, 0])])?;
+    holds!(rt; repair == wanted);
     Ok(())
 }
 
@@ -99,40 +102,34 @@ fn two_sub_blocks() -> Result<ObjectTransmissionInformation, Error> {
     ObjectTransmissionInformation::new(12, 6, 1, 2, 2)
 }
 
-#[test]
-fn a_plan_made_held_and_handed_in(rt: HostRuntime) -> Result<(), Fail> {
-    let alloc = rt.alloc();
+// The encoder of block 7 by the plan that a cache holds, or else makes.
+fn encoder_by_cache(
+    alloc: Global,
+    cache: &mut SourceBlockEncodingPlanCache,
+) -> Result<SourceBlockEncoder, Error> {
+    SourceBlockEncoder::new(alloc, 7, &two_sub_blocks()?, &TWO_SYMBOLS, cache)
+}
+
+// By a plan that is handed in.
+fn encoder_by_copy(alloc: Global) -> Result<SourceBlockEncoder, Error> {
     let config = two_sub_blocks()?;
     let table = SystematicTable::built_in(alloc)?;
-    let mut cache = SourceBlockEncodingPlanCache::new(alloc, &table)?;
-    let made = SourceBlockEncoder::new(alloc, 7, &config, &TWO_SYMBOLS, &mut cache)?;
-    let held = SourceBlockEncoder::new(alloc, 7, &config, &TWO_SYMBOLS, &mut cache)?;
-    holds!(rt; made == held);
     let plan = SourceBlockEncodingPlan::generate(alloc, &table, 2)?.clone()?;
-    let handed = SourceBlockEncoder::with_encoding_plan(
-        alloc,
-        7,
-        &config,
-        &TWO_SYMBOLS,
-        &table,
-        &plan,
-    )?;
-    holds!(rt; made == handed);
+    SourceBlockEncoder::with_encoding_plan(alloc, 7, &config, &TWO_SYMBOLS, &table, &plan)
+}
+
+#[test]
+fn a_plan_made_held_and_handed_in(rt: HostRuntime) -> Result<(), Error> {
+    let mut cache = cache(rt.alloc())?;
+    let made = encoder_by_cache(rt.alloc(), &mut cache);
+    holds!(rt; made.is_ok());
+    holds!(rt; encoder_by_cache(rt.alloc(), &mut cache) == made);
+    holds!(rt; encoder_by_copy(rt.alloc()) == made);
     Ok(())
 }
 
 #[test]
-fn a_plan_of_another_count(rt: HostRuntime) -> Result<(), Fail> {
-    let alloc = rt.alloc();
-    let (table, config) = configured(alloc, (6, 2, 1, 1, 1))?;
-    let plan = SourceBlockEncodingPlan::generate(alloc, &table, 2)?;
-    let refused = SourceBlockEncoder::with_encoding_plan(alloc, 0, &config, &[0; 6], &table, &plan);
-    holds!(rt; refused == Err(Error::PlanMismatch));
-    Ok(())
-}
-
-#[test]
-fn a_plan_of_another_row(rt: HostRuntime) -> Result<(), Fail> {
+fn a_plan_of_another_row(rt: HostRuntime) -> Result<(), Error> {
     let alloc = rt.alloc();
     let (index, plan) = plan_of_500(alloc)?;
     let table = SystematicTable::with_rows(alloc, &[(511, index + 1, 37, 10, 523)])?;
@@ -159,25 +156,23 @@ fn plan_of_500(alloc: Global) -> Result<(u32, SourceBlockEncodingPlan), Error>
 }
 
 #[test]
-fn each_built_in_size_has_a_plan(rt: HostRuntime) -> Result<(), Fail> {
+fn each_built_in_size_has_a_plan(rt: HostRuntime) -> Result<(), Error> {
     let alloc = rt.alloc();
     let table = SystematicTable::built_in(alloc)?;
-    for (symbols, _, _, _, _) in SYSTEMATIC_INDICES_AND_PARAMETERS {
+    for (source_symbols, _, _, _, _) in SYSTEMATIC_INDICES_AND_PARAMETERS {
         let plan = SourceBlockEncodingPlan::generate(
             alloc,
             &table,
-            u16::try_from(symbols).unwrap_or(u16::MAX),
+            u16::try_from(source_symbols).unwrap_or(u16::MAX),
         );
-        holds!(rt; plan.is_ok(), symbols);
+        holds!(rt; plan.is_ok(), source_symbols);
     }
     Ok(())
 }
 
 #[test]
-fn first_in_first_out(rt: HostRuntime) -> Result<(), Fail> {
-    let alloc = rt.alloc();
-    let table = SystematicTable::built_in(alloc)?;
-    let mut cache = SourceBlockEncodingPlanCache::new(alloc, &table)?;
+fn first_in_first_out(rt: HostRuntime) -> Result<(), Error> {
+    let mut cache = cache(rt.alloc())?;
     for count in 1..66u16 {
         let _plan = cache.get_or_generate(count)?;
     }
@@ -194,16 +189,20 @@ fn first_in_first_out(rt: HostRuntime) -> Result<(), Fail> {
 }
 
 #[test]
-fn counts_over_the_table(rt: HostRuntime) -> Result<(), Fail> {
-    let alloc = rt.alloc();
-    let table = SystematicTable::built_in(alloc)?;
-    let mut cache = SourceBlockEncodingPlanCache::new(alloc, &table)?;
+fn counts_over_the_table(rt: HostRuntime) -> Result<(), Error> {
+    let mut cache = cache(rt.alloc())?;
     let _plan = cache.get_or_generate(10)?;
     holds!(rt; cache.get_or_generate(498).err() == Some(Error::BlockOverTable));
     holds!(rt; cache.len() == 1);
     holds!(rt; cache.contains(10));
     holds!(rt; !cache.contains(498));
-    let refused = SourceBlockEncodingPlan::generate(alloc, &table, 65535);
+    Ok(())
+}
+
+#[test]
+fn a_plan_over_the_table(rt: HostRuntime) -> Result<(), Error> {
+    let table = SystematicTable::built_in(rt.alloc())?;
+    let refused = SourceBlockEncodingPlan::generate(rt.alloc(), &table, 65535);
     holds!(rt; refused == Err(Error::BlockOverTable));
     Ok(())
 }

@@ -1,5 +1,6 @@
 //! What is refused, in which order, and what is as before then. Each case removes a cause of the
 //! one before it.
+use super::written::cache;
 use crate::compare::{holds, same};
 use raptorq::error::Error;
 use raptorq::systematic_constants::SystematicTable;
@@ -8,7 +9,8 @@ use raptorq::{
     SourceBlockEncodingPlanCache,
 };
 use raptorq_test_kit::configurations::configured;
-use std::test::Fail;
+use std::alloc::Global;
+use std::process::Abort;
 
 // Configurations that only bytes can spell.
 const HEADERS: [([u8; 12], Error); 5] = [
@@ -35,7 +37,7 @@ const HEADERS: [([u8; 12], Error); 5] = [
 ];
 
 #[test]
-fn coders_of_objects(rt: HostRuntime) -> Result<(), Fail> {
+fn coders_of_objects(rt: HostRuntime) -> Result<(), Error> {
     let alloc = rt.alloc();
     let table = SystematicTable::built_in(alloc)?;
     for (bytes, wanted) in HEADERS {
@@ -49,7 +51,7 @@ fn coders_of_objects(rt: HostRuntime) -> Result<(), Fail> {
 
 // The configuration's blocks and length are not those of the block, and aren't looked at.
 #[test]
-fn coders_of_blocks(rt: HostRuntime) -> Result<(), Fail> {
+fn coders_of_blocks(rt: HostRuntime) -> Result<(), Error> {
     let alloc = rt.alloc();
     let table = SystematicTable::built_in(alloc)?;
     let mut cache = SourceBlockEncodingPlanCache::new(alloc, &table)?;
@@ -64,23 +66,33 @@ fn coders_of_blocks(rt: HostRuntime) -> Result<(), Fail> {
     Ok(())
 }
 
+// Data that no block has is refused, and no plan is made.
+fn is_refused(
+    rt: &impl Abort,
+    alloc: Global,
+    size: u16,
+    data: &[u8],
+    wanted: Error,
+) -> Result<(), Error> {
+    let config = ObjectTransmissionInformation::new(0, size, 1, 1, 1)?;
+    let mut cache = cache(alloc)?;
+    let made = SourceBlockEncoder::new(alloc, 0, &config, data, &mut cache);
+    holds!(rt; made == Err(wanted), wanted);
+    holds!(rt; cache.len() == 0, wanted);
+    Ok(())
+}
+
 // Three bytes are no whole symbols of two, and no built-in row has 498 symbols.
 #[test]
-fn blocks_of_other_sizes(rt: HostRuntime) -> Result<(), Fail> {
-    let alloc = rt.alloc();
-    for (size, length, wanted) in [
-        (2, 3, Error::WrongDataLength),
-        (1, 498, Error::BlockOverTable),
-    ] {
-        let (table, config) = configured(alloc, (0, size, 1, 1, 1))?;
-        let mut cache = SourceBlockEncodingPlanCache::new(alloc, &table)?;
-        let data = vec![in alloc; 7u8; length]?;
-        let made = SourceBlockEncoder::new(alloc, 0, &config, data.as_slice(), &mut cache);
-        holds!(rt; made == Err(wanted), wanted);
-        holds!(rt; cache.len() == 0, wanted);
-    }
-    let (table, config) = configured(alloc, (0, 1, 1, 1, 1))?;
-    let made = SourceBlockDecoder::new(alloc, &table, 0, &config, u64::MAX);
+fn blocks_of_other_sizes(rt: HostRuntime) -> Result<(), Error> {
+    is_refused(&rt, rt.alloc(), 2, &[7; 3], Error::WrongDataLength)?;
+    is_refused(&rt, rt.alloc(), 1, &[7; 498], Error::BlockOverTable)
+}
+
+#[test]
+fn a_decoder_over_the_table(rt: HostRuntime) -> Result<(), Error> {
+    let (table, config) = configured(rt.alloc(), (0, 1, 1, 1, 1))?;
+    let made = SourceBlockDecoder::new(rt.alloc(), &table, 0, &config, u64::MAX);
     holds!(rt; made == Err(Error::BlockOverTable));
     Ok(())
 }

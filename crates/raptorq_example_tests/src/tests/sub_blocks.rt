@@ -1,12 +1,10 @@
 //! Blocks in sub-blocks: packets and answers of the Rust crate raptorq, for an object of 24 bytes
 //! in symbols of six with an alignment of two.
-use crate::compare::{holds, same};
+use super::written::{block_answer, block_decoder};
+use crate::compare::same;
 use raptorq::SourceBlockDecoder;
 use raptorq::error::Error;
-use raptorq_test_kit::configurations::configured;
-use raptorq_test_kit::packets::packet;
 use std::alloc::Global;
-use std::test::Fail;
 
 const OBJECT: [u8; 24] = [
     0x7e, 0xf4, 0xe8, 0x45, 0x44, 0x23, 0x67, 0x52, 0xfb, 0xb5, 0x6b, 0x8f, 0x31, 0xa2, 0x3a, 0x10,
@@ -16,9 +14,9 @@ const OBJECT: [u8; 24] = [
 // An id and a symbol.
 type Symbol = (u32, [u8; 6]);
 
-// So many sub-blocks, the symbols that come first, and the one that makes the answer: a sub-block of
-// four bytes and one of two, from source packets in another order and from two packets for repair;
-// and nine sub-blocks of three units, of which three have two bytes and the others none.
+// How many sub-blocks there are, the symbols that come first, and the one that makes the answer: a
+// sub-block of four bytes and one of two, from source packets in another order and from two packets
+// for repair; and nine sub-blocks of three units, of which three have two bytes and the others none.
 const CASES: [(u16, [Symbol; 3], Symbol); 3] = [
     (
         2,
@@ -57,20 +55,19 @@ fn answer(
 ) -> Result<Option<Vec<u8>>, Error> {
     let mut answer = None;
     for (esi, symbol) in symbols {
-        answer = decoder.decode(Some(packet(alloc, 0, *esi, symbol)?))?;
+        answer = block_answer(alloc, decoder, (0, *esi, symbol))?;
     }
     Ok(answer)
 }
 
 #[test]
-fn answers(rt: HostRuntime) -> Result<(), Fail> {
+fn answers(rt: HostRuntime) -> Result<(), Error> {
     let alloc = rt.alloc();
     for (sub_blocks, before, last) in CASES {
-        let (table, information) = configured(alloc, (24, 6, 1, sub_blocks, 2))?;
-        let mut decoder = SourceBlockDecoder::new(alloc, &table, 0, &information, 24)?;
-        holds!(rt; answer(alloc, &mut decoder, &before)?.is_none());
+        let mut decoder = block_decoder(alloc, (24, 6, 1, sub_blocks, 2))?;
+        same!(rt; answer(alloc, &mut decoder, &before)?, None);
         let block = answer(alloc, &mut decoder, &[last])?;
-        same!(rt; block.ok_or("no answer")?.as_slice(), OBJECT.as_slice());
+        same!(rt; block.as_deref(), Some(OBJECT.as_slice()));
     }
     Ok(())
 }

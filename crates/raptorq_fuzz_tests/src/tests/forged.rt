@@ -22,7 +22,7 @@ struct SentBlock {
 }
 
 impl SentBlock {
-    // Of symbols of so many octets.
+    // Of symbols of `size` octets.
     fn new(alloc: Global, table: &SystematicTable, size: u16) -> Result<SentBlock, Error> {
         let length = u64::from(size).saturating_mul(10);
         let config = ObjectTransmissionInformation::new(length, size, 1, 1, 1)?;

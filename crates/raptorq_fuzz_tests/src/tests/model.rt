@@ -56,15 +56,15 @@ enum Standing {
 // them a basis.
 #[derive(Drop)]
 struct Block {
-    symbols: u32,
+    source_symbols: u32,
     ids: Vec<u32>,
     bases: Vec<Basis>,
 }
 
 impl Block {
-    fn new(alloc: Global, symbols: u64) -> Block {
+    fn new(alloc: Global, source_symbols: u64) -> Block {
         Block {
-            symbols: u32::try_from(symbols).unwrap_or(u32::MAX),
+            source_symbols: u32::try_from(source_symbols).unwrap_or(u32::MAX),
             ids: Vec::new(alloc),
             bases: Vec::new(alloc),
         }
@@ -81,14 +81,14 @@ impl Block {
         }
         self.ids.push(esi)?;
         for (basis, value) in self.bases.iter_mut().zip(packet.data().chunks(5)) {
-            basis.add_with_value(self.symbols, esi, value);
+            basis.add_with_value(self.source_symbols, esi, value);
         }
         Ok(true)
     }
 
     // Makes the bases that the packets are added to.
     fn begin(&mut self, packet: &EncodingPacket) -> Result<(), Error> {
-        if let Some(basis) = Basis::new(self.symbols) {
+        if let Some(basis) = Basis::new(self.source_symbols) {
             for _ in packet.data().chunks(5) {
                 self.bases.push(basis)?;
             }
@@ -97,7 +97,7 @@ impl Block {
     }
 
     fn standing(&self) -> Standing {
-        if self.ids.len() < self.symbols as usize {
+        if self.ids.len() < self.source_symbols as usize {
             return Standing::Undetermined;
         }
         match self.bases.first() {
@@ -123,7 +123,7 @@ pub struct Model {
 }
 
 impl Model {
-    /// Of so many blocks from the first one on.
+    /// Of `count` blocks from the first one on.
     pub fn new(
         alloc: Global,
         config: ObjectTransmissionInformation,

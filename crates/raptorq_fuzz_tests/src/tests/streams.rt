@@ -52,16 +52,21 @@ fn damage(bytes: &mut Vec<u8>, choices: &mut Choices) -> Result<(), Error> {
     Ok(())
 }
 
-// How a run over a stream ends, and what it writes.
-fn receive(
-    alloc: Global,
-    table: &SystematicTable,
-    bytes: &[u8],
-) -> (Result<(Outcome, u64), Stop>, Vec<u8>) {
-    let mut out = Vec::new(alloc);
-    let mut reader = Counted::new(bytes);
-    let ended = run_receive(alloc, table, &mut reader, &mut Counted::new(&mut out));
-    (ended, out)
+// A run over a stream: what it reads, how it ends, and what it writes.
+#[derive(Drop)]
+struct Run<'a> {
+    bytes: &'a [u8],
+    ended: Result<(Outcome, u64), Stop>,
+    out: Vec<u8>,
+}
+
+impl<'a> Run<'a> {
+    fn new(alloc: Global, table: &SystematicTable, bytes: &'a [u8]) -> Run<'a> {
+        let mut out = Vec::new(alloc);
+        let mut reader = Counted::new(bytes);
+        let ended = run_receive(alloc, table, &mut reader, &mut Counted::new(&mut out));
+        Run { bytes, ended, out }
+    }
 }
 
 // Hands the packets of the frames to the model, up to one that is known to contradict those before
@@ -96,30 +101,30 @@ fn frames_end(
     rt: &impl Abort,
     alloc: Global,
     config: ObjectTransmissionInformation,
-    (ended, out): (Result<(Outcome, u64), Stop>, Vec<u8>),
-    bytes: &[u8],
+    run: &Run<'_>,
     sent: &Sent,
 ) -> Result<Result<Outcome, Error>, Error> {
+    let bytes = run.bytes;
     let mut model = Model::new(alloc, config, config.source_blocks())?;
     let size = usize::from(config.symbol_size());
     let frames = bytes.get(12..).unwrap_or(&[]);
     let skipped = take_frames(alloc, &mut model, size, frames, sent)?;
-    if ended == Err(Stop::Refused(Error::Contradiction)) {
+    if run.ended == Err(Stop::Refused(Error::Contradiction)) {
         let may_be = model.is_contradictory() != Some(false);
         holds!(rt; may_be, bytes);
-        holds!(rt; out.is_empty(), bytes);
+        holds!(rt; run.out.is_empty(), bytes);
         return Ok(Err(Error::Contradiction));
     }
     holds!(rt; model.is_contradictory() != Some(true), bytes);
-    if ended == Ok((Outcome::Written, skipped)) {
+    if run.ended == Ok((Outcome::Written, skipped)) {
         holds!(rt; model.is_answered() != Some(false), bytes);
-        holds!(rt; out.len() as u64 == config.transfer_length(), bytes);
+        holds!(rt; run.out.len() as u64 == config.transfer_length(), bytes);
         let is_sent = model.is_honest() && config == sent.config;
-        holds!(rt; !is_sent || out == sent.object, bytes);
+        holds!(rt; !is_sent || run.out == sent.object, bytes);
         return Ok(Ok(Outcome::Written));
     }
-    holds!(rt; ended == Ok((Outcome::Incomplete, skipped)), bytes);
-    holds!(rt; out.is_empty(), bytes);
+    holds!(rt; run.ended == Ok((Outcome::Incomplete, skipped)), bytes);
+    holds!(rt; run.out.is_empty(), bytes);
     holds!(rt; model.is_answered() != Some(true), bytes);
     Ok(Ok(Outcome::Incomplete))
 }
@@ -132,19 +137,19 @@ fn ends(
     bytes: &[u8],
     sent: &Sent,
 ) -> Result<Result<Outcome, Error>, Error> {
-    let (ended, out) = receive(alloc, table, bytes);
+    let run = Run::new(alloc, table, bytes);
     let Some(header) = bytes.first_chunk::<12>() else {
-        holds!(rt; ended == Err(Stop::Refused(Error::HeaderTooShort)));
-        holds!(rt; out.is_empty());
+        holds!(rt; run.ended == Err(Stop::Refused(Error::HeaderTooShort)));
+        holds!(rt; run.out.is_empty());
         return Ok(Err(Error::HeaderTooShort));
     };
     let config = ObjectTransmissionInformation::deserialize(header);
     if let Some(refusal) = configuration_refusal(&config) {
-        holds!(rt; ended == Err(Stop::Refused(refusal)), bytes);
-        holds!(rt; out.is_empty(), bytes);
+        holds!(rt; run.ended == Err(Stop::Refused(refusal)), bytes);
+        holds!(rt; run.out.is_empty(), bytes);
         return Ok(Err(refusal));
     }
-    frames_end(rt, alloc, config, (ended, out), bytes, sent)
+    frames_end(rt, alloc, config, &run, sent)
 }
 
 #[test]

@@ -22,8 +22,31 @@ pub fn packets(alloc: Global) -> Result<Vec<EncodingPacket>, Error> {
     Encoder::new(alloc, &table, &OBJECT, one_block()?)?.get_encoded_packets(2)
 }
 
+/// A decoder of the object.
+pub fn new_decoder(alloc: Global) -> Result<Decoder, Error> {
+    let table = SystematicTable::built_in(alloc)?;
+    Decoder::new(alloc, &table, one_block()?)
+}
+
+// A decoder of it that took packets.
+fn object_decoder(alloc: Global, taken: Vec<EncodingPacket>) -> Result<Decoder, Error> {
+    let mut decoder = new_decoder(alloc)?;
+    for packet in taken {
+        decoder.add_new_packet(packet)?;
+    }
+    Ok(decoder)
+}
+
+// A decoder of its block that took packets.
+fn block_decoder(alloc: Global, taken: Vec<EncodingPacket>) -> Result<SourceBlockDecoder, Error> {
+    let table = SystematicTable::built_in(alloc)?;
+    let mut decoder = SourceBlockDecoder::new(alloc, &table, 0, &one_block()?, 10)?;
+    decoder.decode(taken)?;
+    Ok(decoder)
+}
+
 // The packets from the third on but the last, which with it determine the object, and the last one
-// so many times.
+// `times` times.
 fn needed(
     alloc: Global,
     times: usize,
@@ -55,12 +78,10 @@ pub struct BlockAnswers {
 }
 
 impl BlockAnswers {
-    /// With ample memory, to be tried so many times.
+    /// With ample memory, to be tried `times` times.
     pub fn new(alloc: Global, times: usize) -> Result<BlockAnswers, Error> {
-        let table = SystematicTable::built_in(alloc)?;
         let (taken, mut repeats) = needed(alloc, times.saturating_add(1))?;
-        let mut before = SourceBlockDecoder::new(alloc, &table, 0, &one_block()?, 10)?;
-        before.decode(taken)?;
+        let before = block_decoder(alloc, taken)?;
         let mut recorded = before.clone()?;
         recorded.decode(repeats.pop())?;
         Ok(BlockAnswers {
@@ -98,15 +119,11 @@ pub struct ObjectAnswers {
 }
 
 impl ObjectAnswers {
-    /// With ample memory, to be tried so many times. Only want of memory leaves the packet recorded
+    /// With ample memory, to be tried `times` times. Only want of memory leaves the packet recorded
     /// and the block late: `expect_late` takes a decoder in that state.
     pub fn new(alloc: Global, times: usize) -> Result<ObjectAnswers, Error> {
-        let table = SystematicTable::built_in(alloc)?;
         let (taken, mut repeats) = needed(alloc, times.saturating_add(1))?;
-        let mut before = Decoder::new(alloc, &table, one_block()?)?;
-        for packet in taken {
-            before.add_new_packet(packet)?;
-        }
+        let before = object_decoder(alloc, taken)?;
         let mut answered = before.clone()?;
         if let Some(last) = repeats.pop() {
             answered.add_new_packet(last)?;
@@ -173,12 +190,8 @@ pub struct Results {
 impl Results {
     /// With ample memory.
     pub fn new(alloc: Global) -> Result<Results, Error> {
-        let table = SystematicTable::built_in(alloc)?;
         let (taken, repeats) = needed(alloc, 1)?;
-        let mut unanswered = Decoder::new(alloc, &table, one_block()?)?;
-        for packet in taken {
-            unanswered.add_new_packet(packet)?;
-        }
+        let unanswered = object_decoder(alloc, taken)?;
         let mut answered = unanswered.clone()?;
         for packet in repeats {
             answered.add_new_packet(packet)?;

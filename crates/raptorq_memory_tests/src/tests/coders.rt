@@ -1,68 +1,116 @@
 //! Coders where memory is refused: first all of it, then less and less of it.
 use super::assert_swept;
-use crate::attempts::decoders::{BlockAnswers, OBJECT, ObjectAnswers, Results, one_block, packets};
+use crate::attempts::decoders::{
+    BlockAnswers, OBJECT, ObjectAnswers, Results, new_decoder, packets,
+};
 use crate::attempts::encoders::{Blocks, Objects, Plans, Rows};
 use crate::compare::{holds, same};
 use raptorq::error::Error;
-use raptorq::systematic_constants::SystematicTable;
 use raptorq::{Decoder, EncodingPacket};
 use raptorq_test_kit::configurations::configured;
 use raptorq_test_kit::packets::packet;
 use rq_memory_kit::{Ending, Endings, MORE, RESERVE, ROUNDS, Shortage};
 use std::alloc::Global;
 use std::process::Abort;
-use std::test::Fail;
+
+// Calls that make tables, encoders and plans.
+#[derive(Drop)]
+struct Encoders {
+    rows: Rows,
+    objects: Objects,
+    blocks: Blocks,
+    plans: Plans,
+}
+
+impl Encoders {
+    fn new(alloc: Global) -> Result<Encoders, Error> {
+        Ok(Encoders {
+            rows: Rows::new(alloc),
+            objects: Objects::new(alloc)?,
+            blocks: Blocks::new(alloc)?,
+            plans: Plans::new(alloc)?,
+        })
+    }
+
+    // Each call once.
+    fn attempts(&mut self) -> [Ending; 5] {
+        [
+            self.rows.attempt(),
+            self.objects.attempt(),
+            self.objects.attempt_packets(),
+            self.blocks.attempt(),
+            self.plans.attempt(),
+        ]
+    }
+}
+
+// Counts how calls ended.
+fn add_all(endings: &mut [Endings], ended: &[Ending]) {
+    for (endings, ending) in endings.iter_mut().zip(ended) {
+        endings.add(*ending);
+    }
+}
 
 #[test]
-fn encoders_are_refused_memory_in_turn(rt: HostRuntime) -> Result<(), Fail> {
-    let alloc = rt.alloc();
-    let rows = Rows::new(alloc);
-    let objects = Objects::new(alloc)?;
-    let mut blocks = Blocks::new(alloc)?;
-    let mut plans = Plans::new(alloc)?;
+fn encoders_are_refused_memory_in_turn(rt: HostRuntime) -> Result<(), Error> {
+    let mut encoders = Encoders::new(rt.alloc())?;
     let mut endings = [Endings::new(); 5];
-    let mut shortage = Shortage::new(alloc, ROUNDS, RESERVE)?;
+    let mut shortage = Shortage::new(rt.alloc(), ROUNDS, RESERVE)?;
     for _ in 0..ROUNDS {
-        endings[0].add(rows.attempt());
-        endings[1].add(objects.attempt());
-        endings[2].add(objects.attempt_packets());
-        endings[3].add(blocks.attempt());
-        endings[4].add(plans.attempt());
+        add_all(&mut endings, &encoders.attempts());
         shortage.ease(MORE);
     }
     assert_swept(&rt, shortage, endings.as_slice());
-    same!(rt; rows.attempt(), Ending::Answered);
-    same!(rt; objects.attempt(), Ending::Answered);
-    same!(rt; objects.attempt_packets(), Ending::Answered);
-    same!(rt; blocks.attempt(), Ending::Answered);
-    same!(rt; plans.attempt(), Ending::Answered);
+    same!(rt; encoders.attempts(), [Ending::Answered; 5]);
     Ok(())
 }
 
-// A decoder keeps what it took: it gets its last packet again each time.
+// Calls of decoders. One keeps what it took: it gets its last packet again each time.
+#[derive(Drop)]
+struct Decoders {
+    blocks: BlockAnswers,
+    objects: ObjectAnswers,
+    results: Results,
+}
+
+impl Decoders {
+    fn new(alloc: Global, late: Decoder) -> Result<Decoders, Error> {
+        let blocks = BlockAnswers::new(alloc, ROUNDS + 1)?;
+        let mut objects = ObjectAnswers::new(alloc, ROUNDS + 1)?;
+        objects.expect_late(late);
+        let results = Results::new(alloc)?;
+        Ok(Decoders {
+            blocks,
+            objects,
+            results,
+        })
+    }
+
+    // Each call once.
+    fn attempts(&mut self) -> [Ending; 4] {
+        [
+            self.blocks.attempt(),
+            self.objects.attempt(),
+            self.results.attempt_object(),
+            self.results.attempt_difference(),
+        ]
+    }
+}
+
 #[test]
-fn decoders_are_refused_memory_in_turn(rt: HostRuntime) -> Result<(), Fail> {
-    let alloc = rt.alloc();
-    let mut blocks = BlockAnswers::new(alloc, ROUNDS + 1)?;
-    let mut objects = ObjectAnswers::new(alloc, ROUNDS + 1)?;
-    let packets = packets(alloc)?;
+fn decoders_are_refused_memory_in_turn(rt: HostRuntime) -> Result<(), Error> {
+    let packets = packets(rt.alloc())?;
     assert_eq!(rt; packets.len(), 12);
-    objects.expect_late(late(&rt, alloc, &packets[2..11], &packets[11])?);
-    let results = Results::new(alloc)?;
+    let late = late(&rt, rt.alloc(), &packets[2..11], &packets[11])?;
+    let mut decoders = Decoders::new(rt.alloc(), late)?;
     let mut endings = [Endings::new(); 4];
-    let mut shortage = Shortage::new(alloc, ROUNDS, RESERVE)?;
+    let mut shortage = Shortage::new(rt.alloc(), ROUNDS, RESERVE)?;
     for _ in 0..ROUNDS {
-        endings[0].add(blocks.attempt());
-        endings[1].add(objects.attempt());
-        endings[2].add(results.attempt_object());
-        endings[3].add(results.attempt_difference());
+        add_all(&mut endings, &decoders.attempts());
         shortage.ease(MORE);
     }
     assert_swept(&rt, shortage, endings.as_slice());
-    same!(rt; blocks.attempt(), Ending::Answered);
-    same!(rt; objects.attempt(), Ending::Answered);
-    same!(rt; results.attempt_object(), Ending::Answered);
-    same!(rt; results.attempt_difference(), Ending::Answered);
+    same!(rt; decoders.attempts(), [Ending::Answered; 4]);
     Ok(())
 }
 
@@ -75,6 +123,33 @@ fn take(decoder: &mut Decoder, packets: &[EncodingPacket]) -> Result<Option<Vec<
     Ok(answer)
 }
 
+// They determine the object.
+fn determine_object(
+    rt: &impl Abort,
+    decoder: &mut Decoder,
+    packets: &[EncodingPacket],
+) -> Result<(), Error> {
+    let object = take(decoder, packets)?;
+    same!(rt; object.as_deref(), Some(OBJECT.as_slice()));
+    Ok(())
+}
+
+// Hands in a packet where there is no memory.
+fn is_refused_memory(
+    rt: &impl Abort,
+    alloc: Global,
+    decoder: &mut Decoder,
+    packet: EncodingPacket,
+) -> Result<(), Error> {
+    let shortage = Shortage::new(alloc, 0, 0)?;
+    let answer = decoder.add_new_packet(packet);
+    let is_whole = shortage.is_whole();
+    drop(shortage);
+    holds!(rt; is_whole);
+    holds!(rt; answer == Err(Error::OutOfMemory));
+    Ok(())
+}
+
 // A decoder that took packets and then, without memory, the one that makes its block determined.
 fn late(
     rt: &impl Abort,
@@ -82,102 +157,114 @@ fn late(
     taken: &[EncodingPacket],
     last: &EncodingPacket,
 ) -> Result<Decoder, Error> {
-    let table = SystematicTable::built_in(alloc)?;
-    let mut decoder = Decoder::new(alloc, &table, one_block()?)?;
+    let mut decoder = new_decoder(alloc)?;
     holds!(rt; take(&mut decoder, taken)?.is_none());
-    let last = last.clone()?;
-    let shortage = Shortage::new(alloc, 0, 0)?;
-    let answer = decoder.add_new_packet(last);
-    let is_whole = shortage.is_whole();
-    drop(shortage);
-    holds!(rt; is_whole);
-    holds!(rt; answer == Err(Error::OutOfMemory));
+    is_refused_memory(rt, alloc, &mut decoder, last.clone()?)?;
     Ok(decoder)
 }
 
 // A packet that there was no memory to record counts as new when it comes again.
 #[test]
-fn a_packet_not_recorded(rt: HostRuntime) -> Result<(), Fail> {
-    let alloc = rt.alloc();
-    let packets = packets(alloc)?;
+fn a_packet_not_recorded(rt: HostRuntime) -> Result<(), Error> {
+    let packets = packets(rt.alloc())?;
     assert_eq!(rt; packets.len(), 12);
-    let table = SystematicTable::built_in(alloc)?;
-    let mut decoder = Decoder::new(alloc, &table, one_block()?)?;
+    let mut decoder = new_decoder(rt.alloc())?;
     let before = decoder.clone()?;
-    let first = packets[0].clone()?;
-    let shortage = Shortage::new(alloc, 0, 0)?;
-    let refused = decoder.add_new_packet(first);
-    let is_whole = shortage.is_whole();
-    drop(shortage);
-    holds!(rt; is_whole);
-    holds!(rt; refused == Err(Error::OutOfMemory));
+    is_refused_memory(&rt, rt.alloc(), &mut decoder, packets[0].clone()?)?;
     holds!(rt; decoder == before);
-    let object = take(&mut decoder, &packets[..10])?.ok_or("no answer")?;
-    same!(rt; object.as_slice(), OBJECT.as_slice());
-    Ok(())
+    determine_object(&rt, &mut decoder, &packets[..10])
 }
 
 // What is left where an object isn't joined, in bytes: a block takes less, and the object more.
 const LEFT: usize = 20_000;
 
-// Where there is no memory to join the object, the block that was the last to be answered is.
-#[test]
-fn an_object_not_joined(rt: HostRuntime) -> Result<(), Fail> {
-    let alloc = rt.alloc();
-    let (table, config) = configured(alloc, (200_000, 1000, 200, 1, 1))?;
+// An object of 200 blocks of one symbol each, of the bytes of its number.
+fn long_object(alloc: Global) -> Result<Vec<u8>, Error> {
     let mut object: Vec<u8> = Vec::new(alloc);
+    for block in 0..200u8 {
+        object.extend_from_slice(&[block; 1000])?;
+    }
+    Ok(object)
+}
+
+// A decoder that took all its blocks but the last one.
+fn all_but_the_last(alloc: Global) -> Result<Decoder, Error> {
+    let (table, config) = configured(alloc, (200_000, 1000, 200, 1, 1))?;
     let mut decoder = Decoder::new(alloc, &table, config)?;
     for block in 0..199u8 {
-        object.extend_from_slice(&[block; 1000])?;
         decoder.add_new_packet(packet(alloc, block, 0, &[block; 1000])?)?;
     }
-    object.extend_from_slice(&[199; 1000])?;
-    let last = packet(alloc, 199, 0, &[199; 1000])?;
-    let mut answered = decoder.clone()?;
-    answered.add_new_packet(last.clone()?)?;
+    Ok(decoder)
+}
+
+// Hands in a packet where there is memory to take it, and none to join the object. It is taken as
+// another decoder took it.
+fn is_not_joined(
+    rt: &impl Abort,
+    alloc: Global,
+    decoder: &mut Decoder,
+    packet: EncodingPacket,
+    answered: &Decoder,
+) -> Result<(), Error> {
     let mut shortage = Shortage::new(alloc, 1, LEFT)?;
     shortage.ease(LEFT);
-    let refused = decoder.decode(last);
-    let is_answered = decoder == answered;
+    let refused = decoder.decode(packet);
+    let is_answered = *decoder == *answered;
     let is_whole = shortage.is_whole();
     drop(shortage);
     holds!(rt; is_whole);
     holds!(rt; refused == Err(Error::OutOfMemory));
     holds!(rt; is_answered);
-    holds!(rt; decoder.get_result()? == Some(object));
+    Ok(())
+}
+
+// Where there is no memory to join the object, the block that was the last to be answered is.
+#[test]
+fn an_object_not_joined(rt: HostRuntime) -> Result<(), Error> {
+    let last = packet(rt.alloc(), 199, 0, &[199; 1000])?;
+    let mut decoder = all_but_the_last(rt.alloc())?;
+    let mut answered = decoder.clone()?;
+    answered.add_new_packet(last.clone()?)?;
+    is_not_joined(&rt, rt.alloc(), &mut decoder, last, &answered)?;
+    let object = long_object(rt.alloc())?;
+    holds!(rt; decoder.get_result() == Ok(Some(object)));
     Ok(())
 }
 
 // The packet that made its block determined is recorded, though the block couldn't be solved: a
 // repeat of an older one answers it.
 #[test]
-fn a_packet_stays_recorded(rt: HostRuntime) -> Result<(), Fail> {
-    let alloc = rt.alloc();
-    let packets = packets(alloc)?;
+fn a_packet_stays_recorded(rt: HostRuntime) -> Result<(), Error> {
+    let packets = packets(rt.alloc())?;
     assert_eq!(rt; packets.len(), 12);
     let source = (&packets[..9], &packets[9]);
     let repair = (&packets[2..11], &packets[11]);
     for (taken, last) in [source, repair] {
-        let mut decoder = late(&rt, alloc, taken, last)?;
-        holds!(rt; decoder.get_result()?.is_none());
-        let object = take(&mut decoder, taken)?.ok_or("no answer")?;
-        same!(rt; object.as_slice(), OBJECT.as_slice());
+        let mut decoder = late(&rt, rt.alloc(), taken, last)?;
+        same!(rt; decoder.get_result(), Ok(None));
+        determine_object(&rt, &mut decoder, taken)?;
     }
     Ok(())
+}
+
+// Nine source symbols of zeros.
+fn nine_zeros(alloc: Global) -> Result<Vec<EncodingPacket>, Error> {
+    let mut zeros = Vec::new(alloc);
+    for esi in 0..9 {
+        zeros.push(packet(alloc, 0, esi, &[0])?)?;
+    }
+    Ok(zeros)
 }
 
 // Where memory was refused for a block, its next packet is tested with all that came: nine source
 // symbols, a repair symbol that isn't zero as they are, and the tenth source symbol, which is.
 #[test]
-fn a_late_contradiction(rt: HostRuntime) -> Result<(), Fail> {
-    let alloc = rt.alloc();
-    let mut zeros = Vec::new(alloc);
-    for esi in 0..9 {
-        zeros.push(packet(alloc, 0, esi, &[0])?)?;
-    }
-    let mut decoder = late(&rt, alloc, zeros.as_slice(), &packet(alloc, 0, 10, &[1])?)?;
-    let refused = decoder.decode(packet(alloc, 0, 9, &[0])?);
+fn a_late_contradiction(rt: HostRuntime) -> Result<(), Error> {
+    let zeros = nine_zeros(rt.alloc())?;
+    let repair = packet(rt.alloc(), 0, 10, &[1])?;
+    let mut decoder = late(&rt, rt.alloc(), zeros.as_slice(), &repair)?;
+    let refused = decoder.decode(packet(rt.alloc(), 0, 9, &[0])?);
     holds!(rt; refused == Err(Error::Contradiction));
-    holds!(rt; decoder.get_result()?.is_none());
+    same!(rt; decoder.get_result(), Ok(None));
     Ok(())
 }

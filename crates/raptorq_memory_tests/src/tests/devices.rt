@@ -9,7 +9,7 @@ use std::io::{ErrorKind, Read, Write};
 use std::process::Abort;
 use std::test::Fail;
 
-// A reader that gives at most so many bytes a call, and fails after so many calls.
+// A reader that gives at most `most` bytes a call, and fails after `calls` calls.
 #[derive(Drop)]
 struct Source<'a> {
     rest: &'a [u8],
@@ -28,7 +28,7 @@ impl<'a> Read for Source<'a> {
     }
 }
 
-// A writer that takes at most so many bytes a call, and fails after so many calls: with an error,
+// A writer that takes at most `most` bytes a call, and fails after `calls` calls: with an error,
 // or, where it is full, by taking none. A flush is a call too.
 #[derive(Drop)]
 struct Sink {
@@ -110,7 +110,7 @@ fn each_read_fails_in_turn(rt: HostRuntime) -> Result<(), Fail> {
     Ok(())
 }
 
-// A run over a sink that fails after so many calls. The last call is the flush.
+// A run over a sink that fails after its `calls`. The last call is the flush.
 fn fails_at(
     rt: &impl Abort,
     alloc: Global,

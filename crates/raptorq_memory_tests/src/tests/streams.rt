@@ -55,17 +55,15 @@ where
     Ok((ended, reader.failed().saturating_add(writer.failed())))
 }
 
-// What is received, how the run ends, with how many skipped frames, and what is written.
-type Received<'a> = (&'a [u8], Result<(Outcome, u64), Stop>, &'a [u8]);
+// What a run reads, how it ends, with how many skipped frames, and what it writes.
+type RunCase<'a> = (&'a [u8], Result<(Outcome, u64), Stop>, &'a [u8]);
 
-// A run over memory ends so, having skipped so many frames, writes this, and meets no failed call.
+// A run over memory ends and writes as a case says, and meets no failed call.
 fn run_ends(
     rt: &impl Abort,
     alloc: Global,
     asked: Job,
-    input: &[u8],
-    wanted: Result<(Outcome, u64), Stop>,
-    written: &[u8],
+    (input, wanted, written): RunCase<'_>,
 ) -> Result<(), Error> {
     let mut out: Vec<u8> = Vec::new(alloc);
     let (ended, failed) = run(alloc, asked, input, &mut out)?;
@@ -75,9 +73,9 @@ fn run_ends(
     Ok(())
 }
 
-fn all_received(rt: &impl Abort, alloc: Global, cases: &[Received<'_>]) -> Result<(), Fail> {
-    for (input, wanted, written) in cases {
-        run_ends(rt, alloc, Job::Receive, input, *wanted, written)?;
+fn all_received(rt: &impl Abort, alloc: Global, cases: &[RunCase<'_>]) -> Result<(), Fail> {
+    for case in cases {
+        run_ends(rt, alloc, Job::Receive, *case)?;
     }
     Ok(())
 }
@@ -110,7 +108,7 @@ fn sends(rt: HostRuntime) -> Result<(), Fail> {
         ),
     ];
     for (asked, input, wanted, written) in cases {
-        run_ends(&rt, rt.alloc(), asked, input, wanted, written)?;
+        run_ends(&rt, rt.alloc(), asked, (input, wanted, written))?;
     }
     Ok(())
 }
@@ -123,7 +121,7 @@ fn receives(rt: HostRuntime) -> Result<(), Fail> {
     let repeated: [u8; 30] = [
         0, 0, 0, 0, 3, 0, 0, 2, 1, 0, 1, 1, 0, 0, 0, 0, 7, 8, 0, 0, 0, 1, 9, 0, 0, 0, 0, 1, 9, 0,
     ];
-    let cases: [Received<'_>; 6] = [
+    let cases: [RunCase<'_>; 6] = [
         (&STREAM, Ok((Outcome::Written, 0)), &OBJECT),
         (&shuffled, Ok((Outcome::Written, 0)), &OBJECT),
         (&repeated, Ok((Outcome::Written, 0)), &OBJECT),
@@ -149,7 +147,7 @@ fn skips(rt: HostRuntime) -> Result<(), Fail> {
         0, 0, 0, 0, 3, 0, 0, 2, 1, 0, 1, 1, 0, 0, 0, 0, 7, 8, 0, 0, 0, 1, 9, 0, 0,
     ];
     let other_block: [u8; 18] = [0, 0, 0, 0, 3, 0, 0, 2, 1, 0, 1, 1, 1, 0, 0, 0, 7, 8];
-    let cases: [Received<'_>; 6] = [
+    let cases: [RunCase<'_>; 6] = [
         (&damaged, Ok((Outcome::Written, 3)), &OBJECT),
         (&longer, Ok((Outcome::Written, 1)), &OBJECT),
         (&STREAM[..15], Ok((Outcome::Incomplete, 1)), &[]),
@@ -169,7 +167,7 @@ fn receives_two_blocks(rt: HostRuntime) -> Result<(), Fail> {
     let empty: [u8; 12] = [0, 0, 0, 0, 0, 0, 0, 2, 2, 0, 1, 1];
     let longest: [u8; 12] = [0, 0, 0, 3, 226, 0, 0, 1, 2, 0, 1, 1];
     let longer: [u8; 12] = [0, 0, 0, 3, 227, 0, 0, 1, 2, 0, 1, 1];
-    let cases: [Received<'_>; 6] = [
+    let cases: [RunCase<'_>; 6] = [
         (&packets[..24], Ok((Outcome::Written, 0)), &OBJECT),
         (&packets[..18], Ok((Outcome::Incomplete, 0)), &[]),
         (&packets, Ok((Outcome::Written, 1)), &OBJECT),
@@ -189,7 +187,7 @@ fn contradicts(rt: HostRuntime) -> Result<(), Fail> {
     let forged: [u8; 22] = [
         0, 0, 0, 0, 1, 0, 0, 1, 1, 0, 1, 1, 0, 0, 0, 133, 1, 0, 0, 0, 0, 7,
     ];
-    let cases: [Received<'_>; 3] = [
+    let cases: [RunCase<'_>; 3] = [
         (&fitting, Ok((Outcome::Written, 0)), &[7]),
         (&forged, Err(Stop::Refused(Error::Contradiction)), &[]),
         (&forged[..17], Ok((Outcome::Incomplete, 0)), &[]),

@@ -1,23 +1,34 @@
 //! Maps kept in arrays, and graphs.
+ghost use Rattle.std.specs.Prelude.{◌≡◌, IfOk, true};
+
 use crate::compare::{holds, same};
 use raptorq::arraymap::{ImmutableListMapBuilder, U16ArrayMap, U32VecMap};
+use raptorq::error::Error;
 use raptorq::graph::{ConnectedComponentGraph, UndirectedGraph};
+use std::alloc::Global;
 use std::process::Abort;
 use std::test::Fail;
 
 #[test]
-fn maps_in_arrays(rt: HostRuntime) -> Result<(), Fail> {
+fn values_in_arrays(rt: HostRuntime) -> Result<(), Error> {
     let mut map = U16ArrayMap::new(rt.alloc(), 5, 8)?;
     map.insert(5, 1);
     map.insert(7, 2);
     map.swap(5, 7);
     same!(rt; map.get(5), 2);
     same!(rt; map.get(7), 1);
+    same!(rt; map.keys().count(), 3);
+    Ok(())
+}
+
+#[test]
+fn counts_in_arrays(rt: HostRuntime) -> Result<(), Error> {
+    let mut map = U16ArrayMap::new(rt.alloc(), 5, 8)?;
+    map.insert(7, 1);
     map.increment(6);
     map.decrement(7);
     same!(rt; map.get(6), 1);
     same!(rt; map.get(7), 0);
-    same!(rt; map.keys().count(), 3);
     Ok(())
 }
 
@@ -58,24 +69,32 @@ fn lists_of_nothing(rt: HostRuntime) -> Result<(), Fail> {
     Ok(())
 }
 
-#[test]
-fn neighbours_of_nodes(rt: HostRuntime) -> Result<(), Fail> {
-    let mut graph = UndirectedGraph::with_capacity(rt.alloc(), 0, 10, 3)?;
+// The edges from 3 to 5 and to 8, and one from 8 to itself.
+fn three_edges(alloc: Global) -> Result<UndirectedGraph, Error>
+    ensures { IfOk result (λ graph. graph.built ≡ true) }
+{
+    let mut graph = UndirectedGraph::with_capacity(alloc, 0, 10, 3)?;
     for (node1, node2) in [(5, 3), (3, 8), (8, 8)] {
         graph.add_edge(node1, node2)?;
     }
     graph.build();
-    let nodes = graph.nodes()?;
+    Ok(graph)
+}
+
+#[test]
+fn nodes_of_edges(rt: HostRuntime) -> Result<(), Error> {
+    let nodes = three_edges(rt.alloc())?.nodes()?;
     same!(rt; nodes.as_slice(), [3, 5, 8].as_slice());
+    Ok(())
+}
+
+#[test]
+fn neighbours_of_nodes(rt: HostRuntime) -> Result<(), Error> {
+    let graph = three_edges(rt.alloc())?;
     same!(rt; graph.get_adjacent_nodes(3).count(), 2);
     same!(rt; graph.get_adjacent_nodes(3).min(), Some(5));
-    same!(rt;
-        graph
-            .get_adjacent_nodes(8)
-            .filter(|node| *node == 8)
-            .count(),
-        2
-    );
+    let loops = graph.get_adjacent_nodes(8).filter(|node| *node == 8);
+    same!(rt; loops.count(), 2);
     Ok(())
 }
 

@@ -125,12 +125,17 @@ fn packed_rows_agree(
     let bits = BinaryOctetVec::new(words, length);
     let mut fused = octets.clone()?;
     fused_addassign_mul_scalar_binary(fused.as_mut_slice(), &bits, &Octet::new(scalar));
-    for i in 0..length {
-        let set = (bits.padding_bits() + i) % 64 % 3 == 0;
-        let expected = if set { octets[i] ^ scalar } else { octets[i] };
-        same!(rt; fused[i], expected, (i, length));
-    }
+    bits_are_fused(rt, &octets, &fused, bits.padding_bits(), scalar);
     Ok(())
+}
+
+// Each third bit of a word is set: there the scalar was added to an octet.
+fn bits_are_fused(rt: &impl Abort, octets: &[u8], fused: &[u8], padding: usize, scalar: u8) {
+    for (i, (octet, found)) in octets.iter().zip(fused).enumerate() {
+        let set = padding.wrapping_add(i) % 64 % 3 == 0;
+        let expected = if set { *octet ^ scalar } else { *octet };
+        same!(rt; *found, expected, (i, octets.len()));
+    }
 }
 
 fn pattern(alloc: Global, length: usize, step: u8) -> Result<Vec<u8>, AllocError>

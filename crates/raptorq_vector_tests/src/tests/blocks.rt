@@ -10,32 +10,36 @@ use raptorq_test_kit::sequence::{bytes, next};
 use std::alloc::Global;
 use std::test::Fail;
 
-fn object(alloc: Global, symbols: u32) -> Result<Vec<u8>, Error> {
-    bytes(alloc, u64::from(symbols) * 4, u64::from(symbols))
+fn object(alloc: Global, source_symbols: u32) -> Result<Vec<u8>, Error> {
+    bytes(
+        alloc,
+        u64::from(source_symbols) * 4,
+        u64::from(source_symbols),
+    )
 }
 
-fn config(symbols: u32) -> Result<ObjectTransmissionInformation, Error> {
-    ObjectTransmissionInformation::new(u64::from(symbols) * 4, 4, 1, 1, 1)
+fn config(source_symbols: u32) -> Result<ObjectTransmissionInformation, Error> {
+    ObjectTransmissionInformation::new(u64::from(source_symbols) * 4, 4, 1, 1, 1)
 }
 
 fn packets(
     alloc: Global,
     table: &SystematicTable,
-    symbols: u32,
+    source_symbols: u32,
     repair: u32,
 ) -> Result<Vec<EncodingPacket>, Error> {
-    let config = config(symbols)?;
-    let object = object(alloc, symbols)?;
+    let config = config(source_symbols)?;
+    let object = object(alloc, source_symbols)?;
     Encoder::new(alloc, table, object.as_slice(), config)?.get_encoded_packets(repair)
 }
 
 // The first number of symbols from `start` on and before `end` whose packets are other ones.
 fn first_difference(alloc: Global, start: usize, end: usize) -> Result<Option<usize>, Error> {
     let table = SystematicTable::built_in(alloc)?;
-    for symbols in start..end.min(498) {
-        let packets = packets(alloc, &table, symbols as u32, 5)?;
-        if symbols == 0 || digest(packets.as_slice()) != DIGESTS[symbols - 1] {
-            return Ok(Some(symbols));
+    for source_symbols in start..end.min(498) {
+        let packets = packets(alloc, &table, source_symbols as u32, 5)?;
+        if source_symbols == 0 || digest(packets.as_slice()) != DIGESTS[source_symbols - 1] {
+            return Ok(Some(source_symbols));
         }
     }
     Ok(None)
@@ -83,29 +87,40 @@ fn received(
     Ok(received)
 }
 
-// How many of so many packets come through, and after how many of these the object is answered.
+// How many packets of an object come through, and after how many of these it is answered.
 fn answer_with_losses(
     alloc: Global,
     table: &SystematicTable,
-    symbols: u32,
+    source_symbols: u32,
     seed: u64,
     count: u32,
 ) -> Result<(usize, Option<usize>), Error> {
-    let packets = packets(alloc, table, symbols, symbols.saturating_add(20))?;
+    let packets = packets(
+        alloc,
+        table,
+        source_symbols,
+        source_symbols.saturating_add(20),
+    )?;
     let received = received(alloc, packets, seed, count)?;
     let length = received.len();
-    let object = object(alloc, symbols)?;
-    let answer = answered(alloc, table, config(symbols)?, object.as_slice(), received)?;
+    let object = object(alloc, source_symbols)?;
+    let answer = answered(
+        alloc,
+        table,
+        config(source_symbols)?,
+        object.as_slice(),
+        received,
+    )?;
     Ok((length, answer))
 }
 
 #[test]
 fn answers_to_lists_with_losses(rt: HostRuntime) -> Result<(), Fail> {
     let table = SystematicTable::built_in(rt.alloc())?;
-    for (symbols, seed, count, wanted) in LISTS {
-        let answer = answer_with_losses(rt.alloc(), &table, symbols, seed, count)?;
+    for (source_symbols, seed, count, wanted) in LISTS {
+        let answer = answer_with_losses(rt.alloc(), &table, source_symbols, seed, count)?;
         let wanted = (count as usize, Some(wanted as usize));
-        same!(rt; answer, wanted, (symbols, seed));
+        same!(rt; answer, wanted, (source_symbols, seed));
     }
     Ok(())
 }

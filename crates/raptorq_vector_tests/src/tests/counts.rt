@@ -13,6 +13,7 @@ use raptorq::pi_solver::IntermediateSymbolDecoder;
 use raptorq::symbol_slab::SymbolSlab;
 use raptorq::systematic_constants::SystematicTable;
 use std::alloc::Global;
+use std::process::Abort;
 use std::test::Fail;
 
 // A solver of these equations, with symbols of zeros.
@@ -66,20 +67,32 @@ fn operations_of_small_blocks(rt: HostRuntime) -> Result<(), Fail> {
     Ok(())
 }
 
+// The operations that the equations of 497 symbols take, without symbols.
+fn listed_operations(
+    rt: &impl Abort,
+    alloc: Global,
+    table: &SystematicTable,
+) -> Result<Vec<SymbolOps>, Error>
+    requires { 497 ≤ greatest_size table.now }
+{
+    let found = first_solver(alloc, table, 497)?.into_operations()?;
+    found
+        .expect(rt, "the first ids determine the block")
+        .into_operations()
+}
+
 // Few for the greatest block of the built-in table, by the solver's own count and in the list.
 #[test]
 fn operations_of_the_greatest_block(rt: HostRuntime) -> Result<(), Fail> {
     let table = SystematicTable::built_in(rt.alloc())?;
     assert!(rt; 497 <= table.greatest());
-    let found = first_solver(rt.alloc(), &table, 497)?
-        .into_operations()?
-        .expect(&rt, "the first ids determine the block");
+    let listed = listed_operations(&rt, rt.alloc(), &table)?;
+    holds!(rt; products(listed.as_slice()) <= 520);
     let mut solver = first_solver(rt.alloc(), &table, 497)?;
     let (_symbols, operations) = solver
         .execute()?
         .expect(&rt, "the first ids determine the block");
-    holds!(rt; found.into_operations()? == operations);
+    holds!(rt; operations == listed);
     holds!(rt; solver.get_symbol_add_ops() <= 10_500);
-    holds!(rt; products(operations.as_slice()) <= 520);
     Ok(())
 }

@@ -44,12 +44,11 @@ pub(super) fn first_ids(alloc: Global, count: u32) -> Result<Vec<u32>, Error>
     Ok((0..count).collect(alloc)?)
 }
 
-// The matrices of a block: of the ids below K'+2 with HDPC rows, and of those below K'+H without.
-fn block_digest(alloc: Global, table: &SystematicTable, k: u32) -> Result<u64, Error>
+// The matrices of a block of the ids below K'+2, with HDPC rows, taken into a digest.
+fn whole_digest(alloc: Global, table: &SystematicTable, k: u32) -> Result<u64, Error>
     requires { k ≤ greatest_size table.now }
 {
-    let row = table.row(k);
-    let ids = first_ids(alloc, row.extended_symbols + 2)?;
+    let ids = first_ids(alloc, table.row(k).extended_symbols + 2)?;
     let (matrix, hdpc_rows) = generate_constraint_matrix::<DenseBinaryMatrix>(
         alloc,
         table,
@@ -57,7 +56,15 @@ fn block_digest(alloc: Global, table: &SystematicTable, k: u32) -> Result<u64, E
         ids.as_slice(),
     )?;
     let digest = bits_digest(&matrix, 0);
-    let digest = octets_digest(&hdpc_rows, matrix.width(), digest);
+    Ok(octets_digest(&hdpc_rows, matrix.width(), digest))
+}
+
+// Behind it that of the ids below K'+H, without HDPC rows.
+fn block_digest(alloc: Global, table: &SystematicTable, k: u32) -> Result<u64, Error>
+    requires { k ≤ greatest_size table.now }
+{
+    let digest = whole_digest(alloc, table, k)?;
+    let row = table.row(k);
     let ids = first_ids(alloc, row.extended_symbols + row.hdpc_symbols)?;
     let plain = generate_constraint_matrix_no_hdpc::<DenseBinaryMatrix>(
         alloc,

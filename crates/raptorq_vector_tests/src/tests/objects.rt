@@ -8,7 +8,6 @@ use raptorq_test_kit::answers::answered;
 use raptorq_test_kit::digests::digest;
 use raptorq_test_kit::sequence::{bytes, next};
 use std::alloc::Global;
-use std::test::Fail;
 
 // Transfer length, symbol size, source blocks, sub-blocks and alignment.
 type Config = (u32, u16, u8, u16, u8);
@@ -39,7 +38,7 @@ fn packets(
 }
 
 #[test]
-fn packets_of_objects(rt: HostRuntime) -> Result<(), Fail> {
+fn packets_of_objects(rt: HostRuntime) -> Result<(), Error> {
     let alloc = rt.alloc();
     let table = SystematicTable::built_in(alloc)?;
     for (config, wanted) in OBJECTS {
@@ -49,7 +48,7 @@ fn packets_of_objects(rt: HostRuntime) -> Result<(), Fail> {
     Ok(())
 }
 
-// The packets that come through, in another order: so many of 256 are lost, and some come twice.
+// The packets that come through, in another order: `lost` of 256 are lost, and some come twice.
 fn received(
     alloc: Global,
     packets: Vec<EncodingPacket>,
@@ -75,18 +74,34 @@ fn received(
     Ok(received)
 }
 
+// How many of the packets of an object come through, and after how many of these it is answered.
+fn answer_with_losses(
+    alloc: Global,
+    table: &SystematicTable,
+    config: Config,
+    seed: u64,
+    lost: u64,
+) -> Result<(usize, Option<usize>), Error> {
+    let received = received(alloc, packets(alloc, table, config)?, seed, lost)?;
+    let length = received.len();
+    let object = object(alloc, config.0)?;
+    let answer = answered(
+        alloc,
+        table,
+        information(config)?,
+        object.as_slice(),
+        received,
+    )?;
+    Ok((length, answer))
+}
+
 #[test]
-fn answers_for_objects(rt: HostRuntime) -> Result<(), Fail> {
-    let alloc = rt.alloc();
-    let table = SystematicTable::built_in(alloc)?;
+fn answers_for_objects(rt: HostRuntime) -> Result<(), Error> {
+    let table = SystematicTable::built_in(rt.alloc())?;
     for (place, seed, lost, count, wanted) in LOSSES {
         let (config, _) = OBJECTS[place % 60];
-        let received = received(alloc, packets(alloc, &table, config)?, seed, lost)?;
-        same!(rt; received.len(), count, (config, seed));
-        let object = object(alloc, config.0)?;
-        let information = information(config)?;
-        let answer = answered(alloc, &table, information, object.as_slice(), received)?;
-        same!(rt; answer, Some(wanted), (config, seed));
+        let answer = answer_with_losses(rt.alloc(), &table, config, seed, lost)?;
+        same!(rt; answer, (count, Some(wanted)), (config, seed));
     }
     Ok(())
 }
