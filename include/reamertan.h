@@ -14,7 +14,12 @@
  * than REAMERTAN_DONE leaves the caller's buffers as they were. Calls may be made from any thread, but
  * not from a signal handler.
  *
- * Link libraptorq_c.a, and behind it the toolchain's liblibc_c.a (`-lraptorq_c -llibc_c`), as examples/build does.
+ * `./install PREFIX` puts the library in place, and `pkg-config --cflags --libs reamertan` says how to link it.
+ *
+ * A library is built for one processor, which `pkg-config --variable=processor reamertan` names: x86-64-v2, or
+ * x86-64-v3, which has AVX2, BMI2 and others more. No call looks whether the machine has it. Where it hasn't,
+ * glibc's loader starts no program that GNU's ld linked with the library, but ends it with 127 and a line that says
+ * why. What is linked statically, or by another linker, runs until a call ends it (SIGILL).
  */
 #ifndef REAMERTAN_H
 #define REAMERTAN_H
@@ -26,6 +31,12 @@
 #ifdef __cplusplus
 extern "C" {
 #endif
+
+/* The version of this header, and of the library that is installed with it. `install` reads it here. While the
+ * major version is 0, another minor version may have other calls. */
+#define REAMERTAN_VERSION_MAJOR 0
+#define REAMERTAN_VERSION_MINOR 1
+#define REAMERTAN_VERSION_PATCH 0
 
 /* The bytes of a configuration, and of a payload id before its symbol. */
 #define REAMERTAN_CONFIGURATION_BYTES 12
@@ -158,11 +169,15 @@ uint8_t reamertan_encode(const uint8_t configuration[REAMERTAN_CONFIGURATION_BYT
  * is written, and whether anything is, is said of packets of one object alone: others, forged or damaged,
  * may give other bytes, CONTRADICTION, INCOMPLETE or WRONG_BUFFER.
  *
- * Refuses, in this order: PACKET_TOO_SHORT where the last packet is shorter than its id, what
- * `reamertan_check_configuration` refuses, of the first packet that is refused UNKNOWN_BLOCK or else
- * WRONG_PAYLOAD_SIZE (the last packet may be cut short) or else CONTRADICTION, where with it those of its
- * block, which has no answer yet, determine the block and no block fits them all, INCOMPLETE,
- * WRONG_BUFFER. OUT_OF_MEMORY may come before any. */
+ * Refuses, in this order:
+ *   PACKET_TOO_SHORT, where the last packet is shorter than its id;
+ *   what `reamertan_check_configuration` refuses;
+ *   of the first packet that is refused UNKNOWN_BLOCK, or WRONG_PAYLOAD_SIZE (the last packet may be cut
+ *     short), or CONTRADICTION: with it those of its block, which has no answer yet, determine the block,
+ *     and no block fits them all;
+ *   INCOMPLETE;
+ *   WRONG_BUFFER.
+ * OUT_OF_MEMORY may come before any. */
 uint8_t reamertan_decode(const uint8_t configuration[REAMERTAN_CONFIGURATION_BYTES],
                          const uint8_t *packets, size_t packets_length, uint8_t *object,
                          size_t object_length);

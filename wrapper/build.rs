@@ -1,11 +1,78 @@
-//! Links the codec's static library from the folder that `REAMERTAN_LIB` names.
+//! Links the codec's static library: the one in the folder or the PREFIX that `REAMERTAN_LIB` names, or else the one
+//! that pkg-config knows. Without a library there is a warning, since `cargo check` and `cargo doc` need none.
+
+use std::env;
+use std::path::{Path, PathBuf};
+use std::process::{Command, exit};
+
+const LIBRARY: &str = "libreamertan.a";
+
+// What pkg-config is told by the environment.
+const PKG_CONFIG: [&str; 3] = ["PKG_CONFIG", "PKG_CONFIG_PATH", "PKG_CONFIG_LIBDIR"];
 
 fn main() {
+    println!("cargo:rerun-if-changed=build.rs");
     println!("cargo:rerun-if-env-changed=REAMERTAN_LIB");
-    let folder = std::env::var("REAMERTAN_LIB")
-        .expect("REAMERTAN_LIB names the folder of libraptorq_c.a (examples/build makes it)");
-    println!("cargo:rerun-if-changed={folder}");
-    println!("cargo:rustc-link-search=native={folder}");
-    println!("cargo:rustc-link-lib=static=raptorq_c");
-    println!("cargo:rustc-link-lib=static=libc_c");
+    let named = env::var_os("REAMERTAN_LIB").map(PathBuf::from);
+    let found = named.as_deref().map_or_else(in_pkg_config, in_named);
+    match (found, named) {
+        (Some(folder), _) => link(&folder),
+        (None, Some(named)) => refuse(&named),
+        (None, None) => warn(),
+    }
+}
+
+fn link(folder: &Path) {
+    println!("cargo:rerun-if-changed={}", folder.join(LIBRARY).display());
+    println!("cargo:rustc-link-search=native={}", folder.display());
+    println!("cargo:rustc-link-lib=static=reamertan");
+}
+
+fn refuse(named: &Path) {
+    eprintln!(
+        "REAMERTAN_LIB is {}, where there is neither {LIBRARY} nor lib/{LIBRARY}",
+        named.display()
+    );
+    exit(1);
+}
+
+fn warn() {
+    println!(
+        "cargo:warning=no {LIBRARY} to link: ./install makes it, and REAMERTAN_LIB names its folder"
+    );
+    // A file that isn't there has the library looked for again at the next build.
+    println!("cargo:rerun-if-changed={LIBRARY}");
+}
+
+// The folder of the library, by a path that begins where cargo was called or else at this file, as an editor may call it.
+fn in_named(named: &Path) -> Option<PathBuf> {
+    if named.is_relative() {
+        println!("cargo:rerun-if-env-changed=PWD");
+    }
+    let called = env::var_os("PWD").map(PathBuf::from);
+    let here = env::current_dir().ok();
+    [called, here]
+        .into_iter()
+        .flatten()
+        .find_map(|start| in_prefix(&start.join(named)))
+}
+
+fn in_prefix(prefix: &Path) -> Option<PathBuf> {
+    [prefix.to_path_buf(), prefix.join("lib")]
+        .into_iter()
+        .find(|folder| folder.join(LIBRARY).is_file())
+}
+
+fn in_pkg_config() -> Option<PathBuf> {
+    for name in PKG_CONFIG {
+        println!("cargo:rerun-if-env-changed={name}");
+    }
+    let program = env::var("PKG_CONFIG").unwrap_or("pkg-config".into());
+    let asked = Command::new(program)
+        .args(["--variable=libdir", "reamertan"])
+        .output()
+        .ok()
+        .filter(|asked| asked.status.success())?;
+    let folder = String::from_utf8(asked.stdout).ok()?;
+    in_prefix(Path::new(folder.trim_end()))
 }
