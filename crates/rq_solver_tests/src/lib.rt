@@ -4,6 +4,8 @@
 #[cfg(test)]
 mod compare;
 #[cfg(test)]
+mod operations;
+#[cfg(test)]
 mod refused;
 #[cfg(test)]
 mod solver;

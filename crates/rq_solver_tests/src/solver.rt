@@ -1,19 +1,14 @@
-//! Tests of the solver and of recorded operations.
+//! Tests of the solver.
 ghost use Rattle.std.specs.Prelude.{◌≡◌, ℕ, ◌+◌, ◌≤◌, ◌<◌, None, length, IfOk};
-ghost use Rattle.rq_algebra.specs.Operations.{AreAllowed};
-ghost use Rattle.rq_operations.specs.RecordedOperations.{operations_of};
 ghost use Rattle.rq_standard.specs.TableRows.{IsChecked, greatest_size, intermediate_symbols, row_of};
 ghost use Rattle.rq_solver_tests.specs.Squares.{HasZeroRows, IsSquareOf};
 
 use crate::compare::{holds, same};
 use rq_bytes::error::Error;
 use rq_bytes::octet::Octet;
-use rq_bytes::operation_vector::SymbolOps;
 use rq_bytes::symbol_slab::SymbolSlab;
 use rq_matrix::matrix::{BinaryMatrix, DenseBinaryMatrix};
 use rq_matrix::sparse_matrix::SparseBinaryMatrix;
-use rq_operations::recorded::RecordedOperations;
-use rq_operations::steps::Step;
 use rq_parts::octet_matrix::DenseOctetMatrix;
 use rq_solver::pi_solver::{
     FirstPhaseRowSelectionStats, IntermediateSymbolDecoder, fused_inverse_mul_symbols,
@@ -127,14 +122,29 @@ fn numbered_solver(
     Ok(IntermediateSymbolDecoder::new(alloc, &table, bits, hdpc, symbols, 10))
 }
 
-// Symbols of one octet each.
-fn assert_octets(rt: &impl Abort, slab: SymbolSlab, expected: &[u8]) -> Result<(), Error> {
-    let found = slab.into_symbols()?;
-    assert_eq!(rt; found.len(), expected.len());
-    for k in 0..found.len() {
-        same!(rt; found[k].as_bytes(), [expected[k]].as_slice(), k);
+// The octets of symbols, one symbol after another.
+pub(crate) fn octets_of(alloc: Global, slab: SymbolSlab) -> Result<Vec<u8>, Error> {
+    let mut octets = Vec::new(alloc);
+    for symbol in &slab.into_symbols()? {
+        octets.extend_from_slice(symbol.as_bytes())?;
     }
-    Ok(())
+    Ok(octets)
+}
+
+// The octets of the symbols that a solver finds.
+fn found_octets(
+    rt: &impl Abort,
+    alloc: Global,
+    solver: &mut IntermediateSymbolDecoder<DenseBinaryMatrix>,
+) -> Result<Vec<u8>, Error> {
+    let found = solver.execute()?;
+    let (slab, _) = found.expect(rt, "the equations have one solution");
+    octets_of(alloc, slab)
+}
+
+// A solver that ran refuses to run again.
+fn assert_ran(rt: &impl Abort, solver: &mut IntermediateSymbolDecoder<DenseBinaryMatrix>) {
+    holds!(rt; matches!(solver.execute(), Err(Error::AlreadyExecuted)));
 }
 
 // The row in which the k-th row of bits stands beside 10 HDPC rows behind 7 others.
@@ -179,28 +189,36 @@ fn diagonal(alloc: Global, start: usize, count: usize) -> Result<Vec<(usize, usi
     Ok(octets)
 }
 
+// A solver of those rows and `count` HDPC rows, each with a column of the first ten.
+fn late_solver(
+    rt: &impl Abort,
+    alloc: Global,
+    count: usize,
+) -> Result<IntermediateSymbolDecoder<DenseBinaryMatrix>, Error>
+    requires { count < 1000 }
+{
+    let ones = late_ones(alloc)?;
+    let octets = diagonal(alloc, 0, count)?;
+    numbered_solver(rt, alloc, ones.as_slice(), octets.as_slice())
+}
+
 #[test]
 fn hdpc_rows_determine_what_is_left(rt: HostRuntime) -> Result<(), Error> {
-    let ones = late_ones(rt.alloc())?;
-    let octets = diagonal(rt.alloc(), 0, 10)?;
-    let mut solver = numbered_solver(&rt, rt.alloc(), ones.as_slice(), octets.as_slice())?;
-    let (slab, _) = solver
-        .execute()?
-        .expect(&rt, "the equations have one solution");
+    let mut solver = late_solver(&rt, rt.alloc(), 10)?;
+    let octets = found_octets(&rt, rt.alloc(), &mut solver)?;
     let expected = [
         7, 8, 9, 10, 11, 12, 13, 14, 15, 16, 0, 1, 2, 3, 4, 5, 6, 17, 18, 19, 20, 21, 22, 23, 24,
         25, 26,
     ];
-    assert_octets(&rt, slab, &expected)
+    same!(rt; octets.as_slice(), expected.as_slice());
+    Ok(())
 }
 
 #[test]
 fn nothing_is_answered_without_the_last_hdpc_row(rt: HostRuntime) -> Result<(), Error> {
-    let ones = late_ones(rt.alloc())?;
-    let octets = diagonal(rt.alloc(), 0, 9)?;
-    let mut solver = numbered_solver(&rt, rt.alloc(), ones.as_slice(), octets.as_slice())?;
+    let mut solver = late_solver(&rt, rt.alloc(), 9)?;
     holds!(rt; solver.execute()?.is_none());
-    holds!(rt; matches!(solver.execute(), Err(Error::AlreadyExecuted)));
+    assert_ran(&rt, &mut solver);
     Ok(())
 }
 
@@ -215,19 +233,33 @@ fn chain(alloc: Global) -> Result<Vec<(usize, usize)>, Error> {
     Ok(ones)
 }
 
-#[test]
-fn rows_of_least_degree_take_few_additions(rt: HostRuntime) -> Result<(), Error> {
-    let ones = chain(rt.alloc())?;
-    let octets = diagonal(rt.alloc(), 17, 10)?;
-    let mut solver = numbered_solver(&rt, rt.alloc(), ones.as_slice(), octets.as_slice())?;
-    holds!(rt; solver.execute()?.is_some());
+// A solver of them.
+fn chain_solver(
+    rt: &impl Abort,
+    alloc: Global,
+) -> Result<IntermediateSymbolDecoder<DenseBinaryMatrix>, Error> {
+    let ones = chain(alloc)?;
+    let octets = diagonal(alloc, 17, 10)?;
+    numbered_solver(rt, alloc, ones.as_slice(), octets.as_slice())
+}
+
+// It took 16 additions in the first phase, and nothing else.
+fn assert_additions(rt: &impl Abort, solver: &IntermediateSymbolDecoder<DenseBinaryMatrix>) {
     same!(rt; solver.get_symbol_mul_ops(), 0);
     let multiplications = solver.get_symbol_mul_ops_by_phase();
     same!(rt; multiplications.as_slice(), [0, 0, 0, 0, 0].as_slice());
-    holds!(rt; matches!(solver.execute(), Err(Error::AlreadyExecuted)));
     same!(rt; solver.get_symbol_add_ops(), 16);
     let additions = solver.get_symbol_add_ops_by_phase();
     same!(rt; additions.as_slice(), [16, 0, 0, 0, 0].as_slice());
+}
+
+#[test]
+fn rows_of_least_degree_take_few_additions(rt: HostRuntime) -> Result<(), Error> {
+    let mut solver = chain_solver(&rt, rt.alloc())?;
+    holds!(rt; solver.execute()?.is_some());
+    assert_additions(&rt, &solver);
+    assert_ran(&rt, &mut solver);
+    assert_additions(&rt, &solver);
     Ok(())
 }
 
@@ -267,25 +299,17 @@ fn each_phase_counts_its_own_operations(rt: HostRuntime) -> Result<(), Error> {
 
 #[test]
 fn rows_of_least_degree_are_solved(rt: HostRuntime) -> Result<(), Error> {
-    let ones = chain(rt.alloc())?;
-    let octets = diagonal(rt.alloc(), 17, 10)?;
-    let mut solver = numbered_solver(&rt, rt.alloc(), ones.as_slice(), octets.as_slice())?;
-    let (slab, _) = solver
-        .execute()?
-        .expect(&rt, "the equations have one solution");
-    let found = slab.into_symbols()?;
-    assert_eq!(rt; found.len(), 27);
-    same!(rt; found[0].as_bytes(), [18].as_slice());
-    same!(rt; found[1].as_bytes(), [1].as_slice());
-    for i in 0..10u8 {
-        same!(rt; found[17 + i as usize].as_bytes(), [7 + i].as_slice(), i);
-    }
+    let mut solver = chain_solver(&rt, rt.alloc())?;
+    let octets = found_octets(&rt, rt.alloc(), &mut solver)?;
+    same!(rt; octets.len(), 27);
+    same!(rt; octets.get(..2), Some([18, 1].as_slice()));
+    same!(rt; octets.get(17..), Some([7, 8, 9, 10, 11, 12, 13, 14, 15, 16].as_slice()));
     Ok(())
 }
 
-#[test]
-fn rows_of_two_ones_are_taken_before_longer_ones(rt: HostRuntime) -> Result<(), Error> {
-    let mut ones = Vec::new(rt.alloc());
+// A row of 17 ones, and behind it a chain of rows of two.
+fn long_row_and_chain(alloc: Global) -> Result<Vec<(usize, usize)>, Error> {
+    let mut ones = Vec::new(alloc);
     for k in 0..17 {
         ones.push((0, k))?;
     }
@@ -293,6 +317,12 @@ fn rows_of_two_ones_are_taken_before_longer_ones(rt: HostRuntime) -> Result<(), 
         ones.push((bit_row(k), k - 1))?;
         ones.push((bit_row(k), k))?;
     }
+    Ok(ones)
+}
+
+#[test]
+fn rows_of_two_ones_are_taken_before_longer_ones(rt: HostRuntime) -> Result<(), Error> {
+    let ones = long_row_and_chain(rt.alloc())?;
     let octets = diagonal(rt.alloc(), 17, 10)?;
     let mut solver = numbered_solver(&rt, rt.alloc(), ones.as_slice(), octets.as_slice())?;
     holds!(rt; solver.execute()?.is_some());
@@ -336,16 +366,29 @@ pub(crate) const MIRRORED: [u8; 27] = [
     1, 0,
 ];
 
+// The octets of the symbols that these equations have, solved in one call.
+fn solved_octets(
+    rt: &impl Abort,
+    alloc: Global,
+    ones: &[(usize, usize)],
+    octets: &[(usize, usize, u8)],
+) -> Result<Vec<u8>, Error> {
+    let (table, row) = row_of_ten(rt, alloc)?;
+    let bits: DenseBinaryMatrix = bits_at(alloc, &row, ones)?;
+    let hdpc = octets_at(alloc, &row, octets)?;
+    let symbols = numbered(alloc)?;
+    let solved = fused_inverse_mul_symbols(alloc, &table, bits, hdpc, symbols, 10)?;
+    let (slab, _) = solved.expect(rt, "the equations have one solution");
+    octets_of(alloc, slab)
+}
+
 #[test]
 fn equations_are_solved(rt: HostRuntime) -> Result<(), Error> {
-    let (table, row) = row_of_ten(&rt, rt.alloc())?;
     let ones = mirrored_ones(rt.alloc())?;
-    let bits: DenseBinaryMatrix = bits_at(rt.alloc(), &row, ones.as_slice())?;
-    let hdpc = octets_at(rt.alloc(), &row, mirrored_octets(rt.alloc())?.as_slice())?;
-    let symbols = numbered(rt.alloc())?;
-    let solved = fused_inverse_mul_symbols(rt.alloc(), &table, bits, hdpc, symbols, 10)?;
-    let (slab, _) = solved.expect(&rt, "the equations have one solution");
-    assert_octets(&rt, slab, &MIRRORED)
+    let octets = mirrored_octets(rt.alloc())?;
+    let found = solved_octets(&rt, rt.alloc(), ones.as_slice(), octets.as_slice())?;
+    same!(rt; found.as_slice(), MIRRORED.as_slice());
+    Ok(())
 }
 
 // The numbers of the places, from the last one on.
@@ -361,96 +404,24 @@ fn equations_are_solved_without_hdpc(rt: HostRuntime) -> Result<(), Error> {
     let symbols = numbered(rt.alloc())?;
     let solved = fused_inverse_mul_symbols_no_hdpc(rt.alloc(), &table, bits, symbols, 10)?;
     let (slab, _) = solved.expect(&rt, "the equations have one solution");
-    assert_octets(&rt, slab, &REVERSED)
+    same!(rt; octets_of(rt.alloc(), slab)?.as_slice(), REVERSED.as_slice());
+    Ok(())
+}
+
+// Over one kind of matrix zeros determine nothing.
+fn zeros_determine_nothing<T: BinaryMatrix>(rt: &impl Abort, alloc: Global) -> Result<(), Error> {
+    let (table, row) = row_of_ten(rt, alloc)?;
+    let bits: T = zero_bits(alloc, &row)?;
+    let symbols = numbered(alloc)?;
+    let mut solver = IntermediateSymbolDecoder::new_no_hdpc(alloc, &table, bits, symbols, 10);
+    holds!(rt; solver.execute()?.is_none());
+    Ok(())
 }
 
 #[test]
 fn zeros_determine_nothing_without_hdpc(rt: HostRuntime) -> Result<(), Error> {
-    let (table, row) = row_of_ten(&rt, rt.alloc())?;
-    let dense: DenseBinaryMatrix = zero_bits(rt.alloc(), &row)?;
-    let symbols = numbered(rt.alloc())?;
-    let mut solver = IntermediateSymbolDecoder::new_no_hdpc(rt.alloc(), &table, dense, symbols, 10);
-    holds!(rt; solver.execute()?.is_none());
-    let sparse: SparseBinaryMatrix = zero_bits(rt.alloc(), &row)?;
-    let symbols = numbered(rt.alloc())?;
-    let mut solver = IntermediateSymbolDecoder::new_no_hdpc(
-        rt.alloc(),
-        &table,
-        sparse,
-        symbols,
-        10,
-    );
-    holds!(rt; solver.execute()?.is_none());
-    Ok(())
-}
-
-// A run of additions, a symbol that is doubled and added to, a multiple that is added, and an order.
-fn recorded_operations(alloc: Global) -> Result<RecordedOperations, Error>
-    ensures { IfOk result (λ recorded. AreAllowed 3 None (operations_of recorded)) }
-{
-    let steps = vec![in alloc;
-        Step::Add { dest: 0, src: 1 },
-        Step::Add { dest: 0, src: 2 },
-        Step::Multiply {
-            scalar: Octet::new(2),
-            dest: 1,
-        },
-        Step::Add { dest: 1, src: 0 },
-        Step::AddMultiple {
-            scalar: Octet::new(3),
-            dest: 2,
-            src: 1,
-        },
-    ]?;
-    let order = vec![in alloc; 2, 0, 1]?;
-    Ok(RecordedOperations::new(steps, order))
-}
-
-#[test]
-fn operations_are_replayed(rt: HostRuntime) -> Result<(), Error> {
-    let mut slab = SymbolSlab::with_zeros(rt.alloc(), 3, 2)?;
-    slab.copy_block_from(0, &[1, 2, 3, 200, 5, 6]);
-    recorded_operations(rt.alloc())?.replay(&mut slab)?;
-    let symbols = slab.into_symbols()?;
-    assert_eq!(rt; symbols.len(), 3);
-    same!(rt; symbols[0].as_bytes(), [6, 197].as_slice());
-    same!(rt; symbols[1].as_bytes(), [7, 204].as_slice());
-    same!(rt; symbols[2].as_bytes(), [1, 65].as_slice());
-    Ok(())
-}
-
-#[test]
-fn recorded_operations_are_copied_and_listed(rt: HostRuntime) -> Result<(), Error> {
-    let recorded = recorded_operations(rt.alloc())?;
-    let copy = recorded.clone()?;
-    holds!(rt; copy == recorded);
-    let steps = vec![in rt.alloc(); Step::Add { dest: 0, src: 1 }]?;
-    let other = RecordedOperations::new(steps, vec![in rt.alloc(); 1]?);
-    holds!(rt; other != recorded);
-    same!(rt;
-        format!(in rt.alloc(); "{other:?}")?.as_str(),
-        "RecordedOperations { steps: [Add { dest: 0, src: 1 }], order: [1] }"
-    );
-    let operations = copy.into_operations()?;
-    let expected = vec![in rt.alloc();
-        SymbolOps::AddAssign { dest: 0, src: 1 },
-        SymbolOps::AddAssign { dest: 0, src: 2 },
-        SymbolOps::MulAssign {
-            dest: 1,
-            scalar: Octet::new(2),
-        },
-        SymbolOps::AddAssign { dest: 1, src: 0 },
-        SymbolOps::FMA {
-            dest: 2,
-            src: 1,
-            scalar: Octet::new(3),
-        },
-        SymbolOps::Reorder {
-            order: vec![in rt.alloc(); 2, 0, 1]?,
-        },
-    ]?;
-    holds!(rt; operations == expected);
-    Ok(())
+    zeros_determine_nothing::<DenseBinaryMatrix>(&rt, rt.alloc())?;
+    zeros_determine_nothing::<SparseBinaryMatrix>(&rt, rt.alloc())
 }
 
 #[test]
