@@ -57,7 +57,7 @@ module _ (F : Field) (height more width : ℕ) (above below : ℕ → ℕ → �
     at = λ i l. ap (λ (row : ℕ → ℕ). dot F width row column) (sym (stacked_below height above below i)) ∙ s.at (height + i) (omega arith) ∙ stacked_below height u v i;
   }
 
--- the same of columns of symbols
+-- stacked columns of symbols `u` and `v`, each place of their octets solved by itself
 module _ (F : Field) (height more width : ℕ) (above below : ℕ → ℕ → ℕ) (column u v : ℕ → List ℕ) where
   slice-stacked : (p i : ℕ) → slice_at p (stacked height u v) i ≡ stacked height (slice_at p u) (slice_at p v) i
   slice-stacked p i = elim (cases_lt i height) [

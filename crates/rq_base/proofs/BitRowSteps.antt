@@ -122,7 +122,7 @@ ldpc_1_more {row} {rows} {column} {old} {new} checked room lt before three =
       below = λ i k low hi hk. under i k low (omega (arith, before.shape.height, three.shape.height)) hk ∙ before.below i k low (omega (arith, three.shape.height)) hk;
     }
 
--- the same where each row is a step behind the one before
+-- one column more, with ones in three rows: `second` is a step behind the first one, and `third` a step behind `second`
 pub ldpc_1_stepped :
     {row : TableRow} {rows column second third : ℕ} {old new : BitTable} → IsChecked row → row.ldpc_symbols ≤ rows → column < b_of row → HasLdpc1Columns row rows column old
     → second ≡ (column % row.ldpc_symbols + ldpc_step row column) % row.ldpc_symbols → third ≡ (second + ldpc_step row column) % row.ldpc_symbols

@@ -11,7 +11,7 @@ use Rattle.rq_standard.specs.BitTable.{BitTable}
 use Rattle.rq_standard.specs.BitTableSteps.{HasSameShape, SetsBit, bit_of}
 use Rattle.rq_standard.specs.TableRows.{intermediate_symbols}
 use Rattle.rq_standard.specs.Equations.{row_indices, symbol_coefficient}
-use Rattle.rq_base.specs.BinaryRows.{HasLdpcRows, HasSymbolRows, FillsRow}
+use Rattle.rq_base.specs.BinaryRows.{HasLdpcRows, HasSymbolRows, SetsParityRow}
 use Rattle.rq_base.proofs.BitRowSteps.{same_shape, rows_stay}
 
 -- what is left to flip of the indices of a row
@@ -87,7 +87,7 @@ flips_more {old} {middle} {new} {i} {index} {indices} {left} {rest} row flipping
       below = All-tail (λ p. p < old.width) index rest below;
     }
 
-pub flips_none : {old new : BitTable} {i : ℕ} {indices left : List ℕ} → IsFlipping old i indices left new → left ≡ [] → FillsRow old i indices new
+pub flips_none : {old new : BitTable} {i : ℕ} {indices left : List ℕ} → IsFlipping old i indices left new → left ≡ [] → SetsParityRow old i indices new
 unfolding parity
 flips_none {old} {new} {i} {indices} {left} flipping e = record {
   shape = flipping.shape;
@@ -112,7 +112,7 @@ symbols_none {row} {first} {ids} {m} after rows = record {
 
 pub symbols_more :
     {row : TableRow} {first i : ℕ} {ids indices : List ℕ} {old new : BitTable} → row.ldpc_symbols ≤ first → i < length ids → HasSymbolRows row first ids i old
-    → FillsRow old (first + i) indices new → indices ≡ row_indices row (at ids i) → HasSymbolRows row first ids (i + 1) new
+    → SetsParityRow old (first + i) indices new → indices ≡ row_indices row (at ids i) → HasSymbolRows row first ids (i + 1) new
 symbols_more {row} {first} {i} {ids} {indices} {old} {new} after lt rows fills is =
     let tall = rows.shape.height in
     let wide = rows.shape.width in

@@ -43,7 +43,7 @@ pub record HasSymbolRows (row : TableRow) (first : ℕ) (ids : List ℕ) (done :
   pub rest : IsZeroFrom row (first + done) m
 
 -- in one row, the bits are how often each index is listed, modulo 2; the other rows are as they were
-pub record FillsRow (old : BitTable) (i : ℕ) (indices : List ℕ) (new : BitTable) : Type 0 where
+pub record SetsParityRow (old : BitTable) (i : ℕ) (indices : List ℕ) (new : BitTable) : Type 0 where
   pub shape : HasSameShape old new
   pub here : (k : ℕ) → k < old.width → new.bit i k ≡ parity indices k
   pub other_rows : (a k : ℕ) → a < old.height → k < old.width → a ≢ i → new.bit a k ≡ old.bit a k

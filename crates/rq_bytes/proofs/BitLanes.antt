@@ -1,28 +1,21 @@
 -- The bits of a word as lanes.
 use Rattle.std.proofs.Common.{w64, zero, suc, ◌++◌, ◌≡◌, ℕ, ◌+◌, ◌*◌, ◌/◌, ◌%◌, ◌^◌, ◌<◌, ◌≤◌, true, false, cond, eqb, List, length, get_or, map, replicate, refl, sym, ap, ◌∙◌, arith, ⊎_elim}
 use Rattle.std.proofs.lemmas.Bool.{agree_below, agree_below_at, eqb-true, cases_eq, cond-true, cond-false, eq-eqb, ne_eqb}
-use Rattle.std.proofs.lemmas.List.{ext_get_or, get_or-map, length-map, length-replicate}
+use Rattle.std.proofs.lemmas.List.{ext_get_or, get_or-map, get_or_append_left, length-map, length-replicate}
 use Rattle.std.proofs.lemmas.List.FromFn.{length-map-range_with_len, get_or-map-range_with_len}
-use Rattle.std.proofs.lemmas.Nat.{shr_split, shr-shr, pow_pos}
+use Rattle.std.proofs.lemmas.Nat.{pow-add, shr-shr, pow_pos}
 use Rattle.std.proofs.lemmas.Nat.Bits.{bit_at_cat_low, and_pow, bit_at-lt}
 use Rattle.std.proofs.lemmas.Simd.{length-chunk, get_or-chunk, length-zip2, get_or-zip2, length-sel_l, get_or-sel_l, get_or-replicate}
 use Rattle.std.specs.List.{range_with_len}
-use Rattle.std.specs.Int.{bit_at, to_le_bytes}
+use Rattle.std.specs.Int.{bit_at, byte_at, bytes_low_first, to_le_bytes}
 use lib.Bits.{bit_and}
 use lib.Lanes.{zip2, chunk, sel_l, pick_l}
 use Rattle.rq_standard.specs.Octets.{octet_mul}
 use Rattle.rq_bytes.specs.BinaryOctetVec.{padding_of, packed_bits}
+use Rattle.rq_bytes.specs.OctetBits.{octet_bit}
 use Rattle.rq_bytes.proofs.PackedRows.{length-packed_bits, get_or-packed_bits}
 use Rattle.rq_standard.specs.OctetProducts.{mul-one, mul-zero}
-use Rattle.rq_bytes.specs.declared.products.TheConstants.{BITS, PLACES}
-
--- a bit of a run of bits
-field_bit : (n s w k : ℕ) → k < w → bit_at (n / 2 ^ s % 2 ^ w) k ≡ bit_at n (s + k)
-field_bit n s w k lt =
-    let m = n / 2 ^ s in
-    sym (bit_at_cat_low (m / 2 ^ w) w (m % 2 ^ w) k lt)
-    ∙ ap (λ x. bit_at x k) (shr_split m w)
-    ∙ ap (λ x. x % 2) (shr-shr n s k)
+use Rattle.rq_bytes.specs.declared.products.TheConstants.{MASKS, PLACES}
 
 -- a row of n elements, packed in these words
 pub record IsPacked (words : List ℕ) (len : ℕ) (row : List ℕ) (padding n : ℕ) : Type 0 where
@@ -53,28 +46,30 @@ first_bit words row len padding n i word is lt e =
     ∙ ap (bit_at (get_or words ((padding + i) / 64) 0)) place
     ∙ packed_at words row len padding n i is (omega arith)
 
--- the elements in a whole word
-pub word_bits : (s : ℕ) (words row : List ℕ) (len padding n at word : ℕ) → IsPacked words len row padding n → at + 64 ≤ n → at % 64 ≡ n % 64
+-- the elements in half of a word, of which the whole is read
+pub half_word_bits : (s : ℕ) (words row : List ℕ) (len padding n at block word : ℕ) (half : List ℕ) → IsPacked words len row padding n → at + 32 ≤ n → at ≡ n % 64 + 32 * block
     → word ≡ get_or words ((padding + at) / 64) 0
-    → map (λ i. octet_mul s (bit_at word i)) (range_with_len 0 64) ≡ map (octet_mul s) (chunk at 64 row)
-word_bits s words row len padding n at word is le aligned e =
+    → ((i : ℕ) → i < 32 → octet_bit half i ≡ bit_at word (32 * (block % 2) + i))
+    → map (λ i. octet_mul s (octet_bit half i)) (range_with_len 0 32) ≡ map (octet_mul s) (chunk at 32 row)
+half_word_bits s words row len padding n at block word half is le start e half_is =
     let bound = is.before in
     let long = is.long in
-    let few = length-chunk at 64 row (omega arith) in
-    let count = length-map-range_with_len (λ i. octet_mul s (bit_at word i)) 0 64 in
-    ext_get_or 0 (map (λ i. octet_mul s (bit_at word i)) (range_with_len 0 64)) (map (octet_mul s) (chunk at 64 row))
-    (count ∙ sym (length-map (chunk at 64 row) (octet_mul s) ∙ few))
+    let few = length-chunk at 32 row (omega arith) in
+    let count = length-map-range_with_len (λ i. octet_mul s (octet_bit half i)) 0 32 in
+    ext_get_or 0 (map (λ i. octet_mul s (octet_bit half i)) (range_with_len 0 32)) (map (octet_mul s) (chunk at 32 row))
+    (count ∙ sym (length-map (chunk at 32 row) (octet_mul s) ∙ few))
     (λ k under.
-    let lt : k < 64 = omega arith in
+    let lt : k < 32 = omega arith in
     let which : (padding + at) / 64 ≡ (padding + (at + k)) / 64 = omega arith in
-    let place : k ≡ (padding + (at + k)) % 64 = omega arith in
-    get_or-map-range_with_len (λ i. octet_mul s (bit_at word i)) 0 64 k k 0 lt (omega arith)
+    let place : 32 * (block % 2) + k ≡ (padding + (at + k)) % 64 = omega arith in
+    get_or-map-range_with_len (λ i. octet_mul s (octet_bit half i)) 0 32 k k 0 lt (omega arith)
     ∙ ap (octet_mul s) (
-    ap (λ w. bit_at w k) (e ∙ ap (λ j. get_or words j 0) which)
+    half_is k lt
+    ∙ ap (λ w. bit_at w (32 * (block % 2) + k)) (e ∙ ap (λ j. get_or words j 0) which)
     ∙ ap (bit_at (get_or words ((padding + (at + k)) / 64) 0)) place
     ∙ packed_at words row len padding n (at + k) is (omega arith)
-    ∙ sym (get_or-chunk at 64 row k 0 lt))
-    ∙ sym (get_or-map (octet_mul s) (chunk at 64 row) k 0 0 (omega arith)))
+    ∙ sym (get_or-chunk at 32 row k 0 lt))
+    ∙ sym (get_or-map (octet_mul s) (chunk at 32 row) k 0 0 (omega arith)))
 
 -- ---- lanes of bits
 
@@ -92,26 +87,14 @@ bit_test scalar b p hs hb hp =
     ∙ sym (ap (octet_mul scalar) is ∙ mul-one scalar hs))
     (cases_eq b 0)
 
-masks : agree_below (λ i. eqb (get_or BITS i 0) (2 ^ (i % 8))) (λ _. true) 64 ≡ true
+masks : agree_below (λ i. eqb (get_or MASKS i 0) (2 ^ (i % 8))) (λ _. true) 32 ≡ true
 masks = refl
 
-pub mask_at : (i : ℕ) → i < 64 → get_or BITS i 0 ≡ 2 ^ (i % 8)
-mask_at i lt = eqb-true _ _ (agree_below_at (λ k. eqb (get_or BITS k 0) (2 ^ (k % 8))) (λ _. true) 64 i masks lt)
-
-places : agree_below (λ i. eqb (256 ^ (i / 8)) (2 ^ (8 * (i / 8)))) (λ _. true) 64 ≡ true
-places = refl
-
-place_at : (i : ℕ) → i < 64 → 256 ^ (i / 8) ≡ 2 ^ (8 * (i / 8))
-place_at i lt = eqb-true _ _ (agree_below_at (λ k. eqb (256 ^ (k / 8)) (2 ^ (8 * (k / 8)))) (λ _. true) 64 i places lt)
-
-pub byte_bit : (word i : ℕ) → i < 64 → bit_at (word / 256 ^ (i / 8) % 256) (i % 8) ≡ bit_at word i
-byte_bit word i lt =
-    ap (λ p. bit_at (word / p % 256) (i % 8)) (place_at i lt)
-    ∙ field_bit word (8 * (i / 8)) 8 (i % 8) (omega arith)
-    ∙ ap (bit_at word) (let same : 8 * (i / 8) + i % 8 ≡ i = omega arith in same)
+mask_at : (i : ℕ) → i < 32 → get_or MASKS i 0 ≡ 2 ^ (i % 8)
+mask_at i lt = eqb-true _ _ (agree_below_at (λ k. eqb (get_or MASKS k 0) (2 ^ (k % 8))) (λ _. true) 32 i masks lt)
 
 -- an octet in each lane whose bit is set, the masks naming the bits, and 0 in the others
-pub masked : (n scalar : ℕ) (masks v : List ℕ) (bit : ℕ → ℕ) → scalar < 256 → length masks ≡ n → length v ≡ n
+masked : (n scalar : ℕ) (masks v : List ℕ) (bit : ℕ → ℕ) → scalar < 256 → length masks ≡ n → length v ≡ n
     → ((i : ℕ) → i < n → get_or masks i 0 ≡ 2 ^ (i % 8))
     → ((i : ℕ) → i < n → bit_at (get_or v i 0) (i % 8) ≡ bit i)
     → sel_l (zip2 eqb (zip2 bit_and v masks) masks) (replicate n scalar) (replicate n 0)
@@ -143,24 +126,69 @@ masked n scalar masks v bit small long_masks long masks_are bits_are =
     ∙ ap (octet_mul scalar) (bits_are i lt)
     ∙ sym (get_or-map-range_with_len (λ j. octet_mul scalar (bit j)) 0 n i i 0 lt (omega arith)))
 
--- ---- the bytes of a word, each at eight places
+-- ---- four octets, each at eight places
 
-bytes_at : (n j : ℕ) → j < 8 → get_or (to_le_bytes w64 n ++ to_le_bytes w64 n) j 0 ≡ n / 256 ^ j % 256
-bytes_at n zero lt = ap (λ m. m % 256) (let whole : n ≡ n / 1 = omega arith in whole)
-bytes_at n (suc zero) lt = refl
-bytes_at n (suc (suc zero)) lt = refl
-bytes_at n (suc (suc (suc zero))) lt = refl
-bytes_at n (suc (suc (suc (suc zero)))) lt = refl
-bytes_at n (suc (suc (suc (suc (suc zero))))) lt = refl
-bytes_at n (suc (suc (suc (suc (suc (suc zero)))))) lt = refl
-bytes_at n (suc (suc (suc (suc (suc (suc (suc zero))))))) lt = refl
-bytes_at n (suc (suc (suc (suc (suc (suc (suc (suc j)))))))) lt = absurd (omega arith)
+octet_places : agree_below (λ i. eqb (get_or PLACES i 0) (i / 8)) (λ _. true) 32 ≡ true
+octet_places = refl
 
-byte_places : agree_below (λ i. eqb (get_or PLACES i 0) (i / 8)) (λ _. true) 64 ≡ true
-byte_places = refl
+repeated_at : (bits : List ℕ) (i : ℕ) → length bits ≡ 4 → i < 32 → get_or (pick_l 0 (bits ++ bits) PLACES) i 0 ≡ get_or bits (i / 8) 0
+repeated_at bits i long lt =
+    get_or-map (λ k. get_or (bits ++ bits) k 0) PLACES i 0 0 lt
+    ∙ ap (λ k. get_or (bits ++ bits) k 0) (eqb-true _ _ (agree_below_at (λ k. eqb (get_or PLACES k 0) (k / 8)) (λ _. true) 32 i octet_places lt))
+    ∙ get_or_append_left bits bits 0 (i / 8) (omega arith)
 
-pub repeated_at : (n i : ℕ) → i < 64 → get_or (pick_l 0 (to_le_bytes w64 n ++ to_le_bytes w64 n) PLACES) i 0 ≡ n / 256 ^ (i / 8) % 256
-repeated_at n i lt =
-    get_or-map (λ k. get_or (to_le_bytes w64 n ++ to_le_bytes w64 n) k 0) PLACES i 0 0 lt
-    ∙ ap (λ k. get_or (to_le_bytes w64 n ++ to_le_bytes w64 n) k 0) (eqb-true _ _ (agree_below_at (λ k. eqb (get_or PLACES k 0) (k / 8)) (λ _. true) 64 i byte_places lt))
-    ∙ bytes_at n (i / 8) (omega arith)
+-- the products of an octet and the bits of four octets, lane by lane
+pub masked_bits : (scalar : ℕ) (bits : List ℕ) → scalar < 256 → length bits ≡ 4
+    → sel_l (zip2 eqb (zip2 bit_and (pick_l 0 (bits ++ bits) PLACES) MASKS) MASKS) (replicate 32 scalar) (replicate 32 0)
+    ≡ map (λ i. octet_mul scalar (octet_bit bits i)) (range_with_len 0 32)
+masked_bits scalar bits small long =
+    let v = pick_l 0 (bits ++ bits) PLACES in
+    masked 32 scalar MASKS v (octet_bit bits) small refl (length-map PLACES (λ k. get_or (bits ++ bits) k 0)) mask_at (λ i l. ap (λ x. bit_at x (i % 8)) (repeated_at bits i long l))
+
+-- ---- the octets of a word
+
+byte_of : (first n i word : ℕ) → i < n → get_or (bytes_low_first first n word) i 0 ≡ byte_at (first + i) word
+byte_of first zero i word l = absurd (omega arith)
+byte_of first (suc n) zero word l = let same : first ≡ first + 0 = omega arith in ap (λ k. byte_at k word) same
+byte_of first (suc n) (suc i) word l = let same : suc first + i ≡ first + suc i = omega arith in byte_of (suc first) n i word (omega arith) ∙ ap (λ k. byte_at k word) same
+
+-- a bit of the lowest octet
+lowest_bits : (n i : ℕ) → i < 8 → bit_at (n % 256) i ≡ bit_at n i
+lowest_bits n i l = let whole : n / 256 * 2 ^ 8 + n % 256 ≡ n = omega arith in sym (bit_at_cat_low (n / 256) 8 (n % 256) i l) ∙ ap (λ x. bit_at x i) whole
+
+octet_power : (n : ℕ) → 256 ^ n ≡ 2 ^ (8 * n)
+octet_power zero = refl
+octet_power (suc n) =
+    let one_more : suc n ≡ n + 1 = omega arith in
+    let eight_more : 8 * n + 8 ≡ 8 * suc n = omega arith in
+    ap (λ k. 256 ^ k) one_more
+    ∙ pow-add 256 n 1
+    ∙ ap (λ x. x * 256) (octet_power n)
+    ∙ sym (pow-add 2 (8 * n) 8)
+    ∙ ap (λ k. 2 ^ k) eight_more
+
+byte_bits : (octet word i : ℕ) → i < 8 → bit_at (byte_at octet word) i ≡ bit_at word (8 * octet + i)
+byte_bits zero word i l = let same : i ≡ 8 * 0 + i = omega arith in lowest_bits word i l ∙ ap (bit_at word) same
+byte_bits (suc octet) word i l =
+    lowest_bits (word / 256 ^ suc octet) i l
+    ∙ ap (λ d. bit_at (word / d) i) (octet_power (suc octet))
+    ∙ ap (λ x. x % 2) (shr-shr word (8 * suc octet) i)
+
+-- the bits of its octets
+pub bytes_bits : (word k : ℕ) → k < 64 → octet_bit (to_le_bytes w64 word) k ≡ bit_at word k
+bytes_bits word k l =
+    let there : 8 * (0 + k / 8) + k % 8 ≡ k = omega arith in
+    ap (λ x. bit_at x (k % 8)) (byte_of 0 8 (k / 8) word (omega arith))
+    ∙ byte_bits (0 + k / 8) word (k % 8) (omega arith)
+    ∙ ap (bit_at word) there
+
+-- those of half of them
+pub half_bits : (word half i : ℕ) → half < 2 → i < 32 → octet_bit (chunk (4 * half) 4 (to_le_bytes w64 word)) i ≡ bit_at word (32 * half + i)
+half_bits word half i some lt =
+    let j = 32 * half + i in
+    let bytes = to_le_bytes w64 word in
+    let octet : 4 * half + i / 8 ≡ j / 8 = omega arith in
+    let place : i % 8 ≡ j % 8 = omega arith in
+    ap (λ x. bit_at x (i % 8)) (get_or-chunk (4 * half) 4 bytes (i / 8) 0 (omega arith) ∙ ap (λ k. get_or bytes k 0) octet)
+    ∙ ap (bit_at (get_or bytes (j / 8) 0)) place
+    ∙ bytes_bits word j (omega arith)

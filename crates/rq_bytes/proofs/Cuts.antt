@@ -1,9 +1,9 @@
 -- A list cut into pieces of one size.
 use Rattle.std.proofs.Common.{◌≡◌, ℕ, zero, suc, ◌+◌, ◌-◌, ◌*◌, ◌<◌, ◌≤◌, ◌⊎◌, inl, inr, ⊎_elim, List, [], ◌∷◌, ◌++◌, length, take, drop, get_or, set, replicate, refl, sym, ap, ◌∙◌, arith}
-use Rattle.std.proofs.Math.Nat.{mul-le-mul_right}
 use Rattle.std.proofs.lemmas.Bool.{cases_lt}
 use Rattle.std.proofs.Math.Seq.{take-append_seam, drop-append_seam, drop-append-add, take-append-add}
 use Rattle.std.proofs.lemmas.List.{take-take, drop-take, drop-drop, take-append-le, length-append, take-append-drop, take-replicate, drop-replicate, take_all, set_split, length-take-le, length-drop, append_assoc}
+use Rattle.rq_standard.proofs.PlainCut.{piece_within}
 use Rattle.rq_bytes.specs.Ranges.{range_of, with_range, cut, joined_pieces}
 
 pub length-cut : {X : Type 0} (n s : ℕ) (xs : List X) → length (cut n s xs) ≡ n
@@ -61,9 +61,6 @@ cut-append (suc n) s xs ys long size =
     ∙ ap (cut (suc (suc n)) s) (append_assoc first rest ys)
     ∙ cut-append_one (suc n) s first (rest ++ ys) few
     ∙ ap (λ zs. first ∷ zs) (cut-append n s rest ys left size)
-
-pub piece_within : (p n s : ℕ) → p < n → p * s + s ≤ n * s
-piece_within p n s lt = let more : suc p ≤ n = omega arith in omega (arith, mul-le-mul_right s more)
 
 -- two pieces have nothing in common
 pub pieces_apart : (p q s : ℕ) → (q ≡ p → ⊥) → (p * s + s ≤ q * s) ⊎ (q * s + s ≤ p * s)

@@ -18,5 +18,5 @@ pub mod SlabMultiples
 pub mod SlabSums
 pub mod TableFacts
 pub mod UnreadFacts
-pub mod Zeros
+pub mod ZeroRows
 pub mod ZipUpto

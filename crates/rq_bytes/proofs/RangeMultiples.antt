@@ -122,7 +122,7 @@ range-plus xs i ys j m apart =
 abbrev all_plus : List ℕ → List ℕ → ℕ → List (ℕ × ℕ) → List ℕ
 all_plus xs row at targets = fold (λ sum target. plus sum (target.0 + at) (row_multiple target.1 row)) xs targets
 
--- so many elements behind each start there is room
+-- a list of `count` elements has `len` of them from the start of each target on
 abbrev HaveRoom : ℕ → ℕ → List (ℕ × ℕ) → Type 0
 HaveRoom count len targets = All (λ target. target.0 + len ≤ count) targets
 

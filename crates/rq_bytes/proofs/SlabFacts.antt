@@ -9,6 +9,7 @@ use Rattle.rq_algebra.specs.Operations.{Operation, AddAssign, MulAssign, Fma, Re
 use Rattle.rq_algebra.specs.Symbols.{symbols, AreSymbols}
 use Rattle.std.proofs.lemmas.List.Elements.{All-take, All-drop}
 use Rattle.rq_standard.specs.OctetField.{octets}
+use Rattle.rq_standard.proofs.PlainCut.{piece_within}
 use Rattle.rq_bytes.specs.Ranges.{range_of, with_range, cut, joined_pieces}
 use Rattle.rq_bytes.proofs.RangeFacts.{length-range, length-with_range}
 use Rattle.rq_bytes.specs.SymbolSlab.{Slab, among_zeros, after, symbols_in, same_slab, HasPlace}
@@ -16,7 +17,7 @@ use Rattle.rq_bytes.specs.contracts.symbol_slab.SymbolSlab.{the_view, the_invari
 use Rattle.rq_bytes.specs.declared.symbol_slab.SymbolSlab.TheInside.{Inside}
 use Rattle.std.specs.Option.{option_map, option_eq, ForSome}
 use Rattle.std.specs.Cmp.Lexicographic.{pointwise}
-use Rattle.rq_bytes.proofs.Cuts.{cut-join, cut-replicate, refilled, cut-append, cut-refilled, joined-cut, length-cut, get_or-cut, cut-with_range, cut-with_ranges, piece_within, pieces_apart}
+use Rattle.rq_bytes.proofs.Cuts.{cut-join, cut-replicate, refilled, cut-append, cut-refilled, joined-cut, length-cut, get_or-cut, cut-with_range, cut-with_ranges, pieces_apart}
 
 -- two ranges exchanged
 abbrev pub ranges_exchanged : List ℕ → ℕ → ℕ → ℕ → List ℕ

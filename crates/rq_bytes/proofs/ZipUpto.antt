@@ -63,7 +63,7 @@ zip2-map_left f g [] ys = refl
 zip2-map_left f g (x ∷ xs) [] = refl
 zip2-map_left f g (x ∷ xs) (y ∷ ys) = ap (λ zs. f (g x) y ∷ zs) (zip2-map_left f g xs ys)
 
--- ---- the same of a list that a loop has so far
+-- ---- a list `now`, of which a loop has made the first i elements
 
 pub step_one : {A B : Type 0} (f : A → B → A) (i : ℕ) (now xs : List A) (ys : List B) (c : A) (d : B)
     → now ≡ zip_upto f i xs ys → i < length xs → length xs ≤ length ys

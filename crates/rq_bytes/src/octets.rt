@@ -4,11 +4,12 @@ ghost use Rattle.rq_bytes.specs.BinaryOctetVec.{padding_of, packed_bits};
 ghost use Rattle.rq_standard.specs.Rows.{row_sum, row_multiple};
 
 use crate::octet::Octet;
-use crate::products::{LANES, bit_product, bit_products, plane_products, product};
+use crate::products::{LANES, bit_product, bit_products, half_of_word, plane_products, product};
 use std::marker::Model;
 use std::simd::prelude::*;
 
-const WORD_BITS: usize = 64;
+/// How many bits a word has.
+pub const WORD_BITS: usize = 64;
 
 /// A row of octets each of which is 0 or 1, packed in words. Contracts see it as the list of these
 /// octets.
@@ -161,10 +162,10 @@ pub fn fused_addassign_mul_scalar_binary(octets: &mut [u8], other: &BinaryOctetV
     for i in 0..begun {
         octets[i] ^= bit_product(scalar, other.elements[0], padding + i);
     }
-    for block in 0..octets.len() / WORD_BITS {
-        let at = begun + WORD_BITS * block;
-        let multiple = bit_products(scalar, other.elements[(padding + at) / WORD_BITS]);
-        let sum = u8x64::from_slice(&octets[at..]) ^ multiple;
+    for block in 0..octets.len() / WORD_BITS * 2 {
+        let at = begun + LANES * block;
+        let half = half_of_word(other.elements[(padding + at) / WORD_BITS], block % 2);
+        let sum = u8x32::from_slice(&octets[at..]) ^ bit_products(scalar, half);
         sum.copy_to_slice(&mut octets[at..]);
     }
 }

@@ -1,25 +1,24 @@
 //! Products of an octet and each lane of a vector.
-ghost use Rattle.std.specs.Prelude.{◌≡◌, ℕ, ◌/◌, ◌%◌, ◌^◌, ◌<◌, length, map, slice_index, cond, ◌==◌};
+ghost use Rattle.std.specs.Prelude.{◌≡◌, ℕ, ◌+◌, ◌*◌, ◌/◌, ◌%◌, ◌^◌, ◌<◌, length, map, slice_index, cond, ◌==◌};
 ghost use Rattle.std.specs.Int.{bit_at};
 ghost use Rattle.std.specs.List.{range_with_len};
 ghost use Rattle.rq_standard.specs.Octets.{octet_double, octet_mul};
+ghost use Rattle.rq_bytes.specs.OctetBits.{octet_bit};
 
 use std::simd::prelude::*;
 
 /// How many octets of a row a kernel takes at once.
-pub(crate) const LANES: usize = 32;
+pub const LANES: usize = 32;
 
-// The place in its byte of each bit of a word, as a mask.
-const BITS: [u8; 64] = [
+// The place in its octet of each of 32 bits, as a mask.
+const MASKS: [u8; 32] = [
     1, 2, 4, 8, 16, 32, 64, 128, 1, 2, 4, 8, 16, 32, 64, 128, 1, 2, 4, 8, 16, 32, 64, 128, 1, 2, 4,
-    8, 16, 32, 64, 128, 1, 2, 4, 8, 16, 32, 64, 128, 1, 2, 4, 8, 16, 32, 64, 128, 1, 2, 4, 8, 16,
-    32, 64, 128, 1, 2, 4, 8, 16, 32, 64, 128,
+    8, 16, 32, 64, 128,
 ];
 
-// The byte of a word in which each of its bits stands.
-const PLACES: [usize; 64] = [
+// The octet in which each of 32 bits stands.
+const PLACES: [usize; 32] = [
     0, 0, 0, 0, 0, 0, 0, 0, 1, 1, 1, 1, 1, 1, 1, 1, 2, 2, 2, 2, 2, 2, 2, 2, 3, 3, 3, 3, 3, 3, 3, 3,
-    4, 4, 4, 4, 4, 4, 4, 4, 5, 5, 5, 5, 5, 5, 5, 5, 6, 6, 6, 6, 6, 6, 6, 6, 7, 7, 7, 7, 7, 7, 7, 7,
 ];
 
 // The product of an octet and x.
@@ -93,22 +92,25 @@ pub(crate) fn bit_product(scalar: u8, word: u64, bit: usize) -> u8
     if (word >> bit) % 2 == 1 { scalar } else { 0 }
 }
 
-/// The products of an octet and each bit.
+/// The products of an octet and each bit of four octets.
 #[inline(always)]
-pub(crate) fn bit_products(scalar: u8, word: u64) -> u8x64
-    ensures { result ≡ map (λ i. octet_mul scalar (bit_at word i)) (range_with_len 0 64) }
+pub fn bit_products(scalar: u8, bits: u8x4) -> u8x32
+    requires { length bits ≡ 4 }
+    ensures { result ≡ map (λ i. octet_mul scalar (octet_bit bits i)) (range_with_len 0 32) }
 {
-    let bits = u8x64::from_array(BITS);
-    (bytes_repeated(word) & bits)
-        .simd_eq(bits)
-        .select(u8x64::splat(scalar), u8x64::splat(0))
+    let masks = u8x32::from_array(MASKS);
+    (bits.swizzle(PLACES) & masks)
+        .simd_eq(masks)
+        .select(u8x32::splat(scalar), u8x32::splat(0))
 }
 
-// Each byte of a word, eight times.
+/// The four octets of a word that half 0, the lower one, or half 1 has.
 #[inline(always)]
-fn bytes_repeated(word: u64) -> u8x64
-    ensures len { length result ≡ 64 }
-    ensures each { (i : ℕ) → i < 64 → slice_index result i ≡ word / 256 ^ (i / 8) % 256 }
+pub(crate) fn half_of_word(word: u64, half: usize) -> u8x4
+    requires { half < 2 }
+    ensures len { length result ≡ 4 }
+    ensures bits { (i : ℕ) → i < 32 → octet_bit result i ≡ bit_at word (32 * half + i) }
 {
-    u8x8::from_array(word.to_le_bytes()).swizzle(PLACES)
+    let octets = word.to_le_bytes();
+    u8x4::from_slice(&octets[4 * half..])
 }

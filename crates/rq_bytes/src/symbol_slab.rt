@@ -7,7 +7,7 @@ ghost use Rattle.rq_algebra.specs.Operations.{AddAssign, MulAssign, Fma, Reorder
 ghost use Rattle.rq_algebra.specs.Symbols.{AreSymbols};
 ghost use Rattle.rq_standard.specs.OctetField.{octets};
 ghost use Rattle.std.specs.Borrow.{sem};
-ghost use Rattle.rq_bytes.specs.Ranges.{range_of, cut, whole_symbols, with_range};
+ghost use Rattle.rq_bytes.specs.Ranges.{cut, whole_symbols, with_range};
 ghost use Rattle.rq_bytes.specs.declared.error.Error.TheVariants.{OutOfMemory};
 ghost use Rattle.rq_bytes.specs.Refusals.{IsAnswer};
 ghost use Rattle.rq_bytes.specs.SymbolSlab.{slab_of, among_zeros, after, after_all, HasPlace, Allows, symbol_in, symbols_in, same_slab, IsZeroUnread, IsZeroUnmarked};
@@ -20,6 +20,7 @@ use crate::factor::{add_row_multiple, double_and_add, multiply_row};
 use crate::marks::marks_of;
 use crate::octet::Octet;
 use crate::octets;
+use crate::slices::range;
 use crate::symbol::{Symbol, zeros};
 use crate::util::{get_range_pair, swap_ranges};
 pub use multiples::Multiple;
@@ -400,14 +401,6 @@ impl Clone for SymbolSlab {
             order: self.order.clone()?,
         })
     }
-}
-
-// The octets of a range.
-fn range(bytes: &[u8], start: usize, len: usize) -> &[u8]
-    requires { start + len ≤ length bytes.now }
-    ensures { result.now ≡ range_of bytes.now start len }
-{
-    &bytes[start..start + len]
 }
 
 // Writes octets from a place on.

@@ -14,16 +14,16 @@ use Rattle.rq_bytes.specs.SymbolSlab.{Slab, after, slab_of, HasPlace, symbol_in,
 use Rattle.rq_bytes.proofs.Multiples.{times_one}
 use Rattle.rq_parts.specs.DenseOctetMatrix.{OctetTable, HasOctets, IsOctetRow, row_at, with_row}
 use Rattle.rq_elimination.specs.declared.entries.InactiveEntries.TheInside.{Inside}
-use Rattle.rq_elimination.specs.InactiveEntries.{AreEntries, IsNextEntry, row_of, entry_rows, octets_of_bits}
+use Rattle.rq_elimination.specs.InactiveEntries.{AreEntries, IsNextEntry, entry_row, entry_rows, octets_of_bits}
 use Rattle.rq_elimination.proofs.UnpackedBits.{is_unpacked, unpacked_row, octets_of_bits-sum, octets_of_bits-zeros}
 
 -- ---- a row
 
-pub row_of_none : (n : ℕ) (bits own : List ℕ) → length own ≡ 0 → row_of n bits own ≡ octets_of_bits n bits
+pub row_of_none : (n : ℕ) (bits own : List ℕ) → length own ≡ 0 → entry_row n bits own ≡ octets_of_bits n bits
 row_of_none n bits [] none = refl
 row_of_none n bits (o ∷ os) none = absurd (omega arith)
 
-pub row_of_own : (n : ℕ) (bits own : List ℕ) → length own ≡ n → row_of n bits own ≡ own
+pub row_of_own : (n : ℕ) (bits own : List ℕ) → length own ≡ n → entry_row n bits own ≡ own
 row_of_own n bits [] long = is_unpacked n bits [] long (λ k l. absurd (omega arith))
 row_of_own n bits (o ∷ os) long = refl
 
@@ -31,40 +31,40 @@ row_of_own n bits (o ∷ os) long = refl
 
 module _ (width : ℕ) (bits owns : List (List ℕ)) (same : length owns ≡ length bits) where
   pub length-rows : length (entry_rows width bits owns) ≡ length bits
-  length-rows = length-zip2 (row_of width) bits owns (sym same)
+  length-rows = length-zip2 (entry_row width) bits owns (sym same)
 
-  pub row_at-rows : (i : ℕ) → i < length bits → get_or (entry_rows width bits owns) i [] ≡ row_of width (get_or bits i []) (get_or owns i [])
-  row_at-rows i l = get_or-zip2 (row_of width) bits owns i [] [] [] l (omega arith)
+  pub row_at-rows : (i : ℕ) → i < length bits → get_or (entry_rows width bits owns) i [] ≡ entry_row width (get_or bits i []) (get_or owns i [])
+  row_at-rows i l = get_or-zip2 (entry_row width) bits owns i [] [] [] l (omega arith)
 
   module _ (i : ℕ) (inside : i < length bits) where
     in_rows : i < length (entry_rows width bits owns)
     in_rows = omega (arith, length-rows)
 
     -- other octets, or other bits, of one row
-    pub rows_with_octets : (own : List ℕ) → entry_rows width bits (set owns i own) ≡ set (entry_rows width bits owns) i (row_of width (get_or bits i []) own)
+    pub rows_with_octets : (own : List ℕ) → entry_rows width bits (set owns i own) ≡ set (entry_rows width bits owns) i (entry_row width (get_or bits i []) own)
     rows_with_octets own =
-        let wanted = row_of width (get_or bits i []) own in
+        let wanted = entry_row width (get_or bits i []) own in
         let long = length-set owns i own in
-        let len = length-zip2 (row_of width) bits (set owns i own) (sym (long ∙ same)) in
+        let len = length-zip2 (entry_row width) bits (set owns i own) (sym (long ∙ same)) in
         ext_get_or [] (entry_rows width bits (set owns i own)) (set (entry_rows width bits owns) i wanted) (len ∙ sym (length-set (entry_rows width bits owns) i wanted ∙ length-rows)) (λ k l.
         let in_bits : k < length bits = omega arith in
-        get_or-zip2 (row_of width) bits (set owns i own) k [] [] [] in_bits (omega arith)
+        get_or-zip2 (entry_row width) bits (set owns i own) k [] [] [] in_bits (omega arith)
         ∙ elim (cases_eq k i) [
-          | inl e ↦ rw e (ap (row_of width (get_or bits i [])) (get_or-set_same owns i own [] (omega arith)) ∙ sym (get_or-set_same (entry_rows width bits owns) i wanted [] in_rows))
-          | inr d ↦ ap (row_of width (get_or bits k [])) (get_or-set_other owns i k own [] d) ∙ sym (row_at-rows k in_bits) ∙ sym (get_or-set_other (entry_rows width bits owns) i k wanted [] d)
+          | inl e ↦ rw e (ap (entry_row width (get_or bits i [])) (get_or-set_same owns i own [] (omega arith)) ∙ sym (get_or-set_same (entry_rows width bits owns) i wanted [] in_rows))
+          | inr d ↦ ap (entry_row width (get_or bits k [])) (get_or-set_other owns i k own [] d) ∙ sym (row_at-rows k in_bits) ∙ sym (get_or-set_other (entry_rows width bits owns) i k wanted [] d)
         ])
 
-    pub rows_with_bits : (symbol : List ℕ) → entry_rows width (set bits i symbol) owns ≡ set (entry_rows width bits owns) i (row_of width symbol (get_or owns i []))
+    pub rows_with_bits : (symbol : List ℕ) → entry_rows width (set bits i symbol) owns ≡ set (entry_rows width bits owns) i (entry_row width symbol (get_or owns i []))
     rows_with_bits symbol =
-        let wanted = row_of width symbol (get_or owns i []) in
+        let wanted = entry_row width symbol (get_or owns i []) in
         let long = length-set bits i symbol in
-        let len = length-zip2 (row_of width) (set bits i symbol) owns (long ∙ sym same) in
+        let len = length-zip2 (entry_row width) (set bits i symbol) owns (long ∙ sym same) in
         ext_get_or [] (entry_rows width (set bits i symbol) owns) (set (entry_rows width bits owns) i wanted) (len ∙ long ∙ sym (length-set (entry_rows width bits owns) i wanted ∙ length-rows)) (λ k l.
         let in_bits : k < length bits = omega arith in
-        get_or-zip2 (row_of width) (set bits i symbol) owns k [] [] [] (omega arith) (omega arith)
+        get_or-zip2 (entry_row width) (set bits i symbol) owns k [] [] [] (omega arith) (omega arith)
         ∙ elim (cases_eq k i) [
-          | inl e ↦ rw e (ap (λ b. row_of width b (get_or owns i [])) (get_or-set_same bits i symbol [] inside) ∙ sym (get_or-set_same (entry_rows width bits owns) i wanted [] in_rows))
-          | inr d ↦ ap (λ b. row_of width b (get_or owns k [])) (get_or-set_other bits i k symbol [] d) ∙ sym (row_at-rows k in_bits) ∙ sym (get_or-set_other (entry_rows width bits owns) i k wanted [] d)
+          | inl e ↦ rw e (ap (λ b. entry_row width b (get_or owns i [])) (get_or-set_same bits i symbol [] inside) ∙ sym (get_or-set_same (entry_rows width bits owns) i wanted [] in_rows))
+          | inr d ↦ ap (λ b. entry_row width b (get_or owns k [])) (get_or-set_other bits i k symbol [] d) ∙ sym (row_at-rows k in_bits) ∙ sym (get_or-set_other (entry_rows width bits owns) i k wanted [] d)
         ])
 
 -- ---- entries
@@ -75,17 +75,17 @@ table_of width bits owns = record { width = width; rows = entry_rows width bits.
 
 module _ (width : ℕ) (bits : Slab) (owns : List (List ℕ)) (are : AreEntries width bits owns) where
   module _ (i : ℕ) (inside : i < length bits.values) where
-    pub row_is : row_at (table_of width bits owns) i ≡ row_of width (get_or bits.values i []) (get_or owns i [])
+    pub row_is : row_at (table_of width bits owns) i ≡ entry_row width (get_or bits.values i []) (get_or owns i [])
     row_is = row_at-rows width bits.values owns are.height i inside
 
-    pub row_octets : IsOctetRow width (row_of width (get_or bits.values i []) (get_or owns i []))
+    pub row_octets : IsOctetRow width (entry_row width (get_or bits.values i []) (get_or owns i []))
     row_octets = subst (IsOctetRow width) row_is (are.rows i [] (omega (arith, length-rows width bits.values owns are.height)))
 
     pub symbol_long : length (get_or bits.values i []) ≡ bits.symbol_size
     symbol_long = are.symbols i [] inside
 
     -- the row gets these octets, or none
-    pub owns_are : (own : List ℕ) → IsOctetRow width (row_of width (get_or bits.values i []) own) → AreEntries width bits (set owns i own)
+    pub owns_are : (own : List ℕ) → IsOctetRow width (entry_row width (get_or bits.values i []) own) → AreEntries width bits (set owns i own)
     owns_are own row = record {
       fits = are.fits;
       whole = are.whole;
@@ -97,12 +97,12 @@ module _ (width : ℕ) (bits : Slab) (owns : List (List ℕ)) (are : AreEntries 
       rows = rw (rows_with_octets width bits.values owns are.height i inside own) (All-set (IsOctetRow width) (entry_rows width bits.values owns) i _ row are.rows);
     }
 
-    pub table_with_octets : (own : List ℕ) → table_of width bits (set owns i own) ≡ with_row (table_of width bits owns) i (row_of width (get_or bits.values i []) own)
+    pub table_with_octets : (own : List ℕ) → table_of width bits (set owns i own) ≡ with_row (table_of width bits owns) i (entry_row width (get_or bits.values i []) own)
     table_with_octets own = ap (λ (rows : List (List ℕ)). record { width = width; rows = rows }) (rows_with_octets width bits.values owns are.height i inside own)
 
     -- the row gets these bits
     module _ (symbol : List ℕ) (long : length symbol ≡ bits.symbol_size) where
-      pub bits_are : IsOctetRow width (row_of width symbol (get_or owns i [])) → AreEntries width (record bits { values = set bits.values i symbol }) owns
+      pub bits_are : IsOctetRow width (entry_row width symbol (get_or owns i [])) → AreEntries width (record bits { values = set bits.values i symbol }) owns
       bits_are row = record {
         fits = are.fits;
         whole = are.whole;
@@ -114,7 +114,7 @@ module _ (width : ℕ) (bits : Slab) (owns : List (List ℕ)) (are : AreEntries 
         rows = rw (rows_with_bits width bits.values owns are.height i inside symbol) (All-set (IsOctetRow width) (entry_rows width bits.values owns) i _ row are.rows);
       }
 
-      pub table_with_bits : table_of width (record bits { values = set bits.values i symbol }) owns ≡ with_row (table_of width bits owns) i (row_of width symbol (get_or owns i []))
+      pub table_with_bits : table_of width (record bits { values = set bits.values i symbol }) owns ≡ with_row (table_of width bits owns) i (entry_row width symbol (get_or owns i []))
       table_with_bits = ap (λ (rows : List (List ℕ)). record { width = width; rows = rows }) (rows_with_bits width bits.values owns are.height i inside symbol)
 
   -- callers see octets
@@ -136,9 +136,9 @@ zero_rows width height size room owns is =
     ext_get_or [] (entry_rows width (replicate height (replicate size 0)) owns) (replicate height (replicate width 0)) (len ∙ long ∙ sym (length-replicate {A = List ℕ} height (replicate width 0))) (λ k l.
     let inside : k < height = omega arith in
     row_at-rows width (replicate height (replicate size 0)) owns (same ∙ sym long) k (omega arith)
-    ∙ ap (λ b. row_of width b (get_or owns k [])) (get_or-replicate height k (replicate size 0) [] inside)
-    ∙ ap (λ (o : List (List ℕ)). row_of width (replicate size 0) (get_or o k [])) is
-    ∙ ap (row_of width (replicate size 0)) (get_or-replicate height k [] [] inside)
+    ∙ ap (λ b. entry_row width b (get_or owns k [])) (get_or-replicate height k (replicate size 0) [] inside)
+    ∙ ap (λ (o : List (List ℕ)). entry_row width (replicate size 0) (get_or o k [])) is
+    ∙ ap (entry_row width (replicate size 0)) (get_or-replicate height k [] [] inside)
     ∙ octets_of_bits-zeros width size room
     ∙ sym (get_or-replicate height k (replicate width 0) [] inside))
 
@@ -188,15 +188,15 @@ module _ (e : Inside) (are : AreEntries e.octets.width e.bits e.octets.rows) {no
     pub read_is : symbol_in e.bits row ≡ get_or e.bits.values row []
     read_is = ap (λ o. get_or e.bits.values (meant_at o row) []) are.order
 
-    row_now : row_at now row ≡ row_of e.octets.width (get_or e.bits.values row []) (get_or e.octets.rows row [])
+    row_now : row_at now row ≡ entry_row e.octets.width (get_or e.bits.values row []) (get_or e.octets.rows row [])
     row_now = ap (λ (t : OctetTable). row_at t row) (sym seen) ∙ row_is e.octets.width e.bits e.octets.rows are row in_symbols
 
     pub row_long : length (row_at now row) ≡ e.octets.width
     row_long = ap length row_now ∙ (row_octets e.octets.width e.bits e.octets.rows are row in_symbols).0
 
     -- its own octets, or those that are made of its bits
-    pub read_row : row_of e.octets.width (symbol_in e.bits row) (get_or e.octets.rows row []) ≡ row_at now row
-    read_row = ap (λ b. row_of e.octets.width b (get_or e.octets.rows row [])) read_is ∙ sym row_now
+    pub read_row : entry_row e.octets.width (symbol_in e.bits row) (get_or e.octets.rows row []) ≡ row_at now row
+    read_row = ap (λ b. entry_row e.octets.width b (get_or e.octets.rows row [])) read_is ∙ sym row_now
 
     pub own_octets : length (row_at e.octets row) ≡ e.octets.width → row_at e.octets row ≡ row_at now row
     own_octets own = sym (row_of_own e.octets.width (symbol_in e.bits row) (row_at e.octets row) own) ∙ read_row
@@ -213,7 +213,7 @@ module _ (e : Inside) (are : AreEntries e.octets.width e.bits e.octets.rows) {no
         ∙ ap (with_row (table_of e.octets.width e.bits e.octets.rows) row) (row_of_own e.octets.width (get_or e.bits.values row []) own (long ∙ sym width_is))
         ∙ ap (λ t. with_row t row own) seen
 
-    -- the same where the octets were written over others
+    -- `own` written into a table `before`, whose other rows are those of `e.octets`
     module _ (before after : OctetTable) (own : List ℕ) (after_is : after ≡ with_row before row own) (octets : IsOctetRow before.width (row_at after row)) (over : with_row before row own ≡ with_row e.octets row own) where
       after_is_set : after ≡ with_row e.octets row own
       after_is_set = after_is ∙ over
@@ -228,9 +228,9 @@ module _ (e : Inside) (are : AreEntries e.octets.width e.bits e.octets.rows) {no
       written_seen = ap (λ (t : OctetTable). table_of t.width e.bits t.rows) after_is_set ∙ octets_seen own own_is.0
 
     -- the row gets octets of its own
-    module _ (mid : OctetTable) (symbol : List ℕ) (symbol_is : symbol ≡ symbol_in e.bits row) (mid_is : mid ≡ with_row e.octets row (row_of e.octets.width symbol (row_at e.octets row))) where
+    module _ (mid : OctetTable) (symbol : List ℕ) (symbol_is : symbol ≡ symbol_in e.bits row) (mid_is : mid ≡ with_row e.octets row (entry_row e.octets.width symbol (row_at e.octets row))) where
       filled : mid ≡ with_row e.octets row (row_at now row)
-      filled = mid_is ∙ ap (with_row e.octets row) (ap (λ b. row_of e.octets.width b (row_at e.octets row)) symbol_is ∙ read_row)
+      filled = mid_is ∙ ap (with_row e.octets row) (ap (λ b. entry_row e.octets.width b (row_at e.octets row)) symbol_is ∙ read_row)
 
       pub filled_place : (other : ℕ) → other < length e.octets.rows → other < length mid.rows
       filled_place other l = omega (arith, l, ap (λ (t : OctetTable). length t.rows) filled, length-set e.octets.rows row (row_at now row))
@@ -272,7 +272,7 @@ module _ (e : Inside) (are : AreEntries e.octets.width e.bits e.octets.rows) {no
             ∙ ap (with_row (table_of e.octets.width e.bits e.octets.rows) row) (row_of_none e.octets.width symbol (get_or e.octets.rows row []) no_octets)
             ∙ ap (λ t. with_row t row (octets_of_bits e.octets.width symbol)) seen
 
-        -- the same where the slab wrote them at the place that it keeps the row in
+        -- `symbol` written by the slab at the place that its order keeps the row in
         module _ (new : Slab) (new_is : new ≡ record e.bits { values = set e.bits.values (meant_at e.bits.order row) symbol }) where
           write_is : new ≡ record e.bits { values = set e.bits.values row symbol }
           write_is = new_is ∙ ap (λ o. record e.bits { values = set e.bits.values (meant_at o row) symbol }) are.order

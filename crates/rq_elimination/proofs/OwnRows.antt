@@ -51,9 +51,12 @@ own_rows-set octets octets' places places' i row same inside here elsewhere =
     ])
 
 -- the place of a row
-pub some_place : (place k : ℕ) → place_before place ≡ Some k → place ≡ suc k
+some_place : (place k : ℕ) → place_before place ≡ Some k → place ≡ suc k
 some_place zero k e = absurd (cc e)
 some_place (suc place) k e = ap suc (cc e)
+
+pub kept_place : {slice places : List ℕ} (row place : ℕ) → slice ≡ places → Some place ≡ place_before (at slice row) → at places row ≡ suc place
+kept_place {slice} {places} row place same found = some_place (at places row) place (ap (λ ps. place_before (at ps row)) (sym same) ∙ sym found)
 
 pub no_place : (place : ℕ) → place_before place ≡ None → place ≡ 0
 no_place zero e = refl

@@ -4,7 +4,7 @@ use Rattle.std.specs.List.{slice_range}
 use Rattle.std.proofs.lemmas.List.{drop-append-le, drop-drop, drop-map, length-drop, take-append-drop, take-append-le, take-map, take_rest}
 use Rattle.std.proofs.lemmas.List.Sums.{sum_by-append}
 use Rattle.rq_algebra.specs.Operations.{Operation, Reorder}
-use Rattle.rq_operations.specs.Steps.{operation_of_step}
+use Rattle.rq_operations.specs.RecordedSteps.{operation_of_step}
 use Rattle.rq_operations.specs.declared.steps.Step.{Step}
 use Rattle.rq_elimination.specs.OperationCounts.{additions, is_addition, is_multiplication, multiplications}
 use Rattle.rq_elimination.specs.PhaseCounts.{AreCountsOf, AreInOrder, CountsEach, first_of, second_of, fourth_of, total_of}

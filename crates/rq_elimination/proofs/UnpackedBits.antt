@@ -1,42 +1,41 @@
 -- Packed bits, and the octets that they are.
-use Rattle.std.proofs.Common.{◌++◌, true, false, eqb, get_or, map, ◌≡◌, ◌≢◌, ℕ, ◌+◌, ◌-◌, ◌*◌, ◌/◌, ◌%◌, ◌^◌, ◌<◌, ◌≤◌, List, length, set, replicate, refl, sym, ap, ◌∙◌, arith, inl, inr, w8, w64, zero, suc, lit<}
-use Rattle.std.specs.Int.{bit_at, byte_at, bytes_low_first, from_le_bytes, trailing_zeros}
-use Rattle.std.proofs.lemmas.Nat.{le_bytes_8, pow-add}
+use Rattle.std.proofs.Common.{true, false, get_or, map, ◌≡◌, ◌≢◌, ℕ, ◌+◌, ◌-◌, ◌*◌, ◌/◌, ◌%◌, ◌^◌, ◌<◌, ◌≤◌, List, length, set, replicate, refl, sym, ap, ◌∙◌, arith, inl, inr, w8, w64, lit<}
+use Rattle.std.specs.Int.{bit_at, from_le_bytes, trailing_zeros}
+use Rattle.std.proofs.lemmas.Nat.{le_bytes_8}
 use Rattle.std.specs.Int.Bits.{bit_xor, bit_or, xor_zero_l}
 use Rattle.std.proofs.Math.Nat.{div-le_self}
 use Rattle.std.specs.Prelude.{Bool, nat_lt}
 use Rattle.std.specs.Bool.{then_some}
 use Rattle.std.proofs.lemmas.Bool.Decides.{nat_tests}
-use Rattle.std.proofs.lemmas.Bool.{agree_below, agree_below_at, eqb-true, cases_eq, cases_lt}
-use Rattle.std.proofs.lemmas.List.{ext_get_or, get_or-set_same, get_or-set_other, get_or-replicate, get_or_default, get_or_past, get_or_append_left, length-map, length-replicate, length-set}
+use Rattle.std.proofs.lemmas.Bool.{cases_eq, cases_lt}
+use Rattle.std.proofs.lemmas.List.{ext_get_or, get_or-set_same, get_or-set_other, get_or-replicate, get_or_default, get_or_past, length-map, length-replicate, length-set}
 use Rattle.std.proofs.lemmas.List.Elements.{All-from_get_or}
 use Rattle.std.proofs.lemmas.List.FromFn.{length-map-range_with_len, get_or-map-range_with_len}
-use Rattle.std.proofs.lemmas.Nat.Bits.{bit_at-lt, bit_at-zero, bit_at_xor, bit_at_set_same, bit_at_set_other, bit_at_above, bit_at_cat_low, bit_at-trailing_zeros}
+use Rattle.std.proofs.lemmas.Nat.Bits.{bit_at-lt, bit_at-zero, bit_at_xor, bit_at_set_same, bit_at_set_other, bit_at_above, bit_at-trailing_zeros}
 use Rattle.std.proofs.lemmas.Simd.{length-chunk, get_or-chunk, get_or-zip2, length-zip2}
-use lib.Bits.{bit_and}
-use lib.Lanes.{zip2, chunk, sel_l, pick_l}
+use lib.Lanes.{chunk}
 use Rattle.std.specs.List.{range_with_len}
 use Rattle.std.proofs.Math.ListN.{get_or-map}
 use Rattle.rq_algebra.specs.Systems.{at}
 use Rattle.rq_standard.specs.Octets.{octet_mul}
 use Rattle.rq_standard.specs.OctetFacts.{one-mul}
-use Rattle.rq_elimination.specs.declared.entries.packed_bits.TheConstants.{MASKS, PLACES}
 use Rattle.rq_standard.specs.Rows.{row_sum, row_multiple}
-use Rattle.rq_bytes.proofs.BitLanes.{masked}
+use Rattle.rq_bytes.specs.OctetBits.{octet_bit}
+use Rattle.rq_bytes.proofs.BitLanes.{bytes_bits}
 use Rattle.rq_parts.specs.DenseOctetMatrix.{IsOctetRow}
 use Rattle.rq_parts.proofs.BitPairLaws.{bit_at-shifted}
-use Rattle.rq_elimination.specs.InactiveEntries.{IsNextEntry, bit_in, octets_of_bits}
+use Rattle.rq_elimination.specs.InactiveEntries.{IsNextEntry, octets_of_bits}
 
 map_at : (f : ℕ → ℕ) (xs : List ℕ) (k : ℕ) → k < length xs → at (map f xs) k ≡ f (at xs k)
 map_at f xs k l = get_or_default (map f xs) k 0 (f 0) (omega (arith, length-map xs f)) ∙ get_or-map f xs k 0
 
 pub length-octets_of_bits : (n : ℕ) (bits : List ℕ) → length (octets_of_bits n bits) ≡ n
-length-octets_of_bits n bits = length-map-range_with_len (bit_in bits) 0 n
+length-octets_of_bits n bits = length-map-range_with_len (octet_bit bits) 0 n
 
-pub at-octets_of_bits : (n : ℕ) (bits : List ℕ) (k : ℕ) → k < n → at (octets_of_bits n bits) k ≡ bit_in bits k
-at-octets_of_bits n bits k l = get_or-map-range_with_len (bit_in bits) 0 n k k 0 l (omega arith)
+pub at-octets_of_bits : (n : ℕ) (bits : List ℕ) (k : ℕ) → k < n → at (octets_of_bits n bits) k ≡ octet_bit bits k
+at-octets_of_bits n bits k l = get_or-map-range_with_len (octet_bit bits) 0 n k k 0 l (omega arith)
 
-pub bit_small : (bits : List ℕ) (k : ℕ) → bit_in bits k < 2
+pub bit_small : (bits : List ℕ) (k : ℕ) → octet_bit bits k < 2
 bit_small bits k = bit_at-lt (at bits (k / 8)) (k % 8)
 
 pub unpacked_row : (n : ℕ) (bits : List ℕ) → IsOctetRow n (octets_of_bits n bits)
@@ -50,7 +49,7 @@ unpacked_row n bits = (
 )
 
 -- octets that are these bits one by one
-pub is_unpacked : (n : ℕ) (bits xs : List ℕ) → length xs ≡ n → ((k : ℕ) → k < n → at xs k ≡ bit_in bits k) → octets_of_bits n bits ≡ xs
+pub is_unpacked : (n : ℕ) (bits xs : List ℕ) → length xs ≡ n → ((k : ℕ) → k < n → at xs k ≡ octet_bit bits k) → octets_of_bits n bits ≡ xs
 is_unpacked n bits xs long same =
     let len = length-octets_of_bits n bits in
     ext_get_or 0 (octets_of_bits n bits) xs (len ∙ sym long) (λ i l.
@@ -80,8 +79,8 @@ octets_of_bits-sum n a b long fits =
     let in_b : k / 8 < length b = omega arith in
     get_or-zip2 bit_xor (octets_of_bits n a) (octets_of_bits n b) k 0 0 0 (omega arith) (omega arith)
     ∙ ap (λ x. bit_xor x (at (octets_of_bits n b) k)) (at-octets_of_bits n a k l)
-    ∙ ap (bit_xor (bit_in a k)) (at-octets_of_bits n b k l)
-    ∙ xor_bits (bit_in a k) (bit_in b k) (bit_small a k) (bit_small b k)
+    ∙ ap (bit_xor (octet_bit a k)) (at-octets_of_bits n b k l)
+    ∙ xor_bits (octet_bit a k) (octet_bit b k) (bit_small a k) (bit_small b k)
     ∙ sym (bit_at_xor (at a (k / 8)) (at b (k / 8)) (k % 8))
     ∙ ap (λ x. bit_at x (k % 8)) (sym (get_or-zip2 bit_xor a b (k / 8) 0 0 0 in_a in_b)))
 
@@ -101,14 +100,14 @@ module _ (bits : List ℕ) (place : ℕ) (within : place / 8 < length bits) wher
   with_bit : List ℕ
   with_bit = set bits (place / 8) (bit_or (at bits (place / 8)) (1 * 2 ^ (place % 8) % 2 ^ 8))
 
-  bit_here : bit_in with_bit place ≡ 1
+  bit_here : octet_bit with_bit place ≡ 1
   unfolding with_bit
   bit_here =
       let below : place % 8 < 8 = omega arith in
       ap (λ x. bit_at x (place % 8)) (get_or-set_same bits (place / 8) _ 0 within)
       ∙ bit_at_set_same w8 (at bits (place / 8)) (place % 8) below
 
-  bit_beside : (k : ℕ) → k ≢ place → bit_in with_bit k ≡ bit_in bits k
+  bit_beside : (k : ℕ) → k ≢ place → octet_bit with_bit k ≡ octet_bit bits k
   unfolding with_bit
   bit_beside k d = elim (cases_eq (k / 8) (place / 8)) [
     | inl e ↦
@@ -129,45 +128,21 @@ module _ (bits : List ℕ) (place : ℕ) (within : place / 8 < length bits) wher
 
 -- ---- multiples of bits
 
-masks : agree_below (λ i. eqb (get_or MASKS i 0) (2 ^ (i % 8))) (λ _. true) 32 ≡ true
-masks = refl
-
-mask_at : (i : ℕ) → i < 32 → at MASKS i ≡ 2 ^ (i % 8)
-mask_at i lt = eqb-true _ _ (agree_below_at (λ k. eqb (get_or MASKS k 0) (2 ^ (k % 8))) (λ _. true) 32 i masks lt)
-
-places : agree_below (λ i. eqb (get_or PLACES i 0) (i / 8)) (λ _. true) 32 ≡ true
-places = refl
-
--- four octets, each at eight places
-repeated_at : (bits : List ℕ) (i : ℕ) → length bits ≡ 4 → i < 32 → at (pick_l 0 (bits ++ bits) PLACES) i ≡ at bits (i / 8)
-repeated_at bits i long lt =
-    map_at (λ k. get_or (bits ++ bits) k 0) PLACES i lt
-    ∙ ap (λ k. get_or (bits ++ bits) k 0) (eqb-true _ _ (agree_below_at (λ k. eqb (get_or PLACES k 0) (k / 8)) (λ _. true) 32 i places lt))
-    ∙ get_or_append_left bits bits 0 (i / 8) (omega arith)
-
--- the products of an octet and the bits of four octets, lane by lane
-pub masked_bits : (scalar : ℕ) (bits : List ℕ) → scalar < 256 → length bits ≡ 4
-    → sel_l (zip2 eqb (zip2 bit_and (pick_l 0 (bits ++ bits) PLACES) MASKS) MASKS) (replicate 32 scalar) (replicate 32 0)
-    ≡ map (λ i. octet_mul scalar (bit_in bits i)) (range_with_len 0 32)
-masked_bits scalar bits small long =
-    let v = pick_l 0 (bits ++ bits) PLACES in
-    masked 32 scalar MASKS v (bit_in bits) small refl (length-map PLACES (λ k. get_or (bits ++ bits) k 0)) mask_at (λ i l. ap (λ x. bit_at x (i % 8)) (repeated_at bits i long l))
-
--- those of a block of 32 bits are those of its four octets
+-- those of a block of 32 bits are those of the four octets that it fills
 pub block_bits : (scalar n first : ℕ) (bits : List ℕ) → first % 32 ≡ 0 → first + 32 ≤ n → n ≤ 8 * length bits
-    → map (λ i. octet_mul scalar (bit_in (chunk (first / 8) 4 bits) i)) (range_with_len 0 32) ≡ map (octet_mul scalar) (chunk first 32 (octets_of_bits n bits))
+    → map (λ i. octet_mul scalar (octet_bit (chunk (first / 8) 4 bits) i)) (range_with_len 0 32) ≡ map (octet_mul scalar) (chunk first 32 (octets_of_bits n bits))
 block_bits scalar n first bits aligned fits room =
     let len = length-octets_of_bits n bits in
     let few = length-chunk first 32 (octets_of_bits n bits) (omega arith) in
-    let count = length-map-range_with_len (λ i. octet_mul scalar (bit_in (chunk (first / 8) 4 bits) i)) 0 32 in
-    ext_get_or 0 (map (λ i. octet_mul scalar (bit_in (chunk (first / 8) 4 bits) i)) (range_with_len 0 32)) (map (octet_mul scalar) (chunk first 32 (octets_of_bits n bits)))
+    let count = length-map-range_with_len (λ i. octet_mul scalar (octet_bit (chunk (first / 8) 4 bits) i)) 0 32 in
+    ext_get_or 0 (map (λ i. octet_mul scalar (octet_bit (chunk (first / 8) 4 bits) i)) (range_with_len 0 32)) (map (octet_mul scalar) (chunk first 32 (octets_of_bits n bits)))
     (count ∙ sym (length-map (chunk first 32 (octets_of_bits n bits)) (octet_mul scalar) ∙ few))
     (λ i under.
     let lt : i < 32 = omega arith in
     let quarter : i / 8 < 4 = omega arith in
     let octet : first / 8 + i / 8 ≡ (first + i) / 8 = omega arith in
     let place : i % 8 ≡ (first + i) % 8 = omega arith in
-    get_or-map-range_with_len (λ j. octet_mul scalar (bit_in (chunk (first / 8) 4 bits) j)) 0 32 i i 0 lt (omega arith)
+    get_or-map-range_with_len (λ j. octet_mul scalar (octet_bit (chunk (first / 8) 4 bits) j)) 0 32 i i 0 lt (omega arith)
     ∙ ap (octet_mul scalar) (
     ap (λ x. bit_at x (i % 8)) (get_or-chunk (first / 8) 4 bits (i / 8) 0 quarter ∙ ap (λ k. get_or bits k 0) octet)
     ∙ ap (bit_at (get_or bits ((first + i) / 8) 0)) place
@@ -191,50 +166,16 @@ bits_among_zeros n bits sum is =
     ∙ xor_zero_l (at (row_multiple 1 row) k)
     ∙ map_at (octet_mul 1) row k (omega (arith, len))
     ∙ ap (octet_mul 1) (at-octets_of_bits (length sum) bits k in_sum)
-    ∙ one-mul (bit_in bits k) (omega arith)))
+    ∙ one-mul (octet_bit bits k) (omega arith)))
 
 -- ---- words
 
-byte_of : (first n i word : ℕ) → i < n → get_or (bytes_low_first first n word) i 0 ≡ byte_at (first + i) word
-byte_of first zero i word l = absurd (omega arith)
-byte_of first (suc n) zero word l = let same : first ≡ first + 0 = omega arith in ap (λ k. byte_at k word) same
-byte_of first (suc n) (suc i) word l = let same : suc first + i ≡ first + suc i = omega arith in byte_of (suc first) n i word (omega arith) ∙ ap (λ k. byte_at k word) same
-
--- a bit of the lowest octet
-lowest_bits : (n i : ℕ) → i < 8 → bit_at (n % 256) i ≡ bit_at n i
-lowest_bits n i l = let whole : n / 256 * 2 ^ 8 + n % 256 ≡ n = omega arith in sym (bit_at_cat_low (n / 256) 8 (n % 256) i l) ∙ ap (λ x. bit_at x i) whole
-
-octet_power : (n : ℕ) → 256 ^ n ≡ 2 ^ (8 * n)
-octet_power zero = refl
-octet_power (suc n) =
-    let one_more : suc n ≡ n + 1 = omega arith in
-    let eight_more : 8 * n + 8 ≡ 8 * suc n = omega arith in
-    ap (λ k. 256 ^ k) one_more
-    ∙ pow-add 256 n 1
-    ∙ ap (λ x. x * 256) (octet_power n)
-    ∙ sym (pow-add 2 (8 * n) 8)
-    ∙ ap (λ k. 2 ^ k) eight_more
-
-byte_bits : (octet word i : ℕ) → i < 8 → bit_at (byte_at octet word) i ≡ bit_at word (8 * octet + i)
-byte_bits zero word i l = let same : i ≡ 8 * 0 + i = omega arith in lowest_bits word i l ∙ ap (bit_at word) same
-byte_bits (suc octet) word i l =
-    lowest_bits (word / 256 ^ suc octet) i l
-    ∙ ap (λ d. bit_at (word / d) i) (octet_power (suc octet))
-    ∙ bit_at-shifted word (8 * suc octet) i
-
 -- the bits of the word that eight octets are
-pub word_bits : (octets : List ℕ) (word : ℕ) → length octets ≡ 8 → ((i : ℕ) → get_or octets i 0 < 256) → word ≡ from_le_bytes w64 octets → (k : ℕ) → k < 64 → bit_at word k ≡ bit_in octets k
-word_bits octets word long small is k l =
-    let there : 8 * (k / 8) + k % 8 ≡ k = omega arith in
-    let inside : k / 8 < 8 = omega arith in
-    let place : k / 8 ≡ 0 + k / 8 = omega arith in
-    ap (bit_at word) (sym there)
-    ∙ sym (byte_bits (k / 8) word (k % 8) (omega arith))
-    ∙ ap (λ q. bit_at (byte_at q word) (k % 8)) place
-    ∙ ap (λ x. bit_at x (k % 8)) (sym (byte_of 0 8 (k / 8) word inside) ∙ ap (λ (b : List ℕ). get_or b (k / 8) 0) (le_bytes_8 octets word long small is))
+pub word_bits : (octets : List ℕ) (word : ℕ) → length octets ≡ 8 → ((i : ℕ) → get_or octets i 0 < 256) → word ≡ from_le_bytes w64 octets → (k : ℕ) → k < 64 → bit_at word k ≡ octet_bit octets k
+word_bits octets word long small is k l = sym (bytes_bits word k l) ∙ ap (λ (b : List ℕ). octet_bit b k) (le_bytes_8 octets word long small is)
 
 -- those of one of the words of octets
-pub block_word : (bits : List ℕ) (block word : ℕ) → 8 * block + 8 ≤ length bits → ((i : ℕ) → get_or bits i 0 < 256) → word ≡ from_le_bytes w64 (chunk (8 * block) 8 bits) → (k : ℕ) → k < 64 → bit_at word k ≡ bit_in bits (64 * block + k)
+pub block_word : (bits : List ℕ) (block word : ℕ) → 8 * block + 8 ≤ length bits → ((i : ℕ) → get_or bits i 0 < 256) → word ≡ from_le_bytes w64 (chunk (8 * block) 8 bits) → (k : ℕ) → k < 64 → bit_at word k ≡ octet_bit bits (64 * block + k)
 block_word bits block word fits small is k l =
     let long = length-chunk (8 * block) 8 bits (omega arith) in
     let read : (i : ℕ) → i < 8 → get_or (chunk (8 * block) 8 bits) i 0 ≡ get_or bits (8 * block + i) 0 = λ i m. get_or-chunk (8 * block) 8 bits i 0 m in
@@ -250,29 +191,29 @@ block_word bits block word fits small is k l =
 
 -- ---- the next bit that is set
 
-module _ (bits : List ℕ) (place word rest : ℕ) (word_is : (k : ℕ) → k < 64 → bit_at word k ≡ bit_in bits (64 * (place / 64) + k)) (rest_is : rest ≡ word / 2 ^ (place % 64)) where
+module _ (bits : List ℕ) (place word rest : ℕ) (word_is : (k : ℕ) → k < 64 → bit_at word k ≡ octet_bit bits (64 * (place / 64) + k)) (rest_is : rest ≡ word / 2 ^ (place % 64)) where
   -- the bits of the word from a place on
-  bit_ahead : (i : ℕ) → place % 64 + i < 64 → bit_in bits (place + i) ≡ bit_at rest i
+  bit_ahead : (i : ℕ) → place % 64 + i < 64 → octet_bit bits (place + i) ≡ bit_at rest i
   bit_ahead i l =
       let there : 64 * (place / 64) + (place % 64 + i) ≡ place + i = omega arith in
-      ap (bit_in bits) (sym there)
+      ap (octet_bit bits) (sym there)
       ∙ sym (word_is (place % 64 + i) l)
       ∙ sym (bit_at-shifted word (place % 64) i)
       ∙ ap (λ x. bit_at x i) (sym rest_is)
 
   -- none is set in the rest of the word
-  pub zeros_to_next : rest ≡ 0 → (k : ℕ) → place ≤ k → k < place + (64 - place % 64) → bit_in bits k ≡ 0
+  pub zeros_to_next : rest ≡ 0 → (k : ℕ) → place ≤ k → k < place + (64 - place % 64) → octet_bit bits k ≡ 0
   zeros_to_next none k from before =
       let i : ℕ = k - place in
       let back : place + i ≡ k = omega arith in
       let within : place % 64 + i < 64 = omega arith in
-      ap (bit_in bits) (sym back) ∙ bit_ahead i within ∙ ap (λ x. bit_at x i) none ∙ bit_at-zero i
+      ap (octet_bit bits) (sym back) ∙ bit_ahead i within ∙ ap (λ x. bit_at x i) none ∙ bit_at-zero i
 
   -- the first that is set
   pub record FirstOne (found : ℕ) : Type 0 where
     pub from : place ≤ found
-    pub one : bit_in bits found ≡ 1
-    pub zeros : (k : ℕ) → place ≤ k → k < found → bit_in bits k ≡ 0
+    pub one : octet_bit bits found ≡ 1
+    pub zeros : (k : ℕ) → place ≤ k → k < found → octet_bit bits k ≡ 0
 
   pub first_one : (zeros : ℕ) → word < 2 ^ 64 → rest ≢ 0 → zeros ≡ trailing_zeros w64 rest → FirstOne (place + zeros)
   first_one zeros small some is =
@@ -292,14 +233,14 @@ module _ (bits : List ℕ) (place word rest : ℕ) (word_is : (k : ℕ) → k < 
             let i : ℕ = k - place in
             let back : place + i ≡ k = omega arith in
             let inside : place % 64 + i < 64 = omega arith in
-            ap (bit_in bits) (sym back) ∙ bit_ahead i inside ∙ lowest.2 i (omega arith);
+            ap (octet_bit bits) (sym back) ∙ bit_ahead i inside ∙ lowest.2 i (omega arith);
       }
 
 -- zeros before a place, and from it on
-pub zeros_before_next : (bits : List ℕ) (from place end : ℕ) → ((k : ℕ) → from ≤ k → k < place → bit_in bits k ≡ 0) → ((k : ℕ) → place ≤ k → k < end → bit_in bits k ≡ 0) → (k : ℕ) → from ≤ k → k < end → bit_in bits k ≡ 0
+pub zeros_before_next : (bits : List ℕ) (from place end : ℕ) → ((k : ℕ) → from ≤ k → k < place → octet_bit bits k ≡ 0) → ((k : ℕ) → place ≤ k → k < end → octet_bit bits k ≡ 0) → (k : ℕ) → from ≤ k → k < end → octet_bit bits k ≡ 0
 zeros_before_next bits from place end before behind k l m = elim (cases_lt k place) [ inl first ↦ before k l first | inr late ↦ behind k late m ]
 
 -- a bit that is set, and zeros before it: it is the next one where it is before the end, and else there is none
-pub next_if : (bits : List ℕ) (from end found : ℕ) (inside : Bool) → inside ≡ nat_lt found end → from ≤ found → bit_in bits found ≡ 1 → ((k : ℕ) → from ≤ k → k < found → bit_in bits k ≡ 0) → IsNextEntry (bit_in bits) from end (then_some inside found)
+pub next_if : (bits : List ℕ) (from end found : ℕ) (inside : Bool) → inside ≡ nat_lt found end → from ≤ found → octet_bit bits found ≡ 1 → ((k : ℕ) → from ≤ k → k < found → octet_bit bits k ≡ 0) → IsNextEntry (octet_bit bits) from end (then_some inside found)
 next_if bits from end found true is after one zeros = let before : found < end = grind (arith, nat_tests, is) in (after, before, (λ none. omega (arith, none, one)), zeros)
 next_if bits from end found false is after one zeros = λ k l m. zeros k l (let past : end ≤ found = grind (arith, nat_tests, is) in omega arith)

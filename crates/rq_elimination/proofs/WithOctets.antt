@@ -4,10 +4,10 @@ use Rattle.std.proofs.Math.ListN.{get_or-append}
 use Rattle.std.proofs.Math.Seq.{append_snoc, set-append_seam}
 use Rattle.std.proofs.lemmas.List.{drop_more, ext_get_or, get_or-map, length-append, length-drop, length-map, length-take-le, map-append, take_more}
 use Rattle.rq_algebra.specs.Systems.{at}
-use Rattle.rq_elimination.specs.InactiveEntries.{with_octets}
+use Rattle.rq_elimination.specs.InactiveEntries.{with_column_octets}
 
 module _ (octets columns row : List ℕ) where
-  pub length-octets : length columns ≤ length row → length (with_octets octets columns row) ≡ length row
+  pub length-octets : length columns ≤ length row → length (with_column_octets octets columns row) ≡ length row
   length-octets room = omega (arith, length-append (map (at octets) columns) (drop (length columns) row), length-map columns (at octets), length-drop (length columns) row)
 
   -- one octet more
@@ -22,10 +22,10 @@ module _ (octets columns row : List ℕ) where
       ∙ sym (append_snoc first next (drop (f + 1) row))
       ∙ ap (λ (r : List ℕ). r ++ drop (f + 1) row) (sym (map-append (at octets) (take f columns) (at columns f ∷ [])) ∙ ap (map (at octets)) (sym (take_more columns f 0 l)))
 
-  pub octets_of_none : length row ≡ 0 → length columns ≤ length row → with_octets octets columns row ≡ row
+  pub octets_of_none : length row ≡ 0 → length columns ≤ length row → with_column_octets octets columns row ≡ row
   octets_of_none none room =
       let long = length-octets room in
-      ext_get_or 0 (with_octets octets columns row) row long (λ i l. absurd (omega (arith, l, long, none)))
+      ext_get_or 0 (with_column_octets octets columns row) row long (λ i l. absurd (omega (arith, l, long, none)))
 
-  pub octet_first : (f : ℕ) → f < length columns → at (with_octets octets columns row) f ≡ at octets (at columns f)
+  pub octet_first : (f : ℕ) → f < length columns → at (with_column_octets octets columns row) f ≡ at octets (at columns f)
   octet_first f l = get_or-append (map (at octets) columns) (drop (length columns) row) 0 f (omega (arith, length-map columns (at octets))) ∙ get_or-map (at octets) columns f 0 0 l

@@ -1,31 +1,27 @@
 -- What rows have in the inactive columns: bits that are packed eight to an octet, or octets.
-use Rattle.std.specs.Prelude.{◌≡◌, ◌≢◌, ℕ, zero, suc, ◌+◌, ◌*◌, ◌/◌, ◌%◌, ◌^◌, ◌<◌, ◌≤◌, List, [], ◌∷◌, ◌++◌, All, Option, None, Some, drop, length, map, slice_index, slice_index_or}
-use Rattle.std.specs.Int.{bit_at}
+use Rattle.std.specs.Prelude.{◌≡◌, ◌≢◌, ℕ, zero, suc, ◌+◌, ◌*◌, ◌%◌, ◌^◌, ◌<◌, ◌≤◌, List, [], ◌∷◌, ◌++◌, All, Option, None, Some, drop, length, map, slice_index_or}
 use Rattle.std.specs.List.{range_with_len}
 use Rattle.std.specs.Simd.Lanes.{zip2}
 use Rattle.rq_algebra.specs.Systems.{at}
+use Rattle.rq_bytes.specs.OctetBits.{octet_bit}
 use Rattle.rq_bytes.specs.SymbolSlab.{Slab}
 use Rattle.rq_parts.specs.DenseOctetMatrix.{IsOctetRow}
 
--- the bit at a place
-abbrev pub bit_in : List ℕ → ℕ → ℕ
-bit_in bits place = bit_at (slice_index bits (place / 8)) (place % 8)
-
 -- the first bits as octets
 abbrev pub octets_of_bits : ℕ → List ℕ → List ℕ
-octets_of_bits n bits = map (bit_in bits) (range_with_len 0 n)
+octets_of_bits n bits = map (octet_bit bits) (range_with_len 0 n)
 
 -- a row whose first octets are those that another one has in columns
-abbrev pub with_octets : List ℕ → List ℕ → List ℕ → List ℕ
-with_octets octets columns row = map (at octets) columns ++ drop (length columns) row
+abbrev pub with_column_octets : List ℕ → List ℕ → List ℕ → List ℕ
+with_column_octets octets columns row = map (at octets) columns ++ drop (length columns) row
 
 -- a row: its own octets where it has some, and else its bits
-abbrev pub row_of : ℕ → List ℕ → List ℕ → List ℕ
-row_of width bits [] = octets_of_bits width bits
-row_of width bits (o ∷ os) = o ∷ os
+abbrev pub entry_row : ℕ → List ℕ → List ℕ → List ℕ
+entry_row width bits [] = octets_of_bits width bits
+entry_row width bits (o ∷ os) = o ∷ os
 
 abbrev pub entry_rows : ℕ → List (List ℕ) → List (List ℕ) → List (List ℕ)
-entry_rows width bits octets = zip2 (row_of width) bits octets
+entry_rows width bits octets = zip2 (entry_row width) bits octets
 
 -- as many bits as there are columns, in a buffer without an order, and octets for as many rows
 pub record AreEntries (width : ℕ) (bits : Slab) (octets : List (List ℕ)) : Type 0 where

@@ -4,7 +4,7 @@
 ghost use Rattle.std.specs.Prelude.{◌≡◌, ℕ, ◌+◌, ◌<◌, ◌≤◌, ◌^◌, ◌∷◌, [], ◌++◌, List, Some, length, map, slice_index_or, IfOk, OnOk, IfErr};
 ghost use Rattle.rq_algebra.specs.Operations.{Operation, AddAssign};
 ghost use Rattle.rq_bytes.specs.declared.error.Error.TheVariants.{OutOfMemory};
-ghost use Rattle.rq_operations.specs.Steps.{operation_of_step};
+ghost use Rattle.rq_operations.specs.RecordedSteps.{operation_of_step};
 ghost use Rattle.rq_elimination.specs.OperationCounts.{additions, multiplications};
 
 use rq_bytes::error::Error;
@@ -114,7 +114,7 @@ pub struct OperationList {
 impl Model for OperationList {
     ghost use Rattle.std.specs.Prelude.{List, map};
     ghost use Rattle.rq_algebra.specs.Operations.{Operation};
-    ghost use Rattle.rq_operations.specs.Steps.{operation_of_step};
+    ghost use Rattle.rq_operations.specs.RecordedSteps.{operation_of_step};
 
     ghost Value = { List Operation };
 

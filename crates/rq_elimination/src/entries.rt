@@ -3,7 +3,7 @@ ghost use Rattle.std.specs.Prelude.{◌≡◌, ◌≢◌, ◌+◌, ◌*◌, ◌%
 ghost use Rattle.rq_bytes.specs.declared.error.Error.TheVariants.{OutOfMemory};
 ghost use Rattle.rq_parts.specs.DenseOctetMatrix.{entry_of, HasOctets, row_at, with_row};
 ghost use Rattle.rq_elimination.specs.EntryRow.{HasWidth, octets_of};
-ghost use Rattle.rq_elimination.specs.InactiveEntries.{IsNextOctet, with_octets};
+ghost use Rattle.rq_elimination.specs.InactiveEntries.{IsNextOctet, with_column_octets};
 ghost use Rattle.rq_elimination.specs.EntryWords.{AreBitsOfWord};
 ghost use Rattle.rq_standard.specs.Rows.{row_sum, row_multiple};
 
@@ -15,9 +15,10 @@ use crate::pivot_search::OctetRows;
 pub use octet_row::{next_in_vectors, nonzero_after_first};
 use octet_row::{EntryRow, count_octets, next_octet};
 use own_octets::OwnOctets;
-use packed_bits::{LANES, bit, count_ones, next_one, set_bit};
+use packed_bits::{bit, count_ones, next_one, set_bit};
 use rq_bytes::error::Error;
 use rq_bytes::octet::Octet;
+use rq_bytes::products::LANES;
 use rq_bytes::symbol_slab::SymbolSlab;
 use rq_parts::octet_matrix::DenseOctetMatrix;
 use std::alloc::Global;
@@ -93,7 +94,7 @@ impl InactiveEntries {
         requires from { from < length octets.now.rows }
         requires columns { All (λ column. column < octets.now.width) columns.now }
         requires room { length columns.now ≤ self.old.width }
-        ensures ok { OnOk result (self.new ≡ with_row self.old row (with_octets (row_at octets.now from) columns.now (row_at self.old row))) }
+        ensures ok { OnOk result (self.new ≡ with_row self.old row (with_column_octets (row_at octets.now from) columns.now (row_at self.old row))) }
         ensures octets { HasOctets self.new }
         ensures height { OnErr result (length self.new.rows ≡ length self.old.rows) }
         ensures err { IfErr result (λ e. e ≡ OutOfMemory) }
@@ -175,7 +176,8 @@ impl InactiveEntries {
         Ok(())
     }
 
-    /// Adds a multiple of a row to another one.
+    /// Adds a multiple of a row to another one, which gets octets unless both are bits that are added
+    /// once.
     #[inline(always)]
     pub fn add_multiple(&mut self, dest: usize, src: usize, scalar: &Octet) -> Result<(), Error>
         requires two { dest ≢ src }
@@ -190,20 +192,6 @@ impl InactiveEntries {
             self.bits.add_assign(dest, src);
             return Ok(());
         }
-        self.add_octets(dest, src, scalar)
-    }
-
-    // Adds a multiple of a row to another one, which gets octets.
-    #[inline(always)]
-    fn add_octets(&mut self, dest: usize, src: usize, scalar: &Octet) -> Result<(), Error>
-        requires two { dest ≢ src }
-        requires dest { dest < length self.old.rows }
-        requires src { src < length self.old.rows }
-        ensures ok { OnOk result (self.new ≡ with_row self.old dest (row_sum (row_at self.old dest) (row_multiple scalar.now (row_at self.old src)))) }
-        ensures octets { HasOctets self.new }
-        ensures height { OnErr result (length self.new.rows ≡ length self.old.rows) }
-        ensures err { IfErr result (λ e. e ≡ OutOfMemory) }
-    {
         let bits = self.bits.get(dest);
         self.octets.unpack_row(dest, bits)?;
         if self.octets.is_bits(src) {

@@ -1,7 +1,7 @@
 //! Rows that are worked on, with the operations that are recorded for them: what RFC 6330 does to the
 //! matrix A it does to the symbols D too (section 5.4.2.1).
 ghost use Rattle.std.specs.Prelude.{◌≡◌, ◌<◌, ◌^◌, length};
-ghost use Rattle.rq_operations.specs.Steps.{operation_of_step};
+ghost use Rattle.rq_operations.specs.RecordedSteps.{operation_of_step};
 ghost use Rattle.rq_parts.specs.DenseOctetMatrix.{HasOctets};
 ghost use Rattle.rq_elimination.specs.RowSteps.{sum_step};
 

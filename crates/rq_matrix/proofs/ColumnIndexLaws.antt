@@ -13,8 +13,8 @@ use Rattle.rq_parts.specs.BitPairs.{sparse_pairs}
 use Rattle.rq_parts.specs.ImmutableListMap.{Pairs, values_of, lists_of}
 use Rattle.rq_parts.specs.SparseBinaryVec.{listed_bit}
 use Rattle.rq_parts.proofs.ListedBits.{listed-self, listed-other}
-use Rattle.rq_matrix.specs.SparseRows.{IsColumnIndex, AddsOnes, places_between}
-use Rattle.rq_matrix.proofs.Places.{places-skip, places-push}
+use Rattle.rq_matrix.specs.SparseRows.{IsColumnIndex, AddsRowPairs, places_between}
+use Rattle.rq_matrix.proofs.FoundOnes.{places-skip, places-push}
 
 -- ---- the values of a column
 
@@ -36,7 +36,7 @@ values-ones row (one ∷ ones) column =
     ]
 
 -- one more of a row's ones
-pub adds_more : (old mid new : Pairs) (row i column : ℕ) (ones : List ℕ) → i < length ones → column ≡ get_or ones i 0 → AddsOnes old row (take i ones) mid → new ≡ record { keys = mid.keys; pairs = mid.pairs ++ (column, row) ∷ [] } → AddsOnes old row (take (i + 1) ones) new
+pub adds_more : (old mid new : Pairs) (row i column : ℕ) (ones : List ℕ) → i < length ones → column ≡ get_or ones i 0 → AddsRowPairs old row (take i ones) mid → new ≡ record { keys = mid.keys; pairs = mid.pairs ++ (column, row) ∷ [] } → AddsRowPairs old row (take (i + 1) ones) new
 adds_more old mid new row i column ones within is adds one =
     let entry : ℕ → ℕ × ℕ = λ k. (k, row) in
     let more = ap (map entry) (take_more ones i 0 within) ∙ map-append entry (take i ones) (get_or ones i 0 ∷ []) ∙ ap (λ (k : ℕ). map entry (take i ones) ++ (k, row) ∷ []) (sym is) in
@@ -45,7 +45,7 @@ adds_more old mid new row i column ones within is adds one =
     ∙ ap (λ (l : List (ℕ × ℕ)). let q : Pairs = record { keys = old.keys; pairs = l } in q) (append_assoc old.pairs (map entry (take i ones)) ((column, row) ∷ []) ∙ ap (λ l. old.pairs ++ l) (sym more))
 
 -- one more row has its ones added
-pub places-add : (bit : ℕ → ℕ) (row column : ℕ) (old new : Pairs) (ones : List ℕ) → ArePlacesOfOnes bit 0 row (values_of old.pairs column) → AddsOnes old row ones new → bit row ≡ listed_bit ones column → bit row < 2
+pub places-add : (bit : ℕ → ℕ) (row column : ℕ) (old new : Pairs) (ones : List ℕ) → ArePlacesOfOnes bit 0 row (values_of old.pairs column) → AddsRowPairs old row ones new → bit row ≡ listed_bit ones column → bit row < 2
     → ArePlacesOfOnes bit 0 (row + 1) (values_of new.pairs column)
 places-add bit row column old new ones places adds is small =
     let values = ap (λ (p : Pairs). values_of p.pairs column) adds ∙ values-append old.pairs (map (λ one. (one, row)) ones) column ∙ ap (λ xs. values_of old.pairs column ++ xs) (values-ones row ones column ∙ ap (λ n. replicate n row) (sym is)) in

@@ -14,7 +14,7 @@ use Rattle.rq_parts.proofs.BitPairLaws.{packed_bit-at}
 use Rattle.rq_parts.proofs.ListedBits.{listed-append, listed-self, listed-other}
 use Rattle.rq_matrix.specs.BitRows.{with_word_added, IsLastOne}
 use Rattle.rq_matrix.specs.DenseTails.{Tail, tail_bit, IsTail, SetsTailBit, MarksRows, AddsTailRow, PushesColumn}
-use Rattle.rq_matrix.proofs.RowLaws.{sum_of_bits}
+use Rattle.rq_matrix.proofs.WordRows.{sum_of_bits}
 use Rattle.rq_matrix.proofs.Words.{packed_bit-zeros}
 
 -- ---- one word added to another one

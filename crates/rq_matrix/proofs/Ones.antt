@@ -45,7 +45,7 @@ count_ones-mod n (suc c) =
     ∙ ap (λ x. bit_at n c + x) (count_ones-mod n c)
     ∙ add_comm (bit_at n c) (ones_below (bit_at n) c)
 
--- so many bits of a word from one on
+-- the ones among `count` bits of a word, from `bit` on
 pub count_ones-part : (word bit count rest : ℕ) → count + rest ≡ 64 → count_ones (bit_and (word / 2 ^ bit) ((2 ^ 64 - 1) / 2 ^ rest)) ≡ ones_below (λ k. bit_at word (bit + k)) count
 count_ones-part word bit count rest e =
     let mask : (2 ^ 64 - 1) / 2 ^ rest ≡ 2 ^ count - 1 =

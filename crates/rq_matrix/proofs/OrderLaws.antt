@@ -8,9 +8,9 @@ use Rattle.std.proofs.lemmas.Bool.{cases_eq}
 use Rattle.std.proofs.lemmas.List.{map-id}
 use Rattle.std.proofs.lemmas.List.Edits.{swap_is, length-swap}
 use Rattle.std.proofs.lemmas.List.FromFn.{length-range_with_len, get_or-range_with_len}
-use Rattle.rq_matrix.specs.Orders.{Order, IsOrder, first_order, ExchangesPlaces}
+use Rattle.rq_matrix.specs.Orders.{Order, IsPlacedOrder, first_order, ExchangesPlaces}
 
-pub first_is_order : (n : ℕ) → IsOrder (first_order n)
+pub first_is_order : (n : ℕ) → IsPlacedOrder (first_order n)
 first_is_order n =
     let all = length-range_with_len 0 n in
     let own : (k : ℕ) → k < length (range_with_len 0 n) → get_or (range_with_len 0 n) k 0 ≡ k = λ k l. get_or-range_with_len 0 n k 0 (omega (arith, all)) ∙ zero-add k in
@@ -25,7 +25,7 @@ pub first_made : (count : ℕ) (numbers : List ℕ) (o : Order) → numbers ≡ 
 first_made count numbers o are made = made ∙ ap (λ (xs : List ℕ). let p : Order = record { order = xs; places = xs } in p) are
 
 -- at two places stand two numbers
-pub order_apart : (o : Order) (i j : ℕ) → IsOrder o → i < length o.order → j < length o.order → i ≢ j → get_or o.order i 0 ≢ get_or o.order j 0
+pub order_apart : (o : Order) (i j : ℕ) → IsPlacedOrder o → i < length o.order → j < length o.order → i ≢ j → get_or o.order i 0 ≢ get_or o.order j 0
 order_apart o i j is in_i in_j other same = other (sym (is.ordered i in_i).1 ∙ ap (λ n. get_or o.places n 0) same ∙ (is.ordered j in_j).1)
 
 -- ---- two elements of a list exchanged
@@ -54,7 +54,7 @@ module _ (xs : List ℕ) (i j : ℕ) (in_i : i < length xs) (in_j : j < length x
 abbrev swapped : Order → ℕ → ℕ → Order
 swapped o i j = record { order = swap o.order i j; places = swap o.places (get_or o.order i 0) (get_or o.order j 0) }
 
-module _ (o : Order) (is : IsOrder o) (i j : ℕ) (in_i : i < length o.order) (in_j : j < length o.order) where
+module _ (o : Order) (is : IsPlacedOrder o) (i j : ℕ) (in_i : i < length o.order) (in_j : j < length o.order) where
   first_in : get_or o.order i 0 < length o.places
   first_in = omega (arith, is.count, (is.ordered i in_i).0)
 
@@ -69,7 +69,7 @@ module _ (o : Order) (is : IsOrder o) (i j : ℕ) (in_i : i < length o.order) (i
     elsewhere = swap_other o.order i j in_i in_j;
   }
 
-  swapped_is_order : IsOrder (swapped o i j)
+  swapped_is_order : IsPlacedOrder (swapped o i j)
   swapped_is_order =
       let order = o.order in
       let places = o.places in
@@ -120,7 +120,7 @@ module _ (o : Order) (is : IsOrder o) (i j : ℕ) (in_i : i < length o.order) (i
             ];
       }
 
-  pub exchanges : (new : Order) (first second : ℕ) → first ≡ get_or o.order i 0 → second ≡ get_or o.order j 0 → ◌≡◌ {A = Order} new (record { order = swap o.order i j; places = swap o.places first second }) → ExchangesPlaces i j o new × IsOrder new
+  pub exchanges : (new : Order) (first second : ℕ) → first ≡ get_or o.order i 0 → second ≡ get_or o.order j 0 → ◌≡◌ {A = Order} new (record { order = swap o.order i j; places = swap o.places first second }) → ExchangesPlaces i j o new × IsPlacedOrder new
   exchanges new first second at_i at_j is_new =
       let now : new ≡ swapped o i j = is_new ∙ ap (λ n. let p : Order = record { order = swap o.order i j; places = swap o.places n second } in p) at_i ∙ ap (λ n. let p : Order = record { order = swap o.order i j; places = swap o.places (get_or o.order i 0) n } in p) at_j in
-      (subst (ExchangesPlaces i j o) (sym now) swapped_exchanges, subst IsOrder (sym now) swapped_is_order)
+      (subst (ExchangesPlaces i j o) (sym now) swapped_exchanges, subst IsPlacedOrder (sym now) swapped_is_order)

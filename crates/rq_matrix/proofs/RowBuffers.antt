@@ -7,8 +7,9 @@ use Rattle.std.proofs.lemmas.Bool.{cases_lt}
 use Rattle.std.proofs.lemmas.List.{take_all, length-take, length-drop, length-take-le, take-append-drop, append-nil, drop-drop, take-take, map-append}
 use Rattle.std.proofs.lemmas.List.Edits.{length-paste, take-paste, drop-paste}
 use Rattle.std.specs.List.{copy_within}
+use Rattle.rq_standard.proofs.PlainCut.{piece_within}
 use Rattle.rq_bytes.specs.Ranges.{range_of, with_range, cut, joined_pieces}
-use Rattle.rq_bytes.proofs.Cuts.{length-cut, get_or-cut, cut-append, cut-join, cut-with_range, joined-cut, refilled, cut-refilled, piece_within}
+use Rattle.rq_bytes.proofs.Cuts.{length-cut, get_or-cut, cut-append, cut-join, cut-with_range, joined-cut, refilled, cut-refilled}
 use Rattle.rq_bytes.proofs.RangeFacts.{around, rewritten-low, rewritten-high, rewritten-up, rewritten-down, length-range, length-with_range}
 use Rattle.rq_matrix.specs.BitRows.{same_rows}
 use Rattle.rq_matrix.specs.RowLends.{with_words, IsRowWrite}

@@ -8,7 +8,7 @@ use Rattle.rq_standard.specs.BitTable.{BitTable}
 use Rattle.rq_standard.specs.BitTableSteps.{SwapsPlaces, SetsBit, SetsBoundary, AddsRowFrom, ArePlacesOfOnes, AreBitsOf, bit_of}
 use Rattle.rq_parts.specs.SparseBinaryVec.{listed_bit, SetsListed, IsListedSum}
 use Rattle.rq_matrix.specs.DenseTails.{Tail, tail_bit, SetsTailBit, AddsTailRow, PushesColumn, MarksRows}
-use Rattle.rq_matrix.specs.Orders.{Order, IsOrder, ExchangesPlaces}
+use Rattle.rq_matrix.specs.Orders.{Order, IsPlacedOrder, ExchangesPlaces}
 use Rattle.rq_matrix.specs.SparseBinaryMatrix.{sparse_bit}
 use Rattle.rq_matrix.specs.SparseTables.{bit-before, bit-from}
 use Rattle.rq_matrix.proofs.OrderLaws.{order_apart}
@@ -41,12 +41,12 @@ exchanged_columns width boundary rows row_order old new tail i j a in_i in_j ex 
 
 -- ---- a bit set anew
 
-module _ (width boundary : ℕ) (rows : List (List ℕ)) (row_order columns : Order) (tail : Tail) (i j : ℕ) (is_rows : IsOrder row_order) (in_row : i < length row_order.order) where
+module _ (width boundary : ℕ) (rows : List (List ℕ)) (row_order columns : Order) (tail : Tail) (i j : ℕ) (is_rows : IsPlacedOrder row_order) (in_row : i < length row_order.order) where
   -- a stored row of another place
   other_row : (a : ℕ) → a < length row_order.order → a ≢ i → get_or row_order.order a 0 ≢ get_or row_order.order i 0
   other_row a in_a other = order_apart row_order a i is_rows in_a in_row other
 
-  module _ (row : List ℕ) (octet : ℕ) (is_columns : IsOrder columns) (in_rows : get_or row_order.order i 0 < length rows) (before : j < boundary) (few : boundary ≤ length columns.order) (sets : SetsListed (get_or rows (get_or row_order.order i 0) []) (get_or columns.order j 0) octet row) where
+  module _ (row : List ℕ) (octet : ℕ) (is_columns : IsPlacedOrder columns) (in_rows : get_or row_order.order i 0 < length rows) (before : j < boundary) (few : boundary ≤ length columns.order) (sets : SetsListed (get_or rows (get_or row_order.order i 0) []) (get_or columns.order j 0) octet row) where
     new_rows : List (List ℕ)
     new_rows = set rows (get_or row_order.order i 0) row
 
@@ -94,7 +94,7 @@ module _ (width boundary : ℕ) (rows : List (List ℕ)) (row_order columns : Or
         ap (λ (b : ℕ). cond (nat_lt k boundary) (listed_bit (get_or rows (get_or row_order.order a 0) []) (get_or columns.order k 0)) b)
         (sets.other_rows (get_or row_order.order a 0) (width - 1 - k) (other_row a in_a other))
 
-pub sets_listed : (height width boundary : ℕ) (indexed : Bool) (rows : List (List ℕ)) (row_order columns : Order) (tail : Tail) (i j r column octet : ℕ) (row : List ℕ) → IsOrder row_order → IsOrder columns → height ≤ length row_order.order → i < height
+pub sets_listed : (height width boundary : ℕ) (indexed : Bool) (rows : List (List ℕ)) (row_order columns : Order) (tail : Tail) (i j r column octet : ℕ) (row : List ℕ) → IsPlacedOrder row_order → IsPlacedOrder columns → height ≤ length row_order.order → i < height
     → length row_order.order ≡ length rows → j < boundary → boundary ≤ length columns.order → r ≡ get_or row_order.order i 0 → column ≡ get_or columns.order j 0 → SetsListed (get_or rows r []) column octet row
     → SetsBit (table height width boundary indexed rows row_order columns tail) i j octet (table height width boundary indexed (set rows r row) row_order columns tail)
 sets_listed height width boundary indexed rows row_order columns tail i j r column octet row is_rows is_columns tall in_i stored before few at_r at_column sets =
@@ -108,7 +108,7 @@ sets_listed height width boundary indexed rows row_order columns tail i j r colu
       other_rows = λ a k in_a _ other. listed_rows width boundary rows row_order columns tail i j is_rows in_row row octet is_columns in_rows before few moved a k (omega arith) other;
     })
 
-pub sets_tail : (height width boundary : ℕ) (indexed : Bool) (rows : List (List ℕ)) (row_order columns : Order) (tail new : Tail) (i j r octet bit : ℕ) → IsOrder row_order → height ≤ length row_order.order → i < height
+pub sets_tail : (height width boundary : ℕ) (indexed : Bool) (rows : List (List ℕ)) (row_order columns : Order) (tail new : Tail) (i j r octet bit : ℕ) → IsPlacedOrder row_order → height ≤ length row_order.order → i < height
     → boundary ≤ j → j < width → r ≡ get_or row_order.order i 0 → bit ≡ bit_of octet → SetsTailBit tail r (width - 1 - j) bit new
     → SetsBit (table height width boundary indexed rows row_order columns tail) i j octet (table height width boundary indexed rows row_order columns new)
 sets_tail height width boundary indexed rows row_order columns tail new i j r octet bit is_rows tall in_i from below at_r is_bit sets =
@@ -147,7 +147,7 @@ module _ (width boundary : ℕ) (rows : List (List ℕ)) (row_order columns : Or
 
 -- ---- a row added to another one
 
-module _ (height width boundary : ℕ) (indexed : Bool) (rows : List (List ℕ)) (row_order columns : Order) (tail new : Tail) (dest src d s : ℕ) (is_rows : IsOrder row_order) (tall : height ≤ length row_order.order) (in_dest : dest < height) (at_d : d ≡ get_or row_order.order dest 0)
+module _ (height width boundary : ℕ) (indexed : Bool) (rows : List (List ℕ)) (row_order columns : Order) (tail new : Tail) (dest src d s : ℕ) (is_rows : IsPlacedOrder row_order) (tall : height ≤ length row_order.order) (in_dest : dest < height) (at_d : d ≡ get_or row_order.order dest 0)
     (at_s : s ≡ get_or row_order.order src 0) (wide : boundary ≤ width) (count : tail.columns ≡ width - boundary) (adds : AddsTailRow tail d s new)
   where
     dense_sum : (changed : List (List ℕ)) (k : ℕ) → boundary ≤ k → k < width
@@ -199,7 +199,7 @@ module _ (height width boundary : ℕ) (indexed : Bool) (rows : List (List ℕ))
 
 -- ---- the last sparse column becomes dense
 
-pub made_dense : (height width boundary i column : ℕ) (indexed : Bool) (rows : List (List ℕ)) (row_order columns : Order) (tail mid new : Tail) (listed : List ℕ) → IsOrder row_order → height ≤ length row_order.order → length row_order.order ≡ length rows → tail.rows ≡ length rows
+pub made_dense : (height width boundary i column : ℕ) (indexed : Bool) (rows : List (List ℕ)) (row_order columns : Order) (tail mid new : Tail) (listed : List ℕ) → IsPlacedOrder row_order → height ≤ length row_order.order → length row_order.order ≡ length rows → tail.rows ≡ length rows
     → i + 1 ≡ boundary → boundary ≤ width → tail.columns ≡ width - boundary → column ≡ get_or columns.order i 0 → ((r : ℕ) → listed_bit (get_or rows r []) column < 2)
     → ArePlacesOfOnes (λ r. listed_bit (get_or rows r []) column) 0 (length rows) listed → PushesColumn tail mid → MarksRows mid listed (width - 1 - i) new
     → SetsBoundary (table height width boundary indexed rows row_order columns tail) i (table height width i indexed rows row_order columns new)

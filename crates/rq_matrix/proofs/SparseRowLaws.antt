@@ -16,7 +16,7 @@ use Rattle.rq_standard.proofs.BitTableLaws.{is_one_at, is_one_at-other, is_one_a
 use Rattle.rq_parts.specs.BitPairs.{sparse_pairs}
 use Rattle.rq_parts.specs.SparseBinaryVec.{listed_bit, listed_octet, SetsListed, IsListedSum}
 use Rattle.rq_parts.proofs.ListedBits.{listed-self, listed-other, listed-found, ones_below_all}
-use Rattle.rq_matrix.specs.Orders.{Order, IsOrder}
+use Rattle.rq_matrix.specs.Orders.{Order, IsPlacedOrder}
 use Rattle.rq_matrix.specs.SparseRows.{IsSparseRow, places_between}
 use Rattle.rq_matrix.proofs.Ones.{ones_below-same}
 
@@ -77,7 +77,7 @@ range-from start end p is = grind (arith, nat_tests, is)
 range-below : (start end p : ℕ) → in_range start end p ≡ true → p < end
 range-below start end p is = grind (arith, nat_tests, is)
 
-module _ (o : Order) (is : IsOrder o) (start end : ℕ) where
+module _ (o : Order) (is : IsPlacedOrder o) (start end : ℕ) where
   -- a number stands at place k if it is the k-th, and else elsewhere
   place_of : (x k : ℕ) → k < length o.order → x ≡ get_or o.order k 0 → get_or o.places x 0 ≡ k
   place_of x k in_k e = ap (λ n. get_or o.places n 0) e ∙ (is.ordered k in_k).1

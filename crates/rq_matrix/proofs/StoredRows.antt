@@ -9,7 +9,7 @@ use Rattle.rq_standard.specs.BitTableSteps.{AreOnesOf}
 use Rattle.rq_parts.specs.BitPairs.{sparse_pairs}
 use Rattle.rq_parts.specs.SparseBinaryVec.{listed_bit, SetsListed}
 use Rattle.rq_matrix.specs.DenseTails.{Tail}
-use Rattle.rq_matrix.specs.Orders.{Order, IsOrder}
+use Rattle.rq_matrix.specs.Orders.{Order, IsPlacedOrder}
 use Rattle.rq_matrix.specs.SparseBinaryMatrix.{sparse_bit}
 use Rattle.rq_matrix.specs.SparseRows.{IsSparseRow, IsColumnIndex}
 use Rattle.rq_matrix.specs.SparseTables.{bit-before}
@@ -47,8 +47,8 @@ IsMatrixOf height width boundary rows tail row_order column_order index = record
   width_within : width ≤ length column_order.order;
   boundary_within : boundary ≤ width;
   ordered : length row_order.order ≡ length rows;
-  rows_in_order : IsOrder row_order;
-  columns_in_order : IsOrder column_order;
+  rows_in_order : IsPlacedOrder row_order;
+  columns_in_order : IsPlacedOrder column_order;
   sparse : All (IsSparseRow (length column_order.order)) rows;
   tail_rows : tail.rows ≡ length rows;
   tail_columns : tail.columns ≡ width - boundary;
@@ -82,7 +82,7 @@ module _ (m : SparseBinaryMatrix) where
       let now = row_set columns old new column octet result was in_columns sets same rises in
       with_rows (set m.rows.items row new) m.tail off (sym (length-set m.rows.items row new)) (All-set (IsSparseRow columns) m.rows.items row new now m.sparse) refl refl
 
-  pub with_orders : (row_order column_order : Order) → IsOrder row_order → IsOrder column_order → length row_order.order ≡ length m.row_order.order → length column_order.order ≡ length m.column_order.order
+  pub with_orders : (row_order column_order : Order) → IsPlacedOrder row_order → IsPlacedOrder column_order → length row_order.order ≡ length m.row_order.order → length column_order.order ≡ length m.column_order.order
       → IsMatrixOf m.height m.width m.boundary m.rows.items m.tail row_order column_order m.index
   with_orders row_order column_order is_rows is_columns rows columns = record {
     rows_fit = m.rows_fit;

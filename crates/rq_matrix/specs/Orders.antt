@@ -17,7 +17,7 @@ abbrev pub Order : Type 0
 Order = Placed ℕ
 
 -- each of the first numbers stands at one place
-pub record IsOrder (o : Order) : Type 0 where
+pub record IsPlacedOrder (o : Order) : Type 0 where
   pub count : length o.places ≡ length o.order
   pub ordered : (j : ℕ) → j < length o.order → (slice_index o.order j < length o.order) × (slice_index o.places (slice_index o.order j) ≡ j)
   pub placed : (k : ℕ) → k < length o.order → (slice_index o.places k < length o.order) × (slice_index o.order (slice_index o.places k) ≡ k)

@@ -13,8 +13,8 @@ sparse_bit width boundary rows row_order column_order tail i k =
     then listed_bit (slice_index_or rows (slice_index row_order.order i) []) (slice_index column_order.order k)
     else tail_bit tail (slice_index row_order.order i) (width - 1 - k)
 
-abbrev pub content_of : SparseBinaryMatrix → BitTable
-content_of m = record {
+abbrev pub sparse_content : SparseBinaryMatrix → BitTable
+sparse_content m = record {
   height = m.height;
   width = m.width;
   boundary = m.boundary;
@@ -23,7 +23,7 @@ content_of m = record {
 }
 
 -- a matrix each of whose parts is equal to that of another one
-pub record IsCopy (old new : SparseBinaryMatrix) : Type 0 where
+pub record IsSparseCopy (old new : SparseBinaryMatrix) : Type 0 where
   pub height : new.height ≡ old.height
   pub width : new.width ≡ old.width
   pub boundary : new.boundary ≡ old.boundary

@@ -16,8 +16,8 @@ pub record IsColumnIndex (columns : ℕ) (rows : List (List ℕ)) (lists : List 
   pub each : (column : ℕ) → column < columns → ArePlacesOfOnes (λ row. listed_bit (slice_index_or rows row []) column) 0 (length rows) (slice_index_or lists column [])
 
 -- behind pairs of a column and a row, a row with each of the columns listed
-abbrev pub AddsOnes : Pairs → ℕ → List ℕ → Pairs → Type 0
-AddsOnes old row columns new = new ≡ record old { pairs = old.pairs ++ map (λ column. (column, row)) columns }
+abbrev pub AddsRowPairs : Pairs → ℕ → List ℕ → Pairs → Type 0
+AddsRowPairs old row columns new = new ≡ record old { pairs = old.pairs ++ map (λ column. (column, row)) columns }
 
 -- the places at which the rows listed stand, as far as they lie in a range
 abbrev pub places_between : List ℕ → List ℕ → ℕ → ℕ → List ℕ

@@ -11,7 +11,7 @@ use Rattle.rq_parts.specs.SparseBinaryVec.{listed_bit}
 use Rattle.rq_parts.proofs.ListedBits.{listed-other, listed-first, rises-tail}
 use Rattle.rq_matrix.specs.DenseTails.{Tail, tail_bit}
 use Rattle.rq_matrix.specs.Orders.{Order}
-use Rattle.rq_matrix.specs.SparseBinaryMatrix.{sparse_bit, content_of, IsCopy}
+use Rattle.rq_matrix.specs.SparseBinaryMatrix.{sparse_bit, sparse_content, IsSparseCopy}
 use Rattle.rq_matrix.specs.SparseRows.{IsSparseRow}
 use Rattle.rq_matrix.specs.declared.sparse_matrix.SparseBinaryMatrix.{SparseBinaryMatrix}
 
@@ -46,8 +46,8 @@ module _ (width boundary : ℕ) (rows : List (List ℕ)) (row_order column_order
   unfolding either
   bit-from from = ap either (le-ltb k boundary from)
 
-pub is_table_of : (m : SparseBinaryMatrix) → IsBitTable (content_of m)
-is_table_of m = record {
+pub is_sparse_table : (m : SparseBinaryMatrix) → IsBitTable (sparse_content m)
+is_sparse_table m = record {
   height_fits = omega (arith, m.rows_fit, m.height_within);
   width_fits = omega (arith, m.columns_fit, m.width_within);
   within = m.boundary_within;
@@ -59,8 +59,8 @@ is_table_of m = record {
       ];
 }
 
-pub copy_is_same : (old new : SparseBinaryMatrix) → IsCopy old new → IsUnchanged (content_of old) (content_of new)
-copy_is_same old new copy = record {
+pub sparse_copy_is_same : (old new : SparseBinaryMatrix) → IsSparseCopy old new → IsUnchanged (sparse_content old) (sparse_content new)
+sparse_copy_is_same old new copy = record {
   shape = record { height = copy.height; width = copy.width; boundary = copy.boundary; indexed = ap is_some copy.index };
   bits = λ i k _ _.
       ap (λ n. sparse_bit n new.boundary new.rows.items new.row_order new.column_order new.tail i k) copy.width

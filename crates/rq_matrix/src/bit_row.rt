@@ -1,21 +1,19 @@
 //! A row of bits, 64 to a word.
-ghost use Rattle.std.specs.Prelude.{◌≡◌, ◌≢◌, ℕ, ◌+◌, ◌-◌, ◌*◌, ◌/◌, ◌^◌, ◌<◌, ◌≤◌, length, replicate, slice_index, if◌then◌else◌, IfOk, IfErr, MatchOption};
+ghost use Rattle.std.specs.Prelude.{◌≡◌, ◌≢◌, ℕ, ◌+◌, ◌-◌, ◌*◌, ◌/◌, ◌^◌, ◌<◌, ◌≤◌, length, replicate, slice_index, IfOk, IfErr, MatchOption};
 ghost use Rattle.std.specs.Int.{bit_at};
 ghost use Rattle.std.specs.Int.Bits.{bit_xor};
 ghost use Rattle.rq_bytes.specs.declared.error.Error.TheVariants.{OutOfMemory};
-ghost use Rattle.rq_standard.specs.BitTableSteps.{ones_below, ones_between, AreBitsOf};
+ghost use Rattle.rq_standard.specs.BitTableSteps.{bit_of, ones_below, ones_between, AreBitsOf};
 ghost use Rattle.rq_bytes.specs.BinaryOctetVec.{packed_bit};
 ghost use Rattle.rq_parts.specs.BitPairs.{bit_pairs, ones_among};
 ghost use Rattle.rq_matrix.specs.BitRows.{word_count, with_word_added, IsWordWith, HasNoOnes, IsLastOne};
 
 use rq_bytes::error::Error;
 use rq_bytes::octet::Octet;
-use rq_bytes::octets::BinaryOctetVec;
+use rq_bytes::octets::{BinaryOctetVec, WORD_BITS};
 use rq_parts::iterators::OctetIter;
 use std::alloc::{AllocError, Global};
 use std::marker::Model;
-
-const WORD_BITS: usize = 64;
 
 /// The bits of a row, that in column k at place k mod 64 of word k / 64. Contracts see the words.
 #[derive(Debug, Drop)]
@@ -60,14 +58,14 @@ impl BitRow {
         get_bit(self.words.as_slice(), column)
     }
 
-    /// Sets the bit in a column.
-    pub(crate) fn set(&mut self, column: usize, one: bool)
+    /// Sets the bit in a column to 0 for the octet 0, and else to 1.
+    pub(crate) fn set(&mut self, column: usize, value: Octet)
         requires { column < 64 * length self.old }
         ensures len { length self.new ≡ length self.old }
-        ensures here { packed_bit self.new column ≡ (if one then 1 else 0) }
+        ensures here { packed_bit self.new column ≡ bit_of value }
         ensures elsewhere { (k : ℕ) → k ≢ column → packed_bit self.new k ≡ packed_bit self.old k }
     {
-        set_bit(self.words.as_mut_slice(), column, one);
+        write_bit(self.words.as_mut_slice(), column, value);
     }
 
     /// Sets the bit in a column to 1 where it was 0, and to 0 where it was 1.
@@ -130,14 +128,37 @@ pub(crate) fn get_bit(row: &[u64], column: usize) -> Octet
     Octet::new(((word >> (column % WORD_BITS)) % 2) as u8)
 }
 
-/// Sets the bit in a column of a row.
-pub(crate) fn set_bit(row: &mut [u64], column: usize, one: bool)
+/// Sets the bit in a column of a row to 0 for the octet 0, and else to 1.
+pub(crate) fn write_bit(row: &mut [u64], column: usize, value: Octet)
     requires { column < 64 * length row.old }
-    ensures here { packed_bit row.new column ≡ (if one then 1 else 0) }
+    ensures here { packed_bit row.new column ≡ bit_of value }
+    ensures elsewhere { (k : ℕ) → k ≢ column → packed_bit row.new k ≡ packed_bit row.old k }
+{
+    if value == Octet::zero() {
+        clear_bit(row, column);
+    } else {
+        set_bit(row, column);
+    }
+}
+
+// Sets the bit in a column of a row to 1.
+fn set_bit(row: &mut [u64], column: usize)
+    requires { column < 64 * length row.old }
+    ensures here { packed_bit row.new column ≡ 1 }
     ensures elsewhere { (k : ℕ) → k ≢ column → packed_bit row.new k ≡ packed_bit row.old k }
 {
     let word = row[column / WORD_BITS];
-    row[column / WORD_BITS] = word_with(word, column % WORD_BITS, one);
+    row[column / WORD_BITS] = word_with_one(word, column % WORD_BITS);
+}
+
+// Sets the bit in a column of a row to 0.
+fn clear_bit(row: &mut [u64], column: usize)
+    requires { column < 64 * length row.old }
+    ensures here { packed_bit row.new column ≡ 0 }
+    ensures elsewhere { (k : ℕ) → k ≢ column → packed_bit row.new k ≡ packed_bit row.old k }
+{
+    let word = row[column / WORD_BITS];
+    row[column / WORD_BITS] = word_with_zero(word, column % WORD_BITS);
 }
 
 /// Sets the bit in a column of a row to 1 where it was 0, and to 0 where it was 1.
@@ -160,8 +181,8 @@ pub(crate) fn swap_bits(row: &mut [u64], i: usize, j: usize)
 {
     let first = get_bit(row, i);
     let second = get_bit(row, j);
-    set_bit(row, i, second == Octet::one());
-    set_bit(row, j, first == Octet::one());
+    write_bit(row, i, second);
+    write_bit(row, j, first);
 }
 
 /// The number of ones of a row in the columns from `start` on and before `end`.
@@ -207,21 +228,25 @@ pub(crate) fn part_of(
     let mut part = BitRow::zero(alloc, len)?;
     let padding = (WORD_BITS - len % WORD_BITS) % WORD_BITS;
     for k in 0..len {
-        part.set(padding + k, get_bit(row, start + k) == Octet::one());
+        part.set(padding + k, get_bit(row, start + k));
     }
     Ok(BinaryOctetVec::new(part.into_words(), len))
 }
 
-// A word with one bit set anew.
-fn word_with(word: u64, bit: usize, one: bool) -> u64
+// A word with one bit set to 1.
+fn word_with_one(word: u64, bit: usize) -> u64
     requires { bit < 64 }
-    ensures { IsWordWith word bit (if one then 1 else 0) result }
+    ensures { IsWordWith word bit 1 result }
 {
-    if one {
-        word | 1 << bit
-    } else {
-        word & !(1 << bit)
-    }
+    word | 1 << bit
+}
+
+// A word with one bit set to 0.
+fn word_with_zero(word: u64, bit: usize) -> u64
+    requires { bit < 64 }
+    ensures { IsWordWith word bit 0 result }
+{
+    word & !(1 << bit)
 }
 
 // A word with one bit flipped.

@@ -10,6 +10,7 @@ ghost use Rattle.rq_matrix.specs.BitRows.{word_count, same_rows};
 
 use crate::bit_row::words_for;
 use rq_bytes::gf2::add_assign_binary;
+use rq_bytes::slices::range;
 use rq_bytes::util::{get_both_ranges, swap_ranges};
 use std::alloc::{AllocError, Global};
 use std::marker::Model;
@@ -155,14 +156,6 @@ impl BitRows {
         self.words.truncate(self.count * kept);
         self.row_len = kept;
     }
-}
-
-// The words of a range.
-fn range(words: &[u64], start: usize, len: usize) -> &[u64]
-    requires { start + len ≤ length words.now }
-    ensures { result.now ≡ range_of words.now start len }
-{
-    &words[start..start + len]
 }
 
 // Adds a range to another one.

@@ -8,7 +8,7 @@ ghost use Rattle.rq_standard.specs.BitTable.{BitTable, IsBitTable};
 ghost use Rattle.rq_standard.specs.BitTableSteps.{ones_between, ArePlacesOfOnes, AreOnesOf, AreBitsOf, CanSet, CanAdd, IsUnchanged, IsZeroTable, SetsBit, SwapsRows, SwapsColumns, SetsIndexed, SetsBoundary, AddsRowFrom, KeepsLeading};
 
 use crate::bit_row::{
-    bit_alone, count_ones, flip_bit, get_bit, ones_of, part_of, set_bit, swap_bits,
+    bit_alone, count_ones, flip_bit, get_bit, ones_of, part_of, swap_bits, write_bit,
 };
 use crate::bit_rows::BitRows;
 use rq_bytes::error::Error;
@@ -255,9 +255,9 @@ impl DenseBinaryMatrix {
 }
 
 impl Clone for DenseBinaryMatrix {
-    ghost use Rattle.rq_matrix.specs.DenseBinaryMatrix.{IsCopy};
+    ghost use Rattle.rq_matrix.specs.DenseBinaryMatrix.{IsDenseCopy};
 
-    ghost is_clone = { IsCopy };
+    ghost is_clone = { IsDenseCopy };
 
     fn clone(&self) -> Result<Self, AllocError> {
         Ok(DenseBinaryMatrix {
@@ -270,13 +270,13 @@ impl Clone for DenseBinaryMatrix {
 }
 
 impl BinaryMatrix for DenseBinaryMatrix {
-    ghost use Rattle.rq_matrix.specs.DenseBinaryMatrix.{content_of, is_table_of, copy_is_same};
+    ghost use Rattle.rq_matrix.specs.DenseBinaryMatrix.{dense_content, is_dense_table, dense_copy_is_same};
 
-    ghost content = { content_of };
+    ghost content = { dense_content };
 
-    ghost is_table = { is_table_of };
+    ghost is_table = { is_dense_table };
 
-    ghost clone_is_same = { copy_is_same };
+    ghost clone_is_same = { dense_copy_is_same };
 
     fn new(
         alloc: Global,
@@ -297,7 +297,7 @@ impl BinaryMatrix for DenseBinaryMatrix {
     }
 
     fn set(&mut self, i: usize, j: usize, value: Octet) -> Result<(), Error> {
-        set_bit(self.rows.row_mut(i), j, value != Octet::zero());
+        write_bit(self.rows.row_mut(i), j, value);
         Ok(())
     }
 

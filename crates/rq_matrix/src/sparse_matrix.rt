@@ -1,7 +1,7 @@
 //! The sparse matrix of bits.
 ghost use Rattle.std.specs.Prelude.{◌≡◌, ◌-◌, ◌^◌, ◌<◌, ◌≤◌, All, length, slice_index};
 ghost use Rattle.std.specs.Option.{ForSome};
-ghost use Rattle.rq_matrix.specs.Orders.{IsOrder};
+ghost use Rattle.rq_matrix.specs.Orders.{IsPlacedOrder};
 ghost use Rattle.rq_matrix.specs.SparseRows.{IsSparseRow, IsColumnIndex};
 
 mod column_index;
@@ -41,8 +41,8 @@ pub struct SparseBinaryMatrix {
     ghost width_within: { width ≤ length column_order.order },
     ghost boundary_within: { boundary ≤ width },
     ghost ordered: { length row_order.order ≡ length rows.items },
-    ghost rows_in_order: { IsOrder row_order },
-    ghost columns_in_order: { IsOrder column_order },
+    ghost rows_in_order: { IsPlacedOrder row_order },
+    ghost columns_in_order: { IsPlacedOrder column_order },
     ghost sparse: { All (IsSparseRow (length column_order.order)) rows.items },
     ghost tail_rows: { tail.rows ≡ length rows.items },
     ghost tail_columns: { tail.columns ≡ width - boundary },
@@ -70,9 +70,9 @@ impl SparseBinaryMatrix {
 }
 
 impl Clone for SparseBinaryMatrix {
-    ghost use Rattle.rq_matrix.specs.SparseBinaryMatrix.{IsCopy};
+    ghost use Rattle.rq_matrix.specs.SparseBinaryMatrix.{IsSparseCopy};
 
-    ghost is_clone = { IsCopy };
+    ghost is_clone = { IsSparseCopy };
 
     fn clone(&self) -> Result<Self, AllocError> {
         let index = match &self.index {
@@ -93,14 +93,14 @@ impl Clone for SparseBinaryMatrix {
 }
 
 impl BinaryMatrix for SparseBinaryMatrix {
-    ghost use Rattle.rq_matrix.specs.SparseBinaryMatrix.{content_of};
-    ghost use Rattle.rq_matrix.specs.SparseTables.{is_table_of, copy_is_same};
+    ghost use Rattle.rq_matrix.specs.SparseBinaryMatrix.{sparse_content};
+    ghost use Rattle.rq_matrix.specs.SparseTables.{is_sparse_table, sparse_copy_is_same};
 
-    ghost content = { content_of };
+    ghost content = { sparse_content };
 
-    ghost is_table = { is_table_of };
+    ghost is_table = { is_sparse_table };
 
-    ghost clone_is_same = { copy_is_same };
+    ghost clone_is_same = { sparse_copy_is_same };
 
     fn new(
         alloc: Global,
@@ -131,8 +131,7 @@ impl BinaryMatrix for SparseBinaryMatrix {
             let column = usize::from(self.stored_column(j));
             self.rows[row].insert(column, value)?;
         } else {
-            self.tail
-                .set(row, self.width - 1 - j, value != Octet::zero());
+            self.tail.set(row, self.width - 1 - j, value);
         }
         Ok(())
     }

@@ -1,2 +1,2 @@
 pub mod Performed
-pub mod Zeros
+pub mod ZeroMultiples

@@ -10,7 +10,7 @@ use Rattle.rq_standard.specs.OctetField.{octets}
 use Rattle.rq_bytes.specs.Ranges.{range_of}
 use Rattle.rq_bytes.specs.SymbolSlab.{Slab, store_of, after, after_all}
 use Rattle.rq_operations.specs.declared.steps.Step.{Step}
-use Rattle.rq_operations.specs.Steps.{operation_of_step, PerformsNext}
+use Rattle.rq_operations.specs.RecordedSteps.{operation_of_step, PerformsNext}
 
 -- operations change no number of values
 length-step : (s : Store (List ℕ)) (operation : Operation) → length (step (symbols octets) s operation).values ≡ length s.values

@@ -1,2 +1,2 @@
 pub mod RecordedOperations
-pub mod Steps
+pub mod RecordedSteps

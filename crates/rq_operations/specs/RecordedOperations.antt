@@ -1,7 +1,7 @@
 -- What callers see of recorded operations.
 use Rattle.std.specs.Prelude.{List, [], ◌∷◌, ◌++◌, map}
 use Rattle.rq_algebra.specs.Operations.{Operation, Reorder}
-use Rattle.rq_operations.specs.Steps.{operation_of_step}
+use Rattle.rq_operations.specs.RecordedSteps.{operation_of_step}
 use Rattle.rq_operations.specs.declared.recorded.RecordedOperations.{RecordedOperations}
 
 -- its steps, and then the order

@@ -4,7 +4,7 @@ ghost use Rattle.rq_algebra.specs.Operations.{AreAllowed, Reorder};
 ghost use Rattle.rq_bytes.specs.declared.error.Error.TheVariants.{OutOfMemory};
 ghost use Rattle.rq_bytes.specs.SymbolOps.{operation_of};
 ghost use Rattle.rq_bytes.specs.SymbolSlab.{after_all};
-ghost use Rattle.rq_operations.specs.Steps.{operation_of_step};
+ghost use Rattle.rq_operations.specs.RecordedSteps.{operation_of_step};
 
 use crate::replay::replay;
 use crate::steps::Step;

@@ -5,7 +5,7 @@ ghost use Rattle.rq_algebra.specs.Symbols.{AreSymbols};
 ghost use Rattle.rq_bytes.specs.Ranges.{range_of};
 ghost use Rattle.rq_bytes.specs.SymbolSlab.{after_all, HasPlace, symbol_in};
 ghost use Rattle.rq_standard.specs.OctetField.{octets};
-ghost use Rattle.rq_operations.specs.Steps.{operation_of_step, PerformsNext};
+ghost use Rattle.rq_operations.specs.RecordedSteps.{operation_of_step, PerformsNext};
 
 use crate::steps::Step;
 use rq_bytes::octet::Octet;

@@ -1,7 +1,7 @@
 //! Steps: operations on symbols at places that fit 32 bits.
 ghost use Rattle.std.specs.Prelude.{◌≡◌};
 ghost use Rattle.rq_bytes.specs.SymbolOps.{operation_of};
-ghost use Rattle.rq_operations.specs.Steps.{operation_of_step};
+ghost use Rattle.rq_operations.specs.RecordedSteps.{operation_of_step};
 
 use rq_bytes::octet::Octet;
 use rq_bytes::operation_vector::SymbolOps;

@@ -8,7 +8,7 @@ use Rattle.std.proofs.lemmas.Bool.{cases_lt}
 use Rattle.std.proofs.lemmas.Bool.Decides.{eqb_tells}
 use Rattle.std.proofs.lemmas.List.{take_all, drop_all, length-append, get_or_append_left, get_or_default, set-set, set-get_or, get_or-set_same, get_or-set_other}
 use Rattle.std.proofs.lemmas.List.Edits.{length-insert, get_or-insert_below, get_or-insert_at, swap_is}
-use Rattle.rq_parts.specs.SparseBinaryVec.{IsPlace}
+use Rattle.rq_parts.specs.SparseBinaryVec.{IsInsertionPlace}
 use Rattle.rq_parts.proofs.ListedBits.{last-more}
 
 set_lower : (xs : List ℕ) (one at : ℕ) → at < length xs → set (set (insert xs (suc at) one) at (get_or (insert xs (suc at) one) (suc at) 0)) (suc at) (get_or (insert xs (suc at) one) at 0) ≡ insert xs at one
@@ -36,7 +36,7 @@ raised [] one at l = absurd (omega arith)
 raised (x ∷ xs) one zero l = refl
 raised (x ∷ xs) one (suc at) l = ap (λ ys. x ∷ ys) (raised xs one at (omega arith))
 
-module _ (xs : List ℕ) (one place : ℕ) (up : IsStrictlyIncreasing xs) (found : IsPlace xs one place) (ones : List ℕ) (at sinking high low : ℕ) (within : at < length xs) (room : suc at < length ones) (highest : high ≡ max (get_or ones at 0) sinking) (lowest : low ≡ min (get_or ones at 0) one) (least : sinking ≤ one) where
+module _ (xs : List ℕ) (one place : ℕ) (up : IsStrictlyIncreasing xs) (found : IsInsertionPlace xs one place) (ones : List ℕ) (at sinking high low : ℕ) (within : at < length xs) (room : suc at < length ones) (highest : high ≡ max (get_or ones at 0) sinking) (lowest : low ≡ min (get_or ones at 0) one) (least : sinking ≤ one) where
   sinking-is : (zs : List ℕ) → set ones (suc at) sinking ≡ zs → sinking ≡ get_or zs (suc at) 0
   sinking-is zs is = sym (get_or-set_same ones (suc at) sinking 0 room) ∙ ap (λ ys. get_or ys (suc at) 0) is
 

@@ -14,7 +14,7 @@ use Rattle.std.proofs.lemmas.List.Sums.{sum_by-cons, sum_by-append, sum_by-inser
 use Rattle.std.proofs.lemmas.List.{get_or_append_left, get_or_default, length-append, take-append-drop}
 use Rattle.std.proofs.lemmas.List.Edits.{length-insert, length-remove, get_or-insert_below, get_or-insert_at, get_or-insert_above, get_or-remove_below, get_or-remove_above}
 use Rattle.std.proofs.Math.Seq.{get_or-append_right}
-use Rattle.rq_parts.specs.SparseBinaryVec.{listed_bit, listed_octet, SetsListed, IsListed, IsGap, IsPlace}
+use Rattle.rq_parts.specs.SparseBinaryVec.{listed_bit, listed_octet, SetsListed, IsListed, IsGap, IsInsertionPlace}
 use Rattle.rq_standard.specs.BitTableSteps.{bit_of}
 
 test-self : (x k : ℕ) → x ≡ k → ◌≡◌ {A = ℕ} (cond (x == k) 1 0) 1
@@ -235,7 +235,7 @@ behind-all : (x i : ℕ) (xs : List ℕ) → IsStrictlyIncreasing (x ∷ xs) →
 behind-all x i xs up less zero past l = less
 behind-all x i xs up less (suc k) past l = omega (arith, less, rises-head x xs up k (omega arith))
 
-pub place-of : (xs : List ℕ) (i : ℕ) → IsStrictlyIncreasing xs → (place : ℕ) × IsPlace xs i place
+pub place-of : (xs : List ℕ) (i : ℕ) → IsStrictlyIncreasing xs → (place : ℕ) × IsInsertionPlace xs i place
 place-of [] i up = (0, record { within = omega arith; before = λ k l. absurd (omega arith); behind = λ k past l. absurd (omega arith) })
 place-of (x ∷ xs) i up =
     elim (cases_lt x i) [
@@ -246,7 +246,7 @@ place-of (x ∷ xs) i up =
     ]
 
 -- the place of an index that isn't listed is a gap
-pub gap-at : (xs : List ℕ) (i place : ℕ) → IsStrictlyIncreasing xs → listed_bit xs i ≡ 0 → IsPlace xs i place → IsGap xs i place
+pub gap-at : (xs : List ℕ) (i place : ℕ) → IsStrictlyIncreasing xs → listed_bit xs i ≡ 0 → IsInsertionPlace xs i place → IsGap xs i place
 gap-at xs i place up none found = record {
   within = found.within;
   before = found.before;

@@ -1,14 +1,14 @@
 -- Lists of numbers that go on with zeros.
 use Rattle.std.proofs.Common.{◌≡◌, ℕ, zero, suc, ◌+◌, ◌<◌, List, [], ◌∷◌, ◌++◌, length, replicate, get_or, set, refl, subst, arith}
 use Rattle.std.proofs.lemmas.List.Edits.{fill_by_more}
+use Rattle.rq_algebra.proofs.Placewise.{at-zeros}
 
+-- a read of zeros, for crates above that don't use rq_algebra
 pub zeros_everywhere : (n k : ℕ) → ◌≡◌ {A = ℕ} (get_or (replicate n 0) k 0) 0
-zeros_everywhere zero k = refl
-zeros_everywhere (suc n) zero = refl
-zeros_everywhere (suc n) (suc k) = zeros_everywhere n k
+zeros_everywhere = at-zeros
 
 pub padded_reads : (xs : List ℕ) (n k : ℕ) → ◌≡◌ {A = ℕ} (get_or (xs ++ replicate n 0) k 0) (get_or xs k 0)
-padded_reads [] n k = zeros_everywhere n k
+padded_reads [] n k = at-zeros n k
 padded_reads (x ∷ xs) n zero = refl
 padded_reads (x ∷ xs) n (suc k) = padded_reads xs n k
 
@@ -16,11 +16,6 @@ pub positive_within : (xs : List ℕ) (k : ℕ) → 0 < get_or xs k 0 → k < le
 positive_within [] k positive = absurd (omega arith)
 positive_within (x ∷ xs) zero positive = omega arith
 positive_within (x ∷ xs) (suc k) positive = let rest = positive_within xs k positive in omega arith
-
--- a list of zeros
-pub all_zero : (xs : List ℕ) → ((k : ℕ) → k < length xs → get_or xs k 0 ≡ 0) → xs ≡ replicate (length xs) 0
-all_zero [] zeros = refl
-all_zero (x ∷ xs) zeros = cc (zeros zero (omega arith), all_zero xs (λ k lt. zeros (suc k) (omega arith)))
 
 pub zeros_more : (xs : List ℕ) (i j : ℕ) → i ≡ j → i < length xs → ((k : ℕ) → k < i → get_or xs k 0 ≡ 0) → (k : ℕ) → k < i + 1 → get_or (set xs j 0) k 0 ≡ 0
 zeros_more xs i j e lt zeros k below = subst (λ n. get_or (set xs n 0) k 0 ≡ 0) e (fill_by_more (λ _. 0) xs i 0 lt zeros k below)

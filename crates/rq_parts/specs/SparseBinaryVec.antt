@@ -36,7 +36,7 @@ pub record IsGap (ones : List ℕ) (i gap : ℕ) : Type 0 where
   pub behind : (k : ℕ) → gap ≤ k → k < length ones → i < slice_index ones k
 
 -- an index would go to a place of the list, whether or not it is listed
-pub record IsPlace (ones : List ℕ) (i place : ℕ) : Type 0 where
+pub record IsInsertionPlace (ones : List ℕ) (i place : ℕ) : Type 0 where
   pub within : place ≤ length ones
   pub before : (k : ℕ) → k < place → slice_index ones k < i
   pub behind : (k : ℕ) → place ≤ k → k < length ones → i ≤ slice_index ones k

@@ -1,5 +1,5 @@
 //! Graphs whose nodes are numbers.
-ghost use Rattle.std.specs.Prelude.{◌≡◌, ℕ, ◌+◌, ◌*◌, ◌^◌, ◌<◌, ◌≤◌, ◌↔◌, ◌++◌, ◌∷◌, [], true, false, IsTrue, length, map, Contains, Ok, IfOk, OnOk, IfErr, slice_index, slice_range, ◌-◌};
+ghost use Rattle.std.specs.Prelude.{◌≡◌, ℕ, ◌+◌, ◌*◌, ◌^◌, ◌<◌, ◌↔◌, ◌++◌, ◌∷◌, [], true, false, IsTrue, length, map, Contains, Ok, IfOk, OnOk, IfErr, slice_index, ◌-◌};
 ghost use Rattle.std.specs.Iterator.{YieldsFirst, item_count};
 ghost use Rattle.std.specs.List.Sorted.{IsPermutation, IsStrictlyIncreasing, IsNonDecreasingBy};
 ghost use Rattle.rq_bytes.specs.Refusals.{IsAnswer};
@@ -11,6 +11,7 @@ mod components;
 
 pub use components::ConnectedComponentGraph;
 use rq_bytes::error::Error;
+use rq_bytes::slices::part;
 use std::alloc::Global;
 use std::marker::Model;
 
@@ -138,15 +139,6 @@ fn first_from(ends: &[(u16, u16)], node: usize) -> usize
     ensures { IsStart ends.now node result }
 {
     ends.partition_point(|end| usize::from(end.0) < node)
-}
-
-// The ends from `start` on and before `end`.
-fn part(ends: &[(u16, u16)], start: usize, end: usize) -> &[(u16, u16)]
-    requires order { start ≤ end }
-    requires within { end ≤ length ends.now }
-    ensures { result.now ≡ slice_range ends.now start end }
-{
-    &ends[start..end]
 }
 
 // Whether a node was the last to be listed, so that it isn't listed again.

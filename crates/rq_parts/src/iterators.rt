@@ -7,11 +7,10 @@ ghost use Rattle.rq_parts.specs.BitPairs.{bit_pairs, ones_among, sparse_pairs};
 use crate::sparse_vec::SparseBinaryVec;
 use rq_bytes::error::Error;
 use rq_bytes::octet::Octet;
+use rq_bytes::octets::WORD_BITS;
 use std::alloc::Global;
 use std::marker::Model;
 use std::vec::IntoIter;
-
-const WORD_BITS: usize = 64;
 
 /// The octets of a row of a matrix in some of its columns: pairs of a column and the octet in it.
 /// Contracts see the list of the pairs that are left.

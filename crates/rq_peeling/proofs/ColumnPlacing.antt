@@ -11,7 +11,7 @@ use Rattle.std.proofs.lemmas.List.Folds.{sum_by-replicate}
 use Rattle.std.proofs.lemmas.Grind.{same_number_lists}
 use Rattle.rq_algebra.specs.Systems.{at}
 use Rattle.rq_peeling.specs.SystemRows.{one_in}
-use Rattle.rq_peeling.specs.ColumnRows.{HasPlaced, AreEnds, rows_with, rows_from}
+use Rattle.rq_peeling.specs.ColumnRows.{HasPlaced, AreEnds, rows_with, rows_of_column}
 
 -- ---- sums
 
@@ -257,7 +257,7 @@ module _ (lists : List (List ℕ)) (counts starts rows : List ℕ) (placed : Has
       ]
 
   -- a column's rows are those that were put
-  pub read_is : (k : ℕ) → k < length counts → rows_from starts rows k ≡ rows_with lists k (length lists)
+  pub read_is : (k : ℕ) → k < length counts → rows_of_column starts rows k ≡ rows_with lists k (length lists)
   read_is k l =
       let start = sum (take k counts) in
       let end = sum (take (k + 1) counts) in

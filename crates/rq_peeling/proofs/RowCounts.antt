@@ -6,7 +6,7 @@ use Rattle.std.proofs.lemmas.List.Edits.{swapped_from_swap, length-swap}
 use Rattle.rq_standard.specs.BitTable.{BitTable, IsBitTable}
 use Rattle.rq_standard.specs.BitTableSteps.{ones_below, ones_between, HasSameShape, SwapsRows, SwapsPlaces, SwapsColumns}
 use Rattle.rq_matrix.proofs.Ones.{ones_below-same}
-use Rattle.rq_peeling.specs.FirstPhaseRowSelectionStats.{RowCounts, IsLeftOf, KeepsCounts, ChangesRow, ones_left}
+use Rattle.rq_peeling.specs.FirstPhaseRowSelectionStats.{RowCounts, IsLeftOf, KeepsCounts, ChangesRow, ones_in_range}
 use Rattle.rq_peeling.specs.Degrees.{HasLeastOnes}
 
 -- the same bits in a range have as many ones
@@ -87,9 +87,9 @@ rows_swapped counts i j from l from' l' m n is old swaps =
     record {
       left = record { rows = omega (arith, old.left.rows, swaps.shape.height, long); columns = old.left.columns; before = omega (arith, old.left.before, swaps.shape.boundary) };
       counted = λ a b o. elim (cases_eq a i) [
-        | inl e ↦ ap (λ k. get_or (swap ones i j) k 0) e ∙ moved.0 ∙ old.counted j from' l' ∙ sym (row i j swaps.first) ∙ ap (ones_left n counts) (sym e)
+        | inl e ↦ ap (λ k. get_or (swap ones i j) k 0) e ∙ moved.0 ∙ old.counted j from' l' ∙ sym (row i j swaps.first) ∙ ap (ones_in_range n counts) (sym e)
         | inr d ↦ elim (cases_eq a j) [
-          | inl e ↦ ap (λ k. get_or (swap ones i j) k 0) e ∙ moved.1 ∙ old.counted i from l ∙ sym (row j i swaps.second) ∙ ap (ones_left n counts) (sym e)
+          | inl e ↦ ap (λ k. get_or (swap ones i j) k 0) e ∙ moved.1 ∙ old.counted i from l ∙ sym (row j i swaps.second) ∙ ap (ones_in_range n counts) (sym e)
           | inr d' ↦
               let below : a < length ones = omega (arith, long) in
               moved.2 a d d' ∙ old.counted a b below ∙ sym (row a a (λ k w. swaps.other_rows a k (omega (arith, old.left.rows)) w d d'))
@@ -104,7 +104,7 @@ columns_kept counts i j from l from' l' m n is old swaps = record {
   counted = λ a b o. old.counted a b o ∙ sym (ones_between-swapped (m.bit a) (n.bit a) counts.start_col counts.end_col m.width i j from l from' l' (inside m counts is old.left) (swaps.below a b (omega (arith, old.left.rows))));
 }
 
-pub row_counted : (counts : RowCounts) (row count : ℕ) (new : BitTable) → row < length counts.ones → count ≡ ones_left new counts row
+pub row_counted : (counts : RowCounts) (row count : ℕ) (new : BitTable) → row < length counts.ones → count ≡ ones_in_range new counts row
     → KeepsCounts (λ m n. ChangesRow row m n × (n ≡ new)) counts (record counts { ones = set counts.ones row count })
 row_counted counts row count new below counted m n is old change =
     let ones = counts.ones in
@@ -112,7 +112,7 @@ row_counted counts row count new below counted m n is old change =
     record {
       left = record { rows = omega (arith, old.left.rows, change.0.shape.height, long); columns = old.left.columns; before = omega (arith, old.left.before, change.0.shape.boundary) };
       counted = λ i from l. elim (cases_eq i row) [
-        | inl e ↦ ap (λ k. get_or (set ones row count) k 0) e ∙ get_or-set_same ones row count 0 below ∙ counted ∙ ap (λ (t : BitTable). ones_left t counts row) (sym change.1) ∙ ap (ones_left n counts) (sym e)
+        | inl e ↦ ap (λ k. get_or (set ones row count) k 0) e ∙ get_or-set_same ones row count 0 below ∙ counted ∙ ap (λ (t : BitTable). ones_in_range t counts row) (sym change.1) ∙ ap (ones_in_range n counts) (sym e)
         | inr d ↦
             let inner : i < length ones = omega (arith, long) in
             get_or-set_other ones row i count 0 d

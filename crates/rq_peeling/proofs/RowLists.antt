@@ -18,7 +18,7 @@ use Rattle.rq_parts.specs.ImmutableListMap.{lists_between}
 use Rattle.rq_parts.proofs.KeyedLists.{list_read, length-lists}
 use Rattle.rq_peeling.proofs.ListParts as parts
 use Rattle.rq_peeling.specs.Degrees.{CountsBefore}
-use Rattle.rq_peeling.specs.Peeled.{ones_of, AreOnesOfRows, AddsOnes, AreAllBetween}
+use Rattle.rq_peeling.specs.Peeled.{ones_of, AreOnesOfRows, AddsOneColumns, AreAllBetween}
 use Rattle.rq_peeling.proofs.ActiveOnes.{count_absent, count_nothing}
 
 -- ---- the places of a row's ones
@@ -79,7 +79,7 @@ places_together bit start middle end xs ys low high first second = record {
 }
 
 -- the places of two parts of a row behind a list, the second those of a slice
-pub adds_ones : (bit : ℕ → ℕ) (width : ℕ) (old first second slice middle new : List ℕ) → middle ≡ old ++ first → new ≡ middle ++ slice → slice ≡ second → ArePlacesOfOnes bit 0 width (first ++ second) → AddsOnes bit width old new
+pub adds_ones : (bit : ℕ → ℕ) (width : ℕ) (old first second slice middle new : List ℕ) → middle ≡ old ++ first → new ≡ middle ++ slice → slice ≡ second → ArePlacesOfOnes bit 0 width (first ++ second) → AddsOneColumns bit width old new
 adds_ones bit width old first second slice middle new is_middle is_new is_slice ones =
     let is : new ≡ old ++ (first ++ second) = is_new ∙ ap (λ l. middle ++ l) is_slice ∙ ap (λ l. l ++ second) is_middle ∙ append_assoc old first second in
     record {

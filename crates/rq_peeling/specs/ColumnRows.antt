@@ -9,8 +9,8 @@ pub record ColumnLists : Type 0 where
   pub lists : List (List ℕ)
 
 -- the rows from a column's start to the next one, or to the end
-abbrev pub rows_from : List ℕ → List ℕ → ℕ → List ℕ
-rows_from starts rows k =
+abbrev pub rows_of_column : List ℕ → List ℕ → ℕ → List ℕ
+rows_of_column starts rows k =
     let end = min (slice_index_or starts (k + 1) (length rows)) (length rows) in
     slice_range rows (min (at starts k) end) end
 

@@ -18,8 +18,8 @@ pub record IsLeftOf (m : BitTable) (counts : RowCounts) : Type 0 where
   pub before : counts.end_col ≤ m.boundary
 
 -- how many ones a row of it has there
-abbrev pub ones_left : BitTable → RowCounts → ℕ → ℕ
-ones_left m counts i = ones_between (m.bit i) counts.start_col counts.end_col
+abbrev pub ones_in_range : BitTable → RowCounts → ℕ → ℕ
+ones_in_range m counts i = ones_between (m.bit i) counts.start_col counts.end_col
 
 -- from a first row on, as far as row n, these are the numbers of the rows' ones in a range of columns
 abbrev pub CountsFrom : BitTable → ℕ → ℕ → ℕ → ℕ → List ℕ → Type 0
@@ -28,7 +28,7 @@ CountsFrom m start_col end_col first n counts = (i : ℕ) → first ≤ i → i 
 -- the counts are those of a matrix
 pub record CountsOnes (m : BitTable) (counts : RowCounts) : Type 0 where
   pub left : IsLeftOf m counts
-  pub counted : (i : ℕ) → counts.start_row ≤ i → i < length counts.ones → slice_index counts.ones i ≡ ones_left m counts i
+  pub counted : (i : ℕ) → counts.start_row ≤ i → i < length counts.ones → slice_index counts.ones i ≡ ones_in_range m counts i
 
 -- where the old counts are those of a matrix, the new ones are those of any matrix that such a change makes of it
 abbrev pub KeepsCounts : (BitTable → BitTable → Type 0) → RowCounts → RowCounts → Type 0

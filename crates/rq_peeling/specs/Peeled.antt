@@ -22,7 +22,7 @@ pub record AreOnesOfRows (height width : ℕ) (bit : ℕ → ℕ → ℕ) (lists
   pub each : (i : ℕ) → i < height → ArePlacesOfOnes (bit i) 0 width (ones_of lists i)
 
 -- behind a list of columns, which stays as it was, those of a row's ones
-pub record AddsOnes (bit : ℕ → ℕ) (width : ℕ) (old new : List ℕ) : Type 0 where
+pub record AddsOneColumns (bit : ℕ → ℕ) (width : ℕ) (old new : List ℕ) : Type 0 where
   pub kept : take (length old) new ≡ old
   pub ones : ArePlacesOfOnes bit 0 width (drop (length old) new)
 

@@ -7,8 +7,8 @@ use Rattle.rq_peeling.specs.Peeled.{AreOnesOfRows}
 use Rattle.rq_peeling.specs.declared.system.System.{System}
 
 -- what its rows are: bits, but from row `first_hdpc` on octets
-abbrev pub rows_of : System → ℕ → ℕ → ℕ
-rows_of system = system_rows system.ones system.first_hdpc system.hdpc
+abbrev pub rows_of_system : System → ℕ → ℕ → ℕ
+rows_of_system system = system_rows system.ones system.first_hdpc system.hdpc
 
 -- the system of these bits, with the HDPC rows in the places from row `first` on
 pub record IsSystemOf (bits : BitTable) (hdpc : OctetTable) (first : ℕ) (system : System) : Type 0 where

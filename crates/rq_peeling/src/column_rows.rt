@@ -7,8 +7,9 @@ ghost use Rattle.rq_peeling.specs.ColumnRows.{AreEnds, ListsColumns, PlacesRow};
 ghost use Rattle.rq_peeling.specs.Degrees.{LowersRows};
 
 use crate::degrees::RowDegrees;
-use crate::ones::{RowOnes, part};
+use crate::ones::RowOnes;
 use rq_bytes::error::Error;
+use rq_bytes::slices::part;
 use std::alloc::Global;
 use std::marker::Model;
 
@@ -25,11 +26,11 @@ pub struct ColumnRows {
 impl Model for ColumnRows {
     ghost use Rattle.std.specs.Prelude.{length, map, All, ◌<◌};
     ghost use Rattle.std.specs.List.{range_with_len};
-    ghost use Rattle.rq_peeling.specs.ColumnRows.{ColumnLists, rows_from};
+    ghost use Rattle.rq_peeling.specs.ColumnRows.{ColumnLists, rows_of_column};
 
     ghost Value = { ColumnLists };
 
-    ghost view = { λ c. record { height = c.height; lists = map (rows_from c.starts.items c.rows.items) (range_with_len 0 (length c.starts.items)) } };
+    ghost view = { λ c. record { height = c.height; lists = map (rows_of_column c.starts.items c.rows.items) (range_with_len 0 (length c.starts.items)) } };
 
     ghost invariant = { λ c. All (λ row. row < c.height) c.rows.items };
 }

@@ -1,11 +1,12 @@
 //! The ones of a matrix of bits, row by row, as the phases read them (RFC 6330, section 5.4.2.1).
-ghost use Rattle.std.specs.Prelude.{◌≡◌, ℕ, ◌^◌, ◌<◌, ◌≤◌, ◌++◌, All, count_by, drop, length, nat_lt, IfOk, OnOk, IfErr, slice_range};
+ghost use Rattle.std.specs.Prelude.{◌≡◌, ℕ, ◌^◌, ◌<◌, ◌++◌, All, count_by, drop, length, nat_lt, IfOk, OnOk, IfErr};
 ghost use Rattle.std.specs.List.{concat, sum_by};
 ghost use Rattle.rq_bytes.specs.declared.error.Error.TheVariants.{OutOfMemory};
 ghost use Rattle.rq_peeling.specs.Degrees.{CountsBefore};
-ghost use Rattle.rq_peeling.specs.Peeled.{ones_of, AreOnesOfRows, AddsOnes};
+ghost use Rattle.rq_peeling.specs.Peeled.{ones_of, AreOnesOfRows, AddsOneColumns};
 
 use rq_bytes::error::Error;
+use rq_bytes::slices::part;
 use rq_matrix::matrix::BinaryMatrix;
 use std::alloc::Global;
 use std::marker::Model;
@@ -93,16 +94,6 @@ impl RowOnes {
     }
 }
 
-/// The values from `start` on and before `end`.
-#[inline(always)]
-pub fn part<T>(values: &[T], start: usize, end: usize) -> &[T]
-    requires order { start ≤ end }
-    requires within { end ≤ length values.now }
-    ensures { result.now ≡ slice_range values.now start end }
-{
-    &values[start..end]
-}
-
 // The columns of the ones of a row behind other columns. Says how many of them are among the first
 // `lt_columns`.
 fn push_ones<T: BinaryMatrix>(
@@ -115,7 +106,7 @@ fn push_ones<T: BinaryMatrix>(
     requires lt_columns { lt_columns ≡ (T.content bits.now).boundary }
     requires row { row < (T.content bits.now).height }
     ensures counted { IfOk result (λ count. count ≡ count_by (λ column. nat_lt column lt_columns) (drop (length columns.old.items) columns.new.items)) }
-    ensures ones { OnOk result (AddsOnes ((T.content bits.now).bit row) (T.content bits.now).width columns.old.items columns.new.items) }
+    ensures ones { OnOk result (AddsOneColumns ((T.content bits.now).bit row) (T.content bits.now).width columns.old.items columns.new.items) }
     ensures err { IfErr result (λ e. e ≡ OutOfMemory) }
 {
     let start = columns.len();

@@ -29,7 +29,7 @@ impl Model for FirstPhaseRowSelectionStats {
 }
 
 impl FirstPhaseRowSelectionStats {
-    ghost use Rattle.rq_peeling.specs.FirstPhaseRowSelectionStats.{ChangesRow, CountsOnes, HasLeft, IsLeftOf, KeepsCounts, ones_left};
+    ghost use Rattle.rq_peeling.specs.FirstPhaseRowSelectionStats.{ChangesRow, CountsOnes, HasLeft, IsLeftOf, KeepsCounts, ones_in_range};
     ghost use Rattle.rq_peeling.specs.Degrees.{HasLeastOnes};
 
     /// The counts of a matrix of which all columns before `end_col`, and all rows before `end_row`,
@@ -130,8 +130,8 @@ impl FirstPhaseRowSelectionStats {
         requires from { self.now.start_row ≤ start_row }
         requires range { start_row ≤ end_row }
         requires rows { end_row ≤ length self.now.ones }
-        ensures found { IfSome result (HasLeastOnes (ones_left (T.content matrix.now) self.now) start_row end_row) }
-        ensures none { IfNone result ((i : ℕ) → start_row ≤ i → i < end_row → ones_left (T.content matrix.now) self.now i ≡ 0) }
+        ensures found { IfSome result (HasLeastOnes (ones_in_range (T.content matrix.now) self.now) start_row end_row) }
+        ensures none { IfNone result ((i : ℕ) → start_row ≤ i → i < end_row → ones_in_range (T.content matrix.now) self.now i ≡ 0) }
     {
         let mut row_found = 0;
         let mut least = 0;

@@ -2,7 +2,7 @@
 ghost use Rattle.std.specs.Prelude.{◌≡◌, ℕ, ◌+◌, ◌^◌, ◌<◌, ◌≤◌, All, length, false, IfOk, OnOk, IfErr};
 ghost use Rattle.rq_bytes.specs.declared.error.Error.TheVariants.{OutOfMemory};
 ghost use Rattle.rq_standard.specs.TableRows.{IsChecked, b_of};
-ghost use Rattle.rq_base.specs.BinaryRows.{HasRows, HasLdpc1Columns, HasLdpcRows, HasSymbolRows, FillsRow, IsZeroFrom};
+ghost use Rattle.rq_base.specs.BinaryRows.{HasRows, HasLdpc1Columns, HasLdpcRows, HasSymbolRows, SetsParityRow, IsZeroFrom};
 
 use crate::indices::{Indices, sum_modulo};
 use rq_bytes::error::Error;
@@ -125,7 +125,7 @@ fn flip_indices<T: BinaryMatrix>(
     requires below { All (λ index. index < (T.content matrix.old).width) indices }
     requires settable { (T.content matrix.old).indexed ≡ false }
     requires zeros { (k : ℕ) → k < (T.content matrix.old).width → (T.content matrix.old).bit i k ≡ 0 }
-    ensures filled { OnOk result (FillsRow (T.content matrix.old) i indices (T.content matrix.new)) }
+    ensures filled { OnOk result (SetsParityRow (T.content matrix.old) i indices (T.content matrix.new)) }
     ensures memory { IfErr result (λ e. e ≡ OutOfMemory) }
 {
     while let Some(index) = indices.next_index() {

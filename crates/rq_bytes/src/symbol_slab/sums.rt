@@ -24,7 +24,11 @@ impl SymbolSlab {
             6 => self.add_sources::<6>(dest, sources),
             7 => self.add_sources::<7>(dest, sources),
             8 => self.add_sources::<8>(dest, sources),
-            _ => self.add_each(dest, sources),
+            _ => {
+                for src in sources {
+                    self.add_assign(dest, *src);
+                }
+            }
         }
     }
 
@@ -41,17 +45,6 @@ impl SymbolSlab {
         let start = self.start_of(dest);
         let starts = self.starts_of::<C>(sources);
         add_ranges(self.data.as_mut_slice(), start, &starts, size);
-    }
-
-    // Adds several symbols to another one, one after another.
-    fn add_each(&mut self, dest: usize, sources: &[usize])
-        requires dest { HasPlace self.old dest }
-        requires sources { All (λ src. Allows self.old (AddAssign dest src)) sources.now }
-        ensures { self.new ≡ after_all (map (λ src. AddAssign dest src) sources.now) self.old }
-    {
-        for src in sources {
-            self.add_assign(dest, *src);
-        }
     }
 
     /// Adds the symbols that these places mean to a row of as many octets as a symbol has, up to eight

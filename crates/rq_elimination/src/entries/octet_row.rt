@@ -4,8 +4,8 @@ ghost use Rattle.std.specs.Int.{bit_at};
 ghost use Rattle.rq_elimination.specs.InactiveEntries.{IsNextOctet};
 ghost use Rattle.rq_elimination.specs.NonzeroOctets.{nonzero, HasOnesAfter};
 
-use super::packed_bits::LANES;
 use rq_bytes::octet::Octet;
+use rq_bytes::products::LANES;
 use std::simd::prelude::*;
 
 /// A row, to be read: its own octets where it has some, or else its bits.

@@ -4,7 +4,7 @@ ghost use Rattle.std.specs.Prelude.{◌≡◌, ◌≢◌, ◌*◌, ◌%◌, ◌+
 ghost use Rattle.rq_algebra.specs.Systems.{at};
 ghost use Rattle.rq_bytes.specs.declared.error.Error.TheVariants.{OutOfMemory};
 ghost use Rattle.rq_parts.specs.DenseOctetMatrix.{IsOctetRow, row_at, with_row};
-ghost use Rattle.rq_elimination.specs.InactiveEntries.{place_before, row_of, octets_of_bits, with_octets};
+ghost use Rattle.rq_elimination.specs.InactiveEntries.{place_before, entry_row, octets_of_bits, with_column_octets};
 ghost use Rattle.rq_standard.specs.Rows.{row_sum, row_multiple};
 
 use super::packed_bits::add_bits;
@@ -93,7 +93,7 @@ impl OwnOctets {
     pub(super) fn unpack_row(&mut self, row: usize, bits: &[u8]) -> Result<(), Error>
         requires row { row < length self.old.rows }
         requires room { self.old.width ≤ 8 * length bits.now }
-        ensures row { OnOk result (self.new ≡ with_row self.old row (row_of self.old.width bits.now (row_at self.old row))) }
+        ensures row { OnOk result (self.new ≡ with_row self.old row (entry_row self.old.width bits.now (row_at self.old row))) }
         ensures refused { OnErr result (self.new ≡ self.old) }
         ensures err { IfErr result (λ e. e ≡ OutOfMemory) }
     {
@@ -117,7 +117,7 @@ impl OwnOctets {
         requires from { from < length octets.now.rows }
         requires columns { All (λ column. column < octets.now.width) columns.now }
         requires room { length columns.now ≤ self.old.width }
-        ensures filled { self.new ≡ with_row self.old row (with_octets (row_at octets.now from) columns.now (row_at self.old row)) }
+        ensures filled { self.new ≡ with_row self.old row (with_column_octets (row_at octets.now from) columns.now (row_at self.old row)) }
         ensures octets { IsOctetRow self.old.width (row_at self.new row) }
     {
         if let Some(place) = place_of(self.places.as_slice(), row) {
@@ -207,7 +207,7 @@ fn copy_columns(own: &mut [u8], octets: &DenseOctetMatrix, from: usize, columns:
     requires from { from < length octets.now.rows }
     requires columns { All (λ column. column < octets.now.width) columns.now }
     requires room { length columns.now ≤ length own.old }
-    ensures { own.new ≡ with_octets (row_at octets.now from) columns.now own.old }
+    ensures { own.new ≡ with_column_octets (row_at octets.now from) columns.now own.old }
 {
     for (f, column) in columns.iter().enumerate() {
         own[f] = octets.get(from, *column as usize).byte();

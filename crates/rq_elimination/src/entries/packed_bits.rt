@@ -1,35 +1,20 @@
 //! The buffer of the rows that are bits in the inactive columns (RFC 6330, section 5.4.2.2), packed eight
 //! to an octet, the first in its lowest bit.
-ghost use Rattle.std.specs.Prelude.{◌≡◌, ℕ, ◌+◌, ◌*◌, ◌/◌, ◌%◌, ◌^◌, ◌<◌, ◌≤◌, length, map, slice_set};
+ghost use Rattle.std.specs.Prelude.{◌≡◌, ℕ, ◌+◌, ◌*◌, ◌/◌, ◌%◌, ◌^◌, ◌<◌, ◌≤◌, length, slice_set};
 ghost use Rattle.std.specs.Int.{bit_at};
-ghost use Rattle.std.specs.List.{range_with_len};
-ghost use Rattle.rq_elimination.specs.InactiveEntries.{IsNextEntry, bit_in, octets_of_bits};
-ghost use Rattle.rq_standard.specs.Octets.{octet_mul};
+ghost use Rattle.rq_elimination.specs.InactiveEntries.{IsNextEntry, octets_of_bits};
+ghost use Rattle.rq_bytes.specs.OctetBits.{octet_bit};
 ghost use Rattle.rq_standard.specs.Rows.{row_sum, row_multiple};
 
+use rq_bytes::octets::WORD_BITS;
+use rq_bytes::products::{LANES, bit_products};
 use std::simd::prelude::*;
-
-/// How many octets a vector has.
-pub(super) const LANES: usize = 32;
-
-const WORD_BITS: usize = 64;
-
-// The place in its octet of each of 32 bits, as a mask.
-const MASKS: [u8; 32] = [
-    1, 2, 4, 8, 16, 32, 64, 128, 1, 2, 4, 8, 16, 32, 64, 128, 1, 2, 4, 8, 16, 32, 64, 128, 1, 2, 4,
-    8, 16, 32, 64, 128,
-];
-
-// The octet in which each of 32 bits stands.
-const PLACES: [usize; 32] = [
-    0, 0, 0, 0, 0, 0, 0, 0, 1, 1, 1, 1, 1, 1, 1, 1, 2, 2, 2, 2, 2, 2, 2, 2, 3, 3, 3, 3, 3, 3, 3, 3,
-];
 
 /// The bit at a place.
 #[inline(always)]
 pub(super) fn bit(bits: &[u8], place: usize) -> u8
     requires { place / 8 < length bits.now }
-    ensures { result ≡ bit_in bits.now place }
+    ensures { result ≡ octet_bit bits.now place }
 {
     (bits[place / 8] >> (place % 8)) & 1
 }
@@ -48,7 +33,7 @@ pub(super) fn next_one(bits: &[u8], from: usize, end: usize) -> Option<usize>
     requires within { end ≤ 8 * length bits.now }
     requires whole { length bits.now % 8 ≡ 0 }
     requires fits { end < 2 ^ 63 + 32 }
-    ensures { IsNextEntry (bit_in bits.now) from end result }
+    ensures { IsNextEntry (octet_bit bits.now) from end result }
 {
     let mut place = from;
     while place < end {
@@ -79,7 +64,7 @@ pub(super) fn count_ones(bits: &[u8], count: usize) -> usize
 #[inline(always)]
 pub(super) fn word(bits: &[u8], block: usize) -> u64
     requires { 8 * block + 8 ≤ length bits.now }
-    ensures { (k : ℕ) → k < 64 → bit_at result k ≡ bit_in bits.now (64 * block + k) }
+    ensures { (k : ℕ) → k < 64 → bit_at result k ≡ octet_bit bits.now (64 * block + k) }
 {
     u64::from_le_bytes(u8x8::from_slice(&bits[8 * block..]).to_array())
 }
@@ -96,16 +81,4 @@ pub(super) fn add_bits(octets: &mut [u8], bits: &[u8], scalar: u8)
         let sum = u8x32::from_slice(&octets[at..]) ^ multiple;
         sum.copy_to_slice(&mut octets[at..]);
     }
-}
-
-// The products of an octet and each bit of four octets.
-#[inline(always)]
-fn bit_products(scalar: u8, bits: u8x4) -> u8x32
-    requires { length bits ≡ 4 }
-    ensures { result ≡ map (λ i. octet_mul scalar (bit_in bits i)) (range_with_len 0 32) }
-{
-    let masks = u8x32::from_array(MASKS);
-    (bits.swizzle(PLACES) & masks)
-        .simd_eq(masks)
-        .select(u8x32::splat(scalar), u8x32::splat(0))
 }

@@ -2,7 +2,7 @@
 ghost use Rattle.std.specs.Prelude.{◌≡◌, ◌^◌, ◌<◌, [], All, length, slice_index_or, IfOk, IfErr, OnOk, OnErr};
 ghost use Rattle.std.specs.Option.{ForSome};
 ghost use Rattle.rq_bytes.specs.declared.error.Error.TheVariants.{OutOfMemory};
-ghost use Rattle.rq_matrix.specs.SparseRows.{IsSparseRow, IsColumnIndex, AddsOnes, places_between};
+ghost use Rattle.rq_matrix.specs.SparseRows.{IsSparseRow, IsColumnIndex, AddsRowPairs, places_between};
 
 use rq_bytes::error::Error;
 use rq_parts::arraymap::{ImmutableListMap, ImmutableListMapBuilder};
@@ -34,7 +34,7 @@ fn add_ones(
 ) -> Result<(), Error>
     requires columns { All (λ one. one < builder.old.keys) ones.now }
     requires keys { builder.old.keys < 65536 }
-    ensures ok { OnOk result (AddsOnes builder.old row ones.now builder.new) }
+    ensures ok { OnOk result (AddsRowPairs builder.old row ones.now builder.new) }
     ensures err { IfErr result (λ e. e ≡ OutOfMemory) }
 {
     for i in 0..ones.len() {

@@ -1,16 +1,16 @@
 //! The dense columns of a sparse matrix.
-ghost use Rattle.std.specs.Prelude.{◌≡◌, ℕ, ◌+◌, ◌-◌, ◌*◌, ◌^◌, ◌<◌, ◌≤◌, length, map, replicate, if◌then◌else◌, All, IfOk, OnOk, OnErr, MatchOption};
+ghost use Rattle.std.specs.Prelude.{◌≡◌, ℕ, ◌+◌, ◌-◌, ◌*◌, ◌^◌, ◌<◌, ◌≤◌, length, map, replicate, All, IfOk, OnOk, OnErr, MatchOption};
 ghost use Rattle.std.specs.Int.Bits.{bit_xor};
 ghost use Rattle.rq_bytes.specs.BinaryOctetVec.{packed_bit};
+ghost use Rattle.rq_standard.specs.BitTableSteps.{bit_of};
 ghost use Rattle.rq_matrix.specs.BitRows.{word_count, with_word_added, HasNoOnes, IsLastOne};
 ghost use Rattle.rq_matrix.specs.DenseTails.{tail_bit, IsZeroTail, SetsTailBit, MarksRows, AddsTailRow, PushesColumn};
 
 use crate::bit_row::{BitRow, last_one};
 use rq_bytes::octet::Octet;
+use rq_bytes::octets::WORD_BITS;
 use std::alloc::{AllocError, Global};
 use std::marker::Model;
-
-const WORD_BITS: usize = 64;
 
 /// The last columns of the rows of a matrix, the last of them first, so that one more comes at the
 /// end. Each block holds 64 of them, in a word for each row. Contracts see the blocks.
@@ -88,13 +88,13 @@ impl DenseTail {
         None
     }
 
-    /// Sets the bit of a row in a column.
-    pub(super) fn set(&mut self, row: usize, column: usize, one: bool)
+    /// Sets the bit of a row in a column to 0 for the octet 0, and else to 1.
+    pub(super) fn set(&mut self, row: usize, column: usize, value: Octet)
         requires row { row < self.old.rows }
         requires column { column < self.old.columns }
-        ensures { SetsTailBit self.old row column (if one then 1 else 0) self.new }
+        ensures { SetsTailBit self.old row column (bit_of value) self.new }
     {
-        self.blocks[column / WORD_BITS].set(WORD_BITS * row + column % WORD_BITS, one);
+        self.blocks[column / WORD_BITS].set(WORD_BITS * row + column % WORD_BITS, value);
     }
 
     /// Sets the bit of a row in a column to 1 where it was 0, and to 0 where it was 1.
@@ -113,7 +113,7 @@ impl DenseTail {
         ensures { MarksRows self.old rows.now column self.new }
     {
         for row in rows {
-            self.set(*row as usize, column, true);
+            self.set(*row as usize, column, Octet::one());
         }
     }
 
@@ -149,8 +149,7 @@ impl DenseTail {
     {
         let mut bits = BitRow::zero(alloc, self.columns)?;
         for column in 0..self.columns {
-            let bit = self.get(row, self.columns - 1 - column);
-            bits.set(column, bit == Octet::one());
+            bits.set(column, self.get(row, self.columns - 1 - column));
         }
         Ok(bits)
     }

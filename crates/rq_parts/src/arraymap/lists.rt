@@ -1,5 +1,5 @@
 //! Maps from keys to lists of numbers.
-ghost use Rattle.std.specs.Prelude.{◌≡◌, ℕ, ◌+◌, ◌<◌, ◌≤◌, ◌++◌, ◌∷◌, [], List, length, Ok, IfOk, OnOk, IfErr, map, slice_index_or, slice_range};
+ghost use Rattle.std.specs.Prelude.{◌≡◌, ℕ, ◌+◌, ◌<◌, ◌++◌, ◌∷◌, [], List, length, Ok, IfOk, OnOk, IfErr, map, slice_index_or};
 ghost use Rattle.std.specs.List.Sorted.{IsNonDecreasingBy, IsStableByKey};
 ghost use Rattle.std.specs.Ordering.{nat_cmp};
 ghost use Rattle.rq_bytes.specs.Refusals.{IsAnswer};
@@ -7,6 +7,7 @@ ghost use Rattle.rq_bytes.specs.declared.error.Error.TheVariants.{OutOfMemory};
 ghost use Rattle.rq_parts.specs.ImmutableListMap.{lists_of, IsStart, AreStartsOf};
 
 use rq_bytes::error::Error;
+use rq_bytes::slices::part;
 use std::alloc::{AllocError, Global};
 use std::marker::Model;
 
@@ -98,15 +99,6 @@ impl Clone for ImmutableListMap {
             values: self.values.clone()?,
         })
     }
-}
-
-// The values from `start` on and before `end`.
-fn part(values: &[u32], start: usize, end: usize) -> &[u32]
-    requires order { start ≤ end }
-    requires within { end ≤ length values.now }
-    ensures { result.now ≡ slice_range values.now start end }
-{
-    &values[start..end]
 }
 
 // The pairs with their keys in ascending order; those of one key stay in their order.

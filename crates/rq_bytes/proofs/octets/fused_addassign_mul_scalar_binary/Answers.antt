@@ -4,7 +4,7 @@ use Rattle.std.proofs.lemmas.List.{get_or_read}
 use Rattle.rq_standard.specs.Octets.{octet_mul}
 use Rattle.rq_standard.specs.Rows.{row_sum, row_multiple}
 use Rattle.rq_bytes.specs.BinaryOctetVec.{packed_bits}
-use Rattle.rq_bytes.proofs.BitLanes.{IsPacked, length-packed, first_bit, word_bits}
+use Rattle.rq_bytes.proofs.BitLanes.{IsPacked, length-packed, first_bit, half_word_bits}
 use Rattle.rq_bytes.proofs.ZipUpto.{added_one, added_store, added_all}
 use Rattle.rq_bytes.proofs.octets.fused_addassign_mul_scalar_binary.Goals as goal
 use Rattle.rq_bytes.proofs.octets.fused_addassign_mul_scalar_binary.Goals.{After-padding_bits-padding}
@@ -37,13 +37,15 @@ loop-block-preserved c =
     let before = (goal.at.loop-block-preserved c).After-padding_bits-padding in
     let s = c.byte-scalar.result in
     let many = length c.args.octets.now in
-    let at = many % 64 + 64 * c.loop-block.block in
+    let block = c.loop-block.block in
+    let at = many % 64 + 32 * block in
     let words = c.other.inside.elements.items in
     let padding = c.padding_bits-padding.result in
     let word = c.index-in-loop-block.result.now in
+    let half = c.half_of_word-half in
     let read = get_or_read words ((padding + at) / 64) word (omega (arith, c.other.inside.elements.ok.0, c.other.invariant, long before words c.other.inside.length c.other.view_is)) c.index-in-loop-block.ensures 0 in
-    let bits = word_bits s words c.args.other.now c.other.inside.length padding many at word (packed before words c.other.inside.length c.other.view_is) (omega arith) (omega arith) read in
-    added_store (octet_mul s) c.loop-block.octets c.args.octets.now c.args.other.now at c.loop-block.invariant (omega arith) 64 (many % 64 + 64 * (c.loop-block.block + 1)) _ (c.bit_products-multiple.ensures ∙ bits) (omega arith) (omega arith)
+    let bits = half_word_bits s words c.args.other.now c.other.inside.length padding many at block word half.result (packed before words c.other.inside.length c.other.view_is) (omega arith) (omega arith) read half.ensures.bits in
+    added_store (octet_mul s) c.loop-block.octets c.args.octets.now c.args.other.now at c.loop-block.invariant (omega arith) 32 (many % 64 + 32 * (block + 1)) _ (c.bit_products.ensures ∙ bits) (omega arith) (omega arith)
 
 pub returns-clause-sum : goal.returns-clause-sum
 returns-clause-sum c =

@@ -9,4 +9,4 @@ abbrev pub invariant-loop-i : goal.invariant-loop-i
 invariant-loop-i l = l.octets ≡ zip_upto (λ x y. bit_xor x (octet_mul l.scalar y)) l.i l.fn.octets l.other
 
 abbrev pub invariant-loop-block : goal.invariant-loop-block
-invariant-loop-block l = l.octets ≡ zip_upto (λ x y. bit_xor x (octet_mul l.scalar y)) (l.begun + 64 * l.block) l.fn.octets l.other
+invariant-loop-block l = l.octets ≡ zip_upto (λ x y. bit_xor x (octet_mul l.scalar y)) (l.begun + 32 * l.block) l.fn.octets l.other

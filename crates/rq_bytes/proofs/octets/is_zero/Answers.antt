@@ -2,7 +2,7 @@
 use Rattle.std.proofs.Common.{◌≡◌, ℕ, ◌+◌, ◌-◌, ◌*◌, ◌≤◌, inl, inr, length, get_or, refl, sym, ap, ◌∙◌, arith}
 use Rattle.std.proofs.lemmas.Bool.{cases_lt, false≢true}
 use Rattle.std.proofs.lemmas.Simd.{get_or-chunk, length-chunk}
-use Rattle.rq_bytes.proofs.Zeros.{zeros_read, zeros_made, or_none, or_zeros}
+use Rattle.rq_bytes.proofs.ZeroRows.{zeros_read, zeros_made, or_none, or_zeros}
 use lib.Lanes.{chunk}
 use Rattle.rq_bytes.proofs.octets.is_zero.Goals as goal
 

@@ -1,6 +1,6 @@
 -- What the loop keeps in `counts::count_steps`.
 use Rattle.std.proofs.Common.{◌≡◌, ◌≤◌, map, take}
-use Rattle.rq_operations.specs.Steps.{operation_of_step}
+use Rattle.rq_operations.specs.RecordedSteps.{operation_of_step}
 use Rattle.rq_elimination.specs.OperationCounts.{additions, multiplications}
 use Rattle.rq_elimination.proofs.counts.count_steps.Given as goal
 

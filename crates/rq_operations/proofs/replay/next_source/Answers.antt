@@ -2,7 +2,7 @@
 use Rattle.std.proofs.Common.{◌≡◌, ◌+◌, ◌<◌, ℕ, Option, None, Some, [], ◌∷◌, length, map, ap, ◌∙◌, IfSome}
 use Rattle.rq_algebra.specs.Operations.{Operation, AddAssign}
 use Rattle.rq_bytes.specs.Ranges.{range_of}
-use Rattle.rq_operations.specs.Steps.{operation_of_step}
+use Rattle.rq_operations.specs.RecordedSteps.{operation_of_step}
 use Rattle.rq_operations.proofs.Performed.{range_here}
 use Rattle.rq_operations.proofs.replay.next_source.Goals as goal
 

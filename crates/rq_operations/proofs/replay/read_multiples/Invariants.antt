@@ -2,7 +2,7 @@
 use Rattle.std.proofs.Common.{◌≡◌, map, take}
 use Rattle.rq_algebra.specs.Operations.{Fma}
 use Rattle.rq_bytes.specs.Ranges.{range_of}
-use Rattle.rq_operations.specs.Steps.{operation_of_step}
+use Rattle.rq_operations.specs.RecordedSteps.{operation_of_step}
 use Rattle.rq_operations.proofs.replay.read_multiples.Given as goal
 
 abbrev pub invariant-loop-count : goal.invariant-loop-count

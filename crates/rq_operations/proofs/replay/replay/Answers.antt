@@ -1,7 +1,7 @@
 -- What the check leaves to show of `replay::replay`.
 use Rattle.std.proofs.Common.{map, sym, arith}
 use Rattle.std.proofs.lemmas.List.{length-map}
-use Rattle.rq_operations.specs.Steps.{operation_of_step}
+use Rattle.rq_operations.specs.RecordedSteps.{operation_of_step}
 use Rattle.rq_bytes.proofs.SlabMultiples.{after_all-none}
 use Rattle.rq_operations.proofs.Performed.{rest_allowed, performed_more}
 use Rattle.rq_operations.proofs.replay.replay.Goals as goal

@@ -1,6 +1,6 @@
 -- What the loops keep in `replay::replay`.
 use Rattle.std.proofs.Common.{◌≡◌, ◌≤◌, ◌-◌, map, take, length}
-use Rattle.rq_operations.specs.Steps.{operation_of_step}
+use Rattle.rq_operations.specs.RecordedSteps.{operation_of_step}
 use Rattle.rq_bytes.specs.SymbolSlab.{after_all}
 use Rattle.rq_operations.proofs.replay.replay.Given as goal
 

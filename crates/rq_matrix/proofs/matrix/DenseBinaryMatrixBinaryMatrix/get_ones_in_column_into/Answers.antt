@@ -3,7 +3,7 @@ use Rattle.std.proofs.Common.{ℕ, [], Vec, Global, vec_len, get_or, ap, ◌∙�
 use Rattle.std.specs.Prelude.{vec_capacity}
 use Rattle.rq_matrix.specs.BitRows.{bit_in}
 use Rattle.rq_matrix.proofs.Words.{packed_bit-lt}
-use Rattle.rq_matrix.proofs.Places.{found_next}
+use Rattle.rq_matrix.proofs.FoundOnes.{found_next}
 use Rattle.rq_matrix.proofs.matrix.DenseBinaryMatrixBinaryMatrix.get_ones_in_column_into.Goals as goal
 use Rattle.rq_matrix.proofs.matrix.DenseBinaryMatrixBinaryMatrix.get_ones_in_column_into.Goals.{then-eq, else-eq}
 

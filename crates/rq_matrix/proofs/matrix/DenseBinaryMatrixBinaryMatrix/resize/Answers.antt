@@ -5,10 +5,10 @@ use Rattle.std.proofs.lemmas.List.{get_or-take, get_or-map, length-map, length-t
 use Rattle.std.proofs.lemmas.List.Elements.{All-map}
 use Rattle.rq_bytes.specs.BinaryOctetVec.{packed_bit}
 use Rattle.rq_matrix.specs.BitRows.{bit_in, word_count}
-use Rattle.rq_matrix.proofs.RowLaws.{packed_bit-take, word_inside, word_count-le}
+use Rattle.rq_matrix.proofs.WordRows.{packed_bit-take, word_inside, word_count-le}
 use Rattle.rq_matrix.proofs.matrix.DenseBinaryMatrixBinaryMatrix.resize.Goals as goal
 
--- the first rows, each with the words that so many columns need
+-- the first `height` rows, each with the words that `width` columns need
 abbrev leading : List (List ℕ) → ℕ → ℕ → List (List ℕ)
 leading rows height width = map (λ row. take (word_count width) row) (take height rows)
 

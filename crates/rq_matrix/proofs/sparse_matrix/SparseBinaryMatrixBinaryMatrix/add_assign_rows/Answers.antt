@@ -10,7 +10,7 @@ use Rattle.rq_standard.specs.BitTableSteps.{AddsRowFrom}
 use Rattle.rq_parts.specs.SparseBinaryVec.{IsListedSum}
 use Rattle.rq_matrix.specs.declared.sparse_matrix.SparseBinaryMatrix.{SparseBinaryMatrix}
 use Rattle.rq_matrix.specs.DenseTails.{Tail}
-use Rattle.rq_matrix.specs.SparseBinaryMatrix.{content_of}
+use Rattle.rq_matrix.specs.SparseBinaryMatrix.{sparse_content}
 use Rattle.rq_matrix.specs.SparseRows.{IsSparseRow}
 use Rattle.rq_matrix.proofs.SparseRowLaws.{rows_added}
 use Rattle.rq_matrix.proofs.SparseMatrixLaws.{adds_whole, table}
@@ -61,5 +61,5 @@ returns-clause-ok c =
     c.stored_row-dest.ensures.value c.stored_row-src.ensures.value old.boundary_within old.tail_columns c.add-2.ensures (with_items old.rows new).items row c.stored_row-dest.ensures.below is sums in
     elim c.requires.start [
       | inl at ↦ absurd (c.if-start_col-self.false at)
-      | inr first ↦ subst (λ n. AddsRowFrom (content_of old) c.args.dest c.args.src n (table old.height old.width old.boundary (is_some old.index) (with_items old.rows new).items old.row_order old.column_order c.add-2.new.self)) (sym first.0) whole
+      | inr first ↦ subst (λ n. AddsRowFrom (sparse_content old) c.args.dest c.args.src n (table old.height old.width old.boundary (is_some old.index) (with_items old.rows new).items old.row_order old.column_order c.add-2.new.self)) (sym first.0) whole
     ]

@@ -4,7 +4,7 @@ use Rattle.std.proofs.lemmas.Bool.{cases_lt}
 use Rattle.std.proofs.lemmas.List.{length-replicate}
 use Rattle.std.proofs.lemmas.List.FromFn.{length-range_with_len}
 use Rattle.rq_parts.specs.SparseBinaryVec.{listed_bit}
-use Rattle.rq_matrix.specs.Orders.{Order, IsOrder, first_order}
+use Rattle.rq_matrix.specs.Orders.{Order, IsPlacedOrder, first_order}
 use Rattle.rq_matrix.specs.SparseRows.{IsSparseRow}
 use Rattle.rq_matrix.specs.SparseTables.{bit-before, bit-from}
 use Rattle.rq_matrix.proofs.OrderLaws.{first_is_order, first_made, first_numbers}
@@ -38,8 +38,8 @@ invariant_of-result c =
       width_within = omega (arith, columns c);
       boundary_within = omega arith;
       ordered = ordered c ∙ sym (rows c);
-      rows_in_order = subst IsOrder (sym (row_order c)) (first_is_order c.args.height);
-      columns_in_order = subst IsOrder (sym (column_order c)) (first_is_order c.args.width);
+      rows_in_order = subst IsPlacedOrder (sym (row_order c)) (first_is_order c.args.height);
+      columns_in_order = subst IsPlacedOrder (sym (column_order c)) (first_is_order c.args.width);
       sparse = subst (All (IsSparseRow n)) (sym c.in_ok-empty_rows.ensures.ok) (empty_rows_are n c.args.height);
       tail_rows = c.in_ok-new.ensures.rows ∙ sym (rows c);
       tail_columns = omega (arith, c.in_ok-new.ensures.columns, c.requires.dense);

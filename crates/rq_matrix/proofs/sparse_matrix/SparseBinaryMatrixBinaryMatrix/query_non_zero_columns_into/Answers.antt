@@ -3,7 +3,7 @@ use Rattle.std.proofs.Common.{◌≡◌, ℕ, ◌+◌, ◌-◌, ◌<◌, ◌≤�
 use Rattle.rq_matrix.specs.DenseTails.{tail_bit}
 use Rattle.rq_matrix.specs.SparseBinaryMatrix.{sparse_bit}
 use Rattle.rq_matrix.proofs.SparseMatrixLaws.{places-same, dense_bit}
-use Rattle.rq_matrix.proofs.Places.{AreFound, places-pass, found_after}
+use Rattle.rq_matrix.proofs.FoundOnes.{AreFound, places-pass, found_after}
 use Rattle.rq_matrix.proofs.sparse_matrix.SparseBinaryMatrixBinaryMatrix.query_non_zero_columns_into.Goals as goal
 
 pub loop-column-preserved : goal.loop-column-preserved

@@ -1,7 +1,7 @@
 -- What the loop keeps in `sparse_matrix::SparseBinaryMatrix::query_non_zero_columns_into`.
 use Rattle.std.proofs.Common.{◌-◌, ◌≤◌}
 use Rattle.rq_matrix.specs.DenseTails.{tail_bit}
-use Rattle.rq_matrix.proofs.Places.{AreFound}
+use Rattle.rq_matrix.proofs.FoundOnes.{AreFound}
 use Rattle.rq_matrix.proofs.sparse_matrix.SparseBinaryMatrixBinaryMatrix.query_non_zero_columns_into.Given as goal
 
 abbrev pub invariant-loop-column : goal.invariant-loop-column

@@ -1,20 +1,12 @@
 -- What the check leaves to show of `sparse_matrix::SparseBinaryMatrix::set`.
-use Rattle.std.proofs.Common.{◌≡◌, ◌<◌, ◌==◌, ℕ, Bool, false, not, [], length, sym, ap, subst, ◌∙◌, inl, inr, arith, if◌then◌else◌}
+use Rattle.std.proofs.Common.{◌≡◌, ◌<◌, false, [], length, refl, subst, ◌∙◌, inl, inr, arith}
 use Rattle.std.specs.Option.{is_some}
 use Rattle.std.proofs.lemmas.List.{get_or_read}
-use Rattle.std.proofs.lemmas.Bool.Decides.{eqb_tells}
 use Rattle.rq_standard.specs.BitTableSteps.{bit_of}
 use Rattle.rq_parts.specs.SparseBinaryVec.{SetsListed}
 use Rattle.rq_matrix.proofs.SparseMatrixLaws.{sets_listed, sets_tail}
 use Rattle.rq_matrix.proofs.StoredRows.{with_row_set}
 use Rattle.rq_matrix.proofs.sparse_matrix.SparseBinaryMatrixBinaryMatrix.set.Goals as goal
-
--- not zero is one
-bit_is : (octet none : ℕ) (ne : Bool) → none ≡ 0 → ne ≡ not (octet == none) → (if ne then 1 else 0) ≡ bit_of octet
-bit_is octet none ne is same =
-    let now = same ∙ ap (λ z. not (octet == z)) is in
-    ap (λ (b : Bool). if b then 1 else 0) now
-    ∙ elim (eqb_tells octet 0) [ inl e ↦ ap (λ (b : Bool). if not b then 1 else 0) e.0 ∙ sym (ap (λ (b : Bool). if b then 0 else 1) e.0) | inr e ↦ ap (λ (b : Bool). if not b then 1 else 0) e.0 ∙ sym (ap (λ (b : Bool). if b then 0 else 1) e.0) ]
 
 pub invariant_of-self : goal.invariant_of-self
 invariant_of-self c =
@@ -38,5 +30,5 @@ returns-in_ok-insert-clause-ok c =
 pub returns-else-j-self-clause-ok : goal.returns-else-j-self-clause-ok
 returns-else-j-self-clause-ok c =
     let old = c.args.self.now in
-    sets_tail old.height old.width old.boundary (is_some old.index) old.rows.items old.row_order old.column_order old.tail c.set.new.self c.args.i c.args.j c.stored_row-row.result c.args.value (if c.ne.result then 1 else 0) old.rows_in_order
-    (omega (arith, old.ordered, old.height_within)) c.requires.row c.if-j-self.false c.requires.column c.stored_row-row.ensures.value (bit_is c.args.value c.zero.result c.ne.result c.zero.ensures c.ne.ensures) c.set.ensures
+    sets_tail old.height old.width old.boundary (is_some old.index) old.rows.items old.row_order old.column_order old.tail c.set.new.self c.args.i c.args.j c.stored_row-row.result c.args.value (bit_of c.args.value) old.rows_in_order
+    (omega (arith, old.ordered, old.height_within)) c.requires.row c.if-j-self.false c.requires.column c.stored_row-row.ensures.value refl c.set.ensures

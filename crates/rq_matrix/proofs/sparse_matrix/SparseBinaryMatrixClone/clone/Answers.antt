@@ -2,7 +2,7 @@
 use Rattle.std.proofs.Common.{◌≡◌, ◌<◌, ◌≤◌, ◌^◌, ℕ, List, All, Some, length, refl, sym, ap, subst, ◌∙◌}
 use Rattle.std.proofs.lemmas.List.Elements.{same_from_all_zip}
 use Rattle.rq_matrix.specs.DenseTails.{Tail}
-use Rattle.rq_matrix.specs.Orders.{Order, IsOrder}
+use Rattle.rq_matrix.specs.Orders.{Order, IsPlacedOrder}
 use Rattle.rq_matrix.specs.SparseRows.{IsSparseRow, IsColumnIndex}
 use Rattle.rq_matrix.proofs.sparse_matrix.SparseBinaryMatrixClone.clone.Goals as goal
 use Rattle.rq_matrix.proofs.sparse_matrix.SparseBinaryMatrixClone.clone.Goals.{In_ok-clone-4, in-Some+in_ok-clone-in-Some, in-None}
@@ -28,8 +28,8 @@ invariant_of-result c =
       width_within = subst (λ (o : Order). old.width ≤ length o.order) columns old.width_within;
       boundary_within = old.boundary_within;
       ordered = ap (λ (o : Order). length o.order) row_order ∙ old.ordered ∙ ap length same;
-      rows_in_order = subst IsOrder (sym row_order) old.rows_in_order;
-      columns_in_order = subst IsOrder columns old.columns_in_order;
+      rows_in_order = subst IsPlacedOrder (sym row_order) old.rows_in_order;
+      columns_in_order = subst IsPlacedOrder columns old.columns_in_order;
       sparse = subst (λ (l : List (List ℕ)). All (IsSparseRow (length c.in_ok-clone-4.field-0.order)) l) same (subst (λ (o : Order). All (IsSparseRow (length o.order)) old.rows.items) columns old.sparse);
       tail_rows = ap (λ (t : Tail). t.rows) tail ∙ old.tail_rows ∙ ap length same;
       tail_columns = ap (λ (t : Tail). t.columns) tail ∙ old.tail_columns;

@@ -5,7 +5,7 @@ use Rattle.rq_standard.specs.BitTableSteps.{ArePlacesOfOnes}
 use Rattle.rq_parts.specs.ImmutableListMap.{Pairs, values_of}
 use Rattle.rq_parts.specs.SparseBinaryVec.{listed_bit}
 use Rattle.rq_matrix.specs.SparseTables.{stored-small}
-use Rattle.rq_matrix.proofs.Places.{places-none}
+use Rattle.rq_matrix.proofs.FoundOnes.{places-none}
 use Rattle.rq_matrix.proofs.ColumnIndexLaws.{places-add, index-answered}
 use Rattle.rq_matrix.proofs.sparse_matrix.column_index.column_index.Goals as goal
 

@@ -7,7 +7,7 @@ use Rattle.rq_algebra.specs.Operations.{Operation, Reorder, IsOrder}
 use Rattle.rq_algebra.proofs.OperationRuns.{AreAllowed-middle}
 use Rattle.rq_bytes.specs.SymbolSlab.{after, after_all}
 use Rattle.rq_bytes.proofs.SlabSums.{after_more}
-use Rattle.rq_operations.specs.Steps.{operation_of_step}
+use Rattle.rq_operations.specs.RecordedSteps.{operation_of_step}
 use Rattle.rq_operations.proofs.Performed.{AreAllowed-before, length-after_all}
 use Rattle.rq_operations.proofs.recorded.RecordedOperations.replay.Goals as goal
 

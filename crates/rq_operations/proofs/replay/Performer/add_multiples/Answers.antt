@@ -3,9 +3,9 @@ use Rattle.std.proofs.Common.{List, length, map, take, refl, sym, ap, ◌∙◌,
 use Rattle.std.proofs.lemmas.List.{length-map}
 use Rattle.rq_algebra.specs.Operations.{Operation, Fma}
 use Rattle.rq_bytes.specs.SymbolSlab.{after_all}
-use Rattle.rq_operations.specs.Steps.{operation_of_step}
+use Rattle.rq_operations.specs.RecordedSteps.{operation_of_step}
 use Rattle.rq_operations.proofs.Performed.{run_allowed}
-use Rattle.rq_operations.proofs.Zeros.{all_zeros_added}
+use Rattle.rq_operations.proofs.ZeroMultiples.{all_zeros_added}
 use Rattle.rq_operations.proofs.replay.Performer.add_multiples.Goals as goal
 
 pub add_multiples-requires : goal.add_multiples-requires

@@ -3,9 +3,9 @@ use Rattle.std.proofs.Common.{◌≡◌, [], ◌∷◌, length, map, refl, sym, 
 use Rattle.std.proofs.lemmas.List.{length-map}
 use Rattle.rq_algebra.specs.Operations.{AddAssign, MulAssign}
 use Rattle.rq_bytes.specs.SymbolSlab.{after_all}
-use Rattle.rq_operations.specs.Steps.{operation_of_step}
+use Rattle.rq_operations.specs.RecordedSteps.{operation_of_step}
 use Rattle.rq_operations.proofs.Performed.{one_performed, two_performed, next_allowed}
-use Rattle.rq_operations.proofs.Zeros.{zeros_multiplied}
+use Rattle.rq_operations.proofs.ZeroMultiples.{zeros_multiplied}
 use Rattle.rq_operations.proofs.replay.Performer.multiply.Goals as goal
 
 pub double_and_add-requires : goal.double_and_add-requires

@@ -1,7 +1,7 @@
 -- What the check leaves to show of `replay::Performer::perform_next`.
 use Rattle.std.proofs.Common.{ℕ, [], ◌∷◌, length, map, take, refl, sym, ap, ◌∙◌}
 use Rattle.rq_algebra.specs.Operations.{AddAssign, Fma}
-use Rattle.rq_operations.specs.Steps.{operation_of_step}
+use Rattle.rq_operations.specs.RecordedSteps.{operation_of_step}
 use Rattle.rq_operations.specs.declared.steps.Step.{Step}
 use Rattle.rq_operations.proofs.Performed.{range_here, run_allowed}
 use Rattle.rq_operations.proofs.replay.Performer.perform_next.Goals as goal

@@ -1,7 +1,8 @@
 use Rattle.std.proofs.Common.{◌-◌, get_or, replicate, ap, sym, ◌∙◌, arith}
 use Rattle.rq_parts.specs.ArrayMaps.{Numbers}
 use Rattle.rq_parts.proofs.ComponentLaws.{set_keeps}
-use Rattle.rq_parts.proofs.Zeros.{all_zero, zeros_more}
+use Rattle.rq_bytes.proofs.ZeroRows.{zeros_made}
+use Rattle.rq_parts.proofs.Zeros.{zeros_more}
 use Rattle.rq_parts.proofs.graph.components.make_zeros.Goals as goal
 
 pub loop-key-preserved : goal.loop-key-preserved
@@ -21,4 +22,4 @@ pub returns-clause-zeros : goal.returns-clause-zeros
 returns-clause-zeros c =
     let new = c.loop-key.numbers.values in
     let len = c.loop-key.invariant.len in
-    all_zero new (λ k lt. c.loop-key.invariant.zeros k (omega arith)) ∙ ap (λ n. replicate n 0) len
+    zeros_made new (λ k lt. c.loop-key.invariant.zeros k (omega arith)) ∙ ap (λ n. replicate n 0) len

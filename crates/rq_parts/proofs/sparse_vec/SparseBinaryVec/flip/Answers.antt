@@ -5,7 +5,7 @@ use Rattle.std.specs.Int.Bits.{bit_xor}
 use Rattle.std.specs.List.{insert, refill}
 use Rattle.std.specs.List.Sorted.{IsStrictlyIncreasing}
 use Rattle.std.proofs.lemmas.List.Kept.{IsStrictlyIncreasing-filter}
-use Rattle.rq_parts.specs.SparseBinaryVec.{listed_bit, SetsListed, IsPlace}
+use Rattle.rq_parts.specs.SparseBinaryVec.{listed_bit, SetsListed, IsInsertionPlace}
 use Rattle.rq_parts.proofs.ListedBits.{listed-contained, listed-missing, place-of, gap-at, rises-with, sets-inserted, is_other, filter-from_retain, others-inserted, sets-others}
 use Rattle.rq_parts.proofs.InsertedLower.{inserted_whole}
 use Rattle.rq_parts.proofs.sparse_vec.SparseBinaryVec.flip.Goals as goal
@@ -14,8 +14,8 @@ record IsFlipped (xs : List ℕ) (i : ℕ) (new : List ℕ) : Type 0 where
   increasing : IsStrictlyIncreasing new
   sets : SetsListed xs i (bit_xor (listed_bit xs i) 1) new
 
-module _ (xs ys zs : List ℕ) (i : ℕ) (up : IsStrictlyIncreasing xs) (pushed : ys ≡ xs ++ i ∷ []) (inserted : (place : ℕ) → IsPlace xs i place → zs ≡ insert xs place i) where
-  whole : (place : ℕ) → IsPlace xs i place → refill (length ys) ys zs ≡ insert xs place i
+module _ (xs ys zs : List ℕ) (i : ℕ) (up : IsStrictlyIncreasing xs) (pushed : ys ≡ xs ++ i ∷ []) (inserted : (place : ℕ) → IsInsertionPlace xs i place → zs ≡ insert xs place i) where
+  whole : (place : ℕ) → IsInsertionPlace xs i place → refill (length ys) ys zs ≡ insert xs place i
   whole place found = inserted_whole xs ys zs i place found.within pushed (inserted place found)
 
   -- one that was missing is listed

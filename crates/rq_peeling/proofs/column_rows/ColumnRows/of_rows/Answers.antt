@@ -5,7 +5,7 @@ use Rattle.std.proofs.lemmas.List.{take_all}
 use Rattle.std.proofs.lemmas.List.FromFn.{length-map-range_with_len, get_or-map-range_with_len}
 use Rattle.rq_algebra.specs.Systems.{at}
 use Rattle.rq_peeling.specs.SystemRows.{one_in}
-use Rattle.rq_peeling.specs.ColumnRows.{HasPlaced, rows_from, rows_with}
+use Rattle.rq_peeling.specs.ColumnRows.{HasPlaced, rows_of_column, rows_with}
 use Rattle.rq_peeling.proofs.ColumnPlacing.{placed_same, length-rows_with, read_is, room_for, room_left, rows_with-more, starts_within, written_back}
 use Rattle.rq_peeling.proofs.column_rows.ColumnRows.of_rows.Goals as goal
 
@@ -51,7 +51,7 @@ loop-row-preserved c =
     })
 
 pub returns-clause-width : goal.returns-clause-width
-returns-clause-width c = length-map-range_with_len (rows_from c.loop-row.starts.items c.loop-row.rows.items) 0 (length c.loop-row.starts.items) ∙ c.loop-row.invariant.long
+returns-clause-width c = length-map-range_with_len (rows_of_column c.loop-row.starts.items c.loop-row.rows.items) 0 (length c.loop-row.starts.items) ∙ c.loop-row.invariant.long
 
 pub returns-clause-lists : goal.returns-clause-lists
 returns-clause-lists c = λ k l.
@@ -63,8 +63,8 @@ returns-clause-lists c = λ k l.
     let are = c.in_ok-starts.ensures.ends.1 in
     let all : c.loop-row.row ≡ length lists = omega (arith, c.loop-row-test.false, c.loop-row.auto.row-end, c.height-row-end.ensures) in
     let placed : HasPlaced counts (λ k. rows_with lists k (length lists)) starts rows = subst (λ (n : ℕ). HasPlaced counts (λ k. rows_with lists k n) starts rows) all (v.placed counts are) in
-    let inside : k < length starts = omega (arith, length-map-range_with_len (rows_from starts rows) 0 (length starts), l) in
+    let inside : k < length starts = omega (arith, length-map-range_with_len (rows_of_column starts rows) 0 (length starts), l) in
     let full : (j : ℕ) → j < length counts → length (rows_with lists j (length lists)) ≡ at counts j = (λ (j : ℕ) (m : j < length counts).
     length-rows_with lists j (length lists) (omega arith) ∙ ap (sum_by (count_by (λ column. column == j))) (take_all (length lists) lists (omega arith)) ∙ sym (are.counted j m)) in
-    get_or-map-range_with_len (rows_from starts rows) 0 (length starts) k k [] inside (omega arith)
+    get_or-map-range_with_len (rows_of_column starts rows) 0 (length starts) k k [] inside (omega arith)
     ∙ read_is lists counts starts rows placed full k (omega (arith, placed.long, inside))

@@ -5,20 +5,20 @@ use Rattle.std.proofs.lemmas.Bool.{ltb-true, ltb-false}
 use Rattle.std.proofs.lemmas.List.{get_or_default, get_or_past, get_or_read}
 use Rattle.std.proofs.lemmas.List.FromFn.{length-map-range_with_len, get_or-map-range_with_len}
 use Rattle.rq_algebra.specs.Systems.{at}
-use Rattle.rq_peeling.specs.ColumnRows.{ColumnLists, rows_from}
+use Rattle.rq_peeling.specs.ColumnRows.{ColumnLists, rows_of_column}
 use Rattle.rq_peeling.proofs.column_rows.ColumnRows.rows_in.Goals as goal
 use Rattle.rq_peeling.proofs.column_rows.ColumnRows.rows_in.Goals.{in-Some, in-None}
 
 pub overflow_add-column : goal.overflow_add-column
 overflow_add-column c =
     let many = ap (λ (s : ColumnLists). length s.lists) c.self.view_is in
-    let long = length-map-range_with_len (rows_from c.self.inside.starts.items c.self.inside.rows.items) 0 (length c.self.inside.starts.items) in
+    let long = length-map-range_with_len (rows_of_column c.self.inside.starts.items c.self.inside.rows.items) 0 (length c.self.inside.starts.items) in
     omega (arith, c.requires, many, long, c.self.inside.starts.ok)
 
 pub index-requires : goal.index-requires
 index-requires c =
     let many = ap (λ (s : ColumnLists). length s.lists) c.self.view_is in
-    let long = length-map-range_with_len (rows_from c.self.inside.starts.items c.self.inside.rows.items) 0 (length c.self.inside.starts.items) in
+    let long = length-map-range_with_len (rows_of_column c.self.inside.starts.items c.self.inside.rows.items) 0 (length c.self.inside.starts.items) in
     omega (arith, c.requires, many, long)
 
 pub returns-clause-rows : goal.returns-clause-rows
@@ -27,9 +27,9 @@ returns-clause-rows c =
     let starts = c.self.inside.starts.items in
     let rows = c.self.inside.rows.items in
     let many = ap (λ (s : ColumnLists). length s.lists) c.self.view_is in
-    let long = length-map-range_with_len (rows_from starts rows) 0 (length starts) in
-    let view : slice_index_or c.args.self.now.lists column [] ≡ rows_from starts rows column =
-    ap (λ (s : ColumnLists). slice_index_or s.lists column []) (sym c.self.view_is) ∙ get_or-map-range_with_len (rows_from starts rows) 0 (length starts) column column [] (omega (arith, c.requires, many, long)) (omega arith) in
+    let long = length-map-range_with_len (rows_of_column starts rows) 0 (length starts) in
+    let view : slice_index_or c.args.self.now.lists column [] ≡ rows_of_column starts rows column =
+    ap (λ (s : ColumnLists). slice_index_or s.lists column []) (sym c.self.view_is) ∙ get_or-map-range_with_len (rows_of_column starts rows) 0 (length starts) column column [] (omega (arith, c.requires, many, long)) (omega arith) in
     let end : c.match-get.end ≡ min (slice_index_or starts (column + 1) (length rows)) (length rows) = elim c.match-get.branch [
       | in-Some w ↦
           let found = w.in-Some.ensures.lookup in

@@ -1,15 +1,14 @@
 -- What the check leaves to show of `entries::own_octets::OwnOctets::add_bits`.
-use Rattle.std.proofs.Common.{List, ℕ, sym, ap, ◌∙◌}
-use Rattle.rq_algebra.specs.Systems.{at}
+use Rattle.std.proofs.Common.{List, ℕ, ap, ◌∙◌}
 use Rattle.rq_parts.specs.DenseOctetMatrix.{with_row}
 use Rattle.rq_standard.specs.Rows.{row_sum, row_multiple}
-use Rattle.rq_elimination.specs.InactiveEntries.{place_before, octets_of_bits}
-use Rattle.rq_elimination.proofs.OwnRows.{read, some_place, width_is, written, written_octets}
+use Rattle.rq_elimination.specs.InactiveEntries.{octets_of_bits}
+use Rattle.rq_elimination.proofs.OwnRows.{kept_place, read, width_is, written, written_octets}
 use Rattle.rq_elimination.proofs.entries.own_octets.OwnOctets.add_bits.Goals as goal
 
 pub returns-in-Some-clause-sum : goal.returns-in-Some-clause-sum
 returns-in-Some-clause-sum c =
-    let is = some_place (at c.self.inside.places.items c.args.row) c.in-Some.place (ap (λ ps. place_before (at ps c.args.row)) (sym c.as_slice.ensures.value) ∙ sym c.in-Some.ensures) in
+    let is = kept_place c.args.row c.in-Some.place c.as_slice.ensures.value c.in-Some.ensures in
     let now = c.args.self.now in
     let bits = c.args.bits.now in
     let lent = c.get_mut-octets in
@@ -24,7 +23,7 @@ returns-in-Some-clause-sum c =
 
 pub returns-in-Some-clause-octets : goal.returns-in-Some-clause-octets
 returns-in-Some-clause-octets c =
-    let is = some_place (at c.self.inside.places.items c.args.row) c.in-Some.place (ap (λ ps. place_before (at ps c.args.row)) (sym c.as_slice.ensures.value) ∙ sym c.in-Some.ensures) in
+    let is = kept_place c.args.row c.in-Some.place c.as_slice.ensures.value c.in-Some.ensures in
     let ws = c.add_bits.new.octets in
     let long = c.add_bits.auto.octets ∙ c.get_mut-octets.ensures.len in
     written_octets c.self.invariant c.self.view_is c.args.row c.requires.row c.in-Some.place is _ ws long (c.get_mut-octets.ensures.whole_symbol ws long) c.are_octets.ensures

@@ -1,16 +1,14 @@
 -- What the check leaves to show of `entries::own_octets::OwnOctets::add_multiple`.
-use Rattle.std.proofs.Common.{List, ℕ, sym, ap, ◌∙◌}
-use Rattle.rq_algebra.specs.Systems.{at}
+use Rattle.std.proofs.Common.{List, ℕ, ap, ◌∙◌}
 use Rattle.rq_parts.specs.DenseOctetMatrix.{row_at, with_row}
 use Rattle.rq_standard.specs.Rows.{row_sum, row_multiple}
-use Rattle.rq_elimination.specs.InactiveEntries.{place_before}
-use Rattle.rq_elimination.proofs.OwnRows.{read, some_place, written, written_octets}
+use Rattle.rq_elimination.proofs.OwnRows.{kept_place, read, written, written_octets}
 use Rattle.rq_elimination.proofs.entries.own_octets.OwnOctets.add_multiple.Goals as goal
 
 pub returns-in-Some-Some-clause-sum : goal.returns-in-Some-Some-clause-sum
 returns-in-Some-Some-clause-sum c =
-    let to = some_place (at c.self.inside.places.items c.args.dest) c.in-Some-Some.to (ap (λ ps. place_before (at ps c.args.dest)) (sym c.as_slice-places.ensures.value) ∙ sym c.in-Some-Some.ensures) in
-    let from = some_place (at c.self.inside.places.items c.args.src) c.in-Some-Some.from (ap (λ ps. place_before (at ps c.args.src)) (sym c.as_slice-places.ensures.value) ∙ sym c.in-Some-Some.ensures') in
+    let to = kept_place c.args.dest c.in-Some-Some.to c.as_slice-places.ensures.value c.in-Some-Some.ensures in
+    let from = kept_place c.args.src c.in-Some-Some.from c.as_slice-places.ensures.value c.in-Some-Some.ensures' in
     let now = c.args.self.now in
     let scalar = c.args.scalar.now in
     let pair = c.get_pair_mut-sum in
@@ -24,7 +22,7 @@ returns-in-Some-Some-clause-sum c =
 
 pub returns-in-Some-Some-clause-octets : goal.returns-in-Some-Some-clause-octets
 returns-in-Some-Some-clause-octets c =
-    let to = some_place (at c.self.inside.places.items c.args.dest) c.in-Some-Some.to (ap (λ ps. place_before (at ps c.args.dest)) (sym c.as_slice-places.ensures.value) ∙ sym c.in-Some-Some.ensures) in
+    let to = kept_place c.args.dest c.in-Some-Some.to c.as_slice-places.ensures.value c.in-Some-Some.ensures in
     let pair = c.get_pair_mut-sum in
     let ws = c.add_row_multiple.new.octets in
     let long = c.add_row_multiple.auto.octets ∙ pair.ensures.dest_len in

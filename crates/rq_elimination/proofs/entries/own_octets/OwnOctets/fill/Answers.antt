@@ -3,8 +3,8 @@ use Rattle.std.proofs.Common.{List, [], ℕ, length, sym, ap, ◌∙◌, ◌≤�
 use Rattle.std.proofs.lemmas.List.{set-get_or}
 use Rattle.rq_algebra.specs.Systems.{at}
 use Rattle.rq_parts.specs.DenseOctetMatrix.{row_at, with_row}
-use Rattle.rq_elimination.specs.InactiveEntries.{place_before, with_octets}
-use Rattle.rq_elimination.proofs.OwnRows.{is_bits, no_place, read, some_place, width_is, written, written_octets}
+use Rattle.rq_elimination.specs.InactiveEntries.{place_before, with_column_octets}
+use Rattle.rq_elimination.proofs.OwnRows.{is_bits, kept_place, no_place, read, width_is, written, written_octets}
 use Rattle.rq_elimination.proofs.WithOctets.{length-octets, octets_of_none}
 use Rattle.rq_elimination.proofs.entries.own_octets.OwnOctets.fill.Goals as goal
 
@@ -13,7 +13,7 @@ copy_columns-requires-clause-room c = rw (c.get_mut-own.ensures.len ∙ width_is
 
 pub returns-in-Some-clause-filled : goal.returns-in-Some-clause-filled
 returns-in-Some-clause-filled c =
-    let is = some_place (at c.self.inside.places.items c.args.row) c.in-Some.place (ap (λ ps. place_before (at ps c.args.row)) (sym c.as_slice.ensures.value) ∙ sym c.in-Some.ensures) in
+    let is = kept_place c.args.row c.in-Some.place c.as_slice.ensures.value c.in-Some.ensures in
     let lent = c.get_mut-own in
     let other : List ℕ = row_at c.args.octets.now c.args.from in
     let columns = c.args.columns.now in
@@ -23,11 +23,11 @@ returns-in-Some-clause-filled c =
     written c.self.invariant c.self.view_is c.args.row c.requires.row c.in-Some.place is _ ws long (lent.ensures.whole_symbol ws long)
     ∙ ap (with_row c.args.self.now c.args.row) (
     c.copy_columns.ensures
-    ∙ ap (with_octets other columns) (lent.ensures.symbol ∙ read c.self.invariant c.self.view_is c.args.row c.requires.row c.in-Some.place is))
+    ∙ ap (with_column_octets other columns) (lent.ensures.symbol ∙ read c.self.invariant c.self.view_is c.args.row c.requires.row c.in-Some.place is))
 
 pub returns-in-Some-clause-octets : goal.returns-in-Some-clause-octets
 returns-in-Some-clause-octets c =
-    let is = some_place (at c.self.inside.places.items c.args.row) c.in-Some.place (ap (λ ps. place_before (at ps c.args.row)) (sym c.as_slice.ensures.value) ∙ sym c.in-Some.ensures) in
+    let is = kept_place c.args.row c.in-Some.place c.as_slice.ensures.value c.in-Some.ensures in
     let lent = c.get_mut-own in
     let ws = c.copy_columns.new.own in
     let room : length c.args.columns.now ≤ length lent.result.now = rw (lent.ensures.len ∙ width_is c.self.invariant c.self.view_is) c.requires.room in

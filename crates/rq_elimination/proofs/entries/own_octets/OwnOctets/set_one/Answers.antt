@@ -4,12 +4,12 @@ use Rattle.std.proofs.lemmas.List.{length-set}
 use Rattle.rq_algebra.specs.Systems.{at}
 use Rattle.rq_parts.specs.DenseOctetMatrix.{with_row}
 use Rattle.rq_elimination.specs.InactiveEntries.{place_before}
-use Rattle.rq_elimination.proofs.OwnRows.{is_bits, no_place, read, some_place, written, written_octets}
+use Rattle.rq_elimination.proofs.OwnRows.{is_bits, kept_place, no_place, read, written, written_octets}
 use Rattle.rq_elimination.proofs.entries.own_octets.OwnOctets.set_one.Goals as goal
 
 pub returns-in-Some-clause-set : goal.returns-in-Some-clause-set
 returns-in-Some-clause-set c =
-    let is = some_place (at c.self.inside.places.items c.args.row) c.in-Some.place (ap (λ ps. place_before (at ps c.args.row)) (sym c.as_slice.ensures.value) ∙ sym c.in-Some.ensures) in
+    let is = kept_place c.args.row c.in-Some.place c.as_slice.ensures.value c.in-Some.ensures in
     let lent = c.get_mut-octets in
     let ws : List ℕ = set lent.result.now c.args.column 1 in
     let long = length-set lent.result.now c.args.column 1 ∙ lent.ensures.len in
@@ -18,7 +18,7 @@ returns-in-Some-clause-set c =
 
 pub returns-in-Some-clause-octets : goal.returns-in-Some-clause-octets
 returns-in-Some-clause-octets c =
-    let is = some_place (at c.self.inside.places.items c.args.row) c.in-Some.place (ap (λ ps. place_before (at ps c.args.row)) (sym c.as_slice.ensures.value) ∙ sym c.in-Some.ensures) in
+    let is = kept_place c.args.row c.in-Some.place c.as_slice.ensures.value c.in-Some.ensures in
     let lent = c.get_mut-octets in
     let ws : List ℕ = set lent.result.now c.args.column 1 in
     let long = length-set lent.result.now c.args.column 1 ∙ lent.ensures.len in

@@ -1,11 +1,11 @@
--- What the check leaves to show of `symbol_slab::SymbolSlab::add_each`.
+-- What the check leaves to show of `symbol_slab::SymbolSlab::add_all`.
 use Rattle.std.proofs.Common.{ℕ, length, get_or, map, take, refl, sym, ap, ◌∙◌, subst}
 use Rattle.std.proofs.lemmas.List.{map_more}
 use Rattle.rq_algebra.specs.Operations.{AddAssign, IsAllowed, run}
 use Rattle.rq_bytes.specs.SymbolSlab.{Slab, after, after_all}
 use Rattle.rq_bytes.proofs.SlabFacts.{length-after, order-after}
 use Rattle.rq_bytes.proofs.SlabSums.{after_more}
-use Rattle.rq_bytes.proofs.symbol_slab.SymbolSlab.add_each.Goals as goal
+use Rattle.rq_bytes.proofs.symbol_slab.SymbolSlab.add_all.Goals as goal
 
 pub add_assign-requires : goal.add_assign-requires
 add_assign-requires c =

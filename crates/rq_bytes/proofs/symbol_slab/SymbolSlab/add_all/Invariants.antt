@@ -1,8 +1,8 @@
--- What the loops keep in `symbol_slab::SymbolSlab::add_each`.
+-- What the loops keep in `symbol_slab::SymbolSlab::add_all`.
 use Rattle.std.proofs.Common.{◌≡◌, length, map, take}
 use Rattle.rq_algebra.specs.Operations.{AddAssign}
 use Rattle.rq_bytes.specs.SymbolSlab.{after_all}
-use Rattle.rq_bytes.proofs.symbol_slab.SymbolSlab.add_each.Given as goal
+use Rattle.rq_bytes.proofs.symbol_slab.SymbolSlab.add_all.Given as goal
 
 abbrev pub invariant-loop-src : goal.invariant-loop-src
 invariant-loop-src l = record {
