@@ -77,6 +77,10 @@ abbrev pub pieces : (ℕ → List ℕ) → ℕ → List ℕ
 pieces f zero = []
 pieces f (suc n) = pieces f n ++ f n
 
+pub pieces_same : (f g : ℕ → List ℕ) (n : ℕ) → ((b : ℕ) → b < n → f b ≡ g b) → pieces f n ≡ pieces g n
+pieces_same f g zero same = refl
+pieces_same f g (suc n) same = ap (λ xs. xs ++ f n) (pieces_same f g n (λ b l. same b (omega arith))) ∙ ap (λ ys. pieces g n ++ ys) (same n (omega arith))
+
 -- the object's bytes up to some symbols, with zeros past its end
 abbrev up_to : Configuration → List ℕ → ℕ → List ℕ
 up_to c object symbols = map (λ i. get_or object i 0) (range_with_len 0 (symbols * c.symbol_size))

@@ -16,7 +16,7 @@ use Rattle.rq_standard.specs.TableRows.{intermediate_symbols, pi_symbols, IsChec
 use Rattle.rq_standard.specs.Tuple.{Tuple, degree, seed_of, tuple_of, lt_indices, pi_indices, enc_indices}
 use Rattle.rq_standard.specs.Rand.{rand}
 use Rattle.rq_standard.specs.Equations.{fixed_equations, symbol_coefficient, equations, equation_count, equation_values, zero_symbol, row_indices, tuple_sum, internal_id, extended_ids}
-use Rattle.rq_standard.specs.Held.{Held, SolvesHeld}
+use Rattle.rq_standard.specs.ReceivedBlock.{ReceivedBlock, SolvesReceived}
 use Rattle.rq_standard.proofs.PlaceLaws.{row_indices_below, enough_lt}
 use Rattle.rq_standard.proofs.TupleLaws.{between}
 use Rattle.rq_standard.proofs.KnownIds.{range_at, nonsingular_rows}
@@ -103,10 +103,10 @@ pub if_some-weaker : {X : Type 0} (o : Option X) (P Q : X → Type 0) → ((x : 
 if_some-weaker None P Q weaker h = tt
 if_some-weaker (Some x) P Q weaker h = weaker x h
 
--- what is held of a block whose symbols are those of a source is solved by the source's intermediate symbols
-pub solves_held : (h : Held) (source : List (List ℕ)) (column : ℕ → List ℕ) → IsChecked h.row → length source ≡ h.source_symbols → ((e : ℕ) → length (get_or source e (zero_symbol h.configuration.symbol_size)) ≡ h.configuration.symbol_size)
-    → IsIntermediateColumn h.row h.configuration.symbol_size source column → ((e : ℕ) → IfSome (h.received e) (λ payload. IsEncodingSymbol h.row h.configuration.symbol_size source e payload)) → SolvesHeld h column
-solves_held h source column checked long are is honest =
+-- what was received of a block whose symbols are those of a source is solved by the source's intermediate symbols
+pub solves_received : (h : ReceivedBlock) (source : List (List ℕ)) (column : ℕ → List ℕ) → IsChecked h.row → length source ≡ h.source_symbols → ((e : ℕ) → length (get_or source e (zero_symbol h.configuration.symbol_size)) ≡ h.configuration.symbol_size)
+    → IsIntermediateColumn h.row h.configuration.symbol_size source column → ((e : ℕ) → IfSome (h.received e) (λ payload. IsEncodingSymbol h.row h.configuration.symbol_size source e payload)) → SolvesReceived h column
+solves_received h source column checked long are is honest =
     let row = h.row in
     let size = h.configuration.symbol_size in
     let f : ℕ = row.ldpc_symbols + row.hdpc_symbols in

@@ -10,12 +10,12 @@ use Rattle.rq_standard.specs.Configuration.{Configuration}
 use Rattle.rq_standard.specs.Cutting.{block_symbols}
 use Rattle.rq_standard.specs.Received.{or_later, first_payload}
 use Rattle.rq_standard.specs.Headline.{IsIntermediateColumn, DetermineBlock, block_row, block_source, IsPacketOf}
-use Rattle.rq_standard.specs.Held.{Held, holds, recorded, SolvesHeld, HasSolution, AreHeldDetermining, IsContradictory, IsBlockAnswer}
-use Rattle.rq_standard.specs.Standing.{State, AddsOpen, AddsToBlock, IsSameElsewhere, Adds, RecordsOnly, Contradicts, IsBlockContradictory, KeepsContradictions, StopsEarly, Stops, IsHonestPacket, held_after, HoldsRun, HoldsMore, BlockStandsFor, IsNewState, IsHeldOf}
+use Rattle.rq_standard.specs.ReceivedBlock.{ReceivedBlock, has_received, with_received, SolvesReceived, HasHeldSolution, ReceivedDetermine, IsContradictory, IsBlockAnswer}
+use Rattle.rq_standard.specs.Standing.{State, AddsOpen, AddsToBlock, IsSameElsewhere, Adds, RecordsOnly, Contradicts, IsBlockContradictory, KeepsContradictions, StopsEarly, Stops, IsHonestPacket, received_after, HasReceivedRun, HasReceivedMore, BlockStandsFor, IsNewState, IsReceivedOf}
 use Rattle.rq_standard.proofs.KnownIds.{block_more, block_same}
-use Rattle.rq_standard.proofs.Columns.{solves_held}
+use Rattle.rq_standard.proofs.Columns.{solves_received}
 use Rattle.rq_standard.proofs.Firsts.{stays, first_payload-here, first_payload-elsewhere}
-use Rattle.rq_standard.proofs.StandingSteps.{HoldsFirsts, push-all, length-block_source, source_sized, held_with, held_is, held_symbol, firsts_more, recorded_shape}
+use Rattle.rq_standard.proofs.StandingSteps.{HasReceivedFirsts, push-all, length-block_source, source_sized, received_with, received_is, received_symbol, firsts_more, recorded_shape}
 
 -- ---- a block
 
@@ -23,15 +23,15 @@ less : (o later : Option (List ℕ)) (P : List ℕ → Type 0) → IfSome (or_la
 less None later P h = tt
 less (Some x) later P h = h
 
--- the ids alone say whether what is held determines its block
-pub determined_by_ids : (one other : Held) → one.row ≡ other.row → one.source_symbols ≡ other.source_symbols → ((e : ℕ) → holds one e ≡ holds other e) → AreHeldDetermining one ↔ AreHeldDetermining other
+-- the ids alone say whether what was received determines its block
+pub determined_by_ids : (one other : ReceivedBlock) → one.row ≡ other.row → one.source_symbols ≡ other.source_symbols → ((e : ℕ) → has_received one e ≡ has_received other e) → ReceivedDetermine one ↔ ReceivedDetermine other
 determined_by_ids one other row symbols same = (
-  λ d. subst (λ r. DetermineBlock r other.source_symbols (holds other)) row (subst (λ k. DetermineBlock one.row k (holds other)) symbols (block_same one.row one.source_symbols (holds one) (holds other) same d)),
-  λ d. block_same one.row one.source_symbols (holds other) (holds one) (λ e. sym (same e)) (subst (λ k. DetermineBlock one.row k (holds other)) (sym symbols) (subst (λ r. DetermineBlock r other.source_symbols (holds other)) (sym row) d)),
+  λ d. subst (λ r. DetermineBlock r other.source_symbols (has_received other)) row (subst (λ k. DetermineBlock one.row k (has_received other)) symbols (block_same one.row one.source_symbols (has_received one) (has_received other) same d)),
+  λ d. block_same one.row one.source_symbols (has_received other) (has_received one) (λ e. sym (same e)) (subst (λ k. DetermineBlock one.row k (has_received other)) (sym symbols) (subst (λ r. DetermineBlock r other.source_symbols (has_received other)) (sym row) d)),
 )
 
--- a column that solves what is held solved what was held before
-solves_less : (h : Held) (esi : ℕ) (payload : List ℕ) (column : ℕ → List ℕ) → SolvesHeld (recorded h esi payload) column → SolvesHeld h column
+-- a column that solves what was received solved what was received before
+solves_less : (h : ReceivedBlock) (esi : ℕ) (payload : List ℕ) (column : ℕ → List ℕ) → SolvesReceived (with_received h esi payload) column → SolvesReceived h column
 solves_less h esi payload column s = record {
   symbols = s.symbols;
   fixed = s.fixed;
@@ -40,28 +40,28 @@ solves_less h esi payload column s = record {
 }
 
 -- more that is recorded stays contradictory
-pub contradicts_more : (h : Held) (esi : ℕ) (payload : List ℕ) → IsContradictory h → IsContradictory (recorded h esi payload)
+pub contradicts_more : (h : ReceivedBlock) (esi : ℕ) (payload : List ℕ) → IsContradictory h → IsContradictory (with_received h esi payload)
 contradicts_more h esi payload c = record {
-  determined = block_more h.row h.source_symbols (holds h) (holds (recorded h esi payload)) (λ e has. stays (h.received e) (cond (eqb esi e) (Some payload) None) has) c.determined;
+  determined = block_more h.row h.source_symbols (has_received h) (has_received (with_received h esi payload)) (λ e has. stays (h.received e) (cond (eqb esi e) (Some payload) None) has) c.determined;
   unsolved = λ s. c.unsolved (record { column = s.column; solves = solves_less h esi payload s.column s.solves });
 }
 
 -- what is contradictory isn't answered
-pub contradictory-no_answer : (h : Held) (answer : Option (List ℕ)) → IsBlockAnswer h answer → IsContradictory h → ⊥
+pub contradictory-no_answer : (h : ReceivedBlock) (answer : Option (List ℕ)) → IsBlockAnswer h answer → IsContradictory h → ⊥
 contradictory-no_answer h answer a c = c.unsolved (a.solved (a.none (inr c.determined)) c.determined)
 
 -- ---- all blocks
 
 -- what is there of a block, seen through the answer that it had
-opened : (old : Held) (before : Option (List ℕ)) (p : Packet) (new : Held) (after : Option (List ℕ)) → before ≡ None → AddsToBlock old before p new after → AddsOpen old p new after
+opened : (old : ReceivedBlock) (before : Option (List ℕ)) (p : Packet) (new : ReceivedBlock) (after : Option (List ℕ)) → before ≡ None → AddsToBlock old before p new after → AddsOpen old p new after
 opened old before p new after none add = subst (λ o. AddsToBlock old o p new after) none add
 
 -- a packet of a contradictory block isn't taken
 pub no_more : (old : State) (p : Packet) (new : State) → Adds old p new → IsBlockContradictory old p.id.block → ⊥
 no_more old p new add c =
     let b = p.id.block in
-    let taken = opened (old.held b) (old.answer b) p (new.held b) (new.answer b) c.unanswered add.here in
-    contradictory-no_answer (new.held b) (new.answer b) taken.answers (subst IsContradictory (sym taken.held) (contradicts_more (old.held b) p.id.esi p.payload c.contradictory))
+    let taken = opened (old.received b) (old.answer b) p (new.received b) (new.answer b) c.unanswered add.here in
+    contradictory-no_answer (new.received b) (new.answer b) taken.answers (subst IsContradictory (sym taken.received) (contradicts_more (old.received b) p.id.esi p.payload c.contradictory))
 
 -- the other blocks
 kept_elsewhere : (old : State) (p : Packet) (new : State) (b : ℕ) → IsSameElsewhere old p.id.block new → p.id.block ≢ b → IsBlockContradictory old b → IsBlockContradictory new b
@@ -86,7 +86,7 @@ keeps_recorded old p new more b c = elim (cases_eq p.id.block b) [
       subst (IsBlockContradictory new) e (record {
         below = subst (λ (k : Configuration). p.id.block < k.source_blocks) (sym more.elsewhere.configuration) here.below;
         unanswered = more.here.waits;
-        contradictory = subst IsContradictory (sym more.here.held) (contradicts_more (old.held p.id.block) p.id.esi p.payload here.contradictory);
+        contradictory = subst IsContradictory (sym more.here.received) (contradicts_more (old.received p.id.block) p.id.esi p.payload here.contradictory);
       })
   | inr ne ↦ kept_elsewhere old p new b more.elsewhere ne c
 ]
@@ -96,33 +96,33 @@ keeps_same old new same b c = subst (λ s. IsBlockContradictory s b) (sym same) 
 
 -- ---- an object's packets
 
--- what is held of them has a solution
-pub honest_solution : (table : List TableRow) (c : Configuration) (object : List ℕ) (packets : List Packet) (b : ℕ) (h : Held) (column : ℕ → List ℕ) → AllByRecursion (IsPacketOf table c object) packets → IsHeldOf table c b h → HoldsFirsts b packets h
-    → IsIntermediateColumn (block_row table c b) c.symbol_size (block_source c object b) column → HasSolution h
+-- what was received of them has a solution
+pub honest_solution : (table : List TableRow) (c : Configuration) (object : List ℕ) (packets : List Packet) (b : ℕ) (h : ReceivedBlock) (column : ℕ → List ℕ) → AllByRecursion (IsPacketOf table c object) packets → IsReceivedOf table c b h → HasReceivedFirsts b packets h
+    → IsIntermediateColumn (block_row table c b) c.symbol_size (block_source c object b) column → HasHeldSolution h
 honest_solution table c object packets b h column honest shape reads is =
-    let same = held_is table c b h shape in
-    subst HasSolution same (record {
+    let same = received_is table c b h shape in
+    subst HasHeldSolution same (record {
       column = column;
-      solves = solves_held (held_with table c b h.received) (block_source c object b) column (subst IsChecked shape.row shape.checked) (length-block_source c object b) (source_sized c object b) is (held_symbol table c object packets b h.received honest reads);
+      solves = solves_received (received_with table c b h.received) (block_source c object b) column (subst IsChecked shape.row shape.checked) (length-block_source c object b) (source_sized c object b) is (received_symbol table c object packets b h.received honest reads);
     })
 
--- so none of them contradicts what came before
+-- so none of them contradicts what was received before
 pub honest_fits : (old : State) (p : Packet) (new : State) → IsHonestPacket old p → Contradicts old p new → ⊥
 honest_fits old p new honest x =
     let c = old.configuration in
     let b = p.id.block in
     let st = honest.stands in
     let pk = honest.of_object in
-    let reads = (subst (BlockStandsFor (honest.late b) _ b honest.packets (old.held b)) x.records.here.unanswered (st.block b pk.block)).0 in
+    let reads = (subst (BlockStandsFor (honest.late b) _ b honest.packets (old.received b)) x.records.here.unanswered (st.block b pk.block)).0 in
     x.contradictory.unsolved
-    (honest_solution honest.table c honest.object (honest.packets ++ p ∷ []) b (new.held b) pk.symbol.column (push-all (IsPacketOf honest.table c honest.object) honest.packets p st.run.honest pk)
-    (recorded_shape honest.table c b p (old.held b) (new.held b) (st.shape b pk.block) x.records.here.held) (firsts_more honest.packets p (old.held b) (new.held b) reads x.records.here.held) pk.symbol.is_only.is)
+    (honest_solution honest.table c honest.object (honest.packets ++ p ∷ []) b (new.received b) pk.symbol.column (push-all (IsPacketOf honest.table c honest.object) honest.packets p st.run.honest pk)
+    (recorded_shape honest.table c b p (old.received b) (new.received b) (st.shape b pk.block) x.records.here.received) (firsts_more honest.packets p (old.received b) (new.received b) reads x.records.here.received) pk.symbol.is_only.is)
 
 -- ---- whoever sent them
 
--- what is held one packet later
-pub held_later : (table : List TableRow) (c : Configuration) (packets : List Packet) (p : Packet) → recorded (held_after table c p.id.block packets) p.id.esi p.payload ≡ held_after table c p.id.block (packets ++ p ∷ [])
-held_later table c packets p = λ i. record {
+-- what was received one packet later
+pub received_later : (table : List TableRow) (c : Configuration) (packets : List Packet) (p : Packet) → with_received (received_after table c p.id.block packets) p.id.esi p.payload ≡ received_after table c p.id.block (packets ++ p ∷ [])
+received_later table c packets p = λ i. record {
   configuration = c;
   number = p.id.block;
   row = block_row table c p.id.block;
@@ -130,9 +130,9 @@ held_later table c packets p = λ i. record {
   received = λ e. sym (first_payload-here p.id.block packets p e refl) i;
 }
 
--- and what is held of another block
-pub held_meanwhile : (table : List TableRow) (c : Configuration) (b : ℕ) (packets : List Packet) (p : Packet) → p.id.block ≢ b → held_after table c b packets ≡ held_after table c b (packets ++ p ∷ [])
-held_meanwhile table c b packets p ne = λ i. record {
+-- and what was received of another block
+pub received_meanwhile : (table : List TableRow) (c : Configuration) (b : ℕ) (packets : List Packet) (p : Packet) → p.id.block ≢ b → received_after table c b packets ≡ received_after table c b (packets ++ p ∷ [])
+received_meanwhile table c b packets p ne = λ i. record {
   configuration = c;
   number = b;
   row = block_row table c b;
@@ -141,35 +141,35 @@ held_meanwhile table c b packets p ne = λ i. record {
 }
 
 -- a block that had an answer keeps it
-still_answered : (old : Held) (before : Option (List ℕ)) (p : Packet) (new : Held) (after : Option (List ℕ)) → AddsToBlock old before p new after → after ≡ None → before ≡ None
+still_answered : (old : ReceivedBlock) (before : Option (List ℕ)) (p : Packet) (new : ReceivedBlock) (after : Option (List ℕ)) → AddsToBlock old before p new after → after ≡ None → before ≡ None
 still_answered old None p new after add none = refl
 still_answered old (Some bytes) p new after add none = sym add.1 ∙ none
 
-pub holds_more : (old : State) (p : Packet) (new : State) → p.id.block < old.configuration.source_blocks → Adds old p new → HoldsMore old p new
-holds_more old p new within add table packets run b below none =
+pub received_more : (old : State) (p : Packet) (new : State) → p.id.block < old.configuration.source_blocks → Adds old p new → HasReceivedMore old p new
+received_more old p new within add table packets run b below none =
     let c = old.configuration in
     let in_old : b < c.source_blocks = subst (λ (k : Configuration). b < k.source_blocks) add.elsewhere.configuration below in
-    subst (λ (k : Configuration). new.held b ≡ held_after table k b (packets ++ p ∷ [])) (sym add.elsewhere.configuration)
+    subst (λ (k : Configuration). new.received b ≡ received_after table k b (packets ++ p ∷ [])) (sym add.elsewhere.configuration)
     (elim (cases_eq p.id.block b) [
       | inl e ↦
           let here = p.id.block in
           let none_here : new.answer here ≡ None = subst (λ n. new.answer n ≡ None) (sym e) none in
-          let before = still_answered (old.held here) (old.answer here) p (new.held here) (new.answer here) add.here none_here in
-          let taken = opened (old.held here) (old.answer here) p (new.held here) (new.answer here) before add.here in
-          subst (λ n. new.held n ≡ held_after table c n (packets ++ p ∷ [])) e
-          (taken.held ∙ ap (λ h. recorded h p.id.esi p.payload) (run here within before) ∙ held_later table c packets p)
+          let before = still_answered (old.received here) (old.answer here) p (new.received here) (new.answer here) add.here none_here in
+          let taken = opened (old.received here) (old.answer here) p (new.received here) (new.answer here) before add.here in
+          subst (λ n. new.received n ≡ received_after table c n (packets ++ p ∷ [])) e
+          (taken.received ∙ ap (λ h. with_received h p.id.esi p.payload) (run here within before) ∙ received_later table c packets p)
       | inr ne ↦
           let q = add.elsewhere.other b in_old (λ e. ne (sym e)) in
-          q.0 ∙ run b in_old (sym q.1 ∙ none) ∙ held_meanwhile table c b packets p ne
+          q.0 ∙ run b in_old (sym q.1 ∙ none) ∙ received_meanwhile table c b packets p ne
     ])
 
 -- what a contradiction says of the packets
-pub contradicted_after : (table : List TableRow) (packets : List Packet) (old : State) (p : Packet) (new : State) → p.id.block < old.configuration.source_blocks → HoldsRun table packets old → Contradicts old p new → IsContradictory (held_after table old.configuration p.id.block (packets ++ p ∷ []))
+pub contradicted_after : (table : List TableRow) (packets : List Packet) (old : State) (p : Packet) (new : State) → p.id.block < old.configuration.source_blocks → HasReceivedRun table packets old → Contradicts old p new → IsContradictory (received_after table old.configuration p.id.block (packets ++ p ∷ []))
 contradicted_after table packets old p new within run x =
     let b = p.id.block in
-    subst IsContradictory (x.records.here.held ∙ ap (λ h. recorded h p.id.esi p.payload) (run b within x.records.here.unanswered) ∙ held_later table old.configuration packets p) x.contradictory
+    subst IsContradictory (x.records.here.received ∙ ap (λ h. with_received h p.id.esi p.payload) (run b within x.records.here.unanswered) ∙ received_later table old.configuration packets p) x.contradictory
 
 -- before any packet
-pub holds_none : (table : List TableRow) (c : Configuration) (s : State) → IsNewState table c s → HoldsRun table [] s
-holds_none table c s new b below none =
-    subst (λ (k : Configuration). s.held b ≡ held_after table k b []) (sym new.configuration) (new.held b (subst (λ (k : Configuration). b < k.source_blocks) new.configuration below))
+pub received_none : (table : List TableRow) (c : Configuration) (s : State) → IsNewState table c s → HasReceivedRun table [] s
+received_none table c s new b below none =
+    subst (λ (k : Configuration). s.received b ≡ received_after table k b []) (sym new.configuration) (new.received b (subst (λ (k : Configuration). b < k.source_blocks) new.configuration below))

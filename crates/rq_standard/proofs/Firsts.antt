@@ -3,6 +3,7 @@ use Rattle.std.proofs.Common.{◌≡◌, ◌≢◌, ℕ, Bool, true, false, cond
 use Rattle.std.specs.Prelude.{is_some, ◌&&◌}
 use Rattle.std.specs.List.{AllByRecursion}
 use Rattle.std.proofs.lemmas.Bool.{eqb-true, eq-eqb, ne_eqb}
+use Rattle.std.proofs.lemmas.Option.{same_Some}
 use Rattle.rq_standard.specs.Packet.{Packet}
 use Rattle.rq_standard.specs.Received.{or_later, payload_for, first_payload, has_id}
 
@@ -10,7 +11,7 @@ or_later-assoc : (a b c : Option (List ℕ)) → or_later (or_later a b) c ≡ o
 or_later-assoc None b c = refl
 or_later-assoc (Some x) b c = refl
 
-or_later-none : (a : Option (List ℕ)) → or_later a None ≡ a
+pub or_later-none : (a : Option (List ℕ)) → or_later a None ≡ a
 or_later-none None = refl
 or_later-none (Some x) = refl
 
@@ -31,15 +32,13 @@ pub stays : (a b : Option (List ℕ)) → is_some a ≡ true → is_some (or_lat
 stays None b h = absurd (cc h)
 stays (Some x) b h = refl
 
--- an id that came stays
+-- an id that was received stays
 pub has_id-push : (b : ℕ) (packets : List Packet) (p : Packet) (e : ℕ) → has_id b packets e ≡ true → has_id b (packets ++ p ∷ []) e ≡ true
 has_id-push b packets p e h = ap is_some (first_payload-push b packets p e) ∙ stays (first_payload b packets e) (payload_for b p e) h
 
 -- a payload that counts comes from a packet of its id
 from_packet : (s t : Bool) (y x : List ℕ) (o : Option (List ℕ)) → or_later (cond (s && t) (Some y) None) o ≡ Some x → ((s ≡ true) × (t ≡ true) × (y ≡ x)) ⊎ (o ≡ Some x)
-from_packet true true y x o e = inl (refl, refl, same y x e) where
-  same : (y x : List ℕ) → Some y ≡ Some x → y ≡ x
-  same y x e = cc
+from_packet true true y x o e = inl (refl, refl, same_Some y x e)
 from_packet true false y x o e = inr e
 from_packet false t y x o e = inr e
 

@@ -13,11 +13,11 @@ use Rattle.rq_standard.specs.OctetProducts.{mul-double_left}
 use Rattle.rq_standard.specs.Equations.{one_if, before_hdpc, mt, gamma, hdpc_coefficient}
 use Rattle.rq_standard.proofs.Powers.{power-lt}
 
-one_if-lt : (b : Bool) → one_if b < 256
+pub one_if-lt : (b : Bool) → one_if b < 256
 one_if-lt true = omega arith
 one_if-lt false = omega arith
 
-cond-lt : (b : Bool) (x y : ℕ) → x < 256 → y < 256 → cond b x y < 256
+pub cond-lt : (b : Bool) (x y : ℕ) → x < 256 → y < 256 → cond b x y < 256
 cond-lt true x y hx hy = hx
 cond-lt false x y hx hy = hy
 

@@ -8,6 +8,7 @@ use Rattle.std.proofs.lemmas.List.FromFn.{get_or-map-range_with_len}
 use Rattle.rq_standard.specs.Configuration.{Configuration}
 use Rattle.rq_standard.specs.Cutting.{sub_block_count, sub_block_parts, larger_bytes, sub_block_size, sub_block_start, place_in_block, symbol_of_block}
 use Rattle.rq_standard.proofs.PartSums.{parts-whole}
+use Rattle.rq_standard.proofs.PlainCut.{piece_within}
 
 -- the bytes from o on, z of them, are those of one sub-block
 pub record IsSubBlock (c : Configuration) (o z : ℕ) : Type 0 where
@@ -64,15 +65,11 @@ start_high c t h =
 part_of : (q z t : ℕ) → q * z ≤ t → t < q * z + z → t / z ≡ q
 part_of q z t low high = let is : t ≡ q * z + (t - q * z) = omega arith in ap (λ n. n / z) is ∙ div-mul-add q z (t - q * z) (omega arith)
 
--- one part more
-next_part : (q m z : ℕ) → q < m → q * z + z ≤ m * z
-next_part q m z h = let b : q + 1 ≤ m = omega arith in omega (arith, mul-le-mul_right z b)
-
 -- a larger sub-block, and a smaller one
 in_larger : (c : Configuration) (q : ℕ) → 0 < c.alignment → c.symbol_size % c.alignment ≡ 0 → 0 < larger c → q < (sub_block_parts c).larger_count → IsSubBlock c (q * larger c) (larger c)
 in_larger c q pos rem some below =
     let z = larger c in
-    let fits : q * z + z ≤ larger_bytes c = next_part q (sub_block_parts c).larger_count z below in record {
+    let fits : q * z + z ≤ larger_bytes c = piece_within q (sub_block_parts c).larger_count z below in record {
       positive = some;
       room = omega (arith, all_bytes c pos rem);
       size = λ t low high. size_low c t (omega arith);
@@ -82,7 +79,7 @@ in_larger c q pos rem some below =
 in_smaller : (c : Configuration) (q : ℕ) → 0 < c.alignment → c.symbol_size % c.alignment ≡ 0 → 0 < smaller c → q < (sub_block_parts c).smaller_count → IsSubBlock c (larger_bytes c + q * smaller c) (smaller c)
 in_smaller c q pos rem some below =
     let z = smaller c in
-    let fits : q * z + z ≤ (sub_block_parts c).smaller_count * z = next_part q (sub_block_parts c).smaller_count z below in record {
+    let fits : q * z + z ≤ (sub_block_parts c).smaller_count * z = piece_within q (sub_block_parts c).smaller_count z below in record {
       positive = some;
       room = omega (arith, all_bytes c pos rem);
       size = λ t low high. size_high c t (omega arith);

@@ -17,6 +17,7 @@ use Rattle.rq_standard.specs.Equations.{fixed_equations, symbol_coefficient, equ
 use Rattle.rq_standard.specs.IdLists.{IsListOf, HasDeterminedRows}
 use Rattle.rq_standard.specs.Headline.{IsNonsingular, SolvesZeros, AreDetermined, known_ids, DetermineBlock}
 use Rattle.rq_standard.specs.Received.{HasSourceSymbols}
+use Rattle.rq_standard.proofs.HdpcLaws.{cond-lt, one_if-lt}
 
 module _ (row : TableRow) (known : ℕ → Bool) (ids : List ℕ) (column : ℕ → ℕ) where
   -- a column that solves what is known solves the equations of known ids
@@ -129,28 +130,20 @@ block_of_source row k has nonsingular all =
 
 -- ---- few ids
 
-one_if-below : (b : Bool) → one_if b < 256
-one_if-below true = omega arith
-one_if-below false = omega arith
-
-cond_below : (b : Bool) (x y : ℕ) → x < 256 → y < 256 → cond b x y < 256
-cond_below true x y h l = h
-cond_below false x y h l = l
-
 ldpc_below : (row : TableRow) (m k : ℕ) → ldpc_coefficient row m k < 256
 unfolding ldpc_coefficient
 ldpc_below row m k =
     let ldpc_1 = is_ldpc_row row m k in
     let own = eqb k (b_of row + m) in
     let two = eqb k (row.lt_symbols + m % pi_symbols row) || eqb k (row.lt_symbols + (m + 1) % pi_symbols row) in
-    cond_below (ltb k (b_of row)) (one_if ldpc_1) (cond (ltb k row.lt_symbols) (one_if own) (one_if two)) (one_if-below ldpc_1) (cond_below (ltb k row.lt_symbols) (one_if own) (one_if two) (one_if-below own) (one_if-below two))
+    cond-lt (ltb k (b_of row)) (one_if ldpc_1) (cond (ltb k row.lt_symbols) (one_if own) (one_if two)) (one_if-lt ldpc_1) (cond-lt (ltb k row.lt_symbols) (one_if own) (one_if two) (one_if-lt own) (one_if-lt two))
 
 hdpc_below : (row : TableRow) (i k : ℕ) → hdpc_coefficient row i k < 256
 unfolding hdpc_coefficient
 hdpc_below row i k =
     let own = eqb k (before_hdpc row + i) in
     let product : ℕ → ℕ = λ j. octets.mul (mt row i j) (gamma j k) in
-    cond_below (ltb k (before_hdpc row)) (sum_below octets (before_hdpc row) product) (one_if own) (sum_below_size octets (before_hdpc row) product (λ j l. octets.mul_below (mt row i j) (gamma j k))) (one_if-below own)
+    cond-lt (ltb k (before_hdpc row)) (sum_below octets (before_hdpc row) product) (one_if own) (sum_below_size octets (before_hdpc row) product (λ j l. octets.mul_below (mt row i j) (gamma j k))) (one_if-lt own)
 
 parity_below : (places : List ℕ) (k : ℕ) → parity places k < 256
 unfolding parity
@@ -179,7 +172,7 @@ few_not_determining row ids few d =
     homogeneous_not_determined octets (equation_count row ids) (intermediate_symbols row) (equations row ids)
     (few_rows octets (intermediate_symbols row) (equation_count row ids) (equations row ids) few (λ i k _ _. equations_below row ids i k)) d
 
--- before any symbol came
+-- before any symbol was received
 padding_list : (row : TableRow) (k : ℕ) → k ≤ row.extended_symbols → IsListOf (known_ids row k (λ _. false)) (range_with_len k (row.extended_symbols - k))
 padding_list row k fits =
     let n : ℕ = row.extended_symbols - k in

@@ -1,4 +1,4 @@
--- Of a list of packets, only which ids came decides what it determines.
+-- Of a list of packets, only which ids were received decides what it determines.
 use Rattle.std.proofs.Common.{◌≡◌, ◌↔◌, ℕ, true, List, [], ◌∷◌, All, Option, Some, None, refl, sym, ◌∙◌, subst}
 use Rattle.std.specs.Prelude.{Contains, IsSome, is_some}
 use Rattle.std.specs.List.{AllByRecursion}
@@ -14,9 +14,9 @@ use Rattle.rq_standard.proofs.Firsts.{first_payload-packet}
 use Rattle.rq_standard.proofs.KnownIds.{block_more}
 use Rattle.rq_standard.proofs.OtherObjects.{all_came}
 
--- ---- ids that came
+-- ---- ids that were received
 
--- an id of a list came
+-- an id of a list was received
 came_of : (packets : List Packet) (i : SymbolId) → Contains (ids_of packets) i → has_id i.block packets i.esi ≡ true
 came_of packets i at =
     let came : SymbolId → Type 0 = λ j. has_id j.block packets j.esi ≡ true in
@@ -33,7 +33,7 @@ came_by packets more ids b e (Some x) is some =
     let p = found.0 in
     subst (λ n. has_id n more e ≡ true) found.2 (subst (λ n. has_id p.id.block more n ≡ true) found.3 (came_of more p.id found.1))
 
--- so each that came in one list came in a list that has its ids
+-- so each that was received in one list was received in a list that has its ids
 came_in_more : (packets more : List Packet) → HasIdsOf more packets → (b e : ℕ) → has_id b packets e ≡ true → has_id b more e ≡ true
 came_in_more packets more ids b e came = came_by packets more ids b e (first_payload b packets e) refl came
 

@@ -2,13 +2,14 @@
 use Rattle.std.proofs.Common.{◌≡◌, ℕ, zero, suc, ◌<◌, Bool, false, List, take, Option, Some, None, refl, sym, ap, ◌∙◌, subst, arith, inl, inr}
 use Rattle.std.specs.Prelude.{option_map, is_some, IsSome, IsNone, IfSome}
 use Rattle.std.proofs.lemmas.Bool.{cases_lt}
+use Rattle.std.proofs.lemmas.Option.{same_Some}
 use Rattle.rq_standard.specs.declared.row.TableRow.{TableRow}
 use Rattle.rq_standard.specs.Packet.{Packet}
 use Rattle.rq_standard.specs.Cutting.{block_symbols, block_bytes}
 use Rattle.rq_standard.specs.Received.{has_id}
 use Rattle.rq_standard.specs.Headline.{DetermineBlock, block_row, IsObjectAnswer}
-use Rattle.rq_standard.specs.Held.{Held, holds, AreHeldDetermining}
-use Rattle.rq_standard.specs.Standing.{State, IsHeldOf, BlockStandsFor, StandsForButLate, append_both, first_blocks, result_of, AnswersObject, AnswersNothingElse}
+use Rattle.rq_standard.specs.ReceivedBlock.{ReceivedBlock, has_received, ReceivedDetermine}
+use Rattle.rq_standard.specs.Standing.{State, IsReceivedOf, BlockStandsFor, StandsForButLate, append_both, first_blocks, result_of, AnswersObject, AnswersNothingElse}
 use Rattle.rq_standard.specs.Differences.{AreUnansweredDetermined, IsNoneWhereAnswered}
 use Rattle.rq_standard.proofs.BlockCuts.{pieces, whole_object}
 use Rattle.rq_standard.proofs.KnownIds.{block_same}
@@ -37,29 +38,29 @@ some_of f None h = h
 some_of f (Some xs) h = refl
 
 module _ (table : List TableRow) (object : List ℕ) (packets : List Packet) (s : State) where
-  -- the ids that came determine a block, by its row and by what is held
-  by_row : (b : ℕ) (h : Held) → IsHeldOf table s.configuration b h → DetermineBlock h.row h.source_symbols (has_id b packets) → DetermineBlock (block_row table s.configuration b) (block_symbols s.configuration b) (has_id b packets)
+  -- the ids that were received determine a block, by its row and by what was received
+  by_row : (b : ℕ) (h : ReceivedBlock) → IsReceivedOf table s.configuration b h → DetermineBlock h.row h.source_symbols (has_id b packets) → DetermineBlock (block_row table s.configuration b) (block_symbols s.configuration b) (has_id b packets)
   by_row b h shape d = subst (λ r. DetermineBlock r (block_symbols s.configuration b) (has_id b packets)) shape.row (subst (λ k. DetermineBlock h.row k (has_id b packets)) shape.source_symbols d)
 
-  by_held : (b : ℕ) (h : Held) → IsHeldOf table s.configuration b h → DetermineBlock (block_row table s.configuration b) (block_symbols s.configuration b) (has_id b packets) → DetermineBlock h.row h.source_symbols (has_id b packets)
-  by_held b h shape d = subst (λ k. DetermineBlock h.row k (has_id b packets)) (sym shape.source_symbols) (subst (λ r. DetermineBlock r (block_symbols s.configuration b) (has_id b packets)) (sym shape.row) d)
+  by_received : (b : ℕ) (h : ReceivedBlock) → IsReceivedOf table s.configuration b h → DetermineBlock (block_row table s.configuration b) (block_symbols s.configuration b) (has_id b packets) → DetermineBlock h.row h.source_symbols (has_id b packets)
+  by_received b h shape d = subst (λ k. DetermineBlock h.row k (has_id b packets)) (sym shape.source_symbols) (subst (λ r. DetermineBlock r (block_symbols s.configuration b) (has_id b packets)) (sym shape.row) d)
 
   -- a block with an answer
-  answered : (late : Bool) (b : ℕ) (h : Held) (a : Option (List ℕ)) → IsHeldOf table s.configuration b h → BlockStandsFor late (block_bytes s.configuration object b) b packets h a → IsSome a
+  answered : (late : Bool) (b : ℕ) (h : ReceivedBlock) (a : Option (List ℕ)) → IsReceivedOf table s.configuration b h → BlockStandsFor late (block_bytes s.configuration object b) b packets h a → IsSome a
       → (a ≡ Some (block_bytes s.configuration object b)) × DetermineBlock (block_row table s.configuration b) (block_symbols s.configuration b) (has_id b packets)
   answered late b h None shape st some = absurd (cc some)
   answered late b h (Some bytes) shape st some = (ap (λ xs. Some xs) st.0, by_row b h shape st.1)
 
   -- a block that is determined has an answer, unless it is late
-  has_answer : (b : ℕ) (h : Held) (a : Option (List ℕ)) → IsHeldOf table s.configuration b h → BlockStandsFor false (block_bytes s.configuration object b) b packets h a → DetermineBlock (block_row table s.configuration b) (block_symbols s.configuration b) (has_id b packets) → IsSome a
-  has_answer b h None shape st d = absurd (st.1 refl (by_held b h shape d))
+  has_answer : (b : ℕ) (h : ReceivedBlock) (a : Option (List ℕ)) → IsReceivedOf table s.configuration b h → BlockStandsFor false (block_bytes s.configuration object b) b packets h a → DetermineBlock (block_row table s.configuration b) (block_symbols s.configuration b) (has_id b packets) → IsSome a
+  has_answer b h None shape st d = absurd (st.1 refl (by_received b h shape d))
   has_answer b h (Some bytes) shape st d = refl
 
   module _ (late : ℕ → Bool) (some : 0 < s.configuration.source_blocks) (pos : 0 < s.configuration.symbol_size) (st : StandsForButLate late table object packets s) where
     -- the object, where each block has an answer
     from_all : ((b : ℕ) → b < s.configuration.source_blocks → IsSome (s.answer b)) → result_of s ≡ Some object
     from_all each =
-        ap (λ o. option_map (take s.configuration.transfer_length) o) (joined_some (block_bytes s.configuration object) s.answer s.configuration.source_blocks (λ b below. (answered (late b) b (s.held b) (s.answer b) (st.shape b below) (st.block b below) (each b below)).0))
+        ap (λ o. option_map (take s.configuration.transfer_length) o) (joined_some (block_bytes s.configuration object) s.answer s.configuration.source_blocks (λ b below. (answered (late b) b (s.received b) (s.answer b) (st.shape b below) (st.block b below) (each b below)).0))
         ∙ ap (λ xs. Some xs) (whole_object s.configuration object some pos st.run.long)
 
     each_of : IsSome (result_of s) → (b : ℕ) → b < s.configuration.source_blocks → IsSome (s.answer b)
@@ -67,19 +68,17 @@ module _ (table : List TableRow) (object : List ℕ) (packets : List Packet) (s 
 
     the_object : (r : Option (List ℕ)) → r ≡ result_of s → IfSome r (λ bytes. bytes ≡ object)
     the_object None is = tt
-    the_object (Some bytes) is = some_is bytes object (is ∙ from_all (each_of (subst IsSome is refl))) where
-      some_is : (x y : List ℕ) → Some x ≡ Some y → x ≡ y
-      some_is x y e = cc e
+    the_object (Some bytes) is = same_Some bytes object (is ∙ from_all (each_of (subst IsSome is refl)))
 
     exactly : ((b : ℕ) → late b ≡ false) → IsObjectAnswer table s.configuration object packets (result_of s)
     exactly now = record {
-      whole = λ all. from_all (λ b below. has_answer b (s.held b) (s.answer b) (st.shape b below) (subst (λ l. BlockStandsFor l (block_bytes s.configuration object b) b packets (s.held b) (s.answer b)) (now b) (st.block b below)) (all b below));
-      only = λ h b below. (answered (late b) b (s.held b) (s.answer b) (st.shape b below) (st.block b below) (each_of h b below)).1;
+      whole = λ all. from_all (λ b below. has_answer b (s.received b) (s.answer b) (st.shape b below) (subst (λ l. BlockStandsFor l (block_bytes s.configuration object b) b packets (s.received b) (s.answer b)) (now b) (st.block b below)) (all b below));
+      only = λ h b below. (answered (late b) b (s.received b) (s.answer b) (st.shape b below) (st.block b below) (each_of h b below)).1;
     }
 
 -- no block without an answer is determined
-not_determined : (packets : List Packet) (block : List ℕ) (b : ℕ) (h : Held) (a : Option (List ℕ)) → BlockStandsFor false block b packets h a → a ≡ None → AreHeldDetermining h → ⊥
-not_determined packets block b h None st none d = st.1 refl (block_same h.row h.source_symbols (holds h) (has_id b packets) (λ e. ap is_some (st.0 e)) d)
+not_determined : (packets : List Packet) (block : List ℕ) (b : ℕ) (h : ReceivedBlock) (a : Option (List ℕ)) → BlockStandsFor false block b packets h a → a ≡ None → ReceivedDetermine h → ⊥
+not_determined packets block b h None st none d = st.1 refl (block_same h.row h.source_symbols (has_received h) (has_id b packets) (λ e. ap is_some (st.0 e)) d)
 not_determined packets block b h (Some bytes) st none d = absurd (cc none)
 
 is_answered : (a : Option (List ℕ)) → (a ≡ None → ⊥) → IsSome a
@@ -94,11 +93,11 @@ is_none_where : (a : Option (List ℕ)) → IsNone a → a ≡ None
 is_none_where None h = refl
 is_none_where (Some xs) h = absurd (cc h)
 
--- a decoder whose difference is none where what is held of each open block determines it, and that stands for a list, has it none where it answers
+-- a decoder whose difference is none where what was received of each open block determines it, and that stands for a list, has it none where it answers
 pub none_where_answered : (s : State) (difference : Option (List ℕ)) → 0 < s.configuration.source_blocks → 0 < s.configuration.symbol_size → (difference ≡ None → AreUnansweredDetermined s) → (AreUnansweredDetermined s → difference ≡ None) → IsNoneWhereAnswered s difference
 none_where_answered s difference some pos told tells table object packets st = (
   λ none. subst IsSome (sym (from_all table object packets s (λ _. false) some pos st (λ b below. is_answered (s.answer b) (λ unanswered.
-      not_determined packets (block_bytes s.configuration object b) b (s.held b) (s.answer b) (st.block b below) unanswered (told (is_none_where difference none) b below unanswered))))) refl,
+      not_determined packets (block_bytes s.configuration object b) b (s.received b) (s.answer b) (st.block b below) unanswered (told (is_none_where difference none) b below unanswered))))) refl,
   λ answered. subst IsNone (sym (tells (λ b below unanswered. absurd (some_is_some (s.answer b) (each_of table object packets s (λ _. false) some pos st answered b below) unanswered)))) refl,
 )
 

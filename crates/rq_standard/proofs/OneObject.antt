@@ -1,5 +1,5 @@
 -- Where the packets of an object determine each block, no other object makes them.
-use Rattle.std.proofs.Common.{◌≡◌, ℕ, zero, suc, ◌+◌, ◌-◌, ◌*◌, ◌<◌, ◌≤◌, ◌⊎◌, cond, eqb, true, false, List, [], ◌∷◌, ◌++◌, take, Option, Some, None, refl, sym, ap, ◌∙◌, subst, arith, inl, inr}
+use Rattle.std.proofs.Common.{◌≡◌, ℕ, zero, ◌+◌, ◌-◌, ◌*◌, ◌<◌, ◌≤◌, ◌⊎◌, cond, eqb, true, false, List, [], ◌∷◌, take, Option, Some, None, refl, sym, ap, ◌∙◌, subst, arith, inl, inr}
 use Rattle.std.specs.Prelude.{is_some, IfSome, ◌&&◌}
 use Rattle.std.specs.List.{AllByRecursion}
 use Rattle.std.proofs.lemmas.Bool.{cases_lt, cases_eq, lt-ltb, le-ltb, ne_eqb}
@@ -17,40 +17,40 @@ use Rattle.rq_standard.specs.Cutting.{block_symbols, block_bytes}
 use Rattle.rq_standard.specs.Equations.{fixed_equations, symbol_coefficient, zero_symbol, internal_id, tuple_sum}
 use Rattle.rq_standard.specs.Received.{or_later, first_payload, has_id}
 use Rattle.rq_standard.specs.Headline.{SolvesZeros, DetermineBlock, block_row, block_source, known_ids, IsEncodingSymbol, IsPacketOf, IsHonestRun, IsAnswerable}
-use Rattle.rq_standard.specs.Held.{Held, holds, SolvesHeld, AreHeldDetermining}
-use Rattle.rq_standard.proofs.BlockCuts.{pieces, whole_object}
-use Rattle.rq_standard.proofs.Columns.{sum_at, sum_same, source_sum, solves_held}
+use Rattle.rq_standard.specs.ReceivedBlock.{ReceivedBlock, has_received, SolvesReceived, ReceivedDetermine}
+use Rattle.rq_standard.proofs.BlockCuts.{pieces_same, whole_object}
+use Rattle.rq_standard.proofs.Columns.{sum_at, sum_same, source_sum, solves_received}
 use Rattle.rq_standard.proofs.Interleaved.{same_symbols}
 use Rattle.rq_standard.proofs.KnownIds.{known_source, known_repair, none_determined, block_same}
 use Rattle.rq_standard.proofs.PlainCut.{length-block_bytes}
-use Rattle.rq_standard.proofs.StandingSteps.{held_with, held_symbol, length-block_source, source_at, source_sized}
+use Rattle.rq_standard.proofs.StandingSteps.{received_with, received_symbol, length-block_source, source_at, source_sized}
 
--- ---- columns that solve what is held
+-- ---- columns that solve what was received
 
 both_are : (o : Option (List ℕ)) (x y : List ℕ) → is_some o ≡ true → IfSome o (λ payload. payload ≡ x) → IfSome o (λ payload. payload ≡ y) → x ≡ y
 both_are None x y some is_x is_y = absurd (cc some)
 both_are (Some z) x y some is_x is_y = sym is_x ∙ is_y
 
-module _ (h : Held) (x y : ℕ → List ℕ) (checked : IsChecked h.row) (fits : h.source_symbols ≤ h.row.extended_symbols) (solves_x : SolvesHeld h x) (solves_y : SolvesHeld h y) where
+module _ (h : ReceivedBlock) (x y : ℕ → List ℕ) (checked : IsChecked h.row) (fits : h.source_symbols ≤ h.row.extended_symbols) (solves_x : SolvesReceived h x) (solves_y : SolvesReceived h y) where
   -- they have the same sums for all known ids
-  same_sums : (i : ℕ) → known_ids h.row h.source_symbols (holds h) i ≡ true → tuple_sum h.row x i ≡ tuple_sum h.row y i
+  same_sums : (i : ℕ) → known_ids h.row h.source_symbols (has_received h) i ≡ true → tuple_sum h.row x i ≡ tuple_sum h.row y i
   same_sums i known =
       let row = h.row in
       let k = h.source_symbols in
-      let from : (e : ℕ) → holds h e ≡ true → internal_id row k e ≡ i → tuple_sum row x i ≡ tuple_sum row y i =
+      let from : (e : ℕ) → has_received h e ≡ true → internal_id row k e ≡ i → tuple_sum row x i ≡ tuple_sum row y i =
       λ e came is. subst (λ n. tuple_sum row x n ≡ tuple_sum row y n) is (both_are (h.received e) (tuple_sum row x (internal_id row k e)) (tuple_sum row y (internal_id row k e)) came (solves_x.received e) (solves_y.received e)) in
       elim (cases_lt i k) [
-        | inl lt ↦ from i (sym (known_source row k i (holds h) lt) ∙ known) (ap (λ b. cond b i (i + row.extended_symbols - k)) (lt-ltb i k lt))
+        | inl lt ↦ from i (sym (known_source row k i (has_received h) lt) ∙ known) (ap (λ b. cond b i (i + row.extended_symbols - k)) (lt-ltb i k lt))
         | inr ge ↦ elim (cases_lt i row.extended_symbols) [
           | inl lt ↦ solves_x.padding i ge lt ∙ sym (solves_y.padding i ge lt)
           | inr past ↦
               let e : ℕ = i + k - row.extended_symbols in
-              from e (sym (known_repair row k i (holds h) ge past) ∙ known) (ap (λ b. cond b e (e + row.extended_symbols - k)) (le-ltb e k (omega arith)) ∙ omega arith)
+              from e (sym (known_repair row k i (has_received h) ge past) ∙ known) (ap (λ b. cond b e (e + row.extended_symbols - k)) (le-ltb e k (omega arith)) ∙ omega arith)
         ]
       ]
 
   -- so at each place of a symbol their sum solves all with values zero
-  sum_solves : (p : ℕ) → SolvesZeros h.row (known_ids h.row h.source_symbols (holds h)) (λ k. octets.add (slice_at p x k) (slice_at p y k))
+  sum_solves : (p : ℕ) → SolvesZeros h.row (known_ids h.row h.source_symbols (has_received h)) (λ k. octets.add (slice_at p x k) (slice_at p y k))
   sum_solves p =
       let n = intermediate_symbols h.row in
       record {
@@ -68,8 +68,8 @@ module _ (h : Held) (x y : ℕ → List ℕ) (checked : IsChecked h.row) (fits :
       }
 
   -- and where the ids determine the block they are one
-  pub held_unique : AreHeldDetermining h → (k : ℕ) → k < intermediate_symbols h.row → x k ≡ y k
-  held_unique determined k below =
+  pub received_unique : ReceivedDetermine h → (k : ℕ) → k < intermediate_symbols h.row → x k ≡ y k
+  received_unique determined k below =
       let size = h.configuration.symbol_size in
       same_symbol octets size (x k) (y k) (solves_x.symbols k below) (solves_y.symbols k below) (λ p.
       let none : octets.add (slice_at p x k) (slice_at p y k) ≡ 0 =
@@ -101,9 +101,9 @@ module _ (table : List TableRow) (c : Configuration) (one other : List ℕ) (b :
     abbrev row : TableRow
     row = block_row table c b
 
-    -- what came of the block
-    abbrev came : Held
-    came = held_with table c b (first_payload b packets)
+    -- what was received of the block
+    abbrev came : ReceivedBlock
+    came = received_with table c b (first_payload b packets)
 
     column_of : (object : List ℕ) (p : Packet) → p.id.block ≡ b → IsPacketOf table c object p → IsEncodingSymbol row c.symbol_size (block_source c object b) p.id.esi p.payload
     column_of object p here is = subst (λ n. IsEncodingSymbol (block_row table c n) c.symbol_size (block_source c object n) p.id.esi p.payload) here is.symbol
@@ -113,9 +113,9 @@ module _ (table : List TableRow) (c : Configuration) (one other : List ℕ) (b :
         let k = block_symbols c b in
         let x = s.column in
         let y = t.column in
-        let solves_x = solves_held came (block_source c one b) x checked (length-block_source c one b) (source_sized c one b) s.is_only.is (held_symbol table c one packets b (first_payload b packets) run.honest (λ e. refl)) in
-        let solves_y = solves_held came (block_source c other b) y checked (length-block_source c other b) (source_sized c other b) t.is_only.is (held_symbol table c other packets b (first_payload b packets) also.honest (λ e. refl)) in
-        let same = held_unique came x y checked fits solves_x solves_y determined in
+        let solves_x = solves_received came (block_source c one b) x checked (length-block_source c one b) (source_sized c one b) s.is_only.is (received_symbol table c one packets b (first_payload b packets) run.honest (λ e. refl)) in
+        let solves_y = solves_received came (block_source c other b) y checked (length-block_source c other b) (source_sized c other b) t.is_only.is (received_symbol table c other packets b (first_payload b packets) also.honest (λ e. refl)) in
+        let same = received_unique came x y checked fits solves_x solves_y determined in
         same_symbols c k (block_bytes c one b) (block_bytes c other b) aligned.alignment_positive aligned.aligned (length-block_bytes c one b) (length-block_bytes c other b) (λ e l.
         sym (source_at c one b e l) ∙ sym (source_sum row c.symbol_size e (block_source c one b) x checked s.is_only.is (source_sized c one b) (omega (arith, fits)))
         ∙ sum_same row e x y checked same
@@ -132,10 +132,6 @@ module _ (table : List TableRow) (c : Configuration) (one other : List ℕ) (b :
         | inr none ↦ absurd (none_determined row (block_symbols c b) (omega (arith, some)) fits (block_same row (block_symbols c b) (has_id b packets) (λ _. false) none determined))
       ]
     ]
-
-pieces_same : (f g : ℕ → List ℕ) (n : ℕ) → ((b : ℕ) → b < n → f b ≡ g b) → pieces f n ≡ pieces g n
-pieces_same f g zero same = refl
-pieces_same f g (suc n) same = ap (λ xs. xs ++ f n) (pieces_same f g n (λ b l. same b (omega arith))) ∙ ap (λ ys. pieces g n ++ ys) (same n (omega arith))
 
 -- one object alone fits a list that determines each block
 pub one_object : (table : List TableRow) (c : Configuration) (one other : List ℕ) (packets : List Packet) → 0 < c.symbol_size → 0 < c.source_blocks → IsAligned c → ((b : ℕ) → b < c.source_blocks → IsChecked (block_row table c b)) → ((b : ℕ) → b < c.source_blocks → block_symbols c b ≤ (block_row table c b).extended_symbols)

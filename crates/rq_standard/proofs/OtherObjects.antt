@@ -18,8 +18,8 @@ use Rattle.rq_standard.specs.Cutting.{block_symbols, symbols_before, sub_block_s
 use Rattle.rq_standard.specs.Equations.{zero_symbol, symbol_coefficient, internal_id}
 use Rattle.rq_standard.specs.Received.{or_later, payload_for, first_payload, has_id}
 use Rattle.rq_standard.specs.Headline.{IsNonsingular, IsEncodingSymbol, SolvesZeros, known_ids, block_row, block_source, IsPacketOf, HasNonsingularRows, IsAnswerable, IsHonestRun, IsOnlyObject}
-use Rattle.rq_standard.specs.Held.{Held, holds}
-use Rattle.rq_standard.specs.Standing.{State, IsHeldOf, BlockStandsFor, AnswersObject, AnswersOnlyObject}
+use Rattle.rq_standard.specs.ReceivedBlock.{ReceivedBlock, has_received}
+use Rattle.rq_standard.specs.Standing.{State, IsReceivedOf, BlockStandsFor, AnswersObject, AnswersOnlyObject}
 use Rattle.rq_standard.specs.Differences.{xor_bytes, HoldsNonsingularRows, IsDifference, MakesOthersFit, plain_sum}
 use Rattle.rq_standard.proofs.BlockCuts.{block_byte}
 use Rattle.rq_standard.proofs.Columns.{sum_symbol}
@@ -40,7 +40,7 @@ pub record HasRow (row : TableRow) (k : ℕ) : Type 0 where
   pub checked : IsChecked row
   pub fits : k ≤ row.extended_symbols
 
-pub row_of_shape : (table : List TableRow) (c : Configuration) (b : ℕ) (h : Held) → IsHeldOf table c b h → HasRow (block_row table c b) (block_symbols c b)
+pub row_of_shape : (table : List TableRow) (c : Configuration) (b : ℕ) (h : ReceivedBlock) → IsReceivedOf table c b h → HasRow (block_row table c b) (block_symbols c b)
 row_of_shape table c b h shape = record {
   checked = subst IsChecked shape.row shape.checked;
   fits = subst (λ (r : TableRow). block_symbols c b ≤ r.extended_symbols) shape.row (subst (λ n. n ≤ h.row.extended_symbols) shape.source_symbols shape.fits);
@@ -82,7 +82,7 @@ module _ (c : Configuration) (x y : List ℕ) (b : ℕ) where
 
 -- ---- packets of both
 
--- each packet of a list has an id that came
+-- each packet of a list has an id that was received
 pub all_came : (packets : List Packet) → AllByRecursion (λ (p : Packet). has_id p.id.block packets p.id.esi ≡ true) packets
 all_came [] = tt
 all_came (p ∷ packets) = (here (first_payload p.id.block packets p.id.esi), later packets (all_came packets)) where
@@ -212,7 +212,7 @@ pub answers_only : (s : State) (answer : Option (List ℕ)) → 0 < s.configurat
 answers_only s answer some pos aligned is table object packets st =
     let c = s.configuration in
     let own = is table object packets (λ _. false) st (λ b. refl) in
-    let rows : (b : ℕ) → b < c.source_blocks → HasRow (block_row table c b) (block_symbols c b) = λ b below. row_of_shape table c b (s.held b) (st.shape b below) in (
+    let rows : (b : ℕ) → b < c.source_blocks → HasRow (block_row table c b) (block_symbols c b) = λ b below. row_of_shape table c b (s.received b) (st.shape b below) in (
       λ h other fits. one_object table c object other packets pos some aligned (λ b l. (rows b l).checked) (λ b l. (rows b l).fits) st.run fits (own.only h),
       λ only. subst IsSome (sym (own.whole (only_is_answerable table c pos some aligned rows object packets st.run only))) refl,
     )
@@ -221,20 +221,20 @@ answers_only s answer some pos aligned is table object packets st =
 
 module _ (s : State) (pos : 0 < s.configuration.symbol_size) (some : 0 < s.configuration.source_blocks) (aligned : IsAligned s.configuration) where
   abbrev row_at : ℕ → TableRow
-  row_at b = (s.held b).row
+  row_at b = (s.received b).row
 
   -- bytes of columns that are zero in answered blocks, and not all zero
   pub is_difference : (columns : ℕ → ℕ → ℕ) (b j : ℕ)
-      → ((n : ℕ) → n < s.configuration.source_blocks → HasRow (s.held n).row (block_symbols s.configuration n))
-      → AreColumns row_at (block_symbols s.configuration) (λ n. holds (s.held n)) s.configuration.source_blocks columns
+      → ((n : ℕ) → n < s.configuration.source_blocks → HasRow (s.received n).row (block_symbols s.configuration n))
+      → AreColumns row_at (block_symbols s.configuration) (λ n. has_received (s.received n)) s.configuration.source_blocks columns
       → ((n : ℕ) → n < s.configuration.source_blocks → IsSome (s.answer n) → (i : ℕ) → i < intermediate_symbols (row_at n) → columns n i ≡ 0)
       → b < s.configuration.source_blocks → j < intermediate_symbols (row_at b) → columns b j ≢ 0
       → IsDifference s (bytes_of s.configuration row_at columns)
   is_difference columns b j rows are none below in_width nonzero = record {
     long = length-bytes_of s.configuration row_at columns pos some aligned;
     answered = λ n i l h. zero_block s.configuration row_at columns pos some aligned n i l (none n l h);
-    zeros = λ n e l nonsingular came. columns_encode s.configuration row_at columns pos some aligned (λ m. holds (s.held m)) are n e l (rows n l) nonsingular came;
-    nonzero = λ nonsingular. nonzero_byte s.configuration row_at columns pos some aligned (λ m. holds (s.held m)) are b j below (nonsingular b below) in_width nonzero;
+    zeros = λ n e l nonsingular came. columns_encode s.configuration row_at columns pos some aligned (λ m. has_received (s.received m)) are n e l (rows n l) nonsingular came;
+    nonzero = λ nonsingular. nonzero_byte s.configuration row_at columns pos some aligned (λ m. has_received (s.received m)) are b j below (nonsingular b below) in_width nonzero;
   }
 
   -- a block of zeros has zero symbols
@@ -254,13 +254,13 @@ module _ (s : State) (pos : 0 < s.configuration.symbol_size) (some : 0 < s.confi
           long = d.long;
           zeros = λ b e below came. by_answer b e below came (s.answer b) refl;
         }),
-        λ same. (d.nonzero held).2 (xor-same other bytes same (d.nonzero held).0),
+        λ same. (d.nonzero received).2 (xor-same other bytes same (d.nonzero received).0),
       ) where
         rows : (b : ℕ) → b < s.configuration.source_blocks → HasRow (block_row table s.configuration b) (block_symbols s.configuration b)
-        rows b below = row_of_shape table s.configuration b (s.held b) (st.shape b below)
+        rows b below = row_of_shape table s.configuration b (s.received b) (st.shape b below)
 
-        held : HoldsNonsingularRows s
-        held b below = subst IsNonsingular (sym (st.shape b below).row) (st.run.nonsingular b below)
+        received : HoldsNonsingularRows s
+        received b below = subst IsNonsingular (sym (st.shape b below).row) (st.run.nonsingular b below)
 
         by_answer : (b e : ℕ) → b < s.configuration.source_blocks → has_id b packets e ≡ true → (a : Option (List ℕ)) → s.answer b ≡ a
             → IsEncodingSymbol (block_row table s.configuration b) s.configuration.symbol_size (block_source s.configuration bytes b) e (zero_symbol s.configuration.symbol_size)
@@ -270,5 +270,5 @@ module _ (s : State) (pos : 0 < s.configuration.symbol_size) (some : 0 < s.confi
             (λ i in_block. zero_source bytes b i (λ n. d.answered b n below (subst IsSome (sym is) refl)) in_block)
         by_answer b e below came None is =
             let c = s.configuration in
-            let reads = (subst (BlockStandsFor (late b) (block_bytes c object b) b packets (s.held b)) is (st.block b below)).0 in
-            subst (λ (r : TableRow). IsEncodingSymbol r c.symbol_size (block_source c bytes b) e (zero_symbol c.symbol_size)) (st.shape b below).row (d.zeros b e below (held b below) (ap is_some (reads e) ∙ came))
+            let reads = (subst (BlockStandsFor (late b) (block_bytes c object b) b packets (s.received b)) is (st.block b below)).0 in
+            subst (λ (r : TableRow). IsEncodingSymbol r c.symbol_size (block_source c bytes b) e (zero_symbol c.symbol_size)) (st.shape b below).row (d.zeros b e below (received b below) (ap is_some (reads e) ∙ came))

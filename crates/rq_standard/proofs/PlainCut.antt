@@ -17,6 +17,10 @@ map-range_is_take xs f a n h each =
     (λ i below. let lt : i < n = subst (λ m. i < m) (length-map-range_with_len f 0 n) below in
     get_or-map-range_with_len f 0 n i i 0 lt (omega arith) ∙ each i lt ∙ sym (get_or-take n (drop a xs) i 0 lt ∙ get_or-drop a xs i 0))
 
+-- a piece ends where all n pieces end, or before
+pub piece_within : (p n size : ℕ) → p < n → p * size + size ≤ n * size
+piece_within p n size lt = let more : p + 1 ≤ n = omega arith in omega (arith, mul-le-mul_right size more)
+
 -- a symbol has its size
 pub length-plain_symbol : (size k : ℕ) (xs : List ℕ) (e : ℕ) → length xs ≡ k * size → e < k → length (plain_symbol size xs e) ≡ size
 unfolding plain_symbol

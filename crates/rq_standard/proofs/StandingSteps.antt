@@ -13,17 +13,17 @@ use Rattle.rq_standard.specs.Cutting.{block_symbols, block_bytes, symbol_of_bloc
 use Rattle.rq_standard.specs.Equations.{zero_symbol}
 use Rattle.rq_standard.specs.Received.{or_later, first_payload, has_id}
 use Rattle.rq_standard.specs.Headline.{IsNonsingular, IsIntermediateColumn, IsEncodingSymbol, DetermineBlock, block_row, block_source, IsPacketOf}
-use Rattle.rq_standard.specs.Held.{Held, recorded, CanAnswer, IsBlockAnswer}
-use Rattle.rq_standard.specs.Standing.{State, IsHeldOf, new_held, new_answer, IsNewState, AddsToBlock, IsSameElsewhere, Adds, RecordsOnly, StopsEarly, BlockStandsFor, StandsForButLate, with_late, StandsForNone, StandsForMore, AnswersLateBlock, LeavesBlockLate}
+use Rattle.rq_standard.specs.ReceivedBlock.{ReceivedBlock, with_received, CanAnswer, IsBlockAnswer}
+use Rattle.rq_standard.specs.Standing.{State, IsReceivedOf, new_received, new_answer, IsNewState, AddsToBlock, IsSameElsewhere, Adds, RecordsOnly, StopsEarly, BlockStandsFor, StandsForButLate, with_late, StandsForNone, StandsForMore, AnswersLateBlock, LeavesBlockLate}
 use Rattle.rq_standard.proofs.KnownIds.{block_more, block_same, block_of_source, none_determined}
-use Rattle.rq_standard.proofs.Columns.{source_sum, solves_held}
+use Rattle.rq_standard.proofs.Columns.{source_sum, solves_received}
 use Rattle.rq_standard.proofs.Firsts.{first_payload-here, first_payload-elsewhere, first_payload-packet, has_id-push}
 use Rattle.rq_standard.proofs.PlainCut.{length-block_bytes}
 use Rattle.rq_standard.proofs.Interleaved.{same_symbols}
 
--- what is held of a block that is being received
-abbrev pub HoldsFirsts : ℕ → List Packet → Held → Type 0
-HoldsFirsts b packets h = (e : ℕ) → h.received e ≡ first_payload b packets e
+-- what was received of a block that is being received
+abbrev pub HasReceivedFirsts : ℕ → List Packet → ReceivedBlock → Type 0
+HasReceivedFirsts b packets h = (e : ℕ) → h.received e ≡ first_payload b packets e
 
 pub push-all : (P : Packet → Type 0) (packets : List Packet) (p : Packet) → AllByRecursion P packets → P p → AllByRecursion P (packets ++ p ∷ [])
 push-all P [] p h x = (x, tt)
@@ -51,87 +51,87 @@ by_option : (o : Option (List ℕ)) (P : List ℕ → Type 0) → ((x : List ℕ
 by_option None P h = tt
 by_option (Some x) P h = h x refl
 
--- ---- what is held of it
+-- ---- what was received of it
 
-abbrev pub held_with : List TableRow → Configuration → ℕ → (ℕ → Option (List ℕ)) → Held
-held_with table c b received = record { configuration = c; number = b; row = block_row table c b; source_symbols = block_symbols c b; received = received }
+abbrev pub received_with : List TableRow → Configuration → ℕ → (ℕ → Option (List ℕ)) → ReceivedBlock
+received_with table c b received = record { configuration = c; number = b; row = block_row table c b; source_symbols = block_symbols c b; received = received }
 
-pub held_is : (table : List TableRow) (c : Configuration) (b : ℕ) (h : Held) → IsHeldOf table c b h → held_with table c b h.received ≡ h
-held_is table c b h shape = λ i. record { configuration = sym shape.configuration i; number = sym shape.number i; row = sym shape.row i; source_symbols = sym shape.source_symbols i; received = h.received }
+pub received_is : (table : List TableRow) (c : Configuration) (b : ℕ) (h : ReceivedBlock) → IsReceivedOf table c b h → received_with table c b h.received ≡ h
+received_is table c b h shape = λ i. record { configuration = sym shape.configuration i; number = sym shape.number i; row = sym shape.row i; source_symbols = sym shape.source_symbols i; received = h.received }
 
 module _ (table : List TableRow) (c : Configuration) (object : List ℕ) (packets : List Packet) (b : ℕ) (received : ℕ → Option (List ℕ)) where
   -- each payload that counts is an encoding symbol of the block
-  pub held_symbol : AllByRecursion (IsPacketOf table c object) packets → ((e : ℕ) → received e ≡ first_payload b packets e) → (e : ℕ) → IfSome (received e) (λ payload. IsEncodingSymbol (block_row table c b) c.symbol_size (block_source c object b) e payload)
-  held_symbol honest reads e = by_option (received e) (IsEncodingSymbol (block_row table c b) c.symbol_size (block_source c object b) e) (λ x is.
+  pub received_symbol : AllByRecursion (IsPacketOf table c object) packets → ((e : ℕ) → received e ≡ first_payload b packets e) → (e : ℕ) → IfSome (received e) (λ payload. IsEncodingSymbol (block_row table c b) c.symbol_size (block_source c object b) e payload)
+  received_symbol honest reads e = by_option (received e) (IsEncodingSymbol (block_row table c b) c.symbol_size (block_source c object b) e) (λ x is.
       let q = first_payload-packet (IsPacketOf table c object) packets b e x honest (sym (reads e) ∙ is) in
       subst (λ n. IsEncodingSymbol (block_row table c b) c.symbol_size (block_source c object b) e n) q.4
       (subst (λ n. IsEncodingSymbol (block_row table c b) c.symbol_size (block_source c object b) n q.0.payload) q.3
       (subst (λ n. IsEncodingSymbol (block_row table c n) c.symbol_size (block_source c object n) q.0.id.esi q.0.payload) q.2 q.1.symbol)))
 
   module _ (aligned : IsAligned c) (nonsingular : IsNonsingular (block_row table c b)) (honest : AllByRecursion (IsPacketOf table c object) packets) (reads : (e : ℕ) → received e ≡ first_payload b packets e) (checked : IsChecked (block_row table c b)) (fits : block_symbols c b ≤ (block_row table c b).extended_symbols) where
-    can_answer : CanAnswer (held_with table c b received) → DetermineBlock (block_row table c b) (block_symbols c b) (has_id b packets)
+    can_answer : CanAnswer (received_with table c b received) → DetermineBlock (block_row table c b) (block_symbols c b) (has_id b packets)
     can_answer can = block_same (block_row table c b) (block_symbols c b) (λ e. is_some (received e)) (has_id b packets) (λ e. ap is_some (reads e)) (elim can [
       | inl all ↦ block_of_source (block_row table c b) (block_symbols c b) (λ e. is_some (received e)) nonsingular all
       | inr d ↦ d
     ])
 
-    held_back : DetermineBlock (block_row table c b) (block_symbols c b) (has_id b packets) → DetermineBlock (block_row table c b) (block_symbols c b) (λ e. is_some (received e))
-    held_back = block_same (block_row table c b) (block_symbols c b) (has_id b packets) (λ e. is_some (received e)) (λ e. sym (ap is_some (reads e)))
+    received_back : DetermineBlock (block_row table c b) (block_symbols c b) (has_id b packets) → DetermineBlock (block_row table c b) (block_symbols c b) (λ e. is_some (received e))
+    received_back = block_same (block_row table c b) (block_symbols c b) (has_id b packets) (λ e. is_some (received e)) (λ e. sym (ap is_some (reads e)))
 
     -- once it is answered
-    answered_at : (late : Bool) (column : ℕ → List ℕ) (answer : Option (List ℕ)) → IsIntermediateColumn (block_row table c b) c.symbol_size (block_source c object b) column → IsBlockAnswer (held_with table c b received) answer
-        → BlockStandsFor late (block_bytes c object b) b packets (held_with table c b received) answer
-    answered_at late column None is ans = (reads, λ now d. absurd (cc (ans.none (inr (held_back d)))))
+    answered_at : (late : Bool) (column : ℕ → List ℕ) (answer : Option (List ℕ)) → IsIntermediateColumn (block_row table c b) c.symbol_size (block_source c object b) column → IsBlockAnswer (received_with table c b received) answer
+        → BlockStandsFor late (block_bytes c object b) b packets (received_with table c b received) answer
+    answered_at late column None is ans = (reads, λ now d. absurd (cc (ans.none (inr (received_back d)))))
     answered_at late column (Some bytes) is ans =
         let d = can_answer (ans.some refl) in
-        let solves = solves_held (held_with table c b received) (block_source c object b) column checked (length-block_source c object b) (source_sized c object b) is (held_symbol honest reads) in (
+        let solves = solves_received (received_with table c b received) (block_source c object b) column checked (length-block_source c object b) (source_sized c object b) is (received_symbol honest reads) in (
           same_symbols c (block_symbols c b) bytes (block_bytes c object b) aligned.alignment_positive aligned.aligned ans.block.long (length-block_bytes c object b)
-              (λ e below. ans.block.solved (held_back d) column solves e below ∙ source_sum (block_row table c b) c.symbol_size e (block_source c object b) column checked is (source_sized c object b) (omega (arith, fits)) ∙ source_at c object b e below),
+              (λ e below. ans.block.solved (received_back d) column solves e below ∙ source_sum (block_row table c b) c.symbol_size e (block_source c object b) column checked is (source_sized c object b) (omega (arith, fits)) ∙ source_at c object b e below),
           d,
         )
 
 -- a block that holds the first payloads of a list, once it is answered
-stands_answered : (table : List TableRow) (c : Configuration) (object : List ℕ) (packets : List Packet) (b : ℕ) (late : Bool) (h : Held) (column : ℕ → List ℕ) (answer : Option (List ℕ)) → IsAligned c → IsNonsingular (block_row table c b) → AllByRecursion (IsPacketOf table c object) packets → IsHeldOf table c b h
-    → HoldsFirsts b packets h → IsIntermediateColumn (block_row table c b) c.symbol_size (block_source c object b) column → IsBlockAnswer h answer → BlockStandsFor late (block_bytes c object b) b packets h answer
+stands_answered : (table : List TableRow) (c : Configuration) (object : List ℕ) (packets : List Packet) (b : ℕ) (late : Bool) (h : ReceivedBlock) (column : ℕ → List ℕ) (answer : Option (List ℕ)) → IsAligned c → IsNonsingular (block_row table c b) → AllByRecursion (IsPacketOf table c object) packets → IsReceivedOf table c b h
+    → HasReceivedFirsts b packets h → IsIntermediateColumn (block_row table c b) c.symbol_size (block_source c object b) column → IsBlockAnswer h answer → BlockStandsFor late (block_bytes c object b) b packets h answer
 stands_answered table c object packets b late h column answer aligned nonsingular honest shape reads is ans =
-    let same = held_is table c b h shape in
+    let same = received_is table c b h shape in
     subst (λ g. BlockStandsFor late (block_bytes c object b) b packets g answer) same
     (answered_at table c object packets b h.received aligned nonsingular honest reads (subst IsChecked shape.row shape.checked)
     (subst (λ (r : TableRow). block_symbols c b ≤ r.extended_symbols) shape.row (subst (λ n. n ≤ h.row.extended_symbols) shape.source_symbols shape.fits))
     late column answer is (subst (λ g. IsBlockAnswer g answer) (sym same) ans))
 
 -- a packet more is recorded
-pub firsts_more : (packets : List Packet) (p : Packet) (old new : Held) → HoldsFirsts p.id.block packets old → new ≡ recorded old p.id.esi p.payload → HoldsFirsts p.id.block (packets ++ p ∷ []) new
+pub firsts_more : (packets : List Packet) (p : Packet) (old new : ReceivedBlock) → HasReceivedFirsts p.id.block packets old → new ≡ with_received old p.id.esi p.payload → HasReceivedFirsts p.id.block (packets ++ p ∷ []) new
 firsts_more packets p old new reads is e = ap (λ h. h.received e) is ∙ ap (λ o. or_later o (cond (eqb p.id.esi e) (Some p.payload) None)) (reads e) ∙ sym (first_payload-here p.id.block packets p e refl)
 
-pub recorded_shape : (table : List TableRow) (c : Configuration) (b : ℕ) (p : Packet) (old new : Held) → IsHeldOf table c b old → new ≡ recorded old p.id.esi p.payload → IsHeldOf table c b new
+pub recorded_shape : (table : List TableRow) (c : Configuration) (b : ℕ) (p : Packet) (old new : ReceivedBlock) → IsReceivedOf table c b old → new ≡ with_received old p.id.esi p.payload → IsReceivedOf table c b new
 recorded_shape table c b p old new shape is =
-    subst (IsHeldOf table c b) (sym is) (record { configuration = shape.configuration; number = shape.number; row = shape.row; source_symbols = shape.source_symbols; checked = shape.checked; fits = shape.fits })
+    subst (IsReceivedOf table c b) (sym is) (record { configuration = shape.configuration; number = shape.number; row = shape.row; source_symbols = shape.source_symbols; checked = shape.checked; fits = shape.fits })
 
 -- a block that was answered stays so
-answered_step : (late after : Bool) (block : List ℕ) (b : ℕ) (packets : List Packet) (p : Packet) (h : Held) (bytes : List ℕ) → BlockStandsFor late block b packets h (Some bytes) → BlockStandsFor after block b (packets ++ p ∷ []) h (Some bytes)
+answered_step : (late after : Bool) (block : List ℕ) (b : ℕ) (packets : List Packet) (p : Packet) (h : ReceivedBlock) (bytes : List ℕ) → BlockStandsFor late block b packets h (Some bytes) → BlockStandsFor after block b (packets ++ p ∷ []) h (Some bytes)
 answered_step late after block b packets p h bytes st = (st.0, block_more h.row h.source_symbols (has_id b packets) (has_id b (packets ++ p ∷ [])) (λ e has. has_id-push b packets p e has) st.1)
 
 -- a packet of another block
-other_step : (late : Bool) (block : List ℕ) (b : ℕ) (packets : List Packet) (p : Packet) (h : Held) (answer : Option (List ℕ)) → p.id.block ≢ b → BlockStandsFor late block b packets h answer → BlockStandsFor late block b (packets ++ p ∷ []) h answer
+other_step : (late : Bool) (block : List ℕ) (b : ℕ) (packets : List Packet) (p : Packet) (h : ReceivedBlock) (answer : Option (List ℕ)) → p.id.block ≢ b → BlockStandsFor late block b packets h answer → BlockStandsFor late block b (packets ++ p ∷ []) h answer
 other_step late block b packets p h None ne st =
     (λ e. st.0 e ∙ sym (first_payload-elsewhere b packets p e ne), λ now d. st.1 now (block_same h.row h.source_symbols (has_id b (packets ++ p ∷ [])) (has_id b packets) (λ e. ap is_some (first_payload-elsewhere b packets p e ne)) d))
 other_step late block b packets p h (Some bytes) ne st = answered_step late late block b packets p h bytes st
 
 -- the packet's own block, which isn't late any more
-own_step : (table : List TableRow) (c : Configuration) (object : List ℕ) (packets : List Packet) (p : Packet) (late : Bool) (old new : Held) (a answer : Option (List ℕ)) → IsAligned c → IsNonsingular (block_row table c p.id.block) → AllByRecursion (IsPacketOf table c object) (packets ++ p ∷ []) → IsPacketOf table c object p
-    → IsHeldOf table c p.id.block new → BlockStandsFor late (block_bytes c object p.id.block) p.id.block packets old a → AddsToBlock old a p new answer
+own_step : (table : List TableRow) (c : Configuration) (object : List ℕ) (packets : List Packet) (p : Packet) (late : Bool) (old new : ReceivedBlock) (a answer : Option (List ℕ)) → IsAligned c → IsNonsingular (block_row table c p.id.block) → AllByRecursion (IsPacketOf table c object) (packets ++ p ∷ []) → IsPacketOf table c object p
+    → IsReceivedOf table c p.id.block new → BlockStandsFor late (block_bytes c object p.id.block) p.id.block packets old a → AddsToBlock old a p new answer
     → BlockStandsFor false (block_bytes c object p.id.block) p.id.block (packets ++ p ∷ []) new answer
 own_step table c object packets p late old new None answer aligned nonsingular honest pk after st add =
-    stands_answered table c object (packets ++ p ∷ []) p.id.block false new pk.symbol.column answer aligned nonsingular honest after (firsts_more packets p old new st.0 add.held) pk.symbol.is_only.is add.answers
+    stands_answered table c object (packets ++ p ∷ []) p.id.block false new pk.symbol.column answer aligned nonsingular honest after (firsts_more packets p old new st.0 add.received) pk.symbol.is_only.is add.answers
 own_step table c object packets p late old new (Some bytes) answer aligned nonsingular honest pk after st add =
     subst (λ r. BlockStandsFor false (block_bytes c object p.id.block) p.id.block (packets ++ p ∷ []) new r) (sym add.1)
     (subst (λ h. BlockStandsFor false (block_bytes c object p.id.block) p.id.block (packets ++ p ∷ []) h (Some bytes)) (sym add.0) (answered_step late false (block_bytes c object p.id.block) p.id.block packets p old bytes st))
 
--- a packet keeps the shape of what is held
-shape_step : (table : List TableRow) (c : Configuration) (b : ℕ) (p : Packet) (old new : Held) (a answer : Option (List ℕ)) → IsHeldOf table c b old → AddsToBlock old a p new answer → IsHeldOf table c b new
-shape_step table c b p old new None answer shape add = recorded_shape table c b p old new shape add.held
-shape_step table c b p old new (Some bytes) answer shape add = subst (IsHeldOf table c b) (sym add.0) shape
+-- a packet keeps the shape of what was received
+shape_step : (table : List TableRow) (c : Configuration) (b : ℕ) (p : Packet) (old new : ReceivedBlock) (a answer : Option (List ℕ)) → IsReceivedOf table c b old → AddsToBlock old a p new answer → IsReceivedOf table c b new
+shape_step table c b p old new None answer shape add = recorded_shape table c b p old new shape add.received
+shape_step table c b p old new (Some bytes) answer shape add = subst (IsReceivedOf table c b) (sym add.0) shape
 
 -- ---- all blocks
 
@@ -143,27 +143,27 @@ late_elsewhere b n now late ne = rw (ne_eqb n b (λ e. ne (sym e))) refl
 
 -- the packet's own block, and the others, one packet later
 module _ (table : List TableRow) (object : List ℕ) (packets : List Packet) (p : Packet) (old new : State) (late : ℕ → Bool) (now : Bool) (st : StandsForButLate late table object packets old) (pk : IsPacketOf table old.configuration object p) (other : IsSameElsewhere old p.id.block new) where
-  moved : IsHeldOf table old.configuration p.id.block (new.held p.id.block) → BlockStandsFor now (block_bytes old.configuration object p.id.block) p.id.block (packets ++ p ∷ []) (new.held p.id.block) (new.answer p.id.block)
+  moved : IsReceivedOf table old.configuration p.id.block (new.received p.id.block) → BlockStandsFor now (block_bytes old.configuration object p.id.block) p.id.block (packets ++ p ∷ []) (new.received p.id.block) (new.answer p.id.block)
       → StandsForButLate (with_late p.id.block now late) table object (packets ++ p ∷ []) new
   moved shape_here block_here =
       let c = old.configuration in
       let here = p.id.block in
-      let after : State = record { configuration = c; held = new.held; answer = new.answer } in
-      let is : after ≡ new = λ i. record { configuration = sym other.configuration i; held = new.held; answer = new.answer } in
+      let after : State = record { configuration = c; received = new.received; answer = new.answer } in
+      let is : after ≡ new = λ i. record { configuration = sym other.configuration i; received = new.received; answer = new.answer } in
       subst (StandsForButLate (with_late here now late) table object (packets ++ p ∷ [])) is (record {
         run = record { long = st.run.long; nonsingular = st.run.nonsingular; honest = push-all (IsPacketOf table c object) packets p st.run.honest pk };
         shape = λ b below. elim (cases_eq here b) [
-          | inl e ↦ subst (λ n. IsHeldOf table c n (new.held n)) e shape_here
-          | inr ne ↦ subst (IsHeldOf table c b) (sym (other.other b below (λ e. ne (sym e))).0) (st.shape b below)
+          | inl e ↦ subst (λ n. IsReceivedOf table c n (new.received n)) e shape_here
+          | inr ne ↦ subst (IsReceivedOf table c b) (sym (other.other b below (λ e. ne (sym e))).0) (st.shape b below)
         ];
         block = λ b below. elim (cases_eq here b) [
-          | inl e ↦ subst (λ n. BlockStandsFor (with_late here now late n) (block_bytes c object n) n (packets ++ p ∷ []) (new.held n) (new.answer n)) e
-              (subst (λ l. BlockStandsFor l (block_bytes c object here) here (packets ++ p ∷ []) (new.held here) (new.answer here)) (sym (late_here here now late)) block_here)
+          | inl e ↦ subst (λ n. BlockStandsFor (with_late here now late n) (block_bytes c object n) n (packets ++ p ∷ []) (new.received n) (new.answer n)) e
+              (subst (λ l. BlockStandsFor l (block_bytes c object here) here (packets ++ p ∷ []) (new.received here) (new.answer here)) (sym (late_here here now late)) block_here)
           | inr ne ↦ let q = other.other b below (λ e. ne (sym e)) in
-              subst (λ l. BlockStandsFor l (block_bytes c object b) b (packets ++ p ∷ []) (new.held b) (new.answer b)) (sym (late_elsewhere here b now late ne))
+              subst (λ l. BlockStandsFor l (block_bytes c object b) b (packets ++ p ∷ []) (new.received b) (new.answer b)) (sym (late_elsewhere here b now late ne))
               (subst (λ h. BlockStandsFor (late b) (block_bytes c object b) b (packets ++ p ∷ []) h (new.answer b)) (sym q.0)
-              (subst (λ a. BlockStandsFor (late b) (block_bytes c object b) b (packets ++ p ∷ []) (old.held b) a) (sym q.1)
-              (other_step (late b) (block_bytes c object b) b packets p (old.held b) (old.answer b) ne (st.block b below))))
+              (subst (λ a. BlockStandsFor (late b) (block_bytes c object b) b (packets ++ p ∷ []) (old.received b) a) (sym q.1)
+              (other_step (late b) (block_bytes c object b) b packets p (old.received b) (old.answer b) ne (st.block b below))))
         ];
       })
 
@@ -172,18 +172,18 @@ pub answers_late : (p : Packet) (old new : State) → IsAligned old.configuratio
 answers_late p old new aligned add table object packets late st pk =
     let c = old.configuration in
     let here = p.id.block in
-    let shape_here = shape_step table c here p (old.held here) (new.held here) (old.answer here) (new.answer here) (st.shape here pk.block) add.here in
+    let shape_here = shape_step table c here p (old.received here) (new.received here) (old.answer here) (new.answer here) (st.shape here pk.block) add.here in
     moved table object packets p old new late false st pk add.elsewhere shape_here
-    (own_step table c object packets p (late here) (old.held here) (new.held here) (old.answer here) (new.answer here) aligned (st.run.nonsingular here pk.block) (push-all (IsPacketOf table c object) packets p st.run.honest pk) pk shape_here (st.block here pk.block) add.here)
+    (own_step table c object packets p (late here) (old.received here) (new.received here) (old.answer here) (new.answer here) aligned (st.run.nonsingular here pk.block) (push-all (IsPacketOf table c object) packets p st.run.honest pk) pk shape_here (st.block here pk.block) add.here)
 
 -- fewer blocks are late
 stands_later : (late more : ℕ → Bool) (table : List TableRow) (object : List ℕ) (packets : List Packet) (s : State) → ((b : ℕ) → more b ≡ false → late b ≡ false) → StandsForButLate late table object packets s → StandsForButLate more table object packets s
 stands_later late more table object packets s fewer st = record {
   run = st.run;
   shape = st.shape;
-  block = λ b below. weaker (late b) (more b) (block_bytes s.configuration object b) b packets (s.held b) (s.answer b) (fewer b) (st.block b below);
+  block = λ b below. weaker (late b) (more b) (block_bytes s.configuration object b) b packets (s.received b) (s.answer b) (fewer b) (st.block b below);
 } where
-  weaker : (l m : Bool) (block : List ℕ) (b : ℕ) (packets : List Packet) (h : Held) (a : Option (List ℕ)) → (m ≡ false → l ≡ false) → BlockStandsFor l block b packets h a → BlockStandsFor m block b packets h a
+  weaker : (l m : Bool) (block : List ℕ) (b : ℕ) (packets : List Packet) (h : ReceivedBlock) (a : Option (List ℕ)) → (m ≡ false → l ≡ false) → BlockStandsFor l block b packets h a → BlockStandsFor m block b packets h a
   weaker l m block b packets h None less x = (x.0, λ now. x.1 (less now))
   weaker l m block b packets h (Some bytes) less x = x
 
@@ -197,16 +197,16 @@ stands_more p old new aligned add table object packets st pk =
 -- ---- where memory is refused
 
 -- nothing changed
-unmoved : (late : ℕ → Bool) (table : List TableRow) (object : List ℕ) (packets : List Packet) (old new : State) → new.configuration ≡ old.configuration → ((b : ℕ) → b < old.configuration.source_blocks → (new.held b ≡ old.held b) × (new.answer b ≡ old.answer b))
+unmoved : (late : ℕ → Bool) (table : List TableRow) (object : List ℕ) (packets : List Packet) (old new : State) → new.configuration ≡ old.configuration → ((b : ℕ) → b < old.configuration.source_blocks → (new.received b ≡ old.received b) × (new.answer b ≡ old.answer b))
     → StandsForButLate late table object packets old → StandsForButLate late table object packets new
 unmoved late table object packets old new configuration same st =
-    let after : State = record { configuration = old.configuration; held = new.held; answer = new.answer } in
-    let is : after ≡ new = λ i. record { configuration = sym configuration i; held = new.held; answer = new.answer } in
+    let after : State = record { configuration = old.configuration; received = new.received; answer = new.answer } in
+    let is : after ≡ new = λ i. record { configuration = sym configuration i; received = new.received; answer = new.answer } in
     subst (StandsForButLate late table object packets) is (record {
       run = st.run;
-      shape = λ b below. subst (IsHeldOf table old.configuration b) (sym (same b below).0) (st.shape b below);
+      shape = λ b below. subst (IsReceivedOf table old.configuration b) (sym (same b below).0) (st.shape b below);
       block = λ b below. subst (λ h. BlockStandsFor (late b) (block_bytes old.configuration object b) b packets h (new.answer b)) (sym (same b below).0)
-          (subst (λ a. BlockStandsFor (late b) (block_bytes old.configuration object b) b packets (old.held b) a) (sym (same b below).1) (st.block b below));
+          (subst (λ a. BlockStandsFor (late b) (block_bytes old.configuration object b) b packets (old.received b) a) (sym (same b below).1) (st.block b below));
     })
 
 -- the packet is recorded, and its block is late
@@ -215,9 +215,9 @@ records_late : (p : Packet) (old new : State) → RecordsOnly old p new → (tab
 records_late p old new more table object packets late st pk =
     let c = old.configuration in
     let here = p.id.block in
-    let reads = (subst (BlockStandsFor (late here) (block_bytes c object here) here packets (old.held here)) more.here.unanswered (st.block here pk.block)).0 in
-    moved table object packets p old new late true st pk more.elsewhere (recorded_shape table c here p (old.held here) (new.held here) (st.shape here pk.block) more.here.held)
-    (subst (BlockStandsFor true (block_bytes c object here) here (packets ++ p ∷ []) (new.held here)) (sym more.here.waits) (firsts_more packets p (old.held here) (new.held here) reads more.here.held, λ now. absurd (cc now)))
+    let reads = (subst (BlockStandsFor (late here) (block_bytes c object here) here packets (old.received here)) more.here.unanswered (st.block here pk.block)).0 in
+    moved table object packets p old new late true st pk more.elsewhere (recorded_shape table c here p (old.received here) (new.received here) (st.shape here pk.block) more.here.received)
+    (subst (BlockStandsFor true (block_bytes c object here) here (packets ++ p ∷ []) (new.received here)) (sym more.here.waits) (firsts_more packets p (old.received here) (new.received here) reads more.here.received, λ now. absurd (cc now)))
 
 pub leaves_late : (p : Packet) (old new : State) → StopsEarly old p new → LeavesBlockLate old p new
 leaves_late p old new (inl same) table object packets late st pk = inl (subst (StandsForButLate late table object packets) (sym same) st)
@@ -225,22 +225,22 @@ leaves_late p old new (inr more) table object packets late st pk = inr (records_
 
 -- ---- before any packet
 
-new_block : (table : List TableRow) (c : Configuration) (object : List ℕ) (b : ℕ) → IsNonsingular (block_row table c b) → block_symbols c b ≤ (block_row table c b).extended_symbols → BlockStandsFor false (block_bytes c object b) b [] (new_held table c b) (new_answer c b)
+new_block : (table : List TableRow) (c : Configuration) (object : List ℕ) (b : ℕ) → IsNonsingular (block_row table c b) → block_symbols c b ≤ (block_row table c b).extended_symbols → BlockStandsFor false (block_bytes c object b) b [] (new_received table c b) (new_answer c b)
 new_block table c object b nonsingular fits = elim (cases_eq (block_symbols c b) 0) [
   | inl none ↦
       let bytes : block_bytes c object b ≡ [] = nil_from_length (block_bytes c object b) (length-block_bytes c object b ∙ ap (λ n. n * c.symbol_size) none ∙ omega arith) in
       let a : new_answer c b ≡ Some [] = rw (eq-eqb (block_symbols c b) 0 none) refl in
-      subst (BlockStandsFor false (block_bytes c object b) b [] (new_held table c b)) (sym a)
+      subst (BlockStandsFor false (block_bytes c object b) b [] (new_received table c b)) (sym a)
       (sym bytes, block_of_source (block_row table c b) (block_symbols c b) (has_id b []) nonsingular (record { each = λ e below. absurd (omega (arith, none)) }))
   | inr some ↦
       let a : new_answer c b ≡ None = rw (ne_eqb (block_symbols c b) 0 some) refl in
-      subst (BlockStandsFor false (block_bytes c object b) b [] (new_held table c b)) (sym a)
+      subst (BlockStandsFor false (block_bytes c object b) b [] (new_received table c b)) (sym a)
       (λ e. refl, λ now. none_determined (block_row table c b) (block_symbols c b) (omega (arith, some)) fits)
 ]
 
-pub stands_new : (table : List TableRow) (c : Configuration) (s : State) → ((b : ℕ) → b < c.source_blocks → IsHeldOf table c b (new_held table c b)) → IsNewState table c s → StandsForNone table c s
+pub stands_new : (table : List TableRow) (c : Configuration) (s : State) → ((b : ℕ) → b < c.source_blocks → IsReceivedOf table c b (new_received table c b)) → IsNewState table c s → StandsForNone table c s
 stands_new table c s shape new object run =
-    unmoved (λ _. false) table object [] (record { configuration = c; held = new_held table c; answer = new_answer c }) s new.configuration (λ b below. (new.held b below, new.answer b below)) (record {
+    unmoved (λ _. false) table object [] (record { configuration = c; received = new_received table c; answer = new_answer c }) s new.configuration (λ b below. (new.received b below, new.answer b below)) (record {
       run = run;
       shape = shape;
       block = λ b below. new_block table c object b (run.nonsingular b below) (shape b below).fits;

@@ -11,7 +11,7 @@ use Rattle.rq_standard.specs.Cutting.{block_bytes, sub_block_size}
 use Rattle.rq_standard.specs.Equations.{zero_symbol, symbol_coefficient}
 use Rattle.rq_standard.specs.TableRows.{intermediate_symbols}
 use Rattle.rq_standard.specs.Headline.{IsNonsingular, IsEncodingSymbol, IsHonestRun, block_source}
-use Rattle.rq_standard.specs.Held.{holds, AreHeldDetermining}
+use Rattle.rq_standard.specs.ReceivedBlock.{has_received, ReceivedDetermine}
 use Rattle.rq_standard.specs.Standing.{State, StandsForButLate, StandsFor, result_of}
 
 -- the xor of two objects, byte by byte
@@ -20,22 +20,22 @@ xor_bytes = add_symbols octets
 
 -- ---- what a decoder answers
 
--- the ids that are held determine each block that has no answer
+-- the ids that were received determine each block that has no answer
 abbrev pub AreUnansweredDetermined : State → Type 0
-AreUnansweredDetermined s = (b : ℕ) → b < s.configuration.source_blocks → s.answer b ≡ None → AreHeldDetermining (s.held b)
+AreUnansweredDetermined s = (b : ℕ) → b < s.configuration.source_blocks → s.answer b ≡ None → ReceivedDetermine (s.received b)
 
 -- no block's row is singular
 abbrev pub HoldsNonsingularRows : State → Type 0
-HoldsNonsingularRows s = (b : ℕ) → b < s.configuration.source_blocks → IsNonsingular (s.held b).row
+HoldsNonsingularRows s = (b : ℕ) → b < s.configuration.source_blocks → IsNonsingular (s.received b).row
 
 -- as many bytes as the object has
 pub record IsDifference (s : State) (bytes : List ℕ) : Type 0 where
   pub long : length bytes ≡ s.configuration.transfer_length
   -- zeros in a block that is answered
   pub answered : (b i : ℕ) → b < s.configuration.source_blocks → IsSome (s.answer b) → slice_index (block_bytes s.configuration bytes b) i ≡ 0
-  -- zero symbols for all ids that are held of a block whose row isn't singular
-  pub zeros : (b e : ℕ) → b < s.configuration.source_blocks → IsNonsingular (s.held b).row → holds (s.held b) e ≡ true
-      → IsEncodingSymbol (s.held b).row s.configuration.symbol_size (block_source s.configuration bytes b) e (zero_symbol s.configuration.symbol_size)
+  -- zero symbols for all ids that were received of a block whose row isn't singular
+  pub zeros : (b e : ℕ) → b < s.configuration.source_blocks → IsNonsingular (s.received b).row → has_received (s.received b) e ≡ true
+      → IsEncodingSymbol (s.received b).row s.configuration.symbol_size (block_source s.configuration bytes b) e (zero_symbol s.configuration.symbol_size)
   -- not all zeros, where no row is singular
   pub nonzero : HoldsNonsingularRows s → (i : ℕ) × (i < s.configuration.transfer_length) × (slice_index bytes i ≢ 0)
 

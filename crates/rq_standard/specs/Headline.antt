@@ -30,14 +30,14 @@ IsNonsingular row = AreDetermined row (λ x. nat_lt x row.extended_symbols)
 abbrev pub IsSingular : TableRow → Type 0
 IsSingular row = ¬ (IsNonsingular row)
 
--- which internal symbol ids are known in a block of k source symbols: those of the encoding symbol ids that came, and the padding
+-- which internal symbol ids are known in a block of k source symbols: those of the encoding symbol ids that were received, and the padding
 abbrev pub known_ids : TableRow → ℕ → (ℕ → Bool) → ℕ → Bool
 known_ids row k has x =
     if nat_lt x k then has x
     else if nat_lt x row.extended_symbols then true
     else has (x + k - row.extended_symbols)
 
--- the encoding symbol ids that came determine the block
+-- the encoding symbol ids that were received determine the block
 abbrev pub DetermineBlock : TableRow → ℕ → (ℕ → Bool) → Type 0
 DetermineBlock row k has = AreDetermined row (known_ids row k has)
 
@@ -89,7 +89,7 @@ pub record IsHonestRun (table : List TableRow) (c : Configuration) (object : Lis
 abbrev pub IsOnlyObject : List TableRow → Configuration → List Packet → List ℕ → Type 0
 IsOnlyObject table c packets object = (other : List ℕ) → IsHonestRun table c other packets → other ≡ object
 
--- in each block the ids that came determine it
+-- in each block the ids that were received determine it
 abbrev pub IsAnswerable : List TableRow → Configuration → List Packet → Type 0
 IsAnswerable table c packets = (b : ℕ) → b < c.source_blocks → DetermineBlock (block_row table c b) (block_symbols c b) (has_id b packets)
 

@@ -6,7 +6,7 @@ pub mod Cutting
 pub mod Differences
 pub mod Equations
 pub mod Headline
-pub mod Held
+pub mod ReceivedBlock
 pub mod IdLists
 pub mod Joining
 pub mod ObjectPackets

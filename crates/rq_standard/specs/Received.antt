@@ -16,7 +16,7 @@ abbrev pub first_payload : ℕ → List Packet → ℕ → Option (List ℕ)
 first_payload b [] e = None
 first_payload b (p ∷ packets) e = or_later (payload_for b p e) (first_payload b packets e)
 
--- which ids came
+-- which ids were received
 abbrev pub has_id : ℕ → List Packet → ℕ → Bool
 has_id b packets e = is_some (first_payload b packets e)
 

@@ -7,12 +7,12 @@ use Rattle.rq_standard.specs.Configuration.{Configuration}
 use Rattle.rq_standard.specs.Cutting.{block_symbols, block_bytes}
 use Rattle.rq_standard.specs.Received.{first_payload, has_id}
 use Rattle.rq_standard.specs.Headline.{DetermineBlock, block_row, IsPacketOf, IsHonestRun, IsObjectAnswer, IsOnlyObject}
-use Rattle.rq_standard.specs.Held.{Held, nothing_held, recorded, IsContradictory, IsBlockAnswer}
+use Rattle.rq_standard.specs.ReceivedBlock.{ReceivedBlock, nothing_received, with_received, IsContradictory, IsBlockAnswer}
 
--- what a decoder holds of each block, and which blocks it has answered
+-- what a decoder has received of each block, and which blocks it has answered
 pub record State : Type 0 where
   pub configuration : Configuration
-  pub held : ℕ → Held
+  pub received : ℕ → ReceivedBlock
   pub answer : ℕ → Option (List ℕ)
 
 -- two lists one after the other, where both are there
@@ -29,8 +29,8 @@ first_blocks (suc n) answer = append_both (first_blocks n answer) (answer n)
 abbrev pub result_of : State → Option (List ℕ)
 result_of s = option_map (take s.configuration.transfer_length) (first_blocks s.configuration.source_blocks s.answer)
 
--- what is held is of block b of the configuration
-pub record IsHeldOf (table : List TableRow) (c : Configuration) (b : ℕ) (h : Held) : Type 0 where
+-- what was received is of block b of the configuration
+pub record IsReceivedOf (table : List TableRow) (c : Configuration) (b : ℕ) (h : ReceivedBlock) : Type 0 where
   pub configuration : h.configuration ≡ c
   pub number : h.number ≡ b
   pub row : h.row ≡ block_row table c b
@@ -38,76 +38,76 @@ pub record IsHeldOf (table : List TableRow) (c : Configuration) (b : ℕ) (h : H
   pub checked : IsChecked h.row
   pub fits : h.source_symbols ≤ h.row.extended_symbols
 
--- what a decoder holds of a block before any packet
-abbrev pub new_held : List TableRow → Configuration → ℕ → Held
-new_held table c b = nothing_held c b (block_row table c b) (block_symbols c b)
+-- what a decoder has received of a block before any packet
+abbrev pub new_received : List TableRow → Configuration → ℕ → ReceivedBlock
+new_received table c b = nothing_received c b (block_row table c b) (block_symbols c b)
 
 -- a block of no symbols is answered from the start
 abbrev pub new_answer : Configuration → ℕ → Option (List ℕ)
 new_answer c b = if block_symbols c b == 0 then Some [] else None
 
--- nothing is held of any block of the configuration
+-- nothing was received of any block of the configuration
 pub record IsNewState (table : List TableRow) (c : Configuration) (s : State) : Type 0 where
   pub configuration : s.configuration ≡ c
-  pub held : (b : ℕ) → b < c.source_blocks → s.held b ≡ new_held table c b
+  pub received : (b : ℕ) → b < c.source_blocks → s.received b ≡ new_received table c b
   pub answer : (b : ℕ) → b < c.source_blocks → s.answer b ≡ new_answer c b
 
 -- A packet of a block with no answer is recorded, and the block is answered where that can be.
-pub record AddsOpen (old : Held) (p : Packet) (new : Held) (answer : Option (List ℕ)) : Type 0 where
-  pub held : new ≡ recorded old p.id.esi p.payload
+pub record AddsOpen (old : ReceivedBlock) (p : Packet) (new : ReceivedBlock) (answer : Option (List ℕ)) : Type 0 where
+  pub received : new ≡ with_received old p.id.esi p.payload
   pub answers : IsBlockAnswer new answer
 
 -- What a packet of a block does to it: an answered block takes nothing more.
-abbrev pub AddsToBlock : Held → Option (List ℕ) → Packet → Held → Option (List ℕ) → Type 0
+abbrev pub AddsToBlock : ReceivedBlock → Option (List ℕ) → Packet → ReceivedBlock → Option (List ℕ) → Type 0
 AddsToBlock old before p new after = MatchOption before (AddsOpen old p new after) (λ _. (new ≡ old) × (after ≡ before))
 
 -- What it does where memory is refused while its block is solved: the packet is recorded, and the block waits for its answer.
-pub record RecordsInBlock (old : Held) (before : Option (List ℕ)) (p : Packet) (new : Held) (after : Option (List ℕ)) : Type 0 where
+pub record RecordsInBlock (old : ReceivedBlock) (before : Option (List ℕ)) (p : Packet) (new : ReceivedBlock) (after : Option (List ℕ)) : Type 0 where
   pub unanswered : before ≡ None
   pub waits : after ≡ None
-  pub held : new ≡ recorded old p.id.esi p.payload
+  pub received : new ≡ with_received old p.id.esi p.payload
 
 -- what was there of the other blocks stays
 pub record IsSameElsewhere (old : State) (b : ℕ) (new : State) : Type 0 where
   pub configuration : new.configuration ≡ old.configuration
-  pub other : (n : ℕ) → n < old.configuration.source_blocks → n ≢ b → (new.held n ≡ old.held n) × (new.answer n ≡ old.answer n)
+  pub other : (n : ℕ) → n < old.configuration.source_blocks → n ≢ b → (new.received n ≡ old.received n) × (new.answer n ≡ old.answer n)
 
 -- what a packet that isn't refused does, whoever sent it
 pub record Adds (old : State) (p : Packet) (new : State) : Type 0 where
-  pub here : AddsToBlock (old.held p.id.block) (old.answer p.id.block) p (new.held p.id.block) (new.answer p.id.block)
+  pub here : AddsToBlock (old.received p.id.block) (old.answer p.id.block) p (new.received p.id.block) (new.answer p.id.block)
   pub elsewhere : IsSameElsewhere old p.id.block new
 
 -- what it does where memory is refused while its block is solved
 pub record RecordsOnly (old : State) (p : Packet) (new : State) : Type 0 where
-  pub here : RecordsInBlock (old.held p.id.block) (old.answer p.id.block) p (new.held p.id.block) (new.answer p.id.block)
+  pub here : RecordsInBlock (old.received p.id.block) (old.answer p.id.block) p (new.received p.id.block) (new.answer p.id.block)
   pub elsewhere : IsSameElsewhere old p.id.block new
 
 -- what a packet does that contradicts what its block holds, or comes after one that did: it is recorded, and the block has no answer
 pub record Contradicts (old : State) (p : Packet) (new : State) : Type 0 where
   pub records : RecordsOnly old p new
-  pub contradictory : IsContradictory (new.held p.id.block)
+  pub contradictory : IsContradictory (new.received p.id.block)
 
--- what is held of a block is contradictory, and it has no answer
+-- what was received of a block is contradictory, and it has no answer
 pub record IsBlockContradictory (s : State) (b : ℕ) : Type 0 where
   pub below : b < s.configuration.source_blocks
   pub unanswered : s.answer b ≡ None
-  pub contradictory : IsContradictory (s.held b)
+  pub contradictory : IsContradictory (s.received b)
 
 -- a block that was contradictory stays so
 abbrev pub KeepsContradictions : State → State → Type 0
 KeepsContradictions old new = (b : ℕ) → IsBlockContradictory old b → IsBlockContradictory new b
 
--- what is held of a block after these packets, where it takes them all
-abbrev pub held_after : List TableRow → Configuration → ℕ → List Packet → Held
-held_after table c b packets = record { configuration = c; number = b; row = block_row table c b; source_symbols = block_symbols c b; received = first_payload b packets }
+-- what was received of a block after these packets, where it takes them all
+abbrev pub received_after : List TableRow → Configuration → ℕ → List Packet → ReceivedBlock
+received_after table c b packets = record { configuration = c; number = b; row = block_row table c b; source_symbols = block_symbols c b; received = first_payload b packets }
 
 -- of each block without an answer this is held
-abbrev pub HoldsRun : List TableRow → List Packet → State → Type 0
-HoldsRun table packets s = (b : ℕ) → b < s.configuration.source_blocks → s.answer b ≡ None → s.held b ≡ held_after table s.configuration b packets
+abbrev pub HasReceivedRun : List TableRow → List Packet → State → Type 0
+HasReceivedRun table packets s = (b : ℕ) → b < s.configuration.source_blocks → s.answer b ≡ None → s.received b ≡ received_after table s.configuration b packets
 
 -- and so it is one packet later
-abbrev pub HoldsMore : State → Packet → State → Type 0
-HoldsMore old p new = (table : List TableRow) (packets : List Packet) → HoldsRun table packets old → HoldsRun table (packets ++ p ∷ []) new
+abbrev pub HasReceivedMore : State → Packet → State → Type 0
+HasReceivedMore old p new = (table : List TableRow) (packets : List Packet) → HasReceivedRun table packets old → HasReceivedRun table (packets ++ p ∷ []) new
 
 -- Where memory is refused for a packet: everything is as it was, or the packet is recorded and its block waits for its answer.
 abbrev pub StopsEarly : State → Packet → State → Type 0
@@ -117,16 +117,16 @@ StopsEarly old p new = (new ≡ old) ⊎ RecordsOnly old p new
 abbrev pub Stops : State → Packet → State → Type 0
 Stops old p new = StopsEarly old p new ⊎ Adds old p new
 
--- What is held of a block, and its answer, after a list: answered and determined, or holding the first payloads and not determined. An answer can be late, where memory was refused while it was solved.
-abbrev pub BlockStandsFor : Bool → List ℕ → ℕ → List Packet → Held → Option (List ℕ) → Type 0
+-- What was received of a block, and its answer, after a list: answered and determined, or holding the first payloads and not determined. An answer can be late, where memory was refused while it was solved.
+abbrev pub BlockStandsFor : Bool → List ℕ → ℕ → List Packet → ReceivedBlock → Option (List ℕ) → Type 0
 BlockStandsFor late block b packets h (Some bytes) = (bytes ≡ block) × DetermineBlock h.row h.source_symbols (has_id b packets)
 BlockStandsFor late block b packets h None = ((e : ℕ) → h.received e ≡ first_payload b packets e) × (late ≡ false → DetermineBlock h.row h.source_symbols (has_id b packets) → ⊥)
 
 -- the decoder stands for the list of an honest run, but for blocks whose answers are late
 pub record StandsForButLate (late : ℕ → Bool) (table : List TableRow) (object : List ℕ) (packets : List Packet) (s : State) : Type 0 where
   pub run : IsHonestRun table s.configuration object packets
-  pub shape : (b : ℕ) → b < s.configuration.source_blocks → IsHeldOf table s.configuration b (s.held b)
-  pub block : (b : ℕ) → b < s.configuration.source_blocks → BlockStandsFor (late b) (block_bytes s.configuration object b) b packets (s.held b) (s.answer b)
+  pub shape : (b : ℕ) → b < s.configuration.source_blocks → IsReceivedOf table s.configuration b (s.received b)
+  pub block : (b : ℕ) → b < s.configuration.source_blocks → BlockStandsFor (late b) (block_bytes s.configuration object b) b packets (s.received b) (s.answer b)
 
 -- the decoder stands for the list of an honest run
 abbrev pub StandsFor : List TableRow → List ℕ → List Packet → State → Type 0
