@@ -1,27 +1,33 @@
 -- What is found of a system is found of the bits and octets that it was made of.
 use Rattle.std.proofs.Common.{◌≡◌, ◌<◌, ℕ, List, [], ◌∷◌, ◌++◌, Option, None, Some, length, arith}
-use Rattle.std.specs.Prelude.{Vec}
+use Rattle.std.specs.Prelude.{IfSome, Vec}
 use Rattle.std.specs.Global.{Global}
 use Rattle.rq_algebra.specs.Operations.{Operation, Reorder}
 use Rattle.rq_standard.specs.BitTable.{BitTable}
 use Rattle.rq_standard.specs.ConstraintMatrix.{with_octet_rows}
 use Rattle.rq_standard.specs.OctetField.{octets}
+use Rattle.rq_null_vector.specs.Homogeneous.{IsHomogeneousColumn}
+use Rattle.rq_null_vector.proofs.FreeColumns.{shows_same}
+use Rattle.rq_operations.specs.RecordedOperations.{operations_of}
 use Rattle.rq_parts.specs.DenseOctetMatrix.{OctetTable, entry_of}
 use Rattle.rq_peeling.specs.SystemRows.{one_in}
 use Rattle.rq_solver.specs.Phases.{SolvesSystem, SolvesRows}
-use Rattle.rq_peeling.specs.System.{IsSystemOf, rows_of}
+use Rattle.rq_solver.specs.Solving.{IsSolved}
+use Rattle.rq_solver.specs.declared.pi_solver.solved.Solved.{Solved}
+use Rattle.rq_solver.specs.declared.pi_solver.solved.Solved.TheVariants.{Operations, Undetermined}
+use Rattle.rq_peeling.specs.System.{IsSystemOf, rows_of_system}
 use Rattle.rq_peeling.specs.declared.system.System.{System}
 use Rattle.rq_solver.proofs.OctetRows.{same_rows}
 use Rattle.rq_elimination.proofs.RowStepLaws.{SameEntries}
 use Rattle.rq_solver.proofs.SolutionLaws.{finds_same, homogeneous_same}
 
 module _ (bits : BitTable) (hdpc : OctetTable) (first : ℕ) (system : System) (is : IsSystemOf bits hdpc first system) where
-  same_entries : SameEntries (length system.ones) system.width (rows_of system) (with_octet_rows system.first_hdpc (length system.hdpc.rows) bits.bit (entry_of system.hdpc))
+  same_entries : SameEntries (length system.ones) system.width (rows_of_system system) (with_octet_rows system.first_hdpc (length system.hdpc.rows) bits.bit (entry_of system.hdpc))
   same_entries =
       same_rows system.first_hdpc (length system.hdpc.rows) (entry_of system.hdpc) (length system.ones) system.width (one_in system.ones) bits.bit
       (λ i k l m. (is.ones_are.each i (rw is.ones_are.count at l)).once k (omega arith) (rw is.width_is at m))
 
-  pub rows_of_bits : (i k : ℕ) → i < bits.height → k < bits.width → rows_of system i k ≡ with_octet_rows first (length hdpc.rows) bits.bit (entry_of hdpc) i k
+  pub rows_of_bits : (i k : ℕ) → i < bits.height → k < bits.width → rows_of_system system i k ≡ with_octet_rows first (length hdpc.rows) bits.bit (entry_of hdpc) i k
   rows_of_bits i k l m = rw (← is.hdpc_is, ← is.first_is) (same_entries i k (rw is.ones_are.count l) (rw is.width_is m))
 
   -- what is found of a system is found of the bits and the octets that it was made of
@@ -29,3 +35,11 @@ module _ (bits : BitTable) (hdpc : OctetTable) (first : ℕ) (system : System) (
       → SolvesRows bits.height bits.width (with_octet_rows first (length hdpc.rows) bits.bit (entry_of hdpc)) recorded answer
   attempt_of_bits recorded None found = rw (← is.hdpc_is, ← is.first_is, ← is.width_is, ← is.ones_are.count) (homogeneous_same octets (length system.ones) system.width _ _ same_entries found)
   attempt_of_bits recorded (Some order) found = rw (← is.hdpc_is, ← is.first_is, ← is.width_is, ← is.ones_are.count) (finds_same octets (length system.ones) system.width _ _ same_entries (recorded ++ Reorder order.items ∷ []) found)
+
+  pub solved_of_bits : (solved : Solved) → IsSolved (length system.ones) system.width (rows_of_system system) solved → IsSolved bits.height bits.width (with_octet_rows first (length hdpc.rows) bits.bit (entry_of hdpc)) solved
+  solved_of_bits (Operations operations) found = rw (← is.hdpc_is, ← is.first_is, ← is.width_is, ← is.ones_are.count) (finds_same octets (length system.ones) system.width _ _ same_entries (operations_of operations) found)
+  solved_of_bits (Undetermined column) found = (attempt_of_bits [] None found.0, shown_of_bits column found.1) where
+    shown_of_bits : (column : Option (Vec ℕ Global)) → IfSome column (λ shown. IsHomogeneousColumn (length system.ones) system.width (rows_of_system system) shown.items)
+        → IfSome column (λ shown. IsHomogeneousColumn bits.height bits.width (with_octet_rows first (length hdpc.rows) bits.bit (entry_of hdpc)) shown.items)
+    shown_of_bits None shown = tt
+    shown_of_bits (Some column) shown = rw (← is.hdpc_is, ← is.first_is, ← is.width_is, ← is.ones_are.count) (shows_same (length system.ones) system.width _ _ same_entries (Some column) shown)

@@ -6,7 +6,7 @@ use Rattle.rq_algebra.specs.Steps.{AddsRow, ScalesRow}
 use Rattle.rq_algebra.specs.Systems.{at, HasElements}
 use Rattle.rq_algebra.proofs.Sums.{add_zero, mul_zero, mul_one}
 use Rattle.rq_standard.specs.OctetField.{octets}
-use Rattle.rq_solver.specs.HdpcOctets.{ClearsOctets, AreOctetsIn, HasPivotsBeside, PivotsAreCleared, AreShown, CombinesOctets, ChangesOctets, octets_from, with_zeros}
+use Rattle.rq_solver.specs.HdpcOctets.{ClearsOctets, AreOctetsIn, HasPivotsBeside, PivotsAreCleared, ShowHdpcOctets, CombinesOctets, ChangesOctets, octets_from, with_zeros}
 use Rattle.rq_elimination.specs.Recorded.{Performs}
 use Rattle.rq_elimination.specs.RowSteps.{sum_step, rows_after}
 use Rattle.rq_elimination.specs.declared.recorded.RecordedRows.{RecordedRows}
@@ -23,6 +23,10 @@ plus_zero_times x c y e = ap (λ (z : ℕ). octets.add x (octets.mul c z)) e ∙
 pub plus_own : (x c y : ℕ) → c < 256 → x ≡ c → y ≡ 1 → octets.add x (octets.mul c y) ≡ 0
 plus_own x c y small e f = ap (λ (z : ℕ). octets.add x (octets.mul c z)) f ∙ ap (octets.add x) (mul_one octets c small) ∙ ap (λ (z : ℕ). octets.add z c) e ∙ octets.add_self c
 
+-- a row with 0 in a column keeps it as it takes a multiple of another one
+zero_takes_zero : (dest src scalar : ℕ) (m : ℕ → ℕ → ℕ) (k : ℕ) → m src k ≡ 0 → m dest k ≡ 0 → rows_after octets (sum_step dest src scalar ∷ []) m dest k ≡ 0
+zero_takes_zero dest src scalar m k none zero = sum_step-here dest src scalar m k (rw none (lit< tt)) ∙ plus_zero_times (m dest k) scalar (m src k) none ∙ zero
+
 -- ---- steps among the HDPC rows
 
 module _ (first count width : ℕ) where
@@ -32,6 +36,7 @@ module _ (first count width : ℕ) where
     performs = performs_none state;
     elsewhere = λ m r k out. rows_after-none octets m r k;
     shown = λ m l k n had i o. rows_after-none octets m (first + i) l ∙ had i o;
+    kept = λ m k zeros i o. rows_after-none octets m (first + i) k ∙ zeros i o;
   }
 
   pub combines_more : (a b c : ℕ → ℕ → ℕ) (old cur new : RecordedRows) → CombinesOctets first count width a b old cur → CombinesOctets first count width b c cur new → CombinesOctets first count width a c old new
@@ -40,6 +45,7 @@ module _ (first count width : ℕ) where
     performs = performs_more done.steps next.steps old cur new done.performs next.performs;
     elsewhere = λ m r k out. rows_after-next octets done.steps next.steps m r k ∙ next.elsewhere (rows_after octets done.steps m) r k out ∙ done.elsewhere m r k out;
     shown = λ m l k n had i o. rows_after-next octets done.steps next.steps m (first + i) l ∙ next.shown (rows_after octets done.steps m) l k n (done.shown m l k n had) i o;
+    kept = λ m k zeros i o. rows_after-next octets done.steps next.steps m (first + i) k ∙ next.kept (rows_after octets done.steps m) k (done.kept m k zeros) i o;
   }
 
   module _ (was now : ℕ → ℕ → ℕ) (old new : RecordedRows) (are : HasElements octets count width was) (dest row scalar : ℕ) (in_dest : dest < count) (row_is : row ≡ first + dest) where
@@ -55,6 +61,10 @@ module _ (first count width : ℕ) where
             rw e (sum_step-here (first + dest) (first + src) scalar m l small ∙ cc (had dest in_dest, had src in_src, adds.at_dest k n))
         | inr d ↦ sum_step-elsewhere (first + dest) (first + src) scalar m (first + i) l (λ e. d (omega (arith, e))) ∙ had i o ∙ sym (adds.elsewhere i k o n d)
       ];
+      kept = λ m k zeros i o. elim (cases_eq i dest) [
+        | inl e ↦ rw e (zero_takes_zero (first + dest) (first + src) scalar m k (zeros src in_src) (zeros dest in_dest))
+        | inr d ↦ sum_step-elsewhere (first + dest) (first + src) scalar m (first + i) k (λ e. d (omega (arith, e))) ∙ zeros i o
+      ];
     }
 
     pub combines_scaling : ScalesRow octets count width dest scalar was now → Performs (MulAssign row scalar ∷ []) old new → CombinesOctets first count width was now old new
@@ -65,6 +75,10 @@ module _ (first count width : ℕ) where
       shown = λ m l k n had i o. elim (cases_eq i dest) [
         | inl e ↦ rw e (scaling-here (first + dest) scalar m l ∙ cc (had dest in_dest, scales.at_dest k n))
         | inr d ↦ scaling-elsewhere (first + dest) scalar m (first + i) l (λ e. d (omega (arith, e))) ∙ had i o ∙ sym (scales.elsewhere i k o n d)
+      ];
+      kept = λ m k zeros i o. elim (cases_eq i dest) [
+        | inl e ↦ rw e (scaling-here (first + dest) scalar m k ∙ ap (octets.mul scalar) (zeros dest in_dest) ∙ mul_zero octets scalar)
+        | inr d ↦ scaling-elsewhere (first + dest) scalar m (first + i) k (λ e. d (omega (arith, e))) ∙ zeros i o
       ];
     }
 
@@ -84,6 +98,7 @@ module _ (rows order places : List ℕ) (first count width : ℕ) where
     performs = performs_none state;
     elsewhere = λ m r k out. rows_after-none octets m r k;
     shown = λ m pivots had i p l n. rows_after-none octets m (first + i) (at order p) ∙ had i p l n;
+    kept = λ m k none zeros i o. rows_after-none octets m (first + i) k ∙ zeros i o;
   }
 
   -- the octets matter in the pivots' columns alone
@@ -93,6 +108,7 @@ module _ (rows order places : List ℕ) (first count width : ℕ) where
     performs = changes.performs;
     elsewhere = changes.elsewhere;
     shown = λ m pivots had i p l n. changes.shown m pivots had i p l n ∙ same i p l n;
+    kept = changes.kept;
   }
 
   pub in_width : (old : RecordedRows) → HasPivotsBeside rows order places first count width old → (p : ℕ) → p < length rows → at order p < width
@@ -104,6 +120,7 @@ module _ (rows order places : List ℕ) (first count width : ℕ) where
     performs = combines.performs;
     elsewhere = combines.elsewhere;
     shown = λ m pivots had i p l n. combines.shown m (at order p) (at order p) (in_width old beside p n) (λ j o. had j p o n) i l;
+    kept = λ m k none zeros. combines.kept m k zeros;
   }
 
   pub changes_more : (a b c : ℕ → ℕ → ℕ) (old cur new : RecordedRows) → HasPivotsBeside rows order places first count width old
@@ -116,6 +133,8 @@ module _ (rows order places : List ℕ) (first count width : ℕ) where
         let between_m : ℕ → ℕ → ℕ = rows_after octets done.steps m in
         let still : PivotsAreCleared rows order between_m = (λ (q : ℕ) (o : q < length rows). record { entries = λ j u. done.elsewhere m (at rows q) (at order j) (λ i v. beside.apart i q v o) ∙ (pivots q o).entries j u }) in
         rows_after-next octets done.steps next.steps m (first + i) (at order p) ∙ next.shown between_m still (done.shown m pivots had) i p l n;
+    kept = λ m k none zeros i o. rows_after-next octets done.steps next.steps m (first + i) k
+        ∙ next.kept (rows_after octets done.steps m) k (λ p l. done.elsewhere m (at rows p) k (λ j n. beside.apart j p n l) ∙ none p l) (done.kept m k none zeros) i o;
   }
 
   -- ---- the rows get 0 in a pivot's column, one after another
@@ -151,7 +170,7 @@ module _ (rows order places : List ℕ) (first count width : ℕ) where
 
     -- another takes its octet times the pivot's row
     module _ (small : scalar < 256) (scalar_is : scalar ≡ octet row (at order place)) (performs : Performs (sum_step (first + row) (at rows place) scalar ∷ []) old new) where
-      module _ (m : ℕ → ℕ → ℕ) (pivots : PivotsAreCleared rows order m) (had : AreShown rows order first count was m) where
+      module _ (m : ℕ → ℕ → ℕ) (pivots : PivotsAreCleared rows order m) (had : ShowHdpcOctets rows order first count was m) where
         had_octet : (p : ℕ) → p < length rows → m (first + row) (at order p) ≡ octet row (at order p)
         unfolding was
         had_octet p l = had row p in_rows l ∙ same_behind (at order place) row octet row (at order p) (omega arith)
@@ -184,6 +203,10 @@ module _ (rows order places : List ℕ) (first count width : ℕ) where
           | inl e ↦ rw e (elim (cases_eq p place) [ inl f ↦ rw f (this_column m pivots had) | inr d ↦ other_column m pivots had p n d ])
           | inr d ↦ sum_step-elsewhere (first + row) (at rows place) scalar m (first + i) (at order p) (λ e. d (omega (arith, e))) ∙ had i p l n ∙ sym (other_rows i (at order p) d)
         ];
+        kept = λ m k none zeros i o. elim (cases_eq i row) [
+          | inl e ↦ rw e (zero_takes_zero (first + row) (at rows place) scalar m k (none place is_pivot) (zeros row in_rows))
+          | inr d ↦ sum_step-elsewhere (first + row) (at rows place) scalar m (first + i) k (λ e. d (omega (arith, e))) ∙ zeros i o
+        ];
       }
 
   -- ---- one column after another
@@ -211,6 +234,7 @@ module _ (rows order places : List ℕ) (first count width : ℕ) where
     performs = changes.performs;
     elements = λ i p l n. are i (at order p) l (in_width old beside p n);
     elsewhere = changes.elsewhere;
+    kept = changes.kept;
     cleared = λ m pivots had i p l n.
         let place : at places (at order p) ≡ p = (beside.columns.ordered p (omega (arith, beside.few, n))).1 in
         let early : at order p < end = elim (cases_lt (at order p) end) [
@@ -228,4 +252,5 @@ clears_none rows order octet first count state none = record {
   elements = λ i p l n. rw (none p n i l) (lit< tt);
   elsewhere = λ m r k out. rows_after-none octets m r k;
   cleared = λ m pivots had i p l n. rows_after-none octets m (first + i) (at order p) ∙ had i p l n ∙ none p n i l;
+  kept = λ m k zeros had i o. rows_after-none octets m (first + i) k ∙ had i o;
 }

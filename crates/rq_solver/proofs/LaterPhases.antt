@@ -1,5 +1,5 @@
 -- The phases behind the first, one after another.
-use Rattle.std.proofs.Common.{◌≡◌, ℕ, ◌+◌, ◌-◌, ◌*◌, ◌<◌, ◌≤◌, Bool, List, None, Some, Vec, length, drop, map, sym, ap, ◌∙◌, arith}
+use Rattle.std.proofs.Common.{◌≡◌, ℕ, ◌+◌, ◌-◌, ◌*◌, ◌<◌, ◌≤◌, Bool, List, Option, None, Some, Vec, length, drop, map, sym, ap, ◌∙◌, arith}
 use Rattle.std.specs.Global.{Global}
 use Rattle.std.specs.List.Sorted.{IsPermutation}
 use Rattle.std.proofs.lemmas.List.{get_or-drop, length-drop}
@@ -8,10 +8,13 @@ use Rattle.rq_elimination.specs.Recorded.{ChangesRows}
 use Rattle.rq_elimination.specs.OperationCounts.{additions, triangle}
 use Rattle.rq_elimination.specs.RowSteps.{IsEchelon}
 use Rattle.rq_elimination.specs.declared.counts.PhaseEnds.{PhaseEnds}
-use Rattle.rq_peeling.specs.Peeled.{Pivots}
+use Rattle.rq_peeling.specs.Peeled.{IsPeeled, Pivots}
+use Rattle.rq_peeling.specs.System.{rows_of_system}
+use Rattle.rq_peeling.specs.declared.system.System.{System}
 use Rattle.rq_solver.specs.EliminationState.{eliminated_at, inactive_count, left_rows, sparsified_at, substituted_at, AddsLater, IsUnderWay, KeepsPivots}
+use Rattle.rq_solver.specs.FirstPhase.{HasPeeledPivots}
 use Rattle.rq_solver.specs.FourthPhase.{FinishesPivotRows, Sparsifies}
-use Rattle.rq_solver.specs.Phases.{FindsOrder, LacksPivots, SolvesInactive}
+use Rattle.rq_solver.specs.Phases.{ClearsPivots, FindsOrder, LacksPivots, SolvesInactive, SolvesSystem}
 use Rattle.rq_solver.specs.RowOrder.{ListsRows}
 use Rattle.rq_solver.specs.SecondPhase.{SubstitutesBack}
 use Rattle.rq_solver.specs.declared.pi_solver.elimination.Elimination.{Elimination}
@@ -49,12 +52,12 @@ echelon_kept old new marks keeps rows under back echelon =
 
 -- ---- a column is left without a pivot
 
-module _ (old new : Elimination) (under : IsUnderWay old) (ordered : ListsRows (length old.additions.ones) old.peeling.rows old.row_order.items) (lacks : LacksPivots old new) (permuted : IsPermutation (left_rows old) (left_rows new)) where
+module _ (old new : Elimination) (under : IsUnderWay old) (ordered : ListsRows (length old.additions.ones) old.peeling.rows old.row_order.items) (lacks : LacksPivots old new) where
   pub finds_none : FindsOrder old new None
   finds_none = λ system peeled.
       let columns = under.peeled.peeled in
       homogeneous_of_peeled (length old.recorded.table.rows) (length old.peeling.places) system old.peeling.rows old.peeling.order old.peeling.places columns.columns (rw under.height columns.in_rows) old.row_order.items (rw under.height ordered)
-      (inactive_count old) old.recorded new.recorded peeled (all_columns old under columns.few) (narrow old under) lacks.changes (left_rows new) permuted lacks.stuck
+      (inactive_count old) old.recorded new.recorded peeled (all_columns old under columns.few) (narrow old under) lacks.changes (left_rows new) lacks.permuted lacks.stuck
 
   pub few_stuck : additions new.recorded.operations ≤ additions old.recorded.operations + inactive_count old * (length (left_rows old) - 1) → AddsLater old new
   few_stuck few =
@@ -109,6 +112,7 @@ module _ (first forward sparse back last : Elimination) (marks : List Bool) (r :
     sparse = sparse.recorded;
     back = back.recorded;
     marks = marks;
+    permuted = rw left_forward r.permuted;
     changes = r.changes;
     echelon = rw left_forward r.echelon;
     sparsifies = rw (r.keeps_forward.peeling, r.keeps_forward.additions) at r.takes;
@@ -128,7 +132,7 @@ module _ (first forward sparse back last : Elimination) (marks : List Bool) (r :
       let starts : (p : ℕ) → p < length first.peeling.rows → at placed p ≡ at first.peeling.rows p = rw to_last.peeling at starts_last in
       rw (rows_are, to_last.peeling)
       (finds_by_peeled (length first.recorded.table.rows) (length first.peeling.places) system first.peeling.rows first.peeling.order first.peeling.places columns.columns (rw r.under.height columns.in_rows) first.row_order.items (rw r.under.height r.ordered)
-      (inactive_count first) first.recorded found.forward peeled (all_columns first r.under columns.few) (narrow first r.under) found.changes (left_rows last) (rw left_forward r.permuted)
+      (inactive_count first) first.recorded found.forward peeled (all_columns first r.under columns.few) (narrow first r.under) found.changes (left_rows last) found.permuted
       first.additions.ones found.marks found.sparse found.back last.recorded found.echelon found.sparsifies found.reduces found.finishes placed long starts)
 
   pub few_solved : additions forward.recorded.operations + triangle (inactive_count first) ≤ additions first.recorded.operations + inactive_count first * (length (left_rows first) - 1)
@@ -144,3 +148,12 @@ module _ (first forward sparse back last : Elimination) (marks : List Bool) (r :
       let third : additions back.recorded.operations ≤ additions sparse.recorded.operations + triangle (inactive_count first) = rw (same_count first sparse to_sparse) at three in
       let fourth : additions last.recorded.operations ≤ additions back.recorded.operations + length first.peeling.rows * (inactive_count first + first.sparsify_limit) = rw (same_count first back to_back, to_back.peeling, to_back.limit) at four in
       omega (arith, one, second, third, fourth, bound)
+
+-- ---- behind the first phase of a system
+
+-- what is found of the rows that the first phase left is found of the system
+pub attempt_of : (system : System) (peeling : Pivots) (first last : Elimination) (answer : Option (Vec ℕ Global)) → IsPeeled system.width system.ones peeling → first.peeling ≡ peeling → ClearsPivots system peeling first.row_order.items first.recorded → FindsOrder first last answer
+    → SolvesSystem system last.recorded.operations answer
+attempt_of system peeling first last answer peeled is cleared found =
+    let here : HasPeeledPivots (length first.recorded.table.rows) (length first.peeling.places) (rows_of_system system) first.peeling (left_rows first) first.recorded = rw (is, cleared.height_is, peeled.columns.place_count) cleared in
+    rw (cleared.height_is, is, peeled.columns.place_count) at (found (rows_of_system system) here)

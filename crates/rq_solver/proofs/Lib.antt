@@ -1,10 +1,12 @@
 pub mod BitAttempts
+pub mod ChangedColumns
 pub mod CountLaws
 pub mod EchelonRows
 pub mod EquationLaws
 pub mod FilledRows
 pub mod FinishedPivots
 pub mod HdpcClearing
+pub mod HomogeneousColumns
 pub mod LaterPhases
 pub mod LeadingRows
 pub mod ListingLaws
@@ -16,7 +18,9 @@ pub mod PivotsCleared
 pub mod PivotsTaken
 pub mod ReducedWords
 pub mod RowClearing
+pub mod SetColumns
 pub mod SolutionLaws
+pub mod StepDots
 pub mod Substitution
 pub mod TakenAgain
 pub mod UnderWay

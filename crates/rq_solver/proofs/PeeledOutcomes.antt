@@ -11,13 +11,15 @@ use Rattle.rq_algebra.specs.Arrangements.{ArePlaces, IsFewOn}
 use Rattle.rq_algebra.proofs.Elimination.{ReadsPivots, HasFirstPivots}
 use Rattle.rq_algebra.specs.Following.{Follows}
 use Rattle.rq_algebra.specs.Operations.{Operation, Reorder, FindsColumn}
-use Rattle.rq_algebra.specs.Systems.{at, stacked, HasElements, HasHomogeneousColumn}
-use Rattle.rq_algebra.proofs.FewEquations.{homogeneous_of_few}
+use Rattle.rq_algebra.specs.Systems.{at, dot, stacked, HasElements, HasHomogeneousColumn, IsColumn, Solves}
+use Rattle.rq_algebra.proofs.FewEquations.{dot_places, homogeneous_of_few}
 use Rattle.rq_algebra.proofs.Pivots.{finds_by_pivots, homogeneous_back}
 use Rattle.rq_algebra.proofs.Reduction.{pivots_of_first}
 use Rattle.rq_algebra.proofs.OperationRuns.{follows_none}
 use Rattle.rq_algebra.proofs.Stacks.{stacked_above, stacked_below}
+use Rattle.rq_algebra.proofs.Sums.{dot_same, dot_split, dot_zero, zero_mul}
 use Rattle.rq_standard.specs.OctetField.{octets}
+use Rattle.rq_null_vector.specs.Homogeneous.{IsHomogeneousColumn}
 use Rattle.rq_parts.specs.DenseOctetMatrix.{entry_of}
 use Rattle.rq_solver.specs.FirstPhase.{HasPeeledPivots}
 use Rattle.rq_solver.specs.FourthPhase.{FinishesPivots, IsFinished, Sparsifies}
@@ -32,7 +34,8 @@ use Rattle.rq_elimination.proofs.Performing.{below_range, changes_keep, shows_af
 use Rattle.rq_elimination.proofs.Choices.{if_same, if_apart}
 use Rattle.rq_solver.proofs.PivotsCleared.{left_below, left_apart, pivot_or_left}
 use Rattle.rq_elimination.proofs.RowStepLaws.{rows_after-elements, follows_steps}
-use Rattle.rq_elimination.proofs.StepColumns.{rows_after-next}
+use Rattle.rq_elimination.proofs.StepColumns.{rows_after-apart, rows_after-next, Contains-range}
+use Rattle.rq_solver.proofs.StepDots.{rows_after-says, zeros_back}
 
 -- what was recorded for steps among all rows does to values what it did to the rows
 module _ (height width : ℕ) (system : ℕ → ℕ → ℕ) (steps : List Operation) (among : All (IsStepAmong octets (range_with_len 0 height)) steps) (small : HasElements octets height width system) where
@@ -155,6 +158,53 @@ module _ (height width : ℕ) (system : ℕ → ℕ → ℕ) (rows order places 
 
     pub homogeneous_of_peeled : HasHomogeneousColumn octets height width system
     homogeneous_of_peeled = homogeneous_back octets height width system meant steps (steps_follow height width system steps among peeled.elements) (homogeneous_of_few octets height width (pivots + stuck.done) meant row_of (at order) (steps_elements height width system steps among peeled.elements) few)
+
+  -- ---- a column that solves the pivots' rows as they were handed in, and those that are left as they are now
+
+  module _ (column : List ℕ) (alone : (m : ℕ → ℕ → ℕ) (k : ℕ) → ((p : ℕ) → p < pivots → m (at rows p) k ≡ 0) → (p : ℕ) → p < pivots → rows_after octets middle.operations m (at rows p) k ≡ m (at rows p) k)
+      (handed : (p : ℕ) → p < pivots → dot octets width (system (at rows p)) (at column) ≡ 0)
+      (now : (q : ℕ) → q < length reduced → dot octets inactive (entry_of last.table (at reduced q)) (λ f. at column (at order (pivots + f))) ≡ 0) where
+    says : ℕ → ℕ → ℕ
+    says i k = dot octets width (system i) (at column)
+
+    says_is : (i : ℕ) → Contains (range_with_len 0 height) i → says i 0 ≡ dot octets width (system i) (at column)
+    unfolding says
+    says_is i c = refl
+
+    -- a pivot's row took no rows but those of pivots
+    pivot_says : (p : ℕ) → p < pivots → dot octets width (meant (at rows p)) (at column) ≡ 0
+    unfolding says
+    pivot_says p l =
+        let all : List ℕ = range_with_len 0 height in
+        sym (rows_after-says octets all width 0 (at column) steps says system among says_is (at rows p) (Contains-range height (at rows p) (pivot_below p l)))
+        ∙ rows_after-next octets middle.operations changes.steps says (at rows p) 0
+        ∙ rows_after-apart octets left changes.steps (rows_after octets middle.operations says) (at rows p) 0 changes.within (λ c. left_apart height rows listed listing (at rows p) p c l refl)
+        ∙ alone says 0 handed p l ∙ handed p l
+
+    left_says : (q : ℕ) → q < length reduced → dot octets width (meant (at reduced q)) (at column) ≡ 0
+    left_says q l =
+        let r : ℕ = at reduced q in
+        let row : ℕ → ℕ = λ k. meant r (at order k) in
+        let entries : ℕ → ℕ = λ k. at column (at order k) in
+        let first : dot octets pivots row entries ≡ 0 = dot_zero octets pivots row entries (λ p m. ap (λ (v : ℕ). octets.mul v (entries p)) (left_pivot r p (in_left q l) m) ∙ zero_mul octets (entries p)) in
+        let second : dot octets inactive (λ f. row (pivots + f)) (λ f. entries (pivots + f)) ≡ 0 = dot_same octets inactive _ (entry_of last.table r) _ _ (λ f m. inactive_at r f (reduced_below q l) m) (λ f m. refl) ∙ now q l in
+        let whole : dot octets (pivots + inactive) row entries ≡ 0 = dot_split octets pivots inactive row entries ∙ cc (first, second, octets.zero_add 0) in
+        sym (dot_places octets width (meant r) (at column) (at order) (columns_apart width (omega arith))) ∙ rw wide at whole
+
+    meant_solved : Solves octets height width meant (at column) (λ _. 0)
+    meant_solved = record {
+      at = λ i l. elim (pivot_or_left height rows listed listing i l) [
+        | inl p ↦ rw (← p.2) (pivot_says p.0 p.1)
+        | inr c ↦
+            let d = Contains-permutation left reduced i permuted c in
+            let is : at reduced d.0 ≡ i = get_or_default reduced d.0 0 i d.1 ∙ d.2 in
+            rw (← is) (left_says d.0 d.1)
+      ];
+    }
+
+    pub shown_by_peeled : length column ≡ width → IsColumn octets width (at column) → (index : ℕ) → index < width → at column index ≢ 0 → IsHomogeneousColumn height width system column
+    shown_by_peeled count elements index below nonzero =
+        record { count = count; elements = elements; solves = zeros_back octets height width system meant steps (steps_follow height width system steps among peeled.elements) (at column) meant_solved; index = index; below = below; nonzero = nonzero }
 
   -- ---- all columns with pivots
 

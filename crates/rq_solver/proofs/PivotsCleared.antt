@@ -169,9 +169,14 @@ module _ (lists : List (List ℕ)) (first : ℕ) (hdpc : OctetTable) where
 
 pub takes_alone : (system : System) (rows order listed : List ℕ) (zero one two : RecordedRows) → ClearsRows system.ones rows order listed (length listed) zero one
     → ClearsOctets rows order (entry_of system.hdpc) system.first_hdpc (length system.hdpc.rows) one two → zero.operations ≡ [] → TakesPivotsAlone system rows two.operations
-takes_alone system rows order listed zero one two clears wipes empty = λ m k none r out.
+takes_alone system rows order listed zero one two clears wipes empty =
     let done : List Operation = clears.steps ++ wipes.steps in
     let performs : Performs done zero two = performs_more clears.steps wipes.steps zero one two clears.performs wipes.performs in
     let recorded : two.operations ≡ done = performs.recorded ∙ ap (λ (l : List Operation). l ++ done) empty in
-    ap (λ (l : List Operation). rows_after octets l m r k) recorded ∙ rows_after-next octets clears.steps wipes.steps m r k
-    ∙ wipes.elsewhere (rows_after octets clears.steps m) r k out ∙ clears.kept m k none r
+    let after_wipes : (m : ℕ → ℕ → ℕ) (r k : ℕ) → rows_after octets two.operations m r k ≡ rows_after octets wipes.steps (rows_after octets clears.steps m) r k = (λ m r k.
+    ap (λ (l : List Operation). rows_after octets l m r k) recorded ∙ rows_after-next octets clears.steps wipes.steps m r k) in
+    record {
+      bits = λ m k none r out. after_wipes m r k ∙ wipes.elsewhere (rows_after octets clears.steps m) r k out ∙ clears.kept m k none r;
+      hdpc = λ m k none zeros i n. after_wipes m (system.first_hdpc + i) k
+          ∙ wipes.kept (rows_after octets clears.steps m) k (λ p l. clears.kept m k none (at rows p) ∙ none p l) (λ j o. clears.kept m k none (system.first_hdpc + j) ∙ zeros j o) i n;
+    }

@@ -4,7 +4,7 @@ use Rattle.std.proofs.lemmas.Bool.{cases_eq, cases_lt}
 use Rattle.rq_algebra.specs.Systems.{at}
 use Rattle.rq_standard.specs.OctetField.{octets}
 use Rattle.rq_parts.specs.DenseOctetMatrix.{entry_of}
-use Rattle.rq_solver.specs.SecondPhase.{AreShown, AreUnits, GivesMultiples, SubstitutesBack, ClearsColumns, one_of}
+use Rattle.rq_solver.specs.SecondPhase.{ShowInactive, AreUnits, GivesMultiples, SubstitutesBack, ClearsColumns, one_of}
 use Rattle.rq_elimination.specs.Recorded.{Records}
 use Rattle.rq_elimination.specs.RowSteps.{sum_step, AreRows, IsEchelon, rows_after}
 use Rattle.rq_elimination.specs.declared.recorded.RecordedRows.{RecordedRows}
@@ -215,7 +215,7 @@ module _ (reduced : List ℕ) (count : ℕ) where
         | inr d ↦ turn.elsewhere before_turn r k d ∙ zero_before k zeros r
       ]
 
-      module _ (column : ℕ → ℕ) (shown : AreShown reduced count column m old.table) where
+      module _ (column : ℕ → ℕ) (shown : ShowInactive reduced count column m old.table) where
         later : AreUnits reduced (q + 1) count column before_turn
         unfolding before_turn
         later = v.units m column shown

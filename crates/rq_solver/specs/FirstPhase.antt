@@ -9,7 +9,8 @@ use Rattle.rq_peeling.specs.Peeled.{Pivots}
 use Rattle.rq_peeling.specs.declared.system.System.{System}
 use Rattle.rq_elimination.specs.RowSteps.{IsStepAmong, rows_after}
 use Rattle.rq_elimination.specs.declared.recorded.RecordedRows.{RecordedRows}
-use Rattle.rq_solver.specs.PivotAdditions.{IsCleared}
+use Rattle.rq_solver.specs.HdpcOctets.{HaveZeros}
+use Rattle.rq_solver.specs.PivotAdditions.{IsCleared, PivotsHaveZeros}
 
 -- After what was recorded the rows of a system have the pivots of the peeling: each pivot's column has one 1, in the pivot's row, and zeros
 -- in the rows that are left. The table shows the inactive columns.
@@ -22,7 +23,9 @@ pub record HasPeeledPivots (height width : ℕ) (system : ℕ → ℕ → ℕ) (
   pub pivots : (p : ℕ) → p < length peeled.rows → IsCleared peeled.rows peeled.order (rows_after octets state.operations system) (at peeled.rows p)
   pub others : (r p : ℕ) → Contains left r → p < length peeled.rows → rows_after octets state.operations system r (at peeled.order p) ≡ 0
 
--- Rows of bits take rows of pivots and no others: in a column in which those have zeros, rows of bits stay as they are.
-abbrev pub TakesPivotsAlone : System → List ℕ → List Operation → Type 0
-TakesPivotsAlone system pivots operations = (m : ℕ → ℕ → ℕ) (k : ℕ) → ((p : ℕ) → p < length pivots → m (at pivots p) k ≡ 0)
-    → (r : ℕ) → ((i : ℕ) → i < length system.hdpc.rows → system.first_hdpc + i ≢ r) → rows_after octets operations m r k ≡ m r k
+-- Rows of bits take rows of pivots and no others, HDPC rows take those and one another: in a column in which the rows of pivots have zeros, rows
+-- of bits stay as they are, and HDPC rows keep zeros.
+pub record TakesPivotsAlone (system : System) (pivots : List ℕ) (operations : List Operation) : Type 0 where
+  pub bits : (m : ℕ → ℕ → ℕ) (k : ℕ) → PivotsHaveZeros pivots m k → (r : ℕ) → ((i : ℕ) → i < length system.hdpc.rows → system.first_hdpc + i ≢ r) → rows_after octets operations m r k ≡ m r k
+  pub hdpc : (m : ℕ → ℕ → ℕ) (k : ℕ) → PivotsHaveZeros pivots m k → HaveZeros system.first_hdpc (length system.hdpc.rows) m k
+      → HaveZeros system.first_hdpc (length system.hdpc.rows) (rows_after octets operations m) k

@@ -31,12 +31,12 @@ pub record IsFinished (rows order : List ℕ) (count : ℕ) (column : ℕ → �
   pub cleared : IsCleared rows order m r
   pub zeros : (f : ℕ) → f < count → m r (column f) ≡ 0
 
--- The first of the pivots' rows take the reduced rows, and those that have a mark then take the pivots' rows again.
-pub record FinishesPivots (lists : List (List ℕ)) (rows order reduced : List ℕ) (marks : List Bool) (count done : ℕ) (old new : RecordedRows) : Type 0 where
+-- The first of the pivots' rows take the rows with the inactive columns' pivots, and those that have a mark then take the pivots' rows again.
+pub record FinishesPivots (lists : List (List ℕ)) (rows order inactive_rows : List ℕ) (marks : List Bool) (count done : ℕ) (old new : RecordedRows) : Type 0 where
   pub steps : List Operation
   pub records : Records steps old new
   pub elsewhere : (m : ℕ → ℕ → ℕ) (r k : ℕ) → ((p : ℕ) → p < done → at rows p ≢ r) → rows_after octets steps m r k ≡ m r k
-  pub final : (m : ℕ → ℕ → ℕ) (column : ℕ → ℕ) → AreUnits reduced 0 count column m → ((f i : ℕ) → f < count → i < length rows → m (at reduced f) (at order i) ≡ 0)
+  pub final : (m : ℕ → ℕ → ℕ) (column : ℕ → ℕ) → AreUnits inactive_rows 0 count column m → ((f i : ℕ) → f < count → i < length rows → m (at inactive_rows f) (at order i) ≡ 0)
       → ((p f : ℕ) → p < length rows → f < count → m (at rows p) (column f) ≡ entry_of old.table (at rows p) f)
       → ((p : ℕ) → p < length rows → slice_index_or marks p false ≡ false → IsCleared rows order m (at rows p))
       → ((p : ℕ) → p < length rows → slice_index_or marks p false ≡ true → IsUncleared lists rows order m (at rows p))

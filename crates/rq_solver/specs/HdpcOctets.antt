@@ -4,7 +4,7 @@ use Rattle.rq_algebra.specs.Systems.{at, sum_below}
 use Rattle.rq_algebra.specs.Operations.{Operation}
 use Rattle.rq_standard.specs.OctetField.{octets}
 use Rattle.rq_parts.specs.DenseOctetMatrix.{OctetTable, entry_of}
-use Rattle.rq_solver.specs.PivotAdditions.{IsCleared}
+use Rattle.rq_solver.specs.PivotAdditions.{IsCleared, PivotsHaveZeros}
 use Rattle.rq_peeling.specs.Peeled.{IsOrderOf, Pivots}
 use Rattle.rq_elimination.specs.Recorded.{Performs}
 use Rattle.rq_elimination.specs.declared.recorded.RecordedRows.{RecordedRows}
@@ -60,8 +60,12 @@ abbrev pub PivotsAreCleared : List ℕ → List ℕ → (ℕ → ℕ → ℕ) �
 PivotsAreCleared rows order m = (p : ℕ) → p < length rows → IsCleared rows order m (at rows p)
 
 -- the HDPC rows of a system have these octets in the pivots' columns
-abbrev pub AreShown : List ℕ → List ℕ → ℕ → ℕ → (ℕ → ℕ → ℕ) → (ℕ → ℕ → ℕ) → Type 0
-AreShown rows order first count octet m = (i p : ℕ) → i < count → p < length rows → m (first + i) (at order p) ≡ octet i (at order p)
+abbrev pub ShowHdpcOctets : List ℕ → List ℕ → ℕ → ℕ → (ℕ → ℕ → ℕ) → (ℕ → ℕ → ℕ) → Type 0
+ShowHdpcOctets rows order first count octet m = (i p : ℕ) → i < count → p < length rows → m (first + i) (at order p) ≡ octet i (at order p)
+
+-- `count` rows from row `first` on have 0 in a column
+abbrev pub HaveZeros : ℕ → ℕ → (ℕ → ℕ → ℕ) → ℕ → Type 0
+HaveZeros first count m k = (i : ℕ) → i < count → m (first + i) k ≡ 0
 
 -- Steps among the HDPC rows were done, and were recorded: a column of theirs that was one of these columns is the new one afterwards.
 pub record CombinesOctets (first count width : ℕ) (was now : ℕ → ℕ → ℕ) (old new : RecordedRows) : Type 0 where
@@ -70,13 +74,16 @@ pub record CombinesOctets (first count width : ℕ) (was now : ℕ → ℕ → �
   pub elsewhere : (m : ℕ → ℕ → ℕ) (r k : ℕ) → ((i : ℕ) → i < count → first + i ≢ r) → rows_after octets steps m r k ≡ m r k
   pub shown : (m : ℕ → ℕ → ℕ) (l k : ℕ) → k < width → ((i : ℕ) → i < count → m (first + i) l ≡ was i k)
       → (i : ℕ) → i < count → rows_after octets steps m (first + i) l ≡ now i k
+  pub kept : (m : ℕ → ℕ → ℕ) (k : ℕ) → HaveZeros first count m k → HaveZeros first count (rows_after octets steps m) k
 
--- The same where the HDPC rows took rows of pivots too: the pivots' columns, in systems in which the pivots' rows are cleared.
+-- The HDPC rows took one another and rows of pivots, and that was recorded: where the pivots' rows are cleared, and HDPC rows had these octets in
+-- the pivots' columns, they have the new ones afterwards.
 pub record ChangesOctets (rows order : List ℕ) (first count : ℕ) (was now : ℕ → ℕ → ℕ) (old new : RecordedRows) : Type 0 where
   pub steps : List Operation
   pub performs : Performs steps old new
   pub elsewhere : (m : ℕ → ℕ → ℕ) (r k : ℕ) → ((i : ℕ) → i < count → first + i ≢ r) → rows_after octets steps m r k ≡ m r k
-  pub shown : (m : ℕ → ℕ → ℕ) → PivotsAreCleared rows order m → AreShown rows order first count was m → AreShown rows order first count now (rows_after octets steps m)
+  pub shown : (m : ℕ → ℕ → ℕ) → PivotsAreCleared rows order m → ShowHdpcOctets rows order first count was m → ShowHdpcOctets rows order first count now (rows_after octets steps m)
+  pub kept : (m : ℕ → ℕ → ℕ) (k : ℕ) → PivotsHaveZeros rows m k → HaveZeros first count m k → HaveZeros first count (rows_after octets steps m) k
 
 -- ---- steps among the rows of a batch
 
@@ -112,5 +119,5 @@ pub record ClearsOctets (rows order : List ℕ) (octet : ℕ → ℕ → ℕ) (f
   pub performs : Performs steps old new
   pub elements : (i p : ℕ) → i < count → p < length rows → octet i (at order p) < octets.size
   pub elsewhere : (m : ℕ → ℕ → ℕ) (r k : ℕ) → ((i : ℕ) → i < count → first + i ≢ r) → rows_after octets steps m r k ≡ m r k
-  pub cleared : (m : ℕ → ℕ → ℕ) → ((p : ℕ) → p < length rows → IsCleared rows order m (at rows p))
-      → ((i p : ℕ) → i < count → p < length rows → m (first + i) (at order p) ≡ octet i (at order p)) → (i p : ℕ) → i < count → p < length rows → rows_after octets steps m (first + i) (at order p) ≡ 0
+  pub cleared : (m : ℕ → ℕ → ℕ) → PivotsAreCleared rows order m → ShowHdpcOctets rows order first count octet m → (i p : ℕ) → i < count → p < length rows → rows_after octets steps m (first + i) (at order p) ≡ 0
+  pub kept : (m : ℕ → ℕ → ℕ) (k : ℕ) → PivotsHaveZeros rows m k → HaveZeros first count m k → HaveZeros first count (rows_after octets steps m) k

@@ -2,6 +2,7 @@ pub mod EliminationState
 pub mod FirstPhase
 pub mod FourthPhase
 pub mod HdpcOctets
+pub mod HomogeneousColumns
 pub mod InactiveColumns
 pub mod PhaseOperations
 pub mod Phases

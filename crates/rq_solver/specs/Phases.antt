@@ -1,12 +1,13 @@
 -- What the phases answer together.
 use Rattle.std.specs.Prelude.{◌≡◌, ℕ, ◌+◌, ◌*◌, ◌<◌, ◌≤◌, ◌∷◌, ◌++◌, [], Bool, List, Option, Vec, MatchOption, drop, length}
 use Rattle.std.specs.Global.{Global}
+use Rattle.std.specs.List.Sorted.{IsPermutation}
 use Rattle.rq_algebra.specs.Operations.{Operation, Reorder, FindsColumn}
 use Rattle.rq_algebra.specs.Systems.{HasHomogeneousColumn}
 use Rattle.rq_standard.specs.OctetField.{octets}
 use Rattle.rq_peeling.specs.Degrees.{TakesFewest}
 use Rattle.rq_peeling.specs.Peeled.{IsPeeled, Pivots}
-use Rattle.rq_peeling.specs.System.{rows_of}
+use Rattle.rq_peeling.specs.System.{rows_of_system}
 use Rattle.rq_peeling.specs.declared.system.System.{System}
 use Rattle.rq_elimination.specs.OperationCounts.{additions}
 use Rattle.rq_elimination.specs.Recorded.{ChangesRows}
@@ -16,6 +17,7 @@ use Rattle.rq_solver.specs.EliminationState.{eliminated_at, inactive_count, left
 use Rattle.rq_solver.specs.FirstPhase.{HasPeeledPivots, TakesPivotsAlone}
 use Rattle.rq_solver.specs.FourthPhase.{FinishesPivots, Sparsifies}
 use Rattle.rq_solver.specs.HdpcOctets.{batch_bound}
+use Rattle.rq_solver.specs.RowOrder.{ListsRows}
 use Rattle.rq_solver.specs.SecondPhase.{SubstitutesBack}
 use Rattle.rq_solver.specs.declared.pi_solver.elimination.Elimination.{Elimination}
 use Rattle.rq_solver.specs.declared.pi_solver.phase_operations.PhaseOperations.{PhaseOperations}
@@ -27,11 +29,11 @@ SolvesRows height width rows recorded answer =
 
 -- what was recorded solves the rows of a system, or they have such a column
 abbrev pub SolvesSystem : System → List Operation → Option (Vec ℕ Global) → Type 0
-SolvesSystem system recorded order = SolvesRows (length system.ones) system.width (rows_of system) recorded order
+SolvesSystem system recorded order = SolvesRows (length system.ones) system.width (rows_of_system system) recorded order
 
 -- what was recorded gives the rows of a system the pivots of a peeling; the others are listed behind its rows
 abbrev pub ClearsPivots : System → Pivots → List ℕ → RecordedRows → Type 0
-ClearsPivots system peeling row_order state = HasPeeledPivots (length system.ones) system.width (rows_of system) peeling (drop (length peeling.rows) row_order) state
+ClearsPivots system peeling row_order state = HasPeeledPivots (length system.ones) system.width (rows_of_system system) peeling (drop (length peeling.rows) row_order) state
 
 -- each pivot's row is added to each row of bits at most, and the HDPC rows are cleared
 abbrev pub AddsFirst : System → Pivots → RecordedRows → Type 0
@@ -47,6 +49,7 @@ FindsOrder old new answer = (system : ℕ → ℕ → ℕ)
 
 -- the second phase worked on the rows that are left among themselves, and an inactive column has no pivot
 pub record LacksPivots (old new : Elimination) : Type 0 where
+  pub permuted : IsPermutation (left_rows old) (left_rows new)
   pub changes : ChangesRows (left_rows old) old.recorded new.recorded
   pub stuck : IsStuck (left_rows new) (inactive_count old) new.recorded.table
   pub ends : new.ends ≡ eliminated_at old.ends (length new.recorded.operations)
@@ -59,6 +62,7 @@ pub record SolvesInactive (old new : Elimination) : Type 0 where
   pub sparse : RecordedRows
   pub back : RecordedRows
   pub marks : List Bool
+  pub permuted : IsPermutation (left_rows old) (left_rows new)
   pub changes : ChangesRows (left_rows old) old.recorded forward
   pub echelon : IsEchelon (left_rows new) (inactive_count old) forward.table
   pub sparsifies : Sparsifies old.additions.ones old.peeling.rows old.peeling.order marks 0 forward sparse
@@ -77,6 +81,8 @@ pub record RunsPhases (system : System) (found : PhaseOperations) : Type 0 where
   pub last : Elimination
   pub peeled : IsPeeled system.width system.ones first.peeling
   pub fewest : TakesFewest system.ones system.lt_columns first.peeling.rows
+  pub ones : first.additions.ones ≡ system.ones
+  pub ordered : ListsRows (length system.ones) first.peeling.rows first.row_order.items
   pub cleared : ClearsPivots system first.peeling first.row_order.items first.recorded
   pub alone : TakesPivotsAlone system first.peeling.rows first.recorded.operations
   pub first_end : first.ends.cleared ≡ length first.recorded.operations
@@ -92,5 +98,5 @@ pub record RunsOverRows (height width first_hdpc hdpc_rows lt_columns : ℕ) (ro
   pub first_is : system.first_hdpc ≡ first_hdpc
   pub hdpc_are : length system.hdpc.rows ≡ hdpc_rows
   pub lt_columns_are : system.lt_columns ≡ lt_columns
-  pub rows_are : (i k : ℕ) → i < height → k < width → rows_of system i k ≡ rows i k
+  pub rows_are : (i k : ℕ) → i < height → k < width → rows_of_system system i k ≡ rows i k
   pub phases : RunsPhases system found

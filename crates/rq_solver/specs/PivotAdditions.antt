@@ -24,6 +24,10 @@ pub record IsUncleared (lists : List (List ℕ)) (rows order : List ℕ) (m : �
 pub record IsCleared (rows order : List ℕ) (m : ℕ → ℕ → ℕ) (r : ℕ) : Type 0 where
   pub entries : (i : ℕ) → i < length rows → m r (at order i) ≡ (if at rows i == r then 1 else 0)
 
+-- the rows of pivots have 0 in a column
+abbrev pub PivotsHaveZeros : List ℕ → (ℕ → ℕ → ℕ) → ℕ → Type 0
+PivotsHaveZeros rows m k = (p : ℕ) → p < length rows → m (at rows p) k ≡ 0
+
 -- ---- what rows take
 
 -- a step adds another of `height` rows to row `row`
@@ -74,6 +78,6 @@ pub record ClearsRows (lists : List (List ℕ)) (rows order listed : List ℕ) (
   pub idle : (m : ℕ → ℕ → ℕ) (i k : ℕ) → ones_of lists i ≡ [] → rows_after octets steps m i k ≡ m i k
   pub rest : (m : ℕ → ℕ → ℕ) (s k : ℕ) → done ≤ s → s < length listed → rows_after octets steps m (at listed s) k ≡ m (at listed s) k
   -- where the pivots' rows have zeros each row stays as it was
-  pub kept : (m : ℕ → ℕ → ℕ) (k : ℕ) → ((p : ℕ) → p < length rows → m (at rows p) k ≡ 0) → (i : ℕ) → rows_after octets steps m i k ≡ m i k
+  pub kept : (m : ℕ → ℕ → ℕ) (k : ℕ) → PivotsHaveZeros rows m k → (i : ℕ) → rows_after octets steps m i k ≡ m i k
   pub cleared : (m : ℕ → ℕ → ℕ) → ((p : ℕ) → p < length rows → IsUncleared lists rows order m (at rows p))
       → (s : ℕ) → s < done → IsUncleared lists rows order m (at listed s) → IsCleared rows order (rows_after octets steps m) (at listed s)

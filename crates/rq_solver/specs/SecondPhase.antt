@@ -24,30 +24,30 @@ AddsForward rows count old new found =
 
 -- in the inactive columns each of these rows, from place `start` on, has 1 in its own, and 0 in the others
 abbrev pub AreUnits : List ℕ → ℕ → ℕ → (ℕ → ℕ) → (ℕ → ℕ → ℕ) → Type 0
-AreUnits reduced start count column m = (t f : ℕ) → start ≤ t → t < count → f < count → m (at reduced t) (column f) ≡ (if t == f then 1 else 0)
+AreUnits inactive_rows start count column m = (t f : ℕ) → start ≤ t → t < count → f < count → m (at inactive_rows t) (column f) ≡ (if t == f then 1 else 0)
 
 -- the table shows what these rows have in the inactive columns
-abbrev pub AreShown : List ℕ → ℕ → (ℕ → ℕ) → (ℕ → ℕ → ℕ) → OctetTable → Type 0
-AreShown reduced count column m table = (t f : ℕ) → t < count → f < count → m (at reduced t) (column f) ≡ entry_of table (at reduced t) f
+abbrev pub ShowInactive : List ℕ → ℕ → (ℕ → ℕ) → (ℕ → ℕ → ℕ) → OctetTable → Type 0
+ShowInactive inactive_rows count column m table = (t f : ℕ) → t < count → f < count → m (at inactive_rows t) (column f) ≡ entry_of table (at inactive_rows t) f
 
--- A row takes multiples of reduced rows, those from place `start` on, so that it gets 0 in their inactive columns that come before column
+-- A row takes multiples of rows with inactive columns' pivots, those from place `start` on, so that it gets 0 in their inactive columns that come before column
 -- `done`, where it has these entries. What the rows are in whole is `m`, whatever that is: `column f` is the place of inactive column f in it.
-pub record ClearsColumns (reduced : List ℕ) (row start count done : ℕ) (entries : ℕ → ℕ) (old new : RecordedRows) : Type 0 where
+pub record ClearsColumns (inactive_rows : List ℕ) (row start count done : ℕ) (entries : ℕ → ℕ) (old new : RecordedRows) : Type 0 where
   pub steps : List Operation
   pub records : Records steps old new
   pub elsewhere : (m : ℕ → ℕ → ℕ) (i k : ℕ) → i ≢ row → rows_after octets steps m i k ≡ m i k
-  pub kept : (m : ℕ → ℕ → ℕ) (k : ℕ) → ((f : ℕ) → start ≤ f → f < count → m (at reduced f) k ≡ 0) → rows_after octets steps m row k ≡ m row k
-  pub cleared : (m : ℕ → ℕ → ℕ) (column : ℕ → ℕ) → AreUnits reduced start count column m → ((f : ℕ) → start ≤ f → f < count → m row (column f) ≡ entries f)
+  pub kept : (m : ℕ → ℕ → ℕ) (k : ℕ) → ((f : ℕ) → start ≤ f → f < count → m (at inactive_rows f) k ≡ 0) → rows_after octets steps m row k ≡ m row k
+  pub cleared : (m : ℕ → ℕ → ℕ) (column : ℕ → ℕ) → AreUnits inactive_rows start count column m → ((f : ℕ) → start ≤ f → f < count → m row (column f) ≡ entries f)
       → (f : ℕ) → start ≤ f → f < done → f < count → rows_after octets steps m row (column f) ≡ 0
-  pub rest : (m : ℕ → ℕ → ℕ) (column : ℕ → ℕ) → AreUnits reduced start count column m → (f : ℕ) → done ≤ f → f < count → rows_after octets steps m row (column f) ≡ m row (column f)
+  pub rest : (m : ℕ → ℕ → ℕ) (column : ℕ → ℕ) → AreUnits inactive_rows start count column m → (f : ℕ) → done ≤ f → f < count → rows_after octets steps m row (column f) ≡ m row (column f)
 
 -- all of the first `count` rows, so that it gets 0 in their columns
 abbrev pub TakesAll : List ℕ → ℕ → ℕ → (ℕ → ℕ) → RecordedRows → RecordedRows → Type 0
-TakesAll reduced count row entries old new = ClearsColumns reduced row 0 count count entries old new
+TakesAll inactive_rows count row entries old new = ClearsColumns inactive_rows row 0 count count entries old new
 
 -- all of these rows, whose columns begin at column `start`
 abbrev pub TakesFrom : List ℕ → ℕ → ℕ → RecordedRows → RecordedRows → Type 0
-TakesFrom reduced row start old new = TakesAll reduced (length reduced) row (λ f. entry_of old.table row (start + f)) old new
+TakesFrom inactive_rows row start old new = TakesAll inactive_rows (length inactive_rows) row (λ f. entry_of old.table row (start + f)) old new
 
 -- ---- back
 
@@ -66,22 +66,22 @@ AddsOnes rows place count old new =
 
 -- Of the first rows those whose entry in the column of the row at a place is neither 0 nor 1 take that multiple of it. Where it is 1 they then
 -- have 0, and where it is 0 they stay.
-pub record GivesMultiples (reduced : List ℕ) (place done : ℕ) (old new : RecordedRows) : Type 0 where
+pub record GivesMultiples (inactive_rows : List ℕ) (place done : ℕ) (old new : RecordedRows) : Type 0 where
   pub steps : List Operation
   pub records : Records steps old new
-  pub elsewhere : (m : ℕ → ℕ → ℕ) (r k : ℕ) → ((q : ℕ) → q < done → at reduced q ≢ r) → rows_after octets steps m r k ≡ m r k
-  pub kept : (m : ℕ → ℕ → ℕ) (r k : ℕ) → m (at reduced place) k ≡ 0 → rows_after octets steps m r k ≡ m r k
-  pub given : (m : ℕ → ℕ → ℕ) (k q : ℕ) → m (at reduced place) k ≡ 1 → q < done → m (at reduced q) k ≡ entry_of old.table (at reduced q) place
-      → rows_after octets steps m (at reduced q) k ≡ one_of (entry_of old.table (at reduced q) place)
+  pub elsewhere : (m : ℕ → ℕ → ℕ) (r k : ℕ) → ((q : ℕ) → q < done → at inactive_rows q ≢ r) → rows_after octets steps m r k ≡ m r k
+  pub kept : (m : ℕ → ℕ → ℕ) (r k : ℕ) → m (at inactive_rows place) k ≡ 0 → rows_after octets steps m r k ≡ m r k
+  pub given : (m : ℕ → ℕ → ℕ) (k q : ℕ) → m (at inactive_rows place) k ≡ 1 → q < done → m (at inactive_rows q) k ≡ entry_of old.table (at inactive_rows q) place
+      → rows_after octets steps m (at inactive_rows q) k ≡ one_of (entry_of old.table (at inactive_rows q) place)
 
 -- The rows in echelon form have 1 in their own inactive column alone, from the last up to place `low`. Those before it took the multiples of
 -- these rows by which they had an octet other than 0 and 1 in their columns.
-pub record SubstitutesBack (reduced : List ℕ) (count low : ℕ) (old new : RecordedRows) : Type 0 where
+pub record SubstitutesBack (inactive_rows : List ℕ) (count low : ℕ) (old new : RecordedRows) : Type 0 where
   pub steps : List Operation
   pub records : Records steps old new
-  pub elsewhere : (m : ℕ → ℕ → ℕ) (r k : ℕ) → ((q : ℕ) → q < count → at reduced q ≢ r) → rows_after octets steps m r k ≡ m r k
-  pub kept : (m : ℕ → ℕ → ℕ) (r k : ℕ) → ((f : ℕ) → f < count → m (at reduced f) k ≡ 0) → rows_after octets steps m r k ≡ m r k
-  pub units : (m : ℕ → ℕ → ℕ) (column : ℕ → ℕ) → AreShown reduced count column m old.table → AreUnits reduced low count column (rows_after octets steps m)
-  pub before : (m : ℕ → ℕ → ℕ) (column : ℕ → ℕ) → AreShown reduced count column m old.table → (t f : ℕ) → t < low → f < low → rows_after octets steps m (at reduced t) (column f) ≡ entry_of old.table (at reduced t) f
-  pub left : (m : ℕ → ℕ → ℕ) (column : ℕ → ℕ) → AreShown reduced count column m old.table → (t f : ℕ) → t < low → low ≤ f → f < count
-      → rows_after octets steps m (at reduced t) (column f) ≡ one_of (entry_of old.table (at reduced t) f)
+  pub elsewhere : (m : ℕ → ℕ → ℕ) (r k : ℕ) → ((q : ℕ) → q < count → at inactive_rows q ≢ r) → rows_after octets steps m r k ≡ m r k
+  pub kept : (m : ℕ → ℕ → ℕ) (r k : ℕ) → ((f : ℕ) → f < count → m (at inactive_rows f) k ≡ 0) → rows_after octets steps m r k ≡ m r k
+  pub units : (m : ℕ → ℕ → ℕ) (column : ℕ → ℕ) → ShowInactive inactive_rows count column m old.table → AreUnits inactive_rows low count column (rows_after octets steps m)
+  pub before : (m : ℕ → ℕ → ℕ) (column : ℕ → ℕ) → ShowInactive inactive_rows count column m old.table → (t f : ℕ) → t < low → f < low → rows_after octets steps m (at inactive_rows t) (column f) ≡ entry_of old.table (at inactive_rows t) f
+  pub left : (m : ℕ → ℕ → ℕ) (column : ℕ → ℕ) → ShowInactive inactive_rows count column m old.table → (t f : ℕ) → t < low → low ≤ f → f < count
+      → rows_after octets steps m (at inactive_rows t) (column f) ≡ one_of (entry_of old.table (at inactive_rows t) f)

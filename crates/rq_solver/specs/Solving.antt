@@ -1,5 +1,5 @@
 -- What a solver is handed, and what it answers.
-use Rattle.std.specs.Prelude.{◌≡◌, ℕ, ◌+◌, ◌<◌, ◌≤◌, false, List, Option, None, Some, MatchOption, Vec, length, map, replicate}
+use Rattle.std.specs.Prelude.{◌≡◌, ℕ, ◌+◌, ◌<◌, ◌≤◌, false, List, Option, None, Some, MatchOption, IfSome, Vec, length, map, replicate}
 use Rattle.std.specs.Global.{Global}
 use Rattle.rq_algebra.specs.Systems.{HasHomogeneousColumn}
 use Rattle.rq_algebra.specs.Operations.{Operation, FindsColumn, found_by}
@@ -14,7 +14,10 @@ use Rattle.rq_bytes.specs.SymbolOps.{operation_of}
 use Rattle.rq_bytes.specs.declared.operation_vector.SymbolOps.{SymbolOps}
 use Rattle.rq_operations.specs.RecordedOperations.{operations_of}
 use Rattle.rq_operations.specs.declared.recorded.RecordedOperations.{RecordedOperations}
+use Rattle.rq_null_vector.specs.Homogeneous.{IsHomogeneousColumn}
 use Rattle.rq_parts.specs.DenseOctetMatrix.{OctetTable, entry_of}
+use Rattle.rq_solver.specs.declared.pi_solver.solved.Solved.{Solved}
+use Rattle.rq_solver.specs.declared.pi_solver.solved.Solved.TheVariants.{Operations, Undetermined}
 
 -- the equations of a block of that row of the table but for those of HDPC: a matrix of bits, and a symbol for each equation
 pub record AreEquationsWithoutHdpc (row : TableRow) (bits : BitTable) (handed : Slab) : Type 0 where
@@ -81,6 +84,15 @@ IsSpent old new = new ≡ record old { symbols = None; additions = new.additions
 abbrev pub FindsOperations : Solver → Option RecordedOperations → Type 0
 FindsOperations solver answer =
     MatchOption answer (HasHomogeneousColumn octets solver.height solver.width solver.rows) (λ found. FindsColumn octets solver.height solver.width solver.rows (operations_of found))
+
+-- what rows give: operations that find the column, or else the rows don't determine it, as a column shows where there is one
+abbrev pub IsSolved : ℕ → ℕ → (ℕ → ℕ → ℕ) → Solved → Type 0
+IsSolved height width rows (Operations found) = FindsColumn octets height width rows (operations_of found)
+IsSolved height width rows (Undetermined column) = HasHomogeneousColumn octets height width rows × IfSome column (λ shown. IsHomogeneousColumn height width rows shown.items)
+
+-- so it is for the equations of a solver
+abbrev pub SolvesOrShows : Solver → Solved → Type 0
+SolvesOrShows solver solved = IsSolved solver.height solver.width solver.rows solved
 
 -- the slab has the symbols that solve the rows, and the operations find them from any symbols
 pub record IsSolution (height width : ℕ) (rows : ℕ → ℕ → ℕ) (handed slab : Slab) (operations : List Operation) : Type 0 where

@@ -7,14 +7,16 @@ ghost use Rattle.rq_bytes.specs.declared.error.Error.TheVariants.{AlreadyExecute
 ghost use Rattle.rq_bytes.specs.SymbolOps.{operation_of};
 ghost use Rattle.rq_elimination.specs.OperationCounts.{additions};
 ghost use Rattle.rq_elimination.specs.PhaseCounts.{total_of};
-ghost use Rattle.rq_solver.specs.Solving.{AreEquations, AreEquationsWithoutHdpc, FindsOperations, solver_of, solver_without_hdpc, IsOutcome, IsSpent};
+ghost use Rattle.rq_solver.specs.Solving.{AreEquations, AreEquationsWithoutHdpc, FindsOperations, solver_of, solver_without_hdpc, IsOutcome, IsSpent, SolvesOrShows};
 
 mod elimination;
 mod first_phase;
 mod fourth_phase;
+mod homogeneous;
 mod phase_operations;
 mod phases;
 mod second_phase;
+mod solved;
 
 use phase_operations::PhaseOperations;
 use phases::run_phases;
@@ -29,6 +31,8 @@ pub use rq_peeling::row_selection::FirstPhaseRowSelectionStats;
 use rq_peeling::system::System;
 use rq_standard::row::TableRow;
 use rq_tables::systematic_constants::SystematicTable;
+pub use solved::Solved;
+use solved::solve_system;
 use std::alloc::Global;
 
 /// Solves the equations of a block for its intermediate symbols (RFC 6330, section 5.4.2.1), once.
@@ -53,6 +57,7 @@ pub struct IntermediateSymbolDecoder<T: BinaryMatrix> {
 }
 
 impl<T: BinaryMatrix> IntermediateSymbolDecoder<T> {
+    ghost use Rattle.rq_peeling.specs.System.{IsSystemOf};
     ghost use Rattle.rq_solver.specs.PhaseOperations.{CountsOperations, RunsOverEquations, SolvesEquations, answered_operations};
     ghost use Rattle.rq_solver.specs.SolverState.{solver_state};
 
@@ -211,6 +216,28 @@ impl<T: BinaryMatrix> IntermediateSymbolDecoder<T> {
         ensures found { IfOk result (FindsOperations (solver_state self)) }
         ensures memory { IfErr result (λ e. e ≡ OutOfMemory) }
     {
+        let alloc = self.alloc;
+        let found = run_phases(alloc, self.into_system()?)?;
+        Ok(found.into_operations())
+    }
+
+    /// The operations as [`into_operations`](Self::into_operations) finds them, and a column that shows
+    /// it where the equations don't determine the symbols. Want of memory for the column alone is no
+    /// error. Not in the Rust crate.
+    pub fn solve(self) -> Result<Solved, Error>
+        ensures solved { IfOk result (SolvesOrShows (solver_state self)) }
+        ensures memory { IfErr result (λ e. e ≡ OutOfMemory) }
+    {
+        let alloc = self.alloc;
+        solve_system(alloc, self.into_system()?)
+    }
+
+    // The equations as the phases take them. The symbols are let go at once, and the matrix once the
+    // ones of the rows are listed.
+    fn into_system(self) -> Result<System, Error>
+        ensures system { IfOk result (IsSystemOf (T.content self.matrix) self.hdpc self.first_hdpc) }
+        ensures memory { IfErr result (λ e. e ≡ OutOfMemory) }
+    {
         let IntermediateSymbolDecoder {
             alloc,
             matrix,
@@ -221,10 +248,7 @@ impl<T: BinaryMatrix> IntermediateSymbolDecoder<T> {
             ..
         } = self;
         drop(symbols);
-        let system = System::of_matrix(alloc, &matrix, hdpc, first_hdpc, lt_columns)?;
-        drop(matrix);
-        let found = run_phases(alloc, system)?;
-        Ok(found.into_operations())
+        System::of_matrix(alloc, &matrix, hdpc, first_hdpc, lt_columns)
     }
 
     // Looks for the operations, for which the matrix stays.

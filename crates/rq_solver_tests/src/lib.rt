@@ -8,4 +8,6 @@ mod operations;
 #[cfg(test)]
 mod refused;
 #[cfg(test)]
+mod solved;
+#[cfg(test)]
 mod solver;

@@ -109,7 +109,7 @@ fn octets_at(
 }
 
 // A solver over the built-in row of 10, of these ones and octets and of numbered symbols.
-fn numbered_solver(
+pub(crate) fn numbered_solver(
     rt: &impl Abort,
     alloc: Global,
     ones: &[(usize, usize)],
@@ -178,7 +178,11 @@ fn late_ones(alloc: Global) -> Result<Vec<(usize, usize)>, Error> {
 }
 
 // A 1 in each of the first `count` HDPC rows, in the columns from `start` on.
-fn diagonal(alloc: Global, start: usize, count: usize) -> Result<Vec<(usize, usize, u8)>, Error>
+pub(crate) fn diagonal(
+    alloc: Global,
+    start: usize,
+    count: usize,
+) -> Result<Vec<(usize, usize, u8)>, Error>
     requires start { start < 1000 }
     requires count { count < 1000 }
 {
@@ -190,7 +194,7 @@ fn diagonal(alloc: Global, start: usize, count: usize) -> Result<Vec<(usize, usi
 }
 
 // A solver of those rows and `count` HDPC rows, each with a column of the first ten.
-fn late_solver(
+pub(crate) fn late_solver(
     rt: &impl Abort,
     alloc: Global,
     count: usize,
@@ -307,15 +311,21 @@ fn rows_of_least_degree_are_solved(rt: HostRuntime) -> Result<(), Error> {
     Ok(())
 }
 
-// A row of 17 ones, and behind it a chain of rows of two.
-fn long_row_and_chain(alloc: Global) -> Result<Vec<(usize, usize)>, Error> {
+// Rows of two ones each, which say that the first 17 unknowns are the same.
+pub(crate) fn chain_alone(alloc: Global) -> Result<Vec<(usize, usize)>, Error> {
     let mut ones = Vec::new(alloc);
-    for k in 0..17 {
-        ones.push((0, k))?;
-    }
     for k in 1..17 {
         ones.push((bit_row(k), k - 1))?;
         ones.push((bit_row(k), k))?;
+    }
+    Ok(ones)
+}
+
+// A row of 17 ones, and behind it a chain of rows of two.
+fn long_row_and_chain(alloc: Global) -> Result<Vec<(usize, usize)>, Error> {
+    let mut ones = chain_alone(alloc)?;
+    for k in 0..17 {
+        ones.push((0, k))?;
     }
     Ok(ones)
 }

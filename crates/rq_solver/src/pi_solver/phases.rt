@@ -1,11 +1,11 @@
 //! The order of the phases (RFC 6330, section 5.4.2): the first; the second, forward; the third
 //! (`sparsify`); the second, back; the fourth (`clear_inactive`) with the fifth (`redo_additions`). The
 //! third and the fifth are done for single rows, and counted as the fourth's.
-ghost use Rattle.std.specs.Prelude.{◌≡◌, ℕ, ◌*◌, ◌<◌, ◌≤◌, length, map, IfOk, OnOk, IfErr};
+ghost use Rattle.std.specs.Prelude.{◌≡◌, ℕ, ◌*◌, ◌<◌, ◌≤◌, length, map, IfNone, IfOk, OnOk, IfErr};
 ghost use Rattle.rq_algebra.specs.Systems.{at};
 ghost use Rattle.rq_bytes.specs.declared.error.Error.TheVariants.{OutOfMemory};
 ghost use Rattle.rq_elimination.specs.OperationCounts.{additions};
-ghost use Rattle.rq_solver.specs.EliminationState.{AddsLater, HasEndsInOrder, IsUnderWay};
+ghost use Rattle.rq_solver.specs.EliminationState.{AddsLater, HasEndsInOrder, IsUnderWay, KeepsPivots};
 ghost use Rattle.rq_solver.specs.Phases.{FindsOrder, SolvesSystem, RunsLater, RunsPhases};
 ghost use Rattle.rq_solver.specs.RowOrder.{ListsRows};
 
@@ -40,9 +40,11 @@ impl Elimination {
     /// The phases behind the first: for each column the row that has its pivot. `None` where a column
     /// is left without one. Rows are made sparse again before others are substituted back, so that the
     /// second phase stands in two parts round one of the fourth.
-    fn later_phases(&mut self, alloc: Global) -> Result<Option<Vec<usize>>, Error>
+    pub(super) fn later_phases(&mut self, alloc: Global) -> Result<Option<Vec<usize>>, Error>
         requires under_way { IsUnderWay self.old }
         requires ordered { ListsRows (length self.old.additions.ones) self.old.peeling.rows self.old.row_order.items }
+        ensures same { OnOk result (KeepsPivots self.old self.new) }
+        ensures left { IfOk result (λ order. IfNone order (IsUnderWay self.new)) }
         ensures found { IfOk result (FindsOrder self.old self.new) }
         ensures phases { IfOk result (RunsLater self.old self.new) }
         ensures few { OnOk result (AddsLater self.old self.new) }

@@ -5,7 +5,7 @@ ghost use Rattle.rq_bytes.specs.declared.error.Error.TheVariants.{OutOfMemory};
 ghost use Rattle.rq_parts.specs.DenseOctetMatrix.{entry_of, HasOctets};
 ghost use Rattle.rq_solver.specs.InactiveColumns.{AreFilled, FillsColumn, FillsHdpcRow, HasInactive};
 ghost use Rattle.rq_peeling.specs.Peeled.{IsOrderOf, IsPeeled};
-ghost use Rattle.rq_peeling.specs.System.{rows_of};
+ghost use Rattle.rq_peeling.specs.System.{rows_of_system};
 
 use rq_bytes::error::Error;
 use rq_elimination::entries::{InactiveEntries, whole_vectors};
@@ -20,7 +20,7 @@ pub(super) fn fill_inactive(
     peeling: &Peeling,
 ) -> Result<InactiveEntries, Error>
     requires { IsPeeled system.now.width system.now.ones peeling.now }
-    ensures entries { IfOk result (HasInactive (length system.now.ones) system.now.width (rows_of system.now) peeling.now) }
+    ensures entries { IfOk result (HasInactive (length system.now.ones) system.now.width (rows_of_system system.now) peeling.now) }
     ensures err { IfErr result (λ e. e ≡ OutOfMemory) }
 {
     let inactive = system.width - peeling.pivots();

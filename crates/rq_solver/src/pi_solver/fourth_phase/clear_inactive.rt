@@ -14,9 +14,8 @@ use super::redo_additions::{OnSymbols, redo_additions};
 use crate::pi_solver::elimination::Elimination;
 use rq_bytes::error::Error;
 use rq_bytes::octet::Octet;
+use rq_bytes::octets::WORD_BITS;
 use rq_elimination::recorded::RecordedRows;
-
-const WORD_BITS: usize = 64;
 
 impl Elimination {
     /// Adds to the pivots' rows, the first first, multiples of the rows with the inactive columns'

@@ -9,4 +9,4 @@ returns-clause-found g c =
     let bits = g.T.BinaryMatrix.content solver.matrix in
     let phases = c.in_ok-found.found in
     recorded_found phases bits.height bits.width _ c.into_operations.result
-    (attempt_of_bits bits solver.hdpc solver.first_hdpc c.in_ok-system.system c.in_ok-system.ensures.system phases.recorded phases.order c.in_ok-found.ensures.found) c.into_operations.ensures
+    (attempt_of_bits bits solver.hdpc solver.first_hdpc c.in_ok-into_system.field-0 c.in_ok-into_system.ensures.system phases.recorded phases.order c.in_ok-found.ensures.found) c.into_operations.ensures

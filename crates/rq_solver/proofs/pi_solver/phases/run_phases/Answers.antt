@@ -1,21 +1,18 @@
 -- What the check leaves to show of `pi_solver::phases::run_phases`.
-use Rattle.std.proofs.Common.{◌≡◌, ℕ, ◌+◌, ◌-◌, ◌*◌, ◌/◌, ◌≤◌, Option, Vec, length, refl, ap, ◌∙◌, arith}
-use Rattle.std.specs.Global.{Global}
+use Rattle.std.proofs.Common.{◌≡◌, ℕ, ◌+◌, ◌-◌, ◌*◌, ◌/◌, ◌≤◌, length, refl, ap, ◌∙◌, arith}
 use Rattle.std.proofs.Math.Nat.{mul-le-mul_left}
 use Rattle.rq_algebra.specs.Systems.{at}
 use Rattle.rq_elimination.specs.OperationCounts.{additions}
 use Rattle.rq_peeling.proofs.PlaceCounts.{few_places}
 use Rattle.rq_elimination.specs.declared.counts.PhaseEnds.{PhaseEnds}
 use Rattle.rq_peeling.specs.Peeled.{IsPeeled, Pivots}
-use Rattle.rq_peeling.specs.System.{rows_of}
 use Rattle.rq_peeling.specs.declared.system.System.{System}
-use Rattle.rq_solver.specs.EliminationState.{inactive_count, left_rows, AddsLater}
-use Rattle.rq_solver.specs.FirstPhase.{HasPeeledPivots}
+use Rattle.rq_solver.specs.EliminationState.{inactive_count, AddsLater}
 use Rattle.rq_solver.specs.HdpcOctets.{batch_bound}
-use Rattle.rq_solver.specs.Phases.{ClearsPivots, FindsOrder, SolvesSystem}
 use Rattle.rq_solver.specs.RowOrder.{ListsRows}
 use Rattle.rq_solver.specs.declared.pi_solver.elimination.Elimination.{Elimination}
 use Rattle.rq_solver.proofs.CountLaws.{few_in_all, few_together}
+use Rattle.rq_solver.proofs.LaterPhases.{attempt_of}
 use Rattle.rq_solver.proofs.PivotsCleared.{pivot_of_bits}
 use Rattle.rq_solver.proofs.pi_solver.phases.run_phases.Goals as goal
 
@@ -52,12 +49,6 @@ returns-clause-few c =
 
 -- ---- what they find
 
-attempt_of : (system : System) (peeling : Pivots) (first last : Elimination) (answer : Option (Vec ℕ Global)) → IsPeeled system.width system.ones peeling → first.peeling ≡ peeling → ClearsPivots system peeling first.row_order.items first.recorded → FindsOrder first last answer
-    → SolvesSystem system last.recorded.operations answer
-attempt_of system peeling first last answer peeled is cleared found =
-    let here : HasPeeledPivots (length first.recorded.table.rows) (length first.peeling.places) (rows_of system) first.peeling (left_rows first) first.recorded = rw (is, cleared.height_is, peeled.columns.place_count) cleared in
-    rw (cleared.height_is, is, peeled.columns.place_count) at (found (rows_of system) here)
-
 pub returns-clause-found : goal.returns-clause-found
 returns-clause-found c =
     let made = c.in_ok-elimination.ensures in
@@ -71,6 +62,8 @@ returns-clause-phases c =
       last = c.later_phases.new.self;
       peeled = rw made.peeling c.in_ok-peeling.ensures.peeled;
       fewest = rw made.peeling c.in_ok-peeling.ensures.fewest;
+      ones = made.ones;
+      ordered = rw made.peeling made.ordered;
       cleared = rw made.peeling made.cleared;
       alone = rw made.peeling made.alone;
       first_end = ap (λ (e : PhaseEnds). e.cleared) made.ends;

@@ -15,17 +15,17 @@ use Rattle.rq_solver.proofs.pi_solver.elimination.Elimination.later_phases.Goals
 pub returns-then-not-branch-clause-found : goal.returns-then-not-branch-clause-found
 returns-then-not-branch-clause-found c =
     let made = c.in_ok-eliminate.ensures in
-    finds_none c.args.self.now c.eliminate.new.self c.requires.under_way c.requires.ordered (record { changes = made.changed; stuck = rw c.if-not-branch.true at made.pivots; ends = made.ends }) made.permuted
+    finds_none c.args.self.now c.eliminate.new.self c.requires.under_way c.requires.ordered (record { permuted = made.permuted; changes = made.changed; stuck = rw c.if-not-branch.true at made.pivots; ends = made.ends })
 
 pub returns-then-not-branch-clause-phases : goal.returns-then-not-branch-clause-phases
 returns-then-not-branch-clause-phases c =
     let made = c.in_ok-eliminate.ensures in
-    record { changes = made.changed; stuck = rw c.if-not-branch.true at made.pivots; ends = made.ends }
+    record { permuted = made.permuted; changes = made.changed; stuck = rw c.if-not-branch.true at made.pivots; ends = made.ends }
 
 pub returns-then-not-branch-clause-few : goal.returns-then-not-branch-clause-few
 returns-then-not-branch-clause-few c =
     let made = c.in_ok-eliminate.ensures in
-    few_stuck c.args.self.now c.eliminate.new.self c.requires.under_way c.requires.ordered (record { changes = made.changed; stuck = rw c.if-not-branch.true at made.pivots; ends = made.ends }) made.permuted (rw c.if-not-branch.true at made.few)
+    few_stuck c.args.self.now c.eliminate.new.self c.requires.under_way c.requires.ordered (record { permuted = made.permuted; changes = made.changed; stuck = rw c.if-not-branch.true at made.pivots; ends = made.ends }) (rw c.if-not-branch.true at made.few)
 
 -- ---- all columns have pivots
 

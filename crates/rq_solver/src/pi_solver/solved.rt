@@ -1,0 +1,40 @@
+//! `Solved`: what equations give where operations alone are wanted (RFC 6330, section 5.4.2).
+ghost use Rattle.std.specs.Prelude.{◌≡◌, length, IfOk, IfErr};
+ghost use Rattle.rq_bytes.specs.declared.error.Error.TheVariants.{OutOfMemory};
+ghost use Rattle.rq_peeling.specs.System.{rows_of_system};
+ghost use Rattle.rq_solver.specs.Solving.{IsSolved};
+
+use super::elimination::Elimination;
+use rq_bytes::error::Error;
+use rq_operations::recorded::RecordedOperations;
+use rq_peeling::peeling::peel;
+use rq_peeling::system::System;
+use std::alloc::Global;
+
+/// What equations give: operations that find the intermediate symbols, or else what shows that they
+/// don't determine them.
+#[derive(Drop)]
+pub enum Solved {
+    /// The operations that find the intermediate symbols from the values of the equations.
+    Operations(RecordedOperations),
+    /// The equations don't determine the intermediate symbols. The column has an octet for each of
+    /// these, not all of them zero, and solves the equations with zeros as values. It is `None` where
+    /// there was no memory for it.
+    Undetermined(Option<Vec<u8>>),
+}
+
+/// Looks for the operations that solve a system, and where there are none for a column that shows it.
+pub(super) fn solve_system(alloc: Global, system: System) -> Result<Solved, Error>
+    ensures solved { IfOk result (IsSolved (length system.ones) system.width (rows_of_system system)) }
+    ensures memory { IfErr result (λ e. e ≡ OutOfMemory) }
+{
+    let peeling = peel(alloc, &system)?;
+    let mut elimination = Elimination::first_phase(alloc, system, peeling)?;
+    let Some(order) = elimination.later_phases(alloc)? else {
+        let column = elimination.homogeneous_column(alloc).ok();
+        return Ok(Solved::Undetermined(column));
+    };
+    let Elimination { recorded, .. } = elimination;
+    let steps = recorded.operations.into_steps();
+    Ok(Solved::Operations(RecordedOperations::new(steps, order)))
+}
