@@ -1,4 +1,4 @@
--- What came, key by key and payload by payload.
+-- What was received, key by key and payload by payload.
 use Rattle.std.proofs.Common.{◌≡◌, ℕ, suc, ◌+◌, ◌-◌, ◌*◌, true, List, [], ◌∷◌, ◌++◌, All, length, map, replicate, Option, Some, None, Vec, Global, refl, sym, ap, ◌∙◌, subst, arith, append-nil, append_assoc, vec_items}
 use Rattle.std.specs.Prelude.{is_some, option_map, IsSome}
 use Rattle.std.specs.List.{range_with_len}
@@ -32,7 +32,7 @@ next_came m done rest e found whole =
     let all : All (ContainsKey nat_cmp m) (done ++ e ∷ rest) = subst (All (ContainsKey nat_cmp m)) (sym whole) found in
     has_value _ (rw (get_or-append_seam done e rest 0) at (all (length done) 0 (omega (arith, length-append done (e ∷ rest)))))
 
--- the keys are those of what came
+-- the keys are those of what was received
 pub known_by_keys : (row : TableRow) (k : ℕ) (m : Payloads) (done : List ℕ) → done ≡ keys m → range_with_len k (row.extended_symbols - k) ++ map (internal_id row k) done ≡ known_list row k m.entries
 known_by_keys row k m done all = ap (λ xs. range_with_len k (row.extended_symbols - k) ++ xs) (ap (map (internal_id row k)) all ∙ map-map (internal_id row k) (λ e. e.0) m.entries)
 

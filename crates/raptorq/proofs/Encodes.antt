@@ -16,7 +16,7 @@ use Rattle.rq_standard.proofs.Columns.{source_sum}
 use Rattle.rq_standard.proofs.StandingSteps.{push-all}
 use Rattle.raptorq.specs.Encoder.{id_in}
 use Rattle.raptorq.specs.SourceBlockEncoder.{BlockEncoded, IsBlockPacket, AreBlockPackets}
-use Rattle.raptorq.proofs.HeldEquations.{internal_below}
+use Rattle.raptorq.proofs.ReceivedEquations.{internal_below}
 use Rattle.rq_standard.specs.Headline.{IsOnlyIntermediateColumn, IsEncodingSymbol}
 
 abbrev made : SymbolId → Result SymbolId Error

@@ -12,11 +12,11 @@ use Rattle.rq_standard.specs.Configuration.{Configuration}
 use Rattle.rq_standard.specs.Cutting.{block_symbols}
 use Rattle.rq_standard.specs.Packet.{Packet}
 use Rattle.rq_standard.specs.Headline.{block_row}
-use Rattle.rq_standard.specs.Held.{Held, holds, recorded, CanAnswer, IsContradictory}
-use Rattle.rq_standard.specs.Standing.{State, IsHeldOf, new_held, new_answer, IsNewState, AddsToBlock, Adds, Contradicts, held_after}
+use Rattle.rq_standard.specs.ReceivedBlock.{ReceivedBlock, has_received, with_received, CanAnswer, IsContradictory}
+use Rattle.rq_standard.specs.Standing.{State, IsReceivedOf, new_received, new_answer, IsNewState, AddsToBlock, Adds, Contradicts, received_after}
 use Rattle.rq_standard.proofs.KnownIds.{block_more, none_determined}
 use Rattle.rq_standard.proofs.Firsts.{has_id-push}
-use Rattle.rq_standard.proofs.Contradictions.{contradictory-no_answer, held_later, held_meanwhile, contradicted_after, holds_more, holds_none}
+use Rattle.rq_standard.proofs.Contradictions.{contradictory-no_answer, received_later, received_meanwhile, contradicted_after, received_more, received_none}
 use Rattle.raptorq.specs.Refused.{packet_refusal, IsPacketRefusal}
 use Rattle.raptorq.specs.Runs.{ContradictsCame, IsNextRefusal, IsRefusalBehind, IsRunRefusal, AnswersRun, FollowsRun}
 
@@ -36,57 +36,57 @@ passes_below c p h = ltb-true p.id.block c.source_blocks (block_passes (ltb p.id
 -- ---- a block
 
 -- what can be answered still can be one packet later
-can_more : (table : List TableRow) (c : Configuration) (b : ℕ) (came : List Packet) (p : Packet) → CanAnswer (held_after table c b came) → CanAnswer (held_after table c b (came ++ p ∷ []))
+can_more : (table : List TableRow) (c : Configuration) (b : ℕ) (came : List Packet) (p : Packet) → CanAnswer (received_after table c b came) → CanAnswer (received_after table c b (came ++ p ∷ []))
 can_more table c b came p (inl all) = inl (record { each = λ e below. has_id-push b came p e (all.each e below) })
 can_more table c b came p (inr d) =
-    let now = held_after table c b came in
-    let later = held_after table c b (came ++ p ∷ []) in
-    inr (block_more now.row now.source_symbols (holds now) (holds later) (has_id-push b came p) d)
+    let now = received_after table c b came in
+    let later = received_after table c b (came ++ p ∷ []) in
+    inr (block_more now.row now.source_symbols (has_received now) (has_received later) (has_id-push b came p) d)
 
 -- what a packet makes of its block
-module _ (table : List TableRow) (c : Configuration) (came : List Packet) (p : Packet) (old : Held) (new : Held) (after : Option (List ℕ)) where
+module _ (table : List TableRow) (c : Configuration) (came : List Packet) (p : Packet) (old : ReceivedBlock) (new : ReceivedBlock) (after : Option (List ℕ)) where
   abbrev b : ℕ
   b = p.id.block
 
-  answered_here : (before : Option (List ℕ)) → AddsToBlock old before p new after → (before ≡ None → old ≡ held_after table c b came) → (IsSome before ↔ CanAnswer (held_after table c b came)) → IsSome after ↔ CanAnswer (held_after table c b (came ++ p ∷ []))
+  answered_here : (before : Option (List ℕ)) → AddsToBlock old before p new after → (before ≡ None → old ≡ received_after table c b came) → (IsSome before ↔ CanAnswer (received_after table c b came)) → IsSome after ↔ CanAnswer (received_after table c b (came ++ p ∷ []))
   answered_here None add holds answers =
-      let is : new ≡ held_after table c b (came ++ p ∷ []) = add.held ∙ ap (λ h. recorded h p.id.esi p.payload) (holds refl) ∙ held_later table c came p in
+      let is : new ≡ received_after table c b (came ++ p ∷ []) = add.received ∙ ap (λ h. with_received h p.id.esi p.payload) (holds refl) ∙ received_later table c came p in
       subst (λ h. IsSome after ↔ CanAnswer h) is (add.answers.some, add.answers.none)
   answered_here (Some bytes) add holds answers = (λ some. can_more table c b came p (answers.0 refl), λ can. ap is_some add.1)
 
   -- which doesn't contradict it
-  fits_here : (before : Option (List ℕ)) → AddsToBlock old before p new after → (before ≡ None → old ≡ held_after table c b came) → (IsSome before ↔ CanAnswer (held_after table c b came)) → ContradictsCame table c came p → ⊥
+  fits_here : (before : Option (List ℕ)) → AddsToBlock old before p new after → (before ≡ None → old ≡ received_after table c b came) → (IsSome before ↔ CanAnswer (received_after table c b came)) → ContradictsCame table c came p → ⊥
   fits_here None add holds answers x =
-      let is : new ≡ held_after table c b (came ++ p ∷ []) = add.held ∙ ap (λ h. recorded h p.id.esi p.payload) (holds refl) ∙ held_later table c came p in
+      let is : new ≡ received_after table c b (came ++ p ∷ []) = add.received ∙ ap (λ h. with_received h p.id.esi p.payload) (holds refl) ∙ received_later table c came p in
       contradictory-no_answer new after add.answers (subst IsContradictory (sym is) x.contradictory)
   fits_here (Some bytes) add holds answers x = x.unanswered (answers.0 refl)
 
 -- ---- all blocks
 
 module _ (table : List TableRow) (came : List Packet) (p : Packet) (old new : State) (follows : FollowsRun table came old) where
-  -- a packet that is taken doesn't contradict what came,
+  -- a packet that is taken doesn't contradict what was received,
   pub taken_fits : p.id.block < old.configuration.source_blocks → Adds old p new → ContradictsCame table old.configuration came p → ⊥
   taken_fits within add =
       let b = p.id.block in
-      fits_here table old.configuration came p (old.held b) (new.held b) (new.answer b) (old.answer b) add.here (follows.holds b within) (follows.answers b within)
+      fits_here table old.configuration came p (old.received b) (new.received b) (new.answer b) (old.answer b) add.here (follows.holds b within) (follows.answers b within)
 
   -- and is followed
   pub follows_more : p.id.block < old.configuration.source_blocks → Adds old p new → FollowsRun table (came ++ p ∷ []) new
   follows_more within add = record {
-    holds = holds_more old p new within add table came follows.holds;
+    holds = received_more old p new within add table came follows.holds;
     answers = λ b below.
         let c = old.configuration in
         let here = p.id.block in
         let in_old : b < c.source_blocks = subst (λ (k : Configuration). b < k.source_blocks) add.elsewhere.configuration below in
-        subst (λ (k : Configuration). IsSome (new.answer b) ↔ CanAnswer (held_after table k b (came ++ p ∷ []))) (sym add.elsewhere.configuration)
+        subst (λ (k : Configuration). IsSome (new.answer b) ↔ CanAnswer (received_after table k b (came ++ p ∷ []))) (sym add.elsewhere.configuration)
         (elim (cases_eq here b) [
           | inl e ↦
-              subst (λ n. IsSome (new.answer n) ↔ CanAnswer (held_after table c n (came ++ p ∷ []))) e
-              (answered_here table c came p (old.held here) (new.held here) (new.answer here) (old.answer here) add.here (follows.holds here within) (follows.answers here within))
+              subst (λ n. IsSome (new.answer n) ↔ CanAnswer (received_after table c n (came ++ p ∷ []))) e
+              (answered_here table c came p (old.received here) (new.received here) (new.answer here) (old.answer here) add.here (follows.holds here within) (follows.answers here within))
           | inr ne ↦
               let q = add.elsewhere.other b in_old (λ e. ne (sym e)) in
-              subst (λ h. IsSome (new.answer b) ↔ CanAnswer h) (held_meanwhile table c b came p ne)
-              (subst (λ o. IsSome o ↔ CanAnswer (held_after table c b came)) (sym q.1) (follows.answers b in_old))
+              subst (λ h. IsSome (new.answer b) ↔ CanAnswer h) (received_meanwhile table c b came p ne)
+              (subst (λ o. IsSome o ↔ CanAnswer (received_after table c b came)) (sym q.1) (follows.answers b in_old))
         ]);
   }
 
@@ -109,7 +109,7 @@ module _ (table : List TableRow) (came : List Packet) (p : Packet) (old new : St
 -- ---- before any packet
 
 -- a block is answered then exactly where it has no symbols
-new_answers : (table : List TableRow) (c : Configuration) (b : ℕ) → block_symbols c b ≤ (block_row table c b).extended_symbols → IsSome (new_answer c b) ↔ CanAnswer (held_after table c b [])
+new_answers : (table : List TableRow) (c : Configuration) (b : ℕ) → block_symbols c b ≤ (block_row table c b).extended_symbols → IsSome (new_answer c b) ↔ CanAnswer (received_after table c b [])
 new_answers table c b fits = elim (cases_eq (block_symbols c b) 0) [
   | inl none ↦ (
     λ some. inl (record { each = λ e below. absurd (omega (arith, none)) }),
@@ -125,13 +125,13 @@ new_answers table c b fits = elim (cases_eq (block_symbols c b) 0) [
       )
 ]
 
-pub follows_none : (table : List TableRow) (c : Configuration) (s : State) → ((b : ℕ) → b < c.source_blocks → IsHeldOf table c b (new_held table c b)) → IsNewState table c s → FollowsRun table [] s
+pub follows_none : (table : List TableRow) (c : Configuration) (s : State) → ((b : ℕ) → b < c.source_blocks → IsReceivedOf table c b (new_received table c b)) → IsNewState table c s → FollowsRun table [] s
 follows_none table c s shape new = record {
-  holds = holds_none table c s new;
+  holds = received_none table c s new;
   answers = λ b below.
       let in_new : b < c.source_blocks = subst (λ (k : Configuration). b < k.source_blocks) new.configuration below in
-      subst (λ (k : Configuration). IsSome (s.answer b) ↔ CanAnswer (held_after table k b [])) (sym new.configuration)
-      (subst (λ o. IsSome o ↔ CanAnswer (held_after table c b [])) (sym (new.answer b in_new)) (new_answers table c b (shape b in_new).fits));
+      subst (λ (k : Configuration). IsSome (s.answer b) ↔ CanAnswer (received_after table k b [])) (sym new.configuration)
+      (subst (λ o. IsSome o ↔ CanAnswer (received_after table c b [])) (sym (new.answer b in_new)) (new_answers table c b (shape b in_new).fits));
 }
 
 -- ---- a list of packets

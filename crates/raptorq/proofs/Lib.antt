@@ -7,8 +7,8 @@ pub mod EncodedBlocks
 pub mod Encodes
 pub mod FollowedRuns
 pub mod HdpcSumSteps
-pub mod HeldEquations
-pub mod HeldSolutions
+pub mod ReceivedEquations
+pub mod ReceivedSolutions
 pub mod Interleaving
 pub mod Intermediates
 pub mod Listing

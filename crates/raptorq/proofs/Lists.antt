@@ -52,7 +52,7 @@ module _ (table : List TableRow) where
 pub next_whole : {X : Type 0} → (all done rest left : List X) (x : X) → all ≡ done ++ rest → rest ≡ x ∷ left → all ≡ (done ++ x ∷ []) ++ left
 next_whole all done rest left x whole is = whole ∙ ap (λ l. done ++ l) is ∙ sym (append_assoc done (x ∷ []) left)
 
--- what is said of all that came is said of the whole list
+-- what is said of all that was received is said of the whole list
 pub all_came : {X : Type 0} → (all done rest : List X) → all ≡ done ++ rest → rest ≡ [] → done ≡ all
 all_came all done rest whole none = sym (whole ∙ ap (λ l. done ++ l) none ∙ append-nil done)
 

@@ -11,7 +11,7 @@ use Rattle.rq_standard.specs.Received.{or_later}
 abbrev pub AreSums : (ℕ → List ℕ) → (ℕ → Option (List ℕ)) → Type 0
 AreSums sum f = (k : ℕ) → ForSome (f k) (λ x. x ≡ sum k)
 
--- with these besides what came the first symbols are there
+-- with these besides what was received the first symbols are there
 abbrev pub AreThere : (ℕ → Option (List ℕ)) → (ℕ → Option (List ℕ)) → (ℕ → List ℕ) → ℕ → Type 0
 AreThere received f sum n = (k : ℕ) → k < n → or_later (received k) (f k) ≡ Some (unwrap_or (received k) (sum k))
 
@@ -40,7 +40,7 @@ is_some-items (Some v) = refl
 is_some-items None = refl
 
 module _ (received f : ℕ → Option (List ℕ)) (sum : ℕ → List ℕ) (e : ℕ) where
-  -- the next one came
+  -- the next one was received
   pub there-came : is_some (received e) ≡ true → AreThere received f sum e → AreThere received f sum (e + 1)
   there-came has before k below =
       elim (cases_lt k e) [

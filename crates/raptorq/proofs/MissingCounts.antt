@@ -4,6 +4,7 @@ use mir.Val.{bool_byte}
 use Rattle.std.specs.Prelude.{is_some, not, ◌&&◌, ltb, ◌-◌}
 use Rattle.std.proofs.lemmas.Bool.{cases_eq, cases_lt, eq-eqb, ne_eqb, lt-ltb, le-ltb}
 use Rattle.rq_standard.specs.Received.{or_later}
+use Rattle.rq_standard.proofs.Firsts.{or_later-none}
 use Rattle.raptorq.specs.Missing.{missing_count}
 use Rattle.raptorq.proofs.Payloads.{or_later-again}
 
@@ -14,7 +15,7 @@ missing_count-same (suc n) f g same =
     let last : f n ≡ g n = same n (omega arith) in
     ap (λ m. m + cond (f n) 0 1) (missing_count-same n f g (λ e h. same e (omega arith))) ∙ ap (λ b. missing_count n g + cond b 0 1) last
 
--- one of them came
+-- one of them was received
 pub missing_count-one : (n k : ℕ) (f g : ℕ → Bool) → k < n → f k ≡ false → g k ≡ true → ((e : ℕ) → e ≢ k → f e ≡ g e) → missing_count n f ≡ missing_count n g + 1
 unfolding missing_count
 missing_count-one zero k f g lt was is same = absurd (omega arith)
@@ -49,7 +50,7 @@ unfolding missing_count
 missing_count-all zero f none = refl
 missing_count-all (suc n) f none = ap (λ m. m + cond (f n) 0 1) (missing_count-all n f none) ∙ ap (λ b. n + cond b 0 1) (none n) ∙ omega arith
 
--- where all came, none is missing
+-- where all were received, none is missing
 pub missing_count-none : (n : ℕ) (f : ℕ → Bool) → ((e : ℕ) → e < n → f e ≡ true) → missing_count n f ≡ 0
 unfolding missing_count
 missing_count-none zero f all = refl
@@ -58,10 +59,6 @@ missing_count-none (suc n) f all = ap (λ m. m + cond (f n) 0 1) (missing_count-
 none_is : (o : Option (List ℕ)) → is_some o ≡ false → o ≡ None
 none_is None h = refl
 none_is (Some x) h = absurd (cc h)
-
-or_later-none : (o : Option (List ℕ)) → or_later o None ≡ o
-or_later-none None = refl
-or_later-none (Some x) = refl
 
 -- another id is as before
 others_stay : (f g : ℕ → Option (List ℕ)) (k : ℕ) (x : List ℕ) → ((e : ℕ) → g e ≡ or_later (f e) (cond (eqb k e) (Some x) None)) → (e : ℕ) → e ≢ k → is_some (f e) ≡ is_some (g e)

@@ -14,11 +14,11 @@ use Rattle.rq_standard.specs.Packet.{Packet}
 use Rattle.rq_standard.specs.Configuration.{Configuration}
 use Rattle.rq_standard.specs.Cutting.{block_symbols}
 use Rattle.rq_standard.specs.TableRows.{no_row}
-use Rattle.rq_standard.specs.Held.{Held, nothing_held, IsContradictory}
-use Rattle.rq_standard.specs.Standing.{State, new_held, new_answer, IsNewState, AddsToBlock, RecordsInBlock, IsSameElsewhere, Adds, RecordsOnly, append_both, first_blocks, result_of}
+use Rattle.rq_standard.specs.ReceivedBlock.{ReceivedBlock, nothing_received, IsContradictory}
+use Rattle.rq_standard.specs.Standing.{State, new_received, new_answer, IsNewState, AddsToBlock, RecordsInBlock, IsSameElsewhere, Adds, RecordsOnly, append_both, first_blocks, result_of}
 use Rattle.rq_standard.proofs.ObjectAnswers.{joined_some, joined_each, some_of}
-use Rattle.raptorq.specs.SourceBlockDecoder.{held_of}
-use Rattle.raptorq.specs.Decoder.{held_at, answer_at, answer_of}
+use Rattle.raptorq.specs.SourceBlockDecoder.{received_of}
+use Rattle.raptorq.specs.Decoder.{received_at, answer_at, answer_of}
 use Rattle.raptorq.specs.Refused.{block_refusal}
 use Rattle.raptorq.specs.Stopping.{AddsInBlockOrStops, AddsOrStops}
 use Rattle.raptorq.specs.declared.decoder.packet_stop.PacketStop.{PacketStop}
@@ -27,24 +27,24 @@ use Rattle.raptorq.proofs.Numbered.{length-mapped, length-numbered}
 use Rattle.raptorq.specs.declared.decoder.object.ObjectBlock.{ObjectBlock}
 
 abbrev pub number_of : ObjectBlock → ℕ
-number_of b = (held_of b.decoder).number
+number_of b = (received_of b.decoder).number
 
 abbrev pub state : Configuration → List ObjectBlock → State
-state c items = record { configuration = c; held = held_at c items; answer = answer_at items }
+state c items = record { configuration = c; received = received_at c items; answer = answer_at items }
 
--- what is held of it has as many symbols as the configuration says of its number
-abbrev pub IsCut : Configuration → Held → Type 0
+-- what was received of it has as many symbols as the configuration says of its number
+abbrev pub IsCut : Configuration → ReceivedBlock → Type 0
 IsCut c h = h.source_symbols ≡ block_symbols c h.number
 
 -- what is read of it
-pub held_here : (c : Configuration) (items : List ObjectBlock) (i : ℕ) (x : ObjectBlock) → i < length items → x ≡ get_or items i x → held_at c items i ≡ held_of x.decoder
-held_here c items i x below is = get_or-map (λ b. held_of b.decoder) items i x (nothing_held c i no_row 0) below ∙ ap (λ b. held_of b.decoder) (sym is)
+pub received_here : (c : Configuration) (items : List ObjectBlock) (i : ℕ) (x : ObjectBlock) → i < length items → x ≡ get_or items i x → received_at c items i ≡ received_of x.decoder
+received_here c items i x below is = get_or-map (λ b. received_of b.decoder) items i x (nothing_received c i no_row 0) below ∙ ap (λ b. received_of b.decoder) (sym is)
 
 pub answer_here : (items : List ObjectBlock) (i : ℕ) (x : ObjectBlock) → i < length items → x ≡ get_or items i x → answer_at items i ≡ answer_of x
 answer_here items i x below is = get_or-map answer_of items i x None below ∙ ap answer_of (sym is)
 
 -- a block that is its configuration's and the packet's refuses no packet with a symbol of the size
-pub block_takes : (c : Configuration) (h : Held) (p : Packet) → h.configuration ≡ c → h.number ≡ p.id.block → length p.payload ≡ c.symbol_size → block_refusal h p ≡ Ok tt
+pub block_takes : (c : Configuration) (h : ReceivedBlock) (p : Packet) → h.configuration ≡ c → h.number ≡ p.id.block → length p.payload ≡ c.symbol_size → block_refusal h p ≡ Ok tt
 block_takes c h p same number long = rw (eq-eqb p.id.block h.number (sym number), eq-eqb (length p.payload) h.configuration.symbol_size (long ∙ ap (λ k. k.symbol_size) (sym same))) refl
 
 -- the block of a packet, by its number
@@ -68,10 +68,10 @@ within items i y below = omega (arith, length-set items i y)
 
 -- the others stay
 module _ (c : Configuration) (items : List ObjectBlock) (i : ℕ) (x y : ObjectBlock) where
-  other_held : (n : ℕ) → n ≢ i → held_at c (set items i y) n ≡ held_at c items n
-  other_held n ne = elim (cases_lt n (length items)) [
-    | inl lt ↦ get_or-map (λ b. held_of b.decoder) (set items i y) n x (nothing_held c n no_row 0) (omega (arith, lt, length-set items i y)) ∙ ap (λ b. held_of b.decoder) (get_or-set_other items i n y x ne) ∙ sym (get_or-map (λ b. held_of b.decoder) items n x (nothing_held c n no_row 0) lt)
-    | inr past ↦ get_or_past (map (λ b. held_of b.decoder) (set items i y)) n (nothing_held c n no_row 0) (omega (arith, past, length-set items i y, length-map (set items i y) (λ b. held_of b.decoder))) ∙ sym (get_or_past (map (λ b. held_of b.decoder) items) n (nothing_held c n no_row 0) (omega (arith, past, length-map items (λ b. held_of b.decoder))))
+  other_received : (n : ℕ) → n ≢ i → received_at c (set items i y) n ≡ received_at c items n
+  other_received n ne = elim (cases_lt n (length items)) [
+    | inl lt ↦ get_or-map (λ b. received_of b.decoder) (set items i y) n x (nothing_received c n no_row 0) (omega (arith, lt, length-set items i y)) ∙ ap (λ b. received_of b.decoder) (get_or-set_other items i n y x ne) ∙ sym (get_or-map (λ b. received_of b.decoder) items n x (nothing_received c n no_row 0) lt)
+    | inr past ↦ get_or_past (map (λ b. received_of b.decoder) (set items i y)) n (nothing_received c n no_row 0) (omega (arith, past, length-set items i y, length-map (set items i y) (λ b. received_of b.decoder))) ∙ sym (get_or_past (map (λ b. received_of b.decoder) items) n (nothing_received c n no_row 0) (omega (arith, past, length-map items (λ b. received_of b.decoder))))
   ]
 
   other_answer : (n : ℕ) → n ≢ i → answer_at (set items i y) n ≡ answer_at items n
@@ -81,40 +81,40 @@ module _ (c : Configuration) (items : List ObjectBlock) (i : ℕ) (x y : ObjectB
   ]
 
   elsewhere : IsSameElsewhere (state c items) i (state c (set items i y))
-  elsewhere = record { configuration = refl; other = λ n below ne. (other_held n ne, other_answer n ne) }
+  elsewhere = record { configuration = refl; other = λ n below ne. (other_received n ne, other_answer n ne) }
 
 -- the packet's block is written
 module _ (c : Configuration) (items : List ObjectBlock) (p : Packet) (x y : ObjectBlock) (below : p.id.block < length items) (is : x ≡ get_or items p.id.block x) where
   -- what is said of the block before and after is said of the two states
-  shown_here : (P : Held → Option (List ℕ) → Packet → Held → Option (List ℕ) → Type 0) → P (held_of x.decoder) (answer_of x) p (held_of y.decoder) (answer_of y)
-      → P (held_at c items p.id.block) (answer_at items p.id.block) p (held_at c (set items p.id.block y) p.id.block) (answer_at (set items p.id.block y) p.id.block)
+  shown_here : (P : ReceivedBlock → Option (List ℕ) → Packet → ReceivedBlock → Option (List ℕ) → Type 0) → P (received_of x.decoder) (answer_of x) p (received_of y.decoder) (answer_of y)
+      → P (received_at c items p.id.block) (answer_at items p.id.block) p (received_at c (set items p.id.block y) p.id.block) (answer_at (set items p.id.block y) p.id.block)
   shown_here P so =
       let i = p.id.block in
       let new = set items i y in
-      subst (λ h. P h (answer_at items i) p (held_at c new i) (answer_at new i)) (sym (held_here c items i x below is))
-      (subst (λ a. P (held_of x.decoder) a p (held_at c new i) (answer_at new i)) (sym (answer_here items i x below is))
-      (subst (λ h. P (held_of x.decoder) (answer_of x) p h (answer_at new i)) (sym (held_here c new i y (within items i y below) (after items i y below)))
-      (subst (λ a. P (held_of x.decoder) (answer_of x) p (held_of y.decoder) a) (sym (answer_here new i y (within items i y below) (after items i y below))) so)))
+      subst (λ h. P h (answer_at items i) p (received_at c new i) (answer_at new i)) (sym (received_here c items i x below is))
+      (subst (λ a. P (received_of x.decoder) a p (received_at c new i) (answer_at new i)) (sym (answer_here items i x below is))
+      (subst (λ h. P (received_of x.decoder) (answer_of x) p h (answer_at new i)) (sym (received_here c new i y (within items i y below) (after items i y below)))
+      (subst (λ a. P (received_of x.decoder) (answer_of x) p (received_of y.decoder) a) (sym (answer_here new i y (within items i y below) (after items i y below))) so)))
 
-  adds_at : AddsToBlock (held_of x.decoder) (answer_of x) p (held_of y.decoder) (answer_of y) → Adds (state c items) p (state c (set items p.id.block y))
+  adds_at : AddsToBlock (received_of x.decoder) (answer_of x) p (received_of y.decoder) (answer_of y) → Adds (state c items) p (state c (set items p.id.block y))
   adds_at add = record { here = shown_here AddsToBlock add; elsewhere = elsewhere c items p.id.block x y }
 
-  records_at : RecordsInBlock (held_of x.decoder) (answer_of x) p (held_of y.decoder) (answer_of y) → RecordsOnly (state c items) p (state c (set items p.id.block y))
+  records_at : RecordsInBlock (received_of x.decoder) (answer_of x) p (received_of y.decoder) (answer_of y) → RecordsOnly (state c items) p (state c (set items p.id.block y))
   records_at more = record { here = shown_here RecordsInBlock more; elsewhere = elsewhere c items p.id.block x y }
 
-  stays_at : held_of y.decoder ≡ held_of x.decoder → answer_of y ≡ answer_of x → state c (set items p.id.block y) ≡ state c items
-  stays_at held answer =
-      let held_same : map (λ b. held_of b.decoder) (set items p.id.block y) ≡ map (λ b. held_of b.decoder) items = map-set_same (λ b. held_of b.decoder) items p.id.block y x (held ∙ ap (λ b. held_of b.decoder) is) in
+  stays_at : received_of y.decoder ≡ received_of x.decoder → answer_of y ≡ answer_of x → state c (set items p.id.block y) ≡ state c items
+  stays_at received answer =
+      let received_same : map (λ b. received_of b.decoder) (set items p.id.block y) ≡ map (λ b. received_of b.decoder) items = map-set_same (λ b. received_of b.decoder) items p.id.block y x (received ∙ ap (λ b. received_of b.decoder) is) in
       let answer_same : map answer_of (set items p.id.block y) ≡ map answer_of items = map-set_same answer_of items p.id.block y x (answer ∙ ap answer_of is) in
-      λ i. record { configuration = c; held = λ n. get_or (held_same i) n (nothing_held c n no_row 0); answer = λ n. get_or (answer_same i) n None }
+      λ i. record { configuration = c; received = λ n. get_or (received_same i) n (nothing_received c n no_row 0); answer = λ n. get_or (answer_same i) n None }
 
   -- what the packet did to its block it did to the object's decoder
-  pub takes_at : (result : Result (Unit {0}) PacketStop) → AddsInBlockOrStops (held_of x.decoder) (answer_of x) p result (held_of y.decoder) (answer_of y) → AddsOrStops (state c items) p result (state c (set items p.id.block y))
+  pub takes_at : (result : Result (Unit {0}) PacketStop) → AddsInBlockOrStops (received_of x.decoder) (answer_of x) p result (received_of y.decoder) (answer_of y) → AddsOrStops (state c items) p result (state c (set items p.id.block y))
   takes_at (Ok u) so = adds_at so
   takes_at (Err NotSolved) so = records_at so
   takes_at (Err Contradicted) so = record {
     records = records_at so.0;
-    contradictory = subst IsContradictory (sym (held_here c (set items p.id.block y) p.id.block y (within items p.id.block y below) (after items p.id.block y below))) so.1;
+    contradictory = subst IsContradictory (sym (received_here c (set items p.id.block y) p.id.block y (within items p.id.block y below) (after items p.id.block y below))) so.1;
   }
   takes_at (Err NotRecorded) so = stays_at so.0 so.1
   takes_at (Err NotJoined) so = so
@@ -148,19 +148,19 @@ join_some c items n x all below within is none = cc (joined_each (answer_at item
 
 -- ---- before any packet
 
-module _ (table : List TableRow) (c : Configuration) (items : List ObjectBlock) (held : map (λ b. held_of b.decoder) items ≡ map (new_held table c) (range_with_len 0 c.source_blocks)) where
-  -- each of them is what is held of a new block
-  pub new_each : (P : Held → Type 0) → ((n : ℕ) → n < c.source_blocks → P (new_held table c n)) → All (λ b. P (held_of b.decoder)) items
+module _ (table : List TableRow) (c : Configuration) (items : List ObjectBlock) (received : map (λ b. received_of b.decoder) items ≡ map (new_received table c) (range_with_len 0 c.source_blocks)) where
+  -- each of them is what was received of a new block
+  pub new_each : (P : ReceivedBlock → Type 0) → ((n : ℕ) → n < c.source_blocks → P (new_received table c n)) → All (λ b. P (received_of b.decoder)) items
   new_each P each i d below =
-      let long = length-mapped (λ b. held_of b.decoder) (new_held table c) c.source_blocks items held in
+      let long = length-mapped (λ b. received_of b.decoder) (new_received table c) c.source_blocks items received in
       let within : i < c.source_blocks = omega (arith, below, long) in
-      let is : held_of (get_or items i d).decoder ≡ new_held table c i = sym (get_or-map (λ b. held_of b.decoder) items i d (held_of d.decoder) below) ∙ ap (λ l. get_or l i (held_of d.decoder)) held ∙ get_or-map-range_with_len (new_held table c) 0 c.source_blocks i i (held_of d.decoder) within (omega arith) in
+      let is : received_of (get_or items i d).decoder ≡ new_received table c i = sym (get_or-map (λ b. received_of b.decoder) items i d (received_of d.decoder) below) ∙ ap (λ l. get_or l i (received_of d.decoder)) received ∙ get_or-map-range_with_len (new_received table c) 0 c.source_blocks i i (received_of d.decoder) within (omega arith) in
       subst P (sym is) (each i within)
 
   pub new_state : map answer_of items ≡ map (new_answer c) (range_with_len 0 c.source_blocks) → IsNewState table c (state c items)
   new_state answers = record {
     configuration = refl;
-    held = λ b below. ap (λ l. get_or l b (nothing_held c b no_row 0)) held ∙ get_or-map-range_with_len (new_held table c) 0 c.source_blocks b b (nothing_held c b no_row 0) below (omega arith);
+    received = λ b below. ap (λ l. get_or l b (nothing_received c b no_row 0)) received ∙ get_or-map-range_with_len (new_received table c) 0 c.source_blocks b b (nothing_received c b no_row 0) below (omega arith);
     answer = λ b below. ap (λ l. get_or l b None) answers ∙ get_or-map-range_with_len (new_answer c) 0 c.source_blocks b b None below (omega arith);
   }
 
@@ -180,18 +180,18 @@ none_otherwise (Some v) h = absurd (h v refl)
 
 -- ---- blocks that hold what others did
 
-module _ (c : Configuration) (old new : List ObjectBlock) (held : map (λ b. held_of b.decoder) new ≡ map (λ b. held_of b.decoder) old) where
+module _ (c : Configuration) (old new : List ObjectBlock) (received : map (λ b. received_of b.decoder) new ≡ map (λ b. received_of b.decoder) old) where
   pub same_length : length new ≡ length old
-  same_length = sym (length-map new (λ b. held_of b.decoder)) ∙ ap length held ∙ length-map old (λ b. held_of b.decoder)
+  same_length = sym (length-map new (λ b. received_of b.decoder)) ∙ ap length received ∙ length-map old (λ b. received_of b.decoder)
 
   pub same_numbers : map number_of new ≡ map number_of old
-  same_numbers = sym (map-map (λ h. h.number) (λ b. held_of b.decoder) new) ∙ ap (map (λ h. h.number)) held ∙ map-map (λ h. h.number) (λ b. held_of b.decoder) old
+  same_numbers = sym (map-map (λ h. h.number) (λ b. received_of b.decoder) new) ∙ ap (map (λ h. h.number)) received ∙ map-map (λ h. h.number) (λ b. received_of b.decoder) old
 
   -- what each old one is, each new one is
-  pub same_each : (P : Held → Type 0) → All (λ b. P (held_of b.decoder)) old → All (λ b. P (held_of b.decoder)) new
+  pub same_each : (P : ReceivedBlock → Type 0) → All (λ b. P (received_of b.decoder)) old → All (λ b. P (received_of b.decoder)) new
   same_each P all i d below =
       let within : i < length old = omega (arith, below, same_length) in
-      let is : held_of (get_or new i d).decoder ≡ held_of (get_or old i d).decoder = sym (get_or-map (λ b. held_of b.decoder) new i d (held_of d.decoder) below) ∙ ap (λ l. get_or l i (held_of d.decoder)) held ∙ get_or-map (λ b. held_of b.decoder) old i d (held_of d.decoder) within in
+      let is : received_of (get_or new i d).decoder ≡ received_of (get_or old i d).decoder = sym (get_or-map (λ b. received_of b.decoder) new i d (received_of d.decoder) below) ∙ ap (λ l. get_or l i (received_of d.decoder)) received ∙ get_or-map (λ b. received_of b.decoder) old i d (received_of d.decoder) within in
       subst P (sym is) (all i d within)
 
 -- a list written over one of its length

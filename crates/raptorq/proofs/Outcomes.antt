@@ -1,8 +1,10 @@
 -- What a solver's outcome says of a block's equations.
 use Rattle.std.proofs.Common.{◌≡◌, ℕ, zero, suc, ◌<◌, ◌≤◌, List, [], get_or, Option, None, Some, length, replicate, sym, ap, ◌+◌, ◌-◌, ◌∙◌, subst, arith, inl, inr}
-use Rattle.std.specs.Prelude.{MatchOption}
+use Rattle.std.specs.Prelude.{IfSome, Vec}
+use Rattle.std.specs.Global.{Global}
 use Rattle.std.proofs.lemmas.Bool.{cases_lt}
 use Rattle.std.proofs.lemmas.List.{length-map}
+use Rattle.std.proofs.lemmas.Option.{same_Some}
 use Rattle.rq_algebra.specs.Arrangements.{RowsStandIn}
 use Rattle.rq_algebra.specs.Operations.{Operation, Store, run, unordered, found_by, IsUnread, FindsColumn}
 use Rattle.rq_algebra.specs.Symbols.{symbols, IsSymbol, IsSymbolColumn, AreSymbols, SolvesSymbols, symbol_at}
@@ -13,21 +15,24 @@ use Rattle.rq_algebra.proofs.Stacks.{stacked_above, stacked_below}
 use Rattle.rq_algebra.proofs.SymbolColumns.{run_keeps_symbols}
 use Rattle.rq_bytes.specs.SymbolSlab.{Slab, HasPlace, after_all, store_of, symbol_in, symbols_in, IsZeroUnread}
 use Rattle.rq_operations.specs.RecordedOperations.{operations_of}
-use Rattle.rq_operations.specs.declared.recorded.RecordedOperations.{RecordedOperations}
-use Rattle.rq_parts.specs.DenseOctetMatrix.{OctetTable}
+use Rattle.rq_null_vector.specs.Homogeneous.{IsHomogeneousColumn}
+use Rattle.rq_null_vector.proofs.FreeColumns.{shows_same}
+use Rattle.rq_parts.specs.DenseOctetMatrix.{OctetTable, entry_of}
 use Rattle.rq_standard.specs.declared.row.TableRow.{TableRow}
 use Rattle.rq_standard.specs.BitTable.{BitTable}
-use Rattle.rq_standard.specs.ConstraintMatrix.{IsBinaryPart, IsBinaryPartWithoutHdpc}
+use Rattle.rq_standard.specs.ConstraintMatrix.{IsBinaryPart, IsBinaryPartWithoutHdpc, with_octet_rows}
 use Rattle.rq_standard.specs.OctetField.{octets}
 use Rattle.rq_standard.specs.TableRows.{intermediate_symbols}
 use Rattle.rq_standard.specs.Equations.{equations, equation_count, fixed_equations, ldpc_coefficient, hdpc_coefficient, symbol_coefficient}
 use Rattle.rq_standard.specs.IdLists.{HasDeterminedRows}
 use Rattle.rq_base.specs.HdpcPart.{IsHdpcPart}
-use Rattle.rq_solver.specs.Solving.{AreEquations, AreEquationsWithoutHdpc, FindsOperations, solver_of}
-use Rattle.rq_solver.proofs.EquationLaws.{binary_equations, are_equations, finds_equations, homogeneous_of_equations}
+use Rattle.rq_solver.specs.Solving.{AreEquations, AreEquationsWithoutHdpc, SolvesOrShows, solver_of}
+use Rattle.rq_solver.specs.declared.pi_solver.solved.Solved.{Solved}
+use Rattle.rq_solver.specs.declared.pi_solver.solved.Solved.TheVariants.{Operations, Undetermined}
+use Rattle.rq_solver.proofs.EquationLaws.{binary_equations, are_equations, equations_same, finds_equations, homogeneous_of_equations}
 use Rattle.rq_elimination.proofs.RowStepLaws.{SameEntries}
 use Rattle.rq_solver.proofs.SolutionLaws.{order-found, finds_same, homogeneous_same, is_solution}
-use Rattle.raptorq.specs.BlockSolutions.{FindsFrom, IsBlockSolution, NeedsNoHdpc, first_equations}
+use Rattle.raptorq.specs.BlockSolutions.{FindsFrom, IsBlockSolution, IsHomogeneousFor, NeedsNoHdpc, first_equations}
 use Rattle.raptorq.specs.declared.solving.BlockOperations.{BlockOperations}
 
 -- the matrices of a block's ids are equations for its values
@@ -44,15 +49,23 @@ pub places_count : (slab : Slab) (n : ℕ) → ((k : ℕ) → k < n → HasPlace
 places_count slab zero places = omega arith
 places_count slab (suc n) places = has_count slab.values slab.symbol_size slab.order n (places n (omega arith))
 
--- the operations that find the column of all equations, or else the ids don't determine the block
-abbrev pub FindsAll : TableRow → List ℕ → Option RecordedOperations → Type 0
-FindsAll row ids answer = MatchOption answer (HasDeterminedRows row ids → ⊥) (λ found. FindsColumn octets (equation_count row ids) (intermediate_symbols row) (equations row ids) (operations_of found))
+-- the operations that find the column of all equations, or else the ids don't determine the block, as a column shows where there is one
+abbrev pub SolvesAll : TableRow → List ℕ → Solved → Type 0
+SolvesAll row ids (Operations found) = FindsColumn octets (equation_count row ids) (intermediate_symbols row) (equations row ids) (operations_of found)
+SolvesAll row ids (Undetermined column) = (HasDeterminedRows row ids → ⊥) × IfSome column (IsHomogeneousFor row ids)
 
 module _ (row : TableRow) (ids : List ℕ) (bits : BitTable) (hdpc : OctetTable) (handed : Slab) (part : IsBinaryPart row ids bits) (octet_part : IsHdpcPart row hdpc) (are : AreEquations row bits hdpc handed) where
+  shown_outcome : (column : Option (Vec ℕ Global)) → IfSome column (λ shown. IsHomogeneousColumn (length handed.values) (intermediate_symbols row) (with_octet_rows row.ldpc_symbols row.hdpc_symbols bits.bit (entry_of hdpc)) shown.items) → IfSome column (IsHomogeneousFor row ids)
+  shown_outcome None shown = tt
+  shown_outcome (Some column) shown = shows_same (equation_count row ids) (intermediate_symbols row) _ (equations row ids) (equations_same row ids bits hdpc part octet_part.rows) (Some column) (rw (sym are.binary.height ∙ part.height) at shown)
+
   -- what a solver finds solves the block's equations; where there is nothing, the ids don't determine the block
-  pub found_outcome : (answer : Option RecordedOperations) → FindsOperations (solver_of row bits hdpc handed) answer → FindsAll row ids answer
-  found_outcome None null = λ d. homogeneous_not_determined octets (equation_count row ids) (intermediate_symbols row) (equations row ids) (homogeneous_of_equations row ids bits hdpc part octet_part.rows handed are null) d
-  found_outcome (Some found) finds = finds_equations row ids bits hdpc part octet_part.rows handed are (operations_of found) finds
+  pub found_outcome : (solved : Solved) → SolvesOrShows (solver_of row bits hdpc handed) solved → SolvesAll row ids solved
+  found_outcome (Operations found) finds = finds_equations row ids bits hdpc part octet_part.rows handed are (operations_of found) finds
+  found_outcome (Undetermined column) found = (
+    λ d. homogeneous_not_determined octets (equation_count row ids) (intermediate_symbols row) (equations row ids) (homogeneous_of_equations row ids bits hdpc part octet_part.rows handed are found.0) d,
+    shown_outcome column found.1,
+  )
 
 -- ---- without HDPC equations
 
@@ -121,9 +134,6 @@ module _ (row : TableRow) (fixed : ℕ) (ids : List ℕ) (few : fixed ≤ row.ld
 
 -- ---- what is left over of the values
 
-same_order : (o p : List ℕ) → Some o ≡ Some p → o ≡ p
-same_order o p e = cc
-
 module _ (height width : ℕ) (rows : ℕ → ℕ → ℕ) (operations : List Operation) (finds : FindsColumn octets height width rows operations) (handed slab : Slab) (are : AreSymbols octets handed.symbol_size height handed.values) (order : handed.order ≡ None) (made : slab ≡ after_all operations handed) where
   left : List (List ℕ)
   left = (run (symbols octets) operations (unordered handed.values)).values
@@ -148,7 +158,7 @@ module _ (height width : ℕ) (rows : ℕ → ℕ → ℕ) (operations : List Op
   pub leaves_zeros : (column : ℕ → List ℕ) → IsSymbolColumn octets handed.symbol_size width column → SolvesSymbols octets height width rows column (symbol_at handed.values) → IsZeroUnread slab
   unfolding left
   leaves_zeros column is solves o set i unread =
-      let same : o ≡ finds.order = same_order o finds.order (sym set ∙ order_is) in
+      let same : o ≡ finds.order = same_Some o finds.order (sym set ∙ order_is) in
       ap (λ (xs : List (List ℕ)). symbol_at xs i) left_is
       ∙ found_leaves octets height width rows operations finds handed.symbol_size handed.values are column is solves i (subst (λ n. IsUnread n finds.order i) count_is (subst (λ l. IsUnread (length slab.values) l i) same unread))
       ∙ ap (λ n. replicate {A = ℕ} n 0) (sym size_is)

@@ -26,7 +26,7 @@ is_eq-nat_cmp k q =
       ]
     ]
 
--- a payload of an id that is held changes nothing
+-- a payload of an id that was received changes nothing
 kept_by : (o r : Option (List ℕ)) (b : Bool) (x : List ℕ) → (b ≡ true → is_some o ≡ true) → o ≡ or_later o (cond b (Some x) None)
 kept_by (Some y) r b x has = refl
 kept_by None r false x has = refl

@@ -6,7 +6,7 @@ use Rattle.rq_standard.specs.Configuration.{IsAligned}
 use Rattle.rq_standard.specs.Packet.{Packet}
 use Rattle.rq_standard.specs.Standing.{State, Adds, StopsEarly, Stops, Contradicts, KeepsContradictions, IsHonestPacket, LeavesBlockLate, AnswersLateBlock}
 use Rattle.rq_standard.specs.TableRows.{IsChecked}
-use Rattle.rq_standard.proofs.Contradictions.{keeps_added, keeps_recorded, keeps_same, honest_fits, no_more, holds_more}
+use Rattle.rq_standard.proofs.Contradictions.{keeps_added, keeps_recorded, keeps_same, honest_fits, no_more, received_more}
 use Rattle.rq_standard.proofs.StandingSteps.{stands_more, answers_late, leaves_late}
 use Rattle.raptorq.specs.Refused.{packet_refusal, IsPacketRefusal}
 use Rattle.raptorq.specs.Stopping.{StopsAsTested, AddsOrStops, AddsAndJoinsOrStops, refusal_of}
@@ -31,7 +31,7 @@ refused_as_tested NotSolved tested is = subst (IsPacketRefusal OutOfMemory) (sym
 refused_as_tested Contradicted tested is = subst (IsPacketRefusal Contradiction) (sym is) (inr refl)
 refused_as_tested NotJoined tested is = subst (IsPacketRefusal OutOfMemory) (sym is) (inl refl)
 
--- ---- what is held then
+-- ---- what was received then
 
 -- nothing changed, or the packet is recorded
 pub stops_early : (old : State) (p : Packet) (at : PacketStop) (new : State) → AddsOrStops old p (Err at) new → StopsEarly old p new
@@ -107,7 +107,7 @@ takes_added old p x new aligned passes same adds = record {
   adds = adds;
   configuration = same;
   contradiction = tt;
-  holds = holds_more old p new (passes_below old.configuration p passes) adds;
+  holds = received_more old p new (passes_below old.configuration p passes) adds;
   goes_on = no_more old p new adds;
   keeps = keeps_added old p new adds;
   next = λ table came follows. (passes, taken_fits table came p old new follows (passes_below old.configuration p passes) adds);

@@ -7,7 +7,7 @@ use Rattle.rq_bytes.specs.declared.error.Error.{Error}
 use Rattle.rq_bytes.specs.declared.error.Error.TheVariants.{OutOfMemory, UnknownBlock, WrongPayloadSize}
 use Rattle.rq_bytes.specs.Refusals.{IsRefusal}
 use Rattle.rq_standard.specs.Packet.{Packet}
-use Rattle.rq_standard.specs.Held.{Held, recorded}
+use Rattle.rq_standard.specs.ReceivedBlock.{ReceivedBlock, with_received}
 use Rattle.rq_standard.proofs.StandingSteps.{push-all}
 use Rattle.raptorq.specs.Refused.{block_refusal}
 use Rattle.raptorq.specs.Decoding.{all_recorded, AreTaken, StopsAtLast, Decodes, DecodesUntil}
@@ -15,13 +15,13 @@ use Rattle.raptorq.specs.Stopping.{StopsPacket, refusal_of}
 use Rattle.raptorq.specs.declared.decoder.packet_stop.PacketStop.{PacketStop}
 use Rattle.raptorq.specs.declared.decoder.packet_stop.PacketStop.TheVariants.{Refused, NotRecorded, NotSolved, Contradicted, NotJoined}
 
-number_kept : (h : Held) (packets : List Packet) → (all_recorded h packets).number ≡ h.number
+number_kept : (h : ReceivedBlock) (packets : List Packet) → (all_recorded h packets).number ≡ h.number
 number_kept h [] = refl
-number_kept h (p ∷ packets) = number_kept (recorded h p.id.esi p.payload) packets
+number_kept h (p ∷ packets) = number_kept (with_received h p.id.esi p.payload) packets
 
-configuration_kept : (h : Held) (packets : List Packet) → (all_recorded h packets).configuration ≡ h.configuration
+configuration_kept : (h : ReceivedBlock) (packets : List Packet) → (all_recorded h packets).configuration ≡ h.configuration
 configuration_kept h [] = refl
-configuration_kept h (p ∷ packets) = configuration_kept (recorded h p.id.esi p.payload) packets
+configuration_kept h (p ∷ packets) = configuration_kept (with_received h p.id.esi p.payload) packets
 
 abbrev refused_by : Bool → Bool → Result (Unit {0}) Error
 refused_by b s = cond (not b) (Err UnknownBlock) (cond (not s) (Err WrongPayloadSize) (Ok tt))
@@ -32,33 +32,33 @@ size_is_tested true false passed = cc
 size_is_tested false s passed = cc
 
 -- a packet that is taken carries a symbol of the size
-pub taken_size : (h : Held) (p : Packet) → block_refusal h p ≡ Ok tt → length p.payload ≡ h.configuration.symbol_size
+pub taken_size : (h : ReceivedBlock) (p : Packet) → block_refusal h p ≡ Ok tt → length p.payload ≡ h.configuration.symbol_size
 taken_size h p passed = eqb-true (length p.payload) h.configuration.symbol_size (size_is_tested (eqb p.id.block h.number) (eqb (length p.payload) h.configuration.symbol_size) passed)
 
 -- what is refused stays the same
-pub refusal_kept : (h g : Held) (packets : List Packet) (p : Packet) → g ≡ all_recorded h packets → block_refusal g p ≡ block_refusal h p
+pub refusal_kept : (h g : ReceivedBlock) (packets : List Packet) (p : Packet) → g ≡ all_recorded h packets → block_refusal g p ≡ block_refusal h p
 refusal_kept h g packets p is =
     ap (λ k. block_refusal k p) is ∙ ap (λ n. refused_by (eqb p.id.block n) (eqb (length p.payload) (all_recorded h packets).configuration.symbol_size)) (number_kept h packets)
     ∙ ap (λ c. refused_by (eqb p.id.block h.number) (eqb (length p.payload) c.symbol_size)) (configuration_kept h packets)
 
-all_recorded-push : (h : Held) (packets : List Packet) (p : Packet) → all_recorded h (packets ++ p ∷ []) ≡ recorded (all_recorded h packets) p.id.esi p.payload
+all_recorded-push : (h : ReceivedBlock) (packets : List Packet) (p : Packet) → all_recorded h (packets ++ p ∷ []) ≡ with_received (all_recorded h packets) p.id.esi p.payload
 all_recorded-push h [] p = refl
-all_recorded-push h (x ∷ packets) p = all_recorded-push (recorded h x.id.esi x.payload) packets p
+all_recorded-push h (x ∷ packets) p = all_recorded-push (with_received h x.id.esi x.payload) packets p
 
 -- one packet more
-pub taken-more : (h g : Held) (packets : List Packet) (p : Packet) → AreTaken h packets → g ≡ all_recorded h packets → block_refusal g p ≡ Ok tt → AreTaken h (packets ++ p ∷ [])
+pub taken-more : (h g : ReceivedBlock) (packets : List Packet) (p : Packet) → AreTaken h packets → g ≡ all_recorded h packets → block_refusal g p ≡ Ok tt → AreTaken h (packets ++ p ∷ [])
 taken-more h g packets p taken is passed = push-all (λ q. block_refusal h q ≡ Ok tt) packets p taken (sym (refusal_kept h g packets p is) ∙ passed)
 
-pub recorded-more : (h g new : Held) (packets : List Packet) (p : Packet) → g ≡ all_recorded h packets → new ≡ recorded g p.id.esi p.payload → new ≡ all_recorded h (packets ++ p ∷ [])
-recorded-more h g new packets p is one = one ∙ ap (λ k. recorded k p.id.esi p.payload) is ∙ sym (all_recorded-push h packets p)
+pub recorded-more : (h g new : ReceivedBlock) (packets : List Packet) (p : Packet) → g ≡ all_recorded h packets → new ≡ with_received g p.id.esi p.payload → new ≡ all_recorded h (packets ++ p ∷ [])
+recorded-more h g new packets p is one = one ∙ ap (λ k. with_received k p.id.esi p.payload) is ∙ sym (all_recorded-push h packets p)
 
 module _ {T : Type 0} (steps : T → Option Packet → T → Type 0) (iterator : T) where
-  stops_at : (h g new : Held) (packets : List Packet) (p : Packet) (after : T) (Stops : Result (Unit {0}) Error → Type 0) → Yields steps iterator (packets ++ p ∷ []) after → AreTaken h packets → g ≡ all_recorded h packets → new ≡ g → Stops (block_refusal g p)
+  stops_at : (h g new : ReceivedBlock) (packets : List Packet) (p : Packet) (after : T) (Stops : Result (Unit {0}) Error → Type 0) → Yields steps iterator (packets ++ p ∷ []) after → AreTaken h packets → g ≡ all_recorded h packets → new ≡ g → Stops (block_refusal g p)
       → StopsAtLast steps iterator h (packets ++ p ∷ []) Stops new
   stops_at h g new packets p after Stops gave taken is same stops = record { after = after; gave = gave; front = packets; last = p; whole = refl; taken = taken; holds = same ∙ is; stopped = subst Stops (refusal_kept h g packets p is) stops }
 
   -- the packet that stops the call
-  pub stopped : (h g new : Held) (packets : List Packet) (p : Packet) (after : T) (at : PacketStop) → Yields steps iterator (packets ++ p ∷ []) after → AreTaken h packets → g ≡ all_recorded h packets → new ≡ g → StopsPacket at (block_refusal g p)
+  pub stopped : (h g new : ReceivedBlock) (packets : List Packet) (p : Packet) (after : T) (at : PacketStop) → Yields steps iterator (packets ++ p ∷ []) after → AreTaken h packets → g ≡ all_recorded h packets → new ≡ g → StopsPacket at (block_refusal g p)
       → DecodesUntil steps iterator h (packets ++ p ∷ []) (Err at) new
   stopped h g new packets p after (Refused e) gave taken is same stops = stops_at h g new packets p after (StopsPacket (Refused e)) gave taken is same stops
   stopped h g new packets p after NotRecorded gave taken is same stops = stops_at h g new packets p after (StopsPacket NotRecorded) gave taken is same stops
@@ -66,11 +66,11 @@ module _ {T : Type 0} (steps : T → Option Packet → T → Type 0) (iterator :
   stopped h g new packets p after Contradicted gave taken is same stops = absurd stops
   stopped h g new packets p after NotJoined gave taken is same stops = absurd stops
 
-  seen_at : (old : Held) (packets : List Packet) (new : Held) (Stops Seen : Result (Unit {0}) Error → Type 0) → ((tested : Result (Unit {0}) Error) → Stops tested → Seen tested) → StopsAtLast steps iterator old packets Stops new → StopsAtLast steps iterator old packets Seen new
+  seen_at : (old : ReceivedBlock) (packets : List Packet) (new : ReceivedBlock) (Stops Seen : Result (Unit {0}) Error → Type 0) → ((tested : Result (Unit {0}) Error) → Stops tested → Seen tested) → StopsAtLast steps iterator old packets Stops new → StopsAtLast steps iterator old packets Seen new
   seen_at old packets new Stops Seen weaker d = record { after = d.after; gave = d.gave; front = d.front; last = d.last; whole = d.whole; taken = d.taken; holds = d.holds; stopped = weaker (block_refusal old d.last) d.stopped }
 
   -- what a caller sees of it
-  pub decodes_seen : (old : Held) (packets : List Packet) (at : PacketStop) (new : Held) → DecodesUntil steps iterator old packets (Err at) new → Decodes steps iterator old packets (Err (refusal_of at)) new
+  pub decodes_seen : (old : ReceivedBlock) (packets : List Packet) (at : PacketStop) (new : ReceivedBlock) → DecodesUntil steps iterator old packets (Err at) new → Decodes steps iterator old packets (Err (refusal_of at)) new
   decodes_seen old packets (Refused e) new d = inr (seen_at old packets new (StopsPacket (Refused e)) (IsRefusal e) (λ tested is. subst (IsRefusal e) (sym is) refl) d)
   decodes_seen old packets NotRecorded new d = inr (seen_at old packets new (StopsPacket NotRecorded) (IsRefusal OutOfMemory) (λ tested is. subst (IsRefusal OutOfMemory) (sym is) refl) d)
   decodes_seen old packets NotSolved new d = inl (d, inl refl)

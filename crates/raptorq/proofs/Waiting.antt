@@ -1,42 +1,115 @@
--- A block of which was found that what is held doesn't determine it, or is contradictory.
-use Rattle.std.proofs.Common.{◌≡◌, inl, inr, ℕ, List, Bool, true, false, not, Option, None, Some, cond, eqb, refl, sym, ap, ◌∙◌, subst}
-use Rattle.std.specs.Prelude.{is_some}
-use Rattle.std.proofs.lemmas.Bool.{cases_eq, ne_eqb}
-use Rattle.rq_standard.specs.Held.{Held, recorded, CanAnswer, IsContradictory}
+-- A block of which was found that what was received doesn't determine it, or is contradictory.
+use Rattle.std.proofs.Common.{◌≡◌, ◌⊎◌, ◌+◌, ◌-◌, ◌≤◌, inl, inr, ℕ, List, Bool, true, false, not, Option, None, Some, Vec, Global, cond, eqb, refl, sym, ap, ◌∙◌, subst, arith}
+use Rattle.std.specs.Prelude.{is_some, IfSome}
+use Rattle.std.specs.Option.{ForSome}
+use Rattle.std.proofs.lemmas.Bool.{cases_eq, cases_lt, ne_eqb}
+use Rattle.rq_algebra.specs.Systems.{at}
+use Rattle.rq_standard.specs.declared.row.TableRow.{TableRow}
+use Rattle.rq_standard.specs.Equations.{internal_id}
+use Rattle.rq_standard.specs.Headline.{known_ids, DetermineBlock}
+use Rattle.rq_standard.specs.ReceivedBlock.{ReceivedBlock, with_received, CanAnswer, IsContradictory}
 use Rattle.rq_standard.specs.Received.{or_later}
+use Rattle.rq_standard.proofs.KnownIds.{known_padding, known_repair, known_source}
+use Rattle.rq_standard.specs.IdLists.{IsListOf}
+use Rattle.raptorq.specs.BlockSolutions.{IsHomogeneousFor}
+use Rattle.raptorq.specs.Known.{ShowsBlockOpen, SolvesEsi}
+use Rattle.raptorq.proofs.ReceivedEquations.{internal_above, internal_below}
+use Rattle.raptorq.proofs.Undetermined.{shows_known}
 use Rattle.rq_standard.proofs.Contradictions.{contradicts_more}
+use Rattle.rq_standard.proofs.Firsts.{or_later-none}
 
-abbrev Waits : Held → Type 0
+abbrev Waits : ReceivedBlock → Type 0
 Waits h = CanAnswer h → ⊥
 
 -- what was received is the same
-pub waits-same : (h : Held) (received : ℕ → Option (List ℕ)) → ((e : ℕ) → received e ≡ h.received e) → Waits h → Waits (record h { received = received })
+pub waits-same : (h : ReceivedBlock) (received : ℕ → Option (List ℕ)) → ((e : ℕ) → received e ≡ h.received e) → Waits h → Waits (record h { received = received })
 waits-same h received same waits = subst (λ (f : ℕ → Option (List ℕ)). Waits (record h { received = f })) (λ i e. sym (same e) i) waits
 
--- a payload of an id that is held already
+-- a payload of an id that was received already
 later-stays : (o later : Option (List ℕ)) → is_some o ≡ true → or_later o later ≡ o
-later-stays None later held = absurd (cc held)
-later-stays (Some x) later held = refl
+later-stays None later received = absurd (cc received)
+later-stays (Some x) later received = refl
 
-none-later : (o : Option (List ℕ)) → or_later o None ≡ o
-none-later None = refl
-none-later (Some x) = refl
+pub repeat-same : (was now : ℕ → Option (List ℕ)) (esi : ℕ) (payload : List ℕ) (kept : Bool) → is_some (was esi) ≡ not kept → ((e : ℕ) → now e ≡ or_later (was e) (cond (eqb esi e) (Some payload) None)) → kept ≡ false → (e : ℕ) → now e ≡ was e
+repeat-same was now esi payload kept received grown same_ids e = elim (cases_eq esi e) [
+  | inl is ↦ grown e ∙ later-stays (was e) _ (subst (λ k. is_some (was k) ≡ true) is (received ∙ ap not same_ids))
+  | inr ne ↦ grown e ∙ ap (λ b. or_later (was e) (cond b (Some payload) None)) (ne_eqb esi e ne) ∙ or_later-none (was e)
+]
 
-pub waits-repeat : (h : Held) (received : ℕ → Option (List ℕ)) (esi : ℕ) (payload : List ℕ) (kept : Bool) → Waits h → is_some (h.received esi) ≡ not kept
+pub waits-repeat : (h : ReceivedBlock) (received : ℕ → Option (List ℕ)) (esi : ℕ) (payload : List ℕ) (kept : Bool) → Waits h → is_some (h.received esi) ≡ not kept
     → ((e : ℕ) → received e ≡ or_later (h.received e) (cond (eqb esi e) (Some payload) None)) → kept ≡ false → Waits (record h { received = received })
-waits-repeat h received esi payload kept waits held grown same_ids = waits-same h received same waits
-  where
-    same : (e : ℕ) → received e ≡ h.received e
-    same e = elim (cases_eq esi e) [
-      | inl is ↦ grown e ∙ later-stays (h.received e) _ (subst (λ k. is_some (h.received k) ≡ true) is (held ∙ ap not same_ids))
-      | inr ne ↦ grown e ∙ ap (λ b. or_later (h.received e) (cond b (Some payload) None)) (ne_eqb esi e ne) ∙ none-later (h.received e)
-    ]
+waits-repeat h received esi payload kept waits there grown same_ids = waits-same h received (repeat-same h.received received esi payload kept there grown same_ids) waits
 
 -- ---- a contradiction
 
-pub contradictory-same : (h : Held) (received : ℕ → Option (List ℕ)) → ((e : ℕ) → received e ≡ h.received e) → IsContradictory h → IsContradictory (record h { received = received })
+pub contradictory-same : (h : ReceivedBlock) (received : ℕ → Option (List ℕ)) → ((e : ℕ) → received e ≡ h.received e) → IsContradictory h → IsContradictory (record h { received = received })
 contradictory-same h received same c = subst (λ (f : ℕ → Option (List ℕ)). IsContradictory (record h { received = f })) (λ i e. sym (same e) i) c
 
 -- whatever comes after it
-pub contradictory-later : (h : Held) (received : ℕ → Option (List ℕ)) (esi : ℕ) (payload : List ℕ) → ((e : ℕ) → received e ≡ or_later (h.received e) (cond (eqb esi e) (Some payload) None)) → IsContradictory h → IsContradictory (record h { received = received })
-contradictory-later h received esi payload grown c = contradictory-same (recorded h esi payload) received grown (contradicts_more h esi payload c)
+pub contradictory-later : (h : ReceivedBlock) (received : ℕ → Option (List ℕ)) (esi : ℕ) (payload : List ℕ) → ((e : ℕ) → received e ≡ or_later (h.received e) (cond (eqb esi e) (Some payload) None)) → IsContradictory h → IsContradictory (record h { received = received })
+contradictory-later h received esi payload grown c = contradictory-same (with_received h esi payload) received grown (contradicts_more h esi payload c)
+
+-- ---- a column that shows that ids don't determine a block
+
+abbrev Shows : TableRow → ℕ → (ℕ → Bool) → Option (Vec ℕ Global) → Type 0
+Shows row k has column = ForSome column (ShowsBlockOpen row k has)
+
+-- the ids are the same
+pub shown-same : (row : TableRow) (k : ℕ) (has now : ℕ → Bool) (column : Option (Vec ℕ Global)) → ((e : ℕ) → now e ≡ has e) → Shows row k has column → Shows row k now column
+shown-same row k has now column same shows = subst (λ (f : ℕ → Bool). Shows row k f column) (λ i e. sym (same e) i) shows
+
+-- one more came, whose equation the column solves
+module _ (row : TableRow) (k : ℕ) (has now : ℕ → Bool) (esi : ℕ) (fits : k ≤ row.extended_symbols) (more : (e : ℕ) → now e ≡ true → (has e ≡ true) ⊎ (e ≡ esi)) where
+  known-more : (x : ℕ) → known_ids row k now x ≡ true → (known_ids row k has x ≡ true) ⊎ (x ≡ internal_id row k esi)
+  known-more x known = elim (cases_lt x k) [
+    | inl below ↦ elim (more x (sym (known_source row k x now below) ∙ known)) [
+      | inl was ↦ inl (known_source row k x has below ∙ was)
+      | inr is ↦ inr (is ∙ sym (internal_below row k esi (omega (arith, is, below))))
+    ]
+    | inr from ↦ elim (cases_lt x row.extended_symbols) [
+      | inl padding ↦ inl (known_padding row k x has from padding)
+      | inr past ↦ elim (more (x + k - row.extended_symbols) (sym (known_repair row k x now from past) ∙ known)) [
+        | inl was ↦ inl (known_repair row k x has from past ∙ was)
+        | inr is ↦
+            let above : k ≤ esi = omega (arith, is, past) in
+            inr (sym (internal_above row k esi above ∙ omega (arith, is, past, fits)))
+      ]
+    ]
+  ]
+
+  pub shown-more : (column : Option (Vec ℕ Global)) → ForSome column (λ octets. SolvesEsi row k esi octets.items) → Shows row k has column → Shows row k now column
+  shown-more column solves shows = λ octets is.
+      let old = shows octets is in
+      record {
+        count = old.count;
+        elements = old.elements;
+        solves = record {
+          fixed = old.solves.fixed;
+          each = λ x known. elim (known-more x known) [ inl was ↦ old.solves.each x was | inr same ↦ rw same (solves octets is) ];
+        };
+        nonzero = old.nonzero;
+      }
+
+-- none shows nothing
+pub shown-none : (row : TableRow) (k : ℕ) (has : ℕ → Bool) → Shows row k has None
+shown-none row k has = λ octets is. absurd (cc is)
+
+-- one that was found for the equations of a list of all known ids
+pub shown-found : (row : TableRow) (k : ℕ) (has : ℕ → Bool) (ids : List ℕ) (column : Option (Vec ℕ Global)) → IsListOf (known_ids row k has) ids → IfSome column (IsHomogeneousFor row ids) → Shows row k has column
+shown-found row k has ids None list shows = shown-none row k has
+shown-found row k has ids (Some found) list shows = λ octets is.
+    let known = shows_known row (known_ids row k has) ids list (Some found) shows in
+    let same : found ≡ octets = cc is in
+    subst (ShowsBlockOpen row k has) same (record { count = known.count; elements = known.elements; solves = known.solves; nonzero = λ zeros. known.nonzero (zeros known.index known.below) })
+
+-- so they don't
+pub shown-undetermined : (row : TableRow) (k : ℕ) (has : ℕ → Bool) (column : Option (Vec ℕ Global)) → is_some column ≡ true → Shows row k has column → DetermineBlock row k has → ⊥
+shown-undetermined row k has None some shows determined = absurd (cc some)
+shown-undetermined row k has (Some octets) some shows determined = let open_column = shows octets refl in open_column.nonzero (determined (at octets.items) open_column.elements open_column.solves)
+
+-- a payload that is kept where none of its id was there
+pub came-more : (was now : ℕ → Option (List ℕ)) (esi : ℕ) (payload : List ℕ) → ((e : ℕ) → now e ≡ or_later (was e) (cond (eqb esi e) (Some payload) None)) → (e : ℕ) → is_some (now e) ≡ true → (is_some (was e) ≡ true) ⊎ (e ≡ esi)
+came-more was now esi payload grown e came = elim (cases_eq esi e) [
+  | inl is ↦ inr (sym is)
+  | inr apart ↦ inl (ap is_some (sym (grown e ∙ ap (λ b. or_later (was e) (cond b (Some payload) None)) (ne_eqb esi e apart) ∙ or_later-none (was e))) ∙ came)
+]

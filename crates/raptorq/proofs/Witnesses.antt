@@ -10,25 +10,25 @@ use Rattle.rq_standard.specs.Configuration.{Configuration, IsAligned}
 use Rattle.rq_standard.specs.Cutting.{block_symbols}
 use Rattle.rq_standard.specs.Headline.{SolvesZeros, known_ids}
 use Rattle.rq_standard.specs.Differences.{AreUnansweredDetermined, IsDifference, first_octets_block, plain_sum}
-use Rattle.rq_standard.specs.Held.{Held, holds, AreHeldDetermining}
-use Rattle.rq_standard.proofs.BlockCuts.{pieces}
+use Rattle.rq_standard.specs.ReceivedBlock.{ReceivedBlock, has_received, ReceivedDetermine}
+use Rattle.rq_standard.proofs.BlockCuts.{pieces, pieces_same}
 use Rattle.rq_standard.proofs.DifferenceColumns.{zeros_solve, zeros_are_octets}
 use Rattle.rq_standard.proofs.OtherObjects.{HasRow, is_difference}
-use Rattle.raptorq.specs.SourceBlockDecoder.{held_of}
-use Rattle.raptorq.specs.Decoder.{held_at, answer_at}
+use Rattle.raptorq.specs.SourceBlockDecoder.{received_of}
+use Rattle.raptorq.specs.Decoder.{received_at, answer_at}
 use Rattle.raptorq.specs.Difference.{ShowsUnanswered, octets_of_column}
 use Rattle.raptorq.specs.declared.decoder.object.ObjectBlock.{ObjectBlock}
 use Rattle.raptorq.proofs.Numbered.{length-numbered, number_at}
-use Rattle.raptorq.proofs.ObjectBlocks.{state, number_of, held_here}
+use Rattle.raptorq.proofs.ObjectBlocks.{state, number_of, received_here}
 
--- a block's bytes, by what is held of it
+-- a block's bytes, by what was received of it
 abbrev difference_block : Configuration → List ObjectBlock → (ℕ → Option (List ℕ)) → ℕ → List ℕ
-difference_block c items columns b = first_octets_block c (block_symbols c b) (plain_sum (held_at c items b).row (at (unwrap_or (columns b) [])))
+difference_block c items columns b = first_octets_block c (block_symbols c b) (plain_sum (received_at c items b).row (at (unwrap_or (columns b) [])))
 
 -- the first n blocks: what was found of each of them, and whether nothing was
 pub record DifferenceSoFar (c : Configuration) (items : List ObjectBlock) (n : ℕ) (none : Bool) (bytes : List ℕ) : Type 0 where
   pub columns : ℕ → Option (List ℕ)
-  pub shows : (b : ℕ) → b < n → ShowsUnanswered (held_at c items b) (answer_at items b) (columns b)
+  pub shows : (b : ℕ) → b < n → ShowsUnanswered (received_at c items b) (answer_at items b) (columns b)
   pub appended : bytes ≡ pieces (difference_block c items columns) n
   pub told : MatchBool none ((b : ℕ) → b < n → columns b ≡ None) ((b : ℕ) × (b < n) × IsSome (columns b))
 
@@ -40,12 +40,8 @@ nothing_found c items bytes is = record {
   told = λ b below. absurd (omega arith);
 }
 
-pieces-same : (f g : ℕ → List ℕ) (n : ℕ) → ((b : ℕ) → b < n → f b ≡ g b) → pieces f n ≡ pieces g n
-pieces-same f g zero same = refl
-pieces-same f g (suc n) same = ap (λ xs. xs ++ f n) (pieces-same f g n (λ b below. same b (omega arith))) ∙ ap (λ xs. pieces g n ++ xs) (same n (omega arith))
-
 -- one block more
-module _ (c : Configuration) (items : List ObjectBlock) (n : ℕ) (none : Bool) (bytes : List ℕ) (column : Option (List ℕ)) (so : DifferenceSoFar c items n none bytes) (shows : ShowsUnanswered (held_at c items n) (answer_at items n) column) where
+module _ (c : Configuration) (items : List ObjectBlock) (n : ℕ) (none : Bool) (bytes : List ℕ) (column : Option (List ℕ)) (so : DifferenceSoFar c items n none bytes) (shows : ShowsUnanswered (received_at c items n) (answer_at items n) column) where
   with_one : ℕ → Option (List ℕ)
   with_one b = cond (eqb b n) column (so.columns b)
 
@@ -63,18 +59,18 @@ module _ (c : Configuration) (items : List ObjectBlock) (n : ℕ) (none : Bool) 
   told_more true (Some xs) is all = (n, omega arith, subst IsSome (sym (here ∙ sym is)) refl)
   told_more false o is found = (found.0, omega (arith, found.1), subst IsSome (sym (before found.0 found.1)) found.2)
 
-  pub one_found : (t : Bool) (block new : List ℕ) → t ≡ (none && is_none column) → (held_at c items n).configuration ≡ c → (held_at c items n).source_symbols ≡ block_symbols c n → block ≡ octets_of_column (held_at c items n) column → new ≡ bytes ++ block → DifferenceSoFar c items (n + 1) t new
+  pub one_found : (t : Bool) (block new : List ℕ) → t ≡ (none && is_none column) → (received_at c items n).configuration ≡ c → (received_at c items n).source_symbols ≡ block_symbols c n → block ≡ octets_of_column (received_at c items n) column → new ≡ bytes ++ block → DifferenceSoFar c items (n + 1) t new
   one_found t block new flag same cut is grown =
       let next : n + 1 ≡ suc n = omega arith in
-      let h = held_at c items n in
+      let h = received_at c items n in
       let own : block ≡ difference_block c items with_one n = is ∙ ap (λ k. first_octets_block k h.source_symbols (plain_sum h.row (at (unwrap_or column [])))) same ∙ ap (λ k. first_octets_block c k (plain_sum h.row (at (unwrap_or column [])))) cut ∙ ap (λ o. first_octets_block c (block_symbols c n) (plain_sum h.row (at (unwrap_or o [])))) (sym here) in
       record {
         columns = with_one;
         shows = λ b below. elim (cases_lt b n) [
-          | inl lt ↦ subst (ShowsUnanswered (held_at c items b) (answer_at items b)) (sym (before b lt)) (so.shows b lt)
-          | inr past ↦ let same : n ≡ b = omega arith in subst (λ m. ShowsUnanswered (held_at c items m) (answer_at items m) (with_one m)) same (subst (ShowsUnanswered (held_at c items n) (answer_at items n)) (sym here) shows)
+          | inl lt ↦ subst (ShowsUnanswered (received_at c items b) (answer_at items b)) (sym (before b lt)) (so.shows b lt)
+          | inr past ↦ let same : n ≡ b = omega arith in subst (λ m. ShowsUnanswered (received_at c items m) (answer_at items m) (with_one m)) same (subst (ShowsUnanswered (received_at c items n) (answer_at items n)) (sym here) shows)
         ];
-        appended = grown ∙ ap (λ xs. xs ++ block) (so.appended ∙ pieces-same (difference_block c items so.columns) (difference_block c items with_one) n (λ b below. ap (λ o. first_octets_block c (block_symbols c b) (plain_sum (held_at c items b).row (at (unwrap_or o [])))) (sym (before b below)))) ∙ ap (λ xs. pieces (difference_block c items with_one) n ++ xs) own ∙ ap (pieces (difference_block c items with_one)) (sym next);
+        appended = grown ∙ ap (λ xs. xs ++ block) (so.appended ∙ pieces_same (difference_block c items so.columns) (difference_block c items with_one) n (λ b below. ap (λ o. first_octets_block c (block_symbols c b) (plain_sum (received_at c items b).row (at (unwrap_or o [])))) (sym (before b below)))) ∙ ap (λ xs. pieces (difference_block c items with_one) n ++ xs) own ∙ ap (pieces (difference_block c items with_one)) (sym next);
         told = subst (λ u. MatchBool u ((b : ℕ) → b < n + 1 → with_one b ≡ None) ((b : ℕ) × (b < n + 1) × IsSome (with_one b))) (sym flag) (told_more none column refl so.told);
       }
 
@@ -86,9 +82,9 @@ module _ (c : Configuration) (items : List ObjectBlock) where
 
   -- no column was found
   pub all_determined : (bytes : List ℕ) → DifferenceSoFar c items c.source_blocks true bytes → AreUnansweredDetermined (state c items)
-  all_determined bytes so b below = subst (ShowsUnanswered (held_at c items b) (answer_at items b)) (so.told b below) (so.shows b below)
+  all_determined bytes so b below = subst (ShowsUnanswered (received_at c items b) (answer_at items b)) (so.told b below) (so.shows b below)
 
-  not_determined : (h : Held) (answer column : Option (List ℕ)) → ShowsUnanswered h answer column → IsSome column → (answer ≡ None → AreHeldDetermining h) → ⊥
+  not_determined : (h : ReceivedBlock) (answer column : Option (List ℕ)) → ShowsUnanswered h answer column → IsSome column → (answer ≡ None → ReceivedDetermine h) → ⊥
   not_determined h answer None shows some all = absurd (cc some)
   not_determined h answer (Some xs) shows some all = shows.1.nonzero (all shows.0 (at xs) shows.1.elements shows.1.solves shows.1.index shows.1.below)
 
@@ -96,62 +92,62 @@ module _ (c : Configuration) (items : List ObjectBlock) where
   pub some_undetermined : (bytes : List ℕ) → DifferenceSoFar c items c.source_blocks false bytes → AreUnansweredDetermined (state c items) → ⊥
   some_undetermined bytes so all =
       let b = so.told.0 in
-      not_determined (held_at c items b) (answer_at items b) (so.columns b) (so.shows b so.told.1) so.told.2 (all b so.told.1)
+      not_determined (received_at c items b) (answer_at items b) (so.columns b) (so.shows b so.told.1) so.told.2 (all b so.told.1)
 
-  elements_of : (h : Held) (answer column : Option (List ℕ)) → ShowsUnanswered h answer column → IsColumn octets (intermediate_symbols h.row) (at (unwrap_or column []))
+  elements_of : (h : ReceivedBlock) (answer column : Option (List ℕ)) → ShowsUnanswered h answer column → IsColumn octets (intermediate_symbols h.row) (at (unwrap_or column []))
   elements_of h answer None shows = zeros_are_octets h.row
   elements_of h answer (Some xs) shows = shows.1.elements
 
-  solves_of : (h : Held) (answer column : Option (List ℕ)) → ShowsUnanswered h answer column → SolvesZeros h.row (known_ids h.row h.source_symbols (holds h)) (at (unwrap_or column []))
-  solves_of h answer None shows = zeros_solve h.row (known_ids h.row h.source_symbols (holds h))
+  solves_of : (h : ReceivedBlock) (answer column : Option (List ℕ)) → ShowsUnanswered h answer column → SolvesZeros h.row (known_ids h.row h.source_symbols (has_received h)) (at (unwrap_or column []))
+  solves_of h answer None shows = zeros_solve h.row (known_ids h.row h.source_symbols (has_received h))
   solves_of h answer (Some xs) shows = shows.1.solves
 
-  zero_of : (h : Held) (answer column : Option (List ℕ)) → ShowsUnanswered h answer column → IsSome answer → (j : ℕ) → at (unwrap_or column []) j ≡ 0
+  zero_of : (h : ReceivedBlock) (answer column : Option (List ℕ)) → ShowsUnanswered h answer column → IsSome answer → (j : ℕ) → at (unwrap_or column []) j ≡ 0
   zero_of h answer None shows some j = refl
   zero_of h answer (Some xs) shows some j = absurd (cc (sym (ap is_some shows.0) ∙ some))
 
-  place_of : (h : Held) (answer column : Option (List ℕ)) → ShowsUnanswered h answer column → IsSome column → (j : ℕ) × (j < intermediate_symbols h.row) × (at (unwrap_or column []) j ≢ 0)
+  place_of : (h : ReceivedBlock) (answer column : Option (List ℕ)) → ShowsUnanswered h answer column → IsSome column → (j : ℕ) × (j < intermediate_symbols h.row) × (at (unwrap_or column []) j ≢ 0)
   place_of h answer None shows some = absurd (cc some)
   place_of h answer (Some xs) shows some = (shows.1.index, shows.1.below, shows.1.nonzero)
 
-  pub difference_found : (bytes : List ℕ) → 0 < c.symbol_size → 0 < c.source_blocks → IsAligned c → ((b : ℕ) → b < c.source_blocks → HasRow (held_at c items b).row (block_symbols c b)) → ((b : ℕ) → b < c.source_blocks → (held_at c items b).source_symbols ≡ block_symbols c b)
+  pub difference_found : (bytes : List ℕ) → 0 < c.symbol_size → 0 < c.source_blocks → IsAligned c → ((b : ℕ) → b < c.source_blocks → HasRow (received_at c items b).row (block_symbols c b)) → ((b : ℕ) → b < c.source_blocks → (received_at c items b).source_symbols ≡ block_symbols c b)
       → DifferenceSoFar c items c.source_blocks false bytes → IsDifference (state c items) (take c.transfer_length bytes)
   difference_found bytes pos some aligned rows cut so =
       let columns = columns_of so.columns in
       let b = so.told.0 in
-      let witness = place_of (held_at c items b) (answer_at items b) (so.columns b) (so.shows b so.told.1) so.told.2 in
+      let witness = place_of (received_at c items b) (answer_at items b) (so.columns b) (so.shows b so.told.1) so.told.2 in
       subst (IsDifference (state c items)) (sym (ap (take c.transfer_length) so.appended))
       (is_difference (state c items) pos some aligned columns b witness.0 rows
       (record {
-        elements = λ n l. elements_of (held_at c items n) (answer_at items n) (so.columns n) (so.shows n l);
-        solves = λ n l. subst (λ k. SolvesZeros (held_at c items n).row (known_ids (held_at c items n).row k (holds (held_at c items n))) (columns n)) (cut n l) (solves_of (held_at c items n) (answer_at items n) (so.columns n) (so.shows n l));
+        elements = λ n l. elements_of (received_at c items n) (answer_at items n) (so.columns n) (so.shows n l);
+        solves = λ n l. subst (λ k. SolvesZeros (received_at c items n).row (known_ids (received_at c items n).row k (has_received (received_at c items n))) (columns n)) (cut n l) (solves_of (received_at c items n) (answer_at items n) (so.columns n) (so.shows n l));
       })
-      (λ n l h j _. zero_of (held_at c items n) (answer_at items n) (so.columns n) (so.shows n l) h j) so.told.1 witness.1 witness.2)
+      (λ n l h j _. zero_of (received_at c items n) (answer_at items n) (so.columns n) (so.shows n l) h j) so.told.1 witness.1 witness.2)
 
--- ---- what is held of the object's blocks
+-- ---- what was received of the object's blocks
 
-module _ (c : Configuration) (items : List ObjectBlock) (numbered : map number_of items ≡ range_with_len 0 c.source_blocks) (cut : All (λ b. (held_of b.decoder).source_symbols ≡ block_symbols c (held_of b.decoder).number) items) where
+module _ (c : Configuration) (items : List ObjectBlock) (numbered : map number_of items ≡ range_with_len 0 c.source_blocks) (cut : All (λ b. (received_of b.decoder).source_symbols ≡ block_symbols c (received_of b.decoder).number) items) where
   some_block : (xs : List ObjectBlock) (b : ℕ) → b < length xs → (x : ObjectBlock) × (x ≡ get_or xs b x)
   some_block [] b below = absurd (omega arith)
   some_block (x ∷ xs) zero below = (x, refl)
   some_block (x ∷ xs) (suc b) below = some_block xs b (omega arith)
 
-  pub block_is_cut : (b : ℕ) → b < c.source_blocks → (held_at c items b).source_symbols ≡ block_symbols c b
+  pub block_is_cut : (b : ℕ) → b < c.source_blocks → (received_at c items b).source_symbols ≡ block_symbols c b
   block_is_cut b below =
       let long = length-numbered number_of c.source_blocks items numbered in
       let inside : b < length items = omega (arith, long) in
       let found = some_block items b inside in
       let x = found.0 in
-      ap (λ h. h.source_symbols) (held_here c items b x inside found.1) ∙ ap (λ y. (held_of y.decoder).source_symbols) found.1 ∙ cut b x inside ∙ ap (λ y. block_symbols c (held_of y.decoder).number) (sym found.1) ∙ ap (block_symbols c) (number_at number_of c.source_blocks items numbered b x below found.1)
+      ap (λ h. h.source_symbols) (received_here c items b x inside found.1) ∙ ap (λ y. (received_of y.decoder).source_symbols) found.1 ∙ cut b x inside ∙ ap (λ y. block_symbols c (received_of y.decoder).number) (sym found.1) ∙ ap (block_symbols c) (number_at number_of c.source_blocks items numbered b x below found.1)
 
-  pub block_has_row : (b : ℕ) → b < c.source_blocks → HasRow (held_at c items b).row (block_symbols c b)
+  pub block_has_row : (b : ℕ) → b < c.source_blocks → HasRow (received_at c items b).row (block_symbols c b)
   block_has_row b below =
       let long = length-numbered number_of c.source_blocks items numbered in
       let inside : b < length items = omega (arith, long) in
       let found = some_block items b inside in
       let x = found.0 in
-      let here = held_here c items b x inside found.1 in
+      let here = received_here c items b x inside found.1 in
       record {
-        checked = subst (λ (h : Held). IsChecked h.row) (sym here) x.decoder.checked;
-        fits = subst (λ n. n ≤ (held_at c items b).row.extended_symbols) (block_is_cut b below) (subst (λ (h : Held). h.source_symbols ≤ h.row.extended_symbols) (sym here) x.decoder.fits);
+        checked = subst (λ (h : ReceivedBlock). IsChecked h.row) (sym here) x.decoder.checked;
+        fits = subst (λ n. n ≤ (received_at c items b).row.extended_symbols) (block_is_cut b below) (subst (λ (h : ReceivedBlock). h.source_symbols ≤ h.row.extended_symbols) (sym here) x.decoder.fits);
       }

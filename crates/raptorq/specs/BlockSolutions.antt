@@ -1,16 +1,20 @@
 -- What a solver finds of a block.
-use Rattle.std.specs.Prelude.{◌≡◌, ℕ, ◌+◌, ◌<◌, ◌≤◌, List, length, Option, MatchOption, IsSomeAnd}
+use Rattle.std.specs.Prelude.{◌≡◌, ℕ, ◌+◌, ◌<◌, ◌≤◌, List, length, Option, None, Some, Vec, MatchOption, IsSomeAnd}
+use Rattle.std.specs.Global.{Global}
 use Rattle.rq_algebra.specs.Operations.{FindsColumn}
 use Rattle.rq_algebra.specs.Symbols.{IsSymbolColumn, SolvesSymbols, symbol_at}
 use Rattle.rq_algebra.specs.Systems.{IsDetermined, stacked, rows_of}
 use Rattle.rq_bytes.specs.SymbolSlab.{Slab, symbol_in, symbols_in, IsZeroUnread}
+use Rattle.rq_null_vector.specs.Homogeneous.{IsHomogeneousColumn, ShowsHomogeneous}
 use Rattle.rq_operations.specs.RecordedOperations.{operations_of}
 use Rattle.rq_standard.specs.declared.row.TableRow.{TableRow}
 use Rattle.rq_standard.specs.OctetField.{octets}
 use Rattle.rq_standard.specs.TableRows.{intermediate_symbols}
-use Rattle.rq_standard.specs.Equations.{fixed_equations, hdpc_coefficient, symbol_coefficient, zero_symbol}
+use Rattle.rq_standard.specs.Equations.{equation_count, equations, fixed_equations, hdpc_coefficient, symbol_coefficient, zero_symbol}
 use Rattle.rq_standard.specs.IdLists.{HasDeterminedRows}
 use Rattle.raptorq.specs.declared.solving.BlockOperations.{BlockOperations}
+use Rattle.raptorq.specs.declared.solving.BlockOutcome.{BlockOutcome}
+use Rattle.raptorq.specs.declared.solving.BlockOutcome.TheVariants.{Operations, Undetermined}
 
 -- the first `fixed` of the LDPC and HDPC equations, and then one for each id
 abbrev pub first_equations : TableRow → ℕ → List ℕ → ℕ → ℕ → ℕ
@@ -26,6 +30,23 @@ pub record FindsFrom (row : TableRow) (ids : List ℕ) (solution : BlockOperatio
 -- the operations that find the intermediate symbols, exactly where the ids determine them
 abbrev pub FindsListed : TableRow → List ℕ → Option BlockOperations → Type 0
 FindsListed row ids answer = MatchOption answer (HasDeterminedRows row ids → ⊥) (FindsFrom row ids)
+
+-- a column that solves the equations of ids with all values zero, exactly where they don't determine
+abbrev pub ShowsListed : TableRow → List ℕ → Option (Vec ℕ Global) → Type 0
+ShowsListed row ids answer = ShowsHomogeneous (equation_count row ids) (intermediate_symbols row) (equations row ids) answer
+
+-- what an outcome has of the two
+abbrev pub found_operations : BlockOutcome → Option BlockOperations
+found_operations (Operations solution) = Some solution
+found_operations (Undetermined column) = None
+
+abbrev pub shown_column : BlockOutcome → Option (Vec ℕ Global)
+shown_column (Operations solution) = None
+shown_column (Undetermined column) = column
+
+-- a column that isn't all zeros and solves the equations of a list of ids with all values zero
+abbrev pub IsHomogeneousFor : TableRow → List ℕ → Vec ℕ Global → Type 0
+IsHomogeneousFor row ids column = IsHomogeneousColumn (equation_count row ids) (intermediate_symbols row) (equations row ids) column.items
 
 -- the LDPC equations and those of the ids are as many as the intermediate symbols, and determine them without those of HDPC
 pub record NeedsNoHdpc (row : TableRow) (ids : List ℕ) : Type 0 where

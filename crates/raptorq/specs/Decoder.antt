@@ -2,23 +2,23 @@
 use Rattle.std.specs.Prelude.{ℕ, List, Option, None, option_map, map, vec_items, slice_index_or}
 use Rattle.rq_standard.specs.TableRows.{no_row}
 use Rattle.rq_standard.specs.Configuration.{Configuration}
-use Rattle.rq_standard.specs.Held.{Held, nothing_held}
+use Rattle.rq_standard.specs.ReceivedBlock.{ReceivedBlock, nothing_received}
 use Rattle.rq_standard.specs.Standing.{State}
 use Rattle.raptorq.specs.declared.decoder.object.ObjectBlock.{ObjectBlock}
 use Rattle.raptorq.specs.declared.decoder.object.Decoder.{Decoder}
-use Rattle.raptorq.specs.SourceBlockDecoder.{held_of}
+use Rattle.raptorq.specs.SourceBlockDecoder.{received_of}
 
 -- the answer of a block
 abbrev pub answer_of : ObjectBlock → Option (List ℕ)
 answer_of b = option_map vec_items b.answer
 
--- of a block that the object hasn't nothing is held
-abbrev pub held_at : Configuration → List ObjectBlock → ℕ → Held
-held_at c blocks n = slice_index_or (map (λ b. held_of b.decoder) blocks) n (nothing_held c n no_row 0)
+-- of a block that the object hasn't nothing was received
+abbrev pub received_at : Configuration → List ObjectBlock → ℕ → ReceivedBlock
+received_at c blocks n = slice_index_or (map (λ b. received_of b.decoder) blocks) n (nothing_received c n no_row 0)
 
 abbrev pub answer_at : List ObjectBlock → ℕ → Option (List ℕ)
 answer_at blocks n = slice_index_or (map answer_of blocks) n None
 
 -- what it holds, and what it has answered
 abbrev pub state_of : Decoder → State
-state_of d = record { configuration = d.config; held = held_at d.config d.blocks.items; answer = answer_at d.blocks.items }
+state_of d = record { configuration = d.config; received = received_at d.config d.blocks.items; answer = answer_at d.blocks.items }

@@ -8,7 +8,7 @@ use Rattle.rq_standard.specs.Cutting.{block_symbols, source_symbol}
 use Rattle.rq_standard.specs.Joining.{symbols_of_block, joined_block}
 use Rattle.rq_standard.specs.Packet.{Packet}
 use Rattle.rq_standard.specs.Received.{has_id}
-use Rattle.rq_standard.specs.Held.{Held, holds, recorded, AreHeldDetermining, IsContradictory}
+use Rattle.rq_standard.specs.ReceivedBlock.{ReceivedBlock, has_received, with_received, ReceivedDetermine, IsContradictory}
 use Rattle.rq_standard.specs.SameIds.{HasIdsOf, HaveSameIds}
 use Rattle.rq_standard.specs.Headline.{IsNonsingular, DetermineBlock, IsIntermediateColumn, IsOnlyIntermediateColumn, IsPacketOf, IsHonestRun, IsAnswerable, IsOnlyObject, AnswersExactly}
 use Rattle.raptorq.specs.Runs.{IsRunRefusal}
@@ -73,16 +73,16 @@ SameIdsAnswerTheSame =
 
 -- ---- contradictions
 
--- Whether what is held determines its block depends on the ids alone,
+-- Whether what was received determines its block depends on the ids alone,
 abbrev pub DeterminedByIdsAlone : Type 0
 DeterminedByIdsAlone =
-    (one other : Held)
-    → one.row ≡ other.row → one.source_symbols ≡ other.source_symbols → ((e : ℕ) → holds one e ≡ holds other e)
-    → AreHeldDetermining one ↔ AreHeldDetermining other
+    (one other : ReceivedBlock)
+    → one.row ≡ other.row → one.source_symbols ≡ other.source_symbols → ((e : ℕ) → has_received one e ≡ has_received other e)
+    → ReceivedDetermine one ↔ ReceivedDetermine other
 
 -- and what is contradictory stays so when more is recorded.
 abbrev pub ContradictionsStay : Type 0
-ContradictionsStay = (h : Held) (esi : ℕ) (payload : List ℕ) → IsContradictory h → IsContradictory (recorded h esi payload)
+ContradictionsStay = (h : ReceivedBlock) (esi : ℕ) (payload : List ℕ) → IsContradictory h → IsContradictory (with_received h esi payload)
 
 -- ---- refusals
 

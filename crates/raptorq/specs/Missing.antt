@@ -6,7 +6,7 @@ use Rattle.std.specs.Ordering.{nat_cmp}
 use Rattle.std.specs.BTreeMap.{BTreeMap, get}
 use Rattle.rq_standard.specs.declared.row.TableRow.{TableRow}
 use Rattle.rq_standard.specs.Configuration.{Configuration}
-use Rattle.rq_standard.specs.Held.{Held}
+use Rattle.rq_standard.specs.ReceivedBlock.{ReceivedBlock}
 use Rattle.rq_standard.specs.Received.{or_later}
 
 -- the payload of an id
@@ -16,9 +16,9 @@ payload_of received e = option_map vec_items (get nat_cmp received e)
 abbrev pub has_payload : BTreeMap ℕ (Vec ℕ Global) → ℕ → Bool
 has_payload received e = is_some (payload_of received e)
 
--- what is held of a block of K source symbols, by the map of its payloads
-abbrev pub held_block : Configuration → ℕ → TableRow → ℕ → BTreeMap ℕ (Vec ℕ Global) → Held
-held_block c number row k received = record { configuration = c; number = number; row = row; source_symbols = k; received = payload_of received }
+-- what was received of a block of K source symbols, by the map of its payloads
+abbrev pub received_block : Configuration → ℕ → TableRow → ℕ → BTreeMap ℕ (Vec ℕ Global) → ReceivedBlock
+received_block c number row k received = record { configuration = c; number = number; row = row; source_symbols = k; received = payload_of received }
 
 -- the payload of an id was put there, unless one of it was there
 abbrev pub KeepsFirst : ℕ → List ℕ → BTreeMap ℕ (Vec ℕ Global) → BTreeMap ℕ (Vec ℕ Global) → Type 0

@@ -9,7 +9,7 @@ use Rattle.rq_standard.specs.Headline.{HasNonsingularRows}
 use Rattle.rq_base.specs.RefusedInput.{checked_configuration}
 use Rattle.rq_standard.specs.Packet.{Packet}
 use Rattle.rq_standard.specs.Configuration.{Configuration}
-use Rattle.rq_standard.specs.Held.{Held}
+use Rattle.rq_standard.specs.ReceivedBlock.{ReceivedBlock}
 
 -- whether symbols are cut in whole units of the alignment
 abbrev pub checked_symbols : Configuration → Result (Unit {0}) Error
@@ -37,7 +37,7 @@ abbrev pub AreWholeSymbols : ℕ → Configuration → ℕ → Type 0
 AreWholeSymbols greatest c bytes = wanted_count greatest c bytes ≡ Ok (bytes / c.symbol_size)
 
 -- whether the decoder of a block takes a packet: the block's number comes first
-abbrev pub block_refusal : Held → Packet → Result (Unit {0}) Error
+abbrev pub block_refusal : ReceivedBlock → Packet → Result (Unit {0}) Error
 block_refusal h p =
     if not (p.id.block == h.number) then Err UnknownBlock
     else if not (length p.payload == h.configuration.symbol_size) then Err WrongPayloadSize
@@ -50,7 +50,7 @@ packet_refusal c p =
     else if not (length p.payload == c.symbol_size) then Err WrongPayloadSize
     else Ok tt
 
--- a packet that passes these tests may find no memory, or contradict what is held of its block
+-- a packet that passes these tests may find no memory, or contradict what was received of its block
 abbrev pub IsPacketRefusal : Error → Result (Unit {0}) Error → Type 0
 IsPacketRefusal e (Ok x) = (e ≡ OutOfMemory) ⊎ (e ≡ Contradiction)
 IsPacketRefusal e (Err wanted) = e ≡ wanted

@@ -7,9 +7,9 @@ use Rattle.rq_standard.specs.declared.row.TableRow.{TableRow}
 use Rattle.rq_standard.specs.TableRows.{greatest_size}
 use Rattle.rq_standard.specs.Configuration.{Configuration}
 use Rattle.rq_standard.specs.Headline.{IsHonestRun}
-use Rattle.rq_standard.specs.Held.{CanAnswer, IsContradictory}
+use Rattle.rq_standard.specs.ReceivedBlock.{CanAnswer, IsContradictory}
 use Rattle.rq_standard.specs.Packet.{Packet}
-use Rattle.rq_standard.specs.Standing.{State, held_after, HoldsRun}
+use Rattle.rq_standard.specs.Standing.{State, received_after, HasReceivedRun}
 use Rattle.rq_base.specs.RefusedInput.{checked_configuration}
 use Rattle.raptorq.specs.Refused.{packet_refusal}
 
@@ -23,12 +23,12 @@ RefusesConfiguration table c packets e = (object : List ℕ) → IsHonestRun tab
 
 -- ---- whoever sent the packets
 
--- A packet contradicts those that came: these can't answer its block, and with it what came of the block is contradictory.
+-- A packet contradicts those that were received: these can't answer its block, and with it what was received of the block is contradictory.
 pub record ContradictsCame (table : List TableRow) (c : Configuration) (came : List Packet) (p : Packet) : Type 0 where
-  pub unanswered : CanAnswer (held_after table c p.id.block came) → ⊥
-  pub contradictory : IsContradictory (held_after table c p.id.block (came ++ p ∷ []))
+  pub unanswered : CanAnswer (received_after table c p.id.block came) → ⊥
+  pub contradictory : IsContradictory (received_after table c p.id.block (came ++ p ∷ []))
 
--- what is refused of a packet behind those that came, none of which was refused: by the tests, and then as a contradiction
+-- what is refused of a packet behind those that were received, none of which was refused: by the tests, and then as a contradiction
 abbrev pub IsNextRefusal : List TableRow → Configuration → List Packet → Packet → Result (Unit {0}) Error → Type 0
 IsNextRefusal table c came p (Ok x) = (packet_refusal c p ≡ Ok tt) × ¬ (ContradictsCame table c came p)
 IsNextRefusal table c came p (Err e) =
@@ -39,16 +39,16 @@ abbrev pub AnswersNext : {X : Type 0} → List TableRow → Configuration → Li
 AnswersNext table c came p (Ok x) = IsNextRefusal table c came p (Ok tt)
 AnswersNext table c came p (Err e) = (e ≡ OutOfMemory) ⊎ IsNextRefusal table c came p (Err e)
 
--- A decoder follows packets that came: a block has an answer exactly where what came of it can answer it, and of each block without one all that came is held.
+-- A decoder follows packets that were received: a block has an answer exactly where what was received of it can answer it, and of each block without one all that was received is held.
 pub record FollowsRun (table : List TableRow) (came : List Packet) (s : State) : Type 0 where
-  pub holds : HoldsRun table came s
-  pub answers : (b : ℕ) → b < s.configuration.source_blocks → IsSome (s.answer b) ↔ CanAnswer (held_after table s.configuration b came)
+  pub holds : HasReceivedRun table came s
+  pub answers : (b : ℕ) → b < s.configuration.source_blocks → IsSome (s.answer b) ↔ CanAnswer (received_after table s.configuration b came)
 
 -- and so it does one packet later
 abbrev pub FollowsMore : State → Packet → State → Type 0
 FollowsMore old p new = (table : List TableRow) (came : List Packet) → FollowsRun table came old → FollowsRun table (came ++ p ∷ []) new
 
--- the first refusal of a list of packets behind those that came
+-- the first refusal of a list of packets behind those that were received
 abbrev pub IsRefusalBehind : List TableRow → Configuration → List Packet → List Packet → Result (Unit {0}) Error → Type 0
 IsRefusalBehind table c came [] r = r ≡ Ok tt
 IsRefusalBehind table c came (p ∷ packets) r =

@@ -2,7 +2,7 @@
 use Rattle.std.specs.Prelude.{◌≡◌, ⊤, ℕ, List, Option, Result, Ok, Err}
 use Rattle.rq_bytes.specs.declared.error.Error.{Error}
 use Rattle.rq_bytes.specs.declared.error.Error.TheVariants.{OutOfMemory, Contradiction}
-use Rattle.rq_standard.specs.Held.{Held, IsContradictory}
+use Rattle.rq_standard.specs.ReceivedBlock.{ReceivedBlock, IsContradictory}
 use Rattle.rq_standard.specs.Packet.{Packet}
 use Rattle.rq_standard.specs.Standing.{State, AddsToBlock, RecordsInBlock, Adds, RecordsOnly, Contradicts, result_of}
 use Rattle.raptorq.specs.declared.decoder.packet_stop.PacketStop.{PacketStop}
@@ -33,16 +33,16 @@ StopsPacket NotSolved tested = ⊥
 StopsPacket Contradicted tested = ⊥
 StopsPacket NotJoined tested = ⊥
 
--- why what is held has no answer
-abbrev pub StopsAnswer : PacketStop → Held → Type 0
+-- why what was received has no answer
+abbrev pub StopsAnswer : PacketStop → ReceivedBlock → Type 0
 StopsAnswer NotSolved h = ⊤
 StopsAnswer Contradicted h = IsContradictory h
 StopsAnswer NotRecorded h = ⊥
 StopsAnswer NotJoined h = ⊥
 StopsAnswer (Refused e) h = ⊥
 
--- What a packet of a block did to what is held and to its answer: where it wasn't recorded, nothing; where the block wasn't solved or is contradictory, it is recorded.
-abbrev pub AddsInBlockOrStops : Held → Option (List ℕ) → Packet → Result (Unit {0}) PacketStop → Held → Option (List ℕ) → Type 0
+-- What a packet of a block did to what was received and to its answer: where it wasn't recorded, nothing; where the block wasn't solved or is contradictory, it is recorded.
+abbrev pub AddsInBlockOrStops : ReceivedBlock → Option (List ℕ) → Packet → Result (Unit {0}) PacketStop → ReceivedBlock → Option (List ℕ) → Type 0
 AddsInBlockOrStops old before p (Ok x) new after = AddsToBlock old before p new after
 AddsInBlockOrStops old before p (Err NotSolved) new after = RecordsInBlock old before p new after
 AddsInBlockOrStops old before p (Err Contradicted) new after = RecordsInBlock old before p new after × IsContradictory new

@@ -4,7 +4,7 @@ use Rattle.rq_bytes.specs.declared.error.Error.{Error}
 use Rattle.rq_bytes.specs.declared.error.Error.TheVariants.{OutOfMemory, Contradiction}
 use Rattle.rq_standard.specs.declared.row.TableRow.{TableRow}
 use Rattle.rq_standard.specs.Packet.{Packet}
-use Rattle.rq_standard.specs.Standing.{State, Adds, Contradicts, IsBlockContradictory, KeepsContradictions, IsHonestPacket, HoldsMore, StandsForMore, AnswersLateBlock}
+use Rattle.rq_standard.specs.Standing.{State, Adds, Contradicts, IsBlockContradictory, KeepsContradictions, IsHonestPacket, HasReceivedMore, StandsForMore, AnswersLateBlock}
 use Rattle.raptorq.specs.Refused.{packet_refusal, IsPacketRefusal}
 use Rattle.raptorq.specs.Runs.{AnswersNext, FollowsRun, FollowsMore}
 
@@ -14,12 +14,12 @@ pub record TakesPacket {X : Type 0} (old : State) (packet : Packet) (result : Re
   pub accepted : OnOk result (packet_refusal old.configuration packet ≡ Ok tt)
   -- a refusal by the tests changes nothing
   pub unchanged : IfErr result (λ e. e ≢ OutOfMemory → e ≢ Contradiction → new ≡ old)
-  -- what is held of its block, and whether that has an answer then
+  -- what was received of its block, and whether that has an answer then
   pub adds : OnOk result (Adds old packet new)
   pub configuration : new.configuration ≡ old.configuration
   -- a contradiction: the packet is recorded, and so is each later one of its block, which is refused too
   pub contradiction : IfErr result (λ e. e ≡ Contradiction → Contradicts old packet new)
-  pub holds : OnOk result (HoldsMore old packet new)
+  pub holds : OnOk result (HasReceivedMore old packet new)
   pub goes_on : OnOk result (IsBlockContradictory old packet.id.block → ⊥)
   pub keeps : KeepsContradictions old new
   -- behind packets that the decoder follows, exactly what is to be refused is

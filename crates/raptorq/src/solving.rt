@@ -1,9 +1,8 @@
 //! The intermediate symbols of a block.
 ghost use Rattle.std.specs.Prelude.{◌≡◌, ◌+◌, ◌^◌, ◌<◌, ◌≤◌, IfSome, IfOk, IfErr};
 ghost use Rattle.rq_standard.specs.TableRows.{IsChecked, intermediate_symbols};
-ghost use Rattle.rq_standard.specs.Equations.{equation_count, equations};
-ghost use Rattle.rq_null_vector.specs.Homogeneous.{ShowsHomogeneous};
-ghost use Rattle.raptorq.specs.BlockSolutions.{FindsFrom, FindsListed, FindsWithoutHdpc, SparesHdpc};
+ghost use Rattle.rq_standard.specs.Equations.{equation_count};
+ghost use Rattle.raptorq.specs.BlockSolutions.{found_operations, shown_column, FindsFrom, FindsListed, FindsWithoutHdpc, IsHomogeneousFor, ShowsListed, SparesHdpc};
 
 use rq_base::constraint_matrix::{
     generate_constraint_matrix_no_hdpc_of_row, generate_constraint_matrix_of_row,
@@ -14,7 +13,7 @@ use rq_matrix::matrix::{BinaryMatrix, DenseBinaryMatrix};
 use rq_matrix::sparse_matrix::SparseBinaryMatrix;
 use rq_null_vector::null_vector::null_vector;
 use rq_operations::recorded::RecordedOperations;
-use rq_solver::pi_solver::IntermediateSymbolDecoder;
+use rq_solver::pi_solver::{IntermediateSymbolDecoder, Solved};
 use rq_standard::row::TableRow;
 use std::alloc::Global;
 
@@ -25,6 +24,29 @@ use std::alloc::Global;
 pub(crate) struct BlockOperations {
     pub precode_rows: usize,
     pub operations: RecordedOperations,
+}
+
+/// What the equations of a list of internal symbol ids give: operations, or else what shows that the
+/// ids don't determine the intermediate symbols.
+#[derive(Drop)]
+pub(crate) enum BlockOutcome {
+    /// What makes the intermediate symbols from the symbols of the ids.
+    Operations(BlockOperations),
+    /// A column that isn't all zeros and solves the equations with all values zero. `None` where there
+    /// was no memory for it.
+    Undetermined(Option<Vec<u8>>),
+}
+
+impl BlockOutcome {
+    // The operations, where there are some.
+    fn into_operations(self) -> Option<BlockOperations>
+        ensures { result ≡ found_operations self }
+    {
+        match self {
+            BlockOutcome::Operations(solution) => Some(solution),
+            BlockOutcome::Undetermined(_) => None,
+        }
+    }
 }
 
 /// What makes the intermediate symbols from the symbols of a list of internal symbol ids. `None`
@@ -41,6 +63,25 @@ pub(crate) fn solve_block(
     requires fits { equation_count row.now ids.now < 2 ^ 31 }
     ensures found { IfOk result (FindsListed row.now ids.now) }
     ensures spares { IfOk result (SparesHdpc row.now ids.now) }
+    ensures memory { IfErr result (λ e. e ≡ Error.OutOfMemory) }
+{
+    let outcome = solve_or_show(alloc, row, ids, sparse_threshold)?;
+    Ok(outcome.into_operations())
+}
+
+/// What [`solve_block`] finds, and where it finds nothing a column that shows it.
+pub(crate) fn solve_or_show(
+    alloc: Global,
+    row: &TableRow,
+    ids: &[u32],
+    sparse_threshold: u32,
+) -> Result<BlockOutcome, Error>
+    requires checked { IsChecked row.now }
+    requires enough { intermediate_symbols row.now ≤ equation_count row.now ids.now }
+    requires fits { equation_count row.now ids.now < 2 ^ 31 }
+    ensures found { IfOk result (λ outcome. FindsListed row.now ids.now (found_operations outcome)) }
+    ensures spares { IfOk result (λ outcome. SparesHdpc row.now ids.now (found_operations outcome)) }
+    ensures shown { IfOk result (λ outcome. IfSome (shown_column outcome) (IsHomogeneousFor row.now ids.now)) }
     ensures memory { IfErr result (λ e. e ≡ Error.OutOfMemory) }
 {
     let listed = Listed { alloc, row, ids };
@@ -64,14 +105,15 @@ struct Listed<'a> {
 
 impl Listed<'_> {
     // Over one kind of matrix: first without the HDPC equations, which are not needed where enough
-    // symbols came, and cost the most.
-    fn find_over<T: BinaryMatrix>(&self) -> Result<Option<BlockOperations>, Error>
-        ensures found { IfOk result (FindsListed self.now.row.now self.now.ids.now) }
-        ensures spares { IfOk result (SparesHdpc self.now.row.now self.now.ids.now) }
+    // symbols were received, and cost the most.
+    fn find_over<T: BinaryMatrix>(&self) -> Result<BlockOutcome, Error>
+        ensures found { IfOk result (λ outcome. FindsListed self.now.row.now self.now.ids.now (found_operations outcome)) }
+        ensures spares { IfOk result (λ outcome. SparesHdpc self.now.row.now self.now.ids.now (found_operations outcome)) }
+        ensures shown { IfOk result (λ outcome. IfSome (shown_column outcome) (IsHomogeneousFor self.now.row.now self.now.ids.now)) }
         ensures memory { IfErr result (λ e. e ≡ Error.OutOfMemory) }
     {
         if let Some(solution) = self.find_without_hdpc::<T>()? {
-            return Ok(Some(solution));
+            return Ok(BlockOutcome::Operations(solution));
         }
         self.find_with_hdpc::<T>()
     }
@@ -106,8 +148,9 @@ impl Listed<'_> {
     }
 
     // By all equations.
-    fn find_with_hdpc<T: BinaryMatrix>(&self) -> Result<Option<BlockOperations>, Error>
-        ensures found { IfOk result (FindsListed self.now.row.now self.now.ids.now) }
+    fn find_with_hdpc<T: BinaryMatrix>(&self) -> Result<BlockOutcome, Error>
+        ensures found { IfOk result (λ outcome. FindsListed self.now.row.now self.now.ids.now (found_operations outcome)) }
+        ensures shown { IfOk result (λ outcome. IfSome (shown_column outcome) (IsHomogeneousFor self.now.row.now self.now.ids.now)) }
         ensures memory { IfErr result (λ e. e ≡ Error.OutOfMemory) }
     {
         let (matrix, hdpc) = generate_constraint_matrix_of_row::<T>(
@@ -116,13 +159,13 @@ impl Listed<'_> {
         let precode_rows = (self.row.ldpc_symbols + self.row.hdpc_symbols) as usize;
         let values = SymbolSlab::with_zeros(self.alloc, precode_rows + self.ids.len(), 0)?;
         let solver = IntermediateSymbolDecoder::of_row(self.alloc, self.row, matrix, hdpc, values);
-        let Some(operations) = solver.into_operations()? else {
-            return Ok(None);
-        };
-        Ok(Some(BlockOperations {
-            precode_rows,
-            operations,
-        }))
+        match solver.solve()? {
+            Solved::Operations(operations) => Ok(BlockOutcome::Operations(BlockOperations {
+                precode_rows,
+                operations,
+            })),
+            Solved::Undetermined(column) => Ok(BlockOutcome::Undetermined(column)),
+        }
     }
 }
 
@@ -137,7 +180,7 @@ pub(crate) fn homogeneous(
 ) -> Result<Option<Vec<u8>>, Error>
     requires checked { IsChecked row.now }
     requires fits { equation_count row.now ids.now < 2 ^ 31 }
-    ensures shown { IfOk result (ShowsHomogeneous (equation_count row.now ids.now) (intermediate_symbols row.now) (equations row.now ids.now)) }
+    ensures shown { IfOk result (ShowsListed row.now ids.now) }
     ensures memory { IfErr result (λ e. e ≡ Error.OutOfMemory) }
 {
     if row.extended_symbols >= sparse_threshold {
@@ -155,7 +198,7 @@ fn null_vector_over<T: BinaryMatrix>(
 ) -> Result<Option<Vec<u8>>, Error>
     requires checked { IsChecked row.now }
     requires fits { equation_count row.now ids.now < 2 ^ 31 }
-    ensures shown { IfOk result (ShowsHomogeneous (equation_count row.now ids.now) (intermediate_symbols row.now) (equations row.now ids.now)) }
+    ensures shown { IfOk result (ShowsListed row.now ids.now) }
     ensures memory { IfErr result (λ e. e ≡ Error.OutOfMemory) }
 {
     let (matrix, hdpc) = generate_constraint_matrix_of_row::<T>(alloc, row, ids)?;

@@ -1,22 +1,25 @@
 //! The decoder of one source block.
-ghost use Rattle.std.specs.Prelude.{◌≡◌, ◌≢◌, ℕ, ◌*◌, ◌^◌, ◌<◌, ◌≤◌, true, false, [], ◌∷◌, ◌++◌, All, length, map, Ok, Some, None, IfSome, IfOk, IfErr, OnOk, OnErr, IsSome, not, if◌then◌else◌, ◌==◌, option_map, unwrap_or, vec_items};
+ghost use Rattle.std.specs.Prelude.{◌≡◌, ◌≢◌, ℕ, ◌^◌, ◌<◌, ◌≤◌, true, [], ◌++◌, All, length, Ok, Some, None, IfSome, IfOk, IfErr, IsTrue, OnOk, OnErr, IsSome, if◌then◌else◌, ◌==◌, option_map, unwrap_or, vec_items};
 ghost use Rattle.std.specs.Option.{ForSome};
 ghost use Rattle.rq_bytes.specs.Refusals.{IsAnswer};
-ghost use Rattle.rq_bytes.specs.SymbolSlab.{slab_of};
 ghost use Rattle.rq_standard.specs.Configuration.{IsAligned};
-ghost use Rattle.rq_standard.specs.Cutting.{plain_symbol};
-ghost use Rattle.rq_standard.specs.Held.{CanAnswer, IsContradictory};
+ghost use Rattle.rq_standard.specs.ReceivedBlock.{CanAnswer, IsContradictory};
 ghost use Rattle.rq_standard.specs.Received.{or_later};
 ghost use Rattle.rq_standard.specs.TableRows.{IsChecked};
-ghost use Rattle.raptorq.specs.Missing.{held_block, payload_of, has_payload, missing_count, KeepsFirst};
-ghost use Rattle.raptorq.specs.declared.decoder.block.LastOutcome.TheVariants.{Undetermined, Contradictory};
+ghost use Rattle.raptorq.specs.Known.{ShowsBlockOpen};
+ghost use Rattle.raptorq.specs.Missing.{received_block, payload_of, has_payload, missing_count};
+ghost use Rattle.raptorq.specs.declared.decoder.last_outcome.LastOutcome.TheVariants.{Undetermined, Contradictory};
 
+use crate::decoder::columns::{octet_symbols, solves_id};
 use crate::decoder::fitting::solves_all;
 use crate::decoder::known::{known_symbol_ids, known_symbol_values};
+use crate::decoder::last_outcome::LastOutcome;
 use crate::decoder::packet_stop::PacketStop;
+use crate::decoder::payloads::{join, keep_first};
 use crate::enc::encoding_symbol;
 use crate::encoder::SPARSE_MATRIX_THRESHOLD;
-use crate::solving::{homogeneous, solve_block};
+use crate::ids::internal_symbol_id;
+use crate::solving::{BlockOperations, BlockOutcome, homogeneous, solve_or_show};
 use crate::sub_blocks::{check_symbols, into_sub_blocks, size_at};
 use rq_base::base::{EncodingPacket, ObjectTransmissionInformation};
 use rq_bytes::error::Error;
@@ -26,31 +29,9 @@ use rq_standard::row::TableRow;
 use rq_tables::systematic_constants::SystematicTable;
 use std::alloc::{AllocError, Global};
 use std::collections::BTreeMap;
-use std::collections::btree_map::Entry;
 
-// What the last attempt to answer a block found of what came.
-#[derive(Clone, Copy)]
-enum LastOutcome {
-    Untried,
-    Undetermined,
-    Contradictory,
-}
-
-impl LastOutcome {
-    // What is still so once a payload of a new id came: with it the payloads may determine the block,
-    // but what is contradictory stays so.
-    fn after_new_payload(self) -> LastOutcome
-        ensures may_answer { result ≢ LastOutcome.Undetermined }
-        ensures contradictory { result ≡ LastOutcome.Contradictory → self ≡ LastOutcome.Contradictory }
-    {
-        match self {
-            LastOutcome::Undetermined => LastOutcome::Untried,
-            outcome => outcome,
-        }
-    }
-}
-
-/// Puts the symbols of one source block together again.
+/// Puts the symbols of one source block together again. While what was received doesn't determine the block it
+/// keeps an octet for each intermediate symbol, so that packets that decide nothing aren't solved for.
 #[derive(Drop)]
 #[derive_where(Debug, PartialEq, Eq)]
 pub struct SourceBlockDecoder {
@@ -63,6 +44,10 @@ pub struct SourceBlockDecoder {
     sparse_threshold: u32,
     #[derive_where(skip)]
     last_outcome: LastOutcome,
+    // Shows that what was received doesn't determine the block, so that a packet whose equation it solves too
+    // isn't solved for. `None` says nothing.
+    #[derive_where(skip)]
+    column: Option<Vec<u8>>,
     alloc: Global,
     pub ghost sized: { (e : ℕ) → ForSome (payload_of received e) (λ payload. length payload ≡ config.symbol_size) },
     pub ghost bytes: { (e : ℕ) → ForSome (payload_of received e) (All (λ octet. octet < 256)) },
@@ -72,71 +57,20 @@ pub struct SourceBlockDecoder {
     pub ghost fits: { source_symbols ≤ row.extended_symbols },
     pub ghost few: { (e : ℕ) → has_payload received e ≡ true → e < 2 ^ 24 },
     pub ghost counted: { missing ≡ missing_count source_symbols (has_payload received) },
-    pub ghost waits: { last_outcome ≡ Undetermined → ¬ CanAnswer (held_block config number row source_symbols received) },
-    pub ghost contradicted: { last_outcome ≡ Contradictory → IsContradictory (held_block config number row source_symbols received) },
-}
-
-// Keeps a payload, unless one of its id is there. Answers whether it was kept.
-fn keep_first(
-    received: &mut BTreeMap<u32, Vec<u8>>,
-    esi: u32,
-    payload: Vec<u8>,
-) -> Result<bool, AllocError>
-    ensures kept { IfOk result (λ kept. has_payload received.old esi ≡ not kept) }
-    ensures ok { OnOk result (KeepsFirst esi payload.items received.old received.new) }
-    ensures err { OnErr result ((e : ℕ) → payload_of received.new e ≡ payload_of received.old e) }
-{
-    match received.entry(esi)? {
-        Entry::Occupied(_) => Ok(false),
-        Entry::Vacant(vacant) => {
-            let _kept = vacant.insert(payload);
-            Ok(true)
-        }
-    }
-}
-
-// The symbols one after another, where each of them came.
-fn join(
-    alloc: Global,
-    source_symbols: u32,
-    size: usize,
-    received: &BTreeMap<u32, Vec<u8>>,
-) -> Result<Vec<u8>, AllocError>
-    requires fits { size < 65536 }
-    requires all { (e : ℕ) → e < source_symbols → IsSome (payload_of received.now e) }
-    requires sized { (e : ℕ) → ForSome (payload_of received.now e) (λ payload. length payload ≡ size) }
-    ensures long { IfOk result (λ block. length block.items ≡ source_symbols * size) }
-    ensures each { IfOk result (λ block. (e : ℕ) → e < source_symbols → payload_of received.now e ≡ Some (plain_symbol size block.items e)) }
-{
-    let mut block = Vec::with_capacity(alloc, source_symbols as usize * size)?;
-    for e in 0..source_symbols {
-        let Some(symbol) = received.get(&e) else {
-            unreachable!()
-        };
-        block.extend_from_slice(symbol.as_slice())?;
-    }
-    Ok(block)
-}
-
-// Symbols of one octet each.
-fn octet_symbols(alloc: Global, column: &[u8]) -> Result<SymbolSlab, Error>
-    ensures slab { IfOk result (λ slab. slab ≡ slab_of 1 (map (λ octet. octet ∷ []) column.now)) }
-    ensures memory { IfErr result (λ e. e ≡ Error.OutOfMemory) }
-{
-    let mut symbols = SymbolSlab::with_zeros(alloc, column.len(), 1)?;
-    symbols.copy_block_from(0, column);
-    Ok(symbols)
+    pub ghost waits: { last_outcome ≡ Undetermined → ¬ CanAnswer (received_block config number row source_symbols received) },
+    pub ghost shown: { ForSome column (ShowsBlockOpen row source_symbols (has_payload received)) },
+    pub ghost contradicted: { last_outcome ≡ Contradictory → IsContradictory (received_block config number row source_symbols received) },
 }
 
 impl SourceBlockDecoder {
     ghost use Rattle.std.specs.Int.{div_ceil};
     ghost use Rattle.raptorq.specs.Difference.{octets_of_column};
-    ghost use Rattle.rq_standard.specs.Held.{holds, recorded, ShowsUndetermined, IsBlockWith, IsBlockAnswer};
+    ghost use Rattle.rq_standard.specs.ReceivedBlock.{has_received, with_received, ShowsUndetermined, IsBlockWith, IsBlockAnswer};
     ghost use Rattle.rq_standard.specs.Received.{HasSourceSymbols};
     ghost use Rattle.rq_standard.specs.TableRows.{greatest_size, intermediate_symbols};
-    ghost use Rattle.raptorq.specs.Known.{SolvesBlock, IsHeldSolution, HasLostSymbols};
+    ghost use Rattle.raptorq.specs.Known.{FindsFromKnown, FindsKnown, SolvesBlock, SolvesEsi, IsReceivedSolution, HasLostSymbols};
     ghost use Rattle.raptorq.specs.Refused.{checked_block, block_refusal};
-    ghost use Rattle.raptorq.specs.SourceBlockDecoder.{held_of, empty_block};
+    ghost use Rattle.raptorq.specs.SourceBlockDecoder.{received_of, empty_block};
     ghost use Rattle.raptorq.specs.Decoding.{DecodesFrom, DecodesFromUntil, IsUnanswered, answer_bytes};
     ghost use Rattle.raptorq.specs.Stopping.{StopsPacket, StopsAnswer};
     ghost use Rattle.std.specs.Iterator.{IsFinite};
@@ -156,8 +90,8 @@ impl SourceBlockDecoder {
         block_length: u64,
     ) -> Result<SourceBlockDecoder, Error>
         ensures refused { IsAnswer (λ _. tt) result (checked_block (greatest_size table.now) config.now (div_ceil block_length config.now.symbol_size)) }
-        ensures empty { IfOk result (λ d. held_of d ≡ empty_block table.now config.now number (div_ceil block_length config.now.symbol_size)) }
-        ensures row { IfOk result (λ d. IsChecked (held_of d).row × ((held_of d).source_symbols ≤ (held_of d).row.extended_symbols)) }
+        ensures empty { IfOk result (λ d. received_of d ≡ empty_block table.now config.now number (div_ceil block_length config.now.symbol_size)) }
+        ensures row { IfOk result (λ d. IsChecked (received_of d).row × ((received_of d).source_symbols ≤ (received_of d).row.extended_symbols)) }
     {
         check_symbols(config)?;
         let source_symbols = block_length.div_ceil(u64::from(config.symbol_size()));
@@ -178,9 +112,9 @@ impl SourceBlockDecoder {
         requires positive { 0 < config.now.symbol_size }
         requires aligned { IsAligned config.now }
         requires in_table { source_symbols ≤ greatest_size table.now }
-        ensures empty { held_of result ≡ empty_block table.now config.now number source_symbols }
-        ensures checked { IsChecked (held_of result).row }
-        ensures fits { (held_of result).source_symbols ≤ (held_of result).row.extended_symbols }
+        ensures empty { received_of result ≡ empty_block table.now config.now number source_symbols }
+        ensures checked { IsChecked (received_of result).row }
+        ensures fits { (received_of result).source_symbols ≤ (received_of result).row.extended_symbols }
     {
         SourceBlockDecoder {
             config: *config,
@@ -191,45 +125,46 @@ impl SourceBlockDecoder {
             missing: source_symbols,
             sparse_threshold: SPARSE_MATRIX_THRESHOLD,
             last_outcome: LastOutcome::Untried,
+            column: None,
             alloc,
         }
     }
 
     /// Sets the sparse threshold: from how many symbols of an extended source block (K') on the block
     /// is solved over a sparse matrix, and not over a dense one. It is
-    /// [`SPARSE_MATRIX_THRESHOLD`](crate::encoder::SPARSE_MATRIX_THRESHOLD) at first. What came
+    /// [`SPARSE_MATRIX_THRESHOLD`](crate::encoder::SPARSE_MATRIX_THRESHOLD) at first. What was received
     /// stays. Whether there is an answer doesn't depend on it, nor what is answered of an object's
     /// packets.
     pub fn set_sparse_threshold(&mut self, value: u32)
-        ensures { held_of self.new ≡ held_of self.old }
+        ensures { received_of self.new ≡ received_of self.old }
     {
         self.sparse_threshold = value;
     }
 
     /// The size of a symbol, in bytes.
     pub(crate) fn symbol_size(&self) -> usize
-        ensures value { result ≡ (held_of self.now).configuration.symbol_size }
+        ensures value { result ≡ (received_of self.now).configuration.symbol_size }
         ensures below { result < 65536 }
     {
         usize::from(self.config.symbol_size())
     }
 
-    /// Takes packets until one is refused, and answers the block where all its source symbols came or
-    /// what came determines it.
+    /// Takes packets until one is refused, and answers the block where all its source symbols were received or
+    /// what was received determines it.
     ///
     /// Refuses, in this order, [`Error::UnknownBlock`] where a packet is of another block, and
     /// [`Error::WrongPayloadSize`] where its payload hasn't the size of a symbol. The packets
     /// before it stay recorded, and the rest isn't taken. The first payload of an encoding symbol
     /// id is kept.
     ///
-    /// Refuses [`Error::Contradiction`] where what came determines the block and no block fits all
+    /// Refuses [`Error::Contradiction`] where what was received determines the block and no block fits all
     /// of it. The packets stay recorded, and each later call is refused so too.
     pub fn decode<I: IntoIterator<Item = EncodingPacket>>(
         &mut self,
         packets: I,
     ) -> Result<Option<Vec<u8>>, Error>
         requires { (it : I.IntoIter) → I.into_iter_gives packets it → I.IntoIter.can_next it × IsFinite (I.IntoIter.remaining it) }
-        ensures { DecodesFrom I.into_iter_gives I.IntoIter.next_gives packets (held_of self.old) (answer_bytes vec_items result) (held_of self.new) }
+        ensures { DecodesFrom I.into_iter_gives I.IntoIter.next_gives packets (received_of self.old) (answer_bytes vec_items result) (received_of self.new) }
     {
         Ok(self.decode_until_stopped(packets)?)
     }
@@ -241,7 +176,7 @@ impl SourceBlockDecoder {
         packets: I,
     ) -> Result<Option<Vec<u8>>, PacketStop>
         requires { (it : I.IntoIter) → I.into_iter_gives packets it → I.IntoIter.can_next it × IsFinite (I.IntoIter.remaining it) }
-        ensures { DecodesFromUntil I.into_iter_gives I.IntoIter.next_gives packets (held_of self.old) (answer_bytes vec_items result) (held_of self.new) }
+        ensures { DecodesFromUntil I.into_iter_gives I.IntoIter.next_gives packets (received_of self.old) (answer_bytes vec_items result) (received_of self.new) }
     {
         for packet in packets {
             self.add(packet)?;
@@ -250,11 +185,11 @@ impl SourceBlockDecoder {
     }
 
     /// An octet for each intermediate symbol, not all of them zero, that together solve the block's
-    /// equations with all values zero: those of LDPC and HDPC, of the padding, and of what came
-    /// (RFC 6330, section 5.4.2). `None` exactly where what came determines the block. The Rust
+    /// equations with all values zero: those of LDPC and HDPC, of the padding, and of what was received
+    /// (RFC 6330, section 5.4.2). `None` exactly where what was received determines the block. The Rust
     /// crate has no such call.
     pub fn homogeneous(&self) -> Result<Option<Vec<u8>>, Error>
-        ensures shown { IfOk result (λ answer. ShowsUndetermined (held_of self.now) (option_map vec_items answer)) }
+        ensures shown { IfOk result (λ answer. ShowsUndetermined (received_of self.now) (option_map vec_items answer)) }
         ensures memory { IfErr result (λ e. e ≡ Error.OutOfMemory) }
     {
         let ids = known_symbol_ids(self.alloc, &self.row, self.source_symbols, &self.received)?;
@@ -263,10 +198,10 @@ impl SourceBlockDecoder {
 
     // Tests a packet and records it.
     fn add(&mut self, packet: EncodingPacket) -> Result<(), PacketStop>
-        ensures taken { OnOk result (block_refusal (held_of self.old) packet ≡ Ok tt) }
-        ensures stops { IfErr result (λ stop. StopsPacket stop (block_refusal (held_of self.old) packet)) }
-        ensures ok { OnOk result (held_of self.new ≡ recorded (held_of self.old) packet.id.esi packet.payload) }
-        ensures err { OnErr result (held_of self.new ≡ held_of self.old) }
+        ensures taken { OnOk result (block_refusal (received_of self.old) packet ≡ Ok tt) }
+        ensures stops { IfErr result (λ stop. StopsPacket stop (block_refusal (received_of self.old) packet)) }
+        ensures ok { OnOk result (received_of self.new ≡ with_received (received_of self.old) packet.id.esi packet.payload) }
+        ensures err { OnErr result (received_of self.new ≡ received_of self.old) }
     {
         if packet.payload_id().source_block_number() != self.number {
             return Err(PacketStop::Refused(Error::UnknownBlock));
@@ -277,35 +212,54 @@ impl SourceBlockDecoder {
         self.record(packet)
     }
 
-    /// Records the payload of a packet of the block, unless one of its id came before.
+    /// Records the payload of a packet of the block, unless one of its id was received before.
     pub(crate) fn record(&mut self, packet: EncodingPacket) -> Result<(), PacketStop>
-        requires { block_refusal (held_of self.old) packet ≡ Ok tt }
+        requires { block_refusal (received_of self.old) packet ≡ Ok tt }
         ensures stops { IfErr result (λ stop. stop ≡ PacketStop.NotRecorded) }
-        ensures ok { OnOk result (held_of self.new ≡ recorded (held_of self.old) packet.id.esi packet.payload) }
-        ensures err { OnErr result (held_of self.new ≡ held_of self.old) }
+        ensures ok { OnOk result (received_of self.new ≡ with_received (received_of self.old) packet.id.esi packet.payload) }
+        ensures err { OnErr result (received_of self.new ≡ received_of self.old) }
     {
         let (id, payload) = packet.split();
         let esi = id.encoding_symbol_id();
         let is_source = esi < self.source_symbols;
         // For the proof: the payload's bytes are octets.
         octets::are_octets(payload.as_slice());
+        let still_shown = self.column_solves(esi);
         let Ok(kept) = keep_first(&mut self.received, esi, payload) else {
             return Err(PacketStop::NotRecorded);
         };
         if kept {
             self.missing -= u32::from(is_source);
             self.last_outcome = self.last_outcome.after_new_payload();
+            if !still_shown {
+                self.column = None;
+            }
         }
         Ok(())
     }
 
-    /// The block, where all its source symbols came or what came determines it. What is recorded
+    // Whether the column solves the equation of an encoding symbol id too. Where there is none, it is
+    // said to do so.
+    fn column_solves(&self, esi: u32) -> bool
+        requires { esi < 2 ^ 24 }
+        ensures { IsTrue result → ForSome self.now.column (λ octets. SolvesEsi self.now.row self.now.source_symbols esi octets.items) }
+    {
+        match &self.column {
+            Some(octets) => {
+                let id = internal_symbol_id(&self.row, self.source_symbols, esi);
+                solves_id(&self.row, octets.as_slice(), id)
+            }
+            None => true,
+        }
+    }
+
+    /// The block, where all its source symbols were received or what was received determines it. What is recorded
     /// stays as it is. What was found to be contradictory, or not to determine the block, isn't
     /// solved again.
     pub(crate) fn answer(&mut self) -> Result<Option<Vec<u8>>, PacketStop>
-        ensures block { IfOk result (λ r. IsBlockAnswer (held_of self.old) (option_map vec_items r)) }
-        ensures same { held_of self.new ≡ held_of self.old }
-        ensures stops { IfErr result (λ stop. StopsAnswer stop (held_of self.old)) }
+        ensures block { IfOk result (λ r. IsBlockAnswer (received_of self.old) (option_map vec_items r)) }
+        ensures same { received_of self.new ≡ received_of self.old }
+        ensures stops { IfErr result (λ stop. StopsAnswer stop (received_of self.old)) }
     {
         match self.last_outcome {
             LastOutcome::Undetermined => return Ok(None),
@@ -313,7 +267,10 @@ impl SourceBlockDecoder {
             LastOutcome::Untried => {}
         }
         match self.find_answer() {
-            Ok(Some(block)) => Ok(Some(block)),
+            Ok(Some(block)) => {
+                self.column = None;
+                Ok(Some(block))
+            }
             Ok(None) => {
                 self.last_outcome = LastOutcome::Undetermined;
                 Ok(None)
@@ -326,11 +283,12 @@ impl SourceBlockDecoder {
         }
     }
 
-    // The block, where all its source symbols came or what came determines it: solved whatever was
+    // The block, where all its source symbols were received or what was received determines it: solved whatever was
     // found before. Source symbols alone can't be contradictory.
-    fn find_answer(&self) -> Result<Option<Vec<u8>>, Error>
-        ensures block { IfOk result (λ r. IsBlockAnswer (held_of self.now) (option_map vec_items r)) }
-        ensures unanswered { IfErr result (IsUnanswered (held_of self.now)) }
+    fn find_answer(&mut self) -> Result<Option<Vec<u8>>, Error>
+        ensures block { IfOk result (λ r. IsBlockAnswer (received_of self.old) (option_map vec_items r)) }
+        ensures same { received_of self.new ≡ received_of self.old }
+        ensures unanswered { IfErr result (IsUnanswered (received_of self.old)) }
     {
         let all = self.missing == 0;
         if all && self.received.len() == self.source_symbols as usize {
@@ -343,10 +301,10 @@ impl SourceBlockDecoder {
         }
     }
 
-    // The block, from its source symbols alone, all of which came.
+    // The block, from its source symbols alone, all of which were received.
     fn join_source(&self) -> Result<Vec<u8>, AllocError>
-        requires { HasSourceSymbols (held_of self.now).source_symbols (holds (held_of self.now)) }
-        ensures { IfOk result (λ block. IsBlockWith (held_of self.now) block.items) }
+        requires { HasSourceSymbols (received_of self.now).source_symbols (has_received (received_of self.now)) }
+        ensures { IfOk result (λ block. IsBlockWith (received_of self.now) block.items) }
     {
         let symbol_bytes = join(
             self.alloc,
@@ -360,8 +318,8 @@ impl SourceBlockDecoder {
     /// The block whose symbols begin with the octets that a column has for them, and go on with
     /// zeros. Without a column all of it is zeros.
     pub(crate) fn difference(&self, column: &Option<Vec<u8>>) -> Result<Vec<u8>, Error>
-        requires { IfSome column.now (λ xs. length xs.items ≡ intermediate_symbols (held_of self.now).row) }
-        ensures block { IfOk result (λ block. block.items ≡ octets_of_column (held_of self.now) (option_map vec_items column.now)) }
+        requires { IfSome column.now (λ xs. length xs.items ≡ intermediate_symbols (received_of self.now).row) }
+        ensures block { IfOk result (λ block. block.items ≡ octets_of_column (received_of self.now) (option_map vec_items column.now)) }
         ensures memory { IfErr result (λ e. e ≡ Error.OutOfMemory) }
     {
         match column {
@@ -375,8 +333,8 @@ impl SourceBlockDecoder {
 
     // The block whose symbols have these first octets.
     fn first_octets(&self, column: &[u8]) -> Result<Vec<u8>, Error>
-        requires { length column.now ≡ intermediate_symbols (held_of self.now).row }
-        ensures block { IfOk result (λ block. block.items ≡ octets_of_column (held_of self.now) (Some column.now)) }
+        requires { length column.now ≡ intermediate_symbols (received_of self.now).row }
+        ensures block { IfOk result (λ block. block.items ≡ octets_of_column (received_of self.now) (Some column.now)) }
         ensures memory { IfErr result (λ e. e ≡ Error.OutOfMemory) }
     {
         let octets = octet_symbols(self.alloc, column)?;
@@ -390,20 +348,52 @@ impl SourceBlockDecoder {
         Ok(block)
     }
 
-    // The intermediate symbols, where what came determines them.
-    fn solve(&self) -> Result<Option<SymbolSlab>, Error>
-        ensures solved { IfOk result (λ r. SolvesBlock (held_of self.now) r) }
-        ensures unanswered { IfErr result (IsUnanswered (held_of self.now)) }
+    // The intermediate symbols, where what was received determines them.
+    fn solve(&mut self) -> Result<Option<SymbolSlab>, Error>
+        ensures solved { IfOk result (λ r. SolvesBlock (received_of self.old) r) }
+        ensures same { received_of self.new ≡ received_of self.old }
+        ensures unanswered { IfErr result (IsUnanswered (received_of self.old)) }
+    {
+        let Some(solution) = self.find_operations()? else {
+            return Ok(None);
+        };
+        Ok(Some(self.replay(solution)?))
+    }
+
+    // The operations that make the intermediate symbols, where what was received determines them. Where a
+    // column shows that it doesn't, nothing is solved. Where solving finds one, it is kept.
+    fn find_operations(&mut self) -> Result<Option<BlockOperations>, Error>
+        ensures found { IfOk result (FindsKnown (received_of self.old) self.old.received) }
+        ensures received { self.new.received ≡ self.old.received }
+        ensures same { received_of self.new ≡ received_of self.old }
+        ensures memory { IfErr result (λ e. e ≡ Error.OutOfMemory) }
     {
         let row = &self.row;
         if self.received.len() < self.source_symbols as usize {
             return Ok(None);
         }
-        let ids = known_symbol_ids(self.alloc, row, self.source_symbols, &self.received)?;
-        let Some(solution) = solve_block(self.alloc, row, ids.as_slice(), self.sparse_threshold)?
-        else {
+        if self.column.is_some() {
             return Ok(None);
-        };
+        }
+        let ids = known_symbol_ids(self.alloc, row, self.source_symbols, &self.received)?;
+        match solve_or_show(self.alloc, row, ids.as_slice(), self.sparse_threshold)? {
+            BlockOutcome::Operations(solution) => Ok(Some(solution)),
+            BlockOutcome::Undetermined(column) => {
+                self.column = column;
+                Ok(None)
+            }
+        }
+    }
+
+    // The intermediate symbols that operations make of what was received.
+    fn replay(&self, solution: BlockOperations) -> Result<SymbolSlab, Error>
+        requires { FindsFromKnown (received_of self.now) self.now.received solution }
+        ensures solved { IfOk result (IsReceivedSolution (received_of self.now)) }
+        ensures unanswered { IfErr result (IsUnanswered (received_of self.now)) }
+    {
+        let row = &self.row;
+        // For the proof: the contract of `len` says that what was received is in the order of its ids.
+        let _count = self.received.len();
         let padding = (row.extended_symbols - self.source_symbols) as usize;
         let mut values = known_symbol_values(
             self.alloc,
@@ -416,17 +406,17 @@ impl SourceBlockDecoder {
         let _symbols = values.len();
         solution.operations.replay(&mut values)?;
         if solves_all(self.alloc, row, &solution, &values)? {
-            Ok(Some(values))
+            Ok(values)
         } else {
             Err(Error::Contradiction)
         }
     }
 
-    // The block, from the source symbols that came and the intermediate symbols. These are let go
-    // before there is a block: beside it stand what came and the lost symbols alone.
+    // The block, from the source symbols that were received and the intermediate symbols. These are let go
+    // before there is a block: beside it stand what was received and the lost symbols alone.
     fn rebuild(&self, intermediate: SymbolSlab) -> Result<Vec<u8>, AllocError>
-        requires { IsHeldSolution (held_of self.now) intermediate }
-        ensures { IfOk result (λ block. IsBlockWith (held_of self.now) block.items) }
+        requires { IsReceivedSolution (received_of self.now) intermediate }
+        ensures { IfOk result (λ block. IsBlockWith (received_of self.now) block.items) }
     {
         let lost = self.lost_symbols(intermediate)?;
         let whole = self.source_symbols as usize * self.symbol_size();
@@ -439,8 +429,8 @@ impl SourceBlockDecoder {
 
     // The source symbols that didn't come, as sums of intermediate symbols.
     fn lost_symbols(&self, intermediate: SymbolSlab) -> Result<BTreeMap<u32, Vec<u8>>, AllocError>
-        requires { IsHeldSolution (held_of self.now) intermediate }
-        ensures { IfOk result (HasLostSymbols (held_of self.now) intermediate) }
+        requires { IsReceivedSolution (received_of self.now) intermediate }
+        ensures { IfOk result (HasLostSymbols (received_of self.now) intermediate) }
     {
         let mut lost = BTreeMap::new(self.alloc);
         for e in 0..self.source_symbols {
@@ -452,15 +442,15 @@ impl SourceBlockDecoder {
         Ok(lost)
     }
 
-    // A source symbol behind those before it: the one that came, or that among the lost ones.
+    // A source symbol behind those before it: the one that was received, or that among the lost ones.
     fn push_symbol(
         &self,
         lost: &BTreeMap<u32, Vec<u8>>,
         e: u32,
         bytes: &mut Vec<u8>,
     ) -> Result<(), AllocError>
-        requires { IsSome (or_later ((held_of self.now).received e) (payload_of lost.now e)) }
-        ensures { OnOk result (bytes.new.items ≡ bytes.old.items ++ unwrap_or (or_later ((held_of self.now).received e) (payload_of lost.now e)) []) }
+        requires { IsSome (or_later ((received_of self.now).received e) (payload_of lost.now e)) }
+        ensures { OnOk result (bytes.new.items ≡ bytes.old.items ++ unwrap_or (or_later ((received_of self.now).received e) (payload_of lost.now e)) []) }
     {
         if let Some(symbol) = self.received.get(&e) {
             return bytes.extend_from_slice(symbol.as_slice());
@@ -473,9 +463,9 @@ impl SourceBlockDecoder {
 }
 
 impl Clone for SourceBlockDecoder {
-    ghost use Rattle.raptorq.specs.SourceBlockDecoder.{held_of};
+    ghost use Rattle.raptorq.specs.SourceBlockDecoder.{received_of};
 
-    ghost is_clone = { λ a b. held_of b ≡ held_of a };
+    ghost is_clone = { λ a b. received_of b ≡ received_of a };
 
     fn clone(&self) -> Result<SourceBlockDecoder, AllocError> {
         Ok(SourceBlockDecoder {
@@ -487,6 +477,7 @@ impl Clone for SourceBlockDecoder {
             missing: self.missing,
             sparse_threshold: self.sparse_threshold,
             last_outcome: self.last_outcome,
+            column: None,
             alloc: self.alloc,
         })
     }

@@ -16,7 +16,7 @@ use rq_standard::row::TableRow;
 use std::alloc::{AllocError, Global};
 use std::collections::BTreeMap;
 
-/// The internal symbol ids that are known: those of the padding, and then of what came.
+/// The internal symbol ids that are known: those of the padding, and then of what was received.
 pub(crate) fn known_symbol_ids(
     alloc: Global,
     row: &TableRow,
@@ -39,7 +39,7 @@ pub(crate) fn known_symbol_ids(
 }
 
 /// The values of the equations: `zeros` zeros, for those of LDPC and HDPC and for the padding, and
-/// then what came. There is room for the `source_symbols` symbols (K) of the block too.
+/// then what was received. There is room for the `source_symbols` symbols (K) of the block too.
 pub(crate) fn known_symbol_values(
     alloc: Global,
     zeros: usize,

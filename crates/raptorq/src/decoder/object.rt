@@ -8,7 +8,7 @@ ghost use Rattle.rq_standard.specs.Headline.{AnswersExactly, AnswersWhereAnyCan}
 ghost use Rattle.raptorq.specs.Runs.{packets_of, AnswersRun, RefusesConfiguration, FollowsRun};
 ghost use Rattle.rq_standard.specs.TableRows.{greatest_size};
 ghost use Rattle.rq_base.specs.RefusedInput.{checked_configuration};
-ghost use Rattle.raptorq.specs.SourceBlockDecoder.{held_of};
+ghost use Rattle.raptorq.specs.SourceBlockDecoder.{received_of};
 
 use crate::blocks::block_symbols;
 use crate::decoder::block::SourceBlockDecoder;
@@ -27,7 +27,7 @@ struct ObjectBlock {
 
 impl ObjectBlock {
     ghost use Rattle.raptorq.specs.Difference.{ShowsUnanswered};
-    ghost use Rattle.rq_standard.specs.Standing.{IsHeldOf, new_held, new_answer};
+    ghost use Rattle.rq_standard.specs.Standing.{IsReceivedOf, new_received, new_answer};
     ghost use Rattle.raptorq.specs.Stopping.{AddsInBlockOrStops};
     ghost use Rattle.raptorq.specs.Decoder.{answer_of};
     ghost use Rattle.raptorq.specs.Refused.{block_refusal};
@@ -42,9 +42,9 @@ impl ObjectBlock {
         requires accepted { IsAccepted (greatest_size table.now) config.now }
         requires few { largest_block config.now < 65536 }
         requires number { number < config.now.source_blocks }
-        ensures held { held_of result.decoder ≡ new_held table.now config.now number }
+        ensures received { received_of result.decoder ≡ new_received table.now config.now number }
         ensures answer { answer_of result ≡ new_answer config.now number }
-        ensures shape { IsHeldOf table.now config.now number (new_held table.now config.now number) }
+        ensures shape { IsReceivedOf table.now config.now number (new_received table.now config.now number) }
     {
         let source_symbols = block_symbols(config, number);
         let decoder = SourceBlockDecoder::of_symbols(alloc, table, number, config, source_symbols);
@@ -59,11 +59,11 @@ impl ObjectBlock {
     // Takes a packet of the block, and answers the block where that is determined. An answered
     // block takes nothing more.
     fn add_packet(&mut self, packet: EncodingPacket) -> Result<(), PacketStop>
-        requires { block_refusal (held_of self.old.decoder) packet ≡ Ok tt }
-        ensures adds { AddsInBlockOrStops (held_of self.old.decoder) (answer_of self.old) packet result (held_of self.new.decoder) (answer_of self.new) }
-        ensures number { (held_of self.new.decoder).number ≡ (held_of self.old.decoder).number }
-        ensures configuration { (held_of self.new.decoder).configuration ≡ (held_of self.old.decoder).configuration }
-        ensures symbols { (held_of self.new.decoder).source_symbols ≡ (held_of self.old.decoder).source_symbols }
+        requires { block_refusal (received_of self.old.decoder) packet ≡ Ok tt }
+        ensures adds { AddsInBlockOrStops (received_of self.old.decoder) (answer_of self.old) packet result (received_of self.new.decoder) (answer_of self.new) }
+        ensures number { (received_of self.new.decoder).number ≡ (received_of self.old.decoder).number }
+        ensures configuration { (received_of self.new.decoder).configuration ≡ (received_of self.old.decoder).configuration }
+        ensures symbols { (received_of self.new.decoder).source_symbols ≡ (received_of self.old.decoder).source_symbols }
     {
         if self.answer.is_some() {
             return Ok(());
@@ -75,7 +75,7 @@ impl ObjectBlock {
 
     // A column of octets that shows that the block isn't determined, where it has no answer.
     fn homogeneous(&self) -> Result<Option<Vec<u8>>, Error>
-        ensures shown { IfOk result (λ column. ShowsUnanswered (held_of self.now.decoder) (answer_of self.now) (option_map vec_items column)) }
+        ensures shown { IfOk result (λ column. ShowsUnanswered (received_of self.now.decoder) (answer_of self.now) (option_map vec_items column)) }
         ensures memory { IfErr result (λ e. e ≡ Error.OutOfMemory) }
     {
         if self.answer.is_some() {
@@ -88,7 +88,7 @@ impl ObjectBlock {
 impl Clone for ObjectBlock {
     ghost use Rattle.raptorq.specs.Decoder.{answer_of};
 
-    ghost is_clone = { λ a b. (held_of b.decoder ≡ held_of a.decoder) × (answer_of b ≡ answer_of a) };
+    ghost is_clone = { λ a b. (received_of b.decoder ≡ received_of a.decoder) × (answer_of b ≡ answer_of a) };
 
     fn clone(&self) -> Result<ObjectBlock, AllocError> {
         Ok(ObjectBlock {
@@ -107,9 +107,9 @@ pub struct Decoder {
     pub ghost positive: { 0 < config.symbol_size },
     pub ghost aligned: { IsAligned config },
     pub ghost some: { 0 < config.source_blocks },
-    pub ghost numbered: { map (λ b. (held_of b.decoder).number) blocks.items ≡ range_with_len 0 config.source_blocks },
-    pub ghost same: { All (λ b. (held_of b.decoder).configuration ≡ config) blocks.items },
-    pub ghost cut: { All (λ b. (held_of b.decoder).source_symbols ≡ block_symbols config (held_of b.decoder).number) blocks.items },
+    pub ghost numbered: { map (λ b. (received_of b.decoder).number) blocks.items ≡ range_with_len 0 config.source_blocks },
+    pub ghost same: { All (λ b. (received_of b.decoder).configuration ≡ config) blocks.items },
+    pub ghost cut: { All (λ b. (received_of b.decoder).source_symbols ≡ block_symbols config (received_of b.decoder).number) blocks.items },
 }
 
 impl Decoder {
@@ -174,12 +174,12 @@ impl Decoder {
         self.blocks[usize::from(number)].add_packet(packet)
     }
 
-    /// Takes a packet, and answers its block where all its source symbols came or what came determines
+    /// Takes a packet, and answers its block where all its source symbols were received or what was received determines
     /// it.
     ///
     /// Refuses, in this order, [`Error::UnknownBlock`] where the packet's block is none of the
     /// object's, and [`Error::WrongPayloadSize`] where its payload hasn't the size of a symbol.
-    /// Refuses [`Error::Contradiction`] where with the packet what came of its block, which has no
+    /// Refuses [`Error::Contradiction`] where with the packet what was received of its block, which has no
     /// answer yet, determines it and no block fits all of it: the packet is recorded, each later
     /// packet of the block is refused so too, and the object is never answered. Packets of one
     /// object never contradict each other.
@@ -317,7 +317,7 @@ impl Clone for Decoder {
 
 // Sets the sparse threshold of each block.
 fn set_sparse_thresholds(blocks: &mut [ObjectBlock], value: u32)
-    ensures held { map (λ b. held_of b.decoder) blocks.new ≡ map (λ b. held_of b.decoder) blocks.old }
+    ensures received { map (λ b. received_of b.decoder) blocks.new ≡ map (λ b. received_of b.decoder) blocks.old }
     ensures answers { map (λ b. option_map vec_items b.answer) blocks.new ≡ map (λ b. option_map vec_items b.answer) blocks.old }
 {
     for block in blocks {

@@ -14,7 +14,7 @@ pub(crate) enum PacketStop {
     NotRecorded,
     /// It is recorded, and there was no memory to answer its block.
     NotSolved,
-    /// It is recorded, and what came of its block is contradictory.
+    /// It is recorded, and what was received of its block is contradictory.
     Contradicted,
     /// Its block has the answer that it can have, and there was no memory to join the blocks.
     NotJoined,

@@ -4,7 +4,7 @@ use Rattle.rq_standard.specs.Headline.{known_ids}
 use Rattle.rq_standard.specs.IdLists.{IsListOf}
 use Rattle.raptorq.specs.Known.{known_list}
 use Rattle.raptorq.specs.Missing.{has_payload}
-use Rattle.raptorq.proofs.HeldEquations.{known_listed}
+use Rattle.raptorq.proofs.ReceivedEquations.{known_listed}
 use Rattle.raptorq.proofs.Listing.{length-known_list, few_entries}
 use Rattle.raptorq.proofs.Came.{next_came, known_by_keys}
 use Rattle.raptorq.proofs.decoder.known.known_symbol_ids.Goals as goal

@@ -1,10 +1,10 @@
 use Rattle.std.proofs.Common.{refl, ◌∙◌, option_map, vec_items}
 use Rattle.std.proofs.Math.Seq.{map-set_same}
-use Rattle.raptorq.specs.SourceBlockDecoder.{held_of}
+use Rattle.raptorq.specs.SourceBlockDecoder.{received_of}
 use Rattle.raptorq.proofs.decoder.object.set_sparse_thresholds.Goals as goal
 
 pub loop-block-init : goal.loop-block-init
-loop-block-init c = record { held = refl; answers = refl }
+loop-block-init c = record { received = refl; answers = refl }
 
 pub loop-block-preserved : goal.loop-block-preserved
 loop-block-preserved c =
@@ -12,6 +12,6 @@ loop-block-preserved c =
     let n = c.loop-block.block-index in
     let kept = c.loop-block.invariant in
     record {
-      held = map-set_same (λ b. held_of b.decoder) items n _ c.block-item.result c.set_sparse_threshold.ensures ∙ kept.held;
+      received = map-set_same (λ b. received_of b.decoder) items n _ c.block-item.result c.set_sparse_threshold.ensures ∙ kept.received;
       answers = map-set_same (λ b. option_map vec_items b.answer) items n _ c.block-item.result refl ∙ kept.answers;
     }

@@ -1,5 +1,5 @@
 use Rattle.std.proofs.lemmas.Result.{err_from_is_err_and}
-use Rattle.raptorq.specs.SourceBlockDecoder.{held_of}
+use Rattle.raptorq.specs.SourceBlockDecoder.{received_of}
 use Rattle.raptorq.proofs.TakenPackets.{decodes_seen}
 use Rattle.raptorq.proofs.decoder.block.SourceBlockDecoder.decode.Goals as goal
 
@@ -12,5 +12,5 @@ returns-in_err-decode_until_stopped g c =
       iterator = seen.iterator;
       packets = seen.packets;
       made = seen.made;
-      decodes = rw (p.1, p.2) (decodes_seen g.I.IntoIter.Iterator.next_gives seen.iterator (held_of c.args.self.now) seen.packets stopped (held_of c.decode_until_stopped.new.self) seen.decodes);
+      decodes = rw (p.1, p.2) (decodes_seen g.I.IntoIter.Iterator.next_gives seen.iterator (received_of c.args.self.now) seen.packets stopped (received_of c.decode_until_stopped.new.self) seen.decodes);
     }

@@ -5,7 +5,7 @@ use Rattle.rq_standard.specs.Differences.{plain_sum}
 use Rattle.rq_standard.proofs.DifferenceColumns.{zero_dot}
 use Rattle.rq_standard.proofs.FirstOctets.{zero_octets}
 use Rattle.rq_algebra.specs.Systems.{at}
-use Rattle.raptorq.specs.SourceBlockDecoder.{held_of}
+use Rattle.raptorq.specs.SourceBlockDecoder.{received_of}
 use Rattle.raptorq.specs.Difference.{octets_of_column}
 use Rattle.raptorq.proofs.decoder.block.SourceBlockDecoder.difference.Goals as goal
 
@@ -14,4 +14,4 @@ returns-in_ok-vec-in-None-clause-block c =
     let s = c.args.self.now in
     c.in_ok-vec-in-None.ensures.items_if_clones_equal (λ y same. same) ∙ ap (λ n. replicate {A = ℕ} (s.source_symbols * n) 0) c.symbol_size.ensures.value
     ∙ sym (zero_octets s.config s.source_symbols (plain_sum s.row (at [])) (λ e. zero_dot s.row (symbol_coefficient s.row e)))
-    ∙ ap (λ o. octets_of_column (held_of s) (option_map vec_items o)) (sym c.in-None.is)
+    ∙ ap (λ o. octets_of_column (received_of s) (option_map vec_items o)) (sym c.in-None.is)

@@ -2,7 +2,7 @@ use Rattle.std.proofs.Common.{◌≡◌, ℕ, ◌++◌, List, Some, [], refl, ap
 use Rattle.std.specs.Prelude.{Result, Ok, Err, IfOk}
 use Rattle.rq_standard.proofs.PlainCut.{plain_block-push}
 use Rattle.rq_standard.specs.Received.{or_later}
-use Rattle.raptorq.specs.SourceBlockDecoder.{held_of}
+use Rattle.raptorq.specs.SourceBlockDecoder.{received_of}
 use Rattle.raptorq.specs.Known.{rebuilt_symbol}
 use Rattle.raptorq.specs.Missing.{payload_of}
 use Rattle.raptorq.proofs.Answered.{length-rebuilt, rebuilt_block}
@@ -17,17 +17,17 @@ ok_of_both (Err e) P Q R f p q = tt
 pub push_symbol-requires : goal.push_symbol-requires
 push_symbol-requires c =
     let d = c.args.self.now in
-    is_there _ (rebuilt_symbol (held_of d) c.args.intermediate c.loop-e.e) (c.in_ok-lost.ensures.each c.loop-e.e (omega arith))
+    is_there _ (rebuilt_symbol (received_of d) c.args.intermediate c.loop-e.e) (c.in_ok-lost.ensures.each c.loop-e.e (omega arith))
 
 pub loop-e-preserved : goal.loop-e-preserved
 loop-e-preserved c =
     let d = c.args.self.now in
     let kept = c.loop-e.invariant in
     let slab = c.args.intermediate in
-    let symbol = rebuilt_symbol (held_of d) slab c.loop-e.e in
+    let symbol = rebuilt_symbol (received_of d) slab c.loop-e.e in
     let same = there_is (or_later (payload_of d.received c.loop-e.e) (payload_of c.in_ok-lost.lost c.loop-e.e)) symbol [] (c.in_ok-lost.ensures.each c.loop-e.e (omega arith)) in
-    let h = plain_block-push (λ k. Some (rebuilt_symbol (held_of d) slab k)) d.config.symbol_size c.loop-e.e c.loop-e.symbol_bytes.items symbol c.push_symbol.new.bytes.items
-    (c.in_ok-push_symbol.ensures ∙ ap (λ (l : List ℕ). c.loop-e.symbol_bytes.items ++ l) same) refl (length-rebuilt (held_of d) slab c.loop-e.e d.checked d.sized c.requires) kept.long kept.each in
+    let h = plain_block-push (λ k. Some (rebuilt_symbol (received_of d) slab k)) d.config.symbol_size c.loop-e.e c.loop-e.symbol_bytes.items symbol c.push_symbol.new.bytes.items
+    (c.in_ok-push_symbol.ensures ∙ ap (λ (l : List ℕ). c.loop-e.symbol_bytes.items ++ l) same) refl (length-rebuilt (received_of d) slab c.loop-e.e d.checked d.sized c.requires) kept.long kept.each in
     record { long = h.0; each = h.1 }
 
 pub returns : goal.returns
@@ -35,5 +35,5 @@ returns c =
     let d = c.args.self.now in
     let all : c.loop-e.e ≡ d.source_symbols = omega arith in
     ok_of_both c.into_sub_blocks.result _ _ _
-    (λ block long same. rebuilt_block (held_of d) c.args.intermediate c.loop-e.symbol_bytes.items block.items c.loop-e.e same d.checked c.requires all long c.loop-e.invariant.each)
+    (λ block long same. rebuilt_block (received_of d) c.args.intermediate c.loop-e.symbol_bytes.items block.items c.loop-e.e same d.checked c.requires all long c.loop-e.invariant.each)
     c.into_sub_blocks.ensures.long c.into_sub_blocks.ensures.each

@@ -1,6 +1,6 @@
 use Rattle.std.proofs.Common.{◌≡◌, ℕ, ◌*◌, ◌<◌, length, Some}
 use Rattle.rq_standard.specs.Cutting.{plain_symbol}
-use Rattle.raptorq.specs.SourceBlockDecoder.{held_of}
+use Rattle.raptorq.specs.SourceBlockDecoder.{received_of}
 use Rattle.raptorq.specs.Known.{rebuilt_symbol}
 use Rattle.raptorq.proofs.decoder.block.SourceBlockDecoder.rebuild.Given as goal
 
@@ -8,5 +8,5 @@ use Rattle.raptorq.proofs.decoder.block.SourceBlockDecoder.rebuild.Given as goal
 abbrev pub invariant-loop-e : goal.invariant-loop-e
 invariant-loop-e l = record {
   long : length l.symbol_bytes.items ≡ l.e * l.fn.self.config.symbol_size;
-  each : (k : ℕ) → k < l.e → Some (rebuilt_symbol (held_of l.fn.self) l.fn.intermediate k) ≡ Some (plain_symbol l.fn.self.config.symbol_size l.symbol_bytes.items k);
+  each : (k : ℕ) → k < l.e → Some (rebuilt_symbol (received_of l.fn.self) l.fn.intermediate k) ≡ Some (plain_symbol l.fn.self.config.symbol_size l.symbol_bytes.items k);
 }

@@ -1,12 +1,16 @@
-use Rattle.std.proofs.Common.{◌≡◌, ◌^◌, ◌<◌, All, length, true, false, not, sym, ap, ◌∙◌, subst, arith}
+use Rattle.std.proofs.Common.{◌≡◌, ℕ, ◌-◌, ◌^◌, ◌<◌, All, List, Option, length, true, false, not, sym, ap, ◌∙◌, subst, arith}
 use Rattle.std.specs.Prelude.{is_some}
-use Rattle.raptorq.specs.Missing.{payload_of}
+use Rattle.std.specs.Option.{ForSome}
+use Rattle.rq_standard.specs.ReceivedBlock.{IsContradictory}
+use Rattle.raptorq.specs.declared.decoder.last_outcome.LastOutcome.TheVariants.{Contradictory}
+use Rattle.raptorq.specs.Missing.{payload_of, has_payload, missing_count}
 use Rattle.raptorq.proofs.Payloads.{all-more, few-more}
 use Rattle.raptorq.proofs.MissingCounts.{missing_count-same, missing_count-step, missing-after}
-use Rattle.raptorq.specs.SourceBlockDecoder.{held_of}
+use Rattle.raptorq.specs.SourceBlockDecoder.{received_of}
 use Rattle.raptorq.proofs.TakenPackets.{taken_size}
-use Rattle.raptorq.proofs.Waiting.{waits-same, waits-repeat, contradictory-same, contradictory-later}
+use Rattle.raptorq.proofs.Waiting.{came-more, contradictory-later, contradictory-same, repeat-same, shown-more, shown-none, shown-same, waits-repeat, waits-same}
 use Rattle.raptorq.proofs.decoder.block.SourceBlockDecoder.record.Goals as goal
+use Rattle.raptorq.proofs.decoder.block.SourceBlockDecoder.record.Goals.{After-after_new_payload-self}
 
 pub invariant_of-self : goal.invariant_of-self
 invariant_of-self c = record {
@@ -18,34 +22,87 @@ invariant_of-self c = record {
   fits = c.args.self.now.fits;
   few = λ e came. c.args.self.now.few e (sym (ap is_some (c.in_default.ensures.err e)) ∙ came);
   counted = c.args.self.now.counted ∙ missing_count-same c.args.self.now.source_symbols _ _ (λ e below. sym (ap is_some (c.in_default.ensures.err e)));
-  waits = λ still. waits-same (held_of c.args.self.now) (payload_of c.keep_first.new.received) c.in_default.ensures.err (c.args.self.now.waits still);
-  contradicted = λ still. contradictory-same (held_of c.args.self.now) (payload_of c.keep_first.new.received) c.in_default.ensures.err (c.args.self.now.contradicted still);
+  shown = shown-same c.args.self.now.row c.args.self.now.source_symbols _ _ c.args.self.now.column (λ e. ap is_some (c.in_default.ensures.err e)) c.args.self.now.shown;
+  waits = λ still. waits-same (received_of c.args.self.now) (payload_of c.keep_first.new.received) c.in_default.ensures.err (c.args.self.now.waits still);
+  contradicted = λ still. contradictory-same (received_of c.args.self.now) (payload_of c.keep_first.new.received) c.in_default.ensures.err (c.args.self.now.contradicted still);
 }
 
 -- a payload of a new id
 pub overflow_sub-self : goal.overflow_sub-self
 overflow_sub-self c = (missing-after c.args.self.now.missing _ _ c.from.result _ c.args.self.now.counted c.from.ensures (missing_count-step c.args.self.now.source_symbols c.encoding_symbol_id-esi.result (payload_of c.args.self.now.received) (payload_of c.keep_first.new.received) true c.split-id.result.1.items (c.in-Ok.ensures.kept ∙ ap not c.if-kept.true) c.in-Ok.ensures.ok)).0
 
-pub invariant_of-self-then-kept : goal.invariant_of-self-then-kept
-invariant_of-self-then-kept c =
-    let long : length c.split-id.result.1.items ≡ c.args.self.now.config.symbol_size = ap length c.split-id.ensures.payload ∙ taken_size (held_of c.args.self.now) c.args.packet c.requires in
+-- which keeps the column, or drops it
+module _ (c : After-after_new_payload-self) where
+  abbrev before : ℕ → Option (List ℕ)
+  before = payload_of c.args.self.now.received
+
+  abbrev now : ℕ → Option (List ℕ)
+  now = payload_of c.keep_first.new.received
+
+  abbrev esi : ℕ
+  esi = c.encoding_symbol_id-esi.result
+
+  abbrev payload : List ℕ
+  payload = c.split-id.result.1.items
+
+  long : length payload ≡ c.args.self.now.config.symbol_size
+  long = ap length c.split-id.ensures.payload ∙ taken_size (received_of c.args.self.now) c.args.packet c.requires
+
+  sized : (e : ℕ) → ForSome (now e) (λ x. length x ≡ c.args.self.now.config.symbol_size)
+  sized = all-more (λ x. length x ≡ c.args.self.now.config.symbol_size) before now esi payload c.args.self.now.sized long c.in-Ok.ensures.ok
+
+  bytes : (e : ℕ) → ForSome (now e) (All (λ octet. octet < 256))
+  bytes = all-more (All (λ octet. octet < 256)) before now esi payload c.args.self.now.bytes (subst (All (λ octet. octet < 256)) c.as_slice.ensures.value c.are_octets.ensures) c.in-Ok.ensures.ok
+
+  few : (e : ℕ) → is_some (now e) ≡ true → e < 2 ^ 24
+  few = few-more before now esi payload (2 ^ 24) c.args.self.now.few c.encoding_symbol_id-esi.ensures.below c.in-Ok.ensures.ok
+
+  left : (c.args.self.now.missing - c.from.result) ≡ missing_count c.args.self.now.source_symbols (has_payload c.keep_first.new.received)
+  left = (missing-after c.args.self.now.missing _ _ c.from.result _ c.args.self.now.counted c.from.ensures (missing_count-step c.args.self.now.source_symbols esi before now true payload (c.in-Ok.ensures.kept ∙ ap not c.if-kept.true) c.in-Ok.ensures.ok)).1
+
+  contradicted : c.after_new_payload-self.result ≡ Contradictory → IsContradictory (record (received_of c.args.self.now) { received = now })
+  contradicted still = contradictory-later (received_of c.args.self.now) now esi payload c.in-Ok.ensures.ok (c.args.self.now.contradicted (c.after_new_payload-self.ensures.contradictory still))
+
+pub invariant_of-self-then-not-still_shown : goal.invariant_of-self-then-not-still_shown
+invariant_of-self-then-not-still_shown c =
+    let d = c.args.self.now in
+    let state = (goal.at.invariant_of-self-then-not-still_shown c).After-after_new_payload-self in
     record {
-      sized = all-more (λ payload. length payload ≡ c.args.self.now.config.symbol_size) (payload_of c.args.self.now.received) (payload_of c.keep_first.new.received) c.encoding_symbol_id-esi.result c.split-id.result.1.items c.args.self.now.sized long c.in-Ok.ensures.ok;
-      bytes = all-more (All (λ octet. octet < 256)) (payload_of c.args.self.now.received) (payload_of c.keep_first.new.received) c.encoding_symbol_id-esi.result c.split-id.result.1.items c.args.self.now.bytes (subst (All (λ octet. octet < 256)) c.as_slice.ensures.value c.are_octets.ensures) c.in-Ok.ensures.ok;
-      positive = c.args.self.now.positive;
-      aligned = c.args.self.now.aligned;
-      checked = c.args.self.now.checked;
-      fits = c.args.self.now.fits;
-      few = few-more (payload_of c.args.self.now.received) (payload_of c.keep_first.new.received) c.encoding_symbol_id-esi.result c.split-id.result.1.items (2 ^ 24) c.args.self.now.few c.encoding_symbol_id-esi.ensures.below c.in-Ok.ensures.ok;
-      counted = (missing-after c.args.self.now.missing _ _ c.from.result _ c.args.self.now.counted c.from.ensures (missing_count-step c.args.self.now.source_symbols c.encoding_symbol_id-esi.result (payload_of c.args.self.now.received) (payload_of c.keep_first.new.received) true c.split-id.result.1.items (c.in-Ok.ensures.kept ∙ ap not c.if-kept.true) c.in-Ok.ensures.ok)).1;
+      sized = sized state;
+      bytes = bytes state;
+      positive = d.positive;
+      aligned = d.aligned;
+      checked = d.checked;
+      fits = d.fits;
+      few = few state;
+      counted = left state;
       waits = λ still. absurd (c.after_new_payload-self.ensures.may_answer still);
-      contradicted = λ still. contradictory-later (held_of c.args.self.now) (payload_of c.keep_first.new.received) c.encoding_symbol_id-esi.result c.split-id.result.1.items c.in-Ok.ensures.ok (c.args.self.now.contradicted (c.after_new_payload-self.ensures.contradictory still));
+      shown = shown-none d.row d.source_symbols _;
+      contradicted = contradicted state;
     }
 
--- a payload of an id that came before
+pub invariant_of-self-else-not-still_shown : goal.invariant_of-self-else-not-still_shown
+invariant_of-self-else-not-still_shown c =
+    let d = c.args.self.now in
+    let state = (goal.at.invariant_of-self-else-not-still_shown c).After-after_new_payload-self in
+    record {
+      sized = sized state;
+      bytes = bytes state;
+      positive = d.positive;
+      aligned = d.aligned;
+      checked = d.checked;
+      fits = d.fits;
+      few = few state;
+      counted = left state;
+      waits = λ still. absurd (c.after_new_payload-self.ensures.may_answer still);
+      shown = shown-more d.row d.source_symbols _ _ (esi state) d.fits (came-more (before state) (now state) (esi state) (payload state) c.in-Ok.ensures.ok) d.column (c.column_solves-still_shown.ensures c.if-not-still_shown.false) d.shown;
+      contradicted = contradicted state;
+    }
+
+-- a payload of an id that was received before
 pub invariant_of-self-else-kept : goal.invariant_of-self-else-kept
 invariant_of-self-else-kept c =
-    let long : length c.split-id.result.1.items ≡ c.args.self.now.config.symbol_size = ap length c.split-id.ensures.payload ∙ taken_size (held_of c.args.self.now) c.args.packet c.requires in
+    let long : length c.split-id.result.1.items ≡ c.args.self.now.config.symbol_size = ap length c.split-id.ensures.payload ∙ taken_size (received_of c.args.self.now) c.args.packet c.requires in
     let step = missing_count-step c.args.self.now.source_symbols c.encoding_symbol_id-esi.result (payload_of c.args.self.now.received) (payload_of c.keep_first.new.received) false c.split-id.result.1.items (c.in-Ok.ensures.kept ∙ ap not c.if-kept.false) c.in-Ok.ensures.ok in
     record {
       sized = all-more (λ payload. length payload ≡ c.args.self.now.config.symbol_size) (payload_of c.args.self.now.received) (payload_of c.keep_first.new.received) c.encoding_symbol_id-esi.result c.split-id.result.1.items c.args.self.now.sized long c.in-Ok.ensures.ok;
@@ -56,6 +113,8 @@ invariant_of-self-else-kept c =
       fits = c.args.self.now.fits;
       few = few-more (payload_of c.args.self.now.received) (payload_of c.keep_first.new.received) c.encoding_symbol_id-esi.result c.split-id.result.1.items (2 ^ 24) c.args.self.now.few c.encoding_symbol_id-esi.ensures.below c.in-Ok.ensures.ok;
       counted = omega (arith, c.args.self.now.counted, step);
-      waits = λ still. waits-repeat (held_of c.args.self.now) (payload_of c.keep_first.new.received) c.encoding_symbol_id-esi.result c.split-id.result.1.items c.in-Ok.kept (c.args.self.now.waits still) c.in-Ok.ensures.kept c.in-Ok.ensures.ok c.if-kept.false;
-      contradicted = λ still. contradictory-later (held_of c.args.self.now) (payload_of c.keep_first.new.received) c.encoding_symbol_id-esi.result c.split-id.result.1.items c.in-Ok.ensures.ok (c.args.self.now.contradicted still);
+      shown = shown-same c.args.self.now.row c.args.self.now.source_symbols _ _ c.args.self.now.column
+          (λ e. ap is_some (repeat-same (payload_of c.args.self.now.received) (payload_of c.keep_first.new.received) c.encoding_symbol_id-esi.result c.split-id.result.1.items c.in-Ok.kept c.in-Ok.ensures.kept c.in-Ok.ensures.ok c.if-kept.false e)) c.args.self.now.shown;
+      waits = λ still. waits-repeat (received_of c.args.self.now) (payload_of c.keep_first.new.received) c.encoding_symbol_id-esi.result c.split-id.result.1.items c.in-Ok.kept (c.args.self.now.waits still) c.in-Ok.ensures.kept c.in-Ok.ensures.ok c.if-kept.false;
+      contradicted = λ still. contradictory-later (received_of c.args.self.now) (payload_of c.keep_first.new.received) c.encoding_symbol_id-esi.result c.split-id.result.1.items c.in-Ok.ensures.ok (c.args.self.now.contradicted still);
     }

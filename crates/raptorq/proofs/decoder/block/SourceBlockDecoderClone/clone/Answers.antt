@@ -3,8 +3,8 @@ use Rattle.std.specs.Prelude.{is_some}
 use Rattle.raptorq.specs.Missing.{payload_of}
 use Rattle.raptorq.proofs.Payloads.{payload_of-cloned}
 use Rattle.raptorq.proofs.MissingCounts.{missing_count-same}
-use Rattle.raptorq.specs.SourceBlockDecoder.{held_of}
-use Rattle.raptorq.proofs.Waiting.{waits-same, contradictory-same}
+use Rattle.raptorq.specs.SourceBlockDecoder.{received_of}
+use Rattle.raptorq.proofs.Waiting.{waits-same, contradictory-same, shown-none}
 use Rattle.raptorq.proofs.decoder.block.SourceBlockDecoderClone.clone.Goals as goal
 
 pub invariant_of-result : goal.invariant_of-result
@@ -20,8 +20,9 @@ invariant_of-result c =
       fits = d.fits;
       few = λ e came. d.few e (sym (ap is_some (same e)) ∙ came);
       counted = d.counted ∙ missing_count-same d.source_symbols _ _ (λ e below. sym (ap is_some (same e)));
-      waits = λ still. waits-same (held_of d) (payload_of c.in_ok-clone.field-0) same (d.waits still);
-      contradicted = λ still. contradictory-same (held_of d) (payload_of c.in_ok-clone.field-0) same (d.contradicted still);
+      shown = shown-none d.row d.source_symbols _;
+      waits = λ still. waits-same (received_of d) (payload_of c.in_ok-clone.field-0) same (d.waits still);
+      contradicted = λ still. contradictory-same (received_of d) (payload_of c.in_ok-clone.field-0) same (d.contradicted still);
     }
 
 pub returns : goal.returns

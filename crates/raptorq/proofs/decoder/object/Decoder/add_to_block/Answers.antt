@@ -3,7 +3,7 @@ use Rattle.std.proofs.lemmas.List.Elements.{All-set}
 use Rattle.std.proofs.Math.Seq.{map-set_same}
 use Rattle.rq_standard.specs.Cutting.{block_symbols}
 use Rattle.raptorq.specs.Stopping.{AddsOrStops}
-use Rattle.raptorq.specs.SourceBlockDecoder.{held_of}
+use Rattle.raptorq.specs.SourceBlockDecoder.{received_of}
 use Rattle.raptorq.proofs.Numbered.{length-numbered, number_at}
 use Rattle.raptorq.proofs.ObjectBlocks.{state, number_of, IsBlockOf, block_of_packet, block_takes, IsCut, takes_at}
 use Rattle.raptorq.proofs.decoder.object.Decoder.add_to_block.Goals as goal
@@ -37,7 +37,7 @@ add_packet-requires c =
     let x = c.index_mut.result.now in
     let at = block (goal.at.add_packet-requires c).After-index_mut in
     let within = below (goal.at.add_packet-requires c).After-from-2 in
-    block_takes s.config (held_of x.decoder) p (ap (λ b. (held_of b.decoder).configuration) at.is ∙ s.same p.id.block x at.below) (number_at number_of s.config.source_blocks s.blocks.items s.numbered p.id.block x (omega (arith, at.here, within)) at.is)
+    block_takes s.config (received_of x.decoder) p (ap (λ b. (received_of b.decoder).configuration) at.is ∙ s.same p.id.block x at.below) (number_at number_of s.config.source_blocks s.blocks.items s.numbered p.id.block x (omega (arith, at.here, within)) at.is)
     (sym (ap length c.data.ensures) ∙ c.if-data-from.false ∙ c.from.ensures ∙ c.symbol_size.ensures)
 
 pub invariant_of-self : goal.invariant_of-self
@@ -53,8 +53,8 @@ invariant_of-self c =
       aligned = s.aligned;
       some = s.some;
       numbered = map-set_same number_of items c.from-2.result y x (c.add_packet.ensures.number ∙ ap number_of c.index_mut.ensures.value) ∙ s.numbered;
-      same = All-set (λ b. (held_of b.decoder).configuration ≡ s.config) items c.from-2.result y (c.add_packet.ensures.configuration ∙ ap (λ b. (held_of b.decoder).configuration) at.is ∙ s.same p.id.block x at.below) s.same;
-      cut = All-set (λ b. IsCut s.config (held_of b.decoder)) items c.from-2.result y (c.add_packet.ensures.symbols ∙ ap (λ b. (held_of b.decoder).source_symbols) at.is ∙ s.cut p.id.block x at.below ∙ ap (λ b. block_symbols s.config (held_of b.decoder).number) (sym at.is) ∙ ap (block_symbols s.config) (sym c.add_packet.ensures.number)) s.cut;
+      same = All-set (λ b. (received_of b.decoder).configuration ≡ s.config) items c.from-2.result y (c.add_packet.ensures.configuration ∙ ap (λ b. (received_of b.decoder).configuration) at.is ∙ s.same p.id.block x at.below) s.same;
+      cut = All-set (λ b. IsCut s.config (received_of b.decoder)) items c.from-2.result y (c.add_packet.ensures.symbols ∙ ap (λ b. (received_of b.decoder).source_symbols) at.is ∙ s.cut p.id.block x at.below ∙ ap (λ b. block_symbols s.config (received_of b.decoder).number) (sym at.is) ∙ ap (block_symbols s.config) (sym c.add_packet.ensures.number)) s.cut;
     }
 
 pub returns-clause-adds : goal.returns-clause-adds

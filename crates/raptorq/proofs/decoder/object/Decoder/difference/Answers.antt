@@ -3,12 +3,12 @@ use Rattle.std.specs.Prelude.{is_none, is_some, not, option_map, vec_items, ◌&
 use Rattle.rq_standard.specs.Differences.{AreUnansweredDetermined, IsDifference}
 use Rattle.rq_standard.proofs.ObjectAnswers.{none_where_answered}
 use Rattle.rq_standard.proofs.OtherObjects.{makes_others_fit}
-use Rattle.raptorq.specs.SourceBlockDecoder.{held_of}
+use Rattle.raptorq.specs.SourceBlockDecoder.{received_of}
 use Rattle.raptorq.specs.Difference.{ShowsUnanswered, octets_of_column}
-use Rattle.raptorq.specs.Decoder.{state_of, held_at, answer_at}
+use Rattle.raptorq.specs.Decoder.{state_of, received_at, answer_at}
 use Rattle.raptorq.specs.declared.decoder.object.Decoder.{Decoder}
 use Rattle.raptorq.proofs.Numbered.{length-numbered, turn_of}
-use Rattle.raptorq.proofs.ObjectBlocks.{number_of, held_here, answer_here}
+use Rattle.raptorq.proofs.ObjectBlocks.{number_of, received_here, answer_here}
 use Rattle.raptorq.proofs.Witnesses.{DifferenceSoFar, nothing_found, one_found, all_determined, some_undetermined, difference_found, block_has_row, block_is_cut}
 use Rattle.raptorq.proofs.decoder.object.Decoder.difference.Goals as goal
 use Rattle.raptorq.proofs.decoder.object.Decoder.difference.Goals.{After-loop-block, After-truncate}
@@ -39,15 +39,15 @@ loop-block-preserved c =
     let n = c.loop-block.block-index in
     let t = turn_of items _ n x c.deref-block-items.ensures.value c.loop-block-test.true c.block-item.is in
     let in_object : n < s.config.source_blocks = omega (arith, t.below, length-numbered number_of s.config.source_blocks items s.numbered) in
-    let held = held_here s.config items n x t.below t.is in
+    let received = received_here s.config items n x t.below t.is in
     let column = option_map vec_items c.in_ok-column.column in
-    let shows : ShowsUnanswered (held_at s.config items n) (answer_at items n) column =
-    subst (λ h. ShowsUnanswered h (answer_at items n) column) (sym held) (subst (λ a. ShowsUnanswered (held_of x.decoder) a column) (sym (answer_here items n x t.below t.is)) c.in_ok-column.ensures.shown) in
+    let shows : ShowsUnanswered (received_at s.config items n) (answer_at items n) column =
+    subst (λ h. ShowsUnanswered h (answer_at items n) column) (sym received) (subst (λ a. ShowsUnanswered (received_of x.decoder) a column) (sym (answer_here items n x t.below t.is)) c.in_ok-column.ensures.shown) in
     one_found s.config items n c.loop-block.determined c.loop-block.bytes.items column c.loop-block.invariant shows (c.loop-block.determined && c.is_none.result) c.in_ok-difference.field-0.items c.extend_from_slice.new.self.items
     (ap (λ t. c.loop-block.determined && t) (told_of c.is_none.result c.in_ok-column.column c.is_none.ensures))
-    (ap (λ h. h.configuration) held ∙ ap (λ b. (held_of b.decoder).configuration) t.is ∙ s.same n x t.below)
+    (ap (λ h. h.configuration) received ∙ ap (λ b. (received_of b.decoder).configuration) t.is ∙ s.same n x t.below)
     (block_is_cut s.config items s.numbered s.cut n in_object)
-    (c.in_ok-difference.ensures.block ∙ ap (λ h. octets_of_column h column) (sym held))
+    (c.in_ok-difference.ensures.block ∙ ap (λ h. octets_of_column h column) (sym received))
     (c.in_ok-extend_from_slice.ensures.items ∙ ap (λ l. c.loop-block.bytes.items ++ l) c.as_slice.ensures.value)
 
 -- the blocks were all taken

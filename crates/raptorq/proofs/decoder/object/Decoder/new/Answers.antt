@@ -1,9 +1,9 @@
 use Rattle.std.proofs.Common.{◌≡◌, map, refl, ap, ◌∙◌, arith}
 use Rattle.std.specs.List.{range_with_len}
 use borrow.Author.Count.{below_more}
-use Rattle.rq_standard.specs.Standing.{IsHeldOf, IsNewState, new_held, new_answer}
+use Rattle.rq_standard.specs.Standing.{IsReceivedOf, IsNewState, new_received, new_answer}
 use Rattle.rq_standard.proofs.StandingSteps.{stands_new}
-use Rattle.raptorq.specs.SourceBlockDecoder.{held_of}
+use Rattle.raptorq.specs.SourceBlockDecoder.{received_of}
 use Rattle.raptorq.specs.Decoder.{answer_of}
 use Rattle.raptorq.proofs.FollowedRuns.{follows_none}
 use Rattle.raptorq.proofs.Numbered.{mapped_more, new_numbers}
@@ -17,9 +17,9 @@ loop-number-preserved c =
     let table = c.args.table.now in
     let k = c.args.config in
     record {
-      held = mapped_more (λ b. held_of b.decoder) (new_held table k) _ c.loop-number.blocks.items c.push.new.self.items c.new.result kept.held c.new.ensures.held c.in_ok-push.ensures.items;
+      received = mapped_more (λ b. received_of b.decoder) (new_received table k) _ c.loop-number.blocks.items c.push.new.self.items c.new.result kept.received c.new.ensures.received c.in_ok-push.ensures.items;
       answers = mapped_more answer_of (new_answer k) _ c.loop-number.blocks.items c.push.new.self.items c.new.result kept.answers c.new.ensures.answer c.in_ok-push.ensures.items;
-      shape = below_more (λ b. IsHeldOf table k b (new_held table k b)) _ kept.shape c.new.ensures.shape;
+      shape = below_more (λ b. IsReceivedOf table k b (new_received table k b)) _ kept.shape c.new.ensures.shape;
     }
 
 -- the blocks are all made
@@ -27,15 +27,15 @@ module _ (c : After-loop-number) where
   all : c.loop-number.number ≡ c.args.config.source_blocks
   all = omega (arith, c.loop-number-test.false, c.loop-number.auto.number-end, c.source_blocks-number-end.ensures)
 
-  held : map (λ b. held_of b.decoder) c.loop-number.blocks.items ≡ map (new_held c.args.table.now c.args.config) (range_with_len 0 c.args.config.source_blocks)
-  held = c.loop-number.invariant.held ∙ ap (λ n. map (new_held c.args.table.now c.args.config) (range_with_len 0 n)) all
+  received : map (λ b. received_of b.decoder) c.loop-number.blocks.items ≡ map (new_received c.args.table.now c.args.config) (range_with_len 0 c.args.config.source_blocks)
+  received = c.loop-number.invariant.received ∙ ap (λ n. map (new_received c.args.table.now c.args.config) (range_with_len 0 n)) all
 
   new : IsNewState c.args.table.now c.args.config (state c.args.config c.loop-number.blocks.items)
-  new = new_state c.args.table.now c.args.config c.loop-number.blocks.items held (c.loop-number.invariant.answers ∙ ap (λ n. map (new_answer c.args.config) (range_with_len 0 n)) all)
+  new = new_state c.args.table.now c.args.config c.loop-number.blocks.items received (c.loop-number.invariant.answers ∙ ap (λ n. map (new_answer c.args.config) (range_with_len 0 n)) all)
 
 pub invariant_of-result : goal.invariant_of-result
 invariant_of-result c =
-    let are = held (goal.at.invariant_of-result c).After-loop-number in
+    let are = received (goal.at.invariant_of-result c).After-loop-number in
     let k = c.args.config in
     let table = c.args.table.now in
     let blocks = c.loop-number.blocks.items in
@@ -44,7 +44,7 @@ invariant_of-result c =
       positive = accepted.size_positive;
       aligned = record { alignment_positive = accepted.alignment_positive; aligned = accepted.aligned };
       some = accepted.blocks_positive;
-      numbered = new_numbers (λ b. held_of b.decoder) (new_held table k) k.source_blocks blocks are (λ h. h.number) (λ b. refl);
+      numbered = new_numbers (λ b. received_of b.decoder) (new_received table k) k.source_blocks blocks are (λ h. h.number) (λ b. refl);
       same = new_each table k blocks are (λ h. h.configuration ≡ k) (λ n below. refl);
       cut = new_each table k blocks are (IsCut k) (λ n below. refl);
     }

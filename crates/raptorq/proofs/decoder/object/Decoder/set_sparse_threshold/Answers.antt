@@ -1,5 +1,5 @@
 use Rattle.std.proofs.Common.{◌≡◌, All, length, map, take, drop, ◌++◌, sym, ap, ◌∙◌, subst}
-use Rattle.raptorq.specs.SourceBlockDecoder.{held_of}
+use Rattle.raptorq.specs.SourceBlockDecoder.{received_of}
 use Rattle.raptorq.proofs.ObjectBlocks.{number_of, same_length, same_numbers, same_each, IsCut, written_over}
 use Rattle.raptorq.proofs.decoder.object.Decoder.set_sparse_threshold.Goals as goal
 
@@ -8,13 +8,13 @@ invariant_of-self c =
     let s = c.args.self.now in
     let items = s.blocks.items in
     let new = c.set_sparse_thresholds.new.blocks in
-    let held : map (λ b. held_of b.decoder) new ≡ map (λ b. held_of b.decoder) items = c.set_sparse_thresholds.ensures.held ∙ ap (map (λ b. held_of b.decoder)) c.as_mut_slice.ensures.value in
-    let is : take s.blocks.len (new ++ drop (length new) items) ≡ new = written_over s.blocks.len new items (same_length s.config items new held ∙ sym s.blocks.ok.0) (sym s.blocks.ok.0) in
+    let received : map (λ b. received_of b.decoder) new ≡ map (λ b. received_of b.decoder) items = c.set_sparse_thresholds.ensures.received ∙ ap (map (λ b. received_of b.decoder)) c.as_mut_slice.ensures.value in
+    let is : take s.blocks.len (new ++ drop (length new) items) ≡ new = written_over s.blocks.len new items (same_length s.config items new received ∙ sym s.blocks.ok.0) (sym s.blocks.ok.0) in
     record {
       positive = s.positive;
       aligned = s.aligned;
       some = s.some;
-      numbered = ap (map number_of) is ∙ same_numbers s.config items new held ∙ s.numbered;
-      same = subst (All (λ b. (held_of b.decoder).configuration ≡ s.config)) (sym is) (same_each s.config items new held (λ h. h.configuration ≡ s.config) s.same);
-      cut = subst (All (λ b. IsCut s.config (held_of b.decoder))) (sym is) (same_each s.config items new held (IsCut s.config) s.cut);
+      numbered = ap (map number_of) is ∙ same_numbers s.config items new received ∙ s.numbered;
+      same = subst (All (λ b. (received_of b.decoder).configuration ≡ s.config)) (sym is) (same_each s.config items new received (λ h. h.configuration ≡ s.config) s.same);
+      cut = subst (All (λ b. IsCut s.config (received_of b.decoder))) (sym is) (same_each s.config items new received (IsCut s.config) s.cut);
     }

@@ -1,8 +1,8 @@
 use Rattle.std.proofs.Common.{◌≡◌, ℕ, List, Option, None, get_or, map, ap, ◌∙◌}
-use Rattle.rq_standard.specs.Held.{Held, nothing_held}
+use Rattle.rq_standard.specs.ReceivedBlock.{ReceivedBlock, nothing_received}
 use Rattle.rq_standard.specs.Standing.{State}
 use Rattle.rq_standard.specs.TableRows.{no_row}
-use Rattle.raptorq.specs.SourceBlockDecoder.{held_of}
+use Rattle.raptorq.specs.SourceBlockDecoder.{received_of}
 use Rattle.raptorq.specs.Decoder.{answer_of}
 use Rattle.raptorq.proofs.ObjectBlocks.{same_numbers, same_each, IsCut}
 use Rattle.raptorq.proofs.PlanLaws.{map-clones}
@@ -13,14 +13,14 @@ invariant_of-result c =
     let s = c.args.self.now in
     let old = s.blocks.items in
     let new = c.in_ok-clone.field-0.items in
-    let held : map (λ b. held_of b.decoder) new ≡ map (λ b. held_of b.decoder) old = map-clones _ (λ b. held_of b.decoder) (λ x y same. same.0) old new c.in_ok-clone.ensures.cases.0 in
+    let received : map (λ b. received_of b.decoder) new ≡ map (λ b. received_of b.decoder) old = map-clones _ (λ b. received_of b.decoder) (λ x y same. same.0) old new c.in_ok-clone.ensures.cases.0 in
     record {
       positive = s.positive;
       aligned = s.aligned;
       some = s.some;
-      numbered = same_numbers s.config old new held ∙ s.numbered;
-      same = same_each s.config old new held (λ h. h.configuration ≡ s.config) s.same;
-      cut = same_each s.config old new held (IsCut s.config) s.cut;
+      numbered = same_numbers s.config old new received ∙ s.numbered;
+      same = same_each s.config old new received (λ h. h.configuration ≡ s.config) s.same;
+      cut = same_each s.config old new received (IsCut s.config) s.cut;
     }
 
 pub returns : goal.returns
@@ -28,7 +28,7 @@ returns c =
     let s = c.args.self.now in
     let old = s.blocks.items in
     let new = c.in_ok-clone.field-0.items in
-    let held : map (λ b. held_of b.decoder) new ≡ map (λ b. held_of b.decoder) old = map-clones _ (λ b. held_of b.decoder) (λ x y same. same.0) old new c.in_ok-clone.ensures.cases.0 in
+    let received : map (λ b. received_of b.decoder) new ≡ map (λ b. received_of b.decoder) old = map-clones _ (λ b. received_of b.decoder) (λ x y same. same.0) old new c.in_ok-clone.ensures.cases.0 in
     let answers : map answer_of new ≡ map answer_of old = map-clones _ answer_of (λ x y same. same.1) old new c.in_ok-clone.ensures.cases.0 in
-    let seen : List Held → List (Option (List ℕ)) → State = λ hs answered. record { configuration = s.config; held = λ n. get_or hs n (nothing_held s.config n no_row 0); answer = λ n. get_or answered n None } in
-    record { cases = ap (λ hs. seen hs (map answer_of new)) held ∙ ap (seen (map (λ b. held_of b.decoder) old)) answers }
+    let seen : List ReceivedBlock → List (Option (List ℕ)) → State = λ hs answered. record { configuration = s.config; received = λ n. get_or hs n (nothing_received s.config n no_row 0); answer = λ n. get_or answered n None } in
+    record { cases = ap (λ hs. seen hs (map answer_of new)) received ∙ ap (seen (map (λ b. received_of b.decoder) old)) answers }

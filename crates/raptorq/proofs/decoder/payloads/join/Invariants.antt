@@ -1,7 +1,7 @@
 use Rattle.std.proofs.Common.{◌≡◌, ℕ, ◌*◌, ◌<◌, length, Some}
 use Rattle.rq_standard.specs.Cutting.{plain_symbol}
 use Rattle.raptorq.specs.Missing.{payload_of}
-use Rattle.raptorq.proofs.decoder.block.join.Given as goal
+use Rattle.raptorq.proofs.decoder.payloads.join.Given as goal
 
 -- the block so far has the symbols before this one
 abbrev pub invariant-loop-e : goal.invariant-loop-e

@@ -1,4 +1,4 @@
--- What a solver finds of what is held, and whether it solves all of it.
+-- What a solver finds of what was received, and whether it solves all of it.
 use Rattle.std.proofs.Common.{◌≡◌, ℕ, ◌+◌, ◌-◌, ◌<◌, ◌≤◌, List, length, Option, Some, None, Vec, Global, refl, sym, ap, ◌∙◌, subst, arith, inl, inr}
 use Rattle.std.specs.Prelude.{IfSome}
 use Rattle.std.specs.Option.{ForSome}
@@ -15,13 +15,13 @@ use Rattle.rq_algebra.proofs.Sums.{dot_same, dot_mul_row, dot_below_size}
 use Rattle.rq_standard.specs.OctetField.{octets}
 use Rattle.rq_standard.specs.TableRows.{intermediate_symbols, IsChecked}
 use Rattle.rq_standard.specs.Equations.{fixed_equations, ldpc_coefficient, hdpc_coefficient, symbol_coefficient, equations, equation_count, zero_symbol, internal_id, tuple_sum}
-use Rattle.rq_standard.specs.Held.{Held, SolvesHeld, HasSolution, IsContradictory, AreHeldDetermining}
+use Rattle.rq_standard.specs.ReceivedBlock.{ReceivedBlock, SolvesReceived, HasHeldSolution, IsContradictory, ReceivedDetermine}
 use Rattle.rq_standard.proofs.Columns.{sum_at, sum_symbol}
 use Rattle.rq_bytes.specs.SymbolSlab.{Slab, slab_of, symbol_in}
 use Rattle.raptorq.specs.BlockSolutions.{IsBlockSolution, SolvesHdpc, Fits, first_equations}
-use Rattle.raptorq.specs.Known.{known_list, known_values, IsHeldSolution}
+use Rattle.raptorq.specs.Known.{known_list, known_values, IsReceivedSolution}
 use Rattle.raptorq.specs.Missing.{payload_of}
-use Rattle.raptorq.proofs.HeldEquations.{zero_at, padding_at, known_at, place_of, is_held, held_rows, values_solved}
+use Rattle.raptorq.proofs.ReceivedEquations.{zero_at, padding_at, known_at, place_of, is_received, received_rows, values_solved}
 use Rattle.raptorq.proofs.Listing.{length-known_list}
 
 abbrev Payloads : Type 0
@@ -31,8 +31,8 @@ if_some_by : (o : Option (List ℕ)) (y : List ℕ) → ((x : List ℕ) → o �
 if_some_by None y each = tt
 if_some_by (Some x) y each = each x refl
 
-module _ (h : Held) (m : Payloads) (fits : h.source_symbols ≤ h.row.extended_symbols) (ordered : IsOrdered nat_cmp m) (checked : IsChecked h.row) (same : (e : ℕ) → h.received e ≡ payload_of m e) where
-  -- the first equations of what is held, with their values
+module _ (h : ReceivedBlock) (m : Payloads) (fits : h.source_symbols ≤ h.row.extended_symbols) (ordered : IsOrdered nat_cmp m) (checked : IsChecked h.row) (same : (e : ℕ) → h.received e ≡ payload_of m e) where
+  -- the first equations of what was received, with their values
   abbrev SolvesFirst : ℕ → (ℕ → List ℕ) → Type 0
   SolvesFirst fixed column = SolvesSymbols octets (fixed + length (known_list h.row h.source_symbols m.entries)) (intermediate_symbols h.row) (first_equations h.row fixed (known_list h.row h.source_symbols m.entries)) column (symbol_at (known_values h.row h.source_symbols fixed h.configuration.symbol_size m.entries))
 
@@ -63,8 +63,8 @@ module _ (h : Held) (m : Payloads) (fits : h.source_symbols ≤ h.row.extended_s
           ∙ ((hdpc (omega arith)).at_place p).at j (omega arith)
     ]
 
-    -- solves all that is held, where it solves the HDPC equations that aren't among them
-    pub first_solve : ((e : ℕ) → ForSome (h.received e) (λ x. length x ≡ h.configuration.symbol_size)) → (fixed < h.row.ldpc_symbols + h.row.hdpc_symbols → SolvesHdpc h.row h.configuration.symbol_size column) → SolvesHeld h column
+    -- solves all that was received, where it solves the HDPC equations that aren't among them
+    pub first_solve : ((e : ℕ) → ForSome (h.received e) (λ x. length x ≡ h.configuration.symbol_size)) → (fixed < h.row.ldpc_symbols + h.row.hdpc_symbols → SolvesHdpc h.row h.configuration.symbol_size column) → SolvesReceived h column
     first_solve sized hdpc = record {
       symbols = are;
       fixed = record { at_place = λ p. record { at = λ i l. fixed_is hdpc p i l } };
@@ -81,12 +81,12 @@ module _ (h : Held) (m : Payloads) (fits : h.source_symbols ≤ h.row.extended_s
 
   module _ (sized : (e : ℕ) → ForSome (h.received e) (λ x. length x ≡ h.configuration.symbol_size)) (fixed : ℕ) (ldpc : h.row.ldpc_symbols ≤ fixed) (few : fixed ≤ h.row.ldpc_symbols + h.row.hdpc_symbols) (slab : Slab)
       (s : IsBlockSolution h.row fixed (known_list h.row h.source_symbols m.entries) h.configuration.symbol_size (known_values h.row h.source_symbols fixed h.configuration.symbol_size m.entries) slab) where
-    -- it solves what is held where it fits
-    fitting : Fits h.row fixed slab → SolvesHeld h (symbol_in slab)
+    -- it solves what was received where it fits
+    fitting : Fits h.row fixed slab → SolvesReceived h (symbol_in slab)
     fitting fit = first_solve fixed ldpc few (symbol_in slab) s.symbols (s.solves fit.unread) sized (λ less. subst (λ n. SolvesHdpc h.row n (symbol_in slab)) s.size_is (fit.hdpc less))
 
     -- and fits where any column does
-    fits_solution : HasSolution h → Fits h.row fixed slab
+    fits_solution : HasHeldSolution h → Fits h.row fixed slab
     fits_solution z = record {
       unread = s.leaves z.column z.solves.symbols (values_solved h m fits ordered checked same fixed few z.column z.solves);
       hdpc = λ _. record {
@@ -101,9 +101,9 @@ module _ (h : Held) (m : Payloads) (fits : h.source_symbols ≤ h.row.extended_s
       };
     }
 
-    pub held_solution : Fits h.row fixed slab → IsHeldSolution h slab
-    held_solution fit = record {
-      determined = is_held h m fits ordered checked same s.determined;
+    pub received_solution : Fits h.row fixed slab → IsReceivedSolution h slab
+    received_solution fit = record {
+      determined = is_received h m fits ordered checked same s.determined;
       enough = s.enough;
       size_is = s.size_is;
       symbols = s.symbols;
@@ -111,10 +111,10 @@ module _ (h : Held) (m : Payloads) (fits : h.source_symbols ≤ h.row.extended_s
       only = λ column z. s.only column z.symbols (values_solved h m fits ordered checked same fixed few column z);
     }
 
-    pub held_contradiction : (Fits h.row fixed slab → ⊥) → IsContradictory h
-    held_contradiction none = record { determined = is_held h m fits ordered checked same s.determined; unsolved = λ z. none (fits_solution z) }
+    pub received_contradiction : (Fits h.row fixed slab → ⊥) → IsContradictory h
+    received_contradiction none = record { determined = is_received h m fits ordered checked same s.determined; unsolved = λ z. none (fits_solution z) }
 
-  -- a solution that was found of a list and values that are those of what is held
+  -- a solution that was found of a list and values that are those of what was received
   pub listed_solution : (fixed size : ℕ) (list : List ℕ) (given slab : Slab) → size ≡ h.configuration.symbol_size → list ≡ known_list h.row h.source_symbols m.entries → given ≡ slab_of size (known_values h.row h.source_symbols fixed size m.entries)
       → IsBlockSolution h.row fixed list given.symbol_size given.values slab
       → IsBlockSolution h.row fixed (known_list h.row h.source_symbols m.entries) h.configuration.symbol_size (known_values h.row h.source_symbols fixed h.configuration.symbol_size m.entries) slab
@@ -150,8 +150,8 @@ module _ (h : Held) (m : Payloads) (fits : h.source_symbols ≤ h.row.extended_s
         let r = equations h.row (known_list h.row h.source_symbols m.entries) i in
         dot_mul_row octets (intermediate_symbols h.row) 1 r x ∙ octets.one_mul _ (dot_below_size octets (intermediate_symbols h.row) r x)
 
-    -- they determine the block only where a column solves all that is held, whatever came
-    pub square_held : length m.entries ≡ h.source_symbols → AreHeldDetermining h → HasSolution h
+    -- they determine the block only where a column solves all that was received, whatever was received
+    pub square_held : length m.entries ≡ h.source_symbols → ReceivedDetermine h → HasHeldSolution h
     unfolding rows
     square_held count d =
         let f : ℕ = h.row.ldpc_symbols + h.row.hdpc_symbols in
@@ -159,7 +159,7 @@ module _ (h : Held) (m : Payloads) (fits : h.source_symbols ≤ h.row.extended_s
         let list = known_list h.row h.source_symbols m.entries in
         let square : equation_count h.row list ≡ n = omega (arith, length-known_list h.row h.source_symbols m.entries) in
         let determined : IsDetermined octets n n rows =
-        λ column is z k l. held_rows h m fits ordered checked same d column is (record { at = λ i below. sym (same_dot i column) ∙ z.at i (omega (arith, square)) }) k l in
+        λ column is z k l. received_rows h m fits ordered checked same d column is (record { at = λ i below. sym (same_dot i column) ∙ z.at i (omega (arith, square)) }) k l in
         let z = square_symbols octets n rows h.configuration.symbol_size (symbol_at (known_values h.row h.source_symbols f h.configuration.symbol_size m.entries)) (λ i k _ _. octets.mul_below 1 _) (λ i l. value_is i (omega (arith, square))) determined in
         record {
           column = z.column;

@@ -2,7 +2,7 @@ use Rattle.std.proofs.Common.{◌++◌, sym, ap, ◌∙◌, vec_items}
 use Rattle.std.specs.Prelude.{option_map}
 use Rattle.rq_standard.proofs.PlainCut.{plain_block-push}
 use Rattle.raptorq.specs.Missing.{payload_of}
-use Rattle.raptorq.proofs.decoder.block.join.Goals as goal
+use Rattle.raptorq.proofs.decoder.payloads.join.Goals as goal
 
 pub loop-e-preserved : goal.loop-e-preserved
 loop-e-preserved c =

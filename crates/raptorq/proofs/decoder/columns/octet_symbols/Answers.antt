@@ -4,7 +4,7 @@ use Rattle.rq_bytes.specs.Ranges.{cut, with_range}
 use Rattle.rq_bytes.specs.SymbolSlab.{Slab, slab_of}
 use Rattle.raptorq.proofs.Listing.{slab_answered}
 use Rattle.raptorq.proofs.OctetSymbols.{octets_written}
-use Rattle.raptorq.proofs.decoder.block.octet_symbols.Goals as goal
+use Rattle.raptorq.proofs.decoder.columns.octet_symbols.Goals as goal
 
 pub returns : goal.returns
 returns c =

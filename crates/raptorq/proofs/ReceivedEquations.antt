@@ -1,4 +1,4 @@
--- What is held of a block as equations: a list of ids that has the known ones, and their values.
+-- What was received of a block as equations: a list of ids that has the known ones, and their values.
 use Rattle.std.proofs.Common.{◌≡◌, ℕ, zero, suc, ◌+◌, ◌-◌, ◌<◌, ◌≤◌, Bool, true, cond, List, [], ◌∷◌, length, map, get_or, replicate, Option, Some, None, Vec, Global, refl, sym, ap, ◌∙◌, subst, arith, inl, inr, ◌⊎◌, vec_items}
 use Rattle.std.specs.Prelude.{is_some, option_map, IfSome}
 use Rattle.std.specs.List.{slice_get, range_with_len}
@@ -7,7 +7,7 @@ use Rattle.std.specs.BTreeMap.{BTreeMap, get, is_at, IsOrdered}
 use Rattle.std.proofs.lemmas.Bool.{cases_lt, lt-ltb, le-ltb, eqb-true}
 use Rattle.std.proofs.lemmas.List.{get_or_append_left, get_or-append_right, get_or-map, get_or-replicate, length-replicate}
 use Rattle.std.proofs.lemmas.List.FromFn.{length-range_with_len}
-use Rattle.std.proofs.lemmas.Option.{slice_get_within, slice_get_cases}
+use Rattle.std.proofs.lemmas.Option.{same_Some, slice_get_within, slice_get_cases}
 use Rattle.std.proofs.lemmas.Map.Entries.{place_from_lookup}
 use Rattle.rq_algebra.specs.Systems.{dot, at, rows_of}
 use Rattle.rq_algebra.specs.Symbols.{SolvesSymbols, symbol_at, slice_at}
@@ -18,7 +18,7 @@ use Rattle.rq_standard.specs.TableRows.{intermediate_symbols, IsChecked}
 use Rattle.rq_standard.specs.Equations.{fixed_equations, symbol_coefficient, zero_symbol, internal_id, tuple_sum}
 use Rattle.rq_standard.specs.IdLists.{IsListOf, HasDeterminedRows}
 use Rattle.rq_standard.specs.Headline.{known_ids, DetermineBlock}
-use Rattle.rq_standard.specs.Held.{Held, holds, SolvesHeld, AreHeldDetermining}
+use Rattle.rq_standard.specs.ReceivedBlock.{ReceivedBlock, has_received, SolvesReceived, ReceivedDetermine}
 use Rattle.rq_standard.proofs.KnownIds.{known_source, known_padding, known_repair, range_at, determined_by, determined_list, block_same, few_not_determining}
 use Rattle.rq_standard.proofs.Columns.{sum_at}
 use Rattle.raptorq.specs.Known.{known_list, known_values}
@@ -35,10 +35,10 @@ Payloads = BTreeMap ℕ (Vec ℕ Global)
 pub internal_below : (row : TableRow) (k e : ℕ) → e < k → internal_id row k e ≡ e
 internal_below row k e below = ap (λ b. cond b e (e + row.extended_symbols - k)) (lt-ltb e k below)
 
-internal_above : (row : TableRow) (k e : ℕ) → k ≤ e → internal_id row k e ≡ e + row.extended_symbols - k
+pub internal_above : (row : TableRow) (k e : ℕ) → k ≤ e → internal_id row k e ≡ e + row.extended_symbols - k
 internal_above row k e above = ap (λ b. cond b e (e + row.extended_symbols - k)) (le-ltb e k above)
 
--- the internal id of an encoding symbol id is known where that came
+-- the internal id of an encoding symbol id is known where that was received
 known_internal : (row : TableRow) (k e : ℕ) (has : ℕ → Bool) → k ≤ row.extended_symbols → known_ids row k has (internal_id row k e) ≡ has e
 known_internal row k e has fits = elim (cases_lt e k) [
   | inl below ↦ ap (known_ids row k has) (internal_below row k e below) ∙ known_source row k e has below
@@ -53,20 +53,15 @@ some_value (Some v) h = (v, refl)
 
 read_at : {X : Type 0} → (xs : List X) (i : ℕ) (x : X) → slice_get xs i ≡ Some x → get_or xs i x ≡ x
 read_at [] i x h = refl
-read_at (y ∷ xs) zero x h = same y x h where
-  same : {X : Type 0} → (y x : X) → Some y ≡ Some x → y ≡ x
-  same y x h = cc
+read_at (y ∷ xs) zero x h = same_Some y x h
 read_at (y ∷ xs) (suc i) x h = read_at xs i x h
-
-payload_same : (x y : List ℕ) → Some x ≡ Some y → x ≡ y
-payload_same x y e = cc
 
 pub came_sum : (o : Option (List ℕ)) (x y : List ℕ) → o ≡ Some x → IfSome o (λ payload. payload ≡ y) → x ≡ y
 came_sum o x y is h = subst (λ r. IfSome r (λ payload. payload ≡ y)) is h
 
 -- ---- what stands at a place
 
--- padding, or a payload that came
+-- padding, or a payload that was received
 pub record IsPadding (row : TableRow) (k size j : ℕ) (x : ℕ) (value : List ℕ) : Type 0 where
   pub from : k ≤ x
   pub below : x < row.extended_symbols
@@ -129,7 +124,7 @@ module _ (row : TableRow) (k size : ℕ) (m : Payloads) (fits : k ≤ row.extend
         ]
       ]
 
-  -- what came has a place
+  -- what was received has a place
   pub place_of : (f e : ℕ) (x : List ℕ) → payload_of m e ≡ Some x
       → (j : ℕ) × (j < length (known_list row k m.entries)) × (at (known_list row k m.entries) j ≡ internal_id row k e) × (symbol_at (known_values row k f size m.entries) (f + j) ≡ x)
   place_of f e x came =
@@ -138,14 +133,14 @@ module _ (row : TableRow) (k size : ℕ) (m : Payloads) (fits : k ≤ row.extend
       let key : e ≡ q.1 = eqb-true e q.1 (sym (is_eq-nat_cmp e q.1) ∙ q.3) in
       let within : q.0 < length m.entries = slice_get_within m.entries q.0 (q.1, some.0) q.2 in
       let is = read_at m.entries q.0 (q.1, some.0) q.2 in
-      let held : some.0.items ≡ x = payload_same some.0.items x (sym (ap (option_map vec_items) some.1) ∙ came) in (
+      let received : some.0.items ≡ x = same_Some some.0.items x (sym (ap (option_map vec_items) some.1) ∙ came) in (
         row.extended_symbols - k + q.0,
         (omega (arith, length-known_list row k m.entries, within)),
         entry_id q.0 q.1 some.0 within is ∙ ap (internal_id row k) (sym key),
-        entry_value f q.0 q.1 some.0 within is ∙ held,
+        entry_value f q.0 q.1 some.0 within is ∙ received,
       )
 
-  -- an id that came has one
+  -- an id that was received has one
   place_came : (e : ℕ) → has_payload m e ≡ true → (j : ℕ) × (j < length (known_list row k m.entries)) × (at (known_list row k m.entries) j ≡ internal_id row k e)
   place_came e came =
       let some = some_value (get nat_cmp m e) came in
@@ -173,19 +168,19 @@ module _ (row : TableRow) (k size : ℕ) (m : Payloads) (fits : k ≤ row.extend
   }
 
   -- fewer ids than K' determine nothing
-  pub few_held : (row.extended_symbols - k) + length m.entries < row.extended_symbols → DetermineBlock row k (has_payload m) → ⊥
-  few_held few d =
+  pub few_received : (row.extended_symbols - k) + length m.entries < row.extended_symbols → DetermineBlock row k (has_payload m) → ⊥
+  few_received few d =
       let ids = known_list row k m.entries in
       few_not_determining row ids (omega (arith, length-known_list row k m.entries)) (determined_list row (known_ids row k (has_payload m)) ids known_listed d)
 
-  pub count_held : (fixed : ℕ) → length (known_values row k fixed size m.entries) ≡ fixed + length (known_list row k m.entries)
-  count_held fixed = omega (arith, length-known_values row k fixed size m.entries, length-known_list row k m.entries)
+  pub count_received : (fixed : ℕ) → length (known_values row k fixed size m.entries) ≡ fixed + length (known_list row k m.entries)
+  count_received fixed = omega (arith, length-known_values row k fixed size m.entries, length-known_list row k m.entries)
 
 -- ---- of a block
 
-module _ (h : Held) (m : Payloads) (fits : h.source_symbols ≤ h.row.extended_symbols) (ordered : IsOrdered nat_cmp m) (checked : IsChecked h.row) (same : (e : ℕ) → h.received e ≡ payload_of m e) where
-  -- a column that solves what is held solves the first of the equations with their values
-  pub values_solved : (fixed : ℕ) → fixed ≤ h.row.ldpc_symbols + h.row.hdpc_symbols → (column : ℕ → List ℕ) → SolvesHeld h column
+module _ (h : ReceivedBlock) (m : Payloads) (fits : h.source_symbols ≤ h.row.extended_symbols) (ordered : IsOrdered nat_cmp m) (checked : IsChecked h.row) (same : (e : ℕ) → h.received e ≡ payload_of m e) where
+  -- a column that solves what was received solves the first of the equations with their values
+  pub values_solved : (fixed : ℕ) → fixed ≤ h.row.ldpc_symbols + h.row.hdpc_symbols → (column : ℕ → List ℕ) → SolvesReceived h column
       → SolvesSymbols octets (fixed + length (known_list h.row h.source_symbols m.entries)) (intermediate_symbols h.row) (first_equations h.row fixed (known_list h.row h.source_symbols m.entries)) column (symbol_at (known_values h.row h.source_symbols fixed h.configuration.symbol_size m.entries))
   values_solved f few column z =
       let row = h.row in
@@ -215,16 +210,16 @@ module _ (h : Held) (m : Payloads) (fits : h.source_symbols ≤ h.row.extended_s
       }
 
   -- where it finds something, they do
-  pub is_held : HasDeterminedRows h.row (known_list h.row h.source_symbols m.entries) → AreHeldDetermining h
-  is_held d =
-      block_same h.row h.source_symbols (has_payload m) (holds h) (λ e. sym (ap is_some (same e)))
+  pub is_received : HasDeterminedRows h.row (known_list h.row h.source_symbols m.entries) → ReceivedDetermine h
+  is_received d =
+      block_same h.row h.source_symbols (has_payload m) (has_received h) (λ e. sym (ap is_some (same e)))
       (determined_by h.row (known_ids h.row h.source_symbols (has_payload m)) (known_list h.row h.source_symbols m.entries) (known_listed h.row h.source_symbols h.configuration.symbol_size m fits ordered).listed d)
 
   -- and where they do, so do the rows
-  pub held_rows : AreHeldDetermining h → HasDeterminedRows h.row (known_list h.row h.source_symbols m.entries)
-  held_rows d =
+  pub received_rows : ReceivedDetermine h → HasDeterminedRows h.row (known_list h.row h.source_symbols m.entries)
+  received_rows d =
       determined_list h.row (known_ids h.row h.source_symbols (has_payload m)) (known_list h.row h.source_symbols m.entries) (known_listed h.row h.source_symbols h.configuration.symbol_size m fits ordered)
-      (block_same h.row h.source_symbols (holds h) (has_payload m) (λ e. ap is_some (same e)) d)
+      (block_same h.row h.source_symbols (has_received h) (has_payload m) (λ e. ap is_some (same e)) d)
 
-  pub too_few : (h.row.extended_symbols - h.source_symbols) + length m.entries < h.row.extended_symbols → AreHeldDetermining h → ⊥
-  too_few few d = few_held h.row h.source_symbols h.configuration.symbol_size m fits ordered few (block_same h.row h.source_symbols (holds h) (has_payload m) (λ e. ap is_some (same e)) d)
+  pub too_few : (h.row.extended_symbols - h.source_symbols) + length m.entries < h.row.extended_symbols → ReceivedDetermine h → ⊥
+  too_few few d = few_received h.row h.source_symbols h.configuration.symbol_size m fits ordered few (block_same h.row h.source_symbols (has_received h) (has_payload m) (λ e. ap is_some (same e)) d)
