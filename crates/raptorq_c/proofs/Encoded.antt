@@ -12,7 +12,7 @@ use Rattle.rq_standard.specs.Streams.{frames_of}
 use Rattle.rq_standard.specs.TableRows.{built_in_rows, greatest_size}
 use Rattle.raptorq.specs.Encoder.{packets_refusal}
 use Rattle.raptorq.specs.Refused.{new_encoder, RefusesEncoder}
-use Rattle.raptorq_c.specs.Encoding.{AreFramesOf, StopsEncoding, no_memory, refused, singular, too_many}
+use Rattle.raptorq_c.specs.PacketBuffers.{AreFramesOf, StopsEncoding, no_memory, refused, singular, too_many}
 
 abbrev pub held : List TableRow → Result (List TableRow) Error
 held rows = Ok rows

@@ -1,60 +1,48 @@
 -- What a number says of how a call ended.
-use Rattle.std.proofs.Common.{◌≡◌, ◌≢◌, ℕ, ◌<◌, List, [], ◌∷◌, get_or, Ok, Err, Result, refl, sym, ap, ◌∙◌, subst, arith, lit<}
-use Rattle.std.specs.Prelude.{OnOk, OnErr}
+use Rattle.std.proofs.Common.{◌≡◌, ◌≢◌, ◌⊎◌, inl, inr, ◌<◌, List, [], ◌∷◌, get_or, Ok, Err, Result, refl, sym, ap, ◌∙◌, arith, lit<}
+use Rattle.std.specs.Prelude.{OnErr}
 use Rattle.rq_bytes.specs.declared.error.Error.{Error}
 use Rattle.rq_bytes.specs.declared.error.Error.TheVariants.{TransferTooLong, AlignmentZero, Misaligned, TooManySymbols, SymbolSizeZero, SourceBlocksZero, BlockOverTable, WrongDataLength, Singular, PlanMismatch, EsiTooLarge, PacketTooShort, WrongPayloadSize, UnknownBlock, PacketSizeZero, TransferLengthZero, MemoryRequirementTooSmall, TooManyBlocks, RowRefused, AlreadyExecuted, OutOfMemory, Contradiction, HeaderTooShort}
 use Rattle.rq_bytes.specs.Error.{code_of}
 use Rattle.raptorq_c.specs.declared.call_end.CallEnd.{CallEnd}
-use Rattle.raptorq_c.specs.declared.call_end.CallEnd.TheVariants.{Refused, WrongBuffer, Incomplete, NoCoder}
-use Rattle.raptorq_c.specs.Numbers.{number_of}
+use Rattle.raptorq_c.specs.Numbers.{number_of, refusal_number, Fills}
+
+-- a refusal's number is neither 0 nor one of those above the refusals'
+code_between : (e : Error) → (0 < code_of e) × (code_of e < 24)
+code_between TransferTooLong = (lit< tt, lit< tt)
+code_between AlignmentZero = (lit< tt, lit< tt)
+code_between Misaligned = (lit< tt, lit< tt)
+code_between TooManySymbols = (lit< tt, lit< tt)
+code_between SymbolSizeZero = (lit< tt, lit< tt)
+code_between SourceBlocksZero = (lit< tt, lit< tt)
+code_between BlockOverTable = (lit< tt, lit< tt)
+code_between WrongDataLength = (lit< tt, lit< tt)
+code_between Singular = (lit< tt, lit< tt)
+code_between PlanMismatch = (lit< tt, lit< tt)
+code_between EsiTooLarge = (lit< tt, lit< tt)
+code_between PacketTooShort = (lit< tt, lit< tt)
+code_between WrongPayloadSize = (lit< tt, lit< tt)
+code_between UnknownBlock = (lit< tt, lit< tt)
+code_between PacketSizeZero = (lit< tt, lit< tt)
+code_between TransferLengthZero = (lit< tt, lit< tt)
+code_between MemoryRequirementTooSmall = (lit< tt, lit< tt)
+code_between TooManyBlocks = (lit< tt, lit< tt)
+code_between (RowRefused place check) = (lit< tt, lit< tt)
+code_between AlreadyExecuted = (lit< tt, lit< tt)
+code_between OutOfMemory = (lit< tt, lit< tt)
+code_between Contradiction = (lit< tt, lit< tt)
+code_between HeaderTooShort = (lit< tt, lit< tt)
 
 pub code_positive : (e : Error) → 0 < code_of e
-code_positive TransferTooLong = lit< tt
-code_positive AlignmentZero = lit< tt
-code_positive Misaligned = lit< tt
-code_positive TooManySymbols = lit< tt
-code_positive SymbolSizeZero = lit< tt
-code_positive SourceBlocksZero = lit< tt
-code_positive BlockOverTable = lit< tt
-code_positive WrongDataLength = lit< tt
-code_positive Singular = lit< tt
-code_positive PlanMismatch = lit< tt
-code_positive EsiTooLarge = lit< tt
-code_positive PacketTooShort = lit< tt
-code_positive WrongPayloadSize = lit< tt
-code_positive UnknownBlock = lit< tt
-code_positive PacketSizeZero = lit< tt
-code_positive TransferLengthZero = lit< tt
-code_positive MemoryRequirementTooSmall = lit< tt
-code_positive TooManyBlocks = lit< tt
-code_positive (RowRefused place check) = lit< tt
-code_positive AlreadyExecuted = lit< tt
-code_positive OutOfMemory = lit< tt
-code_positive Contradiction = lit< tt
-code_positive HeaderTooShort = lit< tt
+code_positive e = (code_between e).0
 
--- 0 is answered where the call is done alone
-pub is_done : (ended : Result (Unit {0}) CallEnd) (P : Type 0) → OnOk ended P → number_of ended ≡ 0 → P
-is_done (Ok x) P done zero = done
-is_done (Err (Refused e)) P done zero = absurd (omega (arith, zero, code_positive e))
-is_done (Err WrongBuffer) P done zero = absurd (cc zero)
-is_done (Err Incomplete) P done zero = absurd (cc zero)
-is_done (Err NoCoder) P done zero = absurd (cc zero)
+pub code_small : (e : Error) → code_of e < 24
+code_small e = (code_between e).1
 
--- and another number where it isn't
+-- another number than 0 is answered where a call isn't done alone
 pub is_stopped : (ended : Result (Unit {0}) CallEnd) (P : Type 0) → OnErr ended P → number_of ended ≢ 0 → P
 is_stopped (Ok x) P stopped other = absurd (other refl)
 is_stopped (Err s) P stopped other = stopped
-
--- what follows where the call is done
-pub on_done : (ended : Result (Unit {0}) CallEnd) (P Q : Type 0) → OnOk ended P → (P → Q) → OnOk ended Q
-on_done (Ok x) P Q done more = more done
-on_done (Err s) P Q done more = tt
-
--- and of a number where it isn't
-pub on_stopped : (ended : Result (Unit {0}) CallEnd) (n : ℕ) (P : Type 0) (Q : ℕ → Type 0) → OnErr ended (number_of ended ≡ n) → OnErr ended P → (P → Q n) → OnErr ended (Q (number_of ended))
-on_stopped (Ok x) n P Q is stopped more = tt
-on_stopped (Err s) n P Q is stopped more = subst Q (sym is) (more stopped)
 
 -- the errors by their numbers, with another one where there is none, and for a row's refusal, which says more than its number
 errors : List Error
@@ -94,3 +82,21 @@ is_memory e is = sym (is_numbered e (λ row. omega (arith, is, row))) ∙ ap (λ
 pub is_contradiction : (e : Error) → code_of e ≡ 22 → e ≡ Contradiction
 unfolding errors
 is_contradiction e is = sym (is_numbered e (λ row. omega (arith, is, row))) ∙ ap (λ n. get_or errors n OutOfMemory) is
+
+-- ---- buffers
+
+-- what is wanted is in a buffer
+pub fills_done : {Y B : Type 0} (shown : Y → B) (wanted : Result Y Error) (before after : B) (value : Y) → wanted ≡ Ok value → after ≡ shown value → Fills shown wanted 0 before after
+fills_done shown wanted before after value is spelled = record {
+  number = inl (sym (ap refusal_number is));
+  written = λ _. record { value = value; answered = is; spelled = spelled };
+  kept = λ other. absurd (other refl);
+}
+
+-- it is refused, and the buffer is as before
+pub fills_refused : {Y B : Type 0} (shown : Y → B) (wanted : Result Y Error) (buffer : B) (e : Error) → (e ≡ OutOfMemory) ⊎ (wanted ≡ Err e) → Fills shown wanted (code_of e) buffer buffer
+fills_refused shown wanted buffer e why = record {
+  number = elim why [ inl memory ↦ inr (ap code_of memory) | inr refused ↦ inl (sym (ap refusal_number refused)) ];
+  written = λ zero. absurd (omega (arith, zero, code_positive e));
+  kept = λ _. refl;
+}

@@ -1,5 +1,5 @@
 -- What calls on handles say, by what the coders say.
-use Rattle.std.proofs.Common.{◌≡◌, ◌≢◌, ◌⊎◌, ℕ, Bool, true, false, cond, List, length, Option, Some, None, Result, Ok, Err, refl, sym, ap, ◌∙◌, subst, arith, inl, inr}
+use Rattle.std.proofs.Common.{◌≡◌, ◌≢◌, ◌⊎◌, ◌<◌, ℕ, Bool, true, false, cond, List, length, Option, Some, Result, Ok, Err, refl, sym, ap, ◌∙◌, subst, arith, inl, inr}
 use Rattle.std.specs.Prelude.{IsErr, IfErr, OnErr, MatchResult, not, nat_lt, ◌==◌}
 use Rattle.rq_bytes.specs.declared.error.Error.{Error}
 use Rattle.rq_bytes.specs.declared.error.Error.TheVariants.{OutOfMemory, Contradiction, UnknownBlock, WrongPayloadSize}
@@ -7,17 +7,19 @@ use Rattle.rq_bytes.specs.Error.{code_of}
 use Rattle.rq_bytes.specs.Refusals.{and_then}
 use Rattle.rq_standard.specs.Configuration.{Configuration, configuration_of_bytes}
 use Rattle.rq_standard.specs.Packet.{Packet, packet_of_bytes}
-use Rattle.rq_standard.specs.Standing.{State, StopsEarly, Contradicts, KeepsContradictions, IsHonestPacket, LeavesBlockLate}
+use Rattle.rq_standard.specs.Standing.{State, StopsEarly, LeavesBlockLate}
 use Rattle.rq_standard.specs.Streams.{frame_size, frames_in}
 use Rattle.rq_standard.specs.TableRows.{built_in_rows}
 use Rattle.rq_base.specs.RefusedInput.{read_packet}
 use Rattle.raptorq.specs.Refused.{packet_refusal, IsPacketRefusal}
 use Rattle.raptorq.specs.Runs.{IsRunRefusal, AnswersRun}
-use Rattle.raptorq_c.specs.Decoding.{Answered, IsRefused, IsDecoded, IsDecodingRefusal, frames_refusal, packets_in}
-use Rattle.raptorq_c.specs.Handles.{coder_of, decoder_in, decoder_of, Becomes, IsTakenNumber, IsAdded, bytes_refusal}
-use Rattle.raptorq_c.specs.declared.handle.Handle.{Handle}
-use Rattle.raptorq_c.specs.declared.owned.Coder.{Coder}
-use Rattle.raptorq_c.proofs.Ending.{code_positive, is_memory, is_contradiction}
+use Rattle.raptorq.specs.Taking.{TakesPacket}
+use Rattle.raptorq_c.specs.declared.call_end.CallEnd.{CallEnd}
+use Rattle.raptorq_c.specs.ObjectBuffers.{Answered, IsFilled, IsRefused, IsDecoded, IsDecodingRefusal, frames_refusal, packets_in}
+use Rattle.raptorq_c.specs.Handles.{bytes_refusal, FillsWithAnswer, IsAdded, IsAnswerOf, IsTakenNumber}
+use Rattle.raptorq_c.specs.Numbers.{number_of, refusal_number}
+use Rattle.raptorq_c.proofs.Ending.{code_positive, code_small, is_memory, is_contradiction, is_stopped}
+use Rattle.raptorq_c.proofs.PacketFrames.{packet_read}
 
 -- a refusal by a packet's block, and then by its payload's size
 abbrev refused_by : Bool → Bool → Result (Unit {0}) Error
@@ -31,14 +33,29 @@ answered_by P answer number before after holds a = record {
   incomplete = λ none. subst P (sym (a.incomplete none)) holds;
 }
 
-pub becomes_weaker : {X : Type 0} (before after : Option X) (P Q : X → X → Type 0) → ((x y : X) → P x y → Q x y) → Becomes before after P → Becomes before after Q
-becomes_weaker None after P Q more holds = tt
-becomes_weaker (Some x) None P Q more holds = absurd holds
-becomes_weaker (Some x) (Some y) P Q more holds = more x y holds
+-- a refusal answers nothing
+pub unanswered : (e : Error) (before after : List ℕ) (P : Option (List ℕ) → Type 0) → Answered (code_of e) before after P
+unanswered e before after P = record {
+  written = λ is. absurd (omega (arith, is, code_positive e));
+  no_room = λ is. absurd (omega (arith, is, code_small e));
+  incomplete = λ is. absurd (omega (arith, is, code_small e));
+}
 
--- what a coder in a handle becomes, the handle's coder becomes
-pub of_coders : (old new : Handle) (x y : Coder) (P : State → State → Type 0) → coder_of old ≡ Some x → coder_of new ≡ Some y → Becomes (decoder_in x) (decoder_in y) P → Becomes (decoder_of old) (decoder_of new) P
-of_coders old new x y P was is holds = rw (was, is) holds
+filled_small : (number : ℕ) → IsFilled number → number < 26
+filled_small number (inl done) = omega (arith, done)
+filled_small number (inr (inl no_room)) = omega (arith, no_room)
+filled_small number (inr (inr incomplete)) = omega (arith, incomplete)
+
+-- the decoder that is held answers
+pub fills_answer : (s : State) (ended : Result (Unit {0}) CallEnd) (before after : List ℕ) → IsFilled (number_of ended) → Answered (number_of ended) before after (IsAnswerOf s) → OnErr ended (after ≡ before) → FillsWithAnswer (Some s) (number_of ended) before after
+fills_answer s ended before after number answered kept =
+    let small = filled_small (number_of ended) number in
+    record {
+      none = (λ is. absurd (omega (arith, small, is)), λ none. absurd (cc none));
+      refused = inr number;
+      answered = answered;
+      kept = is_stopped ended (after ≡ before) kept;
+    }
 
 -- what the tests refuse of a packet is neither want of memory nor a contradiction
 tested : (other_block other_size : Bool) (e : Error) → IsPacketRefusal e (refused_by other_block other_size) → IsErr (refused_by other_block other_size) → (e ≢ OutOfMemory) × (e ≢ Contradiction)
@@ -47,11 +64,8 @@ tested false true e is err = (λ h. let same : WrongPayloadSize ≡ OutOfMemory 
 tested false false e is err = let none : false ≡ true = err in absurd (cc none)
 
 -- a packet that is to be refused leaves a decoder as it was, whatever stopped it
-pub refused_whole : (c : Configuration) (bytes : List ℕ) (p : Packet) (r : Result (Unit {0}) Error) (old new : State) → read_packet bytes ≡ Ok p → IfErr r (λ e. IsPacketRefusal e (packet_refusal c p)) → IfErr r (λ e. e ≢ OutOfMemory → e ≢ Contradiction → new ≡ old)
-    → OnErr r (IsErr (bytes_refusal c bytes) → new ≡ old)
-refused_whole c bytes p (Ok x) old new read answer same = tt
-refused_whole c bytes p (Err e) old new read answer same = λ refused.
-    let is_err : IsErr (packet_refusal c p) = subst (λ (found : Result Packet Error). IsErr (and_then {Y = Unit {0}} found (packet_refusal c))) read refused in
+refused_whole : (c : Configuration) (p : Packet) (e : Error) (old new : State) → IsPacketRefusal e (packet_refusal c p) → (e ≢ OutOfMemory → e ≢ Contradiction → new ≡ old) → IsErr (packet_refusal c p) → new ≡ old
+refused_whole c p e old new answer same is_err =
     let other = tested (not (nat_lt p.id.block c.source_blocks)) (not (length p.payload == c.symbol_size)) e answer is_err in
     same other.0 other.1
 
@@ -61,27 +75,49 @@ taken_number e (Ok x) (inl memory) = inl (inr (ap code_of memory))
 taken_number e (Ok x) (inr contradiction) = inr (ap code_of contradiction, refl)
 taken_number e (Err w) same = inl (inl (ap code_of same))
 
--- the bytes of a packet that a decoder refuses
-pub refused_bytes : (old new : State) (bytes : List ℕ) (e : Error) → (e ≡ OutOfMemory) ⊎ IsPacketRefusal e (bytes_refusal old.configuration bytes) → (e ≢ OutOfMemory → e ≢ Contradiction → new ≡ old) → (e ≡ OutOfMemory → StopsEarly old (packet_of_bytes bytes) new)
-    → (e ≡ Contradiction → Contradicts old (packet_of_bytes bytes) new) → KeepsContradictions old new → (e ≡ Contradiction → IsHonestPacket old (packet_of_bytes bytes) → ⊥)
-    → (e ≡ OutOfMemory → LeavesBlockLate old (packet_of_bytes bytes) new) → (IsErr (bytes_refusal old.configuration bytes) → new ≡ old) → IsAdded old bytes (code_of e) new
-refused_bytes old new bytes e why same stops contradiction keeps honest late whole = record {
-  refused = elim why [
-    | inl memory ↦ inl (inr (ap code_of memory))
-    | inr wanted ↦ taken_number e (bytes_refusal old.configuration bytes) wanted
-  ];
-  unchanged = λ other not_memory not_contradiction. same (λ memory. not_memory (ap code_of memory)) (λ c. not_contradiction (ap code_of c));
-  adds = λ zero. absurd (omega (arith, zero, code_positive e));
-  stops = λ is. stops (is_memory e is);
-  contradiction = λ is. contradiction (is_contradiction e is);
-  goes_on = λ zero. absurd (omega (arith, zero, code_positive e));
-  keeps = keeps;
-  honest = λ is. honest (is_contradiction e is);
-  stands = λ zero. absurd (omega (arith, zero, code_positive e));
-  answers_late = λ zero. absurd (omega (arith, zero, code_positive e));
-  leaves_late = λ is. late (is_memory e is);
-  leaves_refused = λ is refused. whole refused;
+-- what a decoder does with the packet that bytes spell
+read_bytes : (old new : State) (bytes : List ℕ) (r : Result (Unit {0}) Error) → read_packet bytes ≡ Ok (packet_of_bytes bytes) → TakesPacket old (packet_of_bytes bytes) r new
+    → IfErr r (λ e. e ≡ OutOfMemory → StopsEarly old (packet_of_bytes bytes) new) → IfErr r (λ e. e ≡ OutOfMemory → LeavesBlockLate old (packet_of_bytes bytes) new) → IsAdded old bytes (refusal_number r) new
+read_bytes old new bytes (Ok x) read takes stops late = record {
+  refused = inl (inl (sym (ap refusal_number (ap (λ (found : Result Packet Error). and_then {Y = Unit {0}} found (packet_refusal old.configuration)) read ∙ takes.accepted))));
+  unchanged = λ other. absurd (other refl);
+  adds = λ _. takes.adds;
+  stops = λ is. absurd (cc is);
+  contradiction = λ is. absurd (cc is);
+  goes_on = λ _. takes.goes_on;
+  keeps = takes.keeps;
+  honest = λ is. absurd (cc is);
+  stands = λ _. takes.stands;
+  answers_late = λ _. takes.answers_late;
+  leaves_late = λ is. absurd (cc is);
+  leaves_refused = λ is. absurd (cc is);
 }
+read_bytes old new bytes (Err e) read takes stops late =
+    let c = old.configuration in
+    let p = packet_of_bytes bytes in
+    let same : bytes_refusal c bytes ≡ packet_refusal c p = ap (λ (found : Result Packet Error). and_then {Y = Unit {0}} found (packet_refusal c)) read in
+    let undone : code_of e ≢ 0 = λ zero. omega (arith, zero, code_positive e) in
+    record {
+      refused = taken_number e (bytes_refusal c bytes) (subst (λ (r : Result (Unit {0}) Error). IsPacketRefusal e r) (sym same) takes.refused);
+      unchanged = λ _ not_memory not_contradiction. takes.unchanged (λ memory. not_memory (ap code_of memory)) (λ contradiction. not_contradiction (ap code_of contradiction));
+      adds = λ zero. absurd (undone zero);
+      stops = λ is. stops (is_memory e is);
+      contradiction = λ is. takes.contradiction (is_contradiction e is);
+      goes_on = λ zero. absurd (undone zero);
+      keeps = takes.keeps;
+      honest = λ is of_object. let both : Contradiction ≡ OutOfMemory = sym (is_contradiction e is) ∙ takes.honest of_object in cc both;
+      stands = λ zero. absurd (undone zero);
+      answers_late = λ zero. absurd (undone zero);
+      leaves_late = λ is. late (is_memory e is);
+      leaves_refused = λ _ refused. refused_whole c p e old new takes.refused takes.unchanged (subst (λ (r : Result (Unit {0}) Error). IsErr r) same refused);
+    }
+
+-- the same of the packet that was read
+pub taken_bytes : (old new : State) (bytes : List ℕ) (p : Packet) (r : Result (Unit {0}) Error) → read_packet bytes ≡ Ok p → TakesPacket old p r new
+    → IfErr r (λ e. e ≡ OutOfMemory → StopsEarly old p new) → IfErr r (λ e. e ≡ OutOfMemory → LeavesBlockLate old p new) → IsAdded old bytes (refusal_number r) new
+taken_bytes old new bytes p r read takes stops late =
+    let Taken : Packet → Type 0 = λ q. read_packet bytes ≡ Ok q → TakesPacket old q r new → IfErr r (λ e. e ≡ OutOfMemory → StopsEarly old q new) → IfErr r (λ e. e ≡ OutOfMemory → LeavesBlockLate old q new) → IsAdded old bytes (refusal_number r) new in
+    subst Taken (sym (packet_read bytes p read)) (read_bytes old new bytes r) read takes stops late
 
 -- ---- packets in a buffer
 

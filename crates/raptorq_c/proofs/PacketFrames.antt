@@ -9,7 +9,7 @@ use Rattle.rq_standard.proofs.FrameLaws.{frames_in-next, frames_in-none}
 use Rattle.rq_base.specs.RefusedInput.{read_packet}
 use Rattle.raptorq.specs.Runs.{packets_of}
 use Rattle.raptorq.proofs.Lists.{packets_of-push}
-use Rattle.raptorq_c.specs.Decoding.{frames_refusal}
+use Rattle.raptorq_c.specs.ObjectBuffers.{frames_refusal}
 
 abbrev read_in : List (List ℕ) → List Packet
 read_in frames = map packet_of_bytes frames

@@ -18,7 +18,7 @@ use Rattle.rq_base.specs.RefusedInput.{checked_configuration}
 use Rattle.rq_base.proofs.Accepted.{both_ok, accepted_by}
 use Rattle.raptorq.proofs.EncodedBlocks.{ids_before, ids_next}
 use Rattle.raptorq.proofs.Lists.{length-packet_bytes}
-use Rattle.raptorq_c.specs.Encoding.{AreFramesOf, IsEncoding}
+use Rattle.raptorq_c.specs.PacketBuffers.{AreFramesOf, IsEncoding}
 use Rattle.raptorq_c.specs.Sizes.{bytes_of_packets, packets_length}
 
 module _ (c : Configuration) where

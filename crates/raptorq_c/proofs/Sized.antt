@@ -17,7 +17,7 @@ use Rattle.raptorq_c.specs.Sizes.{bytes_of_block, bytes_of_packets, packets_leng
 use Rattle.raptorq_c.proofs.Encoded.{held, same_table}
 use Rattle.raptorq_c.proofs.PacketLengths.{wanted}
 
-abbrev pub ranged : ℕ × ℕ → Result (ℕ × ℕ) Error
+abbrev ranged : ℕ × ℕ → Result (ℕ × ℕ) Error
 ranged p = Ok p
 
 abbrev listed : List (ℕ × ℕ) → Result (List (ℕ × ℕ)) Error

@@ -1,18 +1,20 @@
 -- What handles hold, and what calls do to it.
-use Rattle.std.specs.Prelude.{◌≡◌, ◌≢◌, ◌⊎◌, ℕ, List, length, Option, Some, None, IfSome, IsSomeAnd, IsErr, option_and_then, Result, Ok, Err}
+use Rattle.std.specs.Prelude.{◌≡◌, ◌≢◌, ◌⊎◌, ◌↔◌, ℕ, List, length, Option, Some, None, IfSome, IsSomeAnd, MatchOption, IsErr, option_and_then, Result, Ok, Err}
 use Rattle.rq_bytes.specs.declared.error.Error.{Error}
 use Rattle.rq_bytes.specs.Error.{code_of}
 use Rattle.rq_bytes.specs.Refusals.{and_then}
 use Rattle.rq_standard.specs.Configuration.{Configuration, configuration_of_bytes}
 use Rattle.rq_standard.specs.Packet.{SymbolId, Packet, packet_bytes, packet_of_bytes}
-use Rattle.rq_standard.specs.Standing.{State, Adds, StopsEarly, Contradicts, IsBlockContradictory, KeepsContradictions, IsHonestPacket, StandsForMore, AnswersLateBlock, LeavesBlockLate}
-use Rattle.rq_standard.specs.TableRows.{built_in_rows}
+use Rattle.rq_standard.specs.Headline.{HasNonsingularRows}
+use Rattle.rq_standard.specs.Standing.{State, IsNewState, Adds, StopsEarly, Contradicts, IsBlockContradictory, KeepsContradictions, IsHonestPacket, StandsForNone, StandsForMore, AnswersLateBlock, LeavesBlockLate, AnswersObject, AnswersNothingElse, AnswersOnlyObject, result_of}
+use Rattle.rq_standard.specs.TableRows.{built_in_rows, greatest_size}
 use Rattle.rq_base.specs.RefusedInput.{new_id, read_packet}
 use Rattle.raptorq.specs.Decoder.{state_of}
 use Rattle.raptorq.specs.Encoder.{Encoded, encoded_of, id_in, IsEncoderOf, IsPacketIn}
-use Rattle.raptorq.specs.Refused.{packet_refusal, RefusesEncoder}
+use Rattle.raptorq.specs.Refused.{new_encoder, packet_refusal, RefusesEncoder}
+use Rattle.raptorq_c.specs.ObjectBuffers.{Answered, IsRefused}
 use Rattle.raptorq_c.specs.Numbers.{IsNumber}
-use Rattle.raptorq.specs.declared.decoder.object.Decoder.{Decoder}
+use Rattle.raptorq_c.specs.Headers.{checked_header}
 use Rattle.raptorq_c.specs.declared.handle.Handle.{Handle}
 use Rattle.raptorq_c.specs.declared.owned.Coder.{Coder}
 use Rattle.raptorq_c.specs.declared.owned.Coder.TheVariants.{Sender, Receiver}
@@ -35,17 +37,20 @@ decoder_of h = option_and_then decoder_in (coder_of h)
 abbrev pub encoder_of : Handle → Option Encoded
 encoder_of h = option_and_then encoder_in (coder_of h)
 
--- what is held, if anything, becomes something else so
+-- what is held, if anything, becomes something else so; where nothing is held, nothing is then
 abbrev pub Becomes : {X : Type 0} → Option X → Option X → (X → X → Type 0) → Type 0
-Becomes before after P = IfSome before (λ x. IsSomeAnd after (P x))
+Becomes before after P = MatchOption before (after ≡ None) (λ x. IsSomeAnd after (P x))
 
--- what a packet's bytes make of a decoder
-abbrev pub DecoderBy : (State → Packet → State → Type 0) → Decoder → List ℕ → Decoder → Type 0
-DecoderBy P old bytes new = P (state_of old) (packet_of_bytes bytes) (state_of new)
+-- a decoder of this configuration, from which nothing came yet
+pub record IsNewDecoder (header : List ℕ) (s : State) : Type 0 where
+  pub new : IsNewState built_in_rows (configuration_of_bytes header) s
+  pub stands : StandsForNone built_in_rows (configuration_of_bytes header) s
 
--- what they make of the decoder that a handle holds, if it holds one
-abbrev pub BecomesBy : (State → Packet → State → Type 0) → Handle → List ℕ → Handle → Type 0
-BecomesBy P old bytes new = Becomes (decoder_of old) (decoder_of new) (λ s t. P s (packet_of_bytes bytes) t)
+-- What a call answers and does to a handle: it holds a new decoder (0), or what it held.
+pub record OpensDecoder (header : List ℕ) (answer : ℕ) (before after : Handle) : Type 0 where
+  pub number : IsNumber answer (checked_header header)
+  pub decoder : answer ≡ 0 → IsSomeAnd (decoder_of after) (IsNewDecoder header)
+  pub kept : answer ≢ 0 → coder_of after ≡ coder_of before
 
 -- what a decoder refuses of the bytes of a packet
 abbrev pub bytes_refusal : Configuration → List ℕ → Result (Unit {0}) Error
@@ -60,19 +65,38 @@ abbrev pub LeavesRefused : List ℕ → State → State → Type 0
 LeavesRefused bytes old new = IsErr (bytes_refusal old.configuration bytes) → new ≡ old
 
 -- what the bytes of a packet do to a decoder: as the packet does, and where memory is refused for them, nothing
-pub record IsAdded (old : State) (bytes : List ℕ) (number : ℕ) (new : State) : Type 0 where
-  pub refused : IsTakenNumber number (bytes_refusal old.configuration bytes)
-  pub unchanged : number ≢ 0 → number ≢ 21 → number ≢ 22 → new ≡ old
-  pub adds : number ≡ 0 → Adds old (packet_of_bytes bytes) new
-  pub stops : number ≡ 21 → StopsEarly old (packet_of_bytes bytes) new
-  pub contradiction : number ≡ 22 → Contradicts old (packet_of_bytes bytes) new
-  pub goes_on : number ≡ 0 → IsBlockContradictory old (packet_of_bytes bytes).id.block → ⊥
+pub record IsAdded (old : State) (bytes : List ℕ) (answer : ℕ) (new : State) : Type 0 where
+  pub refused : IsTakenNumber answer (bytes_refusal old.configuration bytes)
+  pub unchanged : answer ≢ 0 → answer ≢ 21 → answer ≢ 22 → new ≡ old
+  pub adds : answer ≡ 0 → Adds old (packet_of_bytes bytes) new
+  pub stops : answer ≡ 21 → StopsEarly old (packet_of_bytes bytes) new
+  pub contradiction : answer ≡ 22 → Contradicts old (packet_of_bytes bytes) new
+  pub goes_on : answer ≡ 0 → IsBlockContradictory old (packet_of_bytes bytes).id.block → ⊥
   pub keeps : KeepsContradictions old new
-  pub honest : number ≡ 22 → IsHonestPacket old (packet_of_bytes bytes) → ⊥
-  pub stands : number ≡ 0 → StandsForMore old (packet_of_bytes bytes) new
-  pub answers_late : number ≡ 0 → AnswersLateBlock old (packet_of_bytes bytes) new
-  pub leaves_late : number ≡ 21 → LeavesBlockLate old (packet_of_bytes bytes) new
-  pub leaves_refused : number ≡ 21 → LeavesRefused bytes old new
+  pub honest : answer ≡ 22 → IsHonestPacket old (packet_of_bytes bytes) → ⊥
+  pub stands : answer ≡ 0 → StandsForMore old (packet_of_bytes bytes) new
+  pub answers_late : answer ≡ 0 → AnswersLateBlock old (packet_of_bytes bytes) new
+  pub leaves_late : answer ≡ 21 → LeavesBlockLate old (packet_of_bytes bytes) new
+  pub leaves_refused : answer ≡ 21 → LeavesRefused bytes old new
+
+-- what they do to the decoder that is held, if one is: 26 says that none is
+pub record TakesBytes (bytes : List ℕ) (answer : ℕ) (before after : Option State) : Type 0 where
+  pub none : (answer ≡ 26) ↔ (before ≡ None)
+  pub takes : Becomes before after (λ s t. IsAdded s bytes answer t)
+
+-- what a decoder answers: the object, exactly where its packets determine it
+pub record IsAnswerOf (s : State) (answer : Option (List ℕ)) : Type 0 where
+  pub value : answer ≡ result_of s
+  pub object : AnswersObject s answer
+  pub nothing_else : AnswersNothingElse s answer
+  pub only_object : AnswersOnlyObject s answer
+
+-- What a call answers and does to a buffer: it is filled with what the decoder answers that is held (0), or is as it was. 26 says that none is held.
+pub record FillsWithAnswer (held : Option State) (answer : ℕ) (before after : List ℕ) : Type 0 where
+  pub none : (answer ≡ 26) ↔ (held ≡ None)
+  pub refused : IfSome held (λ _. IsRefused answer (Ok tt))
+  pub answered : IfSome held (λ s. Answered answer before after (IsAnswerOf s))
+  pub kept : answer ≢ 0 → after ≡ before
 
 -- the id of a packet of these numbers, unless it has none
 abbrev pub wanted_id : Configuration → ℕ → ℕ → Result SymbolId Error
@@ -84,8 +108,10 @@ IsPacketNumber (Ok i) number = (number ≡ 0) ⊎ (number ≡ 21) ⊎ (number �
 IsPacketNumber (Err e) number = number ≡ code_of e
 
 -- an encoder of this object in this configuration, over the built-in table
-pub record IsEncoderIn (c : Configuration) (object : List ℕ) (e : Encoded) : Type 0 where
-  pub configuration : e.configuration ≡ c
+pub record IsEncoderIn (header object : List ℕ) (e : Encoded) : Type 0 where
+  pub configuration : e.configuration ≡ configuration_of_bytes header
+  pub taken : new_encoder (greatest_size built_in_rows) (configuration_of_bytes header) (length object) ≡ Ok tt
+  pub nonsingular : HasNonsingularRows built_in_rows (configuration_of_bytes header)
   pub encoder : IsEncoderOf built_in_rows object e
 
 -- what an encoder of this object, in the configuration that a header has, is refused for over the built-in table
@@ -98,6 +124,12 @@ pub record IsCodeWhere (P : Error → Type 0) (number : ℕ) : Type 0 where
   pub holds : P error
   pub number_is : number ≡ code_of error
 
+-- What a call answers and does to a handle: it holds an encoder of the object (0), or what it held.
+pub record OpensEncoder (header object : List ℕ) (answer : ℕ) (before after : Handle) : Type 0 where
+  pub refused : answer ≢ 0 → (answer ≡ 21) ⊎ IsCodeWhere (RefusesSender header object) answer
+  pub encoder : answer ≡ 0 → IsSomeAnd (encoder_of after) (IsEncoderIn header object)
+  pub kept : answer ≢ 0 → coder_of after ≡ coder_of before
+
 -- bytes of the packet of these numbers, of the object whose encoder it is
 pub record IsPacketAt (e : Encoded) (block esi : ℕ) (bytes : List ℕ) : Type 0 where
   pub packet : Packet
@@ -108,3 +140,11 @@ pub record IsPacketAt (e : Encoded) (block esi : ℕ) (bytes : List ℕ) : Type 
 -- the packet has another length than the buffer
 abbrev pub HasNoRoom : Encoded → ℕ → ℕ → ℕ → Type 0
 HasNoRoom e block esi room = (bytes : List ℕ) × IsPacketAt e block esi bytes × (length bytes ≢ room)
+
+-- What a call answers and does to a buffer: it is filled with a packet of the encoder that is held (0), or is as it was. 26 says that none is held.
+pub record FillsWithPacket (held : Option Encoded) (block esi answer : ℕ) (before after : List ℕ) : Type 0 where
+  pub none : (answer ≡ 26) ↔ (held ≡ None)
+  pub number : IfSome held (λ e. IsPacketNumber (wanted_id e.configuration block esi) answer)
+  pub packet : answer ≡ 0 → IsSomeAnd held (λ e. IsPacketAt e block esi after)
+  pub no_room : answer ≡ 24 → IsSomeAnd held (λ e. HasNoRoom e block esi (length before))
+  pub kept : answer ≢ 0 → after ≡ before

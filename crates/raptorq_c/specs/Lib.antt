@@ -1,7 +1,7 @@
 pub mod Numbers
-pub mod Parameters
-pub mod Encoding
-pub mod Decoding
+pub mod Headers
+pub mod PacketBuffers
+pub mod ObjectBuffers
 pub mod Sizes
 pub mod Owned
 pub mod Handles

@@ -1,5 +1,5 @@
--- The numbers that calls answer.
-use Rattle.std.specs.Prelude.{◌≡◌, ◌⊎◌, ℕ, List, Result, Ok, Err}
+-- The numbers that calls answer, and what they say of a buffer.
+use Rattle.std.specs.Prelude.{◌≡◌, ◌≢◌, ◌⊎◌, ℕ, Result, Ok, Err}
 use Rattle.rq_bytes.specs.declared.error.Error.{Error}
 use Rattle.rq_bytes.specs.Error.{code_of}
 use Rattle.raptorq_c.specs.declared.call_end.CallEnd.{CallEnd}
@@ -22,8 +22,14 @@ refusal_number (Err e) = code_of e
 abbrev pub IsNumber : {Y : Type 0} → ℕ → Result Y Error → Type 0
 IsNumber number wanted = (number ≡ refusal_number wanted) ⊎ (number ≡ 21)
 
--- bytes of what is wanted, which isn't refused
-pub record IsWritten {Y : Type 0} (bytes : Y → List ℕ) (wanted : Result Y Error) (buffer : List ℕ) : Type 0 where
+-- what is wanted, as a buffer shows it, which isn't refused
+pub record IsWritten {Y B : Type 0} (shown : Y → B) (wanted : Result Y Error) (buffer : B) : Type 0 where
   pub value : Y
   pub answered : wanted ≡ Ok value
-  pub spelled : buffer ≡ bytes value
+  pub spelled : buffer ≡ shown value
+
+-- What a call answers and does to a buffer: it shows what is wanted (0), or is as it was.
+pub record Fills {Y B : Type 0} (shown : Y → B) (wanted : Result Y Error) (answer : ℕ) (before after : B) : Type 0 where
+  pub number : IsNumber answer wanted
+  pub written : answer ≡ 0 → IsWritten shown wanted after
+  pub kept : answer ≢ 0 → after ≡ before

@@ -18,5 +18,5 @@ abbrev pub owned_at : Ptr → Option Coder → Fml
 owned_at p None = ftrue
 owned_at p (Some coder) = box_owns (ghosts.dealloc_token heap) the_row p coder
 
-abbrev pub held_coded : Coded (Option Coder)
-held_coded = coded_option (the_row).coded
+abbrev pub owned_coded : Coded (Option Coder)
+owned_coded = coded_option (the_row).coded

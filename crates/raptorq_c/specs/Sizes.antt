@@ -11,8 +11,8 @@ use Rattle.raptorq.specs.Encoder.{packets_refusal}
 use Rattle.raptorq.specs.Offsets.{block_range, checked_offsets}
 use Rattle.raptorq_c.specs.declared.sizes.Range.{Range}
 
-abbrev pub range_of : Range → ℕ × ℕ
-range_of r = (r.start, r.end)
+abbrev pub range_of : ℕ × ℕ → Range
+range_of ends = record { start = ends.0; end = ends.1 }
 
 -- where a block of an object begins and where it ends, in bytes
 abbrev pub bytes_of_block : List ℕ → ℕ → Result (ℕ × ℕ) Error

@@ -1,6 +1,6 @@
 //! Buffers of the caller's, which are filled whole or left as they are.
 ghost use Rattle.std.specs.Prelude.{◌≡◌, ◌≢◌, length, option_map, vec_items, OnOk, OnErr};
-ghost use Rattle.raptorq_c.specs.Decoding.{Answered, IsFilled};
+ghost use Rattle.raptorq_c.specs.ObjectBuffers.{Answered, IsFilled};
 ghost use Rattle.raptorq_c.specs.Numbers.{number_of};
 
 use crate::call_end::CallEnd;

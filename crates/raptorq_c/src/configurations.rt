@@ -1,11 +1,11 @@
 //! Configurations: how an object is cut (RFC 6330, 3.3 and 4.3), as twelve bytes.
-ghost use Rattle.std.specs.Prelude.{◌≡◌, ◌≢◌, Result, Ok, OnOk, OnErr};
+ghost use Rattle.std.specs.Prelude.{◌≡◌};
 ghost use Rattle.rq_standard.specs.Configuration.{header_bytes, configuration_of_bytes};
-ghost use Rattle.rq_standard.specs.TableRows.{built_in_rows, greatest_size};
+ghost use Rattle.rq_standard.specs.TableRows.{built_in_rows};
 ghost use Rattle.rq_base.specs.Defaults.{wanted_parameters};
-ghost use Rattle.rq_base.specs.RefusedInput.{new_configuration, checked_configuration};
-ghost use Rattle.raptorq_c.specs.Numbers.{number_of, refusal_number, IsNumber, IsWritten};
-ghost use Rattle.raptorq_c.specs.Parameters.{parameters_of};
+ghost use Rattle.rq_base.specs.RefusedInput.{new_configuration};
+ghost use Rattle.raptorq_c.specs.Numbers.{number_of, refusal_number, Fills, IsNumber};
+ghost use Rattle.raptorq_c.specs.Headers.{parameters_of, checked_header};
 
 use crate::call_end::{CallEnd, number};
 use raptorq::ObjectTransmissionInformation;
@@ -36,9 +36,8 @@ fn derive(
     decoder_memory: u64,
     configuration: &mut [u8; 12],
 ) -> Result<(), CallEnd>
-    ensures number { IsNumber (number_of result) (wanted_parameters built_in_rows object_length packet_size decoder_memory) }
-    ensures written { OnOk result (IsWritten header_bytes (wanted_parameters built_in_rows object_length packet_size decoder_memory) configuration.new) }
-    ensures kept { OnErr result (configuration.new ≡ configuration.old) }
+    ensures { Fills header_bytes (wanted_parameters built_in_rows object_length packet_size decoder_memory)
+        (number_of result) configuration.old configuration.new }
 {
     let table = SystematicTable::built_in(alloc)?;
     let derived = ObjectTransmissionInformation::generate_encoding_parameters(
@@ -63,9 +62,8 @@ pub extern "C" fn reamertan_derive_configuration(
     decoder_memory: u64,
     configuration: &mut [u8; 12],
 ) -> u8
-    ensures number { IsNumber result (wanted_parameters built_in_rows object_length packet_size decoder_memory) }
-    ensures written { result ≡ 0 → IsWritten header_bytes (wanted_parameters built_in_rows object_length packet_size decoder_memory) configuration.new }
-    ensures kept { result ≢ 0 → configuration.new ≡ configuration.old }
+    ensures { Fills header_bytes (wanted_parameters built_in_rows object_length packet_size decoder_memory)
+        result configuration.old configuration.new }
 {
     number(derive(
         alloc,
@@ -79,8 +77,7 @@ pub extern "C" fn reamertan_derive_configuration(
 // Writes the configuration of these numbers.
 fn write(parameters: &Parameters, configuration: &mut [u8; 12]) -> Result<(), CallEnd>
     ensures number { number_of result ≡ refusal_number (new_configuration (parameters_of parameters.now)) }
-    ensures written { OnOk result (IsWritten header_bytes (new_configuration (parameters_of parameters.now)) configuration.new) }
-    ensures kept { OnErr result (configuration.new ≡ configuration.old) }
+    ensures fills { Fills header_bytes (new_configuration (parameters_of parameters.now)) (number_of result) configuration.old configuration.new }
 {
     let asked = ObjectTransmissionInformation::new(
         parameters.transfer_length,
@@ -101,8 +98,7 @@ pub extern "C" fn reamertan_write_configuration(
     configuration: &mut [u8; 12],
 ) -> u8
     ensures number { result ≡ refusal_number (new_configuration (parameters_of parameters.now)) }
-    ensures written { result ≡ 0 → IsWritten header_bytes (new_configuration (parameters_of parameters.now)) configuration.new }
-    ensures kept { result ≢ 0 → configuration.new ≡ configuration.old }
+    ensures fills { Fills header_bytes (new_configuration (parameters_of parameters.now)) result configuration.old configuration.new }
 {
     number(write(parameters, configuration))
 }
@@ -127,7 +123,7 @@ pub extern "C" fn reamertan_read_configuration(
 
 // Tests that coders take a configuration.
 fn check(alloc: Global, configuration: &[u8; 12]) -> Result<(), CallEnd>
-    ensures { IsNumber (number_of result) (checked_configuration (greatest_size built_in_rows) (configuration_of_bytes configuration.now)) }
+    ensures { IsNumber (number_of result) (checked_header configuration.now) }
 {
     let table = SystematicTable::built_in(alloc)?;
     ObjectTransmissionInformation::deserialize(configuration).check(&table)?;
@@ -138,7 +134,7 @@ fn check(alloc: Global, configuration: &[u8; 12]) -> Result<(), CallEnd>
 /// `ObjectTransmissionInformation::check`.
 #[unsafe(no_mangle)]
 pub extern "C" fn reamertan_check_configuration(alloc: Global, configuration: &[u8; 12]) -> u8
-    ensures { IsNumber result (checked_configuration (greatest_size built_in_rows) (configuration_of_bytes configuration.now)) }
+    ensures { IsNumber result (checked_header configuration.now) }
 {
     number(check(alloc, configuration))
 }

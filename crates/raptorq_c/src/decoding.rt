@@ -1,14 +1,15 @@
 //! Packets in, their object out.
-ghost use Rattle.std.specs.Prelude.{◌≡◌, ◌≢◌, ◌<◌, map, OnErr, IfOk};
+ghost use Rattle.std.specs.Prelude.{◌≡◌, ◌<◌, map, IfOk};
 ghost use Rattle.rq_bytes.specs.Refusals.{Answers};
 ghost use Rattle.rq_standard.specs.Packet.{packet_of_bytes};
 ghost use Rattle.raptorq.specs.Runs.{packets_of};
 ghost use Rattle.rq_standard.specs.Streams.{frames_in};
-ghost use Rattle.raptorq_c.specs.Decoding.{frames_refusal, Answered, AnswersPackets, AnswersWhereOthersCan, IsDecoded};
+ghost use Rattle.raptorq_c.specs.ObjectBuffers.{frames_refusal, FillsWithObject};
 ghost use Rattle.raptorq_c.specs.Numbers.{number_of};
 
 use crate::buffers::fill_answer;
 use crate::call_end::{CallEnd, number};
+use crate::sizes::frame_size;
 use raptorq::decoder::decode_all;
 use raptorq::encoder::SPARSE_MATRIX_THRESHOLD;
 use raptorq::error::Error;
@@ -39,14 +40,11 @@ fn decode(
     packets: &[u8],
     object: &mut [u8],
 ) -> Result<(), CallEnd>
-    ensures refused { IsDecoded (number_of result) configuration.now packets.now }
-    ensures headline { Answered (number_of result) object.old object.new (AnswersPackets configuration.now packets.now) }
-    ensures only_object { Answered (number_of result) object.old object.new (AnswersWhereOthersCan configuration.now packets.now) }
-    ensures kept { OnErr result (object.new ≡ object.old) }
+    ensures { FillsWithObject configuration.now packets.now (number_of result) object.old object.new }
 {
     let table = SystematicTable::built_in(alloc)?;
     let config = ObjectTransmissionInformation::deserialize(configuration);
-    let steps = steps(alloc, 4 + usize::from(config.symbol_size()), packets)?;
+    let steps = steps(alloc, frame_size(&config), packets)?;
     let answer = decode_all(alloc, &table, config, steps)?;
     fill_answer(object, &answer)
 }
@@ -64,10 +62,7 @@ pub extern "C" fn reamertan_decode(
     packets: &[u8],
     object: &mut [u8],
 ) -> u8
-    ensures refused { IsDecoded result configuration.now packets.now }
-    ensures headline { Answered result object.old object.new (AnswersPackets configuration.now packets.now) }
-    ensures only_object { Answered result object.old object.new (AnswersWhereOthersCan configuration.now packets.now) }
-    ensures kept { result ≢ 0 → object.new ≡ object.old }
+    ensures { FillsWithObject configuration.now packets.now result object.old object.new }
 {
     number(decode(alloc, configuration, packets, object))
 }

@@ -1,10 +1,9 @@
 //! An object in, its packets out.
-ghost use Rattle.std.specs.Prelude.{◌≡◌, ◌≢◌, ℕ, length, Ok, OnOk, OnErr, IfOk, IfErr};
+ghost use Rattle.std.specs.Prelude.{◌≡◌, ℕ, IfOk, IfErr};
 ghost use Rattle.rq_bytes.specs.Error.{code_of};
 ghost use Rattle.rq_standard.specs.Streams.{frames_of};
-ghost use Rattle.raptorq_c.specs.Encoding.{IsEncoding, StopsAt};
+ghost use Rattle.raptorq_c.specs.PacketBuffers.{FillsWithPackets, IsEncoding, StopsAt};
 ghost use Rattle.raptorq_c.specs.Numbers.{number_of};
-ghost use Rattle.raptorq_c.specs.Sizes.{bytes_of_packets};
 
 use crate::buffers::fill;
 use crate::call_end::{CallEnd, number};
@@ -51,10 +50,7 @@ fn encode(
     repair: u32,
     packets: &mut [u8],
 ) -> Result<(), CallEnd>
-    ensures packets { OnOk result (IsEncoding configuration.now object.now repair packets.new) }
-    ensures room { OnOk result (bytes_of_packets configuration.now repair ≡ Ok (length packets.old)) }
-    ensures stopped { OnErr result (StopsAt configuration.now object.now repair (length packets.old) (number_of result)) }
-    ensures kept { OnErr result (packets.new ≡ packets.old) }
+    ensures { FillsWithPackets configuration.now object.now repair (number_of result) packets.old packets.new }
 {
     let bytes = encoded(alloc, configuration, object, repair)?;
     fill(packets, bytes.as_slice())
@@ -73,10 +69,7 @@ pub extern "C" fn reamertan_encode(
     repair: u32,
     packets: &mut [u8],
 ) -> u8
-    ensures packets { result ≡ 0 → IsEncoding configuration.now object.now repair packets.new }
-    ensures room { result ≡ 0 → bytes_of_packets configuration.now repair ≡ Ok (length packets.old) }
-    ensures stopped { result ≢ 0 → StopsAt configuration.now object.now repair (length packets.old) result }
-    ensures kept { result ≢ 0 → packets.new ≡ packets.old }
+    ensures { FillsWithPackets configuration.now object.now repair result packets.old packets.new }
 {
     number(encode(alloc, configuration, object, repair, packets))
 }

@@ -1,6 +1,6 @@
 //! A coder on the heap behind a pointer that C keeps, and that no C code reads.
 ghost use Rattle.std.specs.Prelude.{◌≡◌, Option, Some, None, IsSome, IfOk};
-ghost use Rattle.raptorq_c.specs.Owned.{owned_at, held_coded};
+ghost use Rattle.raptorq_c.specs.Owned.{owned_at, owned_coded};
 ghost use Rattle.raptorq_c.specs.declared.owned.Coder.{Coder};
 
 use raptorq::{Decoder, Encoder};
@@ -29,7 +29,7 @@ impl Coder {
 #[repr(C)]
 pub struct Owned {
     at: *mut u8,
-    pub ghost value: { Option Coder } by { held_coded },
+    pub ghost value: { Option Coder } by { owned_coded },
 }
 
 impl Model for Owned {

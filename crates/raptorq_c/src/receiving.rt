@@ -1,16 +1,10 @@
 //! A decoder that C keeps: packets one at a time, and the object once they determine it.
-ghost use Rattle.std.specs.Prelude.{◌≡◌, ◌≢◌, ◌↔◌, ◌⊎◌, Ok, None, IfSome, IsSomeAnd, IfOk, IfErr, OnOk, OnErr};
+ghost use Rattle.std.specs.Prelude.{◌≡◌, IsSomeAnd, IfOk};
 ghost use Rattle.rq_bytes.specs.Refusals.{Answers};
-ghost use Rattle.rq_standard.specs.Configuration.{configuration_of_bytes};
-ghost use Rattle.rq_standard.specs.Packet.{packet_of_bytes};
-ghost use Rattle.rq_standard.specs.Standing.{IsNewState, Adds, StopsEarly, Contradicts, IsBlockContradictory, KeepsContradictions, IsHonestPacket, StandsForNone, StandsForMore, AnswersLateBlock, LeavesBlockLate, AnswersObject, AnswersNothingElse, AnswersOnlyObject, result_of};
-ghost use Rattle.rq_standard.specs.TableRows.{built_in_rows, greatest_size};
-ghost use Rattle.rq_base.specs.RefusedInput.{checked_configuration};
 ghost use Rattle.raptorq.specs.Decoder.{state_of};
-ghost use Rattle.raptorq.specs.Refused.{IsPacketRefusal};
-ghost use Rattle.raptorq_c.specs.Decoding.{Answered, IsRefused};
-ghost use Rattle.raptorq_c.specs.Handles.{coder_of, decoder_in, decoder_of, encoder_in, encoder_of, bytes_refusal, Becomes, BecomesBy, DecoderBy, IsTakenNumber, IsAdded, LeavesRefused};
-ghost use Rattle.raptorq_c.specs.Numbers.{number_of, IsNumber};
+ghost use Rattle.raptorq_c.specs.Handles.{coder_of, decoder_in, decoder_of, encoder_in, encoder_of, FillsWithAnswer, IsAdded, IsNewDecoder, OpensDecoder, TakesBytes};
+ghost use Rattle.raptorq_c.specs.Numbers.{number_of, refusal_number};
+ghost use Rattle.raptorq_c.specs.Headers.{checked_header};
 
 use crate::buffers::fill_answer;
 use crate::call_end::{CallEnd, number};
@@ -23,9 +17,8 @@ use std::alloc::Global;
 
 // The decoder of an object in this configuration.
 fn receiver(alloc: Global, configuration: &[u8; 12]) -> Result<Box<Coder>, Error>
-    ensures refused { Answers (λ _. tt) result (checked_configuration (greatest_size built_in_rows) (configuration_of_bytes configuration.now)) }
-    ensures new { IfOk result (λ b. IsSomeAnd (decoder_in b.value) (IsNewState built_in_rows (configuration_of_bytes configuration.now))) }
-    ensures stands { IfOk result (λ b. IsSomeAnd (decoder_in b.value) (StandsForNone built_in_rows (configuration_of_bytes configuration.now))) }
+    ensures refused { Answers (λ _. tt) result (checked_header configuration.now) }
+    ensures decoder { IfOk result (λ b. IsSomeAnd (decoder_in b.value) (IsNewDecoder configuration.now)) }
 {
     let table = SystematicTable::built_in(alloc)?;
     let config = ObjectTransmissionInformation::deserialize(configuration);
@@ -35,10 +28,7 @@ fn receiver(alloc: Global, configuration: &[u8; 12]) -> Result<Box<Coder>, Error
 
 // Puts a new decoder into the handle, once it is made.
 fn open(alloc: Global, configuration: &[u8; 12], handle: &mut Handle) -> Result<(), CallEnd>
-    ensures number { IsNumber (number_of result) (checked_configuration (greatest_size built_in_rows) (configuration_of_bytes configuration.now)) }
-    ensures new { OnOk result (IsSomeAnd (decoder_of handle.new) (IsNewState built_in_rows (configuration_of_bytes configuration.now))) }
-    ensures stands { OnOk result (IsSomeAnd (decoder_of handle.new) (StandsForNone built_in_rows (configuration_of_bytes configuration.now))) }
-    ensures kept { OnErr result (coder_of handle.new ≡ coder_of handle.old) }
+    ensures { OpensDecoder configuration.now (number_of result) handle.old handle.new }
 {
     handle.replace(alloc, receiver(alloc, configuration)?);
     Ok(())
@@ -55,37 +45,21 @@ pub extern "C" fn reamertan_open_decoder(
     configuration: &[u8; 12],
     handle: &mut Handle,
 ) -> u8
-    ensures number { IsNumber result (checked_configuration (greatest_size built_in_rows) (configuration_of_bytes configuration.now)) }
-    ensures new { result ≡ 0 → IsSomeAnd (decoder_of handle.new) (IsNewState built_in_rows (configuration_of_bytes configuration.now)) }
-    ensures stands { result ≡ 0 → IsSomeAnd (decoder_of handle.new) (StandsForNone built_in_rows (configuration_of_bytes configuration.now)) }
-    ensures kept { result ≢ 0 → coder_of handle.new ≡ coder_of handle.old }
+    ensures { OpensDecoder configuration.now result handle.old handle.new }
 {
     number(open(alloc, configuration, handle))
 }
 
 // Takes the packet that bytes spell.
 fn add_bytes(alloc: Global, decoder: &mut Decoder, packet: &[u8]) -> Result<(), Error>
-    ensures taken { OnOk result (bytes_refusal (state_of decoder.old).configuration packet.now ≡ Ok tt) }
-    ensures refused { IfErr result (λ e. (e ≡ Error.OutOfMemory) ⊎ IsPacketRefusal e (bytes_refusal (state_of decoder.old).configuration packet.now)) }
-    ensures unchanged { IfErr result (λ e. e ≢ Error.OutOfMemory → e ≢ Error.Contradiction → state_of decoder.new ≡ state_of decoder.old) }
-    ensures adds { OnOk result (DecoderBy Adds decoder.old packet.now decoder.new) }
-    ensures stops { IfErr result (λ e. e ≡ Error.OutOfMemory → DecoderBy StopsEarly decoder.old packet.now decoder.new) }
-    ensures contradiction { IfErr result (λ e. e ≡ Error.Contradiction → DecoderBy Contradicts decoder.old packet.now decoder.new) }
-    ensures goes_on { OnOk result (IsBlockContradictory (state_of decoder.old) (packet_of_bytes packet.now).id.block → ⊥) }
-    ensures keeps { KeepsContradictions (state_of decoder.old) (state_of decoder.new) }
-    ensures honest { IfErr result (λ e. e ≡ Error.Contradiction → IsHonestPacket (state_of decoder.old) (packet_of_bytes packet.now) → ⊥) }
-    ensures stands { OnOk result (DecoderBy StandsForMore decoder.old packet.now decoder.new) }
-    ensures answers_late { OnOk result (DecoderBy AnswersLateBlock decoder.old packet.now decoder.new) }
-    ensures leaves_late { IfErr result (λ e. e ≡ Error.OutOfMemory → DecoderBy LeavesBlockLate decoder.old packet.now decoder.new) }
-    ensures leaves_refused { OnErr result (LeavesRefused packet.now (state_of decoder.old) (state_of decoder.new)) }
+    ensures { IsAdded (state_of decoder.old) packet.now (refusal_number result) (state_of decoder.new) }
 {
     decoder.add_new_packet(EncodingPacket::deserialize(alloc, packet)?)
 }
 
 // Takes a packet, where the coder is a decoder.
 fn add(alloc: Global, coder: &mut Coder, packet: &[u8]) -> Result<(), CallEnd>
-    ensures none { (number_of result ≡ 26) ↔ (decoder_in coder.old ≡ None) }
-    ensures added { Becomes (decoder_in coder.old) (decoder_in coder.new) (λ s t. IsAdded s packet.now (number_of result) t) }
+    ensures takes { TakesBytes packet.now (number_of result) (decoder_in coder.old) (decoder_in coder.new) }
     ensures other { encoder_in coder.new ≡ encoder_in coder.old }
 {
     match coder {
@@ -102,19 +76,7 @@ fn add(alloc: Global, coder: &mut Coder, packet: &[u8]) -> Result<(), CallEnd>
 /// recorded.
 #[unsafe(no_mangle)]
 pub extern "C" fn reamertan_add_packet(alloc: Global, handle: &mut Handle, packet: &[u8]) -> u8
-    ensures none { (result ≡ 26) ↔ (decoder_of handle.old ≡ None) }
-    ensures refused { IfSome (decoder_of handle.old) (λ s. IsTakenNumber result (bytes_refusal s.configuration packet.now)) }
-    ensures unchanged { result ≢ 0 → result ≢ 21 → result ≢ 22 → decoder_of handle.new ≡ decoder_of handle.old }
-    ensures adds { result ≡ 0 → BecomesBy Adds handle.old packet.now handle.new }
-    ensures stops { result ≡ 21 → BecomesBy StopsEarly handle.old packet.now handle.new }
-    ensures contradiction { result ≡ 22 → BecomesBy Contradicts handle.old packet.now handle.new }
-    ensures goes_on { result ≡ 0 → IfSome (decoder_of handle.old) (λ s. IsBlockContradictory s (packet_of_bytes packet.now).id.block → ⊥) }
-    ensures keeps { Becomes (decoder_of handle.old) (decoder_of handle.new) KeepsContradictions }
-    ensures honest { result ≡ 22 → IfSome (decoder_of handle.old) (λ s. IsHonestPacket s (packet_of_bytes packet.now) → ⊥) }
-    ensures stands { result ≡ 0 → BecomesBy StandsForMore handle.old packet.now handle.new }
-    ensures answers_late { result ≡ 0 → BecomesBy AnswersLateBlock handle.old packet.now handle.new }
-    ensures leaves_late { result ≡ 21 → BecomesBy LeavesBlockLate handle.old packet.now handle.new }
-    ensures leaves_refused { result ≡ 21 → Becomes (decoder_of handle.old) (decoder_of handle.new) (LeavesRefused packet.now) }
+    ensures takes { TakesBytes packet.now result (decoder_of handle.old) (decoder_of handle.new) }
     ensures other { encoder_of handle.new ≡ encoder_of handle.old }
 {
     let Some(mut coder) = handle.take(alloc) else {
@@ -127,13 +89,7 @@ pub extern "C" fn reamertan_add_packet(alloc: Global, handle: &mut Handle, packe
 
 // Fills a buffer with the object, where the coder is a decoder.
 fn write(coder: &Coder, object: &mut [u8]) -> Result<(), CallEnd>
-    ensures none { (number_of result ≡ 26) ↔ (decoder_in coder.now ≡ None) }
-    ensures refused { IfSome (decoder_in coder.now) (λ _. IsRefused (number_of result) (Ok tt)) }
-    ensures value { IfSome (decoder_in coder.now) (λ s. Answered (number_of result) object.old object.new (λ r. r ≡ result_of s)) }
-    ensures object { IfSome (decoder_in coder.now) (λ s. Answered (number_of result) object.old object.new (AnswersObject s)) }
-    ensures nothing_else { IfSome (decoder_in coder.now) (λ s. Answered (number_of result) object.old object.new (AnswersNothingElse s)) }
-    ensures only_object { IfSome (decoder_in coder.now) (λ s. Answered (number_of result) object.old object.new (AnswersOnlyObject s)) }
-    ensures kept { OnErr result (object.new ≡ object.old) }
+    ensures { FillsWithAnswer (decoder_in coder.now) (number_of result) object.old object.new }
 {
     let Coder::Receiver(decoder) = coder else {
         return Err(CallEnd::NoCoder);
@@ -153,13 +109,7 @@ pub extern "C" fn reamertan_write_object(
     handle: &mut Handle,
     object: &mut [u8],
 ) -> u8
-    ensures none { (result ≡ 26) ↔ (decoder_of handle.old ≡ None) }
-    ensures refused { IfSome (decoder_of handle.old) (λ _. IsRefused result (Ok tt)) }
-    ensures value { IfSome (decoder_of handle.old) (λ s. Answered result object.old object.new (λ r. r ≡ result_of s)) }
-    ensures object { IfSome (decoder_of handle.old) (λ s. Answered result object.old object.new (AnswersObject s)) }
-    ensures nothing_else { IfSome (decoder_of handle.old) (λ s. Answered result object.old object.new (AnswersNothingElse s)) }
-    ensures only_object { IfSome (decoder_of handle.old) (λ s. Answered result object.old object.new (AnswersOnlyObject s)) }
-    ensures kept { result ≢ 0 → object.new ≡ object.old }
+    ensures fills { FillsWithAnswer (decoder_of handle.old) result object.old object.new }
     ensures same { coder_of handle.new ≡ coder_of handle.old }
 {
     let Some(coder) = handle.take(alloc) else {

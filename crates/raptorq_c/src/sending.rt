@@ -1,12 +1,8 @@
 //! An encoder that C keeps: any packet of its object.
-ghost use Rattle.std.specs.Prelude.{◌≡◌, ◌≢◌, ◌↔◌, ◌⊎◌, length, Ok, None, IfSome, IsSomeAnd, IfOk, IfErr, OnOk, OnErr};
+ghost use Rattle.std.specs.Prelude.{◌≡◌, ◌⊎◌, Ok, IsSomeAnd, IfOk, IfErr, OnOk};
 ghost use Rattle.rq_bytes.specs.Refusals.{IsRefusal};
-ghost use Rattle.rq_standard.specs.Configuration.{configuration_of_bytes};
-ghost use Rattle.rq_standard.specs.Headline.{HasNonsingularRows};
-ghost use Rattle.rq_standard.specs.TableRows.{built_in_rows, greatest_size};
 ghost use Rattle.raptorq.specs.Encoder.{encoded_of};
-ghost use Rattle.raptorq.specs.Refused.{new_encoder};
-ghost use Rattle.raptorq_c.specs.Handles.{coder_of, encoder_in, encoder_of, wanted_id, RefusesSender, IsCodeWhere, IsEncoderIn, IsPacketAt, IsPacketNumber, HasNoRoom};
+ghost use Rattle.raptorq_c.specs.Handles.{coder_of, encoder_in, encoder_of, wanted_id, FillsWithPacket, IsEncoderIn, IsPacketAt, OpensEncoder, RefusesSender};
 ghost use Rattle.raptorq_c.specs.Numbers.{number_of};
 
 use crate::buffers::fill;
@@ -21,9 +17,7 @@ use std::alloc::Global;
 // The encoder of an object in this configuration.
 fn sender(alloc: Global, configuration: &[u8; 12], object: &[u8]) -> Result<Box<Coder>, Error>
     ensures refused { IfErr result (λ e. (e ≡ Error.OutOfMemory) ⊎ RefusesSender configuration.now object.now e) }
-    ensures taken { OnOk result (new_encoder (greatest_size built_in_rows) (configuration_of_bytes configuration.now) (length object.now) ≡ Ok tt) }
-    ensures nonsingular { OnOk result (HasNonsingularRows built_in_rows (configuration_of_bytes configuration.now)) }
-    ensures encoder { IfOk result (λ b. IsSomeAnd (encoder_in b.value) (IsEncoderIn (configuration_of_bytes configuration.now) object.now)) }
+    ensures encoder { IfOk result (λ b. IsSomeAnd (encoder_in b.value) (IsEncoderIn configuration.now object.now)) }
 {
     let table = SystematicTable::built_in(alloc)?;
     let config = ObjectTransmissionInformation::deserialize(configuration);
@@ -38,11 +32,7 @@ fn open(
     object: &[u8],
     handle: &mut Handle,
 ) -> Result<(), CallEnd>
-    ensures refused { OnErr result ((number_of result ≡ 21) ⊎ IsCodeWhere (RefusesSender configuration.now object.now) (number_of result)) }
-    ensures taken { OnOk result (new_encoder (greatest_size built_in_rows) (configuration_of_bytes configuration.now) (length object.now) ≡ Ok tt) }
-    ensures nonsingular { OnOk result (HasNonsingularRows built_in_rows (configuration_of_bytes configuration.now)) }
-    ensures encoder { OnOk result (IsSomeAnd (encoder_of handle.new) (IsEncoderIn (configuration_of_bytes configuration.now) object.now)) }
-    ensures kept { OnErr result (coder_of handle.new ≡ coder_of handle.old) }
+    ensures { OpensEncoder configuration.now object.now (number_of result) handle.old handle.new }
 {
     handle.replace(alloc, sender(alloc, configuration, object)?);
     Ok(())
@@ -60,11 +50,7 @@ pub extern "C" fn reamertan_open_encoder(
     object: &[u8],
     handle: &mut Handle,
 ) -> u8
-    ensures refused { result ≢ 0 → (result ≡ 21) ⊎ IsCodeWhere (RefusesSender configuration.now object.now) result }
-    ensures taken { result ≡ 0 → new_encoder (greatest_size built_in_rows) (configuration_of_bytes configuration.now) (length object.now) ≡ Ok tt }
-    ensures nonsingular { result ≡ 0 → HasNonsingularRows built_in_rows (configuration_of_bytes configuration.now) }
-    ensures encoder { result ≡ 0 → IsSomeAnd (encoder_of handle.new) (IsEncoderIn (configuration_of_bytes configuration.now) object.now) }
-    ensures kept { result ≢ 0 → coder_of handle.new ≡ coder_of handle.old }
+    ensures { OpensEncoder configuration.now object.now result handle.old handle.new }
 {
     number(open(alloc, configuration, object, handle))
 }
@@ -87,11 +73,7 @@ fn write(
     esi: u32,
     packet: &mut [u8],
 ) -> Result<(), CallEnd>
-    ensures none { (number_of result ≡ 26) ↔ (encoder_in coder.now ≡ None) }
-    ensures number { IfSome (encoder_in coder.now) (λ e. IsPacketNumber (wanted_id e.configuration block esi) (number_of result)) }
-    ensures packet { OnOk result (IsSomeAnd (encoder_in coder.now) (λ e. IsPacketAt e block esi packet.new)) }
-    ensures no_room { number_of result ≡ 24 → IsSomeAnd (encoder_in coder.now) (λ e. HasNoRoom e block esi (length packet.old)) }
-    ensures kept { OnErr result (packet.new ≡ packet.old) }
+    ensures { FillsWithPacket (encoder_in coder.now) block esi (number_of result) packet.old packet.new }
 {
     let Coder::Sender(encoder) = coder else {
         return Err(CallEnd::NoCoder);
@@ -114,11 +96,7 @@ pub extern "C" fn reamertan_write_packet(
     esi: u32,
     packet: &mut [u8],
 ) -> u8
-    ensures none { (result ≡ 26) ↔ (encoder_of handle.old ≡ None) }
-    ensures number { IfSome (encoder_of handle.old) (λ e. IsPacketNumber (wanted_id e.configuration block esi) result) }
-    ensures packet { result ≡ 0 → IsSomeAnd (encoder_of handle.old) (λ e. IsPacketAt e block esi packet.new) }
-    ensures no_room { result ≡ 24 → IsSomeAnd (encoder_of handle.old) (λ e. HasNoRoom e block esi (length packet.old)) }
-    ensures kept { result ≢ 0 → packet.new ≡ packet.old }
+    ensures fills { FillsWithPacket (encoder_of handle.old) block esi result packet.old packet.new }
     ensures same { coder_of handle.new ≡ coder_of handle.old }
 {
     let Some(coder) = handle.take(alloc) else {

@@ -1,6 +1,7 @@
 //! How many bytes the blocks and the packets of an object take.
-ghost use Rattle.std.specs.Prelude.{◌≡◌, ◌≢◌, Ok, OnOk, OnErr};
-ghost use Rattle.raptorq_c.specs.Numbers.{number_of, IsNumber};
+ghost use Rattle.std.specs.Prelude.{◌≡◌};
+ghost use Rattle.rq_standard.specs.Streams.{frame_size};
+ghost use Rattle.raptorq_c.specs.Numbers.{number_of, Fills};
 ghost use Rattle.raptorq_c.specs.Sizes.{bytes_of_block, bytes_of_packets, range_of};
 
 use crate::call_end::{CallEnd, number};
@@ -19,6 +20,13 @@ pub struct Range {
     pub end: u64,
 }
 
+/// How long a frame is, in bytes: a payload id and a symbol.
+pub(crate) fn frame_size(config: &ObjectTransmissionInformation) -> usize
+    ensures { result ≡ frame_size config.now }
+{
+    4 + usize::from(config.symbol_size())
+}
+
 // Writes where a source block begins and where it ends.
 fn block_range(
     alloc: Global,
@@ -26,9 +34,7 @@ fn block_range(
     block: u8,
     range: &mut Range,
 ) -> Result<(), CallEnd>
-    ensures number { IsNumber (number_of result) (bytes_of_block configuration.now block) }
-    ensures written { OnOk result (bytes_of_block configuration.now block ≡ Ok (range_of range.new)) }
-    ensures kept { OnErr result (range.new ≡ range.old) }
+    ensures { Fills range_of (bytes_of_block configuration.now block) (number_of result) range.old range.new }
 {
     let config = ObjectTransmissionInformation::deserialize(configuration);
     let offsets = calculate_block_offsets(alloc, &[], &config)?;
@@ -55,9 +61,7 @@ pub extern "C" fn reamertan_block_range(
     block: u8,
     range: &mut Range,
 ) -> u8
-    ensures number { IsNumber result (bytes_of_block configuration.now block) }
-    ensures written { result ≡ 0 → bytes_of_block configuration.now block ≡ Ok (range_of range.new) }
-    ensures kept { result ≢ 0 → range.new ≡ range.old }
+    ensures { Fills range_of (bytes_of_block configuration.now block) result range.old range.new }
 {
     number(block_range(alloc, configuration, block, range))
 }
@@ -69,9 +73,7 @@ fn packets_length(
     repair: u32,
     length: &mut u64,
 ) -> Result<(), CallEnd>
-    ensures number { IsNumber (number_of result) (bytes_of_packets configuration.now repair) }
-    ensures written { OnOk result (bytes_of_packets configuration.now repair ≡ Ok length.new) }
-    ensures kept { OnErr result (length.new ≡ length.old) }
+    ensures { Fills (λ bytes. bytes) (bytes_of_packets configuration.now repair) (number_of result) length.old length.new }
 {
     let table = SystematicTable::built_in(alloc)?;
     let config = ObjectTransmissionInformation::deserialize(configuration);
@@ -81,7 +83,7 @@ fn packets_length(
         return Err(CallEnd::Refused(Error::EsiTooLarge));
     }
     let packets = config.total_symbols() + u64::from(config.source_blocks()) * repair;
-    *length = packets * (4 + u64::from(config.symbol_size()));
+    *length = packets * frame_size(&config) as u64;
     Ok(())
 }
 
@@ -97,9 +99,7 @@ pub extern "C" fn reamertan_packets_length(
     repair: u32,
     length: &mut u64,
 ) -> u8
-    ensures number { IsNumber result (bytes_of_packets configuration.now repair) }
-    ensures written { result ≡ 0 → bytes_of_packets configuration.now repair ≡ Ok length.new }
-    ensures kept { result ≢ 0 → length.new ≡ length.old }
+    ensures { Fills (λ bytes. bytes) (bytes_of_packets configuration.now repair) result length.old length.new }
 {
     number(packets_length(alloc, configuration, repair, length))
 }

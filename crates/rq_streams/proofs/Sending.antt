@@ -11,11 +11,10 @@ use Rattle.rq_standard.specs.TableRows.{greatest_size}
 use Rattle.rq_standard.specs.Configuration.{Configuration, header_bytes}
 use Rattle.rq_standard.specs.Streams.{frames_of, stream_of}
 use Rattle.rq_standard.proofs.FrameLaws.{frames_of-push}
-use Rattle.rq_base.specs.Defaults.{wanted_parameters}
 use Rattle.raptorq.specs.Encoder.{packets_refusal}
 use Rattle.raptorq.specs.Refused.{new_encoder}
 use Rattle.rq_streams.specs.Ends.{Wanted}
-use Rattle.rq_streams.specs.Sent.{sent_configuration, IsStreamSent, Sends, IsSent}
+use Rattle.rq_streams.specs.Sent.{default_parameters, sent_configuration, IsStreamSent, Sends, IsSent}
 use Rattle.rq_standard.specs.ObjectPackets.{AreEncoded}
 
 abbrev pub made : List ℕ → Result (List ℕ) Error
@@ -40,7 +39,7 @@ answered_with bytes = Ok (Some bytes)
 abbrev refused_by : Error → Wanted
 refused_by e = Err e
 
-module _ (table : List TableRow) (s repair : ℕ) (object : List ℕ) (c : Configuration) (parameters : wanted_parameters table (length object) s 10485760 ≡ Ok c) (taken : new_encoder (greatest_size table) c (length object) ≡ Ok tt) where
+module _ (table : List TableRow) (s repair : ℕ) (object : List ℕ) (c : Configuration) (parameters : default_parameters table (length object) s ≡ Ok c) (taken : new_encoder (greatest_size table) c (length object) ≡ Ok tt) where
   configured : sent_configuration table s object ≡ Ok c
   configured = rw (parameters, taken) refl
 

@@ -7,7 +7,6 @@ use Rattle.std.proofs.lemmas.Bool.{ltb-false, leb-false}
 use Rattle.std.proofs.lemmas.List.Elements.{All-contains, All-from_recursion}
 use Rattle.rq_bytes.specs.declared.error.Error.{Error}
 use Rattle.rq_bytes.specs.declared.error.Error.TheVariants.{PacketSizeZero, TransferLengthZero, TransferTooLong, MemoryRequirementTooSmall, TooManyBlocks}
-use Rattle.rq_bytes.specs.Refusals.{and_then}
 use Rattle.rq_standard.specs.declared.row.TableRow.{TableRow}
 use Rattle.rq_standard.specs.Packet.{Packet}
 use Rattle.rq_standard.specs.Configuration.{Configuration, IsConfiguration}
@@ -15,12 +14,12 @@ use Rattle.rq_standard.specs.Parameters.{alignment_for, symbol_size_for, fitting
 use Rattle.rq_standard.specs.Headline.{IsPacketOf, HasNonsingularRows}
 use Rattle.rq_standard.specs.Streams.{stream_of}
 use Rattle.rq_standard.specs.TableRows.{greatest_size, IsTable}
-use Rattle.rq_base.specs.Defaults.{wanted_parameters}
 use Rattle.rq_base.specs.RefusedInput.{checked_configuration}
 use Rattle.rq_base.proofs.Accepted.{both_ok, five_tests, accepted_by}
+use Rattle.raptorq.specs.Building.{default_settings}
 use Rattle.raptorq.specs.Refused.{new_encoder}
 use Rattle.raptorq.specs.Encoder.{packets_refusal}
-use Rattle.rq_streams.specs.Sent.{sent_configuration, IsStreamSent, Sends, IsSent}
+use Rattle.rq_streams.specs.Sent.{default_parameters, sent_configuration, IsStreamSent, Sends, IsSent}
 use Rattle.rq_streams.specs.SentStreams.{IsSentStream}
 
 small_alignment : (b : Bool) → cond b 8 1 < 2 ^ 8
@@ -48,9 +47,9 @@ few_sub_blocks table n s memory small =
     omega (arith, end, most_few (leb 64 s) s (λ e. leb-false 64 s e) small)
 
 -- default parameters fit their bytes
-fits_by : (table : List TableRow) (n s : ℕ) (c : Configuration) → s < 2 ^ 16 → wanted_parameters table n s 10485760 ≡ Ok c → IsConfiguration c × (c.transfer_length ≡ n)
+fits_by : (table : List TableRow) (n s : ℕ) (c : Configuration) → s < 2 ^ 16 → default_parameters table n s ≡ Ok c → IsConfiguration c × (c.transfer_length ≡ n)
 fits_by table n s c small h =
-    let m : ℕ = 10485760 in
+    let m : ℕ = default_settings.decoder_memory in
     let t = five_tests (eqb s 0) (eqb n 0) (ltb 942574504275 n) (eqb (fitting_block table s m (most_sub_blocks s)) 0) (ltb 255 (blocks_for table n s m)) PacketSizeZero TransferLengthZero TransferTooLong MemoryRequirementTooSmall TooManyBlocks (parameters_for table n s m) c h in
     let same = t.5 in
     let long : n ≤ 942574504275 = ltb-false 942574504275 n t.2 in
@@ -81,9 +80,9 @@ among table c object all [] honest h = tt
 among table c object all (p ∷ some) honest h = (All-contains (IsPacketOf table c object) all p (All-from_recursion (IsPacketOf table c object) all honest) h.0, among table c object all some honest h.1)
 
 -- the steps of a configuration that is sent
-sent_steps : (table : List TableRow) (s : ℕ) (object : List ℕ) (c : Configuration) → sent_configuration table s object ≡ Ok c → (wanted_parameters table (length object) s 10485760 ≡ Ok c) × (new_encoder (greatest_size table) c (length object) ≡ Ok tt)
+sent_steps : (table : List TableRow) (s : ℕ) (object : List ℕ) (c : Configuration) → sent_configuration table s object ≡ Ok c → (default_parameters table (length object) s ≡ Ok c) × (new_encoder (greatest_size table) c (length object) ≡ Ok tt)
 sent_steps table s object c h =
-    let p = both_ok (wanted_parameters table (length object) s 10485760) _ c h in
+    let p = both_ok (default_parameters table (length object) s) _ c h in
     let e = both_ok (new_encoder (greatest_size table) p.0 (length object)) _ c p.2 in
     let same : p.0 ≡ c = same_configuration p.0 c e.2 in (
       p.1 ∙ ap configured same,

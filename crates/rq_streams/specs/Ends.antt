@@ -36,17 +36,14 @@ failed_calls (Ok x) = 0
 failed_calls (Err Fault) = 1
 failed_calls (Err (Refused e)) = 0
 
--- A run's reader and writer together count its failed calls.
-abbrev pub CountsFailures : {R W X : Type 0} → Counted R → Counted W → Result X Stop → Counted R → Counted W → Type 0
-CountsFailures reader writer result reader' writer' = failed_count reader' + failed_count writer' ≡ failed_count reader + failed_count writer + failed_calls result
-
--- Its answer is a fault exactly where the count of one of them grew.
-abbrev pub FaultsWhereCounted : {R W X : Type 0} → Counted R → Counted W → Result X Stop → Counted R → Counted W → Type 0
-FaultsWhereCounted reader writer result reader' writer' = (result ≡ Err Fault) ↔ ((failed_count reader < failed_count reader') ⊎ (failed_count writer < failed_count writer'))
-
--- Where a call of its reader failed, what stands behind its writer is as before.
-abbrev pub KeepsWhereUnread : {R : Type 0} → Counted R → Counted R → Option (List ℕ) → Option (List ℕ) → Type 0
-KeepsWhereUnread reader reader' before after = failed_count reader < failed_count reader' → Keeps before after
+-- The first failed call of a run ends it, where this stood behind its writer before and after.
+pub record EndsAtFailure {R W X : Type 0} (reader : Counted R) (writer : Counted W) (result : Result X Stop) (reader' : Counted R) (writer' : Counted W) (before after : Option (List ℕ)) : Type 0 where
+  -- reader and writer together count the failed calls
+  pub counts : failed_count reader' + failed_count writer' ≡ failed_count reader + failed_count writer + failed_calls result
+  -- the answer is a fault exactly where the count of one of them grew
+  pub fault : (result ≡ Err Fault) ↔ ((failed_count reader < failed_count reader') ⊎ (failed_count writer < failed_count writer'))
+  -- where a call of the reader failed, nothing is written
+  pub unread : failed_count reader < failed_count reader' → Keeps before after
 
 -- the outcome alone, of a run that answers how many frames it skipped beside it
 abbrev pub outcome_of : Result (Outcome × ℕ) Stop → Result Outcome Stop

@@ -4,6 +4,18 @@ use Rattle.rq_standard.specs.Packet.{Packet, packet_of_bytes}
 use Rattle.rq_standard.specs.Configuration.{Configuration, configuration_of_bytes}
 use Rattle.rq_standard.specs.Streams.{frame_size, frames_in}
 
+-- how long a stream's header is, that of a configuration
+abbrev pub header_length : ℕ
+header_length = 12
+
+-- the configuration that the header spells
+abbrev pub configuration_in : List ℕ → Configuration
+configuration_in bytes = configuration_of_bytes (take header_length bytes)
+
+-- the bytes behind it
+abbrev pub bytes_of_frames : List ℕ → List ℕ
+bytes_of_frames bytes = drop header_length bytes
+
 -- a frame is skipped that isn't whole, or whose block isn't one of the object's
 abbrev pub is_skipped : Configuration → List ℕ → Bool
 is_skipped c frame = nat_lt (length frame) (frame_size c) || not (nat_lt (packet_of_bytes frame).id.block c.source_blocks)
@@ -20,6 +32,6 @@ skipped_count c frames = count_by (is_skipped c) frames
 abbrev pub kept_packets : Configuration → List (List ℕ) → List Packet
 kept_packets c frames = filter_map (kept_packet c) frames
 
--- how many frames of a stream are skipped: those behind the twelve bytes of its header
+-- how many frames of a stream are skipped
 abbrev pub skipped_in : List ℕ → ℕ
-skipped_in bytes = let c = configuration_of_bytes (take 12 bytes) in skipped_count c (frames_in (frame_size c) (drop 12 bytes))
+skipped_in bytes = let c = configuration_in bytes in skipped_count c (frames_in (frame_size c) (bytes_of_frames bytes))

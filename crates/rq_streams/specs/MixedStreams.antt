@@ -1,12 +1,13 @@
 -- Streams in which other frames stand among the packets of an object.
-use Rattle.std.specs.Prelude.{◌≡◌, ℕ, ◌+◌, ◌<◌, ◌≤◌, List, [], ◌∷◌, ◌++◌, length, take, drop, flat_map, slice_index}
+use Rattle.std.specs.Prelude.{◌≡◌, ℕ, ◌+◌, ◌<◌, ◌≤◌, List, [], ◌∷◌, ◌++◌, length, flat_map, slice_index}
 use Rattle.std.specs.List.{AllByRecursion}
 use Rattle.rq_standard.specs.declared.row.TableRow.{TableRow}
 use Rattle.rq_standard.specs.TableRows.{IsTable, greatest_size}
 use Rattle.rq_standard.specs.Packet.{Packet, packet_bytes}
-use Rattle.rq_standard.specs.Configuration.{Configuration, IsConfiguration, IsAccepted, configuration_of_bytes}
+use Rattle.rq_standard.specs.Configuration.{Configuration, IsConfiguration, IsAccepted}
 use Rattle.rq_standard.specs.Headline.{IsHonestRun}
 use Rattle.rq_standard.specs.Streams.{frame_size}
+use Rattle.rq_streams.specs.Frames.{header_length, configuration_in, bytes_of_frames}
 
 -- a frame of a packet, or other bytes in its place
 pub data Frame : Type 0 where
@@ -46,9 +47,9 @@ pub record IsMixedStream (table : List TableRow) (c : Configuration) (object : L
   pub stream_run : IsStreamRun table c object (packets_among frames)
   pub others : AllByRecursion (IsOtherFrame c) (others_among frames)
   pub short : length rest < frame_size c
-  pub long : 12 ≤ length bytes
-  pub header : configuration_of_bytes (take 12 bytes) ≡ c
-  pub spelled : drop 12 bytes ≡ flat_map frame_bytes frames ++ rest
+  pub long : header_length ≤ length bytes
+  pub header : configuration_in bytes ≡ c
+  pub spelled : bytes_of_frames bytes ≡ flat_map frame_bytes frames ++ rest
 
 -- one for a rest that isn't empty
 abbrev pub rest_count : List ℕ → ℕ

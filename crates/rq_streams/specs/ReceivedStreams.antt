@@ -1,10 +1,10 @@
 -- What a receiver refuses and skips of any bytes, and what it answers over a mixed stream of an object's packets.
-use Rattle.std.specs.Prelude.{◌≡◌, ℕ, List, [], length, take, Option, Result, Ok, Err, MatchResult, Some, None, IfSome, IfOk, if◌then◌else◌, nat_lt, drop, ◌⊎◌}
+use Rattle.std.specs.Prelude.{◌≡◌, ℕ, List, [], length, Option, Result, Ok, Err, MatchResult, Some, None, IfSome, IfOk, if◌then◌else◌, nat_lt, ◌⊎◌}
 use Rattle.std.specs.List.{AllByRecursion}
 use Rattle.rq_bytes.specs.declared.error.Error.{Error}
 use Rattle.rq_bytes.specs.declared.error.Error.TheVariants.{HeaderTooShort, OutOfMemory}
 use Rattle.rq_standard.specs.Packet.{Packet}
-use Rattle.rq_standard.specs.Configuration.{Configuration, configuration_of_bytes}
+use Rattle.rq_standard.specs.Configuration.{Configuration}
 use Rattle.rq_standard.specs.declared.row.TableRow.{TableRow}
 use Rattle.rq_standard.specs.Headline.{IsPacketOf, IsAnswerable, IsOnlyObject, IsObjectAnswer}
 use Rattle.rq_standard.specs.Standing.{State, StandsFor}
@@ -13,17 +13,17 @@ use Rattle.raptorq.specs.Runs.{IsRefusalBehind, IsRunRefusal, FollowsRun}
 use Rattle.rq_streams.specs.declared.run.Outcome.{Outcome}
 use Rattle.rq_streams.specs.declared.run.Stop.{Stop}
 use Rattle.rq_streams.specs.Ends.{Wanted, Ends, EndsAs, outcome_of}
-use Rattle.rq_streams.specs.Frames.{kept_packets, skipped_in}
+use Rattle.rq_streams.specs.Frames.{header_length, configuration_in, bytes_of_frames, kept_packets, skipped_in}
 use Rattle.rq_streams.specs.MixedStreams.{packets_among, other_count, IsStreamRun, OverMixedStreams}
 
 -- the configuration in a stream's header
 abbrev pub header_configuration : List ℕ → Result Configuration Error
-header_configuration bytes = if nat_lt (length bytes) 12 then Err HeaderTooShort else Ok (configuration_of_bytes (take 12 bytes))
+header_configuration bytes = if nat_lt (length bytes) header_length then Err HeaderTooShort else Ok (configuration_in bytes)
 
 -- the first refusal of a stream: of its header, and then of the run of its packets, those of frames that aren't skipped
 abbrev pub IsStreamRefusal : List TableRow → List ℕ → Result (Unit {0}) Error → Type 0
 IsStreamRefusal table bytes r =
-    MatchResult (header_configuration bytes) (λ c. IsRunRefusal table c (kept_packets c (frames_in (frame_size c) (drop 12 bytes))) r) (λ e. r ≡ Err e)
+    MatchResult (header_configuration bytes) (λ c. IsRunRefusal table c (kept_packets c (frames_in (frame_size c) (bytes_of_frames bytes))) r) (λ e. r ≡ Err e)
 
 -- what is wanted of it: that refusal, and where nothing is refused some answer
 abbrev pub IsWantedOf : List TableRow → List ℕ → Wanted → Type 0

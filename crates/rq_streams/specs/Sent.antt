@@ -10,6 +10,7 @@ use Rattle.rq_standard.specs.Headline.{HasNonsingularRows}
 use Rattle.rq_standard.specs.Streams.{stream_of}
 use Rattle.rq_standard.specs.TableRows.{greatest_size}
 use Rattle.rq_base.specs.Defaults.{wanted_parameters}
+use Rattle.raptorq.specs.Building.{default_settings}
 use Rattle.raptorq.specs.Encoder.{packets_refusal}
 use Rattle.raptorq.specs.Refused.{new_encoder}
 use Rattle.rq_streams.specs.declared.run.Outcome.{Outcome}
@@ -17,10 +18,14 @@ use Rattle.rq_streams.specs.declared.run.Stop.{Stop}
 use Rattle.rq_streams.specs.Ends.{Wanted, EndsAs}
 use Rattle.rq_standard.specs.ObjectPackets.{AreEncoded}
 
+-- the default configuration of an object of this length, for payloads of at most this size
+abbrev pub default_parameters : List TableRow → ℕ → ℕ → Result Configuration Error
+default_parameters table length_of_object packet_size = wanted_parameters table length_of_object packet_size default_settings.decoder_memory
+
 -- the default configuration of an object, unless something refuses it
 abbrev pub sent_configuration : List TableRow → ℕ → List ℕ → Result Configuration Error
 sent_configuration table packet_size object =
-    and_then (wanted_parameters table (length object) packet_size 10485760) (λ c.
+    and_then (default_parameters table (length object) packet_size) (λ c.
     and_then (new_encoder (greatest_size table) c (length object)) (λ _. Ok c))
 
 -- a stream of the object's packets

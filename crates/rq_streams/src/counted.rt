@@ -15,11 +15,11 @@ pub struct Counted<T> {
 }
 
 impl<T> Counted<T> {
-    ghost use Rattle.rq_streams.specs.Counted.{failed_count, bare};
+    ghost use Rattle.rq_streams.specs.Counted.{failed_count, inner_of};
 
     /// Counts the failed calls of a reader or a writer from now on.
     pub fn new(inner: T) -> Counted<T>
-        ensures inner { bare result ≡ inner }
+        ensures inner { inner_of result ≡ inner }
         ensures none { failed_count result ≡ 0 }
     {
         Counted { inner, failed: 0 }
@@ -34,13 +34,13 @@ impl<T> Counted<T> {
 }
 
 impl<R: Read> Read for Counted<R> {
-    ghost use Rattle.rq_streams.specs.Counted.{failed_count, bare, one_more};
+    ghost use Rattle.rq_streams.specs.Counted.{failed_count, inner_of, one_more};
 
-    ghost remaining = { λ c. R.remaining (bare c) };
+    ghost remaining = { λ c. R.remaining (inner_of c) };
 
     fn read(&mut self, buf: &mut [u8]) -> io::Result<usize>
         ensures bound { ReadsAtMost result buf.new }
-        ensures bytes { ReadConsumes (R.remaining (bare self.old)) (R.remaining (bare self.new)) result buf.new }
+        ensures bytes { ReadConsumes (R.remaining (inner_of self.old)) (R.remaining (inner_of self.new)) result buf.new }
         ensures ok { OnOk result (failed_count self.new ≡ failed_count self.old) }
         ensures err { OnErr result (failed_count self.new ≡ one_more (failed_count self.old)) }
     {
@@ -53,13 +53,13 @@ impl<R: Read> Read for Counted<R> {
 }
 
 impl<W: Write> Write for Counted<W> {
-    ghost use Rattle.rq_streams.specs.Counted.{failed_count, bare, one_more, CountsWrite};
+    ghost use Rattle.rq_streams.specs.Counted.{failed_count, inner_of, one_more, CountsWrite};
 
-    ghost contents = { λ c. W.contents (bare c) };
+    ghost contents = { λ c. W.contents (inner_of c) };
 
     fn write(&mut self, buf: &[u8]) -> io::Result<usize>
         ensures bound { WritesAtMost result buf.now }
-        ensures bytes { WriteAppends (W.contents (bare self.old)) (W.contents (bare self.new)) result buf.now }
+        ensures bytes { WriteAppends (W.contents (inner_of self.old)) (W.contents (inner_of self.new)) result buf.now }
         ensures counts { CountsWrite (failed_count self.old) (failed_count self.new) result buf.now }
     {
         let result = self.inner.write(buf);
@@ -74,7 +74,7 @@ impl<W: Write> Write for Counted<W> {
     }
 
     fn flush(&mut self) -> io::Result<()>
-        ensures bytes { Keeps (W.contents (bare self.old)) (W.contents (bare self.new)) }
+        ensures bytes { Keeps (W.contents (inner_of self.old)) (W.contents (inner_of self.new)) }
         ensures ok { OnOk result (failed_count self.new ≡ failed_count self.old) }
         ensures err { OnErr result (failed_count self.new ≡ one_more (failed_count self.old)) }
     {

@@ -1,10 +1,10 @@
 //! A stream in, its object out.
 ghost use Rattle.std.specs.Prelude.{◌≡◌, ◌^◌, ◌-◌, ◌<◌, ◌≤◌, length, OnOk, IfOk, IfErr, option_map, vec_items};
 ghost use Rattle.raptorq.specs.Decoder.{state_of};
-ghost use Rattle.rq_streams.specs.Counted.{failed_count, bare};
+ghost use Rattle.rq_streams.specs.Counted.{failed_count, inner_of};
 ghost use Rattle.rq_standard.specs.Streams.{frame_size, frames_in};
-ghost use Rattle.rq_streams.specs.Ends.{AnswersAs, CountsFailures, FaultsWhereCounted, KeepsWhereUnread};
-ghost use Rattle.rq_streams.specs.Frames.{kept_packet, skipped_count, skipped_in};
+ghost use Rattle.rq_streams.specs.Ends.{AnswersAs, EndsAtFailure};
+ghost use Rattle.rq_streams.specs.Frames.{header_length, kept_packet, skipped_count, skipped_in};
 ghost use Rattle.rq_streams.specs.ReceivedStreams.{header_configuration, StandsForFrames, AnswersFrames, StopsHonestFrames, IsWantedOf, AnswersStream, RefusesStream, RefusesFirst, CountsSkipped, ReceivesExactly, ReceivesWhereAnyCan, CountsOthers};
 
 use crate::counted::Counted;
@@ -15,12 +15,15 @@ use raptorq::{Decoder, EncodingPacket, ObjectTransmissionInformation};
 use std::alloc::Global;
 use std::io::{Read, Write};
 
+// The bytes of a stream's header, that of a configuration.
+const HEADER_LENGTH: usize = 12;
+
 // The configuration in a stream's header, whether or not coders take it.
 fn header_configuration(bytes: &[u8]) -> Result<ObjectTransmissionInformation, Error>
     ensures value { result ≡ header_configuration bytes.now }
-    ensures long { OnOk result (12 ≤ length bytes.now) }
+    ensures long { OnOk result (header_length ≤ length bytes.now) }
 {
-    match bytes.first_chunk::<12>() {
+    match bytes.first_chunk::<HEADER_LENGTH>() {
         Some(header) => Ok(ObjectTransmissionInformation::deserialize(header)),
         None => Err(Error::HeaderTooShort),
     }
@@ -88,7 +91,7 @@ fn received_object(
     let stream = bytes.as_slice();
     let config = header_configuration(stream)?;
     let mut decoder = Decoder::new(alloc, table, config)?;
-    let skipped = add_frames(alloc, &mut decoder, &config, &stream[12..])?;
+    let skipped = add_frames(alloc, &mut decoder, &config, &stream[HEADER_LENGTH..])?;
     drop(bytes);
     Ok((decoder.get_result()?, skipped))
 }
@@ -119,28 +122,27 @@ pub fn run_receive<R: Read, W: Write>(
     requires writes { failed_count writer.old < 2 ^ 64 - 1 }
 
     // The first failed call ends the run, and nothing else is a fault.
-    ensures counts { CountsFailures reader.old writer.old result reader.new writer.new }
-    ensures fault { FaultsWhereCounted reader.old writer.old result reader.new writer.new }
-    ensures unread { KeepsWhereUnread reader.old reader.new (W.contents (bare writer.old)) (W.contents (bare writer.new)) }
+    ensures failures { EndsAtFailure reader.old writer.old result reader.new writer.new
+        (W.contents (inner_of writer.old)) (W.contents (inner_of writer.new)) }
 
     // Whatever is read, its first refusal is refused, that of its packets that contradict each other
     // among it, and then nothing is written.
     ensures refused { RefusesFirst table.now result
-        (R.remaining (bare reader.old)) (W.contents (bare writer.old)) (W.contents (bare writer.new)) }
+        (R.remaining (inner_of reader.old)) (W.contents (inner_of writer.old)) (W.contents (inner_of writer.new)) }
 
     // Whatever is read, the frames that can't be used are counted.
-    ensures skipped { CountsSkipped result (R.remaining (bare reader.old)) }
+    ensures skipped { CountsSkipped result (R.remaining (inner_of reader.old)) }
 
     // Of an object's packets among other frames the object, exactly where they determine it.
     ensures ends { ReceivesExactly table.now result
-        (R.remaining (bare reader.old)) (W.contents (bare writer.old)) (W.contents (bare writer.new)) }
+        (R.remaining (inner_of reader.old)) (W.contents (inner_of writer.old)) (W.contents (inner_of writer.new)) }
 
     // No receiver can do better: the object exactly where no other object fits the packets.
     ensures where_any_can { ReceivesWhereAnyCan table.now result
-        (R.remaining (bare reader.old)) (W.contents (bare writer.old)) (W.contents (bare writer.new)) }
+        (R.remaining (inner_of reader.old)) (W.contents (inner_of writer.old)) (W.contents (inner_of writer.new)) }
 
     // The other frames are counted, and a rest that isn't empty.
-    ensures others { CountsOthers table.now result (R.remaining (bare reader.old)) }
+    ensures others { CountsOthers table.now result (R.remaining (inner_of reader.old)) }
 {
     let bytes = read_all(alloc, reader)?;
     let (object, skipped) = received_object(alloc, table, bytes)?;

@@ -3,7 +3,7 @@ ghost use Rattle.std.specs.Prelude.{◌≡◌, ◌+◌, ◌^◌, ◌-◌, ◌<�
 ghost use Rattle.std.specs.Io.KnownBytes.{Appends};
 ghost use Rattle.rq_bytes.specs.declared.error.Error.TheVariants.{OutOfMemory};
 ghost use Rattle.rq_streams.specs.declared.run.Stop.TheVariants.{Fault, Refused};
-ghost use Rattle.rq_streams.specs.Counted.{failed_count, bare};
+ghost use Rattle.rq_streams.specs.Counted.{failed_count, inner_of};
 ghost use Rattle.rq_streams.specs.Ends.{Ends, failed_calls};
 
 use crate::counted::Counted;
@@ -51,45 +51,41 @@ const CHUNK: usize = 65536;
 /// All that is left to read. The first failed call ends it with a fault.
 pub(crate) fn read_all<R: Read>(alloc: Global, reader: &mut Counted<R>) -> Result<Vec<u8>, Stop>
     requires { failed_count reader.old < 2 ^ 64 - 1 }
-    ensures bytes { IfOk result (λ v. IfSome (R.remaining (bare reader.old)) (λ input. v.items ≡ input)) }
+    ensures bytes { IfOk result (λ v. IfSome (R.remaining (inner_of reader.old)) (λ input. v.items ≡ input)) }
     ensures counts { failed_count reader.new ≡ failed_count reader.old + failed_calls result }
     ensures err { IfErr result (λ stop. (stop ≡ Stop.Fault) ⊎ (stop ≡ Stop.Refused Error.OutOfMemory)) }
 {
     let mut bytes = Vec::new(alloc);
     let mut chunk = [0u8; CHUNK];
     'reading: loop {
-        match reader.read(&mut chunk) {
-            Ok(n) => {
-                if n == 0 {
-                    return Ok(bytes);
-                }
-                bytes.extend_from_slice(&chunk[..n])?;
-            }
-            Err(_) => return Err(Stop::Fault),
+        let Ok(n) = reader.read(&mut chunk) else {
+            return Err(Stop::Fault);
+        };
+        if n == 0 {
+            return Ok(bytes);
         }
+        bytes.extend_from_slice(&chunk[..n])?;
     }
 }
 
 // Writes the bytes and flushes once. The first failed call ends it with a fault.
 fn write_out<W: Write>(writer: &mut Counted<W>, bytes: &[u8]) -> Result<(), Stop>
     requires { failed_count writer.old < 2 ^ 64 - 1 }
-    ensures bytes { OnOk result (Appends (W.contents (bare writer.old)) (W.contents (bare writer.new)) bytes.now) }
+    ensures bytes { OnOk result (Appends (W.contents (inner_of writer.old)) (W.contents (inner_of writer.new)) bytes.now) }
     ensures counts { failed_count writer.new ≡ failed_count writer.old + failed_calls result }
     ensures err { IfErr result (λ stop. stop ≡ Stop.Fault) }
     ensures beginning { OnErr result ((n : ℕ)
-        × Appends (W.contents (bare writer.old)) (W.contents (bare writer.new)) (take n bytes.now)) }
+        × Appends (W.contents (inner_of writer.old)) (W.contents (inner_of writer.new)) (take n bytes.now)) }
 {
     let mut at = 0;
     'writing: while at < bytes.len() {
-        match writer.write(&bytes[at..]) {
-            Ok(n) => {
-                if n == 0 {
-                    return Err(Stop::Fault);
-                }
-                at += n;
-            }
-            Err(_) => return Err(Stop::Fault),
+        let Ok(n) = writer.write(&bytes[at..]) else {
+            return Err(Stop::Fault);
+        };
+        if n == 0 {
+            return Err(Stop::Fault);
         }
+        at += n;
     }
     match writer.flush() {
         Ok(()) => Ok(()),
@@ -104,7 +100,7 @@ pub(crate) fn finish<W: Write>(
 ) -> Result<Outcome, Stop>
     requires { failed_count writer.old < 2 ^ 64 - 1 }
     ensures counts { failed_count writer.new ≡ failed_count writer.old + failed_calls result }
-    ensures ends { Ends result (W.contents (bare writer.old)) (W.contents (bare writer.new)) (Ok (option_map vec_items made)) }
+    ensures ends { Ends result (W.contents (inner_of writer.old)) (W.contents (inner_of writer.new)) (Ok (option_map vec_items made)) }
 {
     match made {
         None => Ok(Outcome::Incomplete),

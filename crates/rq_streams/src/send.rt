@@ -2,8 +2,8 @@
 ghost use Rattle.std.specs.Prelude.{◌^◌, ◌-◌, ◌<◌, Ok, option_map, vec_items};
 ghost use Rattle.rq_bytes.specs.Refusals.{IsAnswer};
 ghost use Rattle.rq_standard.specs.Streams.{stream_of};
-ghost use Rattle.rq_streams.specs.Counted.{failed_count, bare};
-ghost use Rattle.rq_streams.specs.Ends.{AnswersAs, CountsFailures, FaultsWhereCounted, KeepsWhereUnread};
+ghost use Rattle.rq_streams.specs.Counted.{failed_count, inner_of};
+ghost use Rattle.rq_streams.specs.Ends.{AnswersAs, EndsAtFailure};
 ghost use Rattle.rq_streams.specs.Sent.{IsSent, SendsStream};
 
 use crate::counted::Counted;
@@ -68,13 +68,12 @@ pub fn run_send<R: Read, W: Write>(
     requires writes { failed_count writer.old < 2 ^ 64 - 1 }
 
     // The first failed call ends the run, and nothing else is a fault.
-    ensures counts { CountsFailures reader.old writer.old result reader.new writer.new }
-    ensures fault { FaultsWhereCounted reader.old writer.old result reader.new writer.new }
-    ensures unread { KeepsWhereUnread reader.old reader.new (W.contents (bare writer.old)) (W.contents (bare writer.new)) }
+    ensures failures { EndsAtFailure reader.old writer.old result reader.new writer.new
+        (W.contents (inner_of writer.old)) (W.contents (inner_of writer.new)) }
 
     // The stream of what is read, or the first refusal in the written order.
     ensures ends { SendsStream table.now packet_size repair result
-        (R.remaining (bare reader.old)) (W.contents (bare writer.old)) (W.contents (bare writer.new)) }
+        (R.remaining (inner_of reader.old)) (W.contents (inner_of writer.old)) (W.contents (inner_of writer.new)) }
 {
     let object = read_all(alloc, reader)?;
     let stream = sent_stream(alloc, table, object, packet_size, repair)?;

@@ -1,5 +1,6 @@
-use Rattle.std.proofs.Common.{◌≡◌, ◌⊎◌, ℕ, ◌+◌, List, Option, Ok, Err, map, option_map, vec_items, sym, ap, ◌∙◌, subst, arith, inl, inr}
+use Rattle.std.proofs.Common.{◌≡◌, ◌⊎◌, ℕ, List, Option, Ok, Err, map, option_map, vec_items, refl, sym, ap, ◌∙◌, subst, inr}
 use Rattle.std.proofs.lemmas.Result.{err_from_is_err_and}
+use Rattle.rq_bytes.specs.declared.error.Error.{Error}
 use Rattle.rq_bytes.specs.declared.error.Error.TheVariants.{OutOfMemory}
 use Rattle.rq_bytes.specs.Error.{code_of}
 use Rattle.rq_standard.specs.declared.row.TableRow.{TableRow}
@@ -9,22 +10,23 @@ use Rattle.rq_standard.specs.Packet.{Packet, packet_of_bytes}
 use Rattle.rq_standard.specs.Streams.{frame_size, frames_in}
 use Rattle.rq_standard.specs.TableRows.{built_in_rows}
 use Rattle.raptorq.specs.Runs.{packets_of, IsRunRefusal, AnswersRun}
-use Rattle.raptorq_c.specs.Decoding.{Answered, frames_refusal, packets_in}
+use Rattle.raptorq_c.specs.ObjectBuffers.{Answered, AnswersPackets, AnswersWhereOthersCan, FillsWithObject, IsDecoded, frames_refusal, packets_in}
 use Rattle.raptorq_c.specs.Numbers.{number_of}
 use Rattle.raptorq_c.proofs.Encoded.{at_built_in}
-use Rattle.raptorq_c.proofs.HandleAnswers.{answered_by, refused_frames, refused_run, filled_run}
+use Rattle.raptorq_c.proofs.Ending.{is_stopped}
+use Rattle.raptorq_c.proofs.HandleAnswers.{answered_by, unanswered, refused_frames, refused_run, filled_run}
 use Rattle.raptorq_c.proofs.decoding.decode.Goals as goal
-use Rattle.raptorq_c.proofs.decoding.decode.Goals.{After-from, In_ok-steps, In_ok-answer}
+use Rattle.raptorq_c.proofs.decoding.decode.Goals.{After-frame_size, In_ok-steps, In_ok-answer}
 
 -- frames are cut off at their size
-module _ (c : After-from) where
-  long : 4 + c.from.result ≡ frame_size (configuration_of_bytes c.args.configuration.now)
-  long = omega (arith, c.from.ensures, c.symbol_size.ensures, ap (λ (k : Configuration). k.symbol_size) c.deserialize-config.ensures)
+module _ (c : After-frame_size) where
+  long : c.frame_size.result ≡ frame_size (configuration_of_bytes c.args.configuration.now)
+  long = c.frame_size.ensures ∙ ap frame_size c.deserialize-config.ensures
 
 -- the packets that were cut off are those that the buffer holds
 module _ (c : In_ok-steps) where
-  sized : 4 + c.from.result ≡ frame_size (configuration_of_bytes c.args.configuration.now)
-  sized = long (goal.at.In_ok-steps c).After-from
+  sized : c.frame_size.result ≡ frame_size (configuration_of_bytes c.args.configuration.now)
+  sized = long (goal.at.In_ok-steps c).After-frame_size
 
   spelled : frames_refusal (frames_in (frame_size (configuration_of_bytes c.args.configuration.now)) c.args.packets.now) ≡ Ok tt
   spelled = ap (λ n. frames_refusal (frames_in n c.args.packets.now)) (sym sized) ∙ c.in_ok-steps.ensures.refused
@@ -45,36 +47,44 @@ module _ (c : In_ok-answer) where
       let held = at_built_in (λ rows d. P rows d (packets_of c.in_ok-steps.steps.items) answer) _ _ k c.in_ok-table.ensures c.deserialize-config.ensures holds in
       answered_by (P built_in_rows k (packets_in k c.args.packets.now)) answer number c.args.object.now after (subst (λ ps. P built_in_rows k ps answer) (came read) held) answered
 
-pub returns-clause-headline : goal.returns-clause-headline
-returns-clause-headline c = filled (goal.at.returns-clause-headline c).In_ok-answer AnswersExactly c.in_ok-answer.ensures.headline (number_of c.fill_answer.result) c.fill_answer.new.object c.fill_answer.ensures.answered
+-- the buffer stays where something is refused
+refused_with : (header bytes buffer : List ℕ) (e : Error) → IsDecoded (code_of e) header bytes → FillsWithObject header bytes (code_of e) buffer buffer
+refused_with header bytes buffer e refused = record {
+  refused = refused;
+  headline = unanswered e buffer buffer (AnswersPackets header bytes);
+  only_object = unanswered e buffer buffer (AnswersWhereOthersCan header bytes);
+  kept = λ _. refl;
+}
 
-pub returns-clause-only_object : goal.returns-clause-only_object
-returns-clause-only_object c = filled (goal.at.returns-clause-only_object c).In_ok-answer AnswersWhereAnyCan c.in_ok-answer.ensures.only_object (number_of c.fill_answer.result) c.fill_answer.new.object c.fill_answer.ensures.answered
-
-pub returns-in_err-table-clause-refused : goal.returns-in_err-table-clause-refused
-returns-in_err-table-clause-refused c =
-    let p = err_from_is_err_and c.from_residual.result c.from_residual.ensures.1 in
-    rw (p.1, p.2) (inl (ap code_of c.in_err-table.ensures))
-
-pub returns-in_err-steps-clause-refused : goal.returns-in_err-steps-clause-refused
-returns-in_err-steps-clause-refused c =
+pub returns-in_err-steps : goal.returns-in_err-steps
+returns-in_err-steps c =
     let e = c.in_err-steps.field-0.0 in
-    let sized = long (goal.at.returns-in_err-steps-clause-refused c).After-from in
+    let sized = long (goal.at.returns-in_err-steps c).After-frame_size in
+    let refused = refused_frames c.args.configuration.now c.args.packets.now e (subst (λ n. (e ≡ OutOfMemory) ⊎ (frames_refusal (frames_in n c.args.packets.now) ≡ Err e)) sized c.in_err-steps.ensures.refused) in
     let p = err_from_is_err_and c.from_residual-in_err-steps.result c.from_residual-in_err-steps.ensures.1 in
-    rw (p.1, p.2) (refused_frames c.args.configuration.now c.args.packets.now e (subst (λ n. (e ≡ OutOfMemory) ⊎ (frames_refusal (frames_in n c.args.packets.now) ≡ Err e)) sized c.in_err-steps.ensures.refused))
+    rw (p.1, p.2) (refused_with c.args.configuration.now c.args.packets.now c.args.object.now e refused)
 
-pub returns-in_err-answer-clause-refused : goal.returns-in_err-answer-clause-refused
-returns-in_err-answer-clause-refused c =
-    let read = (goal.at.returns-in_err-answer-clause-refused c).In_ok-steps in
+pub returns-in_err-answer : goal.returns-in_err-answer
+returns-in_err-answer c =
+    let read = (goal.at.returns-in_err-answer c).In_ok-steps in
     let k = configuration_of_bytes c.args.configuration.now in
     let e = c.in_err-answer.field-0.0 in
     let run = at_built_in (λ rows d. AnswersRun {X = Unit {0}} rows d (packets_of c.in_ok-steps.steps.items) (Err e)) _ _ k c.in_ok-table.ensures c.deserialize-config.ensures c.in_err-answer.ensures.in_order in
+    let refused = refused_run c.args.configuration.now c.args.packets.now e (spelled read) (subst (λ ps. AnswersRun {X = Unit {0}} built_in_rows k ps (Err e)) (came read) run) in
     let p = err_from_is_err_and c.from_residual-in_err-answer.result c.from_residual-in_err-answer.ensures.1 in
-    rw (p.1, p.2) (refused_run c.args.configuration.now c.args.packets.now e (spelled read) (subst (λ ps. AnswersRun {X = Unit {0}} built_in_rows k ps (Err e)) (came read) run))
+    rw (p.1, p.2) (refused_with c.args.configuration.now c.args.packets.now c.args.object.now e refused)
 
-pub returns-clause-refused : goal.returns-clause-refused
-returns-clause-refused c =
-    let read = (goal.at.returns-clause-refused c).In_ok-steps in
+pub returns : goal.returns
+returns c =
+    let at = (goal.at.returns c).In_ok-answer in
+    let read = (goal.at.returns c).In_ok-steps in
     let k = configuration_of_bytes c.args.configuration.now in
+    let number = number_of c.fill_answer.result in
+    let after = c.fill_answer.new.object in
     let passed = at_built_in (λ rows d. IsRunRefusal rows d (packets_of c.in_ok-steps.steps.items) (Ok tt)) _ _ k c.in_ok-table.ensures c.deserialize-config.ensures c.in_ok-answer.ensures.in_order in
-    filled_run c.args.configuration.now c.args.packets.now (number_of c.fill_answer.result) (spelled read) (subst (λ ps. IsRunRefusal built_in_rows k ps (Ok tt)) (came read) passed) (inr c.fill_answer.ensures.number)
+    record {
+      refused = filled_run c.args.configuration.now c.args.packets.now number (spelled read) (subst (λ ps. IsRunRefusal built_in_rows k ps (Ok tt)) (came read) passed) (inr c.fill_answer.ensures.number);
+      headline = filled at AnswersExactly c.in_ok-answer.ensures.headline number after c.fill_answer.ensures.answered;
+      only_object = filled at AnswersWhereAnyCan c.in_ok-answer.ensures.only_object number after c.fill_answer.ensures.answered;
+      kept = is_stopped c.fill_answer.result (after ≡ c.args.object.now) c.fill_answer.ensures.kept;
+    }

@@ -3,7 +3,7 @@ use Rattle.std.specs.Slice.Iter.{chunks_size, chunks_rest}
 use Rattle.rq_standard.specs.Packet.{packet_of_bytes}
 use Rattle.rq_standard.specs.Streams.{frames_in}
 use Rattle.raptorq.specs.Runs.{packets_of}
-use Rattle.raptorq_c.specs.Decoding.{frames_refusal}
+use Rattle.raptorq_c.specs.ObjectBuffers.{frames_refusal}
 use Rattle.raptorq_c.proofs.decoding.steps.Given as goal
 
 -- the packets of the frames so far, none of which is refused

@@ -1,26 +1,47 @@
-use Rattle.std.proofs.Common.{◌≡◌, ◌≢◌, length, Ok, refl, sym, ap, ◌∙◌}
+use Rattle.std.proofs.Common.{◌≡◌, ◌≢◌, ℕ, List, length, Result, Ok, Err, refl, sym, ap, ◌∙◌, subst, arith}
+use Rattle.std.specs.Prelude.{OnOk, OnErr}
 use Rattle.std.proofs.lemmas.Result.{err_from_is_err_and}
-use Rattle.raptorq_c.specs.Encoding.{StopsAt, no_room}
-use Rattle.raptorq_c.specs.Sizes.{bytes_of_packets}
-use Rattle.raptorq_c.proofs.Ending.{on_done, on_stopped}
+use Rattle.rq_bytes.specs.declared.error.Error.{Error}
+use Rattle.rq_bytes.specs.Error.{code_of}
+use Rattle.raptorq_c.specs.declared.call_end.CallEnd.{CallEnd}
+use Rattle.raptorq_c.specs.PacketBuffers.{FillsWithPackets, IsEncoding, StopsAt, no_room}
+use Rattle.raptorq_c.specs.Numbers.{number_of}
+use Rattle.raptorq_c.proofs.Ending.{code_positive}
 use Rattle.raptorq_c.proofs.PacketLengths.{packets_room, wanted}
 use Rattle.raptorq_c.proofs.encoding.encode.Goals as goal
 
-pub returns-in_err-bytes-clause-stopped : goal.returns-in_err-bytes-clause-stopped
-returns-in_err-bytes-clause-stopped c =
+-- a buffer is filled with bytes of the packets where it has their length
+filled : (header object : List ℕ) (repair : ℕ) (bytes before after : List ℕ) (ended : Result (Unit {0}) CallEnd) → IsEncoding header object repair bytes → OnOk ended (after ≡ bytes) → OnOk ended (length bytes ≡ length before)
+    → OnErr ended (number_of ended ≡ 24) → OnErr ended (length bytes ≢ length before) → OnErr ended (after ≡ before) → FillsWithPackets header object repair (number_of ended) before after
+filled header object repair bytes before after (Ok x) are is fits number other kept = record {
+  packets = λ _. subst (IsEncoding header object repair) (sym is) are;
+  room = λ _. packets_room header object repair bytes are ∙ ap wanted fits;
+  stopped = λ not_done. absurd (not_done refl);
+  kept = λ not_done. absurd (not_done refl);
+}
+filled header object repair bytes before after (Err s) are is fits number other kept = record {
+  packets = λ zero. absurd (omega (arith, zero, number));
+  room = λ zero. absurd (omega (arith, zero, number));
+  stopped = λ _. no_room bytes are (λ same. other (sym same)) number;
+  kept = λ _. kept;
+}
+
+-- it stays where no packets are made
+stopped_before : (header object : List ℕ) (repair : ℕ) (buffer : List ℕ) (e : Error) → ((room : ℕ) → StopsAt header object repair room (code_of e)) → FillsWithPackets header object repair (code_of e) buffer buffer
+stopped_before header object repair buffer e stops = record {
+  packets = λ zero. absurd (omega (arith, zero, code_positive e));
+  room = λ zero. absurd (omega (arith, zero, code_positive e));
+  stopped = λ _. stops (length buffer);
+  kept = λ _. refl;
+}
+
+pub returns-in_err-bytes : goal.returns-in_err-bytes
+returns-in_err-bytes c =
     let p = err_from_is_err_and c.from_residual.result c.from_residual.ensures.1 in
-    rw (p.1, p.2) (c.in_err-bytes.ensures.stopped (length c.args.packets.now))
+    rw (p.1, p.2) (stopped_before c.args.configuration.now c.args.object.now c.args.repair c.args.packets.now c.in_err-bytes.field-0.0 c.in_err-bytes.ensures.stopped)
 
-pub returns-clause-stopped : goal.returns-clause-stopped
-returns-clause-stopped c =
-    let bytes = c.in_ok-bytes.bytes.items in
-    let made = c.as_slice.result.now in
-    on_stopped c.fill.result 24 (length made ≢ length c.args.packets.now) (StopsAt c.args.configuration.now c.args.object.now c.args.repair (length c.args.packets.now)) c.fill.ensures.number c.fill.ensures.other
-    (λ other. no_room bytes c.in_ok-bytes.ensures.packets (λ same. other (ap length c.as_slice.ensures.value ∙ sym same)) refl)
-
-pub returns-clause-room : goal.returns-clause-room
-returns-clause-room c =
-    let bytes = c.in_ok-bytes.bytes.items in
-    let made = c.as_slice.result.now in
-    on_done c.fill.result (length made ≡ length c.args.packets.now) (bytes_of_packets c.args.configuration.now c.args.repair ≡ Ok (length c.args.packets.now)) c.fill.ensures.fits
-    (λ long. packets_room c.args.configuration.now c.args.object.now c.args.repair bytes c.in_ok-bytes.ensures.packets ∙ ap wanted (sym (ap length c.as_slice.ensures.value) ∙ long))
+pub returns : goal.returns
+returns c =
+    let ends = c.fill.ensures in
+    filled c.args.configuration.now c.args.object.now c.args.repair c.as_slice.result.now c.args.packets.now c.fill.new.buffer c.fill.result
+    (subst (IsEncoding c.args.configuration.now c.args.object.now c.args.repair) (sym c.as_slice.ensures.value) c.in_ok-bytes.ensures.packets) ends.filled ends.fits ends.number ends.other ends.kept

@@ -1,4 +1,4 @@
--- What encoding an object into a buffer ends with, over the built-in table.
+-- What a buffer is filled with of an object, its packets, or why it is not, over the built-in table.
 use Rattle.std.specs.Prelude.{◌≡◌, ◌≢◌, ℕ, List, length, Ok, Err}
 use Rattle.rq_bytes.specs.declared.error.Error.{Error}
 use Rattle.rq_bytes.specs.Error.{code_of}
@@ -10,6 +10,7 @@ use Rattle.rq_standard.specs.Streams.{frames_of}
 use Rattle.rq_standard.specs.TableRows.{built_in_rows, greatest_size}
 use Rattle.raptorq.specs.Encoder.{packets_refusal}
 use Rattle.raptorq.specs.Refused.{new_encoder}
+use Rattle.raptorq_c.specs.Sizes.{bytes_of_packets}
 
 -- bytes of the packets of an object: those of its source symbols and of `repair` repair symbols a block, block by block
 pub record AreFramesOf (c : Configuration) (object : List ℕ) (repair : ℕ) (bytes : List ℕ) : Type 0 where
@@ -35,3 +36,10 @@ IsEncoding header object repair bytes = AreFramesOf (configuration_of_bytes head
 -- why there are none, of a buffer of this length
 abbrev pub StopsAt : List ℕ → List ℕ → ℕ → ℕ → ℕ → Type 0
 StopsAt header object repair room number = StopsEncoding (configuration_of_bytes header) object repair room number
+
+-- What a call answers and does to a buffer: it is filled with the packets of an object (0), or is as it was.
+pub record FillsWithPackets (header object : List ℕ) (repair answer : ℕ) (before after : List ℕ) : Type 0 where
+  pub packets : answer ≡ 0 → IsEncoding header object repair after
+  pub room : answer ≡ 0 → bytes_of_packets header repair ≡ Ok (length before)
+  pub stopped : answer ≢ 0 → StopsAt header object repair (length before) answer
+  pub kept : answer ≢ 0 → after ≡ before

@@ -1,4 +1,4 @@
--- What decoding packets in a buffer ends with, over the built-in table.
+-- What a buffer is filled with of packets, their object, or why it is not, over the built-in table.
 use Rattle.std.specs.Prelude.{◌≡◌, ◌≢◌, ◌⊎◌, ℕ, List, length, map, Option, Some, None, Result, Ok, Err, MatchResult}
 use Rattle.rq_bytes.specs.declared.error.Error.{Error}
 use Rattle.rq_bytes.specs.Error.{code_of}
@@ -52,3 +52,10 @@ AnswersPackets header bytes answer = let c = configuration_of_bytes header in An
 -- and exactly where no other object fits them
 abbrev pub AnswersWhereOthersCan : List ℕ → List ℕ → Option (List ℕ) → Type 0
 AnswersWhereOthersCan header bytes answer = let c = configuration_of_bytes header in AnswersWhereAnyCan built_in_rows c (packets_in c bytes) answer
+
+-- What a call answers and does to a buffer: it is filled with the object of packets (0), or is as it was.
+pub record FillsWithObject (header bytes : List ℕ) (answer : ℕ) (before after : List ℕ) : Type 0 where
+  pub refused : IsDecoded answer header bytes
+  pub headline : Answered answer before after (AnswersPackets header bytes)
+  pub only_object : Answered answer before after (AnswersWhereOthersCan header bytes)
+  pub kept : answer ≢ 0 → after ≡ before
