@@ -10,3 +10,13 @@ information_view i = record {
   sub_blocks = i.num_sub_blocks;
   alignment = i.symbol_alignment;
 }
+
+-- and what shows this
+abbrev pub information_inside : Configuration → Inside
+information_inside c = record {
+  transfer_length = c.transfer_length;
+  symbol_size = c.symbol_size;
+  num_source_blocks = c.source_blocks;
+  num_sub_blocks = c.sub_blocks;
+  symbol_alignment = c.alignment;
+}

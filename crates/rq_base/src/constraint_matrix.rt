@@ -4,7 +4,7 @@ ghost use Rattle.std.specs.Prelude.{◌≡◌, ◌+◌, ◌*◌, ◌^◌, ◌<�
 ghost use Rattle.std.specs.List.{FoldsTo};
 ghost use Rattle.rq_standard.specs.Tuple.{IsTuple, enc_indices};
 ghost use Rattle.rq_bytes.specs.declared.error.Error.TheVariants.{OutOfMemory};
-ghost use Rattle.rq_standard.specs.TableRows.{IsChecked, greatest_size, row_of, intermediate_symbols};
+ghost use Rattle.rq_standard.specs.TableRows.{greatest_size, row_of, intermediate_symbols};
 ghost use Rattle.rq_standard.specs.Equations.{equation_count};
 ghost use Rattle.rq_standard.specs.ConstraintMatrix.{IsBinaryPart, IsBinaryPartWithoutHdpc};
 ghost use Rattle.rq_base.specs.Calls.{CallableAlong};
@@ -19,8 +19,7 @@ use hdpc::generate_hdpc_rows;
 use rq_bytes::error::Error;
 use rq_matrix::matrix::BinaryMatrix;
 use rq_parts::octet_matrix::DenseOctetMatrix;
-use rq_standard::row::TableRow;
-use rq_tables::systematic_constants::SystematicTable;
+use rq_tables::systematic_constants::{CheckedRow, SystematicTable};
 use std::alloc::Global;
 
 /// Calls `f` with each index of a tuple (d, a, b, d1, a1, b1) in order, over a row of the table with
@@ -63,7 +62,7 @@ pub fn generate_constraint_matrix<T: BinaryMatrix>(
     ensures hdpc { IfOk result (λ parts. IsHdpcPart (row_of table.now source_block_symbols) parts.1) }
     ensures memory { IfErr result (λ e. e ≡ OutOfMemory) }
 {
-    let row = table.row(source_block_symbols);
+    let row = table.checked_row(source_block_symbols);
     generate_constraint_matrix_of_row(alloc, &row, encoded_symbol_indices)
 }
 
@@ -71,17 +70,15 @@ pub fn generate_constraint_matrix<T: BinaryMatrix>(
 /// and a row for each internal symbol id; and beside it the H rows of octets of the HDPC equations.
 pub fn generate_constraint_matrix_of_row<T: BinaryMatrix>(
     alloc: Global,
-    row: &TableRow,
+    row: &CheckedRow,
     encoded_symbol_indices: &[u32],
 ) -> Result<(T, DenseOctetMatrix), Error>
-    requires checked { IsChecked row.now }
-    requires fits { equation_count row.now encoded_symbol_indices.now < 2 ^ 31 }
-    ensures bits { IfOk result (λ parts. IsBinaryPart row.now encoded_symbol_indices.now (T.content parts.0)) }
-    ensures hdpc { IfOk result (λ parts. IsHdpcPart row.now parts.1) }
+    requires fits { equation_count row.now.numbers encoded_symbol_indices.now < 2 ^ 31 }
+    ensures bits { IfOk result (λ parts. IsBinaryPart row.now.numbers encoded_symbol_indices.now (T.content parts.0)) }
+    ensures hdpc { IfOk result (λ parts. IsHdpcPart row.now.numbers parts.1) }
     ensures memory { IfErr result (λ e. e ≡ OutOfMemory) }
 {
-    let first_symbol_row = (row.ldpc_symbols + row.hdpc_symbols) as usize;
-    let matrix = binary_rows(alloc, row, first_symbol_row, encoded_symbol_indices)?;
+    let matrix = binary_rows(alloc, row, row.precode_rows(), encoded_symbol_indices)?;
     let hdpc_rows = generate_hdpc_rows(alloc, row)?;
     Ok((matrix, hdpc_rows))
 }
@@ -100,7 +97,7 @@ pub fn generate_constraint_matrix_no_hdpc<T: BinaryMatrix>(
     ensures bits { IfOk result (λ matrix. IsBinaryPartWithoutHdpc (row_of table.now source_block_symbols) encoded_symbol_indices.now (T.content matrix)) }
     ensures memory { IfErr result (λ e. e ≡ OutOfMemory) }
 {
-    let row = table.row(source_block_symbols);
+    let row = table.checked_row(source_block_symbols);
     generate_constraint_matrix_no_hdpc_of_row(alloc, &row, encoded_symbol_indices)
 }
 
@@ -108,14 +105,12 @@ pub fn generate_constraint_matrix_no_hdpc<T: BinaryMatrix>(
 /// LDPC rows, and a row for each internal symbol id.
 pub fn generate_constraint_matrix_no_hdpc_of_row<T: BinaryMatrix>(
     alloc: Global,
-    row: &TableRow,
+    row: &CheckedRow,
     encoded_symbol_indices: &[u32],
 ) -> Result<T, Error>
-    requires checked { IsChecked row.now }
-    requires fits { row.now.ldpc_symbols + length encoded_symbol_indices.now < 2 ^ 31 }
-    ensures bits { IfOk result (λ matrix. IsBinaryPartWithoutHdpc row.now encoded_symbol_indices.now (T.content matrix)) }
+    requires fits { row.now.numbers.ldpc_symbols + length encoded_symbol_indices.now < 2 ^ 31 }
+    ensures bits { IfOk result (λ matrix. IsBinaryPartWithoutHdpc row.now.numbers encoded_symbol_indices.now (T.content matrix)) }
     ensures memory { IfErr result (λ e. e ≡ OutOfMemory) }
 {
-    let first_symbol_row = row.ldpc_symbols as usize;
-    binary_rows(alloc, row, first_symbol_row, encoded_symbol_indices)
+    binary_rows(alloc, row, row.ldpc_symbols(), encoded_symbol_indices)
 }

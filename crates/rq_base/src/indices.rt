@@ -1,13 +1,14 @@
 //! The indices of the intermediate symbols that make up the symbol of an internal symbol id, one
 //! after another (RFC 6330, section 5.3.5.3).
 ghost use Rattle.std.specs.Prelude.{◌≡◌, ℕ, ◌+◌, ◌*◌, ◌%◌, ◌<◌, ◌≤◌, List, [], ◌∷◌, All, MatchOption};
-ghost use Rattle.rq_standard.specs.TableRows.{IsChecked, intermediate_symbols};
+ghost use Rattle.rq_standard.specs.TableRows.{intermediate_symbols};
 ghost use Rattle.rq_standard.specs.Equations.{row_indices};
 ghost use Rattle.rq_standard.specs.Tuple.{IsTuple, enc_indices};
 ghost use Rattle.rq_base.specs.Indices.{next_below};
 
 use crate::base::intermediate_tuple;
 use rq_standard::row::TableRow;
+use rq_tables::systematic_constants::CheckedRow;
 use std::marker::Model;
 
 /// The indices that are left of the walk of a tuple. Contracts see it as their list.
@@ -65,18 +66,18 @@ impl Indices {
     }
 
     /// The indices of an internal symbol id, over a row of a table.
-    pub fn of_id(row: &TableRow, internal_symbol_id: u32) -> Indices
-        requires { IsChecked row.now }
-        ensures value { result ≡ row_indices row.now internal_symbol_id }
-        ensures below { All (λ index. index < intermediate_symbols row.now) result }
+    pub fn of_id(row: &CheckedRow, internal_symbol_id: u32) -> Indices
+        ensures value { result ≡ row_indices row.now.numbers internal_symbol_id }
+        ensures below { All (λ index. index < intermediate_symbols row.now.numbers) result }
     {
-        let tuple = intermediate_tuple(
-            internal_symbol_id,
-            row.lt_symbols,
-            row.systematic_index,
-            row.p1,
-        );
-        Indices::new(tuple, row.lt_symbols, row.pi_symbols() as u32, row.p1)
+        let TableRow {
+            lt_symbols,
+            systematic_index,
+            p1,
+            ..
+        } = row.numbers;
+        let tuple = intermediate_tuple(internal_symbol_id, lt_symbols, systematic_index, p1);
+        Indices::new(tuple, lt_symbols, row.pi_symbols() as u32, p1)
     }
 
     /// The next index, if one is left.

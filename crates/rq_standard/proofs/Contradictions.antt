@@ -10,8 +10,8 @@ use Rattle.rq_standard.specs.Configuration.{Configuration}
 use Rattle.rq_standard.specs.Cutting.{block_symbols}
 use Rattle.rq_standard.specs.Received.{or_later, first_payload}
 use Rattle.rq_standard.specs.Headline.{IsIntermediateColumn, DetermineBlock, block_row, block_source, IsPacketOf}
-use Rattle.rq_standard.specs.ReceivedBlock.{ReceivedBlock, has_received, with_received, SolvesReceived, HasHeldSolution, ReceivedDetermine, IsContradictory, IsBlockAnswer}
-use Rattle.rq_standard.specs.Standing.{State, AddsOpen, AddsToBlock, IsSameElsewhere, Adds, RecordsOnly, Contradicts, IsBlockContradictory, KeepsContradictions, StopsEarly, Stops, IsHonestPacket, received_after, HasReceivedRun, HasReceivedMore, BlockStandsFor, IsNewState, IsReceivedOf}
+use Rattle.rq_standard.specs.ReceivedBlock.{ReceivedBlock, has_received, with_received, SolvesReceived, HasReceivedSolution, ReceivedDetermine, IsContradictory, IsBlockAnswer}
+use Rattle.rq_standard.specs.Standing.{State, kept_of, AddsOpen, AddsToBlock, IsSameElsewhere, Adds, RecordsOnly, Contradicts, IsBlockContradictory, KeepsContradictions, StopsEarly, Stops, IsHonestPacket, received_after, HasReceivedRun, HasReceivedMore, BlockStandsFor, IsNewState, IsReceivedOf}
 use Rattle.rq_standard.proofs.KnownIds.{block_more, block_same}
 use Rattle.rq_standard.proofs.Columns.{solves_received}
 use Rattle.rq_standard.proofs.Firsts.{stays, first_payload-here, first_payload-elsewhere}
@@ -30,7 +30,7 @@ determined_by_ids one other row symbols same = (
   λ d. block_same one.row one.source_symbols (has_received other) (has_received one) (λ e. sym (same e)) (subst (λ k. DetermineBlock one.row k (has_received other)) (sym symbols) (subst (λ r. DetermineBlock r other.source_symbols (has_received other)) (sym row) d)),
 )
 
--- a column that solves what was received solved what was received before
+-- a column that solves what was received with a payload more solves what was received before it
 solves_less : (h : ReceivedBlock) (esi : ℕ) (payload : List ℕ) (column : ℕ → List ℕ) → SolvesReceived (with_received h esi payload) column → SolvesReceived h column
 solves_less h esi payload column s = record {
   symbols = s.symbols;
@@ -61,7 +61,7 @@ pub no_more : (old : State) (p : Packet) (new : State) → Adds old p new → Is
 no_more old p new add c =
     let b = p.id.block in
     let taken = opened (old.received b) (old.answer b) p (new.received b) (new.answer b) c.unanswered add.here in
-    contradictory-no_answer (new.received b) (new.answer b) taken.answers (subst IsContradictory (sym taken.received) (contradicts_more (old.received b) p.id.esi p.payload c.contradictory))
+    contradictory-no_answer (with_received (old.received b) p.id.esi p.payload) (new.answer b) taken.answers (contradicts_more (old.received b) p.id.esi p.payload c.contradictory)
 
 -- the other blocks
 kept_elsewhere : (old : State) (p : Packet) (new : State) (b : ℕ) → IsSameElsewhere old p.id.block new → p.id.block ≢ b → IsBlockContradictory old b → IsBlockContradictory new b
@@ -98,10 +98,10 @@ keeps_same old new same b c = subst (λ s. IsBlockContradictory s b) (sym same) 
 
 -- what was received of them has a solution
 pub honest_solution : (table : List TableRow) (c : Configuration) (object : List ℕ) (packets : List Packet) (b : ℕ) (h : ReceivedBlock) (column : ℕ → List ℕ) → AllByRecursion (IsPacketOf table c object) packets → IsReceivedOf table c b h → HasReceivedFirsts b packets h
-    → IsIntermediateColumn (block_row table c b) c.symbol_size (block_source c object b) column → HasHeldSolution h
+    → IsIntermediateColumn (block_row table c b) c.symbol_size (block_source c object b) column → HasReceivedSolution h
 honest_solution table c object packets b h column honest shape reads is =
     let same = received_is table c b h shape in
-    subst HasHeldSolution same (record {
+    subst HasReceivedSolution same (record {
       column = column;
       solves = solves_received (received_with table c b h.received) (block_source c object b) column (subst IsChecked shape.row shape.checked) (length-block_source c object b) (source_sized c object b) is (received_symbol table c object packets b h.received honest reads);
     })
@@ -157,7 +157,7 @@ received_more old p new within add table packets run b below none =
           let before = still_answered (old.received here) (old.answer here) p (new.received here) (new.answer here) add.here none_here in
           let taken = opened (old.received here) (old.answer here) p (new.received here) (new.answer here) before add.here in
           subst (λ n. new.received n ≡ received_after table c n (packets ++ p ∷ [])) e
-          (taken.received ∙ ap (λ h. with_received h p.id.esi p.payload) (run here within before) ∙ received_later table c packets p)
+          (taken.kept ∙ ap (kept_of (with_received (old.received here) p.id.esi p.payload)) none_here ∙ ap (λ h. with_received h p.id.esi p.payload) (run here within before) ∙ received_later table c packets p)
       | inr ne ↦
           let q = add.elsewhere.other b in_old (λ e. ne (sym e)) in
           q.0 ∙ run b in_old (sym q.1 ∙ none) ∙ received_meanwhile table c b packets p ne

@@ -199,8 +199,8 @@ module _ (row : TableRow) (k : ℕ) (x : ℕ → ℕ) (has : ℕ → Bool) (nons
     ];
   })
 
-  pub some_change : (j : ℕ) → j < intermediate_symbols row → x j ≢ 0 → (e : ℕ) × (e < k) × (plain_sum row x e ≢ 0)
-  some_change j below nonzero = elim (search k) [ inr found ↦ found | inl none ↦ absurd (nonzero (no_change_is_zero none j below)) ] where
+  pub some_change : (((j : ℕ) → j < intermediate_symbols row → x j ≡ 0) → ⊥) → (e : ℕ) × (e < k) × (plain_sum row x e ≢ 0)
+  some_change nonzero = elim (search k) [ inr found ↦ found | inl none ↦ absurd (nonzero (no_change_is_zero none)) ] where
     search : (n : ℕ) → ((e : ℕ) → e < n → plain_sum row x e ≡ 0) ⊎ ((e : ℕ) × (e < n) × (plain_sum row x e ≢ 0))
     search zero = inl (λ e l. absurd (omega arith))
     search (suc n) = elim (cases_eq (plain_sum row x n) 0) [

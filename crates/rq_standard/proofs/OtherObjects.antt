@@ -20,7 +20,7 @@ use Rattle.rq_standard.specs.Received.{or_later, payload_for, first_payload, has
 use Rattle.rq_standard.specs.Headline.{IsNonsingular, IsEncodingSymbol, SolvesZeros, known_ids, block_row, block_source, IsPacketOf, HasNonsingularRows, IsAnswerable, IsHonestRun, IsOnlyObject}
 use Rattle.rq_standard.specs.ReceivedBlock.{ReceivedBlock, has_received}
 use Rattle.rq_standard.specs.Standing.{State, IsReceivedOf, BlockStandsFor, AnswersObject, AnswersOnlyObject}
-use Rattle.rq_standard.specs.Differences.{xor_bytes, HoldsNonsingularRows, IsDifference, MakesOthersFit, plain_sum}
+use Rattle.rq_standard.specs.Differences.{xor_bytes, HasNonsingularBlocks, IsDifference, MakesOthersFit, plain_sum}
 use Rattle.rq_standard.proofs.BlockCuts.{block_byte}
 use Rattle.rq_standard.proofs.Columns.{sum_symbol}
 use Rattle.rq_standard.proofs.DifferenceColumns.{length-zero, add_zero_symbols, encoding-add, known_are_zeros, zeros_solve, zeros_are_octets, zeros_encode, no_change_is_zero, some_change}
@@ -161,10 +161,10 @@ module _ (c : Configuration) (row : ℕ → TableRow) (columns : ℕ → ℕ →
       (λ e in_block. sym (object_at_first c (λ n i. plain_sum (row n) (columns n) i) pos some aligned b e below in_block) ∙ zeros (symbols_before c b * c.symbol_size + sub_block_size c 0 * e))
 
   -- and where a column isn't zero, some byte isn't
-  pub nonzero_byte : (has : ℕ → ℕ → Bool) → AreColumns row (block_symbols c) has c.source_blocks columns → (b j : ℕ) → b < c.source_blocks → IsNonsingular (row b) → j < intermediate_symbols (row b) → columns b j ≢ 0
+  pub nonzero_byte : (has : ℕ → ℕ → Bool) → AreColumns row (block_symbols c) has c.source_blocks columns → (b : ℕ) → b < c.source_blocks → IsNonsingular (row b) → (((j : ℕ) → j < intermediate_symbols (row b) → columns b j ≡ 0) → ⊥)
       → (i : ℕ) × (i < c.transfer_length) × (get_or (bytes_of c row columns) i 0 ≢ 0)
-  nonzero_byte has are b j below nonsingular in_width nonzero =
-      let q = some_change (row b) (block_symbols c b) (columns b) (has b) nonsingular (are.elements b below) (are.solves b below) j in_width nonzero in (
+  nonzero_byte has are b below nonsingular nonzero =
+      let q = some_change (row b) (block_symbols c b) (columns b) (has b) nonsingular (are.elements b below) (are.solves b below) nonzero in (
         symbols_before c b * c.symbol_size + sub_block_size c 0 * q.0,
         first_is_before_end c (λ n i. plain_sum (row n) (columns n) i) pos some aligned b q.0 below q.1,
         λ z. q.2 (sym (object_at_first c (λ n i. plain_sum (row n) (columns n) i) pos some aligned b q.0 below q.1) ∙ z),
@@ -224,17 +224,17 @@ module _ (s : State) (pos : 0 < s.configuration.symbol_size) (some : 0 < s.confi
   row_at b = (s.received b).row
 
   -- bytes of columns that are zero in answered blocks, and not all zero
-  pub is_difference : (columns : ℕ → ℕ → ℕ) (b j : ℕ)
+  pub is_difference : (columns : ℕ → ℕ → ℕ) (b : ℕ)
       → ((n : ℕ) → n < s.configuration.source_blocks → HasRow (s.received n).row (block_symbols s.configuration n))
       → AreColumns row_at (block_symbols s.configuration) (λ n. has_received (s.received n)) s.configuration.source_blocks columns
       → ((n : ℕ) → n < s.configuration.source_blocks → IsSome (s.answer n) → (i : ℕ) → i < intermediate_symbols (row_at n) → columns n i ≡ 0)
-      → b < s.configuration.source_blocks → j < intermediate_symbols (row_at b) → columns b j ≢ 0
+      → b < s.configuration.source_blocks → (((j : ℕ) → j < intermediate_symbols (row_at b) → columns b j ≡ 0) → ⊥)
       → IsDifference s (bytes_of s.configuration row_at columns)
-  is_difference columns b j rows are none below in_width nonzero = record {
+  is_difference columns b rows are none below nonzero = record {
     long = length-bytes_of s.configuration row_at columns pos some aligned;
     answered = λ n i l h. zero_block s.configuration row_at columns pos some aligned n i l (none n l h);
     zeros = λ n e l nonsingular came. columns_encode s.configuration row_at columns pos some aligned (λ m. has_received (s.received m)) are n e l (rows n l) nonsingular came;
-    nonzero = λ nonsingular. nonzero_byte s.configuration row_at columns pos some aligned (λ m. has_received (s.received m)) are b j below (nonsingular b below) in_width nonzero;
+    nonzero = λ nonsingular. nonzero_byte s.configuration row_at columns pos some aligned (λ m. has_received (s.received m)) are b below (nonsingular b below) nonzero;
   }
 
   -- a block of zeros has zero symbols
@@ -259,7 +259,7 @@ module _ (s : State) (pos : 0 < s.configuration.symbol_size) (some : 0 < s.confi
         rows : (b : ℕ) → b < s.configuration.source_blocks → HasRow (block_row table s.configuration b) (block_symbols s.configuration b)
         rows b below = row_of_shape table s.configuration b (s.received b) (st.shape b below)
 
-        received : HoldsNonsingularRows s
+        received : HasNonsingularBlocks s
         received b below = subst IsNonsingular (sym (st.shape b below).row) (st.run.nonsingular b below)
 
         by_answer : (b e : ℕ) → b < s.configuration.source_blocks → has_id b packets e ≡ true → (a : Option (List ℕ)) → s.answer b ≡ a

@@ -14,14 +14,14 @@ use Rattle.rq_standard.specs.Equations.{zero_symbol}
 use Rattle.rq_standard.specs.Received.{or_later, first_payload, has_id}
 use Rattle.rq_standard.specs.Headline.{IsNonsingular, IsIntermediateColumn, IsEncodingSymbol, DetermineBlock, block_row, block_source, IsPacketOf}
 use Rattle.rq_standard.specs.ReceivedBlock.{ReceivedBlock, with_received, CanAnswer, IsBlockAnswer}
-use Rattle.rq_standard.specs.Standing.{State, IsReceivedOf, new_received, new_answer, IsNewState, AddsToBlock, IsSameElsewhere, Adds, RecordsOnly, StopsEarly, BlockStandsFor, StandsForButLate, with_late, StandsForNone, StandsForMore, AnswersLateBlock, LeavesBlockLate}
+use Rattle.rq_standard.specs.Standing.{State, IsReceivedOf, new_received, new_answer, IsNewState, kept_of, AddsToBlock, IsSameElsewhere, Adds, RecordsOnly, StopsEarly, BlockStandsFor, StandsForButLate, with_late, StandsForNone, StandsForMore, AnswersLateBlock, LeavesBlockLate}
 use Rattle.rq_standard.proofs.KnownIds.{block_more, block_same, block_of_source, none_determined}
 use Rattle.rq_standard.proofs.Columns.{source_sum, solves_received}
 use Rattle.rq_standard.proofs.Firsts.{first_payload-here, first_payload-elsewhere, first_payload-packet, has_id-push}
 use Rattle.rq_standard.proofs.PlainCut.{length-block_bytes}
 use Rattle.rq_standard.proofs.Interleaved.{same_symbols}
 
--- what was received of a block that is being received
+-- what was received of a block are the first payloads of its ids in a list of packets
 abbrev pub HasReceivedFirsts : ℕ → List Packet → ReceivedBlock → Type 0
 HasReceivedFirsts b packets h = (e : ℕ) → h.received e ≡ first_payload b packets e
 
@@ -108,6 +108,15 @@ pub recorded_shape : (table : List TableRow) (c : Configuration) (b : ℕ) (p : 
 recorded_shape table c b p old new shape is =
     subst (IsReceivedOf table c b) (sym is) (record { configuration = shape.configuration; number = shape.number; row = shape.row; source_symbols = shape.source_symbols; checked = shape.checked; fits = shape.fits })
 
+-- an answer lets what was received go
+stands_kept : (late : Bool) (block : List ℕ) (b : ℕ) (packets : List Packet) (h : ReceivedBlock) (answer : Option (List ℕ)) → BlockStandsFor late block b packets h answer → BlockStandsFor late block b packets (kept_of h answer) answer
+stands_kept late block b packets h None st = st
+stands_kept late block b packets h (Some bytes) st = st
+
+kept_shape : (table : List TableRow) (c : Configuration) (b : ℕ) (h : ReceivedBlock) (answer : Option (List ℕ)) → IsReceivedOf table c b h → IsReceivedOf table c b (kept_of h answer)
+kept_shape table c b h None shape = shape
+kept_shape table c b h (Some bytes) shape = record { configuration = shape.configuration; number = shape.number; row = shape.row; source_symbols = shape.source_symbols; checked = shape.checked; fits = shape.fits }
+
 -- a block that was answered stays so
 answered_step : (late after : Bool) (block : List ℕ) (b : ℕ) (packets : List Packet) (p : Packet) (h : ReceivedBlock) (bytes : List ℕ) → BlockStandsFor late block b packets h (Some bytes) → BlockStandsFor after block b (packets ++ p ∷ []) h (Some bytes)
 answered_step late after block b packets p h bytes st = (st.0, block_more h.row h.source_symbols (has_id b packets) (has_id b (packets ++ p ∷ [])) (λ e has. has_id-push b packets p e has) st.1)
@@ -120,17 +129,23 @@ other_step late block b packets p h (Some bytes) ne st = answered_step late late
 
 -- the packet's own block, which isn't late any more
 own_step : (table : List TableRow) (c : Configuration) (object : List ℕ) (packets : List Packet) (p : Packet) (late : Bool) (old new : ReceivedBlock) (a answer : Option (List ℕ)) → IsAligned c → IsNonsingular (block_row table c p.id.block) → AllByRecursion (IsPacketOf table c object) (packets ++ p ∷ []) → IsPacketOf table c object p
-    → IsReceivedOf table c p.id.block new → BlockStandsFor late (block_bytes c object p.id.block) p.id.block packets old a → AddsToBlock old a p new answer
+    → IsReceivedOf table c p.id.block old → BlockStandsFor late (block_bytes c object p.id.block) p.id.block packets old a → AddsToBlock old a p new answer
     → BlockStandsFor false (block_bytes c object p.id.block) p.id.block (packets ++ p ∷ []) new answer
-own_step table c object packets p late old new None answer aligned nonsingular honest pk after st add =
-    stands_answered table c object (packets ++ p ∷ []) p.id.block false new pk.symbol.column answer aligned nonsingular honest after (firsts_more packets p old new st.0 add.received) pk.symbol.is_only.is add.answers
-own_step table c object packets p late old new (Some bytes) answer aligned nonsingular honest pk after st add =
+own_step table c object packets p late old new None answer aligned nonsingular honest pk before st add =
+    let h = with_received old p.id.esi p.payload in
+    let block = block_bytes c object p.id.block in
+    subst (λ g. BlockStandsFor false block p.id.block (packets ++ p ∷ []) g answer) (sym add.kept)
+    (stands_kept false block p.id.block (packets ++ p ∷ []) h answer
+    (stands_answered table c object (packets ++ p ∷ []) p.id.block false h pk.symbol.column answer aligned nonsingular honest (recorded_shape table c p.id.block p old h before refl) (firsts_more packets p old h st.0 refl) pk.symbol.is_only.is add.answers))
+own_step table c object packets p late old new (Some bytes) answer aligned nonsingular honest pk before st add =
     subst (λ r. BlockStandsFor false (block_bytes c object p.id.block) p.id.block (packets ++ p ∷ []) new r) (sym add.1)
     (subst (λ h. BlockStandsFor false (block_bytes c object p.id.block) p.id.block (packets ++ p ∷ []) h (Some bytes)) (sym add.0) (answered_step late false (block_bytes c object p.id.block) p.id.block packets p old bytes st))
 
 -- a packet keeps the shape of what was received
 shape_step : (table : List TableRow) (c : Configuration) (b : ℕ) (p : Packet) (old new : ReceivedBlock) (a answer : Option (List ℕ)) → IsReceivedOf table c b old → AddsToBlock old a p new answer → IsReceivedOf table c b new
-shape_step table c b p old new None answer shape add = recorded_shape table c b p old new shape add.received
+shape_step table c b p old new None answer shape add =
+    let h = with_received old p.id.esi p.payload in
+    subst (IsReceivedOf table c b) (sym add.kept) (kept_shape table c b h answer (recorded_shape table c b p old h shape refl))
 shape_step table c b p old new (Some bytes) answer shape add = subst (IsReceivedOf table c b) (sym add.0) shape
 
 -- ---- all blocks
@@ -174,7 +189,7 @@ answers_late p old new aligned add table object packets late st pk =
     let here = p.id.block in
     let shape_here = shape_step table c here p (old.received here) (new.received here) (old.answer here) (new.answer here) (st.shape here pk.block) add.here in
     moved table object packets p old new late false st pk add.elsewhere shape_here
-    (own_step table c object packets p (late here) (old.received here) (new.received here) (old.answer here) (new.answer here) aligned (st.run.nonsingular here pk.block) (push-all (IsPacketOf table c object) packets p st.run.honest pk) pk shape_here (st.block here pk.block) add.here)
+    (own_step table c object packets p (late here) (old.received here) (new.received here) (old.answer here) (new.answer here) aligned (st.run.nonsingular here pk.block) (push-all (IsPacketOf table c object) packets p st.run.honest pk) pk (st.shape here pk.block) (st.block here pk.block) add.here)
 
 -- fewer blocks are late
 stands_later : (late more : ℕ → Bool) (table : List TableRow) (object : List ℕ) (packets : List Packet) (s : State) → ((b : ℕ) → more b ≡ false → late b ≡ false) → StandsForButLate late table object packets s → StandsForButLate more table object packets s

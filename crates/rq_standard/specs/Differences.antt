@@ -25,8 +25,8 @@ abbrev pub AreUnansweredDetermined : State → Type 0
 AreUnansweredDetermined s = (b : ℕ) → b < s.configuration.source_blocks → s.answer b ≡ None → ReceivedDetermine (s.received b)
 
 -- no block's row is singular
-abbrev pub HoldsNonsingularRows : State → Type 0
-HoldsNonsingularRows s = (b : ℕ) → b < s.configuration.source_blocks → IsNonsingular (s.received b).row
+abbrev pub HasNonsingularBlocks : State → Type 0
+HasNonsingularBlocks s = (b : ℕ) → b < s.configuration.source_blocks → IsNonsingular (s.received b).row
 
 -- as many bytes as the object has
 pub record IsDifference (s : State) (bytes : List ℕ) : Type 0 where
@@ -37,7 +37,7 @@ pub record IsDifference (s : State) (bytes : List ℕ) : Type 0 where
   pub zeros : (b e : ℕ) → b < s.configuration.source_blocks → IsNonsingular (s.received b).row → has_received (s.received b) e ≡ true
       → IsEncodingSymbol (s.received b).row s.configuration.symbol_size (block_source s.configuration bytes b) e (zero_symbol s.configuration.symbol_size)
   -- not all zeros, where no row is singular
-  pub nonzero : HoldsNonsingularRows s → (i : ℕ) × (i < s.configuration.transfer_length) × (slice_index bytes i ≢ 0)
+  pub nonzero : HasNonsingularBlocks s → (i : ℕ) × (i < s.configuration.transfer_length) × (slice_index bytes i ≢ 0)
 
 -- Of a decoder that stands for a list, with no block late: none exactly where the object is answered.
 abbrev pub IsNoneWhereAnswered : State → Option (List ℕ) → Type 0

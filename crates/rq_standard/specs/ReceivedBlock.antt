@@ -1,5 +1,5 @@
 -- What a decoder has received of a block, and what it answers.
-use Rattle.std.specs.Prelude.{◌≡◌, ◌≢◌, ℕ, ◌+◌, ◌*◌, ◌<◌, ◌≤◌, Bool, List, length, Option, Some, None, IfSome, IsSome, MatchOption, is_some, if◌then◌else◌, ◌==◌, ◌⊎◌}
+use Rattle.std.specs.Prelude.{◌≡◌, ℕ, ◌+◌, ◌*◌, ◌<◌, ◌≤◌, Bool, List, length, Option, Some, None, IfSome, IsSome, MatchOption, is_some, if◌then◌else◌, ◌==◌, ◌⊎◌}
 use Rattle.rq_algebra.specs.Systems.{IsColumn, at}
 use Rattle.rq_algebra.specs.Symbols.{IsSymbolColumn, SolvesSymbols}
 use Rattle.rq_standard.specs.declared.row.TableRow.{TableRow}
@@ -39,7 +39,7 @@ pub record SolvesReceived (h : ReceivedBlock) (column : ℕ → List ℕ) : Type
   pub received : (e : ℕ) → IfSome (h.received e) (λ payload. payload ≡ tuple_sum h.row column (internal_id h.row h.source_symbols e))
 
 -- there is one
-pub record HasHeldSolution (h : ReceivedBlock) : Type 0 where
+pub record HasReceivedSolution (h : ReceivedBlock) : Type 0 where
   pub column : ℕ → List ℕ
   pub solves : SolvesReceived h column
 
@@ -50,16 +50,14 @@ ReceivedDetermine h = DetermineBlock h.row h.source_symbols (has_received h)
 -- what was received is contradictory: its ids determine the block, and no column solves all of it
 pub record IsContradictory (h : ReceivedBlock) : Type 0 where
   pub determined : ReceivedDetermine h
-  pub unsolved : HasHeldSolution h → ⊥
+  pub unsolved : HasReceivedSolution h → ⊥
 
--- a plain column that shows that known ids don't determine: it solves their equations with all values zero, and isn't all zeros
+-- a plain column that shows that known ids don't determine the block: it solves their equations with all values zero, and isn't all zeros
 pub record IsHomogeneous (row : TableRow) (known : ℕ → Bool) (column : List ℕ) : Type 0 where
   pub count : length column ≡ intermediate_symbols row
   pub elements : IsColumn octets (intermediate_symbols row) (at column)
   pub solves : SolvesZeros row known (at column)
-  pub index : ℕ
-  pub below : index < intermediate_symbols row
-  pub nonzero : at column index ≢ 0
+  pub nonzero : ((k : ℕ) → k < intermediate_symbols row → at column k ≡ 0) → ⊥
 
 -- such a column of what was received, and none where the ids that were received determine the block
 abbrev pub ShowsUndetermined : ReceivedBlock → Option (List ℕ) → Type 0
@@ -69,7 +67,7 @@ ShowsUndetermined h answer = MatchOption answer (ReceivedDetermine h) (IsHomogen
 abbrev pub CanAnswer : ReceivedBlock → Type 0
 CanAnswer h = HasSourceSymbols h.source_symbols (has_received h) ⊎ ReceivedDetermine h
 
--- a block of the length that was received
+-- a block of as many symbols as what was received is of
 pub record IsBlockWith (h : ReceivedBlock) (block : List ℕ) : Type 0 where
   pub long : length block ≡ h.source_symbols * h.configuration.symbol_size
   -- the source symbols that were received are those of the block
@@ -83,4 +81,4 @@ pub record IsBlockAnswer (h : ReceivedBlock) (answer : Option (List ℕ)) : Type
   pub none : CanAnswer h → IsSome answer
   pub block : IfSome answer (IsBlockWith h)
   -- a determined block is that of a column that solves all that was received
-  pub solved : IsSome answer → ReceivedDetermine h → HasHeldSolution h
+  pub solved : IsSome answer → ReceivedDetermine h → HasReceivedSolution h

@@ -9,7 +9,7 @@ use Rattle.rq_standard.specs.Received.{first_payload, has_id}
 use Rattle.rq_standard.specs.Headline.{DetermineBlock, block_row, IsPacketOf, IsHonestRun, IsObjectAnswer, IsOnlyObject}
 use Rattle.rq_standard.specs.ReceivedBlock.{ReceivedBlock, nothing_received, with_received, IsContradictory, IsBlockAnswer}
 
--- what a decoder has received of each block, and which blocks it has answered
+-- what a decoder keeps of each block, and which blocks it has answered
 pub record State : Type 0 where
   pub configuration : Configuration
   pub received : ℕ → ReceivedBlock
@@ -52,10 +52,19 @@ pub record IsNewState (table : List TableRow) (c : Configuration) (s : State) : 
   pub received : (b : ℕ) → b < c.source_blocks → s.received b ≡ new_received table c b
   pub answer : (b : ℕ) → b < c.source_blocks → s.answer b ≡ new_answer c b
 
+-- nothing is kept of what was received of a block
+abbrev pub emptied : ReceivedBlock → ReceivedBlock
+emptied h = nothing_received h.configuration h.number h.row h.source_symbols
+
+-- what is kept: all of it, until the block is answered
+abbrev pub kept_of : ReceivedBlock → Option (List ℕ) → ReceivedBlock
+kept_of h None = h
+kept_of h (Some block) = emptied h
+
 -- A packet of a block with no answer is recorded, and the block is answered where that can be.
 pub record AddsOpen (old : ReceivedBlock) (p : Packet) (new : ReceivedBlock) (answer : Option (List ℕ)) : Type 0 where
-  pub received : new ≡ with_received old p.id.esi p.payload
-  pub answers : IsBlockAnswer new answer
+  pub answers : IsBlockAnswer (with_received old p.id.esi p.payload) answer
+  pub kept : new ≡ kept_of (with_received old p.id.esi p.payload) answer
 
 -- What a packet of a block does to it: an answered block takes nothing more.
 abbrev pub AddsToBlock : ReceivedBlock → Option (List ℕ) → Packet → ReceivedBlock → Option (List ℕ) → Type 0

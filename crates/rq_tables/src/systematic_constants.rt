@@ -6,6 +6,7 @@ ghost use Rattle.rq_standard.specs.TableRows.{IsTable, IsChecked, greatest_size,
 ghost use Rattle.rq_standard.specs.Parameters.{greatest_within};
 ghost use Rattle.rq_tables.specs.SystematicTable.{wanted_size, wanted_table, wanted_rows};
 
+pub use crate::checked_row::CheckedRow;
 use crate::checks::{first_failing_check, row_at};
 use rq_bytes::error::Error;
 pub use rq_standard::p1_table::P1_TABLE;
@@ -129,6 +130,18 @@ impl SystematicTable {
             }
         }
         unreachable!()
+    }
+
+    /// The row of a block of `source_symbols` symbols, as [`row`](Self::row) answers it, with what its
+    /// checks say of it. Not in the Rust crate.
+    pub fn checked_row(&self, source_symbols: u32) -> CheckedRow
+        requires { source_symbols ≤ greatest_size self.now }
+        ensures row { result.numbers ≡ row_of self.now source_symbols }
+        ensures holds { source_symbols ≤ result.numbers.extended_symbols }
+    {
+        CheckedRow {
+            numbers: self.row(source_symbols),
+        }
     }
 
     /// J, the systematic index of a block of `source_symbols` symbols.

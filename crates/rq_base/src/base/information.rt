@@ -1,14 +1,18 @@
 //! The object transmission information (RFC 6330, 3.3.2 and 3.3.3).
 ghost use Rattle.std.specs.Prelude.{◌≡◌, ◌*◌, ◌^◌, ◌<◌, Result, Ok, OnOk, slice_index};
 ghost use Rattle.rq_standard.specs.Configuration.{Configuration, IsConfiguration, IsAccepted, total_symbols, largest_block, header_bytes, configuration_of_bytes};
+ghost use Rattle.rq_standard.specs.Streams.{frame_size};
 ghost use Rattle.rq_standard.specs.TableRows.{greatest_size};
 ghost use Rattle.std.specs.Int.{div_ceil};
 
+use super::packet::PAYLOAD_ID_LENGTH;
 use rq_bytes::error::Error;
 use rq_tables::systematic_constants::{MAX_SOURCE_SYMBOLS_PER_BLOCK, SystematicTable};
 use std::marker::Model;
 
 mod parameters;
+
+pub use parameters::DEFAULT_DECODER_MEMORY;
 
 // The greatest transfer length, in bytes: 65535 bytes in each of 56403 symbols of 255 blocks.
 const MAX_TRANSFER_LENGTH: u64 = 942574504275;
@@ -28,19 +32,13 @@ impl Model for ObjectTransmissionInformation {
 
     ghost Value = { Configuration };
 
-    ghost use Rattle.rq_base.specs.ObjectTransmissionInformation.{information_view};
+    ghost use Rattle.rq_base.specs.ObjectTransmissionInformation.{information_inside, information_view};
 
     ghost view = { information_view };
 
     ghost invariant = { λ i. IsConfiguration (information_view i) };
 
-    ghost inverse = { λ c. record {
-      transfer_length = c.transfer_length;
-      symbol_size = c.symbol_size;
-      num_source_blocks = c.source_blocks;
-      num_sub_blocks = c.sub_blocks;
-      symbol_alignment = c.alignment;
-    } };
+    ghost inverse = { information_inside };
 }
 
 impl ObjectTransmissionInformation {
@@ -190,6 +188,13 @@ impl ObjectTransmissionInformation {
         ensures { result ≡ self.now.symbol_size }
     {
         self.symbol_size
+    }
+
+    /// The length of a frame, in bytes: a payload id and a symbol. Not in the Rust crate.
+    pub fn frame_size(&self) -> usize
+        ensures { result ≡ frame_size self.now }
+    {
+        PAYLOAD_ID_LENGTH + usize::from(self.symbol_size)
     }
 
     /// The number of source blocks.

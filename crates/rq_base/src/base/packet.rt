@@ -8,8 +8,11 @@ use rq_bytes::symbol::Symbol;
 use std::alloc::Global;
 use std::marker::Model;
 
-// Encoding symbol ids are below this number, since they have 24 bits.
-const ENCODING_SYMBOL_IDS: u32 = 16777216;
+/// How many encoding symbol ids there are: they have 24 bits (RFC 6330, 3.2). Not in the Rust crate.
+pub const ENCODING_SYMBOL_IDS: u32 = 16777216;
+
+/// How many bytes a payload id has (RFC 6330, 3.2). Not in the Rust crate.
+pub const PAYLOAD_ID_LENGTH: usize = 4;
 
 /// Which symbol of which source block a packet carries.
 #[derive(Clone, Debug, PartialEq, Eq, PartialOrd, Ord, Hash, Drop)]
@@ -122,10 +125,10 @@ impl EncodingPacket {
     pub fn deserialize(alloc: Global, bytes: &[u8]) -> Result<EncodingPacket, Error>
         ensures { IsAnswer (λ p. p) result (read_packet bytes.now) }
     {
-        if bytes.len() < 4 {
+        if bytes.len() < PAYLOAD_ID_LENGTH {
             return Err(Error::PacketTooShort);
         }
-        let (id, payload) = bytes.split_at(4);
+        let (id, payload) = bytes.split_at(PAYLOAD_ID_LENGTH);
         Ok(EncodingPacket {
             payload_id: PayloadId::deserialize(&[id[0], id[1], id[2], id[3]]),
             payload: Symbol::new(Vec::from_slice(alloc, payload)?),
@@ -138,7 +141,7 @@ impl EncodingPacket {
         ensures read { IfOk result (λ v. packet_of_bytes v.items ≡ self.now) }
     {
         let payload = self.payload.as_bytes();
-        let mut bytes = Vec::with_capacity(alloc, 4 + payload.len())?;
+        let mut bytes = Vec::with_capacity(alloc, PAYLOAD_ID_LENGTH + payload.len())?;
         bytes.extend_from_slice(&self.payload_id.serialize())?;
         bytes.extend_from_slice(payload)?;
         Ok(bytes)

@@ -6,8 +6,9 @@ use super::{MAX_TRANSFER_LENGTH, ObjectTransmissionInformation, total_symbols};
 use rq_bytes::error::Error;
 use rq_tables::systematic_constants::SystematicTable;
 
-// The memory that a decoder is taken to have, in bytes.
-const DECODER_MEMORY: u64 = 10485760;
+/// The memory that a decoder is taken to have where nothing else is said, in bytes. Not in the Rust
+/// crate.
+pub const DEFAULT_DECODER_MEMORY: u64 = 10485760;
 
 impl ObjectTransmissionInformation {
     ghost use Rattle.std.specs.Int.{div_ceil};
@@ -24,7 +25,12 @@ impl ObjectTransmissionInformation {
     ) -> Result<ObjectTransmissionInformation, Error>
         ensures { result ≡ wanted_parameters table.now transfer_length max_packet_size 10485760 }
     {
-        Self::generate_encoding_parameters(table, transfer_length, max_packet_size, DECODER_MEMORY)
+        Self::generate_encoding_parameters(
+            table,
+            transfer_length,
+            max_packet_size,
+            DEFAULT_DECODER_MEMORY,
+        )
     }
 
     /// A configuration for an object of `transfer_length` bytes in packets of at most

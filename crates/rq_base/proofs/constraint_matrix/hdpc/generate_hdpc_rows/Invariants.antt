@@ -3,6 +3,6 @@ use Rattle.rq_base.proofs.constraint_matrix.hdpc.generate_hdpc_rows.Given as goa
 
 abbrev pub invariant-loop-column : goal.invariant-loop-column
 invariant-loop-column l = record {
-  matrix : IsFilledFrom l.row l.column l.matrix;
-  octets : IsHdpcColumn l.row l.column l.octets;
+  matrix : IsFilledFrom l.row.numbers l.column l.matrix;
+  octets : IsHdpcColumn l.row.numbers l.column l.octets;
 }
