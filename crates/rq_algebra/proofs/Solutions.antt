@@ -1,9 +1,9 @@
 -- Elementary operations keep the solutions of a system.
-use Rattle.std.proofs.Common.{◌≡◌, ◌≢◌, ◌↔◌, ℕ, ◌<◌, sym, ap, ◌∙◌, refl, inl, inr}
+use Rattle.std.proofs.Common.{◌≡◌, ◌≢◌, ◌↔◌, ℕ, List, ◌<◌, sym, ap, ◌∙◌, refl, inl, inr}
 use Rattle.std.proofs.lemmas.Bool.{cases_eq}
 use Rattle.rq_algebra.specs.Field.{Field}
 use Rattle.rq_algebra.specs.Arrangements.{ArePlaces, EquationsStandIn, RowsStandIn}
-use Rattle.rq_algebra.specs.Systems.{dot, Solves, IsColumn, IsDetermined, HasHomogeneousColumn}
+use Rattle.rq_algebra.specs.Systems.{at, dot, Solves, IsColumn, IsDetermined, HasHomogeneousColumn, IsHomogeneousColumn}
 use Rattle.rq_algebra.specs.Steps.{AddsRow, ScalesRow, AddsValue, ScalesValue, SameSolutions}
 use Rattle.rq_algebra.proofs.Sums.{add_again, dot_same, dot_fma, dot_mul_row, dot_below_size, undo_mul, dot_add_column}
 use Rattle.rq_algebra.proofs.FewEquations.{all_places, dot_places}
@@ -12,6 +12,17 @@ module _ (F : Field) (height width : ℕ) where
   -- the values of a row, where the rows agree
   pub solves_same : (a b : ℕ → ℕ → ℕ) (x v w : ℕ → ℕ) → ((i k : ℕ) → i < height → k < width → a i k ≡ b i k) → ((i : ℕ) → i < height → v i ≡ w i) → Solves F height width a x v → Solves F height width b x w
   solves_same a b x v w rows values s = record { at = λ i l. dot_same F width (b i) (a i) x x (λ k m. sym (rows i k l m)) (λ k m. refl) ∙ s.at i l ∙ values i l }
+
+  -- a column that shows that rows determine none shows it of rows with the same entries
+  pub homogeneous_column_same : (a b : ℕ → ℕ → ℕ) → ((i k : ℕ) → i < height → k < width → a i k ≡ b i k) → (column : List ℕ) → IsHomogeneousColumn F height width a column → IsHomogeneousColumn F height width b column
+  homogeneous_column_same a b same column shows = record {
+    count = shows.count;
+    elements = shows.elements;
+    solves = solves_same a b (at column) (λ _. 0) (λ _. 0) same (λ i l. refl) shows.solves;
+    index = shows.index;
+    below = shows.below;
+    nonzero = shows.nonzero;
+  }
 
   pub SameSolutions-refl : (a : ℕ → ℕ → ℕ) (v : ℕ → ℕ) → SameSolutions F height width a v a v
   SameSolutions-refl a v = record { onward = λ x s. s; back = λ x s. s }

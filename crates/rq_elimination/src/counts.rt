@@ -1,6 +1,6 @@
-//! The operations that the phases recorded for the symbols, in a list, where each phase's stretches end
-//! in it, and how many they are (RFC 6330, sections 5.4.2.2 to 5.4.2.6). What the third and the fifth do
-//! is counted as the fourth's.
+//! `OperationList`: the operations that the phases record for the symbols, where each phase's stretches
+//! end in it, and how many they are (RFC 6330, sections 5.4.2.2 to 5.4.2.6). What the third and the
+//! fifth do is counted as the fourth's.
 ghost use Rattle.std.specs.Prelude.{◌≡◌, ℕ, ◌+◌, ◌<◌, ◌≤◌, ◌^◌, ◌∷◌, [], ◌++◌, List, Some, length, map, slice_index_or, IfOk, OnOk, IfErr};
 ghost use Rattle.rq_algebra.specs.Operations.{Operation, AddAssign};
 ghost use Rattle.rq_bytes.specs.declared.error.Error.TheVariants.{OutOfMemory};
@@ -22,7 +22,7 @@ pub struct PhaseCounts {
 }
 
 impl PhaseCounts {
-    /// No phase recorded any.
+    /// The counts where no phase recorded an operation.
     pub fn none() -> PhaseCounts
         ensures { result.first + result.second + result.fourth ≡ 0 }
     {
@@ -33,14 +33,14 @@ impl PhaseCounts {
         }
     }
 
-    /// All of them.
+    /// The count of all phases together.
     pub fn total(&self) -> u64
         ensures { result ≡ self.now.first + self.now.second + self.now.fourth }
     {
         self.first + self.second + self.fourth
     }
 
-    /// Those of each of the five phases.
+    /// The counts of the five phases in turn. The third's and the fifth's stand in the fourth's.
     pub fn by_phase(&self) -> [u64; 5]
         ensures { result ≡ self.now.first ∷ self.now.second ∷ 0 ∷ self.now.fourth ∷ 0 ∷ [] }
     {
@@ -56,9 +56,7 @@ pub struct OperationCounts {
 }
 
 impl OperationCounts {
-    ghost use Rattle.rq_elimination.specs.PhaseCounts.{total_of};
-
-    /// No phase recorded any.
+    /// The counts where no phase recorded an operation.
     pub fn none() -> OperationCounts
         ensures additions { result.additions.first + result.additions.second + result.additions.fourth ≡ 0 }
         ensures multiplications { result.multiplications.first + result.multiplications.second + result.multiplications.fourth ≡ 0 }

@@ -1,4 +1,5 @@
-//! `InactiveEntries`: the matrix U of RFC 6330 (section 5.4.2.2), rows of bits or of octets.
+//! `InactiveEntries`: the matrix U of RFC 6330 (section 5.4.2.2), rows of bits (`packed_bits`) or of
+//! octets (`own_octets`), each read by an `octet_row`.
 ghost use Rattle.std.specs.Prelude.{◌≡◌, ◌≢◌, ◌+◌, ◌*◌, ◌%◌, ◌^◌, ◌<◌, ◌≤◌, All, length, replicate, slice_set, IfSome, IfOk, OnOk, IfErr, OnErr};
 ghost use Rattle.rq_bytes.specs.declared.error.Error.TheVariants.{OutOfMemory};
 ghost use Rattle.rq_parts.specs.DenseOctetMatrix.{entry_of, HasOctets, row_at, with_row};
@@ -82,7 +83,8 @@ impl InactiveEntries {
         }
     }
 
-    /// Sets the first entries of a row, which gets octets, to those of a row of octets in columns.
+    /// Sets the first entries of a row, which gets octets, to what the row `from` of a matrix has in
+    /// some columns, in their order.
     pub fn fill(
         &mut self,
         row: usize,
@@ -148,8 +150,8 @@ impl InactiveEntries {
         }
     }
 
-    /// How many of the first `count` entries of a row aren't 0, or of bits more, where later ones share
-    /// a word with the last of these: `count` at most.
+    /// How many of the first `count` entries of a row aren't 0. Of a row of bits later ones that share
+    /// a word with these may be counted too, up to `count` in all.
     pub fn count_entries(&self, row: usize, count: usize) -> usize
         requires row { row < length self.now.rows }
         requires count { count ≤ self.now.width }
@@ -176,8 +178,8 @@ impl InactiveEntries {
         Ok(())
     }
 
-    /// Adds a multiple of a row to another one, which gets octets unless both are bits that are added
-    /// once.
+    /// Adds a multiple of a row to another one. This one gets octets, unless both are rows of bits and
+    /// the scalar is 1.
     #[inline(always)]
     pub fn add_multiple(&mut self, dest: usize, src: usize, scalar: &Octet) -> Result<(), Error>
         requires two { dest ≢ src }

@@ -1,4 +1,4 @@
-//! Rows that are worked on, with the operations that are recorded for them: what RFC 6330 does to the
+//! `RecordedRows`: rows that are worked on, with the operations that are recorded for them: what RFC 6330 does to the
 //! matrix A it does to the symbols D too (section 5.4.2.1).
 ghost use Rattle.std.specs.Prelude.{◌≡◌, ◌<◌, ◌^◌, length};
 ghost use Rattle.rq_operations.specs.RecordedSteps.{operation_of_step};
@@ -38,7 +38,7 @@ impl RecordedRows {
         ensures operations { IfOk result (λ rows. rows.operations ≡ []) }
         ensures err { IfErr result (λ e. e ≡ OutOfMemory) }
     {
-        // What the width is told with: all entries are octets.
+        // For the proof: the contract of `width` says that all entries are octets.
         let _width = table.width();
         Ok(RecordedRows {
             table,

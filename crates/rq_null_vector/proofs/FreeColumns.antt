@@ -4,13 +4,13 @@ use Rattle.std.proofs.Common.{Option, None, Some, Vec, Global, ◌≡◌, ◌≢
 use Rattle.std.proofs.lemmas.Bool.{cases_eq, cases_lt}
 use Rattle.std.proofs.lemmas.List.{get_or_append_left, get_or-append_right, get_or-map, get_or-replicate, get_or-take, length-append, length-map, length-replicate, length-take-le}
 use Rattle.rq_algebra.specs.Arrangements.{ArePlaces}
-use Rattle.rq_algebra.specs.Systems.{at, dot, IsColumn, IsDetermined}
+use Rattle.rq_algebra.specs.Systems.{at, dot, IsColumn, IsDetermined, IsHomogeneousColumn}
 use Rattle.rq_algebra.proofs.FewEquations.{all_places}
-use Rattle.rq_algebra.proofs.Solutions.{solves_same}
+use Rattle.rq_algebra.proofs.Solutions.{homogeneous_column_same, solves_same}
 use Rattle.rq_algebra.proofs.Sums.{mul_one, zero_mul, mul_zero, dot_one, dot_zero, dot-suc, dot_split}
 use Rattle.rq_standard.specs.OctetField.{octets}
 use Rattle.rq_parts.specs.DenseOctetMatrix.{OctetTable, entry_of}
-use Rattle.rq_null_vector.specs.Homogeneous.{IsHomogeneousColumn, ShowsHomogeneous, KeepsZeros, LacksPivot}
+use Rattle.rq_null_vector.specs.Homogeneous.{ShowsHomogeneous, KeepsZeros, LacksPivot}
 use Rattle.rq_elimination.specs.RowSteps.{AreRows}
 use Rattle.rq_null_vector.specs.Reduced.{IsReduced}
 use Rattle.rq_null_vector.specs.RowWrites.{HoldsRows}
@@ -114,7 +114,7 @@ module _ (start end : OctetTable) (rows : List ℕ) (keeps : KeepsZeros start en
       ]) at_behind
     ]
 
-    pub homogeneous_by_pivots : IsHomogeneousColumn (length start.rows) start.width (entry_of start) column
+    pub homogeneous_by_pivots : IsHomogeneousColumn octets (length start.rows) start.width (entry_of start) column
     homogeneous_by_pivots = record {
       count = count;
       elements = elements;
@@ -134,19 +134,9 @@ module _ (height width : ℕ) (a b : ℕ → ℕ → ℕ) (same : SameEntries he
   determined_same : IsDetermined octets height width a → IsDetermined octets height width b
   determined_same determined x elements solves = determined x elements (solves_same octets height width b a x (λ _. 0) (λ _. 0) (λ i k l m. sym (same i k l m)) (λ i l. refl) solves)
 
-  homogeneous_same : (column : List ℕ) → IsHomogeneousColumn height width a column → IsHomogeneousColumn height width b column
-  homogeneous_same column shows = record {
-    count = shows.count;
-    elements = shows.elements;
-    solves = solves_same octets height width a b (at column) (λ _. 0) (λ _. 0) same (λ i l. refl) shows.solves;
-    index = shows.index;
-    below = shows.below;
-    nonzero = shows.nonzero;
-  }
-
   pub shows_same : (answer : Option (Vec ℕ Global)) → ShowsHomogeneous height width a answer → ShowsHomogeneous height width b answer
   shows_same None determined = determined_same determined
-  shows_same (Some column) shows = homogeneous_same column.items shows
+  shows_same (Some column) shows = homogeneous_column_same octets height width a b same column.items shows
 
 -- what the answer says of the rows that a table holds
 module _ (height width : ℕ) (wanted : ℕ → ℕ → ℕ) (start end : OctetTable) (holds : HoldsRows height width height wanted start) (rows : List ℕ) (keeps : KeepsZeros start end) (are : AreRows rows end) (all : length rows ≡ length start.rows) where
@@ -158,7 +148,7 @@ module _ (height width : ℕ) (wanted : ℕ → ℕ → ℕ) (start end : OctetT
       let determined = determined_by_pivots start end rows keeps are whole (rw holds.width_is reduced) in
       determined_same height width (entry_of start) wanted holds.written (rw (holds.width_is, holds.height_is) at determined)
 
-  pub homogeneous_rows : (free : ℕ) → LacksPivot rows free end → (column : List ℕ) → column ≡ map (λ row. entry_of end row free) (take free rows) ++ 1 ∷ replicate (width - free - 1) 0 → IsHomogeneousColumn height width wanted column
+  pub homogeneous_rows : (free : ℕ) → LacksPivot rows free end → (column : List ℕ) → column ≡ map (λ row. entry_of end row free) (take free rows) ++ 1 ∷ replicate (width - free - 1) 0 → IsHomogeneousColumn octets height width wanted column
   homogeneous_rows free lacks column is =
       let shows = homogeneous_by_pivots start end rows keeps are whole free lacks column (rw holds.width_is is) in
-      homogeneous_same height width (entry_of start) wanted holds.written column (rw (holds.width_is, holds.height_is) at shows)
+      homogeneous_column_same octets height width (entry_of start) wanted holds.written column (rw (holds.width_is, holds.height_is) at shows)

@@ -1,26 +1,17 @@
 -- Columns that solve rows with all values zero, and an elimination that looks for one.
-use Rattle.std.specs.Prelude.{◌≡◌, ◌≢◌, ℕ, ◌<◌, ◌≤◌, List, length, Option, MatchOption, Vec}
+use Rattle.std.specs.Prelude.{◌≡◌, ℕ, ◌<◌, ◌≤◌, List, length, Option, MatchOption, Vec}
 use Rattle.std.specs.Global.{Global}
 use Rattle.rq_algebra.specs.Steps.{SameSolutions}
-use Rattle.rq_algebra.specs.Systems.{at, IsColumn, IsDetermined, Solves}
+use Rattle.rq_algebra.specs.Systems.{at, IsDetermined, IsHomogeneousColumn}
 use Rattle.rq_standard.specs.BitTable.{BitTable}
 use Rattle.rq_standard.specs.ConstraintMatrix.{with_octet_rows}
 use Rattle.rq_standard.specs.OctetField.{octets}
 use Rattle.rq_parts.specs.DenseOctetMatrix.{OctetTable, entry_of, HasOctets}
 use Rattle.rq_null_vector.specs.Reduced.{IsReduced}
 
--- octets, not all of them zero, that solve the rows with all values zero
-pub record IsHomogeneousColumn (height width : ℕ) (rows : ℕ → ℕ → ℕ) (column : List ℕ) : Type 0 where
-  pub count : length column ≡ width
-  pub elements : IsColumn octets width (at column)
-  pub solves : Solves octets height width rows (at column) (λ _. 0)
-  pub index : ℕ
-  pub below : index < width
-  pub nonzero : at column index ≢ 0
-
--- such a column, and none where only zeros solve the rows
+-- octets, not all of them zero, that solve the rows with all values zero, and none where only zeros do
 abbrev pub ShowsHomogeneous : ℕ → ℕ → (ℕ → ℕ → ℕ) → Option (Vec ℕ Global) → Type 0
-ShowsHomogeneous height width rows answer = MatchOption answer (IsDetermined octets height width rows) (λ column. IsHomogeneousColumn height width rows column.items)
+ShowsHomogeneous height width rows answer = MatchOption answer (IsDetermined octets height width rows) (λ column. IsHomogeneousColumn octets height width rows column.items)
 
 -- so it is for the rows of a matrix of bits, but those of a matrix of octets in the places from `first` on
 abbrev pub ShowsHomogeneousRows : BitTable → OctetTable → ℕ → Option (Vec ℕ Global) → Type 0

@@ -1,5 +1,7 @@
 -- A row of bits as the ascending list of the indices that have a one.
-use Rattle.std.specs.Prelude.{◌≡◌, ◌≢◌, ℕ, ◌<◌, ◌≤◌, ◌==◌, List, length, slice_index, Option, None, Some, if◌then◌else◌, count_by}
+use Rattle.std.specs.Prelude.{◌≡◌, ◌≢◌, ℕ, ◌<◌, ◌≤◌, ◌==◌, List, [], ◌∷◌, ◌++◌, length, slice_index, Option, None, Some, if◌then◌else◌, count_by}
+use Rattle.std.specs.List.{insert}
+use Rattle.std.specs.List.Sorted.{IsStrictlyIncreasing}
 use Rattle.std.specs.Int.Bits.{bit_xor}
 use Rattle.rq_standard.specs.BitTableSteps.{bit_of}
 
@@ -40,3 +42,7 @@ pub record IsInsertionPlace (ones : List ℕ) (i place : ℕ) : Type 0 where
   pub within : place ≤ length ones
   pub before : (k : ℕ) → k < place → slice_index ones k < i
   pub behind : (k : ℕ) → place ≤ k → k < length ones → i ≤ slice_index ones k
+
+-- the last index is moved to its place among the ascending ones before it
+abbrev pub InsertsLast : List ℕ → List ℕ → Type 0
+InsertsLast old new = (xs : List ℕ) (one place : ℕ) → old ≡ xs ++ one ∷ [] → IsStrictlyIncreasing xs → IsInsertionPlace xs one place → new ≡ insert xs place one

@@ -9,7 +9,7 @@ ghost use Rattle.std.specs.List.{insert};
 ghost use Rattle.std.specs.List.Sorted.{IsStrictlyIncreasing};
 ghost use Rattle.std.specs.Int.Bits.{bit_xor};
 ghost use Rattle.rq_bytes.specs.declared.error.Error.TheVariants.{OutOfMemory};
-ghost use Rattle.rq_parts.specs.SparseBinaryVec.{listed_bit, listed_octet, SetsListed, IsListedSum, HasOtherOne, IsListed, IsGap, IsInsertionPlace};
+ghost use Rattle.rq_parts.specs.SparseBinaryVec.{listed_bit, listed_octet, SetsListed, IsListedSum, HasOtherOne, IsListed, IsGap, InsertsLast};
 
 use rq_bytes::error::Error;
 use rq_bytes::octet::Octet;
@@ -276,7 +276,7 @@ fn move_last_to(ones: &mut [u16], gap: usize)
 // there is no branch to guess and several places are written at once.
 fn insert_last(ones: &mut [u16]) -> bool
     requires { 0 < length ones.old }
-    ensures put { (xs : List ℕ) (one place : ℕ) → ones.old ≡ xs ++ one ∷ [] → IsStrictlyIncreasing xs → IsInsertionPlace xs one place → ones.new ≡ insert xs place one }
+    ensures put { InsertsLast ones.old ones.new }
     ensures listed { (xs : List ℕ) (one : ℕ) → ones.old ≡ xs ++ one ∷ [] → (result ≡ true) ↔ Contains xs one }
 {
     let mut at = ones.len() - 1;

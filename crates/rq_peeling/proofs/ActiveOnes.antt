@@ -11,7 +11,7 @@ use Rattle.std.proofs.Math.ListN.{get_or-append}
 use Rattle.rq_algebra.specs.Systems.{at}
 use Rattle.rq_peeling.specs.SystemRows.{one_in}
 use Rattle.rq_peeling.specs.ColumnRows.{ColumnLists, ListsColumns, rows_with}
-use Rattle.rq_peeling.specs.Degrees.{is_left, ones_left, is_active, active_ones, CountsActive, CountsBefore, KeepsDegrees, LowersRows, HasFewestLeft, HasLeastDegree, AllHaveNone}
+use Rattle.rq_peeling.specs.Degrees.{is_left, ones_left, is_active, active_ones, CountsActive, CountsBefore, KeepsDegrees, LowersRows, HasFewestLeft, HasLeastDegree, AllHaveNone, TakesColumnsLeft}
 use Rattle.rq_peeling.specs.Peeled.{ones_of, ColumnState, IsActive, HasNoActive, EndsActive, TakesRow, first_columns}
 use Rattle.rq_peeling.proofs.ColumnPlacing.{count-replicate}
 
@@ -164,6 +164,19 @@ zero_tested n e = elim (eqb_tells n 0) [ inl is ↦ is.0 | inr is ↦ absurd (is
 tested_zero : (n : ℕ) → (n == 0) ≡ true → n ≡ 0
 tested_zero n e = elim (eqb_tells n 0) [ inl is ↦ is.1 | inr is ↦ absurd (not_both (n == 0) e is.0) ]
 
+-- one more row is taken: what holds of each row beside those before it holds of each again
+pub takes_more : (P : ℕ → List ℕ → ℕ → Type 0) (taken : List ℕ) (row : ℕ) → ((p : ℕ) → p < length taken → P p (take p taken) (at taken p)) → P (length taken) taken row
+    → (p : ℕ) → p < length (taken ++ row ∷ []) → P p (take p (taken ++ row ∷ [])) (at (taken ++ row ∷ []) p)
+takes_more P taken row each is p l =
+    let long = length-append taken (row ∷ []) in
+    elim (cases_lt p (length taken)) [
+      | inl before ↦ rw (take-append-le p taken (row ∷ []) (omega arith), get_or-append taken (row ∷ []) 0 p before) (each p before)
+      | inr after ↦
+          let last : length taken ≡ p = omega (arith, long, l) in
+          let all : take p (taken ++ row ∷ []) ≡ taken = take-append-le p taken (row ∷ []) (omega (arith, last)) ∙ take_all p taken (omega (arith, last)) in
+          rw (all, get_or_push taken row 0 p last, ← last) is
+    ]
+
 -- before a row is taken, these are the first active ones
 pub left_first : (lists : List (List ℕ)) (width lt_columns k : ℕ) → k < width → is_left lists lt_columns [] k ≡ is_active (first_columns width lt_columns) k
 left_first lists width lt_columns k l =
@@ -191,6 +204,15 @@ module _ (lists : List (List ℕ)) (lt_columns : ℕ) (rows : List ℕ) (row : �
       let none = tested_zero before both.1 in
       let absent = count_absent (ones_of lists row) k (λ is. takes.ended k is active) in
       both_true (nat_lt k lt_columns) (after == 0) both.0 (zero_tested after (omega (arith, more, none, absent))))
+
+  -- the row's pivot stands in a column that was left
+  column_left : All (λ row. All (λ column. column < length old.order) row) lists → row < length lists → is_left lists lt_columns rows (at new.order old.pivots) ≡ true
+  column_left below inside = let column = at new.order old.pivots in left column (in_row lists (length old.order) row column below inside takes.own) ∙ active_true old column takes.was
+
+  pub columns_next : All (λ row. All (λ column. column < length old.order) row) lists → row < length lists → length rows ≡ old.pivots → TakesColumnsLeft lists lt_columns rows old.order → TakesColumnsLeft lists lt_columns (rows ++ row ∷ []) new.order
+  columns_next below inside count were =
+      takes_more (λ p taken _. is_left lists lt_columns taken (at new.order p) ≡ true) rows row
+      (λ p l. rw (takes.before p (omega (arith, l, count))) (were p l)) (rw count (column_left below inside))
 
 -- ---- rows by their degrees
 
@@ -230,16 +252,3 @@ counts_first lists lt_columns width degrees below counts r l =
     bool_same (nat_lt k lt_columns) (is_active (first_columns width lt_columns) k)
     (λ e. active_true (first_columns width lt_columns) k (record { from = omega arith; below = rw own (ltb-true k lt_columns e) }))
     (λ e. lt-ltb k lt_columns (rw own at (true_active (first_columns width lt_columns) k e).below)))
-
--- one more row is taken
-pub takes_more : (lists : List (List ℕ)) (lt_columns : ℕ) (taken : List ℕ) (row : ℕ) → ((p : ℕ) → p < length taken → HasFewestLeft lists lt_columns (take p taken) (at taken p)) → HasFewestLeft lists lt_columns taken row
-    → (p : ℕ) → p < length (taken ++ row ∷ []) → HasFewestLeft lists lt_columns (take p (taken ++ row ∷ [])) (at (taken ++ row ∷ []) p)
-takes_more lists lt_columns taken row each is p l =
-    let long = length-append taken (row ∷ []) in
-    elim (cases_lt p (length taken)) [
-      | inl before ↦ rw (take-append-le p taken (row ∷ []) (omega arith), get_or-append taken (row ∷ []) 0 p before) (each p before)
-      | inr after ↦
-          let last : length taken ≡ p = omega (arith, long, l) in
-          let all : take p (taken ++ row ∷ []) ≡ taken = take-append-le p taken (row ∷ []) (omega (arith, last)) ∙ take_all p taken (omega (arith, last)) in
-          rw (all, get_or_push taken row 0 p last) is
-    ]

@@ -2,7 +2,7 @@
 use Rattle.std.specs.Prelude.{◌≡◌, ℕ, ◌<◌, ◌≤◌, List, Contains, length, take}
 use Rattle.rq_algebra.specs.Arrangements.{ArePlaces}
 use Rattle.rq_algebra.specs.Systems.{at}
-use Rattle.rq_peeling.specs.Degrees.{CountsActive, HasFewestLeft, is_active, is_left}
+use Rattle.rq_peeling.specs.Degrees.{CountsActive, HasFewestLeft, TakesColumnsLeft, is_active, is_left}
 use Rattle.rq_peeling.specs.Peeled.{ones_of, ColumnState, IsActive}
 
 -- the pivots so far: none of their rows has an active column any more
@@ -20,3 +20,4 @@ pub record HasChosen (width lt_columns : ℕ) (lists : List (List ℕ)) (rows : 
   pub left : (k : ℕ) → k < width → is_left lists lt_columns rows k ≡ is_active state k
   pub counts : CountsActive lists state degrees
   pub fewest : (p : ℕ) → p < length rows → HasFewestLeft lists lt_columns (take p rows) (at rows p)
+  pub columns : TakesColumnsLeft lists lt_columns rows state.order

@@ -1,5 +1,5 @@
 -- How many active columns rows have, while pivots are chosen.
-use Rattle.std.specs.Prelude.{◌≡◌, ◌≢◌, ℕ, ◌-◌, ◌<◌, ◌≤◌, ◌==◌, ◌&&◌, ◌∷◌, ◌++◌, ◌⊎◌, [], Bool, List, All, Contains, count_by, length, nat_le, nat_lt, sum_by, take}
+use Rattle.std.specs.Prelude.{◌≡◌, ◌≢◌, ℕ, ◌-◌, ◌<◌, ◌≤◌, ◌==◌, ◌&&◌, ◌∷◌, ◌++◌, ◌⊎◌, [], Bool, true, List, All, Contains, count_by, length, nat_le, nat_lt, sum_by, take}
 use Rattle.rq_algebra.specs.Systems.{at}
 use Rattle.rq_peeling.specs.SystemRows.{one_in}
 use Rattle.rq_peeling.specs.Peeled.{ones_of, ColumnState}
@@ -41,6 +41,10 @@ pub record HasFewestLeft (lists : List (List ℕ)) (lt_columns : ℕ) (taken : L
 pub record TakesFewest (lists : List (List ℕ)) (lt_columns : ℕ) (taken : List ℕ) : Type 0 where
   pub each : (p : ℕ) → p < length taken → HasFewestLeft lists lt_columns (take p taken) (at taken p)
   pub last : (r : ℕ) → r < length lists → ones_left lists lt_columns taken r ≡ 0
+
+-- each row that was taken has its pivot in a column that was left by those before it
+abbrev pub TakesColumnsLeft : List (List ℕ) → ℕ → List ℕ → List ℕ → Type 0
+TakesColumnsLeft lists lt_columns taken order = (p : ℕ) → p < length taken → is_left lists lt_columns (take p taken) (at order p) ≡ true
 
 -- whether a column is active, and how many of a row's ones stand in such columns
 abbrev pub is_active : ColumnState → ℕ → Bool

@@ -105,7 +105,7 @@ impl ColumnRows {
     }
 }
 
-// Puts a row before those that its columns have.
+// Lists a row in each of its columns, before the rows that are listed there.
 fn place_row(row: u32, columns: &[u16], starts: &mut [usize], rows: &mut [u32])
     requires columns { All (λ column. column < length starts.old) columns.now }
     requires room { (k : ℕ) → k < length starts.old → count_by (λ column. column == k) columns.now ≤ at starts.old k }

@@ -1,5 +1,5 @@
-//! The columns in an order: those with pivots, the active ones and the inactive ones, which are I, V and
-//! U of RFC 6330 (section 5.4.2.2).
+//! The columns in an order: those with pivots, the active ones and the inactive ones, which are I,
+//! V and U of RFC 6330 (section 5.4.2.2).
 ghost use Rattle.std.specs.Prelude.{◌≡◌, ◌+◌, ◌<◌, ◌≤◌, ◌↔◌, length, IsTrue, IfOk, IfErr};
 ghost use Rattle.rq_bytes.specs.declared.error.Error.TheVariants.{OutOfMemory};
 ghost use Rattle.rq_peeling.specs.Peeled.{IsOrderOf, IsActive, first_columns, ExchangesColumns, EndsActive};

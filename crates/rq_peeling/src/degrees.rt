@@ -1,5 +1,5 @@
-//! `RowDegrees`: how many active columns each row has, which is r of RFC 6330 (section 5.4.2.2), and
-//! which row to take next.
+//! `RowDegrees`: how many active columns each row has, the least of which is r of RFC 6330 (section
+//! 5.4.2.2), and which row to take next.
 ghost use Rattle.std.specs.Prelude.{◌≡◌, ◌+◌, ◌-◌, ◌^◌, ◌<◌, ◌≤◌, [], All, Contains, length, take, IfSome, IfNone, IfOk, OnOk, IfErr};
 ghost use Rattle.rq_algebra.specs.Systems.{at};
 ghost use Rattle.rq_bytes.specs.declared.error.Error.TheVariants.{OutOfMemory};
@@ -220,8 +220,9 @@ impl RowList {
         Ok(())
     }
 
-    // Lists a row behind the others, if its degree is the wanted one. Which rows' is can't be foreseen,
-    // so nothing branches on it: a row is written always, and the next one over it where it isn't listed.
+    // Lists a row behind the others if it has the wanted degree. No branch could foresee that, so
+    // there is none: the row is written in any case, and where it isn't listed the next one is
+    // written over it.
     #[inline(always)]
     fn push_of_degree(&mut self, wanted: u16, row: u32, degree: u16)
         requires { 0 < self.old.room }

@@ -36,8 +36,8 @@ impl Model for RowOnes {
 }
 
 impl RowOnes {
-    /// The ones of a matrix, and how many of them each row has in the first `lt_columns` columns, those of
-    /// LT symbols.
+    /// The ones of a matrix, and how many of them each row has in the first `lt_columns` columns,
+    /// those of LT symbols.
     pub fn of_matrix<T: BinaryMatrix>(
         alloc: Global,
         bits: &T,
@@ -121,7 +121,7 @@ fn push_ones<T: BinaryMatrix>(
     Ok(count as u16)
 }
 
-// Lists columns behind others.
+// Appends columns to a list of them.
 fn push_columns(more: &[usize], columns: &mut Vec<u16>) -> Result<(), Error>
     requires { All (λ column. column < 65536) more.now }
     ensures pushed { OnOk result (columns.new.items ≡ columns.old.items ++ more.now) }

@@ -1,9 +1,9 @@
-//! `Peeler`: the state of the choice of pivots, and one turn of it (RFC 6330, section 5.4.2.2). Where all
-//! rows have two active columns or more, a graph of components decides.
+//! `Peeler`: the state of the choice of pivots, and one turn of it (RFC 6330, section 5.4.2.2).
+//! Where all rows have two active columns or more, a graph of components decides.
 ghost use Rattle.std.specs.Prelude.{◌≡◌, false, ◌<◌, ◌≤◌, [], length, slice_index_or, All, Contains, IsTrue, IfSome, IfNone, OnOk, IfOk, IfErr};
 ghost use Rattle.rq_bytes.specs.declared.error.Error.TheVariants.{OutOfMemory};
 ghost use Rattle.rq_algebra.specs.Systems.{at};
-ghost use Rattle.rq_peeling.specs.Degrees.{AllHaveNone, CountsActive, HasLeastDegree, KeepsDegrees, LowersRows, TakesFewest, active_ones};
+ghost use Rattle.rq_peeling.specs.Degrees.{AllHaveNone, CountsActive, HasLeastDegree, KeepsDegrees, LowersRows, TakesColumnsLeft, TakesFewest, active_ones};
 ghost use Rattle.rq_peeling.specs.Peeled.{IsOrderOf, IsActive, HasNoActive, TakesRow, InactivatesRow, ones_of};
 ghost use Rattle.rq_peeling.specs.Chosen.{HasChosen, IsPeeledSo};
 
@@ -50,6 +50,7 @@ impl<'a> Peeler<'a> {
         requires { HasChosen self.old.system.now.width self.old.system.now.lt_columns self.old.system.now.ones [] self.old.columns self.old.degrees }
         ensures peeled { IfOk result (λ rows. IsPeeledSo self.old.system.now.ones rows.items self.new.columns) }
         ensures fewest { IfOk result (λ rows. TakesFewest self.old.system.now.ones self.old.system.now.lt_columns rows.items) }
+        ensures columns { IfOk result (λ rows. TakesColumnsLeft self.old.system.now.ones self.old.system.now.lt_columns rows.items self.new.columns.order) }
         ensures system { self.new.system ≡ self.old.system }
         ensures err { IfErr result (λ e. e ≡ OutOfMemory) }
     {
@@ -202,8 +203,8 @@ impl<'a> Peeler<'a> {
         Ok(())
     }
 
-    // A column that isn't active any more is in no component, and each row has one active column less
-    // for each one that it has there.
+    // Takes a column that isn't active any more out of its component, and counts one active column
+    // less for each one that a row has there.
     #[inline(always)]
     fn leave_column(&mut self, column: usize) -> Result<(), Error>
         requires { column < self.old.system.now.width }

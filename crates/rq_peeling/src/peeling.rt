@@ -3,7 +3,7 @@
 ghost use Rattle.std.specs.Prelude.{◌≡◌, ◌<◌, ◌≤◌, drop, length, IfOk, IfErr};
 ghost use Rattle.rq_bytes.specs.declared.error.Error.TheVariants.{OutOfMemory};
 ghost use Rattle.rq_algebra.specs.Systems.{at};
-ghost use Rattle.rq_peeling.specs.Degrees.{TakesFewest};
+ghost use Rattle.rq_peeling.specs.Degrees.{TakesColumnsLeft, TakesFewest};
 ghost use Rattle.rq_peeling.specs.Peeled.{IsPeeled};
 
 use crate::peeler::Peeler;
@@ -13,7 +13,7 @@ use std::alloc::Global;
 use std::marker::Model;
 
 /// Columns with pivots among rows of bits, and the order of all columns: pivots' first, in the
-/// order in which they were chosen, then the inactive ones. Contracts see the rows that have pivots,
+/// order in which they were chosen, then all others, which are inactive from then on. Contracts see the rows that have pivots,
 /// that order, and the place of each column in it.
 #[derive(Drop)]
 pub struct Peeling {
@@ -104,6 +104,7 @@ impl Peeling {
 pub fn peel(alloc: Global, system: &System) -> Result<Peeling, Error>
     ensures peeled { IfOk result (IsPeeled system.now.width system.now.ones) }
     ensures fewest { IfOk result (λ peeling. TakesFewest system.now.ones system.now.lt_columns peeling.rows) }
+    ensures columns { IfOk result (λ peeling. TakesColumnsLeft system.now.ones system.now.lt_columns peeling.rows peeling.order) }
     ensures err { IfErr result (λ e. e ≡ OutOfMemory) }
 {
     let mut peeler = Peeler::new(alloc, system)?;

@@ -1,5 +1,5 @@
-//! The counts by which the Rust crate takes rows in its first phase (RFC 6330, section 5.4.2.2). Kept for
-//! the surface of `raptorq`; no coder calls it, and the solver goes by `degrees`.
+//! The counts by which the Rust crate takes rows in its first phase (RFC 6330, section 5.4.2.2).
+//! Kept for the surface of `raptorq`; no coder calls it, and the solver goes by `degrees`.
 ghost use Rattle.std.specs.Prelude.{◌≡◌, ℕ, ◌+◌, ◌<◌, ◌≤◌, length, IfNone, IfOk, IfSome, IfErr};
 ghost use Rattle.rq_bytes.specs.declared.error.Error.TheVariants.{OutOfMemory};
 ghost use Rattle.rq_standard.specs.BitTableSteps.{SwapsColumns, SwapsRows};
@@ -85,8 +85,8 @@ impl FirstPhaseRowSelectionStats {
         self.ones_per_row[row] = matrix.count_ones(row, self.start_col, self.end_col);
     }
 
-    /// Leaves fewer rows and columns: the first of each goes, and the last ones may. Their rows are
-    /// counted anew, so the rows with a one in the column that goes are not read.
+    /// Leaves the first row and the first column out, and those from new ends on. What is left of each
+    /// row is counted anew, so the argument that lists rows with a one in that column isn't read.
     pub fn resize<T: BinaryMatrix>(
         &mut self,
         start_row: usize,

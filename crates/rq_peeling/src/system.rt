@@ -1,6 +1,6 @@
 //! The equations of a block as the phases take them, which is the matrix A of RFC 6330 (section
 //! 5.4.2.1).
-ghost use Rattle.std.specs.Prelude.{◌≡◌, ℕ, ◌+◌, ◌*◌, ◌^◌, ◌<◌, ◌≤◌, length, IfOk, IfErr};
+ghost use Rattle.std.specs.Prelude.{◌≡◌, ℕ, ◌+◌, ◌^◌, ◌<◌, ◌≤◌, length, IfOk, IfErr};
 ghost use Rattle.rq_bytes.specs.declared.error.Error.TheVariants.{OutOfMemory};
 ghost use Rattle.rq_parts.specs.DenseOctetMatrix.{HasOctets};
 ghost use Rattle.rq_peeling.specs.SystemRows.{AreOctetRows, AreRowsOfBits};
@@ -44,8 +44,8 @@ pub struct System {
 impl System {
     ghost use Rattle.rq_peeling.specs.System.{IsSystemOf};
 
-    /// The equations of a matrix of bits, whose first `lt_columns` columns are those of LT symbols, and of
-    /// the HDPC rows from row `first_hdpc` on, where the matrix has zeros.
+    /// The equations of a matrix of bits, whose first `lt_columns` columns are those of LT symbols,
+    /// and of the HDPC rows from row `first_hdpc` on, where the matrix has zeros.
     pub fn of_matrix<T: BinaryMatrix>(
         alloc: Global,
         bits: &T,

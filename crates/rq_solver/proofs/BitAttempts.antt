@@ -3,11 +3,11 @@ use Rattle.std.proofs.Common.{◌≡◌, ◌<◌, ℕ, List, [], ◌∷◌, ◌+
 use Rattle.std.specs.Prelude.{IfSome, Vec}
 use Rattle.std.specs.Global.{Global}
 use Rattle.rq_algebra.specs.Operations.{Operation, Reorder}
+use Rattle.rq_algebra.specs.Systems.{IsHomogeneousColumn}
+use Rattle.rq_algebra.proofs.Solutions.{homogeneous_column_same}
 use Rattle.rq_standard.specs.BitTable.{BitTable}
 use Rattle.rq_standard.specs.ConstraintMatrix.{with_octet_rows}
 use Rattle.rq_standard.specs.OctetField.{octets}
-use Rattle.rq_null_vector.specs.Homogeneous.{IsHomogeneousColumn}
-use Rattle.rq_null_vector.proofs.FreeColumns.{shows_same}
 use Rattle.rq_operations.specs.RecordedOperations.{operations_of}
 use Rattle.rq_parts.specs.DenseOctetMatrix.{OctetTable, entry_of}
 use Rattle.rq_peeling.specs.SystemRows.{one_in}
@@ -39,7 +39,7 @@ module _ (bits : BitTable) (hdpc : OctetTable) (first : ℕ) (system : System) (
   pub solved_of_bits : (solved : Solved) → IsSolved (length system.ones) system.width (rows_of_system system) solved → IsSolved bits.height bits.width (with_octet_rows first (length hdpc.rows) bits.bit (entry_of hdpc)) solved
   solved_of_bits (Operations operations) found = rw (← is.hdpc_is, ← is.first_is, ← is.width_is, ← is.ones_are.count) (finds_same octets (length system.ones) system.width _ _ same_entries (operations_of operations) found)
   solved_of_bits (Undetermined column) found = (attempt_of_bits [] None found.0, shown_of_bits column found.1) where
-    shown_of_bits : (column : Option (Vec ℕ Global)) → IfSome column (λ shown. IsHomogeneousColumn (length system.ones) system.width (rows_of_system system) shown.items)
-        → IfSome column (λ shown. IsHomogeneousColumn bits.height bits.width (with_octet_rows first (length hdpc.rows) bits.bit (entry_of hdpc)) shown.items)
+    shown_of_bits : (column : Option (Vec ℕ Global)) → IfSome column (λ shown. IsHomogeneousColumn octets (length system.ones) system.width (rows_of_system system) shown.items)
+        → IfSome column (λ shown. IsHomogeneousColumn octets bits.height bits.width (with_octet_rows first (length hdpc.rows) bits.bit (entry_of hdpc)) shown.items)
     shown_of_bits None shown = tt
-    shown_of_bits (Some column) shown = rw (← is.hdpc_is, ← is.first_is, ← is.width_is, ← is.ones_are.count) (shows_same (length system.ones) system.width _ _ same_entries (Some column) shown)
+    shown_of_bits (Some column) shown = rw (← is.hdpc_is, ← is.first_is, ← is.width_is, ← is.ones_are.count) (homogeneous_column_same octets (length system.ones) system.width _ _ same_entries column.items shown)

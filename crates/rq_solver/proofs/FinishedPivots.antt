@@ -1,6 +1,7 @@
 -- The pivots' rows: some take back what they took, and all are finished one after another.
-use Rattle.std.proofs.Common.{◌≡◌, ◌≢◌, ℕ, ◌+◌, ◌<◌, ◌≤◌, ◌==◌, if◌then◌else◌, Bool, true, false, List, [], ◌++◌, Contains, get_or, length, sym, ap, ◌∙◌, arith, inl, inr}
+use Rattle.std.proofs.Common.{◌≡◌, ◌≢◌, ℕ, ◌+◌, ◌<◌, ◌≤◌, ◌==◌, if◌then◌else◌, Bool, true, false, List, [], ◌++◌, All, Contains, get_or, length, sym, ap, ◌∙◌, arith, inl, inr}
 use Rattle.std.proofs.lemmas.Bool.{cases_eq, cases_lt}
+use Rattle.std.proofs.lemmas.List.Elements.{All-append, All-nil, Contains-get_or}
 use Rattle.rq_algebra.specs.Operations.{Operation}
 use Rattle.rq_algebra.specs.Systems.{at}
 use Rattle.rq_algebra.proofs.Sums.{add_zero}
@@ -9,7 +10,7 @@ use Rattle.rq_parts.specs.DenseOctetMatrix.{OctetTable, entry_of}
 use Rattle.rq_peeling.specs.SystemRows.{AreRowsOfBits, one_in}
 use Rattle.rq_solver.specs.FourthPhase.{FinishesPivots, IsFinished, Sparsifies}
 use Rattle.rq_solver.specs.PivotAdditions.{IsCleared, IsUncleared, RecordsPivots, TakesPivots, TakesPivotsBy}
-use Rattle.rq_solver.specs.SecondPhase.{AreUnits, ClearsColumns}
+use Rattle.rq_solver.specs.SecondPhase.{AreUnits, ClearsColumns, IsStepTo}
 use Rattle.rq_peeling.specs.Peeled.{ones_of, IsPeeled}
 use Rattle.rq_elimination.specs.Recorded.{Performs, Records}
 use Rattle.rq_elimination.specs.declared.recorded.RecordedRows.{RecordedRows}
@@ -18,6 +19,7 @@ use Rattle.rq_elimination.proofs.Performing.{performs_none, performs_more, recor
 use Rattle.rq_elimination.proofs.Choices.{if_same, if_apart}
 use Rattle.rq_peeling.proofs.PlaceCounts.{count_contains}
 use Rattle.rq_elimination.proofs.StepColumns.{rows_after-none, rows_after-next}
+use Rattle.rq_solver.proofs.StepsToRows.{steps_to, sums_to}
 
 true_is_not_false : (b : Bool) → b ≡ true → b ≡ false → ⊥
 true_is_not_false b t f =
@@ -87,6 +89,7 @@ module _ (lists : List (List ℕ)) (rows order places : List ℕ) (width : ℕ) 
   takes_none marks old = record {
     steps = [];
     performs = performs_none old;
+    within = All-nil (IsStepTo (Contains rows));
     elsewhere = λ m r k out. rows_after-none octets m r k;
     unmarked = λ m p k late l e. rows_after-none octets m (at rows p) k;
     uncleared = λ m pivots p late l e. absurd (omega arith);
@@ -100,6 +103,7 @@ module _ (lists : List (List ℕ)) (rows order places : List ℕ) (width : ℕ) 
     back_skipped unset = record {
       steps = v.steps;
       performs = v.performs;
+      within = v.within;
       elsewhere = λ m r k out. v.elsewhere m r k (λ p late l. out p (omega arith) l);
       unmarked = λ m p k late l e. elim (cases_eq p q) [
         | inl f ↦ rw f (own_stays m k)
@@ -131,6 +135,7 @@ module _ (lists : List (List ℕ)) (rows order places : List ℕ) (width : ℕ) 
       back_taken = record {
         steps = v.steps ++ taken.steps;
         performs = performs_more v.steps taken.steps old cur new v.performs taken.done;
+        within = All-append (IsStepTo (Contains rows)) v.steps taken.steps v.within (sums_to (Contains rows) (at rows q) (Contains-get_or rows q 0 in_rows) (length cur.table.rows) taken.steps taken.sums);
         elsewhere = λ m r k out. after_both m r k ∙ taken.elsewhere (rows_after octets v.steps m) r k (λ e. out q (omega arith) in_rows (sym e)) ∙ v.elsewhere m r k (λ p late l. out p (omega arith) l);
         unmarked = λ m p k late l e. elim (cases_eq p q) [
           | inl f ↦ absurd (true_is_not_false (get_or now q false) yes (ap (λ (n : ℕ). get_or now n false) (sym f) ∙ e))
@@ -149,6 +154,7 @@ module _ (lists : List (List ℕ)) (rows order places : List ℕ) (width : ℕ) 
     finish_none old = record {
       steps = [];
       records = records_none old;
+      within = All-nil (IsStepTo (Contains rows));
       elsewhere = λ m r k out. rows_after-none octets m r k;
       final = λ m column units zeros shown plain raw p l. absurd (omega arith);
     }
@@ -157,6 +163,12 @@ module _ (lists : List (List ℕ)) (rows order places : List ℕ) (width : ℕ) 
         (apart : (p f : ℕ) → p < length rows → f < count → at rows p ≢ at reduced f) where
       first_recorded : Records (v.steps ++ turn.steps) old mid
       first_recorded = records_more v.steps turn.steps old cur mid v.records turn.records
+
+      own_row : Contains rows (at rows t)
+      own_row = Contains-get_or rows t 0 in_rows
+
+      first_within : All (IsStepTo (Contains rows)) (v.steps ++ turn.steps)
+      first_within = All-append (IsStepTo (Contains rows)) v.steps turn.steps v.within (steps_to (Contains rows) (at rows t) own_row turn.steps turn.within)
 
       first_is : (m : ℕ → ℕ → ℕ) (r k : ℕ) → rows_after octets (v.steps ++ turn.steps) m r k ≡ rows_after octets turn.steps (rows_after octets v.steps m) r k
       first_is m r k = rows_after-next octets v.steps turn.steps m r k
@@ -188,6 +200,7 @@ module _ (lists : List (List ℕ)) (rows order places : List ℕ) (width : ℕ) 
       finish_plain unset = record {
         steps = v.steps ++ turn.steps;
         records = first_recorded;
+        within = first_within;
         elsewhere = first_elsewhere;
         final = λ m column units zeros shown plain raw p l. elim (cases_eq p t) [
           | inl e ↦ rw e (record {
@@ -238,6 +251,7 @@ module _ (lists : List (List ℕ)) (rows order places : List ℕ) (width : ℕ) 
         finish_again = record {
           steps = (v.steps ++ turn.steps) ++ taken.steps;
           records = records_more (v.steps ++ turn.steps) taken.steps old mid new first_recorded taken.done;
+          within = All-append (IsStepTo (Contains rows)) (v.steps ++ turn.steps) taken.steps first_within (sums_to (Contains rows) (at rows t) own_row (length mid.table.rows) taken.steps taken.sums);
           elsewhere = λ m r k out. all_is m r k ∙ taken.elsewhere (rows_after octets (v.steps ++ turn.steps) m) r k (λ e. out t (omega arith) (sym e)) ∙ first_elsewhere m r k out;
           final = λ m column units zeros shown plain raw p l. elim (cases_eq p t) [
             | inl e ↦ rw e (own_finished m column units zeros shown plain raw)
@@ -274,6 +288,7 @@ takes_back_as lists rows order marks low old new again table operations back = r
     entries = λ i k l m. ap (λ (t : OctetTable). entry_of t i k) table ∙ back.performs.entries i k l m;
   };
   elsewhere = back.elsewhere;
+  within = back.within;
   unmarked = back.unmarked;
   uncleared = back.uncleared;
 }

@@ -6,7 +6,6 @@ pub mod EquationLaws
 pub mod FilledRows
 pub mod FinishedPivots
 pub mod HdpcClearing
-pub mod HomogeneousColumns
 pub mod LaterPhases
 pub mod LeadingRows
 pub mod ListingLaws
@@ -19,8 +18,10 @@ pub mod PivotsTaken
 pub mod ReducedWords
 pub mod RowClearing
 pub mod SetColumns
+pub mod ShownColumns
 pub mod SolutionLaws
 pub mod StepDots
+pub mod StepsToRows
 pub mod Substitution
 pub mod TakenAgain
 pub mod UnderWay

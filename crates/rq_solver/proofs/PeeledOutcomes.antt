@@ -11,7 +11,7 @@ use Rattle.rq_algebra.specs.Arrangements.{ArePlaces, IsFewOn}
 use Rattle.rq_algebra.proofs.Elimination.{ReadsPivots, HasFirstPivots}
 use Rattle.rq_algebra.specs.Following.{Follows}
 use Rattle.rq_algebra.specs.Operations.{Operation, Reorder, FindsColumn}
-use Rattle.rq_algebra.specs.Systems.{at, dot, stacked, HasElements, HasHomogeneousColumn, IsColumn, Solves}
+use Rattle.rq_algebra.specs.Systems.{at, dot, stacked, HasElements, HasHomogeneousColumn, IsColumn, IsHomogeneousColumn, Solves}
 use Rattle.rq_algebra.proofs.FewEquations.{dot_places, homogeneous_of_few}
 use Rattle.rq_algebra.proofs.Pivots.{finds_by_pivots, homogeneous_back}
 use Rattle.rq_algebra.proofs.Reduction.{pivots_of_first}
@@ -19,7 +19,6 @@ use Rattle.rq_algebra.proofs.OperationRuns.{follows_none}
 use Rattle.rq_algebra.proofs.Stacks.{stacked_above, stacked_below}
 use Rattle.rq_algebra.proofs.Sums.{dot_same, dot_split, dot_zero, zero_mul}
 use Rattle.rq_standard.specs.OctetField.{octets}
-use Rattle.rq_null_vector.specs.Homogeneous.{IsHomogeneousColumn}
 use Rattle.rq_parts.specs.DenseOctetMatrix.{entry_of}
 use Rattle.rq_solver.specs.FirstPhase.{HasPeeledPivots}
 use Rattle.rq_solver.specs.FourthPhase.{FinishesPivots, IsFinished, Sparsifies}
@@ -202,7 +201,7 @@ module _ (height width : ℕ) (system : ℕ → ℕ → ℕ) (rows order places 
       ];
     }
 
-    pub shown_by_peeled : length column ≡ width → IsColumn octets width (at column) → (index : ℕ) → index < width → at column index ≢ 0 → IsHomogeneousColumn height width system column
+    pub shown_by_peeled : length column ≡ width → IsColumn octets width (at column) → (index : ℕ) → index < width → at column index ≢ 0 → IsHomogeneousColumn octets height width system column
     shown_by_peeled count elements index below nonzero =
         record { count = count; elements = elements; solves = zeros_back octets height width system meant steps (steps_follow height width system steps among peeled.elements) (at column) meant_solved; index = index; below = below; nonzero = nonzero }
 

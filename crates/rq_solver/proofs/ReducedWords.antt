@@ -3,10 +3,11 @@ use Rattle.std.proofs.Common.{◌≡◌, ◌≢◌, ℕ, ◌+◌, ◌-◌, ◌<�
 use Rattle.std.specs.Int.{bit_at}
 use Rattle.std.proofs.lemmas.Nat.Bits.{bit_at-zero}
 use Rattle.std.proofs.lemmas.Bool.{cases_eq, cases_lt}
+use Rattle.std.proofs.lemmas.List.Elements.{All-append}
 use Rattle.rq_algebra.specs.Systems.{at}
 use Rattle.rq_matrix.proofs.Words.{low_bits, low-same, low-none}
 use Rattle.rq_standard.specs.OctetField.{octets}
-use Rattle.rq_solver.specs.SecondPhase.{AreUnits, ClearsColumns}
+use Rattle.rq_solver.specs.SecondPhase.{AreUnits, ClearsColumns, IsStepTo}
 use Rattle.rq_elimination.specs.OperationCounts.{additions}
 use Rattle.rq_elimination.specs.Recorded.{Records}
 use Rattle.rq_elimination.specs.RowSteps.{sum_step, CanTake, rows_after}
@@ -79,6 +80,7 @@ module _ (reduced : List ℕ) (row start count : ℕ) (entries : ℕ → ℕ) wh
       record {
         steps = v.steps ++ w.steps;
         records = records_more v.steps w.steps old cur new v.records w.records;
+        within = All-append (IsStepTo (λ r. r ≡ row)) v.steps w.steps v.within w.within;
         elsewhere = λ m i k d. rows_after-next octets v.steps w.steps m i k ∙ w.elsewhere (rows_after octets v.steps m) i k d ∙ v.elsewhere m i k d;
         kept = λ m k zeros. rows_after-next octets v.steps w.steps m row k
             ∙ w.kept (rows_after octets v.steps m) k (λ s l n. source m s k l n ∙ zeros s (omega arith) (omega arith))
@@ -101,6 +103,7 @@ module _ (reduced : List ℕ) (row start count : ℕ) (entries : ℕ → ℕ) wh
   reduced_same others done old new same v = record {
     steps = v.steps;
     records = v.records;
+    within = v.within;
     elsewhere = v.elsewhere;
     kept = v.kept;
     cleared = λ m column units shown. v.cleared m column units (λ f l n. shown f l n ∙ same f l n);
@@ -120,6 +123,7 @@ module _ (reduced some : List ℕ) (row from count : ℕ) (same : (k : ℕ) → 
       record {
         steps = v.steps;
         records = v.records;
+        within = v.within;
         elsewhere = v.elsewhere;
         kept = λ m k zeros. v.kept m k (λ s first l. ap (λ r. m r k) (same s l) ∙ zeros (from + s) (omega arith) (omega arith));
         cleared = λ m column units shown f first l n.

@@ -1,16 +1,18 @@
 -- Rows take multiples of reduced rows, which is recorded alone.
-use Rattle.std.proofs.Common.{◌≡◌, ◌≢◌, ℕ, ◌+◌, ◌<◌, ◌≤◌, ◌==◌, if◌then◌else◌, List, [], ◌∷◌, ◌++◌, length, refl, sym, ap, ◌∙◌, arith, inl, inr, lit<}
+use Rattle.std.proofs.Common.{◌≡◌, ◌≢◌, ℕ, ◌+◌, ◌<◌, ◌≤◌, ◌==◌, if◌then◌else◌, List, [], ◌∷◌, ◌++◌, Contains, length, refl, sym, ap, ◌∙◌, arith, inl, inr, lit<}
 use Rattle.std.proofs.lemmas.Bool.{cases_eq, cases_lt}
+use Rattle.std.proofs.lemmas.List.Elements.{All-append, All-nil, All-push, Contains-get_or}
 use Rattle.rq_algebra.specs.Systems.{at}
 use Rattle.rq_standard.specs.OctetField.{octets}
 use Rattle.rq_parts.specs.DenseOctetMatrix.{entry_of}
-use Rattle.rq_solver.specs.SecondPhase.{ShowInactive, AreUnits, GivesMultiples, SubstitutesBack, ClearsColumns, one_of}
+use Rattle.rq_solver.specs.SecondPhase.{ShowInactive, AreUnits, GivesMultiples, IsStepTo, SubstitutesBack, ClearsColumns, one_of}
 use Rattle.rq_elimination.specs.Recorded.{Records}
 use Rattle.rq_elimination.specs.RowSteps.{sum_step, AreRows, IsEchelon, rows_after}
 use Rattle.rq_elimination.specs.declared.recorded.RecordedRows.{RecordedRows}
 use Rattle.rq_elimination.proofs.StepColumns.{rows_after-none, rows_after-next}
 use Rattle.rq_elimination.proofs.Performing.{sum_step-here, sum_step-elsewhere, records_none, records_more}
 use Rattle.rq_solver.proofs.HdpcClearing.{plus_zero_times, plus_own}
+use Rattle.rq_solver.proofs.StepsToRows.{sum_to, steps_to}
 use Rattle.rq_elimination.proofs.Choices.{if_same, if_apart}
 
 module _ (reduced : List ℕ) (row start count : ℕ) (entries : ℕ → ℕ) where
@@ -18,6 +20,7 @@ module _ (reduced : List ℕ) (row start count : ℕ) (entries : ℕ → ℕ) wh
   reduced_none old = record {
     steps = [];
     records = records_none old;
+    within = All-nil (IsStepTo (λ r. r ≡ row));
     elsewhere = λ m i k d. rows_after-none octets m i k;
     kept = λ m k zeros. rows_after-none octets m row k;
     cleared = λ m column units shown f from l n. absurd (omega arith);
@@ -29,6 +32,7 @@ module _ (reduced : List ℕ) (row start count : ℕ) (entries : ℕ → ℕ) wh
   reduced_zeros t next old cur v forward none = record {
     steps = v.steps;
     records = v.records;
+    within = v.within;
     elsewhere = v.elsewhere;
     kept = v.kept;
     cleared = λ m column units shown f first l n. elim (cases_lt f t) [
@@ -72,6 +76,7 @@ module _ (reduced : List ℕ) (row start count : ℕ) (entries : ℕ → ℕ) wh
       reduced_more = record {
         steps = v.steps ++ sum_step row (at reduced t) scalar ∷ [];
         records = records_more v.steps (sum_step row (at reduced t) scalar ∷ []) old cur new v.records records;
+        within = All-push (IsStepTo (λ r. r ≡ row)) v.steps (sum_step row (at reduced t) scalar) v.within (sum_to (λ r. r ≡ row) row (at reduced t) scalar refl);
         elsewhere = λ m i k d. rows_after-next octets v.steps (sum_step row (at reduced t) scalar ∷ []) m i k ∙ sum_step-elsewhere row (at reduced t) scalar (rows_after octets v.steps m) i k d ∙ v.elsewhere m i k d;
         kept = λ m k zeros. next_zero m k (zeros t from inside) ∙ v.kept m k zeros;
         cleared = λ m column units shown f first l n. elim (cases_eq f t) [
@@ -102,6 +107,7 @@ module _ (reduced : List ℕ) (place : ℕ) where
   given_none old = record {
     steps = [];
     records = records_none old;
+    within = All-nil (IsStepTo (Contains reduced));
     elsewhere = λ m r k out. rows_after-none octets m r k;
     kept = λ m r k zero. rows_after-none octets m r k;
     given = λ m k q one l shown. absurd (omega arith);
@@ -116,6 +122,7 @@ module _ (reduced : List ℕ) (place : ℕ) where
     given_nothing small = record {
       steps = v.steps;
       records = v.records;
+      within = v.within;
       elsewhere = λ m r k out. v.elsewhere m r k (λ q l. out q (omega arith));
       kept = v.kept;
       given = λ m k q one l shown. elim (cases_eq q t) [
@@ -159,6 +166,7 @@ module _ (reduced : List ℕ) (place : ℕ) where
       given_more = record {
         steps = v.steps ++ sum_step (at reduced t) (at reduced place) scalar ∷ [];
         records = records_more v.steps (sum_step (at reduced t) (at reduced place) scalar ∷ []) old cur new v.records records;
+        within = All-push (IsStepTo (Contains reduced)) v.steps (sum_step (at reduced t) (at reduced place) scalar) v.within (sum_to (Contains reduced) (at reduced t) (at reduced place) scalar (Contains-get_or reduced t 0 (omega arith)));
         elsewhere = λ m r k out. sum_elsewhere m r k (λ e. out t (omega arith) (sym e)) ∙ v.elsewhere m r k (λ q l. out q (omega arith));
         kept = λ m r k zero. sum_zero m r k zero ∙ v.kept m r k zero;
         given = λ m k q one l shown. elim (cases_eq q t) [
@@ -174,6 +182,7 @@ module _ (reduced : List ℕ) (count : ℕ) where
   back_none old = record {
     steps = [];
     records = records_none old;
+    within = All-nil (IsStepTo (Contains reduced));
     elsewhere = λ m r k out. rows_after-none octets m r k;
     kept = λ m r k zeros. rows_after-none octets m r k;
     units = λ m column shown t f late l n. absurd (omega arith);
@@ -276,6 +285,9 @@ module _ (reduced : List ℕ) (count : ℕ) where
     back_more = record {
       steps = v.steps ++ (turn.steps ++ gives.steps);
       records = records_more v.steps (turn.steps ++ gives.steps) old cur new v.records (records_more turn.steps gives.steps cur mid new turn.records gives.records);
+      within =
+          let to = IsStepTo (Contains reduced) in
+          All-append to v.steps (turn.steps ++ gives.steps) v.within (All-append to turn.steps gives.steps (steps_to (Contains reduced) (at reduced q) (Contains-get_or reduced q 0 (fits q inside)) turn.steps turn.within) gives.within);
       elsewhere = λ m r k out. after_all m r k ∙ gives.elsewhere (after_turn m) r k (λ p l. out p (omega arith)) ∙ turn.elsewhere (before_turn m) r k (λ e. out q inside (sym e)) ∙ v.elsewhere m r k out;
       kept = λ m r k zeros. after_all m r k ∙ gives.kept (after_turn m) r k (zero_after m k zeros (at reduced q) ∙ zeros q inside) ∙ zero_after m k zeros r;
       units = λ m column shown t f from l n. after_all m (at reduced t) (column f) ∙ units_next m column shown t f from l n;
@@ -291,6 +303,7 @@ pub reduces_as : (reduced : List ℕ) (count low : ℕ) (old new again : Recorde
 reduces_as reduced count low old new again table operations back = record {
   steps = back.steps;
   records = record { recorded = operations ∙ back.records.recorded; among = back.records.among; table = table ∙ back.records.table };
+  within = back.within;
   elsewhere = back.elsewhere;
   kept = back.kept;
   units = back.units;

@@ -1,5 +1,5 @@
 -- The fourth phase: some of the pivots' rows are made sparse again, and all get zeros in the inactive columns.
-use Rattle.std.specs.Prelude.{◌≡◌, ◌≢◌, ℕ, ◌+◌, ◌-◌, ◌<◌, ◌≤◌, Bool, true, false, List, length, slice_index_or}
+use Rattle.std.specs.Prelude.{◌≡◌, ◌≢◌, ℕ, ◌+◌, ◌-◌, ◌<◌, ◌≤◌, Bool, true, false, List, All, Contains, length, slice_index_or}
 use Rattle.rq_algebra.specs.Systems.{at}
 use Rattle.rq_algebra.specs.Operations.{Operation}
 use Rattle.rq_standard.specs.OctetField.{octets}
@@ -9,7 +9,7 @@ use Rattle.rq_elimination.specs.RowSteps.{rows_after}
 use Rattle.rq_elimination.specs.declared.recorded.RecordedRows.{RecordedRows}
 use Rattle.rq_solver.specs.EliminationState.{inactive_count, left_rows}
 use Rattle.rq_solver.specs.PivotAdditions.{IsCleared, IsUncleared}
-use Rattle.rq_solver.specs.SecondPhase.{AreUnits}
+use Rattle.rq_solver.specs.SecondPhase.{AreUnits, IsStepTo}
 use Rattle.rq_solver.specs.declared.pi_solver.elimination.Elimination.{Elimination}
 
 -- each row with a mark took `limit` rows at most
@@ -21,6 +21,7 @@ TookAtMost limit marks bounds = (p : ℕ) → p < length marks → slice_index_o
 pub record Sparsifies (lists : List (List ℕ)) (rows order : List ℕ) (marks : List Bool) (low : ℕ) (old new : RecordedRows) : Type 0 where
   pub steps : List Operation
   pub performs : Performs steps old new
+  pub within : All (IsStepTo (Contains rows)) steps
   pub elsewhere : (m : ℕ → ℕ → ℕ) (r k : ℕ) → ((p : ℕ) → low ≤ p → p < length rows → at rows p ≢ r) → rows_after octets steps m r k ≡ m r k
   pub unmarked : (m : ℕ → ℕ → ℕ) (p k : ℕ) → low ≤ p → p < length rows → slice_index_or marks p false ≡ false → rows_after octets steps m (at rows p) k ≡ m (at rows p) k
   pub uncleared : (m : ℕ → ℕ → ℕ) → ((p : ℕ) → p < length rows → IsCleared rows order m (at rows p)) → (p : ℕ) → low ≤ p → p < length rows → slice_index_or marks p false ≡ true
@@ -35,6 +36,7 @@ pub record IsFinished (rows order : List ℕ) (count : ℕ) (column : ℕ → �
 pub record FinishesPivots (lists : List (List ℕ)) (rows order inactive_rows : List ℕ) (marks : List Bool) (count done : ℕ) (old new : RecordedRows) : Type 0 where
   pub steps : List Operation
   pub records : Records steps old new
+  pub within : All (IsStepTo (Contains rows)) steps
   pub elsewhere : (m : ℕ → ℕ → ℕ) (r k : ℕ) → ((p : ℕ) → p < done → at rows p ≢ r) → rows_after octets steps m r k ≡ m r k
   pub final : (m : ℕ → ℕ → ℕ) (column : ℕ → ℕ) → AreUnits inactive_rows 0 count column m → ((f i : ℕ) → f < count → i < length rows → m (at inactive_rows f) (at order i) ≡ 0)
       → ((p f : ℕ) → p < length rows → f < count → m (at rows p) (column f) ≡ entry_of old.table (at rows p) f)

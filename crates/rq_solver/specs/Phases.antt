@@ -5,7 +5,7 @@ use Rattle.std.specs.List.Sorted.{IsPermutation}
 use Rattle.rq_algebra.specs.Operations.{Operation, Reorder, FindsColumn}
 use Rattle.rq_algebra.specs.Systems.{HasHomogeneousColumn}
 use Rattle.rq_standard.specs.OctetField.{octets}
-use Rattle.rq_peeling.specs.Degrees.{TakesFewest}
+use Rattle.rq_peeling.specs.Degrees.{TakesColumnsLeft, TakesFewest}
 use Rattle.rq_peeling.specs.Peeled.{IsPeeled, Pivots}
 use Rattle.rq_peeling.specs.System.{rows_of_system}
 use Rattle.rq_peeling.specs.declared.system.System.{System}
@@ -74,13 +74,14 @@ pub record SolvesInactive (old new : Elimination) : Type 0 where
 abbrev pub RunsLater : Elimination → Elimination → Option (Vec ℕ Global) → Type 0
 RunsLater old new answer = MatchOption answer (LacksPivots old new) (λ order. SolvesInactive old new)
 
--- Columns got pivots in rows of least degree of a system, the first phase cleared them, the others went on from there, and each recorded the
--- operations up to its end.
+-- Columns that were left got pivots in rows of least degree of a system, the first phase cleared them, the others went on from there, and each
+-- recorded the operations up to its end.
 pub record RunsPhases (system : System) (found : PhaseOperations) : Type 0 where
   pub first : Elimination
   pub last : Elimination
   pub peeled : IsPeeled system.width system.ones first.peeling
   pub fewest : TakesFewest system.ones system.lt_columns first.peeling.rows
+  pub columns : TakesColumnsLeft system.ones system.lt_columns first.peeling.rows first.peeling.order
   pub ones : first.additions.ones ≡ system.ones
   pub ordered : ListsRows (length system.ones) first.peeling.rows first.row_order.items
   pub cleared : ClearsPivots system first.peeling first.row_order.items first.recorded

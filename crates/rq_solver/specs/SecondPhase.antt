@@ -1,7 +1,7 @@
 -- The second phase: rows that have no pivot yet are brought into echelon form, and then substituted back.
-use Rattle.std.specs.Prelude.{◌≡◌, ◌≢◌, ℕ, ◌+◌, ◌-◌, ◌*◌, ◌<◌, ◌≤◌, ◌==◌, if◌then◌else◌, Bool, List, length, MatchBool}
+use Rattle.std.specs.Prelude.{◌≡◌, ◌≢◌, ℕ, ◌+◌, ◌-◌, ◌*◌, ◌<◌, ◌≤◌, ◌==◌, if◌then◌else◌, Bool, List, All, Contains, length, MatchBool}
 use Rattle.rq_algebra.specs.Systems.{at}
-use Rattle.rq_algebra.specs.Operations.{Operation}
+use Rattle.rq_algebra.specs.Operations.{Operation, AddAssign, MulAssign, Fma, Reorder}
 use Rattle.rq_standard.specs.OctetField.{octets}
 use Rattle.rq_parts.specs.DenseOctetMatrix.{OctetTable, entry_of}
 use Rattle.rq_elimination.specs.OperationCounts.{additions, multiples, triangle}
@@ -20,6 +20,15 @@ abbrev pub AddsForward : ℕ → ℕ → RecordedRows → RecordedRows → Bool 
 AddsForward rows count old new found =
     MatchBool found (additions new.operations + triangle count ≤ additions old.operations + count * (rows - 1)) (additions new.operations ≤ additions old.operations + count * (rows - 1))
 
+-- ---- steps by the row that they change
+
+-- a step that changes a row of which this holds
+abbrev pub IsStepTo : (ℕ → Type 0) → Operation → Type 0
+IsStepTo P (AddAssign dest src) = P dest
+IsStepTo P (MulAssign dest scalar) = P dest
+IsStepTo P (Fma dest src scalar) = P dest
+IsStepTo P (Reorder order) = ⊥
+
 -- ---- rows that take others, each of which has 1 in its own inactive column
 
 -- in the inactive columns each of these rows, from place `start` on, has 1 in its own, and 0 in the others
@@ -35,6 +44,7 @@ ShowInactive inactive_rows count column m table = (t f : ℕ) → t < count → 
 pub record ClearsColumns (inactive_rows : List ℕ) (row start count done : ℕ) (entries : ℕ → ℕ) (old new : RecordedRows) : Type 0 where
   pub steps : List Operation
   pub records : Records steps old new
+  pub within : All (IsStepTo (λ r. r ≡ row)) steps
   pub elsewhere : (m : ℕ → ℕ → ℕ) (i k : ℕ) → i ≢ row → rows_after octets steps m i k ≡ m i k
   pub kept : (m : ℕ → ℕ → ℕ) (k : ℕ) → ((f : ℕ) → start ≤ f → f < count → m (at inactive_rows f) k ≡ 0) → rows_after octets steps m row k ≡ m row k
   pub cleared : (m : ℕ → ℕ → ℕ) (column : ℕ → ℕ) → AreUnits inactive_rows start count column m → ((f : ℕ) → start ≤ f → f < count → m row (column f) ≡ entries f)
@@ -69,6 +79,7 @@ AddsOnes rows place count old new =
 pub record GivesMultiples (inactive_rows : List ℕ) (place done : ℕ) (old new : RecordedRows) : Type 0 where
   pub steps : List Operation
   pub records : Records steps old new
+  pub within : All (IsStepTo (Contains inactive_rows)) steps
   pub elsewhere : (m : ℕ → ℕ → ℕ) (r k : ℕ) → ((q : ℕ) → q < done → at inactive_rows q ≢ r) → rows_after octets steps m r k ≡ m r k
   pub kept : (m : ℕ → ℕ → ℕ) (r k : ℕ) → m (at inactive_rows place) k ≡ 0 → rows_after octets steps m r k ≡ m r k
   pub given : (m : ℕ → ℕ → ℕ) (k q : ℕ) → m (at inactive_rows place) k ≡ 1 → q < done → m (at inactive_rows q) k ≡ entry_of old.table (at inactive_rows q) place
@@ -79,6 +90,7 @@ pub record GivesMultiples (inactive_rows : List ℕ) (place done : ℕ) (old new
 pub record SubstitutesBack (inactive_rows : List ℕ) (count low : ℕ) (old new : RecordedRows) : Type 0 where
   pub steps : List Operation
   pub records : Records steps old new
+  pub within : All (IsStepTo (Contains inactive_rows)) steps
   pub elsewhere : (m : ℕ → ℕ → ℕ) (r k : ℕ) → ((q : ℕ) → q < count → at inactive_rows q ≢ r) → rows_after octets steps m r k ≡ m r k
   pub kept : (m : ℕ → ℕ → ℕ) (r k : ℕ) → ((f : ℕ) → f < count → m (at inactive_rows f) k ≡ 0) → rows_after octets steps m r k ≡ m r k
   pub units : (m : ℕ → ℕ → ℕ) (column : ℕ → ℕ) → ShowInactive inactive_rows count column m old.table → AreUnits inactive_rows low count column (rows_after octets steps m)

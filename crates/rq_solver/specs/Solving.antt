@@ -1,7 +1,7 @@
 -- What a solver is handed, and what it answers.
 use Rattle.std.specs.Prelude.{◌≡◌, ℕ, ◌+◌, ◌<◌, ◌≤◌, false, List, Option, None, Some, MatchOption, IfSome, Vec, length, map, replicate}
 use Rattle.std.specs.Global.{Global}
-use Rattle.rq_algebra.specs.Systems.{HasHomogeneousColumn}
+use Rattle.rq_algebra.specs.Systems.{HasHomogeneousColumn, IsHomogeneousColumn}
 use Rattle.rq_algebra.specs.Operations.{Operation, FindsColumn, found_by}
 use Rattle.rq_algebra.specs.Symbols.{symbols, AreSymbols, IsSymbolColumn, SolvesSymbols, symbol_at}
 use Rattle.rq_standard.specs.declared.row.TableRow.{TableRow}
@@ -14,7 +14,6 @@ use Rattle.rq_bytes.specs.SymbolOps.{operation_of}
 use Rattle.rq_bytes.specs.declared.operation_vector.SymbolOps.{SymbolOps}
 use Rattle.rq_operations.specs.RecordedOperations.{operations_of}
 use Rattle.rq_operations.specs.declared.recorded.RecordedOperations.{RecordedOperations}
-use Rattle.rq_null_vector.specs.Homogeneous.{IsHomogeneousColumn}
 use Rattle.rq_parts.specs.DenseOctetMatrix.{OctetTable, entry_of}
 use Rattle.rq_solver.specs.declared.pi_solver.solved.Solved.{Solved}
 use Rattle.rq_solver.specs.declared.pi_solver.solved.Solved.TheVariants.{Operations, Undetermined}
@@ -88,7 +87,7 @@ FindsOperations solver answer =
 -- what rows give: operations that find the column, or else the rows don't determine it, as a column shows where there is one
 abbrev pub IsSolved : ℕ → ℕ → (ℕ → ℕ → ℕ) → Solved → Type 0
 IsSolved height width rows (Operations found) = FindsColumn octets height width rows (operations_of found)
-IsSolved height width rows (Undetermined column) = HasHomogeneousColumn octets height width rows × IfSome column (λ shown. IsHomogeneousColumn height width rows shown.items)
+IsSolved height width rows (Undetermined column) = HasHomogeneousColumn octets height width rows × IfSome column (λ shown. IsHomogeneousColumn octets height width rows shown.items)
 
 -- so it is for the equations of a solver
 abbrev pub SolvesOrShows : Solver → Solved → Type 0

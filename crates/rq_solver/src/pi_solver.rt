@@ -1,10 +1,9 @@
-//! `IntermediateSymbolDecoder`: a block's equations in, its symbols, operations and counts out (RFC 6330,
-//! section 5.4.2.1).
-ghost use Rattle.std.specs.Prelude.{◌≡◌, ℕ, ◌+◌, ◌*◌, ◌<◌, ◌≤◌, None, length, map, sum, slice_index, OnSome, IfSome, IfNone, IfOk, IfErr, Err};
+//! `IntermediateSymbolDecoder`: a block's equations in, its symbols, operations and counts out (RFC
+//! 6330, section 5.4.2.1).
+ghost use Rattle.std.specs.Prelude.{◌≡◌, ℕ, ◌+◌, ◌*◌, ◌<◌, ◌≤◌, None, length, sum, slice_index, OnSome, IfSome, IfNone, IfOk, IfErr, Err};
 ghost use Rattle.std.specs.Option.{ForSome};
 ghost use Rattle.rq_standard.specs.TableRows.{greatest_size, row_of};
 ghost use Rattle.rq_bytes.specs.declared.error.Error.TheVariants.{AlreadyExecuted, OutOfMemory};
-ghost use Rattle.rq_bytes.specs.SymbolOps.{operation_of};
 ghost use Rattle.rq_elimination.specs.OperationCounts.{additions};
 ghost use Rattle.rq_elimination.specs.PhaseCounts.{total_of};
 ghost use Rattle.rq_solver.specs.Solving.{AreEquations, AreEquationsWithoutHdpc, FindsOperations, solver_of, solver_without_hdpc, IsOutcome, IsSpent, SolvesOrShows};
@@ -160,9 +159,9 @@ impl<T: BinaryMatrix> IntermediateSymbolDecoder<T> {
         self.counts.multiplications.total()
     }
 
-    /// How many symbols each of the five phases added, counting multiples that were added (RFC 6330,
-    /// sections 5.4.2.2 to 5.4.2.6). The fourth does the work of the third and of the fifth, row by row,
-    /// and it is counted there.
+    /// How many symbols each of the five phases added, counting multiples that were added (RFC
+    /// 6330, sections 5.4.2.2 to 5.4.2.6). The fourth does the work of the third and of the fifth,
+    /// row by row, and it is counted there.
     pub fn get_symbol_add_ops_by_phase(&self) -> [u64; 5]
         ensures counted { result ≡ (solver_state self.now).additions }
         ensures third { slice_index result 2 ≡ 0 }
@@ -172,8 +171,8 @@ impl<T: BinaryMatrix> IntermediateSymbolDecoder<T> {
     }
 
     /// How many symbols each of the five phases multiplied, counting multiples that were added (RFC
-    /// 6330, sections 5.4.2.2 to 5.4.2.6). The fourth does the work of the third and of the fifth, row by
-    /// row, and it is counted there.
+    /// 6330, sections 5.4.2.2 to 5.4.2.6). The fourth does the work of the third and of the fifth,
+    /// row by row, and it is counted there.
     pub fn get_symbol_mul_ops_by_phase(&self) -> [u64; 5]
         ensures counted { result ≡ (solver_state self.now).multiplications }
         ensures third { slice_index result 2 ≡ 0 }
@@ -199,7 +198,7 @@ impl<T: BinaryMatrix> IntermediateSymbolDecoder<T> {
         let Some(mut symbols) = self.symbols.take() else {
             return Err(Error::AlreadyExecuted);
         };
-        let found = self.find_operations()?;
+        let found = self.solve_equations()?;
         self.counts = found.counts();
         let Some(operations) = found.into_operations() else {
             return Ok(None);
@@ -251,8 +250,8 @@ impl<T: BinaryMatrix> IntermediateSymbolDecoder<T> {
         System::of_matrix(alloc, &matrix, hdpc, first_hdpc, lt_columns)
     }
 
-    // Looks for the operations, for which the matrix stays.
-    fn find_operations(&self) -> Result<PhaseOperations, Error>
+    // Runs the phases on a copy of the HDPC rows, so that matrix and rows stay.
+    fn solve_equations(&self) -> Result<PhaseOperations, Error>
         ensures found { IfOk result (SolvesEquations (solver_state self.now)) }
         ensures phases { IfOk result (RunsOverEquations (solver_state self.now)) }
         ensures few { IfOk result (λ found. additions found.recorded ≤ 2 * (solver_state self.now).width * (solver_state self.now).height) }
@@ -270,9 +269,9 @@ impl<T: BinaryMatrix> IntermediateSymbolDecoder<T> {
     }
 }
 
-/// Solves the equations of a block with `num_source_symbols` source symbols, which are a matrix of bits,
-/// the HDPC rows, and a symbol for each equation: the slab with the intermediate symbols, and the
-/// operations that made it. `None` where the equations don't determine the symbols.
+/// Solves the equations of a block with `num_source_symbols` source symbols, which are a matrix of
+/// bits, the HDPC rows, and a symbol for each equation: the slab with the intermediate symbols, and
+/// the operations that made it. `None` where the equations don't determine the symbols.
 pub fn fused_inverse_mul_symbols<T: BinaryMatrix>(
     alloc: Global,
     table: &SystematicTable,

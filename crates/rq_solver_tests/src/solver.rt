@@ -147,6 +147,19 @@ fn assert_ran(rt: &impl Abort, solver: &mut IntermediateSymbolDecoder<DenseBinar
     holds!(rt; matches!(solver.execute(), Err(Error::AlreadyExecuted)));
 }
 
+// What each phase of a solver added and multiplied.
+fn assert_phases<T: BinaryMatrix>(
+    rt: &impl Abort,
+    solver: &IntermediateSymbolDecoder<T>,
+    additions: [u64; 5],
+    multiplications: [u64; 5],
+) {
+    let found = solver.get_symbol_add_ops_by_phase();
+    same!(rt; found.as_slice(), additions.as_slice());
+    let found = solver.get_symbol_mul_ops_by_phase();
+    same!(rt; found.as_slice(), multiplications.as_slice());
+}
+
 // The row in which the k-th row of bits stands beside 10 HDPC rows behind 7 others.
 fn bit_row(k: usize) -> usize
     requires { k < 1000 }
@@ -222,12 +235,14 @@ fn hdpc_rows_determine_what_is_left(rt: HostRuntime) -> Result<(), Error> {
 fn nothing_is_answered_without_the_last_hdpc_row(rt: HostRuntime) -> Result<(), Error> {
     let mut solver = late_solver(&rt, rt.alloc(), 9)?;
     holds!(rt; solver.execute()?.is_none());
+    // A row has one 1 at most, each in another column: there is nothing to clear.
+    assert_phases(&rt, &solver, [0, 0, 0, 0, 0], [0, 0, 0, 0, 0]);
     assert_ran(&rt, &mut solver);
     Ok(())
 }
 
-// Each of 17 rows has a one in the first column, and one in a column of its own, which for one row is the
-// first.
+// Each of 17 rows has a one in the first column, and one in a column of its own, which for one row
+// is the first.
 fn chain(alloc: Global) -> Result<Vec<(usize, usize)>, Error> {
     let mut ones = Vec::new(alloc);
     for k in 0..17 {
@@ -250,11 +265,8 @@ fn chain_solver(
 // It took 16 additions in the first phase, and nothing else.
 fn assert_additions(rt: &impl Abort, solver: &IntermediateSymbolDecoder<DenseBinaryMatrix>) {
     same!(rt; solver.get_symbol_mul_ops(), 0);
-    let multiplications = solver.get_symbol_mul_ops_by_phase();
-    same!(rt; multiplications.as_slice(), [0, 0, 0, 0, 0].as_slice());
     same!(rt; solver.get_symbol_add_ops(), 16);
-    let additions = solver.get_symbol_add_ops_by_phase();
-    same!(rt; additions.as_slice(), [16, 0, 0, 0, 0].as_slice());
+    assert_phases(rt, solver, [16, 0, 0, 0, 0], [0, 0, 0, 0, 0]);
 }
 
 #[test]
@@ -277,10 +289,12 @@ fn separate_ones(alloc: Global) -> Result<Vec<(usize, usize)>, Error> {
     Ok(ones)
 }
 
-// So has each HDPC row in an inactive column. The second one has a 1 in the first of them too, and the
-// third one a 2 in its own.
-fn separate_octets(alloc: Global) -> Result<Vec<(usize, usize, u8)>, Error> {
-    let mut octets = diagonal(alloc, 17, 10)?;
+// So has each of the first `count` HDPC rows in an inactive column. The second one has a 1 in the first
+// of them too, and the third one a 2 in its own.
+fn separate_octets(alloc: Global, count: usize) -> Result<Vec<(usize, usize, u8)>, Error>
+    requires { count < 1000 }
+{
+    let mut octets = diagonal(alloc, 17, count)?;
     octets.push((1, 17, 1))?;
     octets.push((2, 19, 2))?;
     Ok(octets)
@@ -291,13 +305,27 @@ fn separate_octets(alloc: Global) -> Result<Vec<(usize, usize, u8)>, Error> {
 #[test]
 fn each_phase_counts_its_own_operations(rt: HostRuntime) -> Result<(), Error> {
     let ones = separate_ones(rt.alloc())?;
-    let octets = separate_octets(rt.alloc())?;
+    let octets = separate_octets(rt.alloc(), 10)?;
     let mut solver = numbered_solver(&rt, rt.alloc(), ones.as_slice(), octets.as_slice())?;
     holds!(rt; solver.execute()?.is_some());
-    let additions = solver.get_symbol_add_ops_by_phase();
-    same!(rt; additions.as_slice(), [0, 1, 0, 1, 0].as_slice());
-    let multiplications = solver.get_symbol_mul_ops_by_phase();
-    same!(rt; multiplications.as_slice(), [0, 1, 0, 0, 0].as_slice());
+    assert_phases(&rt, &solver, [0, 1, 0, 1, 0], [0, 1, 0, 0, 0]);
+    Ok(())
+}
+
+// In the chain 16 rows of bits have the column of the row with a single 1, and take it in the first
+// phase. The 17 pivots stand in the columns in which HDPC rows have zeros, so that these take
+// nothing. The columns from 17 on are inactive, in their own order. Of the two HDPC rows that have
+// 1 in the first of them one takes the other in the second phase, and the row that has 2 in its own
+// is scaled. No row has a 1 in the last one: there is no answer, and no later phase.
+#[test]
+fn phases_count_where_nothing_is_answered(rt: HostRuntime) -> Result<(), Error> {
+    let ones = chain(rt.alloc())?;
+    let octets = separate_octets(rt.alloc(), 9)?;
+    let mut solver = numbered_solver(&rt, rt.alloc(), ones.as_slice(), octets.as_slice())?;
+    holds!(rt; solver.execute()?.is_none());
+    assert_phases(&rt, &solver, [16, 1, 0, 0, 0], [0, 1, 0, 0, 0]);
+    assert_ran(&rt, &mut solver);
+    assert_phases(&rt, &solver, [16, 1, 0, 0, 0], [0, 1, 0, 0, 0]);
     Ok(())
 }
 
@@ -425,6 +453,7 @@ fn zeros_determine_nothing<T: BinaryMatrix>(rt: &impl Abort, alloc: Global) -> R
     let symbols = numbered(alloc)?;
     let mut solver = IntermediateSymbolDecoder::new_no_hdpc(alloc, &table, bits, symbols, 10);
     holds!(rt; solver.execute()?.is_none());
+    assert_phases(rt, &solver, [0, 0, 0, 0, 0], [0, 0, 0, 0, 0]);
     Ok(())
 }
 

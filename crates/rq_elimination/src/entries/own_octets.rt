@@ -1,5 +1,5 @@
-//! `OwnOctets`: one buffer for all rows of the matrix U (RFC 6330, section 5.4.2.2) that are octets, and
-//! the place of each row in it.
+//! `OwnOctets`: one buffer for all rows of the matrix U (RFC 6330, section 5.4.2.2) that are
+//! octets, and the place of each row in it.
 ghost use Rattle.std.specs.Prelude.{◌≡◌, ◌≢◌, ◌*◌, ◌%◌, ◌+◌, ◌^◌, ◌<◌, ◌≤◌, ◌++◌, ◌∷◌, [], true, false, None, All, length, replicate, slice_set, IfOk, OnOk, IfErr, OnErr};
 ghost use Rattle.rq_algebra.specs.Systems.{at};
 ghost use Rattle.rq_bytes.specs.declared.error.Error.TheVariants.{OutOfMemory};
@@ -57,7 +57,7 @@ impl OwnOctets {
         })
     }
 
-    /// How many octets a row has that has some.
+    /// How many octets a row of octets has.
     #[inline(always)]
     pub(super) fn width(&self) -> usize
         ensures { result ≡ self.now.width }
@@ -65,7 +65,7 @@ impl OwnOctets {
         self.rows.symbol_size()
     }
 
-    /// Whether a row has none.
+    /// Whether a row has no octets, as it is one of bits.
     #[inline(always)]
     pub(super) fn is_bits(&self, row: usize) -> bool
         requires { row < length self.now.rows }
@@ -75,7 +75,7 @@ impl OwnOctets {
         self.places[row] == 0
     }
 
-    /// Those of a row that has some.
+    /// The octets of a row of octets.
     #[inline(always)]
     pub(super) fn row(&self, row: usize) -> &[u8]
         requires row { row < length self.now.rows }
@@ -190,7 +190,7 @@ impl OwnOctets {
     }
 }
 
-// The place in the buffer of the octets of a row, counted from 0. A row of no octets may have none.
+// Where in the buffer the octets of a row stand, counted in rows from 0. A row of bits has no place.
 #[inline(always)]
 fn place_of(places: &[u32], row: usize) -> Option<usize>
     requires { row < length places.now }

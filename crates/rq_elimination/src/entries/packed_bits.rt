@@ -1,5 +1,5 @@
-//! The buffer of the rows that are bits in the inactive columns (RFC 6330, section 5.4.2.2), packed eight
-//! to an octet, the first in its lowest bit.
+//! The buffer of the rows that are bits in the inactive columns (RFC 6330, section 5.4.2.2), packed
+//! eight to an octet, the first in its lowest bit.
 ghost use Rattle.std.specs.Prelude.{◌≡◌, ℕ, ◌+◌, ◌*◌, ◌/◌, ◌%◌, ◌^◌, ◌<◌, ◌≤◌, length, slice_set};
 ghost use Rattle.std.specs.Int.{bit_at};
 ghost use Rattle.rq_elimination.specs.InactiveEntries.{IsNextEntry, octets_of_bits};

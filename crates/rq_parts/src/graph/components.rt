@@ -1,5 +1,5 @@
 //! The connected components of a graph.
-ghost use Rattle.std.specs.Prelude.{◌≡◌, ◌≢◌, ℕ, ◌+◌, ◌^◌, ◌<◌, ◌≤◌, ◌↔◌, IsTrue, length, replicate, Ok, IfSome, IfNone, slice_index, slice_set};
+ghost use Rattle.std.specs.Prelude.{◌≡◌, ◌≢◌, ◌+◌, ◌^◌, ◌<◌, ◌≤◌, ◌↔◌, IsTrue, length, replicate, Ok, IfSome, IfNone, slice_index, slice_set};
 ghost use Rattle.std.specs.List.{swap};
 ghost use Rattle.rq_bytes.specs.Refusals.{IsAnswer};
 ghost use Rattle.rq_parts.specs.ConnectedComponentGraph.{with_edge};

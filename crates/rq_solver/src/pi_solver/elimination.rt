@@ -1,4 +1,6 @@
-//! `Elimination`: the one state of the phases once columns have pivots (RFC 6330, section 5.4.2).
+//! `Elimination`: the state of all phases after the first (RFC 6330, section 5.4.2), which makes it in
+//! the end. The first phase's own are `Peeler` (of `rq_peeling`), while pivots are chosen, and then
+//! `RecordedRows` (of `rq_elimination`), while rows are cleared.
 ghost use Rattle.std.specs.Prelude.{◌≤◌, length};
 
 use rq_elimination::counts::PhaseEnds;
@@ -7,9 +9,8 @@ use rq_peeling::ones::RowOnes;
 use rq_peeling::peeling::Peeling;
 
 /// What the first phase added to the rows: the ones of each row of bits as they were handed in, and
-/// where in the operations those of each row begin by which it took others, in the order of the rows,
-/// the pivots' first. They end where the next row's begin; behind the last row's beginning stands their
-/// end.
+/// for each row, those of the pivots first, the place in the list of operations where those begin by
+/// which it took other rows. They end where the next row's begin; last stands the end of all.
 #[derive(Drop)]
 pub(super) struct PivotAdditions {
     pub ones: RowOnes,

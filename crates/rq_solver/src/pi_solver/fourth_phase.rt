@@ -1,6 +1,7 @@
-//! The fourth phase (RFC 6330, section 5.4.2.5): the pivots' rows get zeros in the inactive columns.
-//! Before the second's substitution back `sparsify` does the third's work (section 5.4.2.4), and
-//! `redo_additions` the fifth's (section 5.4.2.6), row by row where they save additions.
+//! The fourth phase (RFC 6330, section 5.4.2.5): the pivots' rows get zeros in the inactive columns, by
+//! `clear_inactive`. Beside it stand the third phase (section 5.4.2.4), which is `sparsify` and comes
+//! before the second's substitution back, and the fifth (section 5.4.2.6), which is `redo_additions`
+//! and is called by `clear_inactive`. Both work on single rows, where they save additions.
 
 mod clear_inactive;
 mod redo_additions;

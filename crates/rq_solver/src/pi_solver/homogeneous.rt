@@ -1,5 +1,6 @@
-//! A column that shows what equations leave open: where an inactive column is left without a pivot, the
-//! rows as the second phase left them (RFC 6330, section 5.4.2.3) are solved with zeros as values.
+//! A column that shows what equations leave open, for which the RFC has no phase: where an inactive
+//! column is left without a pivot, the rows as the second phase left them (RFC 6330, section 5.4.2.3)
+//! are solved with zeros as values.
 ghost use Rattle.std.specs.Prelude.{◌≡◌, ℕ, ◌+◌, ◌<◌, ◌≤◌, All, length, IfOk};
 ghost use Rattle.rq_algebra.specs.Operations.{plain};
 ghost use Rattle.rq_algebra.specs.Parities.{sum_listed};

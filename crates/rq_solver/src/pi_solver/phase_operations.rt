@@ -1,5 +1,6 @@
-//! `PhaseOperations`: what the phases answer (RFC 6330, sections 5.4.2.2 to 5.4.2.6): operations, where
-//! each phase's end, and the order of the rows.
+//! `PhaseOperations`: what the phases hand on in the end (RFC 6330, sections 5.4.2.2 to 5.4.2.6): the
+//! list of operations that `rq_elimination` made, where each phase's end in it, and the order of the
+//! rows.
 ghost use Rattle.std.specs.Prelude.{◌≡◌, length};
 ghost use Rattle.std.specs.Option.{option_map};
 ghost use Rattle.rq_operations.specs.RecordedOperations.{operations_of};

@@ -1,6 +1,6 @@
 //! The second phase (RFC 6330, section 5.4.2.3): elimination over the inactive columns among the rows
-//! that have no pivot yet and, behind `sparsify`, substitution back.
-ghost use Rattle.std.specs.Prelude.{◌≡◌, ◌≢◌, ◌+◌, ◌-◌, ◌*◌, ◌<◌, ◌≤◌, ◌∷◌, [], length, OnOk, IfOk, IfErr, IsPermutation};
+//! that have no pivot yet and, after `sparsify`, substitution back.
+ghost use Rattle.std.specs.Prelude.{◌≡◌, ◌≢◌, ◌+◌, ◌-◌, ◌<◌, ◌≤◌, ◌∷◌, [], length, OnOk, IfOk, IfErr, IsPermutation};
 ghost use Rattle.rq_algebra.specs.Systems.{at};
 ghost use Rattle.rq_bytes.specs.declared.error.Error.TheVariants.{OutOfMemory};
 ghost use Rattle.rq_parts.specs.DenseOctetMatrix.{entry_of};
@@ -92,8 +92,8 @@ fn eliminate_rows(
 }
 
 // Adds to each row in echelon form, the last first, multiples of those behind it, so that it has 0
-// in their columns. Entries are bits or octets as they were, so that most of what is recorded are
-// plain additions. What the rows have is stored as it was.
+// in the columns of their pivots. That is recorded alone: stored rows stay as they are, so that a
+// row of bits stays one, and most of what is recorded are plain additions.
 //
 // A row takes the rows behind it one after another where it has 1, and then is given, as a multiple,
 // to one row after another that has any other octet: replay does each such run in one pass.

@@ -4,7 +4,6 @@ ghost use Rattle.rq_algebra.specs.Systems.{at};
 ghost use Rattle.rq_bytes.specs.declared.error.Error.TheVariants.{OutOfMemory};
 ghost use Rattle.rq_parts.specs.DenseOctetMatrix.{entry_of, HasOctets};
 ghost use Rattle.rq_elimination.specs.Recorded.{AddsAtMost};
-ghost use Rattle.rq_elimination.specs.OperationCounts.{additions};
 ghost use Rattle.rq_solver.specs.HdpcOctets.{batch_bound, AreOctetsIn, ClearsOctets, ClearsOwnColumn, ClearsPivotColumn, CombinesFrom};
 ghost use Rattle.rq_solver.specs.HdpcOctets.{CombinesTables, HasNoPivot, HasZeros, IsFirstAlone, StandsBeside, SumsRows};
 ghost use Rattle.rq_elimination.specs.HdpcRows.{octet_in};
@@ -26,11 +25,11 @@ struct HdpcPlaces<'a> {
     peeling: &'a Peeling,
 }
 
-/// Gives the HDPC rows 0 in the pivots' columns: the first row takes all others, and clears them
-/// column by column, before all take the row of the column's pivot. This serves any octets. For
-/// those of RFC 6330 (section 5.3.3.3) it takes few products: a column is alpha times the next, but
-/// for ones in two rows, so that the sum of the rows is alpha times that in the next, and once it
-/// has cleared a column it is to be added to two rows at most to clear the next.
+/// Gives the HDPC rows 0 in the pivots' columns. The first row takes all others, so that it is their
+/// sum. Then, column by column, the other rows take multiples of the sum until they have 0 there, and
+/// all take the row of the column's pivot. This serves any octets, and takes few products for those
+/// of RFC 6330 (section 5.3.3.3): each of their columns is alpha times the next, but for ones in two
+/// rows. So once a column is cleared, two rows at most have to take the sum to clear the next.
 pub(super) fn clear_octets(
     hdpc: DenseOctetMatrix,
     first_hdpc: usize,

@@ -1,5 +1,5 @@
-//! The first phase fills the matrix U of RFC 6330 (section 5.4.2.2) from the system: the entries of rows
-//! in the inactive columns.
+//! The first phase fills the matrix U of RFC 6330 (section 5.4.2.2) from the system: the entries of
+//! rows in the inactive columns.
 ghost use Rattle.std.specs.Prelude.{◌≡◌, ◌<◌, ◌≤◌, ◌+◌, ◌-◌, ℕ, All, length, IfOk, OnOk, IfErr};
 ghost use Rattle.rq_bytes.specs.declared.error.Error.TheVariants.{OutOfMemory};
 ghost use Rattle.rq_parts.specs.DenseOctetMatrix.{entry_of, HasOctets};
@@ -32,8 +32,8 @@ pub(super) fn fill_inactive(
     Ok(entries)
 }
 
-// Sets the entries to 1 where rows have ones in the `inactive` inactive columns. By rows each of their
-// ones would have to be asked whether its column is inactive.
+// Sets the entries to 1 where rows have ones in the `inactive` inactive columns: column by column, so
+// that no one has to be asked whether its column is inactive.
 fn fill_columns(system: &System, peeling: &Peeling, inactive: usize, entries: &mut InactiveEntries)
     requires peeled { IsPeeled system.now.width system.now.ones peeling.now }
     requires inactive { length peeling.now.rows + inactive ≡ system.now.width }

@@ -1,5 +1,5 @@
-//! The inactive columns in the pivots' rows (RFC 6330, section 5.4.2.5). Rows of bits take the rows with
-//! the inactive columns' pivots a word of them at a time.
+//! The inactive columns in the pivots' rows (RFC 6330, section 5.4.2.5). Rows of bits take the rows
+//! with the inactive columns' pivots a word of them at a time.
 ghost use Rattle.std.specs.Prelude.{◌≡◌, ◌+◌, ◌*◌, ◌^◌, ◌<◌, ◌≤◌, length, OnOk, IfErr};
 ghost use Rattle.std.specs.Int.{bit_at};
 ghost use Rattle.rq_bytes.specs.declared.error.Error.TheVariants.{OutOfMemory};

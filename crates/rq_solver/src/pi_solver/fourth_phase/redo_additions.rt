@@ -37,7 +37,7 @@ pub(super) trait Redo {
     ghost height: { (steps : List Operation) (old new : RecordedRows) → done steps old new → length new.table.rows ≡ length old.table.rows };
 }
 
-/// What the rows have in the inactive columns follows.
+/// An addition changes what a row has in the inactive columns, and is recorded for its symbol.
 #[derive(Drop)]
 pub(super) struct OnRows;
 
@@ -58,7 +58,7 @@ impl Redo for OnRows {
     ghost height = { λ steps old new done. done.height };
 }
 
-/// It is recorded for the symbols alone, where no entry of the row is read any more.
+/// An addition is recorded for the symbols alone: no entry of the row is read any more.
 #[derive(Drop)]
 pub(super) struct OnSymbols;
 

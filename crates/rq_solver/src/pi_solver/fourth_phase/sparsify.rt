@@ -1,5 +1,5 @@
-//! The third phase's work (RFC 6330, section 5.4.2.4): pivots' rows are made sparse again, of those that
-//! took `sparsify_limit` rows at most.
+//! The third phase (RFC 6330, section 5.4.2.4), for single rows: those of pivots that took
+//! `sparsify_limit` rows at most are made sparse again, where that saves additions.
 ghost use Rattle.std.specs.Prelude.{◌≡◌, ◌+◌, ◌-◌, ◌*◌, ◌<◌, ◌≤◌, length, IsTrue, IfOk, OnOk, IfErr};
 ghost use Rattle.rq_algebra.specs.Systems.{at};
 ghost use Rattle.rq_bytes.specs.declared.error.Error.TheVariants.{OutOfMemory};
@@ -77,10 +77,10 @@ fn sparsify_rows(
     Ok(())
 }
 
-// Whether the row of the pivot at a place took `limit` rows at most, and it saves additions to take them
-// back. Each of them costs two additions then, since the row takes it again, and each of its entries in
-// the inactive columns one, as do all of its ones but its own pivot's and one for each of these rows:
-// one less than both together.
+// Whether the row of the pivot at a place took `limit` rows at most, and it saves additions to take
+// them back: fewer than its entries in the inactive columns, which cost one addition each. Where it
+// took n rows and has m ones, n + m - 1 are spent on it then: n to take them back, and after the
+// fourth phase one for each of its ones but the pivot's.
 fn saves_additions(
     additions: &PivotAdditions,
     peeling: &Peeling,

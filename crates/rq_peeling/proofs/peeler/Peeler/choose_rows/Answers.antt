@@ -1,10 +1,10 @@
 -- What the check leaves to show of `peeler::Peeler::choose_rows`.
-use Rattle.std.proofs.Common.{◌≡◌, ◌<◌, ◌∷◌, [], All, Bor, length, subst, ◌∙◌, arith}
+use Rattle.std.proofs.Common.{◌≡◌, ℕ, ◌<◌, ◌∷◌, [], All, Bor, length, subst, ◌∙◌, arith}
 use Rattle.std.proofs.lemmas.List.{length-append}
-use Rattle.rq_peeling.specs.Degrees.{AllHaveNone, CountsActive, HasLeastDegree}
+use Rattle.rq_peeling.specs.Degrees.{AllHaveNone, CountsActive, HasFewestLeft, HasLeastDegree}
 use Rattle.rq_peeling.specs.Peeled.{ones_of, TakesRow}
 use Rattle.rq_peeling.specs.declared.system.System.{System}
-use Rattle.rq_peeling.proofs.ActiveOnes.{all_done, fewest_left, left_next, none_left, takes_more}
+use Rattle.rq_peeling.proofs.ActiveOnes.{all_done, columns_next, fewest_left, left_next, none_left, takes_more}
 use Rattle.rq_peeling.proofs.PeelingLaws.{columns_below, peeled_next}
 use Rattle.rq_peeling.proofs.peeler.Peeler.choose_rows.Goals as goal
 use Rattle.rq_peeling.proofs.peeler.Peeler.choose_rows.Goals.{else-loop-turn-test, then-loop-turn-test+in_ok-row+in_default}
@@ -26,14 +26,16 @@ loop-turn-preserved c =
     let in_lists : row < length s.ones = omega (arith, least.below, long) in
     let within : All (λ row. All (λ column. column < length cur.columns.order) row) s.ones = rw width all in
     let pick = fewest_left s.ones s.lt_columns s.width taken cur.columns all v.chosen.left cur.degrees long v.chosen.counts row least in
+    let were = λ (j : ℕ) (m : j < length cur.columns.order). v.chosen.left j (rw width at m) in
     let grown = length-append taken (row ∷ []) in
     rw c.in_ok-push.ensures.items (record {
       chosen = record {
         so = peeled_next s.ones taken cur.columns new.columns within v.chosen.so row in_lists takes;
         end = omega (arith, takes.fewer, v.chosen.end);
-        left = λ k l. left_next s.ones s.lt_columns taken row cur.columns new.columns takes (λ j m. v.chosen.left j (rw width at m)) k (rw width l);
+        left = λ k l. left_next s.ones s.lt_columns taken row cur.columns new.columns takes were k (rw width l);
         counts = counted;
-        fewest = takes_more s.ones s.lt_columns taken row v.chosen.fewest pick;
+        fewest = takes_more (λ _ rows r. HasFewestLeft s.ones s.lt_columns rows r) taken row v.chosen.fewest pick;
+        columns = columns_next s.ones s.lt_columns taken row cur.columns new.columns takes were within in_lists v.chosen.so.count v.chosen.columns;
       };
       turns = omega (arith, grown, v.turns);
       system = c.take_next.ensures.system ∙ v.system;

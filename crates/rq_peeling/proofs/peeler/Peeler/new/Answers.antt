@@ -32,4 +32,5 @@ returns-clause-chosen c =
       left = left_first s.ones s.width s.lt_columns;
       counts = counts_first s.ones s.lt_columns s.width c.in_ok-degrees.degrees (columns_below s.width s.ones s.bits) (rw (c.in_ok-degrees.ensures.degrees, copied) s.counted);
       fewest = λ p l. absurd (omega arith);
+      columns = λ p l. absurd (omega arith);
     })

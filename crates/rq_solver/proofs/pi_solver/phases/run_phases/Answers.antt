@@ -62,6 +62,7 @@ returns-clause-phases c =
       last = c.later_phases.new.self;
       peeled = rw made.peeling c.in_ok-peeling.ensures.peeled;
       fewest = rw made.peeling c.in_ok-peeling.ensures.fewest;
+      columns = rw made.peeling c.in_ok-peeling.ensures.columns;
       ones = made.ones;
       ordered = rw made.peeling made.ordered;
       cleared = rw made.peeling made.cleared;

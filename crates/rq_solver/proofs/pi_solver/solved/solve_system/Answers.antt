@@ -10,7 +10,7 @@ use Rattle.rq_peeling.specs.Peeled.{IsPeeled}
 use Rattle.rq_solver.specs.FirstPhase.{TakesPivotsAlone}
 use Rattle.rq_solver.specs.RowOrder.{ListsRows}
 use Rattle.rq_solver.specs.Phases.{ClearsPivots, LacksPivots, RunsLater, SolvesSystem}
-use Rattle.rq_solver.proofs.HomogeneousColumns.{shows_system}
+use Rattle.rq_solver.proofs.ShownColumns.{shows_system}
 use Rattle.rq_solver.proofs.LaterPhases.{attempt_of}
 use Rattle.rq_solver.proofs.pi_solver.solved.solve_system.Goals as goal
 

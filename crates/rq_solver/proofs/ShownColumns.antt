@@ -1,8 +1,7 @@
 -- The column that the rows of a system leave open where an inactive column has no pivot.
 use Rattle.std.proofs.Common.{◌≡◌, ◌≢◌, ℕ, ◌+◌, ◌<◌, List, length, ◌∙◌, refl, subst, arith}
-use Rattle.rq_algebra.specs.Systems.{at, dot, IsColumn}
+use Rattle.rq_algebra.specs.Systems.{at, dot, IsColumn, IsHomogeneousColumn}
 use Rattle.rq_standard.specs.OctetField.{octets}
-use Rattle.rq_null_vector.specs.Homogeneous.{IsHomogeneousColumn}
 use Rattle.rq_parts.specs.DenseOctetMatrix.{entry_of}
 use Rattle.rq_peeling.specs.Peeled.{IsPeeled, Pivots}
 use Rattle.rq_peeling.specs.System.{rows_of_system}
@@ -36,7 +35,7 @@ module _ (system : System) (first last : Elimination) (peeled : IsPeeled system.
       (subst (λ (n : ℕ). dot octets n row (inactive_entry last column) ≡ 0) (same_count first last keeps) zero)
 
   pub shows_system : (column : List ℕ) → IsColumn octets (length last.peeling.places) (at column) → SolvesLeftRows last column → SolvesPivotRows last (length last.peeling.rows) column
-      → IsHomogeneousColumn (length system.ones) system.width (rows_of_system system) column
+      → IsHomogeneousColumn octets (length system.ones) system.width (rows_of_system system) column
   shows_system column elements left pivots =
       let width : length first.peeling.places ≡ system.width = peeled.columns.place_count in
       let inside : length rows + left.place < system.width = omega (arith, left.below, same_count first last keeps, width) in

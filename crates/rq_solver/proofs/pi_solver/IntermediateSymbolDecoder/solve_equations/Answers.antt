@@ -1,10 +1,10 @@
--- What the check leaves to show of `pi_solver::IntermediateSymbolDecoder::find_operations`.
+-- What the check leaves to show of `pi_solver::IntermediateSymbolDecoder::solve_equations`.
 use Rattle.std.proofs.Common.{length, sym, ap, ◌∙◌}
 use Rattle.std.proofs.lemmas.Result.{IfOk-weaker}
 use Rattle.rq_parts.specs.DenseOctetMatrix.{OctetTable}
 use Rattle.rq_peeling.specs.System.{IsSystemOf}
 use Rattle.rq_solver.proofs.BitAttempts.{attempt_of_bits, rows_of_bits}
-use Rattle.rq_solver.proofs.pi_solver.IntermediateSymbolDecoder.find_operations.Goals as goal
+use Rattle.rq_solver.proofs.pi_solver.IntermediateSymbolDecoder.solve_equations.Goals as goal
 
 pub returns-clause-found : goal.returns-clause-found
 returns-clause-found g c =
