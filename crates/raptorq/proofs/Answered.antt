@@ -7,7 +7,7 @@ use Rattle.rq_bytes.specs.SymbolSlab.{Slab, symbol_in}
 use Rattle.rq_standard.specs.Cutting.{symbol_of_block, plain_symbol}
 use Rattle.rq_standard.specs.TableRows.{IsChecked}
 use Rattle.rq_standard.specs.Equations.{tuple_sum, internal_id}
-use Rattle.rq_standard.specs.ReceivedBlock.{ReceivedBlock, has_received, SolvesReceived, HasHeldSolution, ReceivedDetermine, IsBlockWith, IsBlockAnswer}
+use Rattle.rq_standard.specs.ReceivedBlock.{ReceivedBlock, has_received, SolvesReceived, HasReceivedSolution, ReceivedDetermine, IsBlockWith, IsBlockAnswer}
 use Rattle.rq_standard.specs.Received.{HasSourceSymbols}
 use Rattle.rq_standard.proofs.Columns.{sum_symbol, sum_same}
 use Rattle.raptorq.specs.Known.{IsReceivedSolution, rebuilt_symbol}
@@ -29,7 +29,7 @@ came_source h column e x z below is = came_sum (h.received e) x (tuple_sum h.row
 pub received_source : (h : ReceivedBlock) (missing : ℕ) → missing ≡ missing_count h.source_symbols (has_received h) → missing ≡ 0 → HasSourceSymbols h.source_symbols (has_received h)
 received_source h missing counted none = record { each = missing_count-zero h.source_symbols (has_received h) (sym counted ∙ none) }
 
-pub answer-all : (h : ReceivedBlock) (block : List ℕ) → HasSourceSymbols h.source_symbols (has_received h) → IsBlockWith h block → (ReceivedDetermine h → HasHeldSolution h) → IsBlockAnswer h (Some block)
+pub answer-all : (h : ReceivedBlock) (block : List ℕ) → HasSourceSymbols h.source_symbols (has_received h) → IsBlockWith h block → (ReceivedDetermine h → HasReceivedSolution h) → IsBlockAnswer h (Some block)
 answer-all h block all is solved = record { some = λ _. inl all; none = λ _. refl; block = is; solved = λ _. solved }
 
 -- ---- from the intermediate symbols

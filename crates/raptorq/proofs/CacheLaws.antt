@@ -61,7 +61,7 @@ count_at plans i p below is =
 
 -- the plan at a place where a count was found
 pub plan_found : (table : List TableRow) (plans : List SourceBlockEncodingPlan) (counts : List ℕ) (count place : ℕ) (p : SourceBlockEncodingPlan) → counts_in plans ≡ counts → All (IsPlanOver table) plans → position (λ n. n == count) counts ≡ Some place
-    → p ≡ get_or plans place p → (p.source_symbol_count ≡ count) × (p.row ≡ row_of table count)
+    → p ≡ get_or plans place p → (p.source_symbol_count ≡ count) × (p.row.numbers ≡ row_of table count)
 plan_found table plans counts count place p shown over found is =
     let at : slice_get (counts_in plans) place ≡ Some count = ap (λ xs. slice_get xs place) shown ∙ place_found counts count place found in
     let below = slice_get_within (counts_in plans) place count at in

@@ -1,11 +1,11 @@
 -- The encoders of an object's blocks.
-use Rattle.std.proofs.Common.{◌≡◌, ℕ, ◌+◌, ◌*◌, ◌<◌, min, List, [], ◌∷◌, ◌++◌, length, take, drop, get_or, map, Ok, refl, sym, ap, ◌∙◌, subst, arith, ◌⊎◌, inl, inr, eq-eqb}
+use Rattle.std.proofs.Common.{◌≡◌, ℕ, ◌+◌, ◌*◌, ◌^◌, ◌<◌, ◌≤◌, min, List, [], ◌∷◌, ◌++◌, length, take, drop, get_or, map, Ok, Err, refl, sym, ap, ◌∙◌, subst, arith, ◌⊎◌, inl, inr, eq-eqb}
 use Rattle.std.specs.List.{range_with_len, flat_map, AllByRecursion}
-use Rattle.std.proofs.lemmas.Bool.{cases_lt}
+use Rattle.std.proofs.lemmas.Bool.{cases_lt, lt-ltb}
 use Rattle.std.proofs.lemmas.List.{ext_get_or, get_or-map, get_or-take, get_or-drop, get_or_past, length-take, take_min, drop_min, drop-drop, map-append}
 use Rattle.std.proofs.lemmas.List.FromFn.{length-map-range_with_len, get_or-map-range_with_len}
 use Rattle.rq_bytes.specs.declared.error.Error.{Error}
-use Rattle.rq_bytes.specs.declared.error.Error.TheVariants.{OutOfMemory, Singular}
+use Rattle.rq_bytes.specs.declared.error.Error.TheVariants.{EsiTooLarge, OutOfMemory, Singular}
 use Rattle.rq_bytes.specs.Refusals.{IsRefusal}
 use Rattle.rq_standard.specs.Packet.{SymbolId, Packet}
 use Rattle.rq_standard.specs.Configuration.{Configuration, IsAccepted}
@@ -18,7 +18,8 @@ use Rattle.rq_standard.proofs.PlainCut.{length-block_bytes}
 use Rattle.rq_standard.proofs.StandingSteps.{length-block_source}
 use Rattle.rq_standard.proofs.BlockCuts.{block_symbols_few, symbols_before-first, symbols_before-next}
 use Rattle.raptorq.specs.SourceBlockEncodingPlan.{RefusesPlan}
-use Rattle.raptorq.specs.Encoder.{Encoded, IsEncoderOf, IsPacketIn, no_block}
+use Rattle.raptorq.specs.BlockCutting.{from_block}
+use Rattle.raptorq.specs.Encoder.{Encoded, IsEncoderOf, IsPacketIn, no_block, packets_refusal}
 use Rattle.raptorq.proofs.Encodes.{at_any}
 use Rattle.raptorq.proofs.Numbered.{mapped_through}
 use Rattle.raptorq.proofs.PlanLaws.{plan_refused}
@@ -33,10 +34,6 @@ use Rattle.raptorq.specs.SourceBlockEncoder.{BlockEncoded, block_encoded_of, IsB
 -- the object's bytes in a block, without the zeros behind the object
 abbrev pub bytes_of_block : Configuration → List ℕ → ℕ → List ℕ
 bytes_of_block c object b = take (block_symbols c b * c.symbol_size) (drop (symbols_before c b * c.symbol_size) object)
-
--- the object without the blocks before one
-abbrev pub from_block : Configuration → List ℕ → ℕ → List ℕ
-from_block c object b = drop (symbols_before c b * c.symbol_size) object
 
 pub from_first : (c : Configuration) (object : List ℕ) → object ≡ from_block c object 0
 from_first c object =
@@ -180,3 +177,12 @@ block_at c items i x below is = ap block_encoded_of is ∙ sym (get_or-map block
 pub by_places : {X : Type 0} (xs : List X) (d : ℕ → X) (n : ℕ) → length xs ≡ n → xs ≡ map (λ i. get_or xs i (d i)) (range_with_len 0 n)
 by_places xs d n long = ext_get_or (d 0) xs (map (λ i. get_or xs i (d i)) (range_with_len 0 n)) (long ∙ sym (length-map-range_with_len (λ i. get_or xs i (d i)) 0 n))
     (λ i below. at_any xs i (d 0) (d i) below ∙ sym (get_or-map-range_with_len (λ j. get_or xs j (d j)) 0 n i i (d 0) (omega (arith, long)) (omega arith)))
+
+-- where packets have ids, there are enough
+pub enough_ids : (c : Configuration) (repair : ℕ) → packets_refusal c repair ≡ Ok tt → block_symbols c 0 + repair ≤ 2 ^ 24
+enough_ids c repair enough = elim (cases_lt (2 ^ 24) (block_symbols c 0 + repair)) [
+  | inl over ↦
+      let refused : packets_refusal c repair ≡ Err EsiTooLarge = rw (lt-ltb (2 ^ 24) (block_symbols c 0 + repair) over) refl in
+      absurd (cc (refused, enough))
+  | inr few ↦ few
+]

@@ -18,7 +18,7 @@ use Rattle.rq_standard.proofs.KnownIds.{block_more, none_determined}
 use Rattle.rq_standard.proofs.Firsts.{has_id-push}
 use Rattle.rq_standard.proofs.Contradictions.{contradictory-no_answer, received_later, received_meanwhile, contradicted_after, received_more, received_none}
 use Rattle.raptorq.specs.Refused.{packet_refusal, IsPacketRefusal}
-use Rattle.raptorq.specs.Runs.{ContradictsCame, IsNextRefusal, IsRefusalBehind, IsRunRefusal, AnswersRun, FollowsRun}
+use Rattle.raptorq.specs.Runs.{ContradictsReceived, IsNextRefusal, IsRefusalBehind, IsRunRefusal, AnswersRun, FollowsRun}
 
 -- ---- the tests
 
@@ -36,72 +36,72 @@ passes_below c p h = ltb-true p.id.block c.source_blocks (block_passes (ltb p.id
 -- ---- a block
 
 -- what can be answered still can be one packet later
-can_more : (table : List TableRow) (c : Configuration) (b : ℕ) (came : List Packet) (p : Packet) → CanAnswer (received_after table c b came) → CanAnswer (received_after table c b (came ++ p ∷ []))
-can_more table c b came p (inl all) = inl (record { each = λ e below. has_id-push b came p e (all.each e below) })
-can_more table c b came p (inr d) =
-    let now = received_after table c b came in
-    let later = received_after table c b (came ++ p ∷ []) in
-    inr (block_more now.row now.source_symbols (has_received now) (has_received later) (has_id-push b came p) d)
+can_more : (table : List TableRow) (c : Configuration) (b : ℕ) (earlier : List Packet) (p : Packet) → CanAnswer (received_after table c b earlier) → CanAnswer (received_after table c b (earlier ++ p ∷ []))
+can_more table c b earlier p (inl all) = inl (record { each = λ e below. has_id-push b earlier p e (all.each e below) })
+can_more table c b earlier p (inr d) =
+    let now = received_after table c b earlier in
+    let later = received_after table c b (earlier ++ p ∷ []) in
+    inr (block_more now.row now.source_symbols (has_received now) (has_received later) (has_id-push b earlier p) d)
 
 -- what a packet makes of its block
-module _ (table : List TableRow) (c : Configuration) (came : List Packet) (p : Packet) (old : ReceivedBlock) (new : ReceivedBlock) (after : Option (List ℕ)) where
+module _ (table : List TableRow) (c : Configuration) (earlier : List Packet) (p : Packet) (old : ReceivedBlock) (new : ReceivedBlock) (after : Option (List ℕ)) where
   abbrev b : ℕ
   b = p.id.block
 
-  answered_here : (before : Option (List ℕ)) → AddsToBlock old before p new after → (before ≡ None → old ≡ received_after table c b came) → (IsSome before ↔ CanAnswer (received_after table c b came)) → IsSome after ↔ CanAnswer (received_after table c b (came ++ p ∷ []))
+  answered_here : (before : Option (List ℕ)) → AddsToBlock old before p new after → (before ≡ None → old ≡ received_after table c b earlier) → (IsSome before ↔ CanAnswer (received_after table c b earlier)) → IsSome after ↔ CanAnswer (received_after table c b (earlier ++ p ∷ []))
   answered_here None add holds answers =
-      let is : new ≡ received_after table c b (came ++ p ∷ []) = add.received ∙ ap (λ h. with_received h p.id.esi p.payload) (holds refl) ∙ received_later table c came p in
+      let is : with_received old p.id.esi p.payload ≡ received_after table c b (earlier ++ p ∷ []) = ap (λ h. with_received h p.id.esi p.payload) (holds refl) ∙ received_later table c earlier p in
       subst (λ h. IsSome after ↔ CanAnswer h) is (add.answers.some, add.answers.none)
-  answered_here (Some bytes) add holds answers = (λ some. can_more table c b came p (answers.0 refl), λ can. ap is_some add.1)
+  answered_here (Some bytes) add holds answers = (λ some. can_more table c b earlier p (answers.0 refl), λ can. ap is_some add.1)
 
   -- which doesn't contradict it
-  fits_here : (before : Option (List ℕ)) → AddsToBlock old before p new after → (before ≡ None → old ≡ received_after table c b came) → (IsSome before ↔ CanAnswer (received_after table c b came)) → ContradictsCame table c came p → ⊥
+  fits_here : (before : Option (List ℕ)) → AddsToBlock old before p new after → (before ≡ None → old ≡ received_after table c b earlier) → (IsSome before ↔ CanAnswer (received_after table c b earlier)) → ContradictsReceived table c earlier p → ⊥
   fits_here None add holds answers x =
-      let is : new ≡ received_after table c b (came ++ p ∷ []) = add.received ∙ ap (λ h. with_received h p.id.esi p.payload) (holds refl) ∙ received_later table c came p in
-      contradictory-no_answer new after add.answers (subst IsContradictory (sym is) x.contradictory)
+      let is : with_received old p.id.esi p.payload ≡ received_after table c b (earlier ++ p ∷ []) = ap (λ h. with_received h p.id.esi p.payload) (holds refl) ∙ received_later table c earlier p in
+      contradictory-no_answer (with_received old p.id.esi p.payload) after add.answers (subst IsContradictory (sym is) x.contradictory)
   fits_here (Some bytes) add holds answers x = x.unanswered (answers.0 refl)
 
 -- ---- all blocks
 
-module _ (table : List TableRow) (came : List Packet) (p : Packet) (old new : State) (follows : FollowsRun table came old) where
+module _ (table : List TableRow) (earlier : List Packet) (p : Packet) (old new : State) (follows : FollowsRun table earlier old) where
   -- a packet that is taken doesn't contradict what was received,
-  pub taken_fits : p.id.block < old.configuration.source_blocks → Adds old p new → ContradictsCame table old.configuration came p → ⊥
+  pub taken_fits : p.id.block < old.configuration.source_blocks → Adds old p new → ContradictsReceived table old.configuration earlier p → ⊥
   taken_fits within add =
       let b = p.id.block in
-      fits_here table old.configuration came p (old.received b) (new.received b) (new.answer b) (old.answer b) add.here (follows.holds b within) (follows.answers b within)
+      fits_here table old.configuration earlier p (old.received b) (new.received b) (new.answer b) (old.answer b) add.here (follows.received b within) (follows.answers b within)
 
   -- and is followed
-  pub follows_more : p.id.block < old.configuration.source_blocks → Adds old p new → FollowsRun table (came ++ p ∷ []) new
+  pub follows_more : p.id.block < old.configuration.source_blocks → Adds old p new → FollowsRun table (earlier ++ p ∷ []) new
   follows_more within add = record {
-    holds = received_more old p new within add table came follows.holds;
+    received = received_more old p new within add table earlier follows.received;
     answers = λ b below.
         let c = old.configuration in
         let here = p.id.block in
         let in_old : b < c.source_blocks = subst (λ (k : Configuration). b < k.source_blocks) add.elsewhere.configuration below in
-        subst (λ (k : Configuration). IsSome (new.answer b) ↔ CanAnswer (received_after table k b (came ++ p ∷ []))) (sym add.elsewhere.configuration)
+        subst (λ (k : Configuration). IsSome (new.answer b) ↔ CanAnswer (received_after table k b (earlier ++ p ∷ []))) (sym add.elsewhere.configuration)
         (elim (cases_eq here b) [
           | inl e ↦
-              subst (λ n. IsSome (new.answer n) ↔ CanAnswer (received_after table c n (came ++ p ∷ []))) e
-              (answered_here table c came p (old.received here) (new.received here) (new.answer here) (old.answer here) add.here (follows.holds here within) (follows.answers here within))
+              subst (λ n. IsSome (new.answer n) ↔ CanAnswer (received_after table c n (earlier ++ p ∷ []))) e
+              (answered_here table c earlier p (old.received here) (new.received here) (new.answer here) (old.answer here) add.here (follows.received here within) (follows.answers here within))
           | inr ne ↦
               let q = add.elsewhere.other b in_old (λ e. ne (sym e)) in
-              subst (λ h. IsSome (new.answer b) ↔ CanAnswer h) (received_meanwhile table c b came p ne)
-              (subst (λ o. IsSome o ↔ CanAnswer (received_after table c b came)) (sym q.1) (follows.answers b in_old))
+              subst (λ h. IsSome (new.answer b) ↔ CanAnswer h) (received_meanwhile table c b earlier p ne)
+              (subst (λ o. IsSome o ↔ CanAnswer (received_after table c b earlier)) (sym q.1) (follows.answers b in_old))
         ]);
   }
 
-  contradicted : p.id.block < old.configuration.source_blocks → Contradicts old p new → ContradictsCame table old.configuration came p
+  contradicted : p.id.block < old.configuration.source_blocks → Contradicts old p new → ContradictsReceived table old.configuration earlier p
   contradicted within x =
       let b = p.id.block in
       record {
         unanswered = λ can. absurd (cc (ap is_some x.records.here.unanswered, (follows.answers b within).1 can));
-        contradictory = contradicted_after table came old p new within follows.holds x;
+        contradictory = contradicted_after table earlier old p new within follows.received x;
       }
 
   -- one that is refused is refused for what is to be, memory aside
-  pub refused_next : (e : Error) → IsPacketRefusal e (packet_refusal old.configuration p) → (e ≡ Contradiction → Contradicts old p new) → (e ≡ OutOfMemory) ⊎ IsNextRefusal table old.configuration came p (Err e)
+  pub refused_next : (e : Error) → IsPacketRefusal e (packet_refusal old.configuration p) → (e ≡ Contradiction → Contradicts old p new) → (e ≡ OutOfMemory) ⊎ IsNextRefusal table old.configuration earlier p (Err e)
   refused_next e refused contradicts = by_tests (packet_refusal old.configuration p) refl refused where
-    by_tests : (r : Result (Unit {0}) Error) → packet_refusal old.configuration p ≡ r → IsPacketRefusal e r → (e ≡ OutOfMemory) ⊎ IsNextRefusal table old.configuration came p (Err e)
+    by_tests : (r : Result (Unit {0}) Error) → packet_refusal old.configuration p ≡ r → IsPacketRefusal e r → (e ≡ OutOfMemory) ⊎ IsNextRefusal table old.configuration earlier p (Err e)
     by_tests (Ok u) passes (inl memory) = inl memory
     by_tests (Ok u) passes (inr is) = inr (inr (passes, is, contradicted (passes_below old.configuration p passes) (contradicts is)))
     by_tests (Err w) tested is = inr (inl (tested ∙ ap (λ x. Err x) (sym is)))
@@ -127,7 +127,7 @@ new_answers table c b fits = elim (cases_eq (block_symbols c b) 0) [
 
 pub follows_none : (table : List TableRow) (c : Configuration) (s : State) → ((b : ℕ) → b < c.source_blocks → IsReceivedOf table c b (new_received table c b)) → IsNewState table c s → FollowsRun table [] s
 follows_none table c s shape new = record {
-  holds = received_none table c s new;
+  received = received_none table c s new;
   answers = λ b below.
       let in_new : b < c.source_blocks = subst (λ (k : Configuration). b < k.source_blocks) new.configuration below in
       subst (λ (k : Configuration). IsSome (s.answer b) ↔ CanAnswer (received_after table k b [])) (sym new.configuration)
@@ -138,10 +138,10 @@ follows_none table c s shape new = record {
 
 module _ (table : List TableRow) (c : Configuration) where
   -- what is refused of the rest is refused of the whole, where nothing is refused before
-  pub refusal_behind-front : (came front rest : List Packet) (r : Result (Unit {0}) Error) → IsRefusalBehind table c came front (Ok tt) → IsRefusalBehind table c (came ++ front) rest r → IsRefusalBehind table c came (front ++ rest) r
-  refusal_behind-front came [] rest r passed behind = subst (λ xs. IsRefusalBehind table c xs rest r) (append-nil came) behind
-  refusal_behind-front came (p ∷ front) rest r (inl refused) behind = absurd (cc refused.0)
-  refusal_behind-front came (p ∷ front) rest r (inr passed) behind = inr (passed.0, refusal_behind-front (came ++ p ∷ []) front rest r passed.1 (subst (λ xs. IsRefusalBehind table c xs rest r) (sym (append_assoc came (p ∷ []) front)) behind))
+  pub refusal_behind-front : (earlier front rest : List Packet) (r : Result (Unit {0}) Error) → IsRefusalBehind table c earlier front (Ok tt) → IsRefusalBehind table c (earlier ++ front) rest r → IsRefusalBehind table c earlier (front ++ rest) r
+  refusal_behind-front earlier [] rest r passed behind = subst (λ xs. IsRefusalBehind table c xs rest r) (append-nil earlier) behind
+  refusal_behind-front earlier (p ∷ front) rest r (inl refused) behind = absurd (cc refused.0)
+  refusal_behind-front earlier (p ∷ front) rest r (inr passed) behind = inr (passed.0, refusal_behind-front (earlier ++ p ∷ []) front rest r passed.1 (subst (λ xs. IsRefusalBehind table c xs rest r) (sym (append_assoc earlier (p ∷ []) front)) behind))
 
   -- one packet more passes,
   pub one_passes : (front : List Packet) (p : Packet) → IsRefusalBehind table c [] front (Ok tt) → IsNextRefusal table c front p (Ok tt) → IsRefusalBehind table c [] (front ++ p ∷ []) (Ok tt)
@@ -152,23 +152,23 @@ module _ (table : List TableRow) (c : Configuration) where
   one_stops front rest p e passed next = refusal_behind-front [] front (p ∷ rest) (Err e) passed (inl (refl, next))
 
   -- there is one
-  next_is_one : (came : List Packet) (p : Packet) (r s : Result (Unit {0}) Error) → IsNextRefusal table c came p r → IsNextRefusal table c came p s → r ≡ s
-  next_is_one came p (Ok x) (Ok y) one other = refl
-  next_is_one came p (Ok x) (Err e) one (inl tested) = absurd (cc (one.0, tested))
-  next_is_one came p (Ok x) (Err e) one (inr found) = absurd (one.1 found.2)
-  next_is_one came p (Err e) (Ok y) (inl tested) other = absurd (cc (other.0, tested))
-  next_is_one came p (Err e) (Ok y) (inr found) other = absurd (other.1 found.2)
-  next_is_one came p (Err e) (Err w) (inl tested) (inl also) = sym tested ∙ also
-  next_is_one came p (Err e) (Err w) (inl tested) (inr found) = absurd (cc (tested, found.0))
-  next_is_one came p (Err e) (Err w) (inr found) (inl tested) = absurd (cc (tested, found.0))
-  next_is_one came p (Err e) (Err w) (inr found) (inr also) = ap (λ x. Err x) (found.1 ∙ sym also.1)
+  next_is_one : (earlier : List Packet) (p : Packet) (r s : Result (Unit {0}) Error) → IsNextRefusal table c earlier p r → IsNextRefusal table c earlier p s → r ≡ s
+  next_is_one earlier p (Ok x) (Ok y) one other = refl
+  next_is_one earlier p (Ok x) (Err e) one (inl tested) = absurd (cc (one.0, tested))
+  next_is_one earlier p (Ok x) (Err e) one (inr found) = absurd (one.1 found.2)
+  next_is_one earlier p (Err e) (Ok y) (inl tested) other = absurd (cc (other.0, tested))
+  next_is_one earlier p (Err e) (Ok y) (inr found) other = absurd (other.1 found.2)
+  next_is_one earlier p (Err e) (Err w) (inl tested) (inl also) = sym tested ∙ also
+  next_is_one earlier p (Err e) (Err w) (inl tested) (inr found) = absurd (cc (tested, found.0))
+  next_is_one earlier p (Err e) (Err w) (inr found) (inl tested) = absurd (cc (tested, found.0))
+  next_is_one earlier p (Err e) (Err w) (inr found) (inr also) = ap (λ x. Err x) (found.1 ∙ sym also.1)
 
-  pub refusal_is_one : (came packets : List Packet) (r s : Result (Unit {0}) Error) → IsRefusalBehind table c came packets r → IsRefusalBehind table c came packets s → r ≡ s
-  refusal_is_one came [] r s one other = one ∙ sym other
-  refusal_is_one came (p ∷ packets) r s (inl here) (inl there) = next_is_one came p r s here.1 there.1
-  refusal_is_one came (p ∷ packets) r s (inl here) (inr later) = absurd (cc (ap is_err (next_is_one came p r (Ok tt) here.1 later.0), here.0))
-  refusal_is_one came (p ∷ packets) r s (inr later) (inl there) = absurd (cc (ap is_err (next_is_one came p s (Ok tt) there.1 later.0), there.0))
-  refusal_is_one came (p ∷ packets) r s (inr later) (inr also) = refusal_is_one (came ++ p ∷ []) packets r s later.1 also.1
+  pub refusal_is_one : (earlier packets : List Packet) (r s : Result (Unit {0}) Error) → IsRefusalBehind table c earlier packets r → IsRefusalBehind table c earlier packets s → r ≡ s
+  refusal_is_one earlier [] r s one other = one ∙ sym other
+  refusal_is_one earlier (p ∷ packets) r s (inl here) (inl there) = next_is_one earlier p r s here.1 there.1
+  refusal_is_one earlier (p ∷ packets) r s (inl here) (inr later) = absurd (cc (ap is_err (next_is_one earlier p r (Ok tt) here.1 later.0), here.0))
+  refusal_is_one earlier (p ∷ packets) r s (inr later) (inl there) = absurd (cc (ap is_err (next_is_one earlier p s (Ok tt) there.1 later.0), there.0))
+  refusal_is_one earlier (p ∷ packets) r s (inr later) (inr also) = refusal_is_one (earlier ++ p ∷ []) packets r s later.1 also.1
 
 -- ---- a run
 

@@ -23,7 +23,7 @@ use Rattle.raptorq.specs.BlockSolutions.{FindsFrom, first_equations}
 use Rattle.raptorq.specs.declared.solving.BlockOperations.{BlockOperations}
 use Rattle.raptorq.specs.Planned.{source_values, planned_slab, IsPlanOf}
 use Rattle.raptorq.proofs.Encodes.{at_any}
-use Rattle.raptorq.proofs.Outcomes.{places_count}
+use Rattle.raptorq.proofs.BlockOutcomes.{places_count}
 use Rattle.rq_standard.specs.Headline.{IsIntermediateColumn, IsNonsingular}
 
 pub length-source_values : (row : TableRow) (size : ℕ) (source : List (List ℕ)) → length source ≤ row.extended_symbols → length (source_values row size source) ≡ equation_count row (extended_ids row)

@@ -20,7 +20,7 @@ use Rattle.rq_standard.proofs.ObjectAnswers.{joined_some, joined_each, some_of}
 use Rattle.raptorq.specs.SourceBlockDecoder.{received_of}
 use Rattle.raptorq.specs.Decoder.{received_at, answer_at, answer_of}
 use Rattle.raptorq.specs.Refused.{block_refusal}
-use Rattle.raptorq.specs.Stopping.{AddsInBlockOrStops, AddsOrStops}
+use Rattle.raptorq.specs.Stopping.{AddsHereOrStops, AddsOrStops}
 use Rattle.raptorq.specs.declared.decoder.packet_stop.PacketStop.{PacketStop}
 use Rattle.raptorq.specs.declared.decoder.packet_stop.PacketStop.TheVariants.{Refused, NotRecorded, NotSolved, Contradicted, NotJoined}
 use Rattle.raptorq.proofs.Numbered.{length-mapped, length-numbered}
@@ -109,7 +109,7 @@ module _ (c : Configuration) (items : List ObjectBlock) (p : Packet) (x y : Obje
       λ i. record { configuration = c; received = λ n. get_or (received_same i) n (nothing_received c n no_row 0); answer = λ n. get_or (answer_same i) n None }
 
   -- what the packet did to its block it did to the object's decoder
-  pub takes_at : (result : Result (Unit {0}) PacketStop) → AddsInBlockOrStops (received_of x.decoder) (answer_of x) p result (received_of y.decoder) (answer_of y) → AddsOrStops (state c items) p result (state c (set items p.id.block y))
+  pub takes_at : (result : Result (Unit {0}) PacketStop) → AddsHereOrStops (received_of x.decoder) (answer_of x) p result (received_of y.decoder) (answer_of y) → AddsOrStops (state c items) p result (state c (set items p.id.block y))
   takes_at (Ok u) so = adds_at so
   takes_at (Err NotSolved) so = records_at so
   takes_at (Err Contradicted) so = record {

@@ -15,7 +15,7 @@ use Rattle.rq_algebra.proofs.Sums.{dot_same, dot_mul_row, dot_below_size}
 use Rattle.rq_standard.specs.OctetField.{octets}
 use Rattle.rq_standard.specs.TableRows.{intermediate_symbols, IsChecked}
 use Rattle.rq_standard.specs.Equations.{fixed_equations, ldpc_coefficient, hdpc_coefficient, symbol_coefficient, equations, equation_count, zero_symbol, internal_id, tuple_sum}
-use Rattle.rq_standard.specs.ReceivedBlock.{ReceivedBlock, SolvesReceived, HasHeldSolution, IsContradictory, ReceivedDetermine}
+use Rattle.rq_standard.specs.ReceivedBlock.{ReceivedBlock, SolvesReceived, HasReceivedSolution, IsContradictory, ReceivedDetermine}
 use Rattle.rq_standard.proofs.Columns.{sum_at, sum_symbol}
 use Rattle.rq_bytes.specs.SymbolSlab.{Slab, slab_of, symbol_in}
 use Rattle.raptorq.specs.BlockSolutions.{IsBlockSolution, SolvesHdpc, Fits, first_equations}
@@ -86,7 +86,7 @@ module _ (h : ReceivedBlock) (m : Payloads) (fits : h.source_symbols ≤ h.row.e
     fitting fit = first_solve fixed ldpc few (symbol_in slab) s.symbols (s.solves fit.unread) sized (λ less. subst (λ n. SolvesHdpc h.row n (symbol_in slab)) s.size_is (fit.hdpc less))
 
     -- and fits where any column does
-    fits_solution : HasHeldSolution h → Fits h.row fixed slab
+    fits_solution : HasReceivedSolution h → Fits h.row fixed slab
     fits_solution z = record {
       unread = s.leaves z.column z.solves.symbols (values_solved h m fits ordered checked same fixed few z.column z.solves);
       hdpc = λ _. record {
@@ -150,10 +150,10 @@ module _ (h : ReceivedBlock) (m : Payloads) (fits : h.source_symbols ≤ h.row.e
         let r = equations h.row (known_list h.row h.source_symbols m.entries) i in
         dot_mul_row octets (intermediate_symbols h.row) 1 r x ∙ octets.one_mul _ (dot_below_size octets (intermediate_symbols h.row) r x)
 
-    -- they determine the block only where a column solves all that was received, whatever was received
-    pub square_held : length m.entries ≡ h.source_symbols → ReceivedDetermine h → HasHeldSolution h
+    -- where they are as many as the source symbols and determine the block, a column solves all that was received
+    pub square_received : length m.entries ≡ h.source_symbols → ReceivedDetermine h → HasReceivedSolution h
     unfolding rows
-    square_held count d =
+    square_received count d =
         let f : ℕ = h.row.ldpc_symbols + h.row.hdpc_symbols in
         let n : ℕ = intermediate_symbols h.row in
         let list = known_list h.row h.source_symbols m.entries in

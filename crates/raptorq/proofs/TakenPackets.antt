@@ -1,12 +1,13 @@
 -- Packets that a block's decoder takes one after another.
-use Rattle.std.proofs.Common.{◌≡◌, Bool, true, false, cond, eqb, List, [], ◌∷◌, ◌++◌, length, Option, Some, Result, Ok, Err, refl, sym, ap, ◌∙◌, subst, inl, inr}
+use Rattle.std.proofs.Common.{◌≡◌, ℕ, Bool, true, false, cond, eqb, List, [], ◌∷◌, ◌++◌, length, Option, Some, None, Result, Ok, Err, refl, sym, ap, ◌∙◌, subst, inl, inr}
 use Rattle.std.specs.Iterator.{Yields}
 use Rattle.std.specs.Prelude.{not}
 use Rattle.std.proofs.lemmas.Bool.{eqb-true}
 use Rattle.rq_bytes.specs.declared.error.Error.{Error}
 use Rattle.rq_bytes.specs.declared.error.Error.TheVariants.{OutOfMemory, UnknownBlock, WrongPayloadSize}
 use Rattle.rq_bytes.specs.Refusals.{IsRefusal}
-use Rattle.rq_standard.specs.Packet.{Packet}
+use Rattle.rq_standard.specs.Packet.{Packet, SymbolId}
+use Rattle.rq_standard.specs.Received.{or_later}
 use Rattle.rq_standard.specs.ReceivedBlock.{ReceivedBlock, with_received}
 use Rattle.rq_standard.proofs.StandingSteps.{push-all}
 use Rattle.raptorq.specs.Refused.{block_refusal}
@@ -35,6 +36,13 @@ size_is_tested false s passed = cc
 pub taken_size : (h : ReceivedBlock) (p : Packet) → block_refusal h p ≡ Ok tt → length p.payload ≡ h.configuration.symbol_size
 taken_size h p passed = eqb-true (length p.payload) h.configuration.symbol_size (size_is_tested (eqb p.id.block h.number) (eqb (length p.payload) h.configuration.symbol_size) passed)
 
+-- the payload of an id that is recorded is a packet's
+pub recorded_packet : (h : ReceivedBlock) (p : Packet) (received : ℕ → Option (List ℕ)) (id : SymbolId) (esi : ℕ) (payload : List ℕ) → id ≡ p.id → esi ≡ id.esi → payload ≡ p.payload
+    → ((e : ℕ) → received e ≡ or_later (h.received e) (cond (eqb esi e) (Some payload) None)) → record h { received = received } ≡ with_received h p.id.esi p.payload
+recorded_packet h p received id esi payload same is carries kept =
+    (λ i. record h { received = λ e. kept e i })
+    ∙ ap (λ e. with_received h e payload) (is ∙ ap (λ (k : SymbolId). k.esi) same) ∙ ap (λ x. with_received h p.id.esi x) carries
+
 -- what is refused stays the same
 pub refusal_kept : (h g : ReceivedBlock) (packets : List Packet) (p : Packet) → g ≡ all_recorded h packets → block_refusal g p ≡ block_refusal h p
 refusal_kept h g packets p is =
@@ -55,7 +63,7 @@ recorded-more h g new packets p is one = one ∙ ap (λ k. with_received k p.id.
 module _ {T : Type 0} (steps : T → Option Packet → T → Type 0) (iterator : T) where
   stops_at : (h g new : ReceivedBlock) (packets : List Packet) (p : Packet) (after : T) (Stops : Result (Unit {0}) Error → Type 0) → Yields steps iterator (packets ++ p ∷ []) after → AreTaken h packets → g ≡ all_recorded h packets → new ≡ g → Stops (block_refusal g p)
       → StopsAtLast steps iterator h (packets ++ p ∷ []) Stops new
-  stops_at h g new packets p after Stops gave taken is same stops = record { after = after; gave = gave; front = packets; last = p; whole = refl; taken = taken; holds = same ∙ is; stopped = subst Stops (refusal_kept h g packets p is) stops }
+  stops_at h g new packets p after Stops gave taken is same stops = record { after = after; gave = gave; front = packets; last = p; whole = refl; taken = taken; recorded = same ∙ is; stopped = subst Stops (refusal_kept h g packets p is) stops }
 
   -- the packet that stops the call
   pub stopped : (h g new : ReceivedBlock) (packets : List Packet) (p : Packet) (after : T) (at : PacketStop) → Yields steps iterator (packets ++ p ∷ []) after → AreTaken h packets → g ≡ all_recorded h packets → new ≡ g → StopsPacket at (block_refusal g p)
@@ -67,7 +75,7 @@ module _ {T : Type 0} (steps : T → Option Packet → T → Type 0) (iterator :
   stopped h g new packets p after NotJoined gave taken is same stops = absurd stops
 
   seen_at : (old : ReceivedBlock) (packets : List Packet) (new : ReceivedBlock) (Stops Seen : Result (Unit {0}) Error → Type 0) → ((tested : Result (Unit {0}) Error) → Stops tested → Seen tested) → StopsAtLast steps iterator old packets Stops new → StopsAtLast steps iterator old packets Seen new
-  seen_at old packets new Stops Seen weaker d = record { after = d.after; gave = d.gave; front = d.front; last = d.last; whole = d.whole; taken = d.taken; holds = d.holds; stopped = weaker (block_refusal old d.last) d.stopped }
+  seen_at old packets new Stops Seen weaker d = record { after = d.after; gave = d.gave; front = d.front; last = d.last; whole = d.whole; taken = d.taken; recorded = d.recorded; stopped = weaker (block_refusal old d.last) d.stopped }
 
   -- what a caller sees of it
   pub decodes_seen : (old : ReceivedBlock) (packets : List Packet) (at : PacketStop) (new : ReceivedBlock) → DecodesUntil steps iterator old packets (Err at) new → Decodes steps iterator old packets (Err (refusal_of at)) new

@@ -32,7 +32,5 @@ shows_known row known ids list (Some column) shows = record {
   count = shows.count;
   elements = shows.elements;
   solves = from_list row known ids (at column.items) list shows.solves;
-  index = shows.index;
-  below = shows.below;
-  nonzero = shows.nonzero;
+  nonzero = λ zeros. shows.nonzero (zeros shows.index shows.below);
 }

@@ -12,7 +12,7 @@ use Rattle.rq_standard.specs.Received.{or_later}
 use Rattle.rq_standard.proofs.KnownIds.{known_padding, known_repair, known_source}
 use Rattle.rq_standard.specs.IdLists.{IsListOf}
 use Rattle.raptorq.specs.BlockSolutions.{IsHomogeneousFor}
-use Rattle.raptorq.specs.Known.{ShowsBlockOpen, SolvesEsi}
+use Rattle.raptorq.specs.Known.{IsHomogeneousOf, SolvesEsi}
 use Rattle.raptorq.proofs.ReceivedEquations.{internal_above, internal_below}
 use Rattle.raptorq.proofs.Undetermined.{shows_known}
 use Rattle.rq_standard.proofs.Contradictions.{contradicts_more}
@@ -52,13 +52,13 @@ contradictory-later h received esi payload grown c = contradictory-same (with_re
 -- ---- a column that shows that ids don't determine a block
 
 abbrev Shows : TableRow → ℕ → (ℕ → Bool) → Option (Vec ℕ Global) → Type 0
-Shows row k has column = ForSome column (ShowsBlockOpen row k has)
+Shows row k has column = ForSome column (IsHomogeneousOf row k has)
 
 -- the ids are the same
 pub shown-same : (row : TableRow) (k : ℕ) (has now : ℕ → Bool) (column : Option (Vec ℕ Global)) → ((e : ℕ) → now e ≡ has e) → Shows row k has column → Shows row k now column
 shown-same row k has now column same shows = subst (λ (f : ℕ → Bool). Shows row k f column) (λ i e. sym (same e) i) shows
 
--- one more came, whose equation the column solves
+-- one more was received, whose equation the column solves
 module _ (row : TableRow) (k : ℕ) (has now : ℕ → Bool) (esi : ℕ) (fits : k ≤ row.extended_symbols) (more : (e : ℕ) → now e ≡ true → (has e ≡ true) ⊎ (e ≡ esi)) where
   known-more : (x : ℕ) → known_ids row k now x ≡ true → (known_ids row k has x ≡ true) ⊎ (x ≡ internal_id row k esi)
   known-more x known = elim (cases_lt x k) [
@@ -98,14 +98,13 @@ shown-none row k has = λ octets is. absurd (cc is)
 pub shown-found : (row : TableRow) (k : ℕ) (has : ℕ → Bool) (ids : List ℕ) (column : Option (Vec ℕ Global)) → IsListOf (known_ids row k has) ids → IfSome column (IsHomogeneousFor row ids) → Shows row k has column
 shown-found row k has ids None list shows = shown-none row k has
 shown-found row k has ids (Some found) list shows = λ octets is.
-    let known = shows_known row (known_ids row k has) ids list (Some found) shows in
     let same : found ≡ octets = cc is in
-    subst (ShowsBlockOpen row k has) same (record { count = known.count; elements = known.elements; solves = known.solves; nonzero = λ zeros. known.nonzero (zeros known.index known.below) })
+    subst (IsHomogeneousOf row k has) same (shows_known row (known_ids row k has) ids list (Some found) shows)
 
 -- so they don't
 pub shown-undetermined : (row : TableRow) (k : ℕ) (has : ℕ → Bool) (column : Option (Vec ℕ Global)) → is_some column ≡ true → Shows row k has column → DetermineBlock row k has → ⊥
 shown-undetermined row k has None some shows determined = absurd (cc some)
-shown-undetermined row k has (Some octets) some shows determined = let open_column = shows octets refl in open_column.nonzero (determined (at octets.items) open_column.elements open_column.solves)
+shown-undetermined row k has (Some octets) some shows determined = let shown = shows octets refl in shown.nonzero (determined (at octets.items) shown.elements shown.solves)
 
 -- a payload that is kept where none of its id was there
 pub came-more : (was now : ℕ → Option (List ℕ)) (esi : ℕ) (payload : List ℕ) → ((e : ℕ) → now e ≡ or_later (was e) (cond (eqb esi e) (Some payload) None)) → (e : ℕ) → is_some (now e) ≡ true → (is_some (was e) ≡ true) ⊎ (e ≡ esi)

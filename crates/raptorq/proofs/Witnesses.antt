@@ -86,7 +86,7 @@ module _ (c : Configuration) (items : List ObjectBlock) where
 
   not_determined : (h : ReceivedBlock) (answer column : Option (List ℕ)) → ShowsUnanswered h answer column → IsSome column → (answer ≡ None → ReceivedDetermine h) → ⊥
   not_determined h answer None shows some all = absurd (cc some)
-  not_determined h answer (Some xs) shows some all = shows.1.nonzero (all shows.0 (at xs) shows.1.elements shows.1.solves shows.1.index shows.1.below)
+  not_determined h answer (Some xs) shows some all = shows.1.nonzero (all shows.0 (at xs) shows.1.elements shows.1.solves)
 
   -- some column was found
   pub some_undetermined : (bytes : List ℕ) → DifferenceSoFar c items c.source_blocks false bytes → AreUnansweredDetermined (state c items) → ⊥
@@ -106,23 +106,22 @@ module _ (c : Configuration) (items : List ObjectBlock) where
   zero_of h answer None shows some j = refl
   zero_of h answer (Some xs) shows some j = absurd (cc (sym (ap is_some shows.0) ∙ some))
 
-  place_of : (h : ReceivedBlock) (answer column : Option (List ℕ)) → ShowsUnanswered h answer column → IsSome column → (j : ℕ) × (j < intermediate_symbols h.row) × (at (unwrap_or column []) j ≢ 0)
-  place_of h answer None shows some = absurd (cc some)
-  place_of h answer (Some xs) shows some = (shows.1.index, shows.1.below, shows.1.nonzero)
+  nonzero_of : (h : ReceivedBlock) (answer column : Option (List ℕ)) → ShowsUnanswered h answer column → IsSome column → ((j : ℕ) → j < intermediate_symbols h.row → at (unwrap_or column []) j ≡ 0) → ⊥
+  nonzero_of h answer None shows some = absurd (cc some)
+  nonzero_of h answer (Some xs) shows some = shows.1.nonzero
 
   pub difference_found : (bytes : List ℕ) → 0 < c.symbol_size → 0 < c.source_blocks → IsAligned c → ((b : ℕ) → b < c.source_blocks → HasRow (received_at c items b).row (block_symbols c b)) → ((b : ℕ) → b < c.source_blocks → (received_at c items b).source_symbols ≡ block_symbols c b)
       → DifferenceSoFar c items c.source_blocks false bytes → IsDifference (state c items) (take c.transfer_length bytes)
   difference_found bytes pos some aligned rows cut so =
       let columns = columns_of so.columns in
       let b = so.told.0 in
-      let witness = place_of (received_at c items b) (answer_at items b) (so.columns b) (so.shows b so.told.1) so.told.2 in
       subst (IsDifference (state c items)) (sym (ap (take c.transfer_length) so.appended))
-      (is_difference (state c items) pos some aligned columns b witness.0 rows
+      (is_difference (state c items) pos some aligned columns b rows
       (record {
         elements = λ n l. elements_of (received_at c items n) (answer_at items n) (so.columns n) (so.shows n l);
         solves = λ n l. subst (λ k. SolvesZeros (received_at c items n).row (known_ids (received_at c items n).row k (has_received (received_at c items n))) (columns n)) (cut n l) (solves_of (received_at c items n) (answer_at items n) (so.columns n) (so.shows n l));
       })
-      (λ n l h j _. zero_of (received_at c items n) (answer_at items n) (so.columns n) (so.shows n l) h j) so.told.1 witness.1 witness.2)
+      (λ n l h j _. zero_of (received_at c items n) (answer_at items n) (so.columns n) (so.shows n l) h j) so.told.1 (nonzero_of (received_at c items b) (answer_at items b) (so.columns b) (so.shows b so.told.1) so.told.2))
 
 -- ---- what was received of the object's blocks
 
@@ -148,6 +147,6 @@ module _ (c : Configuration) (items : List ObjectBlock) (numbered : map number_o
       let x = found.0 in
       let here = received_here c items b x inside found.1 in
       record {
-        checked = subst (λ (h : ReceivedBlock). IsChecked h.row) (sym here) x.decoder.checked;
+        checked = subst (λ (h : ReceivedBlock). IsChecked h.row) (sym here) x.decoder.row.checked;
         fits = subst (λ n. n ≤ (received_at c items b).row.extended_symbols) (block_is_cut b below) (subst (λ (h : ReceivedBlock). h.source_symbols ≤ h.row.extended_symbols) (sym here) x.decoder.fits);
       }

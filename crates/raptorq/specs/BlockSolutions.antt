@@ -1,11 +1,11 @@
 -- What a solver finds of a block.
-use Rattle.std.specs.Prelude.{◌≡◌, ℕ, ◌+◌, ◌<◌, ◌≤◌, List, length, Option, None, Some, Vec, MatchOption, IsSomeAnd}
+use Rattle.std.specs.Prelude.{◌≡◌, ℕ, ◌+◌, ◌<◌, ◌≤◌, List, length, Option, None, Some, Vec, MatchOption, IfSome, IsSomeAnd}
 use Rattle.std.specs.Global.{Global}
 use Rattle.rq_algebra.specs.Operations.{FindsColumn}
 use Rattle.rq_algebra.specs.Symbols.{IsSymbolColumn, SolvesSymbols, symbol_at}
-use Rattle.rq_algebra.specs.Systems.{IsDetermined, stacked, rows_of}
+use Rattle.rq_algebra.specs.Systems.{IsDetermined, IsHomogeneousColumn, stacked, rows_of}
 use Rattle.rq_bytes.specs.SymbolSlab.{Slab, symbol_in, symbols_in, IsZeroUnread}
-use Rattle.rq_null_vector.specs.Homogeneous.{IsHomogeneousColumn, ShowsHomogeneous}
+use Rattle.rq_null_vector.specs.Homogeneous.{ShowsHomogeneous}
 use Rattle.rq_operations.specs.RecordedOperations.{operations_of}
 use Rattle.rq_standard.specs.declared.row.TableRow.{TableRow}
 use Rattle.rq_standard.specs.OctetField.{octets}
@@ -46,7 +46,12 @@ shown_column (Undetermined column) = column
 
 -- a column that isn't all zeros and solves the equations of a list of ids with all values zero
 abbrev pub IsHomogeneousFor : TableRow → List ℕ → Vec ℕ Global → Type 0
-IsHomogeneousFor row ids column = IsHomogeneousColumn (equation_count row ids) (intermediate_symbols row) (equations row ids) column.items
+IsHomogeneousFor row ids column = IsHomogeneousColumn octets (equation_count row ids) (intermediate_symbols row) (equations row ids) column.items
+
+-- what is found of the equations of a list of ids
+pub record IsBlockOutcome (row : TableRow) (ids : List ℕ) (outcome : BlockOutcome) : Type 0 where
+  pub found : FindsListed row ids (found_operations outcome)
+  pub shown : IfSome (shown_column outcome) (IsHomogeneousFor row ids)
 
 -- the LDPC equations and those of the ids are as many as the intermediate symbols, and determine them without those of HDPC
 pub record NeedsNoHdpc (row : TableRow) (ids : List ℕ) : Type 0 where

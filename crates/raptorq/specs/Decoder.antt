@@ -12,7 +12,7 @@ use Rattle.raptorq.specs.SourceBlockDecoder.{received_of}
 abbrev pub answer_of : ObjectBlock → Option (List ℕ)
 answer_of b = option_map vec_items b.answer
 
--- of a block that the object hasn't nothing was received
+-- what was received of each block: nothing of those that the object has not
 abbrev pub received_at : Configuration → List ObjectBlock → ℕ → ReceivedBlock
 received_at c blocks n = slice_index_or (map (λ b. received_of b.decoder) blocks) n (nothing_received c n no_row 0)
 

@@ -33,14 +33,14 @@ pub record StopsAtLast {T : Type 0} (steps : T → Option Packet → T → Type 
   pub last : Packet
   pub whole : packets ≡ front ++ last ∷ []
   pub taken : AreTaken old front
-  pub holds : new ≡ all_recorded old front
+  pub recorded : new ≡ all_recorded old front
   pub stopped : Stops (block_refusal old last)
 
 -- all packets that an iterator gives are recorded
 pub record RecordsAll {T : Type 0} (steps : T → Option Packet → T → Type 0) (iterator : T) (old : ReceivedBlock) (packets : List Packet) (new : ReceivedBlock) : Type 0 where
   pub drained : Drains steps iterator packets
   pub taken : AreTaken old packets
-  pub holds : new ≡ all_recorded old packets
+  pub recorded : new ≡ all_recorded old packets
 
 -- why what was received has no answer: there is no memory for it, or it is contradictory
 abbrev pub IsUnanswered : ReceivedBlock → Error → Type 0

@@ -5,15 +5,15 @@ use Rattle.std.specs.List.{range_with_len}
 use Rattle.std.specs.declared.vec.Vec.{Vec}
 use Rattle.std.specs.declared.alloc.Global.{Global}
 use Rattle.rq_algebra.specs.Symbols.{IsSymbolColumn}
-use Rattle.rq_algebra.specs.Systems.{at, dot, IsColumn}
+use Rattle.rq_algebra.specs.Systems.{at, dot}
 use Rattle.rq_bytes.specs.SymbolSlab.{Slab, symbol_in, symbols_in}
 use Rattle.rq_standard.specs.declared.row.TableRow.{TableRow}
 use Rattle.rq_standard.specs.OctetField.{octets}
 use Rattle.rq_standard.specs.TableRows.{intermediate_symbols}
 use Rattle.rq_standard.specs.Equations.{zero_symbol, internal_id, symbol_coefficient, tuple_sum}
-use Rattle.rq_standard.specs.Headline.{known_ids, SolvesZeros}
+use Rattle.rq_standard.specs.Headline.{known_ids}
 use Rattle.rq_standard.specs.Received.{or_later}
-use Rattle.rq_standard.specs.ReceivedBlock.{ReceivedBlock, SolvesReceived, ReceivedDetermine}
+use Rattle.rq_standard.specs.ReceivedBlock.{ReceivedBlock, IsHomogeneous, SolvesReceived, ReceivedDetermine}
 use Rattle.raptorq.specs.BlockSolutions.{FindsFrom}
 use Rattle.raptorq.specs.Missing.{payload_of}
 use Rattle.raptorq.specs.declared.solving.BlockOperations.{BlockOperations}
@@ -42,16 +42,9 @@ FindsKnown h received answer = MatchOption answer (ReceivedDetermine h → ⊥) 
 abbrev pub SolvesEsi : TableRow → ℕ → ℕ → List ℕ → Type 0
 SolvesEsi row k esi column = dot octets (intermediate_symbols row) (symbol_coefficient row (internal_id row k esi)) (at column) ≡ 0
 
--- a column of octets that isn't all zeros, and solves the equations of known ids with zeros as values: so the ids don't determine the block
-pub record ShowsOpen (row : TableRow) (known : ℕ → Bool) (column : List ℕ) : Type 0 where
-  pub count : length column ≡ intermediate_symbols row
-  pub elements : IsColumn octets (intermediate_symbols row) (at column)
-  pub solves : SolvesZeros row known (at column)
-  pub nonzero : ((k : ℕ) → k < intermediate_symbols row → at column k ≡ 0) → ⊥
-
--- so it is for the encoding symbol ids that were received of a block of k source symbols
-abbrev pub ShowsBlockOpen : TableRow → ℕ → (ℕ → Bool) → Vec ℕ Global → Type 0
-ShowsBlockOpen row k has column = ShowsOpen row (known_ids row k has) column.items
+-- a column of octets shows that the encoding symbol ids that were received of a block of k source symbols don't determine it
+abbrev pub IsHomogeneousOf : TableRow → ℕ → (ℕ → Bool) → Vec ℕ Global → Type 0
+IsHomogeneousOf row k has column = IsHomogeneous row (known_ids row k has) column.items
 
 -- the intermediate symbols of what was received: they solve it, and no others do
 pub record IsReceivedSolution (h : ReceivedBlock) (slab : Slab) : Type 0 where

@@ -1,4 +1,6 @@
 pub mod Allowed
+pub mod Appended
+pub mod BlockCutting
 pub mod BlockData
 pub mod BlockSolutions
 pub mod Building
@@ -11,6 +13,7 @@ pub mod HdpcSums
 pub mod Known
 pub mod Laws
 pub mod Missing
+pub mod MissingPackets
 pub mod Offsets
 pub mod Planned
 pub mod Refused

@@ -23,37 +23,37 @@ RefusesConfiguration table c packets e = (object : List ℕ) → IsHonestRun tab
 
 -- ---- whoever sent the packets
 
--- A packet contradicts those that were received: these can't answer its block, and with it what was received of the block is contradictory.
-pub record ContradictsCame (table : List TableRow) (c : Configuration) (came : List Packet) (p : Packet) : Type 0 where
-  pub unanswered : CanAnswer (received_after table c p.id.block came) → ⊥
-  pub contradictory : IsContradictory (received_after table c p.id.block (came ++ p ∷ []))
+-- A packet contradicts earlier ones: these can't answer its block, and with it what was received of the block is contradictory.
+pub record ContradictsReceived (table : List TableRow) (c : Configuration) (earlier : List Packet) (p : Packet) : Type 0 where
+  pub unanswered : CanAnswer (received_after table c p.id.block earlier) → ⊥
+  pub contradictory : IsContradictory (received_after table c p.id.block (earlier ++ p ∷ []))
 
--- what is refused of a packet behind those that were received, none of which was refused: by the tests, and then as a contradiction
+-- what is refused of a packet behind earlier ones, none of which was refused: by the tests, and then as a contradiction
 abbrev pub IsNextRefusal : List TableRow → Configuration → List Packet → Packet → Result (Unit {0}) Error → Type 0
-IsNextRefusal table c came p (Ok x) = (packet_refusal c p ≡ Ok tt) × ¬ (ContradictsCame table c came p)
-IsNextRefusal table c came p (Err e) =
-    (packet_refusal c p ≡ Err e) ⊎ ((packet_refusal c p ≡ Ok tt) × (e ≡ Contradiction) × ContradictsCame table c came p)
+IsNextRefusal table c earlier p (Ok x) = (packet_refusal c p ≡ Ok tt) × ¬ (ContradictsReceived table c earlier p)
+IsNextRefusal table c earlier p (Err e) =
+    (packet_refusal c p ≡ Err e) ⊎ ((packet_refusal c p ≡ Ok tt) × (e ≡ Contradiction) × ContradictsReceived table c earlier p)
 
 -- what is answered of it: want of memory may come in place of any
 abbrev pub AnswersNext : {X : Type 0} → List TableRow → Configuration → List Packet → Packet → Result X Error → Type 0
-AnswersNext table c came p (Ok x) = IsNextRefusal table c came p (Ok tt)
-AnswersNext table c came p (Err e) = (e ≡ OutOfMemory) ⊎ IsNextRefusal table c came p (Err e)
+AnswersNext table c earlier p (Ok x) = IsNextRefusal table c earlier p (Ok tt)
+AnswersNext table c earlier p (Err e) = (e ≡ OutOfMemory) ⊎ IsNextRefusal table c earlier p (Err e)
 
--- A decoder follows packets that were received: a block has an answer exactly where what was received of it can answer it, and of each block without one all that was received is held.
-pub record FollowsRun (table : List TableRow) (came : List Packet) (s : State) : Type 0 where
-  pub holds : HasReceivedRun table came s
-  pub answers : (b : ℕ) → b < s.configuration.source_blocks → IsSome (s.answer b) ↔ CanAnswer (received_after table s.configuration b came)
+-- A decoder follows packets that were received: a block has an answer exactly where what was received of it can answer it, and of each block without one all packets are recorded.
+pub record FollowsRun (table : List TableRow) (earlier : List Packet) (s : State) : Type 0 where
+  pub received : HasReceivedRun table earlier s
+  pub answers : (b : ℕ) → b < s.configuration.source_blocks → IsSome (s.answer b) ↔ CanAnswer (received_after table s.configuration b earlier)
 
 -- and so it does one packet later
 abbrev pub FollowsMore : State → Packet → State → Type 0
-FollowsMore old p new = (table : List TableRow) (came : List Packet) → FollowsRun table came old → FollowsRun table (came ++ p ∷ []) new
+FollowsMore old p new = (table : List TableRow) (earlier : List Packet) → FollowsRun table earlier old → FollowsRun table (earlier ++ p ∷ []) new
 
--- the first refusal of a list of packets behind those that were received
+-- the first refusal of a list of packets behind earlier ones
 abbrev pub IsRefusalBehind : List TableRow → Configuration → List Packet → List Packet → Result (Unit {0}) Error → Type 0
-IsRefusalBehind table c came [] r = r ≡ Ok tt
-IsRefusalBehind table c came (p ∷ packets) r =
-    (IsErr r × IsNextRefusal table c came p r)
-    ⊎ (IsNextRefusal table c came p (Ok tt) × IsRefusalBehind table c (came ++ p ∷ []) packets r)
+IsRefusalBehind table c earlier [] r = r ≡ Ok tt
+IsRefusalBehind table c earlier (p ∷ packets) r =
+    (IsErr r × IsNextRefusal table c earlier p r)
+    ⊎ (IsNextRefusal table c earlier p (Ok tt) × IsRefusalBehind table c (earlier ++ p ∷ []) packets r)
 
 -- the first refusal of a run: of the configuration, and then of the packets in their order
 abbrev pub IsRunRefusal : List TableRow → Configuration → List Packet → Result (Unit {0}) Error → Type 0

@@ -9,7 +9,7 @@ use Rattle.raptorq.specs.Missing.{received_block}
 
 -- what it holds
 abbrev pub received_of : SourceBlockDecoder → ReceivedBlock
-received_of d = received_block d.config d.number d.row d.source_symbols d.received
+received_of d = received_block d.config d.number d.row.numbers d.source_symbols d.received
 
 -- a block of K source symbols, over its row of the table, of which nothing was received
 abbrev pub empty_block : List TableRow → Configuration → ℕ → ℕ → ReceivedBlock

@@ -16,7 +16,7 @@ pub record BlockEncoded : Type 0 where
   pub source : List (List ℕ)
 
 abbrev pub block_encoded_of : SourceBlockEncoder → BlockEncoded
-block_encoded_of b = record { number = b.number; row = b.row; size = b.intermediate.symbol_size; source = b.source.values }
+block_encoded_of b = record { number = b.number; row = b.row.numbers; size = b.intermediate.symbol_size; source = b.source.values }
 
 -- what is encoded of a block of this object, over this table
 abbrev pub new_block_encoded : List TableRow → Configuration → List ℕ → ℕ → BlockEncoded

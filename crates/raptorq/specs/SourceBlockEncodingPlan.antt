@@ -17,7 +17,7 @@ pub record Plan : Type 0 where
   pub operations : List Operation
 
 abbrev pub plan_of : SourceBlockEncodingPlan → Plan
-plan_of p = record { count = p.source_symbol_count; row = p.row; operations = operations_of p.operations }
+plan_of p = record { count = p.source_symbol_count; row = p.row.numbers; operations = operations_of p.operations }
 
 -- whether a table has a row for `count` symbols
 abbrev pub plan_refusal : List TableRow → ℕ → Result (Unit {0}) Error

@@ -28,4 +28,4 @@ after_use cache count = record cache { counts = counts_after_use cache.counts co
 -- a plan over that table
 pub record IsPlanOver (table : List TableRow) (p : SourceBlockEncodingPlan) : Type 0 where
   pub known : p.source_symbol_count ≤ greatest_size table
-  pub row : p.row ≡ row_of table p.source_symbol_count
+  pub row : p.row.numbers ≡ row_of table p.source_symbol_count

@@ -42,15 +42,15 @@ StopsAnswer NotJoined h = ⊥
 StopsAnswer (Refused e) h = ⊥
 
 -- What a packet of a block did to what was received and to its answer: where it wasn't recorded, nothing; where the block wasn't solved or is contradictory, it is recorded.
-abbrev pub AddsInBlockOrStops : ReceivedBlock → Option (List ℕ) → Packet → Result (Unit {0}) PacketStop → ReceivedBlock → Option (List ℕ) → Type 0
-AddsInBlockOrStops old before p (Ok x) new after = AddsToBlock old before p new after
-AddsInBlockOrStops old before p (Err NotSolved) new after = RecordsInBlock old before p new after
-AddsInBlockOrStops old before p (Err Contradicted) new after = RecordsInBlock old before p new after × IsContradictory new
-AddsInBlockOrStops old before p (Err NotRecorded) new after = (new ≡ old) × (after ≡ before)
-AddsInBlockOrStops old before p (Err NotJoined) new after = ⊥
-AddsInBlockOrStops old before p (Err (Refused e)) new after = ⊥
+abbrev pub AddsHereOrStops : ReceivedBlock → Option (List ℕ) → Packet → Result (Unit {0}) PacketStop → ReceivedBlock → Option (List ℕ) → Type 0
+AddsHereOrStops old before p (Ok x) new after = AddsToBlock old before p new after
+AddsHereOrStops old before p (Err NotSolved) new after = RecordsInBlock old before p new after
+AddsHereOrStops old before p (Err Contradicted) new after = RecordsInBlock old before p new after × IsContradictory new
+AddsHereOrStops old before p (Err NotRecorded) new after = (new ≡ old) × (after ≡ before)
+AddsHereOrStops old before p (Err NotJoined) new after = ⊥
+AddsHereOrStops old before p (Err (Refused e)) new after = ⊥
 
--- what `AddsInBlockOrStops` says, of an object's decoder; a refused packet does nothing
+-- what `AddsHereOrStops` says, of an object's decoder; a refused packet does nothing
 abbrev pub AddsOrStops : State → Packet → Result (Unit {0}) PacketStop → State → Type 0
 AddsOrStops old p (Ok x) new = Adds old p new
 AddsOrStops old p (Err NotSolved) new = RecordsOnly old p new

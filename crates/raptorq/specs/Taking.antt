@@ -19,11 +19,11 @@ pub record TakesPacket {X : Type 0} (old : State) (packet : Packet) (result : Re
   pub configuration : new.configuration ≡ old.configuration
   -- a contradiction: the packet is recorded, and so is each later one of its block, which is refused too
   pub contradiction : IfErr result (λ e. e ≡ Contradiction → Contradicts old packet new)
-  pub holds : OnOk result (HasReceivedMore old packet new)
+  pub received : OnOk result (HasReceivedMore old packet new)
   pub goes_on : OnOk result (IsBlockContradictory old packet.id.block → ⊥)
   pub keeps : KeepsContradictions old new
   -- behind packets that the decoder follows, exactly what is to be refused is
-  pub next : (table : List TableRow) (came : List Packet) → FollowsRun table came old → AnswersNext table old.configuration came packet result
+  pub next : (table : List TableRow) (earlier : List Packet) → FollowsRun table earlier old → AnswersNext table old.configuration earlier packet result
   pub follows : OnOk result (FollowsMore old packet new)
   -- a packet of the object for whose packets the decoder stands is refused for want of memory alone
   pub honest : IfErr result (λ e. IsHonestPacket old packet → e ≡ OutOfMemory)

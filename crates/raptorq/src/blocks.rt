@@ -3,9 +3,10 @@ ghost use Rattle.std.specs.Prelude.{◌≡◌, ◌<◌, IfOk};
 ghost use Rattle.rq_bytes.specs.Refusals.{IsAnswer};
 ghost use Rattle.rq_standard.specs.Configuration.{largest_block};
 ghost use Rattle.rq_standard.specs.Cutting.{block_symbols};
+ghost use Rattle.raptorq.specs.Encoder.{packets_refusal};
 ghost use Rattle.raptorq.specs.Offsets.{block_offsets, checked_offsets};
 
-use rq_base::base::{ObjectTransmissionInformation, partition};
+use rq_base::base::{ENCODING_SYMBOL_IDS, ObjectTransmissionInformation, partition};
 use rq_bytes::error::Error;
 use rq_tables::systematic_constants::MAX_SOURCE_SYMBOLS_PER_BLOCK;
 use std::alloc::{AllocError, Global};
@@ -24,6 +25,20 @@ pub(crate) fn block_symbols(config: &ObjectTransmissionInformation, number: u8) 
     } else {
         smaller
     }
+}
+
+/// Whether `repair` repair packets of each block have encoding symbol ids: the first block is the
+/// largest.
+pub(crate) fn check_repair(config: &ObjectTransmissionInformation, repair: u32) -> Result<(), Error>
+    requires size { 0 < config.now.symbol_size }
+    requires few { largest_block config.now < 65536 }
+    requires some { 0 < config.now.source_blocks }
+    ensures { result ≡ packets_refusal config.now repair }
+{
+    if u64::from(block_symbols(config, 0)) + u64::from(repair) > u64::from(ENCODING_SYMBOL_IDS) {
+        return Err(Error::EsiTooLarge);
+    }
+    Ok(())
 }
 
 /// Where each source block of an object begins and where it ends, in bytes (RFC 6330, 4.4.1.2).

@@ -4,11 +4,11 @@ ghost use Rattle.rq_algebra.specs.Symbols.{IsSymbolColumn};
 ghost use Rattle.rq_bytes.specs.SymbolSlab.{symbol_in, symbols_in};
 ghost use Rattle.rq_standard.specs.Equations.{tuple_sum};
 ghost use Rattle.rq_standard.specs.OctetField.{octets};
-ghost use Rattle.rq_standard.specs.TableRows.{IsChecked, intermediate_symbols};
+ghost use Rattle.rq_standard.specs.TableRows.{intermediate_symbols};
 
 use rq_base::indices::Indices;
 use rq_bytes::symbol_slab::SymbolSlab;
-use rq_standard::row::TableRow;
+use rq_tables::systematic_constants::CheckedRow;
 use std::alloc::{AllocError, Global};
 
 // How many intermediate symbols are listed before they are added: as many as one pass adds.
@@ -18,14 +18,13 @@ const TERMS: usize = 8;
 /// (RFC 6330, section 5.3.5.3).
 pub(crate) fn encoding_symbol(
     alloc: Global,
-    row: &TableRow,
+    row: &CheckedRow,
     intermediate: &SymbolSlab,
     internal_symbol_id: u32,
 ) -> Result<Vec<u8>, AllocError>
-    requires checked { IsChecked row.now }
-    requires enough { intermediate_symbols row.now ≤ length (symbols_in intermediate.now) }
-    requires symbols { IsSymbolColumn octets intermediate.now.symbol_size (intermediate_symbols row.now) (symbol_in intermediate.now) }
-    ensures sum { IfOk result (λ v. v.items ≡ tuple_sum row.now (symbol_in intermediate.now) internal_symbol_id) }
+    requires enough { intermediate_symbols row.now.numbers ≤ length (symbols_in intermediate.now) }
+    requires symbols { IsSymbolColumn octets intermediate.now.symbol_size (intermediate_symbols row.now.numbers) (symbol_in intermediate.now) }
+    ensures sum { IfOk result (λ v. v.items ≡ tuple_sum row.now.numbers (symbol_in intermediate.now) internal_symbol_id) }
 {
     let mut symbol = vec![in alloc; 0u8; intermediate.symbol_size()]?;
     let mut indices = Indices::of_id(row, internal_symbol_id);

@@ -1,24 +1,27 @@
 //! Encoders: an object in, its packets out.
-ghost use Rattle.std.specs.Prelude.{◌≡◌, ◌<◌, ◌≤◌, ◌⊎◌, length, map, Ok, IfOk, IfErr, OnOk};
+ghost use Rattle.std.specs.Prelude.{◌≡◌, ◌<◌, length, map, Ok, IfOk, IfErr, OnOk};
 ghost use Rattle.std.specs.List.{range_with_len};
 ghost use Rattle.rq_bytes.specs.Refusals.{IsAnswer};
 ghost use Rattle.rq_standard.specs.Configuration.{IsAccepted, largest_block};
 ghost use Rattle.rq_standard.specs.Cutting.{block_symbols};
-ghost use Rattle.rq_standard.specs.Headline.{HasNonsingularRows, IsNonsingular, IsSingular};
-ghost use Rattle.rq_standard.specs.TableRows.{greatest_size, row_of};
-ghost use Rattle.raptorq.specs.SourceBlockEncodingPlan.{plan_of};
-ghost use Rattle.raptorq.specs.BlockData.{IsPlanFor};
+ghost use Rattle.rq_standard.specs.Headline.{HasNonsingularRows};
+ghost use Rattle.rq_standard.specs.TableRows.{greatest_size};
+ghost use Rattle.raptorq.specs.BlockCutting.{RefusesRows};
 ghost use Rattle.raptorq.specs.SourceBlockEncoder.{block_encoded_of, blocks_encoded};
 
 mod block;
+mod block_cutter;
 mod builder;
 mod cache;
+mod frames;
 mod plan;
 
-use crate::blocks::block_symbols;
+use crate::blocks::check_repair;
 pub use block::SourceBlockEncoder;
+use block_cutter::BlockCutter;
 pub use builder::EncoderBuilder;
 pub use cache::SourceBlockEncodingPlanCache;
+pub use frames::encode_all;
 pub use plan::SourceBlockEncodingPlan;
 use rq_base::base::{EncodingPacket, ObjectTransmissionInformation, PayloadId};
 use rq_bytes::error::Error;
@@ -136,10 +139,7 @@ impl Encoder {
         ensures refused { IsAnswer (λ _. tt) result (packets_refusal (encoded_of self.now).configuration repair_packets_per_block) }
         ensures packets { IfOk result (λ v. ArePacketsOf (encoded_of self.now) repair_packets_per_block v.items) }
     {
-        let largest = u64::from(block_symbols(&self.config, 0));
-        if largest + u64::from(repair_packets_per_block) > 1 << 24 {
-            return Err(Error::EsiTooLarge);
-        }
+        check_repair(&self.config, repair_packets_per_block)?;
         let mut packets = Vec::new(self.alloc);
         for block in &self.blocks {
             let end = block.source_symbol_count() + repair_packets_per_block;
@@ -163,7 +163,7 @@ impl Clone for Encoder {
     }
 }
 
-// The encoders of an object's blocks. Blocks of one size share a plan.
+// The encoders of an object's blocks.
 fn block_encoders(
     alloc: Global,
     table: &SystematicTable,
@@ -174,42 +174,12 @@ fn block_encoders(
     requires few { largest_block config.now < 65536 }
     ensures encoded { IfOk result (λ v. map block_encoded_of v.items ≡ blocks_encoded table.now config.now object.now) }
     ensures nonsingular { OnOk result (HasNonsingularRows table.now config.now) }
-    ensures refused { IfErr result (λ e. (e ≡ Error.OutOfMemory) ⊎ ((e ≡ Error.Singular) × ¬ HasNonsingularRows table.now config.now)) }
+    ensures refused { IfErr result (RefusesRows table.now config.now) }
 {
-    let mut plan = SourceBlockEncodingPlan::generate(
-        alloc,
-        table,
-        block_symbols(config, 0) as u16,
-    )?;
-    let size = usize::from(config.symbol_size());
+    let mut blocks = BlockCutter::new(alloc, table, object, config)?;
     let mut encoders = Vec::with_capacity(alloc, usize::from(config.source_blocks()))?;
-    let mut rest = object;
     for number in 0..config.source_blocks() {
-        let count = block_symbols(config, number);
-        plan = plan_for(alloc, table, count as u16, plan)?;
-        // The object may end before its last blocks do.
-        let (bytes, behind) = rest.split_at((count as usize * size).min(rest.len()));
-        encoders.push(SourceBlockEncoder::of_block(alloc, number, config, bytes, &plan)?)?;
-        rest = behind;
+        encoders.push(blocks.next_encoder(number)?)?;
     }
     Ok(encoders)
-}
-
-// A plan of blocks with `count` source symbols: `last`, where it is one.
-fn plan_for(
-    alloc: Global,
-    table: &SystematicTable,
-    count: u16,
-    last: SourceBlockEncodingPlan,
-) -> Result<SourceBlockEncodingPlan, Error>
-    requires count { count ≤ greatest_size table.now }
-    requires last { (plan_of last).row ≡ row_of table.now (plan_of last).count }
-    ensures plan { IfOk result (λ plan. IsPlanFor table.now count (plan_of plan)) }
-    ensures nonsingular { OnOk result (IsNonsingular (row_of table.now count)) }
-    ensures refused { IfErr result (λ e. (e ≡ Error.OutOfMemory) ⊎ ((e ≡ Error.Singular) × IsSingular (row_of table.now count))) }
-{
-    if last.source_symbol_count() == count {
-        return Ok(last);
-    }
-    SourceBlockEncodingPlan::generate(alloc, table, count)
 }

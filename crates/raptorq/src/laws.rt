@@ -37,9 +37,9 @@ pub fn order_and_repeats()
     ensures answers { SameIdsAnswerTheSame }
 {}
 
-/// Whether what was received of a block determines it depends on its encoding symbol ids alone, whatever they
-/// carry; what contradicts itself then contradicts itself with every packet more (RFC 6330, section
-/// 5.4.2).
+/// Whether what was received of a block determines it depends on its encoding symbol ids alone,
+/// whatever they carry; what contradicts itself then contradicts itself with every packet more (RFC
+/// 6330, section 5.4.2).
 pub fn contradictions()
     ensures ids { DeterminedByIdsAlone }
     ensures stay { ContradictionsStay }

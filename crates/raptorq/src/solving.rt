@@ -1,8 +1,8 @@
 //! The intermediate symbols of a block.
 ghost use Rattle.std.specs.Prelude.{◌≡◌, ◌+◌, ◌^◌, ◌<◌, ◌≤◌, IfSome, IfOk, IfErr};
-ghost use Rattle.rq_standard.specs.TableRows.{IsChecked, intermediate_symbols};
+ghost use Rattle.rq_standard.specs.TableRows.{intermediate_symbols};
 ghost use Rattle.rq_standard.specs.Equations.{equation_count};
-ghost use Rattle.raptorq.specs.BlockSolutions.{found_operations, shown_column, FindsFrom, FindsListed, FindsWithoutHdpc, IsHomogeneousFor, ShowsListed, SparesHdpc};
+ghost use Rattle.raptorq.specs.BlockSolutions.{found_operations, FindsFrom, FindsListed, FindsWithoutHdpc, IsBlockOutcome, ShowsListed, SparesHdpc};
 
 use rq_base::constraint_matrix::{
     generate_constraint_matrix_no_hdpc_of_row, generate_constraint_matrix_of_row,
@@ -14,7 +14,7 @@ use rq_matrix::sparse_matrix::SparseBinaryMatrix;
 use rq_null_vector::null_vector::null_vector;
 use rq_operations::recorded::RecordedOperations;
 use rq_solver::pi_solver::{IntermediateSymbolDecoder, Solved};
-use rq_standard::row::TableRow;
+use rq_tables::systematic_constants::CheckedRow;
 use std::alloc::Global;
 
 /// The operations that make the intermediate symbols from the values of equations: `precode_rows`
@@ -54,15 +54,14 @@ impl BlockOutcome {
 /// `sparse_threshold` symbols (K') or more, and dense else.
 pub(crate) fn solve_block(
     alloc: Global,
-    row: &TableRow,
+    row: &CheckedRow,
     ids: &[u32],
     sparse_threshold: u32,
 ) -> Result<Option<BlockOperations>, Error>
-    requires checked { IsChecked row.now }
-    requires enough { intermediate_symbols row.now ≤ equation_count row.now ids.now }
-    requires fits { equation_count row.now ids.now < 2 ^ 31 }
-    ensures found { IfOk result (FindsListed row.now ids.now) }
-    ensures spares { IfOk result (SparesHdpc row.now ids.now) }
+    requires enough { intermediate_symbols row.now.numbers ≤ equation_count row.now.numbers ids.now }
+    requires fits { equation_count row.now.numbers ids.now < 2 ^ 31 }
+    ensures found { IfOk result (FindsListed row.now.numbers ids.now) }
+    ensures spares { IfOk result (SparesHdpc row.now.numbers ids.now) }
     ensures memory { IfErr result (λ e. e ≡ Error.OutOfMemory) }
 {
     let outcome = solve_or_show(alloc, row, ids, sparse_threshold)?;
@@ -72,20 +71,18 @@ pub(crate) fn solve_block(
 /// What [`solve_block`] finds, and where it finds nothing a column that shows it.
 pub(crate) fn solve_or_show(
     alloc: Global,
-    row: &TableRow,
+    row: &CheckedRow,
     ids: &[u32],
     sparse_threshold: u32,
 ) -> Result<BlockOutcome, Error>
-    requires checked { IsChecked row.now }
-    requires enough { intermediate_symbols row.now ≤ equation_count row.now ids.now }
-    requires fits { equation_count row.now ids.now < 2 ^ 31 }
-    ensures found { IfOk result (λ outcome. FindsListed row.now ids.now (found_operations outcome)) }
-    ensures spares { IfOk result (λ outcome. SparesHdpc row.now ids.now (found_operations outcome)) }
-    ensures shown { IfOk result (λ outcome. IfSome (shown_column outcome) (IsHomogeneousFor row.now ids.now)) }
+    requires enough { intermediate_symbols row.now.numbers ≤ equation_count row.now.numbers ids.now }
+    requires fits { equation_count row.now.numbers ids.now < 2 ^ 31 }
+    ensures outcome { IfOk result (IsBlockOutcome row.now.numbers ids.now) }
+    ensures spares { IfOk result (λ outcome. SparesHdpc row.now.numbers ids.now (found_operations outcome)) }
     ensures memory { IfErr result (λ e. e ≡ Error.OutOfMemory) }
 {
     let listed = Listed { alloc, row, ids };
-    if row.extended_symbols >= sparse_threshold {
+    if row.numbers.extended_symbols >= sparse_threshold {
         listed.find_over::<SparseBinaryMatrix>()
     } else {
         listed.find_over::<DenseBinaryMatrix>()
@@ -96,20 +93,18 @@ pub(crate) fn solve_or_show(
 #[derive(Drop)]
 struct Listed<'a> {
     alloc: Global,
-    row: &'a TableRow,
+    row: &'a CheckedRow,
     ids: &'a [u32],
-    ghost checked: { IsChecked row.now },
-    ghost enough: { intermediate_symbols row.now ≤ equation_count row.now ids.now },
-    ghost fits: { equation_count row.now ids.now < 2 ^ 31 },
+    ghost enough: { intermediate_symbols row.now.numbers ≤ equation_count row.now.numbers ids.now },
+    ghost fits: { equation_count row.now.numbers ids.now < 2 ^ 31 },
 }
 
 impl Listed<'_> {
     // Over one kind of matrix: first without the HDPC equations, which are not needed where enough
     // symbols were received, and cost the most.
     fn find_over<T: BinaryMatrix>(&self) -> Result<BlockOutcome, Error>
-        ensures found { IfOk result (λ outcome. FindsListed self.now.row.now self.now.ids.now (found_operations outcome)) }
-        ensures spares { IfOk result (λ outcome. SparesHdpc self.now.row.now self.now.ids.now (found_operations outcome)) }
-        ensures shown { IfOk result (λ outcome. IfSome (shown_column outcome) (IsHomogeneousFor self.now.row.now self.now.ids.now)) }
+        ensures outcome { IfOk result (IsBlockOutcome self.now.row.now.numbers self.now.ids.now) }
+        ensures spares { IfOk result (λ outcome. SparesHdpc self.now.row.now.numbers self.now.ids.now (found_operations outcome)) }
         ensures memory { IfErr result (λ e. e ≡ Error.OutOfMemory) }
     {
         if let Some(solution) = self.find_without_hdpc::<T>()? {
@@ -121,13 +116,13 @@ impl Listed<'_> {
     // By the LDPC equations and those of the ids alone, where they are as many as the intermediate
     // symbols. `None` says nothing of all equations.
     fn find_without_hdpc<T: BinaryMatrix>(&self) -> Result<Option<BlockOperations>, Error>
-        ensures found { IfOk result (λ answer. IfSome answer (FindsFrom self.now.row.now self.now.ids.now)) }
-        ensures alone { IfOk result (FindsWithoutHdpc self.now.row.now self.now.ids.now) }
+        ensures found { IfOk result (λ answer. IfSome answer (FindsFrom self.now.row.now.numbers self.now.ids.now)) }
+        ensures alone { IfOk result (FindsWithoutHdpc self.now.row.now.numbers self.now.ids.now) }
         ensures memory { IfErr result (λ e. e ≡ Error.OutOfMemory) }
     {
-        let precode_rows = self.row.ldpc_symbols as usize;
+        let precode_rows = self.row.ldpc_symbols();
         let count = precode_rows + self.ids.len();
-        if count < self.row.intermediate_symbols() as usize {
+        if count < self.row.intermediate_symbols() {
             return Ok(None);
         }
         let matrix = generate_constraint_matrix_no_hdpc_of_row::<T>(
@@ -136,7 +131,10 @@ impl Listed<'_> {
         // The operations are the same whatever the symbols.
         let values = SymbolSlab::with_zeros(self.alloc, count, 0)?;
         let solver = IntermediateSymbolDecoder::of_row_no_hdpc(
-            self.alloc, self.row, matrix, values,
+            self.alloc,
+            &self.row.numbers,
+            matrix,
+            values,
         );
         let Some(operations) = solver.into_operations()? else {
             return Ok(None);
@@ -149,16 +147,21 @@ impl Listed<'_> {
 
     // By all equations.
     fn find_with_hdpc<T: BinaryMatrix>(&self) -> Result<BlockOutcome, Error>
-        ensures found { IfOk result (λ outcome. FindsListed self.now.row.now self.now.ids.now (found_operations outcome)) }
-        ensures shown { IfOk result (λ outcome. IfSome (shown_column outcome) (IsHomogeneousFor self.now.row.now self.now.ids.now)) }
+        ensures outcome { IfOk result (IsBlockOutcome self.now.row.now.numbers self.now.ids.now) }
         ensures memory { IfErr result (λ e. e ≡ Error.OutOfMemory) }
     {
         let (matrix, hdpc) = generate_constraint_matrix_of_row::<T>(
             self.alloc, self.row, self.ids,
         )?;
-        let precode_rows = (self.row.ldpc_symbols + self.row.hdpc_symbols) as usize;
+        let precode_rows = self.row.precode_rows();
         let values = SymbolSlab::with_zeros(self.alloc, precode_rows + self.ids.len(), 0)?;
-        let solver = IntermediateSymbolDecoder::of_row(self.alloc, self.row, matrix, hdpc, values);
+        let solver = IntermediateSymbolDecoder::of_row(
+            self.alloc,
+            &self.row.numbers,
+            matrix,
+            hdpc,
+            values,
+        );
         match solver.solve()? {
             Solved::Operations(operations) => Ok(BlockOutcome::Operations(BlockOperations {
                 precode_rows,
@@ -174,16 +177,15 @@ impl Listed<'_> {
 /// ids. The matrix is sparse or dense as that of [`solve_block`].
 pub(crate) fn homogeneous(
     alloc: Global,
-    row: &TableRow,
+    row: &CheckedRow,
     ids: &[u32],
     sparse_threshold: u32,
 ) -> Result<Option<Vec<u8>>, Error>
-    requires checked { IsChecked row.now }
-    requires fits { equation_count row.now ids.now < 2 ^ 31 }
-    ensures shown { IfOk result (ShowsListed row.now ids.now) }
+    requires fits { equation_count row.now.numbers ids.now < 2 ^ 31 }
+    ensures shown { IfOk result (ShowsListed row.now.numbers ids.now) }
     ensures memory { IfErr result (λ e. e ≡ Error.OutOfMemory) }
 {
-    if row.extended_symbols >= sparse_threshold {
+    if row.numbers.extended_symbols >= sparse_threshold {
         null_vector_over::<SparseBinaryMatrix>(alloc, row, ids)
     } else {
         null_vector_over::<DenseBinaryMatrix>(alloc, row, ids)
@@ -193,15 +195,13 @@ pub(crate) fn homogeneous(
 // Over one kind of matrix.
 fn null_vector_over<T: BinaryMatrix>(
     alloc: Global,
-    row: &TableRow,
+    row: &CheckedRow,
     ids: &[u32],
 ) -> Result<Option<Vec<u8>>, Error>
-    requires checked { IsChecked row.now }
-    requires fits { equation_count row.now ids.now < 2 ^ 31 }
-    ensures shown { IfOk result (ShowsListed row.now ids.now) }
+    requires fits { equation_count row.now.numbers ids.now < 2 ^ 31 }
+    ensures shown { IfOk result (ShowsListed row.now.numbers ids.now) }
     ensures memory { IfErr result (λ e. e ≡ Error.OutOfMemory) }
 {
     let (matrix, hdpc) = generate_constraint_matrix_of_row::<T>(alloc, row, ids)?;
-    let lt_columns = row.lt_symbols as usize;
-    null_vector(alloc, &matrix, lt_columns, &hdpc, row.ldpc_symbols as usize)
+    null_vector(alloc, &matrix, row.lt_symbols(), &hdpc, row.ldpc_symbols())
 }

@@ -3,6 +3,7 @@
 mod hashes;
 mod maps;
 mod matrices;
+mod missing;
 mod octets;
 mod packets;
 mod parameters;

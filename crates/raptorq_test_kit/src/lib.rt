@@ -1,4 +1,5 @@
-//! What several crates of tests need: configurations, packets, pseudorandom objects, digests, and a rank count.
+//! What several crates of tests need: configurations, packets, pseudorandom objects, digests, and a
+//! rank count.
 #![tactic(auto)]
 
 pub mod answers;

@@ -1,51 +1,49 @@
 //! The decoder of one source block.
-ghost use Rattle.std.specs.Prelude.{◌≡◌, ◌≢◌, ℕ, ◌^◌, ◌<◌, ◌≤◌, true, [], ◌++◌, All, length, Ok, Some, None, IfSome, IfOk, IfErr, IsTrue, OnOk, OnErr, IsSome, if◌then◌else◌, ◌==◌, option_map, unwrap_or, vec_items};
+ghost use Rattle.std.specs.Prelude.{◌≡◌, ℕ, ◌^◌, ◌<◌, ◌≤◌, true, All, length, Ok, Some, None, IfSome, IfOk, IfErr, OnOk, OnErr, ◌==◌, option_map, vec_items};
 ghost use Rattle.std.specs.Option.{ForSome};
 ghost use Rattle.rq_bytes.specs.Refusals.{IsAnswer};
 ghost use Rattle.rq_standard.specs.Configuration.{IsAligned};
 ghost use Rattle.rq_standard.specs.ReceivedBlock.{CanAnswer, IsContradictory};
-ghost use Rattle.rq_standard.specs.Received.{or_later};
 ghost use Rattle.rq_standard.specs.TableRows.{IsChecked};
-ghost use Rattle.raptorq.specs.Known.{ShowsBlockOpen};
+ghost use Rattle.raptorq.specs.Known.{IsHomogeneousOf};
 ghost use Rattle.raptorq.specs.Missing.{received_block, payload_of, has_payload, missing_count};
 ghost use Rattle.raptorq.specs.declared.decoder.last_outcome.LastOutcome.TheVariants.{Undetermined, Contradictory};
 
-use crate::decoder::columns::{octet_symbols, solves_id};
-use crate::decoder::fitting::solves_all;
-use crate::decoder::known::{known_symbol_ids, known_symbol_values};
+use crate::decoder::columns::{column_solves, octet_symbols};
+use crate::decoder::known::known_symbol_ids;
 use crate::decoder::last_outcome::LastOutcome;
 use crate::decoder::packet_stop::PacketStop;
 use crate::decoder::payloads::{join, keep_first};
 use crate::enc::encoding_symbol;
 use crate::encoder::SPARSE_MATRIX_THRESHOLD;
-use crate::ids::internal_symbol_id;
-use crate::solving::{BlockOperations, BlockOutcome, homogeneous, solve_or_show};
+use crate::solving::homogeneous;
 use crate::sub_blocks::{check_symbols, into_sub_blocks, size_at};
 use rq_base::base::{EncodingPacket, ObjectTransmissionInformation};
 use rq_bytes::error::Error;
 use rq_bytes::octets;
-use rq_bytes::symbol_slab::SymbolSlab;
-use rq_standard::row::TableRow;
-use rq_tables::systematic_constants::SystematicTable;
+use rq_tables::systematic_constants::{CheckedRow, SystematicTable};
 use std::alloc::{AllocError, Global};
 use std::collections::BTreeMap;
 
-/// Puts the symbols of one source block together again. While what was received doesn't determine the block it
-/// keeps an octet for each intermediate symbol, so that packets that decide nothing aren't solved for.
+mod solved;
+
+/// Puts the symbols of one source block together again. Once solving has failed it keeps an octet for
+/// each intermediate symbol, which show that what was received doesn't determine the block, so that
+/// packets that decide nothing aren't solved for.
 #[derive(Drop)]
 #[derive_where(Debug, PartialEq, Eq)]
 pub struct SourceBlockDecoder {
     config: ObjectTransmissionInformation,
     number: u8,
-    row: TableRow,
+    row: CheckedRow,
     source_symbols: u32,
     received: BTreeMap<u32, Vec<u8>>,
     missing: u32,
     sparse_threshold: u32,
     #[derive_where(skip)]
     last_outcome: LastOutcome,
-    // Shows that what was received doesn't determine the block, so that a packet whose equation it solves too
-    // isn't solved for. `None` says nothing.
+    // Shows that what was received doesn't determine the block, so that a packet whose equation it
+    // solves too isn't solved for. `None` says nothing.
     #[derive_where(skip)]
     column: Option<Vec<u8>>,
     alloc: Global,
@@ -53,26 +51,26 @@ pub struct SourceBlockDecoder {
     pub ghost bytes: { (e : ℕ) → ForSome (payload_of received e) (All (λ octet. octet < 256)) },
     pub ghost positive: { 0 < config.symbol_size },
     pub ghost aligned: { IsAligned config },
-    pub ghost checked: { IsChecked row },
-    pub ghost fits: { source_symbols ≤ row.extended_symbols },
+    pub ghost fits: { source_symbols ≤ row.numbers.extended_symbols },
     pub ghost few: { (e : ℕ) → has_payload received e ≡ true → e < 2 ^ 24 },
     pub ghost counted: { missing ≡ missing_count source_symbols (has_payload received) },
-    pub ghost waits: { last_outcome ≡ Undetermined → ¬ CanAnswer (received_block config number row source_symbols received) },
-    pub ghost shown: { ForSome column (ShowsBlockOpen row source_symbols (has_payload received)) },
-    pub ghost contradicted: { last_outcome ≡ Contradictory → IsContradictory (received_block config number row source_symbols received) },
+    pub ghost waits: { last_outcome ≡ Undetermined → ¬ CanAnswer (received_block config number row.numbers source_symbols received) },
+    pub ghost shown: { ForSome column (IsHomogeneousOf row.numbers source_symbols (has_payload received)) },
+    pub ghost contradicted: { last_outcome ≡ Contradictory → IsContradictory (received_block config number row.numbers source_symbols received) },
 }
 
 impl SourceBlockDecoder {
     ghost use Rattle.std.specs.Int.{div_ceil};
     ghost use Rattle.raptorq.specs.Difference.{octets_of_column};
-    ghost use Rattle.rq_standard.specs.ReceivedBlock.{has_received, with_received, ShowsUndetermined, IsBlockWith, IsBlockAnswer};
+    ghost use Rattle.rq_standard.specs.ReceivedBlock.{has_received, nothing_received, with_received, ShowsUndetermined, IsBlockWith, IsBlockAnswer};
     ghost use Rattle.rq_standard.specs.Received.{HasSourceSymbols};
+    ghost use Rattle.rq_standard.specs.Standing.{emptied};
     ghost use Rattle.rq_standard.specs.TableRows.{greatest_size, intermediate_symbols};
-    ghost use Rattle.raptorq.specs.Known.{FindsFromKnown, FindsKnown, SolvesBlock, SolvesEsi, IsReceivedSolution, HasLostSymbols};
     ghost use Rattle.raptorq.specs.Refused.{checked_block, block_refusal};
     ghost use Rattle.raptorq.specs.SourceBlockDecoder.{received_of, empty_block};
     ghost use Rattle.raptorq.specs.Decoding.{DecodesFrom, DecodesFromUntil, IsUnanswered, answer_bytes};
     ghost use Rattle.raptorq.specs.Stopping.{StopsPacket, StopsAnswer};
+    ghost use Rattle.raptorq.specs.MissingPackets.{NeedsMore, TellsMissing};
     ghost use Rattle.std.specs.Iterator.{IsFinite};
 
     /// The decoder of the source block with this number, of this length in bytes, that holds
@@ -116,10 +114,27 @@ impl SourceBlockDecoder {
         ensures checked { IsChecked (received_of result).row }
         ensures fits { (received_of result).source_symbols ≤ (received_of result).row.extended_symbols }
     {
+        let row = table.checked_row(source_symbols);
+        SourceBlockDecoder::of_row(alloc, row, number, config, source_symbols)
+    }
+
+    // The decoder of a block over its row of the table.
+    fn of_row(
+        alloc: Global,
+        row: CheckedRow,
+        number: u8,
+        config: &ObjectTransmissionInformation,
+        source_symbols: u32,
+    ) -> SourceBlockDecoder
+        requires positive { 0 < config.now.symbol_size }
+        requires aligned { IsAligned config.now }
+        requires fits { source_symbols ≤ row.numbers.extended_symbols }
+        ensures { received_of result ≡ nothing_received config.now number row.numbers source_symbols }
+    {
         SourceBlockDecoder {
             config: *config,
             number,
-            row: table.row(source_symbols),
+            row,
             source_symbols,
             received: BTreeMap::new(alloc),
             missing: source_symbols,
@@ -132,9 +147,9 @@ impl SourceBlockDecoder {
 
     /// Sets the sparse threshold: from how many symbols of an extended source block (K') on the block
     /// is solved over a sparse matrix, and not over a dense one. It is
-    /// [`SPARSE_MATRIX_THRESHOLD`](crate::encoder::SPARSE_MATRIX_THRESHOLD) at first. What was received
-    /// stays. Whether there is an answer doesn't depend on it, nor what is answered of an object's
-    /// packets.
+    /// [`SPARSE_MATRIX_THRESHOLD`](crate::encoder::SPARSE_MATRIX_THRESHOLD) at first. What was
+    /// received stays. Whether there is an answer doesn't depend on it, nor what is answered of an
+    /// object's packets.
     pub fn set_sparse_threshold(&mut self, value: u32)
         ensures { received_of self.new ≡ received_of self.old }
     {
@@ -149,16 +164,16 @@ impl SourceBlockDecoder {
         usize::from(self.config.symbol_size())
     }
 
-    /// Takes packets until one is refused, and answers the block where all its source symbols were received or
-    /// what was received determines it.
+    /// Takes packets until one is refused, and answers the block where all its source symbols were
+    /// received or what was received determines it.
     ///
     /// Refuses, in this order, [`Error::UnknownBlock`] where a packet is of another block, and
     /// [`Error::WrongPayloadSize`] where its payload hasn't the size of a symbol. The packets
     /// before it stay recorded, and the rest isn't taken. The first payload of an encoding symbol
     /// id is kept.
     ///
-    /// Refuses [`Error::Contradiction`] where what was received determines the block and no block fits all
-    /// of it. The packets stay recorded, and each later call is refused so too.
+    /// Refuses [`Error::Contradiction`] where what was received determines the block and no block fits
+    /// all of it. The packets stay recorded, and each later call is refused so too.
     pub fn decode<I: IntoIterator<Item = EncodingPacket>>(
         &mut self,
         packets: I,
@@ -185,15 +200,34 @@ impl SourceBlockDecoder {
     }
 
     /// An octet for each intermediate symbol, not all of them zero, that together solve the block's
-    /// equations with all values zero: those of LDPC and HDPC, of the padding, and of what was received
-    /// (RFC 6330, section 5.4.2). `None` exactly where what was received determines the block. The Rust
-    /// crate has no such call.
+    /// equations with all values zero: those of LDPC and HDPC, of the padding, and of what was
+    /// received (RFC 6330, section 5.4.2). `None` exactly where what was received determines the
+    /// block. The Rust crate has no such call.
     pub fn homogeneous(&self) -> Result<Option<Vec<u8>>, Error>
         ensures shown { IfOk result (λ answer. ShowsUndetermined (received_of self.now) (option_map vec_items answer)) }
         ensures memory { IfErr result (λ e. e ≡ Error.OutOfMemory) }
     {
         let ids = known_symbol_ids(self.alloc, &self.row, self.source_symbols, &self.received)?;
         homogeneous(self.alloc, &self.row, ids.as_slice(), self.sparse_threshold)
+    }
+
+    /// How many packets more the block needs at least, of ids that weren't received yet: with fewer it
+    /// isn't answered, whichever they are. That is the number of its source symbols (K), less that of
+    /// the ids that were received, and 1 where these are K or more and were found not to determine the
+    /// block. It is 0 where the block is answered, or where the next call of
+    /// [`SourceBlockDecoder::decode`] tries it again, as after a refusal. `None` where what was received
+    /// is contradictory. The Rust crate has no such call.
+    pub fn missing_packets(&self) -> Option<u32>
+        ensures told { TellsMissing (received_of self.now) result }
+        ensures needed { IfSome result (NeedsMore (received_of self.now)) }
+    {
+        let source_symbols = self.source_symbols as usize;
+        let missing = source_symbols.saturating_sub(self.received.len()) as u32;
+        match self.last_outcome {
+            LastOutcome::Untried => Some(missing),
+            LastOutcome::Undetermined => Some(missing.max(1)),
+            LastOutcome::Contradictory => None,
+        }
     }
 
     // Tests a packet and records it.
@@ -224,13 +258,13 @@ impl SourceBlockDecoder {
         let is_source = esi < self.source_symbols;
         // For the proof: the payload's bytes are octets.
         octets::are_octets(payload.as_slice());
-        let still_shown = self.column_solves(esi);
         let Ok(kept) = keep_first(&mut self.received, esi, payload) else {
             return Err(PacketStop::NotRecorded);
         };
         if kept {
             self.missing -= u32::from(is_source);
             self.last_outcome = self.last_outcome.after_new_payload();
+            let still_shown = column_solves(&self.row, self.source_symbols, &self.column, esi);
             if !still_shown {
                 self.column = None;
             }
@@ -238,24 +272,24 @@ impl SourceBlockDecoder {
         Ok(())
     }
 
-    // Whether the column solves the equation of an encoding symbol id too. Where there is none, it is
-    // said to do so.
-    fn column_solves(&self, esi: u32) -> bool
-        requires { esi < 2 ^ 24 }
-        ensures { IsTrue result → ForSome self.now.column (λ octets. SolvesEsi self.now.row self.now.source_symbols esi octets.items) }
+    /// Lets what was received go, once the block is answered.
+    pub(crate) fn forget(&mut self)
+        ensures { received_of self.new ≡ emptied (received_of self.old) }
     {
-        match &self.column {
-            Some(octets) => {
-                let id = internal_symbol_id(&self.row, self.source_symbols, esi);
-                solves_id(&self.row, octets.as_slice(), id)
-            }
-            None => true,
-        }
+        let sparse_threshold = self.sparse_threshold;
+        *self = SourceBlockDecoder::of_row(
+            self.alloc,
+            self.row,
+            self.number,
+            &self.config,
+            self.source_symbols,
+        );
+        self.sparse_threshold = sparse_threshold;
     }
 
-    /// The block, where all its source symbols were received or what was received determines it. What is recorded
-    /// stays as it is. What was found to be contradictory, or not to determine the block, isn't
-    /// solved again.
+    /// The block, where all its source symbols were received or what was received determines it. What
+    /// is recorded stays as it is. What was found to be contradictory, or not to determine the block,
+    /// isn't solved again.
     pub(crate) fn answer(&mut self) -> Result<Option<Vec<u8>>, PacketStop>
         ensures block { IfOk result (λ r. IsBlockAnswer (received_of self.old) (option_map vec_items r)) }
         ensures same { received_of self.new ≡ received_of self.old }
@@ -267,10 +301,7 @@ impl SourceBlockDecoder {
             LastOutcome::Untried => {}
         }
         match self.find_answer() {
-            Ok(Some(block)) => {
-                self.column = None;
-                Ok(Some(block))
-            }
+            Ok(Some(block)) => Ok(Some(block)),
             Ok(None) => {
                 self.last_outcome = LastOutcome::Undetermined;
                 Ok(None)
@@ -283,8 +314,8 @@ impl SourceBlockDecoder {
         }
     }
 
-    // The block, where all its source symbols were received or what was received determines it: solved whatever was
-    // found before. Source symbols alone can't be contradictory.
+    // The block, where all its source symbols were received or what was received determines it: solved
+    // whatever was found before. Source symbols alone can't be contradictory.
     fn find_answer(&mut self) -> Result<Option<Vec<u8>>, Error>
         ensures block { IfOk result (λ r. IsBlockAnswer (received_of self.old) (option_map vec_items r)) }
         ensures same { received_of self.new ≡ received_of self.old }
@@ -346,119 +377,6 @@ impl SourceBlockDecoder {
             block[e as usize * width] = octet[0];
         }
         Ok(block)
-    }
-
-    // The intermediate symbols, where what was received determines them.
-    fn solve(&mut self) -> Result<Option<SymbolSlab>, Error>
-        ensures solved { IfOk result (λ r. SolvesBlock (received_of self.old) r) }
-        ensures same { received_of self.new ≡ received_of self.old }
-        ensures unanswered { IfErr result (IsUnanswered (received_of self.old)) }
-    {
-        let Some(solution) = self.find_operations()? else {
-            return Ok(None);
-        };
-        Ok(Some(self.replay(solution)?))
-    }
-
-    // The operations that make the intermediate symbols, where what was received determines them. Where a
-    // column shows that it doesn't, nothing is solved. Where solving finds one, it is kept.
-    fn find_operations(&mut self) -> Result<Option<BlockOperations>, Error>
-        ensures found { IfOk result (FindsKnown (received_of self.old) self.old.received) }
-        ensures received { self.new.received ≡ self.old.received }
-        ensures same { received_of self.new ≡ received_of self.old }
-        ensures memory { IfErr result (λ e. e ≡ Error.OutOfMemory) }
-    {
-        let row = &self.row;
-        if self.received.len() < self.source_symbols as usize {
-            return Ok(None);
-        }
-        if self.column.is_some() {
-            return Ok(None);
-        }
-        let ids = known_symbol_ids(self.alloc, row, self.source_symbols, &self.received)?;
-        match solve_or_show(self.alloc, row, ids.as_slice(), self.sparse_threshold)? {
-            BlockOutcome::Operations(solution) => Ok(Some(solution)),
-            BlockOutcome::Undetermined(column) => {
-                self.column = column;
-                Ok(None)
-            }
-        }
-    }
-
-    // The intermediate symbols that operations make of what was received.
-    fn replay(&self, solution: BlockOperations) -> Result<SymbolSlab, Error>
-        requires { FindsFromKnown (received_of self.now) self.now.received solution }
-        ensures solved { IfOk result (IsReceivedSolution (received_of self.now)) }
-        ensures unanswered { IfErr result (IsUnanswered (received_of self.now)) }
-    {
-        let row = &self.row;
-        // For the proof: the contract of `len` says that what was received is in the order of its ids.
-        let _count = self.received.len();
-        let padding = (row.extended_symbols - self.source_symbols) as usize;
-        let mut values = known_symbol_values(
-            self.alloc,
-            solution.precode_rows + padding,
-            self.source_symbols,
-            self.symbol_size(),
-            &self.received,
-        )?;
-        // For the proof: the contract of `len` says that the values have one size.
-        let _symbols = values.len();
-        solution.operations.replay(&mut values)?;
-        if solves_all(self.alloc, row, &solution, &values)? {
-            Ok(values)
-        } else {
-            Err(Error::Contradiction)
-        }
-    }
-
-    // The block, from the source symbols that were received and the intermediate symbols. These are let go
-    // before there is a block: beside it stand what was received and the lost symbols alone.
-    fn rebuild(&self, intermediate: SymbolSlab) -> Result<Vec<u8>, AllocError>
-        requires { IsReceivedSolution (received_of self.now) intermediate }
-        ensures { IfOk result (λ block. IsBlockWith (received_of self.now) block.items) }
-    {
-        let lost = self.lost_symbols(intermediate)?;
-        let whole = self.source_symbols as usize * self.symbol_size();
-        let mut symbol_bytes = Vec::with_capacity(self.alloc, whole)?;
-        for e in 0..self.source_symbols {
-            self.push_symbol(&lost, e, &mut symbol_bytes)?;
-        }
-        into_sub_blocks(self.alloc, &self.config, self.source_symbols, symbol_bytes)
-    }
-
-    // The source symbols that didn't come, as sums of intermediate symbols.
-    fn lost_symbols(&self, intermediate: SymbolSlab) -> Result<BTreeMap<u32, Vec<u8>>, AllocError>
-        requires { IsReceivedSolution (received_of self.now) intermediate }
-        ensures { IfOk result (HasLostSymbols (received_of self.now) intermediate) }
-    {
-        let mut lost = BTreeMap::new(self.alloc);
-        for e in 0..self.source_symbols {
-            if !self.received.contains_key(&e) {
-                let symbol = encoding_symbol(self.alloc, &self.row, &intermediate, e)?;
-                let _new = keep_first(&mut lost, e, symbol)?;
-            }
-        }
-        Ok(lost)
-    }
-
-    // A source symbol behind those before it: the one that was received, or that among the lost ones.
-    fn push_symbol(
-        &self,
-        lost: &BTreeMap<u32, Vec<u8>>,
-        e: u32,
-        bytes: &mut Vec<u8>,
-    ) -> Result<(), AllocError>
-        requires { IsSome (or_later ((received_of self.now).received e) (payload_of lost.now e)) }
-        ensures { OnOk result (bytes.new.items ≡ bytes.old.items ++ unwrap_or (or_later ((received_of self.now).received e) (payload_of lost.now e)) []) }
-    {
-        if let Some(symbol) = self.received.get(&e) {
-            return bytes.extend_from_slice(symbol.as_slice());
-        }
-        let Some(symbol) = lost.get(&e) else {
-            unreachable!()
-        };
-        bytes.extend_from_slice(symbol.as_slice())
     }
 }
 

@@ -1,24 +1,48 @@
 //! Columns of octets that show that a block isn't determined.
-ghost use Rattle.std.specs.Prelude.{◌≡◌, [], ◌∷◌, length, map, IsTrue, IfOk, IfErr};
+ghost use Rattle.std.specs.Prelude.{◌≡◌, ◌↔◌, ◌^◌, ◌<◌, ◌≤◌, [], ◌∷◌, length, map, IsTrue, IfOk, IfErr};
+ghost use Rattle.std.specs.Option.{ForSome};
 ghost use Rattle.rq_algebra.specs.Systems.{at, dot};
 ghost use Rattle.rq_bytes.specs.SymbolSlab.{slab_of};
 ghost use Rattle.rq_standard.specs.Equations.{symbol_coefficient};
 ghost use Rattle.rq_standard.specs.OctetField.{octets};
-ghost use Rattle.rq_standard.specs.TableRows.{IsChecked, intermediate_symbols};
+ghost use Rattle.rq_standard.specs.TableRows.{intermediate_symbols};
+ghost use Rattle.raptorq.specs.Known.{SolvesEsi};
 
+use crate::ids::internal_symbol_id;
 use rq_base::indices::Indices;
 use rq_bytes::error::Error;
 use rq_bytes::octets;
 use rq_bytes::symbol_slab::SymbolSlab;
-use rq_standard::row::TableRow;
+use rq_tables::systematic_constants::CheckedRow;
 use std::alloc::Global;
 
-/// Whether a column solves the equation of an internal symbol id with zero as its value: its octets at
-/// the indices of the id add up to zero.
-pub(crate) fn solves_id(row: &TableRow, column: &[u8], internal_symbol_id: u32) -> bool
-    requires checked { IsChecked row.now }
-    requires count { length column.now ≡ intermediate_symbols row.now }
-    ensures { IsTrue result → dot octets (intermediate_symbols row.now) (symbol_coefficient row.now internal_symbol_id) (at column.now) ≡ 0 }
+/// Whether a column solves the equation of an encoding symbol id with zero as its value. Where there
+/// is no column, it is said to do so.
+pub(crate) fn column_solves(
+    row: &CheckedRow,
+    source_symbols: u32,
+    column: &Option<Vec<u8>>,
+    esi: u32,
+) -> bool
+    requires fits { source_symbols ≤ row.now.numbers.extended_symbols }
+    requires count { ForSome column.now (λ octets. length octets.items ≡ intermediate_symbols row.now.numbers) }
+    requires few { esi < 2 ^ 24 }
+    ensures { IsTrue result ↔ ForSome column.now (λ octets. SolvesEsi row.now.numbers source_symbols esi octets.items) }
+{
+    match column {
+        Some(octets) => {
+            let id = internal_symbol_id(row, source_symbols, esi);
+            solves_id(row, octets.as_slice(), id)
+        }
+        None => true,
+    }
+}
+
+// Whether a column solves the equation of an internal symbol id with zero as its value: its octets
+// at the indices of the id add up to zero.
+fn solves_id(row: &CheckedRow, column: &[u8], internal_symbol_id: u32) -> bool
+    requires count { length column.now ≡ intermediate_symbols row.now.numbers }
+    ensures { IsTrue result ↔ dot octets (intermediate_symbols row.now.numbers) (symbol_coefficient row.now.numbers internal_symbol_id) (at column.now) ≡ 0 }
 {
     // For the proof: the octets are elements of the field.
     octets::are_octets(column);

@@ -4,7 +4,7 @@ ghost use Rattle.rq_algebra.specs.Symbols.{IsSymbolColumn};
 ghost use Rattle.rq_bytes.specs.SymbolSlab.{symbol_in, symbols_in};
 ghost use Rattle.rq_standard.specs.Equations.{before_hdpc};
 ghost use Rattle.rq_standard.specs.OctetField.{octets};
-ghost use Rattle.rq_standard.specs.TableRows.{IsChecked, intermediate_symbols};
+ghost use Rattle.rq_standard.specs.TableRows.{intermediate_symbols};
 ghost use Rattle.raptorq.specs.BlockSolutions.{SolvesHdpc, Fits};
 ghost use Rattle.raptorq.specs.HdpcSums.{AreHdpcSums, AreZeroWithLast};
 
@@ -15,7 +15,7 @@ use rq_bytes::factor::double_and_add;
 use rq_bytes::octet::Octet;
 use rq_bytes::octets;
 use rq_bytes::symbol_slab::SymbolSlab;
-use rq_standard::row::TableRow;
+use rq_tables::systematic_constants::CheckedRow;
 use std::alloc::Global;
 
 /// Whether the intermediate symbols that the operations of a solution left in `values` solve all
@@ -23,21 +23,19 @@ use std::alloc::Global;
 /// zero, which are tested where they weren't among those that were solved.
 pub(crate) fn solves_all(
     alloc: Global,
-    row: &TableRow,
+    row: &CheckedRow,
     solution: &BlockOperations,
     values: &SymbolSlab,
 ) -> Result<bool, Error>
-    requires checked { IsChecked row.now }
-    requires enough { intermediate_symbols row.now ≤ length (symbols_in values.now) }
-    requires symbols { IsSymbolColumn octets values.now.symbol_size (intermediate_symbols row.now) (symbol_in values.now) }
-    ensures fits { IfOk result (λ fits. IsTrue fits ↔ Fits row.now solution.now.precode_rows values.now) }
+    requires enough { intermediate_symbols row.now.numbers ≤ length (symbols_in values.now) }
+    requires symbols { IsSymbolColumn octets values.now.symbol_size (intermediate_symbols row.now.numbers) (symbol_in values.now) }
+    ensures fits { IfOk result (λ fits. IsTrue fits ↔ Fits row.now.numbers solution.now.precode_rows values.now) }
     ensures memory { IfErr result (λ e. e ≡ Error.OutOfMemory) }
 {
     if !values.is_zero_unread()? {
         return Ok(false);
     }
-    let precode_rows = (row.ldpc_symbols + row.hdpc_symbols) as usize;
-    if solution.precode_rows >= precode_rows {
+    if solution.precode_rows >= row.precode_rows() {
         return Ok(true);
     }
     solves_hdpc(alloc, row, values)
@@ -46,31 +44,33 @@ pub(crate) fn solves_all(
 // Whether each HDPC equation has the sum zero. A column of their coefficients is alpha times the next
 // one, and one more in the two rows where MT's own column has a one. So by Horner's rule no
 // coefficient is made, and a symbol costs a few passes, however many equations there are.
-fn solves_hdpc(alloc: Global, row: &TableRow, intermediate: &SymbolSlab) -> Result<bool, Error>
-    requires checked { IsChecked row.now }
-    requires enough { intermediate_symbols row.now ≤ length (symbols_in intermediate.now) }
-    requires symbols { IsSymbolColumn octets intermediate.now.symbol_size (intermediate_symbols row.now) (symbol_in intermediate.now) }
-    ensures solves { IfOk result (λ solves. IsTrue solves ↔ SolvesHdpc row.now intermediate.now.symbol_size (symbol_in intermediate.now)) }
+fn solves_hdpc(alloc: Global, row: &CheckedRow, intermediate: &SymbolSlab) -> Result<bool, Error>
+    requires enough { intermediate_symbols row.now.numbers ≤ length (symbols_in intermediate.now) }
+    requires symbols { IsSymbolColumn octets intermediate.now.symbol_size (intermediate_symbols row.now.numbers) (symbol_in intermediate.now) }
+    ensures solves { IfOk result (λ solves. IsTrue solves ↔ SolvesHdpc row.now.numbers intermediate.now.symbol_size (symbol_in intermediate.now)) }
     ensures memory { IfErr result (λ e. e ≡ Error.OutOfMemory) }
 {
-    let last = (row.extended_symbols + row.ldpc_symbols) as usize - 1;
+    let last = row.before_hdpc() - 1;
     let mut sums = first_sums(alloc, row, intermediate)?;
     for column in 0..last {
         add_column(&mut sums, row, intermediate, column);
     }
-    Ok(are_zero_with_last(&mut sums, row.hdpc_symbols as usize))
+    Ok(are_zero_with_last(&mut sums, row.hdpc_symbols()))
 }
 
 // The HDPC symbols, with which the sums of their equations begin, and behind them symbol 0.
-fn first_sums(alloc: Global, row: &TableRow, intermediate: &SymbolSlab) -> Result<SymbolSlab, Error>
-    requires checked { IsChecked row.now }
-    requires enough { intermediate_symbols row.now ≤ length (symbols_in intermediate.now) }
-    requires symbols { IsSymbolColumn octets intermediate.now.symbol_size (intermediate_symbols row.now) (symbol_in intermediate.now) }
-    ensures sums { IfOk result (AreHdpcSums row.now (symbol_in intermediate.now) intermediate.now.symbol_size 0) }
+fn first_sums(
+    alloc: Global,
+    row: &CheckedRow,
+    intermediate: &SymbolSlab,
+) -> Result<SymbolSlab, Error>
+    requires enough { intermediate_symbols row.now.numbers ≤ length (symbols_in intermediate.now) }
+    requires symbols { IsSymbolColumn octets intermediate.now.symbol_size (intermediate_symbols row.now.numbers) (symbol_in intermediate.now) }
+    ensures sums { IfOk result (AreHdpcSums row.now.numbers (symbol_in intermediate.now) intermediate.now.symbol_size 0) }
     ensures memory { IfErr result (λ e. e ≡ Error.OutOfMemory) }
 {
-    let start = (row.extended_symbols + row.ldpc_symbols) as usize;
-    let end = row.intermediate_symbols() as usize;
+    let start = row.before_hdpc();
+    let end = row.intermediate_symbols();
     let mut places: Vec<usize> = (start..end).collect(alloc)?;
     places.push(0)?;
     intermediate.gather(places.as_slice())
@@ -78,15 +78,14 @@ fn first_sums(alloc: Global, row: &TableRow, intermediate: &SymbolSlab) -> Resul
 
 // Adds the last symbol to the sums of the two rows where a column of MT has a one. The last symbol
 // is then multiplied by alpha, which is 2, and the symbol of the next column is added to it.
-fn add_column(sums: &mut SymbolSlab, row: &TableRow, intermediate: &SymbolSlab, column: usize)
-    requires checked { IsChecked row.now }
-    requires enough { intermediate_symbols row.now ≤ length (symbols_in intermediate.now) }
-    requires symbols { IsSymbolColumn octets intermediate.now.symbol_size (intermediate_symbols row.now) (symbol_in intermediate.now) }
-    requires column { column + 1 < before_hdpc row.now }
-    requires sums { AreHdpcSums row.now (symbol_in intermediate.now) intermediate.now.symbol_size column sums.old }
-    ensures { AreHdpcSums row.now (symbol_in intermediate.now) intermediate.now.symbol_size (column + 1) sums.new }
+fn add_column(sums: &mut SymbolSlab, row: &CheckedRow, intermediate: &SymbolSlab, column: usize)
+    requires enough { intermediate_symbols row.now.numbers ≤ length (symbols_in intermediate.now) }
+    requires symbols { IsSymbolColumn octets intermediate.now.symbol_size (intermediate_symbols row.now.numbers) (symbol_in intermediate.now) }
+    requires column { column + 1 < before_hdpc row.now.numbers }
+    requires sums { AreHdpcSums row.now.numbers (symbol_in intermediate.now) intermediate.now.symbol_size column sums.old }
+    ensures { AreHdpcSums row.now.numbers (symbol_in intermediate.now) intermediate.now.symbol_size (column + 1) sums.new }
 {
-    let height = row.hdpc_symbols as usize;
+    let height = row.hdpc_symbols();
     let (first, second) = ones_of_mt(row, column);
     sums.add_assign(first, height);
     sums.add_assign(second, height);

@@ -5,32 +5,30 @@ ghost use Rattle.rq_bytes.specs.SymbolSlab.{slab_of};
 ghost use Rattle.rq_standard.specs.Headline.{known_ids};
 ghost use Rattle.rq_standard.specs.Equations.{equation_count};
 ghost use Rattle.rq_standard.specs.IdLists.{IsListOf};
-ghost use Rattle.rq_standard.specs.TableRows.{IsChecked};
 ghost use Rattle.raptorq.specs.Known.{known_list, values_after};
 ghost use Rattle.raptorq.specs.Missing.{payload_of, has_payload};
 
 use crate::ids::{internal_symbol_id, padding_ids};
 use rq_bytes::error::Error;
 use rq_bytes::symbol_slab::SymbolSlab;
-use rq_standard::row::TableRow;
+use rq_tables::systematic_constants::CheckedRow;
 use std::alloc::{AllocError, Global};
 use std::collections::BTreeMap;
 
 /// The internal symbol ids that are known: those of the padding, and then of what was received.
 pub(crate) fn known_symbol_ids(
     alloc: Global,
-    row: &TableRow,
+    row: &CheckedRow,
     source_symbols: u32,
     received: &BTreeMap<u32, Vec<u8>>,
 ) -> Result<Vec<u32>, AllocError>
-    requires checked { IsChecked row.now }
-    requires fits { source_symbols ≤ row.now.extended_symbols }
+    requires fits { source_symbols ≤ row.now.numbers.extended_symbols }
     requires few { (e : ℕ) → has_payload received.now e ≡ true → e < 2 ^ 24 }
-    ensures ids { IfOk result (λ ids. ids.items ≡ known_list row.now source_symbols received.now.entries) }
-    ensures listed { IfOk result (λ ids. IsListOf (known_ids row.now source_symbols (has_payload received.now)) ids.items) }
-    ensures few { IfOk result (λ ids. equation_count row.now ids.items < 2 ^ 31) }
+    ensures ids { IfOk result (λ ids. ids.items ≡ known_list row.now.numbers source_symbols received.now.entries) }
+    ensures listed { IfOk result (λ ids. IsListOf (known_ids row.now.numbers source_symbols (has_payload received.now)) ids.items) }
+    ensures few { IfOk result (λ ids. equation_count row.now.numbers ids.items < 2 ^ 31) }
 {
-    let count = (row.extended_symbols - source_symbols) as usize + received.len();
+    let count = (row.numbers.extended_symbols - source_symbols) as usize + received.len();
     let mut ids = padding_ids(alloc, row, source_symbols, count)?;
     for esi in received.keys() {
         ids.push(internal_symbol_id(row, source_symbols, *esi))?;

@@ -10,8 +10,8 @@ pub(crate) enum LastOutcome {
 }
 
 impl LastOutcome {
-    /// What is still so once a payload of a new id was received: with it the payloads may determine the block,
-    /// but what is contradictory stays so.
+    /// What is still so once a payload of a new id was received: with it the payloads may determine
+    /// the block, but what is contradictory stays so.
     pub(crate) fn after_new_payload(self) -> LastOutcome
         ensures may_answer { result ≢ LastOutcome.Undetermined }
         ensures contradictory { result ≡ LastOutcome.Contradictory → self ≡ LastOutcome.Contradictory }

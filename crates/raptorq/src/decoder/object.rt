@@ -1,5 +1,5 @@
 //! The decoder of an object.
-ghost use Rattle.std.specs.Prelude.{◌≡◌, ◌↔◌, ℕ, ◌*◌, ◌<◌, [], Ok, Some, None, IfSome, IfOk, IfErr, OnOk, All, map, option_map, vec_items, is_some, IsSome};
+ghost use Rattle.std.specs.Prelude.{◌≡◌, ◌↔◌, ℕ, ◌*◌, ◌<◌, ◌≤◌, [], Ok, Some, None, IfSome, IfOk, IfErr, OnOk, OnErr, All, map, option_map, vec_items, is_some, IsSome};
 ghost use Rattle.std.specs.List.{range_with_len};
 ghost use Rattle.rq_bytes.specs.Refusals.{IsAnswer};
 ghost use Rattle.rq_standard.specs.Configuration.{IsAccepted, IsAligned, largest_block, total_symbols};
@@ -28,8 +28,9 @@ struct ObjectBlock {
 impl ObjectBlock {
     ghost use Rattle.raptorq.specs.Difference.{ShowsUnanswered};
     ghost use Rattle.rq_standard.specs.Standing.{IsReceivedOf, new_received, new_answer};
-    ghost use Rattle.raptorq.specs.Stopping.{AddsInBlockOrStops};
+    ghost use Rattle.raptorq.specs.Stopping.{AddsHereOrStops};
     ghost use Rattle.raptorq.specs.Decoder.{answer_of};
+    ghost use Rattle.raptorq.specs.MissingPackets.{NeedsMore, TellsMissingOf};
     ghost use Rattle.raptorq.specs.Refused.{block_refusal};
 
     // A block that has no packets. It is answered where it has no symbols.
@@ -57,10 +58,10 @@ impl ObjectBlock {
     }
 
     // Takes a packet of the block, and answers the block where that is determined. An answered
-    // block takes nothing more.
+    // block takes nothing more, and keeps nothing but its bytes.
     fn add_packet(&mut self, packet: EncodingPacket) -> Result<(), PacketStop>
         requires { block_refusal (received_of self.old.decoder) packet ≡ Ok tt }
-        ensures adds { AddsInBlockOrStops (received_of self.old.decoder) (answer_of self.old) packet result (received_of self.new.decoder) (answer_of self.new) }
+        ensures adds { AddsHereOrStops (received_of self.old.decoder) (answer_of self.old) packet result (received_of self.new.decoder) (answer_of self.new) }
         ensures number { (received_of self.new.decoder).number ≡ (received_of self.old.decoder).number }
         ensures configuration { (received_of self.new.decoder).configuration ≡ (received_of self.old.decoder).configuration }
         ensures symbols { (received_of self.new.decoder).source_symbols ≡ (received_of self.old.decoder).source_symbols }
@@ -70,7 +71,21 @@ impl ObjectBlock {
         }
         self.decoder.record(packet)?;
         self.answer = self.decoder.answer()?;
+        if self.answer.is_some() {
+            self.decoder.forget();
+        }
         Ok(())
+    }
+
+    // How many packets more the block needs at least.
+    fn missing_packets(&self) -> Option<u32>
+        ensures told { TellsMissingOf (received_of self.now.decoder) (answer_of self.now) result }
+        ensures needed { IfSome result (NeedsMore (received_of self.now.decoder)) }
+    {
+        if self.answer.is_some() {
+            return Some(0);
+        }
+        self.decoder.missing_packets()
     }
 
     // A column of octets that shows that the block isn't determined, where it has no answer.
@@ -119,6 +134,7 @@ impl Decoder {
     ghost use Rattle.raptorq.specs.Taking.{TakesPacket};
     ghost use Rattle.raptorq.specs.Decoding.{answer_bytes};
     ghost use Rattle.raptorq.specs.Stopping.{StopsAsTested, AddsOrStops, AddsAndJoinsOrStops};
+    ghost use Rattle.raptorq.specs.MissingPackets.{NeedsMore, TellsMissingOf};
     ghost use Rattle.raptorq.specs.Refused.{packet_refusal};
     ghost use Rattle.raptorq.specs.Decoder.{state_of};
 
@@ -174,13 +190,13 @@ impl Decoder {
         self.blocks[usize::from(number)].add_packet(packet)
     }
 
-    /// Takes a packet, and answers its block where all its source symbols were received or what was received determines
-    /// it.
+    /// Takes a packet, and answers its block where all its source symbols were received or what was
+    /// received determines it.
     ///
     /// Refuses, in this order, [`Error::UnknownBlock`] where the packet's block is none of the
     /// object's, and [`Error::WrongPayloadSize`] where its payload hasn't the size of a symbol.
-    /// Refuses [`Error::Contradiction`] where with the packet what was received of its block, which has no
-    /// answer yet, determines it and no block fits all of it: the packet is recorded, each later
+    /// Refuses [`Error::Contradiction`] where with the packet what was received of its block, which has
+    /// no answer yet, determines it and no block fits all of it: the packet is recorded, each later
     /// packet of the block is refused so too, and the object is never answered. Packets of one
     /// object never contradict each other.
     ///
@@ -268,6 +284,27 @@ impl Decoder {
         }
         bytes.truncate(self.config.transfer_length() as usize);
         Ok(Some(bytes))
+    }
+
+    /// How many packets more a source block needs at least, of ids that weren't received yet: with
+    /// fewer it isn't answered, whichever they are. That is the number of its source symbols (K), less
+    /// that of the ids that were received, and 1 where these are K or more and were found not to
+    /// determine the block. It is 0 where the block is answered, or where its next packet has it tried
+    /// again, as after want of memory. `None` where what was received of it is contradictory. The Rust
+    /// crate has no such call.
+    ///
+    /// Refuses [`Error::UnknownBlock`] where the block is none of the object's.
+    pub fn missing_packets(&self, source_block_number: u8) -> Result<Option<u32>, Error>
+        ensures known { OnOk result (source_block_number < (state_of self.now).configuration.source_blocks) }
+        ensures told { IfOk result (TellsMissingOf ((state_of self.now).received source_block_number) ((state_of self.now).answer source_block_number)) }
+        ensures needed { IfOk result (λ r. IfSome r (NeedsMore ((state_of self.now).received source_block_number))) }
+        ensures refused { IfErr result (λ e. e ≡ Error.UnknownBlock) }
+        ensures unknown { OnErr result ((state_of self.now).configuration.source_blocks ≤ source_block_number) }
+    {
+        if source_block_number >= self.config.source_blocks() {
+            return Err(Error::UnknownBlock);
+        }
+        Ok(self.blocks[usize::from(source_block_number)].missing_packets())
     }
 
     // Takes a packet, and then joins the blocks where each has an answer.

@@ -4,7 +4,7 @@ ghost use Rattle.rq_bytes.specs.Refusals.{IsAnswer};
 ghost use Rattle.rq_bytes.specs.SymbolSlab.{symbol_in, symbols_in};
 ghost use Rattle.rq_standard.specs.Configuration.{IsAligned};
 ghost use Rattle.rq_standard.specs.Headline.{IsNonsingular, IsOnlyIntermediateColumn, IsEncodingSymbol};
-ghost use Rattle.rq_standard.specs.TableRows.{IsChecked, greatest_size, intermediate_symbols};
+ghost use Rattle.rq_standard.specs.TableRows.{greatest_size, intermediate_symbols};
 ghost use Rattle.raptorq.specs.Refused.{wanted_count, repair_refusal, AreWholeSymbols};
 
 use crate::enc::encoding_symbol;
@@ -12,31 +12,32 @@ use crate::encoder::cache::SourceBlockEncodingPlanCache;
 use crate::encoder::plan::SourceBlockEncodingPlan;
 use crate::ids::internal_symbol_id;
 use crate::sub_blocks::{check_symbols, symbols_of_block};
-use rq_base::base::{EncodingPacket, ObjectTransmissionInformation, PayloadId};
+use rq_base::base::{
+    ENCODING_SYMBOL_IDS, EncodingPacket, ObjectTransmissionInformation, PayloadId,
+};
 use rq_bytes::error::Error;
 use rq_bytes::symbol_slab::SymbolSlab;
-use rq_standard::row::TableRow;
-use rq_tables::systematic_constants::SystematicTable;
+use rq_tables::systematic_constants::{CheckedRow, SystematicTable};
 use std::alloc::{AllocError, Global};
 
 /// Makes the packets of one source block.
 #[derive(Debug, PartialEq, Eq, Drop)]
 pub struct SourceBlockEncoder {
     number: u8,
-    row: TableRow,
+    row: CheckedRow,
     source: SymbolSlab,
     intermediate: SymbolSlab,
     alloc: Global,
-    pub ghost checked: { IsChecked row },
-    pub ghost nonsingular: { IsNonsingular row },
+    pub ghost nonsingular: { IsNonsingular row.numbers },
     pub ghost unordered: { source.order ≡ None },
-    pub ghost few: { length source.values ≤ row.extended_symbols },
+    pub ghost few: { length source.values ≤ row.numbers.extended_symbols },
     pub ghost sized: { All (λ symbol. length symbol ≡ intermediate.symbol_size) source.values },
-    pub ghost enough: { intermediate_symbols row ≤ length (symbols_in intermediate) },
-    pub ghost solved: { IsOnlyIntermediateColumn row intermediate.symbol_size source.values (symbol_in intermediate) },
+    pub ghost enough: { intermediate_symbols row.numbers ≤ length (symbols_in intermediate) },
+    pub ghost solved: { IsOnlyIntermediateColumn row.numbers intermediate.symbol_size source.values (symbol_in intermediate) },
 }
 
 impl SourceBlockEncoder {
+    ghost use Rattle.raptorq.specs.Appended.{AppendsBlock, AppendsSymbol, KeepsFront};
     ghost use Rattle.rq_base.specs.RefusedInput.{new_id};
     ghost use Rattle.raptorq.specs.SourceBlockEncoder.{block_encoded, block_encoded_of, IsBlockPacket, AreBlockPackets};
     ghost use Rattle.raptorq.specs.BlockData.{block_of, block_by_plan, IsPlanFor, RefusesBlock, RefusesPlanned};
@@ -49,8 +50,8 @@ impl SourceBlockEncoder {
     /// Refuses, in this order, [`Error::SymbolSizeZero`], [`Error::AlignmentZero`],
     /// [`Error::Misaligned`] where the alignment doesn't divide the symbol size,
     /// [`Error::WrongDataLength`] where the bytes are no whole symbols, [`Error::BlockOverTable`]
-    /// where the cache's table has no row for its symbols, and [`Error::Singular`] where that row doesn't
-    /// determine the intermediate symbols. After a refusal the cache is as before.
+    /// where the cache's table has no row for its symbols, and [`Error::Singular`] where that row
+    /// doesn't determine the intermediate symbols. After a refusal the cache is as before.
     pub fn new(
         alloc: Global,
         source_block_number: u8,
@@ -102,7 +103,8 @@ impl SourceBlockEncoder {
         ensures encoded { IfOk result (λ b. block_encoded_of b ≡ block_of table.now config.now source_block_number block.now) }
     {
         let count = source_symbol_count(config, block, table)?;
-        if plan.source_symbol_count() != count || plan.row() != table.row(u32::from(count)) {
+        let row = table.checked_row(u32::from(count));
+        if plan.source_symbol_count() != count || plan.row() != row {
             return Err(Error::PlanMismatch);
         }
         SourceBlockEncoder::of_block(alloc, source_block_number, config, block, plan)
@@ -152,7 +154,7 @@ impl SourceBlockEncoder {
         }
         let start = u64::from(self.source_symbol_count()) + u64::from(start_repair_symbol);
         let end = start + u64::from(packets);
-        if end > 1 << 24 {
+        if end > u64::from(ENCODING_SYMBOL_IDS) {
             return Err(Error::EsiTooLarge);
         }
         self.packets(start as u32, end as u32)
@@ -200,6 +202,35 @@ impl SourceBlockEncoder {
     {
         let id = PayloadId::new(self.number, encoding_symbol_id)?;
         Ok(EncodingPacket::new(id, self.payload(encoding_symbol_id)?))
+    }
+
+    /// Appends the packets with the encoding symbol ids before `end` to bytes.
+    pub(super) fn append_packets(&self, end: u32, bytes: &mut Vec<u8>) -> Result<(), Error>
+        requires { end ≤ 2 ^ 24 }
+        ensures packets { OnOk result (AppendsBlock (block_encoded_of self.now) end bytes.old.items bytes.new.items) }
+        ensures begun { OnErr result (KeepsFront bytes.old.items bytes.new.items) }
+        ensures memory { IfErr result (λ e. e ≡ Error.OutOfMemory) }
+    {
+        for esi in 0..end {
+            bytes.extend_from_slice(&PayloadId::new(self.number, esi)?.serialize())?;
+            self.append_symbol(esi, bytes)?;
+        }
+        Ok(())
+    }
+
+    // Appends the payload of an encoding symbol id to bytes.
+    fn append_symbol(&self, esi: u32, bytes: &mut Vec<u8>) -> Result<(), AllocError>
+        requires { esi < 2 ^ 24 }
+        ensures symbol { OnOk result (AppendsSymbol (block_encoded_of self.now) esi bytes.old.items bytes.new.items) }
+        ensures kept { OnErr result (bytes.new.items ≡ bytes.old.items) }
+    {
+        if esi < self.source_symbol_count() {
+            bytes.extend_from_slice(self.source.get(esi as usize))?;
+            return Ok(());
+        }
+        let symbol = self.payload(esi)?;
+        bytes.extend_from_slice(symbol.as_slice())?;
+        Ok(())
     }
 
     // The payload of an encoding symbol id: a source symbol, or a sum of intermediate symbols.

@@ -4,7 +4,7 @@ ghost use Rattle.raptorq.specs.Building.{default_settings, RefusesBuilding, IsBu
 ghost use Rattle.raptorq.specs.Encoder.{encoded_of};
 
 use crate::encoder::Encoder;
-use rq_base::base::ObjectTransmissionInformation;
+use rq_base::base::{DEFAULT_DECODER_MEMORY, ObjectTransmissionInformation};
 use rq_bytes::error::Error;
 use rq_tables::systematic_constants::SystematicTable;
 use std::alloc::Global;
@@ -33,7 +33,7 @@ impl EncoderBuilder {
         ensures { result ≡ default_settings }
     {
         EncoderBuilder {
-            decoder_memory_requirement: 10485760,
+            decoder_memory_requirement: DEFAULT_DECODER_MEMORY,
             max_packet_size: 1024,
         }
     }

@@ -4,7 +4,7 @@ ghost use Rattle.rq_algebra.specs.Operations.{AreAllowed};
 ghost use Rattle.rq_bytes.specs.SymbolSlab.{slab_of, symbol_in, symbols_in};
 ghost use Rattle.rq_operations.specs.RecordedOperations.{operations_of};
 ghost use Rattle.rq_standard.specs.Headline.{IsNonsingular, IsSingular, IsOnlyIntermediateColumn};
-ghost use Rattle.rq_standard.specs.TableRows.{IsChecked, row_of, intermediate_symbols};
+ghost use Rattle.rq_standard.specs.TableRows.{row_of, intermediate_symbols};
 ghost use Rattle.raptorq.specs.Allowed.{AreAllowed-prop};
 ghost use Rattle.raptorq.specs.Planned.{IsPlanOf, source_values};
 
@@ -14,8 +14,7 @@ use crate::solving::solve_block;
 use rq_bytes::error::Error;
 use rq_bytes::symbol_slab::SymbolSlab;
 use rq_operations::recorded::RecordedOperations;
-use rq_standard::row::TableRow;
-use rq_tables::systematic_constants::SystematicTable;
+use rq_tables::systematic_constants::{CheckedRow, SystematicTable};
 use std::alloc::{AllocError, Global};
 
 /// The operations that make the intermediate symbols of a source block from its source symbols,
@@ -25,12 +24,11 @@ use std::alloc::{AllocError, Global};
 pub struct SourceBlockEncodingPlan {
     operations: RecordedOperations,
     source_symbol_count: u16,
-    row: TableRow,
-    pub ghost checked: { IsChecked row },
-    pub ghost nonsingular: { IsNonsingular row },
-    pub ghost few: { source_symbol_count ≤ row.extended_symbols },
-    pub ghost allowed: { AreAllowed (intermediate_symbols row) None (operations_of operations) } by { AreAllowed-prop (intermediate_symbols row) None (operations_of operations) },
-    pub ghost finds: { IsPlanOf row (operations_of operations) },
+    row: CheckedRow,
+    pub ghost nonsingular: { IsNonsingular row.numbers },
+    pub ghost few: { source_symbol_count ≤ row.numbers.extended_symbols },
+    pub ghost allowed: { AreAllowed (intermediate_symbols row.numbers) None (operations_of operations) } by { AreAllowed-prop (intermediate_symbols row.numbers) None (operations_of operations) },
+    pub ghost finds: { IsPlanOf row.numbers (operations_of operations) },
 }
 
 impl SourceBlockEncodingPlan {
@@ -57,7 +55,7 @@ impl SourceBlockEncodingPlan {
         if count > table.greatest() {
             return Err(Error::BlockOverTable);
         }
-        SourceBlockEncodingPlan::of_row(alloc, source_symbol_count, table.row(count))
+        SourceBlockEncodingPlan::of_row(alloc, source_symbol_count, table.checked_row(count))
     }
 
     /// The plan over a row of a table.
@@ -66,17 +64,16 @@ impl SourceBlockEncodingPlan {
     pub(crate) fn of_row(
         alloc: Global,
         source_symbol_count: u16,
-        row: TableRow,
+        row: CheckedRow,
     ) -> Result<Self, Error>
-        requires checked { IsChecked row }
-        requires few { source_symbol_count ≤ row.extended_symbols }
+        requires few { source_symbol_count ≤ row.numbers.extended_symbols }
         ensures count { IfOk result (λ p. (plan_of p).count ≡ source_symbol_count) }
-        ensures row { IfOk result (λ p. (plan_of p).row ≡ row) }
-        ensures plan { IfOk result (λ p. IsPlanOf row (plan_of p).operations) }
-        ensures nonsingular { OnOk result (IsNonsingular row) }
-        ensures refused { IfErr result (λ e. (e ≡ Error.OutOfMemory) ⊎ ((e ≡ Error.Singular) × IsSingular row)) }
+        ensures row { IfOk result (λ p. (plan_of p).row ≡ row.numbers) }
+        ensures plan { IfOk result (λ p. IsPlanOf row.numbers (plan_of p).operations) }
+        ensures nonsingular { OnOk result (IsNonsingular row.numbers) }
+        ensures refused { IfErr result (λ e. (e ≡ Error.OutOfMemory) ⊎ ((e ≡ Error.Singular) × IsSingular row.numbers)) }
     {
-        let ids = padding_ids(alloc, &row, 0, row.extended_symbols as usize)?;
+        let ids = padding_ids(alloc, &row, 0, row.extended_symbols())?;
         let Some(solution) = solve_block(alloc, &row, ids.as_slice(), SPARSE_MATRIX_THRESHOLD)?
         else {
             return Err(Error::Singular);
@@ -96,10 +93,9 @@ impl SourceBlockEncodingPlan {
     }
 
     /// The row that the plan was made for.
-    pub(crate) fn row(&self) -> TableRow
-        ensures row { result ≡ (plan_of self.now).row }
-        ensures checked { IsChecked result }
-        ensures nonsingular { IsNonsingular result }
+    pub(crate) fn row(&self) -> CheckedRow
+        ensures row { result.numbers ≡ (plan_of self.now).row }
+        ensures nonsingular { IsNonsingular result.numbers }
     {
         self.row
     }
@@ -137,13 +133,11 @@ impl Clone for SourceBlockEncodingPlan {
 
 // The values of the equations that determine a block's intermediate symbols: its source symbols, and
 // zeros for all others.
-fn source_values(row: &TableRow, source: &SymbolSlab) -> Result<SymbolSlab, Error>
-    requires checked { IsChecked row.now }
+fn source_values(row: &CheckedRow, source: &SymbolSlab) -> Result<SymbolSlab, Error>
     requires small { source.now.symbol_size < 65536 }
-    requires few { length source.now.values ≤ row.now.extended_symbols }
-    ensures values { IfOk result (λ slab. slab ≡ slab_of source.now.symbol_size (source_values row.now source.now.symbol_size source.now.values)) }
+    requires few { length source.now.values ≤ row.now.numbers.extended_symbols }
+    ensures values { IfOk result (λ slab. slab ≡ slab_of source.now.symbol_size (source_values row.now.numbers source.now.symbol_size source.now.values)) }
     ensures memory { IfErr result (λ e. e ≡ Error.OutOfMemory) }
 {
-    let precode_rows = (row.ldpc_symbols + row.hdpc_symbols) as usize;
-    Ok(source.among_zeros(precode_rows, row.intermediate_symbols() as usize)?)
+    Ok(source.among_zeros(row.precode_rows(), row.intermediate_symbols())?)
 }

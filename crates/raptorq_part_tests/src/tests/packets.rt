@@ -1,8 +1,11 @@
 //! Worked examples of packets, configurations and refusals.
 use crate::compare::{holds, same};
+use raptorq::encoder::encode_all;
 use raptorq::error::Error;
 use raptorq::systematic_constants::SystematicTable;
-use raptorq::{EncodingPacket, ObjectTransmissionInformation, PayloadId};
+use raptorq::{Encoder, EncodingPacket, ObjectTransmissionInformation, PayloadId};
+use raptorq_test_kit::configurations::configured;
+use std::alloc::Global;
 use std::test::Fail;
 
 #[test]
@@ -46,6 +49,36 @@ fn bare_packets(rt: HostRuntime) -> Result<(), Error> {
     let bare = EncodingPacket::deserialize(rt.alloc(), &[1, 1, 2, 3])?;
     holds!(rt; *bare.payload_id() == id);
     holds!(rt; bare.data().is_empty());
+    Ok(())
+}
+
+// Ten bytes in a block of three symbols and one of two.
+const OBJECT: [u8; 10] = [0, 1, 2, 3, 4, 5, 6, 7, 8, 9];
+
+// The packets of the object behind a byte, one after another.
+fn packets_behind_a_byte(alloc: Global) -> Result<Vec<u8>, Error> {
+    let (table, config) = configured(alloc, (10, 2, 2, 1, 1))?;
+    let packets = Encoder::new(alloc, &table, &OBJECT, config)?.get_encoded_packets(3)?;
+    let mut bytes = Vec::from_slice(alloc, &[77])?;
+    for packet in packets {
+        bytes.extend_from_slice(packet.serialize(alloc)?.as_slice())?;
+    }
+    Ok(bytes)
+}
+
+// The same, by one call.
+fn encoded_behind_a_byte(alloc: Global) -> Result<Vec<u8>, Error> {
+    let (table, config) = configured(alloc, (10, 2, 2, 1, 1))?;
+    let mut bytes = Vec::from_slice(alloc, &[77])?;
+    encode_all(alloc, &table, &OBJECT, &config, 3, &mut bytes)?;
+    Ok(bytes)
+}
+
+#[test]
+fn objects_as_bytes(rt: HostRuntime) -> Result<(), Error> {
+    let bytes = encoded_behind_a_byte(rt.alloc())?;
+    same!(rt; bytes.len(), 67);
+    holds!(rt; bytes == packets_behind_a_byte(rt.alloc())?);
     Ok(())
 }
 

@@ -16,25 +16,25 @@ loop-count-init c =
     record {
       room = first.ensures.room;
       all = first.ensures.all;
-      sums = nothing_summed slab.symbol_size (row_indices c.args.row.now c.args.internal_symbol_id) (take first.result first.new.terms ++ first.new.indices) (symbol_in slab) c.in_ok-symbol.symbol.items
+      sums = nothing_summed slab.symbol_size (row_indices c.args.row.now.numbers c.args.internal_symbol_id) (take first.result first.new.terms ++ first.new.indices) (symbol_in slab) c.in_ok-symbol.symbol.items
           (sym first.ensures.listed ∙ c.of_id-indices.ensures.value) zeros;
-      below = subst (All (λ p. p < intermediate_symbols c.args.row.now)) first.ensures.listed c.of_id-indices.ensures.below;
+      below = subst (All (λ p. p < intermediate_symbols c.args.row.now.numbers)) first.ensures.listed c.of_id-indices.ensures.below;
       long = ap length zeros ∙ length-replicate {A = ℕ} slab.symbol_size 0;
     }
 
 pub add_symbols_to-requires-clause-places : goal.add_symbols_to-requires-clause-places
 add_symbols_to-requires-clause-places c =
     let slab = c.args.intermediate.now in
-    let below = λ (p : ℕ). p < intermediate_symbols c.args.row.now in
+    let below = λ (p : ℕ). p < intermediate_symbols c.args.row.now.numbers in
     let listed = take c.loop-count.count c.loop-count.terms in
-    All-weaker below (HasPlace slab) (λ p l. place_of_slab slab p (intermediate_symbols c.args.row.now) c.requires.enough l) listed (All-front below listed c.loop-count.indices c.loop-count.invariant.below)
+    All-weaker below (HasPlace slab) (λ p l. place_of_slab slab p (intermediate_symbols c.args.row.now.numbers) c.requires.enough l) listed (All-front below listed c.loop-count.indices c.loop-count.invariant.below)
 
 pub loop-count-preserved : goal.loop-count-preserved
 loop-count-preserved c =
     let slab = c.args.intermediate.now in
     let size = slab.symbol_size in
     let kept = c.loop-count.invariant in
-    let below = λ (p : ℕ). p < intermediate_symbols c.args.row.now in
+    let below = λ (p : ℕ). p < intermediate_symbols c.args.row.now.numbers in
     let listed = take c.loop-count.count c.loop-count.terms in
     let left = c.loop-count.indices in
     let next = c.next_terms-count-in-loop-count in
@@ -48,7 +48,7 @@ loop-count-preserved c =
     record {
       room = next.ensures.room;
       all = next.ensures.all;
-      sums = several_summed slab size (row_indices c.args.row.now c.args.internal_symbol_id) (take next.result next.new.terms ++ next.new.indices) listed (listed ++ left) sum.items (with_items sum row).items
+      sums = several_summed slab size (row_indices c.args.row.now.numbers c.args.internal_symbol_id) (take next.result next.new.terms ++ next.new.indices) listed (listed ++ left) sum.items (with_items sum row).items
           (ap (λ l. listed ++ l) next.ensures.listed) each kept.long (items ∙ added) kept.sums;
       below = subst (All below) next.ensures.listed (All-back below listed left kept.below);
       long = ap length items ∙ long;
@@ -59,4 +59,4 @@ returns c =
     let kept = c.loop-count.invariant in
     let none : c.loop-count.count ≡ 0 = omega (arith, c.loop-count-test.false) in
     let left : take c.loop-count.count c.loop-count.terms ++ c.loop-count.indices ≡ [] = ap (λ n. take n c.loop-count.terms ++ c.loop-count.indices) none ∙ kept.all none in
-    record { sum = all_summed c.args.row.now c.args.intermediate.now c.args.internal_symbol_id _ c.loop-count.symbol.items c.requires.checked c.requires.symbols left kept.sums }
+    record { sum = all_summed c.args.row.now.numbers c.args.intermediate.now c.args.internal_symbol_id _ c.loop-count.symbol.items c.args.row.now.checked c.requires.symbols left kept.sums }

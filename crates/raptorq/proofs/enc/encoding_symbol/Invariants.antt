@@ -10,8 +10,8 @@ abbrev pub invariant-loop-count : goal.invariant-loop-count
 invariant-loop-count l = record {
   room : l.count ≤ length l.terms;
   all : (l.count ≡ 0) → l.indices ≡ [];
-  sums : SumsSoFar l.fn.intermediate.symbol_size (row_indices l.fn.row l.fn.internal_symbol_id) (take l.count l.terms ++ l.indices) (symbol_in l.fn.intermediate) l.symbol.items;
-  below : All (λ p. p < intermediate_symbols l.fn.row) (take l.count l.terms ++ l.indices);
+  sums : SumsSoFar l.fn.intermediate.symbol_size (row_indices l.fn.row.numbers l.fn.internal_symbol_id) (take l.count l.terms ++ l.indices) (symbol_in l.fn.intermediate) l.symbol.items;
+  below : All (λ p. p < intermediate_symbols l.fn.row.numbers) (take l.count l.terms ++ l.indices);
   long : length l.symbol.items ≡ l.fn.intermediate.symbol_size;
 }
 

@@ -8,5 +8,5 @@ loop-id-preserved c = range-more c.args.source_symbols c.loop-id.id c.loop-id.id
 
 pub returns : goal.returns
 returns c =
-    let count : c.loop-id.id - c.args.source_symbols ≡ c.args.row.now.extended_symbols - c.args.source_symbols = omega (arith, c.loop-id.auto.id-end c.requires) in
+    let count : c.loop-id.id - c.args.source_symbols ≡ c.args.row.now.numbers.extended_symbols - c.args.source_symbols = omega (arith, c.loop-id.auto.id-end c.requires) in
     c.loop-id.invariant ∙ ap (range_with_len c.args.source_symbols) count

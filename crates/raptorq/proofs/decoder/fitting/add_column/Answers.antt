@@ -1,7 +1,8 @@
-use Rattle.std.proofs.Common.{◌+◌, sym, ap, ◌∙◌, arith}
+use Rattle.std.proofs.Common.{◌+◌, sym, ap, ◌∙◌, arith, set}
+use Rattle.rq_algebra.specs.Operations.{meant_at}
 use Rattle.rq_algebra.specs.Systems.{at}
 use Rattle.rq_algebra.proofs.SymbolSums.{symbol_elements}
-use Rattle.rq_bytes.specs.SymbolSlab.{symbol_in}
+use Rattle.rq_bytes.specs.SymbolSlab.{Slab, symbol_in}
 use Rattle.rq_standard.specs.OctetField.{octets}
 use Rattle.raptorq.proofs.HdpcSumSteps.{added, allowed, column_added, doubled_at, place_of_plain, written}
 use Rattle.raptorq.proofs.decoder.fitting.add_column.Goals as goal
@@ -9,25 +10,26 @@ use Rattle.raptorq.proofs.decoder.fitting.add_column.Goals as goal
 pub add_assign-requires-2 : goal.add_assign-requires-2
 add_assign-requires-2 c =
     let so = c.requires.sums in
-    let height = c.args.row.now.hdpc_symbols in
+    let height = c.hdpc_symbols-height.result in
     let ones = c.ones_of_mt-first in
     let w1 = added c.args.sums.now c.add_assign.new.self ones.result.0 height so.order (omega (arith, so.count, ones.ensures.first)) c.add_assign.ensures in
-    allowed c.add_assign.new.self ones.result.1 height w1.order (omega (arith, w1.count, so.count, ones.ensures.second)) (omega (arith, w1.count, so.count)) (λ same. omega (arith, ones.ensures.second))
+    allowed c.add_assign.new.self ones.result.1 height w1.order (omega (arith, w1.count, so.count, ones.ensures.second)) (omega (arith, w1.count, so.count, c.hdpc_symbols-height.ensures.value)) (λ same. omega (arith, ones.ensures.second, c.hdpc_symbols-height.ensures.value))
 
 pub get_mut-requires : goal.get_mut-requires
 get_mut-requires c =
     let so = c.requires.sums in
-    let height = c.args.row.now.hdpc_symbols in
+    let height = c.hdpc_symbols-height.result in
     let ones = c.ones_of_mt-first in
     let w1 = added c.args.sums.now c.add_assign.new.self ones.result.0 height so.order (omega (arith, so.count, ones.ensures.first)) c.add_assign.ensures in
     let w2 = added c.add_assign.new.self c.add_assign-2.new.self ones.result.1 height w1.order (omega (arith, w1.count, so.count, ones.ensures.second)) c.add_assign-2.ensures in
-    place_of_plain c.add_assign-2.new.self height w2.order (omega (arith, w2.count, w1.count, so.count))
+    place_of_plain c.add_assign-2.new.self height w2.order (omega (arith, w2.count, w1.count, so.count, c.hdpc_symbols-height.ensures.value))
 
 pub returns : goal.returns
 returns c =
     let so = c.requires.sums in
-    let row = c.args.row.now in
-    let height = row.hdpc_symbols in
+    let row = c.args.row.now.numbers in
+    let height = c.hdpc_symbols-height.result in
+    let height_is = c.hdpc_symbols-height.ensures.value in
     let column = symbol_in c.args.intermediate.now in
     let size = c.args.intermediate.now.symbol_size in
     let n = c.args.column in
@@ -35,9 +37,9 @@ returns c =
     let lent = c.get_mut in
     let w1 = added c.args.sums.now c.add_assign.new.self ones.result.0 height so.order (omega (arith, so.count, ones.ensures.first)) c.add_assign.ensures in
     let w2 = added c.add_assign.new.self c.add_assign-2.new.self ones.result.1 height w1.order (omega (arith, w1.count, so.count, ones.ensures.second)) c.add_assign-2.ensures in
-    let w3 = written c.add_assign-2.new.self _ height c.double_and_add.new.octets w2.order (omega (arith, w2.count, w1.count, so.count)) (lent.ensures.whole_symbol c.double_and_add.new.octets (c.double_and_add.auto.octets ∙ lent.ensures.len)) in
+    let w3 = written c.add_assign-2.new.self _ row.hdpc_symbols c.double_and_add.new.octets w2.order (omega (arith, w2.count, w1.count, so.count, height_is)) (lent.ensures.whole_symbol c.double_and_add.new.octets (c.double_and_add.auto.octets ∙ lent.ensures.len) ∙ ap (λ h. let t : Slab = record c.add_assign-2.new.self { values = set c.add_assign-2.new.self.values (meant_at c.add_assign-2.new.self.order h) c.double_and_add.new.octets } in t) height_is) in
     let doubled = doubled_at lent.result.now c.get.result.now c.double_and_add.new.octets c.double_and_add.ensures (c.get.ensures.len ∙ sym (lent.ensures.len ∙ w2.size_is ∙ w1.size_is ∙ so.size_is)) in
     column_added row column size n ones.result.0 ones.result.1 c.requires.column ones.ensures.first ones.ensures.second ones.ensures.apart ones.ensures.ones
-    c.args.sums.now c.add_assign.new.self c.add_assign-2.new.self _ c.double_and_add.new.octets so w1 w2 w3
-    (λ p. doubled p ∙ ap (λ xs. octets.add (octets.mul 2 (at xs p)) (at c.get.result.now p)) lent.ensures.symbol ∙ ap (λ xs. octets.add (octets.mul 2 (at (symbol_in c.add_assign-2.new.self height) p)) (at xs p)) c.get.ensures.symbol)
+    c.args.sums.now c.add_assign.new.self c.add_assign-2.new.self _ c.double_and_add.new.octets so (rw height_is at w1) (rw height_is at w2) w3
+    (λ p. doubled p ∙ ap (λ xs. octets.add (octets.mul 2 (at xs p)) (at c.get.result.now p)) (rw height_is at lent.ensures.symbol) ∙ ap (λ xs. octets.add (octets.mul 2 (at (symbol_in c.add_assign-2.new.self row.hdpc_symbols) p)) (at xs p)) c.get.ensures.symbol)
     (symbol_elements octets size (column (n + 1)) (c.requires.symbols (n + 1) (omega (arith, c.requires.column))))

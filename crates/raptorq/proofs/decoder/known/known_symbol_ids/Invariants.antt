@@ -9,5 +9,5 @@ use Rattle.raptorq.proofs.decoder.known.known_symbol_ids.Given as goal
 abbrev pub invariant-loop-esi : goal.invariant-loop-esi
 invariant-loop-esi l = record {
   whole : map deref l.yielded ++ l.esi-iterator ≡ keys l.fn.received;
-  ids : l.ids.items ≡ range_with_len l.fn.source_symbols (l.fn.row.extended_symbols - l.fn.source_symbols) ++ map (internal_id l.fn.row l.fn.source_symbols) (map deref l.yielded);
+  ids : l.ids.items ≡ range_with_len l.fn.source_symbols (l.fn.row.numbers.extended_symbols - l.fn.source_symbols) ++ map (internal_id l.fn.row.numbers l.fn.source_symbols) (map deref l.yielded);
 }

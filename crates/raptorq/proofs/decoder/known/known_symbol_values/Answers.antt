@@ -5,7 +5,7 @@ use Rattle.std.proofs.Math.Nat.{mul-le-mul}
 use Rattle.std.proofs.lemmas.List.{map-append, take_all}
 use Rattle.std.proofs.lemmas.Map.Entries.{length-values_of}
 use Rattle.rq_bytes.specs.SymbolSlab.{slab_of}
-use Rattle.raptorq.proofs.Came.{AppendsSoFar, appends_none, appends_more, appends_all}
+use Rattle.raptorq.proofs.ReceivedEntries.{AppendsSoFar, appends_none, appends_more, appends_all}
 use Rattle.raptorq.proofs.Listing.{few_entries}
 use Rattle.raptorq.proofs.decoder.known.known_symbol_values.Goals as goal
 

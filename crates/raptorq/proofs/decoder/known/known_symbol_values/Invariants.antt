@@ -1,7 +1,7 @@
 use Rattle.std.proofs.Common.{map}
 use Rattle.std.specs.BTreeMap.{values}
 use Rattle.std.specs.Map.Iter.{deref}
-use Rattle.raptorq.proofs.Came.{AppendsSoFar}
+use Rattle.raptorq.proofs.ReceivedEntries.{AppendsSoFar}
 use Rattle.raptorq.proofs.decoder.known.known_symbol_values.Given as goal
 
 -- the payloads so far stand one after another

@@ -6,7 +6,7 @@ use Rattle.rq_standard.specs.Cutting.{block_symbols}
 use Rattle.rq_standard.proofs.BlockCuts.{first_is_largest}
 use Rattle.raptorq.specs.SourceBlockEncoder.{block_encoded_of}
 use Rattle.raptorq.specs.Encoder.{encoded_of}
-use Rattle.raptorq.proofs.EncodedBlocks.{number_of, count_of, encoded_more, encoded_all, block_at}
+use Rattle.raptorq.proofs.EncodedBlocks.{number_of, count_of, encoded_more, encoded_all, enough_ids, block_at}
 use Rattle.raptorq.proofs.Numbered.{IsTurn, turn_of, length-numbered, mapped_at, number_at}
 use Rattle.raptorq.proofs.encoder.Encoder.get_encoded_packets.Goals as goal
 use Rattle.raptorq.proofs.encoder.Encoder.get_encoded_packets.Goals.{After-source_symbol_count}
@@ -28,7 +28,7 @@ module _ (c : After-source_symbol_count) where
 pub packets-requires-clause-ids : goal.packets-requires-clause-ids
 packets-requires-clause-ids c =
     let at = (goal.at.packets-requires-clause-ids c).After-source_symbol_count in
-    omega (arith, c.source_symbol_count.ensures, count at, first_is_largest c.args.self.now.config c.loop-block.block-index (within at), c.block_symbols.ensures, c.if-largest-from.false, c.from-largest.ensures, c.from.ensures)
+    omega (arith, c.source_symbol_count.ensures, count at, first_is_largest c.args.self.now.config c.loop-block.block-index (within at), enough_ids c.args.self.now.config c.args.repair_packets_per_block (sym c.in_ok-check_repair.ensures))
 
 pub loop-block-preserved : goal.loop-block-preserved
 loop-block-preserved c =

@@ -2,8 +2,8 @@ use Rattle.std.proofs.Common.{subst}
 use Rattle.rq_standard.specs.ReceivedBlock.{CanAnswer}
 use Rattle.raptorq.proofs.decoder.block.SourceBlockDecoder.answer.Goals as goal
 
-pub invariant_of-self-in-Ok-None : goal.invariant_of-self-in-Ok-None
-invariant_of-self-in-Ok-None c =
+pub invariant_of-self : goal.invariant_of-self
+invariant_of-self c =
     let d = c.find_answer.new.self in
     let none = rw c.in-Ok-None.field-0-is at c.in-Ok-None.ensures.block in
     record {
@@ -11,7 +11,6 @@ invariant_of-self-in-Ok-None c =
       bytes = d.bytes;
       positive = d.positive;
       aligned = d.aligned;
-      checked = d.checked;
       fits = d.fits;
       few = d.few;
       counted = d.counted;

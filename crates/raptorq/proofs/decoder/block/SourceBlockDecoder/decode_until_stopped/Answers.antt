@@ -10,8 +10,8 @@ loop-packet-preserved g c =
     let old = received_of c.args.self.now in
     let now = received_of c.loop-packet.self in
     record {
-      taken = taken-more old now c.loop-packet.yielded c.in-Some.packet kept.taken kept.holds c.in_ok-add.ensures.taken;
-      holds = recorded-more old now (received_of c.add.new.self) c.loop-packet.yielded c.in-Some.packet kept.holds c.in_ok-add.ensures.ok;
+      taken = taken-more old now c.loop-packet.yielded c.in-Some.packet kept.taken kept.recorded c.in_ok-add.ensures.taken;
+      recorded = recorded-more old now (received_of c.add.new.self) c.loop-packet.yielded c.in-Some.packet kept.recorded c.in_ok-add.ensures.ok;
     }
 
 pub returns-in_err-add : goal.returns-in_err-add
@@ -26,5 +26,5 @@ returns-in_err-add g c =
       made = c.into_iter-packet-iterator.ensures.into_iter_gives;
       decodes = stopped g.I.IntoIter.Iterator.next_gives c.into_iter-packet-iterator.result old now (received_of c.add.new.self) c.loop-packet.yielded c.in-Some.packet c.next.new.self c.in_err-add.field-0.0
           (Yields-push g.I.IntoIter.Iterator.next_gives c.into_iter-packet-iterator.result c.loop-packet.yielded c.loop-packet.packet-iterator c.in-Some.packet c.next.new.self c.loop-packet.yielded_by c.in-Some.ensures.steps)
-          kept.taken kept.holds c.in_err-add.ensures.err c.in_err-add.ensures.stops;
+          kept.taken kept.recorded c.in_err-add.ensures.err c.in_err-add.ensures.stops;
     })

@@ -7,5 +7,5 @@ use Rattle.raptorq.proofs.decoder.block.SourceBlockDecoder.decode_until_stopped.
 abbrev pub invariant-loop-packet : goal.invariant-loop-packet
 invariant-loop-packet g l = record {
   taken : AreTaken (received_of l.fn.self) l.yielded;
-  holds : received_of l.self ≡ all_recorded (received_of l.fn.self) l.yielded;
+  recorded : received_of l.self ≡ all_recorded (received_of l.fn.self) l.yielded;
 }

@@ -13,5 +13,5 @@ pub returns-in_ok-vec-in-None-clause-block : goal.returns-in_ok-vec-in-None-clau
 returns-in_ok-vec-in-None-clause-block c =
     let s = c.args.self.now in
     c.in_ok-vec-in-None.ensures.items_if_clones_equal (λ y same. same) ∙ ap (λ n. replicate {A = ℕ} (s.source_symbols * n) 0) c.symbol_size.ensures.value
-    ∙ sym (zero_octets s.config s.source_symbols (plain_sum s.row (at [])) (λ e. zero_dot s.row (symbol_coefficient s.row e)))
+    ∙ sym (zero_octets s.config s.source_symbols (plain_sum s.row.numbers (at [])) (λ e. zero_dot s.row.numbers (symbol_coefficient s.row.numbers e)))
     ∙ ap (λ o. octets_of_column (received_of s) (option_map vec_items o)) (sym c.in-None.is)

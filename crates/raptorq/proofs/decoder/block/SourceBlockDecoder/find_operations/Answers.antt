@@ -15,42 +15,41 @@ use Rattle.raptorq.proofs.decoder.block.SourceBlockDecoder.find_operations.Goals
 pub returns-then-len-self-clause-found : goal.returns-then-len-self-clause-found
 returns-then-len-self-clause-found c =
     let d = c.args.self.now in
-    too_few (received_of d) d.received d.fits c.len.ensures.ordered d.checked (λ e. refl) (omega (arith, c.len.ensures.len, c.if-len-self.true))
+    too_few (received_of d) d.received d.fits c.len.ensures.ordered d.row.checked (λ e. refl) (omega (arith, c.len.ensures.len, c.if-len-self.true))
 
 pub solve_or_show-requires-clause-enough : goal.solve_or_show-requires-clause-enough
 solve_or_show-requires-clause-enough c =
     let d = c.args.self.now in
-    let listed = length-known_list d.row d.source_symbols d.received.entries in
-    let long : length c.as_slice.result.now ≡ length (known_list d.row d.source_symbols d.received.entries) = ap length (c.as_slice.ensures.value ∙ c.in_ok-ids.ensures.ids) in
+    let listed = length-known_list d.row.numbers d.source_symbols d.received.entries in
+    let long : length c.as_slice.result.now ≡ length (known_list d.row.numbers d.source_symbols d.received.entries) = ap length (c.as_slice.ensures.value ∙ c.in_ok-ids.ensures.ids) in
     omega (arith, listed, long, c.len.ensures.len, c.if-len-self.false)
 
 pub returns-then-is_some-clause-found : goal.returns-then-is_some-clause-found
 returns-then-is_some-clause-found c =
     let d = c.args.self.now in
-    shown-undetermined d.row d.source_symbols (has_payload d.received) d.column (sym c.is_some.ensures ∙ c.if-is_some.true) d.shown
+    shown-undetermined d.row.numbers d.source_symbols (has_payload d.received) d.column (sym c.is_some.ensures ∙ c.if-is_some.true) d.shown
 
 pub invariant_of-self-in-Undetermined : goal.invariant_of-self-in-Undetermined
 invariant_of-self-in-Undetermined c =
     let d = c.args.self.now in
-    let known = known_ids d.row d.source_symbols (has_payload d.received) in
+    let known = known_ids d.row.numbers d.source_symbols (has_payload d.received) in
     let list = subst (IsListOf known) (sym c.as_slice.ensures.value) c.in_ok-ids.ensures.listed in
     record {
       sized = d.sized;
       bytes = d.bytes;
       positive = d.positive;
       aligned = d.aligned;
-      checked = d.checked;
       fits = d.fits;
       few = d.few;
       counted = d.counted;
       waits = d.waits;
-      shown = shown-found d.row d.source_symbols (has_payload d.received) c.as_slice.result.now c.in-Undetermined.column list
-          (subst (λ (o : BlockOutcome). IfSome (shown_column o) (IsHomogeneousFor d.row c.as_slice.result.now)) c.in-Undetermined.is c.in_ok-solution.ensures.shown);
+      shown = shown-found d.row.numbers d.source_symbols (has_payload d.received) c.as_slice.result.now c.in-Undetermined.column list
+          (subst (λ (o : BlockOutcome). IfSome (shown_column o) (IsHomogeneousFor d.row.numbers c.as_slice.result.now)) c.in-Undetermined.is c.in_ok-solution.ensures.outcome.shown);
       contradicted = d.contradicted;
     }
 
 pub returns-clause-found : goal.returns-clause-found
 returns-clause-found c =
     let d = c.args.self.now in
-    let none = subst (λ (o : BlockOutcome). FindsListed d.row c.as_slice.result.now (found_operations o)) c.in-Undetermined.is c.in_ok-solution.ensures.found in
-    λ determined. subst (λ (l : List ℕ). HasDeterminedRows d.row l → ⊥) (c.as_slice.ensures.value ∙ c.in_ok-ids.ensures.ids) none (received_rows (received_of d) d.received d.fits c.len.ensures.ordered d.checked (λ e. refl) determined)
+    let none = subst (λ (o : BlockOutcome). FindsListed d.row.numbers c.as_slice.result.now (found_operations o)) c.in-Undetermined.is c.in_ok-solution.ensures.outcome.found in
+    λ determined. subst (λ (l : List ℕ). HasDeterminedRows d.row.numbers l → ⊥) (c.as_slice.ensures.value ∙ c.in_ok-ids.ensures.ids) none (received_rows (received_of d) d.received d.fits c.len.ensures.ordered d.row.checked (λ e. refl) determined)

@@ -6,4 +6,4 @@ use Rattle.raptorq.proofs.decoder.block.SourceBlockDecoder.first_octets.Given as
 
 -- the octets so far are written
 abbrev pub invariant-loop-e : goal.invariant-loop-e
-invariant-loop-e l = l.block.items ≡ first_octets_below l.self.config l.self.source_symbols (plain_sum l.self.row (at l.column)) l.e
+invariant-loop-e l = l.block.items ≡ first_octets_below l.self.config l.self.source_symbols (plain_sum l.self.row.numbers (at l.column)) l.e

@@ -9,6 +9,6 @@ use Rattle.raptorq.proofs.decoder.block.SourceBlockDecoder.homogeneous.Goals as 
 pub returns-clause-shown : goal.returns-clause-shown
 returns-clause-shown c =
     let d = c.args.self.now in
-    let known = known_ids d.row d.source_symbols (has_payload d.received) in
+    let known = known_ids d.row.numbers d.source_symbols (has_payload d.received) in
     let list = subst (IsListOf known) (sym c.as_slice.ensures.value) c.in_ok-ids.ensures.listed in
-    IfOk-weaker c.homogeneous.result _ _ (λ answer shows. shows_known d.row known c.as_slice.result.now list answer shows) c.homogeneous.ensures.shown
+    IfOk-weaker c.homogeneous.result _ _ (λ answer shows. shows_known d.row.numbers known c.as_slice.result.now list answer shows) c.homogeneous.ensures.shown

@@ -7,6 +7,6 @@ use Rattle.raptorq.proofs.decoder.block.SourceBlockDecoder.lost_symbols.Given as
 -- those before this one are there
 abbrev pub invariant-loop-e : goal.invariant-loop-e
 invariant-loop-e l = record {
-  sums : AreSums (tuple_sum l.fn.self.row (symbol_in l.fn.intermediate)) (payload_of l.lost);
-  there : AreThere (payload_of l.fn.self.received) (payload_of l.lost) (tuple_sum l.fn.self.row (symbol_in l.fn.intermediate)) l.e-counter;
+  sums : AreSums (tuple_sum l.fn.self.row.numbers (symbol_in l.fn.intermediate)) (payload_of l.lost);
+  there : AreThere (payload_of l.fn.self.received) (payload_of l.lost) (tuple_sum l.fn.self.row.numbers (symbol_in l.fn.intermediate)) l.e-counter;
 }

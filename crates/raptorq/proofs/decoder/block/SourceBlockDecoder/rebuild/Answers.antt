@@ -27,7 +27,7 @@ loop-e-preserved c =
     let symbol = rebuilt_symbol (received_of d) slab c.loop-e.e in
     let same = there_is (or_later (payload_of d.received c.loop-e.e) (payload_of c.in_ok-lost.lost c.loop-e.e)) symbol [] (c.in_ok-lost.ensures.each c.loop-e.e (omega arith)) in
     let h = plain_block-push (λ k. Some (rebuilt_symbol (received_of d) slab k)) d.config.symbol_size c.loop-e.e c.loop-e.symbol_bytes.items symbol c.push_symbol.new.bytes.items
-    (c.in_ok-push_symbol.ensures ∙ ap (λ (l : List ℕ). c.loop-e.symbol_bytes.items ++ l) same) refl (length-rebuilt (received_of d) slab c.loop-e.e d.checked d.sized c.requires) kept.long kept.each in
+    (c.in_ok-push_symbol.ensures ∙ ap (λ (l : List ℕ). c.loop-e.symbol_bytes.items ++ l) same) refl (length-rebuilt (received_of d) slab c.loop-e.e d.row.checked d.sized c.requires) kept.long kept.each in
     record { long = h.0; each = h.1 }
 
 pub returns : goal.returns
@@ -35,5 +35,5 @@ returns c =
     let d = c.args.self.now in
     let all : c.loop-e.e ≡ d.source_symbols = omega arith in
     ok_of_both c.into_sub_blocks.result _ _ _
-    (λ block long same. rebuilt_block (received_of d) c.args.intermediate c.loop-e.symbol_bytes.items block.items c.loop-e.e same d.checked c.requires all long c.loop-e.invariant.each)
+    (λ block long same. rebuilt_block (received_of d) c.args.intermediate c.loop-e.symbol_bytes.items block.items c.loop-e.e same d.row.checked c.requires all long c.loop-e.invariant.each)
     c.into_sub_blocks.ensures.long c.into_sub_blocks.ensures.each

@@ -7,7 +7,7 @@ use Rattle.raptorq.specs.Missing.{payload_of, has_payload, missing_count}
 use Rattle.raptorq.proofs.Payloads.{all-more, few-more}
 use Rattle.raptorq.proofs.MissingCounts.{missing_count-same, missing_count-step, missing-after}
 use Rattle.raptorq.specs.SourceBlockDecoder.{received_of}
-use Rattle.raptorq.proofs.TakenPackets.{taken_size}
+use Rattle.raptorq.proofs.TakenPackets.{recorded_packet, taken_size}
 use Rattle.raptorq.proofs.Waiting.{came-more, contradictory-later, contradictory-same, repeat-same, shown-more, shown-none, shown-same, waits-repeat, waits-same}
 use Rattle.raptorq.proofs.decoder.block.SourceBlockDecoder.record.Goals as goal
 use Rattle.raptorq.proofs.decoder.block.SourceBlockDecoder.record.Goals.{After-after_new_payload-self}
@@ -18,11 +18,10 @@ invariant_of-self c = record {
   bytes = λ e x is. c.args.self.now.bytes e x (sym (c.in_default.ensures.err e) ∙ is);
   positive = c.args.self.now.positive;
   aligned = c.args.self.now.aligned;
-  checked = c.args.self.now.checked;
   fits = c.args.self.now.fits;
   few = λ e came. c.args.self.now.few e (sym (ap is_some (c.in_default.ensures.err e)) ∙ came);
   counted = c.args.self.now.counted ∙ missing_count-same c.args.self.now.source_symbols _ _ (λ e below. sym (ap is_some (c.in_default.ensures.err e)));
-  shown = shown-same c.args.self.now.row c.args.self.now.source_symbols _ _ c.args.self.now.column (λ e. ap is_some (c.in_default.ensures.err e)) c.args.self.now.shown;
+  shown = shown-same c.args.self.now.row.numbers c.args.self.now.source_symbols _ _ c.args.self.now.column (λ e. ap is_some (c.in_default.ensures.err e)) c.args.self.now.shown;
   waits = λ still. waits-same (received_of c.args.self.now) (payload_of c.keep_first.new.received) c.in_default.ensures.err (c.args.self.now.waits still);
   contradicted = λ still. contradictory-same (received_of c.args.self.now) (payload_of c.keep_first.new.received) c.in_default.ensures.err (c.args.self.now.contradicted still);
 }
@@ -72,12 +71,11 @@ invariant_of-self-then-not-still_shown c =
       bytes = bytes state;
       positive = d.positive;
       aligned = d.aligned;
-      checked = d.checked;
       fits = d.fits;
       few = few state;
       counted = left state;
       waits = λ still. absurd (c.after_new_payload-self.ensures.may_answer still);
-      shown = shown-none d.row d.source_symbols _;
+      shown = shown-none d.row.numbers d.source_symbols _;
       contradicted = contradicted state;
     }
 
@@ -90,12 +88,11 @@ invariant_of-self-else-not-still_shown c =
       bytes = bytes state;
       positive = d.positive;
       aligned = d.aligned;
-      checked = d.checked;
       fits = d.fits;
       few = few state;
       counted = left state;
       waits = λ still. absurd (c.after_new_payload-self.ensures.may_answer still);
-      shown = shown-more d.row d.source_symbols _ _ (esi state) d.fits (came-more (before state) (now state) (esi state) (payload state) c.in-Ok.ensures.ok) d.column (c.column_solves-still_shown.ensures c.if-not-still_shown.false) d.shown;
+      shown = shown-more d.row.numbers d.source_symbols _ _ (esi state) d.fits (came-more (before state) (now state) (esi state) (payload state) c.in-Ok.ensures.ok) d.column (c.column_solves-still_shown.ensures.0 c.if-not-still_shown.false) d.shown;
       contradicted = contradicted state;
     }
 
@@ -109,12 +106,23 @@ invariant_of-self-else-kept c =
       bytes = all-more (All (λ octet. octet < 256)) (payload_of c.args.self.now.received) (payload_of c.keep_first.new.received) c.encoding_symbol_id-esi.result c.split-id.result.1.items c.args.self.now.bytes (subst (All (λ octet. octet < 256)) c.as_slice.ensures.value c.are_octets.ensures) c.in-Ok.ensures.ok;
       positive = c.args.self.now.positive;
       aligned = c.args.self.now.aligned;
-      checked = c.args.self.now.checked;
       fits = c.args.self.now.fits;
       few = few-more (payload_of c.args.self.now.received) (payload_of c.keep_first.new.received) c.encoding_symbol_id-esi.result c.split-id.result.1.items (2 ^ 24) c.args.self.now.few c.encoding_symbol_id-esi.ensures.below c.in-Ok.ensures.ok;
       counted = omega (arith, c.args.self.now.counted, step);
-      shown = shown-same c.args.self.now.row c.args.self.now.source_symbols _ _ c.args.self.now.column
+      shown = shown-same c.args.self.now.row.numbers c.args.self.now.source_symbols _ _ c.args.self.now.column
           (λ e. ap is_some (repeat-same (payload_of c.args.self.now.received) (payload_of c.keep_first.new.received) c.encoding_symbol_id-esi.result c.split-id.result.1.items c.in-Ok.kept c.in-Ok.ensures.kept c.in-Ok.ensures.ok c.if-kept.false e)) c.args.self.now.shown;
       waits = λ still. waits-repeat (received_of c.args.self.now) (payload_of c.keep_first.new.received) c.encoding_symbol_id-esi.result c.split-id.result.1.items c.in-Ok.kept (c.args.self.now.waits still) c.in-Ok.ensures.kept c.in-Ok.ensures.ok c.if-kept.false;
       contradicted = λ still. contradictory-later (received_of c.args.self.now) (payload_of c.keep_first.new.received) c.encoding_symbol_id-esi.result c.split-id.result.1.items c.in-Ok.ensures.ok (c.args.self.now.contradicted still);
     }
+
+pub returns-then-not-still_shown-clause-ok : goal.returns-then-not-still_shown-clause-ok
+returns-then-not-still_shown-clause-ok c =
+    recorded_packet (received_of c.args.self.now) c.args.packet (payload_of c.keep_first.new.received) c.split-id.result.0 c.encoding_symbol_id-esi.result c.split-id.result.1.items c.split-id.ensures.id c.encoding_symbol_id-esi.ensures.value c.split-id.ensures.payload c.in-Ok.ensures.ok
+
+pub returns-else-not-still_shown-clause-ok : goal.returns-else-not-still_shown-clause-ok
+returns-else-not-still_shown-clause-ok c =
+    recorded_packet (received_of c.args.self.now) c.args.packet (payload_of c.keep_first.new.received) c.split-id.result.0 c.encoding_symbol_id-esi.result c.split-id.result.1.items c.split-id.ensures.id c.encoding_symbol_id-esi.ensures.value c.split-id.ensures.payload c.in-Ok.ensures.ok
+
+pub returns-else-kept-clause-ok : goal.returns-else-kept-clause-ok
+returns-else-kept-clause-ok c =
+    recorded_packet (received_of c.args.self.now) c.args.packet (payload_of c.keep_first.new.received) c.split-id.result.0 c.encoding_symbol_id-esi.result c.split-id.result.1.items c.split-id.ensures.id c.encoding_symbol_id-esi.ensures.value c.split-id.ensures.payload c.in-Ok.ensures.ok

@@ -16,11 +16,10 @@ invariant_of-result c =
       bytes = λ e x is. d.bytes e x (sym (same e) ∙ is);
       positive = d.positive;
       aligned = d.aligned;
-      checked = d.checked;
       fits = d.fits;
       few = λ e came. d.few e (sym (ap is_some (same e)) ∙ came);
       counted = d.counted ∙ missing_count-same d.source_symbols _ _ (λ e below. sym (ap is_some (same e)));
-      shown = shown-none d.row d.source_symbols _;
+      shown = shown-none d.row.numbers d.source_symbols _;
       waits = λ still. waits-same (received_of d) (payload_of c.in_ok-clone.field-0) same (d.waits still);
       contradicted = λ still. contradictory-same (received_of d) (payload_of c.in_ok-clone.field-0) same (d.contradicted still);
     }
@@ -29,4 +28,4 @@ pub returns : goal.returns
 returns c =
     let d = c.args.self.now in
     let same : (e : ℕ) → payload_of c.in_ok-clone.field-0 e ≡ payload_of d.received e = payload_of-cloned d.received c.in_ok-clone.field-0 c.in_ok-clone.ensures.cases in
-    record { cases = λ i. record { configuration = d.config; number = d.number; row = d.row; source_symbols = d.source_symbols; received = λ e. same e i } }
+    record { cases = λ i. record { configuration = d.config; number = d.number; row = d.row.numbers; source_symbols = d.source_symbols; received = λ e. same e i } }

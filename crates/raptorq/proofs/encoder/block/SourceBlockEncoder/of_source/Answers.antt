@@ -12,12 +12,11 @@ invariant_of-result c =
     let row = sym c.row-row.ensures.row in
     let source = c.args.source in
     record {
-      checked = c.row-row.ensures.checked;
       nonsingular = c.row-row.ensures.nonsingular;
       unordered = c.requires.unordered;
       few = subst (λ (r : TableRow). length source.values ≤ r.extended_symbols) row c.requires.few;
       sized = subst (λ n. All (λ x. length x ≡ n) source.values) (sym made.size) c.requires.sized;
       enough = subst (λ (r : TableRow). intermediate_symbols r ≤ length (symbols_in slab)) row made.enough;
-      solved = subst (λ n. IsOnlyIntermediateColumn c.row-row.result n source.values (symbol_in slab)) (sym made.size)
+      solved = subst (λ n. IsOnlyIntermediateColumn c.row-row.result.numbers n source.values (symbol_in slab)) (sym made.size)
           (subst (λ (r : TableRow). IsOnlyIntermediateColumn r source.symbol_size source.values (symbol_in slab)) row made.column);
     }

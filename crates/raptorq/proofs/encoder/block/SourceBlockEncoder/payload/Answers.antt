@@ -19,5 +19,5 @@ returns-then-esi-source_symbol_count c =
     let below : esi < length values = omega (arith, c.if-esi-source_symbol_count.true, c.source_symbol_count.ensures) in
     let meant : symbol_in b.source esi ≡ get_or values esi [] = ap (λ (o : Option (List ℕ)). get_or values (meant_at o esi) []) b.unordered in
     IfOk-weaker c.from_slice.result _ _ (λ v is.
-    source_encodes b.row b.intermediate.symbol_size esi values (symbol_in b.intermediate) v.items b.checked b.solved b.few b.sized below
+    source_encodes b.row.numbers b.intermediate.symbol_size esi values (symbol_in b.intermediate) v.items b.row.checked b.solved b.few b.sized below
     (is ∙ c.get.ensures.symbol ∙ meant ∙ at_any values esi [] v.items below)) c.from_slice.ensures.items

@@ -11,6 +11,6 @@ returns-clause-column c =
     let source = c.args.source.now.values in
     let size = c.args.source.now.symbol_size in
     let operations = operations_of plan.operations in
-    let made : c.replay.new.symbols ≡ planned_slab plan.row operations size source =
+    let made : c.replay.new.symbols ≡ planned_slab plan.row.numbers operations size source =
     c.in_ok-replay.ensures.ok ∙ ap (λ (s : Slab). after_all operations s) c.in_ok-symbols.ensures.values in
-    subst (λ (s : Slab). IsOnlyIntermediateColumn plan.row size source (symbol_in s)) (sym made) (plan.finds.column size source c.requires.few c.symbol_size-size.ensures.symbols)
+    subst (λ (s : Slab). IsOnlyIntermediateColumn plan.row.numbers size source (symbol_in s)) (sym made) (plan.finds.column size source c.requires.few c.symbol_size-size.ensures.symbols)

@@ -9,32 +9,31 @@ use Rattle.raptorq.proofs.encoder.plan.SourceBlockEncodingPlan.of_row.Goals as g
 
 pub solve_block-requires-clause-enough : goal.solve_block-requires-clause-enough
 solve_block-requires-clause-enough c =
-    let row = c.args.row in
+    let row = c.args.row.numbers in
     let ids : c.as_slice.result.now ≡ extended_ids row = c.as_slice.ensures.value ∙ extended_ids_are row c.in_ok-ids.ids.items c.in_ok-ids.ensures in
     omega (arith, ap (equation_count row) ids, count_source row)
 
 pub solve_block-requires-clause-fits : goal.solve_block-requires-clause-fits
 solve_block-requires-clause-fits c =
-    let row = c.args.row in
+    let row = c.args.row.numbers in
     let ids : c.as_slice.result.now ≡ extended_ids row = c.as_slice.ensures.value ∙ extended_ids_are row c.in_ok-ids.ids.items c.in_ok-ids.ensures in
-    omega (arith, ap (equation_count row) ids, count_source row, c.requires.checked.few_columns)
+    omega (arith, ap (equation_count row) ids, count_source row, c.args.row.checked.few_columns)
 
 pub returns-in_default-clause-refused : goal.returns-in_default-clause-refused
 returns-in_default-clause-refused c =
-    let row = c.args.row in
+    let row = c.args.row.numbers in
     let ids : c.as_slice.result.now ≡ extended_ids row = c.as_slice.ensures.value ∙ extended_ids_are row c.in_ok-ids.ids.items c.in_ok-ids.ensures in
     let none = subst (FindsListed row c.as_slice.result.now) c.in_default.is c.in_ok-solution.ensures.found in
     inr (refl, λ nonsingular. subst (λ l. HasDeterminedRows row l → ⊥) ids none (nonsingular_rows row nonsingular))
 
 pub invariant_of-result : goal.invariant_of-result
 invariant_of-result c =
-    let row = c.args.row in
+    let row = c.args.row.numbers in
     let ids : c.as_slice.result.now ≡ extended_ids row = c.as_slice.ensures.value ∙ extended_ids_are row c.in_ok-ids.ids.items c.in_ok-ids.ensures in
     let operations = operations_of c.in-Some.solution.operations in
     let found = subst (FindsListed row c.as_slice.result.now) c.in-Some.is c.in_ok-solution.ensures.found in
     let finds = finds_source row c.in-Some.solution (subst (λ l. FindsFrom row l c.in-Some.solution) ids found) in
     record {
-      checked = c.requires.checked;
       nonsingular = plan_nonsingular row operations finds;
       few = c.requires.few;
       allowed = plan_allowed row operations finds;

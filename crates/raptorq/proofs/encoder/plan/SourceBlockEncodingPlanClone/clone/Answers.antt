@@ -10,14 +10,13 @@ invariant_of-result c =
     let plan = c.args.self.now in
     let same = c.in_ok-clone.ensures.cases in
     record {
-      checked = plan.checked;
       nonsingular = plan.nonsingular;
       few = plan.few;
-      allowed = subst (λ l. AreAllowed (intermediate_symbols plan.row) None l) (sym same) plan.allowed;
-      finds = subst (IsPlanOf plan.row) (sym same) plan.finds;
+      allowed = subst (λ l. AreAllowed (intermediate_symbols plan.row.numbers) None l) (sym same) plan.allowed;
+      finds = subst (IsPlanOf plan.row.numbers) (sym same) plan.finds;
     }
 
 pub returns : goal.returns
 returns c =
     let plan = c.args.self.now in
-    record { cases = ap (λ (l : List Operation). let p : Plan = record { count = plan.source_symbol_count; row = plan.row; operations = l } in p) c.in_ok-clone.ensures.cases }
+    record { cases = ap (λ (l : List Operation). let p : Plan = record { count = plan.source_symbol_count; row = plan.row.numbers; operations = l } in p) c.in_ok-clone.ensures.cases }

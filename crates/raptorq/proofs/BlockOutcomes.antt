@@ -8,14 +8,13 @@ use Rattle.std.proofs.lemmas.Option.{same_Some}
 use Rattle.rq_algebra.specs.Arrangements.{RowsStandIn}
 use Rattle.rq_algebra.specs.Operations.{Operation, Store, run, unordered, found_by, IsUnread, FindsColumn}
 use Rattle.rq_algebra.specs.Symbols.{symbols, IsSymbol, IsSymbolColumn, AreSymbols, SolvesSymbols, symbol_at}
-use Rattle.rq_algebra.specs.Systems.{HasHomogeneousColumn, rows_of}
+use Rattle.rq_algebra.specs.Systems.{HasHomogeneousColumn, IsHomogeneousColumn, rows_of}
 use Rattle.rq_algebra.proofs.Found.{finds_determined, found_are_symbols, found_leaves, found_fits}
 use Rattle.rq_algebra.proofs.Solutions.{determined_stays, homogeneous_not_determined}
 use Rattle.rq_algebra.proofs.Stacks.{stacked_above, stacked_below}
 use Rattle.rq_algebra.proofs.SymbolColumns.{run_keeps_symbols}
 use Rattle.rq_bytes.specs.SymbolSlab.{Slab, HasPlace, after_all, store_of, symbol_in, symbols_in, IsZeroUnread}
 use Rattle.rq_operations.specs.RecordedOperations.{operations_of}
-use Rattle.rq_null_vector.specs.Homogeneous.{IsHomogeneousColumn}
 use Rattle.rq_null_vector.proofs.FreeColumns.{shows_same}
 use Rattle.rq_parts.specs.DenseOctetMatrix.{OctetTable, entry_of}
 use Rattle.rq_standard.specs.declared.row.TableRow.{TableRow}
@@ -55,7 +54,7 @@ SolvesAll row ids (Operations found) = FindsColumn octets (equation_count row id
 SolvesAll row ids (Undetermined column) = (HasDeterminedRows row ids → ⊥) × IfSome column (IsHomogeneousFor row ids)
 
 module _ (row : TableRow) (ids : List ℕ) (bits : BitTable) (hdpc : OctetTable) (handed : Slab) (part : IsBinaryPart row ids bits) (octet_part : IsHdpcPart row hdpc) (are : AreEquations row bits hdpc handed) where
-  shown_outcome : (column : Option (Vec ℕ Global)) → IfSome column (λ shown. IsHomogeneousColumn (length handed.values) (intermediate_symbols row) (with_octet_rows row.ldpc_symbols row.hdpc_symbols bits.bit (entry_of hdpc)) shown.items) → IfSome column (IsHomogeneousFor row ids)
+  shown_outcome : (column : Option (Vec ℕ Global)) → IfSome column (λ shown. IsHomogeneousColumn octets (length handed.values) (intermediate_symbols row) (with_octet_rows row.ldpc_symbols row.hdpc_symbols bits.bit (entry_of hdpc)) shown.items) → IfSome column (IsHomogeneousFor row ids)
   shown_outcome None shown = tt
   shown_outcome (Some column) shown = shows_same (equation_count row ids) (intermediate_symbols row) _ (equations row ids) (equations_same row ids bits hdpc part octet_part.rows) (Some column) (rw (sym are.binary.height ∙ part.height) at shown)
 

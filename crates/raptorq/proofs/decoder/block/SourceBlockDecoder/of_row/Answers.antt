@@ -2,7 +2,7 @@ use Rattle.std.proofs.Common.{sym, ap, ◌∙◌}
 use Rattle.std.specs.Prelude.{is_some}
 use Rattle.raptorq.proofs.Payloads.{payload_of-empty}
 use Rattle.raptorq.proofs.MissingCounts.{missing_count-all}
-use Rattle.raptorq.proofs.decoder.block.SourceBlockDecoder.of_symbols.Goals as goal
+use Rattle.raptorq.proofs.decoder.block.SourceBlockDecoder.of_row.Goals as goal
 
 pub invariant_of-result-clause-sized : goal.invariant_of-result-clause-sized
 invariant_of-result-clause-sized c = λ e x is. absurd (let none = payload_of-empty c.new.result c.new.ensures.empty e in cc (sym none ∙ is))

@@ -27,8 +27,8 @@ has_value None none = none
 has_value (Some v) some = refl
 
 -- a payload came with the key that is next
-pub next_came : (m : Payloads) (done rest : List ℕ) (e : ℕ) → All (ContainsKey nat_cmp m) (keys m) → done ++ e ∷ rest ≡ keys m → has_payload m e ≡ true
-next_came m done rest e found whole =
+pub next_has_payload : (m : Payloads) (done rest : List ℕ) (e : ℕ) → All (ContainsKey nat_cmp m) (keys m) → done ++ e ∷ rest ≡ keys m → has_payload m e ≡ true
+next_has_payload m done rest e found whole =
     let all : All (ContainsKey nat_cmp m) (done ++ e ∷ rest) = subst (All (ContainsKey nat_cmp m)) (sym whole) found in
     has_value _ (rw (get_or-append_seam done e rest 0) at (all (length done) 0 (omega (arith, length-append done (e ∷ rest)))))
 

@@ -1,0 +1,76 @@
+//! An object in, the bytes of its packets out.
+ghost use Rattle.std.specs.Prelude.{◌≡◌, ◌<◌, length, Ok, IfErr, OnOk, OnErr};
+ghost use Rattle.rq_standard.specs.Headline.{HasNonsingularRows};
+ghost use Rattle.raptorq.specs.Appended.{AppendsObject, KeepsFront, RefusesPackets};
+ghost use Rattle.raptorq.specs.BlockCutting.{AppendsBlocks, RefusesRows};
+ghost use Rattle.raptorq.specs.Encoder.{packets_refusal};
+
+use crate::blocks::check_repair;
+use crate::encoder::block_cutter::BlockCutter;
+use rq_base::base::ObjectTransmissionInformation;
+use rq_bytes::error::Error;
+use rq_tables::systematic_constants::SystematicTable;
+use std::alloc::Global;
+
+/// Appends the packets of an object to bytes, each its payload id of 4 bytes and its symbol: those
+/// that [`Encoder::get_encoded_packets`](crate::encoder::Encoder::get_encoded_packets) makes, in
+/// their order (RFC 6330, 4.4.2 and 5.3). It works on one block after another, so that beside the
+/// object and the bytes there are the symbols of one block alone. Not in the Rust crate.
+///
+/// Refuses what [`Encoder::new`](crate::encoder::Encoder::new) refuses, and then [`Error::EsiTooLarge`]
+/// where a block would need encoding symbol ids above 2^24 - 1. The bytes are as before then.
+pub fn encode_all(
+    alloc: Global,
+    table: &SystematicTable,
+    object: &[u8],
+    config: &ObjectTransmissionInformation,
+    repair_packets_per_block: u32,
+    bytes: &mut Vec<u8>,
+) -> Result<(), Error>
+    ensures packets { OnOk result (AppendsObject table.now config.now object.now repair_packets_per_block bytes.old.items bytes.new.items) }
+    ensures refused { IfErr result (RefusesPackets table.now config.now (length object.now) repair_packets_per_block) }
+    ensures kept { OnErr result (bytes.new.items ≡ bytes.old.items) }
+{
+    config.check(table)?;
+    if object.len() as u64 != config.transfer_length() {
+        return Err(Error::WrongDataLength);
+    }
+    let mut blocks = BlockCutter::new(alloc, table, object, config)?;
+    if let Err(refusal) = check_repair(config, repair_packets_per_block) {
+        // A singular row is refused first.
+        blocks.check_rows()?;
+        return Err(refusal);
+    }
+    let start = bytes.len();
+    if let Err(refusal) = append_blocks(blocks, repair_packets_per_block, bytes) {
+        bytes.truncate(start);
+        return Err(refusal);
+    }
+    Ok(())
+}
+
+// Appends the packets of all blocks of an object.
+fn append_blocks(mut blocks: BlockCutter<'_>, repair: u32, bytes: &mut Vec<u8>) -> Result<(), Error>
+    requires { packets_refusal blocks.config.now repair ≡ Ok tt }
+    ensures packets { OnOk result (AppendsBlocks blocks.entry repair bytes.old.items bytes.new.items) }
+    ensures nonsingular { OnOk result (HasNonsingularRows blocks.entry.table.now blocks.entry.config.now) }
+    ensures begun { OnErr result (KeepsFront bytes.old.items bytes.new.items) }
+    ensures refused { IfErr result (RefusesRows blocks.entry.table.now blocks.entry.config.now) }
+{
+    let count = blocks.config.source_blocks();
+    bytes.reserve_exact(packets_length(blocks.config, repair))?;
+    for number in 0..count {
+        let block = blocks.next_encoder(number)?;
+        block.append_packets(block.source_symbol_count() + repair, bytes)?;
+    }
+    Ok(())
+}
+
+// How many bytes an object's packets take, as far as 64 bits count them. Room for them is made at once.
+fn packets_length(config: &ObjectTransmissionInformation, repair: u32) -> usize
+    requires { 0 < config.now.symbol_size }
+{
+    let repair_packets = u64::from(config.source_blocks()).saturating_mul(u64::from(repair));
+    let packets = config.total_symbols().saturating_add(repair_packets);
+    packets.saturating_mul(config.frame_size() as u64) as usize
+}
