@@ -7,8 +7,8 @@ abbrev pub failed_count : {T : Type 0} → Counted T → ℕ
 failed_count c = c.failed
 
 -- what it wraps
-abbrev pub inner_of : {T : Type 0} → Counted T → T
-inner_of c = c.inner
+abbrev pub inner : {T : Type 0} → Counted T → T
+inner c = c.inner
 
 -- one more, up to the greatest u64
 abbrev pub one_more : ℕ → ℕ

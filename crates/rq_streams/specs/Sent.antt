@@ -45,5 +45,5 @@ abbrev pub IsSent : List TableRow → ℕ → ℕ → List ℕ → Wanted → Ty
 IsSent table packet_size repair object wanted = MatchResult (sent_configuration table packet_size object) (λ c. Sends table c repair object wanted) (λ e. wanted ≡ Err e)
 
 -- A run that reads this object, and behind whose writer this stood before and after, writes that stream.
-abbrev pub SendsStream : List TableRow → ℕ → ℕ → Result Outcome Stop → Option (List ℕ) → Option (List ℕ) → Option (List ℕ) → Type 0
-SendsStream table packet_size repair result input before after = IfSome input (λ object. EndsAs result before after (IsSent table packet_size repair object))
+abbrev pub SendsAll : List TableRow → ℕ → ℕ → Result Outcome Stop → Option (List ℕ) → Option (List ℕ) → Option (List ℕ) → Type 0
+SendsAll table packet_size repair result input before after = IfSome input (λ object. EndsAs result before after (IsSent table packet_size repair object))

@@ -15,14 +15,17 @@ pub struct Counted<T> {
 }
 
 impl<T> Counted<T> {
-    ghost use Rattle.rq_streams.specs.Counted.{failed_count, inner_of};
+    ghost use Rattle.rq_streams.specs.Counted.{failed_count, inner};
 
     /// Counts the failed calls of a reader or a writer from now on.
-    pub fn new(inner: T) -> Counted<T>
-        ensures inner { inner_of result ≡ inner }
+    pub fn new(wrapped: T) -> Counted<T>
+        ensures inner { inner result ≡ wrapped }
         ensures none { failed_count result ≡ 0 }
     {
-        Counted { inner, failed: 0 }
+        Counted {
+            inner: wrapped,
+            failed: 0,
+        }
     }
 
     /// How many calls failed. It stays at `u64::MAX`.
@@ -34,13 +37,13 @@ impl<T> Counted<T> {
 }
 
 impl<R: Read> Read for Counted<R> {
-    ghost use Rattle.rq_streams.specs.Counted.{failed_count, inner_of, one_more};
+    ghost use Rattle.rq_streams.specs.Counted.{failed_count, inner, one_more};
 
-    ghost remaining = { λ c. R.remaining (inner_of c) };
+    ghost remaining = { λ c. R.remaining (inner c) };
 
     fn read(&mut self, buf: &mut [u8]) -> io::Result<usize>
         ensures bound { ReadsAtMost result buf.new }
-        ensures bytes { ReadConsumes (R.remaining (inner_of self.old)) (R.remaining (inner_of self.new)) result buf.new }
+        ensures bytes { ReadConsumes (R.remaining (inner self.old)) (R.remaining (inner self.new)) result buf.new }
         ensures ok { OnOk result (failed_count self.new ≡ failed_count self.old) }
         ensures err { OnErr result (failed_count self.new ≡ one_more (failed_count self.old)) }
     {
@@ -53,13 +56,13 @@ impl<R: Read> Read for Counted<R> {
 }
 
 impl<W: Write> Write for Counted<W> {
-    ghost use Rattle.rq_streams.specs.Counted.{failed_count, inner_of, one_more, CountsWrite};
+    ghost use Rattle.rq_streams.specs.Counted.{failed_count, inner, one_more, CountsWrite};
 
-    ghost contents = { λ c. W.contents (inner_of c) };
+    ghost contents = { λ c. W.contents (inner c) };
 
     fn write(&mut self, buf: &[u8]) -> io::Result<usize>
         ensures bound { WritesAtMost result buf.now }
-        ensures bytes { WriteAppends (W.contents (inner_of self.old)) (W.contents (inner_of self.new)) result buf.now }
+        ensures bytes { WriteAppends (W.contents (inner self.old)) (W.contents (inner self.new)) result buf.now }
         ensures counts { CountsWrite (failed_count self.old) (failed_count self.new) result buf.now }
     {
         let result = self.inner.write(buf);
@@ -74,7 +77,7 @@ impl<W: Write> Write for Counted<W> {
     }
 
     fn flush(&mut self) -> io::Result<()>
-        ensures bytes { Keeps (W.contents (inner_of self.old)) (W.contents (inner_of self.new)) }
+        ensures bytes { Keeps (W.contents (inner self.old)) (W.contents (inner self.new)) }
         ensures ok { OnOk result (failed_count self.new ≡ failed_count self.old) }
         ensures err { OnErr result (failed_count self.new ≡ one_more (failed_count self.old)) }
     {

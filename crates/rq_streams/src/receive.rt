@@ -1,7 +1,7 @@
 //! A stream in, its object out.
 ghost use Rattle.std.specs.Prelude.{◌≡◌, ◌^◌, ◌-◌, ◌<◌, ◌≤◌, length, OnOk, IfOk, IfErr, option_map, vec_items};
 ghost use Rattle.raptorq.specs.Decoder.{state_of};
-ghost use Rattle.rq_streams.specs.Counted.{failed_count, inner_of};
+ghost use Rattle.rq_streams.specs.Counted.{failed_count, inner};
 ghost use Rattle.rq_standard.specs.Streams.{frame_size, frames_in};
 ghost use Rattle.rq_streams.specs.Ends.{AnswersAs, EndsAtFailure};
 ghost use Rattle.rq_streams.specs.Frames.{header_length, kept_packet, skipped_count, skipped_in};
@@ -65,7 +65,7 @@ fn add_frames(
     ensures configuration { (state_of decoder.new).configuration ≡ (state_of decoder.old).configuration }
     ensures stands { OnOk result (StandsForFrames config.now (state_of decoder.old) frames.now (state_of decoder.new)) }
 {
-    let size = 4 + usize::from(config.symbol_size());
+    let size = config.frame_size();
     let mut skipped = 0;
     for frame in frames.chunks(size) {
         match frame_packet(alloc, config, size, frame)? {
@@ -123,26 +123,26 @@ pub fn run_receive<R: Read, W: Write>(
 
     // The first failed call ends the run, and nothing else is a fault.
     ensures failures { EndsAtFailure reader.old writer.old result reader.new writer.new
-        (W.contents (inner_of writer.old)) (W.contents (inner_of writer.new)) }
+        (W.contents (inner writer.old)) (W.contents (inner writer.new)) }
 
     // Whatever is read, its first refusal is refused, that of its packets that contradict each other
     // among it, and then nothing is written.
     ensures refused { RefusesFirst table.now result
-        (R.remaining (inner_of reader.old)) (W.contents (inner_of writer.old)) (W.contents (inner_of writer.new)) }
+        (R.remaining (inner reader.old)) (W.contents (inner writer.old)) (W.contents (inner writer.new)) }
 
     // Whatever is read, the frames that can't be used are counted.
-    ensures skipped { CountsSkipped result (R.remaining (inner_of reader.old)) }
+    ensures skipped { CountsSkipped result (R.remaining (inner reader.old)) }
 
     // Of an object's packets among other frames the object, exactly where they determine it.
     ensures ends { ReceivesExactly table.now result
-        (R.remaining (inner_of reader.old)) (W.contents (inner_of writer.old)) (W.contents (inner_of writer.new)) }
+        (R.remaining (inner reader.old)) (W.contents (inner writer.old)) (W.contents (inner writer.new)) }
 
     // No receiver can do better: the object exactly where no other object fits the packets.
     ensures where_any_can { ReceivesWhereAnyCan table.now result
-        (R.remaining (inner_of reader.old)) (W.contents (inner_of writer.old)) (W.contents (inner_of writer.new)) }
+        (R.remaining (inner reader.old)) (W.contents (inner writer.old)) (W.contents (inner writer.new)) }
 
     // The other frames are counted, and a rest that isn't empty.
-    ensures others { CountsOthers table.now result (R.remaining (inner_of reader.old)) }
+    ensures others { CountsOthers table.now result (R.remaining (inner reader.old)) }
 {
     let bytes = read_all(alloc, reader)?;
     let (object, skipped) = received_object(alloc, table, bytes)?;

@@ -3,7 +3,7 @@ ghost use Rattle.std.specs.Prelude.{◌≡◌, ◌+◌, ◌^◌, ◌-◌, ◌<�
 ghost use Rattle.std.specs.Io.KnownBytes.{Appends};
 ghost use Rattle.rq_bytes.specs.declared.error.Error.TheVariants.{OutOfMemory};
 ghost use Rattle.rq_streams.specs.declared.run.Stop.TheVariants.{Fault, Refused};
-ghost use Rattle.rq_streams.specs.Counted.{failed_count, inner_of};
+ghost use Rattle.rq_streams.specs.Counted.{failed_count, inner};
 ghost use Rattle.rq_streams.specs.Ends.{Ends, failed_calls};
 
 use crate::counted::Counted;
@@ -51,7 +51,7 @@ const CHUNK: usize = 65536;
 /// All that is left to read. The first failed call ends it with a fault.
 pub(crate) fn read_all<R: Read>(alloc: Global, reader: &mut Counted<R>) -> Result<Vec<u8>, Stop>
     requires { failed_count reader.old < 2 ^ 64 - 1 }
-    ensures bytes { IfOk result (λ v. IfSome (R.remaining (inner_of reader.old)) (λ input. v.items ≡ input)) }
+    ensures bytes { IfOk result (λ v. IfSome (R.remaining (inner reader.old)) (λ input. v.items ≡ input)) }
     ensures counts { failed_count reader.new ≡ failed_count reader.old + failed_calls result }
     ensures err { IfErr result (λ stop. (stop ≡ Stop.Fault) ⊎ (stop ≡ Stop.Refused Error.OutOfMemory)) }
 {
@@ -71,11 +71,11 @@ pub(crate) fn read_all<R: Read>(alloc: Global, reader: &mut Counted<R>) -> Resul
 // Writes the bytes and flushes once. The first failed call ends it with a fault.
 fn write_out<W: Write>(writer: &mut Counted<W>, bytes: &[u8]) -> Result<(), Stop>
     requires { failed_count writer.old < 2 ^ 64 - 1 }
-    ensures bytes { OnOk result (Appends (W.contents (inner_of writer.old)) (W.contents (inner_of writer.new)) bytes.now) }
+    ensures bytes { OnOk result (Appends (W.contents (inner writer.old)) (W.contents (inner writer.new)) bytes.now) }
     ensures counts { failed_count writer.new ≡ failed_count writer.old + failed_calls result }
     ensures err { IfErr result (λ stop. stop ≡ Stop.Fault) }
     ensures beginning { OnErr result ((n : ℕ)
-        × Appends (W.contents (inner_of writer.old)) (W.contents (inner_of writer.new)) (take n bytes.now)) }
+        × Appends (W.contents (inner writer.old)) (W.contents (inner writer.new)) (take n bytes.now)) }
 {
     let mut at = 0;
     'writing: while at < bytes.len() {
@@ -100,7 +100,7 @@ pub(crate) fn finish<W: Write>(
 ) -> Result<Outcome, Stop>
     requires { failed_count writer.old < 2 ^ 64 - 1 }
     ensures counts { failed_count writer.new ≡ failed_count writer.old + failed_calls result }
-    ensures ends { Ends result (W.contents (inner_of writer.old)) (W.contents (inner_of writer.new)) (Ok (option_map vec_items made)) }
+    ensures ends { Ends result (W.contents (inner writer.old)) (W.contents (inner writer.new)) (Ok (option_map vec_items made)) }
 {
     match made {
         None => Ok(Outcome::Incomplete),

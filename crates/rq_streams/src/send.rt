@@ -1,36 +1,19 @@
 //! An object in, its stream out.
-ghost use Rattle.std.specs.Prelude.{◌^◌, ◌-◌, ◌<◌, Ok, option_map, vec_items};
-ghost use Rattle.rq_bytes.specs.Refusals.{IsAnswer};
-ghost use Rattle.rq_standard.specs.Streams.{stream_of};
-ghost use Rattle.rq_streams.specs.Counted.{failed_count, inner_of};
+ghost use Rattle.std.specs.Prelude.{◌^◌, ◌-◌, ◌<◌, option_map, vec_items};
+ghost use Rattle.rq_streams.specs.Counted.{failed_count, inner};
 ghost use Rattle.rq_streams.specs.Ends.{AnswersAs, EndsAtFailure};
-ghost use Rattle.rq_streams.specs.Sent.{IsSent, SendsStream};
+ghost use Rattle.rq_streams.specs.Sent.{IsSent, SendsAll};
 
 use crate::counted::Counted;
 use crate::run::{Outcome, Stop, finish, read_all};
+use raptorq::ObjectTransmissionInformation;
+use raptorq::encoder::encode_all;
 use raptorq::error::Error;
 use raptorq::systematic_constants::SystematicTable;
-use raptorq::{Encoder, EncodingPacket, ObjectTransmissionInformation};
 use std::alloc::Global;
 use std::io::{Read, Write};
 
-// The bytes of a stream: of its configuration, and then of its packets.
-fn stream(
-    alloc: Global,
-    config: &ObjectTransmissionInformation,
-    packets: Vec<EncodingPacket>,
-) -> Result<Vec<u8>, Error>
-    ensures { IsAnswer vec_items result (Ok (stream_of config.now packets.items)) }
-{
-    let mut bytes = Vec::from_slice(alloc, &config.serialize())?;
-    for packet in packets {
-        bytes.extend_from_slice(packet.serialize(alloc)?.as_slice())?;
-    }
-    Ok(bytes)
-}
-
-// The stream of an object. What isn't needed any more goes at once, so that the object, its encoder,
-// its packets and its stream never stand side by side.
+// The stream of an object: its header, and then its packets.
 fn sent_stream(
     alloc: Global,
     table: &SystematicTable,
@@ -42,20 +25,24 @@ fn sent_stream(
 {
     let length = object.len() as u64;
     let config = ObjectTransmissionInformation::with_defaults(table, length, packet_size)?;
-    let encoder = Encoder::new(alloc, table, object.as_slice(), config)?;
-    drop(object);
-    let packets = encoder.get_encoded_packets(repair)?;
-    drop(encoder);
-    Ok(Some(stream(alloc, &config, packets)?))
+    let mut stream = Vec::from_slice(alloc, &config.serialize())?;
+    encode_all(
+        alloc,
+        table,
+        object.as_slice(),
+        &config,
+        repair,
+        &mut stream,
+    )?;
+    Ok(Some(stream))
 }
 
 /// Reads an object and writes its stream: the 12 bytes of its default configuration for packets of
 /// at most `packet_size` bytes of payload, and then its packets, `repair` of them a block being
 /// repair packets, each with its payload id of 4 bytes, in order.
 ///
-/// Refuses, in this order, what [`ObjectTransmissionInformation::with_defaults`] refuses, what
-/// [`Encoder::new`] refuses, and what [`Encoder::get_encoded_packets`] refuses.
-/// [`Error::OutOfMemory`] may come before any of them.
+/// Refuses, in this order, what [`ObjectTransmissionInformation::with_defaults`] refuses, and what
+/// [`encode_all`] refuses. [`Error::OutOfMemory`] may come before any of them.
 pub fn run_send<R: Read, W: Write>(
     alloc: Global,
     table: &SystematicTable,
@@ -69,11 +56,11 @@ pub fn run_send<R: Read, W: Write>(
 
     // The first failed call ends the run, and nothing else is a fault.
     ensures failures { EndsAtFailure reader.old writer.old result reader.new writer.new
-        (W.contents (inner_of writer.old)) (W.contents (inner_of writer.new)) }
+        (W.contents (inner writer.old)) (W.contents (inner writer.new)) }
 
     // The stream of what is read, or the first refusal in the written order.
-    ensures ends { SendsStream table.now packet_size repair result
-        (R.remaining (inner_of reader.old)) (W.contents (inner_of writer.old)) (W.contents (inner_of writer.new)) }
+    ensures ends { SendsAll table.now packet_size repair result
+        (R.remaining (inner reader.old)) (W.contents (inner writer.old)) (W.contents (inner writer.new)) }
 {
     let object = read_all(alloc, reader)?;
     let stream = sent_stream(alloc, table, object, packet_size, repair)?;
