@@ -29,6 +29,18 @@ static uint8_t *read_file(const char *name, size_t *length)
     return bytes;
 }
 
+/* How many packets the receiver needs at least. */
+static uint64_t missing(struct reamertan_handle *receiver, unsigned blocks)
+{
+    uint64_t total = 0;
+    for (unsigned block = 0; block < blocks; block++) {
+        uint32_t packets;
+        check("missing_packets", reamertan_missing_packets(receiver, (uint8_t)block, &packets));
+        total += packets;
+    }
+    return total;
+}
+
 int main(int count, char **words)
 {
     if (count != 2)
@@ -36,7 +48,8 @@ int main(int count, char **words)
     size_t length;
     uint8_t *object = read_file(words[1], &length), *back = malloc(length);
     uint8_t configuration[REAMERTAN_CONFIGURATION_BYTES];
-    check("derive", reamertan_derive_configuration(length, 1280, REAMERTAN_DEFAULT_DECODER_MEMORY, configuration));
+    check("derive", reamertan_derive_configuration(NULL, 0, length, 1280, REAMERTAN_DEFAULT_DECODER_MEMORY,
+                                                   configuration));
     struct reamertan_parameters cut;
     reamertan_read_configuration(configuration, &cut);
     size_t size = REAMERTAN_PAYLOAD_ID_BYTES + cut.symbol_size;
@@ -45,11 +58,10 @@ int main(int count, char **words)
         return 1;
 
     struct reamertan_handle sender = {0}, receiver = {0};
-    check("open_encoder", reamertan_open_encoder(configuration, object, length, &sender));
-    check("open_decoder", reamertan_open_decoder(configuration, &receiver));
-    uint8_t answer = REAMERTAN_INCOMPLETE;
+    check("open_encoder", reamertan_open_encoder(NULL, 0, configuration, object, length, &sender));
+    check("open_decoder", reamertan_open_decoder(NULL, 0, configuration, &receiver));
     unsigned sent = 0, lost = 0;
-    for (uint32_t esi = 0; answer == REAMERTAN_INCOMPLETE; esi++) {
+    for (uint32_t esi = 0; missing(&receiver, cut.source_blocks) > 0; esi++) {
         for (unsigned block = 0; block < cut.source_blocks; block++) {
             check("write_packet", reamertan_write_packet(&sender, (uint8_t)block, esi, packet, size));
             if (++sent % 10 == 0)
@@ -57,9 +69,8 @@ int main(int count, char **words)
             else
                 check("add_packet", reamertan_add_packet(&receiver, packet, size));
         }
-        answer = reamertan_write_object(&receiver, back, length);
     }
-    check("write_object", answer);
+    check("write_object", reamertan_write_object(&receiver, back, length));
     reamertan_close(&sender);
     reamertan_close(&receiver);
     int same = memcmp(object, back, length) == 0;

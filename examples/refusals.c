@@ -33,36 +33,57 @@ static void configurations(void)
     expect("alignment of 0", 2, reamertan_write_configuration(&unaligned, buffer));
     expect("misaligned", 3, reamertan_write_configuration(&odd, buffer));
     expect("too many symbols", 4, reamertan_write_configuration(&large, buffer));
-    expect("packets of 0 bytes", 15, reamertan_derive_configuration(3, 0, 1 << 20, buffer));
-    expect("no bytes", 16, reamertan_derive_configuration(0, 2, 1 << 20, buffer));
-    expect("derived too long", 1, reamertan_derive_configuration(942574504276u, 2, 1 << 20, buffer));
-    expect("no memory to fit", 17, reamertan_derive_configuration(3, 2, 1, buffer));
-    expect("too many blocks", 18, reamertan_derive_configuration(1000000, 1, 1 << 20, buffer));
+    expect("packets of 0 bytes", 15, reamertan_derive_configuration(NULL, 0, 3, 0, 1 << 20, buffer));
+    expect("no bytes", 16, reamertan_derive_configuration(NULL, 0, 0, 2, 1 << 20, buffer));
+    expect("derived too long", 1, reamertan_derive_configuration(NULL, 0, 942574504276u, 2, 1 << 20, buffer));
+    expect("no memory to fit", 17, reamertan_derive_configuration(NULL, 0, 3, 2, 1, buffer));
+    expect("too many blocks", 18, reamertan_derive_configuration(NULL, 0, 1000000, 1, 1 << 20, buffer));
     uint8_t changed[REAMERTAN_CONFIGURATION_BYTES] = {0};
-    expect("symbols of 0 bytes", 5, reamertan_check_configuration(changed));
+    expect("symbols of 0 bytes", 5, reamertan_check_configuration(NULL, 0, changed));
     memcpy(changed, HEADER, sizeof changed), changed[8] = 0;
-    expect("no blocks", 6, reamertan_check_configuration(changed));
+    expect("no blocks", 6, reamertan_check_configuration(NULL, 0, changed));
     memcpy(changed, HEADER, sizeof changed), changed[3] = 255;
-    expect("over the table", 7, reamertan_check_configuration(changed));
+    expect("over the table", 7, reamertan_check_configuration(NULL, 0, changed));
+}
+
+/* A row with an even number of LDPC symbols is refused before all else. */
+static void rows(void)
+{
+    const struct reamertan_row next = {511, 800, 37, 10, 523}, even = {511, 800, 36, 10, 523};
+    struct reamertan_handle none = {0};
+    uint8_t large[REAMERTAN_CONFIGURATION_BYTES], zeros[REAMERTAN_CONFIGURATION_BYTES] = {0};
+    memcpy(large, HEADER, sizeof large), large[3] = 3, large[4] = 232;
+    expect("500 symbols", 7, reamertan_check_configuration(NULL, 0, large));
+    expect("500 symbols and their row", 0, reamertan_check_configuration(&next, 1, large));
+    expect("derived", 19, reamertan_derive_configuration(&even, 1, 0, 0, 0, buffer));
+    expect("checked", 19, reamertan_check_configuration(&even, 1, zeros));
+    expect("sized", 19, reamertan_packets_length(&even, 1, zeros, 0, (uint64_t *)(void *)buffer));
+    expect("encoded", 19, reamertan_encode(&even, 1, zeros, OBJECT, 3, 0, buffer, 11));
+    expect("decoded", 19, reamertan_decode(&even, 1, zeros, PACKETS, 3, buffer, 3));
+    expect("an encoder", 19, reamertan_open_encoder(&even, 1, zeros, OBJECT, 3, &none));
+    expect("a decoder", 19, reamertan_open_decoder(&even, 1, zeros, &none));
 }
 
 static void handles(void)
 {
     struct reamertan_handle none = {0}, sender = {0}, receiver = {0};
     uint8_t back[3], over[REAMERTAN_CONFIGURATION_BYTES] = {0};
+    uint32_t *missing = (uint32_t *)(void *)buffer;
     expect("packets of none", 26, reamertan_write_packet(&none, 0, 0, buffer, 6));
     expect("packets for none", 26, reamertan_add_packet(&none, PACKETS, 6));
     expect("the object of none", 26, reamertan_write_object(&none, buffer, 3));
+    expect("packets that none misses", 26, reamertan_missing_packets(&none, 0, missing));
     reamertan_close(&none);
-    expect("opened", 0, reamertan_open_encoder(HEADER, OBJECT, 3, &sender));
-    expect("opened with 2 bytes", 8, reamertan_open_encoder(HEADER, OBJECT, 2, &sender));
+    expect("opened", 0, reamertan_open_encoder(NULL, 0, HEADER, OBJECT, 3, &sender));
+    expect("opened with 2 bytes", 8, reamertan_open_encoder(NULL, 0, HEADER, OBJECT, 2, &sender));
     expect("packets for a sender", 26, reamertan_add_packet(&sender, PACKETS, 6));
     expect("an id of 25 bits", 11, reamertan_write_packet(&sender, 1, 1 << 24, buffer, 6));
     expect("of no block", 14, reamertan_write_packet(&sender, 1, 0, buffer, 6));
     expect("room for 5", 24, reamertan_write_packet(&sender, 0, 0, buffer, 5));
-    expect("opened", 0, reamertan_open_decoder(HEADER, &receiver));
-    expect("symbols of 0 bytes", 5, reamertan_open_decoder(over, &receiver));
+    expect("opened", 0, reamertan_open_decoder(NULL, 0, HEADER, &receiver));
+    expect("symbols of 0 bytes", 5, reamertan_open_decoder(NULL, 0, over, &receiver));
     expect("packets of a receiver", 26, reamertan_write_packet(&receiver, 0, 0, buffer, 6));
+    expect("packets missing of no block", 14, reamertan_missing_packets(&receiver, 1, missing));
     expect("a cut id", 12, reamertan_add_packet(&receiver, PACKETS, 3));
     expect("a foreign block", 14, reamertan_add_packet(&receiver, (const uint8_t[]){1, 0, 0, 0}, 4));
     expect("a cut symbol", 13, reamertan_add_packet(&receiver, PACKETS, 5));
@@ -81,12 +102,13 @@ static void handles(void)
 static void contradictions(void)
 {
     struct reamertan_handle receiver = {0};
-    expect("a forged packet", 22, reamertan_decode(ONE, FORGED, 10, buffer, 1));
-    expect("opened", 0, reamertan_open_decoder(ONE, &receiver));
+    expect("a forged packet", 22, reamertan_decode(NULL, 0, ONE, FORGED, 10, buffer, 1));
+    expect("opened", 0, reamertan_open_decoder(NULL, 0, ONE, &receiver));
     expect("one of both", 0, reamertan_add_packet(&receiver, FORGED, 5));
     expect("the other", 22, reamertan_add_packet(&receiver, FORGED + 5, 5));
     expect("one again", 22, reamertan_add_packet(&receiver, FORGED, 5));
     expect("no object", 25, reamertan_write_object(&receiver, buffer, 1));
+    expect("no count", 22, reamertan_missing_packets(&receiver, 0, (uint32_t *)(void *)buffer));
     reamertan_close(&receiver);
 }
 
@@ -94,20 +116,21 @@ int main(void)
 {
     memcpy(buffer, UNTOUCHED, sizeof buffer);
     configurations();
+    rows();
     handles();
     contradictions();
     expect("no such block", 14, reamertan_block_range(HEADER, 1, (struct reamertan_range *)(void *)buffer));
-    expect("too many ids", 11, reamertan_packets_length(HEADER, 1 << 24, (uint64_t *)(void *)buffer));
-    expect("another length", 8, reamertan_encode(HEADER, OBJECT, 2, 0, buffer, 12));
-    expect("ids for none", 11, reamertan_encode(HEADER, OBJECT, 3, 1 << 24, buffer, 12));
-    expect("room for less", 24, reamertan_encode(HEADER, OBJECT, 3, 0, buffer, 11));
-    expect("room for more", 24, reamertan_encode(HEADER, OBJECT, 3, 0, buffer, 13));
-    expect("a cut id", 12, reamertan_decode(HEADER, PACKETS, 9, buffer, 3));
-    expect("a cut symbol", 13, reamertan_decode(HEADER, PACKETS, 11, buffer, 3));
-    expect("a foreign block", 14, reamertan_decode(HEADER, (const uint8_t[]){1, 0, 0, 0, 7, 8}, 6, buffer, 3));
-    expect("one packet of two", 25, reamertan_decode(HEADER, PACKETS, 6, buffer, 3));
-    expect("no packet", 25, reamertan_decode(HEADER, PACKETS, 0, buffer, 3));
-    expect("another buffer", 24, reamertan_decode(HEADER, PACKETS, 12, buffer, 2));
+    expect("too many ids", 11, reamertan_packets_length(NULL, 0, HEADER, 1 << 24, (uint64_t *)(void *)buffer));
+    expect("another length", 8, reamertan_encode(NULL, 0, HEADER, OBJECT, 2, 0, buffer, 12));
+    expect("ids for none", 11, reamertan_encode(NULL, 0, HEADER, OBJECT, 3, 1 << 24, buffer, 12));
+    expect("room for less", 24, reamertan_encode(NULL, 0, HEADER, OBJECT, 3, 0, buffer, 11));
+    expect("room for more", 24, reamertan_encode(NULL, 0, HEADER, OBJECT, 3, 0, buffer, 13));
+    expect("a cut id", 12, reamertan_decode(NULL, 0, HEADER, PACKETS, 9, buffer, 3));
+    expect("a cut symbol", 13, reamertan_decode(NULL, 0, HEADER, PACKETS, 11, buffer, 3));
+    expect("a foreign block", 14, reamertan_decode(NULL, 0, HEADER, (const uint8_t[]){1, 0, 0, 0, 7, 8}, 6, buffer, 3));
+    expect("one packet of two", 25, reamertan_decode(NULL, 0, HEADER, PACKETS, 6, buffer, 3));
+    expect("no packet", 25, reamertan_decode(NULL, 0, HEADER, PACKETS, 0, buffer, 3));
+    expect("another buffer", 24, reamertan_decode(NULL, 0, HEADER, PACKETS, 12, buffer, 2));
     printf("%d calls answered otherwise than they may\n", failures);
     return failures != 0;
 }

@@ -25,14 +25,14 @@ static int by_handles(const uint8_t *configuration, const uint8_t *object, size_
     uint8_t *made = malloc(size), *again = malloc(length);
     if (!made || !again)
         exit(1);
-    int good = reamertan_open_encoder(configuration, object, length, &handle) == REAMERTAN_DONE;
+    int good = reamertan_open_encoder(NULL, 0, configuration, object, length, &handle) == REAMERTAN_DONE;
     for (size_t i = 0; i < count; i++) {
         const uint8_t *id = packets + size * i;
         uint32_t esi = (uint32_t)id[1] << 16 | (uint32_t)id[2] << 8 | id[3];
         good &= reamertan_write_packet(&handle, id[0], esi, made, size) == REAMERTAN_DONE
                 && memcmp(made, id, size) == 0;
     }
-    good &= reamertan_open_decoder(configuration, &handle) == REAMERTAN_DONE;
+    good &= reamertan_open_decoder(NULL, 0, configuration, &handle) == REAMERTAN_DONE;
     for (size_t i = 0; i < kept; i++)
         good &= reamertan_add_packet(&handle, came + size * i, size) == REAMERTAN_DONE;
     good &= reamertan_write_object(&handle, again, length) == answer;
@@ -51,8 +51,8 @@ static size_t drawn(uint8_t *configuration, uint32_t *repair, uint64_t *bytes)
         uint16_t size = (uint16_t)(8 + below(120));
         uint64_t memory = 1u << (8 + below(16));
         *repair = below(8);
-        if (reamertan_derive_configuration(length, size, memory, configuration) == REAMERTAN_DONE
-            && reamertan_packets_length(configuration, *repair, bytes) == REAMERTAN_DONE)
+        if (reamertan_derive_configuration(NULL, 0, length, size, memory, configuration) == REAMERTAN_DONE
+            && reamertan_packets_length(NULL, 0, configuration, *repair, bytes) == REAMERTAN_DONE)
             return length;
     }
 }
@@ -72,7 +72,7 @@ static int round_trip(int *answered)
         exit(1);
     for (size_t i = 0; i < length; i++)
         object[i] = (uint8_t)below(256);
-    int good = reamertan_encode(configuration, object, length, repair, packets, count * size) == 0;
+    int good = reamertan_encode(NULL, 0, configuration, object, length, repair, packets, count * size) == 0;
 
     /* Each packet is lost with a chance of one in ten, and any may come twice. */
     uint8_t *came = malloc(2 * count * size + 1);
@@ -82,7 +82,7 @@ static int round_trip(int *answered)
     for (size_t i = 0; i < count; i++)
         for (uint32_t times = below(10) == 0 ? 0 : 1 + (below(10) == 0); times > 0; times--)
             memcpy(came + size * kept++, packets + size * i, size);
-    int answer = reamertan_decode(configuration, came, kept * size, back, length);
+    int answer = reamertan_decode(NULL, 0, configuration, came, kept * size, back, length);
     *answered += answer == REAMERTAN_DONE;
     good &= answer == REAMERTAN_DONE ? memcmp(object, back, length) == 0
                                      : answer == REAMERTAN_INCOMPLETE;

@@ -9,10 +9,10 @@
  * before the packets in a stream. Any 12 bytes may be handed in.
  *
  * Calls on buffers read and write these alone and keep no memory. Calls on a handle keep a coder in it
- * between them, for those who send or receive packet by packet. No pointer may be null, also where a
- * length is 0, and what a call writes may not overlap what it reads. A call that answers another number
- * than REAMERTAN_DONE leaves the caller's buffers as they were. Calls may be made from any thread, but
- * not from a signal handler.
+ * between them, for those who send or receive packet by packet. `rows` may be null where `row_count` is 0,
+ * and no other pointer, also where a length is 0. What a call writes may not overlap what it reads. A call
+ * that answers another number than REAMERTAN_DONE leaves the caller's buffers as they were. Calls may be
+ * made from any thread, but not from a signal handler.
  *
  * `./install PREFIX` puts the library in place, and `pkg-config --cflags --libs reamertan` says how to link it.
  *
@@ -61,7 +61,7 @@ enum reamertan_answer {
     REAMERTAN_SYMBOL_SIZE_ZERO = 5,
     /* The number of source blocks is 0. */
     REAMERTAN_SOURCE_BLOCKS_ZERO = 6,
-    /* A source block has more symbols than the table's greatest row, which is 497. */
+    /* A source block has more symbols than the table's greatest row: 497, or K' of the last row handed in. */
     REAMERTAN_BLOCK_OVER_TABLE = 7,
     /* The object has another length than its configuration says. */
     REAMERTAN_WRONG_DATA_LENGTH = 8,
@@ -83,6 +83,8 @@ enum reamertan_answer {
     REAMERTAN_MEMORY_REQUIREMENT_TOO_SMALL = 17,
     /* The object would need more than 255 source blocks. */
     REAMERTAN_TOO_MANY_BLOCKS = 18,
+    /* A row that is handed in fails a check. */
+    REAMERTAN_ROW_REFUSED = 19,
     /* malloc or realloc refused. */
     REAMERTAN_OUT_OF_MEMORY = 21,
     /* The packets of a block determine it, and no block fits all of them: some are damaged or forged. */
@@ -110,12 +112,35 @@ struct reamertan_range {
     uint64_t end;
 };
 
+/* A row of the table of RFC 6330, 5.6: the numbers of source blocks of up to K' symbols. 74 rows are built
+ * in, for up to 497 symbols. The calls that need a table take the rows that follow them, `rows`, of which
+ * there are `row_count`: NULL and 0 for the built-in ones alone. reamertan_rows.h has all others. Sender and
+ * receiver need the same row for a block.
+ *
+ * Such a call first tests the rows, in their order, and refuses ROW_REFUSED where one fails:
+ *   K' is the size that follows that of the row before, 511 in the first;
+ *   S is odd;
+ *   W - S is at least 1, at most S * (S - 1) and at most K';
+ *   H is at least 2, at most K' and at most 255;
+ *   P = K' + S + H - W is at least 3, at most P1 and at least half of P1, the number that belongs to K';
+ *   K' + S + H is below 65536;
+ *   J is at most 1000.
+ * Which row failed, and how, isn't told. A row that passes may still be SINGULAR. */
+struct reamertan_row {
+    uint32_t extended_symbols; /* K': source and padding symbols of a block */
+    uint32_t systematic_index; /* J */
+    uint32_t ldpc_symbols;     /* S */
+    uint32_t hdpc_symbols;     /* H */
+    uint32_t lt_symbols;       /* W */
+};
+
 /* Writes the configuration of an object of `object_length` bytes in packets of at most `packet_size`
  * bytes of payload, each of whose sub-blocks fits `decoder_memory` bytes (RFC 6330, 4.3).
  *
- * Refuses, in this order: PACKET_SIZE_ZERO, TRANSFER_LENGTH_ZERO, TRANSFER_TOO_LONG,
+ * Refuses, in this order: ROW_REFUSED, PACKET_SIZE_ZERO, TRANSFER_LENGTH_ZERO, TRANSFER_TOO_LONG,
  * MEMORY_REQUIREMENT_TOO_SMALL, TOO_MANY_BLOCKS. OUT_OF_MEMORY may come before any. */
-uint8_t reamertan_derive_configuration(uint64_t object_length, uint16_t packet_size,
+uint8_t reamertan_derive_configuration(const struct reamertan_row *rows, size_t row_count,
+                                       uint64_t object_length, uint16_t packet_size,
                                        uint64_t decoder_memory,
                                        uint8_t configuration[REAMERTAN_CONFIGURATION_BYTES]);
 
@@ -132,9 +157,10 @@ void reamertan_read_configuration(const uint8_t configuration[REAMERTAN_CONFIGUR
 
 /* Whether coders take a configuration.
  *
- * Refuses, in this order: SYMBOL_SIZE_ZERO, ALIGNMENT_ZERO, MISALIGNED, SOURCE_BLOCKS_ZERO,
+ * Refuses, in this order: ROW_REFUSED, SYMBOL_SIZE_ZERO, ALIGNMENT_ZERO, MISALIGNED, SOURCE_BLOCKS_ZERO,
  * BLOCK_OVER_TABLE. OUT_OF_MEMORY may come before any. */
-uint8_t reamertan_check_configuration(const uint8_t configuration[REAMERTAN_CONFIGURATION_BYTES]);
+uint8_t reamertan_check_configuration(const struct reamertan_row *rows, size_t row_count,
+                                      const uint8_t configuration[REAMERTAN_CONFIGURATION_BYTES]);
 
 /* Writes where source block `block` begins and where it ends in the object, in bytes (RFC 6330, 4.4.1.2).
  * It has (end - start) / T source symbols. The last blocks can end past the object, which is filled up
@@ -151,7 +177,8 @@ uint8_t reamertan_block_range(const uint8_t configuration[REAMERTAN_CONFIGURATIO
  *
  * Refuses, in this order: what `reamertan_check_configuration` refuses, ESI_TOO_LARGE. OUT_OF_MEMORY
  * may come before any. */
-uint8_t reamertan_packets_length(const uint8_t configuration[REAMERTAN_CONFIGURATION_BYTES],
+uint8_t reamertan_packets_length(const struct reamertan_row *rows, size_t row_count,
+                                 const uint8_t configuration[REAMERTAN_CONFIGURATION_BYTES],
                                  uint32_t repair, uint64_t *length);
 
 /* Fills `packets` with the packets of an object: block by block those of its source symbols, and then
@@ -160,7 +187,8 @@ uint8_t reamertan_packets_length(const uint8_t configuration[REAMERTAN_CONFIGURA
  *
  * Refuses, in this order: what `reamertan_check_configuration` refuses, WRONG_DATA_LENGTH, SINGULAR,
  * ESI_TOO_LARGE, WRONG_BUFFER. OUT_OF_MEMORY may come before any. */
-uint8_t reamertan_encode(const uint8_t configuration[REAMERTAN_CONFIGURATION_BYTES],
+uint8_t reamertan_encode(const struct reamertan_row *rows, size_t row_count,
+                         const uint8_t configuration[REAMERTAN_CONFIGURATION_BYTES],
                          const uint8_t *object, size_t object_length, uint32_t repair,
                          uint8_t *packets, size_t packets_length);
 
@@ -170,23 +198,26 @@ uint8_t reamertan_encode(const uint8_t configuration[REAMERTAN_CONFIGURATION_BYT
  * may give other bytes, CONTRADICTION, INCOMPLETE or WRONG_BUFFER.
  *
  * Refuses, in this order:
+ *   ROW_REFUSED;
  *   PACKET_TOO_SHORT, where the last packet is shorter than its id;
- *   what `reamertan_check_configuration` refuses;
+ *   what else `reamertan_check_configuration` refuses;
  *   of the first packet that is refused UNKNOWN_BLOCK, or WRONG_PAYLOAD_SIZE (the last packet may be cut
  *     short), or CONTRADICTION: with it those of its block, which has no answer yet, determine the block,
  *     and no block fits them all;
  *   INCOMPLETE;
  *   WRONG_BUFFER.
  * OUT_OF_MEMORY may come before any. */
-uint8_t reamertan_decode(const uint8_t configuration[REAMERTAN_CONFIGURATION_BYTES],
+uint8_t reamertan_decode(const struct reamertan_row *rows, size_t row_count,
+                         const uint8_t configuration[REAMERTAN_CONFIGURATION_BYTES],
                          const uint8_t *packets, size_t packets_length, uint8_t *object,
                          size_t object_length);
 
 /* A coder between calls: an encoder, a decoder, or none. It begins as zeros, `struct reamertan_handle
  * handle = {0};`, which is none, and is then changed by the calls below alone. The caller doesn't copy it,
- * except to move it: of the two only one is used from then on. It is used by one thread, and by one call
- * at a time. What a call opened stays until `reamertan_close` frees it, or another call opens a coder in
- * its place. A handle that isn't closed leaks its coder. */
+ * except to move it: of the two only one is used from then on. It is used by one call at a time, and may go
+ * to another thread, in the order of a lock, of a thread's start or join, or of a sequentially consistent
+ * atomic. What a call opened stays until `reamertan_close` frees it, or another call opens a coder in its
+ * place. A handle that isn't closed leaks its coder. */
 struct reamertan_handle {
     bool full;
     struct {
@@ -195,11 +226,12 @@ struct reamertan_handle {
 };
 
 /* Makes the encoder of an object, which the handle holds from then on. A coder that it held is freed.
- * The object's bytes aren't needed any more.
+ * The object's bytes and the rows aren't needed any more.
  *
  * Refuses, in this order: what `reamertan_check_configuration` refuses, WRONG_DATA_LENGTH, SINGULAR.
  * OUT_OF_MEMORY may come before any. Where it refuses, the handle holds what it held. */
-uint8_t reamertan_open_encoder(const uint8_t configuration[REAMERTAN_CONFIGURATION_BYTES],
+uint8_t reamertan_open_encoder(const struct reamertan_row *rows, size_t row_count,
+                               const uint8_t configuration[REAMERTAN_CONFIGURATION_BYTES],
                                const uint8_t *object, size_t object_length,
                                struct reamertan_handle *handle);
 
@@ -213,10 +245,12 @@ uint8_t reamertan_write_packet(struct reamertan_handle *handle, uint8_t block, u
                                uint8_t *packet, size_t packet_length);
 
 /* Makes the decoder of an object, which the handle holds from then on. A coder that it held is freed.
+ * The rows aren't needed any more.
  *
  * Refuses what `reamertan_check_configuration` refuses. OUT_OF_MEMORY may come before any. Where it
  * refuses, the handle holds what it held. */
-uint8_t reamertan_open_decoder(const uint8_t configuration[REAMERTAN_CONFIGURATION_BYTES],
+uint8_t reamertan_open_decoder(const struct reamertan_row *rows, size_t row_count,
+                               const uint8_t configuration[REAMERTAN_CONFIGURATION_BYTES],
                                struct reamertan_handle *handle);
 
 /* Takes a packet, 4 bytes of payload id and a symbol. A packet that was taken before changes nothing,
@@ -241,6 +275,16 @@ uint8_t reamertan_add_packet(struct reamertan_handle *handle, const uint8_t *pac
  * complete: INCOMPLETE before, and WRONG_BUFFER after. The object is joined for that. */
 uint8_t reamertan_write_object(struct reamertan_handle *handle, uint8_t *object,
                                size_t object_length);
+
+/* Writes how many packets more source block `block` needs at least, of ids that weren't taken yet: with
+ * fewer it isn't complete, whichever they are. That is the number of its source symbols less that of the ids
+ * that were taken, or 1 where these are as many and don't determine the block. It is 0 where the block is
+ * complete, or where memory was refused for its answer: its next packet has it tried again. The decoder
+ * stays as it is.
+ *
+ * Refuses, in this order: NO_CODER where the handle holds no decoder, UNKNOWN_BLOCK, CONTRADICTION where the
+ * packets of the block contradict each other. Never OUT_OF_MEMORY. */
+uint8_t reamertan_missing_packets(struct reamertan_handle *handle, uint8_t block, uint32_t *missing);
 
 /* Frees the coder that a handle holds, if any. The handle then holds none, and may be used again. */
 void reamertan_close(struct reamertan_handle *handle);

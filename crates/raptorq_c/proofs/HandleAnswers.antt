@@ -5,21 +5,24 @@ use Rattle.rq_bytes.specs.declared.error.Error.{Error}
 use Rattle.rq_bytes.specs.declared.error.Error.TheVariants.{OutOfMemory, Contradiction, UnknownBlock, WrongPayloadSize}
 use Rattle.rq_bytes.specs.Error.{code_of}
 use Rattle.rq_bytes.specs.Refusals.{and_then}
+use Rattle.rq_standard.specs.declared.row.TableRow.{TableRow}
 use Rattle.rq_standard.specs.Configuration.{Configuration, configuration_of_bytes}
 use Rattle.rq_standard.specs.Packet.{Packet, packet_of_bytes}
 use Rattle.rq_standard.specs.Standing.{State, StopsEarly, LeavesBlockLate}
 use Rattle.rq_standard.specs.Streams.{frame_size, frames_in}
-use Rattle.rq_standard.specs.TableRows.{built_in_rows}
 use Rattle.rq_base.specs.RefusedInput.{read_packet}
 use Rattle.raptorq.specs.Refused.{packet_refusal, IsPacketRefusal}
 use Rattle.raptorq.specs.Runs.{IsRunRefusal, AnswersRun}
 use Rattle.raptorq.specs.Taking.{TakesPacket}
 use Rattle.raptorq_c.specs.declared.call_end.CallEnd.{CallEnd}
-use Rattle.raptorq_c.specs.ObjectBuffers.{Answered, IsFilled, IsRefused, IsDecoded, IsDecodingRefusal, frames_refusal, packets_in}
+use Rattle.raptorq_c.specs.declared.rows.Row.{Row}
+use Rattle.raptorq_c.specs.Rows.{table_of}
+use Rattle.raptorq_c.specs.ObjectBuffers.{Answered, IsFilled, IsRefused, IsDecoded, IsDecodingRefusal, IsPacketsRefusal, frames_refusal, packets_in}
 use Rattle.raptorq_c.specs.Handles.{bytes_refusal, FillsWithAnswer, IsAdded, IsAnswerOf, IsTakenNumber}
 use Rattle.raptorq_c.specs.Numbers.{number_of, refusal_number}
 use Rattle.raptorq_c.proofs.Ending.{code_positive, code_small, is_memory, is_contradiction, is_stopped}
 use Rattle.raptorq_c.proofs.PacketFrames.{packet_read}
+use Rattle.raptorq_c.proofs.Tables.{held, refused_over, row_refused}
 
 -- a refusal by a packet's block, and then by its payload's size
 abbrev refused_by : Bool → Bool → Result (Unit {0}) Error
@@ -122,24 +125,35 @@ taken_bytes old new bytes p r read takes stops late =
 -- ---- packets in a buffer
 
 -- what is refused of the frames, or of the run of the packets that they spell
-decoding_refused : (header bytes : List ℕ) (r t : Result (Unit {0}) Error) → frames_refusal (frames_in (frame_size (configuration_of_bytes header)) bytes) ≡ t
-    → MatchResult t (λ _. IsRunRefusal built_in_rows (configuration_of_bytes header) (packets_in (configuration_of_bytes header) bytes) r) (λ e. r ≡ Err e) → IsDecodingRefusal header bytes r
-decoding_refused header bytes r t is =
+packets_refused : (table : List TableRow) (header bytes : List ℕ) (r t : Result (Unit {0}) Error) → frames_refusal (frames_in (frame_size (configuration_of_bytes header)) bytes) ≡ t
+    → MatchResult t (λ _. IsRunRefusal table (configuration_of_bytes header) (packets_in (configuration_of_bytes header) bytes) r) (λ e. r ≡ Err e) → IsPacketsRefusal table header bytes r
+packets_refused table header bytes r t is =
     let c = configuration_of_bytes header in
-    subst (λ f. MatchResult f (λ _. IsRunRefusal built_in_rows c (packets_in c bytes) r) (λ e. r ≡ Err e)) (sym is)
+    subst (λ f. MatchResult f (λ _. IsRunRefusal table c (packets_in c bytes) r) (λ e. r ≡ Err e)) (sym is)
 
--- a frame that is refused
-pub refused_frames : (header bytes : List ℕ) (e : Error) → (e ≡ OutOfMemory) ⊎ (frames_refusal (frames_in (frame_size (configuration_of_bytes header)) bytes) ≡ Err e) → IsDecoded (code_of e) header bytes
-refused_frames header bytes e (inl memory) = inl (ap code_of memory)
-refused_frames header bytes e (inr wanted) = inr (Err e, decoding_refused header bytes (Err e) (Err e) wanted refl, inr refl)
+-- a row that is refused
+pub refused_row : (rows : List Row) (header bytes : List ℕ) (e : Error) → (e ≡ OutOfMemory) ⊎ (table_of rows ≡ Err e) → IsDecoded (code_of e) rows header bytes
+refused_row rows header bytes e (inl memory) = inl (ap code_of memory)
+refused_row rows header bytes e (inr is) =
+    let r : Result (Unit {0}) Error = Err e in
+    inr (r, row_refused (λ t. IsPacketsRefusal t header bytes r) (λ d. r ≡ Err d) (table_of rows) e is refl, inr refl)
 
--- what is refused of the run
-pub refused_run : (header bytes : List ℕ) (e : Error) → frames_refusal (frames_in (frame_size (configuration_of_bytes header)) bytes) ≡ Ok tt
-    → AnswersRun {X = Unit {0}} built_in_rows (configuration_of_bytes header) (packets_in (configuration_of_bytes header) bytes) (Err e) → IsDecoded (code_of e) header bytes
-refused_run header bytes e spelled (inl memory) = inl (ap code_of memory)
-refused_run header bytes e spelled (inr first) = inr (Err e, decoding_refused header bytes (Err e) (Ok tt) spelled first, inr refl)
+module _ (rows : List Row) (table : List TableRow) (header bytes : List ℕ) (made : table_of rows ≡ held table) where
+  over : (r : Result (Unit {0}) Error) → IsPacketsRefusal table header bytes r → IsDecodingRefusal rows header bytes r
+  over r is = refused_over (λ t _. IsPacketsRefusal t header bytes r) (λ e. r ≡ Err e) (table_of rows) table (configuration_of_bytes header) (configuration_of_bytes header) made refl is
 
--- nothing is refused
-pub filled_run : (header bytes : List ℕ) (number : ℕ) → frames_refusal (frames_in (frame_size (configuration_of_bytes header)) bytes) ≡ Ok tt
-    → IsRunRefusal built_in_rows (configuration_of_bytes header) (packets_in (configuration_of_bytes header) bytes) (Ok tt) → IsRefused number (Ok tt) → IsDecoded number header bytes
-filled_run header bytes number spelled passed filled = inr (Ok tt, decoding_refused header bytes (Ok tt) (Ok tt) spelled passed, filled)
+  -- a frame that is refused
+  pub refused_frames : (e : Error) → (e ≡ OutOfMemory) ⊎ (frames_refusal (frames_in (frame_size (configuration_of_bytes header)) bytes) ≡ Err e) → IsDecoded (code_of e) rows header bytes
+  refused_frames e (inl memory) = inl (ap code_of memory)
+  refused_frames e (inr wanted) = inr (Err e, over (Err e) (packets_refused table header bytes (Err e) (Err e) wanted refl), inr refl)
+
+  -- what is refused of the run
+  pub refused_run : (e : Error) → frames_refusal (frames_in (frame_size (configuration_of_bytes header)) bytes) ≡ Ok tt
+      → AnswersRun {X = Unit {0}} table (configuration_of_bytes header) (packets_in (configuration_of_bytes header) bytes) (Err e) → IsDecoded (code_of e) rows header bytes
+  refused_run e spelled (inl memory) = inl (ap code_of memory)
+  refused_run e spelled (inr first) = inr (Err e, over (Err e) (packets_refused table header bytes (Err e) (Ok tt) spelled first), inr refl)
+
+  -- nothing is refused
+  pub filled_run : (number : ℕ) → frames_refusal (frames_in (frame_size (configuration_of_bytes header)) bytes) ≡ Ok tt
+      → IsRunRefusal table (configuration_of_bytes header) (packets_in (configuration_of_bytes header) bytes) (Ok tt) → IsRefused number (Ok tt) → IsDecoded number rows header bytes
+  filled_run number spelled passed filled = inr (Ok tt, over (Ok tt) (packets_refused table header bytes (Ok tt) (Ok tt) spelled passed), filled)

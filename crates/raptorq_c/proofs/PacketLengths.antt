@@ -1,5 +1,5 @@
 -- How many bytes the packets of an object take.
-use Rattle.std.proofs.Common.{◌≡◌, ℕ, zero, suc, ◌+◌, ◌*◌, ◌≤◌, List, [], ◌∷◌, length, Result, Ok, sym, ap, ◌∙◌, arith, length-append}
+use Rattle.std.proofs.Common.{◌≡◌, ℕ, zero, suc, ◌+◌, ◌*◌, ◌≤◌, List, [], ◌∷◌, length, map, Result, Ok, sym, ap, ◌∙◌, arith, length-append}
 use Rattle.std.specs.List.{AllByRecursion}
 use Rattle.std.proofs.lemmas.List.{length-map}
 use Rattle.std.proofs.lemmas.List.FromFn.{length-map-range_with_len}
@@ -10,16 +10,22 @@ use Rattle.rq_standard.specs.Headline.{IsPacketOf}
 use Rattle.rq_standard.specs.ObjectPackets.{first_ids}
 use Rattle.rq_standard.specs.Packet.{Packet, packet_bytes}
 use Rattle.rq_standard.specs.Streams.{frame_size, frames_of}
-use Rattle.rq_standard.specs.TableRows.{built_in_rows, greatest_size}
+use Rattle.rq_standard.specs.declared.row.TableRow.{TableRow}
+use Rattle.rq_standard.specs.TableRows.{IsTable, greatest_size}
 use Rattle.rq_standard.proofs.BlockCuts.{symbols_before-first, symbols_before-next, symbols_before-all}
 use Rattle.rq_standard.proofs.BlockRows.{block_has_row}
-use Rattle.rq_standard.proofs.RowLaws.{built_in_table}
 use Rattle.rq_base.specs.RefusedInput.{checked_configuration}
 use Rattle.rq_base.proofs.Accepted.{both_ok, accepted_by}
+use Rattle.rq_bytes.specs.Refusals.{and_then}
+use Rattle.raptorq.specs.Appended.{AppendsObject}
 use Rattle.raptorq.proofs.EncodedBlocks.{ids_before, ids_next}
 use Rattle.raptorq.proofs.Lists.{length-packet_bytes}
-use Rattle.raptorq_c.specs.PacketBuffers.{AreFramesOf, IsEncoding}
+use Rattle.raptorq_c.specs.declared.rows.Row.{Row}
+use Rattle.raptorq_c.specs.Rows.{numbers_of, table_of}
+use Rattle.raptorq_c.specs.Headers.{checked_header}
+use Rattle.raptorq_c.specs.PacketBuffers.{IsEncoding}
 use Rattle.raptorq_c.specs.Sizes.{bytes_of_packets, packets_length}
+use Rattle.raptorq_c.proofs.Tables.{table_in, table_checked}
 
 module _ (c : Configuration) where
   -- as many as the blocks' source symbols, and the repair symbols of each
@@ -39,28 +45,33 @@ module _ (c : Configuration) where
       let more : length (p ∷ packets) * frame_size c ≡ frame_size c + length packets * frame_size c = omega arith in
       length-append (packet_bytes p) (frames_of packets) ∙ omega (arith, all.0, frames_long packets all.1, more)
 
-  each_long : (object : List ℕ) → IsAccepted (greatest_size built_in_rows) c → (packets : List Packet) → AllByRecursion (IsPacketOf built_in_rows c object) packets → AllByRecursion (λ p. length (packet_bytes p) ≡ frame_size c) packets
-  each_long object accepted [] all = tt
-  each_long object accepted (p ∷ packets) all = (
-    length-packet_bytes built_in_rows c object p (block_has_row built_in_rows c built_in_table accepted p.id.block all.0.block).checked all.0,
-    each_long object accepted packets all.1,
-  )
+  module _ (table : List TableRow) (is_table : IsTable table) (object : List ℕ) where
+    each_long : IsAccepted (greatest_size table) c → (packets : List Packet) → AllByRecursion (IsPacketOf table c object) packets → AllByRecursion (λ p. length (packet_bytes p) ≡ frame_size c) packets
+    each_long accepted [] all = tt
+    each_long accepted (p ∷ packets) all = (
+      length-packet_bytes table c object p (block_has_row table c is_table accepted p.id.block all.0.block).checked all.0,
+      each_long accepted packets all.1,
+    )
 
-  pub encoding_length : (object : List ℕ) (repair : ℕ) (bytes : List ℕ) → AreFramesOf c object repair bytes → length bytes ≡ packets_length c repair
-  encoding_length object repair bytes h =
-      let checked = both_ok (checked_configuration (greatest_size built_in_rows) c) _ tt h.taken in
-      let accepted = accepted_by (greatest_size built_in_rows) c checked.1 in
-      let z = c.source_blocks in
-      let count : length h.packets ≡ total_symbols c + z * repair =
-      sym (length-map h.packets (λ (p : Packet). p.id)) ∙ ap length h.encoded.ids ∙ count-ids repair z (omega arith) ∙ ap (λ n. n + z * repair) (symbols_before-all c accepted.blocks_positive) in
-      ap length h.spelled ∙ frames_long h.packets (each_long object accepted h.packets h.encoded.each) ∙ ap (λ n. n * frame_size c) count
+    pub encoding_length : (repair : ℕ) (bytes : List ℕ) → AppendsObject table c object repair [] bytes → length bytes ≡ packets_length c repair
+    encoding_length repair bytes h =
+        let checked = both_ok (checked_configuration (greatest_size table) c) _ tt h.taken in
+        let accepted = accepted_by (greatest_size table) c checked.1 in
+        let z = c.source_blocks in
+        let count : length h.packets ≡ total_symbols c + z * repair =
+        sym (length-map h.packets (λ (p : Packet). p.id)) ∙ ap length h.encoded.ids ∙ count-ids repair z (omega arith) ∙ ap (λ n. n + z * repair) (symbols_before-all c accepted.blocks_positive) in
+        ap length h.grown ∙ frames_long h.packets (each_long accepted h.packets h.encoded.each) ∙ ap (λ n. n * frame_size c) count
 
 abbrev pub wanted : ℕ → Result ℕ Error
 wanted n = Ok n
 
 -- so the call that says how many says this
-pub packets_room : (header object : List ℕ) (repair : ℕ) (bytes : List ℕ) → IsEncoding header object repair bytes → bytes_of_packets header repair ≡ wanted (length bytes)
-packets_room header object repair bytes h =
+pub packets_room : (rows : List Row) (header object : List ℕ) (repair : ℕ) (bytes : List ℕ) → IsEncoding rows header object repair bytes → bytes_of_packets rows header repair ≡ wanted (length bytes)
+packets_room rows header object repair bytes h =
     let c = configuration_of_bytes header in
-    let checked = (both_ok (checked_configuration (greatest_size built_in_rows) c) _ tt h.taken).1 in
-    rw (checked, h.enough) (ap wanted (sym (encoding_length c object repair bytes h)))
+    let found = table_in (λ t. AppendsObject t c object repair [] bytes) (table_of rows) h in
+    let table = found.0 in
+    let appended = found.2 in
+    let checked : checked_header rows header ≡ Ok tt =
+    ap (λ (r : Result (List TableRow) Error). and_then r (λ t. checked_configuration (greatest_size t) c)) found.1 ∙ (both_ok (checked_configuration (greatest_size table) c) _ tt appended.taken).1 in
+    rw (checked, appended.enough) (ap wanted (sym (encoding_length c table (table_checked (map numbers_of rows) table found.1) object repair bytes appended)))

@@ -8,14 +8,16 @@ use Rattle.rq_bytes.specs.Refusals.{and_then}
 use Rattle.rq_standard.specs.declared.row.TableRow.{TableRow}
 use Rattle.rq_standard.specs.Configuration.{Configuration, configuration_of_bytes, total_symbols, largest_block}
 use Rattle.rq_standard.specs.Cutting.{block_parts, block_symbols}
-use Rattle.rq_standard.specs.TableRows.{built_in_rows, greatest_size}
+use Rattle.rq_standard.specs.TableRows.{greatest_size}
 use Rattle.rq_standard.proofs.BlockCuts.{larger_block, smaller_block}
 use Rattle.rq_base.specs.RefusedInput.{checked_configuration}
 use Rattle.raptorq.specs.Encoder.{packets_refusal}
 use Rattle.raptorq.specs.Offsets.{block_offsets, block_range, checked_offsets}
+use Rattle.raptorq_c.specs.declared.rows.Row.{Row}
+use Rattle.raptorq_c.specs.Rows.{table_of}
 use Rattle.raptorq_c.specs.Sizes.{bytes_of_block, bytes_of_packets, packets_length}
-use Rattle.raptorq_c.proofs.Encoded.{held, same_table}
 use Rattle.raptorq_c.proofs.PacketLengths.{wanted}
+use Rattle.raptorq_c.proofs.Tables.{held}
 
 abbrev ranged : ℕ × ℕ → Result (ℕ × ℕ) Error
 ranged p = Ok p
@@ -63,16 +65,16 @@ first_block c some =
 abbrev pub passed : Unit {0} → Result (Unit {0}) Error
 passed u = Ok u
 
--- of a configuration that passes the tests, over a table that is the built-in one
-module _ (header : List ℕ) (table : List TableRow) (d : Configuration) (rows : held built_in_rows ≡ held table) (same : d ≡ configuration_of_bytes header) (checked : passed tt ≡ checked_configuration (greatest_size table) d) where
-  over_built_in : checked_configuration (greatest_size built_in_rows) d ≡ passed tt
-  over_built_in = subst (λ t. checked_configuration (greatest_size t) d ≡ passed tt) (sym (same_table built_in_rows table rows)) (sym checked)
+-- of a configuration that passes the tests over the table of these rows
+module _ (rows : List Row) (header : List ℕ) (table : List TableRow) (d : Configuration) (made : table_of rows ≡ held table) (same : d ≡ configuration_of_bytes header) (checked : passed tt ≡ checked_configuration (greatest_size table) d) where
+  over_rows : and_then (table_of rows) (λ t. checked_configuration (greatest_size t) d) ≡ passed tt
+  over_rows = ap (λ (r : Result (List TableRow) Error). and_then r (λ t. checked_configuration (greatest_size t) d)) made ∙ sym checked
 
   abbrev counted : Configuration → ℕ → Result ℕ Error
-  counted k repair = and_then (checked_configuration (greatest_size built_in_rows) k) (λ _. and_then (packets_refusal k repair) (λ _. wanted (packets_length k repair)))
+  counted k repair = and_then (and_then (table_of rows) (λ t. checked_configuration (greatest_size t) k)) (λ _. and_then (packets_refusal k repair) (λ _. wanted (packets_length k repair)))
 
-  pub too_many : (repair : ℕ) → 2 ^ 24 < block_symbols d 0 + repair → bytes_of_packets header repair ≡ Err EsiTooLarge
-  too_many repair many = subst (λ k. counted k repair ≡ Err EsiTooLarge) same (rw (over_built_in, lt-ltb (2 ^ 24) (block_symbols d 0 + repair) many) refl)
+  pub too_many : (repair : ℕ) → 2 ^ 24 < block_symbols d 0 + repair → bytes_of_packets rows header repair ≡ Err EsiTooLarge
+  too_many repair many = subst (λ k. counted k repair ≡ Err EsiTooLarge) same (rw (over_rows, lt-ltb (2 ^ 24) (block_symbols d 0 + repair) many) refl)
 
-  pub enough : (repair : ℕ) → block_symbols d 0 + repair ≤ 2 ^ 24 → bytes_of_packets header repair ≡ wanted (packets_length d repair)
-  enough repair few = subst (λ k. counted k repair ≡ wanted (packets_length d repair)) same (rw (over_built_in, le-ltb (2 ^ 24) (block_symbols d 0 + repair) few) refl)
+  pub enough : (repair : ℕ) → block_symbols d 0 + repair ≤ 2 ^ 24 → bytes_of_packets rows header repair ≡ wanted (packets_length d repair)
+  enough repair few = subst (λ k. counted k repair ≡ wanted (packets_length d repair)) same (rw (over_rows, le-ltb (2 ^ 24) (block_symbols d 0 + repair) few) refl)

@@ -1,5 +1,5 @@
 -- What handles hold, and what calls do to it.
-use Rattle.std.specs.Prelude.{◌≡◌, ◌≢◌, ◌⊎◌, ◌↔◌, ℕ, List, length, Option, Some, None, IfSome, IsSomeAnd, MatchOption, IsErr, option_and_then, Result, Ok, Err}
+use Rattle.std.specs.Prelude.{◌≡◌, ◌≢◌, ◌⊎◌, ◌↔◌, ℕ, ◌≤◌, List, length, Option, Some, None, IfSome, IsSomeAnd, MatchOption, IsErr, option_and_then, Result, Ok, Err}
 use Rattle.rq_bytes.specs.declared.error.Error.{Error}
 use Rattle.rq_bytes.specs.Error.{code_of}
 use Rattle.rq_bytes.specs.Refusals.{and_then}
@@ -7,10 +7,11 @@ use Rattle.rq_standard.specs.Configuration.{Configuration, configuration_of_byte
 use Rattle.rq_standard.specs.Packet.{SymbolId, Packet, packet_bytes, packet_of_bytes}
 use Rattle.rq_standard.specs.Headline.{HasNonsingularRows}
 use Rattle.rq_standard.specs.Standing.{State, IsNewState, Adds, StopsEarly, Contradicts, IsBlockContradictory, KeepsContradictions, IsHonestPacket, StandsForNone, StandsForMore, AnswersLateBlock, LeavesBlockLate, AnswersObject, AnswersNothingElse, AnswersOnlyObject, result_of}
-use Rattle.rq_standard.specs.TableRows.{built_in_rows, greatest_size}
+use Rattle.rq_standard.specs.TableRows.{greatest_size}
 use Rattle.rq_base.specs.RefusedInput.{new_id, read_packet}
 use Rattle.raptorq.specs.Decoder.{state_of}
 use Rattle.raptorq.specs.Encoder.{Encoded, encoded_of, id_in, IsEncoderOf, IsPacketIn}
+use Rattle.raptorq.specs.MissingPackets.{NeedsMore, TellsMissingOf}
 use Rattle.raptorq.specs.Refused.{new_encoder, packet_refusal, RefusesEncoder}
 use Rattle.raptorq_c.specs.ObjectBuffers.{Answered, IsRefused}
 use Rattle.raptorq_c.specs.Numbers.{IsNumber}
@@ -18,6 +19,8 @@ use Rattle.raptorq_c.specs.Headers.{checked_header}
 use Rattle.raptorq_c.specs.declared.handle.Handle.{Handle}
 use Rattle.raptorq_c.specs.declared.owned.Coder.{Coder}
 use Rattle.raptorq_c.specs.declared.owned.Coder.TheVariants.{Sender, Receiver}
+use Rattle.raptorq_c.specs.declared.rows.Row.{Row}
+use Rattle.raptorq_c.specs.Rows.{HoldsOver, RefusesOver}
 
 abbrev pub coder_of : Handle → Option Coder
 coder_of h = h.owned.value
@@ -41,15 +44,15 @@ encoder_of h = option_and_then encoder_in (coder_of h)
 abbrev pub Becomes : {X : Type 0} → Option X → Option X → (X → X → Type 0) → Type 0
 Becomes before after P = MatchOption before (after ≡ None) (λ x. IsSomeAnd after (P x))
 
--- a decoder of this configuration, from which nothing came yet
-pub record IsNewDecoder (header : List ℕ) (s : State) : Type 0 where
-  pub new : IsNewState built_in_rows (configuration_of_bytes header) s
-  pub stands : StandsForNone built_in_rows (configuration_of_bytes header) s
+-- a decoder of this configuration, over the table of these rows, to which nothing came yet
+pub record IsNewDecoder (rows : List Row) (header : List ℕ) (s : State) : Type 0 where
+  pub new : HoldsOver rows (λ table. IsNewState table (configuration_of_bytes header) s)
+  pub stands : HoldsOver rows (λ table. StandsForNone table (configuration_of_bytes header) s)
 
 -- What a call answers and does to a handle: it holds a new decoder (0), or what it held.
-pub record OpensDecoder (header : List ℕ) (answer : ℕ) (before after : Handle) : Type 0 where
-  pub number : IsNumber answer (checked_header header)
-  pub decoder : answer ≡ 0 → IsSomeAnd (decoder_of after) (IsNewDecoder header)
+pub record OpensDecoder (rows : List Row) (header : List ℕ) (answer : ℕ) (before after : Handle) : Type 0 where
+  pub number : IsNumber answer (checked_header rows header)
+  pub decoder : answer ≡ 0 → IsSomeAnd (decoder_of after) (IsNewDecoder rows header)
   pub kept : answer ≢ 0 → coder_of after ≡ coder_of before
 
 -- what a decoder refuses of the bytes of a packet
@@ -107,16 +110,16 @@ abbrev pub IsPacketNumber : Result SymbolId Error → ℕ → Type 0
 IsPacketNumber (Ok i) number = (number ≡ 0) ⊎ (number ≡ 21) ⊎ (number ≡ 24)
 IsPacketNumber (Err e) number = number ≡ code_of e
 
--- an encoder of this object in this configuration, over the built-in table
-pub record IsEncoderIn (header object : List ℕ) (e : Encoded) : Type 0 where
+-- an encoder of this object in this configuration, over the table of these rows
+pub record IsEncoderIn (rows : List Row) (header object : List ℕ) (e : Encoded) : Type 0 where
   pub configuration : e.configuration ≡ configuration_of_bytes header
-  pub taken : new_encoder (greatest_size built_in_rows) (configuration_of_bytes header) (length object) ≡ Ok tt
-  pub nonsingular : HasNonsingularRows built_in_rows (configuration_of_bytes header)
-  pub encoder : IsEncoderOf built_in_rows object e
+  pub taken : HoldsOver rows (λ table. new_encoder (greatest_size table) (configuration_of_bytes header) (length object) ≡ Ok tt)
+  pub nonsingular : HoldsOver rows (λ table. HasNonsingularRows table (configuration_of_bytes header))
+  pub encoder : HoldsOver rows (λ table. IsEncoderOf table object e)
 
--- what an encoder of this object, in the configuration that a header has, is refused for over the built-in table
-abbrev pub RefusesSender : List ℕ → List ℕ → Error → Type 0
-RefusesSender header object e = RefusesEncoder built_in_rows (configuration_of_bytes header) (length object) e
+-- what an encoder of this object, in the configuration that a header has, is refused for
+abbrev pub RefusesSender : List Row → List ℕ → List ℕ → Error → Type 0
+RefusesSender rows header object e = RefusesOver rows (λ table. RefusesEncoder table (configuration_of_bytes header) (length object)) e
 
 -- the number of a refusal of which P
 pub record IsCodeWhere (P : Error → Type 0) (number : ℕ) : Type 0 where
@@ -125,9 +128,9 @@ pub record IsCodeWhere (P : Error → Type 0) (number : ℕ) : Type 0 where
   pub number_is : number ≡ code_of error
 
 -- What a call answers and does to a handle: it holds an encoder of the object (0), or what it held.
-pub record OpensEncoder (header object : List ℕ) (answer : ℕ) (before after : Handle) : Type 0 where
-  pub refused : answer ≢ 0 → (answer ≡ 21) ⊎ IsCodeWhere (RefusesSender header object) answer
-  pub encoder : answer ≡ 0 → IsSomeAnd (encoder_of after) (IsEncoderIn header object)
+pub record OpensEncoder (rows : List Row) (header object : List ℕ) (answer : ℕ) (before after : Handle) : Type 0 where
+  pub refused : answer ≢ 0 → (answer ≡ 21) ⊎ IsCodeWhere (RefusesSender rows header object) answer
+  pub encoder : answer ≡ 0 → IsSomeAnd (encoder_of after) (IsEncoderIn rows header object)
   pub kept : answer ≢ 0 → coder_of after ≡ coder_of before
 
 -- bytes of the packet of these numbers, of the object whose encoder it is
@@ -147,4 +150,14 @@ pub record FillsWithPacket (held : Option Encoded) (block esi answer : ℕ) (bef
   pub number : IfSome held (λ e. IsPacketNumber (wanted_id e.configuration block esi) answer)
   pub packet : answer ≡ 0 → IsSomeAnd held (λ e. IsPacketAt e block esi after)
   pub no_room : answer ≡ 24 → IsSomeAnd held (λ e. HasNoRoom e block esi (length before))
+  pub kept : answer ≢ 0 → after ≡ before
+
+-- What a call answers and writes of a block of the decoder that is held: how many packets it needs (0), or nothing. 14 says that there is no such block, 22 that it is contradictory, and 26 that no decoder is held.
+pub record WritesMissing (held : Option State) (block answer before after : ℕ) : Type 0 where
+  pub none : (answer ≡ 26) ↔ (held ≡ None)
+  pub number : IfSome held (λ _. (answer ≡ 0) ⊎ (answer ≡ 14) ⊎ (answer ≡ 22))
+  pub unknown : IfSome held (λ s. (answer ≡ 14) ↔ (s.configuration.source_blocks ≤ block))
+  pub told : answer ≡ 0 → IsSomeAnd held (λ s. TellsMissingOf (s.received block) (s.answer block) (Some after))
+  pub needed : answer ≡ 0 → IsSomeAnd held (λ s. NeedsMore (s.received block) after)
+  pub contradictory : answer ≡ 22 → IsSomeAnd held (λ s. IsBlockContradictory s block)
   pub kept : answer ≢ 0 → after ≡ before

@@ -1,4 +1,5 @@
 pub mod Numbers
+pub mod Rows
 pub mod Headers
 pub mod PacketBuffers
 pub mod ObjectBuffers

@@ -1,15 +1,15 @@
--- How many bytes the blocks and the packets of an object take, over the built-in table.
+-- How many bytes the blocks and the packets of an object take.
 use Rattle.std.specs.Prelude.{ℕ, ◌+◌, ◌*◌, List, Result, Ok, Err, if◌then◌else◌, nat_lt}
 use Rattle.rq_bytes.specs.declared.error.Error.{Error}
 use Rattle.rq_bytes.specs.declared.error.Error.TheVariants.{UnknownBlock}
 use Rattle.rq_bytes.specs.Refusals.{and_then}
 use Rattle.rq_standard.specs.Configuration.{Configuration, configuration_of_bytes, total_symbols}
 use Rattle.rq_standard.specs.Streams.{frame_size}
-use Rattle.rq_standard.specs.TableRows.{built_in_rows, greatest_size}
-use Rattle.rq_base.specs.RefusedInput.{checked_configuration}
 use Rattle.raptorq.specs.Encoder.{packets_refusal}
 use Rattle.raptorq.specs.Offsets.{block_range, checked_offsets}
+use Rattle.raptorq_c.specs.declared.rows.Row.{Row}
 use Rattle.raptorq_c.specs.declared.sizes.Range.{Range}
+use Rattle.raptorq_c.specs.Headers.{checked_header}
 
 abbrev pub range_of : ℕ × ℕ → Range
 range_of ends = record { start = ends.0; end = ends.1 }
@@ -25,7 +25,7 @@ abbrev pub packets_length : Configuration → ℕ → ℕ
 packets_length c repair = (total_symbols c + c.source_blocks * repair) * frame_size c
 
 -- how many bytes the packets of an object take
-abbrev pub bytes_of_packets : List ℕ → ℕ → Result ℕ Error
-bytes_of_packets header repair =
+abbrev pub bytes_of_packets : List Row → List ℕ → ℕ → Result ℕ Error
+bytes_of_packets rows header repair =
     let c = configuration_of_bytes header in
-    and_then (checked_configuration (greatest_size built_in_rows) c) (λ _. and_then (packets_refusal c repair) (λ _. Ok (packets_length c repair)))
+    and_then (checked_header rows header) (λ _. and_then (packets_refusal c repair) (λ _. Ok (packets_length c repair)))

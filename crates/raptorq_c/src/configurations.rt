@@ -1,15 +1,15 @@
 //! Configurations: how an object is cut (RFC 6330, 3.3 and 4.3), as twelve bytes.
 ghost use Rattle.std.specs.Prelude.{◌≡◌};
+ghost use Rattle.rq_bytes.specs.Refusals.{Answers};
 ghost use Rattle.rq_standard.specs.Configuration.{header_bytes, configuration_of_bytes};
-ghost use Rattle.rq_standard.specs.TableRows.{built_in_rows};
-ghost use Rattle.rq_base.specs.Defaults.{wanted_parameters};
 ghost use Rattle.rq_base.specs.RefusedInput.{new_configuration};
 ghost use Rattle.raptorq_c.specs.Numbers.{number_of, refusal_number, Fills, IsNumber};
-ghost use Rattle.raptorq_c.specs.Headers.{parameters_of, checked_header};
+ghost use Rattle.raptorq_c.specs.Headers.{parameters_of, checked_header, derived_configuration};
 
 use crate::call_end::{CallEnd, number};
+use crate::rows::{Row, table_with};
 use raptorq::ObjectTransmissionInformation;
-use raptorq::systematic_constants::SystematicTable;
+use raptorq::error::Error;
 use std::alloc::Global;
 
 /// The numbers of a configuration. In C it is `reamertan_parameters`.
@@ -28,50 +28,48 @@ pub struct Parameters {
     pub alignment: u8,
 }
 
-// Writes the configuration of an object's length that a packet size and a decoder's memory ask for.
-fn derive(
+// The configuration of an object's length that a packet size and a decoder's memory ask for.
+fn derived(
     alloc: Global,
+    rows: &[Row],
     object_length: u64,
     packet_size: u16,
     decoder_memory: u64,
-    configuration: &mut [u8; 12],
-) -> Result<(), CallEnd>
-    ensures { Fills header_bytes (wanted_parameters built_in_rows object_length packet_size decoder_memory)
-        (number_of result) configuration.old configuration.new }
+) -> Result<ObjectTransmissionInformation, Error>
+    ensures { Answers (λ c. c) result (derived_configuration rows.now object_length packet_size decoder_memory) }
 {
-    let table = SystematicTable::built_in(alloc)?;
-    let derived = ObjectTransmissionInformation::generate_encoding_parameters(
+    let table = table_with(alloc, rows)?;
+    ObjectTransmissionInformation::generate_encoding_parameters(
         &table,
         object_length,
         packet_size,
         decoder_memory,
-    )?;
-    *configuration = derived.serialize();
-    Ok(())
+    )
 }
 
 /// The configuration of an object of this length, in bytes, for packets of at most `packet_size`
 /// bytes of payload, and decoders each of whose sub-blocks fits `decoder_memory` bytes. The numbers
 /// are those of `ObjectTransmissionInformation::generate_encoding_parameters`, and 10485760 is its
-/// default memory.
+/// default memory. Refuses a row, and then what that refuses.
 #[unsafe(no_mangle)]
 pub extern "C" fn reamertan_derive_configuration(
     alloc: Global,
+    rows: &[Row],
     object_length: u64,
     packet_size: u16,
     decoder_memory: u64,
     configuration: &mut [u8; 12],
 ) -> u8
-    ensures { Fills header_bytes (wanted_parameters built_in_rows object_length packet_size decoder_memory)
+    ensures { Fills header_bytes (derived_configuration rows.now object_length packet_size decoder_memory)
         result configuration.old configuration.new }
 {
-    number(derive(
-        alloc,
-        object_length,
-        packet_size,
-        decoder_memory,
-        configuration,
-    ))
+    match derived(alloc, rows, object_length, packet_size, decoder_memory) {
+        Ok(derived) => {
+            *configuration = derived.serialize();
+            0
+        }
+        Err(refusal) => refusal.code(),
+    }
 }
 
 // Writes the configuration of these numbers.
@@ -122,19 +120,23 @@ pub extern "C" fn reamertan_read_configuration(
 }
 
 // Tests that coders take a configuration.
-fn check(alloc: Global, configuration: &[u8; 12]) -> Result<(), CallEnd>
-    ensures { IsNumber (number_of result) (checked_header configuration.now) }
+fn check(alloc: Global, rows: &[Row], configuration: &[u8; 12]) -> Result<(), CallEnd>
+    ensures { IsNumber (number_of result) (checked_header rows.now configuration.now) }
 {
-    let table = SystematicTable::built_in(alloc)?;
+    let table = table_with(alloc, rows)?;
     ObjectTransmissionInformation::deserialize(configuration).check(&table)?;
     Ok(())
 }
 
 /// Whether encoders and decoders take the configuration that twelve bytes spell:
-/// `ObjectTransmissionInformation::check`.
+/// `ObjectTransmissionInformation::check`. Refuses a row, and then what that refuses.
 #[unsafe(no_mangle)]
-pub extern "C" fn reamertan_check_configuration(alloc: Global, configuration: &[u8; 12]) -> u8
-    ensures { IsNumber result (checked_header configuration.now) }
+pub extern "C" fn reamertan_check_configuration(
+    alloc: Global,
+    rows: &[Row],
+    configuration: &[u8; 12],
+) -> u8
+    ensures { IsNumber result (checked_header rows.now configuration.now) }
 {
-    number(check(alloc, configuration))
+    number(check(alloc, rows, configuration))
 }

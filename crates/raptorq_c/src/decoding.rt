@@ -9,11 +9,10 @@ ghost use Rattle.raptorq_c.specs.Numbers.{number_of};
 
 use crate::buffers::fill_answer;
 use crate::call_end::{CallEnd, number};
-use crate::sizes::frame_size;
+use crate::rows::{Row, table_with};
 use raptorq::decoder::decode_all;
 use raptorq::encoder::SPARSE_MATRIX_THRESHOLD;
 use raptorq::error::Error;
-use raptorq::systematic_constants::SystematicTable;
 use raptorq::{EncodingPacket, ObjectTransmissionInformation};
 use std::alloc::Global;
 
@@ -36,15 +35,16 @@ fn steps(alloc: Global, size: usize, bytes: &[u8]) -> Result<Vec<(u32, EncodingP
 // Fills a buffer of the caller's with the object of packets, where they determine it.
 fn decode(
     alloc: Global,
+    rows: &[Row],
     configuration: &[u8; 12],
     packets: &[u8],
     object: &mut [u8],
 ) -> Result<(), CallEnd>
-    ensures { FillsWithObject configuration.now packets.now (number_of result) object.old object.new }
+    ensures { FillsWithObject rows.now configuration.now packets.now (number_of result) object.old object.new }
 {
-    let table = SystematicTable::built_in(alloc)?;
+    let table = table_with(alloc, rows)?;
     let config = ObjectTransmissionInformation::deserialize(configuration);
-    let steps = steps(alloc, frame_size(&config), packets)?;
+    let steps = steps(alloc, config.frame_size(), packets)?;
     let answer = decode_all(alloc, &table, config, steps)?;
     fill_answer(object, &answer)
 }
@@ -52,17 +52,18 @@ fn decode(
 /// Fills a buffer with the object of packets, in any order, each any number of times, where they
 /// determine it. The packets are cut at the length of a payload id and a symbol.
 ///
-/// Refuses a last packet that is shorter than a payload id, then what `decode_all` refuses, packets
-/// that contradict each other among it (22), then packets that don't determine the object, and then a
-/// buffer that hasn't the object's length. Want of memory may come before any of them.
+/// Refuses a row, then a last packet that is shorter than a payload id, then what `decode_all` refuses,
+/// packets that contradict each other among it (22), then packets that don't determine the object, and
+/// then a buffer that hasn't the object's length. Want of memory may come before any of them.
 #[unsafe(no_mangle)]
 pub extern "C" fn reamertan_decode(
     alloc: Global,
+    rows: &[Row],
     configuration: &[u8; 12],
     packets: &[u8],
     object: &mut [u8],
 ) -> u8
-    ensures { FillsWithObject configuration.now packets.now result object.old object.new }
+    ensures { FillsWithObject rows.now configuration.now packets.now result object.old object.new }
 {
-    number(decode(alloc, configuration, packets, object))
+    number(decode(alloc, rows, configuration, packets, object))
 }

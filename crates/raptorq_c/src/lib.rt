@@ -5,6 +5,9 @@
 //! three above them. A call that answers another number than 0 leaves the caller's buffers as they
 //! were. Calls on buffers keep no memory. A handle holds an encoder or a decoder between calls, until
 //! it is closed.
+//!
+//! Calls that need a table take the rows that follow the built-in ones (RFC 6330, 5.6). They first
+//! refuse what `SystematicTable::with_rows` refuses of these (19).
 #![tactic(auto)]
 
 mod buffers;
@@ -16,6 +19,7 @@ mod encoding;
 mod handle;
 mod owned;
 mod receiving;
+mod rows;
 mod sending;
 mod sizes;
 #[cfg(test)]
@@ -29,6 +33,9 @@ pub use configurations::{
 pub use decoding::reamertan_decode;
 pub use encoding::reamertan_encode;
 pub use handle::Handle;
-pub use receiving::{reamertan_add_packet, reamertan_open_decoder, reamertan_write_object};
+pub use receiving::{
+    reamertan_add_packet, reamertan_missing_packets, reamertan_open_decoder, reamertan_write_object,
+};
+pub use rows::{Row, no_rows};
 pub use sending::{reamertan_open_encoder, reamertan_write_packet};
 pub use sizes::{Range, reamertan_block_range, reamertan_packets_length};

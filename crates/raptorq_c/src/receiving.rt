@@ -2,7 +2,7 @@
 ghost use Rattle.std.specs.Prelude.{◌≡◌, IsSomeAnd, IfOk};
 ghost use Rattle.rq_bytes.specs.Refusals.{Answers};
 ghost use Rattle.raptorq.specs.Decoder.{state_of};
-ghost use Rattle.raptorq_c.specs.Handles.{coder_of, decoder_in, decoder_of, encoder_in, encoder_of, FillsWithAnswer, IsAdded, IsNewDecoder, OpensDecoder, TakesBytes};
+ghost use Rattle.raptorq_c.specs.Handles.{coder_of, decoder_in, decoder_of, encoder_in, encoder_of, FillsWithAnswer, IsAdded, IsNewDecoder, OpensDecoder, TakesBytes, WritesMissing};
 ghost use Rattle.raptorq_c.specs.Numbers.{number_of, refusal_number};
 ghost use Rattle.raptorq_c.specs.Headers.{checked_header};
 
@@ -10,44 +10,50 @@ use crate::buffers::fill_answer;
 use crate::call_end::{CallEnd, number};
 use crate::handle::Handle;
 use crate::owned::Coder;
+use crate::rows::{Row, table_with};
 use raptorq::error::Error;
-use raptorq::systematic_constants::SystematicTable;
 use raptorq::{Decoder, EncodingPacket, ObjectTransmissionInformation};
 use std::alloc::Global;
 
 // The decoder of an object in this configuration.
-fn receiver(alloc: Global, configuration: &[u8; 12]) -> Result<Box<Coder>, Error>
-    ensures refused { Answers (λ _. tt) result (checked_header configuration.now) }
-    ensures decoder { IfOk result (λ b. IsSomeAnd (decoder_in b.value) (IsNewDecoder configuration.now)) }
+fn receiver(alloc: Global, rows: &[Row], configuration: &[u8; 12]) -> Result<Box<Coder>, Error>
+    ensures refused { Answers (λ _. tt) result (checked_header rows.now configuration.now) }
+    ensures decoder { IfOk result (λ b. IsSomeAnd (decoder_in b.value) (IsNewDecoder rows.now configuration.now)) }
 {
-    let table = SystematicTable::built_in(alloc)?;
+    let table = table_with(alloc, rows)?;
     let config = ObjectTransmissionInformation::deserialize(configuration);
     let decoder = Decoder::new(alloc, &table, config)?;
     Ok(Coder::Receiver(decoder).boxed(alloc)?)
 }
 
 // Puts a new decoder into the handle, once it is made.
-fn open(alloc: Global, configuration: &[u8; 12], handle: &mut Handle) -> Result<(), CallEnd>
-    ensures { OpensDecoder configuration.now (number_of result) handle.old handle.new }
+fn open(
+    alloc: Global,
+    rows: &[Row],
+    configuration: &[u8; 12],
+    handle: &mut Handle,
+) -> Result<(), CallEnd>
+    ensures { OpensDecoder rows.now configuration.now (number_of result) handle.old handle.new }
 {
-    handle.replace(alloc, receiver(alloc, configuration)?);
+    handle.replace(alloc, receiver(alloc, rows, configuration)?);
     Ok(())
 }
 
 /// Makes a decoder of an object in this configuration, which the handle then holds. What it held before
 /// is freed.
 ///
-/// Refuses what `Decoder::new` refuses. Want of memory may come before that. Where it refuses, the
-/// handle holds what it held.
+/// Refuses a row, and then what `Decoder::new` refuses. Want of memory may come before any of that. Where
+/// it refuses, the handle holds what it held.
 #[unsafe(no_mangle)]
 pub extern "C" fn reamertan_open_decoder(
     alloc: Global,
+    rows: &[Row],
     configuration: &[u8; 12],
     handle: &mut Handle,
 ) -> u8
-    ensures { OpensDecoder configuration.now result handle.old handle.new }
+    ensures { OpensDecoder rows.now configuration.now result handle.old handle.new }
 {
-    number(open(alloc, configuration, handle))
+    number(open(alloc, rows, configuration, handle))
 }
 
 // Takes the packet that bytes spell.
@@ -101,8 +107,8 @@ fn write(coder: &Coder, object: &mut [u8]) -> Result<(), CallEnd>
 /// Fills a buffer with the object, where its packets determine it.
 ///
 /// Answers 26 where the handle holds no decoder, 25 where the packets don't determine the object or
-/// contradict each other, and then 24 where the buffer hasn't the object's length. Want of memory may come
-/// before 25 and 24.
+/// contradict each other, and then 24 where the buffer hasn't the object's length. Want of memory
+/// may come before 25 and 24.
 #[unsafe(no_mangle)]
 pub extern "C" fn reamertan_write_object(
     alloc: Global,
@@ -116,6 +122,43 @@ pub extern "C" fn reamertan_write_object(
         return number(Err(CallEnd::NoCoder));
     };
     let ended = write(coder.as_ref(), object);
+    handle.put(coder);
+    number(ended)
+}
+
+// Writes how many packets more a block needs at least, where the coder is a decoder.
+fn count_missing(coder: &Coder, block: u8, missing: &mut u32) -> Result<(), CallEnd>
+    ensures { WritesMissing (decoder_in coder.now) block (number_of result) missing.old missing.new }
+{
+    let Coder::Receiver(decoder) = coder else {
+        return Err(CallEnd::NoCoder);
+    };
+    let Some(count) = decoder.missing_packets(block)? else {
+        return Err(CallEnd::Refused(Error::Contradiction));
+    };
+    *missing = count;
+    Ok(())
+}
+
+/// Writes how many packets more source block `block` needs at least, of ids that weren't taken yet:
+/// what `Decoder::missing_packets` answers.
+///
+/// Answers 26 where the handle holds no decoder, 14 where the object has no such block, and 22 where
+/// the packets of the block contradict each other.
+#[unsafe(no_mangle)]
+pub extern "C" fn reamertan_missing_packets(
+    alloc: Global,
+    handle: &mut Handle,
+    block: u8,
+    missing: &mut u32,
+) -> u8
+    ensures writes { WritesMissing (decoder_of handle.old) block result missing.old missing.new }
+    ensures same { coder_of handle.new ≡ coder_of handle.old }
+{
+    let Some(coder) = handle.take(alloc) else {
+        return number(Err(CallEnd::NoCoder));
+    };
+    let ended = count_missing(coder.as_ref(), block, missing);
     handle.put(coder);
     number(ended)
 }

@@ -9,17 +9,22 @@ use crate::buffers::fill;
 use crate::call_end::{CallEnd, number};
 use crate::handle::Handle;
 use crate::owned::Coder;
+use crate::rows::{Row, table_with};
 use raptorq::error::Error;
-use raptorq::systematic_constants::SystematicTable;
 use raptorq::{Encoder, ObjectTransmissionInformation, PayloadId};
 use std::alloc::Global;
 
 // The encoder of an object in this configuration.
-fn sender(alloc: Global, configuration: &[u8; 12], object: &[u8]) -> Result<Box<Coder>, Error>
-    ensures refused { IfErr result (λ e. (e ≡ Error.OutOfMemory) ⊎ RefusesSender configuration.now object.now e) }
-    ensures encoder { IfOk result (λ b. IsSomeAnd (encoder_in b.value) (IsEncoderIn configuration.now object.now)) }
+fn sender(
+    alloc: Global,
+    rows: &[Row],
+    configuration: &[u8; 12],
+    object: &[u8],
+) -> Result<Box<Coder>, Error>
+    ensures refused { IfErr result (λ e. (e ≡ Error.OutOfMemory) ⊎ RefusesSender rows.now configuration.now object.now e) }
+    ensures encoder { IfOk result (λ b. IsSomeAnd (encoder_in b.value) (IsEncoderIn rows.now configuration.now object.now)) }
 {
-    let table = SystematicTable::built_in(alloc)?;
+    let table = table_with(alloc, rows)?;
     let config = ObjectTransmissionInformation::deserialize(configuration);
     let encoder = Encoder::new(alloc, &table, object, config)?;
     Ok(Coder::Sender(encoder).boxed(alloc)?)
@@ -28,31 +33,33 @@ fn sender(alloc: Global, configuration: &[u8; 12], object: &[u8]) -> Result<Box<
 // Puts a new encoder into the handle, once it is made.
 fn open(
     alloc: Global,
+    rows: &[Row],
     configuration: &[u8; 12],
     object: &[u8],
     handle: &mut Handle,
 ) -> Result<(), CallEnd>
-    ensures { OpensEncoder configuration.now object.now (number_of result) handle.old handle.new }
+    ensures { OpensEncoder rows.now configuration.now object.now (number_of result) handle.old handle.new }
 {
-    handle.replace(alloc, sender(alloc, configuration, object)?);
+    handle.replace(alloc, sender(alloc, rows, configuration, object)?);
     Ok(())
 }
 
-/// Makes an encoder of an object in this configuration, which the handle then holds. What it held before
-/// is freed.
+/// Makes an encoder of an object in this configuration, which the handle then holds. What it held
+/// before is freed.
 ///
-/// Refuses what `Encoder::new` refuses. Want of memory may come before any of that. Where it refuses,
-/// the handle holds what it held.
+/// Refuses a row, and then what `Encoder::new` refuses. Want of memory may come before any of that. Where
+/// it refuses, the handle holds what it held.
 #[unsafe(no_mangle)]
 pub extern "C" fn reamertan_open_encoder(
     alloc: Global,
+    rows: &[Row],
     configuration: &[u8; 12],
     object: &[u8],
     handle: &mut Handle,
 ) -> u8
-    ensures { OpensEncoder configuration.now object.now result handle.old handle.new }
+    ensures { OpensEncoder rows.now configuration.now object.now result handle.old handle.new }
 {
-    number(open(alloc, configuration, object, handle))
+    number(open(alloc, rows, configuration, object, handle))
 }
 
 // The bytes of the packet of these numbers.

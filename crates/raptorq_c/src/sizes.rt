@@ -1,12 +1,11 @@
 //! How many bytes the blocks and the packets of an object take.
-ghost use Rattle.std.specs.Prelude.{◌≡◌};
-ghost use Rattle.rq_standard.specs.Streams.{frame_size};
 ghost use Rattle.raptorq_c.specs.Numbers.{number_of, Fills};
 ghost use Rattle.raptorq_c.specs.Sizes.{bytes_of_block, bytes_of_packets, range_of};
 
 use crate::call_end::{CallEnd, number};
+use crate::rows::{Row, table_with};
+use raptorq::base::ENCODING_SYMBOL_IDS;
 use raptorq::error::Error;
-use raptorq::systematic_constants::SystematicTable;
 use raptorq::{ObjectTransmissionInformation, calculate_block_offsets};
 use std::alloc::Global;
 
@@ -18,13 +17,6 @@ pub struct Range {
     pub start: u64,
     /// The place behind the last byte.
     pub end: u64,
-}
-
-/// How long a frame is, in bytes: a payload id and a symbol.
-pub(crate) fn frame_size(config: &ObjectTransmissionInformation) -> usize
-    ensures { result ≡ frame_size config.now }
-{
-    4 + usize::from(config.symbol_size())
 }
 
 // Writes where a source block begins and where it ends.
@@ -69,37 +61,39 @@ pub extern "C" fn reamertan_block_range(
 // Writes how many bytes the packets of an object take.
 fn packets_length(
     alloc: Global,
+    rows: &[Row],
     configuration: &[u8; 12],
     repair: u32,
     length: &mut u64,
 ) -> Result<(), CallEnd>
-    ensures { Fills (λ bytes. bytes) (bytes_of_packets configuration.now repair) (number_of result) length.old length.new }
+    ensures { Fills (λ bytes. bytes) (bytes_of_packets rows.now configuration.now repair) (number_of result) length.old length.new }
 {
-    let table = SystematicTable::built_in(alloc)?;
+    let table = table_with(alloc, rows)?;
     let config = ObjectTransmissionInformation::deserialize(configuration);
     config.check(&table)?;
     let repair = u64::from(repair);
-    if config.largest_block() + repair > 1 << 24 {
+    if config.largest_block() + repair > u64::from(ENCODING_SYMBOL_IDS) {
         return Err(CallEnd::Refused(Error::EsiTooLarge));
     }
     let packets = config.total_symbols() + u64::from(config.source_blocks()) * repair;
-    *length = packets * frame_size(&config) as u64;
+    *length = packets * config.frame_size() as u64;
     Ok(())
 }
 
 /// How many bytes the packets of an object take, those of its source symbols and of `repair` repair
 /// symbols a block: what `reamertan_encode` fills.
 ///
-/// Refuses what `ObjectTransmissionInformation::check` refuses, and then what
+/// Refuses a row, then what `ObjectTransmissionInformation::check` refuses, and then what
 /// `Encoder::get_encoded_packets` refuses. Want of memory may come before any of them.
 #[unsafe(no_mangle)]
 pub extern "C" fn reamertan_packets_length(
     alloc: Global,
+    rows: &[Row],
     configuration: &[u8; 12],
     repair: u32,
     length: &mut u64,
 ) -> u8
-    ensures { Fills (λ bytes. bytes) (bytes_of_packets configuration.now repair) result length.old length.new }
+    ensures { Fills (λ bytes. bytes) (bytes_of_packets rows.now configuration.now repair) result length.old length.new }
 {
-    number(packets_length(alloc, configuration, repair, length))
+    number(packets_length(alloc, rows, configuration, repair, length))
 }

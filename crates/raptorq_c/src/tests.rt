@@ -1,22 +1,32 @@
 //! Each call once: three bytes there and back, in the stream that the program `rq` writes of them.
 use crate::{
-    Handle, Parameters, Range, reamertan_add_packet, reamertan_block_range,
+    Handle, Parameters, Range, Row, reamertan_add_packet, reamertan_block_range,
     reamertan_check_configuration, reamertan_close, reamertan_decode,
-    reamertan_derive_configuration, reamertan_encode, reamertan_open_decoder,
-    reamertan_open_encoder, reamertan_packets_length, reamertan_read_configuration,
-    reamertan_write_configuration, reamertan_write_object, reamertan_write_packet,
+    reamertan_derive_configuration, reamertan_encode, reamertan_missing_packets,
+    reamertan_open_decoder, reamertan_open_encoder, reamertan_packets_length,
+    reamertan_read_configuration, reamertan_write_configuration, reamertan_write_object,
+    reamertan_write_packet,
 };
 use std::alloc::Global;
 use std::test::Fail;
 
 const HEADER: [u8; 12] = [0, 0, 0, 0, 3, 0, 0, 2, 1, 0, 1, 1];
 
+// The row of the standard behind the built-in ones.
+const NEXT_ROW: Row = Row {
+    extended_symbols: 511,
+    systematic_index: 800,
+    ldpc_symbols: 37,
+    hdpc_symbols: 10,
+    lt_symbols: 523,
+};
+
 #[test]
 fn configurations(rt: HostRuntime) -> Result<(), Fail> {
     let mut derived = [0; 12];
-    let number = reamertan_derive_configuration(rt.alloc(), 3, 2, 10485760, &mut derived);
+    let number = reamertan_derive_configuration(rt.alloc(), &[], 3, 2, 10485760, &mut derived);
     assert!(rt; number == 0 && derived == HEADER);
-    assert!(rt; reamertan_check_configuration(rt.alloc(), &HEADER) == 0);
+    assert!(rt; reamertan_check_configuration(rt.alloc(), &[], &HEADER) == 0);
     let mut read = Parameters {
         transfer_length: 0,
         symbol_size: 0,
@@ -34,13 +44,13 @@ fn configurations(rt: HostRuntime) -> Result<(), Fail> {
 #[test]
 fn there_and_back(rt: HostRuntime) -> Result<(), Fail> {
     let mut packets = [0; 12];
-    let number = reamertan_encode(rt.alloc(), &HEADER, &[7, 8, 9], 0, &mut packets);
+    let number = reamertan_encode(rt.alloc(), &[], &HEADER, &[7, 8, 9], 0, &mut packets);
     assert!(rt; number == 0);
     assert!(rt; packets == [0, 0, 0, 0, 7, 8, 0, 0, 0, 1, 9, 0]);
     let mut object = [0; 3];
-    assert!(rt; reamertan_decode(rt.alloc(), &HEADER, &packets[..6], &mut object) == 25);
-    assert!(rt; reamertan_decode(rt.alloc(), &HEADER, &packets, &mut object[..2]) == 24);
-    assert!(rt; reamertan_decode(rt.alloc(), &HEADER, &packets, &mut object) == 0);
+    assert!(rt; reamertan_decode(rt.alloc(), &[], &HEADER, &packets[..6], &mut object) == 25);
+    assert!(rt; reamertan_decode(rt.alloc(), &[], &HEADER, &packets, &mut object[..2]) == 24);
+    assert!(rt; reamertan_decode(rt.alloc(), &[], &HEADER, &packets, &mut object) == 0);
     assert!(rt; object == [7, 8, 9]);
     Ok(())
 }
@@ -52,9 +62,40 @@ fn sizes(rt: HostRuntime) -> Result<(), Fail> {
     assert!(rt; reamertan_block_range(rt.alloc(), &HEADER, 0, &mut range) == 0);
     assert!(rt; range == Range { start: 0, end: 4 });
     let mut length = 0;
-    assert!(rt; reamertan_packets_length(rt.alloc(), &HEADER, 1 << 24, &mut length) == 11);
-    assert!(rt; reamertan_packets_length(rt.alloc(), &HEADER, 2, &mut length) == 0);
+    assert!(rt; reamertan_packets_length(rt.alloc(), &[], &HEADER, 1 << 24, &mut length) == 11);
+    assert!(rt; reamertan_packets_length(rt.alloc(), &[], &HEADER, 2, &mut length) == 0);
     assert!(rt; length == 24);
+    Ok(())
+}
+
+// A block of 500 symbols takes a row that is handed in.
+#[test]
+fn rows(rt: HostRuntime) -> Result<(), Fail> {
+    let header = [0, 0, 0, 1, 244, 0, 0, 1, 1, 0, 1, 1];
+    let even = Row {
+        ldpc_symbols: 36,
+        ..NEXT_ROW
+    };
+    let mut length = 0;
+    assert!(rt; reamertan_check_configuration(rt.alloc(), &[], &header) == 7);
+    assert!(rt; reamertan_check_configuration(rt.alloc(), &[NEXT_ROW], &header) == 0);
+    assert!(rt; reamertan_check_configuration(rt.alloc(), &[even], &header) == 19);
+    assert!(rt; reamertan_packets_length(rt.alloc(), &[NEXT_ROW], &header, 1, &mut length) == 0);
+    assert!(rt; length == 2505);
+    Ok(())
+}
+
+// An object of 500 symbols there and back, without its first packet.
+#[test]
+fn larger_block(rt: HostRuntime) -> Result<(), Fail> {
+    let header = [0, 0, 0, 1, 244, 0, 0, 1, 1, 0, 1, 1];
+    let object = [7; 500];
+    let mut packets = [0; 2525];
+    let mut back = [0; 500];
+    let encoded = reamertan_encode(rt.alloc(), &[NEXT_ROW], &header, &object, 5, &mut packets);
+    let decoded = reamertan_decode(rt.alloc(), &[NEXT_ROW], &header, &packets[5..], &mut back);
+    assert!(rt; [encoded, decoded] == [0, 0]);
+    assert!(rt; back == object);
     Ok(())
 }
 
@@ -62,7 +103,7 @@ fn sizes(rt: HostRuntime) -> Result<(), Fail> {
 fn send(alloc: Global, handle: &mut Handle, packets: &mut [u8; 12]) -> [u8; 4] {
     let (first, second) = packets.split_at_mut(6);
     let none = reamertan_write_packet(alloc, handle, 0, 0, first);
-    let opened = reamertan_open_encoder(alloc, &HEADER, &[7, 8, 9], handle);
+    let opened = reamertan_open_encoder(alloc, &[], &HEADER, &[7, 8, 9], handle);
     let source = reamertan_write_packet(alloc, handle, 0, 0, first);
     let last = reamertan_write_packet(alloc, handle, 0, 1, second);
     [none, opened, source, last]
@@ -76,7 +117,7 @@ fn receive(
     object: &mut [u8; 3],
 ) -> [u8; 6] {
     let none = reamertan_add_packet(alloc, handle, &packets[..6]);
-    let opened = reamertan_open_decoder(alloc, &HEADER, handle);
+    let opened = reamertan_open_decoder(alloc, &[], &HEADER, handle);
     let first = reamertan_add_packet(alloc, handle, &packets[..6]);
     let incomplete = reamertan_write_object(alloc, handle, object);
     let second = reamertan_add_packet(alloc, handle, &packets[6..]);
@@ -102,21 +143,61 @@ fn handles(rt: HostRuntime) -> Result<(), Fail> {
     Ok(())
 }
 
+// What is answered of how many packets block 0 needs, with the count.
+fn missing(alloc: Global, handle: &mut Handle) -> (u8, u32) {
+    let mut count = 9;
+    let answered = reamertan_missing_packets(alloc, handle, 0, &mut count);
+    (answered, count)
+}
+
+#[test]
+fn missing_packets(rt: HostRuntime) -> Result<(), Fail> {
+    let mut handle = Handle::empty();
+    let none = missing(rt.alloc(), &mut handle);
+    let opened = reamertan_open_decoder(rt.alloc(), &[], &HEADER, &mut handle);
+    let before = missing(rt.alloc(), &mut handle);
+    let added = reamertan_add_packet(rt.alloc(), &mut handle, &[0, 0, 0, 0, 7, 8]);
+    let after = missing(rt.alloc(), &mut handle);
+    let mut count = 9;
+    let unknown = reamertan_missing_packets(rt.alloc(), &mut handle, 1, &mut count);
+    reamertan_close(rt.alloc(), &mut handle);
+    handle.let_go();
+    assert!(rt; (none, opened, before) == ((26, 9), 0, (0, 2)));
+    assert!(rt; (added, after, unknown, count) == (0, (0, 1), 14, 9));
+    Ok(())
+}
+
+// Takes values of types that may cross threads alone.
+fn crosses<T: Send>(_value: &T) -> bool {
+    true
+}
+
+#[test]
+fn threads(rt: HostRuntime) -> Result<(), Fail> {
+    let handle = Handle::empty();
+    let sent = crosses(&handle);
+    handle.let_go();
+    assert!(rt; sent);
+    Ok(())
+}
+
 // Of one source symbol: repair symbol 133 is zero, whatever that is.
 #[test]
 fn contradictions(rt: HostRuntime) -> Result<(), Fail> {
     let header = [0, 0, 0, 0, 1, 0, 0, 1, 1, 0, 1, 1];
     let packets = [0, 0, 0, 133, 1, 0, 0, 0, 0, 7];
     let mut object = [9];
-    let decoded = reamertan_decode(rt.alloc(), &header, &packets, &mut object);
+    let decoded = reamertan_decode(rt.alloc(), &[], &header, &packets, &mut object);
     let mut handle = Handle::empty();
-    let opened = reamertan_open_decoder(rt.alloc(), &header, &mut handle);
+    let opened = reamertan_open_decoder(rt.alloc(), &[], &header, &mut handle);
     let first = reamertan_add_packet(rt.alloc(), &mut handle, &packets[..5]);
     let second = reamertan_add_packet(rt.alloc(), &mut handle, &packets[5..]);
     let repeated = reamertan_add_packet(rt.alloc(), &mut handle, &packets[..5]);
     let incomplete = reamertan_write_object(rt.alloc(), &mut handle, &mut object);
+    let missing = missing(rt.alloc(), &mut handle);
     reamertan_close(rt.alloc(), &mut handle);
     handle.let_go();
+    assert!(rt; missing == (22, 9));
     assert!(rt; [decoded, opened, first, second, repeated] == [22, 0, 0, 22, 22]);
     assert!(rt; incomplete == 25 && object == [9]);
     Ok(())

@@ -7,4 +7,3 @@ mod indices;
 mod matrices;
 mod object_vectors;
 mod objects;
-mod rows;

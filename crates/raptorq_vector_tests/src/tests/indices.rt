@@ -54,7 +54,7 @@ fn indices_of_ids(rt: HostRuntime) -> Result<(), Fail> {
     let table = SystematicTable::built_in(rt.alloc())?;
     for (size, wanted) in INDEX_DIGESTS {
         assert!(rt; size <= table.greatest());
-        let row = table.row(size);
+        let row = table.checked_row(size);
         let mut digest = 0;
         for n in 0..200 {
             digest = indices_digest(Indices::of_id(&row, id_of(n)), digest);

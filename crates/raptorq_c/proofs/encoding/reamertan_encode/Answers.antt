@@ -1,0 +1,49 @@
+use Rattle.std.proofs.Common.{◌≡◌, ◌≢◌, ℕ, List, length, Result, Ok, Err, refl, sym, ap, ◌∙◌, subst, arith}
+use Rattle.std.specs.Prelude.{OnOk, OnErr}
+use Rattle.rq_bytes.specs.declared.error.Error.{Error}
+use Rattle.rq_bytes.specs.Error.{code_of}
+use Rattle.raptorq_c.specs.declared.call_end.CallEnd.{CallEnd}
+use Rattle.raptorq_c.specs.declared.rows.Row.{Row}
+use Rattle.raptorq_c.specs.PacketBuffers.{FillsWithPackets, IsEncoding, StopsAt, no_room}
+use Rattle.raptorq_c.specs.Numbers.{number_of}
+use Rattle.raptorq_c.proofs.Ending.{code_positive}
+use Rattle.raptorq_c.proofs.PacketLengths.{packets_room, wanted}
+use Rattle.raptorq_c.proofs.encoding.reamertan_encode.Goals as goal
+
+-- a buffer is filled with bytes of the packets where it has their length
+filled : (rows : List Row) (header object : List ℕ) (repair : ℕ) (bytes before after : List ℕ) (ended : Result (Unit {0}) CallEnd) → IsEncoding rows header object repair bytes → OnOk ended (after ≡ bytes) → OnOk ended (length bytes ≡ length before)
+    → OnErr ended (number_of ended ≡ 24) → OnErr ended (length bytes ≢ length before) → OnErr ended (after ≡ before) → FillsWithPackets rows header object repair (number_of ended) before after
+filled rows header object repair bytes before after (Ok x) are is fits number other kept = record {
+  packets = λ _. subst (IsEncoding rows header object repair) (sym is) are;
+  room = λ _. packets_room rows header object repair bytes are ∙ ap wanted fits;
+  stopped = λ not_done. absurd (not_done refl);
+  kept = λ not_done. absurd (not_done refl);
+}
+filled rows header object repair bytes before after (Err s) are is fits number other kept = record {
+  packets = λ zero. absurd (omega (arith, zero, number));
+  room = λ zero. absurd (omega (arith, zero, number));
+  stopped = λ _. no_room bytes are (λ same. other (sym same)) number;
+  kept = λ _. kept;
+}
+
+-- it stays where no packets are made
+stopped_before : (rows : List Row) (header object : List ℕ) (repair : ℕ) (buffer : List ℕ) (e : Error) → ((room : ℕ) → StopsAt rows header object repair room (code_of e)) → FillsWithPackets rows header object repair (code_of e) buffer buffer
+stopped_before rows header object repair buffer e stops = record {
+  packets = λ zero. absurd (omega (arith, zero, code_positive e));
+  room = λ zero. absurd (omega (arith, zero, code_positive e));
+  stopped = λ _. stops (length buffer);
+  kept = λ _. refl;
+}
+
+pub returns-in-Err : goal.returns-in-Err
+returns-in-Err c =
+    let buffer = c.args.packets.now in
+    subst (λ n. FillsWithPackets c.args.rows.now c.args.configuration.now c.args.object.now c.args.repair n buffer buffer) (sym c.code.ensures)
+    (stopped_before c.args.rows.now c.args.configuration.now c.args.object.now c.args.repair buffer c.in-Err.refusal c.in-Err.ensures.stopped)
+
+pub returns-in-Ok : goal.returns-in-Ok
+returns-in-Ok c =
+    let ends = c.fill.ensures in
+    subst (λ n. FillsWithPackets c.args.rows.now c.args.configuration.now c.args.object.now c.args.repair n c.args.packets.now c.fill.new.buffer) (sym c.number.ensures)
+    (filled c.args.rows.now c.args.configuration.now c.args.object.now c.args.repair c.as_slice.result.now c.args.packets.now c.fill.new.buffer c.fill.result
+    (subst (IsEncoding c.args.rows.now c.args.configuration.now c.args.object.now c.args.repair) (sym c.as_slice.ensures.value) c.in-Ok.ensures.packets) ends.filled ends.fits ends.number ends.other ends.kept)
