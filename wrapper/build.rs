@@ -1,17 +1,21 @@
 //! Links the codec's static library: the one in the folder or the PREFIX that `REAMERTAN_LIB` names, or else the one
 //! that pkg-config knows. Without a library there is a warning, since `cargo check` and `cargo doc` need none.
+//! And writes the rows of RFC 6330 beyond the built-in ones as an array, from the file of the examples.
 
 use std::env;
+use std::fs;
 use std::path::{Path, PathBuf};
 use std::process::{Command, exit};
 
 const LIBRARY: &str = "libreamertan.a";
+const ROWS: &str = "../crates/example_tables/data/rows.txt";
 
 // What pkg-config is told by the environment.
 const PKG_CONFIG: [&str; 3] = ["PKG_CONFIG", "PKG_CONFIG_PATH", "PKG_CONFIG_LIBDIR"];
 
 fn main() {
     println!("cargo:rerun-if-changed=build.rs");
+    write_rows();
     println!("cargo:rerun-if-env-changed=REAMERTAN_LIB");
     let named = env::var_os("REAMERTAN_LIB").map(PathBuf::from);
     let found = named.as_deref().map_or_else(in_pkg_config, in_named);
@@ -20,6 +24,17 @@ fn main() {
         (None, Some(named)) => refuse(&named),
         (None, None) => warn(),
     }
+}
+
+fn write_rows() {
+    println!("cargo:rerun-if-changed={ROWS}");
+    let rows = fs::read_to_string(ROWS).expect(ROWS);
+    let rows: Vec<String> = rows
+        .lines()
+        .map(|row| format!("[{}]", row.replace(' ', ", ")))
+        .collect();
+    let made = PathBuf::from(env::var_os("OUT_DIR").unwrap()).join("rows.rs");
+    fs::write(made, format!("[{}]", rows.join(", "))).unwrap();
 }
 
 fn link(folder: &Path) {

@@ -1,6 +1,8 @@
-//! The calls of the static library, each as a safe function. `include/reamertan.h` says what they do.
+//! The calls of the static library, each as a safe function. `include/reamertan.h` says what they
+//! do.
 
 use std::fmt;
+use std::ptr::null_mut;
 
 /// A configuration as RFC 6330 writes it.
 pub type Configuration = [u8; 12];
@@ -30,9 +32,6 @@ pub struct Refusal(pub u8);
 
 /// The packets contradict each other.
 pub const CONTRADICTION: Refusal = Refusal(22);
-
-/// The packets don't determine the object.
-pub const INCOMPLETE: Refusal = Refusal(25);
 
 const NAMES: [&str; 26] = [
     "Done",
@@ -69,8 +68,16 @@ impl fmt::Display for Refusal {
     }
 }
 
+/// A row of RFC 6330, section 5.6: K', J, S, H and W.
+type Row = [u32; 5];
+
+/// The rows beyond the built-in ones, with which a source block has up to 56403 symbols.
+const ROWS: &[Row] = &include!(concat!(env!("OUT_DIR"), "/rows.rs"));
+
 unsafe extern "C" {
     fn reamertan_derive_configuration(
+        rows: *const Row,
+        row_count: usize,
         object_length: u64,
         packet_size: u16,
         decoder_memory: u64,
@@ -84,18 +91,26 @@ unsafe extern "C" {
         configuration: *const Configuration,
         parameters: *mut Parameters,
     );
-    fn reamertan_check_configuration(configuration: *const Configuration) -> u8;
+    fn reamertan_check_configuration(
+        rows: *const Row,
+        row_count: usize,
+        configuration: *const Configuration,
+    ) -> u8;
     fn reamertan_block_range(
         configuration: *const Configuration,
         block: u8,
         range: *mut Range,
     ) -> u8;
     fn reamertan_packets_length(
+        rows: *const Row,
+        row_count: usize,
         configuration: *const Configuration,
         repair: u32,
         length: *mut u64,
     ) -> u8;
     fn reamertan_encode(
+        rows: *const Row,
+        row_count: usize,
         configuration: *const Configuration,
         object: *const u8,
         object_length: usize,
@@ -103,13 +118,16 @@ unsafe extern "C" {
         packets: *mut u8,
         packets_length: usize,
     ) -> u8;
-    fn reamertan_decode(
+    fn reamertan_open_decoder(
+        rows: *const Row,
+        row_count: usize,
         configuration: *const Configuration,
-        packets: *const u8,
-        packets_length: usize,
-        object: *mut u8,
-        object_length: usize,
+        handle: *mut Handle,
     ) -> u8;
+    fn reamertan_add_packet(handle: *mut Handle, packet: *const u8, packet_length: usize) -> u8;
+    fn reamertan_missing_packets(handle: *mut Handle, block: u8, missing: *mut u32) -> u8;
+    fn reamertan_write_object(handle: *mut Handle, object: *mut u8, object_length: usize) -> u8;
+    fn reamertan_close(handle: *mut Handle);
 }
 
 fn answered<T>(number: u8, value: T) -> Result<T, Refusal> {
@@ -121,8 +139,18 @@ fn answered<T>(number: u8, value: T) -> Result<T, Refusal> {
 
 pub fn derive(length: u64, packet_size: u16, memory: u64) -> Result<Configuration, Refusal> {
     let mut made = [0; 12];
-    // SAFETY: the declaration is the header's, and the pointer is that of twelve bytes.
-    let number = unsafe { reamertan_derive_configuration(length, packet_size, memory, &mut made) };
+    // SAFETY: the declaration is the header's, a row has the layout of its struct, and the other
+    // pointer is that of twelve bytes.
+    let number = unsafe {
+        reamertan_derive_configuration(
+            ROWS.as_ptr(),
+            ROWS.len(),
+            length,
+            packet_size,
+            memory,
+            &mut made,
+        )
+    };
     answered(number, made)
 }
 
@@ -142,7 +170,7 @@ pub fn read(configuration: &Configuration) -> Parameters {
 
 pub fn check(configuration: &Configuration) -> Result<(), Refusal> {
     // SAFETY: as above.
-    let number = unsafe { reamertan_check_configuration(configuration) };
+    let number = unsafe { reamertan_check_configuration(ROWS.as_ptr(), ROWS.len(), configuration) };
     answered(number, ())
 }
 
@@ -156,7 +184,15 @@ pub fn block_range(configuration: &Configuration, block: u8) -> Result<Range, Re
 pub fn packets_length(configuration: &Configuration, repair: u32) -> Result<u64, Refusal> {
     let mut length = 0;
     // SAFETY: as above.
-    let number = unsafe { reamertan_packets_length(configuration, repair, &mut length) };
+    let number = unsafe {
+        reamertan_packets_length(
+            ROWS.as_ptr(),
+            ROWS.len(),
+            configuration,
+            repair,
+            &mut length,
+        )
+    };
     answered(number, length)
 }
 
@@ -169,6 +205,8 @@ pub fn encode(
     // SAFETY: each pointer goes with its slice's length, and the slices don't overlap.
     let number = unsafe {
         reamertan_encode(
+            ROWS.as_ptr(),
+            ROWS.len(),
             configuration,
             object.as_ptr(),
             object.len(),
@@ -180,20 +218,65 @@ pub fn encode(
     answered(number, ())
 }
 
-pub fn decode(
-    configuration: &Configuration,
-    packets: &[u8],
-    object: &mut [u8],
-) -> Result<(), Refusal> {
-    // SAFETY: as for `encode`.
-    let number = unsafe {
-        reamertan_decode(
-            configuration,
-            packets.as_ptr(),
-            packets.len(),
-            object.as_mut_ptr(),
-            object.len(),
-        )
-    };
-    answered(number, ())
+#[repr(C)]
+struct Owned {
+    at: *mut u8,
+}
+
+/// A coder that the library keeps between calls, until this is dropped.
+#[repr(C)]
+pub struct Handle {
+    full: bool,
+    owned: Owned,
+}
+
+// SAFETY: it is proved of the library's type of a handle that it may cross threads.
+unsafe impl Send for Handle {}
+
+// SAFETY: each call takes a handle by `&mut`, so that nothing can be done by a `&`.
+unsafe impl Sync for Handle {}
+
+impl Handle {
+    /// A decoder, before any packet.
+    pub fn decoder(configuration: &Configuration) -> Result<Handle, Refusal> {
+        let owned = Owned {
+            at: null_mut(),
+        };
+        let mut made = Handle { full: false, owned };
+        // SAFETY: the struct has the header's layout, and one of zeros holds no coder.
+        let number = unsafe {
+            reamertan_open_decoder(ROWS.as_ptr(), ROWS.len(), configuration, &mut made)
+        };
+        answered(number, made)
+    }
+
+    /// Takes a packet, a payload id of 4 bytes and a symbol.
+    pub fn add_packet(&mut self, packet: &[u8]) -> Result<(), Refusal> {
+        // SAFETY: the pointer goes with its slice's length, and a handle is used by one call at a
+        // time.
+        let number = unsafe { reamertan_add_packet(self, packet.as_ptr(), packet.len()) };
+        answered(number, ())
+    }
+
+    /// How many packets more a block needs at least.
+    pub fn missing_packets(&mut self, block: u8) -> Result<u32, Refusal> {
+        let mut missing = 0;
+        // SAFETY: as above.
+        let number = unsafe { reamertan_missing_packets(self, block, &mut missing) };
+        answered(number, missing)
+    }
+
+    /// Fills a buffer with the object.
+    pub fn write_object(&mut self, object: &mut [u8]) -> Result<(), Refusal> {
+        // SAFETY: as for packets.
+        let number = unsafe { reamertan_write_object(self, object.as_mut_ptr(), object.len()) };
+        answered(number, ())
+    }
+}
+
+impl Drop for Handle {
+    fn drop(&mut self) {
+        // SAFETY: as above.
+        unsafe { reamertan_close(self) }
+    }
 }

@@ -158,6 +158,41 @@ fn packets_that_contradict_each_other() {
     }
 }
 
+// A packet of a byte, of the first block.
+fn short_packet(id: u32, byte: u8) -> EncodingPacket {
+    EncodingPacket::new(PayloadId::new(0, id), vec![byte])
+}
+
+#[test]
+fn packets_that_are_missing() {
+    let mut decoder = Decoder::new(ObjectTransmissionInformation::new(3, 1, 1, 1, 1));
+    for (id, missing) in [(0, 2), (0, 2), (7, 1), (2, 0)] {
+        decoder.add_new_packet(short_packet(id, 0));
+        assert_eq!(decoder.missing_packets(0), Some(missing));
+    }
+    assert_eq!(decoder.get_result(), Some(vec![0; 3]));
+    let mut forged = Decoder::new(ObjectTransmissionInformation::new(1, 1, 1, 1, 1));
+    forged.add_new_packet(short_packet(133, 1));
+    assert_eq!(forged.missing_packets(0), Some(1));
+    forged.add_new_packet(short_packet(0, 7));
+    assert_eq!(forged.missing_packets(0), None);
+}
+
+// Symbol 133 decides nothing, so that a decoder has packets to be solved for later.
+#[test]
+fn a_clone_and_another_thread_go_on() {
+    let mut decoder = Decoder::new(ObjectTransmissionInformation::new(1, 1, 1, 1, 1));
+    assert_eq!(decoder.decode(short_packet(133, 0)), None);
+    let mut clone = decoder.clone();
+    assert_eq!(clone, decoder);
+    assert_eq!(format!("{clone:?}"), format!("{decoder:?}"));
+    let thread = std::thread::spawn(move || (decoder.decode(short_packet(0, 7)), decoder));
+    let (answer, decoder) = thread.join().expect("the thread ends");
+    assert_eq!(answer, Some(vec![7]));
+    assert_eq!(clone.decode(short_packet(0, 7)), answer);
+    assert_eq!(clone, decoder);
+}
+
 #[test]
 #[should_panic(expected = "Misaligned")]
 fn an_alignment_that_does_not_divide() {

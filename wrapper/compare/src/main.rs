@@ -1,7 +1,8 @@
 //! The proved codec beside the crate `raptorq` 2.0.1, in one process: on 2,000 random configurations,
-//! losses and orders, packets are equal byte for byte and both answer at the same packet. Then both
-//! encode and decode in turn, and the median of the ratios of their times is printed (above 1 the
-//! proved one is faster).
+//! losses and orders, packets are equal byte for byte and both answer at the same packet. One in eight
+//! has blocks of more than 497 symbols. On 2,000 lengths and packet sizes default configurations are
+//! equal. Then both take 400 packets that decide nothing, encode and decode, in turn, and the medians
+//! of the ratios of their times are printed (above 1 the proved one is faster).
 
 use std::hint::black_box;
 use std::time::Instant;
@@ -25,22 +26,33 @@ impl Numbers {
     }
 }
 
+/// How many symbols a block has: in one configuration of eight from 498 to 56403.
+fn block_symbols(numbers: &mut Numbers, number: usize) -> u64 {
+    match number % 8 {
+        0 => {
+            let least = 498 << numbers.below(7);
+            (least + numbers.below(least)).min(56403)
+        }
+        1 => 1 + numbers.below(497),
+        _ => 1 + numbers.below(60),
+    }
+}
+
 /// A configuration that both take: F, T, Z, N, Al.
-fn configuration(numbers: &mut Numbers) -> (u64, u16, u8, u16, u8) {
+fn configuration(numbers: &mut Numbers, number: usize) -> (u64, u16, u8, u16, u8) {
     let alignment = 1 + numbers.below(8);
     let units = 1 + numbers.below(8);
     let size = alignment * units;
     let sub_blocks = 1 + numbers.below(units);
-    let blocks = 1 + numbers.below(4);
-    let most = if numbers.below(20) == 0 { 497 } else { 60 };
-    let symbols = blocks * (1 + numbers.below(most));
+    let blocks = if number % 8 == 0 { 1 } else { 1 + numbers.below(4) };
+    let symbols = blocks * block_symbols(numbers, number);
     let length = symbols * size - numbers.below(size);
     (length, size as u16, blocks as u8, sub_blocks as u16, alignment as u8)
 }
 
 /// After which packet each decoder answers, and that the answer is the object.
-fn compare(numbers: &mut Numbers) {
-    let (f, t, z, n, al) = configuration(numbers);
+fn compare(numbers: &mut Numbers, number: usize) {
+    let (f, t, z, n, al) = configuration(numbers, number);
     let data = numbers.bytes(f as usize);
     let ours = proved::ObjectTransmissionInformation::new(f, t, z, n, al);
     let theirs = raptorq::ObjectTransmissionInformation::new(f, t, z, n, al);
@@ -64,6 +76,16 @@ fn compare(numbers: &mut Numbers) {
             return;
         }
     }
+}
+
+/// Lengths up to 2^29 bytes in packets of 64 bytes or more, which the crate cuts into at most 255 blocks.
+fn compare_defaults(numbers: &mut Numbers) {
+    let bits = 1 + numbers.below(29);
+    let length = 1 + numbers.below(1 << bits);
+    let size = (64 + numbers.below(8_937)) as u16;
+    let ours = proved::ObjectTransmissionInformation::with_defaults(length, size);
+    let theirs = raptorq::ObjectTransmissionInformation::with_defaults(length, size);
+    assert_eq!(ours.serialize(), theirs.serialize(), "{length} {size}");
 }
 
 fn nanoseconds(work: impl FnOnce()) -> f64 {
@@ -119,14 +141,50 @@ fn measure(symbols: usize, size: u16) {
     println!("K = {symbols}, T = {size}: encode {encode:.2}, decode {decode:.2}");
 }
 
+/// 400 packets of a block of one symbol whose equations say nothing of it.
+fn measure_idle() {
+    let ours = proved::ObjectTransmissionInformation::new(1, 1, 1, 1, 1);
+    let theirs = raptorq::ObjectTransmissionInformation::new(1, 1, 1, 1, 1);
+    let packets = proved::Encoder::new(&[7], ours).get_encoded_packets(150_000);
+    let idle: Vec<Vec<u8>> = packets
+        .iter()
+        .map(|packet| packet.serialize())
+        .filter(|packet| {
+            let mut alone = proved::Decoder::new(ours);
+            alone.decode(proved::EncodingPacket::deserialize(packet)).is_none()
+        })
+        .take(400)
+        .collect();
+    let taken = ratio(
+        || {
+            let mut decoder = proved::Decoder::new(ours);
+            for packet in &idle {
+                decoder.add_new_packet(proved::EncodingPacket::deserialize(packet));
+            }
+            black_box(decoder.get_result());
+        },
+        || {
+            let mut decoder = raptorq::Decoder::new(theirs);
+            for packet in &idle {
+                decoder.add_new_packet(raptorq::EncodingPacket::deserialize(packet));
+            }
+            black_box(decoder.get_result());
+        },
+    );
+    println!("{} packets that decide nothing: {taken:.2}", idle.len());
+}
+
 fn main() {
     let mut numbers = Numbers(2026);
-    for _ in 0..2_000 {
-        compare(&mut numbers);
+    for number in 0..2_000 {
+        compare(&mut numbers, number);
+        compare_defaults(&mut numbers);
     }
     println!("2000 configurations: the same packets, the same answers at the same packets");
+    println!("2000 lengths and packet sizes: the same default configurations");
+    measure_idle();
     for size in [1280, 64] {
-        for symbols in [10, 101, 248, 497] {
+        for symbols in [10, 101, 248, 497, 1002, 10120] {
             measure(symbols, size);
         }
     }
