@@ -1,13 +1,14 @@
-//! A carousel: the packets of an object go round and round, and each is lost with a chance of one in
-//! three. A receiver takes what comes until it has the object.
+//! A carousel: packets of an object go by in rounds, in each round of ids that weren't sent before, and
+//! each is lost with a chance of one in three. A receiver takes what comes until it has the object.
 #![tactic(auto)]
 
 use anyhow::Result;
 use raptorq::systematic_constants::SystematicTable;
-use raptorq::{
-    Decoder, Encoder, EncodingPacket, ObjectTransmissionInformation, calculate_block_offsets,
-};
+use raptorq::{Decoder, Encoder, EncodingPacket, ObjectTransmissionInformation, PayloadId};
 use std::alloc::Global;
+
+// How many packets of each block go by in a round.
+const PACKETS: u32 = 22;
 
 /// Random bytes: the high bits of a linear congruence.
 #[derive(Drop)]
@@ -28,14 +29,13 @@ impl Random {
 struct Tally {
     came: u32,
     lost: u32,
-    whole_after: Option<u32>,
+    answered_after: Option<u8>,
 }
 
 /// What takes packets until it has the object. It knows the configuration and nothing else.
 #[derive(Drop)]
 struct Receiver {
     decoder: Decoder,
-    offsets: Vec<(usize, usize)>,
     tallies: Vec<Tally>,
 }
 
@@ -45,62 +45,47 @@ impl Receiver {
         table: &SystematicTable,
         config: ObjectTransmissionInformation,
     ) -> Result<Receiver> {
-        let offsets = calculate_block_offsets(alloc, &[], &config)?;
-        let tallies = vec![in alloc; Tally::default(); offsets.len()]?;
+        let tallies = vec![in alloc; Tally::default(); usize::from(config.source_blocks())]?;
         let decoder = Decoder::new(alloc, table, config)?;
-        Ok(Receiver {
-            decoder,
-            offsets,
-            tallies,
-        })
+        Ok(Receiver { decoder, tallies })
     }
 
-    // All packets go by once.
-    fn turn(&mut self, packets: &[EncodingPacket], random: &mut Random) -> Result<()> {
-        for packet in packets {
-            let number = usize::from(packet.payload_id().source_block_number());
-            let lost = random.byte() < 85;
-            if let Some(tally) = self.tallies.get_mut(number) {
-                tally.lost = tally.lost.saturating_add(u32::from(lost));
-                tally.came = tally.came.saturating_add(u32::from(!lost));
-            }
-            if !lost {
-                self.decoder.add_new_packet(packet.clone()?)?;
-            }
+    // A packet goes by.
+    fn pass(&mut self, packet: EncodingPacket, lost: bool) -> Result<()> {
+        let number = usize::from(packet.payload_id().source_block_number());
+        if let Some(tally) = self.tallies.get_mut(number) {
+            tally.lost = tally.lost.saturating_add(u32::from(lost));
+            tally.came = tally.came.saturating_add(u32::from(!lost));
+        }
+        if !lost {
+            self.decoder.add_new_packet(packet)?;
         }
         Ok(())
     }
 
-    // Notes the blocks that can't be others any more: where the difference is zeros.
-    fn note_whole(&mut self, round: u32) -> Result<()> {
-        let difference = self.decoder.difference()?;
-        for (tally, &(start, end)) in self.tallies.iter_mut().zip(&self.offsets) {
-            let mut bytes = difference.iter().flatten().take(end).skip(start);
-            if tally.whole_after.is_none() && bytes.all(|&byte| byte == 0) {
-                tally.whole_after = Some(round);
+    // How many packets it needs at least. Notes which blocks need none.
+    fn missing_packets(&mut self, round: u8) -> Result<u32> {
+        let mut missing: u32 = 0;
+        for (number, tally) in (0..=255).zip(self.tallies.iter_mut()) {
+            let packets = self.decoder.missing_packets(number)?.unwrap_or(0);
+            if packets == 0 && tally.answered_after.is_none() {
+                tally.answered_after = Some(round);
             }
+            missing = missing.saturating_add(packets);
         }
-        Ok(())
-    }
-
-    // How many blocks could still be others.
-    fn open(&self) -> usize {
-        self.tallies
-            .iter()
-            .filter(|tally| tally.whole_after.is_none())
-            .count()
+        Ok(missing)
     }
 }
 
 fn main(rt: HostRuntime) -> Result<()> {
     let mut random = Random { state: 1 };
     let object = random_object(rt.alloc(), &mut random)?;
-    // Four blocks of 20 symbols of 50 bytes, and two repair packets a block.
+    // Four blocks of 20 symbols of 50 bytes.
     let table = SystematicTable::built_in(rt.alloc())?;
     let config = ObjectTransmissionInformation::new(4000, 50, 4, 1, 1)?;
-    let packets = Encoder::new(rt.alloc(), &table, &object, config)?.get_encoded_packets(2)?;
+    let encoder = Encoder::new(rt.alloc(), &table, &object, config)?;
     let mut receiver = Receiver::new(rt.alloc(), &table, config)?;
-    go_round(&rt, &packets, &mut random, &mut receiver)?;
+    go_round(&rt, &encoder, &mut random, &mut receiver)?;
     report(&rt, &receiver, &object)
 }
 
@@ -112,30 +97,58 @@ fn random_object(alloc: Global, random: &mut Random) -> Result<Vec<u8>> {
     Ok(object)
 }
 
-// The packets go round until no block could be another.
+// Rounds go by until the receiver needs no packet.
 fn go_round(
     rt: &HostRuntime,
-    packets: &[EncodingPacket],
+    encoder: &Encoder,
     random: &mut Random,
     receiver: &mut Receiver,
 ) -> Result<()> {
-    for round in 1..10 {
-        receiver.turn(packets, random)?;
-        receiver.note_whole(round)?;
-        let open = receiver.open();
-        println!(rt; "after round {round}, blocks that could still be others: {open}")?;
-        if open == 0 {
+    for round in 0..10 {
+        send_round(encoder, round, random, receiver)?;
+        let missing = receiver.missing_packets(round)?;
+        println!(rt; "after round {round}, packets that are missing at least: {missing}")?;
+        if missing == 0 {
             break;
         }
     }
     Ok(())
 }
 
+fn send_round(
+    encoder: &Encoder,
+    round: u8,
+    random: &mut Random,
+    receiver: &mut Receiver,
+) -> Result<()> {
+    for block in 0..encoder.get_config().source_blocks() {
+        send_block(encoder, block, round, random, receiver)?;
+    }
+    Ok(())
+}
+
+// Packets of the ids that come after those of earlier rounds.
+fn send_block(
+    encoder: &Encoder,
+    block: u8,
+    round: u8,
+    random: &mut Random,
+    receiver: &mut Receiver,
+) -> Result<()> {
+    let first = u32::from(round) * PACKETS;
+    for esi in first..first + PACKETS {
+        let packet = encoder.packet(PayloadId::new(block, esi)?)?;
+        let lost = random.byte() < 85;
+        receiver.pass(packet, lost)?;
+    }
+    Ok(())
+}
+
 fn report(rt: &HostRuntime, receiver: &Receiver, object: &[u8]) -> Result<()> {
     for tally in &receiver.tallies {
-        let round = tally.whole_after.unwrap_or(0);
+        let round = tally.answered_after.unwrap_or(0);
         println!(rt;
-            "{} packets came, {} lost, whole after round {round}",
+            "{} packets came, {} lost, answered after round {round}",
             tally.came, tally.lost
         )?;
     }
