@@ -239,9 +239,7 @@ unsafe impl Sync for Handle {}
 impl Handle {
     /// A decoder, before any packet.
     pub fn decoder(configuration: &Configuration) -> Result<Handle, Refusal> {
-        let owned = Owned {
-            at: null_mut(),
-        };
+        let owned = Owned { at: null_mut() };
         let mut made = Handle { full: false, owned };
         // SAFETY: the struct has the header's layout, and one of zeros holds no coder.
         let number = unsafe {
