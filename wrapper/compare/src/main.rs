@@ -106,6 +106,30 @@ fn ratio(mut ours: impl FnMut(), mut theirs: impl FnMut()) -> f64 {
     ratios[20]
 }
 
+/// Two decoders that are given the same packets and then asked for the object.
+fn decode_ratio(
+    ours: proved::ObjectTransmissionInformation,
+    theirs: raptorq::ObjectTransmissionInformation,
+    packets: &[Vec<u8>],
+) -> f64 {
+    ratio(
+        || {
+            let mut decoder = proved::Decoder::new(ours);
+            for packet in packets {
+                decoder.add_new_packet(proved::EncodingPacket::deserialize(packet));
+            }
+            black_box(decoder.get_result());
+        },
+        || {
+            let mut decoder = raptorq::Decoder::new(theirs);
+            for packet in packets {
+                decoder.add_new_packet(raptorq::EncodingPacket::deserialize(packet));
+            }
+            black_box(decoder.get_result());
+        },
+    )
+}
+
 fn measure(symbols: usize, size: u16) {
     let data = Numbers(7).bytes(symbols * usize::from(size));
     let repair = (symbols / 10) as u32;
@@ -122,22 +146,7 @@ fn measure(symbols: usize, size: u16) {
     let packets = proved::Encoder::new(&data, ours).get_encoded_packets(repair + 1);
     let kept = packets.iter().enumerate().filter(|(i, _)| i % 10 != 3 || *i >= symbols);
     let came: Vec<Vec<u8>> = kept.map(|(_, packet)| packet.serialize()).collect();
-    let decode = ratio(
-        || {
-            let mut decoder = proved::Decoder::new(ours);
-            for packet in &came {
-                decoder.add_new_packet(proved::EncodingPacket::deserialize(packet));
-            }
-            black_box(decoder.get_result());
-        },
-        || {
-            let mut decoder = raptorq::Decoder::new(theirs);
-            for packet in &came {
-                decoder.add_new_packet(raptorq::EncodingPacket::deserialize(packet));
-            }
-            black_box(decoder.get_result());
-        },
-    );
+    let decode = decode_ratio(ours, theirs, &came);
     println!("K = {symbols}, T = {size}: encode {encode:.2}, decode {decode:.2}");
 }
 
@@ -155,22 +164,7 @@ fn measure_idle() {
         })
         .take(400)
         .collect();
-    let taken = ratio(
-        || {
-            let mut decoder = proved::Decoder::new(ours);
-            for packet in &idle {
-                decoder.add_new_packet(proved::EncodingPacket::deserialize(packet));
-            }
-            black_box(decoder.get_result());
-        },
-        || {
-            let mut decoder = raptorq::Decoder::new(theirs);
-            for packet in &idle {
-                decoder.add_new_packet(raptorq::EncodingPacket::deserialize(packet));
-            }
-            black_box(decoder.get_result());
-        },
-    );
+    let taken = decode_ratio(ours, theirs, &idle);
     println!("{} packets that decide nothing: {taken:.2}", idle.len());
 }
 
