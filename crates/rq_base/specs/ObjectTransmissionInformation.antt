@@ -11,7 +11,7 @@ information_view i = record {
   alignment = i.symbol_alignment;
 }
 
--- and what shows this
+-- the fields that show a configuration
 abbrev pub information_inside : Configuration → Inside
 information_inside c = record {
   transfer_length = c.transfer_length;

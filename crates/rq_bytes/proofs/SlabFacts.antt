@@ -1,5 +1,5 @@
 -- A slab's buffer and the symbols that callers see.
-use Rattle.std.proofs.Common.{length-set, ◌&&◌, ◌≡◌, ◌⊎◌, inl, inr, ⊎_elim, Global, ℕ, ◌+◌, ◌-◌, ◌*◌, ◌<◌, ◌≤◌, List, [], ◌∷◌, ◌++◌, Vec, length, take, drop, replicate, append_assoc, set, get_or, All, Option, None, Some, refl, sym, ap, ◌∙◌, arith, subst, add-one}
+use Rattle.std.proofs.Common.{length-set, ◌&&◌, ◌≡◌, ◌⊎◌, inl, inr, ⊎_elim, Global, ℕ, ◌+◌, ◌-◌, ◌*◌, ◌^◌, ◌<◌, ◌≤◌, List, [], ◌∷◌, ◌++◌, Vec, length, take, drop, replicate, append_assoc, set, get_or, All, Option, None, Some, refl, sym, ap, ◌∙◌, arith, subst, add-one}
 use Rattle.std.specs.Prelude.{◌==◌}
 use Rattle.std.proofs.lemmas.List.{length-append, length-replicate, length-take-le, length-drop, length-map, get_or-map, get_or_read, take_all}
 use Rattle.std.proofs.lemmas.List.Edits.{swap_is}
@@ -299,3 +299,9 @@ filled_around size start count n all bytes one two three long fits length_two fi
 -- a symbol ends within its slab's buffer
 pub symbol_within : (inside : Inside) (i a : ℕ) → the_invariant inside → meant_at (the_view inside).order i < length (the_view inside).values → a ≡ meant_at (the_view inside).order i * (the_view inside).symbol_size → a + inside.symbol_size ≤ length inside.data.items
 symbol_within inside i a invariant below start = within_slice (holds inside (the_view inside) refl invariant) (meant_at (the_view inside).order i) a inside.data.items below start refl
+
+-- and begins at a place in memory
+pub start_fits : (inside : Inside) (slab : Slab) → the_view inside ≡ slab → the_invariant inside → (p : ℕ) → p < length slab.values → p * inside.symbol_size < 2 ^ 64
+start_fits inside slab view invariant p below =
+    let is = holds inside slab view invariant in
+    omega (arith, within is p below, ap (λ s. p * s) (size_is is), inside.data.small, inside.data.ok)

@@ -1,8 +1,8 @@
 -- Additions to one symbol of a slab, one after another.
-use Rattle.std.proofs.Common.{◌≡◌, ◌≢◌, ℕ, zero, suc, ◌+◌, ◌*◌, ◌<◌, ◌≤◌, Option, List, [], ◌∷◌, ◌++◌, length, get_or, set, map, fold, All, refl, sym, ap, ◌∙◌, subst, arith}
-use Rattle.std.proofs.lemmas.List.{get_or-set_same, get_or-set_other, set-set, set-get_or}
+use Rattle.std.proofs.Common.{◌≡◌, ◌≢◌, ℕ, zero, suc, ◌+◌, ◌*◌, ◌<◌, ◌≤◌, Option, List, [], ◌∷◌, ◌++◌, length, get_or, set, map, take, fold, All, refl, sym, ap, ◌∙◌, subst, arith}
+use Rattle.std.proofs.lemmas.List.{get_or-set_same, get_or-set_other, set-set, set-get_or, map_more}
 use Rattle.std.proofs.lemmas.List.Elements.{All-head, All-tail, All-map, All-weaker}
-use Rattle.rq_algebra.specs.Operations.{Operation, AddAssign, MulAssign, Store, step, run, meant_at}
+use Rattle.rq_algebra.specs.Operations.{Operation, AddAssign, MulAssign, Store, IsAllowed, order_after, step, run, meant_at}
 use Rattle.rq_algebra.specs.Symbols.{symbols, add_symbols}
 use Rattle.rq_algebra.proofs.OperationRuns.{run-append}
 use Rattle.rq_algebra.proofs.SymbolSums.{length-add_symbols}
@@ -13,7 +13,7 @@ use Rattle.rq_bytes.specs.Ranges.{range_of, with_range, cut}
 use Rattle.rq_bytes.specs.RangeSums.{with_ranges_added, sum_of_ranges, IsRangeBeside}
 use Rattle.rq_bytes.specs.SymbolSlab.{Slab, store_of, after, after_all, HasPlace, Allows, symbol_in, with_symbols_added}
 use Rattle.rq_bytes.proofs.RangeSumLaws.{summed, length-summed}
-use Rattle.rq_bytes.proofs.SlabFacts.{Holds, apart, range_at, length-range_at, size_is, within, one_written, meant_below}
+use Rattle.rq_bytes.proofs.SlabFacts.{Holds, apart, range_at, length-range_at, size_is, within, one_written, meant_below, length-after, order-after}
 use Rattle.rq_bytes.specs.contracts.symbol_slab.SymbolSlab.{the_view, the_invariant}
 use Rattle.rq_bytes.specs.declared.symbol_slab.SymbolSlab.TheInside.{Inside}
 
@@ -21,6 +21,34 @@ pub after_more : (operations : List Operation) (operation : Operation) (slab : S
 unfolding run
 after_more operations operation slab =
     ap (λ (s : Store (List ℕ)). record slab { values = s.values; order = s.order }) (sym (run-append (symbols octets) operations (operation ∷ []) (store_of slab)))
+
+-- a slab after operations that keep its order
+pub record HasRun (operations : List Operation) (old now : Slab) : Type 0 where
+  pub so_far : now ≡ after_all operations old
+  pub count : length now.values ≡ length old.values
+  pub order : now.order ≡ old.order
+
+pub run_none : (slab : Slab) → HasRun [] slab slab
+unfolding run
+run_none slab = record { so_far = refl; count = refl; order = refl }
+
+-- those of the first elements of a list, and then that of the next one
+module _ {X : Type 0} (operation : X → Operation) (keeps : (x : X) (order : Option (List ℕ)) → order_after order (operation x) ≡ order) (xs : List X) (i : ℕ) (default : X) (slab now : Slab) (has_run : HasRun (map operation (take i xs)) slab now) where
+  pub next_allowed : IsAllowed (length slab.values) slab.order (operation (get_or xs i default)) → IsAllowed (length now.values) now.order (operation (get_or xs i default))
+  next_allowed allowed = rw (has_run.count, has_run.order) allowed
+
+  pub run_next : i < length xs → (new : Slab) → new ≡ after (operation (get_or xs i default)) now → HasRun (map operation (take (i + 1) xs)) slab new
+  run_next inside new is =
+      let op = operation (get_or xs i default) in
+      record {
+        so_far =
+            is
+            ∙ ap (after op) has_run.so_far
+            ∙ after_more (map operation (take i xs)) op slab
+            ∙ ap (λ ops. after_all ops slab) (sym (map_more operation xs i default inside));
+        count = ap (λ (v : Slab). length v.values) is ∙ length-after op now ∙ has_run.count;
+        order = ap (λ (v : Slab). v.order) is ∙ order-after op now ∙ keeps (get_or xs i default) now.order ∙ has_run.order;
+      }
 
 -- a symbol and those that f gives for places, added one after another
 abbrev added : (ℕ → List ℕ) → List ℕ → List ℕ → List ℕ

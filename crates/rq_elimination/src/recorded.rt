@@ -1,5 +1,6 @@
-//! `RecordedRows`: rows that are worked on, with the operations that are recorded for them: what RFC 6330 does to the
-//! matrix A it does to the symbols D too (section 5.4.2.1).
+//! `RecordedRows`: rows that are worked on, and the operations that are recorded for them. What RFC 6330
+//! does to the matrix A it does to the symbols D too (section 5.4.2.1): here that is done afterwards, by
+//! replaying what was recorded.
 ghost use Rattle.std.specs.Prelude.{◌≡◌, ◌<◌, ◌^◌, length};
 ghost use Rattle.rq_operations.specs.RecordedSteps.{operation_of_step};
 ghost use Rattle.rq_parts.specs.DenseOctetMatrix.{HasOctets};

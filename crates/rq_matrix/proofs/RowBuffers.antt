@@ -1,5 +1,5 @@
 -- A buffer of rows of words and the rows that callers see.
-use Rattle.std.proofs.Common.{◌≡◌, ◌⊎◌, ⊎_elim, ℕ, zero, suc, ◌+◌, ◌-◌, ◌*◌, ◌<◌, ◌≤◌, List, [], ◌∷◌, ◌++◌, length, take, drop, map, min, get_or, set, refl, sym, ap, ◌∙◌, arith}
+use Rattle.std.proofs.Common.{◌≡◌, ◌⊎◌, ⊎_elim, ℕ, zero, suc, ◌+◌, ◌-◌, ◌*◌, ◌^◌, ◌<◌, ◌≤◌, List, [], ◌∷◌, ◌++◌, length, take, drop, map, min, get_or, set, refl, sym, ap, ◌∙◌, arith}
 use Rattle.std.specs.Prelude.{◌==◌, ◌&&◌}
 use Rattle.std.specs.Cmp.Lexicographic.{pointwise}
 use Rattle.std.proofs.Math.Nat.{mul-le-mul_right}
@@ -79,6 +79,17 @@ module _ {words : List ℕ} {count size : ℕ} {rows : List (List ℕ)} (is : Ho
 
   pub is_row_write : (i : ℕ) → i < length rows → IsRowWrite rows i
   is_row_write i below ws long = sym (written_is i ws below) ∙ (row_written i ws below (long ∙ length-row i below)).view
+
+-- a row that callers see stands in the buffer
+module _ (inside : Inside) (rows : List (List ℕ)) (view : the_view inside ≡ rows) (invariant : the_invariant inside) (i : ℕ) (below : i < length rows) where
+  pub row_in : (words : List ℕ) → words ≡ inside.words.items → i * inside.row_len + inside.row_len ≤ length words
+  row_in words is = omega (arith, within (holds inside rows view invariant) i below, ap length is)
+
+  pub row_starts : i * inside.row_len < 2 ^ 64
+  row_starts = omega (arith, within (holds inside rows view invariant) i below, inside.words.small, inside.words.ok)
+
+  pub row_ends : i * inside.row_len + inside.row_len < 2 ^ 64
+  row_ends = omega (arith, within (holds inside rows view invariant) i below, inside.words.small, inside.words.ok)
 
 -- what `==` compares
 pub compared : (a b : Inside) (left right : List (List ℕ)) → the_view a ≡ left → the_invariant a → the_view b ≡ right → the_invariant b

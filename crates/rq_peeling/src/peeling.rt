@@ -1,5 +1,5 @@
-//! `Peeling`: the whole choice of pivots (RFC 6330, section 5.4.2.2), turn after turn, and its result:
-//! which column has its pivot in which row, and the order of the columns.
+//! `peel`: the whole choice of pivots (RFC 6330, section 5.4.2.2), turn after turn of a `Peeler`. And
+//! `Peeling`, its result: which column has its pivot in which row, and the order of the columns.
 ghost use Rattle.std.specs.Prelude.{◌≡◌, ◌<◌, ◌≤◌, drop, length, IfOk, IfErr};
 ghost use Rattle.rq_bytes.specs.declared.error.Error.TheVariants.{OutOfMemory};
 ghost use Rattle.rq_algebra.specs.Systems.{at};

@@ -11,7 +11,7 @@ use Rattle.rq_elimination.specs.declared.counts.PhaseEnds.{PhaseEnds}
 use Rattle.rq_peeling.specs.Peeled.{IsPeeled, Pivots}
 use Rattle.rq_peeling.specs.System.{rows_of_system}
 use Rattle.rq_peeling.specs.declared.system.System.{System}
-use Rattle.rq_solver.specs.EliminationState.{eliminated_at, inactive_count, left_rows, sparsified_at, substituted_at, AddsLater, IsUnderWay, KeepsPivots}
+use Rattle.rq_solver.specs.EliminationState.{eliminated_at, inactive_count, left_rows, sparsified_at, substituted_at, AddsLater, IsUnderWay, KeepsPivots, KeepsRows}
 use Rattle.rq_solver.specs.FirstPhase.{HasPeeledPivots}
 use Rattle.rq_solver.specs.FourthPhase.{FinishesPivotRows, Sparsifies}
 use Rattle.rq_solver.specs.Phases.{ClearsPivots, FindsOrder, LacksPivots, SolvesInactive, SolvesSystem}
@@ -29,8 +29,8 @@ module _ (old new : Elimination) (keeps : KeepsPivots old new) where
   pub same_count : inactive_count new ≡ inactive_count old
   same_count = ap (λ (p : Pivots). length p.places - length p.rows) keeps.peeling
 
-  pub same_left : new.row_order ≡ old.row_order → left_rows new ≡ left_rows old
-  same_left rows = ap (λ (p : Pivots). drop (length p.rows) new.row_order.items) keeps.peeling ∙ ap (λ (v : Vec ℕ Global). drop (length old.peeling.rows) v.items) rows
+pub same_left : (old new : Elimination) → KeepsRows old new → left_rows new ≡ left_rows old
+same_left old new kept = ap (λ (p : Pivots). drop (length p.rows) new.row_order.items) kept.pivots.peeling ∙ ap (λ (v : Vec ℕ Global). drop (length old.peeling.rows) v.items) kept.order
 
 -- where rows that are left stand in the list
 module _ (e : Elimination) (under : IsUnderWay e) where
@@ -44,10 +44,10 @@ module _ (e : Elimination) (under : IsUnderWay e) where
   all_columns few = omega (arith, few)
 
 -- rows in echelon form stay so while pivots' rows are made sparse
-pub echelon_kept : (old new : Elimination) (marks : List Bool) → KeepsPivots old new → new.row_order ≡ old.row_order → IsUnderWay old → Sparsifies old.additions.ones old.peeling.rows old.peeling.order marks 0 old.recorded new.recorded
+pub echelon_kept : (old new : Elimination) (marks : List Bool) → KeepsRows old new → IsUnderWay old → Sparsifies old.additions.ones old.peeling.rows old.peeling.order marks 0 old.recorded new.recorded
     → IsEchelon (left_rows old) (inactive_count old) old.recorded.table → IsEchelon (left_rows new) (inactive_count new) new.recorded.table
-echelon_kept old new marks keeps rows under back echelon =
-    rw (same_left old new keeps rows, same_count old new keeps)
+echelon_kept old new marks kept under back echelon =
+    rw (same_left old new kept, same_count old new kept.pivots)
     (echelon_stays old.additions.ones old.peeling.rows old.peeling.order marks (left_rows old) (inactive_count old) old.recorded new.recorded back under.left (narrow old under) under.apart echelon)
 
 -- ---- a column is left without a pivot
@@ -76,34 +76,31 @@ pub record RunsAll (first forward sparse back last : Elimination) (marks : List 
   pub permuted : IsPermutation (left_rows first) (left_rows forward)
   pub changes : ChangesRows (left_rows first) first.recorded forward.recorded
   pub echelon : IsEchelon (left_rows forward) (inactive_count first) forward.recorded.table
-  pub keeps_sparse : KeepsPivots forward sparse
-  pub rows_sparse : sparse.row_order ≡ forward.row_order
+  pub keeps_sparse : KeepsRows forward sparse
   pub takes : Sparsifies forward.additions.ones forward.peeling.rows forward.peeling.order marks 0 forward.recorded sparse.recorded
-  pub keeps_back : KeepsPivots sparse back
-  pub rows_back : back.row_order ≡ sparse.row_order
+  pub keeps_back : KeepsRows sparse back
   pub reduces : SubstitutesBack (left_rows sparse) (inactive_count sparse) 0 sparse.recorded back.recorded
-  pub keeps_last : KeepsPivots back last
-  pub rows_last : last.row_order ≡ back.row_order
+  pub keeps_last : KeepsRows back last
   pub finishes : FinishesPivotRows marks back last.recorded
 
 module _ (first forward sparse back last : Elimination) (marks : List Bool) (r : RunsAll first forward sparse back last marks) where
   to_sparse : KeepsPivots first sparse
-  to_sparse = keeps_more first forward sparse r.keeps_forward r.keeps_sparse
+  to_sparse = keeps_more first forward sparse r.keeps_forward r.keeps_sparse.pivots
 
   to_back : KeepsPivots first back
-  to_back = keeps_more first sparse back to_sparse r.keeps_back
+  to_back = keeps_more first sparse back to_sparse r.keeps_back.pivots
 
   pub to_last : KeepsPivots first last
-  to_last = keeps_more first back last to_back r.keeps_last
+  to_last = keeps_more first back last to_back r.keeps_last.pivots
 
   left_back : left_rows last ≡ left_rows back
-  left_back = same_left back last r.keeps_last r.rows_last
+  left_back = same_left back last r.keeps_last
 
   left_sparse : left_rows last ≡ left_rows sparse
-  left_sparse = left_back ∙ same_left sparse back r.keeps_back r.rows_back
+  left_sparse = left_back ∙ same_left sparse back r.keeps_back
 
   left_forward : left_rows last ≡ left_rows forward
-  left_forward = left_sparse ∙ same_left forward sparse r.keeps_sparse r.rows_sparse
+  left_forward = left_sparse ∙ same_left forward sparse r.keeps_sparse
 
   pub solves : (forward.ends ≡ eliminated_at first.ends (length forward.recorded.operations)) → (sparse.ends ≡ sparsified_at forward.ends (length sparse.recorded.operations))
       → (back.ends ≡ substituted_at sparse.ends (length back.recorded.operations)) → (last.ends ≡ back.ends) → SolvesInactive first last

@@ -1,8 +1,8 @@
 -- An elimination stays under way while phases record more.
-use Rattle.std.proofs.Common.{◌≡◌, ◌≢◌, ℕ, ◌+◌, ◌-◌, ◌<◌, ◌≤◌, List, ◌++◌, Contains, Vec, length, drop, refl, sym, ap, ◌∙◌, arith, length-append}
+use Rattle.std.proofs.Common.{◌≡◌, ◌≢◌, ℕ, ◌+◌, ◌-◌, ◌<◌, ◌≤◌, List, ◌++◌, Contains, Vec, length, drop, take, refl, sym, ap, ◌∙◌, arith, length-append}
 use Rattle.std.specs.Global.{Global}
 use Rattle.std.specs.List.Sorted.{IsPermutation}
-use Rattle.std.proofs.lemmas.List.{get_or_default, get_or-drop, length-drop}
+use Rattle.std.proofs.lemmas.List.{get_or_default, get_or-drop, length-drop, take_rest}
 use Rattle.std.proofs.lemmas.List.Elements.{Contains-get_or}
 use Rattle.std.proofs.lemmas.List.Sorted.{Contains-permutation, IsPermutation-sym}
 use borrow.Rule.Slice.PartMut.{put_mid}
@@ -41,6 +41,10 @@ module _ (height : ℕ) (rows listed : List ℕ) (listing : ListsRows height row
       let long = length-drop (length rows) listed in
       let same = listing.are.apart p (length rows + f) (omega (arith, listing.few, l)) (omega (arith, long, n, listing.few)) (listing.starts p l ∙ e ∙ get_or-drop (length rows) listed f 0) in
       omega (arith, same, l)
+
+-- the list behind the pivots' rows, as a slice of it
+pub left_slice : (e : Elimination) (slice : List ℕ) (pivots : ℕ) → slice ≡ e.row_order.items → pivots ≡ length e.peeling.rows → take (length slice - pivots) (drop pivots slice) ≡ left_rows e
+left_slice e slice pivots slice_is pivots_are = take_rest slice pivots ∙ ap (λ (xs : List ℕ). drop pivots xs) slice_is ∙ ap (λ (n : ℕ). drop n e.row_order.items) pivots_are
 
 -- also in another order
 reordered_others : (rows left reduced : List ℕ) → IsPermutation left reduced → ((p f : ℕ) → p < length rows → f < length left → at rows p ≢ at left f) → (p f : ℕ) → p < length rows → f < length reduced → at rows p ≢ at reduced f

@@ -38,6 +38,11 @@ pub record KeepsPivots (old new : Elimination) : Type 0 where
   pub additions : new.additions ≡ old.additions
   pub limit : new.sparsify_limit ≡ old.sparsify_limit
 
+-- and all rows stand in the same order
+pub record KeepsRows (old new : Elimination) : Type 0 where
+  pub pivots : KeepsPivots old new
+  pub order : new.row_order ≡ old.row_order
+
 -- how often the pivots' rows take others at most when they are cleared in the inactive columns
 abbrev pub finish_bound : Elimination → ℕ
 finish_bound e = length e.peeling.rows * (inactive_count e + e.sparsify_limit)

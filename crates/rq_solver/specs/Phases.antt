@@ -13,7 +13,7 @@ use Rattle.rq_elimination.specs.OperationCounts.{additions}
 use Rattle.rq_elimination.specs.Recorded.{ChangesRows}
 use Rattle.rq_elimination.specs.RowSteps.{IsEchelon, IsStuck}
 use Rattle.rq_elimination.specs.declared.recorded.RecordedRows.{RecordedRows}
-use Rattle.rq_solver.specs.EliminationState.{eliminated_at, inactive_count, left_rows}
+use Rattle.rq_solver.specs.EliminationState.{eliminated_at, inactive_count, left_rows, KeepsPivots}
 use Rattle.rq_solver.specs.FirstPhase.{HasPeeledPivots, TakesPivotsAlone}
 use Rattle.rq_solver.specs.FourthPhase.{FinishesPivots, Sparsifies}
 use Rattle.rq_solver.specs.HdpcOctets.{batch_bound}
@@ -76,9 +76,9 @@ RunsLater old new answer = MatchOption answer (LacksPivots old new) (λ order. S
 
 -- Columns that were left got pivots in rows of least degree of a system, the first phase cleared them, the others went on from there, and each
 -- recorded the operations up to its end.
-pub record RunsPhases (system : System) (found : PhaseOperations) : Type 0 where
+pub record RunsOverSystem (system : System) (last : Elimination) (order : Option (Vec ℕ Global)) : Type 0 where
   pub first : Elimination
-  pub last : Elimination
+  pub keeps : KeepsPivots first last
   pub peeled : IsPeeled system.width system.ones first.peeling
   pub fewest : TakesFewest system.ones system.lt_columns first.peeling.rows
   pub columns : TakesColumnsLeft system.ones system.lt_columns first.peeling.rows first.peeling.order
@@ -87,7 +87,12 @@ pub record RunsPhases (system : System) (found : PhaseOperations) : Type 0 where
   pub cleared : ClearsPivots system first.peeling first.row_order.items first.recorded
   pub alone : TakesPivotsAlone system first.peeling.rows first.recorded.operations
   pub first_end : first.ends.cleared ≡ length first.recorded.operations
-  pub later : RunsLater first last found.order
+  pub later : RunsLater first last order
+
+-- so they did where this was found
+pub record RunsPhases (system : System) (found : PhaseOperations) : Type 0 where
+  pub last : Elimination
+  pub runs : RunsOverSystem system last found.order
   pub recorded : found.recorded ≡ last.recorded.operations
   pub ends : found.ends ≡ last.ends
 

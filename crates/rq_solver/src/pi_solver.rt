@@ -250,22 +250,29 @@ impl<T: BinaryMatrix> IntermediateSymbolDecoder<T> {
         System::of_matrix(alloc, &matrix, hdpc, first_hdpc, lt_columns)
     }
 
-    // Runs the phases on a copy of the HDPC rows, so that matrix and rows stay.
+    // The equations as the phases take them, with a copy of the HDPC rows, so that matrix and rows stay.
+    fn to_system(&self) -> Result<System, Error>
+        ensures system { IfOk result (IsSystemOf (T.content self.now.matrix) self.now.hdpc self.now.first_hdpc) }
+        ensures memory { IfErr result (λ e. e ≡ OutOfMemory) }
+    {
+        let hdpc = self.hdpc.clone()?;
+        System::of_matrix(
+            self.alloc,
+            &self.matrix,
+            hdpc,
+            self.first_hdpc,
+            self.lt_columns,
+        )
+    }
+
+    // Runs the phases, and leaves matrix and rows.
     fn solve_equations(&self) -> Result<PhaseOperations, Error>
         ensures found { IfOk result (SolvesEquations (solver_state self.now)) }
         ensures phases { IfOk result (RunsOverEquations (solver_state self.now)) }
         ensures few { IfOk result (λ found. additions found.recorded ≤ 2 * (solver_state self.now).width * (solver_state self.now).height) }
         ensures memory { IfErr result (λ e. e ≡ OutOfMemory) }
     {
-        let hdpc = self.hdpc.clone()?;
-        let system = System::of_matrix(
-            self.alloc,
-            &self.matrix,
-            hdpc,
-            self.first_hdpc,
-            self.lt_columns,
-        )?;
-        run_phases(self.alloc, system)
+        run_phases(self.alloc, self.to_system()?)
     }
 }
 

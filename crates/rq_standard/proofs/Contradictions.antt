@@ -1,6 +1,6 @@
 -- What is contradictory stays so, and an object's packets never are.
-use Rattle.std.proofs.Common.{◌≡◌, ◌≢◌, ◌↔◌, ℕ, ◌<◌, cond, eqb, true, List, [], ◌∷◌, ◌++◌, Option, Some, None, refl, sym, ap, ◌∙◌, subst, inl, inr}
-use Rattle.std.specs.Prelude.{is_some, IfSome, MatchOption}
+use Rattle.std.proofs.Common.{◌≡◌, ◌≢◌, ◌↔◌, ℕ, ◌<◌, cond, eqb, List, [], ◌∷◌, ◌++◌, Option, Some, None, refl, sym, ap, ◌∙◌, subst, inl, inr}
+use Rattle.std.specs.Prelude.{IfSome}
 use Rattle.std.specs.List.{AllByRecursion}
 use Rattle.std.proofs.lemmas.Bool.{cases_eq}
 use Rattle.rq_standard.specs.declared.row.TableRow.{TableRow}
@@ -8,10 +8,12 @@ use Rattle.rq_standard.specs.TableRows.{IsChecked}
 use Rattle.rq_standard.specs.Packet.{Packet}
 use Rattle.rq_standard.specs.Configuration.{Configuration}
 use Rattle.rq_standard.specs.Cutting.{block_symbols}
-use Rattle.rq_standard.specs.Received.{or_later, first_payload}
+use Rattle.rq_standard.specs.Received.{or_later}
 use Rattle.rq_standard.specs.Headline.{IsIntermediateColumn, DetermineBlock, block_row, block_source, IsPacketOf}
 use Rattle.rq_standard.specs.ReceivedBlock.{ReceivedBlock, has_received, with_received, SolvesReceived, HasReceivedSolution, ReceivedDetermine, IsContradictory, IsBlockAnswer}
-use Rattle.rq_standard.specs.Standing.{State, kept_of, AddsOpen, AddsToBlock, IsSameElsewhere, Adds, RecordsOnly, Contradicts, IsBlockContradictory, KeepsContradictions, StopsEarly, Stops, IsHonestPacket, received_after, HasReceivedRun, HasReceivedMore, BlockStandsFor, IsNewState, IsReceivedOf}
+use Rattle.rq_standard.specs.DecoderState.{State, IsNewState, IsReceivedOf}
+use Rattle.rq_standard.specs.DecoderSteps.{kept_of, AddsOpen, AddsToBlock, IsSameElsewhere, Adds, RecordsOnly, Contradicts, IsBlockContradictory, KeepsContradictions, received_after, HasReceivedRun, HasReceivedMore}
+use Rattle.rq_standard.specs.Standing.{IsHonestPacket, BlockStandsFor}
 use Rattle.rq_standard.proofs.KnownIds.{block_more, block_same}
 use Rattle.rq_standard.proofs.Columns.{solves_received}
 use Rattle.rq_standard.proofs.Firsts.{stays, first_payload-here, first_payload-elsewhere}

@@ -9,7 +9,8 @@ use Rattle.rq_standard.specs.Cutting.{block_symbols, block_bytes}
 use Rattle.rq_standard.specs.Received.{has_id}
 use Rattle.rq_standard.specs.Headline.{DetermineBlock, block_row, IsObjectAnswer}
 use Rattle.rq_standard.specs.ReceivedBlock.{ReceivedBlock, has_received, ReceivedDetermine}
-use Rattle.rq_standard.specs.Standing.{State, IsReceivedOf, BlockStandsFor, StandsForButLate, append_both, first_blocks, result_of, AnswersObject, AnswersNothingElse}
+use Rattle.rq_standard.specs.DecoderState.{State, IsReceivedOf, append_both, first_blocks, result_of}
+use Rattle.rq_standard.specs.Standing.{BlockStandsFor, StandsForButLate, AnswersObject, AnswersNothingElse}
 use Rattle.rq_standard.specs.Differences.{AreUnansweredDetermined, IsNoneWhereAnswered}
 use Rattle.rq_standard.proofs.BlockCuts.{pieces, whole_object}
 use Rattle.rq_standard.proofs.KnownIds.{block_same}
@@ -46,13 +47,13 @@ module _ (table : List TableRow) (object : List ℕ) (packets : List Packet) (s 
   by_received b h shape d = subst (λ k. DetermineBlock h.row k (has_id b packets)) (sym shape.source_symbols) (subst (λ r. DetermineBlock r (block_symbols s.configuration b) (has_id b packets)) (sym shape.row) d)
 
   -- a block with an answer
-  answered : (late : Bool) (b : ℕ) (h : ReceivedBlock) (a : Option (List ℕ)) → IsReceivedOf table s.configuration b h → BlockStandsFor late (block_bytes s.configuration object b) b packets h a → IsSome a
+  pub answered : (late : Bool) (b : ℕ) (h : ReceivedBlock) (a : Option (List ℕ)) → IsReceivedOf table s.configuration b h → BlockStandsFor late (block_bytes s.configuration object b) b packets h a → IsSome a
       → (a ≡ Some (block_bytes s.configuration object b)) × DetermineBlock (block_row table s.configuration b) (block_symbols s.configuration b) (has_id b packets)
   answered late b h None shape st some = absurd (cc some)
   answered late b h (Some bytes) shape st some = (ap (λ xs. Some xs) st.0, by_row b h shape st.1)
 
   -- a block that is determined has an answer, unless it is late
-  has_answer : (b : ℕ) (h : ReceivedBlock) (a : Option (List ℕ)) → IsReceivedOf table s.configuration b h → BlockStandsFor false (block_bytes s.configuration object b) b packets h a → DetermineBlock (block_row table s.configuration b) (block_symbols s.configuration b) (has_id b packets) → IsSome a
+  pub has_answer : (b : ℕ) (h : ReceivedBlock) (a : Option (List ℕ)) → IsReceivedOf table s.configuration b h → BlockStandsFor false (block_bytes s.configuration object b) b packets h a → DetermineBlock (block_row table s.configuration b) (block_symbols s.configuration b) (has_id b packets) → IsSome a
   has_answer b h None shape st d = absurd (st.1 refl (by_received b h shape d))
   has_answer b h (Some bytes) shape st d = refl
 

@@ -19,7 +19,8 @@ use Rattle.rq_standard.specs.Equations.{zero_symbol, symbol_coefficient, interna
 use Rattle.rq_standard.specs.Received.{or_later, payload_for, first_payload, has_id}
 use Rattle.rq_standard.specs.Headline.{IsNonsingular, IsEncodingSymbol, SolvesZeros, known_ids, block_row, block_source, IsPacketOf, HasNonsingularRows, IsAnswerable, IsHonestRun, IsOnlyObject}
 use Rattle.rq_standard.specs.ReceivedBlock.{ReceivedBlock, has_received}
-use Rattle.rq_standard.specs.Standing.{State, IsReceivedOf, BlockStandsFor, AnswersObject, AnswersOnlyObject}
+use Rattle.rq_standard.specs.DecoderState.{State, IsReceivedOf}
+use Rattle.rq_standard.specs.Standing.{BlockStandsFor, AnswersObject, AnswersOnlyObject}
 use Rattle.rq_standard.specs.Differences.{xor_bytes, HasNonsingularBlocks, IsDifference, MakesOthersFit, plain_sum}
 use Rattle.rq_standard.proofs.BlockCuts.{block_byte}
 use Rattle.rq_standard.proofs.Columns.{sum_symbol}

@@ -14,7 +14,9 @@ use Rattle.rq_standard.specs.Equations.{zero_symbol}
 use Rattle.rq_standard.specs.Received.{or_later, first_payload, has_id}
 use Rattle.rq_standard.specs.Headline.{IsNonsingular, IsIntermediateColumn, IsEncodingSymbol, DetermineBlock, block_row, block_source, IsPacketOf}
 use Rattle.rq_standard.specs.ReceivedBlock.{ReceivedBlock, with_received, CanAnswer, IsBlockAnswer}
-use Rattle.rq_standard.specs.Standing.{State, IsReceivedOf, new_received, new_answer, IsNewState, kept_of, AddsToBlock, IsSameElsewhere, Adds, RecordsOnly, StopsEarly, BlockStandsFor, StandsForButLate, with_late, StandsForNone, StandsForMore, AnswersLateBlock, LeavesBlockLate}
+use Rattle.rq_standard.specs.DecoderState.{State, IsReceivedOf, new_received, new_answer, IsNewState}
+use Rattle.rq_standard.specs.DecoderSteps.{kept_of, AddsToBlock, IsSameElsewhere, Adds, RecordsOnly, StopsEarly}
+use Rattle.rq_standard.specs.Standing.{BlockStandsFor, StandsForButLate, with_late, StandsForNone, StandsForMore, AnswersLateBlock, LeavesBlockLate}
 use Rattle.rq_standard.proofs.KnownIds.{block_more, block_same, block_of_source, none_determined}
 use Rattle.rq_standard.proofs.Columns.{source_sum, solves_received}
 use Rattle.rq_standard.proofs.Firsts.{first_payload-here, first_payload-elsewhere, first_payload-packet, has_id-push}

@@ -12,7 +12,8 @@ use Rattle.rq_standard.specs.Equations.{zero_symbol, symbol_coefficient}
 use Rattle.rq_standard.specs.TableRows.{intermediate_symbols}
 use Rattle.rq_standard.specs.Headline.{IsNonsingular, IsEncodingSymbol, IsHonestRun, block_source}
 use Rattle.rq_standard.specs.ReceivedBlock.{has_received, ReceivedDetermine}
-use Rattle.rq_standard.specs.Standing.{State, StandsForButLate, StandsFor, result_of}
+use Rattle.rq_standard.specs.DecoderState.{State, result_of}
+use Rattle.rq_standard.specs.Standing.{StandsForButLate, StandsFor}
 
 -- the xor of two objects, byte by byte
 abbrev pub xor_bytes : List ℕ → List ℕ → List ℕ

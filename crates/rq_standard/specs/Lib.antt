@@ -3,6 +3,8 @@ pub mod BitTableSteps
 pub mod Configuration
 pub mod ConstraintMatrix
 pub mod Cutting
+pub mod DecoderState
+pub mod DecoderSteps
 pub mod Differences
 pub mod Equations
 pub mod Headline

@@ -1,6 +1,6 @@
-//! `Elimination`: the state of all phases after the first (RFC 6330, section 5.4.2), which makes it in
-//! the end. The first phase's own are `Peeler` (of `rq_peeling`), while pivots are chosen, and then
-//! `RecordedRows` (of `rq_elimination`), while rows are cleared.
+//! `Elimination`: the state of the phases after the first (RFC 6330, section 5.4.2). The first phase
+//! makes it when it ends. Until then the state is `Peeler` (of `rq_peeling`), while pivots are chosen,
+//! and `RecordedRows` (of `rq_elimination`), while rows are cleared, which `Elimination` takes over.
 ghost use Rattle.std.specs.Prelude.{◌≤◌, length};
 
 use rq_elimination::counts::PhaseEnds;
@@ -17,8 +17,8 @@ pub(super) struct PivotAdditions {
     pub bounds: Vec<usize>,
 }
 
-/// The rows of a system on the way to the operations that solve it. Each phase is a method: the first
-/// makes it, and each later one works on what the one before it left.
+/// The rows of a system on the way to the operations that solve it. The
+/// first phase makes it, and the methods of each later one work on what the one before it left.
 #[derive(Drop)]
 pub(super) struct Elimination {
     pub(super) peeling: Peeling,

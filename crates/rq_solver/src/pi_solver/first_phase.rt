@@ -1,6 +1,7 @@
 //! The first phase after the choice of pivots (RFC 6330, section 5.4.2.2): the pivots' columns are
-//! cleared in all rows, in those of bits and in the HDPC rows. Its state is `RecordedRows` (of
-//! `rq_elimination`), and in the end it makes the `Elimination`.
+//! cleared in all rows, in those of bits and in the HDPC rows. Its state is `RecordedRows`
+//! (of `rq_elimination`), with `HdpcRows` beside it for the HDPC rows, and in the end it makes the
+//! `Elimination`.
 ghost use Rattle.std.specs.Prelude.{◌≡◌, ◌-◌, ◌/◌, length, IfOk, IfErr};
 ghost use Rattle.rq_bytes.specs.declared.error.Error.TheVariants.{OutOfMemory};
 ghost use Rattle.rq_peeling.specs.Peeled.{IsPeeled};

@@ -1,7 +1,8 @@
 //! The fourth phase (RFC 6330, section 5.4.2.5): the pivots' rows get zeros in the inactive columns, by
 //! `clear_inactive`. Beside it stand the third phase (section 5.4.2.4), which is `sparsify` and comes
-//! before the second's substitution back, and the fifth (section 5.4.2.6), which is `redo_additions`
-//! and is called by `clear_inactive`. Both work on single rows, where they save additions.
+//! before the second's substitution back, and the fifth (section 5.4.2.6), for which
+//! `clear_inactive` calls `redo_additions`, as the third does to undo. Both work on single rows, where
+//! they save additions.
 
 mod clear_inactive;
 mod redo_additions;

@@ -6,7 +6,7 @@ ghost use Rattle.rq_algebra.specs.Systems.{at};
 ghost use Rattle.rq_bytes.specs.declared.error.Error.TheVariants.{OutOfMemory};
 ghost use Rattle.rq_elimination.specs.OperationCounts.{additions};
 ghost use Rattle.rq_solver.specs.EliminationState.{AddsLater, HasEndsInOrder, IsUnderWay, KeepsPivots};
-ghost use Rattle.rq_solver.specs.Phases.{FindsOrder, SolvesSystem, RunsLater, RunsPhases};
+ghost use Rattle.rq_solver.specs.Phases.{FindsOrder, SolvesSystem, RunsLater, RunsOverSystem, RunsPhases};
 ghost use Rattle.rq_solver.specs.RowOrder.{ListsRows};
 
 use super::elimination::Elimination;
@@ -24,9 +24,7 @@ pub(super) fn run_phases(alloc: Global, system: System) -> Result<PhaseOperation
     ensures few { IfOk result (λ found. additions found.recorded ≤ 2 * system.width * length system.ones) }
     ensures memory { IfErr result (λ e. e ≡ OutOfMemory) }
 {
-    let peeling = peel(alloc, &system)?;
-    let mut elimination = Elimination::first_phase(alloc, system, peeling)?;
-    let order = elimination.later_phases(alloc)?;
+    let (elimination, order) = Elimination::of_system(alloc, system)?;
     let Elimination { recorded, ends, .. } = elimination;
     let RecordedRows { operations, .. } = recorded;
     Ok(PhaseOperations {
@@ -37,6 +35,25 @@ pub(super) fn run_phases(alloc: Global, system: System) -> Result<PhaseOperation
 }
 
 impl Elimination {
+    /// All phases over a system: the rows as they leave them, and for each column the row that has its
+    /// pivot. `None` where a column is left without one.
+    pub(super) fn of_system(
+        alloc: Global,
+        system: System,
+    ) -> Result<(Self, Option<Vec<usize>>), Error>
+        ensures found { IfOk result (λ made. SolvesSystem system made.0.recorded.operations made.1) }
+        ensures phases { IfOk result (λ made. RunsOverSystem system made.0 made.1) }
+        ensures left { IfOk result (λ made. IfNone made.1 (IsUnderWay made.0)) }
+        ensures few { IfOk result (λ made. additions made.0.recorded.operations ≤ 2 * system.width * length system.ones) }
+        ensures in_order { IfOk result (λ made. HasEndsInOrder made.0) }
+        ensures memory { IfErr result (λ e. e ≡ OutOfMemory) }
+    {
+        let peeling = peel(alloc, &system)?;
+        let mut elimination = Elimination::first_phase(alloc, system, peeling)?;
+        let order = elimination.later_phases(alloc)?;
+        Ok((elimination, order))
+    }
+
     /// The phases behind the first: for each column the row that has its pivot. `None` where a column
     /// is left without one. Rows are made sparse again before others are substituted back, so that the
     /// second phase stands in two parts round one of the fourth.

@@ -7,7 +7,7 @@ ghost use Rattle.rq_parts.specs.DenseOctetMatrix.{entry_of};
 ghost use Rattle.rq_elimination.specs.OperationCounts.{additions, multiples, triangle};
 ghost use Rattle.rq_elimination.specs.Recorded.{AddsAtMost, ChangesRows};
 ghost use Rattle.rq_elimination.specs.RowSteps.{AreRows, ClearsBelow, ClearsEntry, IsEchelon, ScalesToOne};
-ghost use Rattle.rq_solver.specs.EliminationState.{inactive_count, left_rows, eliminated_at, substituted_at, IsUnderWay, KeepsPivots};
+ghost use Rattle.rq_solver.specs.EliminationState.{inactive_count, left_rows, eliminated_at, substituted_at, IsUnderWay, KeepsPivots, KeepsRows};
 ghost use Rattle.rq_solver.specs.SecondPhase.{AddsForward, AddsOnes, EndsForward, GivesMultiples, SubstitutesBack, TakesOnesBehind};
 
 use super::elimination::Elimination;
@@ -46,8 +46,7 @@ impl Elimination {
     pub(super) fn back_substitute(&mut self) -> Result<(), Error>
         requires under_way { IsUnderWay self.old }
         requires echelon { IsEchelon (left_rows self.old) (inactive_count self.old) self.old.recorded.table }
-        ensures same { KeepsPivots self.old self.new }
-        ensures rows { self.new.row_order ≡ self.old.row_order }
+        ensures kept { KeepsRows self.old self.new }
         ensures under_way { OnOk result (IsUnderWay self.new) }
         ensures reduced { OnOk result (SubstitutesBack (left_rows self.old) (inactive_count self.old) 0 self.old.recorded self.new.recorded) }
         ensures ends { OnOk result (self.new.ends ≡ substituted_at self.old.ends (length self.new.recorded.operations)) }

@@ -7,7 +7,6 @@ ghost use Rattle.rq_solver.specs.Solving.{IsSolved};
 use super::elimination::Elimination;
 use rq_bytes::error::Error;
 use rq_operations::recorded::RecordedOperations;
-use rq_peeling::peeling::peel;
 use rq_peeling::system::System;
 use std::alloc::Global;
 
@@ -28,9 +27,8 @@ pub(super) fn solve_system(alloc: Global, system: System) -> Result<Solved, Erro
     ensures solved { IfOk result (IsSolved (length system.ones) system.width (rows_of_system system)) }
     ensures memory { IfErr result (λ e. e ≡ OutOfMemory) }
 {
-    let peeling = peel(alloc, &system)?;
-    let mut elimination = Elimination::first_phase(alloc, system, peeling)?;
-    let Some(order) = elimination.later_phases(alloc)? else {
+    let (elimination, order) = Elimination::of_system(alloc, system)?;
+    let Some(order) = order else {
         let column = elimination.homogeneous_column(alloc).ok();
         return Ok(Solved::Undetermined(column));
     };

@@ -33,7 +33,7 @@ pub(super) fn fill_inactive(
 }
 
 // Sets the entries to 1 where rows have ones in the `inactive` inactive columns: column by column, so
-// that no one has to be asked whether its column is inactive.
+// that of no single 1 it has to be asked whether its column is inactive.
 fn fill_columns(system: &System, peeling: &Peeling, inactive: usize, entries: &mut InactiveEntries)
     requires peeled { IsPeeled system.now.width system.now.ones peeling.now }
     requires inactive { length peeling.now.rows + inactive ≡ system.now.width }

@@ -6,7 +6,7 @@ ghost use Rattle.rq_bytes.specs.declared.error.Error.TheVariants.{OutOfMemory};
 ghost use Rattle.rq_parts.specs.DenseOctetMatrix.{entry_of};
 ghost use Rattle.rq_elimination.specs.Recorded.{AddsAtMost};
 ghost use Rattle.rq_elimination.specs.RowSteps.{CanTake};
-ghost use Rattle.rq_solver.specs.EliminationState.{finish_bound, inactive_count, left_rows, IsUnderWay, KeepsPivots};
+ghost use Rattle.rq_solver.specs.EliminationState.{finish_bound, inactive_count, left_rows, IsUnderWay, KeepsRows};
 ghost use Rattle.rq_solver.specs.FourthPhase.{FinishesPivotRows, TookAtMost};
 ghost use Rattle.rq_solver.specs.SecondPhase.{TakesAll, TakesFrom};
 
@@ -27,8 +27,7 @@ impl Elimination {
         requires many { inactive_count self.old ≤ length (left_rows self.old) }
         requires long { length sparse.now ≡ length self.old.peeling.rows }
         requires short { TookAtMost self.old.sparsify_limit sparse.now self.old.additions.bounds.items }
-        ensures same { KeepsPivots self.old self.new }
-        ensures rows { self.new.row_order ≡ self.old.row_order }
+        ensures kept { KeepsRows self.old self.new }
         ensures ends { self.new.ends ≡ self.old.ends }
         ensures under_way { OnOk result (IsUnderWay self.new) }
         ensures finished { OnOk result (FinishesPivotRows sparse.now self.old self.new.recorded) }

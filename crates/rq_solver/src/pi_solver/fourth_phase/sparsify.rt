@@ -4,7 +4,7 @@ ghost use Rattle.std.specs.Prelude.{◌≡◌, ◌+◌, ◌-◌, ◌*◌, ◌<�
 ghost use Rattle.rq_algebra.specs.Systems.{at};
 ghost use Rattle.rq_bytes.specs.declared.error.Error.TheVariants.{OutOfMemory};
 ghost use Rattle.rq_elimination.specs.Recorded.{AddsAtMost};
-ghost use Rattle.rq_solver.specs.EliminationState.{sparsified_at, IsUnderWay, KeepsPivots};
+ghost use Rattle.rq_solver.specs.EliminationState.{sparsified_at, IsUnderWay, KeepsRows};
 ghost use Rattle.rq_solver.specs.FourthPhase.{SparsifiesPivotRows, Sparsifies, TookAtMost};
 ghost use Rattle.rq_solver.specs.PivotAdditions.{PeelsRows, PivotsHaveTaken};
 
@@ -20,8 +20,7 @@ impl Elimination {
     /// in the inactive columns. Says which rows these are: each took `sparsify_limit` rows at most.
     pub(in crate::pi_solver) fn sparsify(&mut self) -> Result<Vec<bool>, Error>
         requires { IsUnderWay self.old }
-        ensures same { KeepsPivots self.old self.new }
-        ensures rows { self.new.row_order ≡ self.old.row_order }
+        ensures kept { KeepsRows self.old self.new }
         ensures under_way { OnOk result (IsUnderWay self.new) }
         ensures taken { IfOk result (λ sparse. SparsifiesPivotRows sparse.items self.old self.new.recorded) }
         ensures long { IfOk result (λ sparse. length sparse.items ≡ length self.old.peeling.rows) }

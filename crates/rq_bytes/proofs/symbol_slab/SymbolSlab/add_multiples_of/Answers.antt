@@ -1,10 +1,10 @@
 -- What the check leaves to show of `symbol_slab::SymbolSlab::add_multiples_of`.
-use Rattle.std.proofs.Common.{length, map, ap, ◌∙◌, arith}
+use Rattle.std.proofs.Common.{map, ◌∙◌, arith}
 use Rattle.std.proofs.lemmas.List.{with_items_is}
 use Rattle.std.specs.Vec.{with_items}
 use Rattle.rq_algebra.specs.Operations.{meant_at}
 use Rattle.rq_bytes.specs.Targets.{start_and_octet}
-use Rattle.rq_bytes.proofs.SlabFacts.{holds, within}
+use Rattle.rq_bytes.proofs.SlabFacts.{holds, within_slice}
 use Rattle.rq_bytes.proofs.SlabMultiples.{AreTargets, targets_from, targets_beside, all_multiples}
 use Rattle.rq_bytes.proofs.symbol_slab.SymbolSlab.add_multiples_of.Goals as goal
 
@@ -18,7 +18,7 @@ pub add_multiples-requires-clause-src : goal.add_multiples-requires-clause-src
 add_multiples-requires-clause-src g c =
     let slab = c.args.self.now in
     let is = holds c.self.inside slab c.self.view_is c.self.invariant in
-    omega (arith, within is (meant_at slab.order c.args.src) c.start_of-start.ensures.below, c.start_of-start.ensures.start, ap length c.as_mut_slice.ensures.value)
+    within_slice is (meant_at slab.order c.args.src) c.start_of-start.result c.as_mut_slice.result.now c.start_of-start.ensures.below c.start_of-start.ensures.start c.as_mut_slice.ensures.value
 
 pub add_multiples-requires-clause-targets : goal.add_multiples-requires-clause-targets
 add_multiples-requires-clause-targets g c =

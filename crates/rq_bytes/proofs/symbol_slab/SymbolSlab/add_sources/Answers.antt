@@ -1,9 +1,9 @@
 -- What the check leaves to show of `symbol_slab::SymbolSlab::add_sources`.
-use Rattle.std.proofs.Common.{length, ap, ◌∙◌, arith}
+use Rattle.std.proofs.Common.{◌∙◌}
 use Rattle.std.proofs.lemmas.List.{with_items_is}
 use Rattle.std.specs.Vec.{with_items}
 use Rattle.rq_algebra.specs.Operations.{meant_at}
-use Rattle.rq_bytes.proofs.SlabFacts.{holds, within}
+use Rattle.rq_bytes.proofs.SlabFacts.{holds, within_slice}
 use Rattle.rq_bytes.proofs.SlabSums.{sources_of, all_added, beside_in}
 use Rattle.rq_bytes.proofs.symbol_slab.SymbolSlab.add_sources.Goals as goal
 
@@ -11,7 +11,7 @@ pub add_ranges-requires-clause-dest : goal.add_ranges-requires-clause-dest
 add_ranges-requires-clause-dest g c =
     let slab = c.args.self.now in
     let is = holds c.self.inside slab c.self.view_is c.self.invariant in
-    omega (arith, within is (meant_at slab.order c.args.dest) c.start_of-start.ensures.below, c.start_of-start.ensures.start, ap length c.as_mut_slice.ensures.value)
+    within_slice is (meant_at slab.order c.args.dest) c.start_of-start.result c.as_mut_slice.result.now c.start_of-start.ensures.below c.start_of-start.ensures.start c.as_mut_slice.ensures.value
 
 pub add_ranges-requires-clause-sources : goal.add_ranges-requires-clause-sources
 add_ranges-requires-clause-sources g c =

@@ -1,23 +1,17 @@
 -- What the check leaves to show of `symbol_slab::SymbolSlab::swap`.
-use Rattle.std.proofs.Common.{◌*◌, [], List, ℕ, get_or, set, sym, ap, ◌∙◌, arith}
+use Rattle.std.proofs.Common.{◌*◌, [], List, ℕ, get_or, set, sym, ap, ◌∙◌}
 use Rattle.std.specs.List.{swap}
 use Rattle.std.proofs.lemmas.List.{with_items_is, set-get_or}
 use Rattle.std.proofs.lemmas.List.Edits.{swap_is}
 use Rattle.rq_algebra.specs.Operations.{meant_at}
-use Rattle.rq_bytes.proofs.SlabFacts.{holds, ranges_exchanged, size_is, within, within_slice, apart, exchanged}
+use Rattle.rq_bytes.proofs.SlabFacts.{holds, ranges_exchanged, size_is, start_fits, within_slice, apart, exchanged}
 use Rattle.rq_bytes.proofs.symbol_slab.SymbolSlab.swap.Goals as goal
 
 pub overflow_mul-first : goal.overflow_mul-first
-overflow_mul-first c =
-    let is = holds c.self.inside c.args.self.now c.self.view_is c.self.invariant in
-    let p = c.stored_index-first.result in
-    record { fits = omega (arith, within is p c.stored_index-first.ensures.below, ap (λ s. p * s) (size_is is), c.self.inside.data.small, c.self.inside.data.ok) }
+overflow_mul-first c = record { fits = start_fits c.self.inside c.args.self.now c.self.view_is c.self.invariant c.stored_index-first.result c.stored_index-first.ensures.below }
 
 pub overflow_mul-second : goal.overflow_mul-second
-overflow_mul-second c =
-    let is = holds c.self.inside c.args.self.now c.self.view_is c.self.invariant in
-    let q = c.stored_index-second.result in
-    record { fits = omega (arith, within is q c.stored_index-second.ensures.below, ap (λ s. q * s) (size_is is), c.self.inside.data.small, c.self.inside.data.ok) }
+overflow_mul-second c = record { fits = start_fits c.self.inside c.args.self.now c.self.view_is c.self.invariant c.stored_index-second.result c.stored_index-second.ensures.below }
 
 pub swap_ranges-requires-clause-apart : goal.swap_ranges-requires-clause-apart
 swap_ranges-requires-clause-apart c =

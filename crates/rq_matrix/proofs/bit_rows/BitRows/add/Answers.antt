@@ -1,28 +1,28 @@
 -- What the check leaves to show of `bit_rows::BitRows::add`.
-use Rattle.std.proofs.Common.{◌*◌, [], length, get_or, sym, ap, ◌∙◌, arith}
+use Rattle.std.proofs.Common.{◌*◌, [], get_or, sym, ap, ◌∙◌}
 use Rattle.std.specs.Int.Bits.{bit_xor}
 use Rattle.std.proofs.lemmas.List.{with_items_is}
 use Rattle.std.proofs.lemmas.Simd.{length-zip2}
 use Rattle.rq_bytes.specs.Ranges.{range_of, with_range, cut}
 use Rattle.rq_bytes.proofs.Cuts.{pieces_apart}
 use Rattle.rq_standard.specs.Rows.{row_sum}
-use Rattle.rq_matrix.proofs.RowBuffers.{holds, within, row_at, length-row, row_written}
+use Rattle.rq_matrix.proofs.RowBuffers.{holds, row_in, row_starts, row_at, length-row, row_written}
 use Rattle.rq_matrix.proofs.bit_rows.BitRows.add.Goals as goal
 
 pub overflow_mul-dest : goal.overflow_mul-dest
-overflow_mul-dest c = record { fits = omega (arith, within (holds c.self.inside c.args.self.now c.self.view_is c.self.invariant) c.args.dest c.requires.dest, c.self.inside.words.small, c.self.inside.words.ok) }
+overflow_mul-dest c = record { fits = row_starts c.self.inside c.args.self.now c.self.view_is c.self.invariant c.args.dest c.requires.dest }
 
 pub overflow_mul-src : goal.overflow_mul-src
-overflow_mul-src c = record { fits = omega (arith, within (holds c.self.inside c.args.self.now c.self.view_is c.self.invariant) c.args.src c.requires.src, c.self.inside.words.small, c.self.inside.words.ok) }
+overflow_mul-src c = record { fits = row_starts c.self.inside c.args.self.now c.self.view_is c.self.invariant c.args.src c.requires.src }
 
 pub add_range-requires-clause-apart : goal.add_range-requires-clause-apart
 add_range-requires-clause-apart c = pieces_apart c.args.dest c.args.src c.self.inside.row_len (λ e. c.requires.two (sym e))
 
 pub add_range-requires-clause-dest : goal.add_range-requires-clause-dest
-add_range-requires-clause-dest c = omega (arith, within (holds c.self.inside c.args.self.now c.self.view_is c.self.invariant) c.args.dest c.requires.dest, ap length c.as_mut_slice.ensures.value)
+add_range-requires-clause-dest c = row_in c.self.inside c.args.self.now c.self.view_is c.self.invariant c.args.dest c.requires.dest c.as_mut_slice.result.now c.as_mut_slice.ensures.value
 
 pub add_range-requires-clause-src : goal.add_range-requires-clause-src
-add_range-requires-clause-src c = omega (arith, within (holds c.self.inside c.args.self.now c.self.view_is c.self.invariant) c.args.src c.requires.src, ap length c.as_mut_slice.ensures.value)
+add_range-requires-clause-src c = row_in c.self.inside c.args.self.now c.self.view_is c.self.invariant c.args.src c.requires.src c.as_mut_slice.result.now c.as_mut_slice.ensures.value
 
 pub returns : goal.returns
 returns c =

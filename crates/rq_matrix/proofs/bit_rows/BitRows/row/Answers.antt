@@ -1,14 +1,14 @@
 -- What the check leaves to show of `bit_rows::BitRows::row`.
-use Rattle.std.proofs.Common.{◌*◌, length, ap, ◌∙◌, arith}
+use Rattle.std.proofs.Common.{◌*◌, ap, ◌∙◌}
 use Rattle.rq_bytes.specs.Ranges.{range_of}
-use Rattle.rq_matrix.proofs.RowBuffers.{holds, within, row_at}
+use Rattle.rq_matrix.proofs.RowBuffers.{holds, row_in, row_starts, row_at}
 use Rattle.rq_matrix.proofs.bit_rows.BitRows.row.Goals as goal
 
 pub overflow_mul-start : goal.overflow_mul-start
-overflow_mul-start c = record { fits = omega (arith, within (holds c.self.inside c.args.self.now c.self.view_is c.self.invariant) c.args.i c.requires, c.self.inside.words.small, c.self.inside.words.ok) }
+overflow_mul-start c = record { fits = row_starts c.self.inside c.args.self.now c.self.view_is c.self.invariant c.args.i c.requires }
 
 pub range-requires : goal.range-requires
-range-requires c = omega (arith, within (holds c.self.inside c.args.self.now c.self.view_is c.self.invariant) c.args.i c.requires, ap length c.as_slice.ensures.value)
+range-requires c = row_in c.self.inside c.args.self.now c.self.view_is c.self.invariant c.args.i c.requires c.as_slice.result.now c.as_slice.ensures.value
 
 pub returns : goal.returns
 returns c =

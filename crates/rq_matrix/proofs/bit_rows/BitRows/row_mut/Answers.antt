@@ -1,14 +1,14 @@
 -- What the check leaves to show of `bit_rows::BitRows::row_mut`.
 use Rattle.std.proofs.Common.{◌≡◌, ◌+◌, ◌-◌, ◌*◌, refl, ap, ◌∙◌, arith}
 use Rattle.rq_bytes.specs.Ranges.{range_of}
-use Rattle.rq_matrix.proofs.RowBuffers.{holds, within, row_at, words_written, is_row_write}
+use Rattle.rq_matrix.proofs.RowBuffers.{holds, within, row_starts, row_ends, row_at, words_written, is_row_write}
 use Rattle.rq_matrix.proofs.bit_rows.BitRows.row_mut.Goals as goal
 
 pub overflow_mul-start : goal.overflow_mul-start
-overflow_mul-start c = record { fits = omega (arith, within (holds c.self.inside c.args.self.now c.self.view_is c.self.invariant) c.args.i c.requires, c.self.inside.words.small, c.self.inside.words.ok) }
+overflow_mul-start c = record { fits = row_starts c.self.inside c.args.self.now c.self.view_is c.self.invariant c.args.i c.requires }
 
 pub overflow_add-start : goal.overflow_add-start
-overflow_add-start c = record { fits = omega (arith, within (holds c.self.inside c.args.self.now c.self.view_is c.self.invariant) c.args.i c.requires, c.self.inside.words.small, c.self.inside.words.ok) }
+overflow_add-start c = record { fits = row_ends c.self.inside c.args.self.now c.self.view_is c.self.invariant c.args.i c.requires }
 
 pub slice_mut-requires-clause-in_bounds : goal.slice_mut-requires-clause-in_bounds
 slice_mut-requires-clause-in_bounds c = omega (arith, within (holds c.self.inside c.args.self.now c.self.view_is c.self.invariant) c.args.i c.requires, c.self.inside.words.ok)

@@ -1,27 +1,27 @@
 -- What the check leaves to show of `bit_rows::BitRows::swap`.
-use Rattle.std.proofs.Common.{◌*◌, [], length, get_or, set, sym, ap, ◌∙◌, arith}
+use Rattle.std.proofs.Common.{◌*◌, [], get_or, set, sym, ap, ◌∙◌, arith}
 use Rattle.std.specs.List.{swap}
 use Rattle.std.proofs.lemmas.List.{with_items_is, length-set, set-get_or}
 use Rattle.std.proofs.lemmas.List.Edits.{swap_is}
 use Rattle.rq_bytes.specs.Ranges.{range_of, with_range, cut}
 use Rattle.rq_bytes.proofs.Cuts.{pieces_apart}
-use Rattle.rq_matrix.proofs.RowBuffers.{holds, within, row_at, length-row, row_written}
+use Rattle.rq_matrix.proofs.RowBuffers.{holds, row_in, row_starts, row_at, length-row, row_written}
 use Rattle.rq_matrix.proofs.bit_rows.BitRows.swap.Goals as goal
 
 pub overflow_mul-i : goal.overflow_mul-i
-overflow_mul-i c = record { fits = omega (arith, within (holds c.self.inside c.args.self.now c.self.view_is c.self.invariant) c.args.i c.requires.first, c.self.inside.words.small, c.self.inside.words.ok) }
+overflow_mul-i c = record { fits = row_starts c.self.inside c.args.self.now c.self.view_is c.self.invariant c.args.i c.requires.first }
 
 pub overflow_mul-j : goal.overflow_mul-j
-overflow_mul-j c = record { fits = omega (arith, within (holds c.self.inside c.args.self.now c.self.view_is c.self.invariant) c.args.j c.requires.second, c.self.inside.words.small, c.self.inside.words.ok) }
+overflow_mul-j c = record { fits = row_starts c.self.inside c.args.self.now c.self.view_is c.self.invariant c.args.j c.requires.second }
 
 pub swap_ranges-requires-clause-apart : goal.swap_ranges-requires-clause-apart
 swap_ranges-requires-clause-apart c = pieces_apart c.args.i c.args.j c.self.inside.row_len (λ e. c.if-i-j.true (sym e))
 
 pub swap_ranges-requires-clause-first : goal.swap_ranges-requires-clause-first
-swap_ranges-requires-clause-first c = omega (arith, within (holds c.self.inside c.args.self.now c.self.view_is c.self.invariant) c.args.i c.requires.first, ap length c.as_mut_slice.ensures.value)
+swap_ranges-requires-clause-first c = row_in c.self.inside c.args.self.now c.self.view_is c.self.invariant c.args.i c.requires.first c.as_mut_slice.result.now c.as_mut_slice.ensures.value
 
 pub swap_ranges-requires-clause-second : goal.swap_ranges-requires-clause-second
-swap_ranges-requires-clause-second c = omega (arith, within (holds c.self.inside c.args.self.now c.self.view_is c.self.invariant) c.args.j c.requires.second, ap length c.as_mut_slice.ensures.value)
+swap_ranges-requires-clause-second c = row_in c.self.inside c.args.self.now c.self.view_is c.self.invariant c.args.j c.requires.second c.as_mut_slice.result.now c.as_mut_slice.ensures.value
 
 pub returns-then-i-j : goal.returns-then-i-j
 returns-then-i-j c =

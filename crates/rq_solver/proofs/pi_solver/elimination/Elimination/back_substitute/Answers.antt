@@ -1,11 +1,10 @@
 -- What the check leaves to show of `pi_solver::elimination::Elimination::back_substitute`.
-use Rattle.std.proofs.Common.{◌≡◌, ◌-◌, ℕ, List, length, drop, take, refl, ap, ◌∙◌, arith}
-use Rattle.std.proofs.lemmas.List.{take_rest}
+use Rattle.std.proofs.Common.{◌≡◌, ◌-◌, length, drop, take, refl, ap, arith}
 use Rattle.rq_parts.specs.DenseOctetMatrix.{OctetTable}
 use Rattle.rq_solver.specs.EliminationState.{inactive_count, left_rows}
 use Rattle.rq_solver.specs.SecondPhase.{SubstitutesBack}
 use Rattle.rq_solver.proofs.Substitution.{reduces_as}
-use Rattle.rq_solver.proofs.UnderWay.{ends_substituted, longer_by, still_under_way}
+use Rattle.rq_solver.proofs.UnderWay.{ends_substituted, left_slice, longer_by, still_under_way}
 use Rattle.rq_solver.proofs.pi_solver.elimination.Elimination.back_substitute.Goals as goal
 
 pub returns-clause-under_way : goal.returns-clause-under_way
@@ -24,7 +23,7 @@ returns-clause-reduced c =
     let e = c.args.self.now in
     let pivots = c.pivots-pivots.result in
     let rows = c.deref.result.now in
-    let rows_are : take (length rows - pivots) (drop pivots rows) ≡ left_rows e = take_rest rows pivots ∙ ap (λ (xs : List ℕ). drop pivots xs) c.deref.ensures.value ∙ ap (λ (n : ℕ). drop n e.row_order.items) c.pivots-pivots.ensures in
+    let rows_are : take (length rows - pivots) (drop pivots rows) ≡ left_rows e = left_slice e rows pivots c.deref.ensures.value c.pivots-pivots.ensures in
     let count : c.width.result - pivots ≡ inactive_count e = omega (arith, c.width.ensures, c.pivots-pivots.ensures) in
     let made : SubstitutesBack (left_rows e) (inactive_count e) 0 e.recorded c.substitute_rows.new.recorded = rw (rows_are, count) at c.in_ok-substitute_rows.ensures.reduced in
     reduces_as (left_rows e) (inactive_count e) 0 e.recorded c.substitute_rows.new.recorded _ refl refl made

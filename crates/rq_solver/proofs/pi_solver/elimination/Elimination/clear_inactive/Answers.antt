@@ -1,21 +1,16 @@
 -- What the check leaves to show of `pi_solver::elimination::Elimination::clear_inactive`.
 use Rattle.rq_solver.proofs.FinishedPivots.{finish_none, finish_plain, finish_again}
-use Rattle.std.proofs.Common.{◌≡◌, ◌≢◌, ◌+◌, ◌-◌, ◌<◌, ℕ, List, length, drop, take, refl, ap, ◌∙◌, arith}
-use Rattle.std.proofs.lemmas.List.{get_or_read, take_rest}
+use Rattle.std.proofs.Common.{◌≡◌, ◌≢◌, ◌+◌, ◌-◌, ◌<◌, ℕ, length, refl, ap, arith}
+use Rattle.std.proofs.lemmas.List.{get_or_read}
 use Rattle.rq_algebra.specs.Systems.{at}
 use Rattle.rq_elimination.specs.Recorded.{Records}
 use Rattle.rq_solver.specs.EliminationState.{inactive_count, left_rows}
-use Rattle.rq_solver.specs.declared.pi_solver.elimination.Elimination.{Elimination}
 use Rattle.rq_solver.proofs.CountLaws.{one_turn_more}
 use Rattle.rq_solver.proofs.TakenAgain.{sums_between, taken_between, taken_recorded}
 use Rattle.rq_parts.specs.DenseOctetMatrix.{OctetTable}
-use Rattle.rq_solver.proofs.UnderWay.{ends_kept, longer_by, still_under_way}
+use Rattle.rq_solver.proofs.UnderWay.{ends_kept, left_slice, longer_by, still_under_way}
 use Rattle.rq_solver.proofs.pi_solver.elimination.Elimination.clear_inactive.Goals as goal
 use Rattle.rq_solver.proofs.pi_solver.elimination.Elimination.clear_inactive.Goals.{then-sparse-place+in_ok-redo_additions, else-sparse-place}
-
-module _ (e : Elimination) (slice : List ℕ) (same : slice ≡ e.row_order.items) (pivots : ℕ) (pivots_are : pivots ≡ length e.peeling.rows) where
-  rows_are : take (length slice - pivots) (drop pivots slice) ≡ left_rows e
-  rows_are = take_rest slice pivots ∙ ap (λ (xs : List ℕ). drop pivots xs) same ∙ ap (λ (n : ℕ). drop n e.row_order.items) pivots_are
 
 pub loop-place-init : goal.loop-place-init
 loop-place-init c = record {
@@ -27,7 +22,7 @@ pub clear_columns-requires-clause-rows : goal.clear_columns-requires-clause-rows
 clear_columns-requires-clause-rows c =
     let t = c.loop-place.place in
     let in_rows : t < length c.args.self.now.peeling.rows = omega (arith, c.loop-place-test.true, c.pivots-place-end.ensures) in
-    rw (c.row_of-row.ensures, c.loop-place.invariant.finished.records.table, rows_are c.args.self.now c.deref.result.now c.deref.ensures.value c.pivots-2.result c.pivots-2.ensures) (record {
+    rw (c.row_of-row.ensures, c.loop-place.invariant.finished.records.table, left_slice c.args.self.now c.deref.result.now c.pivots-2.result c.deref.ensures.value c.pivots-2.ensures) (record {
       taker = rw c.requires.under_way.height (c.requires.under_way.peeled.peeled.in_rows.below t in_rows);
       rows = c.requires.under_way.left;
       apart = λ f l. c.requires.under_way.apart t f in_rows l;
@@ -69,7 +64,7 @@ loop-place-preserved c =
     let in_rows : t < length rows = omega (arith, c.loop-place-test.true, c.pivots-place-end.ensures) in
     let in_marks : t < length marks = omega (arith, in_rows, c.requires.long) in
     let read : c.row_of-row.result ≡ at rows t = c.row_of-row.ensures in
-    let all = rows_are c.args.self.now c.deref.result.now c.deref.ensures.value c.pivots-2.result c.pivots-2.ensures in
+    let all = left_slice c.args.self.now c.deref.result.now c.pivots-2.result c.deref.ensures.value c.pivots-2.ensures in
     let counted : c.width.result - c.pivots.result ≡ count = omega (arith, c.width.ensures, c.pivots.ensures) in
     let sums = rw counted at c.in_ok-clear_columns.ensures.few in
     let turn = rw (read, all, counted) at c.in_ok-clear_columns.ensures.taken in

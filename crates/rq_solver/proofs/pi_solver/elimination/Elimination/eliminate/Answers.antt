@@ -1,11 +1,11 @@
 -- What the check leaves to show of `pi_solver::elimination::Elimination::eliminate`.
 use Rattle.std.proofs.Common.{◌≡◌, ◌-◌, ℕ, List, length, drop, take, refl, ap, ◌∙◌, subst}
 use Rattle.std.specs.List.Sorted.{IsPermutation}
-use Rattle.std.proofs.lemmas.List.{take_rest, with_items_is}
+use Rattle.std.proofs.lemmas.List.{with_items_is}
 use Rattle.std.specs.Vec.{with_items}
 use borrow.Rule.Slice.PartMut.{put_mid, same_len_mid}
 use Rattle.rq_solver.specs.EliminationState.{left_rows}
-use Rattle.rq_solver.proofs.UnderWay.{ends_eliminated, longer_by, reordered_under_way}
+use Rattle.rq_solver.proofs.UnderWay.{ends_eliminated, left_slice, longer_by, reordered_under_way}
 use Rattle.rq_solver.proofs.pi_solver.elimination.Elimination.eliminate.Goals as goal
 
 pub returns-clause-under_way : goal.returns-clause-under_way
@@ -19,7 +19,7 @@ returns-clause-under_way c =
     let slice = c.as_mut_slice.result.now in
     let reduced = c.eliminate_rows.new.rows in
     let slice_is : slice ≡ e.row_order.items = c.as_mut_slice.ensures.value in
-    let left_is : take (length slice - pivots) (drop pivots slice) ≡ left_rows e = take_rest slice pivots ∙ ap (λ (xs : List ℕ). drop pivots xs) slice_is ∙ ap (λ (n : ℕ). drop n e.row_order.items) c.pivots-pivots.ensures in
+    let left_is : take (length slice - pivots) (drop pivots slice) ≡ left_rows e = left_slice e slice pivots slice_is c.pivots-pivots.ensures in
     let whole : List ℕ = put_mid pivots (length slice - pivots) slice reduced in
     let long : length whole ≡ e.row_order.len = same_len_mid pivots (length slice - pivots) slice reduced c.eliminate_rows.auto.rows ∙ c.as_mut_slice.ensures.len in
     let placed : (with_items e.row_order whole).items ≡ put_mid pivots (length e.row_order.items - pivots) e.row_order.items reduced = with_items_is e.row_order whole long ∙ ap (λ (xs : List ℕ). put_mid pivots (length xs - pivots) xs reduced) slice_is in

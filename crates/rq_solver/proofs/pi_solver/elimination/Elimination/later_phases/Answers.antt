@@ -2,7 +2,7 @@
 use Rattle.std.proofs.Common.{◌≡◌, sym}
 use Rattle.std.proofs.lemmas.List.Sorted.{length_permutation}
 use Rattle.rq_elimination.specs.RowSteps.{IsEchelon}
-use Rattle.rq_solver.specs.EliminationState.{inactive_count, left_rows, KeepsPivots}
+use Rattle.rq_solver.specs.EliminationState.{inactive_count, left_rows, KeepsRows}
 use Rattle.rq_solver.specs.declared.pi_solver.elimination.Elimination.{Elimination}
 use Rattle.rq_solver.specs.FourthPhase.{FinishesPivotRows}
 use Rattle.rq_solver.specs.Phases.{SolvesInactive}
@@ -35,7 +35,7 @@ back_substitute-requires-clause-echelon c =
     let forward = c.eliminate.new.self in
     let sparse = c.in_ok-sparse.ensures in
     let echelon : IsEchelon (left_rows forward) (inactive_count first) forward.recorded.table = rw c.if-not-branch.false at c.in_ok-eliminate.ensures.pivots in
-    echelon_kept forward c.sparsify.new.self c.in_ok-sparse.sparse.items sparse.same sparse.rows c.in_ok-eliminate.ensures.under_way sparse.taken (rw (same_count first forward c.in_ok-eliminate.ensures.same) echelon)
+    echelon_kept forward c.sparsify.new.self c.in_ok-sparse.sparse.items sparse.kept c.in_ok-eliminate.ensures.under_way sparse.taken (rw (same_count first forward c.in_ok-eliminate.ensures.same) echelon)
 
 pub clear_inactive-requires-clause-many : goal.clear_inactive-requires-clause-many
 clear_inactive-requires-clause-many c =
@@ -46,20 +46,20 @@ clear_inactive-requires-clause-many c =
     let made = c.in_ok-sparse.ensures in
     let reduced = c.in_ok-back_substitute.ensures in
     let echelon : IsEchelon (left_rows forward) (inactive_count first) forward.recorded.table = rw c.if-not-branch.false at c.in_ok-eliminate.ensures.pivots in
-    rw (same_count sparse back reduced.same, same_count forward sparse made.same, same_count first forward c.in_ok-eliminate.ensures.same, same_left sparse back reduced.same reduced.rows, same_left forward sparse made.same made.rows) echelon.fits
+    rw (same_count sparse back reduced.kept.pivots, same_count forward sparse made.kept.pivots, same_count first forward c.in_ok-eliminate.ensures.same, same_left sparse back reduced.kept, same_left forward sparse made.kept) echelon.fits
 
 pub clear_inactive-requires-clause-long : goal.clear_inactive-requires-clause-long
 clear_inactive-requires-clause-long c =
     let made = c.in_ok-sparse.ensures in
-    rw (c.as_slice.ensures.value, c.in_ok-back_substitute.ensures.same.peeling, made.same.peeling) made.long
+    rw (c.as_slice.ensures.value, c.in_ok-back_substitute.ensures.kept.pivots.peeling, made.kept.pivots.peeling) made.long
 
 pub clear_inactive-requires-clause-short : goal.clear_inactive-requires-clause-short
 clear_inactive-requires-clause-short c =
     let made = c.in_ok-sparse.ensures in
-    let back = c.in_ok-back_substitute.ensures.same in
-    rw (c.as_slice.ensures.value, back.limit, made.same.limit, back.additions, made.same.additions) made.short
+    let back = c.in_ok-back_substitute.ensures.kept.pivots in
+    rw (c.as_slice.ensures.value, back.limit, made.kept.pivots.limit, back.additions, made.kept.pivots.additions) made.short
 
-module _ (c : After-clear_inactive) (last : Elimination) (keeps : KeepsPivots c.back_substitute.new.self last) (rows : last.row_order ≡ c.back_substitute.new.self.row_order) (finishes : FinishesPivotRows c.as_slice.result.now c.back_substitute.new.self last.recorded) where
+module _ (c : After-clear_inactive) (last : Elimination) (keeps : KeepsRows c.back_substitute.new.self last) (finishes : FinishesPivotRows c.as_slice.result.now c.back_substitute.new.self last.recorded) where
   runs : RunsAll c.args.self.now c.eliminate.new.self c.sparsify.new.self c.back_substitute.new.self last c.in_ok-sparse.sparse.items
   runs =
       let forward = c.in_ok-eliminate.ensures in
@@ -72,14 +72,11 @@ module _ (c : After-clear_inactive) (last : Elimination) (keeps : KeepsPivots c.
         permuted = forward.permuted;
         changes = forward.changed;
         echelon = rw c.if-not-branch.false at forward.pivots;
-        keeps_sparse = sparse.same;
-        rows_sparse = sparse.rows;
+        keeps_sparse = sparse.kept;
         takes = sparse.taken;
-        keeps_back = back.same;
-        rows_back = back.rows;
+        keeps_back = back.kept;
         reduces = back.reduced;
         keeps_last = keeps;
-        rows_last = rows;
         finishes = rw c.as_slice.ensures.value at finishes;
       }
 
@@ -89,15 +86,15 @@ module _ (c : After-clear_inactive) (last : Elimination) (keeps : KeepsPivots c.
 pub returns-clause-phases : goal.returns-clause-phases
 returns-clause-phases c =
     let last = c.in_ok-clear_inactive.ensures in
-    let k = last.same in
-    solved (goal.at.returns-clause-phases c).After-clear_inactive _ (record { peeling = k.peeling; additions = k.additions; limit = k.limit }) last.rows last.finished last.ends
+    let k = last.kept.pivots in
+    solved (goal.at.returns-clause-phases c).After-clear_inactive _ (record { pivots = record { peeling = k.peeling; additions = k.additions; limit = k.limit }; order = last.kept.order }) last.finished last.ends
 
 pub returns-clause-found : goal.returns-clause-found
 returns-clause-found c =
     let at_end = (goal.at.returns-clause-found c).After-clear_inactive in
     let made = c.in_ok-clear_inactive.ensures in
     let last = c.clear_inactive.new.self in
-    finds_rows c.args.self.now c.eliminate.new.self c.sparsify.new.self c.back_substitute.new.self last c.in_ok-sparse.sparse.items (runs at_end last made.same made.rows made.finished) (solved at_end last made.same made.rows made.finished made.ends) made.under_way.starts c.in_ok-rows.rows
+    finds_rows c.args.self.now c.eliminate.new.self c.sparsify.new.self c.back_substitute.new.self last c.in_ok-sparse.sparse.items (runs at_end last made.kept made.finished) (solved at_end last made.kept made.finished made.ends) made.under_way.starts c.in_ok-rows.rows
     (rw (← c.places.ensures, ← c.as_slice-2.ensures.value) c.in_ok-rows.ensures.rows)
 
 pub returns-clause-few : goal.returns-clause-few
@@ -105,5 +102,5 @@ returns-clause-few c =
     let at_end = (goal.at.returns-clause-few c).After-clear_inactive in
     let first = c.args.self.now in
     let last = c.in_ok-clear_inactive.ensures in
-    few_solved first c.eliminate.new.self c.sparsify.new.self c.back_substitute.new.self c.clear_inactive.new.self c.in_ok-sparse.sparse.items (runs at_end c.clear_inactive.new.self last.same last.rows last.finished) (rw c.if-not-branch.false at c.in_ok-eliminate.ensures.few)
+    few_solved first c.eliminate.new.self c.sparsify.new.self c.back_substitute.new.self c.clear_inactive.new.self c.in_ok-sparse.sparse.items (runs at_end c.clear_inactive.new.self last.kept last.finished) (rw c.if-not-branch.false at c.in_ok-eliminate.ensures.few)
     c.in_ok-sparse.ensures.few c.in_ok-back_substitute.ensures.few last.few (sym (length_permutation (left_rows first) (left_rows c.eliminate.new.self) c.in_ok-eliminate.ensures.permuted))

@@ -1,7 +1,6 @@
 -- What the check leaves to show of `pi_solver::elimination::Elimination::solve_left_rows`.
 use Rattle.std.proofs.Common.{◌≡◌, ◌+◌, ◌-◌, ◌<◌, ℕ, List, drop, length, take, ap, ◌∙◌, subst, arith, inl, inr}
 use Rattle.std.proofs.lemmas.Bool.{cases_eq, cases_lt}
-use Rattle.std.proofs.lemmas.List.{take_rest}
 use Rattle.rq_algebra.specs.Systems.{at}
 use Rattle.rq_algebra.proofs.Sums.{dot_zero, mul_zero, zero_mul}
 use Rattle.rq_standard.specs.OctetField.{octets}
@@ -11,6 +10,7 @@ use Rattle.rq_solver.specs.EliminationState.{inactive_count, left_rows, IsUnderW
 use Rattle.rq_solver.specs.HomogeneousColumns.{inactive_entry, IsZeroColumn}
 use Rattle.rq_solver.specs.declared.pi_solver.elimination.Elimination.{Elimination}
 use Rattle.rq_solver.proofs.SetColumns.{left_here, left_kept, left_other, left_own, left_zeros, set_count, set_elements}
+use Rattle.rq_solver.proofs.UnderWay.{left_slice}
 use Rattle.rq_solver.proofs.pi_solver.elimination.Elimination.solve_left_rows.Goals as goal
 use Rattle.rq_solver.proofs.pi_solver.elimination.Elimination.solve_left_rows.Goals.{After-free_column-free}
 
@@ -18,7 +18,7 @@ use Rattle.rq_solver.proofs.pi_solver.elimination.Elimination.solve_left_rows.Go
 free_done : (e : Elimination) (free pivots width : ℕ) (slice : List ℕ) → slice ≡ e.row_order.items → pivots ≡ length e.peeling.rows → width ≡ length e.peeling.places
     → ((stuck : IsStuck (take (length slice - pivots) (drop pivots slice)) (width - pivots) e.recorded.table) → free ≡ stuck.done) → (stuck : IsStuck (left_rows e) (inactive_count e) e.recorded.table) → free ≡ stuck.done
 free_done e free pivots width slice value count wide says =
-    let rows : take (length slice - pivots) (drop pivots slice) ≡ left_rows e = take_rest slice pivots ∙ ap (λ (xs : List ℕ). drop pivots xs) value ∙ ap (λ (n : ℕ). drop n e.row_order.items) count in
+    let rows : take (length slice - pivots) (drop pivots slice) ≡ left_rows e = left_slice e slice pivots value count in
     let columns : width - pivots ≡ inactive_count e = ap (λ (n : ℕ). n - pivots) wide ∙ ap (λ (n : ℕ). length e.peeling.places - n) count in
     subst (λ (n : ℕ). (stuck : IsStuck (left_rows e) n e.recorded.table) → free ≡ stuck.done) columns
     (subst (λ (r : List ℕ). (stuck : IsStuck r (width - pivots) e.recorded.table) → free ≡ stuck.done) rows says)
