@@ -17,8 +17,8 @@ use Rattle.raptorq.proofs.Encodes.{block_packets-more}
 
 -- ---- one block
 
-pub appends_none : (b : BlockEncoded) (bytes : List ℕ) → AppendsBlock b 0 bytes bytes
-appends_none b bytes = record { packets = []; are = record { ids = refl; each = tt }; grown = sym (append-nil bytes) }
+pub appends_no_packets : (b : BlockEncoded) (bytes : List ℕ) → AppendsBlock b 0 bytes bytes
+appends_no_packets b bytes = record { packets = []; are = record { ids = refl; each = tt }; grown = sym (append-nil bytes) }
 
 from_zero : (n : ℕ) → n - 0 ≡ n
 from_zero n = omega arith
@@ -43,13 +43,13 @@ abbrev pub encoder_of : List TableRow → Configuration → List ℕ → Encoded
 encoder_of table c object = record { configuration = c; block = new_block_encoded table c object }
 
 -- the packets of the first n blocks stand behind bytes, and the others are left
-pub record AppendsSoFar (start : BlockCutter) (repair n : ℕ) (cutter : BlockCutter) (old new : List ℕ) : Type 0 where
+pub record AppendsBlocksSoFar (start : BlockCutter) (repair n : ℕ) (cutter : BlockCutter) (old new : List ℕ) : Type 0 where
   pub packets : List Packet
   pub grown : new ≡ old ++ frames_of packets
   pub encoded : (object : List ℕ) → StandsBefore object 0 start → AreEncodedSoFar start.config.now repair n (encoder_of start.table.now start.config.now object) packets
   pub left : (object : List ℕ) → StandsBefore object 0 start → StandsBefore object n cutter
 
-pub so_far-none : (start : BlockCutter) (repair : ℕ) (bytes reserved : List ℕ) → reserved ≡ bytes → AppendsSoFar start repair 0 start bytes reserved
+pub so_far-none : (start : BlockCutter) (repair : ℕ) (bytes reserved : List ℕ) → reserved ≡ bytes → AppendsBlocksSoFar start repair 0 start bytes reserved
 so_far-none start repair bytes reserved same = record {
   packets = [];
   grown = same ∙ sym (append-nil bytes);
@@ -58,7 +58,7 @@ so_far-none start repair bytes reserved same = record {
 }
 
 pub so_far-more : (start old_cutter new_cutter : BlockCutter) (repair n end : ℕ) (b : BlockEncoded) (old cur new : List ℕ) → old_cutter.table ≡ start.table → old_cutter.config ≡ start.config → n < start.config.now.source_blocks
-    → end ≡ length b.source + repair → AppendsSoFar start repair n old_cutter old cur → CutsBlock n old_cutter b new_cutter → AppendsBlock b end cur new → AppendsSoFar start repair (n + 1) new_cutter old new
+    → end ≡ length b.source + repair → AppendsBlocksSoFar start repair n old_cutter old cur → CutsBlock n old_cutter b new_cutter → AppendsBlock b end cur new → AppendsBlocksSoFar start repair (n + 1) new_cutter old new
 so_far-more start old_cutter new_cutter repair n end b old cur new table config below so_many so cuts more = record {
   packets = so.packets ++ more.packets;
   grown = more.grown ∙ ap (λ xs. xs ++ frames_of more.packets) so.grown ∙ append_assoc old (frames_of so.packets) (frames_of more.packets) ∙ ap (λ xs. old ++ xs) (sym (flat_map-append packet_bytes so.packets more.packets));
@@ -70,7 +70,7 @@ so_far-more start old_cutter new_cutter repair n end b old cur new table config 
   left = λ object stands. (cuts object (so.left object stands)).1;
 }
 
-pub so_far-all : (start cutter : BlockCutter) (repair n : ℕ) (old new : List ℕ) → n ≡ start.config.now.source_blocks → AppendsSoFar start repair n cutter old new → AppendsBlocks start repair old new
+pub so_far-all : (start cutter : BlockCutter) (repair n : ℕ) (old new : List ℕ) → n ≡ start.config.now.source_blocks → AppendsBlocksSoFar start repair n cutter old new → AppendsBlocks start repair old new
 so_far-all start cutter repair n old new all so = record {
   packets = so.packets;
   grown = so.grown;
@@ -79,7 +79,7 @@ so_far-all start cutter repair n old new all so = record {
 
 -- ---- bytes with others behind them
 
-pub so_far-extends : (start cutter : BlockCutter) (repair n : ℕ) (old new : List ℕ) → AppendsSoFar start repair n cutter old new → KeepsFront old new
+pub so_far-extends : (start cutter : BlockCutter) (repair n : ℕ) (old new : List ℕ) → AppendsBlocksSoFar start repair n cutter old new → KeepsFront old new
 so_far-extends start cutter repair n old new so = record { more = frames_of so.packets; grown = so.grown }
 
 pub extends_more : (a b c : List ℕ) → KeepsFront a b → KeepsFront b c → KeepsFront a c

@@ -1,10 +1,11 @@
 -- How many symbols a block has, by the parts of a partition.
-use Rattle.std.proofs.Common.{◌≡◌, ℕ, ◌*◌, ◌<◌, ◌≤◌, sym, ap, ◌∙◌, arith}
+use Rattle.std.proofs.Common.{◌≡◌, ℕ, zero, suc, ◌+◌, ◌-◌, ◌*◌, ◌/◌, ◌%◌, ◌<◌, ◌≤◌, min, sym, ap, ◌∙◌, arith, inl, inr}
 use Rattle.std.proofs.Math.Nat.{mul-le-mul}
+use Rattle.std.proofs.lemmas.Bool.{cases_lt}
 use Rattle.std.proofs.lemmas.Grind.{div_ceil_times}
 use Rattle.rq_standard.specs.Partition.{parts_of}
 use Rattle.rq_standard.specs.Configuration.{Configuration, total_symbols, largest_block}
-use Rattle.rq_standard.specs.Cutting.{block_symbols}
+use Rattle.rq_standard.specs.Cutting.{block_symbols, symbols_before}
 use Rattle.rq_standard.proofs.BlockCuts.{larger_block, smaller_block}
 
 abbrev pub four : ℕ → ℕ → ℕ × ℕ × ℕ × ℕ
@@ -29,3 +30,42 @@ few_symbols c some blocks few = omega (arith, (div_ceil_times (total_symbols c) 
   where
     few_blocks : largest_block c < 65536 → largest_block c ≤ 65535
     few_blocks below = omega arith
+
+-- ---- how many stand before it
+
+-- b parts, of which r are larger by one
+parts_before : (s r b : ℕ) → s * b + min b r ≡ min b r * (s + min 1 r) + (b - r) * s
+parts_before s zero b =
+    let none : min b 0 ≡ 0 = omega arith in
+    let all : b - 0 ≡ b = omega arith in
+    rw (none, all) (omega arith)
+parts_before s (suc r) b =
+    let one : min 1 (suc r) ≡ 1 = omega arith in
+    elim (cases_lt b (suc r)) [
+      | inl lt ↦
+          let all : min b (suc r) ≡ b = omega arith in
+          let rest : b - suc r ≡ 0 = omega arith in
+          rw (one, all, rest) (omega arith)
+      | inr past ↦
+          let some : min b (suc r) ≡ suc r = omega arith in
+          rw (one, some) (behind (b - suc r) (omega arith))
+    ]
+  where
+    behind : (d : ℕ) → b ≡ suc r + d → s * b + suc r ≡ suc r * (s + 1) + d * s
+    behind d is = rw is (omega arith)
+
+-- that is the number of symbols before a block
+pub symbols_before-parts : (c : Configuration) (b n : ℕ) → 0 < c.source_blocks → n ≡ total_symbols c / c.source_blocks * b + min b (total_symbols c % c.source_blocks) → n ≡ symbols_before c b
+unfolding symbols_before
+symbols_before-parts c b n some is =
+    let i = total_symbols c in
+    let j = c.source_blocks in
+    let rest : i % j ≡ i - i / j * j = omega arith in
+    is ∙ parts_before (i / j) (i % j) b ∙ ap (λ r. min b r * (i / j + min 1 (i % j)) + (b - r) * (i / j)) rest
+
+-- no more than all of them
+pub few_before : (i j b : ℕ) → b < j → i / j * b + min b (i % j) ≤ i
+few_before i j b below =
+    let whole : i / j * j + i % j ≡ i = omega arith in
+    let before : i / j * b ≤ i / j * j = mul-le-mul (omega arith) (omega arith) in
+    omega arith

@@ -18,6 +18,7 @@ use Rattle.rq_standard.proofs.PlainCut.{length-block_bytes}
 use Rattle.rq_standard.proofs.StandingSteps.{length-block_source}
 use Rattle.rq_standard.proofs.BlockCuts.{block_symbols_few, symbols_before-first, symbols_before-next}
 use Rattle.raptorq.specs.SourceBlockEncodingPlan.{RefusesPlan}
+use Rattle.raptorq.specs.BlockBytes.{bytes_of_block}
 use Rattle.raptorq.specs.BlockCutting.{from_block}
 use Rattle.raptorq.specs.Encoder.{Encoded, IsEncoderOf, IsPacketIn, no_block, packets_refusal}
 use Rattle.raptorq.proofs.Encodes.{at_any}
@@ -30,10 +31,6 @@ use Rattle.raptorq.specs.Refused.{new_encoder, RefusesEncoder}
 use Rattle.raptorq.specs.SourceBlockEncoder.{BlockEncoded, block_encoded_of, IsBlockPacket, AreBlockPackets, new_block_encoded}
 
 -- ---- the bytes of a block
-
--- the object's bytes in a block, without the zeros behind the object
-abbrev pub bytes_of_block : Configuration → List ℕ → ℕ → List ℕ
-bytes_of_block c object b = take (block_symbols c b * c.symbol_size) (drop (symbols_before c b * c.symbol_size) object)
 
 pub from_first : (c : Configuration) (object : List ℕ) → object ≡ from_block c object 0
 from_first c object =
@@ -52,7 +49,7 @@ module _ (c : Configuration) (object rest : List ℕ) (b whole : ℕ) (is : rest
       back ∙ drop_min whole rest ∙ ap (λ n. drop n rest) many ∙ ap (drop (block_symbols c b * c.symbol_size)) is ∙ drop-drop (block_symbols c b * c.symbol_size) (symbols_before c b * c.symbol_size) object
       ∙ ap (λ n. drop n object) both
 
-block_byte : (c : Configuration) (object : List ℕ) (b i : ℕ) → get_or (bytes_of_block c object b) i 0 ≡ get_or (block_bytes c object b) i 0
+pub block_byte : (c : Configuration) (object : List ℕ) (b i : ℕ) → get_or (bytes_of_block c object b) i 0 ≡ get_or (block_bytes c object b) i 0
 unfolding block_bytes
 block_byte c object b i =
     let whole = block_symbols c b * c.symbol_size in

@@ -13,7 +13,8 @@ use Rattle.rq_standard.specs.Cutting.{block_symbols}
 use Rattle.rq_standard.specs.Packet.{Packet}
 use Rattle.rq_standard.specs.Headline.{block_row}
 use Rattle.rq_standard.specs.ReceivedBlock.{ReceivedBlock, has_received, with_received, CanAnswer, IsContradictory}
-use Rattle.rq_standard.specs.Standing.{State, IsReceivedOf, new_received, new_answer, IsNewState, AddsToBlock, Adds, Contradicts, received_after}
+use Rattle.rq_standard.specs.DecoderState.{State, IsReceivedOf, new_received, new_answer, IsNewState}
+use Rattle.rq_standard.specs.DecoderSteps.{AddsToBlock, Adds, Contradicts, received_after}
 use Rattle.rq_standard.proofs.KnownIds.{block_more, none_determined}
 use Rattle.rq_standard.proofs.Firsts.{has_id-push}
 use Rattle.rq_standard.proofs.Contradictions.{contradictory-no_answer, received_later, received_meanwhile, contradicted_after, received_more, received_none}

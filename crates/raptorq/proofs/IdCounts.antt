@@ -40,7 +40,7 @@ missing_count-one_more (suc n) x f g within = elim (cases_eq n x) [
   | inr apart ↦ omega (arith, missing_count-one_more n x f g within, no_fewer (f n) (g n) (λ came. elim (within n came) [ inl was ↦ was | inr same ↦ absurd (apart same) ]))
 ]
 
--- and so many more, so many fewer
+-- with n ids more at most n fewer are missing
 pub missing_count-more : (n : ℕ) (new : List ℕ) (f g : ℕ → Bool) → ((e : ℕ) → g e ≡ true → (f e ≡ true) ⊎ Contains new e) → missing_count n f ≤ missing_count n g + length new
 missing_count-more n [] f g within = omega (arith, missing_count-within n f g (λ e below came. elim (within e came) [ inl was ↦ was | inr at ↦ absurd (omega (arith, at.1)) ]))
 missing_count-more n (x ∷ xs) f g within =

@@ -1,4 +1,5 @@
 pub mod Answered
+pub mod AnsweredParts
 pub mod AppendedBlocks
 pub mod BlockOutcomes
 pub mod BlockParts
@@ -25,6 +26,7 @@ pub mod PlanLaws
 pub mod ReceivedEntries
 pub mod ReceivedEquations
 pub mod ReceivedSolutions
+pub mod ResultAnswers
 pub mod Stops
 pub mod Summing
 pub mod TakenPackets

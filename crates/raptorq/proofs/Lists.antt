@@ -11,7 +11,8 @@ use Rattle.rq_standard.specs.Headline.{IsHonestRun, IsOnlyObject, block_row, blo
 use Rattle.rq_standard.specs.declared.row.TableRow.{TableRow}
 use Rattle.rq_standard.specs.TableRows.{IsChecked}
 use Rattle.rq_standard.specs.Equations.{internal_id}
-use Rattle.rq_standard.specs.Standing.{State, StandsFor, AnswersObject, AnswersOnlyObject}
+use Rattle.rq_standard.specs.DecoderState.{State}
+use Rattle.rq_standard.specs.Standing.{StandsFor, AnswersObject, AnswersOnlyObject}
 use Rattle.rq_standard.proofs.Columns.{sum_symbol}
 use Rattle.raptorq.specs.Refused.{packet_refusal}
 use Rattle.raptorq.specs.Runs.{packets_of}

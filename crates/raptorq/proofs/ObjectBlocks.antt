@@ -15,7 +15,8 @@ use Rattle.rq_standard.specs.Configuration.{Configuration}
 use Rattle.rq_standard.specs.Cutting.{block_symbols}
 use Rattle.rq_standard.specs.TableRows.{no_row}
 use Rattle.rq_standard.specs.ReceivedBlock.{ReceivedBlock, nothing_received, IsContradictory}
-use Rattle.rq_standard.specs.Standing.{State, new_received, new_answer, IsNewState, AddsToBlock, RecordsInBlock, IsSameElsewhere, Adds, RecordsOnly, append_both, first_blocks, result_of}
+use Rattle.rq_standard.specs.DecoderState.{State, new_received, new_answer, IsNewState, append_both, first_blocks, result_of}
+use Rattle.rq_standard.specs.DecoderSteps.{AddsToBlock, RecordsInBlock, IsSameElsewhere, Adds, RecordsOnly}
 use Rattle.rq_standard.proofs.ObjectAnswers.{joined_some, joined_each, some_of}
 use Rattle.raptorq.specs.SourceBlockDecoder.{received_of}
 use Rattle.raptorq.specs.Decoder.{received_at, answer_at, answer_of}
@@ -129,7 +130,7 @@ not_complete s b below none = by_cases (is_some (result_of s)) refl where
   by_cases false e = sym e
   by_cases true e = absurd (cc (joined_each s.answer s.configuration.source_blocks (some_of (take s.configuration.transfer_length) (first_blocks s.configuration.source_blocks s.answer) (sym e)) b below, none))
 
-unwrapped : (o : Option (List ℕ)) → IsSome o → o ≡ Some (unwrap_or o [])
+pub unwrapped : (o : Option (List ℕ)) → IsSome o → o ≡ Some (unwrap_or o [])
 unwrapped None h = absurd (cc h)
 unwrapped (Some xs) h = refl
 

@@ -4,7 +4,9 @@ use Rattle.rq_bytes.specs.declared.error.Error.{Error}
 use Rattle.rq_bytes.specs.declared.error.Error.TheVariants.{OutOfMemory, Contradiction}
 use Rattle.rq_standard.specs.Configuration.{IsAligned}
 use Rattle.rq_standard.specs.Packet.{Packet}
-use Rattle.rq_standard.specs.Standing.{State, Adds, StopsEarly, Stops, Contradicts, KeepsContradictions, IsHonestPacket, LeavesBlockLate, AnswersLateBlock}
+use Rattle.rq_standard.specs.DecoderState.{State}
+use Rattle.rq_standard.specs.DecoderSteps.{Adds, StopsEarly, Stops, Contradicts, KeepsContradictions}
+use Rattle.rq_standard.specs.Standing.{IsHonestPacket, LeavesBlockLate, AnswersLateBlock}
 use Rattle.rq_standard.specs.TableRows.{IsChecked}
 use Rattle.rq_standard.proofs.Contradictions.{keeps_added, keeps_recorded, keeps_same, honest_fits, no_more, received_more}
 use Rattle.rq_standard.proofs.StandingSteps.{stands_more, answers_late, leaves_late}

@@ -1,9 +1,10 @@
 -- What the decoder of an object shows.
-use Rattle.std.specs.Prelude.{ℕ, List, Option, None, option_map, map, vec_items, slice_index_or}
+use Rattle.std.specs.Prelude.{◌≡◌, ℕ, List, Option, None, option_map, map, vec_items, slice_index_or}
 use Rattle.rq_standard.specs.TableRows.{no_row}
 use Rattle.rq_standard.specs.Configuration.{Configuration}
 use Rattle.rq_standard.specs.ReceivedBlock.{ReceivedBlock, nothing_received}
-use Rattle.rq_standard.specs.Standing.{State}
+use Rattle.rq_standard.specs.DecoderState.{State, result_of}
+use Rattle.rq_standard.specs.Standing.{AnswersObject, AnswersNothingElse, AnswersOnlyObject}
 use Rattle.raptorq.specs.declared.decoder.object.ObjectBlock.{ObjectBlock}
 use Rattle.raptorq.specs.declared.decoder.object.Decoder.{Decoder}
 use Rattle.raptorq.specs.SourceBlockDecoder.{received_of}
@@ -12,7 +13,7 @@ use Rattle.raptorq.specs.SourceBlockDecoder.{received_of}
 abbrev pub answer_of : ObjectBlock → Option (List ℕ)
 answer_of b = option_map vec_items b.answer
 
--- what was received of each block: nothing of those that the object has not
+-- what is kept of what was received of each block: nothing of those that the object has not
 abbrev pub received_at : Configuration → List ObjectBlock → ℕ → ReceivedBlock
 received_at c blocks n = slice_index_or (map (λ b. received_of b.decoder) blocks) n (nothing_received c n no_row 0)
 
@@ -22,3 +23,10 @@ answer_at blocks n = slice_index_or (map answer_of blocks) n None
 -- what it holds, and what it has answered
 abbrev pub state_of : Decoder → State
 state_of d = record { configuration = d.config; received = received_at d.config d.blocks.items; answer = answer_at d.blocks.items }
+
+-- what a decoder answers: the object, exactly where its packets determine it
+pub record IsAnswerOf (s : State) (answer : Option (List ℕ)) : Type 0 where
+  pub value : answer ≡ result_of s
+  pub object : AnswersObject s answer
+  pub nothing_else : AnswersNothingElse s answer
+  pub only_object : AnswersOnlyObject s answer

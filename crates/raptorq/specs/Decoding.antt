@@ -70,5 +70,5 @@ pub record OverPackets {S T : Type 0} (becomes : S → T → Type 0) (source : S
 abbrev pub DecodesFrom : {S T : Type 0} → (S → T → Type 0) → (T → Option Packet → T → Type 0) → S → ReceivedBlock → Result (Option (List ℕ)) Error → ReceivedBlock → Type 0
 DecodesFrom becomes steps source old result new = OverPackets becomes source (λ iterator packets. Decodes steps iterator old packets result new)
 
-abbrev pub DecodesFromUntil : {S T : Type 0} → (S → T → Type 0) → (T → Option Packet → T → Type 0) → S → ReceivedBlock → Result (Option (List ℕ)) PacketStop → ReceivedBlock → Type 0
-DecodesFromUntil becomes steps source old result new = OverPackets becomes source (λ iterator packets. DecodesUntil steps iterator old packets result new)
+abbrev pub DecodesOrStops : {S T : Type 0} → (S → T → Type 0) → (T → Option Packet → T → Type 0) → S → ReceivedBlock → Result (Option (List ℕ)) PacketStop → ReceivedBlock → Type 0
+DecodesOrStops becomes steps source old result new = OverPackets becomes source (λ iterator packets. DecodesUntil steps iterator old packets result new)

@@ -1,5 +1,7 @@
 pub mod Allowed
 pub mod Appended
+pub mod BlockBytes
+pub mod BlockLayout
 pub mod BlockCutting
 pub mod BlockData
 pub mod BlockSolutions

@@ -21,10 +21,10 @@ NeedsMore h n = (new : List ℕ) (later : ReceivedBlock) → length new < n → 
 abbrev pub IsMissing : ReceivedBlock → ℕ → Type 0
 IsMissing h n = (n ≡ h.source_symbols - received_count h) ⊎ ((n ≡ 1) × (h.source_symbols ≤ received_count h) × ¬ CanAnswer h)
 
--- so many, or nothing where what was received is contradictory
+-- that number of packets, or nothing where what was received is contradictory
 abbrev pub TellsMissing : ReceivedBlock → Option ℕ → Type 0
 TellsMissing h missing = MatchOption missing (IsContradictory h) (IsMissing h)
 
--- so it is for a block of an object without an answer; where it has one, none are missing
+-- of a block of an object: that where it has no answer, and 0 where it has one
 abbrev pub TellsMissingOf : ReceivedBlock → Option (List ℕ) → Option ℕ → Type 0
 TellsMissingOf h answer missing = MatchOption answer (TellsMissing h missing) (λ _. missing ≡ Some 0)

@@ -9,7 +9,8 @@ use Rattle.rq_standard.specs.Configuration.{Configuration}
 use Rattle.rq_standard.specs.Headline.{IsHonestRun}
 use Rattle.rq_standard.specs.ReceivedBlock.{CanAnswer, IsContradictory}
 use Rattle.rq_standard.specs.Packet.{Packet}
-use Rattle.rq_standard.specs.Standing.{State, received_after, HasReceivedRun}
+use Rattle.rq_standard.specs.DecoderState.{State}
+use Rattle.rq_standard.specs.DecoderSteps.{received_after, HasReceivedRun}
 use Rattle.rq_base.specs.RefusedInput.{checked_configuration}
 use Rattle.raptorq.specs.Refused.{packet_refusal}
 

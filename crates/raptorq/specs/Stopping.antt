@@ -4,7 +4,8 @@ use Rattle.rq_bytes.specs.declared.error.Error.{Error}
 use Rattle.rq_bytes.specs.declared.error.Error.TheVariants.{OutOfMemory, Contradiction}
 use Rattle.rq_standard.specs.ReceivedBlock.{ReceivedBlock, IsContradictory}
 use Rattle.rq_standard.specs.Packet.{Packet}
-use Rattle.rq_standard.specs.Standing.{State, AddsToBlock, RecordsInBlock, Adds, RecordsOnly, Contradicts, result_of}
+use Rattle.rq_standard.specs.DecoderState.{State, result_of}
+use Rattle.rq_standard.specs.DecoderSteps.{AddsToBlock, RecordsInBlock, Adds, RecordsOnly, Contradicts}
 use Rattle.raptorq.specs.declared.decoder.packet_stop.PacketStop.{PacketStop}
 use Rattle.raptorq.specs.declared.decoder.packet_stop.PacketStop.TheVariants.{Refused, NotRecorded, NotSolved, Contradicted, NotJoined}
 

@@ -1,12 +1,8 @@
--- The symbols of a block, and how its sub-blocks are made of them (RFC 6330, 4.4.1.2).
-use Rattle.std.specs.Prelude.{◌≡◌, ℕ, ◌+◌, ◌*◌, ◌<◌, List, map, slice_range}
+-- How the sub-blocks of a block are made of its symbols (RFC 6330, 4.4.1.2).
+use Rattle.std.specs.Prelude.{◌≡◌, ℕ, ◌+◌, ◌*◌, ◌<◌, List, slice_range}
 use Rattle.std.specs.List.{flat_map, range_with_len}
 use Rattle.rq_standard.specs.Configuration.{Configuration}
 use Rattle.rq_standard.specs.Cutting.{symbol_of_block, plain_symbol}
-
--- the symbols of a block of k, in order
-abbrev pub symbols_of_block : Configuration → ℕ → List ℕ → List (List ℕ)
-symbols_of_block c k block = map (symbol_of_block c k block) (range_with_len 0 k)
 
 -- of each of k symbols of a size, which come one after another, the bytes of a width from one on
 abbrev pub parts_of_symbols : List ℕ → ℕ → ℕ → ℕ → ℕ → List ℕ

@@ -4,7 +4,9 @@ use Rattle.rq_bytes.specs.declared.error.Error.{Error}
 use Rattle.rq_bytes.specs.declared.error.Error.TheVariants.{OutOfMemory, Contradiction}
 use Rattle.rq_standard.specs.declared.row.TableRow.{TableRow}
 use Rattle.rq_standard.specs.Packet.{Packet}
-use Rattle.rq_standard.specs.Standing.{State, Adds, Contradicts, IsBlockContradictory, KeepsContradictions, IsHonestPacket, HasReceivedMore, StandsForMore, AnswersLateBlock}
+use Rattle.rq_standard.specs.DecoderState.{State}
+use Rattle.rq_standard.specs.DecoderSteps.{Adds, Contradicts, IsBlockContradictory, KeepsContradictions, HasReceivedMore}
+use Rattle.rq_standard.specs.Standing.{IsHonestPacket, StandsForMore, AnswersLateBlock}
 use Rattle.raptorq.specs.Refused.{packet_refusal, IsPacketRefusal}
 use Rattle.raptorq.specs.Runs.{AnswersNext, FollowsRun, FollowsMore}
 
@@ -14,7 +16,7 @@ pub record TakesPacket {X : Type 0} (old : State) (packet : Packet) (result : Re
   pub accepted : OnOk result (packet_refusal old.configuration packet ≡ Ok tt)
   -- a refusal by the tests changes nothing
   pub unchanged : IfErr result (λ e. e ≢ OutOfMemory → e ≢ Contradiction → new ≡ old)
-  -- what was received of its block, and whether that has an answer then
+  -- what is kept of what was received of its block, and its answer then
   pub adds : OnOk result (Adds old packet new)
   pub configuration : new.configuration ≡ old.configuration
   -- a contradiction: the packet is recorded, and so is each later one of its block, which is refused too

@@ -1,8 +1,8 @@
 //! How an object is cut into source blocks.
-ghost use Rattle.std.specs.Prelude.{◌≡◌, ◌<◌, IfOk};
+ghost use Rattle.std.specs.Prelude.{◌≡◌, ◌*◌, ◌^◌, ◌<◌, IfOk};
 ghost use Rattle.rq_bytes.specs.Refusals.{IsAnswer};
 ghost use Rattle.rq_standard.specs.Configuration.{largest_block};
-ghost use Rattle.rq_standard.specs.Cutting.{block_symbols};
+ghost use Rattle.rq_standard.specs.Cutting.{block_symbols, symbols_before};
 ghost use Rattle.raptorq.specs.Encoder.{packets_refusal};
 ghost use Rattle.raptorq.specs.Offsets.{block_offsets, checked_offsets};
 
@@ -25,6 +25,20 @@ pub(crate) fn block_symbols(config: &ObjectTransmissionInformation, number: u8) 
     } else {
         smaller
     }
+}
+
+/// The number of source symbols of the blocks before one: the larger blocks come first (RFC 6330,
+/// 4.4.1.2).
+pub(crate) fn symbols_before(config: &ObjectTransmissionInformation, number: u8) -> u64
+    requires size { 0 < config.now.symbol_size }
+    requires number { number < config.now.source_blocks }
+    ensures value { result ≡ symbols_before config.now number }
+    ensures bytes { result * config.now.symbol_size < 2 ^ 41 }
+{
+    let symbols = config.total_symbols();
+    let blocks = u64::from(config.source_blocks());
+    let number = u64::from(number);
+    symbols / blocks * number + number.min(symbols % blocks)
 }
 
 /// Whether `repair` repair packets of each block have encoding symbol ids: the first block is the

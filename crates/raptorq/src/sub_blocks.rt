@@ -5,7 +5,7 @@ ghost use Rattle.rq_bytes.specs.SymbolSlab.{slab_of};
 ghost use Rattle.rq_standard.specs.Configuration.{IsAligned};
 ghost use Rattle.rq_standard.specs.Cutting.{sub_block_size, symbol_of_block};
 ghost use Rattle.raptorq.specs.Refused.{checked_symbols};
-ghost use Rattle.raptorq.specs.SubBlocks.{symbols_of_block, parts_of_symbols, IsCutInto};
+ghost use Rattle.raptorq.specs.SubBlocks.{IsCutInto};
 
 use rq_base::base::{ObjectTransmissionInformation, partition};
 use rq_bytes::error::Error;
@@ -69,49 +69,6 @@ fn append_padded(
     symbol.resize(whole, 0)
 }
 
-// Appends symbol `e` of a block of `source_symbols` symbols (K). The block may end before its last
-// symbol does: the rest are zeros.
-fn append_source_symbol(
-    bytes: &mut Vec<u8>,
-    config: &ObjectTransmissionInformation,
-    block: &[u8],
-    source_symbols: u32,
-    e: u32,
-) -> Result<(), AllocError>
-    requires aligned { IsAligned config.now }
-    requires room { vec_len bytes.old + config.now.symbol_size < 2 ^ 64 }
-    ensures { OnOk result (bytes.new.items ≡ bytes.old.items ++ symbol_of_block config.now source_symbols block.now e) }
-{
-    let size = usize::from(config.symbol_size());
-    let mut start = 0;
-    while start < size {
-        let width = size_at(config, start);
-        let place = start * source_symbols as usize + width * e as usize;
-        append_padded(bytes, block, place, width)?;
-        start += width;
-    }
-    Ok(())
-}
-
-/// The `source_symbols` symbols (K) of a block, which may end before its last symbol does.
-pub(crate) fn symbols_of_block(
-    alloc: Global,
-    config: &ObjectTransmissionInformation,
-    block: &[u8],
-    source_symbols: u32,
-) -> Result<SymbolSlab, AllocError>
-    requires { IsAligned config.now }
-    ensures small { OnOk result (config.now.symbol_size < 65536) }
-    ensures symbols { IfOk result (λ slab. slab ≡ slab_of config.now.symbol_size (symbols_of_block config.now source_symbols block.now)) }
-{
-    let size = usize::from(config.symbol_size());
-    let mut bytes = Vec::with_capacity(alloc, source_symbols as usize * size)?;
-    for e in 0..source_symbols {
-        append_source_symbol(&mut bytes, config, block, source_symbols, e)?;
-    }
-    Ok(SymbolSlab::from_bytes(bytes, source_symbols as usize, size))
-}
-
 // The bytes that a sub-block has of each symbol: `width` of them from `start` on.
 #[derive(Clone, Copy)]
 struct SubBlock {
@@ -119,55 +76,98 @@ struct SubBlock {
     width: usize,
 }
 
-// Appends a sub-block of the block that has these symbols.
-fn append_sub_block(
-    block: &mut Vec<u8>,
-    symbol_bytes: &[u8],
-    source_symbols: u32,
-    size: usize,
-    part: SubBlock,
-) -> Result<(), AllocError>
-    requires small { size < 65536 }
-    requires within { part.start + part.width ≤ size }
-    requires long { length symbol_bytes.now ≡ source_symbols * size }
-    ensures { OnOk result (block.new.items ≡ block.old.items ++ parts_of_symbols symbol_bytes.now source_symbols size part.start part.width) }
-{
-    for e in 0..source_symbols {
-        let from = e as usize * size + part.start;
-        block.extend_from_slice(&symbol_bytes[from..from + part.width])?;
-    }
-    Ok(())
+/// How a source block is cut: the configuration of its object, and the number of its source symbols
+/// (K).
+#[derive(Clone, Copy)]
+pub(crate) struct BlockLayout {
+    pub(crate) config: ObjectTransmissionInformation,
+    pub(crate) source_symbols: u32,
+    pub ghost aligned: { IsAligned config },
 }
 
-/// The block that has these symbols, which come one after another.
-pub(crate) fn into_sub_blocks(
-    alloc: Global,
-    config: &ObjectTransmissionInformation,
-    source_symbols: u32,
-    symbol_bytes: Vec<u8>,
-) -> Result<Vec<u8>, AllocError>
-    requires aligned { IsAligned config.now }
-    requires long { length symbol_bytes.items ≡ source_symbols * config.now.symbol_size }
-    ensures long { IfOk result (λ block. length block.items ≡ source_symbols * config.now.symbol_size) }
-    ensures each { IfOk result (λ block. IsCutInto config.now source_symbols block.items symbol_bytes.items) }
-{
-    if config.sub_blocks() <= 1 {
-        return Ok(symbol_bytes);
+impl BlockLayout {
+    ghost use Rattle.raptorq.specs.BlockLayout.{cut_by, parts_by};
+
+    /// The symbols of a block, which may end before its last symbol does.
+    pub(crate) fn symbols_of_block(
+        &self,
+        alloc: Global,
+        block: &[u8],
+    ) -> Result<SymbolSlab, AllocError>
+        ensures small { OnOk result (self.now.config.symbol_size < 65536) }
+        ensures symbols { IfOk result (λ slab. slab ≡ slab_of self.now.config.symbol_size (cut_by self.now block.now)) }
+    {
+        let size = usize::from(self.config.symbol_size());
+        let count = self.source_symbols as usize;
+        let mut bytes = Vec::with_capacity(alloc, count * size)?;
+        for e in 0..self.source_symbols {
+            self.append_source_symbol(&mut bytes, block, e)?;
+        }
+        Ok(SymbolSlab::from_bytes(bytes, count, size))
     }
-    let size = usize::from(config.symbol_size());
-    let mut block = Vec::with_capacity(alloc, symbol_bytes.len())?;
-    let mut start = 0;
-    while start < size {
-        let width = size_at(config, start);
-        let part = SubBlock { start, width };
-        append_sub_block(
-            &mut block,
-            symbol_bytes.as_slice(),
-            source_symbols,
-            size,
-            part,
-        )?;
-        start += width;
+
+    // Appends symbol `e` of a block. The block may end before its last symbol does: the rest are zeros.
+    fn append_source_symbol(
+        &self,
+        bytes: &mut Vec<u8>,
+        block: &[u8],
+        e: u32,
+    ) -> Result<(), AllocError>
+        requires room { vec_len bytes.old + self.now.config.symbol_size < 2 ^ 64 }
+        ensures { OnOk result (bytes.new.items ≡ bytes.old.items ++ symbol_of_block self.now.config self.now.source_symbols block.now e) }
+    {
+        let size = usize::from(self.config.symbol_size());
+        let mut start = 0;
+        while start < size {
+            let width = size_at(&self.config, start);
+            let place = start * self.source_symbols as usize + width * e as usize;
+            append_padded(bytes, block, place, width)?;
+            start += width;
+        }
+        Ok(())
     }
-    Ok(block)
+
+    /// The block that has these symbols, which come one after another.
+    pub(crate) fn block_of_symbols(
+        &self,
+        alloc: Global,
+        symbol_bytes: Vec<u8>,
+    ) -> Result<Vec<u8>, AllocError>
+        requires long { length symbol_bytes.items ≡ self.now.source_symbols * self.now.config.symbol_size }
+        ensures long { IfOk result (λ block. length block.items ≡ self.now.source_symbols * self.now.config.symbol_size) }
+        ensures each { IfOk result (λ block. IsCutInto self.now.config self.now.source_symbols block.items symbol_bytes.items) }
+    {
+        if self.config.sub_blocks() <= 1 {
+            return Ok(symbol_bytes);
+        }
+        let size = usize::from(self.config.symbol_size());
+        let mut block = Vec::with_capacity(alloc, symbol_bytes.len())?;
+        let mut start = 0;
+        while start < size {
+            let width = size_at(&self.config, start);
+            let part = SubBlock { start, width };
+            self.append_sub_block(&mut block, symbol_bytes.as_slice(), part)?;
+            start += width;
+        }
+        Ok(block)
+    }
+
+    // Appends a sub-block of the block that has these symbols.
+    fn append_sub_block(
+        &self,
+        block: &mut Vec<u8>,
+        symbol_bytes: &[u8],
+        part: SubBlock,
+    ) -> Result<(), AllocError>
+        requires within { part.start + part.width ≤ self.now.config.symbol_size }
+        requires long { length symbol_bytes.now ≡ self.now.source_symbols * self.now.config.symbol_size }
+        ensures { OnOk result (block.new.items ≡ block.old.items ++ parts_by self.now symbol_bytes.now part.start part.width) }
+    {
+        let size = usize::from(self.config.symbol_size());
+        for e in 0..self.source_symbols {
+            let from = e as usize * size + part.start;
+            block.extend_from_slice(&symbol_bytes[from..from + part.width])?;
+        }
+        Ok(())
+    }
 }

@@ -4,7 +4,6 @@ ghost use Rattle.std.specs.Option.{ForSome};
 ghost use Rattle.rq_bytes.specs.Refusals.{IsAnswer};
 ghost use Rattle.rq_standard.specs.Configuration.{IsAligned};
 ghost use Rattle.rq_standard.specs.ReceivedBlock.{CanAnswer, IsContradictory};
-ghost use Rattle.rq_standard.specs.TableRows.{IsChecked};
 ghost use Rattle.raptorq.specs.Known.{IsHomogeneousOf};
 ghost use Rattle.raptorq.specs.Missing.{received_block, payload_of, has_payload, missing_count};
 ghost use Rattle.raptorq.specs.declared.decoder.last_outcome.LastOutcome.TheVariants.{Undetermined, Contradictory};
@@ -17,7 +16,7 @@ use crate::decoder::payloads::{join, keep_first};
 use crate::enc::encoding_symbol;
 use crate::encoder::SPARSE_MATRIX_THRESHOLD;
 use crate::solving::homogeneous;
-use crate::sub_blocks::{check_symbols, into_sub_blocks, size_at};
+use crate::sub_blocks::{BlockLayout, check_symbols, size_at};
 use rq_base::base::{EncodingPacket, ObjectTransmissionInformation};
 use rq_bytes::error::Error;
 use rq_bytes::octets;
@@ -64,11 +63,11 @@ impl SourceBlockDecoder {
     ghost use Rattle.raptorq.specs.Difference.{octets_of_column};
     ghost use Rattle.rq_standard.specs.ReceivedBlock.{has_received, nothing_received, with_received, ShowsUndetermined, IsBlockWith, IsBlockAnswer};
     ghost use Rattle.rq_standard.specs.Received.{HasSourceSymbols};
-    ghost use Rattle.rq_standard.specs.Standing.{emptied};
+    ghost use Rattle.rq_standard.specs.DecoderSteps.{emptied};
     ghost use Rattle.rq_standard.specs.TableRows.{greatest_size, intermediate_symbols};
     ghost use Rattle.raptorq.specs.Refused.{checked_block, block_refusal};
     ghost use Rattle.raptorq.specs.SourceBlockDecoder.{received_of, empty_block};
-    ghost use Rattle.raptorq.specs.Decoding.{DecodesFrom, DecodesFromUntil, IsUnanswered, answer_bytes};
+    ghost use Rattle.raptorq.specs.Decoding.{DecodesFrom, DecodesOrStops, IsUnanswered, answer_bytes};
     ghost use Rattle.raptorq.specs.Stopping.{StopsPacket, StopsAnswer};
     ghost use Rattle.raptorq.specs.MissingPackets.{NeedsMore, TellsMissing};
     ghost use Rattle.std.specs.Iterator.{IsFinite};
@@ -89,7 +88,6 @@ impl SourceBlockDecoder {
     ) -> Result<SourceBlockDecoder, Error>
         ensures refused { IsAnswer (λ _. tt) result (checked_block (greatest_size table.now) config.now (div_ceil block_length config.now.symbol_size)) }
         ensures empty { IfOk result (λ d. received_of d ≡ empty_block table.now config.now number (div_ceil block_length config.now.symbol_size)) }
-        ensures row { IfOk result (λ d. IsChecked (received_of d).row × ((received_of d).source_symbols ≤ (received_of d).row.extended_symbols)) }
     {
         check_symbols(config)?;
         let source_symbols = block_length.div_ceil(u64::from(config.symbol_size()));
@@ -111,8 +109,6 @@ impl SourceBlockDecoder {
         requires aligned { IsAligned config.now }
         requires in_table { source_symbols ≤ greatest_size table.now }
         ensures empty { received_of result ≡ empty_block table.now config.now number source_symbols }
-        ensures checked { IsChecked (received_of result).row }
-        ensures fits { (received_of result).source_symbols ≤ (received_of result).row.extended_symbols }
     {
         let row = table.checked_row(source_symbols);
         SourceBlockDecoder::of_row(alloc, row, number, config, source_symbols)
@@ -191,7 +187,7 @@ impl SourceBlockDecoder {
         packets: I,
     ) -> Result<Option<Vec<u8>>, PacketStop>
         requires { (it : I.IntoIter) → I.into_iter_gives packets it → I.IntoIter.can_next it × IsFinite (I.IntoIter.remaining it) }
-        ensures { DecodesFromUntil I.into_iter_gives I.IntoIter.next_gives packets (received_of self.old) (answer_bytes vec_items result) (received_of self.new) }
+        ensures { DecodesOrStops I.into_iter_gives I.IntoIter.next_gives packets (received_of self.old) (answer_bytes vec_items result) (received_of self.new) }
     {
         for packet in packets {
             self.add(packet)?;
@@ -301,11 +297,11 @@ impl SourceBlockDecoder {
             LastOutcome::Untried => {}
         }
         match self.find_answer() {
-            Ok(Some(block)) => Ok(Some(block)),
             Ok(None) => {
                 self.last_outcome = LastOutcome::Undetermined;
                 Ok(None)
             }
+            Ok(answer) => Ok(answer),
             Err(Error::Contradiction) => {
                 self.last_outcome = LastOutcome::Contradictory;
                 Err(PacketStop::Contradicted)
@@ -332,6 +328,17 @@ impl SourceBlockDecoder {
         }
     }
 
+    /// How the block is cut.
+    pub(crate) fn layout(&self) -> BlockLayout
+        ensures config { result.config ≡ (received_of self.now).configuration }
+        ensures source_symbols { result.source_symbols ≡ (received_of self.now).source_symbols }
+    {
+        BlockLayout {
+            config: self.config,
+            source_symbols: self.source_symbols,
+        }
+    }
+
     // The block, from its source symbols alone, all of which were received.
     fn join_source(&self) -> Result<Vec<u8>, AllocError>
         requires { HasSourceSymbols (received_of self.now).source_symbols (has_received (received_of self.now)) }
@@ -343,7 +350,7 @@ impl SourceBlockDecoder {
             self.symbol_size(),
             &self.received,
         )?;
-        into_sub_blocks(self.alloc, &self.config, self.source_symbols, symbol_bytes)
+        self.layout().block_of_symbols(self.alloc, symbol_bytes)
     }
 
     /// The block whose symbols begin with the octets that a column has for them, and go on with

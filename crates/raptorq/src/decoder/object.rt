@@ -1,6 +1,7 @@
 //! The decoder of an object.
-ghost use Rattle.std.specs.Prelude.{◌≡◌, ◌↔◌, ℕ, ◌*◌, ◌<◌, ◌≤◌, [], Ok, Some, None, IfSome, IfOk, IfErr, OnOk, OnErr, All, map, option_map, vec_items, is_some, IsSome};
+ghost use Rattle.std.specs.Prelude.{◌≡◌, ◌↔◌, ℕ, ◌*◌, ◌-◌, ◌<◌, ◌≤◌, [], length, Ok, Some, None, IfSome, IfOk, IfErr, OnOk, OnErr, All, map, option_map, vec_items, is_some, IsSome};
 ghost use Rattle.std.specs.List.{range_with_len};
+ghost use Rattle.std.specs.Option.{ForSome};
 ghost use Rattle.rq_bytes.specs.Refusals.{IsAnswer};
 ghost use Rattle.rq_standard.specs.Configuration.{IsAccepted, IsAligned, largest_block, total_symbols};
 ghost use Rattle.rq_standard.specs.Cutting.{block_symbols};
@@ -10,7 +11,7 @@ ghost use Rattle.rq_standard.specs.TableRows.{greatest_size};
 ghost use Rattle.rq_base.specs.RefusedInput.{checked_configuration};
 ghost use Rattle.raptorq.specs.SourceBlockDecoder.{received_of};
 
-use crate::blocks::block_symbols;
+use crate::blocks::{block_symbols, symbols_before};
 use crate::decoder::block::SourceBlockDecoder;
 use crate::decoder::packet_stop::PacketStop;
 use rq_base::base::{EncodingPacket, ObjectTransmissionInformation};
@@ -23,11 +24,12 @@ use std::alloc::{AllocError, Global};
 struct ObjectBlock {
     decoder: SourceBlockDecoder,
     answer: Option<Vec<u8>>,
+    pub ghost long: { ForSome answer (λ v. length v.items ≡ (received_of decoder).source_symbols * (received_of decoder).configuration.symbol_size) },
 }
 
 impl ObjectBlock {
     ghost use Rattle.raptorq.specs.Difference.{ShowsUnanswered};
-    ghost use Rattle.rq_standard.specs.Standing.{IsReceivedOf, new_received, new_answer};
+    ghost use Rattle.rq_standard.specs.DecoderState.{IsReceivedOf, new_received, new_answer};
     ghost use Rattle.raptorq.specs.Stopping.{AddsHereOrStops};
     ghost use Rattle.raptorq.specs.Decoder.{answer_of};
     ghost use Rattle.raptorq.specs.MissingPackets.{NeedsMore, TellsMissingOf};
@@ -128,15 +130,19 @@ pub struct Decoder {
 }
 
 impl Decoder {
+    ghost use Rattle.rq_standard.specs.Cutting.{symbols_before};
     ghost use Rattle.rq_standard.specs.Differences.{AreUnansweredDetermined, IsDifference, IsNoneWhereAnswered, MakesOthersFit};
-    ghost use Rattle.rq_standard.specs.Standing.{IsNewState, Stops, StopsEarly, IsBlockContradictory, result_of};
-    ghost use Rattle.rq_standard.specs.Standing.{StandsForNone, LeavesBlockLate, LeavesOrAnswersLateBlock, AnswersObject, AnswersNothingElse, AnswersOnlyObject};
+    ghost use Rattle.rq_standard.specs.DecoderState.{IsNewState, result_of};
+    ghost use Rattle.rq_standard.specs.DecoderSteps.{Stops, StopsEarly, IsBlockContradictory};
+    ghost use Rattle.rq_standard.specs.Standing.{StandsForNone, LeavesBlockLate, LeavesOrAnswersLateBlock};
+    ghost use Rattle.std.specs.Option.{option_copied};
+    ghost use Rattle.raptorq.specs.BlockBytes.{answered_part, PartsMakeObject, AnswersPart};
     ghost use Rattle.raptorq.specs.Taking.{TakesPacket};
     ghost use Rattle.raptorq.specs.Decoding.{answer_bytes};
     ghost use Rattle.raptorq.specs.Stopping.{StopsAsTested, AddsOrStops, AddsAndJoinsOrStops};
     ghost use Rattle.raptorq.specs.MissingPackets.{NeedsMore, TellsMissingOf};
     ghost use Rattle.raptorq.specs.Refused.{packet_refusal};
-    ghost use Rattle.raptorq.specs.Decoder.{state_of};
+    ghost use Rattle.raptorq.specs.Decoder.{state_of, IsAnswerOf};
 
     /// The decoder of an object in this configuration, before any packet.
     ///
@@ -162,6 +168,13 @@ impl Decoder {
             blocks,
             alloc,
         })
+    }
+
+    /// The configuration that it was made for. Not in the Rust crate.
+    pub fn get_config(&self) -> ObjectTransmissionInformation
+        ensures { result ≡ (state_of self.now).configuration }
+    {
+        self.config
     }
 
     /// Sets the sparse threshold of each block: from how many symbols of an extended source block
@@ -210,8 +223,9 @@ impl Decoder {
         Ok(self.add_to_block(packet)?)
     }
 
-    // Whether each block has an answer.
-    fn is_complete(&self) -> bool
+    /// Whether each block is answered, so that [`Decoder::get_result`] has the object, where there is
+    /// memory for it. Not in the Rust crate.
+    pub fn is_complete(&self) -> bool
         ensures { result ≡ is_some (result_of (state_of self.now)) }
     {
         for block in &self.blocks {
@@ -224,10 +238,7 @@ impl Decoder {
 
     /// The object, where each of its blocks is answered.
     pub fn get_result(&self) -> Result<Option<Vec<u8>>, Error>
-        ensures value { IfOk result (λ r. option_map vec_items r ≡ result_of (state_of self.now)) }
-        ensures object { IfOk result (λ r. AnswersObject (state_of self.now) (option_map vec_items r)) }
-        ensures nothing_else { IfOk result (λ r. AnswersNothingElse (state_of self.now) (option_map vec_items r)) }
-        ensures only_object { IfOk result (λ r. AnswersOnlyObject (state_of self.now) (option_map vec_items r)) }
+        ensures answer { IfOk result (λ r. IsAnswerOf (state_of self.now) (option_map vec_items r)) }
         ensures contradicted { IfOk result (λ r. (b : ℕ) → IsBlockContradictory (state_of self.now) b → r ≡ None) }
         ensures memory { IfErr result (λ e. e ≡ Error.OutOfMemory) }
     {
@@ -257,6 +268,36 @@ impl Decoder {
         }
         object.truncate(self.config.transfer_length() as usize);
         Ok(object)
+    }
+
+    // How many bytes the object has from the beginning of a block on.
+    fn length_from(&self, number: u8) -> usize
+        requires { number < (state_of self.now).configuration.source_blocks }
+        ensures { let c = (state_of self.now).configuration in result ≡ c.transfer_length - symbols_before c number * c.symbol_size }
+    {
+        let size = u64::from(self.config.symbol_size());
+        let start = symbols_before(&self.config, number) * size;
+        self.config.transfer_length().saturating_sub(start) as usize
+    }
+
+    /// The object's bytes in a source block (RFC 6330, 4.4.1.2), where the block is answered: lent, and
+    /// not copied, without the zeros behind the object. Those of all blocks one after another are the
+    /// object. `None` where the block has no answer yet, or is none of the object's. Not in the Rust
+    /// crate.
+    pub fn block_bytes(&self, source_block_number: u8) -> Option<&[u8]>
+        ensures bytes { option_copied result ≡ answered_part (state_of self.now) source_block_number }
+        ensures unknown { (state_of self.now).configuration.source_blocks ≤ source_block_number → result ≡ None }
+        ensures object { AnswersPart (state_of self.now) source_block_number (option_copied result) }
+        ensures whole { PartsMakeObject (state_of self.now) }
+    {
+        if source_block_number >= self.config.source_blocks() {
+            return None;
+        }
+        let Some(bytes) = &self.blocks[usize::from(source_block_number)].answer else {
+            return None;
+        };
+        let length = self.length_from(source_block_number).min(bytes.len());
+        Some(&bytes.as_slice()[..length])
     }
 
     /// Why the object isn't answered: bytes as long as the object, whose xor with it makes the same
@@ -328,10 +369,7 @@ impl Decoder {
     pub fn decode(&mut self, packet: EncodingPacket) -> Result<Option<Vec<u8>>, Error>
         ensures takes { TakesPacket (state_of self.old) packet result (state_of self.new) }
         ensures stops { IfErr result (λ e. e ≡ Error.OutOfMemory → Stops (state_of self.old) packet (state_of self.new)) }
-        ensures value { IfOk result (λ r. option_map vec_items r ≡ result_of (state_of self.new)) }
-        ensures object { IfOk result (λ r. AnswersObject (state_of self.new) (option_map vec_items r)) }
-        ensures nothing_else { IfOk result (λ r. AnswersNothingElse (state_of self.new) (option_map vec_items r)) }
-        ensures only_object { IfOk result (λ r. AnswersOnlyObject (state_of self.new) (option_map vec_items r)) }
+        ensures answer { IfOk result (λ r. IsAnswerOf (state_of self.new) (option_map vec_items r)) }
         ensures leaves_late { IfErr result (λ e. e ≡ Error.OutOfMemory → LeavesOrAnswersLateBlock (state_of self.old) packet (state_of self.new)) }
     {
         Ok(self.add_and_join(packet)?)

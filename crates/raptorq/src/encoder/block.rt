@@ -11,7 +11,7 @@ use crate::enc::encoding_symbol;
 use crate::encoder::cache::SourceBlockEncodingPlanCache;
 use crate::encoder::plan::SourceBlockEncodingPlan;
 use crate::ids::internal_symbol_id;
-use crate::sub_blocks::{check_symbols, symbols_of_block};
+use crate::sub_blocks::{BlockLayout, check_symbols};
 use rq_base::base::{
     ENCODING_SYMBOL_IDS, EncodingPacket, ObjectTransmissionInformation, PayloadId,
 };
@@ -124,8 +124,11 @@ impl SourceBlockEncoder {
         ensures encoded { IfOk result (λ b. block_encoded_of b ≡ block_by_plan (plan_of plan.now) config.now number block.now) }
         ensures memory { IfErr result (λ e. e ≡ Error.OutOfMemory) }
     {
-        let count = u32::from(plan.source_symbol_count());
-        let source = symbols_of_block(alloc, config, block, count)?;
+        let layout = BlockLayout {
+            config: *config,
+            source_symbols: u32::from(plan.source_symbol_count()),
+        };
+        let source = layout.symbols_of_block(alloc, block)?;
         SourceBlockEncoder::of_source(alloc, number, source, plan)
     }
 

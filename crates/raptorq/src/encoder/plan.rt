@@ -1,11 +1,10 @@
 //! Plans: what solves the equations of every block of one size.
 ghost use Rattle.std.specs.Prelude.{◌≡◌, ◌⊎◌, ◌<◌, ◌≤◌, length, None, Ok, IfOk, IfErr, OnOk};
-ghost use Rattle.rq_algebra.specs.Operations.{AreAllowed};
 ghost use Rattle.rq_bytes.specs.SymbolSlab.{slab_of, symbol_in, symbols_in};
 ghost use Rattle.rq_operations.specs.RecordedOperations.{operations_of};
 ghost use Rattle.rq_standard.specs.Headline.{IsNonsingular, IsSingular, IsOnlyIntermediateColumn};
 ghost use Rattle.rq_standard.specs.TableRows.{row_of, intermediate_symbols};
-ghost use Rattle.raptorq.specs.Allowed.{AreAllowed-prop};
+ghost use Rattle.raptorq.specs.Allowed.{AreAllowedOver, AreAllowedOver-prop};
 ghost use Rattle.raptorq.specs.Planned.{IsPlanOf, source_values};
 
 use crate::encoder::SPARSE_MATRIX_THRESHOLD;
@@ -27,7 +26,7 @@ pub struct SourceBlockEncodingPlan {
     row: CheckedRow,
     pub ghost nonsingular: { IsNonsingular row.numbers },
     pub ghost few: { source_symbol_count ≤ row.numbers.extended_symbols },
-    pub ghost allowed: { AreAllowed (intermediate_symbols row.numbers) None (operations_of operations) } by { AreAllowed-prop (intermediate_symbols row.numbers) None (operations_of operations) },
+    pub ghost allowed: { AreAllowedOver row.numbers (operations_of operations) } by { AreAllowedOver-prop row.numbers (operations_of operations) },
     pub ghost finds: { IsPlanOf row.numbers (operations_of operations) },
 }
 

@@ -10,7 +10,6 @@ use crate::decoder::known::{known_symbol_ids, known_symbol_values};
 use crate::decoder::payloads::keep_first;
 use crate::enc::encoding_symbol;
 use crate::solving::{BlockOperations, BlockOutcome, solve_or_show};
-use crate::sub_blocks::into_sub_blocks;
 use rq_bytes::error::Error;
 use rq_bytes::symbol_slab::SymbolSlab;
 use std::alloc::AllocError;
@@ -99,7 +98,7 @@ impl SourceBlockDecoder {
         for e in 0..self.source_symbols {
             self.push_symbol(&lost, e, &mut symbol_bytes)?;
         }
-        into_sub_blocks(self.alloc, &self.config, self.source_symbols, symbol_bytes)
+        self.layout().block_of_symbols(self.alloc, symbol_bytes)
     }
 
     // The source symbols that didn't come, as sums of intermediate symbols.

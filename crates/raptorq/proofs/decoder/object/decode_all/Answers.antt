@@ -83,12 +83,12 @@ module _ (c : In-None) where
 pub returns-clause-headline : goal.returns-clause-headline
 returns-clause-headline c =
     IfOk-weaker c.get_result.result _ _ (λ r is. answers_exactly c.args.table.now c.args.config (packets_of c.args.steps.items) (state_of c.loop-step.decoder) _ c.loop-step.invariant.configuration
-    (stands_for_all (goal.at.returns-clause-headline c).In-None) is) c.get_result.ensures.object
+    (stands_for_all (goal.at.returns-clause-headline c).In-None) is.object) c.get_result.ensures.answer
 
 pub returns-clause-only_object : goal.returns-clause-only_object
 returns-clause-only_object c =
     IfOk-weaker c.get_result.result _ _ (λ r is. answers_where_any_can c.args.table.now c.args.config (packets_of c.args.steps.items) (state_of c.loop-step.decoder) _ c.loop-step.invariant.configuration
-    (stands_for_all (goal.at.returns-clause-only_object c).In-None) is) c.get_result.ensures.only_object
+    (stands_for_all (goal.at.returns-clause-only_object c).In-None) is.only_object) c.get_result.ensures.answer
 
 pub returns-in_err-decoder-clause-in_order : goal.returns-in_err-decoder-clause-in_order
 returns-in_err-decoder-clause-in_order c =

@@ -1,24 +1,13 @@
 use Rattle.std.proofs.lemmas.Result.{err_from_is_err_and}
-use Rattle.rq_standard.proofs.ObjectAnswers.{answers_object, answers_nothing_else}
-use Rattle.rq_standard.proofs.OtherObjects.{answers_only}
 use Rattle.raptorq.specs.Decoder.{state_of}
+use Rattle.raptorq.proofs.ResultAnswers.{result_answers}
 use Rattle.raptorq.proofs.Stops.{late_or_not, takes_added, takes_stopped}
 use Rattle.raptorq.proofs.decoder.object.Decoder.decode.Goals as goal
 
-pub returns-clause-object : goal.returns-clause-object
-returns-clause-object c =
+pub returns-clause-answer : goal.returns-clause-answer
+returns-clause-answer c =
     let new = c.add_and_join.new.self in
-    answers_object (state_of new) _ new.some new.positive c.in_ok-add_and_join.ensures.adds.1
-
-pub returns-clause-nothing_else : goal.returns-clause-nothing_else
-returns-clause-nothing_else c =
-    let new = c.add_and_join.new.self in
-    answers_nothing_else (state_of new) _ new.some new.positive c.in_ok-add_and_join.ensures.adds.1
-
-pub returns-clause-only_object : goal.returns-clause-only_object
-returns-clause-only_object c =
-    let new = c.add_and_join.new.self in
-    answers_only (state_of new) _ new.some new.positive new.aligned (answers_object (state_of new) _ new.some new.positive c.in_ok-add_and_join.ensures.adds.1)
+    result_answers (state_of new) _ new.some new.positive new.aligned c.in_ok-add_and_join.ensures.adds.1
 
 pub returns-clause-takes : goal.returns-clause-takes
 returns-clause-takes c =

@@ -1,6 +1,6 @@
 use Rattle.std.proofs.Common.{◌≡◌, ◌++◌, take, Some, ap, ◌∙◌, arith, length}
 use Rattle.std.specs.Prelude.{option_map, vec_items}
-use Rattle.rq_standard.specs.Standing.{first_blocks}
+use Rattle.rq_standard.specs.DecoderState.{first_blocks}
 use Rattle.raptorq.specs.Decoder.{answer_at}
 use Rattle.raptorq.proofs.Numbered.{length-numbered, turn_of}
 use Rattle.raptorq.proofs.ObjectBlocks.{number_of, join_next, join_some, none_otherwise}

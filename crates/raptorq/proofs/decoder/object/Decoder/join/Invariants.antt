@@ -1,5 +1,5 @@
 use Rattle.std.proofs.Common.{◌≡◌, Some}
-use Rattle.rq_standard.specs.Standing.{first_blocks}
+use Rattle.rq_standard.specs.DecoderState.{first_blocks}
 use Rattle.raptorq.specs.Decoder.{answer_at}
 use Rattle.raptorq.proofs.decoder.object.Decoder.join.Given as goal
 

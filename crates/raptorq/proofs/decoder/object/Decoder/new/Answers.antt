@@ -1,7 +1,7 @@
 use Rattle.std.proofs.Common.{◌≡◌, map, refl, ap, ◌∙◌, arith}
 use Rattle.std.specs.List.{range_with_len}
 use borrow.Author.Count.{below_more}
-use Rattle.rq_standard.specs.Standing.{IsReceivedOf, IsNewState, new_received, new_answer}
+use Rattle.rq_standard.specs.DecoderState.{IsReceivedOf, IsNewState, new_received, new_answer}
 use Rattle.rq_standard.proofs.StandingSteps.{stands_new}
 use Rattle.raptorq.specs.SourceBlockDecoder.{received_of}
 use Rattle.raptorq.specs.Decoder.{answer_of}

@@ -1,6 +1,6 @@
 use Rattle.std.proofs.Common.{◌≡◌, ℕ, List, Option, None, get_or, map, ap, ◌∙◌}
 use Rattle.rq_standard.specs.ReceivedBlock.{ReceivedBlock, nothing_received}
-use Rattle.rq_standard.specs.Standing.{State}
+use Rattle.rq_standard.specs.DecoderState.{State}
 use Rattle.rq_standard.specs.TableRows.{no_row}
 use Rattle.raptorq.specs.SourceBlockDecoder.{received_of}
 use Rattle.raptorq.specs.Decoder.{answer_of}

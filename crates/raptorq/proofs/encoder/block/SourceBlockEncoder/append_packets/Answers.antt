@@ -1,12 +1,12 @@
 use Rattle.std.proofs.Common.{◌<◌, ◌^◌, sym, ap, ◌∙◌, arith}
 use Rattle.rq_standard.specs.Packet.{id_bytes}
 use Rattle.raptorq.specs.SourceBlockEncoder.{block_encoded_of}
-use Rattle.raptorq.proofs.AppendedBlocks.{appends_none, appends_packet}
+use Rattle.raptorq.proofs.AppendedBlocks.{appends_no_packets, appends_packet}
 use Rattle.raptorq.proofs.Encodes.{new_id-is}
 use Rattle.raptorq.proofs.encoder.block.SourceBlockEncoder.append_packets.Goals as goal
 
 pub loop-esi-init : goal.loop-esi-init
-loop-esi-init c = appends_none (block_encoded_of c.args.self.now) c.args.bytes.now.items
+loop-esi-init c = appends_no_packets (block_encoded_of c.args.self.now) c.args.bytes.now.items
 
 pub loop-esi-preserved : goal.loop-esi-preserved
 loop-esi-preserved c =

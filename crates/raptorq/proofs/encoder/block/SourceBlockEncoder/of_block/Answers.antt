@@ -15,12 +15,12 @@ of_source-requires-clause-small c = omega (arith, c.in_ok-source.ensures.small, 
 
 pub of_source-requires-clause-few : goal.of_source-requires-clause-few
 of_source-requires-clause-few c =
-    let cut = symbol_of_block c.args.config.now c.from-count.result c.args.block.now in
-    omega (arith, ap (λ (s : Slab). length s.values) c.in_ok-source.ensures.symbols, length-map-range_with_len cut 0 c.from-count.result, c.from-count.ensures, c.source_symbol_count.ensures, c.args.plan.now.few)
+    let cut = symbol_of_block c.args.config.now c.from.result c.args.block.now in
+    omega (arith, ap (λ (s : Slab). length s.values) c.in_ok-source.ensures.symbols, length-map-range_with_len cut 0 c.from.result, c.from.ensures, c.source_symbol_count.ensures, c.args.plan.now.few)
 
 pub of_source-requires-clause-sized : goal.of_source-requires-clause-sized
 of_source-requires-clause-sized c =
     let config = c.args.config.now in
-    let cut = symbol_of_block config c.from-count.result c.args.block.now in
+    let cut = symbol_of_block config c.from.result c.args.block.now in
     subst (λ (s : Slab). All (λ x. length x ≡ s.symbol_size) s.values) (sym c.in_ok-source.ensures.symbols)
-    (All-map (λ s. length s ≡ config.symbol_size) cut (range_with_len 0 c.from-count.result) (λ k d below. length-symbol_of_block config c.from-count.result c.args.block.now _))
+    (All-map (λ s. length s ≡ config.symbol_size) cut (range_with_len 0 c.from.result) (λ k d below. length-symbol_of_block config c.from.result c.args.block.now _))
