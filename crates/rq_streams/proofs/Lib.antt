@@ -8,3 +8,4 @@ pub mod Sending
 pub mod Wording
 pub mod SentLaws
 pub mod Unmixed
+pub mod WrittenBlocks

@@ -5,7 +5,8 @@ use Rattle.rq_standard.specs.Packet.{Packet, packet_of_bytes}
 use Rattle.rq_standard.specs.Configuration.{Configuration}
 use Rattle.rq_standard.specs.declared.row.TableRow.{TableRow}
 use Rattle.rq_standard.specs.Headline.{IsPacketOf}
-use Rattle.rq_standard.specs.Standing.{State, StandsFor, IsHonestPacket}
+use Rattle.rq_standard.specs.DecoderState.{State}
+use Rattle.rq_standard.specs.Standing.{StandsFor, IsHonestPacket}
 use Rattle.rq_bytes.specs.declared.error.Error.{Error}
 use Rattle.rq_bytes.specs.declared.error.Error.TheVariants.{Contradiction}
 use Rattle.raptorq.specs.Runs.{IsNextRefusal, IsRefusalBehind, FollowsRun}

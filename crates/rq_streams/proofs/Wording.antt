@@ -8,7 +8,7 @@ use Rattle.std.proofs.lemmas.Slice.Eq.{bytes_eq-Decides}
 use Rattle.std.specs.Str.Parse.{ParsesUnsigned, digits_value, without_leading_plus}
 use Rattle.rq_streams.specs.declared.jobs.Job.{Job}
 use Rattle.rq_streams.specs.declared.jobs.Job.TheVariants.{Send, Receive}
-use Rattle.rq_streams.specs.Asked.{AsksFor, IsNumber}
+use Rattle.rq_streams.specs.Asked.{AsksFor, IsNumberOf}
 
 abbrev wanted_job : Job → Option Job
 wanted_job j = Some j
@@ -20,13 +20,13 @@ pub asks_receive : (words : List (List ℕ)) → words ≡ codes "receive" ∷ [
 asks_receive words is Receive = (λ _. is, λ _. refl)
 asks_receive words is (Send size repair) = (λ e. absurd (cc e), λ (s, r, e, n, m). absurd (let three : 1 ≡ 3 = ap length (sym is ∙ e) in cc three))
 
-same_number : (bits : ℕ) (text other : List ℕ) (n m : ℕ) → IsNumber bits text n → IsNumber bits other m → text ≡ other → n ≡ m
+same_number : (bits : ℕ) (text other : List ℕ) (n m : ℕ) → IsNumberOf bits text n → IsNumberOf bits other m → text ≡ other → n ≡ m
 same_number bits text other n m h k e = sym h.value ∙ ap (λ t. digits_value 10 (without_leading_plus t)) e ∙ k.value
 
-pub asks_send : (words : List (List ℕ)) (s r : List ℕ) (size repair : ℕ) → words ≡ codes "send" ∷ s ∷ r ∷ [] → IsNumber 16 s size → IsNumber 32 r repair → (wanted : Job) → OnlyAsksFor (Send size repair) words wanted
+pub asks_send : (words : List (List ℕ)) (s r : List ℕ) (size repair : ℕ) → words ≡ codes "send" ∷ s ∷ r ∷ [] → IsNumberOf 16 s size → IsNumberOf 32 r repair → (wanted : Job) → OnlyAsksFor (Send size repair) words wanted
 asks_send words s r size repair is n m Receive = (λ e. absurd (cc e), λ e. absurd (let three : 3 ≡ 1 = ap length (sym is ∙ e) in cc three))
 asks_send words s r size repair is n m (Send a b) = (
-  λ e. let x : size ≡ a = cc in let y : repair ≡ b = cc in (s, r, is, subst (IsNumber 16 s) x n, subst (IsNumber 32 r) y m),
+  λ e. let x : size ≡ a = cc in let y : repair ≡ b = cc in (s, r, is, subst (IsNumberOf 16 s) x n, subst (IsNumberOf 32 r) y m),
   λ (t, u, e, k, l).
       let same : codes "send" ∷ s ∷ r ∷ [] ≡ codes "send" ∷ t ∷ u ∷ [] = sym is ∙ e in
       let x : s ≡ t = cc in
@@ -37,7 +37,7 @@ asks_send words s r size repair is n m (Send a b) = (
 )
 
 -- what `parse` read
-pub number_by : {E : Type 0} (bits : ℕ) (text : List ℕ) (r : Result ℕ E) (n : ℕ) → ParsesUnsigned bits 10 text r → Some n ≡ result_ok r → IsNumber bits text n
+pub number_by : {E : Type 0} (bits : ℕ) (text : List ℕ) (r : Result ℕ E) (n : ℕ) → ParsesUnsigned bits 10 text r → Some n ≡ result_ok r → IsNumberOf bits text n
 number_by bits text (Ok x) n h e =
     let same : n ≡ x = cc in
     record { digits = h.0.0; value = sym (same ∙ h.1); fits = subst (λ k. k < 2 ^ bits) (sym (same ∙ h.1)) h.0.1 }

@@ -9,14 +9,14 @@ use Rattle.rq_streams.specs.declared.run.Stop.{Stop}
 use Rattle.rq_streams.specs.declared.run.Stop.TheVariants.{Fault, Refused}
 
 -- a text of decimal digits, before which a plus may stand, whose number has this many bits
-pub record IsNumber (bits : ℕ) (text : List ℕ) (n : ℕ) : Type 0 where
+pub record IsNumberOf (bits : ℕ) (text : List ℕ) (n : ℕ) : Type 0 where
   pub digits : IsNumeral 10 (without_leading_plus text)
   pub value : digits_value 10 (without_leading_plus text) ≡ n
   pub fits : n < 2 ^ bits
 
 -- the words of a job
 abbrev pub AsksFor : Job → List (List ℕ) → Type 0
-AsksFor (Send size repair) words = (s : List ℕ) × (r : List ℕ) × (words ≡ codes "send" ∷ s ∷ r ∷ []) × IsNumber 16 s size × IsNumber 32 r repair
+AsksFor (Send size repair) words = (s : List ℕ) × (r : List ℕ) × (words ≡ codes "send" ∷ s ∷ r ∷ []) × IsNumberOf 16 s size × IsNumberOf 32 r repair
 AsksFor Receive words = words ≡ codes "receive" ∷ []
 
 -- the status of a run that nothing stopped

@@ -1,5 +1,5 @@
 -- What a receiver refuses and skips of any bytes, and what it answers over a mixed stream of an object's packets.
-use Rattle.std.specs.Prelude.{◌≡◌, ℕ, List, [], length, Option, Result, Ok, Err, MatchResult, Some, None, IfSome, IfOk, if◌then◌else◌, nat_lt, ◌⊎◌}
+use Rattle.std.specs.Prelude.{◌≡◌, ℕ, List, [], length, Option, Result, Ok, Err, MatchResult, Some, None, IfSome, IfOk, unwrap_or, if◌then◌else◌, nat_lt, ◌⊎◌}
 use Rattle.std.specs.List.{AllByRecursion}
 use Rattle.rq_bytes.specs.declared.error.Error.{Error}
 use Rattle.rq_bytes.specs.declared.error.Error.TheVariants.{HeaderTooShort, OutOfMemory}
@@ -7,8 +7,11 @@ use Rattle.rq_standard.specs.Packet.{Packet}
 use Rattle.rq_standard.specs.Configuration.{Configuration}
 use Rattle.rq_standard.specs.declared.row.TableRow.{TableRow}
 use Rattle.rq_standard.specs.Headline.{IsPacketOf, IsAnswerable, IsOnlyObject, IsObjectAnswer}
-use Rattle.rq_standard.specs.Standing.{State, StandsFor}
+use Rattle.rq_standard.specs.DecoderState.{State, result_of}
+use Rattle.rq_standard.specs.Standing.{StandsFor}
 use Rattle.rq_standard.specs.Streams.{stream_of, frame_size, frames_in}
+use Rattle.raptorq.specs.declared.decoder.object.Decoder.{Decoder}
+use Rattle.raptorq.specs.Decoder.{state_of}
 use Rattle.raptorq.specs.Runs.{IsRefusalBehind, IsRunRefusal, FollowsRun}
 use Rattle.rq_streams.specs.declared.run.Outcome.{Outcome}
 use Rattle.rq_streams.specs.declared.run.Stop.{Stop}
@@ -34,6 +37,10 @@ IsWantedOf table bytes (Err e) = IsStreamRefusal table bytes (Err e)
 pub record IsStreamOf (table : List TableRow) (c : Configuration) (object : List ℕ) (packets : List Packet) (bytes : List ℕ) : Type 0 where
   pub stream_run : IsStreamRun table c object packets
   pub spelled : bytes ≡ stream_of c packets
+
+-- the object that a decoder has answered
+abbrev pub object_of : Decoder → List ℕ
+object_of d = unwrap_or (result_of (state_of d)) []
 
 -- a decoder that stood for no packets stands for those of the frames that aren't skipped, where they are the object's
 abbrev pub StandsForFrames : Configuration → State → List ℕ → State → Type 0

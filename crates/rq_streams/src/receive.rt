@@ -1,14 +1,16 @@
 //! A stream in, its object out.
-ghost use Rattle.std.specs.Prelude.{◌≡◌, ◌^◌, ◌-◌, ◌<◌, ◌≤◌, length, OnOk, IfOk, IfErr, option_map, vec_items};
+ghost use Rattle.std.specs.Prelude.{◌≡◌, ℕ, ◌+◌, ◌^◌, ◌-◌, ◌<◌, ◌≤◌, length, take, Ok, OnOk, OnErr, IfOk, IfErr, IsSome};
+ghost use Rattle.std.specs.Io.KnownBytes.{Appends};
 ghost use Rattle.raptorq.specs.Decoder.{state_of};
 ghost use Rattle.rq_streams.specs.Counted.{failed_count, inner};
 ghost use Rattle.rq_standard.specs.Streams.{frame_size, frames_in};
-ghost use Rattle.rq_streams.specs.Ends.{AnswersAs, EndsAtFailure};
+ghost use Rattle.rq_standard.specs.DecoderState.{result_of};
+ghost use Rattle.rq_streams.specs.Ends.{AnswersAs, Ends, EndsAtFailure, failed_calls};
 ghost use Rattle.rq_streams.specs.Frames.{header_length, kept_packet, skipped_count, skipped_in};
-ghost use Rattle.rq_streams.specs.ReceivedStreams.{header_configuration, StandsForFrames, AnswersFrames, StopsHonestFrames, IsWantedOf, AnswersStream, RefusesStream, RefusesFirst, CountsSkipped, ReceivesExactly, ReceivesWhereAnyCan, CountsOthers};
+ghost use Rattle.rq_streams.specs.ReceivedStreams.{header_configuration, object_of, StandsForFrames, AnswersFrames, StopsHonestFrames, IsWantedOf, AnswersStream, RefusesStream, RefusesFirst, CountsSkipped, ReceivesExactly, ReceivesWhereAnyCan, CountsOthers};
 
 use crate::counted::Counted;
-use crate::run::{Outcome, Stop, finish, read_all};
+use crate::run::{Outcome, Stop, flush, read_all, write_bytes};
 use raptorq::error::Error;
 use raptorq::systematic_constants::SystematicTable;
 use raptorq::{Decoder, EncodingPacket, ObjectTransmissionInformation};
@@ -76,15 +78,10 @@ fn add_frames(
     Ok(skipped)
 }
 
-// The object of a stream, where its packets determine it, and how many frames are skipped. The
-// stream goes before the object is put together, so that the two never stand side by side.
-fn received_object(
-    alloc: Global,
-    table: &SystematicTable,
-    bytes: Vec<u8>,
-) -> Result<(Option<Vec<u8>>, u64), Error>
-    ensures refused { AnswersAs (λ r. option_map vec_items r.0) result (IsWantedOf table.now bytes.items) }
-    ensures answer { IfOk result (λ r. AnswersStream table.now bytes.items (option_map vec_items r.0)) }
+// The decoder that took the packets of a stream, and how many frames are skipped.
+fn received(alloc: Global, table: &SystematicTable, bytes: Vec<u8>) -> Result<(Decoder, u64), Error>
+    ensures refused { AnswersAs (λ r. result_of (state_of r.0)) result (IsWantedOf table.now bytes.items) }
+    ensures answer { IfOk result (λ r. AnswersStream table.now bytes.items (result_of (state_of r.0))) }
     ensures memory { IfErr result (RefusesStream table.now bytes.items) }
     ensures skipped { IfOk result (λ r. r.1 ≡ skipped_in bytes.items) }
 {
@@ -92,8 +89,39 @@ fn received_object(
     let config = header_configuration(stream)?;
     let mut decoder = Decoder::new(alloc, table, config)?;
     let skipped = add_frames(alloc, &mut decoder, &config, &stream[HEADER_LENGTH..])?;
-    drop(bytes);
-    Ok((decoder.get_result()?, skipped))
+    Ok((decoder, skipped))
+}
+
+// Writes the blocks one after another, as they stand: the object is never put together.
+fn write_blocks<W: Write>(writer: &mut Counted<W>, decoder: &Decoder) -> Result<(), Stop>
+    requires room { failed_count writer.old < 2 ^ 64 - 1 }
+    requires whole { IsSome (result_of (state_of decoder.now)) }
+    ensures bytes { OnOk result (Appends (W.contents (inner writer.old)) (W.contents (inner writer.new)) (object_of decoder.now)) }
+    ensures counts { failed_count writer.new ≡ failed_count writer.old + failed_calls result }
+    ensures err { IfErr result (λ stop. stop ≡ Stop.Fault) }
+    ensures beginning { OnErr result ((n : ℕ)
+        × Appends (W.contents (inner writer.old)) (W.contents (inner writer.new)) (take n (object_of decoder.now))) }
+{
+    for number in 0..decoder.get_config().source_blocks() {
+        if let Some(bytes) = decoder.block_bytes(number) {
+            write_bytes(writer, bytes)?;
+        }
+    }
+    Ok(())
+}
+
+// Writes the object, where each of its blocks is answered.
+fn write_object<W: Write>(writer: &mut Counted<W>, decoder: &Decoder) -> Result<Outcome, Stop>
+    requires { failed_count writer.old < 2 ^ 64 - 1 }
+    ensures counts { failed_count writer.new ≡ failed_count writer.old + failed_calls result }
+    ensures ends { Ends result (W.contents (inner writer.old)) (W.contents (inner writer.new)) (Ok (result_of (state_of decoder.now))) }
+{
+    if !decoder.is_complete() {
+        return Ok(Outcome::Incomplete);
+    }
+    write_blocks(writer, decoder)?;
+    flush(writer)?;
+    Ok(Outcome::Written)
 }
 
 /// Reads a stream and writes its object: the 12 bytes of a configuration, and then frames of a
@@ -145,6 +173,6 @@ pub fn run_receive<R: Read, W: Write>(
     ensures others { CountsOthers table.now result (R.remaining (inner reader.old)) }
 {
     let bytes = read_all(alloc, reader)?;
-    let (object, skipped) = received_object(alloc, table, bytes)?;
-    Ok((finish(writer, object)?, skipped))
+    let (decoder, skipped) = received(alloc, table, bytes)?;
+    Ok((write_object(writer, &decoder)?, skipped))
 }

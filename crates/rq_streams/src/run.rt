@@ -1,6 +1,6 @@
 //! How a run reads its input and writes what it made.
-ghost use Rattle.std.specs.Prelude.{◌≡◌, ◌+◌, ◌^◌, ◌-◌, ◌<◌, ◌⊎◌, ℕ, take, OnOk, OnErr, IfOk, IfErr, IfSome, Ok, Err, Some, None, option_map, vec_items};
-ghost use Rattle.std.specs.Io.KnownBytes.{Appends};
+ghost use Rattle.std.specs.Prelude.{◌≡◌, ◌+◌, ◌^◌, ◌-◌, ◌<◌, ◌⊎◌, ℕ, take, OnOk, OnErr, IfOk, IfErr, IfSome, Ok, Some};
+ghost use Rattle.std.specs.Io.KnownBytes.{Appends, Keeps};
 ghost use Rattle.rq_bytes.specs.declared.error.Error.TheVariants.{OutOfMemory};
 ghost use Rattle.rq_streams.specs.declared.run.Stop.TheVariants.{Fault, Refused};
 ghost use Rattle.rq_streams.specs.Counted.{failed_count, inner};
@@ -68,8 +68,8 @@ pub(crate) fn read_all<R: Read>(alloc: Global, reader: &mut Counted<R>) -> Resul
     }
 }
 
-// Writes the bytes and flushes once. The first failed call ends it with a fault.
-fn write_out<W: Write>(writer: &mut Counted<W>, bytes: &[u8]) -> Result<(), Stop>
+/// Writes the bytes. The first failed call ends it with a fault.
+pub(crate) fn write_bytes<W: Write>(writer: &mut Counted<W>, bytes: &[u8]) -> Result<(), Stop>
     requires { failed_count writer.old < 2 ^ 64 - 1 }
     ensures bytes { OnOk result (Appends (W.contents (inner writer.old)) (W.contents (inner writer.new)) bytes.now) }
     ensures counts { failed_count writer.new ≡ failed_count writer.old + failed_calls result }
@@ -87,26 +87,29 @@ fn write_out<W: Write>(writer: &mut Counted<W>, bytes: &[u8]) -> Result<(), Stop
         }
         at += n;
     }
+    Ok(())
+}
+
+/// Flushes once, behind all that is written. A failed call is a fault.
+pub(crate) fn flush<W: Write>(writer: &mut Counted<W>) -> Result<(), Stop>
+    requires { failed_count writer.old < 2 ^ 64 - 1 }
+    ensures bytes { Keeps (W.contents (inner writer.old)) (W.contents (inner writer.new)) }
+    ensures counts { failed_count writer.new ≡ failed_count writer.old + failed_calls result }
+    ensures err { IfErr result (λ stop. stop ≡ Stop.Fault) }
+{
     match writer.flush() {
         Ok(()) => Ok(()),
         Err(_) => Err(Stop::Fault),
     }
 }
 
-/// Writes what was made, where something was.
-pub(crate) fn finish<W: Write>(
-    writer: &mut Counted<W>,
-    made: Option<Vec<u8>>,
-) -> Result<Outcome, Stop>
+/// Writes the bytes as all of the output.
+pub(crate) fn finish<W: Write>(writer: &mut Counted<W>, bytes: Vec<u8>) -> Result<Outcome, Stop>
     requires { failed_count writer.old < 2 ^ 64 - 1 }
     ensures counts { failed_count writer.new ≡ failed_count writer.old + failed_calls result }
-    ensures ends { Ends result (W.contents (inner writer.old)) (W.contents (inner writer.new)) (Ok (option_map vec_items made)) }
+    ensures ends { Ends result (W.contents (inner writer.old)) (W.contents (inner writer.new)) (Ok (Some bytes.items)) }
 {
-    match made {
-        None => Ok(Outcome::Incomplete),
-        Some(bytes) => {
-            write_out(writer, bytes.as_slice())?;
-            Ok(Outcome::Written)
-        }
-    }
+    write_bytes(writer, bytes.as_slice())?;
+    flush(writer)?;
+    Ok(Outcome::Written)
 }

@@ -1,5 +1,5 @@
 //! An object in, its stream out.
-ghost use Rattle.std.specs.Prelude.{◌^◌, ◌-◌, ◌<◌, option_map, vec_items};
+ghost use Rattle.std.specs.Prelude.{◌^◌, ◌-◌, ◌<◌, Some};
 ghost use Rattle.rq_streams.specs.Counted.{failed_count, inner};
 ghost use Rattle.rq_streams.specs.Ends.{AnswersAs, EndsAtFailure};
 ghost use Rattle.rq_streams.specs.Sent.{IsSent, SendsAll};
@@ -20,8 +20,8 @@ fn sent_stream(
     object: Vec<u8>,
     packet_size: u16,
     repair: u32,
-) -> Result<Option<Vec<u8>>, Error>
-    ensures { AnswersAs (option_map vec_items) result (IsSent table.now packet_size repair object.items) }
+) -> Result<Vec<u8>, Error>
+    ensures { AnswersAs (λ stream. Some stream.items) result (IsSent table.now packet_size repair object.items) }
 {
     let length = object.len() as u64;
     let config = ObjectTransmissionInformation::with_defaults(table, length, packet_size)?;
@@ -34,7 +34,7 @@ fn sent_stream(
         repair,
         &mut stream,
     )?;
-    Ok(Some(stream))
+    Ok(stream)
 }
 
 /// Reads an object and writes its stream: the 12 bytes of its default configuration for packets of

@@ -1,7 +1,8 @@
-use Rattle.std.proofs.Common.{vec_items, ℕ, Ok, Err, Global, refl}
-use Rattle.std.specs.Prelude.{option_map}
+use Rattle.std.proofs.Common.{Ok, Err, refl}
 use Rattle.std.proofs.lemmas.Result.{err_from_is_err_and}
 use Rattle.std.proofs.KnownBytes.{Keeps-refl}
+use Rattle.rq_standard.specs.DecoderState.{result_of}
+use Rattle.raptorq.specs.Decoder.{state_of}
 use Rattle.rq_streams.specs.Counted.{inner}
 use Rattle.rq_streams.specs.declared.run.Stop.TheVariants.{Refused}
 use Rattle.rq_streams.specs.ReceivedStreams.{IsWantedOf}
@@ -16,11 +17,11 @@ returns-in_err-bytes-clause-ends g c =
     let p = err_from_is_err_and c.from_residual.result c.from_residual.ensures.1 in
     rw (p.1, p.2) (receives_stopped c.args.table.now (Err stop) (g.R.Read.remaining (inner c.args.reader.now)) there there (λ wanted. stopped_ends wanted stop there c.in_err-bytes.ensures.err))
 
-pub returns-in_err-object-clause-ends : goal.returns-in_err-object-clause-ends
-returns-in_err-object-clause-ends g c =
-    let p = err_from_is_err_and c.from_residual-in_err-object.result c.from_residual-in_err-object.ensures.1 in
+pub returns-in_err-decoder-clause-ends : goal.returns-in_err-decoder-clause-ends
+returns-in_err-decoder-clause-ends g c =
+    let p = err_from_is_err_and c.from_residual-in_err-decoder.result c.from_residual-in_err-decoder.ensures.1 in
     rw (p.1, p.2) (receives_refused c.args.table.now (g.R.Read.remaining (inner c.args.reader.now)) c.in_ok-bytes.bytes.items c.in_ok-bytes.bytes.items refl c.in_ok-bytes.ensures.bytes
-    c.in_err-object.field-0.0 (g.W.Write.contents (inner c.args.writer.now)) c.in_err-object.ensures.memory)
+    c.in_err-decoder.field-0.0 (g.W.Write.contents (inner c.args.writer.now)) c.in_err-decoder.ensures.memory)
 
 pub returns-in_err-bytes-clause-refused : goal.returns-in_err-bytes-clause-refused
 returns-in_err-bytes-clause-refused g c =
@@ -28,54 +29,54 @@ returns-in_err-bytes-clause-refused g c =
     let p = err_from_is_err_and c.from_residual.result c.from_residual.ensures.1 in
     rw (p.1, p.2) (if_some_all (g.R.Read.remaining (inner c.args.reader.now)) _ (λ bytes. stopped_as (IsWantedOf c.args.table.now bytes) stop (g.W.Write.contents (inner c.args.writer.now)) c.in_err-bytes.ensures.err))
 
-pub returns-in_err-object-clause-refused : goal.returns-in_err-object-clause-refused
-returns-in_err-object-clause-refused g c =
+pub returns-in_err-decoder-clause-refused : goal.returns-in_err-decoder-clause-refused
+returns-in_err-decoder-clause-refused g c =
     let there = g.W.Write.contents (inner c.args.writer.now) in
-    let p = err_from_is_err_and c.from_residual-in_err-object.result c.from_residual-in_err-object.ensures.1 in
+    let p = err_from_is_err_and c.from_residual-in_err-decoder.result c.from_residual-in_err-decoder.ensures.1 in
     rw (p.1, p.2) (receives_wanted c.args.table.now (g.R.Read.remaining (inner c.args.reader.now)) c.in_ok-bytes.bytes.items c.in_ok-bytes.bytes.items refl c.in_ok-bytes.ensures.bytes
-    (Err (Refused c.in_err-object.field-0.0)) there there (c.in_err-object.ensures.refused, Keeps-refl there))
+    (Err (Refused c.in_err-decoder.field-0.0)) there there (c.in_err-decoder.ensures.refused, Keeps-refl there))
 
-pub returns-in_err-finish-clause-refused : goal.returns-in_err-finish-clause-refused
-returns-in_err-finish-clause-refused g c =
+pub returns-in_err-write_object-clause-refused : goal.returns-in_err-write_object-clause-refused
+returns-in_err-write_object-clause-refused g c =
     let bytes = c.in_ok-bytes.bytes.items in
-    let wanted = Ok (option_map (vec_items {X = ℕ} {Z = Global}) c.in_ok-object.object) in
+    let wanted = Ok (result_of (state_of c.in_ok-decoder.decoder)) in
     let there = g.W.Write.contents (inner c.args.writer.now) in
-    let then = g.W.Write.contents (inner c.finish.new.writer) in
-    let p = err_from_is_err_and c.from_residual-in_err-finish.result c.from_residual-in_err-finish.ensures.1 in
+    let then = g.W.Write.contents (inner c.write_object.new.writer) in
+    let p = err_from_is_err_and c.from_residual-in_err-write_object.result c.from_residual-in_err-write_object.ensures.1 in
     rw (p.1, p.2) (receives_wanted c.args.table.now (g.R.Read.remaining (inner c.args.reader.now)) bytes bytes refl c.in_ok-bytes.ensures.bytes
-    (Err c.in_err-finish.field-0.0) there then (ends_wanted (Err c.in_err-finish.field-0.0) there then wanted (IsWantedOf c.args.table.now bytes) c.in_ok-object.ensures.refused c.in_err-finish.ensures.ends))
+    (Err c.in_err-write_object.field-0.0) there then (ends_wanted (Err c.in_err-write_object.field-0.0) there then wanted (IsWantedOf c.args.table.now bytes) c.in_ok-decoder.ensures.refused c.in_err-write_object.ensures.ends))
 
 pub returns-clause-refused : goal.returns-clause-refused
 returns-clause-refused g c =
     let bytes = c.in_ok-bytes.bytes.items in
-    let wanted = Ok (option_map (vec_items {X = ℕ} {Z = Global}) c.in_ok-object.object) in
+    let wanted = Ok (result_of (state_of c.in_ok-decoder.decoder)) in
     receives_wanted c.args.table.now (g.R.Read.remaining (inner c.args.reader.now)) bytes bytes refl c.in_ok-bytes.ensures.bytes
-    (Ok (c.in_ok-finish.field-0, c.in_ok-object.skipped)) _ _ (ends_wanted (Ok c.in_ok-finish.field-0) _ _ wanted (IsWantedOf c.args.table.now bytes) c.in_ok-object.ensures.refused c.in_ok-finish.ensures.ends)
+    (Ok (c.in_ok-write_object.field-0, c.in_ok-decoder.skipped)) _ _ (ends_wanted (Ok c.in_ok-write_object.field-0) _ _ wanted (IsWantedOf c.args.table.now bytes) c.in_ok-decoder.ensures.refused c.in_ok-write_object.ensures.ends)
 
-pub returns-in_err-finish-clause-ends : goal.returns-in_err-finish-clause-ends
-returns-in_err-finish-clause-ends g c =
-    let p = err_from_is_err_and c.from_residual-in_err-finish.result c.from_residual-in_err-finish.ensures.1 in
+pub returns-in_err-write_object-clause-ends : goal.returns-in_err-write_object-clause-ends
+returns-in_err-write_object-clause-ends g c =
+    let p = err_from_is_err_and c.from_residual-in_err-write_object.result c.from_residual-in_err-write_object.ensures.1 in
     rw (p.1, p.2) (receives_by c.args.table.now (g.R.Read.remaining (inner c.args.reader.now)) c.in_ok-bytes.bytes.items c.in_ok-bytes.bytes.items refl c.in_ok-bytes.ensures.bytes
-    (Err c.in_err-finish.field-0.0) (g.W.Write.contents (inner c.args.writer.now)) (g.W.Write.contents (inner c.finish.new.writer)) (option_map (vec_items {X = ℕ} {Z = Global}) c.in_ok-object.object) c.in_ok-object.ensures.answer c.in_err-finish.ensures.ends)
+    (Err c.in_err-write_object.field-0.0) (g.W.Write.contents (inner c.args.writer.now)) (g.W.Write.contents (inner c.write_object.new.writer)) (result_of (state_of c.in_ok-decoder.decoder)) c.in_ok-decoder.ensures.answer c.in_err-write_object.ensures.ends)
 
 pub returns-clause-ends : goal.returns-clause-ends
 returns-clause-ends g c =
     receives_by c.args.table.now (g.R.Read.remaining (inner c.args.reader.now)) c.in_ok-bytes.bytes.items c.in_ok-bytes.bytes.items refl c.in_ok-bytes.ensures.bytes
-    (Ok (c.in_ok-finish.field-0, c.in_ok-object.skipped)) _ _ (option_map (vec_items {X = ℕ} {Z = Global}) c.in_ok-object.object) c.in_ok-object.ensures.answer c.in_ok-finish.ensures.ends
+    (Ok (c.in_ok-write_object.field-0, c.in_ok-decoder.skipped)) _ _ (result_of (state_of c.in_ok-decoder.decoder)) c.in_ok-decoder.ensures.answer c.in_ok-write_object.ensures.ends
 
 pub returns-in_err-bytes-clause-where_any_can : goal.returns-in_err-bytes-clause-where_any_can
 returns-in_err-bytes-clause-where_any_can g c = receives_where_any_can c.args.table.now c.from_residual.result _ _ _ (returns-in_err-bytes-clause-ends g c)
 
-pub returns-in_err-object-clause-where_any_can : goal.returns-in_err-object-clause-where_any_can
-returns-in_err-object-clause-where_any_can g c = receives_where_any_can c.args.table.now c.from_residual-in_err-object.result _ _ _ (returns-in_err-object-clause-ends g c)
+pub returns-in_err-decoder-clause-where_any_can : goal.returns-in_err-decoder-clause-where_any_can
+returns-in_err-decoder-clause-where_any_can g c = receives_where_any_can c.args.table.now c.from_residual-in_err-decoder.result _ _ _ (returns-in_err-decoder-clause-ends g c)
 
-pub returns-in_err-finish-clause-where_any_can : goal.returns-in_err-finish-clause-where_any_can
-returns-in_err-finish-clause-where_any_can g c = receives_where_any_can c.args.table.now c.from_residual-in_err-finish.result _ _ _ (returns-in_err-finish-clause-ends g c)
+pub returns-in_err-write_object-clause-where_any_can : goal.returns-in_err-write_object-clause-where_any_can
+returns-in_err-write_object-clause-where_any_can g c = receives_where_any_can c.args.table.now c.from_residual-in_err-write_object.result _ _ _ (returns-in_err-write_object-clause-ends g c)
 
 pub returns-clause-where_any_can : goal.returns-clause-where_any_can
-returns-clause-where_any_can g c = receives_where_any_can c.args.table.now (Ok (c.in_ok-finish.field-0, c.in_ok-object.skipped)) _ _ _ (returns-clause-ends g c)
+returns-clause-where_any_can g c = receives_where_any_can c.args.table.now (Ok (c.in_ok-write_object.field-0, c.in_ok-decoder.skipped)) _ _ _ (returns-clause-ends g c)
 
 pub returns-clause-others : goal.returns-clause-others
 returns-clause-others g c =
     counts_others c.args.table.now (g.R.Read.remaining (inner c.args.reader.now)) c.in_ok-bytes.bytes.items c.in_ok-bytes.bytes.items refl c.in_ok-bytes.ensures.bytes
-    c.in_ok-finish.field-0 c.in_ok-object.skipped c.in_ok-object.ensures.skipped
+    c.in_ok-write_object.field-0 c.in_ok-decoder.skipped c.in_ok-decoder.ensures.skipped
