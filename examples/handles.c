@@ -1,16 +1,23 @@
-/* A file packet by packet: an encoder makes source and repair packets as long as they are wanted, every
- * tenth is lost, and a decoder takes the others until it has the file. Then both are compared. */
+/* A file packet by packet: it is cut into at least four source blocks, an encoder makes source and repair
+ * packets as long as they are wanted, every tenth is lost, and a decoder takes the others. Each block is
+ * written once it is complete. Then both files are compared. */
+#include <stdbool.h>
 #include <stdio.h>
 #include <stdlib.h>
 #include <string.h>
 
 #include "reamertan.h"
 
+#define SYMBOL_SIZE 1280
+#define LEAST_BLOCKS 4
+/* Of the rows that are built in. */
+#define GREATEST_BLOCK 497
+
 static void check(const char *call, uint8_t answer)
 {
     if (answer == REAMERTAN_DONE)
         return;
-    fprintf(stderr, "%s: %d\n", call, answer);
+    fprintf(stderr, "%s: %s\n", call, reamertan_answer_text(answer));
     exit(1);
 }
 
@@ -29,16 +36,34 @@ static uint8_t *read_file(const char *name, size_t *length)
     return bytes;
 }
 
-/* How many packets the receiver needs at least. */
-static uint64_t missing(struct reamertan_handle *receiver, unsigned blocks)
+/* Writes the configuration of a file: as many source blocks as hold it, and at least four, unless it has fewer
+ * symbols. `reamertan_derive_configuration` would make one of a small file. */
+static void cut_file(size_t length, uint8_t *configuration)
 {
-    uint64_t total = 0;
-    for (unsigned block = 0; block < blocks; block++) {
-        uint32_t packets;
-        check("missing_packets", reamertan_missing_packets(receiver, (uint8_t)block, &packets));
-        total += packets;
-    }
-    return total;
+    size_t symbols = (length + SYMBOL_SIZE - 1) / SYMBOL_SIZE;
+    size_t blocks = (symbols + GREATEST_BLOCK - 1) / GREATEST_BLOCK;
+    if (blocks < LEAST_BLOCKS)
+        blocks = symbols < LEAST_BLOCKS ? symbols : LEAST_BLOCKS;
+    if (blocks > 255)
+        check("cut_file", REAMERTAN_TOO_MANY_BLOCKS);
+    struct reamertan_parameters cut = {.transfer_length = length, .symbol_size = SYMBOL_SIZE, .sub_blocks = 1,
+                                       .source_blocks = (uint8_t)blocks, .alignment = 8};
+    check("write_configuration", reamertan_write_configuration(&cut, configuration));
+}
+
+/* Whether a block is complete. Then its bytes are written to their place in the file. */
+static bool write_complete(struct reamertan_handle *receiver, const uint8_t *configuration, uint8_t block,
+                           uint8_t *back, size_t length)
+{
+    uint32_t packets;
+    check("missing_packets", reamertan_missing_packets(receiver, block, &packets));
+    if (packets > 0)
+        return false;
+    struct reamertan_range range;
+    check("block_range", reamertan_block_range(configuration, block, &range));
+    size_t end = range.end < length ? range.end : length;
+    check("write_block", reamertan_write_block(receiver, block, back + range.start, end - range.start));
+    return true;
 }
 
 int main(int count, char **words)
@@ -48,8 +73,7 @@ int main(int count, char **words)
     size_t length;
     uint8_t *object = read_file(words[1], &length), *back = malloc(length);
     uint8_t configuration[REAMERTAN_CONFIGURATION_BYTES];
-    check("derive", reamertan_derive_configuration(NULL, 0, length, 1280, REAMERTAN_DEFAULT_DECODER_MEMORY,
-                                                   configuration));
+    cut_file(length, configuration);
     struct reamertan_parameters cut;
     reamertan_read_configuration(configuration, &cut);
     size_t size = REAMERTAN_PAYLOAD_ID_BYTES + cut.symbol_size;
@@ -60,21 +84,27 @@ int main(int count, char **words)
     struct reamertan_handle sender = {0}, receiver = {0};
     check("open_encoder", reamertan_open_encoder(NULL, 0, configuration, object, length, &sender));
     check("open_decoder", reamertan_open_decoder(NULL, 0, configuration, &receiver));
-    unsigned sent = 0, lost = 0;
-    for (uint32_t esi = 0; missing(&receiver, cut.source_blocks) > 0; esi++) {
+    unsigned sent = 0, lost = 0, written = 0;
+    bool complete[256] = {false};
+    for (uint32_t esi = 0; written < cut.source_blocks; esi++) {
         for (unsigned block = 0; block < cut.source_blocks; block++) {
+            if (complete[block])
+                continue;
             check("write_packet", reamertan_write_packet(&sender, (uint8_t)block, esi, packet, size));
-            if (++sent % 10 == 0)
+            if (++sent % 10 == 0) {
                 lost++;
-            else
-                check("add_packet", reamertan_add_packet(&receiver, packet, size));
+                continue;
+            }
+            check("add_packet", reamertan_add_packet(&receiver, packet, size));
+            complete[block] = write_complete(&receiver, configuration, (uint8_t)block, back, length);
+            written += complete[block];
         }
     }
-    check("write_object", reamertan_write_object(&receiver, back, length));
     reamertan_close(&sender);
     reamertan_close(&receiver);
     int same = memcmp(object, back, length) == 0;
-    printf("%zu bytes, %u packets sent, %u lost: %s\n", length, sent, lost, same ? "the same" : "another file");
+    printf("%zu bytes in %u blocks, %u packets sent, %u lost: %s\n", length, written, sent, lost,
+           same ? "the same" : "another file");
     free(object), free(back), free(packet);
     return !same;
 }

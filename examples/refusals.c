@@ -72,6 +72,7 @@ static void handles(void)
     expect("packets of none", 26, reamertan_write_packet(&none, 0, 0, buffer, 6));
     expect("packets for none", 26, reamertan_add_packet(&none, PACKETS, 6));
     expect("the object of none", 26, reamertan_write_object(&none, buffer, 3));
+    expect("a block of none", 26, reamertan_write_block(&none, 0, buffer, 3));
     expect("packets that none misses", 26, reamertan_missing_packets(&none, 0, missing));
     reamertan_close(&none);
     expect("opened", 0, reamertan_open_encoder(NULL, 0, HEADER, OBJECT, 3, &sender));
@@ -83,6 +84,7 @@ static void handles(void)
     expect("opened", 0, reamertan_open_decoder(NULL, 0, HEADER, &receiver));
     expect("symbols of 0 bytes", 5, reamertan_open_decoder(NULL, 0, over, &receiver));
     expect("packets of a receiver", 26, reamertan_write_packet(&receiver, 0, 0, buffer, 6));
+    expect("bytes of no block", 14, reamertan_write_block(&receiver, 1, buffer, 3));
     expect("packets missing of no block", 14, reamertan_missing_packets(&receiver, 1, missing));
     expect("a cut id", 12, reamertan_add_packet(&receiver, PACKETS, 3));
     expect("a foreign block", 14, reamertan_add_packet(&receiver, (const uint8_t[]){1, 0, 0, 0}, 4));
@@ -90,9 +92,14 @@ static void handles(void)
     expect("no packet yet", 25, reamertan_write_object(&receiver, buffer, 3));
     expect("one", 0, reamertan_add_packet(&receiver, PACKETS, 6));
     expect("one of two", 25, reamertan_write_object(&receiver, buffer, 3));
+    expect("a block of two", 25, reamertan_write_block(&receiver, 0, buffer, 3));
     expect("the other", 0, reamertan_add_packet(&receiver, PACKETS + 6, 6));
     expect("another buffer", 24, reamertan_write_object(&receiver, buffer, 2));
     expect("the object", 0, reamertan_write_object(&receiver, back, 3));
+    expect("its bytes", 0, memcmp(back, OBJECT, 3));
+    memset(back, 0, sizeof back);
+    expect("a block with its padding", 24, reamertan_write_block(&receiver, 0, buffer, 4));
+    expect("the block", 0, reamertan_write_block(&receiver, 0, back, 3));
     expect("its bytes", 0, memcmp(back, OBJECT, 3));
     reamertan_close(&sender);
     reamertan_close(&receiver);
@@ -108,8 +115,20 @@ static void contradictions(void)
     expect("the other", 22, reamertan_add_packet(&receiver, FORGED + 5, 5));
     expect("one again", 22, reamertan_add_packet(&receiver, FORGED, 5));
     expect("no object", 25, reamertan_write_object(&receiver, buffer, 1));
+    expect("no block", 25, reamertan_write_block(&receiver, 0, buffer, 1));
     expect("no count", 22, reamertan_missing_packets(&receiver, 0, (uint32_t *)(void *)buffer));
     reamertan_close(&receiver);
+}
+
+/* Each answer has a text of its own, and other numbers have one in common. */
+static void texts(void)
+{
+    const char *none = reamertan_answer_text(REAMERTAN_NO_CODER + 1);
+    for (uint8_t answer = REAMERTAN_DONE; answer <= REAMERTAN_NO_CODER; answer++) {
+        bool is_one = answer != 10 && answer != 20 && answer != 23;
+        expect("the text of an answer", is_one, strcmp(reamertan_answer_text(answer), none) != 0);
+    }
+    expect("the library of this header", 1, reamertan_version() == REAMERTAN_VERSION);
 }
 
 int main(void)
@@ -119,6 +138,7 @@ int main(void)
     rows();
     handles();
     contradictions();
+    texts();
     expect("no such block", 14, reamertan_block_range(HEADER, 1, (struct reamertan_range *)(void *)buffer));
     expect("too many ids", 11, reamertan_packets_length(NULL, 0, HEADER, 1 << 24, (uint64_t *)(void *)buffer));
     expect("another length", 8, reamertan_encode(NULL, 0, HEADER, OBJECT, 2, 0, buffer, 12));

@@ -11,15 +11,23 @@
  * Calls on buffers read and write these alone and keep no memory. Calls on a handle keep a coder in it
  * between them, for those who send or receive packet by packet. `rows` may be null where `row_count` is 0,
  * and no other pointer, also where a length is 0. What a call writes may not overlap what it reads. A call
- * that answers another number than REAMERTAN_DONE leaves the caller's buffers as they were. Calls may be
- * made from any thread, but not from a signal handler.
+ * that answers another number than REAMERTAN_DONE leaves the caller's buffers as they were.
+ *
+ * The library takes memory by malloc and realloc and gives it back by free, and starts no thread. It is
+ * proved for programs that keep to this, which nothing looks for:
+ *   the three come from one allocator, and align a block to each power of two up to 16 that divides its size,
+ *     as those of the C library do;
+ *   no call is made from a signal handler, nor in a process that a process with threads forked, before it
+ *     executes another program;
+ *   calls may be made from any thread, several at a time, but of one handle one at a time.
  *
  * `./install PREFIX` puts the library in place, and `pkg-config --cflags --libs reamertan` says how to link it.
  *
- * A library is built for one processor, which `pkg-config --variable=processor reamertan` names: x86-64-v2, or
- * x86-64-v3, which has AVX2, BMI2 and others more. No call looks whether the machine has it. Where it hasn't,
- * glibc's loader starts no program that GNU's ld linked with the library, but ends it with 127 and a line that says
- * why. What is linked statically, or by another linker, runs until a call ends it (SIGILL).
+ * A library is built for one processor, which `pkg-config --variable=processor reamertan` names: x86-64-v2;
+ * x86-64-v3, which has AVX2, BMI2 and others more; or aarch64, as a static library alone. No call looks whether the
+ * machine has it. Where an x86-64 machine hasn't, glibc's loader starts no program that GNU's ld linked with the
+ * library, but ends it with 127 and a line that says why. What is linked statically, or by another linker, runs until
+ * a call ends it (SIGILL).
  */
 #ifndef REAMERTAN_H
 #define REAMERTAN_H
@@ -37,6 +45,10 @@ extern "C" {
 #define REAMERTAN_VERSION_MAJOR 0
 #define REAMERTAN_VERSION_MINOR 1
 #define REAMERTAN_VERSION_PATCH 0
+
+/* The same in one number, as `reamertan_version` answers it. */
+#define REAMERTAN_VERSION \
+    (REAMERTAN_VERSION_MAJOR * 1000000 + REAMERTAN_VERSION_MINOR * 1000 + REAMERTAN_VERSION_PATCH)
 
 /* The bytes of a configuration, and of a payload id before its symbol. */
 #define REAMERTAN_CONFIGURATION_BYTES 12
@@ -73,7 +85,7 @@ enum reamertan_answer {
     REAMERTAN_PACKET_TOO_SHORT = 12,
     /* A packet's payload has another length than a symbol. */
     REAMERTAN_WRONG_PAYLOAD_SIZE = 13,
-    /* A packet's source block is none of the object's. */
+    /* A source block that a packet or a call names is none of the object's. */
     REAMERTAN_UNKNOWN_BLOCK = 14,
     /* The packet size is 0. */
     REAMERTAN_PACKET_SIZE_ZERO = 15,
@@ -91,11 +103,46 @@ enum reamertan_answer {
     REAMERTAN_CONTRADICTION = 22,
     /* A buffer that is to be filled has another length than what is to be written. */
     REAMERTAN_WRONG_BUFFER = 24,
-    /* The packets don't determine the object, or some of them contradict each other. */
+    /* The packets don't determine the object, or the block asked for, or some of them contradict each other. */
     REAMERTAN_INCOMPLETE = 25,
     /* The handle holds no coder, or one of the other kind. */
     REAMERTAN_NO_CODER = 26
 };
+
+/* What a call answered, in words. */
+static inline const char *reamertan_answer_text(uint8_t answer)
+{
+    switch (answer) {
+    case REAMERTAN_DONE: return "done";
+    case REAMERTAN_TRANSFER_TOO_LONG: return "the object is too long";
+    case REAMERTAN_ALIGNMENT_ZERO: return "the symbol alignment is 0";
+    case REAMERTAN_MISALIGNED: return "the symbol alignment doesn't divide the symbol size";
+    case REAMERTAN_TOO_MANY_SYMBOLS: return "a source block has more than 56403 symbols";
+    case REAMERTAN_SYMBOL_SIZE_ZERO: return "the symbol size is 0";
+    case REAMERTAN_SOURCE_BLOCKS_ZERO: return "the number of source blocks is 0";
+    case REAMERTAN_BLOCK_OVER_TABLE: return "a source block has more symbols than the table's greatest row";
+    case REAMERTAN_WRONG_DATA_LENGTH: return "the object has another length than its configuration says";
+    case REAMERTAN_SINGULAR: return "a row of the table doesn't determine the intermediate symbols";
+    case REAMERTAN_ESI_TOO_LARGE: return "an encoding symbol id is above 16777215";
+    case REAMERTAN_PACKET_TOO_SHORT: return "a packet is shorter than its payload id";
+    case REAMERTAN_WRONG_PAYLOAD_SIZE: return "a packet's payload has another length than a symbol";
+    case REAMERTAN_UNKNOWN_BLOCK: return "the object has no such source block";
+    case REAMERTAN_PACKET_SIZE_ZERO: return "the packet size is 0";
+    case REAMERTAN_TRANSFER_LENGTH_ZERO: return "the object's length is 0";
+    case REAMERTAN_MEMORY_REQUIREMENT_TOO_SMALL: return "no row of the table fits the decoder's memory";
+    case REAMERTAN_TOO_MANY_BLOCKS: return "the object would need more than 255 source blocks";
+    case REAMERTAN_ROW_REFUSED: return "a row that is handed in fails a check";
+    case REAMERTAN_OUT_OF_MEMORY: return "there is no memory";
+    case REAMERTAN_CONTRADICTION: return "packets of a source block contradict each other";
+    case REAMERTAN_WRONG_BUFFER: return "the buffer has another length than what is to be written";
+    case REAMERTAN_INCOMPLETE: return "the packets don't determine it";
+    case REAMERTAN_NO_CODER: return "the handle holds no coder of this kind";
+    default: return "no answer of this version";
+    }
+}
+
+/* The version of the library that is linked or loaded: its REAMERTAN_VERSION. */
+uint32_t reamertan_version(void);
 
 /* The numbers of a configuration. */
 struct reamertan_parameters {
@@ -275,6 +322,17 @@ uint8_t reamertan_add_packet(struct reamertan_handle *handle, const uint8_t *pac
  * complete: INCOMPLETE before, and WRONG_BUFFER after. The object is joined for that. */
 uint8_t reamertan_write_object(struct reamertan_handle *handle, uint8_t *object,
                                size_t object_length);
+
+/* Fills `bytes` with the object's bytes in source block `block`, where the packets that were taken determine
+ * the block. So a receiver writes each block to its place, from `start` of `reamertan_block_range` on, in room for
+ * one block. `length` has to be their number, `end` - `start`, but they end where the object does, and a block
+ * behind it has none. Those of all blocks one behind another are what `reamertan_write_object` writes. The
+ * decoder stays as it is.
+ *
+ * Refuses, in this order: NO_CODER where the handle holds no decoder, UNKNOWN_BLOCK, INCOMPLETE, WRONG_BUFFER.
+ * Never OUT_OF_MEMORY. */
+uint8_t reamertan_write_block(struct reamertan_handle *handle, uint8_t block, uint8_t *bytes,
+                              size_t length);
 
 /* Writes how many packets more source block `block` needs at least, of ids that weren't taken yet: with
  * fewer it isn't complete, whichever they are. That is the number of its source symbols less that of the ids

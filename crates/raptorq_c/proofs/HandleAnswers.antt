@@ -8,7 +8,9 @@ use Rattle.rq_bytes.specs.Refusals.{and_then}
 use Rattle.rq_standard.specs.declared.row.TableRow.{TableRow}
 use Rattle.rq_standard.specs.Configuration.{Configuration, configuration_of_bytes}
 use Rattle.rq_standard.specs.Packet.{Packet, packet_of_bytes}
-use Rattle.rq_standard.specs.Standing.{State, StopsEarly, LeavesBlockLate}
+use Rattle.rq_standard.specs.DecoderState.{State}
+use Rattle.rq_standard.specs.DecoderSteps.{StopsEarly}
+use Rattle.rq_standard.specs.Standing.{LeavesBlockLate}
 use Rattle.rq_standard.specs.Streams.{frame_size, frames_in}
 use Rattle.rq_base.specs.RefusedInput.{read_packet}
 use Rattle.raptorq.specs.Refused.{packet_refusal, IsPacketRefusal}
@@ -16,9 +18,10 @@ use Rattle.raptorq.specs.Runs.{IsRunRefusal, AnswersRun}
 use Rattle.raptorq.specs.Taking.{TakesPacket}
 use Rattle.raptorq_c.specs.declared.call_end.CallEnd.{CallEnd}
 use Rattle.raptorq_c.specs.declared.rows.Row.{Row}
-use Rattle.raptorq_c.specs.Rows.{table_of}
+use Rattle.raptorq_c.specs.FurtherRows.{table_of}
 use Rattle.raptorq_c.specs.ObjectBuffers.{Answered, IsFilled, IsRefused, IsDecoded, IsDecodingRefusal, IsPacketsRefusal, frames_refusal, packets_in}
-use Rattle.raptorq_c.specs.Handles.{bytes_refusal, FillsWithAnswer, IsAdded, IsAnswerOf, IsTakenNumber}
+use Rattle.raptorq.specs.Decoder.{IsAnswerOf}
+use Rattle.raptorq_c.specs.Handles.{bytes_refusal, FillsWithAnswer, FillsWithBlock, IsAdded, IsPartOf, IsTakenNumber}
 use Rattle.raptorq_c.specs.Numbers.{number_of, refusal_number}
 use Rattle.raptorq_c.proofs.Ending.{code_positive, code_small, is_memory, is_contradiction, is_stopped}
 use Rattle.raptorq_c.proofs.PacketFrames.{packet_read}
@@ -57,6 +60,24 @@ fills_answer s ended before after number answered kept =
       none = (λ is. absurd (omega (arith, small, is)), λ none. absurd (cc none));
       refused = inr number;
       answered = answered;
+      kept = is_stopped ended (after ≡ before) kept;
+    }
+
+filled_known : (number : ℕ) → IsFilled number → number ≢ 14
+filled_known number (inl done) is = omega (arith, done, is)
+filled_known number (inr (inl no_room)) is = omega (arith, no_room, is)
+filled_known number (inr (inr incomplete)) is = omega (arith, incomplete, is)
+
+-- the decoder that is held has the block's bytes, or none yet
+pub fills_block : (s : State) (block : ℕ) (part : Option (List ℕ)) (ended : Result (Unit {0}) CallEnd) (before after : List ℕ) → block < s.configuration.source_blocks → IsPartOf s block part
+    → IsFilled (number_of ended) → Answered (number_of ended) before after (λ r. r ≡ part) → OnErr ended (after ≡ before) → FillsWithBlock (Some s) block (number_of ended) before after
+fills_block s block part ended before after known is number answered kept =
+    let small = filled_small (number_of ended) number in
+    record {
+      none = (λ other. absurd (omega (arith, small, other)), λ none. absurd (cc none));
+      number = inr number;
+      unknown = (λ other. absurd (filled_known (number_of ended) number other), λ over. absurd (omega (arith, known, over)));
+      answered = answered_by (IsPartOf s block) part (number_of ended) before after is answered;
       kept = is_stopped ended (after ≡ before) kept;
     }
 

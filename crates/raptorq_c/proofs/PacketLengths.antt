@@ -21,7 +21,7 @@ use Rattle.raptorq.specs.Appended.{AppendsObject}
 use Rattle.raptorq.proofs.EncodedBlocks.{ids_before, ids_next}
 use Rattle.raptorq.proofs.Lists.{length-packet_bytes}
 use Rattle.raptorq_c.specs.declared.rows.Row.{Row}
-use Rattle.raptorq_c.specs.Rows.{numbers_of, table_of}
+use Rattle.raptorq_c.specs.FurtherRows.{numbers_of, table_of}
 use Rattle.raptorq_c.specs.Headers.{checked_header}
 use Rattle.raptorq_c.specs.PacketBuffers.{IsEncoding}
 use Rattle.raptorq_c.specs.Sizes.{bytes_of_packets, packets_length}

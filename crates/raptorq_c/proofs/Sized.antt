@@ -14,8 +14,8 @@ use Rattle.rq_base.specs.RefusedInput.{checked_configuration}
 use Rattle.raptorq.specs.Encoder.{packets_refusal}
 use Rattle.raptorq.specs.Offsets.{block_offsets, block_range, checked_offsets}
 use Rattle.raptorq_c.specs.declared.rows.Row.{Row}
-use Rattle.raptorq_c.specs.Rows.{table_of}
-use Rattle.raptorq_c.specs.Sizes.{bytes_of_block, bytes_of_packets, packets_length}
+use Rattle.raptorq_c.specs.FurtherRows.{table_of}
+use Rattle.raptorq_c.specs.Sizes.{part_of_block, bytes_of_packets, packets_length}
 use Rattle.raptorq_c.proofs.PacketLengths.{wanted}
 use Rattle.raptorq_c.proofs.Tables.{held}
 
@@ -42,7 +42,7 @@ pub count_of : (c : Configuration) (xs : List (ℕ × ℕ)) → checked_offsets 
 count_of c xs h = ap length (offsets_of c xs h) ∙ length-map-range_with_len (block_range c) 0 c.source_blocks
 
 -- of a block that the object has
-pub block_found : (header : List ℕ) (b : ℕ) (d : Configuration) (xs : List (ℕ × ℕ)) → d ≡ configuration_of_bytes header → checked_offsets d ≡ Ok xs → b < d.source_blocks → bytes_of_block header b ≡ ranged (block_range d b)
+pub block_found : (header : List ℕ) (b : ℕ) (d : Configuration) (xs : List (ℕ × ℕ)) → d ≡ configuration_of_bytes header → checked_offsets d ≡ Ok xs → b < d.source_blocks → part_of_block header b ≡ ranged (block_range d b)
 block_found header b d xs same is below =
     subst (λ k. and_then (checked_offsets k) (λ _. cond (ltb b k.source_blocks) (Ok (block_range k b)) (Err UnknownBlock)) ≡ Ok (block_range d b)) same (rw (is, lt-ltb b d.source_blocks below) refl)
 

@@ -6,21 +6,24 @@ use Rattle.rq_bytes.specs.Refusals.{and_then}
 use Rattle.rq_standard.specs.Configuration.{Configuration, configuration_of_bytes}
 use Rattle.rq_standard.specs.Packet.{SymbolId, Packet, packet_bytes, packet_of_bytes}
 use Rattle.rq_standard.specs.Headline.{HasNonsingularRows}
-use Rattle.rq_standard.specs.Standing.{State, IsNewState, Adds, StopsEarly, Contradicts, IsBlockContradictory, KeepsContradictions, IsHonestPacket, StandsForNone, StandsForMore, AnswersLateBlock, LeavesBlockLate, AnswersObject, AnswersNothingElse, AnswersOnlyObject, result_of}
+use Rattle.rq_standard.specs.DecoderState.{State, IsNewState, result_of}
+use Rattle.rq_standard.specs.DecoderSteps.{Adds, StopsEarly, Contradicts, IsBlockContradictory, KeepsContradictions}
+use Rattle.rq_standard.specs.Standing.{IsHonestPacket, StandsForNone, StandsForMore, AnswersLateBlock, LeavesBlockLate}
 use Rattle.rq_standard.specs.TableRows.{greatest_size}
 use Rattle.rq_base.specs.RefusedInput.{new_id, read_packet}
-use Rattle.raptorq.specs.Decoder.{state_of}
+use Rattle.raptorq.specs.BlockBytes.{answered_part, AnswersPart, PartsMakeObject}
+use Rattle.raptorq.specs.Decoder.{state_of, IsAnswerOf}
 use Rattle.raptorq.specs.Encoder.{Encoded, encoded_of, id_in, IsEncoderOf, IsPacketIn}
 use Rattle.raptorq.specs.MissingPackets.{NeedsMore, TellsMissingOf}
 use Rattle.raptorq.specs.Refused.{new_encoder, packet_refusal, RefusesEncoder}
-use Rattle.raptorq_c.specs.ObjectBuffers.{Answered, IsRefused}
+use Rattle.raptorq_c.specs.ObjectBuffers.{Answered, IsFilled, IsRefused}
 use Rattle.raptorq_c.specs.Numbers.{IsNumber}
 use Rattle.raptorq_c.specs.Headers.{checked_header}
 use Rattle.raptorq_c.specs.declared.handle.Handle.{Handle}
 use Rattle.raptorq_c.specs.declared.owned.Coder.{Coder}
 use Rattle.raptorq_c.specs.declared.owned.Coder.TheVariants.{Sender, Receiver}
 use Rattle.raptorq_c.specs.declared.rows.Row.{Row}
-use Rattle.raptorq_c.specs.Rows.{HoldsOver, RefusesOver}
+use Rattle.raptorq_c.specs.FurtherRows.{HoldsOver, RefusesOver}
 
 abbrev pub coder_of : Handle → Option Coder
 coder_of h = h.owned.value
@@ -87,18 +90,25 @@ pub record TakesBytes (bytes : List ℕ) (answer : ℕ) (before after : Option S
   pub none : (answer ≡ 26) ↔ (before ≡ None)
   pub takes : Becomes before after (λ s t. IsAdded s bytes answer t)
 
--- what a decoder answers: the object, exactly where its packets determine it
-pub record IsAnswerOf (s : State) (answer : Option (List ℕ)) : Type 0 where
-  pub value : answer ≡ result_of s
-  pub object : AnswersObject s answer
-  pub nothing_else : AnswersNothingElse s answer
-  pub only_object : AnswersOnlyObject s answer
-
 -- What a call answers and does to a buffer: it is filled with what the decoder answers that is held (0), or is as it was. 26 says that none is held.
 pub record FillsWithAnswer (held : Option State) (answer : ℕ) (before after : List ℕ) : Type 0 where
   pub none : (answer ≡ 26) ↔ (held ≡ None)
   pub refused : IfSome held (λ _. IsRefused answer (Ok tt))
   pub answered : IfSome held (λ s. Answered answer before after (IsAnswerOf s))
+  pub kept : answer ≢ 0 → after ≡ before
+
+-- what a decoder has of a block: its bytes of the object, exactly where its packets determine it, and all blocks' are the object
+pub record IsPartOf (s : State) (block : ℕ) (part : Option (List ℕ)) : Type 0 where
+  pub value : part ≡ answered_part s block
+  pub object : AnswersPart s block part
+  pub whole : PartsMakeObject s
+
+-- What a call answers and does to a buffer: it is filled with the object's bytes in a block of the decoder that is held (0), or is as it was. 14 says that there is no such block, and 26 that no decoder is held.
+pub record FillsWithBlock (held : Option State) (block answer : ℕ) (before after : List ℕ) : Type 0 where
+  pub none : (answer ≡ 26) ↔ (held ≡ None)
+  pub number : IfSome held (λ _. (answer ≡ 14) ⊎ IsFilled answer)
+  pub unknown : IfSome held (λ s. (answer ≡ 14) ↔ (s.configuration.source_blocks ≤ block))
+  pub answered : IfSome held (λ s. Answered answer before after (IsPartOf s block))
   pub kept : answer ≢ 0 → after ≡ before
 
 -- the id of a packet of these numbers, unless it has none

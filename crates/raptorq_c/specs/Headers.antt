@@ -8,7 +8,7 @@ use Rattle.rq_base.specs.Defaults.{wanted_parameters}
 use Rattle.rq_base.specs.RefusedInput.{checked_configuration}
 use Rattle.raptorq_c.specs.declared.configurations.Parameters.{Parameters}
 use Rattle.raptorq_c.specs.declared.rows.Row.{Row}
-use Rattle.raptorq_c.specs.Rows.{table_of}
+use Rattle.raptorq_c.specs.FurtherRows.{table_of}
 
 abbrev pub parameters_of : Parameters → Configuration
 parameters_of p = record { transfer_length = p.transfer_length; symbol_size = p.symbol_size; source_blocks = p.source_blocks; sub_blocks = p.sub_blocks; alignment = p.alignment }

@@ -1,5 +1,5 @@
 pub mod Numbers
-pub mod Rows
+pub mod FurtherRows
 pub mod Headers
 pub mod PacketBuffers
 pub mod ObjectBuffers

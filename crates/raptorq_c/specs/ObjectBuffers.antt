@@ -11,7 +11,7 @@ use Rattle.rq_standard.specs.Streams.{frame_size, frames_in}
 use Rattle.rq_base.specs.RefusedInput.{read_packet}
 use Rattle.raptorq.specs.Runs.{IsRunRefusal}
 use Rattle.raptorq_c.specs.declared.rows.Row.{Row}
-use Rattle.raptorq_c.specs.Rows.{table_of, HoldsOver}
+use Rattle.raptorq_c.specs.FurtherRows.{table_of, HoldsOver}
 
 -- the packets that bytes spell: cut at the length of a payload id and a symbol, of which the last may be shorter
 abbrev pub packets_in : Configuration → List ℕ → List Packet

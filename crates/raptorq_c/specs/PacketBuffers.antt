@@ -5,7 +5,7 @@ use Rattle.rq_bytes.specs.Error.{code_of}
 use Rattle.rq_standard.specs.Configuration.{Configuration, configuration_of_bytes}
 use Rattle.raptorq.specs.Appended.{AppendsObject, RefusesPackets}
 use Rattle.raptorq_c.specs.declared.rows.Row.{Row}
-use Rattle.raptorq_c.specs.Rows.{HoldsOver, RefusesOver}
+use Rattle.raptorq_c.specs.FurtherRows.{HoldsOver, RefusesOver}
 use Rattle.raptorq_c.specs.Sizes.{bytes_of_packets}
 
 -- bytes of the packets of an object: those of its source symbols and of `repair` repair symbols a block, block by block

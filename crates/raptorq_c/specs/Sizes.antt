@@ -11,12 +11,12 @@ use Rattle.raptorq_c.specs.declared.rows.Row.{Row}
 use Rattle.raptorq_c.specs.declared.sizes.Range.{Range}
 use Rattle.raptorq_c.specs.Headers.{checked_header}
 
-abbrev pub range_of : ℕ × ℕ → Range
-range_of ends = record { start = ends.0; end = ends.1 }
+abbrev pub range_between : ℕ × ℕ → Range
+range_between ends = record { start = ends.0; end = ends.1 }
 
 -- where a block of an object begins and where it ends, in bytes
-abbrev pub bytes_of_block : List ℕ → ℕ → Result (ℕ × ℕ) Error
-bytes_of_block header b =
+abbrev pub part_of_block : List ℕ → ℕ → Result (ℕ × ℕ) Error
+part_of_block header b =
     let c = configuration_of_bytes header in
     and_then (checked_offsets c) (λ _. if nat_lt b c.source_blocks then Ok (block_range c b) else Err UnknownBlock)
 

@@ -24,6 +24,7 @@ mod sending;
 mod sizes;
 #[cfg(test)]
 mod tests;
+mod version;
 
 pub use closing::reamertan_close;
 pub use configurations::{
@@ -34,8 +35,10 @@ pub use decoding::reamertan_decode;
 pub use encoding::reamertan_encode;
 pub use handle::Handle;
 pub use receiving::{
-    reamertan_add_packet, reamertan_missing_packets, reamertan_open_decoder, reamertan_write_object,
+    reamertan_add_packet, reamertan_missing_packets, reamertan_open_decoder, reamertan_write_block,
+    reamertan_write_object,
 };
 pub use rows::{Row, no_rows};
 pub use sending::{reamertan_open_encoder, reamertan_write_packet};
 pub use sizes::{Range, reamertan_block_range, reamertan_packets_length};
+pub use version::reamertan_version;

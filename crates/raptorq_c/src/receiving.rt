@@ -2,11 +2,11 @@
 ghost use Rattle.std.specs.Prelude.{◌≡◌, IsSomeAnd, IfOk};
 ghost use Rattle.rq_bytes.specs.Refusals.{Answers};
 ghost use Rattle.raptorq.specs.Decoder.{state_of};
-ghost use Rattle.raptorq_c.specs.Handles.{coder_of, decoder_in, decoder_of, encoder_in, encoder_of, FillsWithAnswer, IsAdded, IsNewDecoder, OpensDecoder, TakesBytes, WritesMissing};
+ghost use Rattle.raptorq_c.specs.Handles.{coder_of, decoder_in, decoder_of, encoder_in, encoder_of, FillsWithAnswer, FillsWithBlock, IsAdded, IsNewDecoder, OpensDecoder, TakesBytes, WritesMissing};
 ghost use Rattle.raptorq_c.specs.Numbers.{number_of, refusal_number};
 ghost use Rattle.raptorq_c.specs.Headers.{checked_header};
 
-use crate::buffers::fill_answer;
+use crate::buffers::{fill_answer, fill_part};
 use crate::call_end::{CallEnd, number};
 use crate::handle::Handle;
 use crate::owned::Coder;
@@ -122,6 +122,43 @@ pub extern "C" fn reamertan_write_object(
         return number(Err(CallEnd::NoCoder));
     };
     let ended = write(coder.as_ref(), object);
+    handle.put(coder);
+    number(ended)
+}
+
+// Fills a buffer with the object's bytes in a block, where the coder is a decoder.
+fn write_part(coder: &Coder, block: u8, bytes: &mut [u8]) -> Result<(), CallEnd>
+    ensures { FillsWithBlock (decoder_in coder.now) block (number_of result) bytes.old bytes.new }
+{
+    let Coder::Receiver(decoder) = coder else {
+        return Err(CallEnd::NoCoder);
+    };
+    if block >= decoder.get_config().source_blocks() {
+        return Err(CallEnd::Refused(Error::UnknownBlock));
+    }
+    fill_part(bytes, decoder.block_bytes(block))
+}
+
+/// Fills a buffer with the object's bytes in source block `block`, where its packets determine the
+/// block: what `Decoder::block_bytes` lends. They end where the object does.
+///
+/// Answers 26 where the handle holds no decoder, 14 where the object has no such block, 25 where the
+/// packets don't determine the block or contradict each other, and then 24 where the buffer hasn't
+/// their length.
+#[unsafe(no_mangle)]
+pub extern "C" fn reamertan_write_block(
+    alloc: Global,
+    handle: &mut Handle,
+    block: u8,
+    bytes: &mut [u8],
+) -> u8
+    ensures fills { FillsWithBlock (decoder_of handle.old) block result bytes.old bytes.new }
+    ensures same { coder_of handle.new ≡ coder_of handle.old }
+{
+    let Some(coder) = handle.take(alloc) else {
+        return number(Err(CallEnd::NoCoder));
+    };
+    let ended = write_part(coder.as_ref(), block, bytes);
     handle.put(coder);
     number(ended)
 }

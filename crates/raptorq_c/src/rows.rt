@@ -2,7 +2,7 @@
 ghost use Rattle.std.specs.Prelude.{◌≡◌, [], map, Ok, IfOk};
 ghost use Rattle.rq_bytes.specs.Refusals.{Answers};
 ghost use Rattle.rq_standard.specs.TableRows.{built_in_rows};
-ghost use Rattle.raptorq_c.specs.Rows.{numbers_of, table_of};
+ghost use Rattle.raptorq_c.specs.FurtherRows.{numbers_of, table_of};
 
 use raptorq::error::Error;
 use raptorq::systematic_constants::SystematicTable;

@@ -1,6 +1,6 @@
 //! How many bytes the blocks and the packets of an object take.
 ghost use Rattle.raptorq_c.specs.Numbers.{number_of, Fills};
-ghost use Rattle.raptorq_c.specs.Sizes.{bytes_of_block, bytes_of_packets, range_of};
+ghost use Rattle.raptorq_c.specs.Sizes.{part_of_block, bytes_of_packets, range_between};
 
 use crate::call_end::{CallEnd, number};
 use crate::rows::{Row, table_with};
@@ -26,7 +26,7 @@ fn block_range(
     block: u8,
     range: &mut Range,
 ) -> Result<(), CallEnd>
-    ensures { Fills range_of (bytes_of_block configuration.now block) (number_of result) range.old range.new }
+    ensures { Fills range_between (part_of_block configuration.now block) (number_of result) range.old range.new }
 {
     let config = ObjectTransmissionInformation::deserialize(configuration);
     let offsets = calculate_block_offsets(alloc, &[], &config)?;
@@ -53,7 +53,7 @@ pub extern "C" fn reamertan_block_range(
     block: u8,
     range: &mut Range,
 ) -> u8
-    ensures { Fills range_of (bytes_of_block configuration.now block) result range.old range.new }
+    ensures { Fills range_between (part_of_block configuration.now block) result range.old range.new }
 {
     number(block_range(alloc, configuration, block, range))
 }

@@ -4,8 +4,8 @@ use crate::{
     reamertan_check_configuration, reamertan_close, reamertan_decode,
     reamertan_derive_configuration, reamertan_encode, reamertan_missing_packets,
     reamertan_open_decoder, reamertan_open_encoder, reamertan_packets_length,
-    reamertan_read_configuration, reamertan_write_configuration, reamertan_write_object,
-    reamertan_write_packet,
+    reamertan_read_configuration, reamertan_version, reamertan_write_block,
+    reamertan_write_configuration, reamertan_write_object, reamertan_write_packet,
 };
 use std::alloc::Global;
 use std::test::Fail;
@@ -20,6 +20,12 @@ const NEXT_ROW: Row = Row {
     hdpc_symbols: 10,
     lt_symbols: 523,
 };
+
+#[test]
+fn version(rt: HostRuntime) -> Result<(), Fail> {
+    assert!(rt; reamertan_version() == 1000);
+    Ok(())
+}
 
 #[test]
 fn configurations(rt: HostRuntime) -> Result<(), Fail> {
@@ -164,6 +170,28 @@ fn missing_packets(rt: HostRuntime) -> Result<(), Fail> {
     handle.let_go();
     assert!(rt; (none, opened, before) == ((26, 9), 0, (0, 2)));
     assert!(rt; (added, after, unknown, count) == (0, (0, 1), 14, 9));
+    Ok(())
+}
+
+// Three bytes in blocks of one symbol of two: the second ends where the object does.
+#[test]
+fn blocks(rt: HostRuntime) -> Result<(), Fail> {
+    let header = [0, 0, 0, 0, 3, 0, 0, 2, 2, 0, 1, 1];
+    let mut handle = Handle::empty();
+    let mut part = [0];
+    let none = reamertan_write_block(rt.alloc(), &mut handle, 1, &mut part);
+    let opened = reamertan_open_decoder(rt.alloc(), &[], &header, &mut handle);
+    let before = reamertan_write_block(rt.alloc(), &mut handle, 1, &mut part);
+    let added = reamertan_add_packet(rt.alloc(), &mut handle, &[1, 0, 0, 0, 9, 0]);
+    let unknown = reamertan_write_block(rt.alloc(), &mut handle, 2, &mut part);
+    let first = reamertan_write_block(rt.alloc(), &mut handle, 0, &mut part);
+    let longer = reamertan_write_block(rt.alloc(), &mut handle, 1, &mut [0, 0]);
+    let written = reamertan_write_block(rt.alloc(), &mut handle, 1, &mut part);
+    reamertan_close(rt.alloc(), &mut handle);
+    handle.let_go();
+    assert!(rt; [none, opened, before, added] == [26, 0, 25, 0]);
+    assert!(rt; [unknown, first, longer, written] == [14, 25, 24, 0]);
+    assert!(rt; part == [9]);
     Ok(())
 }
 

@@ -10,7 +10,7 @@ use Rattle.rq_standard.specs.Packet.{Packet, packet_of_bytes}
 use Rattle.rq_standard.specs.Streams.{frame_size, frames_in}
 use Rattle.raptorq.specs.Runs.{packets_of, IsRunRefusal, AnswersRun}
 use Rattle.raptorq_c.specs.declared.rows.Row.{Row}
-use Rattle.raptorq_c.specs.Rows.{HoldsOver, table_of}
+use Rattle.raptorq_c.specs.FurtherRows.{HoldsOver, table_of}
 use Rattle.raptorq_c.specs.ObjectBuffers.{Answered, AnswersPackets, AnswersWhereOthersCan, FillsWithObject, IsDecoded, frames_refusal, packets_in}
 use Rattle.raptorq_c.specs.Numbers.{number_of}
 use Rattle.raptorq_c.proofs.Ending.{is_stopped}

@@ -6,7 +6,7 @@ use Rattle.rq_standard.specs.declared.row.TableRow.{TableRow}
 use Rattle.rq_standard.specs.Configuration.{configuration_of_bytes}
 use Rattle.raptorq.specs.Appended.{AppendsObject, RefusesPackets}
 use Rattle.raptorq_c.specs.PacketBuffers.{no_memory, refused}
-use Rattle.raptorq_c.specs.Rows.{table_of}
+use Rattle.raptorq_c.specs.FurtherRows.{table_of}
 use Rattle.raptorq_c.proofs.Tables.{holds_over, refused_over, row_refused}
 use Rattle.raptorq_c.proofs.encoding.encoded.Goals as goal
 

@@ -1,8 +1,9 @@
 use Rattle.std.proofs.Common.{IsSomeAnd, sym, subst}
-use Rattle.rq_standard.specs.Standing.{IsNewState, StandsForNone}
+use Rattle.rq_standard.specs.DecoderState.{IsNewState}
+use Rattle.rq_standard.specs.Standing.{StandsForNone}
 use Rattle.raptorq.specs.Decoder.{state_of}
 use Rattle.raptorq_c.specs.Handles.{IsNewDecoder, decoder_in}
-use Rattle.raptorq_c.specs.Rows.{table_of}
+use Rattle.raptorq_c.specs.FurtherRows.{table_of}
 use Rattle.raptorq_c.proofs.Tables.{holds_over}
 use Rattle.raptorq_c.proofs.receiving.receiver.Goals as goal
 

@@ -1,6 +1,6 @@
 use Rattle.std.proofs.Common.{sym, subst, option_map, vec_items}
-use Rattle.raptorq.specs.Decoder.{state_of}
-use Rattle.raptorq_c.specs.Handles.{FillsWithAnswer, IsAnswerOf, decoder_in}
+use Rattle.raptorq.specs.Decoder.{state_of, IsAnswerOf}
+use Rattle.raptorq_c.specs.Handles.{FillsWithAnswer, decoder_in}
 use Rattle.raptorq_c.specs.Numbers.{number_of}
 use Rattle.raptorq_c.proofs.HandleAnswers.{answered_by, fills_answer}
 use Rattle.raptorq_c.proofs.receiving.write.Goals as goal
@@ -9,8 +9,6 @@ pub returns : goal.returns
 returns c =
     let n = number_of c.fill_answer.result in
     let s = state_of c.in-Receiver.decoder in
-    let ends = c.in_ok-answer.ensures in
-    let answers : IsAnswerOf s (option_map vec_items c.in_ok-answer.answer) = record { value = ends.value; object = ends.object; nothing_else = ends.nothing_else; only_object = ends.only_object } in
-    let answered = answered_by (IsAnswerOf s) (option_map vec_items c.in_ok-answer.answer) n c.args.object.now c.fill_answer.new.object answers c.fill_answer.ensures.answered in
+    let answered = answered_by (IsAnswerOf s) (option_map vec_items c.in_ok-answer.answer) n c.args.object.now c.fill_answer.new.object c.in_ok-answer.ensures.answer c.fill_answer.ensures.answered in
     subst (λ k. FillsWithAnswer (decoder_in k) n c.args.object.now c.fill_answer.new.object) (sym c.in-Receiver.is)
     (fills_answer s c.fill_answer.result c.args.object.now c.fill_answer.new.object c.fill_answer.ensures.number answered c.fill_answer.ensures.kept)

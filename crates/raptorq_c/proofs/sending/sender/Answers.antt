@@ -6,7 +6,7 @@ use Rattle.rq_standard.specs.TableRows.{greatest_size}
 use Rattle.raptorq.specs.Encoder.{encoded_of, IsEncoderOf}
 use Rattle.raptorq.specs.Refused.{new_encoder, RefusesEncoder}
 use Rattle.raptorq_c.specs.Handles.{IsEncoderIn, encoder_in}
-use Rattle.raptorq_c.specs.Rows.{table_of}
+use Rattle.raptorq_c.specs.FurtherRows.{table_of}
 use Rattle.raptorq_c.proofs.Tables.{holds_over, refused_over, row_refused}
 use Rattle.raptorq_c.proofs.sending.sender.Goals as goal
 

@@ -1,0 +1,21 @@
+use Rattle.std.proofs.Common.{◌≡◌, ◌<◌, ap, ◌∙◌, sym, subst}
+use Rattle.std.specs.Option.{option_copied}
+use Rattle.rq_standard.specs.Configuration.{Configuration}
+use Rattle.raptorq.specs.Decoder.{state_of}
+use Rattle.raptorq_c.specs.Handles.{FillsWithBlock, IsPartOf, decoder_in}
+use Rattle.raptorq_c.specs.Numbers.{number_of}
+use Rattle.raptorq_c.proofs.HandleAnswers.{fills_block}
+use Rattle.raptorq_c.proofs.receiving.write_part.Goals as goal
+
+pub returns : goal.returns
+returns c =
+    let n = number_of c.fill_part.result in
+    let s = state_of c.in-Receiver.decoder in
+    let blocks : c.source_blocks.result ≡ s.configuration.source_blocks = c.source_blocks.ensures ∙ ap (λ (k : Configuration). k.source_blocks) c.get_config.ensures in
+    let known = subst (λ k. c.args.block < k) blocks c.if-block-source_blocks.false in
+    let part = option_copied c.block_bytes.result in
+    let lent = c.block_bytes.ensures in
+    let is : IsPartOf s c.args.block part = record { value = lent.bytes; object = lent.object; whole = lent.whole } in
+    let filled = c.fill_part.ensures in
+    subst (λ k. FillsWithBlock (decoder_in k) c.args.block n c.args.bytes.now c.fill_part.new.buffer) (sym c.in-Receiver.is)
+    (fills_block s c.args.block part c.fill_part.result c.args.bytes.now c.fill_part.new.buffer known is filled.number filled.answered filled.kept)
