@@ -31,7 +31,7 @@ fn main() {
     let bytes = words.next().expect("how many bytes?");
     let threads = words.next().expect("how many threads?");
     let object: Vec<u8> = (0..bytes)
-        .map(|place| (place * 2654435761 >> 24) as u8)
+        .map(|place| ((place * 2654435761) >> 24) as u8)
         .collect();
     let parts: Vec<&[u8]> = object.chunks(SYMBOLS * usize::from(SYMBOL_SIZE)).collect();
     let start = Instant::now();

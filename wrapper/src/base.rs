@@ -1,6 +1,6 @@
 //! Packets and configurations.
 
-use crate::calls::{self, Configuration, Parameters};
+use crate::calls::{self, Configuration, Parameters, accepted};
 
 /// Which symbol of which source block a packet carries.
 #[derive(Clone, Debug, PartialEq, PartialOrd, Eq, Ord, Hash)]
@@ -110,10 +110,7 @@ impl ObjectTransmissionInformation {
             source_blocks,
             alignment,
         };
-        match calls::write(&asked) {
-            Ok(made) => Self::deserialize(&made),
-            Err(refusal) => panic!("{refusal}"),
-        }
+        Self::deserialize(&accepted(calls::write(&asked)))
     }
 
     /// The default configuration of an object. Panics where it is refused.
@@ -129,10 +126,8 @@ impl ObjectTransmissionInformation {
         max_packet_size: u16,
         decoder_memory: u64,
     ) -> ObjectTransmissionInformation {
-        match calls::derive(transfer_length, max_packet_size, decoder_memory) {
-            Ok(made) => Self::deserialize(&made),
-            Err(refusal) => panic!("{refusal}"),
-        }
+        let made = calls::derive(transfer_length, max_packet_size, decoder_memory);
+        Self::deserialize(&accepted(made))
     }
 
     /// The configuration that twelve bytes spell.
@@ -177,10 +172,10 @@ impl ObjectTransmissionInformation {
         self.symbol_alignment
     }
 
-    /// The same with one source block, of so many symbols.
-    pub(crate) fn of_block(&self, symbols: u64) -> Configuration {
+    /// The same of a source block as an object of its own, of so many bytes.
+    pub(crate) fn of_block(&self, length: u64) -> Configuration {
         let block = ObjectTransmissionInformation {
-            transfer_length: symbols * u64::from(self.symbol_size),
+            transfer_length: length,
             num_source_blocks: 1,
             ..*self
         };
@@ -193,6 +188,8 @@ impl ObjectTransmissionInformation {
         let t = self.symbol_size.to_be_bytes();
         let n = self.num_sub_blocks.to_be_bytes();
         let (z, al) = (self.num_source_blocks, self.symbol_alignment);
-        [f[0], f[1], f[2], f[3], f[4], 0, t[0], t[1], z, n[0], n[1], al]
+        [
+            f[0], f[1], f[2], f[3], f[4], 0, t[0], t[1], z, n[0], n[1], al,
+        ]
     }
 }

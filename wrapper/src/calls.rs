@@ -101,22 +101,20 @@ unsafe extern "C" {
         block: u8,
         range: *mut Range,
     ) -> u8;
-    fn reamertan_packets_length(
-        rows: *const Row,
-        row_count: usize,
-        configuration: *const Configuration,
-        repair: u32,
-        length: *mut u64,
-    ) -> u8;
-    fn reamertan_encode(
+    fn reamertan_open_encoder(
         rows: *const Row,
         row_count: usize,
         configuration: *const Configuration,
         object: *const u8,
         object_length: usize,
-        repair: u32,
-        packets: *mut u8,
-        packets_length: usize,
+        handle: *mut Handle,
+    ) -> u8;
+    fn reamertan_write_packet(
+        handle: *mut Handle,
+        block: u8,
+        esi: u32,
+        packet: *mut u8,
+        packet_length: usize,
     ) -> u8;
     fn reamertan_open_decoder(
         rows: *const Row,
@@ -126,7 +124,7 @@ unsafe extern "C" {
     ) -> u8;
     fn reamertan_add_packet(handle: *mut Handle, packet: *const u8, packet_length: usize) -> u8;
     fn reamertan_missing_packets(handle: *mut Handle, block: u8, missing: *mut u32) -> u8;
-    fn reamertan_write_object(handle: *mut Handle, object: *mut u8, object_length: usize) -> u8;
+    fn reamertan_write_block(handle: *mut Handle, block: u8, bytes: *mut u8, length: usize) -> u8;
     fn reamertan_close(handle: *mut Handle);
 }
 
@@ -135,6 +133,12 @@ fn answered<T>(number: u8, value: T) -> Result<T, Refusal> {
         0 => Ok(value),
         refusal => Err(Refusal(refusal)),
     }
+}
+
+/// What a call answered. Panics with the refusal's name where it refused.
+#[track_caller]
+pub fn accepted<T>(answer: Result<T, Refusal>) -> T {
+    answer.unwrap_or_else(|refusal| panic!("{refusal}"))
 }
 
 pub fn derive(length: u64, packet_size: u16, memory: u64) -> Result<Configuration, Refusal> {
@@ -181,43 +185,6 @@ pub fn block_range(configuration: &Configuration, block: u8) -> Result<Range, Re
     answered(number, range)
 }
 
-pub fn packets_length(configuration: &Configuration, repair: u32) -> Result<u64, Refusal> {
-    let mut length = 0;
-    // SAFETY: as above.
-    let number = unsafe {
-        reamertan_packets_length(
-            ROWS.as_ptr(),
-            ROWS.len(),
-            configuration,
-            repair,
-            &mut length,
-        )
-    };
-    answered(number, length)
-}
-
-pub fn encode(
-    configuration: &Configuration,
-    object: &[u8],
-    repair: u32,
-    packets: &mut [u8],
-) -> Result<(), Refusal> {
-    // SAFETY: each pointer goes with its slice's length, and the slices don't overlap.
-    let number = unsafe {
-        reamertan_encode(
-            ROWS.as_ptr(),
-            ROWS.len(),
-            configuration,
-            object.as_ptr(),
-            object.len(),
-            repair,
-            packets.as_mut_ptr(),
-            packets.len(),
-        )
-    };
-    answered(number, ())
-}
-
 #[repr(C)]
 struct Owned {
     at: *mut u8,
@@ -237,21 +204,50 @@ unsafe impl Send for Handle {}
 unsafe impl Sync for Handle {}
 
 impl Handle {
+    // One of zeros holds no coder.
+    fn empty() -> Handle {
+        let owned = Owned { at: null_mut() };
+        Handle { full: false, owned }
+    }
+
+    /// The encoder of an object.
+    pub fn encoder(configuration: &Configuration, object: &[u8]) -> Result<Handle, Refusal> {
+        let mut made = Handle::empty();
+        // SAFETY: the struct has the header's layout, and the pointers go with their slices' lengths.
+        let number = unsafe {
+            reamertan_open_encoder(
+                ROWS.as_ptr(),
+                ROWS.len(),
+                configuration,
+                object.as_ptr(),
+                object.len(),
+                &mut made,
+            )
+        };
+        answered(number, made)
+    }
+
+    /// Fills a buffer with a packet, a payload id of 4 bytes and a symbol.
+    pub fn write_packet(&mut self, block: u8, id: u32, packet: &mut [u8]) -> Result<(), Refusal> {
+        // SAFETY: the pointer goes with its slice's length, and a handle is used by one call at a
+        // time.
+        let number =
+            unsafe { reamertan_write_packet(self, block, id, packet.as_mut_ptr(), packet.len()) };
+        answered(number, ())
+    }
+
     /// A decoder, before any packet.
     pub fn decoder(configuration: &Configuration) -> Result<Handle, Refusal> {
-        let owned = Owned { at: null_mut() };
-        let mut made = Handle { full: false, owned };
-        // SAFETY: the struct has the header's layout, and one of zeros holds no coder.
-        let number = unsafe {
-            reamertan_open_decoder(ROWS.as_ptr(), ROWS.len(), configuration, &mut made)
-        };
+        let mut made = Handle::empty();
+        // SAFETY: as for encoders.
+        let number =
+            unsafe { reamertan_open_decoder(ROWS.as_ptr(), ROWS.len(), configuration, &mut made) };
         answered(number, made)
     }
 
     /// Takes a packet, a payload id of 4 bytes and a symbol.
     pub fn add_packet(&mut self, packet: &[u8]) -> Result<(), Refusal> {
-        // SAFETY: the pointer goes with its slice's length, and a handle is used by one call at a
-        // time.
+        // SAFETY: as above.
         let number = unsafe { reamertan_add_packet(self, packet.as_ptr(), packet.len()) };
         answered(number, ())
     }
@@ -264,10 +260,10 @@ impl Handle {
         answered(number, missing)
     }
 
-    /// Fills a buffer with the object.
-    pub fn write_object(&mut self, object: &mut [u8]) -> Result<(), Refusal> {
-        // SAFETY: as for packets.
-        let number = unsafe { reamertan_write_object(self, object.as_mut_ptr(), object.len()) };
+    /// Fills a buffer with the bytes of a block.
+    pub fn write_block(&mut self, block: u8, bytes: &mut [u8]) -> Result<(), Refusal> {
+        // SAFETY: as above.
+        let number = unsafe { reamertan_write_block(self, block, bytes.as_mut_ptr(), bytes.len()) };
         answered(number, ())
     }
 }

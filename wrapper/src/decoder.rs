@@ -1,151 +1,42 @@
-//! The decoder.
+//! Decoders.
 
 use crate::base::{EncodingPacket, ObjectTransmissionInformation};
-use crate::calls::{self, CONTRADICTION, Handle, Refusal};
+use crate::blocks::{GREATEST_BLOCK, calculate_block_offsets};
+use crate::calls::{self, CONTRADICTION, Configuration, Handle, Refusal, accepted};
 use std::collections::BTreeSet;
 use std::fmt;
 
-// What came of a block, and its bytes once they are determined.
-#[derive(Clone, Debug, PartialEq, Eq)]
-struct Block {
-    symbols: u64,
-    ids: BTreeSet<u32>,
-    packets: Vec<u8>,
-    contradictory: bool,
-    answer: Option<Vec<u8>>,
-}
-
-impl Block {
-    // Records a packet of a new id, unless it can't matter any more: what is contradictory stays so.
-    fn record(&mut self, packet: &EncodingPacket) -> bool {
-        let id = packet.payload_id().encoding_symbol_id();
-        if self.answer.is_some() || self.contradictory || !self.ids.insert(id) {
-            return false;
-        }
-        let [_, id @ ..] = id.to_be_bytes();
-        self.packets.extend([0, id[0], id[1], id[2]]);
-        self.packets.extend(packet.data());
-        true
-    }
-
-    fn has_enough(&self) -> bool {
-        self.ids.len() as u64 >= self.symbols
-    }
-
-    // How many packets more it needs at least.
-    fn missing_packets(&self) -> Option<u32> {
-        if self.answer.is_some() {
-            return Some(0);
-        }
-        let missing = self.symbols.saturating_sub(self.ids.len() as u64).max(1);
-        (!self.contradictory).then_some(missing as u32)
-    }
-}
-
-// A block, and the library's decoder that solves it as an object of its own. There is one while
-// enough packets came to determine the block perhaps, and it has no answer. A clone begins without
-// one.
-struct BlockDecoder {
-    block: Block,
-    solver: Option<Handle>,
-}
-
-impl BlockDecoder {
-    fn new(symbols: u64) -> BlockDecoder {
-        let block = Block {
-            symbols,
-            ids: BTreeSet::new(),
-            packets: Vec::new(),
-            contradictory: false,
-            answer: (symbols == 0).then(Vec::new),
-        };
-        BlockDecoder {
-            block,
-            solver: None,
-        }
-    }
-
-    // Takes a packet, and answers the block once enough came.
-    fn take(&mut self, config: &ObjectTransmissionInformation, packet: &EncodingPacket) {
-        if !self.block.record(packet) || !self.block.has_enough() {
-            return;
-        }
-        match self.solve(config) {
-            Ok(answer) => self.block.answer = answer,
-            Err(CONTRADICTION) => self.block.contradictory = true,
-            Err(refusal) => panic!("{refusal}"),
-        }
-    }
-
-    // The block, once the packets that came determine it. A solver has all of them but the last one.
-    // Where there is none, as in a clone or after a refusal, all are handed in.
-    fn solve(
-        &mut self,
-        config: &ObjectTransmissionInformation,
-    ) -> Result<Option<Vec<u8>>, Refusal> {
-        let size = usize::from(config.symbol_size());
-        let packets = &self.block.packets;
-        let (mut solver, first) = match self.solver.take() {
-            Some(solver) => (solver, packets.len() - (4 + size)),
-            None => (Handle::decoder(&config.of_block(self.block.symbols))?, 0),
-        };
-        for packet in packets[first..].chunks(4 + size) {
-            solver.add_packet(packet)?;
-        }
-        if solver.missing_packets(0)? == 0 {
-            let mut bytes = vec![0; self.block.symbols as usize * size];
-            solver.write_object(&mut bytes)?;
-            return Ok(Some(bytes));
-        }
-        self.solver = Some(solver);
-        Ok(None)
-    }
-}
-
-impl Clone for BlockDecoder {
-    fn clone(&self) -> BlockDecoder {
-        BlockDecoder {
-            block: self.block.clone(),
-            solver: None,
-        }
-    }
-}
-
-impl fmt::Debug for BlockDecoder {
-    fn fmt(&self, f: &mut fmt::Formatter<'_>) -> fmt::Result {
-        self.block.fmt(f)
-    }
-}
-
-impl PartialEq for BlockDecoder {
-    fn eq(&self, other: &BlockDecoder) -> bool {
-        self.block == other.block
-    }
-}
-
-impl Eq for BlockDecoder {}
+/// Up to how many symbols the crate solves by dense matrices, where nobody sets another number.
+const SPARSE_THRESHOLD: u32 = 250;
 
 /// Puts an object together again from its packets.
 #[derive(Clone, Debug, PartialEq, Eq)]
 pub struct Decoder {
     config: ObjectTransmissionInformation,
-    blocks: Vec<BlockDecoder>,
+    blocks: Vec<SourceBlockDecoder>,
 }
 
 impl Decoder {
     /// The decoder of an object in this configuration. Panics where it is refused.
     pub fn new(config: ObjectTransmissionInformation) -> Decoder {
-        if let Err(refusal) = calls::check(&config.serialize()) {
-            panic!("{refusal}");
-        }
-        let symbol_size = u64::from(config.symbol_size());
-        let block = |number| match calls::block_range(&config.serialize(), number) {
-            Ok(range) => BlockDecoder::new((range.end - range.start) / symbol_size),
-            Err(refusal) => panic!("{refusal}"),
+        accepted(calls::check(&config.serialize()));
+        let offsets = calculate_block_offsets(&[], &config).into_iter();
+        let block = |(number, (start, end))| {
+            let mut block = SourceBlockDecoder::of_length(number, &config, (end - start) as u64);
+            block.solve_where_enough();
+            block
         };
         Decoder {
             config,
-            blocks: (0..config.source_blocks()).map(block).collect(),
+            blocks: (0..=u8::MAX).zip(offsets).map(block).collect(),
+        }
+    }
+
+    /// Sets up to how many symbols blocks are solved by dense matrices. Only `==` sees it: answers
+    /// and times are the same.
+    pub fn set_sparse_threshold(&mut self, value: u32) {
+        for block in &mut self.blocks {
+            block.set_sparse_threshold(value);
         }
     }
 
@@ -158,31 +49,219 @@ impl Decoder {
 
     /// Takes a packet. Panics as [`Decoder::decode`] does.
     pub fn add_new_packet(&mut self, packet: EncodingPacket) {
-        let number = usize::from(packet.payload_id().source_block_number());
-        assert!(number < self.blocks.len(), "UnknownBlock");
-        let size = usize::from(self.config.symbol_size());
-        assert!(packet.data().len() == size, "WrongPayloadSize");
-        self.blocks[number].take(&self.config, &packet);
+        let number = self.known(packet.payload_id().source_block_number());
+        let block = &mut self.blocks[number];
+        block.check(&packet);
+        if block.answer.is_none() {
+            block.record(&packet);
+            block.solve_where_enough();
+        }
     }
 
-    /// How many packets more a source block needs at least, of ids that didn't come yet: with fewer
-    /// it isn't answered, whichever they are. That is the number of its source symbols, less that
-    /// of the ids that came, or 1 where these are as many and don't determine it. It is 0 where the
-    /// block is answered. None where its packets contradict each other. Panics where the block is
-    /// none of the object's. The crate has no such call.
+    /// How many packets more a source block needs at least, as
+    /// [`SourceBlockDecoder::missing_packets`] says. Panics where the block is none of the object's.
+    /// The crate has no such call.
     pub fn missing_packets(&self, source_block_number: u8) -> Option<u32> {
-        let number = usize::from(source_block_number);
-        assert!(number < self.blocks.len(), "UnknownBlock");
-        self.blocks[number].block.missing_packets()
+        self.blocks[self.known(source_block_number)].missing_packets()
     }
 
     /// The object, where its packets determine it. None where some contradicted each other.
     pub fn get_result(&self) -> Option<Vec<u8>> {
-        let mut object = Vec::new();
-        for block in &self.blocks {
-            object.extend(block.block.answer.as_ref()?);
-        }
+        // Each packet asks, so nothing is copied before each block is answered.
+        let answers = self.blocks.iter().map(|block| block.answer.as_deref());
+        let mut object = answers.collect::<Option<Vec<&[u8]>>>()?.concat();
         object.truncate(self.config.transfer_length() as usize);
         Some(object)
+    }
+
+    fn known(&self, source_block_number: u8) -> usize {
+        let number = usize::from(source_block_number);
+        assert!(number < self.blocks.len(), "UnknownBlock");
+        number
+    }
+}
+
+/// Puts a source block together again from its packets.
+#[derive(Clone)]
+pub struct SourceBlockDecoder {
+    source_block_id: u8,
+    // The block as an object of its own.
+    configuration: Configuration,
+    source_symbols: u32,
+    symbol_size: usize,
+    ids: BTreeSet<u32>,
+    // The packets that came, each its id and its payload, one behind another.
+    packets: Vec<u8>,
+    contradictory: bool,
+    answer: Option<Vec<u8>>,
+    sparse_threshold: u32,
+    solver: Solver,
+}
+
+impl SourceBlockDecoder {
+    /// The decoder of a block of so many bytes, cut into sub-blocks as the configuration says. Its
+    /// transfer length and its number of source blocks aren't read. Panics where the rest is refused, or
+    /// there are more than 56403 symbols.
+    pub fn new(
+        source_block_id: u8,
+        config: &ObjectTransmissionInformation,
+        block_length: u64,
+    ) -> SourceBlockDecoder {
+        let made = SourceBlockDecoder::of_length(source_block_id, config, block_length);
+        accepted(calls::check(&made.configuration));
+        made
+    }
+
+    // The same, where the configuration was checked.
+    fn of_length(
+        source_block_id: u8,
+        config: &ObjectTransmissionInformation,
+        block_length: u64,
+    ) -> SourceBlockDecoder {
+        let symbol_size = u64::from(config.symbol_size());
+        assert!(symbol_size > 0, "SymbolSizeZero");
+        let symbols = block_length.div_ceil(symbol_size);
+        assert!(symbols <= u64::from(GREATEST_BLOCK), "BlockOverTable");
+        SourceBlockDecoder {
+            source_block_id,
+            configuration: config.of_block(symbols * symbol_size),
+            source_symbols: symbols as u32,
+            symbol_size: usize::from(config.symbol_size()),
+            ids: BTreeSet::new(),
+            packets: Vec::new(),
+            contradictory: false,
+            answer: None,
+            sparse_threshold: SPARSE_THRESHOLD,
+            solver: Solver(None),
+        }
+    }
+
+    /// Sets up to how many symbols the block is solved by dense matrices. Only `==` sees it: answers and
+    /// times are the same.
+    pub fn set_sparse_threshold(&mut self, value: u32) {
+        self.sparse_threshold = value;
+    }
+
+    /// Takes packets and answers the block, once its packets determine it; with no packet, once more.
+    /// Where some contradict each other it is never answered. Panics where a packet is another block's, or
+    /// its payload hasn't the size of a symbol.
+    pub fn decode<T: IntoIterator<Item = EncodingPacket>>(
+        &mut self,
+        packets: T,
+    ) -> Option<Vec<u8>> {
+        for packet in packets {
+            self.check(&packet);
+            self.record(&packet);
+        }
+        self.solve_where_enough();
+        self.answer.clone()
+    }
+
+    /// How many packets more the block needs at least, of ids that didn't come yet: with fewer it isn't
+    /// answered, whichever they are. That is the number of its source symbols, less that of the ids that
+    /// came, or 1 where these are as many and don't determine it. It is 0 where the block is answered.
+    /// None where its packets contradict each other. The crate has no such call.
+    pub fn missing_packets(&self) -> Option<u32> {
+        if self.answer.is_some() {
+            return Some(0);
+        }
+        let came = self.ids.len() as u32;
+        let missing = self.source_symbols.saturating_sub(came).max(1);
+        (!self.contradictory).then_some(missing)
+    }
+
+    fn check(&self, packet: &EncodingPacket) {
+        let number = packet.payload_id().source_block_number();
+        assert!(number == self.source_block_id, "UnknownBlock");
+        assert!(packet.data().len() == self.symbol_size, "WrongPayloadSize");
+    }
+
+    // Records a packet of a new id, unless it can't matter any more: what is contradictory stays so.
+    fn record(&mut self, packet: &EncodingPacket) {
+        let id = packet.payload_id().encoding_symbol_id();
+        if self.contradictory || !self.ids.insert(id) {
+            return;
+        }
+        let [_, id @ ..] = id.to_be_bytes();
+        self.packets.extend([0, id[0], id[1], id[2]]);
+        self.packets.extend(packet.data());
+    }
+
+    // Answers the block, where enough packets came to determine it perhaps, and do.
+    fn solve_where_enough(&mut self) {
+        let enough = self.ids.len() >= self.source_symbols as usize;
+        if self.answer.is_some() || self.contradictory || !enough {
+            return;
+        }
+        match self.solve() {
+            Ok(answer) => self.answer = answer,
+            Err(CONTRADICTION) => self.contradictory = true,
+            Err(refusal) => panic!("{refusal}"),
+        }
+    }
+
+    // The block, where the packets that came determine it. The solver is handed those that it hasn't.
+    fn solve(&mut self) -> Result<Option<Vec<u8>>, Refusal> {
+        let (mut handle, taken) = match self.solver.0.take() {
+            Some(begun) => begun,
+            None => (Handle::decoder(&self.configuration)?, 0),
+        };
+        for packet in self.packets[taken..].chunks(4 + self.symbol_size) {
+            handle.add_packet(packet)?;
+        }
+        if handle.missing_packets(0)? == 0 {
+            let mut bytes = vec![0; self.source_symbols as usize * self.symbol_size];
+            handle.write_block(0, &mut bytes)?;
+            return Ok(Some(bytes));
+        }
+        self.solver = Solver(Some((handle, self.packets.len())));
+        Ok(None)
+    }
+
+    // What `==` of the crate's decoders sees of the packets: those of source symbols by their ids, and
+    // behind them the others as they came.
+    fn compared(&self) -> Vec<&[u8]> {
+        let mut packets: Vec<&[u8]> = self.packets.chunks(4 + self.symbol_size).collect();
+        packets.sort_by_key(|packet| {
+            let id = u32::from_be_bytes([0, packet[1], packet[2], packet[3]]);
+            id.min(self.source_symbols)
+        });
+        packets
+    }
+}
+
+impl fmt::Debug for SourceBlockDecoder {
+    fn fmt(&self, f: &mut fmt::Formatter<'_>) -> fmt::Result {
+        f.debug_struct("SourceBlockDecoder")
+            .field("source_block_id", &self.source_block_id)
+            .field("source_symbols", &self.source_symbols)
+            .field("symbol_size", &self.symbol_size)
+            .field("ids", &self.ids)
+            .field("contradictory", &self.contradictory)
+            .field("answered", &self.answer.is_some())
+            .finish_non_exhaustive()
+    }
+}
+
+impl PartialEq for SourceBlockDecoder {
+    fn eq(&self, other: &SourceBlockDecoder) -> bool {
+        self.source_block_id == other.source_block_id
+            && self.configuration == other.configuration
+            && self.sparse_threshold == other.sparse_threshold
+            && self.contradictory == other.contradictory
+            && self.answer == other.answer
+            && self.compared() == other.compared()
+    }
+}
+
+impl Eq for SourceBlockDecoder {}
+
+// The library's decoder of a block, and how many bytes of its packets it has. There is one while enough
+// packets came to determine the block perhaps, and it has no answer. A clone begins without one.
+struct Solver(Option<(Handle, usize)>);
+
+impl Clone for Solver {
+    fn clone(&self) -> Solver {
+        Solver(None)
     }
 }

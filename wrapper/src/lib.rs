@@ -1,10 +1,22 @@
 //! RaptorQ (RFC 6330) by a codec that is proved, under the names of the crate `raptorq` 2.0.1.
 //!
-//! A program that uses the crate's `Encoder`, `Decoder` and what they take changes its dependency and
-//! nothing else. Where the crate panics, these calls do too, with the name of the refusal.
+//! A program that uses the crate changes its dependency and nothing else. Where the crate panics, these
+//! calls do too, with the name of the refusal; where they panic alone, `README.md` says.
 #![deny(unsafe_code)]
 
+#[cfg(feature = "benchmarking")]
+compile_error!(
+    "the feature `benchmarking` isn't offered: it makes inner types of the crate public, which aren't here. `set_sparse_threshold` needs no feature."
+);
+#[cfg(feature = "python")]
+compile_error!("the feature `python` isn't offered: this is a library for Rust alone.");
+#[cfg(feature = "serde_support")]
+compile_error!(
+    "the feature `serde_support` isn't offered: with `serde` as a dependency, even an optional one, nothing would build where cargo can't reach crates.io; and what it would write of coders and plans isn't here: a library for C keeps coders, and a plan is a number. Ids, packets and configurations have `serialize` and `deserialize`."
+);
+
 mod base;
+mod blocks;
 // The calls of the static library, alone, are unsafe.
 #[allow(unsafe_code)]
 mod calls;
@@ -12,5 +24,6 @@ mod decoder;
 mod encoder;
 
 pub use base::{EncodingPacket, ObjectTransmissionInformation, PayloadId};
-pub use decoder::Decoder;
-pub use encoder::{Encoder, EncoderBuilder};
+pub use blocks::{calculate_block_offsets, extended_source_block_symbols, partition};
+pub use decoder::{Decoder, SourceBlockDecoder};
+pub use encoder::{Encoder, EncoderBuilder, SourceBlockEncoder, SourceBlockEncodingPlan};

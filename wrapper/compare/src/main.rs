@@ -1,8 +1,8 @@
 //! The proved codec beside the crate `raptorq` 2.0.1, in one process: on 2,000 random configurations,
 //! losses and orders, packets are equal byte for byte and both answer at the same packet. One in eight
-//! has blocks of more than 497 symbols. On 2,000 lengths and packet sizes default configurations are
-//! equal. Then both take 400 packets that decide nothing, encode and decode, in turn, and the medians
-//! of the ratios of their times are printed (above 1 the proved one is faster).
+//! has blocks of more than 497 symbols. So are those of 2,000 blocks by themselves. On 2,000 lengths and packet sizes default configurations are
+//! equal. Then both take 400 packets that decide nothing, encode and decode, one block and 64, in turn, and
+//! the medians of the ratios of their times are printed (above 1 the proved one is faster).
 
 use std::hint::black_box;
 use std::time::Instant;
@@ -78,6 +78,44 @@ fn compare(numbers: &mut Numbers, number: usize) {
     }
 }
 
+/// One block: its packets by a plan, from a repair symbol on, the answers to several packets at a time, and
+/// whether decoders are equal that were given the packets in another order.
+fn compare_block(numbers: &mut Numbers, number: usize) {
+    let symbols = 1 + numbers.below(60) as usize;
+    let (_, t, _, n, al) = configuration(numbers, number);
+    let data = numbers.bytes(symbols * usize::from(t));
+    let id = numbers.below(256) as u8;
+    let start = numbers.below(1 << 20) as u32;
+    let ours = proved::ObjectTransmissionInformation::new(0, t, 0, n, al);
+    let theirs = raptorq::ObjectTransmissionInformation::new(0, t, 0, n, al);
+    let plan = proved::SourceBlockEncodingPlan::generate(symbols as u16);
+    let here = proved::SourceBlockEncoder::with_encoding_plan(id, &ours, &data, &plan);
+    let there = raptorq::SourceBlockEncoder::new(id, &theirs, &data);
+    let mut made = here.source_packets();
+    made.extend(here.repair_packets(start, 40));
+    let mut packets: Vec<Vec<u8>> = made.iter().map(|packet| packet.serialize()).collect();
+    let mut crates = there.source_packets();
+    crates.extend(there.repair_packets(start, 40));
+    assert!(packets.iter().eq(&crates.iter().map(|packet| packet.serialize()).collect::<Vec<_>>()));
+
+    numbers.shuffle(&mut packets);
+    let batch = 1 + numbers.below(9) as usize;
+    let length = data.len() as u64;
+    let mut first = proved::SourceBlockDecoder::new(id, &ours, length);
+    let mut second = raptorq::SourceBlockDecoder::new(id, &theirs, length);
+    let (mut first_again, mut second_again) = (first.clone(), second.clone());
+    for came in packets.chunks_mut(batch) {
+        let here = first.decode(came.iter().map(|packet| proved::EncodingPacket::deserialize(packet)));
+        let there = second.decode(came.iter().map(|packet| raptorq::EncodingPacket::deserialize(packet)));
+        assert_eq!(here, there, "{t} {n} {al}");
+        numbers.shuffle(came);
+        first_again.decode(came.iter().map(|packet| proved::EncodingPacket::deserialize(packet)));
+        second_again.decode(came.iter().map(|packet| raptorq::EncodingPacket::deserialize(packet)));
+        assert_eq!(first == first_again, second == second_again);
+    }
+    assert_eq!(first.decode([]), Some(data));
+}
+
 /// Lengths up to 2^29 bytes in packets of 64 bytes or more, which the crate cuts into at most 255 blocks.
 fn compare_defaults(numbers: &mut Numbers) {
     let bits = 1 + numbers.below(29);
@@ -106,7 +144,7 @@ fn ratio(mut ours: impl FnMut(), mut theirs: impl FnMut()) -> f64 {
     ratios[20]
 }
 
-/// Two decoders that are given the same packets and then asked for the object.
+/// Two decoders that are given the same packets, until they answer the object.
 fn decode_ratio(
     ours: proved::ObjectTransmissionInformation,
     theirs: raptorq::ObjectTransmissionInformation,
@@ -115,26 +153,24 @@ fn decode_ratio(
     ratio(
         || {
             let mut decoder = proved::Decoder::new(ours);
-            for packet in packets {
-                decoder.add_new_packet(proved::EncodingPacket::deserialize(packet));
-            }
-            black_box(decoder.get_result());
+            let mut came = packets.iter().map(|packet| proved::EncodingPacket::deserialize(packet));
+            black_box(came.find_map(|packet| decoder.decode(packet)));
         },
         || {
             let mut decoder = raptorq::Decoder::new(theirs);
-            for packet in packets {
-                decoder.add_new_packet(raptorq::EncodingPacket::deserialize(packet));
-            }
-            black_box(decoder.get_result());
+            let mut came = packets.iter().map(|packet| raptorq::EncodingPacket::deserialize(packet));
+            black_box(came.find_map(|packet| decoder.decode(packet)));
         },
     )
 }
 
-fn measure(symbols: usize, size: u16) {
-    let data = Numbers(7).bytes(symbols * usize::from(size));
+/// Blocks of so many symbols, each tenth of which is lost.
+fn measure(blocks: u8, symbols: usize, size: u16) {
+    let data = Numbers(7).bytes(usize::from(blocks) * symbols * usize::from(size));
+    let length = data.len() as u64;
     let repair = (symbols / 10) as u32;
-    let ours = proved::ObjectTransmissionInformation::new(data.len() as u64, size, 1, 1, 8);
-    let theirs = raptorq::ObjectTransmissionInformation::new(data.len() as u64, size, 1, 1, 8);
+    let ours = proved::ObjectTransmissionInformation::new(length, size, blocks, 1, 8);
+    let theirs = raptorq::ObjectTransmissionInformation::new(length, size, blocks, 1, 8);
     let encode = ratio(
         || {
             black_box(proved::Encoder::new(&data, ours).get_encoded_packets(repair));
@@ -144,10 +180,11 @@ fn measure(symbols: usize, size: u16) {
         },
     );
     let packets = proved::Encoder::new(&data, ours).get_encoded_packets(repair + 1);
-    let kept = packets.iter().enumerate().filter(|(i, _)| i % 10 != 3 || *i >= symbols);
-    let came: Vec<Vec<u8>> = kept.map(|(_, packet)| packet.serialize()).collect();
+    let lost = |id: u32| id % 10 == 3 && (id as usize) < symbols;
+    let kept = packets.iter().filter(|packet| !lost(packet.payload_id().encoding_symbol_id()));
+    let came: Vec<Vec<u8>> = kept.map(|packet| packet.serialize()).collect();
     let decode = decode_ratio(ours, theirs, &came);
-    println!("K = {symbols}, T = {size}: encode {encode:.2}, decode {decode:.2}");
+    println!("Z = {blocks}, K = {symbols}, T = {size}: encode {encode:.2}, decode {decode:.2}");
 }
 
 /// 400 packets of a block of one symbol whose equations say nothing of it.
@@ -172,14 +209,17 @@ fn main() {
     let mut numbers = Numbers(2026);
     for number in 0..2_000 {
         compare(&mut numbers, number);
+        compare_block(&mut numbers, number);
         compare_defaults(&mut numbers);
     }
     println!("2000 configurations: the same packets, the same answers at the same packets");
+    println!("2000 blocks: the same packets by a plan, the same answers, the same decoders equal");
     println!("2000 lengths and packet sizes: the same default configurations");
     measure_idle();
     for size in [1280, 64] {
         for symbols in [10, 101, 248, 497, 1002, 10120] {
-            measure(symbols, size);
+            measure(1, symbols, size);
         }
+        measure(64, 10, size);
     }
 }

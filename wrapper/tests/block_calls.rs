@@ -1,0 +1,170 @@
+//! The crate's calls on single source blocks, over the proved codec.
+
+use raptorq::{
+    Decoder, Encoder, EncoderBuilder, EncodingPacket, ObjectTransmissionInformation, PayloadId,
+    SourceBlockDecoder, SourceBlockEncoder, SourceBlockEncodingPlan, calculate_block_offsets,
+    extended_source_block_symbols, partition,
+};
+use std::panic::{RefUnwindSafe, UnwindSafe};
+
+// T = 4 in two sub-blocks. Neither a length nor a number of blocks is said.
+fn config() -> ObjectTransmissionInformation {
+    ObjectTransmissionInformation::new(0, 4, 0, 2, 1)
+}
+
+fn bytes(count: usize) -> Vec<u8> {
+    (0..count).map(|place| ((place * 73) >> 3) as u8).collect()
+}
+
+fn packet(block: u8, id: u32, data: &[u8]) -> EncodingPacket {
+    EncodingPacket::new(PayloadId::new(block, id), data.to_vec())
+}
+
+#[test]
+fn a_block_there_and_back() {
+    let data = bytes(40);
+    let plan = SourceBlockEncodingPlan::generate(10);
+    let encoder = SourceBlockEncoder::with_encoding_plan(3, &config(), &data, &plan);
+    assert_eq!(encoder, SourceBlockEncoder::new(3, &config(), &data));
+    assert_ne!(encoder, SourceBlockEncoder::new(2, &config(), &data));
+    assert_eq!(
+        encoder.source_packets()[1],
+        packet(3, 1, &[data[2], data[3], data[22], data[23]])
+    );
+
+    let mut decoder = SourceBlockDecoder::new(3, &config(), 40);
+    let repair = encoder.repair_packets(5, 14);
+    assert_eq!(repair[0].payload_id(), &PayloadId::new(3, 15));
+    assert_eq!(decoder.decode(repair[..9].to_vec()), None);
+    assert_eq!(decoder.missing_packets(), Some(1));
+    assert_eq!(decoder.decode(repair[9..].to_vec()), Some(data.clone()));
+    assert_eq!(decoder.decode([]), Some(data));
+}
+
+#[test]
+fn a_block_without_symbols() {
+    let encoder = SourceBlockEncoder::new(0, &config(), &[]);
+    assert_eq!(encoder.source_packets(), []);
+    assert_eq!(encoder.repair_packets(7, 1), [packet(0, 7, &[0; 4])]);
+    assert_eq!(
+        SourceBlockDecoder::new(0, &config(), 0).decode([]),
+        Some(vec![])
+    );
+}
+
+#[test]
+fn an_encoder_has_those_of_its_blocks() {
+    let data = bytes(90);
+    let config = ObjectTransmissionInformation::new(90, 4, 3, 1, 1);
+    let encoder = Encoder::new(&data, config);
+    let offsets = calculate_block_offsets(&data, &config);
+    assert_eq!(offsets, [(0, 32), (32, 64), (64, 92)]);
+    let blocks = encoder.get_block_encoders();
+    assert_eq!(
+        blocks[1],
+        SourceBlockEncoder::new(1, &config, &data[32..64])
+    );
+    let mut packets = Vec::new();
+    for block in blocks {
+        packets.extend(block.source_packets());
+        packets.extend(block.repair_packets(0, 2));
+    }
+    assert_eq!(packets, encoder.get_encoded_packets(2));
+    assert_eq!(encoder, encoder.clone());
+    assert_ne!(encoder, Encoder::new(&bytes(91)[1..], config));
+}
+
+// Ten bytes in three parts: one of four, two of three.
+#[test]
+fn parts() {
+    assert_eq!(partition(10u32, 3u8), (4, 3, 1, 2));
+    assert_eq!(partition(9u16, 3u32), (3, 3, 0, 3));
+}
+
+#[test]
+fn extended_sizes() {
+    for (symbols, extended) in [
+        (0, 10),
+        (10, 10),
+        (11, 12),
+        (497, 497),
+        (498, 511),
+        (56403, 56403),
+    ] {
+        assert_eq!(extended_source_block_symbols(symbols), extended);
+    }
+}
+
+// So many symbols of a byte, in as much memory, are one block only where the table has that size.
+#[test]
+fn extended_sizes_are_those_of_the_library() {
+    for symbols in 10..=600 {
+        let mut builder = EncoderBuilder::new();
+        builder.set_max_packet_size(1);
+        builder.set_decoder_memory_requirement(symbols);
+        let config = builder.build(&bytes(symbols as usize)).get_config();
+        let listed = extended_source_block_symbols(symbols as u32) == symbols as u32;
+        assert_eq!(config.source_blocks() == 1, listed, "{symbols}");
+    }
+}
+
+// As in the crate, source symbols are compared by their places, and repair symbols as they came.
+#[test]
+fn decoders_are_equal_by_what_came() {
+    let new = || Decoder::new(ObjectTransmissionInformation::new(12, 1, 1, 1, 1));
+    let with = |ids: &[u32]| {
+        let mut decoder = new();
+        ids.iter()
+            .for_each(|&id| decoder.add_new_packet(packet(0, id, &[0])));
+        decoder
+    };
+    assert_eq!(with(&[3, 5, 5]), with(&[5, 3]));
+    assert_eq!(with(&[20, 3]), with(&[3, 20]));
+    assert_ne!(with(&[20, 30]), with(&[30, 20]));
+    assert_ne!(with(&[3]), new());
+    let mut other = new();
+    other.set_sparse_threshold(0);
+    assert_ne!(other, new());
+}
+
+#[test]
+fn coders_cross_threads_and_panics() {
+    fn crosses<T: Send + Sync + Unpin + UnwindSafe + RefUnwindSafe>() {}
+    crosses::<Encoder>();
+    crosses::<EncoderBuilder>();
+    crosses::<SourceBlockEncoder>();
+    crosses::<SourceBlockEncodingPlan>();
+    crosses::<Decoder>();
+    crosses::<SourceBlockDecoder>();
+}
+
+#[test]
+#[should_panic(expected = "PlanMismatch")]
+fn a_plan_of_another_number() {
+    let plan = SourceBlockEncodingPlan::generate(11);
+    SourceBlockEncoder::with_encoding_plan(0, &config(), &bytes(40), &plan);
+}
+
+#[test]
+#[should_panic(expected = "WrongDataLength")]
+fn a_symbol_that_is_not_whole() {
+    SourceBlockEncoder::new(0, &config(), &bytes(41));
+}
+
+#[test]
+#[should_panic(expected = "EsiTooLarge")]
+fn an_id_of_more_than_24_bits() {
+    SourceBlockEncoder::new(0, &config(), &bytes(40)).repair_packets((1 << 24) - 11, 2);
+}
+
+#[test]
+#[should_panic(expected = "UnknownBlock")]
+fn a_packet_of_another_block() {
+    SourceBlockDecoder::new(0, &config(), 40).decode([packet(1, 0, &[0; 4])]);
+}
+
+#[test]
+#[should_panic(expected = "SourceBlocksZero")]
+fn offsets_of_no_blocks() {
+    calculate_block_offsets(&[], &config());
+}
