@@ -1,4 +1,4 @@
-//! Runs over streams, and runs and coders where memory is refused or calls fail.
+//! Coders and slabs where memory is refused.
 #![tactic(auto)]
 
 #[cfg(test)]

@@ -150,3 +150,11 @@ pub fn are_all_both(endings: &[Endings]) -> bool {
     }
     true
 }
+
+/// Gives the memory back. Answers whether all of it could be taken, and each of some calls was
+/// refused some and answered where there was enough.
+pub fn is_swept(shortage: Shortage, endings: &[Endings]) -> bool {
+    let is_whole = shortage.is_whole();
+    drop(shortage);
+    is_whole && are_all_both(endings)
+}

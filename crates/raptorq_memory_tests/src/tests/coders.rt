@@ -1,5 +1,4 @@
 //! Coders where memory is refused: first all of it, then less and less of it.
-use super::assert_swept;
 use crate::attempts::decoders::{
     BlockAnswers, OBJECT, ObjectAnswers, Results, new_decoder, packets,
 };
@@ -9,7 +8,7 @@ use raptorq::error::Error;
 use raptorq::{Decoder, EncodingPacket};
 use raptorq_test_kit::configurations::configured;
 use raptorq_test_kit::packets::packet;
-use rq_memory_kit::{Ending, Endings, MORE, RESERVE, ROUNDS, Shortage};
+use rq_memory_kit::{Ending, Endings, MORE, RESERVE, ROUNDS, Shortage, is_swept};
 use std::alloc::Global;
 use std::process::Abort;
 
@@ -60,7 +59,7 @@ fn encoders_are_refused_memory_in_turn(rt: HostRuntime) -> Result<(), Error> {
         add_all(&mut endings, &encoders.attempts());
         shortage.ease(MORE);
     }
-    assert_swept(&rt, shortage, endings.as_slice());
+    holds!(rt; is_swept(shortage, endings.as_slice()), endings.as_slice());
     same!(rt; encoders.attempts(), [Ending::Answered; 5]);
     Ok(())
 }
@@ -109,7 +108,7 @@ fn decoders_are_refused_memory_in_turn(rt: HostRuntime) -> Result<(), Error> {
         add_all(&mut endings, &decoders.attempts());
         shortage.ease(MORE);
     }
-    assert_swept(&rt, shortage, endings.as_slice());
+    holds!(rt; is_swept(shortage, endings.as_slice()), endings.as_slice());
     same!(rt; decoders.attempts(), [Ending::Answered; 4]);
     Ok(())
 }

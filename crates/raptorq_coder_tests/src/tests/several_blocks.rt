@@ -1,0 +1,94 @@
+//! Worked examples of objects of several blocks, of blocks of no symbols, and of no bytes.
+use super::written::{Written, object_decoder, packets};
+use crate::compare::{holds, same};
+use raptorq::error::Error;
+use raptorq::{Decoder, Encoder, EncodingPacket};
+use raptorq_test_kit::configurations::configured;
+use raptorq_test_kit::packets::packet;
+use std::alloc::Global;
+use std::process::Abort;
+
+// The source packets of three bytes in five blocks of symbols of two bytes: three blocks have none.
+fn source_packets(rt: &impl Abort, alloc: Global) -> Result<Vec<EncodingPacket>, Error> {
+    let (table, information) = configured(alloc, (3, 2, 5, 1, 1))?;
+    let encoder = Encoder::new(alloc, &table, &[7, 8, 9], information)?;
+    same!(rt; encoder.get_block_encoders().len(), 5);
+    for block in encoder.get_block_encoders().iter().skip(2) {
+        holds!(rt; block.source_packets()?.is_empty());
+    }
+    encoder.get_encoded_packets(0)
+}
+
+#[test]
+fn blocks_of_no_symbols(rt: HostRuntime) -> Result<(), Error> {
+    let alloc = rt.alloc();
+    let source = source_packets(&rt, alloc)?;
+    let wanted = packets(alloc, &[(0, 0, &[7, 8]), (1, 0, &[9, 0])])?;
+    holds!(rt; source == wanted);
+    let mut decoder = object_decoder(alloc, (3, 2, 5, 1, 1))?;
+    let mut answer = None;
+    for packet in source {
+        holds!(rt; answer.is_none());
+        answer = decoder.decode(packet)?;
+    }
+    same!(rt; answer.as_deref(), Some([7, 8, 9].as_slice()));
+    Ok(())
+}
+
+// Of these five the second one ends where the object does, and those with no symbols are answered
+// from the start.
+#[test]
+fn bytes_of_blocks(rt: HostRuntime) -> Result<(), Error> {
+    let alloc = rt.alloc();
+    let mut decoder = object_decoder(alloc, (3, 2, 5, 1, 1))?;
+    decoder.add_new_packet(packet(alloc, 1, 0, &[9, 0])?)?;
+    same!(rt; decoder.block_bytes(0), None);
+    same!(rt; decoder.block_bytes(1), Some([9].as_slice()));
+    same!(rt; decoder.block_bytes(4), Some([].as_slice()));
+    same!(rt; decoder.block_bytes(5), None);
+    holds!(rt; !decoder.is_complete());
+    decoder.add_new_packet(packet(alloc, 0, 0, &[7, 8])?)?;
+    same!(rt; decoder.block_bytes(0), Some([7, 8].as_slice()));
+    holds!(rt; decoder.is_complete());
+    Ok(())
+}
+
+#[test]
+fn an_object_of_no_bytes(rt: HostRuntime) -> Result<(), Error> {
+    let alloc = rt.alloc();
+    let (table, information) = configured(alloc, (0, 2, 1, 1, 1))?;
+    let packets = Encoder::new(alloc, &table, &[], information)?.get_encoded_packets(0)?;
+    holds!(rt; packets.is_empty());
+    let object = object_decoder(alloc, (0, 2, 1, 1, 1))?.get_result()?;
+    same!(rt; object.as_deref(), Some([].as_slice()));
+    Ok(())
+}
+
+// The object, where it is answered, after one packet more.
+fn result_with(
+    alloc: Global,
+    decoder: &mut Decoder,
+    (block, esi, payload): Written<'_>,
+) -> Result<Option<Vec<u8>>, Error> {
+    decoder.add_new_packet(packet(alloc, block, esi, payload)?)?;
+    decoder.get_result()
+}
+
+// Ten bytes in a block of three symbols and one of two are answered with the last block, whichever
+// that is.
+#[test]
+fn blocks_in_turn(rt: HostRuntime) -> Result<(), Error> {
+    let alloc = rt.alloc();
+    let mut decoder = object_decoder(alloc, (10, 2, 2, 1, 1))?;
+    for (block, esi, payload) in [
+        (1, 1, [8, 9]),
+        (0, 2, [4, 5]),
+        (1, 0, [6, 7]),
+        (0, 0, [0, 1]),
+    ] {
+        same!(rt; result_with(alloc, &mut decoder, (block, esi, &payload))?, None);
+    }
+    let object = result_with(alloc, &mut decoder, (0, 1, &[2, 3]))?;
+    same!(rt; object.as_deref(), Some([0, 1, 2, 3, 4, 5, 6, 7, 8, 9].as_slice()));
+    Ok(())
+}

@@ -1,0 +1,6 @@
+//! The tests, by what they are of.
+
+mod devices;
+mod headers;
+mod runs;
+mod streams;
