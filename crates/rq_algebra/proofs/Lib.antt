@@ -1,10 +1,10 @@
 pub mod Changes
 pub mod Elements
-pub mod Elimination
 pub mod FewEquations
 pub mod Found
 pub mod OperationRuns
 pub mod Parity
+pub mod PivotColumns
 pub mod Pivots
 pub mod Places
 pub mod Placewise

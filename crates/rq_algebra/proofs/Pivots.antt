@@ -4,7 +4,7 @@ use Rattle.std.proofs.lemmas.List.Elements.{All-from_get_or, All-get_or}
 use Rattle.rq_algebra.specs.Field.{Field}
 use Rattle.rq_algebra.specs.Systems.{dot, Solves, IsColumn, HasHomogeneousColumn, at}
 use Rattle.rq_algebra.specs.Operations.{Operation, Reorder, Space, Store, step, run, plain, unordered, read, IsOrder, IsValues, IsUnread, found_by, FindsColumn}
-use Rattle.rq_algebra.proofs.Elimination.{HasPivots, ReadsPivots}
+use Rattle.rq_algebra.proofs.PivotColumns.{HasPivots, ReadsPivots}
 use Rattle.rq_algebra.specs.Following.{Follows}
 use Rattle.rq_algebra.proofs.Sums.{dot_one, dot_zero, zero_mul}
 use Rattle.rq_algebra.proofs.Changes.{find_place}

@@ -5,7 +5,7 @@ use Rattle.rq_algebra.specs.Field.{Field}
 use Rattle.rq_algebra.specs.Arrangements.{ArePlaces, IsFewOn, exchange}
 use Rattle.rq_algebra.specs.Systems.{HasHomogeneousColumn, HasElements}
 use Rattle.rq_algebra.specs.Steps.{AddsRow, ScalesRow}
-use Rattle.rq_algebra.proofs.Elimination.{HasPivots, HasFirstPivots, ClearsColumn}
+use Rattle.rq_algebra.proofs.PivotColumns.{HasPivots, HasFirstPivots, ClearsColumn}
 use Rattle.rq_algebra.proofs.Sums.{add_zero, mul_zero, zero_mul, mul_one}
 use Rattle.rq_algebra.proofs.Places.{exchange_other, exchange_below, exchange_twice}
 use Rattle.rq_algebra.proofs.FewEquations.{all_places, homogeneous_of_few}

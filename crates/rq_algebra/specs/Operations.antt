@@ -99,6 +99,10 @@ found_by S operations values = read S (run S operations (unordered values))
 abbrev pub IsUnread : ℕ → List ℕ → ℕ → Type 0
 IsUnread height order i = (i < height) × All (λ k. k ≢ i) order
 
+-- after the operations on some values, those that the order doesn't read are zeros
+abbrev pub LeavesZeros : Field → ℕ → List ℕ → List Operation → List ℕ → Type 0
+LeavesZeros F height order operations v = (i : ℕ) → IsUnread height order i → at (run (plain F) operations (unordered v)).values i ≡ 0
+
 -- the operations find the column from the values
 pub record FindsColumn (F : Field) (height width : ℕ) (rows : ℕ → ℕ → ℕ) (operations : List Operation) : Type 0 where
   pub allowed : AreAllowed height None operations
@@ -108,10 +112,13 @@ pub record FindsColumn (F : Field) (height width : ℕ) (rows : ℕ → ℕ → 
   pub ends : operations ≡ before ++ Reorder order ∷ []
   pub count : length order ≡ width
   -- a column that solves the rows with some values is what the operations make of them
-  pub only : (v : List ℕ) → IsValues F height v → (x : ℕ → ℕ) → IsColumn F width x → Solves F height width rows x (at v) → (k : ℕ) → k < width → x k ≡ found_by (plain F) operations v k
+  pub only : (v : List ℕ) → IsValues F height v → (x : ℕ → ℕ) → IsColumn F width x → Solves F height width rows x (at v)
+      → (k : ℕ) → k < width → x k ≡ found_by (plain F) operations v k
   -- where there are as many rows as columns, what they make of any values solves the rows
   pub solves : height ≡ width → (v : List ℕ) → IsValues F height v → Solves F height width rows (found_by (plain F) operations v) (at v)
   -- where a column solves the rows with some values, the operations leave zeros in the values that the order doesn't read
-  pub leaves : (v : List ℕ) → IsValues F height v → (x : ℕ → ℕ) → IsColumn F width x → Solves F height width rows x (at v) → (i : ℕ) → IsUnread height order i → at (run (plain F) operations (unordered v)).values i ≡ 0
+  pub leaves : (v : List ℕ) → IsValues F height v → (x : ℕ → ℕ) → IsColumn F width x
+      → Solves F height width rows x (at v) → LeavesZeros F height order operations v
   -- and where they leave zeros there, what they make of the values solves the rows
-  pub consistent : (v : List ℕ) → IsValues F height v → ((i : ℕ) → IsUnread height order i → at (run (plain F) operations (unordered v)).values i ≡ 0) → Solves F height width rows (found_by (plain F) operations v) (at v)
+  pub consistent : (v : List ℕ) → IsValues F height v
+      → LeavesZeros F height order operations v → Solves F height width rows (found_by (plain F) operations v) (at v)

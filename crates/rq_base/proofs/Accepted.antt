@@ -6,7 +6,7 @@ use Rattle.rq_bytes.specs.declared.error.Error.{Error}
 use Rattle.rq_bytes.specs.declared.error.Error.TheVariants.{SymbolSizeZero, AlignmentZero, Misaligned, SourceBlocksZero, BlockOverTable}
 use Rattle.rq_bytes.specs.Refusals.{and_then}
 use Rattle.rq_standard.specs.Configuration.{Configuration, IsAccepted, largest_block}
-use Rattle.rq_base.specs.RefusedInput.{checked_configuration}
+use Rattle.rq_base.specs.RefusedInput.{checked_configuration, checked_symbols}
 
 -- a chain that is Ok has steps that are
 pub both_ok : {X Y : Type 0} (r : Result X Error) (f : X → Result Y Error) (y : Y) → and_then r f ≡ Ok y → (x : X) × (r ≡ Ok x) × (f x ≡ Ok y)
@@ -21,6 +21,11 @@ five_tests false false false true k e f h i j x y is = absurd (cc is)
 five_tests false false false false true e f h i j x y is = absurd (cc is)
 five_tests false false false false false e f h i j x y is = (refl, refl, refl, refl, refl, cc)
 
+-- a chain that is Ok has passed its first test, and the rest of it
+passed : {X : Type 0} (a : Bool) (e : Error) (r : Result X Error) (y : X) → cond a (Err e) r ≡ Ok y → (a ≡ false) × (r ≡ Ok y)
+passed true e r y is = absurd (cc is)
+passed false e r y is = (refl, is)
+
 positive : (n : ℕ) → eqb n 0 ≡ false → 0 < n
 positive n h = grind (arith)
 
@@ -31,11 +36,16 @@ not_true false h = absurd (cc h)
 -- a configuration that passes the tests is accepted
 pub accepted_by : (greatest : ℕ) (c : Configuration) → checked_configuration greatest c ≡ Ok tt → IsAccepted greatest c
 accepted_by greatest c h =
-    let t = five_tests (eqb c.symbol_size 0) (eqb c.alignment 0) (not (eqb (c.symbol_size % c.alignment) 0)) (eqb c.source_blocks 0) (ltb greatest (largest_block c)) SymbolSizeZero AlignmentZero Misaligned SourceBlocksZero BlockOverTable tt tt h in
+    let symbols = both_ok (checked_symbols c) _ tt h in
+    let size = passed (eqb c.symbol_size 0) SymbolSizeZero _ _ symbols.1 in
+    let alignment = passed (eqb c.alignment 0) AlignmentZero _ _ size.1 in
+    let divides = passed (not (eqb (c.symbol_size % c.alignment) 0)) Misaligned _ _ alignment.1 in
+    let blocks = passed (eqb c.source_blocks 0) SourceBlocksZero _ _ symbols.2 in
+    let table = passed (ltb greatest (largest_block c)) BlockOverTable _ _ blocks.1 in
     record {
-      size_positive = positive c.symbol_size t.0;
-      alignment_positive = positive c.alignment t.1;
-      aligned = eqb-true (c.symbol_size % c.alignment) 0 (not_true (eqb (c.symbol_size % c.alignment) 0) t.2);
-      blocks_positive = positive c.source_blocks t.3;
-      in_table = ltb-false greatest (largest_block c) t.4;
+      size_positive = positive c.symbol_size size.0;
+      alignment_positive = positive c.alignment alignment.0;
+      aligned = eqb-true (c.symbol_size % c.alignment) 0 (not_true (eqb (c.symbol_size % c.alignment) 0) divides.0);
+      blocks_positive = positive c.source_blocks blocks.0;
+      in_table = ltb-false greatest (largest_block c) table.0;
     }

@@ -137,16 +137,6 @@ ldpc_1_stepped {row} {rows} {column} {second} {third} {old} {new} checked room l
     (subst (λ n. SetsThree old new (column % s) n ((column + 2 * step) % s) column column column) one_on
     (subst (λ n. SetsThree old new (column % s) second n column column column) two_on three))
 
--- with all of them, no LDPC row is whole yet
-pub ldpc_1_whole : {row : TableRow} {rows : ℕ} {m : BitTable} → HasLdpc1Columns row rows (b_of row) m → HasLdpcRows row rows 0 m
-ldpc_1_whole before = record {
-  shape = before.shape;
-  whole = λ i k hi hk. absurd (omega arith);
-  left = λ i k low hi hk. before.done i k hi hk;
-  right = λ i k low hi from hk. before.right i k hi from hk;
-  below = before.below;
-}
-
 -- ---- the LDPC rows
 
 or_false : (b : Bool) → one_if (b || false || false) ≡ one_if b

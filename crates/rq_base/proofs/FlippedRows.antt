@@ -1,18 +1,15 @@
 -- A row of bits that is flipped at one index after another.
-use Rattle.std.proofs.Common.{◌≡◌, ◌≢◌, ℕ, ◌+◌, ◌%◌, ◌<◌, ◌≤◌, ◌⊎◌, List, [], ◌∷◌, length, All, refl, sym, ap, ◌∙◌, subst, arith, inl, inr}
+use Rattle.std.proofs.Common.{◌≡◌, ◌≢◌, ℕ, ◌+◌, ◌%◌, ◌<◌, ◌⊎◌, List, [], ◌∷◌, All, refl, sym, ap, ◌∙◌, subst, arith, inl, inr}
 use Rattle.std.proofs.lemmas.Bool.{cases_eq}
 use Rattle.std.proofs.lemmas.List.Elements.{All-head, All-tail}
 use Rattle.std.specs.Int.Bits.{bit_xor}
 use Rattle.rq_algebra.specs.Parities.{parity}
 use Rattle.rq_algebra.specs.Systems.{at}
 use Rattle.rq_algebra.proofs.Parity.{unit, unit_same, unit_other, parity-cons, parity_cases}
-use Rattle.rq_standard.specs.declared.row.TableRow.{TableRow}
 use Rattle.rq_standard.specs.BitTable.{BitTable}
 use Rattle.rq_standard.specs.BitTableSteps.{HasSameShape, SetsBit, bit_of}
-use Rattle.rq_standard.specs.TableRows.{intermediate_symbols}
-use Rattle.rq_standard.specs.Equations.{row_indices, symbol_coefficient}
-use Rattle.rq_base.specs.BinaryRows.{HasLdpcRows, HasSymbolRows, SetsParityRow}
-use Rattle.rq_base.proofs.BitRowSteps.{same_shape, rows_stay}
+use Rattle.rq_base.specs.BinaryRows.{SetsParityRow}
+use Rattle.rq_base.proofs.BitRowSteps.{same_shape}
 
 -- what is left to flip of the indices of a row
 pub record IsFlipping (old : BitTable) (i : ℕ) (indices left : List ℕ) (new : BitTable) : Type 0 where
@@ -100,33 +97,3 @@ flips_none {old} {new} {i} {indices} {left} flipping e = record {
 }
 
 -- ---- the rows of the ids
-
-pub symbols_none : {row : TableRow} {first : ℕ} {ids : List ℕ} {m : BitTable} → row.ldpc_symbols ≤ first → HasLdpcRows row (first + length ids) row.ldpc_symbols m → HasSymbolRows row first ids 0 m
-symbols_none {row} {first} {ids} {m} after rows = record {
-  shape = rows.shape;
-  ldpc = rows.whole;
-  zeros = λ i k low hi hk. rows.below i k low (omega (arith, rows.shape.height)) hk;
-  symbols = λ i k hi hk. absurd (omega arith);
-  rest = λ i k low hi hk. rows.below i k (omega arith) hi hk;
-}
-
-pub symbols_more :
-    {row : TableRow} {first i : ℕ} {ids indices : List ℕ} {old new : BitTable} → row.ldpc_symbols ≤ first → i < length ids → HasSymbolRows row first ids i old
-    → SetsParityRow old (first + i) indices new → indices ≡ row_indices row (at ids i) → HasSymbolRows row first ids (i + 1) new
-symbols_more {row} {first} {i} {ids} {indices} {old} {new} after lt rows fills is =
-    let tall = rows.shape.height in
-    let wide = rows.shape.width in
-    let there : (a k : ℕ) → a < first + length ids → k < intermediate_symbols row → a ≢ first + i → new.bit a k ≡ old.bit a k = λ a k ha hk d. fills.other_rows a k (omega arith) (omega arith) d in
-    record {
-      shape = rows_stay rows.shape fills.shape;
-      ldpc = λ a k ha hk. there a k (omega arith) hk (λ e. omega arith) ∙ rows.ldpc a k ha hk;
-      zeros = λ a k low ha hk. there a k (omega arith) hk (λ e. omega arith) ∙ rows.zeros a k low ha hk;
-      symbols = λ a k ha hk. elim (cases_eq a i) [
-        | inl same ↦
-            ap (λ n. new.bit (first + n) k) same ∙ fills.here k (omega arith) ∙ ap (λ l. parity l k) is ∙ ap (λ n. symbol_coefficient row (at ids n) k) (sym same)
-        | inr other ↦ there (first + a) k (omega arith) hk (λ e. omega arith) ∙ rows.symbols a k (omega arith) hk
-      ];
-      rest = λ a k low ha hk.
-          let same_height = fills.shape.height in
-          there a k (omega arith) hk (λ e. omega arith) ∙ rows.rest a k (omega arith) (omega arith) hk;
-    }

@@ -93,16 +93,6 @@ filled_more row old new column i value filled lt below e is =
       ];
     }
 
--- and when all rows are done
-pub filled_whole : (row : TableRow) (column : ℕ) (table : OctetTable) → IsPartlyFilled row column row.hdpc_symbols table → IsFilledFrom row column table
-filled_whole row column table filled = record {
-  shape = filled.next.shape;
-  columns = λ i k hi hk hl. elim (cases_eq k column) [
-    | inl same ↦ ap (entry_of table i) same ∙ filled.done i hi ∙ ap (hdpc_coefficient row i) (sym same)
-    | inr other ↦ filled.next.columns i k hi (omega arith) hl
-  ];
-}
-
 -- ---- the columns from K' + S - 1 on, row by row
 
 pub record AreRowsFilled (row : TableRow) (height : ℕ) (table : OctetTable) : Type 0 where

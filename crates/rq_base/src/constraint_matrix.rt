@@ -25,6 +25,8 @@ use std::alloc::Global;
 /// Calls `f` with each index of a tuple (d, a, b, d1, a1, b1) in order, over a row of the table with
 /// W `lt_symbols`, P `pi_symbols` and P1 `p1`: the indices of the intermediate symbols whose sum is
 /// the encoding symbol. An index may come twice; it then cancels in the sum.
+///
+/// Kept for the surface of `raptorq`; no coder calls it.
 pub fn enc_indices<F: FnMut(usize)>(
     source_tuple: (u32, u32, u32, u32, u32, u32),
     lt_symbols: u32,

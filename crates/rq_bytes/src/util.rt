@@ -82,6 +82,8 @@ pub(crate) fn get_range_pair<T, B: Allocator>(
 }
 
 /// The quotient, rounded up.
+///
+/// Kept for the surface of `raptorq`; no coder calls it.
 pub fn int_div_ceil(dividend: u64, divisor: u64) -> u64
     requires { 0 < divisor }
     ensures { result ≡ (dividend + divisor - 1) / divisor }

@@ -228,9 +228,9 @@ module _ (e : Inside) (are : AreEntries e.octets.width e.bits e.octets.rows) {no
       written_seen = ap (λ (t : OctetTable). table_of t.width e.bits t.rows) after_is_set ∙ octets_seen own own_is.0
 
     -- the row gets octets of its own
-    module _ (mid : OctetTable) (symbol : List ℕ) (symbol_is : symbol ≡ symbol_in e.bits row) (mid_is : mid ≡ with_row e.octets row (entry_row e.octets.width symbol (row_at e.octets row))) where
+    module _ (mid : OctetTable) (mid_is : mid ≡ with_row e.octets row (entry_row e.octets.width (symbol_in e.bits row) (row_at e.octets row))) where
       filled : mid ≡ with_row e.octets row (row_at now row)
-      filled = mid_is ∙ ap (with_row e.octets row) (ap (λ b. entry_row e.octets.width b (row_at e.octets row)) symbol_is ∙ read_row)
+      filled = mid_is ∙ ap (with_row e.octets row) read_row
 
       pub filled_place : (other : ℕ) → other < length e.octets.rows → other < length mid.rows
       filled_place other l = omega (arith, l, ap (λ (t : OctetTable). length t.rows) filled, length-set e.octets.rows row (row_at now row))

@@ -6,25 +6,25 @@ use Rattle.rq_algebra.specs.Systems.{at, HasElements}
 use Rattle.rq_algebra.proofs.Sums.{add_zero, zero_mul}
 use Rattle.rq_standard.specs.OctetField.{octets}
 use Rattle.rq_parts.specs.DenseOctetMatrix.{OctetTable, entry_of, HasOctets}
-use Rattle.rq_elimination.specs.HdpcRows.{Batch, octet_in}
+use Rattle.rq_elimination.specs.HdpcRows.{HdpcTable, octet_in}
 use Rattle.rq_elimination.proofs.Choices.{if_apart}
 
 -- ---- factors
 
-module _ (batch : Batch) where
-  pub first_octet : (k : ℕ) → octet_in batch 0 k ≡ octets.mul (at batch.factors 0) (entry_of batch.table 0 k)
+module _ (hdpc : HdpcTable) where
+  pub first_octet : (k : ℕ) → octet_in hdpc 0 k ≡ octets.mul (at hdpc.factors 0) (entry_of hdpc.table 0 k)
   first_octet k = octets.zero_add _
 
-  pub other_octet : (i k : ℕ) → i ≢ 0 → octet_in batch i k ≡ octets.add (entry_of batch.table i k) (octets.mul (at batch.factors i) (entry_of batch.table 0 k))
-  other_octet i k d = ap (λ (x : ℕ). octets.add x (octets.mul (at batch.factors i) (entry_of batch.table 0 k))) (if_apart i 0 0 (entry_of batch.table i k) d)
+  pub other_octet : (i k : ℕ) → i ≢ 0 → octet_in hdpc i k ≡ octets.add (entry_of hdpc.table i k) (octets.mul (at hdpc.factors i) (entry_of hdpc.table 0 k))
+  other_octet i k d = ap (λ (x : ℕ). octets.add x (octets.mul (at hdpc.factors i) (entry_of hdpc.table 0 k))) (if_apart i 0 0 (entry_of hdpc.table i k) d)
 
-  pub batch_elements : HasOctets batch.table → HasElements octets (length batch.table.rows) batch.table.width (octet_in batch)
-  batch_elements are = λ i k l m. elim (cases_eq i 0) [
-    | inl e ↦ rw (e, first_octet k) (octets.mul_below (at batch.factors 0) (entry_of batch.table 0 k))
-    | inr d ↦ rw (other_octet i k d) (octets.add_below (entry_of batch.table i k) (octets.mul (at batch.factors i) (entry_of batch.table 0 k)) (are.elements i k l m) (octets.mul_below (at batch.factors i) (entry_of batch.table 0 k)))
+  pub octet_elements : HasOctets hdpc.table → HasElements octets (length hdpc.table.rows) hdpc.table.width (octet_in hdpc)
+  octet_elements are = λ i k l m. elim (cases_eq i 0) [
+    | inl e ↦ rw (e, first_octet k) (octets.mul_below (at hdpc.factors 0) (entry_of hdpc.table 0 k))
+    | inr d ↦ rw (other_octet i k d) (octets.add_below (entry_of hdpc.table i k) (octets.mul (at hdpc.factors i) (entry_of hdpc.table 0 k)) (are.elements i k l m) (octets.mul_below (at hdpc.factors i) (entry_of hdpc.table 0 k)))
   ]
 
-module _ (old new : Batch) (same : new.table ≡ old.table) (scalar : ℕ) where
+module _ (old new : HdpcTable) (same : new.table ≡ old.table) (scalar : ℕ) where
   same_entry : (i k : ℕ) → entry_of new.table i k ≡ entry_of old.table i k
   same_entry i k = ap (λ (t : OctetTable). entry_of t i k) same
 
@@ -61,22 +61,22 @@ module _ (old new : Batch) (same : new.table ≡ old.table) (scalar : ℕ) where
 
 -- ---- the same table
 
-module _ (start batch : Batch) (same : batch.table ≡ start.table) where
-  pub elements_beside : HasOctets start.table → HasElements octets (length start.table.rows) start.table.width (octet_in batch)
+module _ (start hdpc : HdpcTable) (same : hdpc.table ≡ start.table) where
+  pub elements_beside : HasOctets start.table → HasElements octets (length start.table.rows) start.table.width (octet_in hdpc)
   elements_beside are =
-      subst (λ (t : OctetTable). HasElements octets (length t.rows) t.width (octet_in batch)) same
-      (batch_elements batch (subst HasOctets (sym same) are))
+      subst (λ (t : OctetTable). HasElements octets (length t.rows) t.width (octet_in hdpc)) same
+      (octet_elements hdpc (subst HasOctets (sym same) are))
 
-  pub adds_beside : (now : Batch) (dest src scalar : ℕ) → AddsRow octets (length batch.table.rows) batch.table.width dest src scalar (octet_in batch) (octet_in now) → AddsRow octets (length start.table.rows) start.table.width dest src scalar (octet_in batch) (octet_in now)
-  adds_beside now dest src scalar adds = subst (λ (t : OctetTable). AddsRow octets (length t.rows) t.width dest src scalar (octet_in batch) (octet_in now)) same adds
+  pub adds_beside : (now : HdpcTable) (dest src scalar : ℕ) → AddsRow octets (length hdpc.table.rows) hdpc.table.width dest src scalar (octet_in hdpc) (octet_in now) → AddsRow octets (length start.table.rows) start.table.width dest src scalar (octet_in hdpc) (octet_in now)
+  adds_beside now dest src scalar adds = subst (λ (t : OctetTable). AddsRow octets (length t.rows) t.width dest src scalar (octet_in hdpc) (octet_in now)) same adds
 
-  pub scales_beside : (now : Batch) (dest scalar : ℕ) → ScalesRow octets (length batch.table.rows) batch.table.width dest scalar (octet_in batch) (octet_in now) → ScalesRow octets (length start.table.rows) start.table.width dest scalar (octet_in batch) (octet_in now)
-  scales_beside now dest scalar scales = subst (λ (t : OctetTable). ScalesRow octets (length t.rows) t.width dest scalar (octet_in batch) (octet_in now)) same scales
+  pub scales_beside : (now : HdpcTable) (dest scalar : ℕ) → ScalesRow octets (length hdpc.table.rows) hdpc.table.width dest scalar (octet_in hdpc) (octet_in now) → ScalesRow octets (length start.table.rows) start.table.width dest scalar (octet_in hdpc) (octet_in now)
+  scales_beside now dest scalar scales = subst (λ (t : OctetTable). ScalesRow octets (length t.rows) t.width dest scalar (octet_in hdpc) (octet_in now)) same scales
 
 -- with factors 1 and 0 the rows have what the table has
-pub first_factors : (batch : Batch) → HasOctets batch.table → at batch.factors 0 ≡ 1 → ((i : ℕ) → i ≢ 0 → at batch.factors i ≡ 0) → (i k : ℕ) → i < length batch.table.rows → k < batch.table.width → octet_in batch i k ≡ entry_of batch.table i k
-first_factors batch are one zeros i k l m = elim (cases_eq i 0) [
-  | inl e ↦ rw e (first_octet batch k ∙ ap (λ (x : ℕ). octets.mul x (entry_of batch.table 0 k)) one ∙ octets.one_mul (entry_of batch.table 0 k) (are.elements 0 k (omega (arith, l)) m))
-  | inr d ↦ other_octet batch i k d ∙ ap (λ (x : ℕ). octets.add (entry_of batch.table i k) (octets.mul x (entry_of batch.table 0 k))) (zeros i d)
-      ∙ ap (octets.add (entry_of batch.table i k)) (zero_mul octets (entry_of batch.table 0 k)) ∙ add_zero octets (entry_of batch.table i k)
+pub first_factors : (hdpc : HdpcTable) → HasOctets hdpc.table → at hdpc.factors 0 ≡ 1 → ((i : ℕ) → i ≢ 0 → at hdpc.factors i ≡ 0) → (i k : ℕ) → i < length hdpc.table.rows → k < hdpc.table.width → octet_in hdpc i k ≡ entry_of hdpc.table i k
+first_factors hdpc are one zeros i k l m = elim (cases_eq i 0) [
+  | inl e ↦ rw e (first_octet hdpc k ∙ ap (λ (x : ℕ). octets.mul x (entry_of hdpc.table 0 k)) one ∙ octets.one_mul (entry_of hdpc.table 0 k) (are.elements 0 k (omega (arith, l)) m))
+  | inr d ↦ other_octet hdpc i k d ∙ ap (λ (x : ℕ). octets.add (entry_of hdpc.table i k) (octets.mul x (entry_of hdpc.table 0 k))) (zeros i d)
+      ∙ ap (octets.add (entry_of hdpc.table i k)) (zero_mul octets (entry_of hdpc.table 0 k)) ∙ add_zero octets (entry_of hdpc.table i k)
 ]

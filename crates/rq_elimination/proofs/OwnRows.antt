@@ -58,11 +58,19 @@ some_place (suc place) k e = ap suc (cc e)
 pub kept_place : {slice places : List ℕ} (row place : ℕ) → slice ≡ places → Some place ≡ place_before (at slice row) → at places row ≡ suc place
 kept_place {slice} {places} row place same found = some_place (at places row) place (ap (λ ps. place_before (at ps row)) (sym same) ∙ sym found)
 
-pub no_place : (place : ℕ) → place_before place ≡ None → place ≡ 0
-no_place zero e = refl
-no_place (suc place) e = absurd (cc e)
+none_place : (place : ℕ) → place_before place ≡ None → place ≡ 0
+none_place zero e = refl
+none_place (suc place) e = absurd (cc e)
+
+pub no_place : {slice places : List ℕ} (row : ℕ) → slice ≡ places → place_before (at slice row) ≡ None → at places row ≡ 0
+no_place {slice} {places} row same none = none_place (at places row) (ap (λ ps. place_before (at ps row)) (sym same) ∙ none)
 
 -- ---- a buffer, and what callers see of it
+
+-- a table whose row is written, by octets where what is written is below 256
+pub record IsWritten (now : OctetTable) (row : ℕ) (ws : List ℕ) (after : OctetTable) : Type 0 where
+  pub is : after ≡ with_row now row ws
+  pub octets : All (λ x. x < 256) ws → IsOctetRow now.width (row_at after row)
 
 module _ {octets : Slab} {places : List ℕ} (are : ArePlaced octets places) {now : OctetTable} (seen : table_of_own octets places ≡ now) where
   pub width_is : octets.symbol_size ≡ now.width
@@ -108,30 +116,19 @@ module _ {octets : Slab} {places : List ℕ} (are : ArePlaced octets places) {no
         elsewhere i l d zero e = refl
         elsewhere i l d (suc m) e = get_or-set_other octets.values place m ws [] (λ same. d (are.apart i row l in_places (λ none. absurd (omega (arith, none, e))) (e ∙ ap suc same ∙ sym is)))
 
-        pub written : table_of_own octets' places ≡ with_row now row ws
-        written =
+        row_written : table_of_own octets' places ≡ with_row now row ws
+        row_written =
             ap (λ (o : Slab). table_of_own o places) set_there
             ∙ ap (λ (rows : List (List ℕ)). record { width = octets.symbol_size; rows = rows }) (own_rows-set octets.values (set octets.values place ws) places places row ws refl in_places
             (ap (row_placed (set octets.values place ws)) is ∙ get_or-set_same octets.values place ws [] place_below)
             (λ i l d. elsewhere i l d (at places i) refl))
             ∙ ap (λ t. with_row t row ws) seen
 
-        pub written_are : ArePlaced octets' places
-        written_are =
-            let same = length-set octets.values place ws in
-            subst (λ (o : Slab). ArePlaced o places) (sym set_there) (record {
-              whole = are.whole;
-              narrow = are.narrow;
-              few = are.few;
-              order = are.order;
-              symbols = All-set (λ symbol. length symbol ≡ octets.symbol_size) octets.values place ws long are.symbols;
-              counted = omega (arith, same, are.counted);
-              inside = λ i d l. let le = are.inside i d l in omega (arith, same, le);
-              apart = are.apart;
-            })
-
-        pub written_octets : All (λ x. x < 256) ws → IsOctetRow now.width (row_at (table_of_own octets' places) row)
-        written_octets are_small = rw (ap (λ (t : OctetTable). row_at t row) written ∙ get_or-set_same now.rows row ws [] there) (long ∙ width_is, are_small)
+        pub written : IsWritten now row ws (table_of_own octets' places)
+        written = record {
+          is = row_written;
+          octets = λ are_small. rw (ap (λ (t : OctetTable). row_at t row) row_written ∙ get_or-set_same now.rows row ws [] there) (long ∙ width_is, are_small);
+        }
 
     -- one without a place gets the one behind all others
     module _ (none : at places row ≡ 0) (octets' : Slab) (ws : List ℕ) (long : length ws ≡ octets.symbol_size) (is : octets' ≡ record octets { values = octets.values ++ ws ∷ [] }) where

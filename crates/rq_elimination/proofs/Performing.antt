@@ -11,7 +11,7 @@ use Rattle.rq_algebra.proofs.Changes.{find_place}
 use Rattle.rq_algebra.specs.Operations.{Operation, AddAssign, MulAssign, Fma, Reorder}
 use Rattle.rq_standard.specs.OctetField.{octets}
 use Rattle.rq_parts.specs.DenseOctetMatrix.{entry_of}
-use Rattle.rq_elimination.specs.Recorded.{Performs, Records, ChangesRows}
+use Rattle.rq_elimination.specs.RecordedRows.{Performs, Records, ChangesRows}
 use Rattle.rq_elimination.specs.declared.recorded.RecordedRows.{RecordedRows}
 use Rattle.rq_elimination.specs.RowSteps.{row_step, rows_after, sum_step, IsStepAmong}
 use Rattle.rq_elimination.proofs.RowStepLaws.{rows_after-same}

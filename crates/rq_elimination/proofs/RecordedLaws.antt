@@ -5,7 +5,7 @@ use Rattle.rq_algebra.specs.Operations.{Operation, MulAssign}
 use Rattle.rq_standard.specs.Rows.{row_sum, row_multiple}
 use Rattle.rq_parts.specs.DenseOctetMatrix.{OctetTable, row_at, with_row}
 use Rattle.rq_elimination.specs.OperationCounts.{additions}
-use Rattle.rq_elimination.specs.Recorded.{Performs, Records}
+use Rattle.rq_elimination.specs.RecordedRows.{Performs, Records}
 use Rattle.rq_elimination.specs.RowSteps.{sum_step}
 use Rattle.rq_elimination.specs.declared.recorded.RecordedRows.{RecordedRows}
 use Rattle.rq_elimination.proofs.AdditionLaws.{additions-sum, additions-scaling}

@@ -1,5 +1,5 @@
 -- Packed bits, and the octets that they are.
-use Rattle.std.proofs.Common.{true, false, get_or, map, ◌≡◌, ◌≢◌, ℕ, ◌+◌, ◌-◌, ◌*◌, ◌/◌, ◌%◌, ◌^◌, ◌<◌, ◌≤◌, List, length, set, replicate, refl, sym, ap, ◌∙◌, arith, inl, inr, w8, w64, lit<}
+use Rattle.std.proofs.Common.{true, false, get_or, map, ◌≡◌, ◌≢◌, ℕ, ◌+◌, ◌-◌, ◌*◌, ◌/◌, ◌%◌, ◌^◌, ◌<◌, ◌≤◌, List, length, set, replicate, sym, ap, ◌∙◌, arith, inl, inr, w8, w64, lit<}
 use Rattle.std.specs.Int.{bit_at, from_le_bytes, trailing_zeros}
 use Rattle.std.proofs.lemmas.Nat.{le_bytes_8}
 use Rattle.std.specs.Int.Bits.{bit_xor, bit_or, xor_zero_l}
@@ -23,7 +23,7 @@ use Rattle.rq_standard.specs.Rows.{row_sum, row_multiple}
 use Rattle.rq_bytes.specs.OctetBits.{octet_bit}
 use Rattle.rq_bytes.proofs.BitLanes.{bytes_bits}
 use Rattle.rq_parts.specs.DenseOctetMatrix.{IsOctetRow}
-use Rattle.rq_parts.proofs.BitPairLaws.{bit_at-shifted}
+use Rattle.rq_parts.proofs.BitPairLaws.{bit_at-shifted, sum_of_bits}
 use Rattle.rq_elimination.specs.InactiveEntries.{IsNextEntry, octets_of_bits}
 
 map_at : (f : ℕ → ℕ) (xs : List ℕ) (k : ℕ) → k < length xs → at (map f xs) k ≡ f (at xs k)
@@ -58,18 +58,6 @@ is_unpacked n bits xs long same =
 
 -- ---- sums
 
--- the sum of two bits
-xor_bits : (x y : ℕ) → x < 2 → y < 2 → bit_xor x y ≡ (x + y) % 2
-xor_bits x y l m = elim (cases_eq x 0) [
-  | inl none ↦ rw none (xor_zero_l y ∙ omega arith)
-  | inr some ↦
-      let one : x ≡ 1 = omega arith in
-      elim (cases_eq y 0) [
-        | inl none ↦ rw (none, one) refl
-        | inr more ↦ let two : y ≡ 1 = omega arith in rw (two, one) refl
-      ]
-]
-
 pub octets_of_bits-sum : (n : ℕ) (a b : List ℕ) → length a ≡ length b → n ≤ 8 * length a → octets_of_bits n (row_sum a b) ≡ row_sum (octets_of_bits n a) (octets_of_bits n b)
 octets_of_bits-sum n a b long fits =
     let len_a = length-octets_of_bits n a in
@@ -80,7 +68,7 @@ octets_of_bits-sum n a b long fits =
     get_or-zip2 bit_xor (octets_of_bits n a) (octets_of_bits n b) k 0 0 0 (omega arith) (omega arith)
     ∙ ap (λ x. bit_xor x (at (octets_of_bits n b) k)) (at-octets_of_bits n a k l)
     ∙ ap (bit_xor (octet_bit a k)) (at-octets_of_bits n b k l)
-    ∙ xor_bits (octet_bit a k) (octet_bit b k) (bit_small a k) (bit_small b k)
+    ∙ sym (sum_of_bits (octet_bit a k) (octet_bit b k) (bit_small a k) (bit_small b k))
     ∙ sym (bit_at_xor (at a (k / 8)) (at b (k / 8)) (k % 8))
     ∙ ap (λ x. bit_at x (k % 8)) (sym (get_or-zip2 bit_xor a b (k / 8) 0 0 0 in_a in_b)))
 

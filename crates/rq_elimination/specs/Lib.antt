@@ -5,5 +5,5 @@ pub mod InactiveEntries
 pub mod NonzeroOctets
 pub mod OperationCounts
 pub mod PhaseCounts
-pub mod Recorded
+pub mod RecordedRows
 pub mod RowSteps

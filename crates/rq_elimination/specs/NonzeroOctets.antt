@@ -12,6 +12,6 @@ pub record HasOnes (octets : List ℕ) (start place ones : ℕ) : Type 0 where
   pub ahead : (k : ℕ) → place < start + k → k < 32 → bit_at ones k ≡ nonzero (slice_index octets (start + k))
   pub beyond : (k : ℕ) → 32 ≤ k → bit_at ones k ≡ 0
 
--- those of the vector in which that place is
+-- the bits of `ones` are those of the vector of 32 octets in which a place is
 abbrev pub HasOnesAfter : List ℕ → ℕ → ℕ → Type 0
 HasOnesAfter octets place ones = HasOnes octets (place - place % 32) place ones

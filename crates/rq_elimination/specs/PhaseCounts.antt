@@ -7,7 +7,7 @@ use Rattle.rq_elimination.specs.declared.counts.OperationCounts.{OperationCounts
 use Rattle.rq_elimination.specs.declared.counts.PhaseCounts.{PhaseCounts}
 use Rattle.rq_elimination.specs.declared.counts.PhaseEnds.{PhaseEnds}
 
--- those of all phases
+-- the operations of all phases
 abbrev pub total_of : PhaseCounts → ℕ
 total_of counts = counts.first + counts.second + counts.fourth
 

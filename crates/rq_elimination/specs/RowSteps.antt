@@ -63,8 +63,10 @@ pub record IsStuck (rows : List ℕ) (count : ℕ) (table : OctetTable) : Type 0
   pub echelon : IsEchelon rows done table
   pub empty : (i : ℕ) → done ≤ i → i < length rows → entry_of table (at rows i) done ≡ 0
 
--- of these rows those between the pivot's and place n have had a multiple of the pivot's row added: what they had in its column times the row
+-- Of some rows those between the pivot's and place n have had a multiple of the pivot's row added: what they had in its column times
+-- that row.
 pub record ClearsBelow (rows : List ℕ) (pivot n : ℕ) (old new : OctetTable) : Type 0 where
   pub kept : (i k : ℕ) → i ≤ pivot → i < length rows → k < old.width → entry_of new (at rows i) k ≡ entry_of old (at rows i) k
-  pub cleared : (i k : ℕ) → pivot < i → i < n → i < length rows → k < old.width → entry_of new (at rows i) k ≡ octets.add (entry_of old (at rows i) k) (octets.mul (entry_of old (at rows i) pivot) (entry_of old (at rows pivot) k))
+  pub cleared : (i k : ℕ) → pivot < i → i < n → i < length rows → k < old.width
+      → entry_of new (at rows i) k ≡ octets.add (entry_of old (at rows i) k) (octets.mul (entry_of old (at rows i) pivot) (entry_of old (at rows pivot) k))
   pub rest : (i k : ℕ) → pivot < i → n ≤ i → i < length rows → k < old.width → entry_of new (at rows i) k ≡ entry_of old (at rows i) k

@@ -101,8 +101,7 @@ impl InactiveEntries {
         ensures height { OnErr result (length self.new.rows ≡ length self.old.rows) }
         ensures err { IfErr result (λ e. e ≡ OutOfMemory) }
     {
-        let bits = self.bits.get(row);
-        self.octets.unpack_row(row, bits)?;
+        self.octets.unpack_row(row, &self.bits)?;
         self.octets.fill(row, octets, from, columns);
         Ok(())
     }
@@ -172,8 +171,7 @@ impl InactiveEntries {
         ensures height { OnErr result (length self.new.rows ≡ length self.old.rows) }
         ensures err { IfErr result (λ e. e ≡ OutOfMemory) }
     {
-        let bits = self.bits.get(row);
-        self.octets.unpack_row(row, bits)?;
+        self.octets.unpack_row(row, &self.bits)?;
         self.octets.multiply(row, scalar);
         Ok(())
     }
@@ -194,8 +192,7 @@ impl InactiveEntries {
             self.bits.add_assign(dest, src);
             return Ok(());
         }
-        let bits = self.bits.get(dest);
-        self.octets.unpack_row(dest, bits)?;
+        self.octets.unpack_row(dest, &self.bits)?;
         if self.octets.is_bits(src) {
             self.octets.add_bits(dest, self.bits.get(src), scalar);
         } else {

@@ -6,7 +6,7 @@ ghost use Rattle.rq_algebra.specs.Systems.{at};
 ghost use Rattle.rq_bytes.specs.declared.error.Error.TheVariants.{OutOfMemory};
 ghost use Rattle.rq_parts.specs.DenseOctetMatrix.{entry_of, HasOctets};
 ghost use Rattle.rq_standard.specs.OctetField.{octets};
-ghost use Rattle.rq_elimination.specs.HdpcRows.{octet_in, AreBeside};
+ghost use Rattle.rq_elimination.specs.HdpcRows.{octet_in, AreInColumn};
 
 use crate::entries::whole_vectors;
 use rq_bytes::error::Error;
@@ -27,13 +27,13 @@ pub struct HdpcRows {
 }
 
 impl Model for HdpcRows {
-    ghost use Rattle.rq_elimination.specs.HdpcRows.{Batch, IsBatch};
+    ghost use Rattle.rq_elimination.specs.HdpcRows.{HdpcTable, IsHdpcTable};
 
-    ghost Value = { Batch };
+    ghost Value = { HdpcTable };
 
-    ghost view = { λ b. record { table = b.table; factors = b.factors.items } };
+    ghost view = { λ hdpc. record { table = hdpc.table; factors = hdpc.factors.items } };
 
-    ghost invariant = { λ b. IsBatch (record { table = b.table; factors = b.factors.items }) };
+    ghost invariant = { λ hdpc. IsHdpcTable (record { table = hdpc.table; factors = hdpc.factors.items }) };
 }
 
 impl HdpcRows {
@@ -42,8 +42,8 @@ impl HdpcRows {
         requires some { 0 < length table.rows }
         requires few { length table.rows < 2 ^ 63 }
         requires octets { HasOctets table }
-        ensures table { IfOk result (λ batch. batch.table ≡ table) }
-        ensures octets { IfOk result (λ batch. (i k : ℕ) → i < length table.rows → k < table.width → octet_in batch i k ≡ entry_of table i k) }
+        ensures table { IfOk result (λ hdpc. hdpc.table ≡ table) }
+        ensures octets { IfOk result (λ hdpc. (i k : ℕ) → i < length table.rows → k < table.width → octet_in hdpc i k ≡ entry_of table i k) }
         ensures err { IfErr result (λ e. e ≡ OutOfMemory) }
     {
         let mut factors = vec![in alloc; 0; whole_vectors(table.height())]?;
@@ -87,7 +87,7 @@ impl HdpcRows {
         requires some { 0 < length self.now.table.rows }
         requires column { column < self.now.table.width }
         requires lanes { length column_octets.old ≡ length self.now.factors }
-        ensures beside { AreBeside self.now column 1 column_octets.new }
+        ensures in_column { AreInColumn self.now column 1 column_octets.new }
         ensures lanes { length column_octets.new ≡ length column_octets.old }
         ensures count { length self.now.table.rows ≤ length column_octets.new }
         ensures whole { length column_octets.new % 32 ≡ 0 }

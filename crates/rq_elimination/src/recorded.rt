@@ -29,7 +29,7 @@ impl RecordedRows {
     ghost use Rattle.rq_bytes.specs.declared.error.Error.TheVariants.{OutOfMemory};
     ghost use Rattle.rq_standard.specs.OctetField.{octets};
     ghost use Rattle.rq_elimination.specs.OperationCounts.{additions};
-    ghost use Rattle.rq_elimination.specs.Recorded.{Performs, Records};
+    ghost use Rattle.rq_elimination.specs.RecordedRows.{Performs, Records};
     ghost use Rattle.rq_elimination.specs.RowSteps.{sum_step};
 
     /// Rows to which nothing was done yet, with room for `room` operations.

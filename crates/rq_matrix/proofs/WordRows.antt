@@ -1,5 +1,5 @@
 -- Rows of words, and the bits in them.
-use Rattle.std.proofs.Common.{◌≡◌, ◌+◌, ◌/◌, ◌%◌, ◌<◌, ◌≤◌, ℕ, zero, suc, List, length, take, get_or, refl, ap, ◌∙◌, arith}
+use Rattle.std.proofs.Common.{◌≡◌, ◌/◌, ◌%◌, ◌<◌, ◌≤◌, ℕ, List, length, take, get_or, ap, ◌∙◌, arith}
 use Rattle.std.specs.Int.{bit_at}
 use Rattle.std.specs.Int.Bits.{bit_xor}
 use Rattle.std.proofs.lemmas.Nat.Bits.{bit_at_xor}
@@ -7,17 +7,9 @@ use Rattle.std.proofs.lemmas.Simd.{get_or-zip2}
 use Rattle.std.proofs.lemmas.List.{get_or-take}
 use Rattle.rq_bytes.specs.BinaryOctetVec.{packed_bit}
 use Rattle.rq_standard.specs.Rows.{row_sum}
+use Rattle.rq_parts.proofs.BitPairLaws.{sum_of_bits}
 use Rattle.rq_matrix.specs.BitRows.{word_count}
 use Rattle.rq_matrix.proofs.Words.{packed_bit-lt}
-
--- the sum of two bits
-pub sum_of_bits : (x y : ℕ) → x < 2 → y < 2 → (x + y) % 2 ≡ bit_xor x y
-sum_of_bits zero zero lt lt' = refl
-sum_of_bits zero (suc zero) lt lt' = refl
-sum_of_bits (suc zero) zero lt lt' = refl
-sum_of_bits (suc zero) (suc zero) lt lt' = refl
-sum_of_bits (suc (suc x)) y lt lt' = absurd (omega arith)
-sum_of_bits x (suc (suc y)) lt lt' = absurd (omega arith)
 
 pub packed_bit-sum : (xs ys : List ℕ) (k : ℕ) → length ys ≡ length xs → k / 64 < length xs → packed_bit (row_sum xs ys) k ≡ bit_xor (packed_bit xs k) (packed_bit ys k)
 packed_bit-sum xs ys k long inside =

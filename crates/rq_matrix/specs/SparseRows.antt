@@ -13,7 +13,8 @@ pub record IsSparseRow (columns : ℕ) (row : List ℕ) : Type 0 where
 -- for each stored column, those below `columns`, the stored rows that have a one there
 pub record IsColumnIndex (columns : ℕ) (rows : List (List ℕ)) (lists : List (List ℕ)) : Type 0 where
   pub count : length lists ≡ columns
-  pub each : (column : ℕ) → column < columns → ArePlacesOfOnes (λ row. listed_bit (slice_index_or rows row []) column) 0 (length rows) (slice_index_or lists column [])
+  pub each : (column : ℕ) → column < columns
+      → ArePlacesOfOnes (λ row. listed_bit (slice_index_or rows row []) column) 0 (length rows) (slice_index_or lists column [])
 
 -- behind pairs of a column and a row, a row with each of the columns listed
 abbrev pub AddsRowPairs : Pairs → ℕ → List ℕ → Pairs → Type 0

@@ -254,15 +254,7 @@ fn word_flipped(word: u64, bit: usize) -> u64
     requires { bit < 64 }
     ensures { IsWordWith word bit (bit_xor (bit_at word bit) 1) result }
 {
-    word ^ bit_alone(bit)
-}
-
-/// The word in which one bit alone is set.
-pub(crate) fn bit_alone(bit: usize) -> u64
-    requires { bit < 64 }
-    ensures { result ≡ 2 ^ bit }
-{
-    1 << bit
+    word ^ BinaryOctetVec::select_mask(bit)
 }
 
 /// The last of the bits before `end` that is set in a word.

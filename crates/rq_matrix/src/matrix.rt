@@ -7,9 +7,7 @@ ghost use Rattle.rq_matrix.specs.BitRows.{word_count, AreSwappedFrom};
 ghost use Rattle.rq_standard.specs.BitTable.{BitTable, IsBitTable};
 ghost use Rattle.rq_standard.specs.BitTableSteps.{ones_between, ArePlacesOfOnes, AreOnesOf, AreBitsOf, CanSet, CanAdd, IsUnchanged, IsZeroTable, SetsBit, SwapsRows, SwapsColumns, SetsIndexed, SetsBoundary, AddsRowFrom, KeepsLeading};
 
-use crate::bit_row::{
-    bit_alone, count_ones, flip_bit, get_bit, ones_of, part_of, swap_bits, write_bit,
-};
+use crate::bit_row::{count_ones, flip_bit, get_bit, ones_of, part_of, swap_bits, write_bit};
 use crate::bit_rows::BitRows;
 use rq_bytes::error::Error;
 use rq_bytes::octet::Octet;
@@ -250,7 +248,7 @@ impl DenseBinaryMatrix {
         requires { bit < 64 }
         ensures { result ≡ 2 ^ bit }
     {
-        bit_alone(bit)
+        BinaryOctetVec::select_mask(bit)
     }
 }
 

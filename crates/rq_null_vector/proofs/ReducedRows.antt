@@ -3,7 +3,7 @@ use Rattle.std.proofs.Common.{◌≡◌, ◌≢◌, ℕ, ◌+◌, ◌<◌, ◌�
 use Rattle.std.specs.List.{SwappedAt}
 use Rattle.rq_algebra.specs.Steps.{ScalesRow}
 use Rattle.rq_algebra.specs.Systems.{at}
-use Rattle.rq_algebra.proofs.Elimination.{ClearsColumn}
+use Rattle.rq_algebra.proofs.PivotColumns.{ClearsColumn}
 use Rattle.rq_algebra.proofs.Reduction.{first_pivots_none, first_pivots_rows, first_pivots_more}
 use Rattle.rq_standard.specs.OctetField.{octets}
 use Rattle.rq_parts.specs.DenseOctetMatrix.{OctetTable, entry_of, HasOctets}

@@ -11,11 +11,14 @@ use Rattle.rq_null_vector.specs.Reduced.{IsReduced}
 
 -- octets, not all of them zero, that solve the rows with all values zero, and none where only zeros do
 abbrev pub ShowsHomogeneous : ℕ → ℕ → (ℕ → ℕ → ℕ) → Option (Vec ℕ Global) → Type 0
-ShowsHomogeneous height width rows answer = MatchOption answer (IsDetermined octets height width rows) (λ column. IsHomogeneousColumn octets height width rows column.items)
+ShowsHomogeneous height width rows answer =
+    MatchOption answer (IsDetermined octets height width rows) (λ column. IsHomogeneousColumn octets height width rows column.items)
 
--- so it is for the rows of a matrix of bits, but those of a matrix of octets in the places from `first` on
+-- A homogeneous column is shown, or that there is none, for the rows of a matrix of bits, with those of a matrix of octets in the
+-- places from `first` on.
 abbrev pub ShowsHomogeneousRows : BitTable → OctetTable → ℕ → Option (Vec ℕ Global) → Type 0
-ShowsHomogeneousRows bits octet_rows first = ShowsHomogeneous bits.height bits.width (with_octet_rows first (length octet_rows.rows) bits.bit (entry_of octet_rows))
+ShowsHomogeneousRows bits octet_rows first =
+    ShowsHomogeneous bits.height bits.width (with_octet_rows first (length octet_rows.rows) bits.bit (entry_of octet_rows))
 
 -- with all values zero the rows of both tables have the same solutions
 pub record KeepsZeros (old new : OctetTable) : Type 0 where

@@ -4,6 +4,7 @@ use Rattle.std.proofs.Math.Nat.{div-div-eq-div-mul}
 use Rattle.std.proofs.Math.Pow.{pow-add}
 use Rattle.std.specs.Prelude.{◌==◌}
 use Rattle.std.specs.Int.{bit_at}
+use Rattle.std.specs.Int.Bits.{bit_xor}
 use Rattle.rq_bytes.specs.BinaryOctetVec.{packed_bit}
 use Rattle.rq_parts.specs.BitPairs.{bit_pairs, ones_among}
 
@@ -41,6 +42,15 @@ bit_pairs-step words word bit column end below before =
 -- the bits of a word after a shift
 pub bit_at-shifted : (n a k : ℕ) → bit_at (n / 2 ^ a) k ≡ bit_at n (a + k)
 bit_at-shifted n a k = ap (λ q. q % 2) (div-div-eq-div-mul n (2 ^ a) (2 ^ k)) ∙ ap (λ d. n / d % 2) (sym (pow-add 2 a k))
+
+-- the sum of two bits
+pub sum_of_bits : (x y : ℕ) → x < 2 → y < 2 → (x + y) % 2 ≡ bit_xor x y
+sum_of_bits zero zero lt lt' = refl
+sum_of_bits zero (suc zero) lt lt' = refl
+sum_of_bits (suc zero) zero lt lt' = refl
+sum_of_bits (suc zero) (suc zero) lt lt' = refl
+sum_of_bits (suc (suc x)) y lt lt' = absurd (omega arith)
+sum_of_bits x (suc (suc y)) lt lt' = absurd (omega arith)
 
 -- bits that are the same make the same pairs
 pub bit_pairs-same : (words others : List ℕ) (place other column count : ℕ) → ((k : ℕ) → k < count → packed_bit words (place + k) ≡ packed_bit others (other + k))

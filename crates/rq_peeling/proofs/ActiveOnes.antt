@@ -2,7 +2,7 @@
 use Rattle.std.proofs.Common.{◌≡◌, ◌≢◌, ℕ, zero, suc, ◌+◌, ◌<◌, ◌≤◌, ◌==◌, ◌&&◌, cond, Bool, true, false, List, [], ◌∷◌, ◌++◌, All, length, take, get_or, replicate, count_by, refl, sym, ap, ◌∙◌, subst, arith, inl, inr, add-zero, zero-add}
 use Rattle.std.specs.Prelude.{nat_lt, slice_index_or}
 use Rattle.std.specs.List.{Contains, sum_by, range_with_len}
-use Rattle.std.proofs.lemmas.Bool.{cases_lt, ltb-true, lt-ltb, false_from_ne_true}
+use Rattle.std.proofs.lemmas.Bool.{cases_lt, ltb-true, lt-ltb, false_from_ne_true, true≢false}
 use Rattle.std.proofs.lemmas.Bool.Decides.{eqb_tells, nat_tests}
 use Rattle.std.proofs.lemmas.List.{length-append, get_or_push, take_all, take-append-le}
 use Rattle.std.proofs.lemmas.List.FromFn.{get_or-range_with_len}
@@ -11,8 +11,9 @@ use Rattle.std.proofs.Math.ListN.{get_or-append}
 use Rattle.rq_algebra.specs.Systems.{at}
 use Rattle.rq_peeling.specs.SystemRows.{one_in}
 use Rattle.rq_peeling.specs.ColumnRows.{ColumnLists, ListsColumns, rows_with}
-use Rattle.rq_peeling.specs.Degrees.{is_left, ones_left, is_active, active_ones, CountsActive, CountsBefore, KeepsDegrees, LowersRows, HasFewestLeft, HasLeastDegree, AllHaveNone, TakesColumnsLeft}
-use Rattle.rq_peeling.specs.Peeled.{ones_of, ColumnState, IsActive, HasNoActive, EndsActive, TakesRow, first_columns}
+use Rattle.rq_peeling.specs.RowDegrees.{is_left, ones_left, is_active, active_ones, CountsActive, CountsBefore, KeepsDegrees, LowersRows, HasFewestLeft, HasLeastDegree, AllHaveNone, TakesColumnsLeft}
+use Rattle.rq_peeling.specs.ColumnState.{ColumnState, IsActive, HasNoActive, EndsActive, TakesRow, first_columns}
+use Rattle.rq_peeling.specs.RowOnes.{ones_of}
 use Rattle.rq_peeling.proofs.ColumnPlacing.{count-replicate}
 
 -- ---- tests
@@ -42,9 +43,13 @@ true_both false b e = (e, absurd_false b e) where
   absurd_false false e = e
 
 pub not_both : (b : Bool) → b ≡ true → b ≡ false → ⊥
-not_both b e f = let n : ◌≡◌ {A = ℕ} 1 0 = sym (ap (λ b. cond b 1 0) e) ∙ ap (λ b. cond b 1 0) f in omega (arith, n)
+not_both b e f = true≢false (sym e ∙ f)
 
 -- ---- counts of elements
+
+-- what a list contains is contained behind one more element
+behind : (x : ℕ) (xs : List ℕ) (k : ℕ) → Contains xs k → Contains (x ∷ xs) k
+behind x xs k is = (is.0 + 1, omega (arith, is.1), (let next : is.0 + 1 ≡ suc is.0 = omega arith in ap (λ (i : ℕ). get_or (x ∷ xs) i k) next ∙ is.2))
 
 -- tests that agree on all elements count the same
 pub count_same : (p q : ℕ → Bool) (xs : List ℕ) → ((k : ℕ) → Contains xs k → p k ≡ q k) → count_by p xs ≡ count_by q xs
@@ -52,11 +57,8 @@ count_same p q [] same = refl
 count_same p q (x ∷ xs) same =
     sum_by-cons (λ k. cond (p k) 1 0) x xs
     ∙ ap (λ b. cond b 1 0 + count_by p xs) (same x (0, omega arith, refl))
-    ∙ ap (λ (n : ℕ). cond (q x) 1 0 + n) (count_same p q xs (λ k is. same k (is.0 + 1, omega (arith, is.1), there k is)))
+    ∙ ap (λ (n : ℕ). cond (q x) 1 0 + n) (count_same p q xs (λ k is. same k (behind x xs k is)))
     ∙ sym (sum_by-cons (λ k. cond (q k) 1 0) x xs)
-  where
-    there : (k : ℕ) (is : Contains xs k) → get_or (x ∷ xs) (is.0 + 1) k ≡ k
-    there k is = let next : is.0 + 1 ≡ suc is.0 = omega arith in ap (λ (i : ℕ). get_or (x ∷ xs) i k) next ∙ is.2
 
 pub count_nothing : (p : ℕ → Bool) (xs : List ℕ) → ((k : ℕ) → Contains xs k → p k ≡ false) → count_by p xs ≡ 0
 count_nothing p xs none = count_same p (λ _. false) xs none ∙ nothing xs where
@@ -80,7 +82,7 @@ count_split p q c (x ∷ xs) same passes fails =
     let first = sum_by-cons (λ k. cond (p k) 1 0) x xs in
     let second = sum_by-cons (λ k. cond (q k) 1 0) x xs in
     let third = sum_by-cons (λ k. cond (k == c) 1 0) x xs in
-    let rest = count_split p q c xs (λ k is. same k (is.0 + 1, omega (arith, is.1), there k is)) passes fails in
+    let rest = count_split p q c xs (λ k is. same k (behind x xs k is)) passes fails in
     let here : ◌≡◌ {A = ℕ} (cond (p x) 1 0) (cond (q x) 1 0 + cond (x == c) 1 0) = elim (eqb_tells x c) [
       | inl e ↦
           ap (λ (k : ℕ). cond (p k) 1 0) e.1 ∙ ap (λ b. cond b 1 0) passes
@@ -88,9 +90,6 @@ count_split p q c (x ∷ xs) same passes fails =
       | inr e ↦ ap (λ b. cond b 1 0) (same x (0, omega arith, refl) e.1) ∙ sym (add-zero (cond (q x) 1 0)) ∙ ap (λ b. cond (q x) 1 0 + cond b 1 0) (sym e.0)
     ] in
     omega (arith, first, second, third, rest, here)
-  where
-    there : (k : ℕ) (is : Contains xs k) → get_or (x ∷ xs) (is.0 + 1) k ≡ k
-    there k is = let next : is.0 + 1 ≡ suc is.0 = omega arith in ap (λ (i : ℕ). get_or (x ∷ xs) i k) next ∙ is.2
 
 -- ---- a column's rows
 
@@ -196,13 +195,13 @@ module _ (lists : List (List ℕ)) (lt_columns : ℕ) (rows : List ℕ) (row : �
       let both = true_both (nat_lt k lt_columns) (after == 0) e in
       let none = tested_zero after both.1 in
       let was : is_left lists lt_columns rows k ≡ true = both_true (nat_lt k lt_columns) (before == 0) both.0 (zero_tested before (omega (arith, none, more))) in
-      active_true new k (takes.kept k l (true_active old k (sym (left k l) ∙ was)) (λ is. let some = count_present (ones_of lists row) k is in omega (arith, none, more, some))))
+      active_true new k (takes.ends.kept k l (true_active old k (sym (left k l) ∙ was)) (λ is. let some = count_present (ones_of lists row) k is in omega (arith, none, more, some))))
       (λ e.
       let active = true_active new k e in
-      let was : is_left lists lt_columns rows k ≡ true = left k l ∙ active_true old k (takes.left k l active) in
+      let was : is_left lists lt_columns rows k ≡ true = left k l ∙ active_true old k (takes.ends.left k l active) in
       let both = true_both (nat_lt k lt_columns) (before == 0) was in
       let none = tested_zero before both.1 in
-      let absent = count_absent (ones_of lists row) k (λ is. takes.ended k is active) in
+      let absent = count_absent (ones_of lists row) k (λ is. takes.ends.ended k is active) in
       both_true (nat_lt k lt_columns) (after == 0) both.0 (zero_tested after (omega (arith, more, none, absent))))
 
   -- the row's pivot stands in a column that was left
@@ -212,7 +211,7 @@ module _ (lists : List (List ℕ)) (lt_columns : ℕ) (rows : List ℕ) (row : �
   pub columns_next : All (λ row. All (λ column. column < length old.order) row) lists → row < length lists → length rows ≡ old.pivots → TakesColumnsLeft lists lt_columns rows old.order → TakesColumnsLeft lists lt_columns (rows ++ row ∷ []) new.order
   columns_next below inside count were =
       takes_more (λ p taken _. is_left lists lt_columns taken (at new.order p) ≡ true) rows row
-      (λ p l. rw (takes.before p (omega (arith, l, count))) (were p l)) (rw count (column_left below inside))
+      (λ p l. rw (takes.ends.before p (omega (arith, l, count))) (were p l)) (rw count (column_left below inside))
 
 -- ---- rows by their degrees
 

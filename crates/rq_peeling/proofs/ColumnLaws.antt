@@ -1,14 +1,14 @@
 -- Columns in an order of which two are exchanged, and what becomes of the active ones.
-use Rattle.std.proofs.Common.{◌≡◌, ◌≢◌, ℕ, ◌+◌, ◌-◌, ◌<◌, ◌≤◌, List, [], ◌∷◌, ◌++◌, length, set, refl, sym, ap, ◌∙◌, subst, zero-add, arith, inl, inr}
+use Rattle.std.proofs.Common.{◌≡◌, ◌≢◌, ℕ, ◌+◌, ◌-◌, ◌<◌, ◌≤◌, List, length, set, refl, sym, ap, ◌∙◌, subst, zero-add, arith, inl, inr}
 use Rattle.std.proofs.lemmas.Bool.{cases_eq}
-use Rattle.std.proofs.lemmas.List.{get_or-set_other, length-set, map-id}
+use Rattle.std.proofs.lemmas.List.{get_or-set_other, length-set}
 use Rattle.std.proofs.lemmas.Grind.{get_or-set_at}
-use Rattle.std.proofs.lemmas.List.FromFn.{length-range_with_len, get_or-range_with_len, map-range_with_len_more}
+use Rattle.std.proofs.lemmas.List.FromFn.{length-range_with_len, get_or-range_with_len}
 use Rattle.std.specs.List.{range_with_len}
 use Rattle.rq_algebra.specs.Arrangements.{exchange}
 use Rattle.rq_algebra.specs.Systems.{at}
 use Rattle.rq_algebra.proofs.Places.{exchange_left, exchange_right, exchange_other, exchange_below, exchange_twice}
-use Rattle.rq_peeling.specs.Peeled.{IsOrderOf, ColumnState, IsColumnState, IsActive, first_columns, ExchangesColumns, EndsActive}
+use Rattle.rq_peeling.specs.ColumnState.{IsOrderOf, ColumnState, IsColumnState, IsActive, first_columns, ExchangesColumns, EndsActive}
 
 -- ---- an exchange
 
@@ -158,9 +158,6 @@ module _ (inside old : ColumnState) (same : inside ≡ old) (are : IsColumnState
       sym (read (omega (arith, ap length places, l, state_was.columns.place_count)) ∙ ap (λ (xs : List ℕ). at xs column) places)
 
 -- ---- columns in their own order
-
-pub range_more : (n : ℕ) → range_with_len 0 (n + 1) ≡ range_with_len 0 n ++ n ∷ []
-range_more n = sym (map-id (range_with_len 0 (n + 1))) ∙ map-range_with_len_more (λ (x : ℕ). x) 0 n n (zero-add n) ∙ ap (λ (xs : List ℕ). xs ++ n ∷ []) (map-id (range_with_len 0 n))
 
 own_place : (width k : ℕ) → k < width → at (range_with_len 0 width) k ≡ k
 own_place width k l = get_or-range_with_len 0 width k 0 l ∙ zero-add k

@@ -6,12 +6,12 @@ use Rattle.std.specs.List.{sum, sum_by}
 use Rattle.std.proofs.lemmas.Bool.{cases_eq, cases_lt}
 use Rattle.std.proofs.lemmas.Bool.Decides.{eqb_tells}
 use Rattle.std.proofs.lemmas.List.{length-append, length-set, length-replicate, get_or-set_same, get_or-set_other, get_or-take, length-drop, get_or-drop, length-take-le, get_or_default, get_or_past, take_all}
-use Rattle.std.proofs.lemmas.List.Sums.{sum_by_more, sum_by_more_le, sum_by-take-le, sum_by-set}
+use Rattle.std.proofs.lemmas.List.Sums.{sum_by_more, sum_by_more_le, sum_by-take-le}
 use Rattle.std.proofs.lemmas.List.Folds.{sum_by-replicate}
 use Rattle.std.proofs.lemmas.Grind.{same_number_lists}
 use Rattle.rq_algebra.specs.Systems.{at}
 use Rattle.rq_peeling.specs.SystemRows.{one_in}
-use Rattle.rq_peeling.specs.ColumnRows.{HasPlaced, AreEnds, rows_with, rows_of_column}
+use Rattle.rq_peeling.specs.ColumnRows.{HasPlaced, rows_with, rows_of_column}
 
 -- ---- sums
 
@@ -42,14 +42,19 @@ sum_rises_to xs a b le l =
 pub counted_more : (columns : List ℕ) (t k : ℕ) → t < length columns → count_by (λ column. column == k) (take (t + 1) columns) ≡ count_by (λ column. column == k) (take t columns) + cond (at columns t == k) 1 0
 counted_more columns t k l = sum_by_more (λ column. cond (column == k) 1 0) columns t 0 l
 
+-- the number itself comes once more
+counted_here : (columns : List ℕ) (t : ℕ) → t < length columns → count_by (λ column. column == at columns t) (take (t + 1) columns) ≡ count_by (λ column. column == at columns t) (take t columns) + 1
+counted_here columns t l =
+    let k = at columns t in
+    let one : ◌≡◌ {A = ℕ} (cond (k == k) 1 0) 1 = elim (eqb_tells k k) [ inl e ↦ ap (λ b. cond b 1 0) e.0 | inr e ↦ absurd (e.1 refl) ] in
+    counted_more columns t k l ∙ ap (λ (n : ℕ). count_by (λ column. column == k) (take t columns) + n) one
+
 -- a number that comes is not counted before its place
 pub counted_less : (columns : List ℕ) (t : ℕ) → t < length columns → count_by (λ column. column == at columns t) (take t columns) < count_by (λ column. column == at columns t) columns
 counted_less columns t l =
-    let k = at columns t in
-    let one : ◌≡◌ {A = ℕ} (cond (k == k) 1 0) 1 = elim (eqb_tells k k) [ inl e ↦ ap (λ b. cond b 1 0) e.0 | inr e ↦ absurd (e.1 refl) ] in
-    let more = counted_more columns t k l in
-    let part = sum_by-take-le (λ (column : ℕ). cond (column == k) 1 0) columns (t + 1) in
-    omega (arith, one, more, part)
+    let more = counted_here columns t l in
+    let part = sum_by-take-le (λ (column : ℕ). cond (column == at columns t) 1 0) columns (t + 1) in
+    omega (arith, more, part)
 
 -- what holds of how often a place came and of its number holds again after the next place, which has a new number
 pub counted_set : (P : ℕ → ℕ → Type 0) (places numbers : List ℕ) (t k number : ℕ) → t < length places → at places t < length numbers → ((n : ℕ) → P n (at numbers (at places t)) → P (n + 1) number)
@@ -68,25 +73,13 @@ counted_set P places numbers t k number l inside next is =
           rw (often, read) is
     ]
 
-pub counts_one : (counts : List ℕ) (c k : ℕ) → c < length counts → at (set counts c (at counts c + 1)) k ≡ at counts k + cond (c == k) 1 0
-counts_one counts c k l =
-    elim (eqb_tells c k) [
-      | inl same ↦ ap (at (set counts c (at counts c + 1))) (sym same.1) ∙ get_or-set_same counts c (at counts c + 1) 0 l ∙ ap (λ (i : ℕ). at counts i + 1) same.1 ∙ ap (λ b. at counts k + cond b 1 0) (sym same.0)
-      | inr other ↦ get_or-set_other counts c k (at counts c + 1) 0 (λ e. other.1 (sym e)) ∙ sym (add-zero (at counts k)) ∙ ap (λ b. at counts k + cond b 1 0) (sym other.0)
-    ]
-
-pub sums_one : (counts : List ℕ) (c : ℕ) → c < length counts → sum (set counts c (at counts c + 1)) ≡ sum counts + 1
-sums_one counts c l = let both = sum_by-set (λ (x : ℕ). x) counts c (at counts c + 1) 0 l in omega (arith, both)
-
 -- a row is put once more in the column at hand, and in no other
 module _ (columns : List ℕ) (done : ℕ → List ℕ) (t row : ℕ) (in_columns : t < length columns) where
   pub put_here : replicate (count_by (λ column. column == at columns t) (take (t + 1) columns)) row ++ done (at columns t) ≡ row ∷ (replicate (count_by (λ column. column == at columns t) (take t columns)) row ++ done (at columns t))
   put_here =
-      let k = at columns t in
-      let n = count_by (λ column. column == k) (take t columns) in
-      let one : ◌≡◌ {A = ℕ} (cond (k == k) 1 0) 1 = elim (eqb_tells k k) [ inl e ↦ ap (λ b. cond b 1 0) e.0 | inr e ↦ absurd (e.1 refl) ] in
+      let n = count_by (λ column. column == at columns t) (take t columns) in
       let next : n + 1 ≡ suc n = omega arith in
-      ap (λ (m : ℕ). replicate m row ++ done k) (counted_more columns t k in_columns ∙ ap (λ (m : ℕ). n + m) one ∙ next)
+      ap (λ (m : ℕ). replicate m row ++ done (at columns t)) (counted_here columns t in_columns ∙ next)
 
   pub put_elsewhere : (k : ℕ) → k ≢ at columns t → replicate (count_by (λ column. column == k) (take (t + 1) columns)) row ++ done k ≡ replicate (count_by (λ column. column == k) (take t columns)) row ++ done k
   put_elsewhere k d =
@@ -205,16 +198,6 @@ room_for lists k n l =
     let is = length-rows_with lists k n (omega arith) in
     let most = sum_by_more_le (count_by (λ column. column == k)) lists n [] l in
     omega (arith, is, most)
-
--- nothing is put yet
-pub placed_none : (lists : List (List ℕ)) (counts ends rows : List ℕ) → AreEnds lists counts ends → length rows ≡ sum_by length lists → HasPlaced counts (λ k. rows_with lists k 0) ends rows
-placed_none lists counts ends rows are long = record {
-  long = are.long;
-  wide = long ∙ sym are.all;
-  start = λ k l. add-zero (at ends k) ∙ are.sums k l;
-  room = λ k l. omega arith;
-  here = λ k j l m. absurd (omega arith);
-}
 
 -- what was put, said otherwise
 pub placed_same : (counts : List ℕ) (done next : ℕ → List ℕ) (starts rows : List ℕ) → ((k : ℕ) → next k ≡ done k) → HasPlaced counts done starts rows → HasPlaced counts next starts rows

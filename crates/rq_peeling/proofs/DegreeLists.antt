@@ -5,7 +5,7 @@ use Rattle.std.proofs.lemmas.Bool.{cases_eq}
 use Rattle.std.proofs.lemmas.List.{length-set, length-take-le, get_or-set_same, get_or-set_other, get_or-take}
 use Rattle.std.proofs.lemmas.List.Elements.{All-push, Contains-append_left}
 use Rattle.rq_algebra.specs.Systems.{at}
-use Rattle.rq_peeling.specs.Degrees.{AreListed, MayAdd}
+use Rattle.rq_peeling.specs.RowDegrees.{AreListed, MayAdd}
 
 -- what is listed stays listed
 pub added_contains : (row r : ℕ) (old new : List ℕ) → MayAdd row old new → Contains old r → Contains new r

@@ -4,7 +4,7 @@ use Rattle.std.proofs.lemmas.List.Elements.{All-weaker}
 use Rattle.rq_standard.specs.BitTableSteps.{ArePlacesOfOnes}
 use Rattle.rq_parts.specs.DenseOctetMatrix.{OctetTable}
 use Rattle.rq_peeling.specs.SystemRows.{AreRowsOfBits, AreOctetRows}
-use Rattle.rq_peeling.specs.Peeled.{AreOnesOfRows, ones_of}
+use Rattle.rq_peeling.specs.RowOnes.{AreOnesOfRows, ones_of}
 use Rattle.rq_peeling.proofs.PlaceCounts.{count_contains}
 
 -- a row of zeros has no ones

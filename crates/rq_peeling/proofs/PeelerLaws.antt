@@ -1,8 +1,9 @@
 -- A peeler's columns that aren't active any more.
 use Rattle.std.proofs.Common.{◌≡◌, ℕ, ◌<◌, List, [], All, length, sym, ◌∙◌, arith}
 use Rattle.std.specs.Prelude.{slice_index_or}
-use Rattle.rq_peeling.specs.Degrees.{CountsActive, HasLeastDegree, KeepsDegrees, LowersRows, is_active}
-use Rattle.rq_peeling.specs.Peeled.{ones_of, ColumnState, EndsActive, HasNoActive, IsActive}
+use Rattle.rq_peeling.specs.RowDegrees.{CountsActive, HasLeastDegree, KeepsDegrees, LowersRows, is_active}
+use Rattle.rq_peeling.specs.ColumnState.{ColumnState, EndsActive, HasNoActive, IsActive}
+use Rattle.rq_peeling.specs.RowOnes.{ones_of}
 use Rattle.rq_peeling.specs.declared.peeler.Peeler.{Peeler}
 use Rattle.rq_peeling.proofs.ActiveOnes.{count_nothing, degrees_lowered, true_active}
 use Rattle.rq_peeling.proofs.PeelingLaws.{columns_below}

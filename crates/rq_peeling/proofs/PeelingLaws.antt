@@ -7,7 +7,9 @@ use Rattle.std.proofs.lemmas.List.Elements.{All-take, Contains-append_cases, Con
 use Rattle.std.proofs.Math.ListN.{get_or-append}
 use Rattle.rq_algebra.specs.Systems.{at}
 use Rattle.rq_peeling.specs.SystemRows.{AreRowsOfBits}
-use Rattle.rq_peeling.specs.Peeled.{ones_of, ColumnState, EndsActive, InactivatesRow, IsActive, TakesRow, IsPeeled, IsOrderOf, first_columns}
+use Rattle.rq_peeling.specs.ColumnState.{ColumnState, EndsActive, InactivatesRow, IsActive, TakesRow, IsOrderOf, first_columns}
+use Rattle.rq_peeling.specs.Peeling.{IsPeeled}
+use Rattle.rq_peeling.specs.RowOnes.{ones_of}
 use Rattle.rq_peeling.specs.Chosen.{IsPeeledSo}
 
 pub peeled_none : (lists : List (List ℕ)) (width lt_columns : ℕ) → IsPeeledSo lists [] (first_columns width lt_columns)
@@ -34,7 +36,7 @@ module _ (lists : List (List ℕ)) (rows : List ℕ) (old new : ColumnState) (co
   row_new p e = get_or_push rows row 0 p e
 
   column_kept : (p : ℕ) → p < length rows → at new.order p ≡ at old.order p
-  column_kept p l = takes.before p (omega (arith, so.count))
+  column_kept p l = takes.ends.before p (omega (arith, so.count))
 
   -- the column of the new pivot is in none of the rows before
   apart_before : (p : ℕ) → p < length rows → Contains (ones_of lists (at rows p)) (at new.order old.pivots) → ⊥
@@ -88,8 +90,8 @@ module _ (lists : List (List ℕ)) (rows : List ℕ) (old new : ColumnState) (co
           | inl before ↦
               let in_old = subst (λ (r : ℕ). Contains (ones_of lists r) k) (row_kept p before) is in
               let below = of_contained (λ (c : ℕ). c < length old.order) (ones_of lists (at rows p)) k (columns (at rows p) [] (so.in_rows.below p before)) in_old in
-              so.ended p k before in_old (takes.left k below active)
-          | inr after ↦ takes.ended k (subst (λ (r : ℕ). Contains (ones_of lists r) k) (row_new p (omega (arith, one_more))) is) active
+              so.ended p k before in_old (takes.ends.left k below active)
+          | inr after ↦ takes.ends.ended k (subst (λ (r : ℕ). Contains (ones_of lists r) k) (row_new p (omega (arith, one_more))) is) active
         ];
   }
 
@@ -131,30 +133,34 @@ module _ (row : List ℕ) (t : ℕ) (in_row : t < length row) where
     -- one column more isn't active any more
     pub inactivates_more : EndsActive (at row t) cur new → new.pivots ≡ cur.pivots → InactivatesRow (take (t + 1) row) old new
     inactivates_more ends pivots = record {
-      width = ends.width ∙ so.width;
       pivots = pivots ∙ so.pivots;
-      before = λ p l. ends.before p (omega (arith, so.pivots, l)) ∙ so.before p l;
-      left = λ k l a. so.left k l (ends.left k (rw so.width l) a).0;
-      kept = λ k l a out. ends.kept k (rw so.width l) (so.kept k l a (λ is. out (still_there k is))) (λ e. out (subst (Contains (take (t + 1) row)) (sym e) now_there));
-      fewer = omega (arith, ends.fewer, so.fewer);
-      ended = λ k is a.
-          elim (was_there k is) [
-            | inl before ↦ so.ended k before (ends.left k (rw so.width (of_contained (λ (c : ℕ). c < length old.order) (take t row) k (All-take (λ (c : ℕ). c < length old.order) t row columns) before)) a).0
-            | inr here ↦ (ends.left k (rw (so.width, ← here) (columns t 0 in_row)) a).1 (sym here)
-          ];
+      ends = record {
+        width = ends.width ∙ so.ends.width;
+        before = λ p l. ends.before p (omega (arith, so.pivots, l)) ∙ so.ends.before p l;
+        left = λ k l a. so.ends.left k l (ends.left k (rw so.ends.width l) a).0;
+        kept = λ k l a out. ends.kept k (rw so.ends.width l) (so.ends.kept k l a (λ is. out (still_there k is))) (λ e. out (subst (Contains (take (t + 1) row)) (sym e) now_there));
+        fewer = omega (arith, ends.fewer, so.ends.fewer);
+        ended = λ k is a.
+            elim (was_there k is) [
+              | inl before ↦ so.ends.ended k before (ends.left k (rw so.ends.width (of_contained (λ (c : ℕ). c < length old.order) (take t row) k (All-take (λ (c : ℕ). c < length old.order) t row columns) before)) a).0
+              | inr here ↦ (ends.left k (rw (so.ends.width, ← here) (columns t 0 in_row)) a).1 (sym here)
+            ];
+      };
     }
 
     -- the next column wasn't active
     pub inactivates_same : (IsActive cur (at row t) → ⊥) → InactivatesRow (take (t + 1) row) old cur
     inactivates_same none = record {
-      width = so.width;
       pivots = so.pivots;
-      before = so.before;
-      left = so.left;
-      kept = λ k l a out. so.kept k l a (λ is. out (still_there k is));
-      fewer = so.fewer;
-      ended = λ k is a. elim (was_there k is) [
-        | inl before ↦ so.ended k before a
-        | inr here ↦ none (subst (IsActive cur) (sym here) a)
-      ];
+      ends = record {
+        width = so.ends.width;
+        before = so.ends.before;
+        left = so.ends.left;
+        kept = λ k l a out. so.ends.kept k l a (λ is. out (still_there k is));
+        fewer = so.ends.fewer;
+        ended = λ k is a. elim (was_there k is) [
+          | inl before ↦ so.ends.ended k before a
+          | inr here ↦ none (subst (IsActive cur) (sym here) a)
+        ];
+      };
     }

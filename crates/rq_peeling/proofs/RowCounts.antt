@@ -7,7 +7,7 @@ use Rattle.rq_standard.specs.BitTable.{BitTable, IsBitTable}
 use Rattle.rq_standard.specs.BitTableSteps.{ones_below, ones_between, HasSameShape, SwapsRows, SwapsPlaces, SwapsColumns}
 use Rattle.rq_matrix.proofs.Ones.{ones_below-same}
 use Rattle.rq_peeling.specs.FirstPhaseRowSelectionStats.{RowCounts, IsLeftOf, KeepsCounts, ChangesRow, ones_in_range}
-use Rattle.rq_peeling.specs.Degrees.{HasLeastOnes}
+use Rattle.rq_peeling.specs.RowDegrees.{HasLeastOnes}
 
 -- the same bits in a range have as many ones
 pub ones_between-same : (f g : ℕ → ℕ) (start end : ℕ) → ((k : ℕ) → k < end → f k ≡ g k) → ones_between f start end ≡ ones_between g start end

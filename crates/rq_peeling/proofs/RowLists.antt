@@ -17,8 +17,8 @@ use Rattle.rq_standard.proofs.BitTableLaws.{is_one_at-one, is_one_at-zero, is_on
 use Rattle.rq_parts.specs.ImmutableListMap.{lists_between}
 use Rattle.rq_parts.proofs.KeyedLists.{list_read, length-lists}
 use Rattle.rq_peeling.proofs.ListParts as parts
-use Rattle.rq_peeling.specs.Degrees.{CountsBefore}
-use Rattle.rq_peeling.specs.Peeled.{ones_of, AreOnesOfRows, AddsOneColumns, AreAllBetween}
+use Rattle.rq_peeling.specs.RowDegrees.{CountsBefore}
+use Rattle.rq_peeling.specs.RowOnes.{ones_of, AreOnesOfRows, AddsOneColumns, AreAllBetween}
 use Rattle.rq_peeling.proofs.ActiveOnes.{count_absent, count_nothing}
 
 -- ---- the places of a row's ones
@@ -78,26 +78,20 @@ places_together bit start middle end xs ys low high first second = record {
       ];
 }
 
--- the places of two parts of a row behind a list, the second those of a slice
+-- two parts behind a list, the second that of a slice
+both_behind : (old first second slice middle new : List ℕ) → middle ≡ old ++ first → new ≡ middle ++ slice → slice ≡ second → new ≡ old ++ (first ++ second)
+both_behind old first second slice middle new is_middle is_new is_slice = is_new ∙ ap (λ l. middle ++ l) is_slice ∙ ap (λ l. l ++ second) is_middle ∙ append_assoc old first second
+
+-- the places of two parts of a row there
 pub adds_ones : (bit : ℕ → ℕ) (width : ℕ) (old first second slice middle new : List ℕ) → middle ≡ old ++ first → new ≡ middle ++ slice → slice ≡ second → ArePlacesOfOnes bit 0 width (first ++ second) → AddsOneColumns bit width old new
 adds_ones bit width old first second slice middle new is_middle is_new is_slice ones =
-    let is : new ≡ old ++ (first ++ second) = is_new ∙ ap (λ l. middle ++ l) is_slice ∙ ap (λ l. l ++ second) is_middle ∙ append_assoc old first second in
+    let is = both_behind old first second slice middle new is_middle is_new is_slice in
     record {
       kept = ap (take (length old)) is ∙ take-append_seam old (first ++ second);
       ones = subst (ArePlacesOfOnes bit 0 width) (sym (ap (drop (length old)) is ∙ drop-append_seam old (first ++ second))) ones;
     }
 
 -- ---- one more list
-
-pub between_none : AreAllBetween (0 ∷ []) []
-between_none = record {
-  rise = record { some = omega arith; rise = λ key lt. absurd (omega arith); within = λ key lt. let first : key ≡ 0 = omega arith in rw first (omega arith) };
-  first = refl;
-  last = refl;
-}
-
-pub ones_none : (width : ℕ) (bit : ℕ → ℕ → ℕ) → AreOnesOfRows 0 width bit (lists_between (0 ∷ []) [])
-ones_none width bit = record { count = refl; each = λ i lt. absurd (omega arith) }
 
 module _ (old new : List ℕ) (kept : take (length old) new ≡ old) where
   behind : new ≡ old ++ drop (length old) new
@@ -263,7 +257,7 @@ counted_before lt_columns xs ys low high =
 pub adds_counted : (bit : ℕ → ℕ) (lt_columns width : ℕ) (old first second slice middle new : List ℕ) → middle ≡ old ++ first → new ≡ middle ++ slice → slice ≡ second → ArePlacesOfOnes bit 0 lt_columns first → ArePlacesOfOnes bit lt_columns width second
     → length middle - length old ≡ count_by (λ k. nat_lt k lt_columns) (drop (length old) new)
 adds_counted bit lt_columns width old first second slice middle new is_middle is_new is_slice low high =
-    let is : new ≡ old ++ (first ++ second) = is_new ∙ ap (λ l. middle ++ l) is_slice ∙ ap (λ l. l ++ second) is_middle ∙ append_assoc old first second in
+    let is = both_behind old first second slice middle new is_middle is_new is_slice in
     let rest : drop (length old) new ≡ first ++ second = ap (drop (length old)) is ∙ drop-append_seam old (first ++ second) in
     let long : length middle ≡ length old + length first = ap length is_middle ∙ length-append old first in
     let many = counted_before lt_columns first second (All-weaker (λ k. (0 ≤ k) × (k < lt_columns)) (λ k. k < lt_columns) (λ k b. b.1) first low.within) (All-weaker (λ k. (lt_columns ≤ k) × (k < width)) (λ k. lt_columns ≤ k) (λ k b. b.0) second high.within) in

@@ -2,8 +2,9 @@
 use Rattle.std.specs.Prelude.{◌≡◌, ℕ, ◌<◌, ◌≤◌, List, Contains, length, take}
 use Rattle.rq_algebra.specs.Arrangements.{ArePlaces}
 use Rattle.rq_algebra.specs.Systems.{at}
-use Rattle.rq_peeling.specs.Degrees.{CountsActive, HasFewestLeft, TakesColumnsLeft, is_active, is_left}
-use Rattle.rq_peeling.specs.Peeled.{ones_of, ColumnState, IsActive}
+use Rattle.rq_peeling.specs.RowDegrees.{CountsActive, HasFewestLeft, TakesColumnsLeft, is_active, is_left}
+use Rattle.rq_peeling.specs.ColumnState.{ColumnState, IsActive}
+use Rattle.rq_peeling.specs.RowOnes.{ones_of}
 
 -- the pivots so far: none of their rows has an active column any more
 pub record IsPeeledSo (lists : List (List ℕ)) (rows : List ℕ) (state : ColumnState) : Type 0 where

@@ -1,7 +1,9 @@
 pub mod Chosen
 pub mod ColumnRows
-pub mod Degrees
+pub mod ColumnState
 pub mod FirstPhaseRowSelectionStats
-pub mod Peeled
+pub mod Peeling
+pub mod RowDegrees
+pub mod RowOnes
 pub mod System
 pub mod SystemRows

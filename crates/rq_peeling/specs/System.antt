@@ -3,7 +3,7 @@ use Rattle.std.specs.Prelude.{◌≡◌, ℕ}
 use Rattle.rq_standard.specs.BitTable.{BitTable}
 use Rattle.rq_parts.specs.DenseOctetMatrix.{OctetTable}
 use Rattle.rq_peeling.specs.SystemRows.{system_rows}
-use Rattle.rq_peeling.specs.Peeled.{AreOnesOfRows}
+use Rattle.rq_peeling.specs.RowOnes.{AreOnesOfRows}
 use Rattle.rq_peeling.specs.declared.system.System.{System}
 
 -- what its rows are: bits, but from row `first_hdpc` on octets

@@ -2,7 +2,7 @@
 use Rattle.std.specs.Prelude.{◌≡◌, ℕ, ◌+◌, ◌<◌, ◌≤◌, ◌==◌, List, [], All, count_by, length}
 use Rattle.rq_standard.specs.ConstraintMatrix.{with_octet_rows}
 use Rattle.rq_parts.specs.DenseOctetMatrix.{OctetTable, entry_of}
-use Rattle.rq_peeling.specs.Peeled.{ones_of}
+use Rattle.rq_peeling.specs.RowOnes.{ones_of}
 
 -- how often a row of bits has a one in column k
 abbrev pub one_in : List (List ℕ) → ℕ → ℕ → ℕ

@@ -4,7 +4,7 @@ ghost use Rattle.std.specs.Prelude.{◌≡◌, ℕ, ◌+◌, ◌-◌, ◌*◌, �
 ghost use Rattle.rq_algebra.specs.Systems.{at};
 ghost use Rattle.rq_bytes.specs.declared.error.Error.TheVariants.{OutOfMemory};
 ghost use Rattle.rq_peeling.specs.ColumnRows.{AreEnds, ListsColumns, PlacesRow};
-ghost use Rattle.rq_peeling.specs.Degrees.{LowersRows};
+ghost use Rattle.rq_peeling.specs.RowDegrees.{LowersRows};
 
 use crate::degrees::RowDegrees;
 use crate::ones::RowOnes;

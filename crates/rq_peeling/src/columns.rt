@@ -2,7 +2,7 @@
 //! V and U of RFC 6330 (section 5.4.2.2).
 ghost use Rattle.std.specs.Prelude.{◌≡◌, ◌+◌, ◌<◌, ◌≤◌, ◌↔◌, length, IsTrue, IfOk, IfErr};
 ghost use Rattle.rq_bytes.specs.declared.error.Error.TheVariants.{OutOfMemory};
-ghost use Rattle.rq_peeling.specs.Peeled.{IsOrderOf, IsActive, first_columns, ExchangesColumns, EndsActive};
+ghost use Rattle.rq_peeling.specs.ColumnState.{IsOrderOf, IsActive, first_columns, ExchangesColumns, EndsActive};
 ghost use Rattle.rq_algebra.specs.Systems.{at};
 
 use rq_bytes::error::Error;
@@ -20,7 +20,7 @@ pub struct ColumnOrder {
 }
 
 impl Model for ColumnOrder {
-    ghost use Rattle.rq_peeling.specs.Peeled.{ColumnState, IsColumnState};
+    ghost use Rattle.rq_peeling.specs.ColumnState.{ColumnState, IsColumnState};
 
     ghost Value = { ColumnState };
 

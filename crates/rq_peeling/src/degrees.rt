@@ -3,7 +3,7 @@
 ghost use Rattle.std.specs.Prelude.{◌≡◌, ◌+◌, ◌-◌, ◌^◌, ◌<◌, ◌≤◌, [], All, Contains, length, take, IfSome, IfNone, IfOk, OnOk, IfErr};
 ghost use Rattle.rq_algebra.specs.Systems.{at};
 ghost use Rattle.rq_bytes.specs.declared.error.Error.TheVariants.{OutOfMemory};
-ghost use Rattle.rq_peeling.specs.Degrees.{AllHaveNone, AreListed, HasLeastDegree, LowersRows, MayAdd, NoneHas};
+ghost use Rattle.rq_peeling.specs.RowDegrees.{AllHaveNone, AreListed, HasLeastDegree, LowersRows, MayAdd, NoneHas};
 
 use rq_bytes::error::Error;
 use std::alloc::Global;
@@ -23,7 +23,7 @@ pub struct RowDegrees {
 
 impl Model for RowDegrees {
     ghost use Rattle.std.specs.Prelude.{ℕ, List};
-    ghost use Rattle.rq_peeling.specs.Degrees.{AreListed};
+    ghost use Rattle.rq_peeling.specs.RowDegrees.{AreListed};
 
     ghost Value = { List ℕ };
 
@@ -176,7 +176,7 @@ struct RowList {
 
 impl Model for RowList {
     ghost use Rattle.std.specs.Prelude.{◌-◌, ◌≤◌, length, take};
-    ghost use Rattle.rq_peeling.specs.Degrees.{ListedRows};
+    ghost use Rattle.rq_peeling.specs.RowDegrees.{ListedRows};
 
     ghost Value = { ListedRows };
 

@@ -2,8 +2,8 @@
 ghost use Rattle.std.specs.Prelude.{◌≡◌, ℕ, ◌^◌, ◌<◌, ◌++◌, All, count_by, drop, length, nat_lt, IfOk, OnOk, IfErr};
 ghost use Rattle.std.specs.List.{concat, sum_by};
 ghost use Rattle.rq_bytes.specs.declared.error.Error.TheVariants.{OutOfMemory};
-ghost use Rattle.rq_peeling.specs.Degrees.{CountsBefore};
-ghost use Rattle.rq_peeling.specs.Peeled.{ones_of, AreOnesOfRows, AddsOneColumns};
+ghost use Rattle.rq_peeling.specs.RowDegrees.{CountsBefore};
+ghost use Rattle.rq_peeling.specs.RowOnes.{ones_of, AreOnesOfRows, AddsOneColumns};
 
 use rq_bytes::error::Error;
 use rq_bytes::slices::part;
@@ -25,8 +25,8 @@ pub struct RowOnes {
 impl Model for RowOnes {
     ghost use Rattle.std.specs.Prelude.{ℕ, List};
     ghost use Rattle.rq_parts.specs.ImmutableListMap.{lists_between};
-    ghost use Rattle.rq_peeling.specs.Degrees.{CountsBefore};
-    ghost use Rattle.rq_peeling.specs.Peeled.{AreAllBetween};
+    ghost use Rattle.rq_peeling.specs.RowDegrees.{CountsBefore};
+    ghost use Rattle.rq_peeling.specs.RowOnes.{AreAllBetween};
 
     ghost Value = { List (List ℕ) };
 

@@ -3,8 +3,9 @@
 ghost use Rattle.std.specs.Prelude.{◌≡◌, false, ◌<◌, ◌≤◌, [], length, slice_index_or, All, Contains, IsTrue, IfSome, IfNone, OnOk, IfOk, IfErr};
 ghost use Rattle.rq_bytes.specs.declared.error.Error.TheVariants.{OutOfMemory};
 ghost use Rattle.rq_algebra.specs.Systems.{at};
-ghost use Rattle.rq_peeling.specs.Degrees.{AllHaveNone, CountsActive, HasLeastDegree, KeepsDegrees, LowersRows, TakesColumnsLeft, TakesFewest, active_ones};
-ghost use Rattle.rq_peeling.specs.Peeled.{IsOrderOf, IsActive, HasNoActive, TakesRow, InactivatesRow, ones_of};
+ghost use Rattle.rq_peeling.specs.RowDegrees.{AllHaveNone, CountsActive, HasLeastDegree, KeepsDegrees, LowersRows, TakesColumnsLeft, TakesFewest, active_ones};
+ghost use Rattle.rq_peeling.specs.ColumnState.{IsOrderOf, IsActive, HasNoActive, TakesRow, InactivatesRow};
+ghost use Rattle.rq_peeling.specs.RowOnes.{ones_of};
 ghost use Rattle.rq_peeling.specs.Chosen.{HasChosen, IsPeeledSo};
 
 use crate::columns::ColumnOrder;

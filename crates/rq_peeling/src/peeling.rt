@@ -3,8 +3,8 @@
 ghost use Rattle.std.specs.Prelude.{◌≡◌, ◌<◌, ◌≤◌, drop, length, IfOk, IfErr};
 ghost use Rattle.rq_bytes.specs.declared.error.Error.TheVariants.{OutOfMemory};
 ghost use Rattle.rq_algebra.specs.Systems.{at};
-ghost use Rattle.rq_peeling.specs.Degrees.{TakesColumnsLeft, TakesFewest};
-ghost use Rattle.rq_peeling.specs.Peeled.{IsPeeled};
+ghost use Rattle.rq_peeling.specs.RowDegrees.{TakesColumnsLeft, TakesFewest};
+ghost use Rattle.rq_peeling.specs.Peeling.{IsPeeled};
 
 use crate::peeler::Peeler;
 use crate::system::System;
@@ -13,8 +13,8 @@ use std::alloc::Global;
 use std::marker::Model;
 
 /// Columns with pivots among rows of bits, and the order of all columns: pivots' first, in the
-/// order in which they were chosen, then all others, which are inactive from then on. Contracts see the rows that have pivots,
-/// that order, and the place of each column in it.
+/// order in which they were chosen, then all others, which are inactive from then on. Contracts see
+/// the rows that have pivots, that order, and the place of each column in it.
 #[derive(Drop)]
 pub struct Peeling {
     // All are read in any order: of narrow numbers more stay in a near cache.
@@ -24,7 +24,7 @@ pub struct Peeling {
 }
 
 impl Model for Peeling {
-    ghost use Rattle.rq_peeling.specs.Peeled.{Pivots};
+    ghost use Rattle.rq_peeling.specs.Peeling.{Pivots};
 
     ghost Value = { Pivots };
 

@@ -30,7 +30,7 @@ impl Model for FirstPhaseRowSelectionStats {
 
 impl FirstPhaseRowSelectionStats {
     ghost use Rattle.rq_peeling.specs.FirstPhaseRowSelectionStats.{ChangesRow, CountsOnes, HasLeft, IsLeftOf, KeepsCounts, ones_in_range};
-    ghost use Rattle.rq_peeling.specs.Degrees.{HasLeastOnes};
+    ghost use Rattle.rq_peeling.specs.RowDegrees.{HasLeastOnes};
 
     /// The counts of a matrix of which all columns before `end_col`, and all rows before `end_row`,
     /// are left.

@@ -5,7 +5,7 @@ ghost use Rattle.rq_bytes.specs.declared.error.Error.TheVariants.{OutOfMemory};
 ghost use Rattle.rq_parts.specs.DenseOctetMatrix.{HasOctets};
 ghost use Rattle.rq_peeling.specs.SystemRows.{AreOctetRows, AreRowsOfBits};
 ghost use Rattle.rq_peeling.specs.ColumnRows.{ListsColumns};
-ghost use Rattle.rq_peeling.specs.Degrees.{CountsBefore};
+ghost use Rattle.rq_peeling.specs.RowDegrees.{CountsBefore};
 
 use crate::column_rows::ColumnRows;
 use crate::ones::RowOnes;

@@ -6,7 +6,7 @@ use Rattle.rq_algebra.specs.Arrangements.{ArePlaces}
 use Rattle.rq_algebra.specs.Systems.{stacked}
 use Rattle.rq_algebra.proofs.Stacks.{stacked_above, stacked_below}
 use Rattle.rq_elimination.specs.OperationCounts.{beyond_one, multiples, multiples-none, multiples-more, triangle, triangle-none, triangle-more}
-use Rattle.rq_solver.specs.HdpcOctets.{batch_bound}
+use Rattle.rq_solver.specs.HdpcOctets.{hdpc_bound}
 use Rattle.rq_peeling.proofs.PlaceCounts.{few_places}
 use Rattle.rq_elimination.proofs.Choices.{if_same, if_apart}
 
@@ -116,9 +116,9 @@ module _ (bound : ℕ) (place : ℕ → ℕ) where
 pub one_turn_more : (each before now turn t : ℕ) → now ≤ before + t * each → turn ≤ now + each → turn ≤ before + (t + 1) * each
 one_turn_more each before now turn t l m = omega arith
 
--- the batch
-pub batch_sum : (k count width done met pivots : ℕ) → done ≤ width → met ≤ pivots → k + (done * k + count * met) ≤ k * (1 + width) + count * pivots
-batch_sum k count width done met pivots l m =
+-- the HDPC rows
+pub hdpc_sum : (k count width done met pivots : ℕ) → done ≤ width → met ≤ pivots → k + (done * k + count * met) ≤ k * (1 + width) + count * pivots
+hdpc_sum k count width done met pivots l m =
     let columns : done * k ≤ width * k = mul-le-mul_right k l in
     let rows : count * met ≤ count * pivots = mul-le-mul_left count m in
     omega (arith, columns, rows)
@@ -252,7 +252,7 @@ few_with_hdpc p u h m more rows columns =
     let hdpc : p * (more + (h + 1)) ≤ p * (p + u) = mul-le-mul_left p columns in
     omega (arith, all, hdpc, columns)
 
-few_shifted : (p u less_h less_m h m more : ℕ) → h ≡ less_h + 1 → m ≡ less_m + 1 → p + h ≤ m → more + h ≤ p + u → m * p + batch_bound h (p + u) p + u * (m - 1) + p * more ≤ 2 * (p + u) * m
+few_shifted : (p u less_h less_m h m more : ℕ) → h ≡ less_h + 1 → m ≡ less_m + 1 → p + h ≤ m → more + h ≤ p + u → m * p + hdpc_bound h (p + u) p + u * (m - 1) + p * more ≤ 2 * (p + u) * m
 few_shifted p u less_h less_m h m more eh em rows columns =
     let a : less_h + 1 - 1 ≡ less_h = omega arith in
     let b : less_m + 1 - 1 ≡ less_m = omega arith in
@@ -265,7 +265,7 @@ few_bits p u less m more e rows columns =
     let second : p * (p + u) ≤ (less + 1) * (p + u) = mul-le-mul_right (p + u) (omega arith) in
     rw (e, a) (omega (arith, first, second))
 
-pub few_in_all : (p u h m more : ℕ) → p + h ≤ m → more + h ≤ p + u → m * p + batch_bound h (p + u) p + u * (m - 1) + p * more ≤ 2 * (p + u) * m
+pub few_in_all : (p u h m more : ℕ) → p + h ≤ m → more + h ≤ p + u → m * p + hdpc_bound h (p + u) p + u * (m - 1) + p * more ≤ 2 * (p + u) * m
 few_in_all p u h m more rows columns = elim (cases_lt 0 m) [
   | inl some ↦ elim (cases_lt 0 h) [
     | inl has ↦ few_shifted p u (h - 1) (m - 1) h m more (omega arith) (omega arith) rows columns

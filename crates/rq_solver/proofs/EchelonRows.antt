@@ -44,9 +44,6 @@ module _ (rows : List ℕ) (done : ℕ) (a b c : OctetTable) (are : AreRows rows
   pivot_zero : (p : ℕ) → p < done → entry_of b (at rows done) p ≡ 0
   pivot_zero p l = scales.at_dest p (omega arith) ∙ ap (octets.mul (octets.inverse (entry_of a (at rows done) done))) (echelon.zeros done p in_rows l l) ∙ mul_zero octets (octets.inverse (entry_of a (at rows done) done))
 
-  early_row : (i p : ℕ) → i ≤ done → i < length rows → p < done → entry_of b (at rows i) p ≡ entry_of a (at rows i) p → entry_of c (at rows i) p ≡ entry_of a (at rows i) p
-  early_row i p l n m same = clears.kept i p l n (rw width (omega arith)) ∙ same
-
   zeros_next : (i p : ℕ) → i < length rows → p < i → p < done + 1 → entry_of c (at rows i) p ≡ 0
   zeros_next i p l early m = elim (cases_lt done i) [
     | inl behind ↦ clears.cleared i p behind l l (rw width (omega arith)) ∙ elim (cases_eq p done) [

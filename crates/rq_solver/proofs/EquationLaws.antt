@@ -12,9 +12,9 @@ use Rattle.rq_standard.specs.OctetField.{octets}
 use Rattle.rq_standard.specs.TableRows.{intermediate_symbols}
 use Rattle.rq_bytes.specs.SymbolSlab.{Slab}
 use Rattle.rq_parts.specs.DenseOctetMatrix.{OctetTable, entry_of}
-use Rattle.rq_solver.specs.Solving.{IsSolution, AreEquations, AreEquationsWithoutHdpc}
+use Rattle.rq_solver.specs.Solving.{AreEquations, AreEquationsWithoutHdpc}
 use Rattle.rq_elimination.proofs.RowStepLaws.{SameEntries}
-use Rattle.rq_solver.proofs.SolutionLaws.{finds_same, homogeneous_same, is_solution}
+use Rattle.rq_solver.proofs.SolutionLaws.{finds_same, homogeneous_same}
 
 module _ (row : TableRow) (ids : List ℕ) (bits : BitTable) (hdpc : OctetTable) (part : IsBinaryPart row ids bits) (are_hdpc : AreHdpcRows row (entry_of hdpc)) where
   handed_rows : ℕ → ℕ → ℕ
@@ -70,12 +70,6 @@ module _ (row : TableRow) (ids : List ℕ) (bits : BitTable) (hdpc : OctetTable)
     pub finds_equations : (operations : List Operation) → FindsColumn octets (length handed.values) (intermediate_symbols row) (with_octet_rows row.ldpc_symbols row.hdpc_symbols bits.bit (entry_of hdpc)) operations
         → FindsColumn octets (equation_count row ids) (intermediate_symbols row) (equations row ids) operations
     finds_equations operations finds = finds_same octets (equation_count row ids) (intermediate_symbols row) _ (equations row ids) equations_same operations (rw count at finds)
-
-    -- the outcome speaks of the equations of the ids
-    pub solution_of_equations : (slab : Slab) (operations : List Operation) → IsSolution (length handed.values) (intermediate_symbols row) (with_octet_rows row.ldpc_symbols row.hdpc_symbols bits.bit (entry_of hdpc)) handed slab operations
-        → IsSolution (equation_count row ids) (intermediate_symbols row) (equations row ids) handed slab operations
-    solution_of_equations slab operations solution =
-        is_solution (equation_count row ids) (intermediate_symbols row) (equations row ids) operations (finds_equations operations solution.finds) handed slab are.binary.order solution.made
 
     pub homogeneous_of_equations : HasHomogeneousColumn octets (length handed.values) (intermediate_symbols row) (with_octet_rows row.ldpc_symbols row.hdpc_symbols bits.bit (entry_of hdpc)) → HasHomogeneousColumn octets (equation_count row ids) (intermediate_symbols row) (equations row ids)
     homogeneous_of_equations null = homogeneous_same octets (equation_count row ids) (intermediate_symbols row) _ (equations row ids) equations_same (rw count at null)

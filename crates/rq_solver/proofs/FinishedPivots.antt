@@ -11,22 +11,17 @@ use Rattle.rq_peeling.specs.SystemRows.{AreRowsOfBits, one_in}
 use Rattle.rq_solver.specs.FourthPhase.{FinishesPivots, IsFinished, Sparsifies}
 use Rattle.rq_solver.specs.PivotAdditions.{IsCleared, IsUncleared, RecordsPivots, TakesPivots, TakesPivotsBy}
 use Rattle.rq_solver.specs.SecondPhase.{AreUnits, ClearsColumns, IsStepTo}
-use Rattle.rq_peeling.specs.Peeled.{ones_of, IsPeeled}
-use Rattle.rq_elimination.specs.Recorded.{Performs, Records}
+use Rattle.rq_peeling.specs.Peeling.{IsPeeled}
+use Rattle.rq_peeling.specs.RowOnes.{ones_of}
+use Rattle.rq_elimination.specs.RecordedRows.{Performs, Records}
 use Rattle.rq_elimination.specs.declared.recorded.RecordedRows.{RecordedRows}
 use Rattle.rq_elimination.specs.RowSteps.{AreRows, IsEchelon, rows_after}
 use Rattle.rq_elimination.proofs.Performing.{performs_none, performs_more, records_none, records_more}
 use Rattle.rq_elimination.proofs.Choices.{if_same, if_apart}
+use Rattle.rq_peeling.proofs.ActiveOnes.{not_both}
 use Rattle.rq_peeling.proofs.PlaceCounts.{count_contains}
 use Rattle.rq_elimination.proofs.StepColumns.{rows_after-none, rows_after-next}
 use Rattle.rq_solver.proofs.StepsToRows.{steps_to, sums_to}
-
-true_is_not_false : (b : Bool) → b ≡ true → b ≡ false → ⊥
-true_is_not_false b t f =
-    let number : Bool → ℕ = λ x. if x then 1 else 0 in
-    let one : number b ≡ 1 = ap number t in
-    let none : number b ≡ 0 = ap number f in
-    omega (arith, one, none)
 
 module _ (lists : List (List ℕ)) (rows order places : List ℕ) (width : ℕ) (bits : AreRowsOfBits width lists) (peeled : IsPeeled width lists (record { rows = rows; order = order; places = places })) where
   rows_apart : (p q : ℕ) → p < length rows → q < length rows → p ≢ q → at rows p ≢ at rows q
@@ -110,7 +105,7 @@ module _ (lists : List (List ℕ)) (rows order places : List ℕ) (width : ℕ) 
         | inr d ↦ v.unmarked m p k (omega arith) l (sym (same p d) ∙ e)
       ];
       uncleared = λ m pivots p late l e. elim (cases_eq p q) [
-        | inl f ↦ absurd (true_is_not_false (get_or now p false) e (ap (λ (n : ℕ). get_or now n false) f ∙ unset))
+        | inl f ↦ absurd (not_both (get_or now p false) e (ap (λ (n : ℕ). get_or now n false) f ∙ unset))
         | inr d ↦ v.uncleared m pivots p (omega arith) l (sym (same p d) ∙ e)
       ];
     }
@@ -138,7 +133,7 @@ module _ (lists : List (List ℕ)) (rows order places : List ℕ) (width : ℕ) 
         within = All-append (IsStepTo (Contains rows)) v.steps taken.steps v.within (sums_to (Contains rows) (at rows q) (Contains-get_or rows q 0 in_rows) (length cur.table.rows) taken.steps taken.sums);
         elsewhere = λ m r k out. after_both m r k ∙ taken.elsewhere (rows_after octets v.steps m) r k (λ e. out q (omega arith) in_rows (sym e)) ∙ v.elsewhere m r k (λ p late l. out p (omega arith) l);
         unmarked = λ m p k late l e. elim (cases_eq p q) [
-          | inl f ↦ absurd (true_is_not_false (get_or now q false) yes (ap (λ (n : ℕ). get_or now n false) (sym f) ∙ e))
+          | inl f ↦ absurd (not_both (get_or now q false) yes (ap (λ (n : ℕ). get_or now n false) (sym f) ∙ e))
           | inr d ↦ other_stays m p k l d ∙ v.unmarked m p k (omega arith) l (sym (same p d) ∙ e)
         ];
         uncleared = λ m pivots p late l e. elim (cases_eq p q) [
@@ -149,8 +144,8 @@ module _ (lists : List (List ℕ)) (rows order places : List ℕ) (width : ℕ) 
 
   -- ---- the end
 
-  module _ (reduced : List ℕ) (marks : List Bool) (count : ℕ) where
-    pub finish_none : (old : RecordedRows) → FinishesPivots lists rows order reduced marks count 0 old old
+  module _ (inactive_rows : List ℕ) (marks : List Bool) (count : ℕ) where
+    pub finish_none : (old : RecordedRows) → FinishesPivots lists rows order inactive_rows marks count 0 old old
     finish_none old = record {
       steps = [];
       records = records_none old;
@@ -159,8 +154,8 @@ module _ (lists : List (List ℕ)) (rows order places : List ℕ) (width : ℕ) 
       final = λ m column units zeros shown plain raw p l. absurd (omega arith);
     }
 
-    module _ (t : ℕ) (in_rows : t < length rows) (old cur mid : RecordedRows) (v : FinishesPivots lists rows order reduced marks count t old cur) (turn : ClearsColumns reduced (at rows t) 0 count count (entry_of cur.table (at rows t)) cur mid)
-        (apart : (p f : ℕ) → p < length rows → f < count → at rows p ≢ at reduced f) where
+    module _ (t : ℕ) (in_rows : t < length rows) (old cur mid : RecordedRows) (v : FinishesPivots lists rows order inactive_rows marks count t old cur) (turn : ClearsColumns inactive_rows (at rows t) 0 count count (entry_of cur.table (at rows t)) cur mid)
+        (apart : (p f : ℕ) → p < length rows → f < count → at rows p ≢ at inactive_rows f) where
       first_recorded : Records (v.steps ++ turn.steps) old mid
       first_recorded = records_more v.steps turn.steps old cur mid v.records turn.records
 
@@ -179,10 +174,10 @@ module _ (lists : List (List ℕ)) (rows order places : List ℕ) (width : ℕ) 
       first_elsewhere : (m : ℕ → ℕ → ℕ) (r k : ℕ) → ((p : ℕ) → p < t + 1 → at rows p ≢ r) → rows_after octets (v.steps ++ turn.steps) m r k ≡ m r k
       first_elsewhere m r k out = first_is m r k ∙ turn.elsewhere (rows_after octets v.steps m) r k (λ e. out t (omega arith) (sym e)) ∙ v.elsewhere m r k (λ p l. out p (omega arith))
 
-      module _ (m : ℕ → ℕ → ℕ) (column : ℕ → ℕ) (units : AreUnits reduced 0 count column m) (zeros : (f i : ℕ) → f < count → i < length rows → m (at reduced f) (at order i) ≡ 0)
+      module _ (m : ℕ → ℕ → ℕ) (column : ℕ → ℕ) (units : AreUnits inactive_rows 0 count column m) (zeros : (f i : ℕ) → f < count → i < length rows → m (at inactive_rows f) (at order i) ≡ 0)
           (shown : (p f : ℕ) → p < length rows → f < count → m (at rows p) (column f) ≡ entry_of old.table (at rows p) f) where
-        reduced_stay : (f k : ℕ) → f < count → rows_after octets v.steps m (at reduced f) k ≡ m (at reduced f) k
-        reduced_stay f k l = v.elsewhere m (at reduced f) k (λ p n. apart p f (omega arith) l)
+        reduced_stay : (f k : ℕ) → f < count → rows_after octets v.steps m (at inactive_rows f) k ≡ m (at inactive_rows f) k
+        reduced_stay f k l = v.elsewhere m (at inactive_rows f) k (λ p n. apart p f (omega arith) l)
 
         own_stays_yet : (k : ℕ) → rows_after octets v.steps m (at rows t) k ≡ m (at rows t) k
         own_stays_yet k = v.elsewhere m (at rows t) k (λ p l. rows_apart p t (omega arith) in_rows (λ e. omega (arith, e, l)))
@@ -196,7 +191,7 @@ module _ (lists : List (List ℕ)) (rows order places : List ℕ) (width : ℕ) 
             ∙ turn.cleared (rows_after octets v.steps m) column (λ a g from n o. reduced_stay a (column g) n ∙ units a g from n o)
             (λ g from n. own_stays_yet (column g) ∙ shown t g in_rows n ∙ ap (λ table. entry_of table (at rows t) g) (sym v.records.table)) f (omega arith) l l
 
-      pub finish_plain : get_or marks t false ≡ false → FinishesPivots lists rows order reduced marks count (t + 1) old mid
+      pub finish_plain : get_or marks t false ≡ false → FinishesPivots lists rows order inactive_rows marks count (t + 1) old mid
       finish_plain unset = record {
         steps = v.steps ++ turn.steps;
         records = first_recorded;
@@ -223,7 +218,7 @@ module _ (lists : List (List ℕ)) (rows order places : List ℕ) (width : ℕ) 
         all_other : (m : ℕ → ℕ → ℕ) (p k : ℕ) → p < length rows → p ≢ t → rows_after octets ((v.steps ++ turn.steps) ++ taken.steps) m (at rows p) k ≡ rows_after octets v.steps m (at rows p) k
         all_other m p k l d = all_is m (at rows p) k ∙ taken.elsewhere (rows_after octets (v.steps ++ turn.steps) m) (at rows p) k (rows_apart p t l in_rows d) ∙ first_other m p k l d
 
-        module _ (m : ℕ → ℕ → ℕ) (column : ℕ → ℕ) (units : AreUnits reduced 0 count column m) (zeros : (f i : ℕ) → f < count → i < length rows → m (at reduced f) (at order i) ≡ 0)
+        module _ (m : ℕ → ℕ → ℕ) (column : ℕ → ℕ) (units : AreUnits inactive_rows 0 count column m) (zeros : (f i : ℕ) → f < count → i < length rows → m (at inactive_rows f) (at order i) ≡ 0)
             (shown : (p f : ℕ) → p < length rows → f < count → m (at rows p) (column f) ≡ entry_of old.table (at rows p) f)
             (plain : (p : ℕ) → p < length rows → get_or marks p false ≡ false → IsCleared rows order m (at rows p)) (raw : (p : ℕ) → p < length rows → get_or marks p false ≡ true → IsUncleared lists rows order m (at rows p)) where
           done_before : (j : ℕ) → j < t → j < length rows → IsFinished rows order count column (rows_after octets (v.steps ++ turn.steps) m) (at rows j)
@@ -247,7 +242,7 @@ module _ (lists : List (List ℕ)) (rows order places : List ℕ) (width : ℕ) 
                     ∙ first_zero m column units zeros shown f n;
               }
 
-        pub finish_again : FinishesPivots lists rows order reduced marks count (t + 1) old new
+        pub finish_again : FinishesPivots lists rows order inactive_rows marks count (t + 1) old new
         finish_again = record {
           steps = (v.steps ++ turn.steps) ++ taken.steps;
           records = records_more (v.steps ++ turn.steps) taken.steps old mid new first_recorded taken.done;
@@ -265,11 +260,11 @@ module _ (lists : List (List ℕ)) (rows order places : List ℕ) (width : ℕ) 
         }
 
 -- rows in echelon form that are no pivots' stay so where these take back what they took
-pub echelon_stays : (lists : List (List ℕ)) (rows order : List ℕ) (marks : List Bool) (reduced : List ℕ) (count : ℕ) (old new : RecordedRows) → Sparsifies lists rows order marks 0 old new → AreRows reduced old.table → count ≤ old.table.width
-    → ((p f : ℕ) → p < length rows → f < length reduced → at rows p ≢ at reduced f) → IsEchelon reduced count old.table → IsEchelon reduced count new.table
-echelon_stays lists rows order marks reduced count old new back are narrow apart echelon =
-    let same : (i k : ℕ) → i < length reduced → k < count → entry_of new.table (at reduced i) k ≡ entry_of old.table (at reduced i) k = (λ (i k : ℕ) (l : i < length reduced) (n : k < count).
-    back.performs.entries (at reduced i) k (are.below i l) (omega arith) ∙ back.elsewhere (entry_of old.table) (at reduced i) k (λ p from o. apart p i o l)) in
+pub echelon_stays : (lists : List (List ℕ)) (rows order : List ℕ) (marks : List Bool) (inactive_rows : List ℕ) (count : ℕ) (old new : RecordedRows) → Sparsifies lists rows order marks 0 old new → AreRows inactive_rows old.table → count ≤ old.table.width
+    → ((p f : ℕ) → p < length rows → f < length inactive_rows → at rows p ≢ at inactive_rows f) → IsEchelon inactive_rows count old.table → IsEchelon inactive_rows count new.table
+echelon_stays lists rows order marks inactive_rows count old new back are narrow apart echelon =
+    let same : (i k : ℕ) → i < length inactive_rows → k < count → entry_of new.table (at inactive_rows i) k ≡ entry_of old.table (at inactive_rows i) k = (λ (i k : ℕ) (l : i < length inactive_rows) (n : k < count).
+    back.performs.entries (at inactive_rows i) k (are.below i l) (omega arith) ∙ back.elsewhere (entry_of old.table) (at inactive_rows i) k (λ p from o. apart p i o l)) in
     record {
       fits = echelon.fits;
       ones = λ p l. same p p (omega (arith, echelon.fits)) l ∙ echelon.ones p l;

@@ -7,7 +7,7 @@ use Rattle.rq_algebra.specs.Systems.{at, HasElements}
 use Rattle.rq_algebra.proofs.Sums.{add_zero, mul_zero, mul_one}
 use Rattle.rq_standard.specs.OctetField.{octets}
 use Rattle.rq_solver.specs.HdpcOctets.{ClearsOctets, AreOctetsIn, HasPivotsBeside, PivotsAreCleared, ShowHdpcOctets, CombinesOctets, ChangesOctets, octets_from, with_zeros}
-use Rattle.rq_elimination.specs.Recorded.{Performs}
+use Rattle.rq_elimination.specs.RecordedRows.{Performs}
 use Rattle.rq_elimination.specs.RowSteps.{sum_step, rows_after}
 use Rattle.rq_elimination.specs.declared.recorded.RecordedRows.{RecordedRows}
 use Rattle.rq_elimination.proofs.StepColumns.{rows_after-none, rows_after-next}

@@ -4,14 +4,14 @@ use Rattle.std.specs.Global.{Global}
 use Rattle.std.specs.List.Sorted.{IsPermutation}
 use Rattle.std.proofs.lemmas.List.{get_or-drop, length-drop}
 use Rattle.rq_algebra.specs.Systems.{at}
-use Rattle.rq_elimination.specs.Recorded.{ChangesRows}
+use Rattle.rq_elimination.specs.RecordedRows.{ChangesRows}
 use Rattle.rq_elimination.specs.OperationCounts.{additions, triangle}
 use Rattle.rq_elimination.specs.RowSteps.{IsEchelon}
 use Rattle.rq_elimination.specs.declared.counts.PhaseEnds.{PhaseEnds}
-use Rattle.rq_peeling.specs.Peeled.{IsPeeled, Pivots}
+use Rattle.rq_peeling.specs.Peeling.{IsPeeled, Pivots}
 use Rattle.rq_peeling.specs.System.{rows_of_system}
 use Rattle.rq_peeling.specs.declared.system.System.{System}
-use Rattle.rq_solver.specs.EliminationState.{eliminated_at, inactive_count, left_rows, sparsified_at, substituted_at, AddsLater, IsUnderWay, KeepsPivots, KeepsRows}
+use Rattle.rq_solver.specs.Elimination.{eliminated_at, inactive_count, left_rows, sparsified_at, substituted_at, AddsLater, IsUnderWay, KeepsPivots, KeepsRows}
 use Rattle.rq_solver.specs.FirstPhase.{HasPeeledPivots}
 use Rattle.rq_solver.specs.FourthPhase.{FinishesPivotRows, Sparsifies}
 use Rattle.rq_solver.specs.Phases.{ClearsPivots, FindsOrder, LacksPivots, SolvesInactive, SolvesSystem}

@@ -38,15 +38,6 @@ module _ (lists : List (List ℕ)) (first : ℕ) (hdpc : OctetTable) (order : Li
   abbrev pub rows_so_far : ℕ → ℕ → ℕ → ℕ
   rows_so_far done r f = with_octet_rows first done (one_in lists) (entry_of hdpc) r (at order (pivots + f))
 
-  pub leading_first : (inactive : ℕ) (table : OctetTable) → HasLeading (length lists) inactive (length lists) (λ r f. one_in lists r (at order (pivots + f))) table → HasLeading (length lists) inactive (length lists) (rows_so_far 0) table
-  leading_first inactive table v = record {
-    height_is = v.height_is;
-    wide = v.wide;
-    octets = v.octets;
-    written = λ i k l m. v.written i k l m ∙ sym (bit_row first 0 (entry_of hdpc) (one_in lists) i (at order (pivots + k)) (λ j n. absurd (omega arith)));
-    left = v.left;
-  }
-
   -- a row of octets changes no other row
   apart : (done i f : ℕ) → first + done ≢ i → rows_so_far done i f ≡ rows_so_far (done + 1) i f
   apart done i f d =

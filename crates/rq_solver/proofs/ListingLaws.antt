@@ -1,7 +1,7 @@
 -- Rows that are listed once each.
 use Rattle.std.proofs.Common.{◌≡◌, ℕ, ◌+◌, ◌-◌, ◌<◌, ◌≤◌, Bool, true, false, List, [], ◌∷◌, ◌++◌, Contains, length, drop, take, refl, sym, ap, ◌∙◌, arith, inl, inr, slice_index_or, append-nil, length-append}
 use Rattle.std.proofs.lemmas.Bool.{cases_lt}
-use Rattle.std.proofs.lemmas.List.{drop_all, drop_at, length-take-le, get_or-take, get_or_append_left, get_or-append_right, take_more, get_or_default}
+use Rattle.std.proofs.lemmas.List.{drop_all, drop_at, length-take-le, get_or-take, get_or_append_left, take_more, get_or_default}
 use borrow.Rule.Slice.PartMut.{put_mid, post_of, Post-is}
 use Rattle.rq_algebra.specs.Arrangements.{ArePlaces}
 use Rattle.rq_algebra.specs.Systems.{at}
@@ -59,13 +59,6 @@ module _ (a k : ℕ) (xs ys : List ℕ) (within : a ≤ length xs) where
   placed_first p l =
       let long = length-take-le a xs within in
       get_or_append_left (take a xs) (ys ++ post_of a k xs) 0 p (omega (arith, long)) ∙ get_or-take a xs p 0 l
-
-  pub placed_after : (q : ℕ) → q < length ys → at (put_mid a k xs ys) (a + q) ≡ at ys q
-  placed_after q l =
-      let back : a + q - a ≡ q = omega arith in
-      get_or-append_right (take a xs) (ys ++ post_of a k xs) a (a + q) 0 (length-take-le a xs within) (omega arith)
-      ∙ ap (λ (i : ℕ). at (ys ++ post_of a k xs) i) back
-      ∙ get_or_append_left ys (post_of a k xs) 0 q l
 
 -- all behind the first `a`
 module _ (a : ℕ) (xs ys : List ℕ) (within : a ≤ length xs) where

@@ -8,7 +8,7 @@ use Rattle.std.proofs.lemmas.List.Elements.{All-append, Contains-get_or}
 use Rattle.std.proofs.lemmas.List.Sorted.{Contains-permutation, IsPermutation-sym}
 use Rattle.std.proofs.Math.ListN.{get_or-map}
 use Rattle.rq_algebra.specs.Arrangements.{ArePlaces, IsFewOn}
-use Rattle.rq_algebra.proofs.Elimination.{ReadsPivots, HasFirstPivots}
+use Rattle.rq_algebra.proofs.PivotColumns.{ReadsPivots, HasFirstPivots}
 use Rattle.rq_algebra.specs.Following.{Follows}
 use Rattle.rq_algebra.specs.Operations.{Operation, Reorder, FindsColumn}
 use Rattle.rq_algebra.specs.Systems.{at, dot, stacked, HasElements, HasHomogeneousColumn, IsColumn, IsHomogeneousColumn, Solves}
@@ -25,8 +25,8 @@ use Rattle.rq_solver.specs.FourthPhase.{FinishesPivots, IsFinished, Sparsifies}
 use Rattle.rq_solver.specs.PivotAdditions.{IsCleared}
 use Rattle.rq_solver.specs.RowOrder.{ListsRows}
 use Rattle.rq_solver.specs.SecondPhase.{AreUnits, SubstitutesBack}
-use Rattle.rq_peeling.specs.Peeled.{IsOrderOf}
-use Rattle.rq_elimination.specs.Recorded.{ChangesRows}
+use Rattle.rq_peeling.specs.ColumnState.{IsOrderOf}
+use Rattle.rq_elimination.specs.RecordedRows.{ChangesRows}
 use Rattle.rq_elimination.specs.declared.recorded.RecordedRows.{RecordedRows}
 use Rattle.rq_elimination.specs.RowSteps.{IsEchelon, IsStuck, IsStepAmong, rows_after}
 use Rattle.rq_elimination.proofs.Performing.{below_range, changes_keep, shows_after}
@@ -46,7 +46,7 @@ module _ (height width : ℕ) (system : ℕ → ℕ → ℕ) (steps : List Opera
 
 module _ (height width : ℕ) (system : ℕ → ℕ → ℕ) (rows order places : List ℕ) (arranged : IsOrderOf width order places) (rows_are : ArePlaces (length rows) height (at rows)) (listed : List ℕ) (listing : ListsRows height rows listed)
     (inactive : ℕ) (middle last : RecordedRows) (peeled : HasPeeledPivots height width system (record { rows = rows; order = order; places = places }) (drop (length rows) listed) middle) (wide : length rows + inactive ≡ width) (narrow : inactive ≤ middle.table.width)
-    (changes : ChangesRows (drop (length rows) listed) middle last) (reduced : List ℕ) (permuted : IsPermutation (drop (length rows) listed) reduced) where
+    (changes : ChangesRows (drop (length rows) listed) middle last) (inactive_rows : List ℕ) (permuted : IsPermutation (drop (length rows) listed) inactive_rows) where
   abbrev pivots : ℕ
   pivots = length rows
 
@@ -77,27 +77,27 @@ module _ (height width : ℕ) (system : ℕ → ℕ → ℕ) (rows order places 
   -- ---- rows in the order of their pivots' columns
 
   row_of : ℕ → ℕ
-  row_of = stacked pivots (at rows) (at reduced)
+  row_of = stacked pivots (at rows) (at inactive_rows)
 
   of_pivot : (p : ℕ) → p < pivots → row_of p ≡ at rows p
   unfolding row_of
-  of_pivot p l = stacked_above pivots (at rows) (at reduced) p l
+  of_pivot p l = stacked_above pivots (at rows) (at inactive_rows) p l
 
-  of_left : (q : ℕ) → row_of (pivots + q) ≡ at reduced q
+  of_left : (q : ℕ) → row_of (pivots + q) ≡ at inactive_rows q
   unfolding row_of
-  of_left q = stacked_below pivots (at rows) (at reduced) q
+  of_left q = stacked_below pivots (at rows) (at inactive_rows) q
 
-  in_left : (q : ℕ) → q < length reduced → Contains left (at reduced q)
-  in_left q l = Contains-permutation reduced (drop (length rows) listed) (at reduced q) (IsPermutation-sym (drop (length rows) listed) reduced permuted) (Contains-get_or reduced q 0 l)
+  in_left : (q : ℕ) → q < length inactive_rows → Contains left (at inactive_rows q)
+  in_left q l = Contains-permutation inactive_rows (drop (length rows) listed) (at inactive_rows q) (IsPermutation-sym (drop (length rows) listed) inactive_rows permuted) (Contains-get_or inactive_rows q 0 l)
 
-  reduced_below : (q : ℕ) → q < length reduced → at reduced q < height
-  reduced_below q l = left_below height rows listed listing (at reduced q) (in_left q l)
+  reduced_below : (q : ℕ) → q < length inactive_rows → at inactive_rows q < height
+  reduced_below q l = left_below height rows listed listing (at inactive_rows q) (in_left q l)
 
   pivot_below : (p : ℕ) → p < pivots → at rows p < height
   pivot_below p l = rows_are.below p l
 
-  apart : (p q : ℕ) → p < pivots → q < length reduced → at rows p ≢ at reduced q
-  apart p q l n = left_apart height rows listed listing (at reduced q) p (in_left q n) l
+  apart : (p q : ℕ) → p < pivots → q < length inactive_rows → at rows p ≢ at inactive_rows q
+  apart p q l n = left_apart height rows listed listing (at inactive_rows q) p (in_left q n) l
 
   pivot_pivot : (i p : ℕ) → i < pivots → p < pivots → meant (at rows i) (at order p) ≡ (if at rows p == at rows i then 1 else 0)
   pivot_pivot i p l n = kept p (at rows i) n ∙ (peeled.pivots i l).entries p n
@@ -114,30 +114,30 @@ module _ (height width : ℕ) (system : ℕ → ℕ → ℕ) (rows order places 
 
   -- ---- an inactive column without a pivot
 
-  module _ (stuck : IsStuck reduced inactive last.table) where
+  module _ (stuck : IsStuck inactive_rows inactive last.table) where
     -- a row that is none of those with pivots stands behind them
-    behind : (i : ℕ) → i < height → ((p : ℕ) → p < pivots + stuck.done → row_of p ≢ i) → (q : ℕ) × (stuck.done ≤ q) × (q < length reduced) × (at reduced q ≡ i)
+    behind : (i : ℕ) → i < height → ((p : ℕ) → p < pivots + stuck.done → row_of p ≢ i) → (q : ℕ) × (stuck.done ≤ q) × (q < length inactive_rows) × (at inactive_rows q ≡ i)
     behind i l free = elim (pivot_or_left height rows listed listing i l) [
       | inl p ↦ absurd (free p.0 (omega (arith, p.1)) (of_pivot p.0 p.1 ∙ p.2))
       | inr c ↦
-          let d = Contains-permutation left reduced i permuted c in
-          let is : at reduced d.0 ≡ i = get_or_default reduced d.0 0 i d.1 ∙ d.2 in
+          let d = Contains-permutation left inactive_rows i permuted c in
+          let is : at inactive_rows d.0 ≡ i = get_or_default inactive_rows d.0 0 i d.1 ∙ d.2 in
           elim (cases_lt d.0 stuck.done) [
             | inl done ↦ absurd (free (pivots + d.0) (omega arith) (of_left d.0 ∙ is))
             | inr undone ↦ (d.0, undone, d.1, is)
           ]
     ]
 
-    nothing_behind : (q j : ℕ) → stuck.done ≤ q → q < length reduced → j < suc (pivots + stuck.done) → meant (at reduced q) (at order j) ≡ 0
+    nothing_behind : (q j : ℕ) → stuck.done ≤ q → q < length inactive_rows → j < suc (pivots + stuck.done) → meant (at inactive_rows q) (at order j) ≡ 0
     nothing_behind q j from l n = elim (cases_lt j pivots) [
-      | inl early ↦ left_pivot (at reduced q) j (in_left q l) early
+      | inl early ↦ left_pivot (at inactive_rows q) j (in_left q l) early
       | inr late ↦
           let f : ℕ = j - pivots in
           let back : pivots + f ≡ j = omega arith in
           let inside : f < inactive = omega (arith, stuck.below) in
-          ap (λ (k : ℕ). meant (at reduced q) (at order k)) (sym back) ∙ inactive_at (at reduced q) f (reduced_below q l) inside
+          ap (λ (k : ℕ). meant (at inactive_rows q) (at order k)) (sym back) ∙ inactive_at (at inactive_rows q) f (reduced_below q l) inside
           ∙ elim (cases_eq f stuck.done) [
-            | inl e ↦ ap (entry_of last.table (at reduced q)) e ∙ stuck.empty q from l
+            | inl e ↦ ap (entry_of last.table (at inactive_rows q)) e ∙ stuck.empty q from l
             | inr d ↦ stuck.echelon.zeros q f l (omega arith) (omega arith)
           ]
     ]
@@ -162,7 +162,7 @@ module _ (height width : ℕ) (system : ℕ → ℕ → ℕ) (rows order places 
 
   module _ (column : List ℕ) (alone : (m : ℕ → ℕ → ℕ) (k : ℕ) → ((p : ℕ) → p < pivots → m (at rows p) k ≡ 0) → (p : ℕ) → p < pivots → rows_after octets middle.operations m (at rows p) k ≡ m (at rows p) k)
       (handed : (p : ℕ) → p < pivots → dot octets width (system (at rows p)) (at column) ≡ 0)
-      (now : (q : ℕ) → q < length reduced → dot octets inactive (entry_of last.table (at reduced q)) (λ f. at column (at order (pivots + f))) ≡ 0) where
+      (now : (q : ℕ) → q < length inactive_rows → dot octets inactive (entry_of last.table (at inactive_rows q)) (λ f. at column (at order (pivots + f))) ≡ 0) where
     says : ℕ → ℕ → ℕ
     says i k = dot octets width (system i) (at column)
 
@@ -180,9 +180,9 @@ module _ (height width : ℕ) (system : ℕ → ℕ → ℕ) (rows order places 
         ∙ rows_after-apart octets left changes.steps (rows_after octets middle.operations says) (at rows p) 0 changes.within (λ c. left_apart height rows listed listing (at rows p) p c l refl)
         ∙ alone says 0 handed p l ∙ handed p l
 
-    left_says : (q : ℕ) → q < length reduced → dot octets width (meant (at reduced q)) (at column) ≡ 0
+    left_says : (q : ℕ) → q < length inactive_rows → dot octets width (meant (at inactive_rows q)) (at column) ≡ 0
     left_says q l =
-        let r : ℕ = at reduced q in
+        let r : ℕ = at inactive_rows q in
         let row : ℕ → ℕ = λ k. meant r (at order k) in
         let entries : ℕ → ℕ = λ k. at column (at order k) in
         let first : dot octets pivots row entries ≡ 0 = dot_zero octets pivots row entries (λ p m. ap (λ (v : ℕ). octets.mul v (entries p)) (left_pivot r p (in_left q l) m) ∙ zero_mul octets (entries p)) in
@@ -195,8 +195,8 @@ module _ (height width : ℕ) (system : ℕ → ℕ → ℕ) (rows order places 
       at = λ i l. elim (pivot_or_left height rows listed listing i l) [
         | inl p ↦ rw (← p.2) (pivot_says p.0 p.1)
         | inr c ↦
-            let d = Contains-permutation left reduced i permuted c in
-            let is : at reduced d.0 ≡ i = get_or_default reduced d.0 0 i d.1 ∙ d.2 in
+            let d = Contains-permutation left inactive_rows i permuted c in
+            let is : at inactive_rows d.0 ≡ i = get_or_default inactive_rows d.0 0 i d.1 ∙ d.2 in
             rw (← is) (left_says d.0 d.1)
       ];
     }
@@ -207,9 +207,9 @@ module _ (height width : ℕ) (system : ℕ → ℕ → ℕ) (rows order places 
 
   -- ---- all columns with pivots
 
-  module _ (lists : List (List ℕ)) (marks : List Bool) (returned reduced_state final : RecordedRows) (echelon : IsEchelon reduced inactive last.table) (back : Sparsifies lists rows order marks 0 last returned) (reduces : SubstitutesBack reduced inactive 0 returned reduced_state)
-      (finishes : FinishesPivots lists rows order reduced marks inactive (length rows) reduced_state final)
-      (placed : List ℕ) (long : (q : ℕ) → q < length reduced → at placed (length rows + q) ≡ at reduced q) (starts : (p : ℕ) → p < length rows → at placed p ≡ at rows p) where
+  module _ (lists : List (List ℕ)) (marks : List Bool) (returned reduced_state final : RecordedRows) (echelon : IsEchelon inactive_rows inactive last.table) (back : Sparsifies lists rows order marks 0 last returned) (reduces : SubstitutesBack inactive_rows inactive 0 returned reduced_state)
+      (finishes : FinishesPivots lists rows order inactive_rows marks inactive (length rows) reduced_state final)
+      (placed : List ℕ) (long : (q : ℕ) → q < length inactive_rows → at placed (length rows + q) ≡ at inactive_rows q) (starts : (p : ℕ) → p < length rows → at placed p ≡ at rows p) where
     abbrev late_steps : List Operation
     late_steps = back.steps ++ (reduces.steps ++ finishes.steps)
 
@@ -244,7 +244,7 @@ module _ (height width : ℕ) (system : ℕ → ℕ → ℕ) (rows order places 
     ended_is : (r k : ℕ) → ended r k ≡ rows_after octets finishes.steps between r k
     ended_is r k = rows_after-next octets steps late_steps system r k ∙ rows_after-next octets back.steps (reduces.steps ++ finishes.steps) meant r k ∙ rows_after-next octets reduces.steps finishes.steps given r k
 
-    fits : (q : ℕ) → q < inactive → q < length reduced
+    fits : (q : ℕ) → q < inactive → q < length inactive_rows
     fits q l = omega (arith, echelon.fits)
 
     given_at : (r f : ℕ) → r < height → f < inactive → given r (at order (pivots + f)) ≡ entry_of returned.table r f
@@ -253,21 +253,21 @@ module _ (height width : ℕ) (system : ℕ → ℕ → ℕ) (rows order places 
         sym (shows_after back.steps last returned meant (λ g. at order (length rows + g)) inactive (rw changes.performs.width narrow) back.performs (λ i g o u. sym (inactive_at i g (rw tall at o) u)) r f (rw tall l) n)
 
     -- the rows that are left take no part in that
-    given_left : (q k : ℕ) → q < length reduced → given (at reduced q) k ≡ meant (at reduced q) k
-    given_left q k l = back.elsewhere meant (at reduced q) k (λ p from n. apart p q n l)
+    given_left : (q k : ℕ) → q < length inactive_rows → given (at inactive_rows q) k ≡ meant (at inactive_rows q) k
+    given_left q k l = back.elsewhere meant (at inactive_rows q) k (λ p from n. apart p q n l)
 
-    given_zero : (f p : ℕ) → f < inactive → p < pivots → given (at reduced f) (at order p) ≡ 0
-    given_zero f p l n = given_left f (at order p) (fits f l) ∙ left_pivot (at reduced f) p (in_left f (fits f l)) n
+    given_zero : (f p : ℕ) → f < inactive → p < pivots → given (at inactive_rows f) (at order p) ≡ 0
+    given_zero f p l n = given_left f (at order p) (fits f l) ∙ left_pivot (at inactive_rows f) p (in_left f (fits f l)) n
 
     -- the reduced rows stay
-    ended_reduced : (q k : ℕ) → q < length reduced → ended (at reduced q) k ≡ between (at reduced q) k
-    ended_reduced q k l = ended_is (at reduced q) k ∙ finishes.elsewhere between (at reduced q) k (λ p n. apart p q n l)
+    ended_reduced : (q k : ℕ) → q < length inactive_rows → ended (at inactive_rows q) k ≡ between (at inactive_rows q) k
+    ended_reduced q k l = ended_is (at inactive_rows q) k ∙ finishes.elsewhere between (at inactive_rows q) k (λ p n. apart p q n l)
 
     between_pivot : (r p : ℕ) → p < pivots → between r (at order p) ≡ given r (at order p)
     between_pivot r p l = reduces.kept given r (at order p) (λ f n. given_zero f p n l)
 
-    units : AreUnits reduced 0 inactive (λ f. at order (length rows + f)) between
-    units = reduces.units given (λ f. at order (length rows + f)) (λ t f l n. given_at (at reduced t) f (reduced_below t (fits t l)) n)
+    units : AreUnits inactive_rows 0 inactive (λ f. at order (length rows + f)) between
+    units = reduces.units given (λ f. at order (length rows + f)) (λ t f l n. given_at (at inactive_rows t) f (reduced_below t (fits t l)) n)
 
     between_row : (p k : ℕ) → p < pivots → between (at rows p) k ≡ given (at rows p) k
     between_row p k l = reduces.elsewhere given (at rows p) k (λ t n e. apart p t l (fits t n) (sym e))
@@ -277,7 +277,7 @@ module _ (height width : ℕ) (system : ℕ → ℕ → ℕ) (rows order places 
 
     finished : (p : ℕ) → p < pivots → IsFinished rows order inactive (λ f. at order (length rows + f)) (rows_after octets finishes.steps between) (at rows p)
     finished p l = finishes.final between (λ f. at order (length rows + f)) units
-        (λ f i n o. between_pivot (at reduced f) i o ∙ given_zero f i n o)
+        (λ f i n o. between_pivot (at inactive_rows f) i o ∙ given_zero f i n o)
         (λ q f n o. between_row q (at order (pivots + f)) n ∙ given_at (at rows q) f (pivot_below q n) o ∙ ap (λ table. entry_of table (at rows q) f) (sym reduces.records.table))
         (λ q n e. record { entries = λ i o. between_row q (at order i) n ∙ back.unmarked meant q (at order i) (omega arith) n e ∙ pivot_pivot q i n o })
         (λ q n e. record { entries = λ i o. between_row q (at order i) n ∙ (back.uncleared meant meant_cleared q (omega arith) n e).entries i o })
@@ -315,7 +315,7 @@ module _ (height width : ℕ) (system : ℕ → ℕ → ℕ) (rows order places 
           let q = inactive_place i l late in
           rw (← q.2) (
           ap (λ (r : ℕ). ended r (at order p)) (of_left q.0) ∙ ended_reduced q.0 (at order p) (fits q.0 q.1) ∙ elim (cases_lt p pivots) [
-            | inl first_p ↦ between_pivot (at reduced q.0) p first_p ∙ given_zero q.0 p q.1 first_p
+            | inl first_p ↦ between_pivot (at inactive_rows q.0) p first_p ∙ given_zero q.0 p q.1 first_p
             | inr late_p ↦
                 let f = inactive_place p n late_p in
                 let other : q.0 ≢ f.0 = (λ e. d (sym q.2 ∙ ap (λ (g : ℕ). pivots + g) e ∙ f.2)) in
@@ -324,27 +324,27 @@ module _ (height width : ℕ) (system : ℕ → ℕ → ℕ) (rows order places 
     ]
 
     -- the rows that are left behind the reduced ones are zeros
-    behind_apart : (t q : ℕ) → t < inactive → inactive ≤ q → q < length reduced → at reduced t ≢ at reduced q
+    behind_apart : (t q : ℕ) → t < inactive → inactive ≤ q → q < length inactive_rows → at inactive_rows t ≢ at inactive_rows q
     behind_apart t q l late n e =
         let z : 1 ≡ 0 = sym (echelon.ones t l) ∙ ap (λ (r : ℕ). entry_of last.table r t) e ∙ echelon.zeros q t n (omega arith) l in
         absurd (omega (arith, z))
 
-    behind_zero : (q p : ℕ) → inactive ≤ q → q < length reduced → p < width → ended (at reduced q) (at order p) ≡ 0
+    behind_zero : (q p : ℕ) → inactive ≤ q → q < length inactive_rows → p < width → ended (at inactive_rows q) (at order p) ≡ 0
     behind_zero q p late l n =
-        ended_reduced q (at order p) l ∙ reduces.elsewhere given (at reduced q) (at order p) (λ t m. behind_apart t q m late l) ∙ given_left q (at order p) l
+        ended_reduced q (at order p) l ∙ reduces.elsewhere given (at inactive_rows q) (at order p) (λ t m. behind_apart t q m late l) ∙ given_left q (at order p) l
         ∙ elim (cases_lt p pivots) [
-          | inl early ↦ left_pivot (at reduced q) p (in_left q l) early
+          | inl early ↦ left_pivot (at inactive_rows q) p (in_left q l) early
           | inr late_p ↦
               let f = inactive_place p n late_p in
-              rw (← f.2) (inactive_at (at reduced q) f.0 (reduced_below q l) f.1 ∙ echelon.zeros q f.0 l (omega (arith, f.1)) f.1)
+              rw (← f.2) (inactive_at (at inactive_rows q) f.0 (reduced_below q l) f.1 ∙ echelon.zeros q f.0 l (omega (arith, f.1)) f.1)
         ]
 
     rest_zero : (i p : ℕ) → i < height → ((q : ℕ) → q < width → row_of q ≢ i) → p < width → ended i (at order p) ≡ 0
     rest_zero i p l free n = elim (pivot_or_left height rows listed listing i l) [
       | inl q ↦ absurd (free q.0 (omega (arith, q.1, wide)) (of_pivot q.0 q.1 ∙ q.2))
       | inr c ↦
-          let d = Contains-permutation left reduced i permuted c in
-          let is : at reduced d.0 ≡ i = get_or_default reduced d.0 0 i d.1 ∙ d.2 in
+          let d = Contains-permutation left inactive_rows i permuted c in
+          let is : at inactive_rows d.0 ≡ i = get_or_default inactive_rows d.0 0 i d.1 ∙ d.2 in
           elim (cases_lt d.0 inactive) [
             | inl taken ↦ absurd (free (pivots + d.0) (omega (arith, wide)) (of_left d.0 ∙ is))
             | inr late ↦ rw (← is) (behind_zero d.0 p late d.1 n)

@@ -13,8 +13,9 @@ use Rattle.rq_solver.specs.HdpcOctets.{ClearsOctets}
 use Rattle.rq_solver.specs.InactiveColumns.{HasLeading}
 use Rattle.rq_solver.specs.PivotAdditions.{IsCleared, IsUncleared, ClearsRows}
 use Rattle.rq_solver.specs.RowOrder.{ListsRows}
-use Rattle.rq_peeling.specs.Peeled.{ones_of, IsPeeled}
-use Rattle.rq_elimination.specs.Recorded.{Performs}
+use Rattle.rq_peeling.specs.Peeling.{IsPeeled}
+use Rattle.rq_peeling.specs.RowOnes.{ones_of}
+use Rattle.rq_elimination.specs.RecordedRows.{Performs}
 use Rattle.rq_elimination.specs.declared.recorded.RecordedRows.{RecordedRows}
 use Rattle.rq_elimination.specs.RowSteps.{rows_after}
 use Rattle.rq_solver.proofs.OctetRows.{octet_row, bit_row, octet_row_or_bit_row}

@@ -11,7 +11,9 @@ use Rattle.rq_algebra.proofs.Sums.{add_zero, mul_zero}
 use Rattle.rq_standard.specs.OctetField.{octets}
 use Rattle.rq_peeling.specs.SystemRows.{AreRowsOfBits}
 use Rattle.rq_solver.specs.PivotAdditions.{IsCleared, IsSumOf, TakesPivotsBy, PeelsRows}
-use Rattle.rq_peeling.specs.Peeled.{IsOrderOf, ones_of, IsPeeled, Pivots}
+use Rattle.rq_peeling.specs.ColumnState.{IsOrderOf}
+use Rattle.rq_peeling.specs.Peeling.{IsPeeled, Pivots}
+use Rattle.rq_peeling.specs.RowOnes.{ones_of}
 use Rattle.rq_elimination.specs.RowSteps.{sum_step, rows_after}
 use Rattle.rq_elimination.specs.declared.recorded.RecordedRows.{RecordedRows}
 use Rattle.rq_elimination.proofs.StepColumns.{rows_after-none, rows_after-next}

@@ -9,7 +9,7 @@ use Rattle.rq_matrix.proofs.Words.{low_bits, low-same, low-none}
 use Rattle.rq_standard.specs.OctetField.{octets}
 use Rattle.rq_solver.specs.SecondPhase.{AreUnits, ClearsColumns, IsStepTo}
 use Rattle.rq_elimination.specs.OperationCounts.{additions}
-use Rattle.rq_elimination.specs.Recorded.{Records}
+use Rattle.rq_elimination.specs.RecordedRows.{Records}
 use Rattle.rq_elimination.specs.RowSteps.{sum_step, CanTake, rows_after}
 use Rattle.rq_elimination.specs.declared.recorded.RecordedRows.{RecordedRows}
 use Rattle.rq_parts.specs.DenseOctetMatrix.{OctetTable}
@@ -20,33 +20,33 @@ use Rattle.rq_elimination.proofs.StepColumns.{rows_after-next}
 use Rattle.rq_solver.proofs.Substitution.{reduced_none, reduced_next, reduced_zeros}
 
 -- The reduced rows before a place are taken for which a word has ones, and the rest of the word has those from that place on.
-pub record TakesOnes (reduced : List ℕ) (row end word rest : ℕ) (old new : RecordedRows) : Type 0 where
+pub record TakesOnes (inactive_rows : List ℕ) (row end word rest : ℕ) (old new : RecordedRows) : Type 0 where
   pub place : ℕ
   pub before : place ≤ end
   pub behind : (k : ℕ) → k < place → bit_at rest k ≡ 0
   pub ahead : (k : ℕ) → place ≤ k → k < end → bit_at rest k ≡ bit_at word k
   pub beyond : (k : ℕ) → end ≤ k → bit_at rest k ≡ 0
-  pub taken : ClearsColumns reduced row 0 end place (bit_at word) old new
+  pub taken : ClearsColumns inactive_rows row 0 end place (bit_at word) old new
   pub few : additions new.operations ≤ additions old.operations + place
 
-module _ (reduced : List ℕ) (row end word : ℕ) (old : RecordedRows) where
-  pub takes_none : end ≤ 64 → TakesOnes reduced row end word (low_bits word end) old old
+module _ (inactive_rows : List ℕ) (row end word : ℕ) (old : RecordedRows) where
+  pub takes_none : end ≤ 64 → TakesOnes inactive_rows row end word (low_bits word end) old old
   takes_none within = record {
     place = 0;
     before = omega arith;
     behind = λ k l. absurd (omega arith);
     ahead = λ k l m. low-same word end within k m;
     beyond = λ k l. low-none word end within k l;
-    taken = reduced_none reduced row 0 end (bit_at word) old;
+    taken = reduced_none inactive_rows row 0 end (bit_at word) old;
     few = omega arith;
   }
 
-  module _ (rest : ℕ) (cur : RecordedRows) (v : TakesOnes reduced row end word rest old cur) where
+  module _ (rest : ℕ) (cur : RecordedRows) (v : TakesOnes inactive_rows row end word rest old cur) where
     module _ (lowest less : ℕ) (clears : ClearsLowest rest lowest less) where
       pub lowest_inside : lowest < end
       lowest_inside = lowest_before rest lowest less clears end v.beyond
 
-      pub takes_lowest : row ≢ at reduced lowest → (new : RecordedRows) → Records (sum_step row (at reduced lowest) 1 ∷ []) cur new → additions new.operations ≡ additions cur.operations + 1 → TakesOnes reduced row end word less old new
+      pub takes_lowest : row ≢ at inactive_rows lowest → (new : RecordedRows) → Records (sum_step row (at inactive_rows lowest) 1 ∷ []) cur new → additions new.operations ≡ additions cur.operations + 1 → TakesOnes inactive_rows row end word less old new
       takes_lowest apart new records counted =
           let late = lowest_from rest lowest less clears v.place v.behind in
           let inside = lowest_inside in
@@ -57,26 +57,26 @@ module _ (reduced : List ℕ) (row end word : ℕ) (old : RecordedRows) where
             behind = λ k l. clears.cleared k (omega arith);
             ahead = λ k l m. clears.kept k (omega arith) ∙ v.ahead k (omega (arith, late, l)) m;
             beyond = λ k l. clears.kept k (omega (arith, inside, l)) ∙ v.beyond k l;
-            taken = reduced_next reduced row 0 end (bit_at word) v.place lowest (omega arith) late inside old cur v.taken
+            taken = reduced_next inactive_rows row 0 end (bit_at word) v.place lowest (omega arith) late inside old cur v.taken
                 (λ f l m. sym (v.ahead f l (omega (arith, m, inside))) ∙ clears.zeros f m) apart 1 (lit< tt) one new records;
             few = let so_far = v.few in omega (arith, counted, so_far, late);
           }
 
-    pub takes_all : rest ≡ 0 → ClearsColumns reduced row 0 end end (bit_at word) old cur
-    takes_all none = reduced_zeros reduced row 0 end (bit_at word) v.place end old cur v.taken v.before (λ f l m. sym (v.ahead f l m) ∙ ap (λ n. bit_at n f) none ∙ bit_at-zero f)
+    pub takes_all : rest ≡ 0 → ClearsColumns inactive_rows row 0 end end (bit_at word) old cur
+    takes_all none = reduced_zeros inactive_rows row 0 end (bit_at word) v.place end old cur v.taken v.before (λ f l m. sym (v.ahead f l m) ∙ ap (λ n. bit_at n f) none ∙ bit_at-zero f)
 
     pub takes_few : additions cur.operations ≤ additions old.operations + end
     takes_few = let so_far = v.few in let before = v.before in omega (arith, so_far, before)
 
 -- ---- words of rows one after another
 
-module _ (reduced : List ℕ) (row start count : ℕ) (entries : ℕ → ℕ) where
+module _ (inactive_rows : List ℕ) (row start count : ℕ) (entries : ℕ → ℕ) where
   -- the row takes those before one place, and then those up to another one
-  pub reduced_join : (t next : ℕ) → start ≤ t → t ≤ next → next ≤ count → (old cur new : RecordedRows) → ((f : ℕ) → t ≤ f → f < next → row ≢ at reduced f)
-      → ClearsColumns reduced row start count t entries old cur → ClearsColumns reduced row t next next entries cur new → ClearsColumns reduced row start count next entries old new
+  pub reduced_join : (t next : ℕ) → start ≤ t → t ≤ next → next ≤ count → (old cur new : RecordedRows) → ((f : ℕ) → t ≤ f → f < next → row ≢ at inactive_rows f)
+      → ClearsColumns inactive_rows row start count t entries old cur → ClearsColumns inactive_rows row t next next entries cur new → ClearsColumns inactive_rows row start count next entries old new
   reduced_join t next from forward within old cur new apart v w =
-      let source = λ (m : ℕ → ℕ → ℕ) (s k : ℕ) (l : t ≤ s) (n : s < next). v.elsewhere m (at reduced s) k (λ e. apart s l n (sym e)) in
-      let unit = λ (m : ℕ → ℕ → ℕ) (column : ℕ → ℕ) (units : AreUnits reduced start count column m) (s f : ℕ) (l : t ≤ s) (n : s < next) (inside : f < count). source m s (column f) l n ∙ units s f (omega arith) (omega arith) inside in
+      let source = λ (m : ℕ → ℕ → ℕ) (s k : ℕ) (l : t ≤ s) (n : s < next). v.elsewhere m (at inactive_rows s) k (λ e. apart s l n (sym e)) in
+      let unit = λ (m : ℕ → ℕ → ℕ) (column : ℕ → ℕ) (units : AreUnits inactive_rows start count column m) (s f : ℕ) (l : t ≤ s) (n : s < next) (inside : f < count). source m s (column f) l n ∙ units s f (omega arith) (omega arith) inside in
       record {
         steps = v.steps ++ w.steps;
         records = records_more v.steps w.steps old cur new v.records w.records;
@@ -99,7 +99,7 @@ module _ (reduced : List ℕ) (row start count : ℕ) (entries : ℕ → ℕ) wh
       }
 
   -- entries that are the same in those columns
-  pub reduced_same : (others : ℕ → ℕ) (done : ℕ) (old new : RecordedRows) → ((f : ℕ) → start ≤ f → f < count → others f ≡ entries f) → ClearsColumns reduced row start count done entries old new → ClearsColumns reduced row start count done others old new
+  pub reduced_same : (others : ℕ → ℕ) (done : ℕ) (old new : RecordedRows) → ((f : ℕ) → start ≤ f → f < count → others f ≡ entries f) → ClearsColumns inactive_rows row start count done entries old new → ClearsColumns inactive_rows row start count done others old new
   reduced_same others done old new same v = record {
     steps = v.steps;
     records = v.records;
@@ -111,10 +111,10 @@ module _ (reduced : List ℕ) (row start count : ℕ) (entries : ℕ → ℕ) wh
   }
 
 -- some of the rows that follow each other, in a list of their own
-module _ (reduced some : List ℕ) (row from count : ℕ) (same : (k : ℕ) → k < count → at some k ≡ at reduced (from + k)) (entries : ℕ → ℕ) where
-  pub reduced_part : (old new : RecordedRows) → ClearsColumns some row 0 count count (λ f. entries (from + f)) old new → ClearsColumns reduced row from (from + count) (from + count) entries old new
+module _ (inactive_rows some : List ℕ) (row from count : ℕ) (same : (k : ℕ) → k < count → at some k ≡ at inactive_rows (from + k)) (entries : ℕ → ℕ) where
+  pub reduced_part : (old new : RecordedRows) → ClearsColumns some row 0 count count (λ f. entries (from + f)) old new → ClearsColumns inactive_rows row from (from + count) (from + count) entries old new
   reduced_part old new v =
-      let unit = λ (m : ℕ → ℕ → ℕ) (column : ℕ → ℕ) (units : AreUnits reduced from (from + count) column m) (s g : ℕ) (first : 0 ≤ s) (l : s < count) (n : g < count). ap (λ r. m r (column (from + g))) (same s l)
+      let unit = λ (m : ℕ → ℕ → ℕ) (column : ℕ → ℕ) (units : AreUnits inactive_rows from (from + count) column m) (s g : ℕ) (first : 0 ≤ s) (l : s < count) (n : g < count). ap (λ r. m r (column (from + g))) (same s l)
       ∙ units (from + s) (from + g) (omega arith) (omega arith) (omega arith)
       ∙ elim (cases_eq s g) [
         | inl e ↦ if_same (from + s) (from + g) 1 0 (omega (arith, e)) ∙ sym (if_same s g 1 0 e)
@@ -133,7 +133,7 @@ module _ (reduced some : List ℕ) (row from count : ℕ) (same : (k : ℕ) → 
         rest = λ m column units f l n. absurd (omega (arith, l, n));
       }
 
-  pub can_take_part : (table : OctetTable) → from + count ≤ length reduced → length some ≡ count → CanTake row reduced table → CanTake row some table
+  pub can_take_part : (table : OctetTable) → from + count ≤ length inactive_rows → length some ≡ count → CanTake row inactive_rows table → CanTake row some table
   can_take_part table within long v = record {
     taker = v.taker;
     rows = record {

@@ -8,7 +8,8 @@ use Rattle.rq_standard.specs.OctetField.{octets}
 use Rattle.rq_peeling.specs.SystemRows.{AreRowsOfBits, one_in}
 use Rattle.rq_solver.specs.PivotAdditions.{IsCleared, IsUncleared, TakesPivots, ClearsRows}
 use Rattle.rq_solver.specs.RowOrder.{ListsRows}
-use Rattle.rq_peeling.specs.Peeled.{ones_of, IsPeeled}
+use Rattle.rq_peeling.specs.Peeling.{IsPeeled}
+use Rattle.rq_peeling.specs.RowOnes.{ones_of}
 use Rattle.rq_elimination.specs.declared.recorded.RecordedRows.{RecordedRows}
 use Rattle.rq_elimination.specs.RowSteps.{rows_after}
 use Rattle.rq_elimination.proofs.StepColumns.{rows_after-none, rows_after-next}

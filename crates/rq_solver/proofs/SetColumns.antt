@@ -9,10 +9,10 @@ use Rattle.rq_algebra.proofs.Parity.{sum_listed_is}
 use Rattle.rq_algebra.proofs.Sums.{dot_same}
 use Rattle.rq_standard.specs.OctetField.{octets}
 use Rattle.rq_parts.specs.DenseOctetMatrix.{entry_of}
-use Rattle.rq_peeling.specs.Peeled.{ones_of}
+use Rattle.rq_peeling.specs.RowOnes.{ones_of}
 use Rattle.rq_peeling.specs.SystemRows.{one_in}
 use Rattle.rq_peeling.proofs.ActiveOnes.{count_absent, count_present}
-use Rattle.rq_solver.specs.EliminationState.{inactive_count, left_rows, IsUnderWay}
+use Rattle.rq_solver.specs.Elimination.{inactive_count, left_rows, IsUnderWay}
 use Rattle.rq_solver.specs.HomogeneousColumns.{inactive_dot, inactive_entry, HasZerosAtPivots, SolvesLeftRows, SolvesPivotRows}
 use Rattle.rq_solver.specs.declared.pi_solver.elimination.Elimination.{Elimination}
 use Rattle.rq_solver.proofs.ChangedColumns.{dot_kept, dot_own}

@@ -6,7 +6,7 @@ use Rattle.rq_algebra.specs.Systems.{at}
 use Rattle.rq_standard.specs.OctetField.{octets}
 use Rattle.rq_parts.specs.DenseOctetMatrix.{entry_of}
 use Rattle.rq_solver.specs.SecondPhase.{ShowInactive, AreUnits, GivesMultiples, IsStepTo, SubstitutesBack, ClearsColumns, one_of}
-use Rattle.rq_elimination.specs.Recorded.{Records}
+use Rattle.rq_elimination.specs.RecordedRows.{Records}
 use Rattle.rq_elimination.specs.RowSteps.{sum_step, AreRows, IsEchelon, rows_after}
 use Rattle.rq_elimination.specs.declared.recorded.RecordedRows.{RecordedRows}
 use Rattle.rq_elimination.proofs.StepColumns.{rows_after-none, rows_after-next}
@@ -15,8 +15,8 @@ use Rattle.rq_solver.proofs.HdpcClearing.{plus_zero_times, plus_own}
 use Rattle.rq_solver.proofs.StepsToRows.{sum_to, steps_to}
 use Rattle.rq_elimination.proofs.Choices.{if_same, if_apart}
 
-module _ (reduced : List ℕ) (row start count : ℕ) (entries : ℕ → ℕ) where
-  pub reduced_none : (old : RecordedRows) → ClearsColumns reduced row start count start entries old old
+module _ (inactive_rows : List ℕ) (row start count : ℕ) (entries : ℕ → ℕ) where
+  pub reduced_none : (old : RecordedRows) → ClearsColumns inactive_rows row start count start entries old old
   reduced_none old = record {
     steps = [];
     records = records_none old;
@@ -28,7 +28,7 @@ module _ (reduced : List ℕ) (row start count : ℕ) (entries : ℕ → ℕ) wh
   }
 
   -- the row has 0 in the next columns
-  pub reduced_zeros : (t next : ℕ) (old cur : RecordedRows) → ClearsColumns reduced row start count t entries old cur → t ≤ next → ((k : ℕ) → t ≤ k → k < next → entries k ≡ 0) → ClearsColumns reduced row start count next entries old cur
+  pub reduced_zeros : (t next : ℕ) (old cur : RecordedRows) → ClearsColumns inactive_rows row start count t entries old cur → t ≤ next → ((k : ℕ) → t ≤ k → k < next → entries k ≡ 0) → ClearsColumns inactive_rows row start count next entries old cur
   reduced_zeros t next old cur v forward none = record {
     steps = v.steps;
     records = v.records;
@@ -42,42 +42,42 @@ module _ (reduced : List ℕ) (row start count : ℕ) (entries : ℕ → ℕ) wh
     rest = λ m column units f l n. v.rest m column units f (omega arith) n;
   }
 
-  module _ (t : ℕ) (from : start ≤ t) (inside : t < count) (old cur : RecordedRows) (v : ClearsColumns reduced row start count t entries old cur) where
-    module _ (apart : row ≢ at reduced t) (scalar : ℕ) (small : scalar < 256) (scalar_is : scalar ≡ entries t) (new : RecordedRows) (records : Records (sum_step row (at reduced t) scalar ∷ []) cur new) where
+  module _ (t : ℕ) (from : start ≤ t) (inside : t < count) (old cur : RecordedRows) (v : ClearsColumns inactive_rows row start count t entries old cur) where
+    module _ (apart : row ≢ at inactive_rows t) (scalar : ℕ) (small : scalar < 256) (scalar_is : scalar ≡ entries t) (new : RecordedRows) (records : Records (sum_step row (at inactive_rows t) scalar ∷ []) cur new) where
       module _ (m : ℕ → ℕ → ℕ) where
         now : ℕ → ℕ → ℕ
         now = rows_after octets v.steps m
 
-        src_now : (k : ℕ) → now (at reduced t) k ≡ m (at reduced t) k
+        src_now : (k : ℕ) → now (at inactive_rows t) k ≡ m (at inactive_rows t) k
         unfolding now
-        src_now k = v.elsewhere m (at reduced t) k (λ e. apart (sym e))
+        src_now k = v.elsewhere m (at inactive_rows t) k (λ e. apart (sym e))
 
-        next_entry : (k : ℕ) → m (at reduced t) k < 256 → rows_after octets (v.steps ++ sum_step row (at reduced t) scalar ∷ []) m row k ≡ octets.add (now row k) (octets.mul scalar (now (at reduced t) k))
+        next_entry : (k : ℕ) → m (at inactive_rows t) k < 256 → rows_after octets (v.steps ++ sum_step row (at inactive_rows t) scalar ∷ []) m row k ≡ octets.add (now row k) (octets.mul scalar (now (at inactive_rows t) k))
         unfolding now
-        next_entry k l = rows_after-next octets v.steps (sum_step row (at reduced t) scalar ∷ []) m row k ∙ sum_step-here row (at reduced t) scalar (rows_after octets v.steps m) k (rw (src_now k) l)
+        next_entry k l = rows_after-next octets v.steps (sum_step row (at inactive_rows t) scalar ∷ []) m row k ∙ sum_step-here row (at inactive_rows t) scalar (rows_after octets v.steps m) k (rw (src_now k) l)
 
-        next_zero : (k : ℕ) → m (at reduced t) k ≡ 0 → rows_after octets (v.steps ++ sum_step row (at reduced t) scalar ∷ []) m row k ≡ now row k
-        next_zero k zero = next_entry k (rw zero (lit< tt)) ∙ plus_zero_times (now row k) scalar (now (at reduced t) k) (src_now k ∙ zero)
+        next_zero : (k : ℕ) → m (at inactive_rows t) k ≡ 0 → rows_after octets (v.steps ++ sum_step row (at inactive_rows t) scalar ∷ []) m row k ≡ now row k
+        next_zero k zero = next_entry k (rw zero (lit< tt)) ∙ plus_zero_times (now row k) scalar (now (at inactive_rows t) k) (src_now k ∙ zero)
 
-        module _ (column : ℕ → ℕ) (units : AreUnits reduced start count column m) where
-          other_zero : (f : ℕ) → f < count → f ≢ t → m (at reduced t) (column f) ≡ 0
+        module _ (column : ℕ → ℕ) (units : AreUnits inactive_rows start count column m) where
+          other_zero : (f : ℕ) → f < count → f ≢ t → m (at inactive_rows t) (column f) ≡ 0
           other_zero f l d = units t f from inside l ∙ if_apart t f 1 0 (λ e. d (sym e))
 
-          this_entry : m row (column t) ≡ entries t → rows_after octets (v.steps ++ sum_step row (at reduced t) scalar ∷ []) m row (column t) ≡ 0
+          this_entry : m row (column t) ≡ entries t → rows_after octets (v.steps ++ sum_step row (at inactive_rows t) scalar ∷ []) m row (column t) ≡ 0
           unfolding now
           this_entry shown =
-              let one : m (at reduced t) (column t) ≡ 1 = units t t from inside inside ∙ if_same t t 1 0 refl in
+              let one : m (at inactive_rows t) (column t) ≡ 1 = units t t from inside inside ∙ if_same t t 1 0 refl in
               next_entry (column t) (rw one (lit< tt))
-              ∙ plus_own (now row (column t)) scalar (now (at reduced t) (column t)) small
+              ∙ plus_own (now row (column t)) scalar (now (at inactive_rows t) (column t)) small
               (v.rest m column units t (omega arith) inside ∙ shown ∙ sym scalar_is) (src_now (column t) ∙ one)
 
-      reduced_more : ClearsColumns reduced row start count (t + 1) entries old new
+      reduced_more : ClearsColumns inactive_rows row start count (t + 1) entries old new
       unfolding now
       reduced_more = record {
-        steps = v.steps ++ sum_step row (at reduced t) scalar ∷ [];
-        records = records_more v.steps (sum_step row (at reduced t) scalar ∷ []) old cur new v.records records;
-        within = All-push (IsStepTo (λ r. r ≡ row)) v.steps (sum_step row (at reduced t) scalar) v.within (sum_to (λ r. r ≡ row) row (at reduced t) scalar refl);
-        elsewhere = λ m i k d. rows_after-next octets v.steps (sum_step row (at reduced t) scalar ∷ []) m i k ∙ sum_step-elsewhere row (at reduced t) scalar (rows_after octets v.steps m) i k d ∙ v.elsewhere m i k d;
+        steps = v.steps ++ sum_step row (at inactive_rows t) scalar ∷ [];
+        records = records_more v.steps (sum_step row (at inactive_rows t) scalar ∷ []) old cur new v.records records;
+        within = All-push (IsStepTo (λ r. r ≡ row)) v.steps (sum_step row (at inactive_rows t) scalar) v.within (sum_to (λ r. r ≡ row) row (at inactive_rows t) scalar refl);
+        elsewhere = λ m i k d. rows_after-next octets v.steps (sum_step row (at inactive_rows t) scalar ∷ []) m i k ∙ sum_step-elsewhere row (at inactive_rows t) scalar (rows_after octets v.steps m) i k d ∙ v.elsewhere m i k d;
         kept = λ m k zeros. next_zero m k (zeros t from inside) ∙ v.kept m k zeros;
         cleared = λ m column units shown f first l n. elim (cases_eq f t) [
           | inl e ↦ rw e (this_entry m column units (shown t from inside))
@@ -87,8 +87,8 @@ module _ (reduced : List ℕ) (row start count : ℕ) (entries : ℕ → ℕ) wh
       }
 
   -- the next column where the row isn't 0 gets its multiple
-  pub reduced_next : (t next : ℕ) → start ≤ next → t ≤ next → next < count → (old cur : RecordedRows) → ClearsColumns reduced row start count t entries old cur → ((k : ℕ) → t ≤ k → k < next → entries k ≡ 0)
-      → row ≢ at reduced next → (scalar : ℕ) → scalar < 256 → scalar ≡ entries next → (new : RecordedRows) → Records (sum_step row (at reduced next) scalar ∷ []) cur new → ClearsColumns reduced row start count (next + 1) entries old new
+  pub reduced_next : (t next : ℕ) → start ≤ next → t ≤ next → next < count → (old cur : RecordedRows) → ClearsColumns inactive_rows row start count t entries old cur → ((k : ℕ) → t ≤ k → k < next → entries k ≡ 0)
+      → row ≢ at inactive_rows next → (scalar : ℕ) → scalar < 256 → scalar ≡ entries next → (new : RecordedRows) → Records (sum_step row (at inactive_rows next) scalar ∷ []) cur new → ClearsColumns inactive_rows row start count (next + 1) entries old new
   reduced_next t next from forward inside old cur v none = reduced_more next from inside old cur (reduced_zeros t next old cur v forward none)
 
 -- ---- the multiples of a row in echelon form
@@ -102,23 +102,23 @@ one_of-other entry d = if_apart entry 1 1 0 d
 one_of-same : (entry : ℕ) → entry < 2 → one_of entry ≡ entry
 one_of-same entry l = elim (cases_eq entry 1) [ inl e ↦ one_of-one entry e ∙ sym e | inr d ↦ one_of-other entry d ∙ omega arith ]
 
-module _ (reduced : List ℕ) (place : ℕ) where
-  pub given_none : (old : RecordedRows) → GivesMultiples reduced place 0 old old
+module _ (inactive_rows : List ℕ) (place : ℕ) where
+  pub given_none : (old : RecordedRows) → GivesMultiples inactive_rows place 0 old old
   given_none old = record {
     steps = [];
     records = records_none old;
-    within = All-nil (IsStepTo (Contains reduced));
+    within = All-nil (IsStepTo (Contains inactive_rows));
     elsewhere = λ m r k out. rows_after-none octets m r k;
     kept = λ m r k zero. rows_after-none octets m r k;
     given = λ m k q one l shown. absurd (omega arith);
   }
 
-  module _ (t : ℕ) (early : t < place) (in_rows : place < length reduced) (old cur : RecordedRows) (are : AreRows reduced old.table) (v : GivesMultiples reduced place t old cur) where
-    apart_before : (q : ℕ) → q < place → q ≢ t → at reduced q ≢ at reduced t
+  module _ (t : ℕ) (early : t < place) (in_rows : place < length inactive_rows) (old cur : RecordedRows) (are : AreRows inactive_rows old.table) (v : GivesMultiples inactive_rows place t old cur) where
+    apart_before : (q : ℕ) → q < place → q ≢ t → at inactive_rows q ≢ at inactive_rows t
     apart_before q l d e = d (are.apart q t (omega arith) (omega arith) e)
 
     -- a row with 0 or 1 there takes nothing
-    pub given_nothing : entry_of old.table (at reduced t) place < 2 → GivesMultiples reduced place (t + 1) old cur
+    pub given_nothing : entry_of old.table (at inactive_rows t) place < 2 → GivesMultiples inactive_rows place (t + 1) old cur
     given_nothing small = record {
       steps = v.steps;
       records = v.records;
@@ -126,76 +126,76 @@ module _ (reduced : List ℕ) (place : ℕ) where
       elsewhere = λ m r k out. v.elsewhere m r k (λ q l. out q (omega arith));
       kept = v.kept;
       given = λ m k q one l shown. elim (cases_eq q t) [
-        | inl e ↦ rw e (v.elsewhere m (at reduced t) k (λ p n. apart_before p (omega arith) (omega arith)) ∙ (rw e at shown) ∙ sym (one_of-same (entry_of old.table (at reduced t) place) small))
+        | inl e ↦ rw e (v.elsewhere m (at inactive_rows t) k (λ p n. apart_before p (omega arith) (omega arith)) ∙ (rw e at shown) ∙ sym (one_of-same (entry_of old.table (at inactive_rows t) place) small))
         | inr d ↦ v.given m k q one (omega arith) shown
       ];
     }
 
-    module _ (scalar : ℕ) (small : scalar < 256) (other : scalar ≢ 1) (scalar_is : scalar ≡ entry_of old.table (at reduced t) place) (new : RecordedRows) (records : Records (sum_step (at reduced t) (at reduced place) scalar ∷ []) cur new) where
+    module _ (scalar : ℕ) (small : scalar < 256) (other : scalar ≢ 1) (scalar_is : scalar ≡ entry_of old.table (at inactive_rows t) place) (new : RecordedRows) (records : Records (sum_step (at inactive_rows t) (at inactive_rows place) scalar ∷ []) cur new) where
       module _ (m : ℕ → ℕ → ℕ) where
         so_far : ℕ → ℕ → ℕ
         so_far = rows_after octets v.steps m
 
-        source : (k : ℕ) → so_far (at reduced place) k ≡ m (at reduced place) k
+        source : (k : ℕ) → so_far (at inactive_rows place) k ≡ m (at inactive_rows place) k
         unfolding so_far
-        source k = v.elsewhere m (at reduced place) k (λ q l e. let same : q ≡ place = are.apart q place (omega arith) in_rows e in omega (arith, same, l, early))
+        source k = v.elsewhere m (at inactive_rows place) k (λ q l e. let same : q ≡ place = are.apart q place (omega arith) in_rows e in omega (arith, same, l, early))
 
-        sum_here : (k : ℕ) → m (at reduced place) k < 256 → rows_after octets (v.steps ++ sum_step (at reduced t) (at reduced place) scalar ∷ []) m (at reduced t) k ≡ octets.add (so_far (at reduced t) k) (octets.mul scalar (so_far (at reduced place) k))
+        sum_here : (k : ℕ) → m (at inactive_rows place) k < 256 → rows_after octets (v.steps ++ sum_step (at inactive_rows t) (at inactive_rows place) scalar ∷ []) m (at inactive_rows t) k ≡ octets.add (so_far (at inactive_rows t) k) (octets.mul scalar (so_far (at inactive_rows place) k))
         unfolding so_far
-        sum_here k l = rows_after-next octets v.steps (sum_step (at reduced t) (at reduced place) scalar ∷ []) m (at reduced t) k ∙ sum_step-here (at reduced t) (at reduced place) scalar (rows_after octets v.steps m) k (rw (source k) l)
+        sum_here k l = rows_after-next octets v.steps (sum_step (at inactive_rows t) (at inactive_rows place) scalar ∷ []) m (at inactive_rows t) k ∙ sum_step-here (at inactive_rows t) (at inactive_rows place) scalar (rows_after octets v.steps m) k (rw (source k) l)
 
-        sum_elsewhere : (r k : ℕ) → r ≢ at reduced t → rows_after octets (v.steps ++ sum_step (at reduced t) (at reduced place) scalar ∷ []) m r k ≡ so_far r k
+        sum_elsewhere : (r k : ℕ) → r ≢ at inactive_rows t → rows_after octets (v.steps ++ sum_step (at inactive_rows t) (at inactive_rows place) scalar ∷ []) m r k ≡ so_far r k
         unfolding so_far
-        sum_elsewhere r k d = rows_after-next octets v.steps (sum_step (at reduced t) (at reduced place) scalar ∷ []) m r k ∙ sum_step-elsewhere (at reduced t) (at reduced place) scalar (rows_after octets v.steps m) r k d
+        sum_elsewhere r k d = rows_after-next octets v.steps (sum_step (at inactive_rows t) (at inactive_rows place) scalar ∷ []) m r k ∙ sum_step-elsewhere (at inactive_rows t) (at inactive_rows place) scalar (rows_after octets v.steps m) r k d
 
-        sum_zero : (r k : ℕ) → m (at reduced place) k ≡ 0 → rows_after octets (v.steps ++ sum_step (at reduced t) (at reduced place) scalar ∷ []) m r k ≡ so_far r k
-        sum_zero r k zero = elim (cases_eq r (at reduced t)) [
-          | inl e ↦ rw e (sum_here k (rw zero (lit< tt)) ∙ plus_zero_times (so_far (at reduced t) k) scalar (so_far (at reduced place) k) (source k ∙ zero))
+        sum_zero : (r k : ℕ) → m (at inactive_rows place) k ≡ 0 → rows_after octets (v.steps ++ sum_step (at inactive_rows t) (at inactive_rows place) scalar ∷ []) m r k ≡ so_far r k
+        sum_zero r k zero = elim (cases_eq r (at inactive_rows t)) [
+          | inl e ↦ rw e (sum_here k (rw zero (lit< tt)) ∙ plus_zero_times (so_far (at inactive_rows t) k) scalar (so_far (at inactive_rows place) k) (source k ∙ zero))
           | inr d ↦ sum_elsewhere r k d
         ]
 
-        sum_cancels : (k : ℕ) → m (at reduced place) k ≡ 1 → m (at reduced t) k ≡ entry_of old.table (at reduced t) place → rows_after octets (v.steps ++ sum_step (at reduced t) (at reduced place) scalar ∷ []) m (at reduced t) k ≡ 0
+        sum_cancels : (k : ℕ) → m (at inactive_rows place) k ≡ 1 → m (at inactive_rows t) k ≡ entry_of old.table (at inactive_rows t) place → rows_after octets (v.steps ++ sum_step (at inactive_rows t) (at inactive_rows place) scalar ∷ []) m (at inactive_rows t) k ≡ 0
         unfolding so_far
         sum_cancels k one shown =
             sum_here k (rw one (lit< tt))
-            ∙ plus_own (so_far (at reduced t) k) scalar (so_far (at reduced place) k) small
-            (v.elsewhere m (at reduced t) k (λ p n. apart_before p (omega arith) (omega arith)) ∙ shown ∙ sym scalar_is) (source k ∙ one)
+            ∙ plus_own (so_far (at inactive_rows t) k) scalar (so_far (at inactive_rows place) k) small
+            (v.elsewhere m (at inactive_rows t) k (λ p n. apart_before p (omega arith) (omega arith)) ∙ shown ∙ sym scalar_is) (source k ∙ one)
 
-      pub given_more : GivesMultiples reduced place (t + 1) old new
+      pub given_more : GivesMultiples inactive_rows place (t + 1) old new
       unfolding so_far
       given_more = record {
-        steps = v.steps ++ sum_step (at reduced t) (at reduced place) scalar ∷ [];
-        records = records_more v.steps (sum_step (at reduced t) (at reduced place) scalar ∷ []) old cur new v.records records;
-        within = All-push (IsStepTo (Contains reduced)) v.steps (sum_step (at reduced t) (at reduced place) scalar) v.within (sum_to (Contains reduced) (at reduced t) (at reduced place) scalar (Contains-get_or reduced t 0 (omega arith)));
+        steps = v.steps ++ sum_step (at inactive_rows t) (at inactive_rows place) scalar ∷ [];
+        records = records_more v.steps (sum_step (at inactive_rows t) (at inactive_rows place) scalar ∷ []) old cur new v.records records;
+        within = All-push (IsStepTo (Contains inactive_rows)) v.steps (sum_step (at inactive_rows t) (at inactive_rows place) scalar) v.within (sum_to (Contains inactive_rows) (at inactive_rows t) (at inactive_rows place) scalar (Contains-get_or inactive_rows t 0 (omega arith)));
         elsewhere = λ m r k out. sum_elsewhere m r k (λ e. out t (omega arith) (sym e)) ∙ v.elsewhere m r k (λ q l. out q (omega arith));
         kept = λ m r k zero. sum_zero m r k zero ∙ v.kept m r k zero;
         given = λ m k q one l shown. elim (cases_eq q t) [
-          | inl e ↦ rw e (sum_cancels m k one (rw e at shown) ∙ sym (one_of-other (entry_of old.table (at reduced t) place) (λ f. other (scalar_is ∙ f))))
-          | inr d ↦ sum_elsewhere m (at reduced q) k (apart_before q (omega arith) d) ∙ v.given m k q one (omega arith) shown
+          | inl e ↦ rw e (sum_cancels m k one (rw e at shown) ∙ sym (one_of-other (entry_of old.table (at inactive_rows t) place) (λ f. other (scalar_is ∙ f))))
+          | inr d ↦ sum_elsewhere m (at inactive_rows q) k (apart_before q (omega arith) d) ∙ v.given m k q one (omega arith) shown
         ];
       }
 
 -- ---- rows in echelon form, the last first
 
-module _ (reduced : List ℕ) (count : ℕ) where
-  pub back_none : (old : RecordedRows) → SubstitutesBack reduced count count old old
+module _ (inactive_rows : List ℕ) (count : ℕ) where
+  pub back_none : (old : RecordedRows) → SubstitutesBack inactive_rows count count old old
   back_none old = record {
     steps = [];
     records = records_none old;
-    within = All-nil (IsStepTo (Contains reduced));
+    within = All-nil (IsStepTo (Contains inactive_rows));
     elsewhere = λ m r k out. rows_after-none octets m r k;
     kept = λ m r k zeros. rows_after-none octets m r k;
     units = λ m column shown t f late l n. absurd (omega arith);
-    before = λ m column shown t f l n. rows_after-none octets m (at reduced t) (column f) ∙ shown t f l n;
+    before = λ m column shown t f l n. rows_after-none octets m (at inactive_rows t) (column f) ∙ shown t f l n;
     left = λ m column shown t f l late n. absurd (omega arith);
   }
 
-  module _ (q : ℕ) (inside : q < count) (old cur mid new : RecordedRows) (are : AreRows reduced old.table) (echelon : IsEchelon reduced count old.table) (v : SubstitutesBack reduced count (q + 1) old cur)
-      (turn : ClearsColumns reduced (at reduced q) (q + 1) count count (λ f. one_of (entry_of cur.table (at reduced q) f)) cur mid) (gives : GivesMultiples reduced q q mid new) where
-    fits : (t : ℕ) → t < count → t < length reduced
+  module _ (q : ℕ) (inside : q < count) (old cur mid new : RecordedRows) (are : AreRows inactive_rows old.table) (echelon : IsEchelon inactive_rows count old.table) (v : SubstitutesBack inactive_rows count (q + 1) old cur)
+      (turn : ClearsColumns inactive_rows (at inactive_rows q) (q + 1) count count (λ f. one_of (entry_of cur.table (at inactive_rows q) f)) cur mid) (gives : GivesMultiples inactive_rows q q mid new) where
+    fits : (t : ℕ) → t < count → t < length inactive_rows
     fits t l = omega (arith, echelon.fits)
 
-    apart : (t s : ℕ) → t < count → s < count → t ≢ s → at reduced t ≢ at reduced s
+    apart : (t s : ℕ) → t < count → s < count → t ≢ s → at inactive_rows t ≢ at inactive_rows s
     apart t s l n d e = d (are.apart t s (fits t l) (fits s n) e)
 
     module _ (m : ℕ → ℕ → ℕ) where
@@ -209,42 +209,42 @@ module _ (reduced : List ℕ) (count : ℕ) where
       unfolding before_turn after_turn
       after_all r k = rows_after-next octets v.steps (turn.steps ++ gives.steps) m r k ∙ rows_after-next octets turn.steps gives.steps (rows_after octets v.steps m) r k
 
-      after_elsewhere : (r k : ℕ) → r ≢ at reduced q → after_turn r k ≡ before_turn r k
+      after_elsewhere : (r k : ℕ) → r ≢ at inactive_rows q → after_turn r k ≡ before_turn r k
       unfolding after_turn
       after_elsewhere r k d = turn.elsewhere before_turn r k d
 
-      zero_before : (k : ℕ) → ((f : ℕ) → f < count → m (at reduced f) k ≡ 0) → (r : ℕ) → before_turn r k ≡ m r k
+      zero_before : (k : ℕ) → ((f : ℕ) → f < count → m (at inactive_rows f) k ≡ 0) → (r : ℕ) → before_turn r k ≡ m r k
       unfolding before_turn
       zero_before k zeros r = v.kept m r k zeros
 
-      zero_after : (k : ℕ) → ((f : ℕ) → f < count → m (at reduced f) k ≡ 0) → (r : ℕ) → after_turn r k ≡ m r k
+      zero_after : (k : ℕ) → ((f : ℕ) → f < count → m (at inactive_rows f) k ≡ 0) → (r : ℕ) → after_turn r k ≡ m r k
       unfolding after_turn
-      zero_after k zeros r = elim (cases_eq r (at reduced q)) [
-        | inl e ↦ rw e (turn.kept before_turn k (λ f from l. zero_before k zeros (at reduced f) ∙ zeros f l) ∙ zero_before k zeros (at reduced q))
+      zero_after k zeros r = elim (cases_eq r (at inactive_rows q)) [
+        | inl e ↦ rw e (turn.kept before_turn k (λ f from l. zero_before k zeros (at inactive_rows f) ∙ zeros f l) ∙ zero_before k zeros (at inactive_rows q))
         | inr d ↦ turn.elsewhere before_turn r k d ∙ zero_before k zeros r
       ]
 
-      module _ (column : ℕ → ℕ) (shown : ShowInactive reduced count column m old.table) where
-        later : AreUnits reduced (q + 1) count column before_turn
+      module _ (column : ℕ → ℕ) (shown : ShowInactive inactive_rows count column m old.table) where
+        later : AreUnits inactive_rows (q + 1) count column before_turn
         unfolding before_turn
         later = v.units m column shown
 
-        was_before : (t f : ℕ) → t < q + 1 → f < q + 1 → before_turn (at reduced t) (column f) ≡ entry_of old.table (at reduced t) f
+        was_before : (t f : ℕ) → t < q + 1 → f < q + 1 → before_turn (at inactive_rows t) (column f) ≡ entry_of old.table (at inactive_rows t) f
         unfolding before_turn
         was_before t f l n = v.before m column shown t f l n
 
-        was_left : (t f : ℕ) → t < q + 1 → q + 1 ≤ f → f < count → before_turn (at reduced t) (column f) ≡ one_of (entry_of old.table (at reduced t) f)
+        was_left : (t f : ℕ) → t < q + 1 → q + 1 ≤ f → f < count → before_turn (at inactive_rows t) (column f) ≡ one_of (entry_of old.table (at inactive_rows t) f)
         unfolding before_turn
         was_left t f l late n = v.left m column shown t f l late n
 
         -- columns up to the row's own aren't touched as it takes ones
-        early : (f : ℕ) → f < q + 1 → after_turn (at reduced q) (column f) ≡ entry_of old.table (at reduced q) f
+        early : (f : ℕ) → f < q + 1 → after_turn (at inactive_rows q) (column f) ≡ entry_of old.table (at inactive_rows q) f
         unfolding after_turn
         early f l =
             turn.kept before_turn (column f) (λ t from n. later t f from n (omega arith) ∙ if_apart t f 1 0 (λ e. omega (arith, e, from, l)))
             ∙ was_before q f (omega arith) l
 
-        own_unit : (f : ℕ) → f < count → after_turn (at reduced q) (column f) ≡ (if q == f then 1 else 0)
+        own_unit : (f : ℕ) → f < count → after_turn (at inactive_rows q) (column f) ≡ (if q == f then 1 else 0)
         unfolding after_turn
         own_unit f l = elim (cases_lt f (q + 1)) [
           | inl first ↦ early f first ∙ elim (cases_eq q f) [
@@ -252,55 +252,55 @@ module _ (reduced : List ℕ) (count : ℕ) where
             | inr d ↦ echelon.zeros q f (fits q inside) (omega arith) l ∙ sym (if_apart q f 1 0 d)
           ]
           | inr late ↦
-              turn.cleared before_turn column later (λ g from n. was_left q g (omega arith) from n ∙ ap (λ table. one_of (entry_of table (at reduced q) g)) (sym v.records.table)) f late l l
+              turn.cleared before_turn column later (λ g from n. was_left q g (omega arith) from n ∙ ap (λ table. one_of (entry_of table (at inactive_rows q) g)) (sym v.records.table)) f late l l
               ∙ sym (if_apart q f 1 0 (λ e. omega (arith, e, late)))
         ]
 
-        own_zero : (f : ℕ) → f < count → f ≢ q → after_turn (at reduced q) (column f) ≡ 0
+        own_zero : (f : ℕ) → f < count → f ≢ q → after_turn (at inactive_rows q) (column f) ≡ 0
         own_zero f l d = own_unit f l ∙ if_apart q f 1 0 (λ e. d (sym e))
 
-        units_next : AreUnits reduced q count column (rows_after octets gives.steps after_turn)
+        units_next : AreUnits inactive_rows q count column (rows_after octets gives.steps after_turn)
         units_next t f from l n =
-            gives.elsewhere after_turn (at reduced t) (column f) (λ p u. apart p t (omega arith) l (omega arith))
+            gives.elsewhere after_turn (at inactive_rows t) (column f) (λ p u. apart p t (omega arith) l (omega arith))
             ∙ elim (cases_eq t q) [
               | inl e ↦ rw e (own_unit f n)
-              | inr d ↦ after_elsewhere (at reduced t) (column f) (apart t q l inside d) ∙ later t f (omega arith) l n
+              | inr d ↦ after_elsewhere (at inactive_rows t) (column f) (apart t q l inside d) ∙ later t f (omega arith) l n
             ]
 
         -- a row before this one, where this one has 0, and where it has 1
-        stays : (t f : ℕ) → t < q → f < count → f ≢ q → rows_after octets gives.steps after_turn (at reduced t) (column f) ≡ before_turn (at reduced t) (column f)
-        stays t f l n d = gives.kept after_turn (at reduced t) (column f) (own_zero f n d) ∙ after_elsewhere (at reduced t) (column f) (apart t q (omega arith) inside (omega arith))
+        stays : (t f : ℕ) → t < q → f < count → f ≢ q → rows_after octets gives.steps after_turn (at inactive_rows t) (column f) ≡ before_turn (at inactive_rows t) (column f)
+        stays t f l n d = gives.kept after_turn (at inactive_rows t) (column f) (own_zero f n d) ∙ after_elsewhere (at inactive_rows t) (column f) (apart t q (omega arith) inside (omega arith))
 
         tables : mid.table ≡ old.table
         tables = turn.records.table ∙ v.records.table
 
-        loses : (t : ℕ) → t < q → rows_after octets gives.steps after_turn (at reduced t) (column q) ≡ one_of (entry_of old.table (at reduced t) q)
+        loses : (t : ℕ) → t < q → rows_after octets gives.steps after_turn (at inactive_rows t) (column q) ≡ one_of (entry_of old.table (at inactive_rows t) q)
         loses t l =
             gives.given after_turn (column q) t (own_unit q inside ∙ if_same q q 1 0 refl) l
-            (after_elsewhere (at reduced t) (column q) (apart t q (omega arith) inside (omega arith)) ∙ was_before t q (omega arith) (omega arith) ∙ ap (λ table. entry_of table (at reduced t) q) (sym tables))
-            ∙ ap (λ table. one_of (entry_of table (at reduced t) q)) tables
+            (after_elsewhere (at inactive_rows t) (column q) (apart t q (omega arith) inside (omega arith)) ∙ was_before t q (omega arith) (omega arith) ∙ ap (λ table. entry_of table (at inactive_rows t) q) (sym tables))
+            ∙ ap (λ table. one_of (entry_of table (at inactive_rows t) q)) tables
 
-    pub back_more : SubstitutesBack reduced count q old new
+    pub back_more : SubstitutesBack inactive_rows count q old new
     unfolding before_turn after_turn
     back_more = record {
       steps = v.steps ++ (turn.steps ++ gives.steps);
       records = records_more v.steps (turn.steps ++ gives.steps) old cur new v.records (records_more turn.steps gives.steps cur mid new turn.records gives.records);
       within =
-          let to = IsStepTo (Contains reduced) in
-          All-append to v.steps (turn.steps ++ gives.steps) v.within (All-append to turn.steps gives.steps (steps_to (Contains reduced) (at reduced q) (Contains-get_or reduced q 0 (fits q inside)) turn.steps turn.within) gives.within);
+          let to = IsStepTo (Contains inactive_rows) in
+          All-append to v.steps (turn.steps ++ gives.steps) v.within (All-append to turn.steps gives.steps (steps_to (Contains inactive_rows) (at inactive_rows q) (Contains-get_or inactive_rows q 0 (fits q inside)) turn.steps turn.within) gives.within);
       elsewhere = λ m r k out. after_all m r k ∙ gives.elsewhere (after_turn m) r k (λ p l. out p (omega arith)) ∙ turn.elsewhere (before_turn m) r k (λ e. out q inside (sym e)) ∙ v.elsewhere m r k out;
-      kept = λ m r k zeros. after_all m r k ∙ gives.kept (after_turn m) r k (zero_after m k zeros (at reduced q) ∙ zeros q inside) ∙ zero_after m k zeros r;
-      units = λ m column shown t f from l n. after_all m (at reduced t) (column f) ∙ units_next m column shown t f from l n;
-      before = λ m column shown t f l n. after_all m (at reduced t) (column f) ∙ stays m column shown t f l (omega arith) (omega arith) ∙ was_before m column shown t f (omega arith) (omega arith);
-      left = λ m column shown t f l late n. after_all m (at reduced t) (column f) ∙ elim (cases_eq f q) [
+      kept = λ m r k zeros. after_all m r k ∙ gives.kept (after_turn m) r k (zero_after m k zeros (at inactive_rows q) ∙ zeros q inside) ∙ zero_after m k zeros r;
+      units = λ m column shown t f from l n. after_all m (at inactive_rows t) (column f) ∙ units_next m column shown t f from l n;
+      before = λ m column shown t f l n. after_all m (at inactive_rows t) (column f) ∙ stays m column shown t f l (omega arith) (omega arith) ∙ was_before m column shown t f (omega arith) (omega arith);
+      left = λ m column shown t f l late n. after_all m (at inactive_rows t) (column f) ∙ elim (cases_eq f q) [
         | inl e ↦ rw e (loses m column shown t l)
         | inr d ↦ stays m column shown t f l n d ∙ was_left m column shown t f (omega arith) (omega arith) n
       ];
     }
 
 -- what was recorded is told of the table and the operations alone
-pub reduces_as : (reduced : List ℕ) (count low : ℕ) (old new again : RecordedRows) → again.table ≡ new.table → again.operations ≡ new.operations → SubstitutesBack reduced count low old new → SubstitutesBack reduced count low old again
-reduces_as reduced count low old new again table operations back = record {
+pub reduces_as : (inactive_rows : List ℕ) (count low : ℕ) (old new again : RecordedRows) → again.table ≡ new.table → again.operations ≡ new.operations → SubstitutesBack inactive_rows count low old new → SubstitutesBack inactive_rows count low old again
+reduces_as inactive_rows count low old new again table operations back = record {
   steps = back.steps;
   records = record { recorded = operations ∙ back.records.recorded; among = back.records.among; table = table ∙ back.records.table };
   within = back.within;

@@ -8,8 +8,9 @@ use Rattle.rq_algebra.specs.Operations.{Operation, AddAssign}
 use Rattle.rq_algebra.specs.Systems.{at}
 use Rattle.rq_parts.specs.DenseOctetMatrix.{OctetTable}
 use Rattle.rq_solver.specs.PivotAdditions.{HaveTaken, IsSumOf, StandBetween, TakesPivots, TakesPivotsBy}
-use Rattle.rq_peeling.specs.Peeled.{ones_of, Pivots}
-use Rattle.rq_elimination.specs.Recorded.{Performs, Records}
+use Rattle.rq_peeling.specs.Peeling.{Pivots}
+use Rattle.rq_peeling.specs.RowOnes.{ones_of}
+use Rattle.rq_elimination.specs.RecordedRows.{Performs, Records}
 use Rattle.rq_elimination.specs.declared.recorded.RecordedRows.{RecordedRows}
 use Rattle.rq_peeling.proofs.ListParts.{range_appended, range_at, range_kept, range_next}
 

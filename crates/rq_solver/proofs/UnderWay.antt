@@ -1,5 +1,5 @@
 -- An elimination stays under way while phases record more.
-use Rattle.std.proofs.Common.{◌≡◌, ◌≢◌, ℕ, ◌+◌, ◌-◌, ◌<◌, ◌≤◌, List, ◌++◌, Contains, Vec, length, drop, take, refl, sym, ap, ◌∙◌, arith, length-append}
+use Rattle.std.proofs.Common.{◌≡◌, ◌≢◌, ℕ, ◌+◌, ◌-◌, ◌<◌, ◌≤◌, List, ◌++◌, Contains, Vec, length, drop, take, sym, ap, ◌∙◌, arith, length-append}
 use Rattle.std.specs.Global.{Global}
 use Rattle.std.specs.List.Sorted.{IsPermutation}
 use Rattle.std.proofs.lemmas.List.{get_or_default, get_or-drop, length-drop, take_rest}
@@ -12,9 +12,9 @@ use Rattle.rq_algebra.specs.Systems.{at}
 use Rattle.rq_elimination.specs.PhaseCounts.{AreInOrder}
 use Rattle.rq_elimination.specs.RowSteps.{AreRows}
 use Rattle.rq_elimination.specs.declared.counts.PhaseEnds.{PhaseEnds}
-use Rattle.rq_peeling.specs.Peeled.{IsPeeled, Pivots}
+use Rattle.rq_peeling.specs.Peeling.{IsPeeled, Pivots}
 use Rattle.rq_peeling.specs.declared.system.System.{System}
-use Rattle.rq_solver.specs.EliminationState.{eliminated_at, left_rows, sparsified_at, starts_at, substituted_at, HasEndsInOrder, IsUnderWay, KeepsPivots}
+use Rattle.rq_solver.specs.Elimination.{eliminated_at, left_rows, sparsified_at, starts_at, substituted_at, HasEndsInOrder, IsUnderWay, KeepsPivots}
 use Rattle.rq_solver.specs.Phases.{ClearsPivots}
 use Rattle.rq_solver.specs.PivotAdditions.{PeelsRows, PivotsHaveTaken}
 use Rattle.rq_solver.specs.RowOrder.{ListsRows}
@@ -47,10 +47,10 @@ pub left_slice : (e : Elimination) (slice : List ℕ) (pivots : ℕ) → slice �
 left_slice e slice pivots slice_is pivots_are = take_rest slice pivots ∙ ap (λ (xs : List ℕ). drop pivots xs) slice_is ∙ ap (λ (n : ℕ). drop n e.row_order.items) pivots_are
 
 -- also in another order
-reordered_others : (rows left reduced : List ℕ) → IsPermutation left reduced → ((p f : ℕ) → p < length rows → f < length left → at rows p ≢ at left f) → (p f : ℕ) → p < length rows → f < length reduced → at rows p ≢ at reduced f
-reordered_others rows left reduced permuted out p f l n e =
-    let c : Contains left (at reduced f) = Contains-permutation reduced left (at reduced f) (IsPermutation-sym left reduced permuted) (Contains-get_or reduced f 0 n) in
-    out p c.0 l c.1 (e ∙ sym (get_or_default left c.0 0 (at reduced f) c.1 ∙ c.2))
+reordered_others : (rows left inactive_rows : List ℕ) → IsPermutation left inactive_rows → ((p f : ℕ) → p < length rows → f < length left → at rows p ≢ at left f) → (p f : ℕ) → p < length rows → f < length inactive_rows → at rows p ≢ at inactive_rows f
+reordered_others rows left inactive_rows permuted out p f l n e =
+    let c : Contains left (at inactive_rows f) = Contains-permutation inactive_rows left (at inactive_rows f) (IsPermutation-sym left inactive_rows permuted) (Contains-get_or inactive_rows f 0 n) in
+    out p c.0 l c.1 (e ∙ sym (get_or_default left c.0 0 (at inactive_rows f) c.1 ∙ c.2))
 
 module _ (old new : Elimination) (keeps : KeepsPivots old new) (under : IsUnderWay old) (in_order : HasEndsInOrder new) (more : List Operation) (recorded : new.recorded.operations ≡ old.recorded.operations ++ more)
     (height : length new.recorded.table.rows ≡ length old.recorded.table.rows) (width : new.recorded.table.width ≡ old.recorded.table.width) where
@@ -80,23 +80,23 @@ module _ (old new : Elimination) (keeps : KeepsPivots old new) (under : IsUnderW
       }
 
   -- those that are left stand in another order
-  module _ (pivots : ℕ) (pivots_are : pivots ≡ length old.peeling.rows) (reduced : List ℕ) (placed : new.row_order.items ≡ put_mid pivots (length old.row_order.items - pivots) old.row_order.items reduced) where
+  module _ (pivots : ℕ) (pivots_are : pivots ≡ length old.peeling.rows) (inactive_rows : List ℕ) (placed : new.row_order.items ≡ put_mid pivots (length old.row_order.items - pivots) old.row_order.items inactive_rows) where
     within : pivots ≤ length old.row_order.items
     within = omega (arith, pivots_are, under.many)
 
-    pub left_reordered : left_rows new ≡ reduced
-    left_reordered = ap (λ (n : ℕ). drop n new.row_order.items) (ap (λ (p : Pivots). length p.rows) keeps.peeling ∙ sym pivots_are) ∙ ap (drop pivots) placed ∙ placed_left pivots old.row_order.items reduced within
+    pub left_reordered : left_rows new ≡ inactive_rows
+    left_reordered = ap (λ (n : ℕ). drop n new.row_order.items) (ap (λ (p : Pivots). length p.rows) keeps.peeling ∙ sym pivots_are) ∙ ap (drop pivots) placed ∙ placed_left pivots old.row_order.items inactive_rows within
 
-    pub reordered_under_way : IsPermutation (left_rows old) reduced → AreRows reduced old.recorded.table → IsUnderWay new
+    pub reordered_under_way : IsPermutation (left_rows old) inactive_rows → AreRows inactive_rows old.recorded.table → IsUnderWay new
     reordered_under_way permuted are = record {
       peeled = still_peeled;
       height = still_high;
       wide = rw (keeps.peeling, width) under.wide;
       taken = still_taken;
-      many = rw (keeps.peeling, placed, ← pivots_are) (placed_many pivots old.row_order.items reduced within);
-      starts = rw (keeps.peeling, placed) (λ p l. placed_first pivots (length old.row_order.items - pivots) old.row_order.items reduced within p (omega (arith, pivots_are, l)) ∙ under.starts p l);
+      many = rw (keeps.peeling, placed, ← pivots_are) (placed_many pivots old.row_order.items inactive_rows within);
+      starts = rw (keeps.peeling, placed) (λ p l. placed_first pivots (length old.row_order.items - pivots) old.row_order.items inactive_rows within p (omega (arith, pivots_are, l)) ∙ under.starts p l);
       left = rw (left_reordered, height) are;
-      apart = rw (left_reordered, keeps.peeling) (reordered_others old.peeling.rows (left_rows old) reduced permuted under.apart);
+      apart = rw (left_reordered, keeps.peeling) (reordered_others old.peeling.rows (left_rows old) inactive_rows permuted under.apart);
       in_order = in_order;
     }
 
@@ -117,9 +117,6 @@ module _ (ends : PhaseEnds) (n m : ℕ) (in_order : AreInOrder ends n) (longer :
 
   pub ends_substituted : AreInOrder (substituted_at ends m) m
   ends_substituted = record { first = in_order.first; forward = in_order.forward; sparsifying = omega (arith, in_order.sparsifying, in_order.back, longer); back = omega arith }
-
-pub keeps_all : (e : Elimination) → KeepsPivots e e
-keeps_all e = record { peeling = refl; additions = refl; limit = refl }
 
 -- ---- after the first phase
 

@@ -5,7 +5,7 @@ use Rattle.rq_algebra.specs.Operations.{Operation}
 use Rattle.rq_algebra.specs.Systems.{at, HasElements}
 use Rattle.rq_standard.specs.OctetField.{octets}
 use Rattle.rq_parts.specs.DenseOctetMatrix.{entry_of}
-use Rattle.rq_peeling.specs.Peeled.{Pivots}
+use Rattle.rq_peeling.specs.Peeling.{Pivots}
 use Rattle.rq_peeling.specs.declared.system.System.{System}
 use Rattle.rq_elimination.specs.RowSteps.{IsStepAmong, rows_after}
 use Rattle.rq_elimination.specs.declared.recorded.RecordedRows.{RecordedRows}
@@ -19,13 +19,15 @@ pub record HasPeeledPivots (height width : ℕ) (system : ℕ → ℕ → ℕ) (
   pub among : All (IsStepAmong octets (range_with_len 0 height)) state.operations
   pub height_is : length state.table.rows ≡ height
   pub wide : width ≤ length peeled.rows + state.table.width
-  pub shows : (r f : ℕ) → r < height → length peeled.rows + f < width → entry_of state.table r f ≡ rows_after octets state.operations system r (at peeled.order (length peeled.rows + f))
+  pub shows : (r f : ℕ) → r < height → length peeled.rows + f < width
+      → entry_of state.table r f ≡ rows_after octets state.operations system r (at peeled.order (length peeled.rows + f))
   pub pivots : (p : ℕ) → p < length peeled.rows → IsCleared peeled.rows peeled.order (rows_after octets state.operations system) (at peeled.rows p)
   pub others : (r p : ℕ) → Contains left r → p < length peeled.rows → rows_after octets state.operations system r (at peeled.order p) ≡ 0
 
 -- Rows of bits take rows of pivots and no others, HDPC rows take those and one another: in a column in which the rows of pivots have zeros, rows
 -- of bits stay as they are, and HDPC rows keep zeros.
 pub record TakesPivotsAlone (system : System) (pivots : List ℕ) (operations : List Operation) : Type 0 where
-  pub bits : (m : ℕ → ℕ → ℕ) (k : ℕ) → PivotsHaveZeros pivots m k → (r : ℕ) → ((i : ℕ) → i < length system.hdpc.rows → system.first_hdpc + i ≢ r) → rows_after octets operations m r k ≡ m r k
+  pub bits : (m : ℕ → ℕ → ℕ) (k : ℕ) → PivotsHaveZeros pivots m k
+      → (r : ℕ) → ((i : ℕ) → i < length system.hdpc.rows → system.first_hdpc + i ≢ r) → rows_after octets operations m r k ≡ m r k
   pub hdpc : (m : ℕ → ℕ → ℕ) (k : ℕ) → PivotsHaveZeros pivots m k → HaveZeros system.first_hdpc (length system.hdpc.rows) m k
       → HaveZeros system.first_hdpc (length system.hdpc.rows) (rows_after octets operations m) k

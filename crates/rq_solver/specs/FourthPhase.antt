@@ -4,10 +4,10 @@ use Rattle.rq_algebra.specs.Systems.{at}
 use Rattle.rq_algebra.specs.Operations.{Operation}
 use Rattle.rq_standard.specs.OctetField.{octets}
 use Rattle.rq_parts.specs.DenseOctetMatrix.{entry_of}
-use Rattle.rq_elimination.specs.Recorded.{Performs, Records}
+use Rattle.rq_elimination.specs.RecordedRows.{Performs, Records}
 use Rattle.rq_elimination.specs.RowSteps.{rows_after}
 use Rattle.rq_elimination.specs.declared.recorded.RecordedRows.{RecordedRows}
-use Rattle.rq_solver.specs.EliminationState.{inactive_count, left_rows}
+use Rattle.rq_solver.specs.Elimination.{inactive_count, left_rows}
 use Rattle.rq_solver.specs.PivotAdditions.{IsCleared, IsUncleared}
 use Rattle.rq_solver.specs.SecondPhase.{AreUnits, IsStepTo}
 use Rattle.rq_solver.specs.declared.pi_solver.elimination.Elimination.{Elimination}
@@ -16,6 +16,13 @@ use Rattle.rq_solver.specs.declared.pi_solver.elimination.Elimination.{Eliminati
 abbrev pub TookAtMost : ℕ → List Bool → List ℕ → Type 0
 TookAtMost limit marks bounds = (p : ℕ) → p < length marks → slice_index_or marks p false ≡ true → at bounds (p + 1) - at bounds p ≤ limit
 
+-- the row of a pivot has a mark, or has none
+abbrev pub HasMark : List Bool → ℕ → Type 0
+HasMark marks p = slice_index_or marks p false ≡ true
+
+abbrev pub HasNoMark : List Bool → ℕ → Type 0
+HasNoMark marks p = slice_index_or marks p false ≡ false
+
 -- Of the pivots' rows, the last first and up to place `low`, those that have a mark take the pivots' rows that they took in the first phase, and
 -- so are as they were before, in the pivots' columns.
 pub record Sparsifies (lists : List (List ℕ)) (rows order : List ℕ) (marks : List Bool) (low : ℕ) (old new : RecordedRows) : Type 0 where
@@ -23,9 +30,9 @@ pub record Sparsifies (lists : List (List ℕ)) (rows order : List ℕ) (marks :
   pub performs : Performs steps old new
   pub within : All (IsStepTo (Contains rows)) steps
   pub elsewhere : (m : ℕ → ℕ → ℕ) (r k : ℕ) → ((p : ℕ) → low ≤ p → p < length rows → at rows p ≢ r) → rows_after octets steps m r k ≡ m r k
-  pub unmarked : (m : ℕ → ℕ → ℕ) (p k : ℕ) → low ≤ p → p < length rows → slice_index_or marks p false ≡ false → rows_after octets steps m (at rows p) k ≡ m (at rows p) k
-  pub uncleared : (m : ℕ → ℕ → ℕ) → ((p : ℕ) → p < length rows → IsCleared rows order m (at rows p)) → (p : ℕ) → low ≤ p → p < length rows → slice_index_or marks p false ≡ true
-      → IsUncleared lists rows order (rows_after octets steps m) (at rows p)
+  pub unmarked : (m : ℕ → ℕ → ℕ) (p k : ℕ) → low ≤ p → p < length rows → HasNoMark marks p → rows_after octets steps m (at rows p) k ≡ m (at rows p) k
+  pub uncleared : (m : ℕ → ℕ → ℕ) → ((p : ℕ) → p < length rows → IsCleared rows order m (at rows p))
+      → (p : ℕ) → low ≤ p → p < length rows → HasMark marks p → IsUncleared lists rows order (rows_after octets steps m) (at rows p)
 
 -- a pivot's row has 1 in its own column alone
 pub record IsFinished (rows order : List ℕ) (count : ℕ) (column : ℕ → ℕ) (m : ℕ → ℕ → ℕ) (r : ℕ) : Type 0 where
@@ -38,16 +45,18 @@ pub record FinishesPivots (lists : List (List ℕ)) (rows order inactive_rows : 
   pub records : Records steps old new
   pub within : All (IsStepTo (Contains rows)) steps
   pub elsewhere : (m : ℕ → ℕ → ℕ) (r k : ℕ) → ((p : ℕ) → p < done → at rows p ≢ r) → rows_after octets steps m r k ≡ m r k
-  pub final : (m : ℕ → ℕ → ℕ) (column : ℕ → ℕ) → AreUnits inactive_rows 0 count column m → ((f i : ℕ) → f < count → i < length rows → m (at inactive_rows f) (at order i) ≡ 0)
+  pub final : (m : ℕ → ℕ → ℕ) (column : ℕ → ℕ) → AreUnits inactive_rows 0 count column m
+      → ((f i : ℕ) → f < count → i < length rows → m (at inactive_rows f) (at order i) ≡ 0)
       → ((p f : ℕ) → p < length rows → f < count → m (at rows p) (column f) ≡ entry_of old.table (at rows p) f)
-      → ((p : ℕ) → p < length rows → slice_index_or marks p false ≡ false → IsCleared rows order m (at rows p))
-      → ((p : ℕ) → p < length rows → slice_index_or marks p false ≡ true → IsUncleared lists rows order m (at rows p))
+      → ((p : ℕ) → p < length rows → HasNoMark marks p → IsCleared rows order m (at rows p))
+      → ((p : ℕ) → p < length rows → HasMark marks p → IsUncleared lists rows order m (at rows p))
       → (p : ℕ) → p < done → IsFinished rows order count column (rows_after octets steps m) (at rows p)
 
--- of the pivots' rows of an elimination those that have a mark do so
+-- of the pivots' rows of an elimination those that have a mark are made sparse again
 abbrev pub SparsifiesPivotRows : List Bool → Elimination → RecordedRows → Type 0
 SparsifiesPivotRows sparse old new = Sparsifies old.additions.ones old.peeling.rows old.peeling.order sparse 0 old.recorded new
 
 -- all pivots' rows of an elimination are finished
 abbrev pub FinishesPivotRows : List Bool → Elimination → RecordedRows → Type 0
-FinishesPivotRows sparse old new = FinishesPivots old.additions.ones old.peeling.rows old.peeling.order (left_rows old) sparse (inactive_count old) (length old.peeling.rows) old.recorded new
+FinishesPivotRows sparse old new =
+    FinishesPivots old.additions.ones old.peeling.rows old.peeling.order (left_rows old) sparse (inactive_count old) (length old.peeling.rows) old.recorded new

@@ -5,11 +5,12 @@ use Rattle.rq_algebra.specs.Operations.{Operation}
 use Rattle.rq_standard.specs.OctetField.{octets}
 use Rattle.rq_parts.specs.DenseOctetMatrix.{OctetTable, entry_of}
 use Rattle.rq_solver.specs.PivotAdditions.{IsCleared, PivotsHaveZeros}
-use Rattle.rq_peeling.specs.Peeled.{IsOrderOf, Pivots}
-use Rattle.rq_elimination.specs.Recorded.{Performs}
+use Rattle.rq_peeling.specs.ColumnState.{IsOrderOf}
+use Rattle.rq_peeling.specs.Peeling.{Pivots}
+use Rattle.rq_elimination.specs.RecordedRows.{Performs}
 use Rattle.rq_elimination.specs.declared.recorded.RecordedRows.{RecordedRows}
 use Rattle.rq_elimination.specs.RowSteps.{AreRows, rows_after}
-use Rattle.rq_elimination.specs.HdpcRows.{Batch, octet_in}
+use Rattle.rq_elimination.specs.HdpcRows.{HdpcTable, octet_in}
 
 -- ---- what the rows have
 
@@ -27,9 +28,9 @@ pub record SumsRows (was now : OctetTable) : Type 0 where
   pub others : (i k : ℕ) → 0 < i → i < length was.rows → k < was.width → entry_of now i k ≡ entry_of was i k
 
 -- in a column the first row has 1, and the others have 0
-pub record IsFirstAlone (column : ℕ) (batch : Batch) : Type 0 where
-  pub one : octet_in batch 0 column ≡ 1
-  pub zeros : (i : ℕ) → 0 < i → i < length batch.table.rows → octet_in batch i column ≡ 0
+pub record IsFirstAlone (column : ℕ) (hdpc : HdpcTable) : Type 0 where
+  pub one : octet_in hdpc 0 column ≡ 1
+  pub zeros : (i : ℕ) → 0 < i → i < length hdpc.table.rows → octet_in hdpc i column ≡ 0
 
 -- the first rows have 0 in a column
 abbrev pub HasZeros : ℕ → ℕ → OctetTable → Type 0
@@ -42,6 +43,13 @@ pub record AreOctetsIn (first count : ℕ) (state : RecordedRows) : Type 0 where
   pub within : first + count ≤ length state.table.rows
   pub fits : first + count < 2 ^ 64
 
+-- HDPC rows stand from row `first` on, and there is room for what they have in a column of theirs
+pub record AreReadable (first column : ℕ) (hdpc : HdpcTable) (column_octets : List ℕ) (state : RecordedRows) : Type 0 where
+  pub rows : AreOctetsIn first (length hdpc.table.rows) state
+  pub some : 0 < length hdpc.table.rows
+  pub in_width : column < hdpc.table.width
+  pub lanes : length column_octets ≡ length hdpc.factors
+
 -- the pivots are those of other rows
 pub record HasPivotsBeside (rows order places : List ℕ) (first count width : ℕ) (state : RecordedRows) : Type 0 where
   pub columns : IsOrderOf width order places
@@ -52,8 +60,8 @@ pub record HasPivotsBeside (rows order places : List ℕ) (first count width : �
 -- ---- steps
 
 -- how many additions clear `count` HDPC rows in the columns of `pivots` pivots at most, among `width` columns
-abbrev pub batch_bound : ℕ → ℕ → ℕ → ℕ
-batch_bound count width pivots = (count - 1) * (1 + width) + count * pivots
+abbrev pub hdpc_bound : ℕ → ℕ → ℕ → ℕ
+hdpc_bound count width pivots = (count - 1) * (1 + width) + count * pivots
 
 -- each pivot's column has one 1 among the pivots' rows, in its own
 abbrev pub PivotsAreCleared : List ℕ → List ℕ → (ℕ → ℕ → ℕ) → Type 0
@@ -82,30 +90,33 @@ pub record ChangesOctets (rows order : List ℕ) (first count : ℕ) (was now : 
   pub steps : List Operation
   pub performs : Performs steps old new
   pub elsewhere : (m : ℕ → ℕ → ℕ) (r k : ℕ) → ((i : ℕ) → i < count → first + i ≢ r) → rows_after octets steps m r k ≡ m r k
-  pub shown : (m : ℕ → ℕ → ℕ) → PivotsAreCleared rows order m → ShowHdpcOctets rows order first count was m → ShowHdpcOctets rows order first count now (rows_after octets steps m)
+  pub shown : (m : ℕ → ℕ → ℕ) → PivotsAreCleared rows order m → ShowHdpcOctets rows order first count was m
+      → ShowHdpcOctets rows order first count now (rows_after octets steps m)
   pub kept : (m : ℕ → ℕ → ℕ) (k : ℕ) → PivotsHaveZeros rows m k → HaveZeros first count m k → HaveZeros first count (rows_after octets steps m) k
 
--- ---- steps among the rows of a batch
+-- ---- steps among the HDPC rows
 
--- the rows of a batch stand from row `first` on, and the pivots are those of other rows
-abbrev pub StandsBeside : Pivots → ℕ → Batch → RecordedRows → Type 0
-StandsBeside peeling first batch state = HasPivotsBeside peeling.rows peeling.order peeling.places first (length batch.table.rows) batch.table.width state
+-- HDPC rows stand from row `first` on, and the pivots are those of other rows
+abbrev pub StandsBeside : Pivots → ℕ → HdpcTable → RecordedRows → Type 0
+StandsBeside peeling first hdpc state = HasPivotsBeside peeling.rows peeling.order peeling.places first (length hdpc.table.rows) hdpc.table.width state
 
--- from this column on the batch shows what steps among its rows did, and it shows nothing of the columns before
-abbrev pub CombinesFrom : ℕ → ℕ → Batch → Batch → RecordedRows → RecordedRows → Type 0
-CombinesFrom column first was now old new = CombinesOctets first (length was.table.rows) was.table.width (octets_from column (octet_in was)) (octets_from column (octet_in now)) old new
+-- from this column on the octets show what steps among the rows did, and they show nothing of the columns before
+abbrev pub CombinesFrom : ℕ → ℕ → HdpcTable → HdpcTable → RecordedRows → RecordedRows → Type 0
+CombinesFrom column first was now old new =
+    CombinesOctets first (length was.table.rows) was.table.width (octets_from column (octet_in was)) (octets_from column (octet_in now)) old new
 
 -- the rows had 0 in the pivots' columns before this one, and have 0 in this one too, if it has a pivot
-abbrev pub ClearsPivotColumn : Pivots → ℕ → ℕ → Batch → Batch → RecordedRows → RecordedRows → Type 0
-ClearsPivotColumn peeling column first was now old new = ChangesOctets peeling.rows peeling.order first (length was.table.rows) (octets_from column (octet_in was)) (octets_from (column + 1) (octet_in now)) old new
+abbrev pub ClearsPivotColumn : Pivots → ℕ → ℕ → HdpcTable → HdpcTable → RecordedRows → RecordedRows → Type 0
+ClearsPivotColumn peeling column first was now old new =
+    ChangesOctets peeling.rows peeling.order first (length was.table.rows) (octets_from column (octet_in was)) (octets_from (column + 1) (octet_in now)) old new
 
 -- the first row of HDPC rows takes the others
 abbrev pub CombinesTables : ℕ → OctetTable → OctetTable → RecordedRows → RecordedRows → Type 0
 CombinesTables first was now old new = CombinesOctets first (length was.rows) was.width (entry_of was) (entry_of now) old new
 
 -- the rows have 0 in the column of the pivot at a place
-abbrev pub ClearsOwnColumn : Pivots → ℕ → ℕ → Batch → RecordedRows → RecordedRows → Type 0
-ClearsOwnColumn peeling place first batch old new = ClearsPivotColumn peeling (at peeling.order place) first batch batch old new
+abbrev pub ClearsOwnColumn : Pivots → ℕ → ℕ → HdpcTable → RecordedRows → RecordedRows → Type 0
+ClearsOwnColumn peeling place first hdpc old new = ClearsPivotColumn peeling (at peeling.order place) first hdpc hdpc old new
 
 -- a column is inactive
 abbrev pub HasNoPivot : Pivots → ℕ → Type 0
@@ -119,5 +130,6 @@ pub record ClearsOctets (rows order : List ℕ) (octet : ℕ → ℕ → ℕ) (f
   pub performs : Performs steps old new
   pub elements : (i p : ℕ) → i < count → p < length rows → octet i (at order p) < octets.size
   pub elsewhere : (m : ℕ → ℕ → ℕ) (r k : ℕ) → ((i : ℕ) → i < count → first + i ≢ r) → rows_after octets steps m r k ≡ m r k
-  pub cleared : (m : ℕ → ℕ → ℕ) → PivotsAreCleared rows order m → ShowHdpcOctets rows order first count octet m → (i p : ℕ) → i < count → p < length rows → rows_after octets steps m (first + i) (at order p) ≡ 0
+  pub cleared : (m : ℕ → ℕ → ℕ) → PivotsAreCleared rows order m → ShowHdpcOctets rows order first count octet m
+      → (i p : ℕ) → i < count → p < length rows → rows_after octets steps m (first + i) (at order p) ≡ 0
   pub kept : (m : ℕ → ℕ → ℕ) (k : ℕ) → PivotsHaveZeros rows m k → HaveZeros first count m k → HaveZeros first count (rows_after octets steps m) k

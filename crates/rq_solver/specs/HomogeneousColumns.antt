@@ -4,7 +4,7 @@ use Rattle.rq_algebra.specs.Systems.{at, dot}
 use Rattle.rq_standard.specs.OctetField.{octets}
 use Rattle.rq_parts.specs.DenseOctetMatrix.{entry_of}
 use Rattle.rq_peeling.specs.SystemRows.{one_in}
-use Rattle.rq_solver.specs.EliminationState.{inactive_count, left_rows}
+use Rattle.rq_solver.specs.Elimination.{inactive_count, left_rows}
 use Rattle.rq_solver.specs.declared.pi_solver.elimination.Elimination.{Elimination}
 
 abbrev pub IsZeroColumn : List ℕ → Type 0
@@ -26,10 +26,10 @@ pub record SolvesLeftRows (e : Elimination) (column : List ℕ) : Type 0 where
   pub below : place < inactive_count e
   pub nonzero : inactive_entry e column place ≢ 0
 
--- it has zeros in the columns of the pivots from one on
+-- a column has zeros at the pivots from the one numbered `start` on
 abbrev pub HasZerosAtPivots : Elimination → ℕ → List ℕ → Type 0
 HasZerosAtPivots e start column = (p : ℕ) → start ≤ p → p < length e.peeling.rows → at column (at e.peeling.order p) ≡ 0
 
--- it solves the rows of the first pivots, as they were handed in
+-- a column solves the rows of the first pivots, as they were handed in
 abbrev pub SolvesPivotRows : Elimination → ℕ → List ℕ → Type 0
 SolvesPivotRows e done column = (p : ℕ) → p < done → dot octets (length e.peeling.places) (one_in e.additions.ones (at e.peeling.rows p)) (at column) ≡ 0

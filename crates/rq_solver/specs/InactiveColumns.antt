@@ -2,7 +2,7 @@
 use Rattle.std.specs.Prelude.{◌≡◌, ◌≢◌, ℕ, ◌+◌, ◌-◌, ◌<◌, ◌≤◌, ◌==◌, List, count_by, length, min}
 use Rattle.rq_algebra.specs.Systems.{at}
 use Rattle.rq_parts.specs.DenseOctetMatrix.{OctetTable, entry_of, HasOctets}
-use Rattle.rq_peeling.specs.Peeled.{Pivots}
+use Rattle.rq_peeling.specs.Peeling.{Pivots}
 use Rattle.rq_peeling.specs.SystemRows.{one_in}
 use Rattle.rq_peeling.specs.declared.system.System.{System}
 
@@ -16,7 +16,8 @@ pub record HasLeading (height width n : ℕ) (wanted : ℕ → ℕ → ℕ) (tab
 
 -- what these rows have in the columns behind the pivots'
 abbrev pub HasInactive : ℕ → ℕ → (ℕ → ℕ → ℕ) → Pivots → OctetTable → Type 0
-HasInactive height width rows pivots table = HasLeading height (width - length pivots.rows) height (λ r f. rows r (at pivots.order (length pivots.rows + f))) table
+HasInactive height width rows pivots table =
+    HasLeading height (width - length pivots.rows) height (λ r f. rows r (at pivots.order (length pivots.rows + f))) table
 
 -- what the first n rows of bits have there
 abbrev pub AreFilled : List (List ℕ) → Pivots → ℕ → ℕ → OctetTable → Type 0
@@ -40,4 +41,5 @@ pub record FillsColumn (rows : List ℕ) (column : ℕ) (old new : OctetTable) :
 
 -- an HDPC row of a system has its octets in the inactive columns
 abbrev pub FillsHdpcRow : System → ℕ → Pivots → ℕ → OctetTable → OctetTable → Type 0
-FillsHdpcRow system from pivots inactive old new = FillsRow (system.first_hdpc + from) inactive (λ f. entry_of system.hdpc from (at pivots.order (length pivots.rows + f))) old new
+FillsHdpcRow system from pivots inactive old new =
+    FillsRow (system.first_hdpc + from) inactive (λ f. entry_of system.hdpc from (at pivots.order (length pivots.rows + f))) old new

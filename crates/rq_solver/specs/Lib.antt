@@ -1,4 +1,4 @@
-pub mod EliminationState
+pub mod Elimination
 pub mod FirstPhase
 pub mod FourthPhase
 pub mod HdpcOctets

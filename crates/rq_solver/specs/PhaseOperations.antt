@@ -28,14 +28,18 @@ in_row_order found = option_map (λ order. found.recorded ++ Reorder order.items
 abbrev pub answered_operations : Option (Slab × Vec SymbolOps Global) → Option (List Operation)
 answered_operations answer = option_map (λ found. map operation_of found.1.items) answer
 
--- A solver that has run answers the operations that the phases found. Each phase's counts are those of the stretches that it recorded: the first
--- one, then two of the second phase and two of the fourth in turn.
+-- A solver that has run answers the operations that the phases found. Each phase's counts are those of the stretches that it recorded:
+-- the first one, then two of the second phase and two of the fourth in turn.
 pub record CountsOperations (old new : Solver) (answer : Option (List Operation)) : Type 0 where
   pub found : PhaseOperations
   pub runs : RunsOverEquations old found
   pub answers : answer ≡ in_row_order found
   pub in_order : AreInOrder found.ends (length found.recorded)
-  pub added : new.additions ≡ additions (first_of found.ends found.recorded) ∷ additions (second_of found.ends found.recorded) ∷ 0 ∷ additions (fourth_of found.ends found.recorded) ∷ 0 ∷ []
-  pub multiplied : new.multiplications ≡ multiplications (first_of found.ends found.recorded) ∷ multiplications (second_of found.ends found.recorded) ∷ 0 ∷ multiplications (fourth_of found.ends found.recorded) ∷ 0 ∷ []
+  pub added :
+      new.additions ≡ additions (first_of found.ends found.recorded) ∷ additions (second_of found.ends found.recorded) ∷ 0
+      ∷ additions (fourth_of found.ends found.recorded) ∷ 0 ∷ []
+  pub multiplied :
+      new.multiplications ≡ multiplications (first_of found.ends found.recorded) ∷ multiplications (second_of found.ends found.recorded) ∷ 0
+      ∷ multiplications (fourth_of found.ends found.recorded) ∷ 0 ∷ []
   pub additions_are : IfSome answer (λ operations. sum new.additions ≡ additions operations)
   pub multiplications_are : IfSome answer (λ operations. sum new.multiplications ≡ multiplications operations)

@@ -5,18 +5,18 @@ use Rattle.std.specs.List.Sorted.{IsPermutation}
 use Rattle.rq_algebra.specs.Operations.{Operation, Reorder, FindsColumn}
 use Rattle.rq_algebra.specs.Systems.{HasHomogeneousColumn}
 use Rattle.rq_standard.specs.OctetField.{octets}
-use Rattle.rq_peeling.specs.Degrees.{TakesColumnsLeft, TakesFewest}
-use Rattle.rq_peeling.specs.Peeled.{IsPeeled, Pivots}
+use Rattle.rq_peeling.specs.RowDegrees.{TakesColumnsLeft, TakesFewest}
+use Rattle.rq_peeling.specs.Peeling.{IsPeeled, Pivots}
 use Rattle.rq_peeling.specs.System.{rows_of_system}
 use Rattle.rq_peeling.specs.declared.system.System.{System}
 use Rattle.rq_elimination.specs.OperationCounts.{additions}
-use Rattle.rq_elimination.specs.Recorded.{ChangesRows}
+use Rattle.rq_elimination.specs.RecordedRows.{ChangesRows}
 use Rattle.rq_elimination.specs.RowSteps.{IsEchelon, IsStuck}
 use Rattle.rq_elimination.specs.declared.recorded.RecordedRows.{RecordedRows}
-use Rattle.rq_solver.specs.EliminationState.{eliminated_at, inactive_count, left_rows, KeepsPivots}
+use Rattle.rq_solver.specs.Elimination.{eliminated_at, inactive_count, left_rows, KeepsPivots}
 use Rattle.rq_solver.specs.FirstPhase.{HasPeeledPivots, TakesPivotsAlone}
 use Rattle.rq_solver.specs.FourthPhase.{FinishesPivots, Sparsifies}
-use Rattle.rq_solver.specs.HdpcOctets.{batch_bound}
+use Rattle.rq_solver.specs.HdpcOctets.{hdpc_bound}
 use Rattle.rq_solver.specs.RowOrder.{ListsRows}
 use Rattle.rq_solver.specs.SecondPhase.{SubstitutesBack}
 use Rattle.rq_solver.specs.declared.pi_solver.elimination.Elimination.{Elimination}
@@ -33,11 +33,13 @@ SolvesSystem system recorded order = SolvesRows (length system.ones) system.widt
 
 -- what was recorded gives the rows of a system the pivots of a peeling; the others are listed behind its rows
 abbrev pub ClearsPivots : System → Pivots → List ℕ → RecordedRows → Type 0
-ClearsPivots system peeling row_order state = HasPeeledPivots (length system.ones) system.width (rows_of_system system) peeling (drop (length peeling.rows) row_order) state
+ClearsPivots system peeling row_order state =
+    HasPeeledPivots (length system.ones) system.width (rows_of_system system) peeling (drop (length peeling.rows) row_order) state
 
 -- each pivot's row is added to each row of bits at most, and the HDPC rows are cleared
 abbrev pub AddsFirst : System → Pivots → RecordedRows → Type 0
-AddsFirst system peeling state = additions state.operations ≤ length system.ones * length peeling.rows + batch_bound (length system.hdpc.rows) system.width (length peeling.rows)
+AddsFirst system peeling state =
+    additions state.operations ≤ length system.ones * length peeling.rows + hdpc_bound (length system.hdpc.rows) system.width (length peeling.rows)
 
 -- whatever rows had the pivots of an elimination, what is recorded solves them
 abbrev pub FindsOrder : Elimination → Elimination → Option (Vec ℕ Global) → Type 0
@@ -89,14 +91,15 @@ pub record RunsOverSystem (system : System) (last : Elimination) (order : Option
   pub first_end : first.ends.cleared ≡ length first.recorded.operations
   pub later : RunsLater first last order
 
--- so they did where this was found
+-- the phases ran over a system, one after another, and found these operations
 pub record RunsPhases (system : System) (found : PhaseOperations) : Type 0 where
   pub last : Elimination
   pub runs : RunsOverSystem system last found.order
   pub recorded : found.recorded ≡ last.recorded.operations
   pub ends : found.ends ≡ last.ends
 
--- they ran over rows, of which those from one on are HDPC rows, and columns, of which the first are those of LT symbols: over that system
+-- The phases ran over the system of these rows and columns: the rows from `first_hdpc` on are HDPC rows, and the first columns are those of
+-- LT symbols.
 pub record RunsOverRows (height width first_hdpc hdpc_rows lt_columns : ℕ) (rows : ℕ → ℕ → ℕ) (found : PhaseOperations) : Type 0 where
   pub system : System
   pub height_is : length system.ones ≡ height

@@ -3,9 +3,10 @@ use Rattle.std.specs.Prelude.{◌≡◌, ◌≢◌, ℕ, ◌+◌, ◌<◌, ◌�
 use Rattle.rq_algebra.specs.Systems.{at}
 use Rattle.rq_algebra.specs.Operations.{Operation, AddAssign}
 use Rattle.rq_standard.specs.OctetField.{octets}
-use Rattle.rq_peeling.specs.Peeled.{ones_of, IsPeeled, Pivots}
+use Rattle.rq_peeling.specs.Peeling.{IsPeeled, Pivots}
+use Rattle.rq_peeling.specs.RowOnes.{ones_of}
 use Rattle.rq_peeling.specs.SystemRows.{one_in, AreRowsOfBits}
-use Rattle.rq_elimination.specs.Recorded.{Performs, Records}
+use Rattle.rq_elimination.specs.RecordedRows.{Performs, Records}
 use Rattle.rq_elimination.specs.RowSteps.{rows_after}
 use Rattle.rq_elimination.specs.declared.recorded.RecordedRows.{RecordedRows}
 
@@ -47,9 +48,10 @@ pub record TakesPivotsBy (Done : List Operation → RecordedRows → RecordedRow
   pub taken : (m : ℕ → ℕ → ℕ) → ((j : ℕ) → j < length rows → Contains columns (at order j) → at rows j ≢ row → IsCleared rows order m (at rows j))
       → (i : ℕ) → i < length rows → rows_after octets steps m row (at order i) ≡ octets.add (m row (at order i)) (if at rows i == row then 0 else count_by (λ column. column == at order i) columns)
   -- where these rows have zeros it stays as it was
-  pub kept : (m : ℕ → ℕ → ℕ) (k : ℕ) → ((j : ℕ) → j < length rows → Contains columns (at order j) → at rows j ≢ row → m (at rows j) k ≡ 0) → rows_after octets steps m row k ≡ m row k
+  pub kept : (m : ℕ → ℕ → ℕ) (k : ℕ) → ((j : ℕ) → j < length rows → Contains columns (at order j) → at rows j ≢ row → m (at rows j) k ≡ 0)
+      → rows_after octets steps m row k ≡ m row k
 
--- it takes them by steps that are done to the rows, or recorded alone
+-- a row takes the rows of pivots by steps that are done to the rows, or recorded alone
 abbrev pub TakesPivots : List ℕ → List ℕ → ℕ → List ℕ → RecordedRows → RecordedRows → Type 0
 TakesPivots rows order row columns old new = TakesPivotsBy Performs rows order row columns old new
 
@@ -65,9 +67,10 @@ pub record HaveTaken (lists : List (List ℕ)) (pivots : Pivots) (listed : List 
   pub many : done < length bounds
   pub ordered : (s : ℕ) → s < done → at bounds s ≤ at bounds (s + 1)
   pub within : (s : ℕ) → s < done → at bounds (s + 1) ≤ length state.operations
-  pub taken : (s : ℕ) → s < done → TakesPivotsBy (StandBetween (at bounds s) (at bounds (s + 1))) pivots.rows pivots.order (at listed s) (ones_of lists (at listed s)) state state
+  pub taken : (s : ℕ) → s < done
+      → TakesPivotsBy (StandBetween (at bounds s) (at bounds (s + 1))) pivots.rows pivots.order (at listed s) (ones_of lists (at listed s)) state state
 
--- the pivots' rows have taken others so
+-- each pivot's row has taken the rows of the pivots before it in whose columns it has ones
 abbrev pub PivotsHaveTaken : List (List ℕ) → Pivots → List ℕ → RecordedRows → Type 0
 PivotsHaveTaken lists pivots bounds state = HaveTaken lists pivots pivots.rows (length pivots.rows) bounds state
 

@@ -5,7 +5,7 @@ use Rattle.rq_algebra.specs.Operations.{Operation, AddAssign, MulAssign, Fma, Re
 use Rattle.rq_standard.specs.OctetField.{octets}
 use Rattle.rq_parts.specs.DenseOctetMatrix.{OctetTable, entry_of}
 use Rattle.rq_elimination.specs.OperationCounts.{additions, multiples, triangle}
-use Rattle.rq_elimination.specs.Recorded.{Records}
+use Rattle.rq_elimination.specs.RecordedRows.{Records}
 use Rattle.rq_elimination.specs.RowSteps.{IsEchelon, IsStuck, rows_after}
 use Rattle.rq_elimination.specs.declared.recorded.RecordedRows.{RecordedRows}
 
@@ -49,13 +49,14 @@ pub record ClearsColumns (inactive_rows : List ℕ) (row start count done : ℕ)
   pub kept : (m : ℕ → ℕ → ℕ) (k : ℕ) → ((f : ℕ) → start ≤ f → f < count → m (at inactive_rows f) k ≡ 0) → rows_after octets steps m row k ≡ m row k
   pub cleared : (m : ℕ → ℕ → ℕ) (column : ℕ → ℕ) → AreUnits inactive_rows start count column m → ((f : ℕ) → start ≤ f → f < count → m row (column f) ≡ entries f)
       → (f : ℕ) → start ≤ f → f < done → f < count → rows_after octets steps m row (column f) ≡ 0
-  pub rest : (m : ℕ → ℕ → ℕ) (column : ℕ → ℕ) → AreUnits inactive_rows start count column m → (f : ℕ) → done ≤ f → f < count → rows_after octets steps m row (column f) ≡ m row (column f)
+  pub rest : (m : ℕ → ℕ → ℕ) (column : ℕ → ℕ) → AreUnits inactive_rows start count column m
+      → (f : ℕ) → done ≤ f → f < count → rows_after octets steps m row (column f) ≡ m row (column f)
 
--- all of the first `count` rows, so that it gets 0 in their columns
+-- a row takes multiples of all of the first `count` rows, so that it gets 0 in their columns
 abbrev pub TakesAll : List ℕ → ℕ → ℕ → (ℕ → ℕ) → RecordedRows → RecordedRows → Type 0
 TakesAll inactive_rows count row entries old new = ClearsColumns inactive_rows row 0 count count entries old new
 
--- all of these rows, whose columns begin at column `start`
+-- a row takes multiples of all rows of a list, whose columns begin at column `start`
 abbrev pub TakesFrom : List ℕ → ℕ → ℕ → RecordedRows → RecordedRows → Type 0
 TakesFrom inactive_rows row start old new = TakesAll inactive_rows (length inactive_rows) row (λ f. entry_of old.table row (start + f)) old new
 
@@ -67,9 +68,10 @@ one_of entry = if entry == 1 then 1 else 0
 
 -- the row at a place takes those behind it in whose columns it has 1
 abbrev pub TakesOnesBehind : List ℕ → ℕ → ℕ → RecordedRows → RecordedRows → Type 0
-TakesOnesBehind rows place count old new = ClearsColumns rows (at rows place) (place + 1) count count (λ f. one_of (entry_of old.table (at rows place) f)) old new
+TakesOnesBehind rows place count old new =
+    ClearsColumns rows (at rows place) (place + 1) count count (λ f. one_of (entry_of old.table (at rows place) f)) old new
 
--- by no additions for other octets than 1
+-- at most one addition for each place behind, and none for an entry that takes a multiple
 abbrev pub AddsOnes : List ℕ → ℕ → ℕ → RecordedRows → RecordedRows → Type 0
 AddsOnes rows place count old new =
     additions new.operations + multiples (entry_of old.table (at rows place)) (place + 1) (count - (place + 1)) ≤ additions old.operations + (count - (place + 1))
@@ -85,6 +87,11 @@ pub record GivesMultiples (inactive_rows : List ℕ) (place done : ℕ) (old new
   pub given : (m : ℕ → ℕ → ℕ) (k q : ℕ) → m (at inactive_rows place) k ≡ 1 → q < done → m (at inactive_rows q) k ≡ entry_of old.table (at inactive_rows q) place
       → rows_after octets steps m (at inactive_rows q) k ≡ one_of (entry_of old.table (at inactive_rows q) place)
 
+-- where the table has 1 in an inactive column from place `low` on, the rows before that place have 1 there, and else 0
+abbrev pub ShowOnes : List ℕ → ℕ → ℕ → (ℕ → ℕ) → (ℕ → ℕ → ℕ) → OctetTable → Type 0
+ShowOnes inactive_rows low count column m table =
+    (t f : ℕ) → t < low → low ≤ f → f < count → m (at inactive_rows t) (column f) ≡ one_of (entry_of table (at inactive_rows t) f)
+
 -- The rows in echelon form have 1 in their own inactive column alone, from the last up to place `low`. Those before it took the multiples of
 -- these rows by which they had an octet other than 0 and 1 in their columns.
 pub record SubstitutesBack (inactive_rows : List ℕ) (count low : ℕ) (old new : RecordedRows) : Type 0 where
@@ -93,7 +100,9 @@ pub record SubstitutesBack (inactive_rows : List ℕ) (count low : ℕ) (old new
   pub within : All (IsStepTo (Contains inactive_rows)) steps
   pub elsewhere : (m : ℕ → ℕ → ℕ) (r k : ℕ) → ((q : ℕ) → q < count → at inactive_rows q ≢ r) → rows_after octets steps m r k ≡ m r k
   pub kept : (m : ℕ → ℕ → ℕ) (r k : ℕ) → ((f : ℕ) → f < count → m (at inactive_rows f) k ≡ 0) → rows_after octets steps m r k ≡ m r k
-  pub units : (m : ℕ → ℕ → ℕ) (column : ℕ → ℕ) → ShowInactive inactive_rows count column m old.table → AreUnits inactive_rows low count column (rows_after octets steps m)
-  pub before : (m : ℕ → ℕ → ℕ) (column : ℕ → ℕ) → ShowInactive inactive_rows count column m old.table → (t f : ℕ) → t < low → f < low → rows_after octets steps m (at inactive_rows t) (column f) ≡ entry_of old.table (at inactive_rows t) f
-  pub left : (m : ℕ → ℕ → ℕ) (column : ℕ → ℕ) → ShowInactive inactive_rows count column m old.table → (t f : ℕ) → t < low → low ≤ f → f < count
-      → rows_after octets steps m (at inactive_rows t) (column f) ≡ one_of (entry_of old.table (at inactive_rows t) f)
+  pub units : (m : ℕ → ℕ → ℕ) (column : ℕ → ℕ) → ShowInactive inactive_rows count column m old.table
+      → AreUnits inactive_rows low count column (rows_after octets steps m)
+  pub before : (m : ℕ → ℕ → ℕ) (column : ℕ → ℕ) → ShowInactive inactive_rows count column m old.table
+      → ShowInactive inactive_rows low column (rows_after octets steps m) old.table
+  pub left : (m : ℕ → ℕ → ℕ) (column : ℕ → ℕ) → ShowInactive inactive_rows count column m old.table
+      → ShowOnes inactive_rows low count column (rows_after octets steps m) old.table

@@ -82,14 +82,16 @@ IsSpent old new = new ≡ record old { symbols = None; additions = new.additions
 -- the answer for a solver where operations alone are wanted: they find the column, or else the rows don't determine it
 abbrev pub FindsOperations : Solver → Option RecordedOperations → Type 0
 FindsOperations solver answer =
-    MatchOption answer (HasHomogeneousColumn octets solver.height solver.width solver.rows) (λ found. FindsColumn octets solver.height solver.width solver.rows (operations_of found))
+    MatchOption answer (HasHomogeneousColumn octets solver.height solver.width solver.rows)
+    (λ found. FindsColumn octets solver.height solver.width solver.rows (operations_of found))
 
 -- what rows give: operations that find the column, or else the rows don't determine it, as a column shows where there is one
 abbrev pub IsSolved : ℕ → ℕ → (ℕ → ℕ → ℕ) → Solved → Type 0
 IsSolved height width rows (Operations found) = FindsColumn octets height width rows (operations_of found)
-IsSolved height width rows (Undetermined column) = HasHomogeneousColumn octets height width rows × IfSome column (λ shown. IsHomogeneousColumn octets height width rows shown.items)
+IsSolved height width rows (Undetermined column) =
+    HasHomogeneousColumn octets height width rows × IfSome column (λ shown. IsHomogeneousColumn octets height width rows shown.items)
 
--- so it is for the equations of a solver
+-- a solver's equations are solved by the operations, or a homogeneous column of theirs is shown
 abbrev pub SolvesOrShows : Solver → Solved → Type 0
 SolvesOrShows solver solved = IsSolved solver.height solver.width solver.rows solved
 

@@ -186,6 +186,8 @@ impl<T: BinaryMatrix> IntermediateSymbolDecoder<T> {
     /// equations don't determine the symbols.
     ///
     /// Refuses `AlreadyExecuted` in each call after the first, whatever that answered, and counts stay.
+    ///
+    /// Kept for the surface of `raptorq`; coders call `into_operations` and `solve`.
     pub fn execute(&mut self) -> Result<Option<(SymbolSlab, Vec<SymbolOps>)>, Error>
         ensures solved { IfSome (solver_state self.old).symbols (λ handed. IfOk result (IsOutcome (solver_state self.old) handed)) }
         ensures memory { OnSome (solver_state self.old).symbols (IfErr result (λ e. e ≡ OutOfMemory)) }

@@ -18,7 +18,8 @@ pub record IsBinaryPart (row : TableRow) (ids : List ℕ) (m : BitTable) : Type 
   pub indexed : m.indexed ≡ false
   pub ldpc : (i k : ℕ) → i < row.ldpc_symbols → k < intermediate_symbols row → m.bit i k ≡ ldpc_coefficient row i k
   pub zeros : (i k : ℕ) → i < row.hdpc_symbols → k < intermediate_symbols row → m.bit (row.ldpc_symbols + i) k ≡ 0
-  pub symbols : (i k : ℕ) → i < length ids → k < intermediate_symbols row → m.bit (row.ldpc_symbols + row.hdpc_symbols + i) k ≡ symbol_coefficient row (at ids i) k
+  pub symbols : (i k : ℕ) → i < length ids
+      → k < intermediate_symbols row → m.bit (row.ldpc_symbols + row.hdpc_symbols + i) k ≡ symbol_coefficient row (at ids i) k
 
 -- the matrix of bits of a list of internal symbol ids without rows for the HDPC equations: LDPC rows, and a row for each id
 pub record IsBinaryPartWithoutHdpc (row : TableRow) (ids : List ℕ) (m : BitTable) : Type 0 where

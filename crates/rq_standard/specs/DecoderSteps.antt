@@ -65,13 +65,14 @@ KeepsContradictions old new = (b : ℕ) → IsBlockContradictory old b → IsBlo
 
 -- what was received of a block after these packets, where it takes them all
 abbrev pub received_after : List TableRow → Configuration → ℕ → List Packet → ReceivedBlock
-received_after table c b packets = record { configuration = c; number = b; row = block_row table c b; source_symbols = block_symbols c b; received = first_payload b packets }
+received_after table c b packets =
+    record { configuration = c; number = b; row = block_row table c b; source_symbols = block_symbols c b; received = first_payload b packets }
 
 -- of each block without an answer this is held
 abbrev pub HasReceivedRun : List TableRow → List Packet → State → Type 0
 HasReceivedRun table packets s = (b : ℕ) → b < s.configuration.source_blocks → s.answer b ≡ None → s.received b ≡ received_after table s.configuration b packets
 
--- and so it is one packet later
+-- a decoder that received a list has received the list with a packet more
 abbrev pub HasReceivedMore : State → Packet → State → Type 0
 HasReceivedMore old p new = (table : List TableRow) (packets : List Packet) → HasReceivedRun table packets old → HasReceivedRun table (packets ++ p ∷ []) new
 

@@ -37,18 +37,21 @@ pub record IsDifference (s : State) (bytes : List ℕ) : Type 0 where
   -- zero symbols for all ids that were received of a block whose row isn't singular
   pub zeros : (b e : ℕ) → b < s.configuration.source_blocks → IsNonsingular (s.received b).row → has_received (s.received b) e ≡ true
       → IsEncodingSymbol (s.received b).row s.configuration.symbol_size (block_source s.configuration bytes b) e (zero_symbol s.configuration.symbol_size)
-  -- not all zeros, where no row is singular
+  -- the bytes aren't all zeros, where no row is singular
   pub nonzero : HasNonsingularBlocks s → (i : ℕ) × (i < s.configuration.transfer_length) × (slice_index bytes i ≢ 0)
 
 -- Of a decoder that stands for a list, with no block late: none exactly where the object is answered.
 abbrev pub IsNoneWhereAnswered : State → Option (List ℕ) → Type 0
-IsNoneWhereAnswered s difference = (table : List TableRow) (object : List ℕ) (packets : List Packet) → StandsFor table object packets s → IsNone difference ↔ IsSome (result_of s)
+IsNoneWhereAnswered s difference =
+    (table : List TableRow) (object : List ℕ) (packets : List Packet) → StandsFor table object packets s → IsNone difference ↔ IsSome (result_of s)
 
 -- of a decoder that stands for a list: bytes whose xor with any object that fits the list is another one that fits it
 abbrev pub MakesOthersFit : State → List ℕ → Type 0
 MakesOthersFit s bytes =
     (late : ℕ → Bool) (table : List TableRow) (object other : List ℕ) (packets : List Packet)
-    → StandsForButLate late table object packets s → IsHonestRun table s.configuration other packets → IsHonestRun table s.configuration (xor_bytes other bytes) packets × (xor_bytes other bytes ≢ other)
+    → StandsForButLate late table object packets s
+    → IsHonestRun table s.configuration other packets
+    → IsHonestRun table s.configuration (xor_bytes other bytes) packets × (xor_bytes other bytes ≢ other)
 
 -- ---- symbols of which only the first octet may be nonzero
 

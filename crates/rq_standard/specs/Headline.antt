@@ -21,7 +21,9 @@ pub record SolvesZeros (row : TableRow) (known : ℕ → Bool) (column : ℕ →
 
 -- The known internal symbol ids determine the intermediate symbols: only a column of zeros solves these equations with all values zero.
 abbrev pub AreDetermined : TableRow → (ℕ → Bool) → Type 0
-AreDetermined row known = (column : ℕ → ℕ) → IsColumn octets (intermediate_symbols row) column → SolvesZeros row known column → (k : ℕ) → k < intermediate_symbols row → column k ≡ 0
+AreDetermined row known =
+    (column : ℕ → ℕ) → IsColumn octets (intermediate_symbols row) column
+    → SolvesZeros row known column → (k : ℕ) → k < intermediate_symbols row → column k ≡ 0
 
 -- a row is nonsingular where the ids below K', those of source and padding symbols, determine
 abbrev pub IsNonsingular : TableRow → Type 0
@@ -54,9 +56,11 @@ block_source c object b = map (source_symbol c object b) (range_with_len 0 (bloc
 -- intermediate symbols of a block: they solve its LDPC and HDPC equations and those of its source and padding symbols
 pub record IsIntermediateColumn (row : TableRow) (size : ℕ) (source : List (List ℕ)) (column : ℕ → List ℕ) : Type 0 where
   pub symbols : IsSymbolColumn octets size (intermediate_symbols row) column
-  pub solves : SolvesSymbols octets (equation_count row (extended_ids row)) (intermediate_symbols row) (equations row (extended_ids row)) column (equation_values row size source)
+  pub solves :
+      SolvesSymbols octets (equation_count row (extended_ids row)) (intermediate_symbols row)
+      (equations row (extended_ids row)) column (equation_values row size source)
 
--- and there are no others
+-- a column is one of intermediate symbols, and there is no other
 pub record IsOnlyIntermediateColumn (row : TableRow) (size : ℕ) (source : List (List ℕ)) (column : ℕ → List ℕ) : Type 0 where
   pub is : IsIntermediateColumn row size source column
   pub only : (other : ℕ → List ℕ) → IsIntermediateColumn row size source other → (k : ℕ) → k < intermediate_symbols row → other k ≡ column k

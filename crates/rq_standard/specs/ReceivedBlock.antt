@@ -31,10 +31,15 @@ has_received h e = is_some (h.received e)
 abbrev pub with_received : ReceivedBlock → ℕ → List ℕ → ReceivedBlock
 with_received h esi payload = record h { received = λ e. or_later (h.received e) (if esi == e then Some payload else None) }
 
+-- a column of symbols of this size solves the LDPC and HDPC equations of a row
+abbrev pub SolvesPrecode : TableRow → ℕ → (ℕ → List ℕ) → Type 0
+SolvesPrecode row size column =
+    SolvesSymbols octets (row.ldpc_symbols + row.hdpc_symbols) (intermediate_symbols row) (fixed_equations row) column (λ _. zero_symbol size)
+
 -- a column of symbols that solves all that was received of a block: its LDPC and HDPC equations, its padding and what was received
 pub record SolvesReceived (h : ReceivedBlock) (column : ℕ → List ℕ) : Type 0 where
   pub symbols : IsSymbolColumn octets h.configuration.symbol_size (intermediate_symbols h.row) column
-  pub fixed : SolvesSymbols octets (h.row.ldpc_symbols + h.row.hdpc_symbols) (intermediate_symbols h.row) (fixed_equations h.row) column (λ _. zero_symbol h.configuration.symbol_size)
+  pub fixed : SolvesPrecode h.row h.configuration.symbol_size column
   pub padding : (x : ℕ) → h.source_symbols ≤ x → x < h.row.extended_symbols → tuple_sum h.row column x ≡ zero_symbol h.configuration.symbol_size
   pub received : (e : ℕ) → IfSome (h.received e) (λ payload. payload ≡ tuple_sum h.row column (internal_id h.row h.source_symbols e))
 
@@ -67,13 +72,17 @@ ShowsUndetermined h answer = MatchOption answer (ReceivedDetermine h) (IsHomogen
 abbrev pub CanAnswer : ReceivedBlock → Type 0
 CanAnswer h = HasSourceSymbols h.source_symbols (has_received h) ⊎ ReceivedDetermine h
 
+-- the source symbols of a block are those that a column makes
+abbrev pub MakesBlock : ReceivedBlock → (ℕ → List ℕ) → List ℕ → Type 0
+MakesBlock h column block = (e : ℕ) → e < h.source_symbols → symbol_of_block h.configuration h.source_symbols block e ≡ tuple_sum h.row column e
+
 -- a block of as many symbols as what was received is of
 pub record IsBlockWith (h : ReceivedBlock) (block : List ℕ) : Type 0 where
   pub long : length block ≡ h.source_symbols * h.configuration.symbol_size
   -- the source symbols that were received are those of the block
   pub each : (e : ℕ) → e < h.source_symbols → IfSome (h.received e) (λ payload. payload ≡ symbol_of_block h.configuration h.source_symbols block e)
   -- where the ids determine it and a column solves all that was received, it is that column's block
-  pub solved : ReceivedDetermine h → (column : ℕ → List ℕ) → SolvesReceived h column → (e : ℕ) → e < h.source_symbols → symbol_of_block h.configuration h.source_symbols block e ≡ tuple_sum h.row column e
+  pub solved : ReceivedDetermine h → (column : ℕ → List ℕ) → SolvesReceived h column → MakesBlock h column block
 
 -- what is answered, where what was received isn't contradictory
 pub record IsBlockAnswer (h : ReceivedBlock) (answer : Option (List ℕ)) : Type 0 where

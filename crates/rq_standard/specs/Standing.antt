@@ -9,10 +9,19 @@ use Rattle.rq_standard.specs.Headline.{DetermineBlock, IsPacketOf, IsHonestRun, 
 use Rattle.rq_standard.specs.ReceivedBlock.{ReceivedBlock}
 use Rattle.rq_standard.specs.DecoderState.{State, IsReceivedOf}
 
--- What was received of a block, and its answer, after a list: answered and determined, or holding the first payloads and not determined. An answer can be late, where memory was refused while it was solved.
+-- the packets of a list determine a block
+abbrev pub ListDetermines : ReceivedBlock → ℕ → List Packet → Type 0
+ListDetermines h b packets = DetermineBlock h.row h.source_symbols (has_id b packets)
+
+-- of each encoding symbol id the first payload of a list is there
+abbrev pub HoldsFirst : ReceivedBlock → ℕ → List Packet → Type 0
+HoldsFirst h b packets = (e : ℕ) → h.received e ≡ first_payload b packets e
+
+-- What was received of a block, and its answer, after a list: answered and determined, or holding the first payloads and not determined. An answer
+-- can be late, where memory was refused while it was solved.
 abbrev pub BlockStandsFor : Bool → List ℕ → ℕ → List Packet → ReceivedBlock → Option (List ℕ) → Type 0
-BlockStandsFor late block b packets h (Some bytes) = (bytes ≡ block) × DetermineBlock h.row h.source_symbols (has_id b packets)
-BlockStandsFor late block b packets h None = ((e : ℕ) → h.received e ≡ first_payload b packets e) × (late ≡ false → DetermineBlock h.row h.source_symbols (has_id b packets) → ⊥)
+BlockStandsFor late block b packets h (Some bytes) = (bytes ≡ block) × ListDetermines h b packets
+BlockStandsFor late block b packets h None = HoldsFirst h b packets × (late ≡ false → ListDetermines h b packets → ⊥)
 
 -- the decoder stands for the list of an honest run, but for blocks whose answers are late
 pub record StandsForButLate (late : ℕ → Bool) (table : List TableRow) (object : List ℕ) (packets : List Packet) (s : State) : Type 0 where
@@ -48,7 +57,8 @@ StandsForMore old p new =
     → StandsFor table object packets old → IsPacketOf table old.configuration object p
     → StandsFor table object (packets ++ p ∷ []) new
 
--- From a decoder that stands for a list but for late blocks, and a packet of the object, one that stands so for the longer list: the packet's own block isn't late any more.
+-- From a decoder that stands for a list but for late blocks, and a packet of the object, one that stands so for the longer list: the packet's own
+-- block isn't late any more.
 abbrev pub AnswersLateBlock : State → Packet → State → Type 0
 AnswersLateBlock old p new =
     (table : List TableRow) (object : List ℕ) (packets : List Packet) (late : ℕ → Bool)

@@ -1,9 +1,10 @@
 //! The object transmission information (RFC 6330, 3.3.2 and 3.3.3).
-ghost use Rattle.std.specs.Prelude.{◌≡◌, ◌*◌, ◌^◌, ◌<◌, Result, Ok, OnOk, slice_index};
-ghost use Rattle.rq_standard.specs.Configuration.{Configuration, IsConfiguration, IsAccepted, total_symbols, largest_block, header_bytes, configuration_of_bytes};
+ghost use Rattle.std.specs.Prelude.{◌≡◌, ◌*◌, ◌%◌, ◌^◌, ◌<◌, Result, Ok, OnOk, slice_index};
+ghost use Rattle.rq_standard.specs.Configuration.{Configuration, IsConfiguration, IsAccepted, IsAligned, total_symbols, largest_block, header_bytes, configuration_of_bytes};
 ghost use Rattle.rq_standard.specs.Streams.{frame_size};
 ghost use Rattle.rq_standard.specs.TableRows.{greatest_size};
 ghost use Rattle.std.specs.Int.{div_ceil};
+ghost use Rattle.rq_base.specs.RefusedInput.{checked_alignment};
 
 use super::packet::PAYLOAD_ID_LENGTH;
 use rq_bytes::error::Error;
@@ -42,7 +43,7 @@ impl Model for ObjectTransmissionInformation {
 }
 
 impl ObjectTransmissionInformation {
-    ghost use Rattle.rq_base.specs.RefusedInput.{configuration_of, new_configuration, checked_configuration};
+    ghost use Rattle.rq_base.specs.RefusedInput.{configuration_of, new_configuration, checked_configuration, checked_symbols};
 
     /// A configuration: the transfer length in bytes, the symbol size in bytes, the number of
     /// source blocks, the number of sub-blocks (0 is read as 1) and the symbol alignment in bytes.
@@ -63,12 +64,7 @@ impl ObjectTransmissionInformation {
         if transfer_length > MAX_TRANSFER_LENGTH {
             return Err(Error::TransferTooLong);
         }
-        if alignment == 0 {
-            return Err(Error::AlignmentZero);
-        }
-        if symbol_size % u16::from(alignment) != 0 {
-            return Err(Error::Misaligned);
-        }
+        check_alignment(symbol_size, alignment)?;
         let made = ObjectTransmissionInformation {
             transfer_length,
             symbol_size,
@@ -94,21 +90,29 @@ impl ObjectTransmissionInformation {
         ensures accepted { OnOk result (IsAccepted (greatest_size table.now) self.now) }
         ensures few { OnOk result (largest_block self.now < 65536) }
     {
-        if self.symbol_size == 0 {
-            return Err(Error::SymbolSizeZero);
-        }
-        if self.symbol_alignment == 0 {
-            return Err(Error::AlignmentZero);
-        }
-        if self.symbol_size % u16::from(self.symbol_alignment) != 0 {
-            return Err(Error::Misaligned);
-        }
+        self.check_symbols()?;
         if self.num_source_blocks == 0 {
             return Err(Error::SourceBlocksZero);
         }
         if self.largest_block() > u64::from(table.greatest()) {
             return Err(Error::BlockOverTable);
         }
+        Ok(())
+    }
+
+    /// Tests that symbols are cut in whole units of the alignment. Not in the Rust crate.
+    ///
+    /// Refuses, in this order, [`Error::SymbolSizeZero`], [`Error::AlignmentZero`], and
+    /// [`Error::Misaligned`] where the alignment doesn't divide the symbol size.
+    pub fn check_symbols(&self) -> Result<(), Error>
+        ensures refused { result ≡ checked_symbols self.now }
+        ensures positive { OnOk result (0 < self.now.symbol_size) }
+        ensures aligned { OnOk result (IsAligned self.now) }
+    {
+        if self.symbol_size == 0 {
+            return Err(Error::SymbolSizeZero);
+        }
+        check_alignment(self.symbol_size, self.symbol_alignment)?;
         Ok(())
     }
 
@@ -225,4 +229,19 @@ fn total_symbols(transfer_length: u64, symbol_size: u16) -> u64
     ensures { result ≡ div_ceil transfer_length symbol_size }
 {
     transfer_length.div_ceil(u64::from(symbol_size))
+}
+
+// Tests that an alignment divides a symbol size, both in bytes.
+fn check_alignment(symbol_size: u16, alignment: u8) -> Result<(), Error>
+    ensures refused { result ≡ checked_alignment symbol_size alignment }
+    ensures positive { OnOk result (0 < alignment) }
+    ensures divides { OnOk result (symbol_size % alignment ≡ 0) }
+{
+    if alignment == 0 {
+        return Err(Error::AlignmentZero);
+    }
+    if symbol_size % u16::from(alignment) != 0 {
+        return Err(Error::Misaligned);
+    }
+    Ok(())
 }

@@ -3,6 +3,7 @@
 ghost use Rattle.std.specs.Prelude.{◌≡◌, ◌≢◌, ◌*◌, ◌%◌, ◌+◌, ◌^◌, ◌<◌, ◌≤◌, ◌++◌, ◌∷◌, [], true, false, None, All, length, replicate, slice_set, IfOk, OnOk, IfErr, OnErr};
 ghost use Rattle.rq_algebra.specs.Systems.{at};
 ghost use Rattle.rq_bytes.specs.declared.error.Error.TheVariants.{OutOfMemory};
+ghost use Rattle.rq_bytes.specs.SymbolSlab.{HasPlace, symbol_in};
 ghost use Rattle.rq_parts.specs.DenseOctetMatrix.{IsOctetRow, row_at, with_row};
 ghost use Rattle.rq_elimination.specs.InactiveEntries.{place_before, entry_row, octets_of_bits, with_column_octets};
 ghost use Rattle.rq_standard.specs.Rows.{row_sum, row_multiple};
@@ -90,15 +91,16 @@ impl OwnOctets {
 
     /// Makes octets of a row's bits, where it has none.
     #[inline(always)]
-    pub(super) fn unpack_row(&mut self, row: usize, bits: &[u8]) -> Result<(), Error>
+    pub(super) fn unpack_row(&mut self, row: usize, bits: &SymbolSlab) -> Result<(), Error>
         requires row { row < length self.old.rows }
-        requires room { self.old.width ≤ 8 * length bits.now }
-        ensures row { OnOk result (self.new ≡ with_row self.old row (entry_row self.old.width bits.now (row_at self.old row))) }
+        requires bits { HasPlace bits.now row }
+        requires room { self.old.width ≤ 8 * bits.now.symbol_size }
+        ensures row { OnOk result (self.new ≡ with_row self.old row (entry_row self.old.width (symbol_in bits.now row) (row_at self.old row))) }
         ensures refused { OnErr result (self.new ≡ self.old) }
         ensures err { IfErr result (λ e. e ≡ OutOfMemory) }
     {
         if self.places[row] == 0 {
-            push_bits(&mut self.rows, bits)?;
+            push_bits(&mut self.rows, bits.get(row))?;
             self.places[row] = self.rows.len() as u32;
         }
         Ok(())

@@ -4,8 +4,8 @@
 //! `Elimination`.
 ghost use Rattle.std.specs.Prelude.{◌≡◌, ◌-◌, ◌/◌, length, IfOk, IfErr};
 ghost use Rattle.rq_bytes.specs.declared.error.Error.TheVariants.{OutOfMemory};
-ghost use Rattle.rq_peeling.specs.Peeled.{IsPeeled};
-ghost use Rattle.rq_solver.specs.EliminationState.{starts_at, IsUnderWay};
+ghost use Rattle.rq_peeling.specs.Peeling.{IsPeeled};
+ghost use Rattle.rq_solver.specs.Elimination.{starts_at, IsUnderWay};
 ghost use Rattle.rq_solver.specs.FirstPhase.{TakesPivotsAlone};
 ghost use Rattle.rq_solver.specs.Phases.{AddsFirst, ClearsPivots};
 ghost use Rattle.rq_solver.specs.PivotAdditions.{PivotsHaveTaken};

@@ -7,7 +7,7 @@ ghost use Rattle.rq_algebra.specs.Parities.{sum_listed};
 ghost use Rattle.rq_algebra.specs.Systems.{at, IsColumn};
 ghost use Rattle.rq_standard.specs.OctetField.{octets};
 ghost use Rattle.rq_elimination.specs.RowSteps.{AreRows, IsStuck};
-ghost use Rattle.rq_solver.specs.EliminationState.{inactive_count, left_rows, IsUnderWay};
+ghost use Rattle.rq_solver.specs.Elimination.{inactive_count, left_rows, IsUnderWay};
 ghost use Rattle.rq_solver.specs.HomogeneousColumns.{inactive_dot, inactive_entry, HasZerosAtPivots, IsZeroColumn, SolvesLeftRows, SolvesPivotRows};
 
 use super::elimination::Elimination;

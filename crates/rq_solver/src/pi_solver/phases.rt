@@ -5,7 +5,7 @@ ghost use Rattle.std.specs.Prelude.{◌≡◌, ℕ, ◌*◌, ◌<◌, ◌≤◌,
 ghost use Rattle.rq_algebra.specs.Systems.{at};
 ghost use Rattle.rq_bytes.specs.declared.error.Error.TheVariants.{OutOfMemory};
 ghost use Rattle.rq_elimination.specs.OperationCounts.{additions};
-ghost use Rattle.rq_solver.specs.EliminationState.{AddsLater, HasEndsInOrder, IsUnderWay, KeepsPivots};
+ghost use Rattle.rq_solver.specs.Elimination.{AddsLater, HasEndsInOrder, IsUnderWay, KeepsPivots};
 ghost use Rattle.rq_solver.specs.Phases.{FindsOrder, SolvesSystem, RunsLater, RunsOverSystem, RunsPhases};
 ghost use Rattle.rq_solver.specs.RowOrder.{ListsRows};
 

@@ -5,9 +5,9 @@ ghost use Rattle.rq_algebra.specs.Systems.{at};
 ghost use Rattle.rq_bytes.specs.declared.error.Error.TheVariants.{OutOfMemory};
 ghost use Rattle.rq_parts.specs.DenseOctetMatrix.{entry_of};
 ghost use Rattle.rq_elimination.specs.OperationCounts.{additions, multiples, triangle};
-ghost use Rattle.rq_elimination.specs.Recorded.{AddsAtMost, ChangesRows};
+ghost use Rattle.rq_elimination.specs.RecordedRows.{AddsAtMost, ChangesRows};
 ghost use Rattle.rq_elimination.specs.RowSteps.{AreRows, ClearsBelow, ClearsEntry, IsEchelon, ScalesToOne};
-ghost use Rattle.rq_solver.specs.EliminationState.{inactive_count, left_rows, eliminated_at, substituted_at, IsUnderWay, KeepsPivots, KeepsRows};
+ghost use Rattle.rq_solver.specs.Elimination.{inactive_count, left_rows, eliminated_at, substituted_at, IsUnderWay, KeepsPivots, KeepsRows};
 ghost use Rattle.rq_solver.specs.SecondPhase.{AddsForward, AddsOnes, EndsForward, GivesMultiples, SubstitutesBack, TakesOnesBehind};
 
 use super::elimination::Elimination;

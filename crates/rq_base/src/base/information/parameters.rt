@@ -12,7 +12,7 @@ pub const DEFAULT_DECODER_MEMORY: u64 = 10485760;
 
 impl ObjectTransmissionInformation {
     ghost use Rattle.std.specs.Int.{div_ceil};
-    ghost use Rattle.rq_base.specs.Defaults.{wanted_parameters, HasLeastSubBlocks};
+    ghost use Rattle.rq_base.specs.Defaults.{wanted_parameters, default_memory, HasLeastSubBlocks};
 
     /// A configuration for an object of `transfer_length` bytes in packets of at most
     /// `max_packet_size` bytes of payload, for decoders with 10 MiB of memory.
@@ -23,7 +23,7 @@ impl ObjectTransmissionInformation {
         transfer_length: u64,
         max_packet_size: u16,
     ) -> Result<ObjectTransmissionInformation, Error>
-        ensures { result ≡ wanted_parameters table.now transfer_length max_packet_size 10485760 }
+        ensures { result ≡ wanted_parameters table.now transfer_length max_packet_size default_memory }
     {
         Self::generate_encoding_parameters(
             table,

@@ -1,6 +1,6 @@
 -- What the loops keep in `degrees::lower_rows`.
 use Rattle.std.proofs.Common.{◌≡◌, ◌+◌, ◌≤◌, length, take}
-use Rattle.rq_peeling.specs.Degrees.{AreListed, LowersRows}
+use Rattle.rq_peeling.specs.RowDegrees.{AreListed, LowersRows}
 use Rattle.rq_peeling.proofs.degrees.lower_rows.Given as goal
 
 abbrev pub invariant-loop-row : goal.invariant-loop-row

@@ -1,8 +1,8 @@
 -- What the check leaves to show of `peeling::peel`.
 use Rattle.std.proofs.Common.{◌≤◌}
 use Rattle.rq_peeling.specs.Chosen.{IsPeeledSo}
-use Rattle.rq_peeling.specs.Degrees.{TakesColumnsLeft}
-use Rattle.rq_peeling.specs.Peeled.{IsOrderOf}
+use Rattle.rq_peeling.specs.RowDegrees.{TakesColumnsLeft}
+use Rattle.rq_peeling.specs.ColumnState.{IsOrderOf}
 use Rattle.rq_peeling.proofs.PeelingLaws.{peeled_all}
 use Rattle.rq_peeling.proofs.peeling.peel.Goals as goal
 

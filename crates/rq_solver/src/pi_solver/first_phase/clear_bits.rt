@@ -1,8 +1,8 @@
 //! The first phase clears the pivots' columns in the rows of bits (RFC 6330, section 5.4.2.2).
 ghost use Rattle.std.specs.Prelude.{◌≡◌, ◌*◌, ◌<◌, length, IfOk, OnOk, IfErr};
 ghost use Rattle.rq_bytes.specs.declared.error.Error.TheVariants.{OutOfMemory};
-ghost use Rattle.rq_elimination.specs.Recorded.{AddsAtMost};
-ghost use Rattle.rq_peeling.specs.Peeled.{ones_of};
+ghost use Rattle.rq_elimination.specs.RecordedRows.{AddsAtMost};
+ghost use Rattle.rq_peeling.specs.RowOnes.{ones_of};
 ghost use Rattle.rq_solver.specs.PivotAdditions.{ClearsRows, PeelsRows, PivotsHaveTaken, TakesPivots};
 ghost use Rattle.rq_solver.specs.RowOrder.{ListsRows};
 

@@ -3,11 +3,11 @@ ghost use Rattle.std.specs.Prelude.{◌≡◌, ◌≢◌, ℕ, ◌+◌, ◌-◌,
 ghost use Rattle.rq_algebra.specs.Systems.{at};
 ghost use Rattle.rq_bytes.specs.declared.error.Error.TheVariants.{OutOfMemory};
 ghost use Rattle.rq_parts.specs.DenseOctetMatrix.{entry_of, HasOctets};
-ghost use Rattle.rq_elimination.specs.Recorded.{AddsAtMost};
-ghost use Rattle.rq_solver.specs.HdpcOctets.{batch_bound, AreOctetsIn, ClearsOctets, ClearsOwnColumn, ClearsPivotColumn, CombinesFrom};
+ghost use Rattle.rq_elimination.specs.RecordedRows.{AddsAtMost};
+ghost use Rattle.rq_solver.specs.HdpcOctets.{hdpc_bound, AreOctetsIn, AreReadable, ClearsOctets, ClearsOwnColumn, ClearsPivotColumn, CombinesFrom};
 ghost use Rattle.rq_solver.specs.HdpcOctets.{CombinesTables, HasNoPivot, HasZeros, IsFirstAlone, StandsBeside, SumsRows};
 ghost use Rattle.rq_elimination.specs.HdpcRows.{octet_in};
-ghost use Rattle.rq_peeling.specs.Peeled.{IsOrderOf};
+ghost use Rattle.rq_peeling.specs.ColumnState.{IsOrderOf};
 ghost use Rattle.rq_elimination.specs.RowSteps.{AreRows};
 
 use rq_bytes::error::Error;
@@ -45,7 +45,7 @@ pub(super) fn clear_octets(
     requires fits { first_hdpc + length hdpc.rows < 2 ^ 64 }
     requires apart { (i p : ℕ) → i < length hdpc.rows → p < length peeling.now.rows → first_hdpc + i ≢ at peeling.now.rows p }
     ensures cleared { OnOk result (ClearsOctets peeling.now.rows peeling.now.order (entry_of hdpc) first_hdpc (length hdpc.rows) recorded.old recorded.new) }
-    ensures few { OnOk result (AddsAtMost (batch_bound (length hdpc.rows) hdpc.width (length peeling.now.rows)) recorded.old recorded.new) }
+    ensures few { OnOk result (AddsAtMost (hdpc_bound (length hdpc.rows) hdpc.width (length peeling.now.rows)) recorded.old recorded.new) }
     ensures err { IfErr result (λ e. e ≡ OutOfMemory) }
 {
     if hdpc.height() == 0 || are_zeros_at_pivots(&hdpc, peeling) {
@@ -53,15 +53,15 @@ pub(super) fn clear_octets(
     }
     let mut sums = hdpc;
     sum_rows(&mut sums, first_hdpc, recorded)?;
-    let mut batch = HdpcRows::new(recorded.operations.allocator(), sums)?;
-    let mut octets = vec![in recorded.operations.allocator(); 0; batch.lanes()]?;
+    let mut hdpc_rows = HdpcRows::new(recorded.operations.allocator(), sums)?;
+    let mut octets = vec![in recorded.operations.allocator(); 0; hdpc_rows.lanes()]?;
     let column_octets = octets.as_mut_slice();
     let places = HdpcPlaces {
         first: first_hdpc,
         peeling,
     };
     for column in 0..end_of_pivots(peeling) {
-        clear_column(&mut batch, column, column_octets, &places, recorded)?;
+        clear_column(&mut hdpc_rows, column, column_octets, &places, recorded)?;
     }
     Ok(())
 }
@@ -135,31 +135,32 @@ fn sum_rows(
 // Gives the HDPC rows 0 in a column, if it has a pivot. They have 0 in the pivots' columns before
 // it, and keep that. What they have in the column is read into `column_octets`.
 fn clear_column(
-    batch: &mut HdpcRows,
+    hdpc_rows: &mut HdpcRows,
     column: usize,
     column_octets: &mut [u8],
     places: &HdpcPlaces,
     recorded: &mut RecordedRows,
 ) -> Result<(), Error>
-    requires rows { AreOctetsIn places.now.first (length batch.old.table.rows) recorded.old }
-    requires pivots { StandsBeside places.now.peeling.now places.now.first batch.old recorded.old }
-    requires some { 0 < length batch.old.table.rows }
-    requires column { column < batch.old.table.width }
-    requires lanes { length column_octets.old ≡ length batch.old.factors }
-    ensures table { batch.new.table ≡ batch.old.table }
-    ensures lanes { length column_octets.new ≡ length batch.new.factors }
-    ensures changed { OnOk result (ClearsPivotColumn places.now.peeling.now column places.now.first batch.old batch.new recorded.old recorded.new) }
-    ensures few { OnOk result (AddsAtMost ((length batch.old.table.rows - 1) + length batch.old.table.rows) recorded.old recorded.new) }
-    ensures idle { OnOk result (HasNoPivot places.now.peeling.now column → AddsAtMost (length batch.old.table.rows - 1) recorded.old recorded.new) }
+    requires hdpc { AreReadable places.now.first column hdpc_rows.old column_octets.old recorded.old }
+    requires pivots { StandsBeside places.now.peeling.now places.now.first hdpc_rows.old recorded.old }
+    ensures table { hdpc_rows.new.table ≡ hdpc_rows.old.table }
+    ensures lanes { length column_octets.new ≡ length hdpc_rows.new.factors }
+    ensures changed { OnOk result (ClearsPivotColumn places.now.peeling.now column places.now.first hdpc_rows.old hdpc_rows.new recorded.old recorded.new) }
+    ensures few { OnOk result (AddsAtMost ((length hdpc_rows.old.table.rows - 1) + length hdpc_rows.old.table.rows) recorded.old recorded.new) }
+    ensures idle { OnOk result (HasNoPivot places.now.peeling.now column → AddsAtMost (length hdpc_rows.old.table.rows - 1) recorded.old recorded.new) }
     ensures err { IfErr result (λ e. e ≡ OutOfMemory) }
 {
-    let lead = batch.get(0, column);
-    add_first_row(batch, column, column_octets, places.first, recorded)?;
+    let lead = hdpc_rows.get(0, column);
+    add_first_row(hdpc_rows, column, column_octets, places.first, recorded)?;
     let place = places.peeling.place_of(column);
     if place < places.peeling.pivots() {
         // Where the first row wasn't 0 in the column, the others are now.
-        let count = if lead.byte() == 0 { batch.height() } else { 1 };
-        add_pivot(places, place, batch, count, recorded)?;
+        let count = if lead.byte() == 0 {
+            hdpc_rows.height()
+        } else {
+            1
+        };
+        add_pivot(places, place, hdpc_rows, count, recorded)?;
     }
     Ok(())
 }
@@ -167,41 +168,43 @@ fn clear_column(
 // Adds multiples of the first HDPC row to the others, so that these have 0 in the column, and
 // multiplies it so that it has 1 there. Where it has 0, nothing is done.
 fn add_first_row(
-    batch: &mut HdpcRows,
+    hdpc_rows: &mut HdpcRows,
     column: usize,
     column_octets: &mut [u8],
     first_hdpc: usize,
     recorded: &mut RecordedRows,
 ) -> Result<(), Error>
-    requires rows { AreOctetsIn first_hdpc (length batch.old.table.rows) recorded.old }
-    requires some { 0 < length batch.old.table.rows }
-    requires column { column < batch.old.table.width }
-    requires lanes { length column_octets.old ≡ length batch.old.factors }
-    ensures table { batch.new.table ≡ batch.old.table }
-    ensures lanes { length column_octets.new ≡ length batch.new.factors }
-    ensures alone { OnOk result (octet_in batch.old 0 column ≢ 0 → IsFirstAlone column batch.new) }
-    ensures added { OnOk result (CombinesFrom column first_hdpc batch.old batch.new recorded.old recorded.new) }
-    ensures few { OnOk result (AddsAtMost (length batch.old.table.rows - 1) recorded.old recorded.new) }
+    requires { AreReadable first_hdpc column hdpc_rows.old column_octets.old recorded.old }
+    ensures table { hdpc_rows.new.table ≡ hdpc_rows.old.table }
+    ensures lanes { length column_octets.new ≡ length hdpc_rows.new.factors }
+    ensures alone { OnOk result (octet_in hdpc_rows.old 0 column ≢ 0 → IsFirstAlone column hdpc_rows.new) }
+    ensures added { OnOk result (CombinesFrom column first_hdpc hdpc_rows.old hdpc_rows.new recorded.old recorded.new) }
+    ensures few { OnOk result (AddsAtMost (length hdpc_rows.old.table.rows - 1) recorded.old recorded.new) }
     ensures err { IfErr result (λ e. e ≡ OutOfMemory) }
 {
-    let lead = batch.get(0, column);
+    let lead = hdpc_rows.get(0, column);
     if lead.byte() == 0 {
         return Ok(());
     }
-    batch.read_column(column, column_octets);
+    hdpc_rows.read_column(column, column_octets);
     let mut last = 0;
     let mut rest = nonzero_after_first(column_octets);
-    while let Some((row, octet)) = next_in_vectors(column_octets, last, batch.height(), &mut rest) {
+    while let Some((row, octet)) = next_in_vectors(
+        column_octets,
+        last,
+        hdpc_rows.height(),
+        &mut rest,
+    ) {
         let scalar = &octet / &lead;
         let factor = scalar.byte();
-        batch.add_first(row, factor);
+        hdpc_rows.add_first(row, factor);
         recorded.add_multiple(first_hdpc + row, first_hdpc, scalar)?;
         last = row;
     }
     if lead.byte() != 1 {
         let scalar = Octet::one() / lead;
         let factor = scalar.byte();
-        batch.multiply_first(factor);
+        hdpc_rows.multiply_first(factor);
         recorded.multiply_row(first_hdpc, scalar)?;
     }
     Ok(())
@@ -212,22 +215,22 @@ fn add_first_row(
 fn add_pivot(
     places: &HdpcPlaces,
     place: usize,
-    batch: &HdpcRows,
+    hdpc_rows: &HdpcRows,
     count: usize,
     recorded: &mut RecordedRows,
 ) -> Result<(), Error>
-    requires rows { AreOctetsIn places.now.first (length batch.now.table.rows) recorded.old }
-    requires pivots { StandsBeside places.now.peeling.now places.now.first batch.now recorded.old }
+    requires rows { AreOctetsIn places.now.first (length hdpc_rows.now.table.rows) recorded.old }
+    requires pivots { StandsBeside places.now.peeling.now places.now.first hdpc_rows.now recorded.old }
     requires place { place < length places.now.peeling.now.rows }
-    requires count { count ≤ length batch.now.table.rows }
-    requires zeros { (i : ℕ) → count ≤ i → i < length batch.now.table.rows → octet_in batch.now i (at places.now.peeling.now.order place) ≡ 0 }
-    ensures changed { OnOk result (ClearsOwnColumn places.now.peeling.now place places.now.first batch.now recorded.old recorded.new) }
-    ensures few { OnOk result (AddsAtMost (length batch.now.table.rows) recorded.old recorded.new) }
+    requires count { count ≤ length hdpc_rows.now.table.rows }
+    requires zeros { (i : ℕ) → count ≤ i → i < length hdpc_rows.now.table.rows → octet_in hdpc_rows.now i (at places.now.peeling.now.order place) ≡ 0 }
+    ensures changed { OnOk result (ClearsOwnColumn places.now.peeling.now place places.now.first hdpc_rows.now recorded.old recorded.new) }
+    ensures few { OnOk result (AddsAtMost (length hdpc_rows.now.table.rows) recorded.old recorded.new) }
     ensures err { IfErr result (λ e. e ≡ OutOfMemory) }
 {
     let column = places.peeling.column_at(place);
     for row in 0..count {
-        let scalar = batch.get(row, column);
+        let scalar = hdpc_rows.get(row, column);
         if scalar.byte() != 0 {
             recorded.add_multiple(places.first + row, places.peeling.row_of(place), scalar)?;
         }

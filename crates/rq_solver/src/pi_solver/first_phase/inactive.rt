@@ -4,7 +4,8 @@ ghost use Rattle.std.specs.Prelude.{◌≡◌, ◌<◌, ◌≤◌, ◌+◌, ◌-
 ghost use Rattle.rq_bytes.specs.declared.error.Error.TheVariants.{OutOfMemory};
 ghost use Rattle.rq_parts.specs.DenseOctetMatrix.{entry_of, HasOctets};
 ghost use Rattle.rq_solver.specs.InactiveColumns.{AreFilled, FillsColumn, FillsHdpcRow, HasInactive};
-ghost use Rattle.rq_peeling.specs.Peeled.{IsOrderOf, IsPeeled};
+ghost use Rattle.rq_peeling.specs.ColumnState.{IsOrderOf};
+ghost use Rattle.rq_peeling.specs.Peeling.{IsPeeled};
 ghost use Rattle.rq_peeling.specs.System.{rows_of_system};
 
 use rq_bytes::error::Error;

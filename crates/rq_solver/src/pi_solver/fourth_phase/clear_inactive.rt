@@ -4,9 +4,9 @@ ghost use Rattle.std.specs.Prelude.{◌≡◌, ◌+◌, ◌*◌, ◌^◌, ◌<�
 ghost use Rattle.std.specs.Int.{bit_at};
 ghost use Rattle.rq_bytes.specs.declared.error.Error.TheVariants.{OutOfMemory};
 ghost use Rattle.rq_parts.specs.DenseOctetMatrix.{entry_of};
-ghost use Rattle.rq_elimination.specs.Recorded.{AddsAtMost};
+ghost use Rattle.rq_elimination.specs.RecordedRows.{AddsAtMost};
 ghost use Rattle.rq_elimination.specs.RowSteps.{CanTake};
-ghost use Rattle.rq_solver.specs.EliminationState.{finish_bound, inactive_count, left_rows, IsUnderWay, KeepsRows};
+ghost use Rattle.rq_solver.specs.Elimination.{finish_bound, inactive_count, left_rows, IsUnderWay, KeepsRows};
 ghost use Rattle.rq_solver.specs.FourthPhase.{FinishesPivotRows, TookAtMost};
 ghost use Rattle.rq_solver.specs.SecondPhase.{TakesAll, TakesFrom};
 

@@ -6,7 +6,7 @@ ghost use Rattle.rq_algebra.specs.Operations.{Operation, AddAssign};
 ghost use Rattle.rq_bytes.specs.declared.error.Error.TheVariants.{OutOfMemory};
 ghost use Rattle.rq_parts.specs.DenseOctetMatrix.{OctetTable};
 ghost use Rattle.rq_elimination.specs.OperationCounts.{additions};
-ghost use Rattle.rq_elimination.specs.Recorded.{AddsAtMost, Performs, Records};
+ghost use Rattle.rq_elimination.specs.RecordedRows.{AddsAtMost, Performs, Records};
 ghost use Rattle.rq_elimination.specs.declared.recorded.RecordedRows.{RecordedRows};
 ghost use Rattle.rq_elimination.proofs.Performing.{performs_none, performs_more, records_none, records_more};
 ghost use Rattle.rq_solver.specs.PivotAdditions.{IsSumOf};

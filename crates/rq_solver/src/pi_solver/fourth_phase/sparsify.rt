@@ -3,8 +3,8 @@
 ghost use Rattle.std.specs.Prelude.{◌≡◌, ◌+◌, ◌-◌, ◌*◌, ◌<◌, ◌≤◌, length, IsTrue, IfOk, OnOk, IfErr};
 ghost use Rattle.rq_algebra.specs.Systems.{at};
 ghost use Rattle.rq_bytes.specs.declared.error.Error.TheVariants.{OutOfMemory};
-ghost use Rattle.rq_elimination.specs.Recorded.{AddsAtMost};
-ghost use Rattle.rq_solver.specs.EliminationState.{sparsified_at, IsUnderWay, KeepsRows};
+ghost use Rattle.rq_elimination.specs.RecordedRows.{AddsAtMost};
+ghost use Rattle.rq_solver.specs.Elimination.{sparsified_at, IsUnderWay, KeepsRows};
 ghost use Rattle.rq_solver.specs.FourthPhase.{SparsifiesPivotRows, Sparsifies, TookAtMost};
 ghost use Rattle.rq_solver.specs.PivotAdditions.{PeelsRows, PivotsHaveTaken};
 

@@ -28,14 +28,14 @@ returns-then-is_bits-2-clause-octets c = has_octets c.self.inside.octets.width c
 
 -- ---- the row that takes gets octets
 
-pub get-bits-requires : goal.get-bits-requires
-get-bits-requires c = bits_place c.self.inside c.self.invariant c.self.view_is c.args.dest c.requires.dest
+pub unpack_row-requires-clause-bits : goal.unpack_row-requires-clause-bits
+unpack_row-requires-clause-bits c = bits_place c.self.inside c.self.invariant c.self.view_is c.args.dest c.requires.dest
 
 pub unpack_row-requires-clause-row : goal.unpack_row-requires-clause-row
 unpack_row-requires-clause-row c = own_place c.self.inside c.self.invariant c.self.view_is c.args.dest c.requires.dest
 
 pub is_bits-requires-2 : goal.is_bits-requires-2
-is_bits-requires-2 c = filled_place c.self.inside c.self.invariant c.self.view_is c.args.dest c.requires.dest c.unpack_row.new.self _ c.get-bits.ensures.symbol c.in_ok-unpack_row.ensures.row c.args.src (own_place c.self.inside c.self.invariant c.self.view_is c.args.src c.requires.src)
+is_bits-requires-2 c = filled_place c.self.inside c.self.invariant c.self.view_is c.args.dest c.requires.dest c.unpack_row.new.self c.in_ok-unpack_row.ensures.row c.args.src (own_place c.self.inside c.self.invariant c.self.view_is c.args.src c.requires.src)
 
 -- ---- bits are added
 
@@ -43,55 +43,55 @@ pub get-requires : goal.get-requires
 get-requires c = bits_place c.self.inside c.self.invariant c.self.view_is c.args.src c.requires.src
 
 pub add_bits-requires-clause-row : goal.add_bits-requires-clause-row
-add_bits-requires-clause-row c = filled_place c.self.inside c.self.invariant c.self.view_is c.args.dest c.requires.dest c.unpack_row.new.self _ c.get-bits.ensures.symbol c.in_ok-unpack_row.ensures.row c.args.dest (own_place c.self.inside c.self.invariant c.self.view_is c.args.dest c.requires.dest)
+add_bits-requires-clause-row c = filled_place c.self.inside c.self.invariant c.self.view_is c.args.dest c.requires.dest c.unpack_row.new.self c.in_ok-unpack_row.ensures.row c.args.dest (own_place c.self.inside c.self.invariant c.self.view_is c.args.dest c.requires.dest)
 
 pub add_bits-requires-clause-own : goal.add_bits-requires-clause-own
-add_bits-requires-clause-own c = filled_long c.self.inside c.self.invariant c.self.view_is c.args.dest c.requires.dest c.unpack_row.new.self _ c.get-bits.ensures.symbol c.in_ok-unpack_row.ensures.row
+add_bits-requires-clause-own c = filled_long c.self.inside c.self.invariant c.self.view_is c.args.dest c.requires.dest c.unpack_row.new.self c.in_ok-unpack_row.ensures.row
 
 pub add_bits-requires-clause-room : goal.add_bits-requires-clause-room
 add_bits-requires-clause-room c =
     let room = c.self.invariant.room in
-    omega (arith, room, filled_width c.self.inside c.self.invariant c.self.view_is c.args.dest c.requires.dest c.unpack_row.new.self _ c.get-bits.ensures.symbol c.in_ok-unpack_row.ensures.row, c.get.ensures.len)
+    omega (arith, room, filled_width c.self.inside c.self.invariant c.self.view_is c.args.dest c.requires.dest c.unpack_row.new.self c.in_ok-unpack_row.ensures.row, c.get.ensures.len)
 
 pub invariant_of-self-then-is_bits-3 : goal.invariant_of-self-then-is_bits-3
-invariant_of-self-then-is_bits-3 c = filled_written c.self.inside c.self.invariant c.self.view_is c.args.dest c.requires.dest c.unpack_row.new.self _ c.get-bits.ensures.symbol c.in_ok-unpack_row.ensures.row c.add_bits.new.self _ c.add_bits.ensures.sum c.add_bits.ensures.octets
+invariant_of-self-then-is_bits-3 c = filled_written c.self.inside c.self.invariant c.self.view_is c.args.dest c.requires.dest c.unpack_row.new.self c.in_ok-unpack_row.ensures.row c.add_bits.new.self _ c.add_bits.ensures.sum c.add_bits.ensures.octets
 
 pub returns-then-is_bits-3-clause-ok : goal.returns-then-is_bits-3-clause-ok
 returns-then-is_bits-3-clause-ok c =
-    let none = ap length (sym (filled_other c.self.inside c.self.invariant c.self.view_is c.args.dest c.requires.dest c.unpack_row.new.self _ c.get-bits.ensures.symbol c.in_ok-unpack_row.ensures.row c.args.src (λ same. c.requires.two (sym same)))) ∙ c.if-is_bits-3.ensures.none refl in
-    filled_written_seen c.self.inside c.self.invariant c.self.view_is c.args.dest c.requires.dest c.unpack_row.new.self _ c.get-bits.ensures.symbol c.in_ok-unpack_row.ensures.row c.add_bits.new.self _ c.add_bits.ensures.sum c.add_bits.ensures.octets
-    ∙ ap (λ (r : List ℕ). with_row c.args.self.now c.args.dest (row_sum r (row_multiple c.args.scalar.now (octets_of_bits c.unpack_row.new.self.width c.get.result.now)))) (filled_read c.self.inside c.self.invariant c.self.view_is c.args.dest c.requires.dest c.unpack_row.new.self _ c.get-bits.ensures.symbol c.in_ok-unpack_row.ensures.row)
+    let none = ap length (sym (filled_other c.self.inside c.self.invariant c.self.view_is c.args.dest c.requires.dest c.unpack_row.new.self c.in_ok-unpack_row.ensures.row c.args.src (λ same. c.requires.two (sym same)))) ∙ c.if-is_bits-3.ensures.none refl in
+    filled_written_seen c.self.inside c.self.invariant c.self.view_is c.args.dest c.requires.dest c.unpack_row.new.self c.in_ok-unpack_row.ensures.row c.add_bits.new.self _ c.add_bits.ensures.sum c.add_bits.ensures.octets
+    ∙ ap (λ (r : List ℕ). with_row c.args.self.now c.args.dest (row_sum r (row_multiple c.args.scalar.now (octets_of_bits c.unpack_row.new.self.width c.get.result.now)))) (filled_read c.self.inside c.self.invariant c.self.view_is c.args.dest c.requires.dest c.unpack_row.new.self c.in_ok-unpack_row.ensures.row)
     ∙ ap (λ (b : List ℕ). with_row c.args.self.now c.args.dest (row_sum (row_at c.args.self.now c.args.dest) (row_multiple c.args.scalar.now b))) (
-    ap (λ n. octets_of_bits n c.get.result.now) (filled_width c.self.inside c.self.invariant c.self.view_is c.args.dest c.requires.dest c.unpack_row.new.self _ c.get-bits.ensures.symbol c.in_ok-unpack_row.ensures.row)
+    ap (λ n. octets_of_bits n c.get.result.now) (filled_width c.self.inside c.self.invariant c.self.view_is c.args.dest c.requires.dest c.unpack_row.new.self c.in_ok-unpack_row.ensures.row)
     ∙ ap (octets_of_bits c.self.inside.octets.width) (c.get.ensures.symbol ∙ read_is c.self.inside c.self.invariant c.self.view_is c.args.src c.requires.src)
     ∙ row_unpacked c.self.inside c.self.invariant c.self.view_is c.args.src c.requires.src none)
 
 -- ---- octets are added
 
 pub add_multiple-requires-clause-dest : goal.add_multiple-requires-clause-dest
-add_multiple-requires-clause-dest c = filled_place c.self.inside c.self.invariant c.self.view_is c.args.dest c.requires.dest c.unpack_row.new.self _ c.get-bits.ensures.symbol c.in_ok-unpack_row.ensures.row c.args.dest (own_place c.self.inside c.self.invariant c.self.view_is c.args.dest c.requires.dest)
+add_multiple-requires-clause-dest c = filled_place c.self.inside c.self.invariant c.self.view_is c.args.dest c.requires.dest c.unpack_row.new.self c.in_ok-unpack_row.ensures.row c.args.dest (own_place c.self.inside c.self.invariant c.self.view_is c.args.dest c.requires.dest)
 
 pub add_multiple-requires-clause-src : goal.add_multiple-requires-clause-src
-add_multiple-requires-clause-src c = filled_place c.self.inside c.self.invariant c.self.view_is c.args.dest c.requires.dest c.unpack_row.new.self _ c.get-bits.ensures.symbol c.in_ok-unpack_row.ensures.row c.args.src (own_place c.self.inside c.self.invariant c.self.view_is c.args.src c.requires.src)
+add_multiple-requires-clause-src c = filled_place c.self.inside c.self.invariant c.self.view_is c.args.dest c.requires.dest c.unpack_row.new.self c.in_ok-unpack_row.ensures.row c.args.src (own_place c.self.inside c.self.invariant c.self.view_is c.args.src c.requires.src)
 
 pub add_multiple-requires-clause-own : goal.add_multiple-requires-clause-own
-add_multiple-requires-clause-own c = filled_long c.self.inside c.self.invariant c.self.view_is c.args.dest c.requires.dest c.unpack_row.new.self _ c.get-bits.ensures.symbol c.in_ok-unpack_row.ensures.row
+add_multiple-requires-clause-own c = filled_long c.self.inside c.self.invariant c.self.view_is c.args.dest c.requires.dest c.unpack_row.new.self c.in_ok-unpack_row.ensures.row
 
 pub invariant_of-self-else-is_bits-3 : goal.invariant_of-self-else-is_bits-3
-invariant_of-self-else-is_bits-3 c = filled_written c.self.inside c.self.invariant c.self.view_is c.args.dest c.requires.dest c.unpack_row.new.self _ c.get-bits.ensures.symbol c.in_ok-unpack_row.ensures.row c.add_multiple.new.self _ c.add_multiple.ensures.sum c.add_multiple.ensures.octets
+invariant_of-self-else-is_bits-3 c = filled_written c.self.inside c.self.invariant c.self.view_is c.args.dest c.requires.dest c.unpack_row.new.self c.in_ok-unpack_row.ensures.row c.add_multiple.new.self _ c.add_multiple.ensures.sum c.add_multiple.ensures.octets
 
 pub returns-else-is_bits-3-clause-ok : goal.returns-else-is_bits-3-clause-ok
 returns-else-is_bits-3-clause-ok c =
-    let other = filled_other c.self.inside c.self.invariant c.self.view_is c.args.dest c.requires.dest c.unpack_row.new.self _ c.get-bits.ensures.symbol c.in_ok-unpack_row.ensures.row c.args.src (λ same. c.requires.two (sym same)) in
-    let some = ap length (sym other) ∙ c.if-is_bits-3.ensures.own refl ∙ filled_width c.self.inside c.self.invariant c.self.view_is c.args.dest c.requires.dest c.unpack_row.new.self _ c.get-bits.ensures.symbol c.in_ok-unpack_row.ensures.row in
-    filled_written_seen c.self.inside c.self.invariant c.self.view_is c.args.dest c.requires.dest c.unpack_row.new.self _ c.get-bits.ensures.symbol c.in_ok-unpack_row.ensures.row c.add_multiple.new.self _ c.add_multiple.ensures.sum c.add_multiple.ensures.octets
-    ∙ ap (λ (r : List ℕ). with_row c.args.self.now c.args.dest (row_sum r (row_multiple c.args.scalar.now (row_at c.unpack_row.new.self c.args.src)))) (filled_read c.self.inside c.self.invariant c.self.view_is c.args.dest c.requires.dest c.unpack_row.new.self _ c.get-bits.ensures.symbol c.in_ok-unpack_row.ensures.row)
+    let other = filled_other c.self.inside c.self.invariant c.self.view_is c.args.dest c.requires.dest c.unpack_row.new.self c.in_ok-unpack_row.ensures.row c.args.src (λ same. c.requires.two (sym same)) in
+    let some = ap length (sym other) ∙ c.if-is_bits-3.ensures.own refl ∙ filled_width c.self.inside c.self.invariant c.self.view_is c.args.dest c.requires.dest c.unpack_row.new.self c.in_ok-unpack_row.ensures.row in
+    filled_written_seen c.self.inside c.self.invariant c.self.view_is c.args.dest c.requires.dest c.unpack_row.new.self c.in_ok-unpack_row.ensures.row c.add_multiple.new.self _ c.add_multiple.ensures.sum c.add_multiple.ensures.octets
+    ∙ ap (λ (r : List ℕ). with_row c.args.self.now c.args.dest (row_sum r (row_multiple c.args.scalar.now (row_at c.unpack_row.new.self c.args.src)))) (filled_read c.self.inside c.self.invariant c.self.view_is c.args.dest c.requires.dest c.unpack_row.new.self c.in_ok-unpack_row.ensures.row)
     ∙ ap (λ (r : List ℕ). with_row c.args.self.now c.args.dest (row_sum (row_at c.args.self.now c.args.dest) (row_multiple c.args.scalar.now r))) (other ∙ own_octets c.self.inside c.self.invariant c.self.view_is c.args.src c.requires.src some)
 
 -- ---- all are octets
 
 pub returns-then-is_bits-3-clause-octets : goal.returns-then-is_bits-3-clause-octets
-returns-then-is_bits-3-clause-octets c = has_octets c.add_bits.new.self.width c.self.inside.bits c.add_bits.new.self.rows (filled_written c.self.inside c.self.invariant c.self.view_is c.args.dest c.requires.dest c.unpack_row.new.self _ c.get-bits.ensures.symbol c.in_ok-unpack_row.ensures.row c.add_bits.new.self _ c.add_bits.ensures.sum c.add_bits.ensures.octets)
+returns-then-is_bits-3-clause-octets c = has_octets c.add_bits.new.self.width c.self.inside.bits c.add_bits.new.self.rows (filled_written c.self.inside c.self.invariant c.self.view_is c.args.dest c.requires.dest c.unpack_row.new.self c.in_ok-unpack_row.ensures.row c.add_bits.new.self _ c.add_bits.ensures.sum c.add_bits.ensures.octets)
 
 pub returns-else-is_bits-3-clause-octets : goal.returns-else-is_bits-3-clause-octets
-returns-else-is_bits-3-clause-octets c = has_octets c.add_multiple.new.self.width c.self.inside.bits c.add_multiple.new.self.rows (filled_written c.self.inside c.self.invariant c.self.view_is c.args.dest c.requires.dest c.unpack_row.new.self _ c.get-bits.ensures.symbol c.in_ok-unpack_row.ensures.row c.add_multiple.new.self _ c.add_multiple.ensures.sum c.add_multiple.ensures.octets)
+returns-else-is_bits-3-clause-octets c = has_octets c.add_multiple.new.self.width c.self.inside.bits c.add_multiple.new.self.rows (filled_written c.self.inside c.self.invariant c.self.view_is c.args.dest c.requires.dest c.unpack_row.new.self c.in_ok-unpack_row.ensures.row c.add_multiple.new.self _ c.add_multiple.ensures.sum c.add_multiple.ensures.octets)

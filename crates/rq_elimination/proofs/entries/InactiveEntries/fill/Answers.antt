@@ -5,25 +5,25 @@ use Rattle.rq_elimination.specs.InactiveEntries.{with_column_octets}
 use Rattle.rq_elimination.proofs.EntryRows.{bits_place, filled_long, filled_place, filled_read, filled_written, filled_written_seen, has_octets, own_place}
 use Rattle.rq_elimination.proofs.entries.InactiveEntries.fill.Goals as goal
 
-pub get-bits-requires : goal.get-bits-requires
-get-bits-requires c = bits_place c.self.inside c.self.invariant c.self.view_is c.args.row c.requires.row
+pub unpack_row-requires-clause-bits : goal.unpack_row-requires-clause-bits
+unpack_row-requires-clause-bits c = bits_place c.self.inside c.self.invariant c.self.view_is c.args.row c.requires.row
 
 pub unpack_row-requires-clause-row : goal.unpack_row-requires-clause-row
 unpack_row-requires-clause-row c = own_place c.self.inside c.self.invariant c.self.view_is c.args.row c.requires.row
 
 pub fill-requires-clause-row : goal.fill-requires-clause-row
-fill-requires-clause-row c = filled_place c.self.inside c.self.invariant c.self.view_is c.args.row c.requires.row c.unpack_row.new.self _ c.get-bits.ensures.symbol c.in_ok-unpack_row.ensures.row c.args.row (own_place c.self.inside c.self.invariant c.self.view_is c.args.row c.requires.row)
+fill-requires-clause-row c = filled_place c.self.inside c.self.invariant c.self.view_is c.args.row c.requires.row c.unpack_row.new.self c.in_ok-unpack_row.ensures.row c.args.row (own_place c.self.inside c.self.invariant c.self.view_is c.args.row c.requires.row)
 
 pub fill-requires-clause-own : goal.fill-requires-clause-own
-fill-requires-clause-own c = filled_long c.self.inside c.self.invariant c.self.view_is c.args.row c.requires.row c.unpack_row.new.self _ c.get-bits.ensures.symbol c.in_ok-unpack_row.ensures.row
+fill-requires-clause-own c = filled_long c.self.inside c.self.invariant c.self.view_is c.args.row c.requires.row c.unpack_row.new.self c.in_ok-unpack_row.ensures.row
 
 pub invariant_of-self-2 : goal.invariant_of-self-2
-invariant_of-self-2 c = filled_written c.self.inside c.self.invariant c.self.view_is c.args.row c.requires.row c.unpack_row.new.self _ c.get-bits.ensures.symbol c.in_ok-unpack_row.ensures.row c.fill.new.self _ c.fill.ensures.filled c.fill.ensures.octets
+invariant_of-self-2 c = filled_written c.self.inside c.self.invariant c.self.view_is c.args.row c.requires.row c.unpack_row.new.self c.in_ok-unpack_row.ensures.row c.fill.new.self _ c.fill.ensures.filled c.fill.ensures.octets
 
 pub returns-clause-ok : goal.returns-clause-ok
 returns-clause-ok c =
-    filled_written_seen c.self.inside c.self.invariant c.self.view_is c.args.row c.requires.row c.unpack_row.new.self _ c.get-bits.ensures.symbol c.in_ok-unpack_row.ensures.row c.fill.new.self _ c.fill.ensures.filled c.fill.ensures.octets
-    ∙ ap (λ (r : List ℕ). with_row c.args.self.now c.args.row (with_column_octets (row_at c.args.octets.now c.args.from) c.args.columns.now r)) (filled_read c.self.inside c.self.invariant c.self.view_is c.args.row c.requires.row c.unpack_row.new.self _ c.get-bits.ensures.symbol c.in_ok-unpack_row.ensures.row)
+    filled_written_seen c.self.inside c.self.invariant c.self.view_is c.args.row c.requires.row c.unpack_row.new.self c.in_ok-unpack_row.ensures.row c.fill.new.self _ c.fill.ensures.filled c.fill.ensures.octets
+    ∙ ap (λ (r : List ℕ). with_row c.args.self.now c.args.row (with_column_octets (row_at c.args.octets.now c.args.from) c.args.columns.now r)) (filled_read c.self.inside c.self.invariant c.self.view_is c.args.row c.requires.row c.unpack_row.new.self c.in_ok-unpack_row.ensures.row)
 
 pub returns-clause-octets : goal.returns-clause-octets
-returns-clause-octets c = has_octets c.fill.new.self.width c.self.inside.bits c.fill.new.self.rows (filled_written c.self.inside c.self.invariant c.self.view_is c.args.row c.requires.row c.unpack_row.new.self _ c.get-bits.ensures.symbol c.in_ok-unpack_row.ensures.row c.fill.new.self _ c.fill.ensures.filled c.fill.ensures.octets)
+returns-clause-octets c = has_octets c.fill.new.self.width c.self.inside.bits c.fill.new.self.rows (filled_written c.self.inside c.self.invariant c.self.view_is c.args.row c.requires.row c.unpack_row.new.self c.in_ok-unpack_row.ensures.row c.fill.new.self _ c.fill.ensures.filled c.fill.ensures.octets)

@@ -1,16 +1,10 @@
 -- What the check leaves to show of `hdpc_rows::HdpcRows::new`.
-use Rattle.std.proofs.Common.{◌≡◌, ◌≤◌, ℕ, length, set, replicate, ap, ◌∙◌, arith, inl, inr, List}
-use Rattle.std.proofs.lemmas.Bool.{cases_lt}
-use Rattle.std.proofs.lemmas.List.{get_or-set_same, get_or-set_other, get_or-replicate, get_or_past, length-replicate}
+use Rattle.std.proofs.Common.{◌≡◌, ◌≤◌, ℕ, length, set, replicate, ap, ◌∙◌, arith, List}
+use Rattle.std.proofs.lemmas.List.{get_or-set_same, get_or-set_other, length-replicate}
 use Rattle.rq_algebra.specs.Systems.{at}
+use Rattle.rq_algebra.proofs.Placewise.{at-zeros}
 use Rattle.rq_elimination.proofs.HdpcFactors.{first_factors}
 use Rattle.rq_elimination.proofs.hdpc_rows.HdpcRows.new.Goals as goal
-
-at_zeros : (n i : ℕ) → at (replicate n 0) i ≡ 0
-at_zeros n i = elim (cases_lt i n) [
-  | inl l ↦ get_or-replicate n i 0 0 l
-  | inr l ↦ get_or_past (replicate n 0) i 0 (let all : length (replicate {A = ℕ} n 0) ≡ n = length-replicate n 0 in omega (arith, all, l))
-]
 
 pub returns-clause-octets : goal.returns-clause-octets
 returns-clause-octets c =
@@ -22,4 +16,4 @@ returns-clause-octets c =
     let all : length c.in_ok-factors.factors.items ≡ n = ap (λ (l : List ℕ). length l) zeros ∙ length-replicate n 0 in
     first_factors (record { table = table; factors = factors }) c.requires.octets
     (get_or-set_same c.in_ok-factors.factors.items 0 1 0 (omega (arith, all, enough, c.requires.some)))
-    (λ i d. get_or-set_other c.in_ok-factors.factors.items 0 i 1 0 d ∙ ap (λ (l : List ℕ). at l i) zeros ∙ at_zeros n i)
+    (λ i d. get_or-set_other c.in_ok-factors.factors.items 0 i 1 0 d ∙ ap (λ (l : List ℕ). at l i) zeros ∙ at-zeros n i)

@@ -8,13 +8,13 @@ use Rattle.rq_standard.specs.Octets.{octet_mul}
 use Rattle.rq_standard.specs.OctetField.{octets}
 use Rattle.rq_standard.specs.Rows.{row_multiple}
 use Rattle.rq_parts.specs.DenseOctetMatrix.{entry_of}
-use Rattle.rq_elimination.specs.HdpcRows.{Batch}
+use Rattle.rq_elimination.specs.HdpcRows.{HdpcTable}
 use Rattle.rq_elimination.proofs.ChangedEntries.{at-row_multiple}
 use Rattle.rq_elimination.proofs.Choices.{if_apart}
 use Rattle.rq_elimination.proofs.hdpc_rows.HdpcRows.read_column.Goals as goal
 
-pub returns-clause-beside : goal.returns-clause-beside
-returns-clause-beside c =
+pub returns-clause-in_column : goal.returns-clause-in_column
+returns-clause-in_column c =
     let table = c.self.inside.table in
     let factors = c.self.inside.factors.items in
     let column = c.args.column in
@@ -22,9 +22,9 @@ returns-clause-beside c =
     let sum = c.get-sum.result in
     let count = c.self.invariant.count in
     let added = rw c.as_slice-factors.ensures.value at c.add_row_multiple.ensures.sum in
-    let lanes : length copied ≡ length factors = c.copy_column.ensures.len ∙ c.requires.lanes ∙ ap (λ (b : Batch). length b.factors) (sym c.self.view_is) in
-    let heights : length table.rows ≡ length c.args.self.now.table.rows = ap (λ (b : Batch). length b.table.rows) c.self.view_is in
-    let widths : table.width ≡ c.args.self.now.table.width = ap (λ (b : Batch). b.table.width) c.self.view_is in
+    let lanes : length copied ≡ length factors = c.copy_column.ensures.len ∙ c.requires.lanes ∙ ap (λ (hdpc : HdpcTable). length hdpc.factors) (sym c.self.view_is) in
+    let heights : length table.rows ≡ length c.args.self.now.table.rows = ap (λ (hdpc : HdpcTable). length hdpc.table.rows) c.self.view_is in
+    let widths : table.width ≡ c.args.self.now.table.width = ap (λ (hdpc : HdpcTable). hdpc.table.width) c.self.view_is in
     let sum_small : sum < 256 = rw c.get-sum.ensures (c.self.invariant.octets.elements 0 column (omega (arith, heights, c.requires.some)) (omega (arith, widths, c.requires.column))) in
     let small = rw c.as_slice-factors.ensures.value at c.are_octets.ensures in
     rw (← c.self.view_is) (λ i from l.

@@ -2,7 +2,7 @@
 use Rattle.std.proofs.Common.{◌≡◌, ◌<◌, length, set, ap, subst}
 use Rattle.std.proofs.lemmas.List.{get_or_read}
 use Rattle.rq_algebra.specs.Systems.{at}
-use Rattle.rq_peeling.specs.Peeled.{ColumnState, ExchangesColumns}
+use Rattle.rq_peeling.specs.ColumnState.{ColumnState, ExchangesColumns}
 use Rattle.rq_peeling.proofs.ColumnLaws.{exchanged_state, exchanges}
 use Rattle.rq_peeling.proofs.columns.ColumnOrder.exchange.Goals as goal
 

@@ -2,7 +2,7 @@
 use Rattle.std.proofs.Common.{◌≡◌, ◌-◌, ◌+◌, ap, arith}
 use Rattle.std.proofs.lemmas.List.{get_or_read}
 use Rattle.rq_algebra.specs.Systems.{at}
-use Rattle.rq_peeling.specs.Peeled.{ColumnState}
+use Rattle.rq_peeling.specs.ColumnState.{ColumnState}
 use Rattle.rq_peeling.specs.contracts.columns.ColumnOrder.{the_view}
 use Rattle.rq_peeling.proofs.ColumnLaws.{state_was, place_was, ends_by_inactivation}
 use Rattle.rq_peeling.proofs.columns.ColumnOrder.inactivate.Goals as goal

@@ -3,7 +3,7 @@ use Rattle.std.proofs.Common.{◌≡◌, ℕ, ◌+◌, List, sym, ap, ◌∙◌,
 use Rattle.std.proofs.lemmas.List.{get_or_read}
 use Rattle.rq_algebra.specs.Systems.{at}
 use Rattle.rq_algebra.proofs.Places.{exchange_right}
-use Rattle.rq_peeling.specs.Peeled.{ColumnState}
+use Rattle.rq_peeling.specs.ColumnState.{ColumnState}
 use Rattle.rq_peeling.specs.contracts.columns.ColumnOrder.{the_view}
 use Rattle.rq_peeling.proofs.ColumnLaws.{state_was, place_was, ends_by_pivot}
 use Rattle.rq_peeling.proofs.columns.ColumnOrder.take_pivot.Goals as goal

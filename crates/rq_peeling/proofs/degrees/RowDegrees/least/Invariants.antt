@@ -1,7 +1,7 @@
 -- What the loops keep in `degrees::RowDegrees::least`.
 use Rattle.std.proofs.Common.{◌≡◌, ℕ, ◌<◌}
 use Rattle.rq_algebra.specs.Systems.{at}
-use Rattle.rq_peeling.specs.Degrees.{HasLeastOnes}
+use Rattle.rq_peeling.specs.RowDegrees.{HasLeastOnes}
 use Rattle.rq_peeling.proofs.degrees.RowDegrees.least.Given as goal
 
 abbrev pub invariant-loop-row : goal.invariant-loop-row

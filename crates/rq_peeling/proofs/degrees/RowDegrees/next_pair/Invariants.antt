@@ -1,6 +1,6 @@
 -- What the loops keep in `degrees::RowDegrees::next_pair`.
 use Rattle.std.proofs.Common.{◌≡◌, ◌-◌, length}
-use Rattle.rq_peeling.specs.Degrees.{AreListed}
+use Rattle.rq_peeling.specs.RowDegrees.{AreListed}
 use Rattle.rq_peeling.proofs.degrees.RowDegrees.next_pair.Given as goal
 
 abbrev pub invariant-loop-row : goal.invariant-loop-row

@@ -2,7 +2,7 @@
 use Rattle.std.proofs.Common.{◌≡◌, ◌+◌, ◌==◌, ap, arith}
 use Rattle.std.proofs.lemmas.Bool.{eq-eqb}
 use mir.Val.{bool_byte}
-use Rattle.rq_peeling.specs.Degrees.{ListedRows}
+use Rattle.rq_peeling.specs.RowDegrees.{ListedRows}
 use Rattle.rq_peeling.proofs.DegreeLists.{last_there}
 use Rattle.rq_peeling.proofs.degrees.RowList.push_of_degree.Goals as goal
 

@@ -3,7 +3,7 @@ use Rattle.std.proofs.Common.{◌≡◌, ◌+◌, ◌++◌, ◌∷◌, [], ◌�
 use Rattle.std.proofs.lemmas.List.{length-append}
 use Rattle.rq_parts.specs.ImmutableListMap.{lists_between}
 use Rattle.rq_parts.proofs.KeyedLists.{length-lists}
-use Rattle.rq_peeling.specs.Peeled.{AreOnesOfRows}
+use Rattle.rq_peeling.specs.RowOnes.{AreOnesOfRows}
 use Rattle.rq_peeling.proofs.RowLists.{between_next, counts_next, ones_next}
 use Rattle.rq_peeling.proofs.ones.RowOnes.of_matrix.Goals as goal
 

@@ -1,8 +1,8 @@
 -- What the loops keep in `ones::RowOnes::of_matrix`.
 use Rattle.std.proofs.Common.{◌≡◌, length}
 use Rattle.rq_parts.specs.ImmutableListMap.{lists_between}
-use Rattle.rq_peeling.specs.Degrees.{CountsBefore}
-use Rattle.rq_peeling.specs.Peeled.{AreOnesOfRows, AreAllBetween}
+use Rattle.rq_peeling.specs.RowDegrees.{CountsBefore}
+use Rattle.rq_peeling.specs.RowOnes.{AreOnesOfRows, AreAllBetween}
 use Rattle.rq_peeling.proofs.ones.RowOnes.of_matrix.Given as goal
 
 abbrev pub invariant-loop-row : goal.invariant-loop-row

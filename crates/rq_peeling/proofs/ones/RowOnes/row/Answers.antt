@@ -1,7 +1,7 @@
 -- What the check leaves to show of `ones::RowOnes::row`.
 use Rattle.std.proofs.Common.{ℕ, List, length, ap, ◌∙◌, arith}
 use Rattle.rq_parts.proofs.KeyedLists.{list_read, key_within}
-use Rattle.rq_peeling.specs.Peeled.{ones_of}
+use Rattle.rq_peeling.specs.RowOnes.{ones_of}
 use Rattle.rq_peeling.proofs.ones.RowOnes.row.Goals as goal
 
 pub returns : goal.returns

@@ -1,8 +1,9 @@
 -- What the check leaves to show of `peeler::Peeler::choose_rows`.
 use Rattle.std.proofs.Common.{◌≡◌, ℕ, ◌<◌, ◌∷◌, [], All, Bor, length, subst, ◌∙◌, arith}
 use Rattle.std.proofs.lemmas.List.{length-append}
-use Rattle.rq_peeling.specs.Degrees.{AllHaveNone, CountsActive, HasFewestLeft, HasLeastDegree}
-use Rattle.rq_peeling.specs.Peeled.{ones_of, TakesRow}
+use Rattle.rq_peeling.specs.RowDegrees.{AllHaveNone, CountsActive, HasFewestLeft, HasLeastDegree}
+use Rattle.rq_peeling.specs.ColumnState.{TakesRow}
+use Rattle.rq_peeling.specs.RowOnes.{ones_of}
 use Rattle.rq_peeling.specs.declared.system.System.{System}
 use Rattle.rq_peeling.proofs.ActiveOnes.{all_done, columns_next, fewest_left, left_next, none_left, takes_more}
 use Rattle.rq_peeling.proofs.PeelingLaws.{columns_below, peeled_next}
@@ -31,7 +32,7 @@ loop-turn-preserved c =
     rw c.in_ok-push.ensures.items (record {
       chosen = record {
         so = peeled_next s.ones taken cur.columns new.columns within v.chosen.so row in_lists takes;
-        end = omega (arith, takes.fewer, v.chosen.end);
+        end = omega (arith, takes.ends.fewer, v.chosen.end);
         left = λ k l. left_next s.ones s.lt_columns taken row cur.columns new.columns takes were k (rw width l);
         counts = counted;
         fewest = takes_more (λ _ rows r. HasFewestLeft s.ones s.lt_columns rows r) taken row v.chosen.fewest pick;

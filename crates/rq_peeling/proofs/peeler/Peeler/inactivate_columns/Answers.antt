@@ -1,8 +1,8 @@
 -- What the check leaves to show of `peeler::Peeler::inactivate_columns`.
 use Rattle.std.proofs.Common.{◌<◌, All, Bor, length, subst, ◌∙◌}
 use Rattle.rq_algebra.specs.Systems.{at}
-use Rattle.rq_peeling.specs.Degrees.{KeepsDegrees}
-use Rattle.rq_peeling.specs.Peeled.{IsActive}
+use Rattle.rq_peeling.specs.RowDegrees.{KeepsDegrees}
+use Rattle.rq_peeling.specs.ColumnState.{IsActive}
 use Rattle.rq_peeling.specs.declared.system.System.{System}
 use Rattle.rq_peeling.proofs.ActiveOnes.{not_both}
 use Rattle.rq_peeling.proofs.PeelerLaws.{leave_lowered}
@@ -19,7 +19,7 @@ loop-column-preserved c =
     let first = c.args.self.now in
     let cur = c.loop-column.self in
     let below : All (λ column. column < length first.columns.order) row = rw first.column_count c.requires in
-    let inside : at row t < length cur.columns.order = rw v.inactive.width (below t 0 in_row) in
+    let inside : at row t < length cur.columns.order = rw v.inactive.ends.width (below t 0 in_row) in
     elim c.if-is_active.branch [
       | then-is_active+in_ok-leave_column w ↦
           let active : IsActive cur.columns (at row t) = c.is_active.ensures.0 w.if-is_active.true in

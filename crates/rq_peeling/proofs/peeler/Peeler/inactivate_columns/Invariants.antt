@@ -1,7 +1,7 @@
 -- What the loops keep in `peeler::Peeler::inactivate_columns`.
 use Rattle.std.proofs.Common.{◌≡◌, take}
-use Rattle.rq_peeling.specs.Degrees.{KeepsDegrees}
-use Rattle.rq_peeling.specs.Peeled.{InactivatesRow}
+use Rattle.rq_peeling.specs.RowDegrees.{KeepsDegrees}
+use Rattle.rq_peeling.specs.ColumnState.{InactivatesRow}
 use Rattle.rq_peeling.proofs.peeler.Peeler.inactivate_columns.Given as goal
 
 abbrev pub invariant-loop-column : goal.invariant-loop-column

@@ -1,6 +1,7 @@
 -- What the check leaves to show of `peeler::Peeler::take_next`.
-use Rattle.rq_peeling.specs.Degrees.{KeepsDegrees}
-use Rattle.rq_peeling.specs.Peeled.{HasNoActive, ones_of}
+use Rattle.rq_peeling.specs.RowDegrees.{KeepsDegrees}
+use Rattle.rq_peeling.specs.ColumnState.{HasNoActive}
+use Rattle.rq_peeling.specs.RowOnes.{ones_of}
 use Rattle.rq_peeling.proofs.PeelerLaws.{least_active}
 use Rattle.rq_peeling.proofs.peeler.Peeler.take_next.Goals as goal
 

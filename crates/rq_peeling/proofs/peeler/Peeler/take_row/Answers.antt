@@ -1,8 +1,9 @@
 -- What the check leaves to show of `peeler::Peeler::take_row`.
 use Rattle.std.proofs.Common.{◌<◌, ◌≤◌, ◌∙◌, ℕ, List, length, subst, sym, arith}
 use Rattle.std.specs.List.{Contains}
-use Rattle.rq_peeling.specs.Degrees.{KeepsDegrees, active_ones}
-use Rattle.rq_peeling.specs.Peeled.{InactivatesRow, IsActive, ones_of}
+use Rattle.rq_peeling.specs.RowDegrees.{KeepsDegrees, active_ones}
+use Rattle.rq_peeling.specs.ColumnState.{InactivatesRow, IsActive}
+use Rattle.rq_peeling.specs.RowOnes.{ones_of}
 use Rattle.rq_peeling.proofs.ActiveOnes.{none_behind}
 use Rattle.rq_peeling.proofs.PeelerLaws.{leave_lowered, row_below}
 use Rattle.rq_peeling.proofs.PeelingLaws.{of_contained}
@@ -26,17 +27,19 @@ returns-in_ok-inactivate_columns-clause-taken c = λ _.
     let there : Contains row c.in-Some.pivot = subst (λ (xs : List ℕ). Contains xs c.in-Some.pivot) c.row-row.ensures c.in-Some.ensures.column in
     let ends = c.take_pivot.ensures.ended in
     let others : InactivatesRow row cur c.inactivate_columns.new.self.columns = rw (c.row-row.ensures, c.leave_column.ensures.columns) at c.in_ok-inactivate_columns.ensures.inactive in
-    let here = sym (others.before p.columns.pivots (omega (arith, c.take_pivot.ensures.pivots)) ∙ c.take_pivot.ensures.here) in
+    let here = sym (others.ends.before p.columns.pivots (omega (arith, c.take_pivot.ensures.pivots)) ∙ c.take_pivot.ensures.here) in
     record {
-      width = others.width ∙ ends.width;
       pivots = others.pivots ∙ c.take_pivot.ensures.pivots;
       own = subst (Contains row) here there;
       was = subst (IsActive p.columns) here c.in-Some.ensures.active;
-      before = λ q l. others.before q (omega (arith, l, c.take_pivot.ensures.pivots)) ∙ ends.before q l;
-      left = λ k l a. (ends.left k l (others.left k (rw ends.width l) a)).0;
-      kept = λ k l a out. others.kept k (rw ends.width l) (ends.kept k l a (λ e. out (subst (Contains row) (sym e) there))) out;
-      fewer = omega (arith, others.fewer, ends.fewer);
-      ended = others.ended;
+      ends = record {
+        width = others.ends.width ∙ ends.width;
+        before = λ q l. others.ends.before q (omega (arith, l, c.take_pivot.ensures.pivots)) ∙ ends.before q l;
+        left = λ k l a. (ends.left k l (others.ends.left k (rw ends.width l) a)).0;
+        kept = λ k l a out. others.ends.kept k (rw ends.width l) (ends.kept k l a (λ e. out (subst (Contains row) (sym e) there))) out;
+        fewer = omega (arith, others.ends.fewer, ends.fewer);
+        ended = others.ends.ended;
+      };
     }
 
 -- ---- a row of degree 1
@@ -50,15 +53,17 @@ returns-else-degree-gt1-clause-taken c = λ _.
     let few : active_ones p.columns row ≤ 1 = omega (arith, c.requires.degree, c.degree-degree.ensures, c.if-degree-gt1.false) in
     let here = sym c.take_pivot.ensures.here in
     rw c.leave_column.ensures.columns (record {
-      width = ends.width;
       pivots = c.take_pivot.ensures.pivots;
       own = subst (Contains row) here there;
       was = subst (IsActive p.columns) here c.in-Some.ensures.active;
-      before = ends.before;
-      left = λ k l a. (ends.left k l a).0;
-      kept = λ k l a out. ends.kept k l a (λ e. out (subst (Contains row) (sym e) there));
-      fewer = ends.fewer;
-      ended = none_behind row p.columns c.take_pivot.new.self c.in-Some.pivot (row_below p c.args.row c.requires.row) there c.in-Some.ensures.active ends few;
+      ends = record {
+        width = ends.width;
+        before = ends.before;
+        left = λ k l a. (ends.left k l a).0;
+        kept = λ k l a out. ends.kept k l a (λ e. out (subst (Contains row) (sym e) there));
+        fewer = ends.fewer;
+        ended = none_behind row p.columns c.take_pivot.new.self c.in-Some.pivot (row_below p c.args.row c.requires.row) there c.in-Some.ensures.active ends few;
+      };
     })
 
 pub returns-else-degree-gt1-clause-counted : goal.returns-else-degree-gt1-clause-counted

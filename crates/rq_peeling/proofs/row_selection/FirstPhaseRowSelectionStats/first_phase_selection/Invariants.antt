@@ -1,6 +1,6 @@
 -- What the loop keeps in `row_selection::FirstPhaseRowSelectionStats::first_phase_selection`.
 use Rattle.std.proofs.Common.{◌≡◌, ℕ, ◌<◌, ◌≤◌, get_or}
-use Rattle.rq_peeling.specs.Degrees.{HasLeastOnes}
+use Rattle.rq_peeling.specs.RowDegrees.{HasLeastOnes}
 use Rattle.rq_peeling.proofs.row_selection.FirstPhaseRowSelectionStats.first_phase_selection.Given as goal
 
 abbrev pub invariant-loop-row : goal.invariant-loop-row

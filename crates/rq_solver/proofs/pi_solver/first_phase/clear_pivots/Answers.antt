@@ -46,5 +46,5 @@ returns-clause-few c =
     let most : length listed * pivots ≤ length c.args.system.ones * pivots = mul-le-mul_right pivots few in
     let start : additions c.in_ok-recorded.recorded.operations ≡ 0 = ap additions c.in_ok-recorded.ensures.operations in
     let rows = c.in_ok-bounds.ensures.few in
-    let batch = rw c.args.system.octet_rows.width_is at c.in_ok-clear_octets.ensures.few in
-    omega (arith, most, start, rows, batch)
+    let octets = rw c.args.system.octet_rows.width_is at c.in_ok-clear_octets.ensures.few in
+    omega (arith, most, start, rows, octets)

@@ -1,7 +1,7 @@
 -- What the loops keep in `pi_solver::second_phase::clear_below`.
 use Rattle.std.proofs.Common.{◌+◌, ◌≤◌}
 use Rattle.rq_elimination.specs.OperationCounts.{additions}
-use Rattle.rq_elimination.specs.Recorded.{ChangesRows}
+use Rattle.rq_elimination.specs.RecordedRows.{ChangesRows}
 use Rattle.rq_elimination.specs.RowSteps.{ClearsBelow}
 use Rattle.rq_solver.proofs.pi_solver.second_phase.clear_below.Given as goal
 

@@ -2,7 +2,7 @@
 use Rattle.std.proofs.Common.{◌≡◌, ◌+◌, ◌-◌, ◌*◌, ◌≤◌, length}
 use Rattle.std.specs.List.Sorted.{IsPermutation}
 use Rattle.rq_elimination.specs.OperationCounts.{additions, triangle}
-use Rattle.rq_elimination.specs.Recorded.{ChangesRows}
+use Rattle.rq_elimination.specs.RecordedRows.{ChangesRows}
 use Rattle.rq_elimination.specs.RowSteps.{AreRows, IsEchelon}
 use Rattle.rq_solver.proofs.pi_solver.second_phase.eliminate_rows.Given as goal
 

@@ -4,4 +4,4 @@ use Rattle.rq_base.proofs.base.information.ObjectTransmissionInformation.check.G
 
 pub returns-clause-few : goal.returns-clause-few
 returns-clause-few c =
-    omega (arith, c.largest_block.ensures, c.greatest.ensures.size, c.from-2.ensures, greatest_below c.args.table.now c.greatest.ensures.checked)
+    omega (arith, c.largest_block.ensures, c.greatest.ensures.size, c.from.ensures, greatest_below c.args.table.now c.greatest.ensures.checked)

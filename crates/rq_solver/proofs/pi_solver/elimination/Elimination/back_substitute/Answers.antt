@@ -1,7 +1,7 @@
 -- What the check leaves to show of `pi_solver::elimination::Elimination::back_substitute`.
 use Rattle.std.proofs.Common.{◌≡◌, ◌-◌, length, drop, take, refl, ap, arith}
 use Rattle.rq_parts.specs.DenseOctetMatrix.{OctetTable}
-use Rattle.rq_solver.specs.EliminationState.{inactive_count, left_rows}
+use Rattle.rq_solver.specs.Elimination.{inactive_count, left_rows}
 use Rattle.rq_solver.specs.SecondPhase.{SubstitutesBack}
 use Rattle.rq_solver.proofs.Substitution.{reduces_as}
 use Rattle.rq_solver.proofs.UnderWay.{ends_substituted, left_slice, longer_by, still_under_way}

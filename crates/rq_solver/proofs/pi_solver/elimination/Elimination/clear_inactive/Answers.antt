@@ -3,8 +3,8 @@ use Rattle.rq_solver.proofs.FinishedPivots.{finish_none, finish_plain, finish_ag
 use Rattle.std.proofs.Common.{◌≡◌, ◌≢◌, ◌+◌, ◌-◌, ◌<◌, ℕ, length, refl, ap, arith}
 use Rattle.std.proofs.lemmas.List.{get_or_read}
 use Rattle.rq_algebra.specs.Systems.{at}
-use Rattle.rq_elimination.specs.Recorded.{Records}
-use Rattle.rq_solver.specs.EliminationState.{inactive_count, left_rows}
+use Rattle.rq_elimination.specs.RecordedRows.{Records}
+use Rattle.rq_solver.specs.Elimination.{inactive_count, left_rows}
 use Rattle.rq_solver.proofs.CountLaws.{one_turn_more}
 use Rattle.rq_solver.proofs.TakenAgain.{sums_between, taken_between, taken_recorded}
 use Rattle.rq_parts.specs.DenseOctetMatrix.{OctetTable}
@@ -54,7 +54,7 @@ loop-place-preserved c =
     let lists = c.args.self.now.additions.ones in
     let bounds = c.args.self.now.additions.bounds.items in
     let many = c.requires.under_way.taken.many in
-    let reduced = left_rows c.args.self.now in
+    let inactive_rows = left_rows c.args.self.now in
     let marks = c.args.sparse.now in
     let count = inactive_count c.args.self.now in
     let t = c.loop-place.place in
@@ -68,7 +68,7 @@ loop-place-preserved c =
     let counted : c.width.result - c.pivots.result ≡ count = omega (arith, c.width.ensures, c.pivots.ensures) in
     let sums = rw counted at c.in_ok-clear_columns.ensures.few in
     let turn = rw (read, all, counted) at c.in_ok-clear_columns.ensures.taken in
-    let apart : (p f : ℕ) → p < length rows → f < count → at rows p ≢ at reduced f = (λ (p f : ℕ) (l : p < length rows) (n : f < count). c.requires.under_way.apart p f l (omega (arith, c.requires.many))) in
+    let apart : (p f : ℕ) → p < length rows → f < count → at rows p ≢ at inactive_rows f = (λ (p f : ℕ) (l : p < length rows) (n : f < count). c.requires.under_way.apart p f l (omega (arith, c.requires.many))) in
     elim c.if-sparse-place.branch [
       | then-sparse-place+in_ok-redo_additions w ↦
           let start : w.index.result.now ≡ at bounds t = get_or_read bounds t w.index.result.now (omega (arith, many, in_rows)) w.index.ensures 0 in
@@ -78,14 +78,14 @@ loop-place-preserved c =
           let stands = taken_recorded lists p rows (length rows) bounds cur mid first _ turn.records in
           let again = taken_between lists p rows (length rows) bounds mid stands t in_rows Records new (rw (start, end) at w.in_ok-redo_additions.ensures.done) in
           rw w.recorded-is (record {
-            finished = finish_again lists rows p.order p.places _ c.requires.under_way.peeled.bits peeled reduced marks count t in_rows old cur mid v.finished turn apart new again w.if-sparse-place.true;
+            finished = finish_again lists rows p.order p.places _ c.requires.under_way.peeled.bits peeled inactive_rows marks count t in_rows old cur mid v.finished turn apart new again w.if-sparse-place.true;
             few =
                 let each = rw (start, end) at w.in_ok-redo_additions.ensures.few in
                 let short = c.requires.short t in_marks w.if-sparse-place.true in
                 one_turn_more (count + c.args.self.now.sparsify_limit) _ _ _ t v.few (omega (arith, sums, each, short));
           })
       | else-sparse-place w ↦ rw w.recorded-is (record {
-        finished = finish_plain lists rows p.order p.places _ c.requires.under_way.peeled.bits peeled reduced marks count t in_rows old cur mid v.finished turn apart w.if-sparse-place.false;
+        finished = finish_plain lists rows p.order p.places _ c.requires.under_way.peeled.bits peeled inactive_rows marks count t in_rows old cur mid v.finished turn apart w.if-sparse-place.false;
         few = one_turn_more (count + c.args.self.now.sparsify_limit) _ _ _ t v.few (omega (arith, sums));
       })
     ]

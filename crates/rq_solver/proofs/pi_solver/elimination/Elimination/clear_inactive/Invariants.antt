@@ -1,7 +1,7 @@
 -- What the loop keeps in `pi_solver::elimination::Elimination::clear_inactive`.
 use Rattle.std.proofs.Common.{◌+◌, ◌*◌, ◌≤◌}
 use Rattle.rq_elimination.specs.OperationCounts.{additions}
-use Rattle.rq_solver.specs.EliminationState.{inactive_count, left_rows}
+use Rattle.rq_solver.specs.Elimination.{inactive_count, left_rows}
 use Rattle.rq_solver.specs.FourthPhase.{FinishesPivots}
 use Rattle.rq_solver.proofs.pi_solver.elimination.Elimination.clear_inactive.Given as goal
 

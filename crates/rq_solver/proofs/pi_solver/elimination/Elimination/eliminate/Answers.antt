@@ -4,7 +4,7 @@ use Rattle.std.specs.List.Sorted.{IsPermutation}
 use Rattle.std.proofs.lemmas.List.{with_items_is}
 use Rattle.std.specs.Vec.{with_items}
 use borrow.Rule.Slice.PartMut.{put_mid, same_len_mid}
-use Rattle.rq_solver.specs.EliminationState.{left_rows}
+use Rattle.rq_solver.specs.Elimination.{left_rows}
 use Rattle.rq_solver.proofs.UnderWay.{ends_eliminated, left_slice, longer_by, reordered_under_way}
 use Rattle.rq_solver.proofs.pi_solver.elimination.Elimination.eliminate.Goals as goal
 
@@ -17,14 +17,14 @@ returns-clause-under_way c =
     let now = c.eliminate_rows.new.recorded in
     let pivots = c.pivots-pivots.result in
     let slice = c.as_mut_slice.result.now in
-    let reduced = c.eliminate_rows.new.rows in
+    let inactive_rows = c.eliminate_rows.new.rows in
     let slice_is : slice ≡ e.row_order.items = c.as_mut_slice.ensures.value in
     let left_is : take (length slice - pivots) (drop pivots slice) ≡ left_rows e = left_slice e slice pivots slice_is c.pivots-pivots.ensures in
-    let whole : List ℕ = put_mid pivots (length slice - pivots) slice reduced in
-    let long : length whole ≡ e.row_order.len = same_len_mid pivots (length slice - pivots) slice reduced c.eliminate_rows.auto.rows ∙ c.as_mut_slice.ensures.len in
-    let placed : (with_items e.row_order whole).items ≡ put_mid pivots (length e.row_order.items - pivots) e.row_order.items reduced = with_items_is e.row_order whole long ∙ ap (λ (xs : List ℕ). put_mid pivots (length xs - pivots) xs reduced) slice_is in
-    let permuted : IsPermutation (left_rows e) reduced = subst (λ (l : List ℕ). IsPermutation l reduced) left_is made.permuted in
+    let whole : List ℕ = put_mid pivots (length slice - pivots) slice inactive_rows in
+    let long : length whole ≡ e.row_order.len = same_len_mid pivots (length slice - pivots) slice inactive_rows c.eliminate_rows.auto.rows ∙ c.as_mut_slice.ensures.len in
+    let placed : (with_items e.row_order whole).items ≡ put_mid pivots (length e.row_order.items - pivots) e.row_order.items inactive_rows = with_items_is e.row_order whole long ∙ ap (λ (xs : List ℕ). put_mid pivots (length xs - pivots) xs inactive_rows) slice_is in
+    let permuted : IsPermutation (left_rows e) inactive_rows = subst (λ (l : List ℕ). IsPermutation l inactive_rows) left_is made.permuted in
     rw c.len-end.ensures
     (reordered_under_way e _ (record { peeling = refl; additions = refl; limit = refl }) under
-    (ends_eliminated e.ends (length e.recorded.operations) (length now.operations) under.in_order (longer_by e.recorded.operations now.operations made.steps.steps done.recorded)) made.steps.steps done.recorded done.height done.width pivots c.pivots-pivots.ensures reduced
+    (ends_eliminated e.ends (length e.recorded.operations) (length now.operations) under.in_order (longer_by e.recorded.operations now.operations made.steps.steps done.recorded)) made.steps.steps done.recorded done.height done.width pivots c.pivots-pivots.ensures inactive_rows
     placed permuted made.rows)

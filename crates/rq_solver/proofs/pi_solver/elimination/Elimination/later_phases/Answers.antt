@@ -2,7 +2,7 @@
 use Rattle.std.proofs.Common.{◌≡◌, sym}
 use Rattle.std.proofs.lemmas.List.Sorted.{length_permutation}
 use Rattle.rq_elimination.specs.RowSteps.{IsEchelon}
-use Rattle.rq_solver.specs.EliminationState.{inactive_count, left_rows, KeepsRows}
+use Rattle.rq_solver.specs.Elimination.{inactive_count, left_rows, KeepsRows}
 use Rattle.rq_solver.specs.declared.pi_solver.elimination.Elimination.{Elimination}
 use Rattle.rq_solver.specs.FourthPhase.{FinishesPivotRows}
 use Rattle.rq_solver.specs.Phases.{SolvesInactive}

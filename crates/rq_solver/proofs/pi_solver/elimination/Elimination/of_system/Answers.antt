@@ -5,10 +5,10 @@ use Rattle.rq_algebra.specs.Systems.{at}
 use Rattle.rq_elimination.specs.OperationCounts.{additions}
 use Rattle.rq_peeling.proofs.PlaceCounts.{few_places}
 use Rattle.rq_elimination.specs.declared.counts.PhaseEnds.{PhaseEnds}
-use Rattle.rq_peeling.specs.Peeled.{IsPeeled, Pivots}
+use Rattle.rq_peeling.specs.Peeling.{IsPeeled, Pivots}
 use Rattle.rq_peeling.specs.declared.system.System.{System}
-use Rattle.rq_solver.specs.EliminationState.{inactive_count, AddsLater}
-use Rattle.rq_solver.specs.HdpcOctets.{batch_bound}
+use Rattle.rq_solver.specs.Elimination.{inactive_count, AddsLater}
+use Rattle.rq_solver.specs.HdpcOctets.{hdpc_bound}
 use Rattle.rq_solver.specs.RowOrder.{ListsRows}
 use Rattle.rq_solver.specs.declared.pi_solver.elimination.Elimination.{Elimination}
 use Rattle.rq_solver.proofs.CountLaws.{few_in_all, few_together}
@@ -17,16 +17,16 @@ use Rattle.rq_solver.proofs.PivotsCleared.{pivot_of_bits}
 use Rattle.rq_solver.proofs.pi_solver.elimination.Elimination.of_system.Goals as goal
 
 -- what was recorded in all phases
-few_of : (M width h p most recorded phases : ℕ) → p ≤ width → p + h ≤ M → 2 * most + h ≤ width → recorded ≤ M * p + batch_bound h width p → phases ≤ recorded + ((width - p) * (M - 1) + 2 * (p * most)) → phases ≤ 2 * width * M
+few_of : (M width h p most recorded phases : ℕ) → p ≤ width → p + h ≤ M → 2 * most + h ≤ width → recorded ≤ M * p + hdpc_bound h width p → phases ≤ recorded + ((width - p) * (M - 1) + 2 * (p * most)) → phases ≤ 2 * width * M
 few_of M width h p most recorded phases fits rows columns first second =
     let back : p + (width - p) ≡ width = omega arith in
-    let all : M * p + batch_bound h width p + (width - p) * (M - 1) + p * (2 * most) ≤ 2 * width * M = rw back at (few_in_all p (width - p) h M (2 * most) rows (rw back columns)) in
+    let all : M * p + hdpc_bound h width p + (width - p) * (M - 1) + p * (2 * most) ≤ 2 * width * M = rw back at (few_in_all p (width - p) h M (2 * most) rows (rw back columns)) in
     omega (arith, all, first, second)
 
 -- the first phase, and those behind it
 few_recorded : (system : System) (peeling : Pivots) (first last : Elimination) → IsPeeled system.width system.ones peeling → first.peeling ≡ peeling → first.sparsify_limit ≡ (system.width - length system.hdpc.rows) / 2
     → ListsRows (length system.ones) peeling.rows first.row_order.items
-    → additions first.recorded.operations ≤ length system.ones * length peeling.rows + batch_bound (length system.hdpc.rows) system.width (length peeling.rows) → AddsLater first last → additions last.recorded.operations ≤ 2 * system.width * length system.ones
+    → additions first.recorded.operations ≤ length system.ones * length peeling.rows + hdpc_bound (length system.hdpc.rows) system.width (length peeling.rows) → AddsLater first last → additions last.recorded.operations ≤ 2 * system.width * length system.ones
 few_recorded system peeling first last peeled peeling_is limit_is listing start later =
     let height = length system.ones in
     let width = system.width in

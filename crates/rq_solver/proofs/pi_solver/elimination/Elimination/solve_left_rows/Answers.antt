@@ -6,7 +6,7 @@ use Rattle.rq_algebra.proofs.Sums.{dot_zero, mul_zero, zero_mul}
 use Rattle.rq_standard.specs.OctetField.{octets}
 use Rattle.rq_parts.specs.DenseOctetMatrix.{entry_of}
 use Rattle.rq_elimination.specs.RowSteps.{IsStuck}
-use Rattle.rq_solver.specs.EliminationState.{inactive_count, left_rows, IsUnderWay}
+use Rattle.rq_solver.specs.Elimination.{inactive_count, left_rows, IsUnderWay}
 use Rattle.rq_solver.specs.HomogeneousColumns.{inactive_entry, IsZeroColumn}
 use Rattle.rq_solver.specs.declared.pi_solver.elimination.Elimination.{Elimination}
 use Rattle.rq_solver.proofs.SetColumns.{left_here, left_kept, left_other, left_own, left_zeros, set_count, set_elements}

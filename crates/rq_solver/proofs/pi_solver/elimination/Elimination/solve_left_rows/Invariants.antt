@@ -2,7 +2,7 @@
 use Rattle.std.proofs.Common.{◌≡◌, ℕ, ◌-◌, ◌<◌, ◌≤◌, length}
 use Rattle.rq_algebra.specs.Systems.{at, IsColumn}
 use Rattle.rq_standard.specs.OctetField.{octets}
-use Rattle.rq_solver.specs.EliminationState.{inactive_count, left_rows}
+use Rattle.rq_solver.specs.Elimination.{inactive_count, left_rows}
 use Rattle.rq_solver.specs.HomogeneousColumns.{inactive_dot, inactive_entry, HasZerosAtPivots}
 use Rattle.rq_solver.proofs.pi_solver.elimination.Elimination.solve_left_rows.Given as goal
 

@@ -4,7 +4,7 @@ use Rattle.rq_algebra.specs.Operations.{plain}
 use Rattle.rq_algebra.specs.Parities.{sum_listed}
 use Rattle.rq_algebra.specs.Systems.{at}
 use Rattle.rq_standard.specs.OctetField.{octets}
-use Rattle.rq_peeling.specs.Peeled.{ones_of}
+use Rattle.rq_peeling.specs.RowOnes.{ones_of}
 use Rattle.rq_solver.proofs.SetColumns.{pivot_left, pivot_solves, pivot_zeros, set_elements}
 use Rattle.rq_solver.proofs.pi_solver.elimination.Elimination.solve_pivot_rows.Goals as goal
 

@@ -7,7 +7,7 @@ use Rattle.rq_standard.specs.OctetField.{octets}
 use Rattle.rq_standard.specs.Octets.{octet_mul}
 use Rattle.rq_parts.specs.DenseOctetMatrix.{entry_of}
 use Rattle.rq_elimination.proofs.ChangedEntries.{mul_is}
-use Rattle.rq_solver.specs.EliminationState.{inactive_count, left_rows, IsUnderWay}
+use Rattle.rq_solver.specs.Elimination.{inactive_count, left_rows, IsUnderWay}
 use Rattle.rq_solver.specs.HomogeneousColumns.{inactive_dot, inactive_entry}
 use Rattle.rq_solver.specs.declared.pi_solver.elimination.Elimination.{Elimination}
 use Rattle.rq_solver.proofs.pi_solver.elimination.Elimination.sum_behind.Goals as goal

@@ -1,7 +1,7 @@
 -- What the check leaves to show of `pi_solver::first_phase::clear_bits::take_pivots`.
 use Rattle.std.proofs.Common.{◌≡◌, ◌≢◌, ◌+◌, ◌<◌, ℕ, [], ◌∷◌, length, sym, ap, ◌∙◌, arith, inl, inr}
 use Rattle.rq_algebra.specs.Systems.{at}
-use Rattle.rq_elimination.specs.Recorded.{Performs}
+use Rattle.rq_elimination.specs.RecordedRows.{Performs}
 use Rattle.rq_elimination.specs.RowSteps.{sum_step}
 use Rattle.rq_peeling.proofs.PlaceCounts.{few_places, twice_counted}
 use Rattle.rq_solver.proofs.CountLaws.{met_none, met_skipped, met_more}

@@ -14,7 +14,7 @@ use Rattle.rq_solver.proofs.HdpcClearing.{combines_none, combines_more, combines
 use Rattle.rq_solver.proofs.pi_solver.first_phase.clear_hdpc.add_first_row.Goals as goal
 
 pub returns-then-byte-eq0-clause-added : goal.returns-then-byte-eq0-clause-added
-returns-then-byte-eq0-clause-added c = combines_none c.args.first_hdpc (length c.args.batch.now.table.rows) c.args.batch.now.table.width (octets_from c.args.column (octet_in c.args.batch.now)) c.args.recorded.now
+returns-then-byte-eq0-clause-added c = combines_none c.args.first_hdpc (length c.args.hdpc_rows.now.table.rows) c.args.hdpc_rows.now.table.width (octets_from c.args.column (octet_in c.args.hdpc_rows.now)) c.args.recorded.now
 
 pub returns-then-byte-eq0-clause-alone : goal.returns-then-byte-eq0-clause-alone
 returns-then-byte-eq0-clause-alone c = λ some. absurd (some (sym c.get-lead.ensures ∙ sym c.byte.ensures ∙ c.if-byte-eq0.true))
@@ -27,17 +27,17 @@ loop-row-init c = record {
   lead = sym c.get-lead.ensures;
   cleared = λ i some l. absurd (omega (arith, some, l));
   lanes = c.read_column.ensures.lanes ∙ c.requires.lanes;
-  beside = c.read_column.ensures.beside;
+  in_column = c.read_column.ensures.in_column;
   count = c.read_column.ensures.count;
   whole = c.read_column.ensures.whole;
   rest = c.nonzero_after_first-rest.ensures;
-  combined = combines_none c.args.first_hdpc (length c.args.batch.now.table.rows) c.args.batch.now.table.width (octets_from c.args.column (octet_in c.args.batch.now)) c.args.recorded.now;
+  combined = combines_none c.args.first_hdpc (length c.args.hdpc_rows.now.table.rows) c.args.hdpc_rows.now.table.width (octets_from c.args.column (octet_in c.args.hdpc_rows.now)) c.args.recorded.now;
 }
 
 pub loop-row-preserved : goal.loop-row-preserved
 loop-row-preserved c =
-    let start = c.args.batch.now in
-    let was = c.loop-row.batch in
+    let start = c.args.hdpc_rows.now in
+    let was = c.loop-row.hdpc_rows in
     let from = c.loop-row.last + 1 in
     let row = c.in-Some.row in
     let column = c.args.column in
@@ -51,8 +51,8 @@ loop-row-preserved c =
     let behind : from ≤ row = next.0.0 in
     let in_was : row < length was.table.rows = rw c.height.ensures.height at next.0.1 in
     let in_rows : row < count = rw same at in_was in
-    let read : c.in-Some.octet ≡ octet_in was row column = next.1 ∙ v.beside row behind in_was in
-    let in_width : column < width = c.requires.column in
+    let read : c.in-Some.octet ≡ octet_in was row column = next.1 ∙ v.in_column row behind in_was in
+    let in_width : column < width = c.requires.in_width in
     let elements : HasOctets start.table = rw same at c.height.ensures.octets in
     let now = c.add_first.new.self in
     let scalar = c.div-scalar.result in
@@ -63,7 +63,7 @@ loop-row-preserved c =
     let zero : octet_in now row column ≡ 0 = added.at_dest column in_width ∙ rw (v.lead, c.div-scalar.ensures, read) (plus_quotient_times (octet_in was row column) lead is_octet small nonzero) in
     let before : (i : ℕ) → 0 < i → i < row → octet_in was i column ≡ 0 = (λ (i : ℕ) (some : 0 < i) (l : i < row). elim (cases_lt i from) [
       | inl below ↦ v.cleared i some (omega arith)
-      | inr from_on ↦ sym (v.beside i from_on (omega (arith, l, in_was))) ∙ next.0.3 i from_on l
+      | inr from_on ↦ sym (v.in_column i from_on (omega (arith, l, in_was))) ∙ next.0.3 i from_on l
     ]) in
     record {
       within = in_rows;
@@ -72,8 +72,8 @@ loop-row-preserved c =
       lead = added.elsewhere 0 column (omega (arith, in_rows)) in_width (λ e. omega (arith, e, behind)) ∙ v.lead;
       cleared = λ i some l. elim (cases_eq i row) [ inl e ↦ rw e zero | inr d ↦ added.elsewhere i column (omega (arith, l, in_rows)) in_width d ∙ before i some (omega (arith, l, d)) ];
       lanes = v.lanes ∙ sym c.add_first.ensures.lanes;
-      beside = λ i after l. let in_old : i < length was.table.rows = rw c.add_first.ensures.table at l in
-          v.beside i (omega (arith, behind, after)) in_old ∙ sym (added.elsewhere i column (rw same at in_old) in_width (λ e. omega (arith, e, after)));
+      in_column = λ i after l. let in_old : i < length was.table.rows = rw c.add_first.ensures.table at l in
+          v.in_column i (omega (arith, behind, after)) in_old ∙ sym (added.elsewhere i column (rw same at in_old) in_width (λ e. omega (arith, e, after)));
       count = v.count;
       whole = v.whole;
       rest = c.in-Some.ensures.rest;
@@ -93,8 +93,8 @@ multiply_row-requires-clause-nonzero c =
 
 pub returns-in_ok-multiply_row-clause-alone : goal.returns-in_ok-multiply_row-clause-alone
 returns-in_ok-multiply_row-clause-alone c = λ some.
-    let start = c.args.batch.now in
-    let was = c.loop-row.batch in
+    let start = c.args.hdpc_rows.now in
+    let was = c.loop-row.hdpc_rows in
     let column = c.args.column in
     let lead = c.get-lead.result in
     let v = c.loop-row.invariant in
@@ -104,16 +104,16 @@ returns-in_ok-multiply_row-clause-alone c = λ some.
     let small : lead < 256 = rw c.byte.ensures at c.byte.type_inv in
     let nonzero : lead ≢ 0 = (λ e. c.if-byte-eq0.false (c.byte.ensures ∙ e)) in
     record {
-      one = scaled.at_dest column c.requires.column ∙ rw (v.lead, c.div-scalar-then-byte-ne1.ensures, c.one.ensures) (quotient_times 1 lead (lit< tt) small nonzero);
+      one = scaled.at_dest column c.requires.in_width ∙ rw (v.lead, c.div-scalar-then-byte-ne1.ensures, c.one.ensures) (quotient_times 1 lead (lit< tt) small nonzero);
       zeros = λ i first l.
           let in_rows : i < length start.table.rows = rw (c.multiply_first.ensures.table ∙ same) at l in
-          scaled.elsewhere i column in_rows c.requires.column (λ e. omega (arith, e, first)) ∙ (elim (cases_lt i (c.loop-row.last + 1)) [ inl below ↦ v.cleared i first (omega arith) | inr from_on ↦ let in_was : i < length was.table.rows = rw same in_rows in sym (v.beside i from_on in_was) ∙ c.in_default.ensures.next i from_on (rw c.height.ensures.height in_was) ]);
+          scaled.elsewhere i column in_rows c.requires.in_width (λ e. omega (arith, e, first)) ∙ (elim (cases_lt i (c.loop-row.last + 1)) [ inl below ↦ v.cleared i first (omega arith) | inr from_on ↦ let in_was : i < length was.table.rows = rw same in_rows in sym (v.in_column i from_on in_was) ∙ c.in_default.ensures.next i from_on (rw c.height.ensures.height in_was) ]);
     }
 
 pub returns-in_ok-multiply_row-clause-added : goal.returns-in_ok-multiply_row-clause-added
 returns-in_ok-multiply_row-clause-added c =
-    let start = c.args.batch.now in
-    let was = c.loop-row.batch in
+    let start = c.args.hdpc_rows.now in
+    let was = c.loop-row.hdpc_rows in
     let now = c.multiply_first.new.self in
     let column = c.args.column in
     let first = c.args.first_hdpc in
@@ -138,7 +138,7 @@ returns-else-byte-ne1-clause-alone c = λ some.
     let v = c.loop-row.invariant in
     record {
       one = v.lead ∙ sym c.byte-2.ensures ∙ c.if-byte-ne1.false;
-      zeros = λ i first l. elim (cases_lt i (c.loop-row.last + 1)) [ inl below ↦ v.cleared i first (omega arith) | inr from_on ↦ sym (v.beside i from_on l) ∙ c.in_default.ensures.next i from_on (rw c.height.ensures.height l) ];
+      zeros = λ i first l. elim (cases_lt i (c.loop-row.last + 1)) [ inl below ↦ v.cleared i first (omega arith) | inr from_on ↦ sym (v.in_column i from_on l) ∙ c.in_default.ensures.next i from_on (rw c.height.ensures.height l) ];
     }
 
 pub returns-in_err-add_multiple-clause-lanes : goal.returns-in_err-add_multiple-clause-lanes

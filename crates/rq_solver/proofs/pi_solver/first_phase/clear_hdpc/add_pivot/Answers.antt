@@ -11,14 +11,14 @@ use Rattle.rq_solver.proofs.pi_solver.first_phase.clear_hdpc.add_pivot.Goals.{th
 pub loop-row-init : goal.loop-row-init
 loop-row-init c =
     let p = c.args.places.now.peeling.now in
-    let batch = c.args.batch.now in
+    let hdpc_rows = c.args.hdpc_rows.now in
     let column = at p.order c.args.place in
-    let before = octets_from column (octet_in batch) in
+    let before = octets_from column (octet_in hdpc_rows) in
     record {
       few = omega arith;
-      changed = changes_same p.rows p.order p.places c.args.places.now.first (length batch.table.rows) batch.table.width before before (with_zeros column 0 before) c.args.recorded.now c.args.recorded.now
+      changed = changes_same p.rows p.order p.places c.args.places.now.first (length hdpc_rows.table.rows) hdpc_rows.table.width before before (with_zeros column 0 before) c.args.recorded.now c.args.recorded.now
           (λ i q l n. sym (same_behind column 0 before i (at p.order q) (omega arith)))
-          (changes_none p.rows p.order p.places c.args.places.now.first (length batch.table.rows) batch.table.width before c.args.recorded.now);
+          (changes_none p.rows p.order p.places c.args.places.now.first (length hdpc_rows.table.rows) hdpc_rows.table.width before c.args.recorded.now);
     }
 
 pub add_multiple-requires-clause-two : goal.add_multiple-requires-clause-two
@@ -33,18 +33,18 @@ loop-row-preserved c =
     let first = c.args.places.now.first in
     let place = c.args.place in
     let row = c.loop-row.row in
-    let batch = c.args.batch.now in
-    let count = length batch.table.rows in
-    let width = batch.table.width in
+    let hdpc_rows = c.args.hdpc_rows.now in
+    let count = length hdpc_rows.table.rows in
+    let width = hdpc_rows.table.width in
     let old = c.args.recorded.now in
     let cur = c.loop-row.recorded in
     let v = c.loop-row.invariant in
     let beside = c.requires.pivots in
     let here : ℕ = at p.order place in
-    let before = octets_from here (octet_in batch) in
+    let before = octets_from here (octet_in hdpc_rows) in
     let column : c.column_at-column.result ≡ here = c.column_at-column.ensures in
     let in_rows : row < count = omega (arith, c.requires.count) in
-    let scalar_is : c.get-scalar.result ≡ before row here = c.get-scalar.ensures ∙ ap (octet_in batch row) column ∙ sym (from_column here (octet_in batch) row here (omega arith)) in
+    let scalar_is : c.get-scalar.result ≡ before row here = c.get-scalar.ensures ∙ ap (octet_in hdpc_rows row) column ∙ sym (from_column here (octet_in hdpc_rows) row here (omega arith)) in
     let still : HasPivotsBeside p.rows p.order p.places first count width cur = beside_still p.rows p.order p.places first count width old cur beside v.changed.performs.height in
     elim c.if-byte-ne0.branch [
       | then-byte-ne0+in_ok-add_multiple w ↦
@@ -67,8 +67,8 @@ loop-row-preserved c =
 pub returns-clause-changed : goal.returns-clause-changed
 returns-clause-changed c =
     let p = c.args.places.now.peeling.now in
-    let table = c.args.batch.now.table in
+    let table = c.args.hdpc_rows.now.table in
     let column = at p.order c.args.place in
     let all : c.loop-row.row ≡ c.args.count = omega (arith, c.loop-row.auto) in
-    column_cleared p.rows p.order p.places c.args.places.now.first (length table.rows) table.width column c.args.count (octet_in c.args.batch.now) (octets_from column (octet_in c.args.batch.now)) c.args.recorded.now c.loop-row.recorded c.requires.zeros
+    column_cleared p.rows p.order p.places c.args.places.now.first (length table.rows) table.width column c.args.count (octet_in c.args.hdpc_rows.now) (octets_from column (octet_in c.args.hdpc_rows.now)) c.args.recorded.now c.loop-row.recorded c.requires.zeros
     (rw all at c.loop-row.invariant.changed)

@@ -9,8 +9,8 @@ use Rattle.rq_solver.proofs.pi_solver.first_phase.clear_hdpc.add_pivot.Given as 
 abbrev pub invariant-loop-row : goal.invariant-loop-row
 invariant-loop-row l =
     let column = at l.places.peeling.now.order l.place in
-    let before = octets_from column (octet_in l.batch) in
+    let before = octets_from column (octet_in l.hdpc_rows) in
     record {
       few : additions l.recorded.operations ≤ additions l.fn.recorded.operations + l.row;
-      changed : ChangesOctets l.places.peeling.now.rows l.places.peeling.now.order l.places.first (length l.batch.table.rows) before (with_zeros column l.row before) l.fn.recorded l.recorded;
+      changed : ChangesOctets l.places.peeling.now.rows l.places.peeling.now.order l.places.first (length l.hdpc_rows.table.rows) before (with_zeros column l.row before) l.fn.recorded l.recorded;
     }

@@ -2,7 +2,7 @@
 use Rattle.std.proofs.Common.{◌≡◌, ◌≢◌, ℕ, ◌+◌, ◌-◌, ◌<◌, ◌≤◌, length, refl, sym, ap, ◌∙◌, subst, arith, inl, inr}
 use Rattle.std.proofs.lemmas.Bool.{cases_lt}
 use Rattle.rq_algebra.specs.Systems.{at}
-use Rattle.rq_solver.proofs.CountLaws.{batch_sum, met_none, met_skipped, met_more}
+use Rattle.rq_solver.proofs.CountLaws.{hdpc_sum, met_none, met_skipped, met_more}
 use Rattle.rq_peeling.proofs.PlaceCounts.{few_places}
 use Rattle.rq_parts.specs.DenseOctetMatrix.{OctetTable, entry_of}
 use Rattle.rq_solver.specs.HdpcOctets.{AreOctetsIn, HasPivotsBeside, ChangesOctets, CombinesOctets, octets_from}
@@ -29,7 +29,7 @@ loop-column-init c =
     record {
       table = refl;
       lanes = c.as_mut_slice-column_octets.ensures.len ∙ c.in_ok-octets.ensures.len ∙ c.lanes.ensures;
-      changed = changes_none c.args.peeling.now.rows c.args.peeling.now.order c.args.peeling.now.places c.args.first_hdpc (length hdpc.rows) hdpc.width (octets_from 0 (octet_in c.in_ok-batch.batch)) c.sum_rows.new.recorded;
+      changed = changes_none c.args.peeling.now.rows c.args.peeling.now.order c.args.peeling.now.places c.args.first_hdpc (length hdpc.rows) hdpc.width (octets_from 0 (octet_in c.in_ok-hdpc_rows.hdpc_rows)) c.sum_rows.new.recorded;
       few = (0, met_none (length c.args.peeling.now.rows) (at c.args.peeling.now.places), (omega arith));
     }
 
@@ -41,18 +41,20 @@ clear_column-requires c =
     let v = c.loop-column.invariant in
     let old = c.args.recorded.now in
     let now = c.loop-column.recorded in
-    let table = v.table ∙ c.in_ok-batch.ensures.table in
-    let count : length c.loop-column.batch.table.rows ≡ length hdpc.rows = ap (λ (t : OctetTable). length t.rows) table ∙ c.in_ok-sum_rows.ensures.height in
-    let width : c.loop-column.batch.table.width ≡ hdpc.width = ap (λ (t : OctetTable). t.width) table ∙ c.in_ok-sum_rows.ensures.width in
+    let table = v.table ∙ c.in_ok-hdpc_rows.ensures.table in
+    let count : length c.loop-column.hdpc_rows.table.rows ≡ length hdpc.rows = ap (λ (t : OctetTable). length t.rows) table ∙ c.in_ok-sum_rows.ensures.height in
+    let width : c.loop-column.hdpc_rows.table.width ≡ hdpc.width = ap (λ (t : OctetTable). t.width) table ∙ c.in_ok-sum_rows.ensures.width in
     let heights : length now.table.rows ≡ length old.table.rows = v.changed.performs.height ∙ summed.performs.height in
     let are : AreOctetsIn c.args.first_hdpc (length hdpc.rows) old = record { within = c.requires.height; fits = c.requires.fits } in
     let beside : HasPivotsBeside p.rows p.order p.places c.args.first_hdpc (length hdpc.rows) hdpc.width old = record { columns = c.requires.order; few = c.requires.few; pivots = c.requires.pivots; apart = c.requires.apart } in
     record {
-      rows = rw count (octets_still c.args.first_hdpc (length hdpc.rows) old now are heights);
+      hdpc = record {
+        rows = rw count (octets_still c.args.first_hdpc (length hdpc.rows) old now are heights);
+        some = omega (arith, count, c.height.ensures, c.if-height-eq0.false);
+        in_width = omega (arith, width, c.loop-column-test.true, c.end_of_pivots-column-end.ensures.within, c.requires.order.place_count);
+        lanes = v.lanes;
+      };
       pivots = rw (count, width) (beside_still p.rows p.order p.places c.args.first_hdpc (length hdpc.rows) hdpc.width old now beside heights);
-      some = omega (arith, count, c.height.ensures, c.if-height-eq0.false);
-      column = omega (arith, width, c.loop-column-test.true, c.end_of_pivots-column-end.ensures.within, c.requires.order.place_count);
-      lanes = v.lanes;
     }
 
 pub loop-column-preserved : goal.loop-column-preserved
@@ -61,16 +63,16 @@ loop-column-preserved c =
     let v = c.loop-column.invariant in
     let first = c.args.first_hdpc in
     let hdpc = c.args.hdpc in
-    let start = c.in_ok-batch.batch in
-    let was = c.loop-column.batch in
-    let now = c.clear_column.new.batch in
+    let start = c.in_ok-hdpc_rows.hdpc_rows in
+    let was = c.loop-column.hdpc_rows in
+    let now = c.clear_column.new.hdpc_rows in
     let cur = c.sum_rows.new.recorded in
     let mid = c.loop-column.recorded in
     let new = c.clear_column.new.recorded in
     let column = c.loop-column.column in
     let count = length hdpc.rows in
     let width = hdpc.width in
-    let height : length was.table.rows ≡ count = ap (λ (t : OctetTable). length t.rows) (v.table ∙ c.in_ok-batch.ensures.table) ∙ c.in_ok-sum_rows.ensures.height in
+    let height : length was.table.rows ≡ count = ap (λ (t : OctetTable). length t.rows) (v.table ∙ c.in_ok-hdpc_rows.ensures.table) ∙ c.in_ok-sum_rows.ensures.height in
     let beside : HasPivotsBeside p.rows p.order p.places first count width cur =
     beside_still p.rows p.order p.places first count width c.args.recorded.now cur (record { columns = c.requires.order; few = c.requires.few; pivots = c.requires.pivots; apart = c.requires.apart }) c.in_ok-sum_rows.ensures.summed.performs.height in
     let turn : ChangesOctets p.rows p.order first count (octets_from column (octet_in was)) (octets_from (column + 1) (octet_in now)) mid new =
@@ -100,8 +102,8 @@ returns-clause-cleared c =
     let hdpc = c.args.hdpc in
     let first = c.args.first_hdpc in
     let sums = c.sum_rows.new.rows in
-    let start = c.in_ok-batch.batch in
-    let end = c.loop-column.batch in
+    let start = c.in_ok-hdpc_rows.hdpc_rows in
+    let end = c.loop-column.hdpc_rows in
     let old = c.args.recorded.now in
     let cur = c.sum_rows.new.recorded in
     let new = c.loop-column.recorded in
@@ -114,7 +116,7 @@ returns-clause-cleared c =
     let last : c.loop-column.column ≡ c.end_of_pivots-column-end.result = omega (arith, c.loop-column.auto.column-end) in
     let begun : ChangesOctets p.rows p.order first count (entry_of hdpc) (octets_from 0 (octet_in start)) old cur =
     changes_same p.rows p.order p.places first count width (entry_of hdpc) (entry_of sums) (octets_from 0 (octet_in start)) old cur
-    (λ i q l n. sym (from_column 0 (octet_in start) i (at p.order q) (omega arith) ∙ c.in_ok-batch.ensures.octets i (at p.order q) (rw heights l) (rw widths (in_width p.rows p.order p.places first count width old beside q n))))
+    (λ i q l n. sym (from_column 0 (octet_in start) i (at p.order q) (omega arith) ∙ c.in_ok-hdpc_rows.ensures.octets i (at p.order q) (rw heights l) (rw widths (in_width p.rows p.order p.places first count width old beside q n))))
     (changes_combined p.rows p.order p.places first count width (entry_of hdpc) (entry_of sums) old cur beside summed) in
     let changed = changes_more p.rows p.order p.places first count width (entry_of hdpc) (octets_from 0 (octet_in start)) (octets_from c.loop-column.column (octet_in end)) old cur new beside begun c.loop-column.invariant.changed in
     clears_octets p.rows p.order p.places first count width (entry_of hdpc) (octet_in end) old new c.loop-column.column beside c.requires.hdpc_octets.elements changed
@@ -127,6 +129,6 @@ returns-clause-few c =
     let summed = c.in_ok-sum_rows.ensures.few in
     let met = few_places few.0 (length c.args.peeling.now.rows) few.1.which few.1.are in
     let done : c.loop-column.column ≤ hdpc.width = omega (arith, c.loop-column.auto.column-end, c.end_of_pivots-column-end.ensures.within, c.requires.order.place_count) in
-    let all = batch_sum (length hdpc.rows - 1) (length hdpc.rows) hdpc.width c.loop-column.column few.0 (length c.args.peeling.now.rows) done met in
+    let all = hdpc_sum (length hdpc.rows - 1) (length hdpc.rows) hdpc.width c.loop-column.column few.0 (length c.args.peeling.now.rows) done met in
     let so_far = few.2 in
     omega (arith, all, so_far, summed)

@@ -3,7 +3,7 @@ use Rattle.std.proofs.Common.{◌≡◌, ◌≢◌, ℕ, ◌+◌, ◌-◌, ◌<�
 use Rattle.std.proofs.lemmas.Bool.{cases_eq}
 use Rattle.std.proofs.lemmas.List.{get_or-set_same, get_or-set_other, get_or_read}
 use Rattle.rq_algebra.specs.Systems.{at}
-use Rattle.rq_elimination.specs.Recorded.{Performs}
+use Rattle.rq_elimination.specs.RecordedRows.{Performs}
 use Rattle.rq_solver.proofs.CountLaws.{one_turn_more}
 use Rattle.rq_solver.proofs.FinishedPivots.{takes_none, back_skipped, back_taken}
 use Rattle.rq_solver.proofs.TakenAgain.{sums_between, taken_between, taken_performed}

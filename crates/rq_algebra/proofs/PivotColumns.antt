@@ -1,4 +1,4 @@
--- The words of an elimination, for the proofs of this crate and of those above it.
+-- Rows that have pivots, and the steps to them, for the proofs of this crate and of those above it.
 use Rattle.std.proofs.Common.{◌≡◌, ◌≢◌, ℕ, ◌<◌, ◌≤◌, List, length}
 use Rattle.std.specs.Prelude.{slice_index}
 use Rattle.rq_algebra.specs.Field.{Field}

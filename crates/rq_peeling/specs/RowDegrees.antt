@@ -2,7 +2,8 @@
 use Rattle.std.specs.Prelude.{◌≡◌, ◌≢◌, ℕ, ◌-◌, ◌<◌, ◌≤◌, ◌==◌, ◌&&◌, ◌∷◌, ◌++◌, ◌⊎◌, [], Bool, true, List, All, Contains, count_by, length, nat_le, nat_lt, sum_by, take}
 use Rattle.rq_algebra.specs.Systems.{at}
 use Rattle.rq_peeling.specs.SystemRows.{one_in}
-use Rattle.rq_peeling.specs.Peeled.{ones_of, ColumnState}
+use Rattle.rq_peeling.specs.ColumnState.{ColumnState}
+use Rattle.rq_peeling.specs.RowOnes.{ones_of}
 
 -- of the rows from `start_row` on and before `end_row` this one has the least number of ones that isn't 0
 pub record HasLeastOnes (ones : ℕ → ℕ) (start_row end_row : ℕ) (found : ℕ × ℕ) : Type 0 where

@@ -1,30 +1,8 @@
--- Columns that have pivots among rows of bits while no row is changed.
-use Rattle.std.specs.Prelude.{◌≡◌, ◌≢◌, ℕ, ◌+◌, ◌-◌, ◌<◌, ◌≤◌, List, [], Contains, length, take, drop, slice_index_or}
+-- Columns in an order: those that have pivots, those that are active and those that are inactive.
+use Rattle.std.specs.Prelude.{◌≡◌, ◌≢◌, ℕ, ◌+◌, ◌<◌, ◌≤◌, List, Contains, length}
 use Rattle.std.specs.List.{range_with_len}
-use Rattle.rq_algebra.specs.Arrangements.{ArePlaces, exchange}
+use Rattle.rq_algebra.specs.Arrangements.{exchange}
 use Rattle.rq_algebra.specs.Systems.{at}
-use Rattle.rq_standard.specs.BitTableSteps.{ArePlacesOfOnes}
-use Rattle.rq_parts.specs.ImmutableListMap.{AreStarts}
-
--- the columns in which row i has its ones
-abbrev pub ones_of : List (List ℕ) → ℕ → List ℕ
-ones_of lists i = slice_index_or lists i []
-
--- the lists between starts are all of the values
-pub record AreAllBetween (starts values : List ℕ) : Type 0 where
-  pub rise : AreStarts starts (length values)
-  pub first : at starts 0 ≡ 0
-  pub last : at starts (length starts - 1) ≡ length values
-
--- for each row of bits the columns of its ones, each once
-pub record AreOnesOfRows (height width : ℕ) (bit : ℕ → ℕ → ℕ) (lists : List (List ℕ)) : Type 0 where
-  pub count : length lists ≡ height
-  pub each : (i : ℕ) → i < height → ArePlacesOfOnes (bit i) 0 width (ones_of lists i)
-
--- behind a list of columns, which stays as it was, those of a row's ones
-pub record AddsOneColumns (bit : ℕ → ℕ) (width : ℕ) (old new : List ℕ) : Type 0 where
-  pub kept : take (length old) new ≡ old
-  pub ones : ArePlacesOfOnes bit 0 width (drop (length old) new)
 
 -- the columns in an order, and the place of each column in it
 pub record IsOrderOf (width : ℕ) (order places : List ℕ) : Type 0 where
@@ -32,22 +10,6 @@ pub record IsOrderOf (width : ℕ) (order places : List ℕ) : Type 0 where
   pub place_count : length places ≡ width
   pub ordered : (j : ℕ) → j < width → (at order j < width) × (at places (at order j) ≡ j)
   pub placed : (k : ℕ) → k < width → (at places k < width) × (at order (at places k) ≡ k)
-
--- the rows that have pivots, in the order in which they were chosen; the columns in an order, those with pivots first and in the same order; and the place of each column in it
-pub record Pivots : Type 0 where
-  pub rows : List ℕ
-  pub order : List ℕ
-  pub places : List ℕ
-
--- Pivot p's row has a one in the column at place p of the order, and none in those of later pivots. The columns after the pivots' are inactive.
-pub record IsPeeled (width : ℕ) (lists : List (List ℕ)) (pivots : Pivots) : Type 0 where
-  pub few : length pivots.rows ≤ width
-  pub in_rows : ArePlaces (length pivots.rows) (length lists) (at pivots.rows)
-  pub columns : IsOrderOf width pivots.order pivots.places
-  pub own : (p : ℕ) → p < length pivots.rows → Contains (ones_of lists (at pivots.rows p)) (at pivots.order p)
-  pub later : (p q : ℕ) → p < q → q < length pivots.rows → Contains (ones_of lists (at pivots.rows p)) (at pivots.order q) → ⊥
-
--- ---- on the way
 
 -- columns in an order, and the place of each: first those that have pivots, from place `end` on those that are inactive, and between them the active ones
 pub record ColumnState : Type 0 where
@@ -91,24 +53,23 @@ pub record EndsActive (column : ℕ) (old new : ColumnState) : Type 0 where
   pub kept : (k : ℕ) → k < length old.order → IsActive old k → k ≢ column → IsActive new k
   pub fewer : new.end ≤ old.end
 
--- none of a row's columns is active any more, and no column has another pivot
-pub record InactivatesRow (row : List ℕ) (old new : ColumnState) : Type 0 where
+-- none of a row's columns is active any more, others are as they were, and the pivots stay
+pub record EndsRow (row : List ℕ) (old new : ColumnState) : Type 0 where
   pub width : length new.order ≡ length old.order
-  pub pivots : new.pivots ≡ old.pivots
   pub before : (p : ℕ) → p < old.pivots → at new.order p ≡ at old.order p
   pub left : (k : ℕ) → k < length old.order → IsActive new k → IsActive old k
   pub kept : (k : ℕ) → k < length old.order → IsActive old k → (Contains row k → ⊥) → IsActive new k
   pub fewer : new.end ≤ old.end
   pub ended : HasNoActive row new
 
--- A row has the next pivot, in one of its columns that were active. None of its columns is active any more.
+-- no column has another pivot
+pub record InactivatesRow (row : List ℕ) (old new : ColumnState) : Type 0 where
+  pub pivots : new.pivots ≡ old.pivots
+  pub ends : EndsRow row old new
+
+-- the row has the next pivot, in one of its columns that were active
 pub record TakesRow (row : List ℕ) (old new : ColumnState) : Type 0 where
-  pub width : length new.order ≡ length old.order
   pub pivots : new.pivots ≡ old.pivots + 1
   pub own : Contains row (at new.order old.pivots)
   pub was : IsActive old (at new.order old.pivots)
-  pub before : (p : ℕ) → p < old.pivots → at new.order p ≡ at old.order p
-  pub left : (k : ℕ) → k < length old.order → IsActive new k → IsActive old k
-  pub kept : (k : ℕ) → k < length old.order → IsActive old k → (Contains row k → ⊥) → IsActive new k
-  pub fewer : new.end ≤ old.end
-  pub ended : HasNoActive row new
+  pub ends : EndsRow row old new

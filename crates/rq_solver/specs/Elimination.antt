@@ -38,7 +38,7 @@ pub record KeepsPivots (old new : Elimination) : Type 0 where
   pub additions : new.additions ≡ old.additions
   pub limit : new.sparsify_limit ≡ old.sparsify_limit
 
--- and all rows stand in the same order
+-- an elimination keeps its pivots, and the order of all rows
 pub record KeepsRows (old new : Elimination) : Type 0 where
   pub pivots : KeepsPivots old new
   pub order : new.row_order ≡ old.row_order
